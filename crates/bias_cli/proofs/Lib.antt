@@ -1,0 +1,10 @@
+pub mod Takes
+pub mod Underway
+pub mod Offers
+pub mod Merging
+pub mod Names
+pub mod NoDumps
+pub mod PrintsLeft
+pub mod ThreadsLeft
+pub mod Texts
+pub mod CutShort

@@ -1,0 +1,37 @@
+-- Taking bytes from a source and putting them into a sink, piece by piece.
+use Rattle.std.proofs.Common.{◌≡◌, ℕ, zero, suc, ◌+◌, ◌≤◌, List, [], ◌∷◌, ◌++◌, length, take, drop, refl, ap, sym, ◌∙◌, arith, append_assoc, zero-add, Option, Some, length-drop}
+use Rattle.std.proofs.lemmas.List.{take-append-drop, drop-drop, take_all, drop_all}
+use Rattle.run_io.specs.Source.{IsAtEnd}
+use Rattle.run_io.specs.Sink.{Appends}
+use Rattle.bias_cli.specs.Input.{most_read, TookFirst, Took, TookMore}
+use Rattle.bias_cli.specs.Output.{Wrote, WroteFront}
+
+take_joined : (n m : ℕ) (xs : List ℕ) → take (n + m) xs ≡ take n xs ++ take m (drop n xs)
+take_joined zero m xs = rw zero-add refl
+take_joined (suc n) m [] = take_all (suc n + m) [] (omega arith) ∙ sym (take_all m [] (omega arith))
+take_joined (suc n) m (x ∷ xs) = let e : suc n + m ≡ suc (n + m) = omega arith in rw e (ap (λ ys. x ∷ ys) (take_joined n m xs))
+
+pub took_more : (n m : ℕ) (l0 l1 l2 : Option (List ℕ)) (bs cs : List ℕ) → TookFirst n l0 l1 bs → TookMore m l1 l2 bs cs → TookFirst (n + m) l0 l2 cs
+took_more n m l0 l1 l2 bs cs first more left e =
+    let a = first left e in
+    let b = more (drop n left) a.1 in
+    (b.0 ∙ ap (λ xs. xs ++ take m (drop n left)) a.0 ∙ sym (take_joined n m left), b.1 ∙ ap Some (drop-drop m n left))
+
+-- where nothing is left behind the first n bytes, they are all
+pub took_to_end : (n : ℕ) (l0 l1 l2 : Option (List ℕ)) (bs cs : List ℕ) → n ≤ most_read → TookFirst n l0 l1 bs → TookMore 0 l1 l2 bs cs → IsAtEnd l1 → Took l0 l2 cs
+took_to_end n l0 l1 l2 bs cs most first more ended left e =
+    let none = ended (drop n left) (first left e).1 in
+    let short : length left ≤ n = omega (arith, length-drop n left, ap length none) in
+    let all = took_more n 0 l0 l1 l2 bs cs first more left e in (
+      all.0 ∙ take_all (n + 0) left (omega arith) ∙ sym (take_all most_read left (omega arith)),
+      all.1 ∙ ap Some (drop_all (n + 0) left (omega arith) ∙ sym (drop_all most_read left (omega arith))),
+    )
+
+-- a write that was offered what is left of the piece
+pub wrote_more : (n m : ℕ) (h0 h1 h2 : Option (List ℕ)) (piece left : List ℕ) → left ≡ drop n piece → Wrote h0 h1 (take n piece) → Appends h1 h2 left m → Wrote h0 h2 (take (n + m) piece)
+wrote_more n m h0 h1 h2 piece left is first more held e =
+    more (held ++ take n piece) (first held e)
+    ∙ ap Some (append_assoc held (take n piece) (take m left) ∙ ap (λ xs. held ++ (take n piece ++ take m xs)) is ∙ ap (λ xs. held ++ xs) (sym (take_joined n m piece)))
+
+pub wrote_front : (n : ℕ) (h0 h1 h2 : Option (List ℕ)) (piece : List ℕ) → Wrote h0 h1 (take n piece) → h2 ≡ h1 → WroteFront h0 h2 piece
+wrote_front n h0 h1 h2 piece first kept = (take n piece, drop n piece, sym (take-append-drop n piece), λ held e. kept ∙ first held e)

@@ -1,0 +1,10 @@
+pub mod Input
+pub mod Output
+pub mod Words
+pub mod RunText
+pub mod Command
+pub mod Merging
+pub mod LineView
+pub mod LinesLeft
+pub mod Turns
+pub mod Finish

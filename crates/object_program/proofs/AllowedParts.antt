@@ -1,0 +1,132 @@
+-- What holds of the declarations and the open section that lines have made so far.
+use Rattle.std.proofs.Common.{◌≡◌, ℕ, ◌+◌, ◌<◌, ◌≤◌, true, false, List, [], ◌∷◌, ◌++◌, length, map, refl, arith, Option, Some, None, IsTrue}
+use Rattle.std.specs.List.{AllByRecursion, list_all}
+use Rattle.object_program.specs.Name.{is_name}
+use Rattle.object_program.specs.Program.{ProgramText, total_of}
+use Rattle.object_program.specs.Valid.{is_among, AreNames, AreObjects, IsInstruction, EndsOnce, IsThread}
+use Rattle.object_program.specs.Reading.{Before}
+use Rattle.object_program.specs.Built.{is_built_code}
+use Rattle.object_program.specs.declared.program.ObjectDef.{ObjectDef}
+use Rattle.object_program.specs.declared.program.ThreadDef.{ThreadDef}
+use Rattle.object_program.specs.declared.program.Code.{Code}
+use Rattle.object_program.specs.declared.program.Code.TheVariants.{Set, Add, Sub, Mul, Ref, Elem, Enter, Exit, Wait, Notify, NotifyAll, Get, Put, Hash, Print, Jump, Jlt, Jeq, Dump, End}
+use Rattle.object_program.proofs.AllowedNames.{AllByRecursion-more}
+
+-- what `IsProgram` says but for the count of threads at the end, and that each instruction is built
+pub record IsAllowedText (p : ProgramText) : Type 0 where
+  pub class_names : AreNames (map (λ c. c.name) p.classes)
+  pub class_slots : AllByRecursion (λ c. c.slots ≤ 16) p.classes
+  pub classes_few : length p.classes ≤ 64
+  pub object_names : AreNames (map (λ d. d.name) p.objects)
+  pub objects : AreObjects (length p.classes) 0 p.objects
+  pub objects_few : total_of p.objects ≤ 4096
+  pub thread_names : AreNames (map (λ t. t.name) p.threads)
+  pub threads : AllByRecursion (IsThread (length p.objects)) p.threads
+  pub threads_few : length p.threads ≤ 16
+  pub built : list_all (λ t. list_all is_built_code t.code) p.threads ≡ true
+
+-- an instruction of an open section: a built one, and not its end
+pub record IsOpenCode (locals objects : ℕ) (c : Code) : Type 0 where
+  pub built : is_built_code c ≡ true
+  pub goes_on : c ≡ End → ⊥
+  pub operands : (n : ℕ) → IsInstruction locals objects n c
+
+-- the thread of an open section, where the closed ones have these names
+pub record IsOpen (objects : ℕ) (names : List (List ℕ)) (t : ThreadDef) : Type 0 where
+  pub name : IsTrue (is_name t.name)
+  pub new : is_among names t.name ≡ false
+  pub room : length names < 16
+  pub locals : AreNames t.locals
+  pub locals_few : length t.locals ≤ 32
+  pub labels : t.labels ≡ []
+  pub code : AllByRecursion (IsOpenCode (length t.locals) objects) t.code
+  pub code_few : length t.code ≤ 4096
+
+abbrev pub IsSection : ℕ → List (List ℕ) → Option ThreadDef → Type 0
+IsSection objects names None = Unit {0}
+IsSection objects names (Some t) = IsOpen objects names t
+
+pub record IsAllowedSoFar (b : Before) : Type 0 where
+  pub text : IsAllowedText b.text
+  pub section : IsSection (length b.text.objects) (map (λ t. t.name) b.text.threads) b.section
+
+-- more locals, declarations or instructions leave an instruction's operands in range
+pub IsInstruction-more : (l m o p n k : ℕ) → l ≤ m → o ≤ p → n ≤ k → (c : Code) → IsInstruction l o n c → IsInstruction m p k c
+IsInstruction-more l m o p n k lm op nk (Set x v) h = (omega arith, h.1)
+IsInstruction-more l m o p n k lm op nk (Add x y z) h = omega arith
+IsInstruction-more l m o p n k lm op nk (Sub x y z) h = omega arith
+IsInstruction-more l m o p n k lm op nk (Mul x y z) h = omega arith
+IsInstruction-more l m o p n k lm op nk (Ref x d) h = omega arith
+IsInstruction-more l m o p n k lm op nk (Elem x d i) h = omega arith
+IsInstruction-more l m o p n k lm op nk (Enter x) h = omega arith
+IsInstruction-more l m o p n k lm op nk (Exit x) h = omega arith
+IsInstruction-more l m o p n k lm op nk (Wait x) h = omega arith
+IsInstruction-more l m o p n k lm op nk (Notify x) h = omega arith
+IsInstruction-more l m o p n k lm op nk (NotifyAll x) h = omega arith
+IsInstruction-more l m o p n k lm op nk (Get x y s) h = omega arith
+IsInstruction-more l m o p n k lm op nk (Put y s x) h = omega arith
+IsInstruction-more l m o p n k lm op nk (Hash x y) h = omega arith
+IsInstruction-more l m o p n k lm op nk (Print x) h = omega arith
+IsInstruction-more l m o p n k lm op nk (Jump t) h = omega arith
+IsInstruction-more l m o p n k lm op nk (Jlt x y t) h = omega arith
+IsInstruction-more l m o p n k lm op nk (Jeq x y t) h = omega arith
+IsInstruction-more l m o p n k lm op nk Dump h = tt
+IsInstruction-more l m o p n k lm op nk End h = tt
+
+pub IsOpenCode-more : (l m o p : ℕ) → l ≤ m → o ≤ p → (c : Code) → IsOpenCode l o c → IsOpenCode m p c
+IsOpenCode-more l m o p lm op c h =
+    record { built = h.built; goes_on = h.goes_on; operands = λ n. IsInstruction-more l m o p n n lm op (omega arith) c (h.operands n) }
+
+pub IsThread-more : (o p : ℕ) → o ≤ p → (t : ThreadDef) → IsThread o t → IsThread p t
+IsThread-more o p op t h =
+    let l = length t.locals in
+    let n = length t.code in
+    record {
+      locals = h.locals;
+      locals_few = h.locals_few;
+      labels = h.labels;
+      targets = h.targets;
+      code = AllByRecursion-more _ _ (λ c i. IsInstruction-more l l o p n n (omega arith) op (omega arith) c i) t.code h.code;
+      code_few = h.code_few;
+      ends = h.ends;
+    }
+
+pub IsOpen-more : (o p : ℕ) (names : List (List ℕ)) → o ≤ p → (t : ThreadDef) → IsOpen o names t → IsOpen p names t
+IsOpen-more o p names op t h =
+    let l = length t.locals in
+    record {
+      name = h.name;
+      new = h.new;
+      room = h.room;
+      locals = h.locals;
+      locals_few = h.locals_few;
+      labels = h.labels;
+      code = AllByRecursion-more _ _ (λ c i. IsOpenCode-more l l o p (omega arith) op c i) t.code h.code;
+      code_few = h.code_few;
+    }
+
+pub IsSection-more : (o p : ℕ) (names : List (List ℕ)) → o ≤ p → (s : Option ThreadDef) → IsSection o names s → IsSection p names s
+IsSection-more o p names op None h = tt
+IsSection-more o p names op (Some t) h = IsOpen-more o p names op t h
+
+pub AreObjects-more : (c e n : ℕ) → c ≤ e → (ds : List ObjectDef) → AreObjects c n ds → AreObjects e n ds
+AreObjects-more c e n ce [] h = tt
+AreObjects-more c e n ce (d ∷ ds) h = ((omega arith, h.0.1, h.0.2, h.0.3), AreObjects-more c e (n + d.size) ce ds h.1)
+
+pub AreObjects-push : (c n m : ℕ) (ds : List ObjectDef) (d : ObjectDef) → n + total_of ds ≡ m → AreObjects c n ds → AreObjects c m (d ∷ []) → AreObjects c n (ds ++ d ∷ [])
+AreObjects-push c n m [] d e all here = ((here.0.0, omega arith, here.0.2, here.0.3), tt)
+AreObjects-push c n m (x ∷ xs) d e all here = (all.0, AreObjects-push c (n + x.size) m xs d (omega arith) all.1 here)
+
+pub total_of-push : (ds : List ObjectDef) (d : ObjectDef) → total_of (ds ++ d ∷ []) ≡ total_of ds + d.size
+total_of-push [] d = omega arith
+total_of-push (x ∷ xs) d = omega (arith, total_of-push xs d)
+
+-- instructions none of which is an `end`, and then one
+pub EndsOnce-push : (l o : ℕ) (cs : List Code) → AllByRecursion (IsOpenCode l o) cs → EndsOnce (cs ++ End ∷ [])
+EndsOnce-push l o [] h = refl
+EndsOnce-push l o (c ∷ []) h = (h.0.goes_on, refl)
+EndsOnce-push l o (c ∷ d ∷ cs) h = (h.0.goes_on, EndsOnce-push l o (d ∷ cs) h.1)
+
+pub built_push : (l o : ℕ) (cs : List Code) → AllByRecursion (IsOpenCode l o) cs → list_all is_built_code (cs ++ End ∷ []) ≡ true
+built_push l o [] h = refl
+built_push l o (c ∷ cs) h = rw h.0.built (built_push l o cs h.1)

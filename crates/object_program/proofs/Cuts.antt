@@ -1,0 +1,100 @@
+-- A list cut at the first element that passes a test.
+use Rattle.std.proofs.Common.{◌≡◌, ℕ, ◌+◌, ◌<◌, ◌≤◌, ◌==◌, ◌&&◌, Bool, true, false, not, cond, if◌then◌else◌, ltb, List, [], ◌∷◌, ◌++◌, length, take, drop, filter, refl, ap, ◌∙◌, arith, Some, None}
+use Rattle.std.specs.Prelude.{position}
+use Rattle.std.specs.List.{slice_split, position_or_len, before_first, list_all}
+use Rattle.std.proofs.lemmas.List.Splits.{slice_split_first}
+use Rattle.std.proofs.lemmas.Bool.Decides.{nat_tests}
+use Rattle.std.proofs.lemmas.Grind.{common_steps}
+use Rattle.object_program.specs.Text.{without_return, is_blank, is_empty}
+use Rattle.object_program.specs.Left.{words_in, words_from}
+use Rattle.object_program.specs.Built.{is_built_byte}
+
+none_by : (b : Bool) (n m : ℕ) → ltb n m ≡ b → None ≡ cond b (Some n) None → m ≤ n
+none_by true n m e h = absurd (cc h)
+none_by false n m e h = grind (arith, nat_tests)
+
+pub record IsFirst (n m i : ℕ) : Type 0 where
+  pub same : i ≡ n
+  pub less : n < m
+
+some_by : (b : Bool) (n m i : ℕ) → ltb n m ≡ b → Some i ≡ cond b (Some n) None → IsFirst n m i
+some_by true n m i e h = record { same = (cc); less = grind (arith, nat_tests) }
+some_by false n m i e h = absurd (cc h)
+
+uncut_at : {X : Type 0} (p : X → Bool) (x : X) (xs : List X) (b : Bool) → p x ≡ b → length (x ∷ xs) ≤ position_or_len p (x ∷ xs)
+    → (length xs ≤ position_or_len p xs → slice_split p xs ≡ xs ∷ []) → slice_split p (x ∷ xs) ≡ (x ∷ xs) ∷ []
+uncut_at p x xs true e h ih = let k = rw e at h in absurd (omega arith)
+uncut_at p x xs false e h ih = let k = rw e at h in rw (e, ih (omega arith)) refl
+
+uncut : {X : Type 0} (p : X → Bool) (xs : List X) → length xs ≤ position_or_len p xs → slice_split p xs ≡ xs ∷ []
+uncut p [] h = refl
+uncut p (x ∷ xs) h = uncut_at p x xs (p x) refl h (uncut p xs)
+
+pub cut_none : {X : Type 0} (p : X → Bool) (xs : List X) → None ≡ position p xs → slice_split p xs ≡ xs ∷ []
+cut_none p xs h =
+    uncut p xs (none_by (ltb (position_or_len p xs) (length xs)) (position_or_len p xs) (length xs) refl h)
+
+pub cut_some : {X : Type 0} (p : X → Bool) (xs : List X) (i : ℕ) (d : X) → Some i ≡ position p xs
+    → slice_split p xs ≡ take i xs ∷ slice_split p (drop (i + 1) xs)
+cut_some p xs i d h =
+    let t = some_by (ltb (position_or_len p xs) (length xs)) (position_or_len p xs) (length xs) i refl h in
+    rw t.same (slice_split_first p xs d t.less)
+
+pub before_none : {X : Type 0} (p : X → Bool) (xs : List X) → None ≡ position p xs → before_first p xs ≡ xs
+before_none p xs h =
+    let e = none_by (ltb (position_or_len p xs) (length xs)) (position_or_len p xs) (length xs) refl h in
+    grind (arith, common_steps)
+
+pub before_some : {X : Type 0} (p : X → Bool) (xs : List X) (i : ℕ) → Some i ≡ position p xs → before_first p xs ≡ take i xs
+before_some p xs i h =
+    let t = some_by (ltb (position_or_len p xs) (length xs)) (position_or_len p xs) (length xs) i refl h in
+    rw t.same refl
+
+part_cases : (part : List ℕ) (ws : List (List ℕ)) → (if not (is_empty part) then part ∷ ws else ws) ≡ (if length part == 0 then ws else part ∷ ws)
+part_cases [] ws = refl
+part_cases (b ∷ bs) ws = grind (arith, nat_tests)
+
+words_cut : (text part : List ℕ) (parts : List (List ℕ)) → slice_split is_blank text ≡ part ∷ parts
+    → words_in text ≡ (if length part == 0 then filter (λ w. not (is_empty w)) parts else part ∷ filter (λ w. not (is_empty w)) parts)
+words_cut text part parts e = rw e (part_cases part (filter (λ w. not (is_empty w)) parts))
+
+pub words_none : (text : List ℕ) → None ≡ position is_blank text → words_in text ≡ words_from text None
+words_none text h = words_cut text text [] (cut_none is_blank text h)
+
+pub words_some : (text : List ℕ) (i : ℕ) → Some i ≡ position is_blank text → words_in text ≡ words_from (take i text) (Some (drop (i + 1) text))
+words_some text i h = words_cut text (take i text) (slice_split is_blank (drop (i + 1) text)) (cut_some is_blank text i 0 h)
+
+-- a carriage return at the end
+cons_if : (x : ℕ) (c : Bool) (a b : List ℕ) → x ∷ (if c then a else b) ≡ (if c then x ∷ a else x ∷ b)
+cons_if x true a b = refl
+cons_if x false a b = refl
+
+return_behind : (front : List ℕ) (b : ℕ) → without_return (front ++ b ∷ []) ≡ (if b == 13 then front else front ++ b ∷ [])
+return_behind [] b = refl
+return_behind (x ∷ []) b = cons_if x (b == 13) [] (b ∷ [])
+return_behind (x ∷ y ∷ ys) b = ap (λ zs. x ∷ zs) (return_behind (y ∷ ys) b) ∙ cons_if x (b == 13) (y ∷ ys) ((y ∷ ys) ++ b ∷ [])
+
+pub without_return_last : (line front : List ℕ) (b : ℕ) → line ≡ front ++ b ∷ [] → without_return line ≡ (if b == 13 then front else line)
+without_return_last line front b e = rw e (return_behind front b)
+
+pub without_return_empty : (line : List ℕ) → length line ≡ 0 → without_return line ≡ line
+without_return_empty [] h = refl
+without_return_empty (b ∷ bs) h = absurd (omega arith)
+
+-- bytes that are built hold no carriage return
+not_return : (b : ℕ) → is_built_byte b ≡ true → (b == 13) ≡ false
+not_return b h = grind (arith, nat_tests)
+
+and_left : (a b : Bool) → (a && b) ≡ true → a ≡ true
+and_left true b h = refl
+and_left false b h = (cc)
+
+and_right : (a b : Bool) → (a && b) ≡ true → b ≡ true
+and_right true b h = h
+and_right false b h = (cc)
+
+pub without_return_built : (line : List ℕ) → list_all is_built_byte line ≡ true → without_return line ≡ line
+without_return_built [] h = refl
+without_return_built (b ∷ []) h = rw (not_return b (and_left (is_built_byte b) true h)) refl
+without_return_built (b ∷ c ∷ bs) h =
+    ap (λ zs. b ∷ zs) (without_return_built (c ∷ bs) (and_right (is_built_byte b) (list_all is_built_byte (c ∷ bs)) h))

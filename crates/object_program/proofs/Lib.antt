@@ -1,0 +1,12 @@
+pub mod Allowed
+pub mod AllowedCause
+pub mod AllowedKept
+pub mod AllowedNames
+pub mod AllowedParts
+pub mod Causes
+pub mod Cuts
+pub mod Names
+pub mod Numbers
+pub mod Runs
+pub mod Shapes
+pub mod Tables

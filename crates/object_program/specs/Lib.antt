@@ -1,0 +1,16 @@
+pub mod Name
+pub mod NameView
+pub mod Text
+pub mod Number
+pub mod Program
+pub mod ProgramView
+pub mod Valid
+pub mod Line
+pub mod Reading
+pub mod Refusal
+pub mod Built
+pub mod Left
+pub mod Steps
+pub mod Spelled
+pub mod Causes
+pub mod Signs

@@ -1,0 +1,89 @@
+-- The words that lines begin with, and the operands that each wants.
+use Rattle.std.specs.Prelude.{ℕ, ℤ, pos, negsuc, Bool, true, false, if◌then◌else◌, List, [], ◌∷◌, codes, Option, Some, None}
+use Rattle.std.specs.Str.{bytes_eq}
+use Rattle.object_program.specs.declared.keyword.Keyword.{Keyword}
+use Rattle.object_program.specs.declared.keyword.Keyword.TheVariants.{Class, Object, Array, Thread, Local, Label, Set, Add, Sub, Mul, Ref, Elem, Enter, Exit, Wait, Notify, NotifyAll, Get, Put, Hash, Print, Jump, Jlt, Jeq, Dump, End}
+
+-- how each is spelled
+abbrev pub spellings : List (List ℕ × Keyword)
+spellings =
+    (codes "class", Class) ∷ (codes "object", Object) ∷ (codes "array", Array) ∷ (codes "thread", Thread)
+    ∷ (codes "local", Local) ∷ (codes "label", Label) ∷ (codes "set", Set) ∷ (codes "add", Add) ∷ (codes "sub", Sub)
+    ∷ (codes "mul", Mul) ∷ (codes "ref", Ref) ∷ (codes "elem", Elem) ∷ (codes "enter", Enter) ∷ (codes "exit", Exit)
+    ∷ (codes "wait", Wait) ∷ (codes "notify", Notify) ∷ (codes "notifyall", NotifyAll) ∷ (codes "get", Get)
+    ∷ (codes "put", Put) ∷ (codes "hash", Hash) ∷ (codes "print", Print) ∷ (codes "jump", Jump) ∷ (codes "jlt", Jlt)
+    ∷ (codes "jeq", Jeq) ∷ (codes "dump", Dump) ∷ (codes "end", End) ∷ []
+
+abbrev pub spelled_among : List (List ℕ × Keyword) → List ℕ → Option Keyword
+spelled_among [] word = None
+spelled_among (s ∷ ss) word = if bytes_eq s.0 word then Some s.1 else spelled_among ss word
+
+abbrev pub keyword_of : List ℕ → Option Keyword
+keyword_of word = spelled_among spellings word
+
+-- the spaces that names are declared in
+pub data Space : Type 0 where
+  Classes : Space
+  Objects : Space
+  Threads : Space
+  Locals : Space
+  Labels : Space
+
+-- what an operand has to be: a new name, a name that is declared, or a number from one to another
+pub data Operand : Type 0 where
+  New : Space → Operand
+  Known : Space → Operand
+  Number : ℤ → ℤ → Operand
+
+abbrev pub a_local : Operand
+a_local = Known Locals
+
+abbrev pub a_slot : Operand
+a_slot = Number (pos 0) (pos 15)
+
+-- the operands of a line, in order
+abbrev pub operands_of : Keyword → List Operand
+operands_of Class = New Classes ∷ Number (pos 0) (pos 16) ∷ []
+operands_of Object = New Objects ∷ Known Classes ∷ []
+operands_of Array = New Objects ∷ Known Classes ∷ Number (pos 1) (pos 4096) ∷ []
+operands_of Thread = New Threads ∷ []
+operands_of Local = New Locals ∷ []
+operands_of Label = New Labels ∷ []
+operands_of Set = a_local ∷ Number (negsuc 2305843009213693951) (pos 2305843009213693951) ∷ []
+operands_of Add = a_local ∷ a_local ∷ a_local ∷ []
+operands_of Sub = a_local ∷ a_local ∷ a_local ∷ []
+operands_of Mul = a_local ∷ a_local ∷ a_local ∷ []
+operands_of Ref = a_local ∷ Known Objects ∷ []
+operands_of Elem = a_local ∷ Known Objects ∷ a_local ∷ []
+operands_of Enter = a_local ∷ []
+operands_of Exit = a_local ∷ []
+operands_of Wait = a_local ∷ []
+operands_of Notify = a_local ∷ []
+operands_of NotifyAll = a_local ∷ []
+operands_of Get = a_local ∷ a_local ∷ a_slot ∷ []
+operands_of Put = a_local ∷ a_slot ∷ a_local ∷ []
+operands_of Hash = a_local ∷ a_local ∷ []
+operands_of Print = a_local ∷ []
+operands_of Jump = Known Labels ∷ []
+operands_of Jlt = a_local ∷ a_local ∷ Known Labels ∷ []
+operands_of Jeq = a_local ∷ a_local ∷ Known Labels ∷ []
+operands_of Dump = []
+operands_of End = []
+
+-- a line that declares a class, an object or an array, or opens a section, stands outside sections
+abbrev pub is_outside : Keyword → Bool
+is_outside Class = true
+is_outside Object = true
+is_outside Array = true
+is_outside Thread = true
+is_outside k = false
+
+-- a line of a section that is an instruction
+abbrev pub is_instruction : Keyword → Bool
+is_instruction Local = false
+is_instruction Label = false
+is_instruction Class = false
+is_instruction Object = false
+is_instruction Array = false
+is_instruction Thread = false
+is_instruction k = true

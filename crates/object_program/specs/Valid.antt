@@ -1,0 +1,87 @@
+-- Which programs there are: those whose names, numbers, targets and counts a text may have.
+use Rattle.std.specs.Prelude.{◌≡◌, ℕ, ℤ, pos, negsuc, ◌≤ℤ◌, ◌+◌, ◌<◌, ◌≤◌, Bool, false, List, [], ◌∷◌, length, map, IsTrue}
+use Rattle.std.specs.List.{AllByRecursion, list_any}
+use Rattle.std.specs.Str.{bytes_eq}
+use Rattle.object_program.specs.Name.{is_name}
+use Rattle.object_program.specs.Program.{ProgramText, total_of}
+use Rattle.object_program.specs.declared.program.ObjectDef.{ObjectDef}
+use Rattle.object_program.specs.declared.program.LabelDef.{LabelDef}
+use Rattle.object_program.specs.declared.program.ThreadDef.{ThreadDef}
+use Rattle.object_program.specs.declared.program.Code.{Code}
+use Rattle.object_program.specs.declared.program.Code.TheVariants.{Set, Add, Sub, Mul, Ref, Elem, Enter, Exit, Wait, Notify, NotifyAll, Get, Put, Hash, Print, Jump, Jlt, Jeq, Dump, End}
+
+-- the name stands among these
+abbrev pub is_among : List (List ℕ) → List ℕ → Bool
+is_among names name = list_any (λ n. bytes_eq n name) names
+
+-- names of one space: each is a name, and none stands twice
+abbrev pub AreNames : List (List ℕ) → Type 0
+AreNames [] = Unit {0}
+AreNames (n ∷ ns) = IsTrue (is_name n) × (is_among ns n ≡ false) × AreNames ns
+
+-- a value's number: -2^61 to 2^61 - 1
+abbrev pub IsInRange : ℤ → Type 0
+IsInRange z = (negsuc 2305843009213693951 ≤ℤ z) × (z ≤ℤ pos 2305843009213693951)
+
+-- each declaration has a class of these, and stands for at least one object from number n on, an object for one
+abbrev pub AreObjects : ℕ → ℕ → List ObjectDef → Type 0
+AreObjects classes n [] = Unit {0}
+AreObjects classes n (d ∷ ds) = IsObject classes n d × AreObjects classes (n + d.size) ds where
+  IsObject : ℕ → ℕ → ObjectDef → Type 0
+  IsObject classes n d = (d.class < classes) × (d.first ≡ n) × (1 ≤ d.size) × (d.array ≡ false → d.size ≡ 1)
+
+-- the operands of an instruction: its locals are declared, its declaration of objects too, its slot is one of 16, and its
+-- target is an instruction, counted from 1
+abbrev pub IsInstruction : ℕ → ℕ → ℕ → Code → Type 0
+IsInstruction locals objects code (Set x v) = (x < locals) × IsInRange v
+IsInstruction locals objects code (Add x y z) = (x < locals) × (y < locals) × (z < locals)
+IsInstruction locals objects code (Sub x y z) = (x < locals) × (y < locals) × (z < locals)
+IsInstruction locals objects code (Mul x y z) = (x < locals) × (y < locals) × (z < locals)
+IsInstruction locals objects code (Ref x n) = (x < locals) × (n < objects)
+IsInstruction locals objects code (Elem x n i) = (x < locals) × (n < objects) × (i < locals)
+IsInstruction locals objects code (Enter x) = x < locals
+IsInstruction locals objects code (Exit x) = x < locals
+IsInstruction locals objects code (Wait x) = x < locals
+IsInstruction locals objects code (Notify x) = x < locals
+IsInstruction locals objects code (NotifyAll x) = x < locals
+IsInstruction locals objects code (Get x o k) = (x < locals) × (o < locals) × (k < 16)
+IsInstruction locals objects code (Put o k x) = (o < locals) × (k < 16) × (x < locals)
+IsInstruction locals objects code (Hash x o) = (x < locals) × (o < locals)
+IsInstruction locals objects code (Print x) = x < locals
+IsInstruction locals objects code (Jump l) = (1 ≤ l) × (l ≤ code)
+IsInstruction locals objects code (Jlt x y l) = (x < locals) × (y < locals) × (1 ≤ l) × (l ≤ code)
+IsInstruction locals objects code (Jeq x y l) = (x < locals) × (y < locals) × (1 ≤ l) × (l ≤ code)
+IsInstruction locals objects code Dump = Unit {0}
+IsInstruction locals objects code End = Unit {0}
+
+-- the last instruction is `end`, and no other is
+abbrev pub EndsOnce : List Code → Type 0
+EndsOnce [] = ⊥
+EndsOnce (c ∷ []) = c ≡ End
+EndsOnce (c ∷ d ∷ cs) = (c ≡ End → ⊥) × EndsOnce (d ∷ cs)
+
+-- targets rise from n on, and each is an instruction
+abbrev pub AreTargets : ℕ → ℕ → List LabelDef → Type 0
+AreTargets code n [] = Unit {0}
+AreTargets code n (l ∷ ls) = (n ≤ l.index) × (l.index ≤ code) × AreTargets code l.index ls
+
+pub record IsThread (objects : ℕ) (t : ThreadDef) : Type 0 where
+  pub locals : AreNames t.locals
+  pub locals_few : length t.locals ≤ 32
+  pub labels : AreNames (map (λ l. l.name) t.labels)
+  pub targets : AreTargets (length t.code) 1 t.labels
+  pub code : AllByRecursion (IsInstruction (length t.locals) objects (length t.code)) t.code
+  pub code_few : length t.code ≤ 4096
+  pub ends : EndsOnce t.code
+
+pub record IsProgram (p : ProgramText) : Type 0 where
+  pub class_names : AreNames (map (λ c. c.name) p.classes)
+  pub class_slots : AllByRecursion (λ c. c.slots ≤ 16) p.classes
+  pub classes_few : length p.classes ≤ 64
+  pub object_names : AreNames (map (λ d. d.name) p.objects)
+  pub objects : AreObjects (length p.classes) 0 p.objects
+  pub objects_few : total_of p.objects ≤ 4096
+  pub thread_names : AreNames (map (λ t. t.name) p.threads)
+  pub threads : AllByRecursion (IsThread (length p.objects)) p.threads
+  pub threads_some : 1 ≤ length p.threads
+  pub threads_few : length p.threads ≤ 16

@@ -1,0 +1,145 @@
+//! Lines and words.
+
+ghost use Rattle.std.specs.Prelude.{◌≡◌, ◌==◌, ◌<◌, true, false, position, ℕ, List, [], ◌∷◌, length, MatchOption, IfSome, option_copied};
+ghost use Rattle.std.specs.List.{list_all, before_first};
+ghost use Rattle.object_program.specs.Text.{raw_lines, without_return, is_text_byte};
+ghost use Rattle.object_program.specs.Left.{lines_left, words_in, words_from, words_behind};
+ghost use Rattle.object_program.specs.Reading.{operand};
+ghost use Rattle.object_program.specs.Text.{is_blank};
+
+/// Where the first line feed stands.
+fn line_end(text: &[u8]) -> Option<usize>
+    ensures { result ≡ position (λ b. b == 10) text.now }
+{
+    text.iter().position(|b| *b == b'\n')
+}
+
+/// Where the comment starts.
+fn comment_start(line: &[u8]) -> Option<usize>
+    ensures { result ≡ position (λ b. b == 35) line.now }
+{
+    line.iter().position(|b| *b == b'#')
+}
+
+/// Where the first blank stands.
+fn blank(text: &[u8]) -> Option<usize>
+    ensures { result ≡ position is_blank text.now }
+{
+    text.iter().position(|b| *b == b' ' || *b == b'\t')
+}
+
+/// The first line of a text, without its line feed, and what stands behind the line feed, or `None` where there is none.
+pub fn next_line(text: &[u8]) -> (&[u8], Option<&[u8]>)
+    ensures parts { raw_lines text.now ≡ result.0.now ∷ lines_left (option_copied result.1) }
+    ensures shorter { IfSome (option_copied result.1) (λ rest. length rest < length text.now) }
+{
+    match line_end(text) {
+        None => (text, None),
+        Some(end) => (&text[..end], Some(&text[end + 1..])),
+    }
+}
+
+/// The line without the carriage return at its end, if it has one.
+#[tactic(auto, using(crate::proofs::Cuts::without_return_last, crate::proofs::Cuts::without_return_empty))]
+pub fn drop_return(line: &[u8]) -> &[u8]
+    ensures { result.now ≡ without_return line.now }
+{
+    let Some((last, front)) = line.split_last() else {
+        return line;
+    };
+    if *last == b'\r' {
+        return front;
+    }
+    line
+}
+
+/// Whether each byte is a tab or printing ASCII.
+pub fn is_text(line: &[u8]) -> bool
+    ensures { result ≡ list_all is_text_byte line.now }
+{
+    line.iter()
+        .all(|b| *b == b'\t' || (b' ' <= *b && *b <= b'~'))
+}
+
+/// What stands before the line's comment.
+pub fn without_comment(line: &[u8]) -> &[u8]
+    ensures { result.now ≡ before_first (λ b. b == 35) line.now }
+{
+    match comment_start(line) {
+        None => line,
+        Some(end) => &line[..end],
+    }
+}
+
+/// What stands before the first blank, and what stands behind that blank, or `None` where there is none.
+fn next_part(text: &[u8]) -> (&[u8], Option<&[u8]>)
+    ensures words { words_in text.now ≡ words_from result.0.now (option_copied result.1) }
+    ensures shorter { IfSome (option_copied result.1) (λ rest. length rest < length text.now) }
+{
+    match blank(text) {
+        None => (text, None),
+        Some(end) => (&text[..end], Some(&text[end + 1..])),
+    }
+}
+
+/// What is left, or nothing.
+fn rest_of(rest: Option<&[u8]>) -> &[u8]
+    ensures { words_in result.now ≡ words_behind (option_copied rest.entry) }
+{
+    match rest {
+        None => &[],
+        Some(rest) => rest,
+    }
+}
+
+/// The first word, and what stands behind it; `None` where no word is left.
+pub fn next_word(text: &[u8]) -> Option<(&[u8], &[u8])>
+    ensures { MatchOption result (words_in text.now ≡ []) (λ w. words_in text.now ≡ w.0.now ∷ words_in w.1.now) }
+{
+    let mut left = text;
+    'parts: loop {
+        let (part, rest) = next_part(left);
+        if !part.is_empty() {
+            return Some((part, rest_of(rest)));
+        }
+        let Some(more) = rest else {
+            return None;
+        };
+        left = more;
+    }
+}
+
+/// Whether no word is left.
+pub fn has_no_word(text: &[u8]) -> bool
+    ensures { result ≡ (length (words_in text.now) == 0) }
+{
+    match next_word(text) {
+        None => true,
+        Some(_) => false,
+    }
+}
+
+/// The only word; `None` where there are none or more.
+pub fn one_word(text: &[u8]) -> Option<&[u8]>
+    ensures { MatchOption result ((length (words_in text.now) == 1) ≡ false)
+        (λ w. ((length (words_in text.now) == 1) ≡ true) × (operand (words_in text.now) 0 ≡ w.now)) }
+{
+    let Some((first, rest)) = next_word(text) else {
+        return None;
+    };
+    if has_no_word(rest) { Some(first) } else { None }
+}
+
+/// The two words; `None` where there are fewer or more.
+pub fn two_words(text: &[u8]) -> Option<(&[u8], &[u8])>
+    ensures { MatchOption result ((length (words_in text.now) == 2) ≡ false)
+        (λ w. ((length (words_in text.now) == 2) ≡ true) × (operand (words_in text.now) 0 ≡ w.0.now) × (operand (words_in text.now) 1 ≡ w.1.now)) }
+{
+    let Some((first, rest)) = next_word(text) else {
+        return None;
+    };
+    let Some(second) = one_word(rest) else {
+        return None;
+    };
+    Some((first, second))
+}

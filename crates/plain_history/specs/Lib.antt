@@ -1,0 +1,5 @@
+pub mod Tied
+pub mod Appending
+pub mod Stamps
+pub mod Sound
+pub mod Joined

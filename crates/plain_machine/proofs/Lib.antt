@@ -1,0 +1,16 @@
+pub mod Runs
+pub mod Calls
+pub mod Counted
+pub mod Behind
+pub mod Taking
+pub mod Codes
+pub mod Starts
+pub mod ReachedOver
+pub mod ReachedLists
+pub mod ReachedRunning
+pub mod ReachedMonitor
+pub mod ReachedFrame
+pub mod ReachedAsked
+pub mod ReachedKinds
+pub mod ReachedFirst
+pub mod ReachedOffered

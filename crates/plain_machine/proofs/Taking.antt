@@ -1,0 +1,39 @@
+-- What a machine takes, by what its thread asks and what its objects take.
+use Rattle.std.proofs.Common.{◌≡◌, ℕ, ◌<◌, true, List, length, set, Option, Some, get_or, refl, subst}
+use Rattle.std.proofs.lemmas.List.{get_or_read}
+use Rattle.std.proofs.lemmas.Option.{slice_get-get_or}
+use Rattle.plain_monitor.specs.declared.entry.Entry.{Entry}
+use Rattle.plain_monitor.specs.Objects.{PlainObject, take_entry}
+use Rattle.plain_machine.specs.declared.call.Asked.{Asked}
+use Rattle.plain_machine.specs.Thread.{ThreadState}
+use Rattle.plain_machine.specs.Asking.{ask, fits, behind_entry, thread_after}
+use Rattle.plain_machine.specs.Machine.{PlainMachine, code_of, take, moved}
+use Rattle.plain_machine.specs.Ready.{unrun}
+use Rattle.plain_machine.specs.Sound.{thread_in}
+
+take_thread : (m : PlainMachine) (t : ℕ) (e : Entry) (r : Option PlainMachine) → t < length m.threads
+    → moved m t (thread_after m.program (code_of m.program t) (thread_in m.threads t) e) (take_entry m.objects t e) ≡ r
+    → take m t e ≡ r
+take_thread m t e r lt h = rw (slice_get-get_or m.threads t (unrun 0 0 0) lt) h
+
+taken_at : (m : PlainMachine) (t : ℕ) (e : Entry) (a : Asked) (after : List PlainObject) → t < length m.threads
+    → ask (thread_in m.threads t) ≡ Some a → fits a e ≡ true → take_entry m.objects t e ≡ Some after
+    → take m t e
+    ≡ Some (record m {
+      objects = after;
+      threads = set m.threads t (behind_entry m.program (code_of m.program t) (thread_in m.threads t) a e);
+    })
+taken_at m t e a after lt q f h = take_thread m t e _ lt (rw (q, f, h) refl)
+
+-- the machine behind an entry that thread t, here s and u, asked for
+pub taken : (m : PlainMachine) (t : ℕ) (e : Entry) (a : Asked) (after : List PlainObject) (s u next : ThreadState)
+    → t < length m.threads → s ≡ get_or m.threads t s → u ≡ get_or m.threads t u
+    → ask s ≡ Some a → fits a e ≡ true → take_entry m.objects t e ≡ Some after
+    → next ≡ behind_entry m.program (code_of m.program t) u a e
+    → take m t e ≡ Some (record m { objects = after; threads = set m.threads t next })
+taken m t e a after s u next lt at there q f h n =
+    let q2 : ask (thread_in m.threads t) ≡ Some a =
+    subst (λ z. ask z ≡ Some a) (get_or_read m.threads t s lt at (unrun 0 0 0)) q in
+    let n2 : next ≡ behind_entry m.program (code_of m.program t) (thread_in m.threads t) a e =
+    subst (λ z. next ≡ behind_entry m.program (code_of m.program t) z a e) (get_or_read m.threads t u lt there (unrun 0 0 0)) n in
+    rw n2 (taken_at m t e a after lt q2 f h)

@@ -1,0 +1,5 @@
+use Rattle.plain_machine.proofs.ReachedKinds.{progress}
+use Rattle.plain_machine.proofs.laws.each_entry_uses_up_work.Goals as goal
+
+pub returns : goal.returns
+returns c = λ m n t e h takes. (progress m n t e h takes).work

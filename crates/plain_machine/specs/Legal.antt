@@ -1,0 +1,22 @@
+-- Which logs are those of a program: the plain machine takes all their entries in stamped order.
+use Rattle.std.specs.Prelude.{ℕ, List, [], ◌∷◌, Option, Some, IsSome, option_and_then}
+use Rattle.std.specs.List.{AllByRecursion}
+use Rattle.plain_monitor.specs.declared.entry.Logged.{Logged}
+use Rattle.plain_monitor.specs.Order.{order}
+use Rattle.plain_monitor.specs.History.{RisesAbove}
+use Rattle.object_program.specs.Program.{ProgramText}
+use Rattle.plain_machine.specs.Machine.{PlainMachine, new_machine, take}
+
+-- the machine behind these entries, each with its thread, where it takes each
+abbrev pub behind_all : PlainMachine → List (ℕ × Logged) → Option PlainMachine
+behind_all m [] = Some m
+behind_all m (x ∷ xs) = option_and_then (λ next. behind_all next xs) (take m x.0 x.1.entry)
+
+-- the machine under the logs: the one behind all their entries in stamped order
+abbrev pub machine_under : ProgramText → ℕ → List (List Logged) → Option PlainMachine
+machine_under p fuel logs = behind_all (new_machine p fuel) (order logs)
+
+-- each log's stamps rise strictly, and the machine takes every entry
+pub record IsLegal (p : ProgramText) (fuel : ℕ) (logs : List (List Logged)) : Type 0 where
+  pub rises : AllByRecursion (RisesAbove 0) logs
+  pub taken : IsSome (machine_under p fuel logs)

@@ -1,0 +1,14 @@
+pub mod Thread
+pub mod Running
+pub mod Asking
+pub mod Machine
+pub mod Offering
+pub mod Legal
+pub mod Ready
+pub mod ThreadView
+pub mod Next
+pub mod Sound
+pub mod ObjectView
+pub mod MachineView
+pub mod Work
+pub mod Reached

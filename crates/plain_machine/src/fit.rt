@@ -1,0 +1,136 @@
+//! Which entries a thread asks for.
+
+ghost use Rattle.std.specs.Prelude.{◌≡◌, true, false, Some, IfNone, IfSome, OnSome};
+ghost use Rattle.plain_monitor.specs.Objects.{same_value};
+ghost use Rattle.plain_machine.specs.declared.call.Call.TheVariants as call;
+ghost use Rattle.plain_monitor.specs.declared.entry.Ending.TheVariants as ending;
+ghost use Rattle.plain_machine.specs.Asking.{ask, fits, is_call, is_exit, is_ending, fault_number};
+ghost use Rattle.plain_machine.specs.Ready.{IsReady, IsReadyToAsk, IsBuiltAsked, IsBuiltCall, IsBuiltEntry};
+
+use crate::call::{Asked, Call};
+use crate::thread::Thread;
+use plain_monitor::{Ending, Entry, Fault, Value};
+
+/// What the thread asks, where the entry is that; None where it asks for something else, or for nothing.
+#[tactic(auto, using(crate::proofs::Behind::built_entry, crate::proofs::Behind::built_asked))]
+pub fn asked_for(thread: &Thread, entry: &Entry) -> Option<Asked>
+    requires { IsReady thread.now }
+    ensures asked { IfSome result (λ asked. ask thread.now ≡ Some asked) }
+    ensures fits { IfSome result (λ asked. fits asked entry.now ≡ true) }
+    ensures ready { IfSome result (λ asked. IsReadyToAsk thread.now asked) }
+    ensures entry { OnSome result (IsBuiltEntry entry.now) }
+    ensures other { IfNone result (IfSome (ask thread.now) (λ asked. fits asked entry.now ≡ false)) }
+{
+    let asked = thread.asked()?;
+    if fits(asked, entry) {
+        return Some(asked);
+    }
+    None
+}
+
+/// Whether the entry is what is asked.
+fn fits(asked: Asked, entry: &Entry) -> bool
+    requires { IsBuiltAsked asked }
+    ensures { result ≡ fits asked entry.now }
+{
+    match asked {
+        Asked::Calls { call } => is_call(call, entry),
+        Asked::Leaves { object } => is_exit(object, entry),
+        Asked::Ends { ending } => is_ending(ending, entry),
+        Asked::Resumes { .. } => unreachable!(),
+    }
+}
+
+/// Whether the entry is this call.
+fn is_call(call: Call, entry: &Entry) -> bool
+    requires { IsBuiltCall call }
+    ensures { result ≡ is_call call entry.now }
+{
+    match call {
+        Call::Enter { object } => is_enter(object, entry),
+        Call::Exit { object } => is_exit(object, entry),
+        Call::Print { value } => is_print(value, entry),
+        _ => unreachable!(),
+    }
+}
+
+fn is_enter(object: u32, entry: &Entry) -> bool
+    ensures { result ≡ is_call (call.Enter object) entry.now }
+{
+    match entry {
+        Entry::Enter {
+            object: entered,
+            ..
+        } => object == *entered,
+        _ => false,
+    }
+}
+
+fn is_exit(object: u32, entry: &Entry) -> bool
+    ensures exit { result ≡ is_exit object entry.now }
+    ensures call { result ≡ is_call (call.Exit object) entry.now }
+{
+    match entry {
+        Entry::Exit { object: left } => object == *left,
+        _ => false,
+    }
+}
+
+fn is_print(value: Value, entry: &Entry) -> bool
+    ensures { result ≡ is_call (call.Print value) entry.now }
+{
+    match entry {
+        Entry::Print { value: printed } => same_value(value, *printed),
+        _ => false,
+    }
+}
+
+/// Whether the values are the same.
+fn same_value(value: Value, other: Value) -> bool
+    ensures { result ≡ same_value value other }
+{
+    match (value, other) {
+        (Value::Nil, Value::Nil) => true,
+        (Value::Int(n), Value::Int(m)) => n == m,
+        (Value::Ref(n), Value::Ref(m)) => n == m,
+        _ => false,
+    }
+}
+
+/// Whether the entry is this ending.
+fn is_ending(ending: Ending, entry: &Entry) -> bool
+    ensures { result ≡ is_ending ending entry.now }
+{
+    match ending {
+        Ending::Trap { fault, index } => is_trap(fault, index, entry),
+        Ending::Spent => matches!(entry, Entry::Spent),
+        Ending::Done => matches!(entry, Entry::Done),
+    }
+}
+
+fn is_trap(fault: Fault, index: u32, entry: &Entry) -> bool
+    ensures { result ≡ is_ending (ending.Trap fault index) entry.now }
+{
+    match entry {
+        Entry::Trap {
+            fault: met,
+            index: at,
+        } => { fault_number(fault) == fault_number(*met) && index == *at }
+        _ => false,
+    }
+}
+
+fn fault_number(fault: Fault) -> u32
+    ensures { result ≡ fault_number fault }
+{
+    match fault {
+        Fault::IllegalMonitorState => 0,
+        Fault::Unguarded => 1,
+        Fault::NotRef => 2,
+        Fault::NotInt => 3,
+        Fault::Range => 4,
+        Fault::Overflow => 5,
+        Fault::TooDeep => 6,
+        Fault::TooManyDumps => 7,
+    }
+}

@@ -1,0 +1,269 @@
+//! The plain machine.
+
+ghost use Rattle.std.specs.Prelude.{◌≡◌, ◌<◌, if◌then◌else◌, length, OnOk, OnErr, IfOk, Some, None, IsTrue};
+ghost use Rattle.object_program.specs.Built.{is_built_program};
+ghost use Rattle.plain_machine.specs.Machine.{new_machine, take, object_at, monitor_at, slot_at, ending_of, ending_in, other_owner, wanted, is_blocked, is_waiting, is_barred, is_live, all_barred, is_stuck};
+ghost use Rattle.plain_machine.specs.Offering.{offered, call_offer, ending_entry};
+ghost use Rattle.plain_machine.specs.Ready.{IsBuiltCall};
+ghost use Rattle.plain_monitor.specs.Monitor.{is_thread};
+ghost use Rattle.std.specs.List.{list_any};
+
+use crate::advance::advance;
+use crate::build::{new_objects, new_threads};
+use crate::call::{Asked, Call, Mode};
+use crate::code::code_of;
+use crate::fit::asked_for;
+use crate::object;
+use crate::object::Object;
+use crate::offer::Offer;
+use crate::thread::Thread;
+use object_program::Program;
+use plain_monitor::{Ending, Entry, NoMemory, Path, Refused, Value};
+use std::alloc::Global;
+use std::marker::Model;
+
+/// A program under way: its objects, and its threads, each before its next entry.
+#[derive(Drop)]
+pub struct Machine {
+    program: Program,
+    objects: Vec<Object>,
+    threads: Vec<Thread>,
+}
+
+impl Model for Machine {
+    ghost use Rattle.plain_machine.specs.Machine.{PlainMachine};
+
+    ghost Value = { PlainMachine };
+
+    ghost use Rattle.plain_machine.specs.MachineView.{plain_machine, IsAllowed};
+
+    ghost view = { plain_machine };
+
+    ghost invariant = { IsAllowed };
+}
+
+impl Machine {
+    /// The machine before the first entry, where each thread has this much fuel. It keeps a copy of the program, and takes all
+    /// memory that it will need; where memory is wanting there is none.
+    pub fn new(alloc: Global, program: &Program, fuel: u32) -> Result<Machine, NoMemory>
+        requires { IsTrue (is_built_program program.now) }
+        ensures { IfOk result (λ m. m ≡ new_machine program.now fuel) }
+    {
+        let program = program.try_clone(alloc)?;
+        let objects = new_objects(alloc, &program)?;
+        let threads = new_threads(alloc, &program, objects.len() as u32, fuel)?;
+        Ok(Machine {
+            program,
+            objects,
+            threads,
+        })
+    }
+
+    /// What thread t may do next, or why there is nothing: its next entry, an owner that it waits for, or that it has ended.
+    pub fn offer(&self, t: u32) -> Offer
+        requires { t < length self.now.threads }
+        ensures { result ≡ offered self.now t }
+    {
+        match self.threads[t as usize].asked() {
+            Some(Asked::Calls { call }) => self.offer_call(t, call),
+            Some(Asked::Leaves { object }) => Offer::Next(Entry::Exit { object }),
+            Some(Asked::Ends { ending }) => Offer::Next(ending_entry(ending)),
+            Some(Asked::Resumes { .. }) => unreachable!(),
+            None => Offer::Ended,
+        }
+    }
+
+    /// What a thread that stands before the call is offered.
+    fn offer_call(&self, t: u32, call: Call) -> Offer
+        requires { IsBuiltCall call }
+        ensures { result ≡ call_offer self.now t call }
+    {
+        match call {
+            Call::Enter { object } => match self.other_owner(object, t) {
+                Some(owner) => Offer::Blocked { object, owner },
+                None => Offer::Next(Entry::Enter {
+                    object,
+                    path: Path::StackFirst,
+                }),
+            },
+            Call::Exit { object } => Offer::Next(Entry::Exit { object }),
+            Call::Print { value } => Offer::Next(Entry::Print { value }),
+            _ => unreachable!(),
+        }
+    }
+
+    /// Takes an entry of thread t, where the thread asks for it and the objects take it. Else it is refused, and the machine
+    /// stays as it is.
+    pub fn take(&mut self, t: u32, entry: &Entry) -> Result<(), Refused>
+        requires { t < length self.old.threads }
+        ensures ok { OnOk result (take self.old t entry.now ≡ Some self.new) }
+        ensures refused { OnErr result (take self.old t entry.now ≡ None) }
+        ensures unchanged { OnErr result (self.new ≡ self.old) }
+        ensures threads { length self.new.threads ≡ length self.old.threads }
+        ensures objects { length self.new.objects ≡ length self.old.objects }
+    {
+        let at = t as usize;
+        let Some(asked) = asked_for(&self.threads[at], entry) else {
+            return Err(Refused);
+        };
+        object::take(&mut self.objects, t, entry)?;
+        let code = code_of(&self.program, t);
+        advance(&self.program, code, &mut self.threads[at], asked, entry);
+        Ok(())
+    }
+
+    /// How thread t ended; None while it goes on.
+    pub fn ending(&self, t: u32) -> Option<Ending>
+        requires { t < length self.now.threads }
+        ensures { result ≡ ending_of self.now t }
+    {
+        ending_in(&self.threads[t as usize])
+    }
+
+    /// The thread that has the monitor of the object.
+    pub fn owner_of(&self, o: u32) -> Option<u32>
+        requires { o < length self.now.objects }
+        ensures { result ≡ (monitor_at self.now o).owner }
+    {
+        self.objects[o as usize].monitor().owner()
+    }
+
+    /// How often the owner of the object has entered its monitor, less its exits.
+    pub fn count_of(&self, o: u32) -> u32
+        requires { o < length self.now.objects }
+        ensures { result ≡ (monitor_at self.now o).count }
+    {
+        self.objects[o as usize].monitor().count()
+    }
+
+    /// What the slot of the object has.
+    pub fn slot_of(&self, o: u32, slot: u32) -> Value
+        requires object { o < length self.now.objects }
+        requires slot { slot < length (object_at self.now o).slots }
+        ensures { result ≡ slot_at self.now o slot }
+    {
+        self.objects[o as usize].slot(slot)
+    }
+
+    /// Whether some thread is live, and none that is can go on by itself.
+    pub fn is_stuck(&self) -> bool
+        ensures { result ≡ is_stuck self.now }
+    {
+        self.any_live() && self.all_barred()
+    }
+
+    fn any_live(&self) -> bool
+        ensures { result ≡ list_any is_live self.now.threads }
+    {
+        for thread in &self.threads {
+            if is_live(thread) {
+                return true;
+            }
+        }
+        false
+    }
+
+    /// Whether each thread that is live can't go on by itself.
+    fn all_barred(&self) -> bool
+        ensures { result ≡ all_barred self.now 0 self.now.threads }
+    {
+        for (t, thread) in self.threads.iter().enumerate() {
+            if is_live(thread) && !self.is_barred(t as u32, thread) {
+                return false;
+            }
+        }
+        true
+    }
+
+    /// Whether thread t can't go on by itself.
+    fn is_barred(&self, t: u32, thread: &Thread) -> bool
+        ensures { result ≡ is_barred self.now t thread.now }
+    {
+        self.is_waiting(t, thread.mode()) || self.is_blocked(t, wanted(thread.asked()))
+    }
+
+    /// Whether a thread in this mode waits and was not notified.
+    fn is_waiting(&self, t: u32, mode: Mode) -> bool
+        ensures { result ≡ is_waiting self.now t mode }
+    {
+        match mode {
+            Mode::Waiting { object } => match self.objects.get(object as usize) {
+                Some(object) => object.monitor().waits(t),
+                None => false,
+            },
+            _ => false,
+        }
+    }
+
+    /// Whether another thread has the monitor that this one wants.
+    fn is_blocked(&self, t: u32, wanted: Option<u32>) -> bool
+        ensures { result ≡ is_blocked self.now t wanted }
+    {
+        match wanted {
+            Some(object) => self.other_owner(object, t).is_some(),
+            None => false,
+        }
+    }
+
+    /// The owner of the object's monitor, where that is another thread.
+    fn other_owner(&self, object: u32, t: u32) -> Option<u32>
+        ensures { result ≡ other_owner (monitor_at self.now object) t }
+    {
+        match self.objects.get(object as usize) {
+            Some(object) => other(object.monitor().owner(), t),
+            None => None,
+        }
+    }
+}
+
+/// The owner, where it is another thread than t.
+fn other(owner: Option<u32>, t: u32) -> Option<u32>
+    ensures { result ≡ (if is_thread owner t then None else owner) }
+{
+    match owner {
+        Some(owner) if owner != t => Some(owner),
+        _ => None,
+    }
+}
+
+/// The entry of an ending.
+fn ending_entry(ending: Ending) -> Entry
+    ensures { result ≡ ending_entry ending }
+{
+    match ending {
+        Ending::Trap { fault, index } => Entry::Trap { fault, index },
+        Ending::Spent => Entry::Spent,
+        Ending::Done => Entry::Done,
+    }
+}
+
+/// How the thread ended.
+fn ending_in(thread: &Thread) -> Option<Ending>
+    ensures { result ≡ ending_in thread.now.mode }
+{
+    match thread.mode() {
+        Mode::Ended { ending } => Some(ending),
+        _ => None,
+    }
+}
+
+fn is_live(thread: &Thread) -> bool
+    ensures { result ≡ is_live thread.now }
+{
+    ending_in(thread).is_none()
+}
+
+/// The object whose monitor a thread that asks this wants.
+fn wanted(asked: Option<Asked>) -> Option<u32>
+    ensures { result ≡ wanted asked }
+{
+    match asked {
+        Some(
+            Asked::Calls {
+                call: Call::Enter { object },
+            },
+        ) => Some(object),
+        Some(Asked::Resumes { object }) => Some(object),
+        _ => None,
+    }
+}

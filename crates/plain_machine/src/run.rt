@@ -1,0 +1,39 @@
+//! How a thread runs.
+
+ghost use Rattle.std.specs.Prelude.{◌≡◌, ◌≤◌, IsTrue, length};
+ghost use Rattle.std.specs.List.{list_all};
+ghost use Rattle.object_program.specs.Built.{is_built_code};
+ghost use Rattle.plain_machine.specs.Running.{run_on};
+ghost use Rattle.plain_machine.specs.Ready.{IsReady};
+
+use crate::call::Mode;
+use crate::step::{Next, look};
+use crate::thread::Thread;
+use object_program::{Code, Program};
+use plain_monitor::Ending;
+
+/// Runs a thread that has this much fuel, up to its next call or its end.
+#[tactic(auto, using(crate::proofs::Runs::run_steps))]
+pub fn run(program: &Program, code: &[Code], thread: &mut Thread, fuel: u32)
+    requires few { length code.now ≤ 4096 }
+    requires built { IsTrue (list_all is_built_code code.now) }
+    ensures runs { thread.new ≡ run_on program.now code.now fuel thread.old }
+    ensures holds { thread.new.holds ≡ thread.old.holds }
+    ensures ready { IsReady thread.new }
+{
+    let mut left = fuel;
+    while left > 0 {
+        match look(program, code, thread) {
+            Next::Sets { local, value } => thread.set_local(local, value),
+            Next::Calls { call } => return thread.stand(left, Mode::Calling { call }),
+            Next::Stops { ending } => return thread.stand(left - 1, Mode::Unwinding { ending }),
+        }
+        left -= 1;
+    }
+    thread.stand(
+        0,
+        Mode::Unwinding {
+            ending: Ending::Spent,
+        },
+    );
+}

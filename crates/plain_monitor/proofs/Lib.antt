@@ -1,0 +1,5 @@
+pub mod Waiting
+pub mod Orders
+pub mod Merging
+pub mod Threads
+pub mod Appending

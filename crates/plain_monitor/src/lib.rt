@@ -1,0 +1,20 @@
+//! The plain monitor of the Java Language Specification 8, 17.1 and 17.2, and the entries that threads log.
+//!
+//! `specs/` has the trusted definitions: the monitor and its steps, the objects that entries change, the one order of all
+//! logs, and the histories that are legal. The types here are what logs are made of.
+#![tactic(auto)]
+
+mod entry;
+mod laws;
+mod list;
+mod monitor;
+mod refusal;
+#[cfg(test)]
+mod tests;
+mod waiters;
+
+pub use entry::{Ending, Entry, Fault, Logged, Path, Value};
+pub use laws::{an_entry_above_all_comes_last, least_head_comes_first, order_keeps_each_log};
+pub use list::List;
+pub use monitor::Monitor;
+pub use refusal::{BadWord, NoMemory, Refused};
