@@ -8,3 +8,4 @@ pub mod PrintsLeft
 pub mod ThreadsLeft
 pub mod Texts
 pub mod CutShort
+pub mod Logging

@@ -1,6 +1,7 @@
 -- Where no log has a dump, the order of what is left of the logs has none.
-use Rattle.std.proofs.Common.{◌≡◌, ℕ, zero, suc, ◌+◌, Bool, true, false, List, [], ◌∷◌, ◌++◌, map, drop, refl}
+use Rattle.std.proofs.Common.{◌≡◌, ℕ, zero, suc, ◌+◌, Bool, true, false, List, [], ◌∷◌, map, drop, refl}
 use Rattle.std.specs.List.{AllByRecursion}
+use Rattle.plain_monitor.proofs.Lists.{all_append}
 use Rattle.plain_monitor.specs.declared.entry.Logged.{Logged}
 use Rattle.plain_monitor.specs.Order.{is_before, insert_ordered, ordered, with_threads, order}
 use Rattle.bias_cli.specs.Merging.{left_of}
@@ -12,10 +13,6 @@ NoDump x = is_dump x.1.entry ≡ false
 abbrev HasNoDump : List Logged → Type 0
 HasNoDump log = AllByRecursion (λ l. is_dump l.entry ≡ false) log
 
-AllByRecursion-append : (P : ℕ × Logged → Type 0) (xs ys : List (ℕ × Logged)) → AllByRecursion P xs → AllByRecursion P ys → AllByRecursion P (xs ++ ys)
-AllByRecursion-append P [] ys h k = k
-AllByRecursion-append P (x ∷ xs) ys h k = (h.0, AllByRecursion-append P xs ys h.1 k)
-
 HasNoDump-map : (t : ℕ) (log : List Logged) → HasNoDump log → AllByRecursion NoDump (map (λ l. (t, l)) log)
 HasNoDump-map t [] h = tt
 HasNoDump-map t (l ∷ log) h = (h.0, HasNoDump-map t log h.1)
@@ -23,7 +20,7 @@ HasNoDump-map t (l ∷ log) h = (h.0, HasNoDump-map t log h.1)
 NoDump-with_threads : (t : ℕ) (logs : List (List Logged)) → AllByRecursion HasNoDump logs → AllByRecursion NoDump (with_threads t logs)
 NoDump-with_threads t [] h = tt
 NoDump-with_threads t (log ∷ logs) h =
-    AllByRecursion-append NoDump _ _ (HasNoDump-map t log h.0) (NoDump-with_threads (t + 1) logs h.1)
+    all_append NoDump _ _ (HasNoDump-map t log h.0) (NoDump-with_threads (t + 1) logs h.1)
 
 NoDump-insert : (x : ℕ × Logged) (ys : List (ℕ × Logged)) → NoDump x → AllByRecursion NoDump ys → AllByRecursion NoDump (insert_ordered x ys)
 NoDump-insert x [] h k = (h, tt)

@@ -1,7 +1,9 @@
 -- A run stays under way with each entry that the machine takes and a thread logs.
 use Rattle.std.proofs.Common.{◌≡◌, ℕ, zero, suc, ◌+◌, ◌<◌, ◌≤◌, false, List, [], ◌∷◌, ◌++◌, length, refl, ap, sym, ◌∙◌, arith, Option, Some, None, option_and_then, slice_set, slice_get, subst, replicate, Result, Ok, Err, OnOk}
+use Rattle.std.proofs.Common.{length-append}
 use Rattle.std.proofs.lemmas.List.{length-set, length-replicate, length-map}
 use Rattle.std.specs.List.{AllByRecursion}
+use Rattle.plain_monitor.proofs.Lists.{all_set, all_weaker, all_push, all_replicate}
 use Rattle.plain_monitor.specs.declared.entry.Entry.{Entry}
 use Rattle.plain_monitor.specs.declared.entry.Logged.{Logged}
 use Rattle.plain_monitor.specs.Objects.{PlainObject, take_entry}
@@ -14,7 +16,7 @@ use Rattle.plain_machine.specs.Machine.{PlainMachine, new_machine, take, moved, 
 use Rattle.plain_machine.specs.Legal.{behind_all}
 use Rattle.plain_machine.specs.Reached.{IsReached}
 use Rattle.bias_cli.specs.LinesLeft.{is_dump}
-use Rattle.bias_cli.specs.Turns.{IsUnderway}
+use Rattle.bias_cli.specs.Turns.{IsUnderway, AreInTurns, logged_as}
 
 behind_first : (ys zs : List (ℕ × Logged)) (n k : PlainMachine) (o : Option PlainMachine) → ((next : PlainMachine) → behind_all next ys ≡ Some n → behind_all next zs ≡ Some k)
     → option_and_then (λ next. behind_all next ys) o ≡ Some n → option_and_then (λ next. behind_all next zs) o ≡ Some k
@@ -31,19 +33,6 @@ behind_one_more m (y ∷ ys) x n k h step =
 last_more : (n : ℕ) (log : List Logged) (l : Logged) → last_above n (log ++ l ∷ []) ≡ l.stamp
 last_more n [] l = refl
 last_more n (m ∷ log) l = last_more m.stamp log l
-
-all_set : {A : Type 0} (P : A → Type 0) (xs : List A) (i : ℕ) (x : A) → P x → AllByRecursion P xs → AllByRecursion P (slice_set xs i x)
-all_set P [] i x p a = tt
-all_set P (y ∷ xs) zero x p a = (p, a.1)
-all_set P (y ∷ xs) (suc i) x p a = (a.0, all_set P xs i x p a.1)
-
-all_weaker : {A : Type 0} (P Q : A → Type 0) → ((x : A) → P x → Q x) → (xs : List A) → AllByRecursion P xs → AllByRecursion Q xs
-all_weaker P Q f [] a = tt
-all_weaker P Q f (x ∷ xs) a = (f x a.0, all_weaker P Q f xs a.1)
-
-all_end : {A : Type 0} (P : A → Type 0) (xs : List A) (x : A) → AllByRecursion P xs → P x → AllByRecursion P (xs ++ x ∷ [])
-all_end P [] x a p = (p, tt)
-all_end P (y ∷ xs) x a p = (a.0, all_end P xs x a.1 p)
 
 all_of_log : (P : Logged → Type 0) (logs : List (List Logged)) (t : ℕ) → AllByRecursion (λ log. AllByRecursion P log) logs → AllByRecursion P (log_of logs t)
 all_of_log P [] t a = tt
@@ -70,6 +59,21 @@ take_leaves : (m k : PlainMachine) (t : ℕ) (e : Entry) (o : Option ThreadState
 take_leaves m k t e None h = absurd (cc h)
 take_leaves m k t e (Some s) h = moved_leaves m k t (thread_after m.program (code_of m.program t) s e) (take_entry m.objects t e) h
 
+in_turns_first : (m : PlainMachine) (n : ℕ) (y : ℕ × Logged) (ys : List (ℕ × Logged)) (x : ℕ × Logged) (k : PlainMachine) (o : Option PlainMachine) → take m y.0 y.1.entry ≡ o
+    → option_and_then (λ next. behind_all next ys) o ≡ Some k → AreInTurns m n (y ∷ ys)
+    → ((next : PlainMachine) → behind_all next ys ≡ Some k → AreInTurns next (n + 1) ys → AreInTurns next (n + 1) (ys ++ x ∷ [])) → AreInTurns m n (y ∷ (ys ++ x ∷ []))
+in_turns_first m n y ys x k None e h a rest = absurd (cc h)
+in_turns_first m n y ys x k (Some next) e h a rest = let later = rw e at a.2 in (a.0, a.1, rw e (rest next h later))
+
+-- entries in turns and one more that is made in its turn
+in_turns_more : (m : PlainMachine) (n : ℕ) (xs : List (ℕ × Logged)) (x : ℕ × Logged) (k after : PlainMachine) → behind_all m xs ≡ Some k → AreInTurns m n xs
+    → x.1.stamp ≡ n + length xs + 1 → x.1.entry ≡ logged_as k x.0 x.1.entry → take k x.0 x.1.entry ≡ Some after → AreInTurns m n (xs ++ x ∷ [])
+in_turns_more m n [] x k after h a stamp entry step =
+    let same : k ≡ m = cc h in (omega arith, entry ∙ ap (λ w. logged_as w x.0 x.1.entry) same, rw (← same, step) tt)
+in_turns_more m n (y ∷ ys) x k after h a stamp entry step =
+    in_turns_first m n y ys x k (take m y.0 y.1.entry) refl h a
+    (λ next g b. in_turns_more next (n + 1) ys x k after g b (omega arith) entry step)
+
 -- the law of plain_monitor on an entry whose stamp is above all others
 abbrev pub ComesLast : Type 0
 ComesLast = (logs : List (List Logged)) (t : ℕ) (l : Logged) → AllByRecursion (RisesAbove 0) logs → t < length logs
@@ -79,10 +83,14 @@ abbrev pub RisesOn : Type 0
 RisesOn = (logs : List (List Logged)) (t : ℕ) (l : Logged) → AllByRecursion (RisesAbove 0) logs → t < length logs
     → AllByRecursion (λ log. last_stamp log < l.stamp) logs → AllByRecursion (RisesAbove 0) (appended logs t l)
 
+one_longer : (xs : List (ℕ × Logged)) (x : ℕ × Logged) → length xs + 1 ≡ length (xs ++ x ∷ [])
+one_longer xs x = sym (length-append xs (x ∷ []))
+
 pub underway_more : ComesLast → RisesOn → (p : ProgramText) (fuel : ℕ) (logs : List (List Logged)) (stamp : ℕ) (m k : PlainMachine) (t : ℕ) (l : Logged)
-    → IsUnderway p fuel logs stamp m → t < length logs → l.stamp ≡ stamp + 1 → take m t l.entry ≡ Some k → is_dump l.entry ≡ false → IsReached k
+    → IsUnderway p fuel logs stamp m → t < length logs → l.stamp ≡ stamp + 1 → take m t l.entry ≡ Some k → l.entry ≡ logged_as m t l.entry → is_dump l.entry ≡ false → IsReached k
     → IsUnderway p fuel (appended logs t l) l.stamp k
-underway_more last rises p fuel logs stamp m k t l u h next step plain reached =
+underway_more last rises p fuel logs stamp m k t l u h next step as_offered plain reached =
+    let ordered = last logs t l u.rises h (all_weaker (λ log. last_stamp log ≤ stamp) (λ log. last_stamp log < l.stamp) (λ log a. omega arith) logs u.stamps) in
     let left = take_leaves m k t l.entry (slice_get m.threads t) step in
     let above : AllByRecursion (λ log. last_stamp log < l.stamp) logs = all_weaker (λ log. last_stamp log ≤ stamp) (λ log. last_stamp log < l.stamp) (λ log a. omega arith) logs u.stamps in
     record {
@@ -93,14 +101,13 @@ underway_more last rises p fuel logs stamp m k t l u h next step plain reached =
           (let e = last_more 0 (log_of logs t) l in omega (arith, e))
           (all_weaker (λ log. last_stamp log ≤ stamp) (λ log. last_stamp log ≤ l.stamp) (λ log a. omega arith) logs u.stamps);
       dumps = all_set (λ log. AllByRecursion (λ n. is_dump n.entry ≡ false) log) logs t (log_of logs t ++ l ∷ [])
-          (all_end (λ n. is_dump n.entry ≡ false) (log_of logs t) l (all_of_log (λ n. is_dump n.entry ≡ false) logs t u.dumps) plain) u.dumps;
+          (all_push (λ n. is_dump n.entry ≡ false) (log_of logs t) l (all_of_log (λ n. is_dump n.entry ≡ false) logs t u.dumps) plain) u.dumps;
       under = ap (behind_all (new_machine p fuel)) (last logs t l u.rises h above) ∙ behind_one_more (new_machine p fuel) (order logs) (t, l) m k u.under step;
+      counted = next ∙ ap (λ n. n + 1) u.counted ∙ one_longer (order logs) (t, l) ∙ sym (ap length ordered);
+      turns = subst (AreInTurns (new_machine p fuel) 0) (sym ordered)
+          (in_turns_more (new_machine p fuel) 0 (order logs) (t, l) m k u.under u.turns (let c = u.counted in omega arith) as_offered step);
       reached = reached;
     }
-
-all_replicate : {A : Type 0} (P : A → Type 0) (n : ℕ) (x : A) → P x → AllByRecursion P (replicate n x)
-all_replicate P zero x p = tt
-all_replicate P (suc n) x p = (p, all_replicate P n x p)
 
 empty_log : (n u : ℕ) → log_of (replicate n []) u ≡ []
 empty_log zero u = refl
@@ -121,6 +128,8 @@ first_underway empty p fuel n count reached =
       stamps = all_replicate (λ log. last_stamp log ≤ 0) n [] (omega arith);
       dumps = all_replicate (λ log. AllByRecursion (λ l. is_dump l.entry ≡ false) log) n [] tt;
       under = ap (behind_all (new_machine p fuel)) (empty (replicate n []) (empty_log n));
+      counted = sym (ap length (empty (replicate n []) (empty_log n)));
+      turns = subst (AreInTurns (new_machine p fuel) 0) (sym (empty (replicate n []) (empty_log n))) tt;
       reached = reached;
     }
 

@@ -4,15 +4,17 @@ use Rattle.std.specs.List.{list_any, list_all}
 use Rattle.run_io.specs.Faults.{rose}
 use Rattle.plain_monitor.specs.declared.entry.Ending.{Ending}
 use Rattle.plain_monitor.specs.declared.entry.Ending.TheVariants.{Done}
+use Rattle.plain_monitor.specs.Order.{order}
 use Rattle.object_program.specs.declared.error.ProgramError.{ProgramError}
 use Rattle.object_program.specs.Program.{ProgramText}
 use Rattle.object_program.specs.Refusal.{program_of}
 use Rattle.object_program.specs.Built.{is_built}
-use Rattle.plain_machine.specs.Machine.{PlainMachine, ending_in, is_live, is_stuck}
-use Rattle.plain_machine.specs.Legal.{IsLegal, machine_under}
+use Rattle.plain_machine.specs.Machine.{PlainMachine, new_machine, ending_in, is_live, is_stuck}
+use Rattle.plain_machine.specs.Legal.{IsLegal, machine_after}
 use Rattle.bias_cli.specs.Input.{Took}
 use Rattle.bias_cli.specs.Output.{Wrote, WroteFront}
 use Rattle.bias_cli.specs.RunText.{text_of_run}
+use Rattle.bias_cli.specs.Turns.{AreInTurns}
 use Rattle.bias_cli.specs.declared.command.Options.{Options}
 use Rattle.bias_cli.specs.declared.record.RunRecord.{RunRecord}
 use Rattle.bias_cli.specs.declared.record.ClassLine.{ClassLine}
@@ -114,12 +116,14 @@ pub record IsRecordOf (o : Options) (p : ProgramText) (r : RunRecord) : Type 0 w
   pub shots : r.shots ≡ replicate (length p.threads) []
   pub classes : r.classes ≡ replicate (length p.classes) idle_class
 
--- the machine takes the logged entries in stamped order, is this one behind them, and is over then
+-- the machine takes the logged entries in stamped order, is this one behind them, and is over then; as long as programs run in
+-- turns, the stamps count the entries, and each enter says whether it is its thread's first
 pub record IsRunOf (o : Options) (p : ProgramText) (r : RunRecord) (machine : PlainMachine) : Type 0 where
   pub of : IsRecordOf o p r
   pub legal : IsLegal p o.fuel r.logs
-  pub under : machine_under p o.fuel r.logs ≡ Some machine
+  pub under : machine_after p o.fuel r.logs ≡ Some machine
   pub over : IsOver machine r.halted
+  pub turns : AreInTurns (new_machine p o.fuel) 0 (order r.logs)
 
 -- a run: its status is that of the machine under the record, and its text is written
 pub record IsRun (o : Options) (p : ProgramText) (before after : SinkSeen) (status : ℕ) (r : RunRecord) : Type 0 where

@@ -4,16 +4,18 @@ use crate::record::RunRecord;
 
 /// What became of a call of `biasrun`: its exit status, and the record of its run where it ran a program.
 ///
-/// | Status | Exactly where |
+/// | Status | Where |
 /// |---|---|
-/// | 0 | every thread came to its `end` |
-/// | 1 | some thread faulted or was spent, and the machine isn't stuck |
+/// | 0 | a program ran, and every thread came to its `end` |
+/// | 1 | a program ran, some thread faulted or was spent, and the machine isn't stuck |
 /// | 2 | the words are not accepted |
-/// | 3 | the text is over the limit, or has no program |
-/// | 4 | the machine under the record is stuck |
+/// | 3 | the text has forms that aren't built, is over the limit, or has no program |
+/// | 4 | a program ran, and the machine behind the record is stuck |
 /// | 5 | a read failed |
-/// | 6 | a write failed, in place of any of the others |
-/// | 7 | want of memory, before the first byte was written |
+/// | 6 | a write failed, in place of any of the above |
+/// | 7 | memory was wanting, before the first byte was written; no contract says when that is |
+///
+/// `run` is there exactly where a program ran, with status 6 too.
 #[derive(Drop)]
 pub struct Finish {
     pub status: u8,

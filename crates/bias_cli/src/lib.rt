@@ -36,8 +36,8 @@ use std::thread::Threads;
 /// Does what the words ask for: `run` reads a program from the source to its end, runs it, and writes to the sink what it
 /// prints, line by line, and then how each thread ended.
 ///
-/// `words[0]` is the program's name. Where the words are not accepted, a read fails or the text has no program, that is what
-/// is written, and there is no record (`Finish` has the statuses). At the first write that fails the writing stops, with a
+/// `words[0]` is the program's name. Where the words are not accepted, a read fails, or the text isn't wholly of the forms that
+/// are built or has no program, that is what is written, and there is no record (`Finish` has the statuses). At the first write that fails the writing stops, with a
 /// front of the text written and status 6. Want of memory comes only before the first byte is written.
 ///
 /// Today one thread runs on the calling thread, by the plain machine: `rt`, `clock` and `gate` are not used yet.

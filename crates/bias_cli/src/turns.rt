@@ -10,11 +10,11 @@ ghost use Rattle.plain_machine.specs.Offering.{offered, is_next};
 ghost use Rattle.plain_monitor.specs.History.{appended};
 ghost use Rattle.plain_machine.specs.Reached.{IsReached};
 ghost use Rattle.plain_machine.specs.Work.{work_left};
-ghost use Rattle.bias_cli.specs.Turns.{IsUnderway, Continues, OffersNothing};
+ghost use Rattle.bias_cli.specs.Turns.{IsUnderway, Continues, OffersNothing, logged_as, path_by};
 
 use object_program::Program;
 use plain_machine::{Machine, Offer};
-use plain_monitor::{Entry, List, Logged, NoMemory, Refused};
+use plain_monitor::{Entry, List, Logged, NoMemory, Path, Refused};
 use std::alloc::Global;
 use std::mem;
 
@@ -114,16 +114,36 @@ impl Turns {
         plain_machine::machines_stay_reached();
         plain_machine::each_entry_uses_up_work();
         plain_monitor::an_entry_above_all_comes_last();
-        match self.machine.take(t, entry) {
-            Ok(()) => self.log(
-                alloc,
-                t,
-                Logged {
-                    stamp,
-                    entry: *entry,
-                },
-            ),
+        let entry = self.logged_as(t, entry);
+        match self.machine.take(t, &entry) {
+            Ok(()) => self.log(alloc, t, Logged { stamp, entry }),
             Err(Refused) => unreachable!(),
+        }
+    }
+
+    /// What thread `t` logs of an entry that it is offered: an enter says whether it is the thread's first of the object.
+    fn logged_as(&self, t: u32, entry: &Entry) -> Entry
+        requires reached { IsReached self.now.machine }
+        requires offered { offered self.now.machine t ≡ Next entry.now }
+        ensures { result ≡ logged_as self.now.machine t entry.now }
+    {
+        match entry {
+            Entry::Enter { object, .. } => Entry::Enter {
+                object: *object,
+                path: self.path_by(t, *object),
+            },
+            _ => *entry,
+        }
+    }
+
+    /// The path of an enter by a lock record.
+    fn path_by(&self, t: u32, object: u32) -> Path
+        requires { object < length self.now.machine.objects }
+        ensures { result ≡ path_by self.now.machine t object }
+    {
+        match self.machine.owner_of(object) {
+            Some(owner) if owner == t => Path::StackAgain,
+            _ => Path::StackFirst,
         }
     }
 

@@ -8,7 +8,6 @@
 mod tests;
 
 use run_io::{FreeGate, ReadSource, StepClock, WriteSink};
-use std::alloc::AllocError;
 use std::process::ExitCode;
 use std::{env, io};
 
@@ -33,8 +32,16 @@ fn main(rt: HostRuntime) -> ExitCode {
     ExitCode::from(finish.status)
 }
 
-/// The arguments, the program's name first.
+/// The arguments, the program's name first. Where one of them isn't UTF-8 there are none, and no words are accepted then. The
+/// error is want of memory.
 fn words_of(rt: &HostRuntime) -> io::Result<Vec<String>> {
+    match all_words(rt) {
+        Err(error) if error.kind() == io::ErrorKind::InvalidData => Ok(Vec::new(rt.alloc())),
+        words => words,
+    }
+}
+
+fn all_words(rt: &HostRuntime) -> io::Result<Vec<String>> {
     let mut words = Vec::new(rt.alloc());
     for word in env::args(rt)? {
         words.push(word)?;

@@ -19,7 +19,8 @@ use Rattle.object_program.specs.declared.program.Code.{Code}
 use Rattle.object_program.specs.declared.program.Code.TheVariants as code
 use Rattle.object_program.specs.declared.keyword.Keyword.{Keyword}
 use Rattle.object_program.specs.declared.keyword.Keyword.TheVariants.{Class, Object, Thread, Local, Set, Ref, Enter, Exit, Print, End}
-use Rattle.object_program.proofs.AllowedNames.{AllByRecursion-push, AllByRecursion-more, AreNames-push, AreNames-push_map, number_among-lt}
+use Rattle.plain_monitor.proofs.Lists.{all_push, all_weaker}
+use Rattle.object_program.proofs.AllowedNames.{AreNames-push, AreNames-push_map, number_among-lt}
 use Rattle.object_program.proofs.AllowedCause.{HasNoCause, AreFine, first_fine, second_fine}
 use Rattle.object_program.proofs.AllowedParts.{IsAllowedText, IsOpenCode, IsOpen, IsSection, IsAllowedSoFar, IsOpenCode-more, IsThread-more, IsSection-more, AreObjects-more, AreObjects-push, total_of-push, EndsOnce-push, built_push}
 
@@ -39,7 +40,7 @@ IsAllowedText-class p c h name new slots room =
     let one : length (p.classes ++ c ∷ []) ≡ length p.classes + 1 = length_push p.classes c in
     record {
       class_names = AreNames-push_map (λ d. d.name) p.classes c h.class_names name new;
-      class_slots = AllByRecursion-push _ p.classes c h.class_slots slots;
+      class_slots = all_push _ p.classes c h.class_slots slots;
       classes_few = omega arith;
       object_names = h.object_names;
       objects = AreObjects-more _ _ 0 (omega arith) p.objects h.objects;
@@ -63,7 +64,7 @@ IsAllowedText-object p d h name new here room =
       objects = AreObjects-push _ 0 (total_of p.objects) p.objects d (omega arith) h.objects here;
       objects_few = omega (arith, total_of-push p.objects d);
       thread_names = h.thread_names;
-      threads = AllByRecursion-more _ _ (IsThread-more _ _ (omega arith)) p.threads h.threads;
+      threads = all_weaker _ _ (IsThread-more _ _ (omega arith)) p.threads h.threads;
       threads_few = h.threads_few;
       built = h.built;
     }
@@ -73,13 +74,12 @@ IsThread-closed : (objects : ℕ) (names : List (List ℕ)) (t : ThreadDef) → 
     → IsThread objects (record t { code = t.code ++ code.End ∷ [] })
 IsThread-closed objects names t o room =
     let l = length t.locals in
-    let n = length (t.code ++ code.End ∷ []) in
     record {
       locals = o.locals;
       locals_few = o.locals_few;
       labels = rw o.labels tt;
       targets = rw o.labels tt;
-      code = AllByRecursion-push (IsInstruction l objects n) t.code code.End (AllByRecursion-more _ _ (λ c i. i.operands n) t.code o.code) tt;
+      code = rw o.labels (all_push (IsInstruction l objects []) t.code code.End (all_weaker _ _ (λ c i. i.operands) t.code o.code) tt);
       code_few = omega (arith, length_push t.code code.End);
       ends = EndsOnce-push l objects t.code o.code;
     }
@@ -98,7 +98,7 @@ IsAllowedText-thread p t h o room =
       objects = h.objects;
       objects_few = h.objects_few;
       thread_names = AreNames-push_map (λ u. u.name) p.threads closed h.thread_names o.name o.new;
-      threads = AllByRecursion-push _ p.threads closed h.threads (IsThread-closed (length p.objects) _ t o room);
+      threads = all_push _ p.threads closed h.threads (IsThread-closed (length p.objects) _ t o room);
       threads_few = let few = o.room in omega (arith, length-map p.threads (λ (u : ThreadDef). u.name));
       built = list_all-append _ p.threads (closed ∷ []) ∙ and_from _ _ h.built (and_from _ _ all_built refl);
     }
@@ -115,7 +115,7 @@ IsOpen-local objects names t name o here new room =
       locals = AreNames-push t.locals name o.locals here new;
       locals_few = omega arith;
       labels = o.labels;
-      code = AllByRecursion-more _ _ (IsOpenCode-more _ _ _ _ (omega arith) (omega arith)) t.code o.code;
+      code = all_weaker _ _ (IsOpenCode-more _ _ _ _ (omega arith) (omega arith)) t.code o.code;
       code_few = o.code_few;
     }
 
@@ -130,7 +130,7 @@ IsOpen-code objects names t c o here room =
       locals = o.locals;
       locals_few = o.locals_few;
       labels = o.labels;
-      code = AllByRecursion-push _ t.code c o.code here;
+      code = all_push _ t.code c o.code here;
       code_few = omega (arith, length_push t.code c);
     }
 
@@ -202,32 +202,32 @@ set_kept p (Some t) later ws h o n =
     let high = pos 2305843009213693951 in
     let x = first_local p t later ws (Number low high ∷ []) n.operands in
     let number = within low high (number_of (operand ws 1)) (second_fine (in_thread p t) later a_local (Number low high) [] ws n.operands) in
-    code_kept p t (code.Set (local_at t ws 0) (number_at ws 1)) h o (record { built = refl; goes_on = λ e. absurd (cc e); operands = λ k. (x, number) }) (leb-false _ _ n.limit)
+    code_kept p t (code.Set (local_at t ws 0) (number_at ws 1)) h o (record { built = refl; goes_on = λ e. absurd (cc e); operands = (x, number) }) (leb-false _ _ n.limit)
 
 ref_kept : KeepsSection Ref
 ref_kept p None later ws h o n = absurd (cc n.place)
 ref_kept p (Some t) later ws h o n =
     let x = first_local p t later ws (Known Objects ∷ []) n.operands in
     let d = second_object p t later ws n.operands in
-    code_kept p t (code.Ref (local_at t ws 0) (object_at p ws 1)) h o (record { built = refl; goes_on = λ e. absurd (cc e); operands = λ k. (x, d) }) (leb-false _ _ n.limit)
+    code_kept p t (code.Ref (local_at t ws 0) (object_at p ws 1)) h o (record { built = refl; goes_on = λ e. absurd (cc e); operands = (x, d) }) (leb-false _ _ n.limit)
 
 enter_kept : KeepsSection Enter
 enter_kept p None later ws h o n = absurd (cc n.place)
 enter_kept p (Some t) later ws h o n =
     let x = first_local p t later ws [] n.operands in
-    code_kept p t (code.Enter (local_at t ws 0)) h o (record { built = refl; goes_on = λ e. absurd (cc e); operands = λ k. x }) (leb-false _ _ n.limit)
+    code_kept p t (code.Enter (local_at t ws 0)) h o (record { built = refl; goes_on = λ e. absurd (cc e); operands = x }) (leb-false _ _ n.limit)
 
 exit_kept : KeepsSection Exit
 exit_kept p None later ws h o n = absurd (cc n.place)
 exit_kept p (Some t) later ws h o n =
     let x = first_local p t later ws [] n.operands in
-    code_kept p t (code.Exit (local_at t ws 0)) h o (record { built = refl; goes_on = λ e. absurd (cc e); operands = λ k. x }) (leb-false _ _ n.limit)
+    code_kept p t (code.Exit (local_at t ws 0)) h o (record { built = refl; goes_on = λ e. absurd (cc e); operands = x }) (leb-false _ _ n.limit)
 
 print_kept : KeepsSection Print
 print_kept p None later ws h o n = absurd (cc n.place)
 print_kept p (Some t) later ws h o n =
     let x = first_local p t later ws [] n.operands in
-    code_kept p t (code.Print (local_at t ws 0)) h o (record { built = refl; goes_on = λ e. absurd (cc e); operands = λ k. x }) (leb-false _ _ n.limit)
+    code_kept p t (code.Print (local_at t ws 0)) h o (record { built = refl; goes_on = λ e. absurd (cc e); operands = x }) (leb-false _ _ n.limit)
 
 end_kept : KeepsSection End
 end_kept p None later ws h o n = absurd (cc n.place)

@@ -1,6 +1,5 @@
 -- Names in a list of names, and lists at whose end one more is added.
 use Rattle.std.proofs.Common.{◌≡◌, ℕ, ◌<◌, Bool, true, false, List, [], ◌∷◌, ◌++◌, length, map, refl, sym, ◌∙◌, arith, IsTrue, bytes_eq}
-use Rattle.std.specs.List.{AllByRecursion}
 use Rattle.std.proofs.lemmas.Bool.{or_parts, or_from, false_from_ne_true}
 use Rattle.std.proofs.lemmas.Slice.Eq.{bytes_eq-Decides}
 use Rattle.std.proofs.lemmas.List.{map-append}
@@ -8,14 +7,6 @@ use Rattle.std.proofs.lemmas.List.Folds.{list_any-append}
 use Rattle.object_program.specs.Name.{is_name}
 use Rattle.object_program.specs.Valid.{is_among, AreNames}
 use Rattle.object_program.specs.Reading.{number_among}
-
-pub AllByRecursion-push : {X : Type 0} (P : X → Type 0) (xs : List X) (x : X) → AllByRecursion P xs → P x → AllByRecursion P (xs ++ x ∷ [])
-AllByRecursion-push P [] x all here = (here, tt)
-AllByRecursion-push P (y ∷ ys) x all here = (all.0, AllByRecursion-push P ys x all.1 here)
-
-pub AllByRecursion-more : {X : Type 0} (P Q : X → Type 0) → ((x : X) → P x → Q x) → (xs : List X) → AllByRecursion P xs → AllByRecursion Q xs
-AllByRecursion-more P Q f [] all = tt
-AllByRecursion-more P Q f (x ∷ xs) all = (f x all.0, AllByRecursion-more P Q f xs all.1)
 
 bytes_differ : (a b : List ℕ) → bytes_eq a b ≡ false → bytes_eq b a ≡ false
 bytes_differ a b h =

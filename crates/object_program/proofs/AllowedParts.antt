@@ -7,10 +7,11 @@ use Rattle.object_program.specs.Valid.{is_among, AreNames, AreObjects, IsInstruc
 use Rattle.object_program.specs.Reading.{Before}
 use Rattle.object_program.specs.Built.{is_built_code}
 use Rattle.object_program.specs.declared.program.ObjectDef.{ObjectDef}
+use Rattle.object_program.specs.declared.program.LabelDef.{LabelDef}
 use Rattle.object_program.specs.declared.program.ThreadDef.{ThreadDef}
 use Rattle.object_program.specs.declared.program.Code.{Code}
 use Rattle.object_program.specs.declared.program.Code.TheVariants.{Set, Add, Sub, Mul, Ref, Elem, Enter, Exit, Wait, Notify, NotifyAll, Get, Put, Hash, Print, Jump, Jlt, Jeq, Dump, End}
-use Rattle.object_program.proofs.AllowedNames.{AllByRecursion-more}
+use Rattle.plain_monitor.proofs.Lists.{all_weaker}
 
 -- what `IsProgram` says but for the count of threads at the end, and that each instruction is built
 pub record IsAllowedText (p : ProgramText) : Type 0 where
@@ -29,7 +30,7 @@ pub record IsAllowedText (p : ProgramText) : Type 0 where
 pub record IsOpenCode (locals objects : ℕ) (c : Code) : Type 0 where
   pub built : is_built_code c ≡ true
   pub goes_on : c ≡ End → ⊥
-  pub operands : (n : ℕ) → IsInstruction locals objects n c
+  pub operands : IsInstruction locals objects [] c
 
 -- the thread of an open section, where the closed ones have these names
 pub record IsOpen (objects : ℕ) (names : List (List ℕ)) (t : ThreadDef) : Type 0 where
@@ -50,43 +51,42 @@ pub record IsAllowedSoFar (b : Before) : Type 0 where
   pub text : IsAllowedText b.text
   pub section : IsSection (length b.text.objects) (map (λ t. t.name) b.text.threads) b.section
 
--- more locals, declarations or instructions leave an instruction's operands in range
-pub IsInstruction-more : (l m o p n k : ℕ) → l ≤ m → o ≤ p → n ≤ k → (c : Code) → IsInstruction l o n c → IsInstruction m p k c
-IsInstruction-more l m o p n k lm op nk (Set x v) h = (omega arith, h.1)
-IsInstruction-more l m o p n k lm op nk (Add x y z) h = omega arith
-IsInstruction-more l m o p n k lm op nk (Sub x y z) h = omega arith
-IsInstruction-more l m o p n k lm op nk (Mul x y z) h = omega arith
-IsInstruction-more l m o p n k lm op nk (Ref x d) h = omega arith
-IsInstruction-more l m o p n k lm op nk (Elem x d i) h = omega arith
-IsInstruction-more l m o p n k lm op nk (Enter x) h = omega arith
-IsInstruction-more l m o p n k lm op nk (Exit x) h = omega arith
-IsInstruction-more l m o p n k lm op nk (Wait x) h = omega arith
-IsInstruction-more l m o p n k lm op nk (Notify x) h = omega arith
-IsInstruction-more l m o p n k lm op nk (NotifyAll x) h = omega arith
-IsInstruction-more l m o p n k lm op nk (Get x y s) h = omega arith
-IsInstruction-more l m o p n k lm op nk (Put y s x) h = omega arith
-IsInstruction-more l m o p n k lm op nk (Hash x y) h = omega arith
-IsInstruction-more l m o p n k lm op nk (Print x) h = omega arith
-IsInstruction-more l m o p n k lm op nk (Jump t) h = omega arith
-IsInstruction-more l m o p n k lm op nk (Jlt x y t) h = omega arith
-IsInstruction-more l m o p n k lm op nk (Jeq x y t) h = omega arith
-IsInstruction-more l m o p n k lm op nk Dump h = tt
-IsInstruction-more l m o p n k lm op nk End h = tt
+-- more locals or declarations leave an instruction's operands in range
+pub IsInstruction-more : (l m o p : ℕ) (labels : List LabelDef) → l ≤ m → o ≤ p → (c : Code) → IsInstruction l o labels c → IsInstruction m p labels c
+IsInstruction-more l m o p labels lm op (Set x v) h = (omega arith, h.1)
+IsInstruction-more l m o p labels lm op (Add x y z) h = omega arith
+IsInstruction-more l m o p labels lm op (Sub x y z) h = omega arith
+IsInstruction-more l m o p labels lm op (Mul x y z) h = omega arith
+IsInstruction-more l m o p labels lm op (Ref x d) h = omega arith
+IsInstruction-more l m o p labels lm op (Elem x d i) h = omega arith
+IsInstruction-more l m o p labels lm op (Enter x) h = omega arith
+IsInstruction-more l m o p labels lm op (Exit x) h = omega arith
+IsInstruction-more l m o p labels lm op (Wait x) h = omega arith
+IsInstruction-more l m o p labels lm op (Notify x) h = omega arith
+IsInstruction-more l m o p labels lm op (NotifyAll x) h = omega arith
+IsInstruction-more l m o p labels lm op (Get x y s) h = omega arith
+IsInstruction-more l m o p labels lm op (Put y s x) h = omega arith
+IsInstruction-more l m o p labels lm op (Hash x y) h = omega arith
+IsInstruction-more l m o p labels lm op (Print x) h = omega arith
+IsInstruction-more l m o p labels lm op (Jump t) h = h
+IsInstruction-more l m o p labels lm op (Jlt x y t) h = (omega arith, omega arith, h.2)
+IsInstruction-more l m o p labels lm op (Jeq x y t) h = (omega arith, omega arith, h.2)
+IsInstruction-more l m o p labels lm op Dump h = tt
+IsInstruction-more l m o p labels lm op End h = tt
 
 pub IsOpenCode-more : (l m o p : ℕ) → l ≤ m → o ≤ p → (c : Code) → IsOpenCode l o c → IsOpenCode m p c
 IsOpenCode-more l m o p lm op c h =
-    record { built = h.built; goes_on = h.goes_on; operands = λ n. IsInstruction-more l m o p n n lm op (omega arith) c (h.operands n) }
+    record { built = h.built; goes_on = h.goes_on; operands = IsInstruction-more l m o p [] lm op c h.operands }
 
 pub IsThread-more : (o p : ℕ) → o ≤ p → (t : ThreadDef) → IsThread o t → IsThread p t
 IsThread-more o p op t h =
     let l = length t.locals in
-    let n = length t.code in
     record {
       locals = h.locals;
       locals_few = h.locals_few;
       labels = h.labels;
       targets = h.targets;
-      code = AllByRecursion-more _ _ (λ c i. IsInstruction-more l l o p n n (omega arith) op (omega arith) c i) t.code h.code;
+      code = all_weaker _ _ (λ c i. IsInstruction-more l l o p t.labels (omega arith) op c i) t.code h.code;
       code_few = h.code_few;
       ends = h.ends;
     }
@@ -101,7 +101,7 @@ IsOpen-more o p names op t h =
       locals = h.locals;
       locals_few = h.locals_few;
       labels = h.labels;
-      code = AllByRecursion-more _ _ (λ c i. IsOpenCode-more l l o p (omega arith) op c i) t.code h.code;
+      code = all_weaker _ _ (λ c i. IsOpenCode-more l l o p (omega arith) op c i) t.code h.code;
       code_few = h.code_few;
     }
 

@@ -6,8 +6,8 @@ use Rattle.object_program.specs.Text.{without_return, words_of}
 use Rattle.object_program.specs.Reading.{Before, nothing, first_keyword, behind_line}
 use Rattle.object_program.specs.Refusal.{line_cause, read_on, read_from, with_thread, finished, lines_of, program_of}
 use Rattle.object_program.specs.Left.{lines_left, lines_ahead}
-use Rattle.object_program.specs.Steps.{unless_refused, behind_lines, stage_why}
-use Rattle.object_program.specs.Built.{is_built, is_read, is_built_byte, is_built_line, has_built_keyword, thread_lines}
+use Rattle.object_program.specs.Steps.{unless_refused, behind_lines, answered_why}
+use Rattle.object_program.specs.Built.{is_built, is_read, is_built_byte, is_built_line, has_built_keyword, sections_opened}
 use Rattle.object_program.specs.declared.error.Why.{Why}
 use Rattle.object_program.specs.declared.error.Why.TheVariants.{Later, NoMemory}
 use Rattle.object_program.specs.declared.error.ProgramError.{ProgramError}
@@ -79,11 +79,11 @@ built_words line h =
 
 -- whether these lines are built, where a section is open already or not
 abbrev pub built_from : Bool → List (List ℕ) → Bool
-built_from opened lines = list_all is_built_line lines && nat_le ((if opened then 1 else 0) + thread_lines lines) 1
+built_from opened lines = list_all is_built_line lines && nat_le ((if opened then 1 else 0) + sections_opened lines) 1
 
 -- the answer to a text that isn't read
-pub stage_answer : (bytes : List ℕ) (why : Why) (e : ProgramError) → nat_lt 1048576 (length bytes) ≡ false → (behind_lines nothing (lines_of bytes) ≡ None) ⊎ (why ≡ NoMemory)
-    → e ≡ record { line = 0; why = stage_why why } → ((e ≡ record { line = 0; why = Later }) × (is_read bytes ≡ false)) ⊎ (e ≡ record { line = 0; why = NoMemory })
-stage_answer bytes NoMemory e few h k = inr k
-stage_answer bytes why e few (inl h) k = inl (k, not_read bytes (refused bytes few h))
-stage_answer bytes why e few (inr h) k = absurd (cc h)
+pub refused_answer : (bytes : List ℕ) (why : Why) (e : ProgramError) → nat_lt 1048576 (length bytes) ≡ false → (behind_lines nothing (lines_of bytes) ≡ None) ⊎ (why ≡ NoMemory)
+    → e ≡ record { line = 0; why = answered_why why } → ((e ≡ record { line = 0; why = Later }) × (is_read bytes ≡ false)) ⊎ (e ≡ record { line = 0; why = NoMemory })
+refused_answer bytes NoMemory e few h k = inr k
+refused_answer bytes why e few (inl h) k = inl (k, not_read bytes (refused bytes few h))
+refused_answer bytes why e few (inr h) k = absurd (cc h)

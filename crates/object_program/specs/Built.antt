@@ -36,18 +36,19 @@ has_built_keyword (w ∷ ws) (Some k) = is_built_keyword k
 abbrev pub is_built_line : List ℕ → Bool
 is_built_line line = list_all is_built_byte line && has_built_keyword (words_of line) (first_keyword (words_of line))
 
-abbrev pub thread_line : Option Keyword → ℕ
-thread_line (Some Thread) = 1
-thread_line k = 0
+-- how many sections a line with this keyword opens
+abbrev pub opens_section : Option Keyword → ℕ
+opens_section (Some Thread) = 1
+opens_section k = 0
 
--- how many of these lines open a section
-abbrev pub thread_lines : List (List ℕ) → ℕ
-thread_lines [] = 0
-thread_lines (line ∷ lines) = thread_line (first_keyword (words_of line)) + thread_lines lines
+-- how many sections these lines open
+abbrev pub sections_opened : List (List ℕ) → ℕ
+sections_opened [] = 0
+sections_opened (line ∷ lines) = opens_section (first_keyword (words_of line)) + sections_opened lines
 
 -- a text of lines that are built, with one section at most
 abbrev pub is_built : List ℕ → Bool
-is_built bytes = list_all is_built_line (raw_lines bytes) && nat_le (thread_lines (raw_lines bytes)) 1
+is_built bytes = list_all is_built_line (raw_lines bytes) && nat_le (sections_opened (raw_lines bytes)) 1
 
 -- a text of these forms that has a program
 abbrev pub is_read : List ℕ → Bool

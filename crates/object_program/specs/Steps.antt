@@ -63,7 +63,7 @@ abbrev pub IsWhole : Result Reader Why → Option Before → Type 0
 IsWhole (Ok r) after = after ≡ Some (before_of r)
 IsWhole (Err why) after = (after ≡ None) ⊎ (why ≡ NoMemory)
 
--- the cause that the stage names: each cause of the language is `Later`
-abbrev pub stage_why : Why → Why
-stage_why NoMemory = NoMemory
-stage_why why = Later
+-- the cause that is answered: every refusal is answered by `Later` for now, but want of memory
+abbrev pub answered_why : Why → Why
+answered_why NoMemory = NoMemory
+answered_why why = Later

@@ -1,5 +1,5 @@
 -- Which programs there are: those whose names, numbers, targets and counts a text may have.
-use Rattle.std.specs.Prelude.{◌≡◌, ℕ, ℤ, pos, negsuc, ◌≤ℤ◌, ◌+◌, ◌<◌, ◌≤◌, Bool, false, List, [], ◌∷◌, length, map, IsTrue}
+use Rattle.std.specs.Prelude.{◌≡◌, ℕ, ℤ, pos, negsuc, ◌≤ℤ◌, ◌+◌, ◌<◌, ◌≤◌, ◌==◌, Bool, true, false, List, [], ◌∷◌, length, map, IsTrue}
 use Rattle.std.specs.List.{AllByRecursion, list_any}
 use Rattle.std.specs.Str.{bytes_eq}
 use Rattle.object_program.specs.Name.{is_name}
@@ -30,29 +30,33 @@ AreObjects classes n (d ∷ ds) = IsObject classes n d × AreObjects classes (n 
   IsObject : ℕ → ℕ → ObjectDef → Type 0
   IsObject classes n d = (d.class < classes) × (d.first ≡ n) × (1 ≤ d.size) × (d.array ≡ false → d.size ≡ 1)
 
--- the operands of an instruction: its locals are declared, its declaration of objects too, its slot is one of 16, and its
--- target is an instruction, counted from 1
-abbrev pub IsInstruction : ℕ → ℕ → ℕ → Code → Type 0
-IsInstruction locals objects code (Set x v) = (x < locals) × IsInRange v
-IsInstruction locals objects code (Add x y z) = (x < locals) × (y < locals) × (z < locals)
-IsInstruction locals objects code (Sub x y z) = (x < locals) × (y < locals) × (z < locals)
-IsInstruction locals objects code (Mul x y z) = (x < locals) × (y < locals) × (z < locals)
-IsInstruction locals objects code (Ref x n) = (x < locals) × (n < objects)
-IsInstruction locals objects code (Elem x n i) = (x < locals) × (n < objects) × (i < locals)
-IsInstruction locals objects code (Enter x) = x < locals
-IsInstruction locals objects code (Exit x) = x < locals
-IsInstruction locals objects code (Wait x) = x < locals
-IsInstruction locals objects code (Notify x) = x < locals
-IsInstruction locals objects code (NotifyAll x) = x < locals
-IsInstruction locals objects code (Get x o k) = (x < locals) × (o < locals) × (k < 16)
-IsInstruction locals objects code (Put o k x) = (o < locals) × (k < 16) × (x < locals)
-IsInstruction locals objects code (Hash x o) = (x < locals) × (o < locals)
-IsInstruction locals objects code (Print x) = x < locals
-IsInstruction locals objects code (Jump l) = (1 ≤ l) × (l ≤ code)
-IsInstruction locals objects code (Jlt x y l) = (x < locals) × (y < locals) × (1 ≤ l) × (l ≤ code)
-IsInstruction locals objects code (Jeq x y l) = (x < locals) × (y < locals) × (1 ≤ l) × (l ≤ code)
-IsInstruction locals objects code Dump = Unit {0}
-IsInstruction locals objects code End = Unit {0}
+-- some label names the instruction with this number
+abbrev pub is_target : List LabelDef → ℕ → Bool
+is_target labels l = list_any (λ d. d.index == l) labels
+
+-- the operands of an instruction: its locals are declared, its declaration of objects too, its slot is one of 16, its number
+-- is in range, and a label of its thread names its target
+abbrev pub IsInstruction : ℕ → ℕ → List LabelDef → Code → Type 0
+IsInstruction locals objects labels (Set x v) = (x < locals) × IsInRange v
+IsInstruction locals objects labels (Add x y z) = (x < locals) × (y < locals) × (z < locals)
+IsInstruction locals objects labels (Sub x y z) = (x < locals) × (y < locals) × (z < locals)
+IsInstruction locals objects labels (Mul x y z) = (x < locals) × (y < locals) × (z < locals)
+IsInstruction locals objects labels (Ref x n) = (x < locals) × (n < objects)
+IsInstruction locals objects labels (Elem x n i) = (x < locals) × (n < objects) × (i < locals)
+IsInstruction locals objects labels (Enter x) = x < locals
+IsInstruction locals objects labels (Exit x) = x < locals
+IsInstruction locals objects labels (Wait x) = x < locals
+IsInstruction locals objects labels (Notify x) = x < locals
+IsInstruction locals objects labels (NotifyAll x) = x < locals
+IsInstruction locals objects labels (Get x o k) = (x < locals) × (o < locals) × (k < 16)
+IsInstruction locals objects labels (Put o k x) = (o < locals) × (k < 16) × (x < locals)
+IsInstruction locals objects labels (Hash x o) = (x < locals) × (o < locals)
+IsInstruction locals objects labels (Print x) = x < locals
+IsInstruction locals objects labels (Jump l) = is_target labels l ≡ true
+IsInstruction locals objects labels (Jlt x y l) = (x < locals) × (y < locals) × (is_target labels l ≡ true)
+IsInstruction locals objects labels (Jeq x y l) = (x < locals) × (y < locals) × (is_target labels l ≡ true)
+IsInstruction locals objects labels Dump = Unit {0}
+IsInstruction locals objects labels End = Unit {0}
 
 -- the last instruction is `end`, and no other is
 abbrev pub EndsOnce : List Code → Type 0
@@ -70,7 +74,7 @@ pub record IsThread (objects : ℕ) (t : ThreadDef) : Type 0 where
   pub locals_few : length t.locals ≤ 32
   pub labels : AreNames (map (λ l. l.name) t.labels)
   pub targets : AreTargets (length t.code) 1 t.labels
-  pub code : AllByRecursion (IsInstruction (length t.locals) objects (length t.code)) t.code
+  pub code : AllByRecursion (IsInstruction (length t.locals) objects t.labels) t.code
   pub code_few : length t.code ≤ 4096
   pub ends : EndsOnce t.code
 

@@ -4,7 +4,7 @@ ghost use Rattle.std.specs.Prelude.{◌≡◌, true, false, if◌then◌else◌,
 ghost use Rattle.std.specs.List.{list_all};
 ghost use Rattle.object_program.specs.Text.{words_of};
 ghost use Rattle.object_program.specs.Reading.{first_keyword};
-ghost use Rattle.object_program.specs.Built.{is_built, is_built_keyword, is_built_byte, is_built_line, thread_line};
+ghost use Rattle.object_program.specs.Built.{is_built, is_built_keyword, is_built_byte, is_built_line, opens_section};
 
 use crate::keyword::Keyword;
 use crate::spelling::keyword_of;
@@ -58,7 +58,7 @@ fn built_keyword(line: &[u8]) -> Option<Option<Keyword>>
 
 /// Whether the line opens a section.
 fn is_thread(keyword: Option<Keyword>) -> bool
-    ensures { (if result then 1 else 0) ≡ thread_line keyword }
+    ensures { (if result then 1 else 0) ≡ opens_section keyword }
 {
     match keyword {
         Some(Keyword::Thread) => true,

@@ -39,8 +39,9 @@ pub struct ThreadDef {
     pub code: List<Code>,
 }
 
-/// An instruction. `x`, `y`, `z`, `i` and, but in `Elem`, `o` are numbers of locals, `n` of a declaration of objects, `k` of a
-/// slot, `v` is a number from -2^61 to 2^61 - 1, and `l` is the number of the target instruction, from 1.
+/// An instruction. `x`, `y`, `z`, `i` and `o` are numbers of locals, `n` of a declaration of objects and `k` of a slot, all from 0;
+/// `v` is a number from -2^61 to 2^61 - 1; and `l` is the number of the target instruction, from 1, which a label of the thread
+/// names.
 #[derive(Clone, Copy, Debug, PartialEq, Eq)]
 pub enum Code {
     /// x becomes the number v.

@@ -6,7 +6,7 @@ ghost use Rattle.object_program.specs.Text.{raw_lines, words_of};
 ghost use Rattle.object_program.specs.Reading.{nothing, first_keyword, operand, instruction_on, behind_keyword, behind_line, section_behind};
 ghost use Rattle.object_program.specs.Refusal.{keyword_cause, line_cause, program_of, lines_of};
 ghost use Rattle.object_program.specs.Left.{words_in, lines_ahead};
-ghost use Rattle.object_program.specs.Steps.{before_of, text_of, thread_of, with_instruction, with_local, IsStep, IsStepAnywhere, behind_lines, IsWhole, stage_why};
+ghost use Rattle.object_program.specs.Steps.{before_of, text_of, thread_of, with_instruction, with_local, IsStep, IsStepAnywhere, behind_lines, IsWhole, answered_why};
 ghost use Rattle.object_program.specs.Built.{is_built, is_read, is_built_keyword, is_built_line, has_built_keyword, is_built_program};
 ghost use Rattle.object_program.specs.Line.{is_instruction};
 ghost use Rattle.object_program.specs.Causes.{class_cause, object_cause, thread_cause, local_cause, instruction_cause};
@@ -237,7 +237,7 @@ pub fn read_program(alloc: Global, bytes: &[u8]) -> Result<Program, ProgramError
     }
     let reader = match read_lines(alloc, bytes) {
         Ok(reader) => reader,
-        Err(why) => return Err(of_text(stage_why(why))),
+        Err(why) => return Err(of_text(answered_why(why))),
     };
     if reader.declared.threads.as_slice().is_empty() {
         return Err(of_text(Why::Later));
@@ -245,9 +245,9 @@ pub fn read_program(alloc: Global, bytes: &[u8]) -> Result<Program, ProgramError
     Ok(program(reader.declared))
 }
 
-/// The cause that the stage names.
-fn stage_why(why: Why) -> Why
-    ensures { result ≡ stage_why why }
+/// The cause that is answered: every refusal is answered by `Later` for now, but want of memory.
+fn answered_why(why: Why) -> Why
+    ensures { result ≡ answered_why why }
 {
     match why {
         Why::NoMemory => Why::NoMemory,

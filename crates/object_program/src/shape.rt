@@ -35,7 +35,7 @@ impl Program {
         }
     }
 
-    /// The number of the declaration that object `o` stands for, and which element of it the object is, from 0.
+    /// The number of the declaration that stands for object `o`, and which element of it the object is, from 0.
     pub fn place_of(&self, o: u32) -> (u32, u32)
         requires { o < objects_total self.now }
         ensures { result ≡ place_of self.now o }

@@ -15,12 +15,8 @@ use Rattle.plain_monitor.proofs.Appending.{order_appended}
 use Rattle.plain_history.specs.Tied.{bound_to, is_same_object, is_tied}
 use Rattle.plain_history.specs.Appending.{MayAppend}
 use Rattle.plain_history.specs.Stamps.{IsBounded, bound_of, StampsBound, IsAboveBounds}
-use Rattle.plain_history.proofs.Swaps.{IsPlain, IsHash, plain_or_hash, hash_taken, taken_at, get_set_same, elsewhere, bound_is_named}
-
--- a fact of all of a list gives what follows from it of each
-all_weaker : (P Q : ℕ × Logged → Type 0) → ((x : ℕ × Logged) → P x → Q x) → (xs : List (ℕ × Logged)) → AllByRecursion P xs → AllByRecursion Q xs
-all_weaker P Q f [] a = tt
-all_weaker P Q f (x ∷ xs) a = (f x a.0, all_weaker P Q f xs a.1)
+use Rattle.plain_monitor.proofs.Lists.{all_weaker, get_set_same}
+use Rattle.plain_history.proofs.Swaps.{IsPlain, IsHash, plain_or_hash, hash_taken, taken_at, elsewhere, bound_is_named}
 
 -- what is tied to an entry that is bound to o is bound to o
 tied_is_bound : (a b : Option ℕ) (o : ℕ) → b ≡ Some o → is_same_object a b ≡ true → a ≡ Some o

@@ -9,10 +9,10 @@ use Rattle.plain_monitor.specs.declared.entry.Logged.{Logged}
 use Rattle.plain_monitor.specs.Objects.{PlainObject, new_objects, take_entry}
 use Rattle.plain_monitor.specs.Order.{of_thread, with_threads, order}
 use Rattle.plain_monitor.specs.History.{RisesAbove, take_all, objects_after}
-use Rattle.plain_monitor.proofs.Orders.{all_append, all_ordered}
+use Rattle.plain_monitor.proofs.Lists.{all_append, get_set_same, get_set_other}
+use Rattle.plain_monitor.proofs.Orders.{all_ordered}
 use Rattle.plain_monitor.proofs.Threads.{other_thread, same_thread, thread_kept}
 use Rattle.plain_history.specs.Joined.{run_log, both, take_state, take_joined, take_all_joined, EachTakesItsOwn, EachTakesItsLog}
-use Rattle.plain_history.proofs.Swaps.{get_set_same, get_set_other}
 
 -- the first of two steps
 first_some : {A B : Type 0} (f : A → Option B) (o : Option A) (b : B) → option_and_then f o ≡ Some b → (a : A) × (o ≡ Some a) × (f a ≡ Some b)

@@ -9,7 +9,7 @@ use Rattle.plain_monitor.specs.Monitor.{PlainMonitor, only_if, owns, enter, exit
 use Rattle.plain_monitor.specs.Objects.{PlainObject, new_objects, take_at, take_named, take_entry, named, with_monitor, with_hash, hashed, has_value}
 use Rattle.plain_monitor.specs.Order.{order}
 use Rattle.plain_monitor.specs.History.{take_all, objects_after}
-use Rattle.plain_monitor.proofs.Appending.{all_set}
+use Rattle.plain_monitor.proofs.Lists.{all_set}
 use Rattle.plain_history.specs.Sound.{IsSound}
 use Rattle.plain_history.proofs.Swaps.{taken_at}
 use Rattle.plain_history.proofs.Inserting.{first_taken}

@@ -4,6 +4,7 @@ use Rattle.std.proofs.lemmas.Bool.Decides.{nat_tests}
 use Rattle.std.proofs.lemmas.Bool.{cases_eq}
 use Rattle.std.proofs.lemmas.List.{set_comm}
 use Rattle.std.proofs.lemmas.Option.{cond_some}
+use Rattle.plain_monitor.proofs.Lists.{get_set_same, get_set_other}
 use Rattle.plain_monitor.specs.declared.entry.Entry.{Entry}
 use Rattle.plain_monitor.specs.declared.entry.Entry.TheVariants.{Enter, Exit, Get, Put, Wait, Resume, Notify, NotifyAll, Hash, Print, Dump, Trap, Spent, Done}
 use Rattle.plain_monitor.specs.Monitor.{PlainMonitor, only_if, owns, enter, exit, wait, resume, notify, notify_all}
@@ -156,20 +157,6 @@ taken_at objects after t e o h = taken_by_cases objects after t e o (slice_get o
 take_here : (objects : List PlainObject) (t : ℕ) (e : Entry) (o : ℕ) (x y : PlainObject) → slice_get objects o ≡ Some x → take_at x t e ≡ Some y
     → take_named objects t e (Some o) ≡ Some (slice_set objects o y)
 take_here objects t e o x y was step = rw (was, step) refl
-
--- what was set is there
-pub get_set_same : {A : Type 0} (xs : List A) (i : ℕ) (x y : A) → slice_get xs i ≡ Some x → slice_get (slice_set xs i y) i ≡ Some y
-get_set_same [] i x y h = absurd (cc h)
-get_set_same (w ∷ xs) zero x y h = refl
-get_set_same (w ∷ xs) (suc i) x y h = get_set_same xs i x y h
-
--- what was not set is as it was
-pub get_set_other : {A : Type 0} (xs : List A) (i j : ℕ) (y : A) → i ≢ j → slice_get (slice_set xs i y) j ≡ slice_get xs j
-get_set_other [] i j y d = refl
-get_set_other (w ∷ xs) zero zero y d = absurd (d refl)
-get_set_other (w ∷ xs) zero (suc j) y d = refl
-get_set_other (w ∷ xs) (suc i) zero y d = refl
-get_set_other (w ∷ xs) (suc i) (suc j) y d = get_set_other xs i j y (λ e. d (ap suc e))
 
 -- what is set twice is as it was set last
 set_again : {A : Type 0} (xs : List A) (i : ℕ) (x y : A) → slice_set (slice_set xs i x) i y ≡ slice_set xs i y

@@ -6,7 +6,6 @@ pub mod Taking
 pub mod Codes
 pub mod Starts
 pub mod ReachedOver
-pub mod ReachedLists
 pub mod ReachedRunning
 pub mod ReachedMonitor
 pub mod ReachedFrame

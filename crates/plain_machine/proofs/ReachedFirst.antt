@@ -14,7 +14,7 @@ use Rattle.plain_machine.specs.Thread.{ThreadState, holds_of}
 use Rattle.plain_machine.specs.Running.{first_state}
 use Rattle.plain_machine.specs.Machine.{new_machine}
 use Rattle.plain_machine.specs.Reached.{IsThreadOf, IsMonitorOf, IsReached}
-use Rattle.plain_machine.proofs.ReachedLists.{all_at, all_map, all_each, all_weaker}
+use Rattle.plain_monitor.proofs.Lists.{all_at, all_map, all_each, all_weaker}
 use Rattle.plain_machine.proofs.ReachedRunning.{RunsAll, IsRunOf, first_run, program_runs}
 
 -- as many objects as the declarations stand for
@@ -52,7 +52,7 @@ first_is_reached p fuel h b =
       built = b;
       thread_count = length-map p.threads _;
       object_count = length-map (shape_of p) _ ∙ shape_length p.classes p.objects;
-      threads = all_weaker (IsFirst p fuel) (IsThreadOf (objects_total p)) (new_machine p fuel).threads (λ s r. r.thread) threads;
+      threads = all_weaker (IsFirst p fuel) (IsThreadOf (objects_total p)) (λ s r. r.thread) (new_machine p fuel).threads threads;
       monitors = monitors;
     }
   where

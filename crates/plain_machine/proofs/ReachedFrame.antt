@@ -9,7 +9,7 @@ use Rattle.plain_machine.specs.Thread.{ThreadState, holds_of}
 use Rattle.plain_machine.specs.Machine.{PlainMachine}
 use Rattle.plain_machine.specs.Work.{work_of, work_in, work_left}
 use Rattle.plain_machine.specs.Reached.{count_for, IsThreadOf, IsMonitorOf, IsReached}
-use Rattle.plain_machine.proofs.ReachedLists.{all_set, get_set_same, get_set_other}
+use Rattle.plain_monitor.proofs.Lists.{all_set, get_set_same, get_set_other}
 use Rattle.plain_machine.proofs.ReachedMonitor.{IsMonitorMove, monitor_beside, monitor_rests}
 
 -- a machine is reached from another, and has less work
@@ -95,4 +95,4 @@ progress_at m t o s next x after h move step =
         go (inl same) =
             let here : slice_get (objects_with m.objects o x after) o ≡ Some z = subst (λ (i : ℕ). slice_get (objects_with m.objects o x after) i ≡ Some z) same e in
             subst (λ (i : ℕ). IsMonitorOf (slice_set m.threads t next) i z.monitor) (sym same) (subst (IsMonitorOf (slice_set m.threads t next) o) (changed_to z here) at_it)
-        go (inr other) = at_other k z other (sym (get_set_other m.objects o k (record x { monitor = after }) other) ∙ e)
+        go (inr other) = at_other k z other (sym (get_set_other m.objects o k (record x { monitor = after }) (λ q. other (sym q))) ∙ e)

@@ -22,7 +22,7 @@ use Rattle.plain_machine.specs.Asking.{is_ending, is_call, is_exit, fits, holds_
 use Rattle.plain_machine.specs.Machine.{PlainMachine, code_of, take}
 use Rattle.plain_machine.specs.Work.{work_of, mode_work}
 use Rattle.plain_machine.specs.Reached.{count_for, IsStateOf, IsThreadOf, IsModeOf, IsReached}
-use Rattle.plain_machine.proofs.ReachedLists.{all_at}
+use Rattle.plain_monitor.proofs.Lists.{all_at}
 use Rattle.plain_machine.proofs.ReachedRunning.{IsRunOf, run_keeps, code_runs}
 use Rattle.plain_machine.proofs.ReachedMonitor.{IsMonitorMove, IsEntered, IsExited, entered, exited}
 use Rattle.plain_machine.proofs.ReachedFrame.{IsProgress, moved_to, holds_agree, progress_alone, progress_at}

@@ -5,7 +5,7 @@ use Rattle.std.proofs.lemmas.Option.{none-some, same_Some, cond_some}
 use Rattle.plain_monitor.specs.Monitor.{PlainMonitor, enter, exit, is_thread}
 use Rattle.plain_machine.specs.Thread.{ThreadState, holds_of}
 use Rattle.plain_machine.specs.Reached.{count_for, IsOwnerOf, IsUnwaited, AgreesWith, IsMonitorOf}
-use Rattle.plain_machine.proofs.ReachedLists.{get_set_same, get_set_other}
+use Rattle.plain_monitor.proofs.Lists.{get_set_same, get_set_other}
 
 -- an entry of thread t, one of n, makes this of the monitor: no other thread's count changes
 pub record IsMonitorMove (n t : ℕ) (m next : PlainMonitor) : Type 0 where
@@ -125,7 +125,7 @@ agrees_beside threads t o n s next m after at h move own u x e = go (cases_eq u 
         let there : slice_get (slice_set threads t next) u ≡ Some next = subst (λ (k : ℕ). slice_get (slice_set threads t next) k ≡ Some next) (sym same) (get_set_same threads t s next at) in
         let it : next ≡ x = same_Some _ _ (sym there ∙ e) in
         subst (λ (y : ThreadState). holds_of y o ≡ count_for after u) it (subst (λ (k : ℕ). holds_of next o ≡ count_for after k) (sym same) own)
-    go (inr other) = h u x (sym (get_set_other threads t u next other) ∙ e) ∙ sym (move.others u other)
+    go (inr other) = h u x (sym (get_set_other threads t u next (λ q. other (sym q))) ∙ e) ∙ sym (move.others u other)
 
 pub monitor_beside : (threads : List ThreadState) (t o : ℕ) (s next : ThreadState) (m after : PlainMonitor) → slice_get threads t ≡ Some s → IsMonitorOf threads o m → IsMonitorMove (length threads) t m after → holds_of next o ≡ count_for after t → IsMonitorOf (slice_set threads t next) o after
 monitor_beside threads t o s next m after at h move own =

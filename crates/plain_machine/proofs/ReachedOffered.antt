@@ -23,7 +23,7 @@ use Rattle.plain_machine.specs.Asking.{ask, fits, is_ending, fault_number, behin
 use Rattle.plain_machine.specs.Machine.{PlainMachine, code_of, moved, take, object_at, monitor_at, other_owner}
 use Rattle.plain_machine.specs.Offering.{unless_owned, ending_entry, asked_offer, offered}
 use Rattle.plain_machine.specs.Reached.{IsUnwaited, IsThreadOf, IsReached}
-use Rattle.plain_machine.proofs.ReachedLists.{all_at}
+use Rattle.plain_monitor.proofs.Lists.{all_at}
 use Rattle.plain_machine.proofs.ReachedMonitor.{owner_by_count}
 use Rattle.plain_machine.proofs.ReachedFrame.{holds_agree}
 use Rattle.plain_machine.proofs.ReachedAsked.{IsPaid, IsAskedOf, asked_of, stepped}

@@ -8,6 +8,7 @@ use Rattle.plain_monitor.specs.declared.entry.Value.TheVariants.{Nil, Int, Ref}
 use Rattle.plain_monitor.specs.declared.entry.Fault.TheVariants.{IllegalMonitorState, TooDeep}
 use Rattle.object_program.specs.declared.program.Code.{Code}
 use Rattle.object_program.specs.declared.program.Code.TheVariants as code
+use Rattle.object_program.specs.declared.program.LabelDef.{LabelDef}
 use Rattle.object_program.specs.declared.program.ObjectDef.{ObjectDef}
 use Rattle.object_program.specs.declared.program.ThreadDef.{ThreadDef}
 use Rattle.object_program.specs.Program.{ProgramText, total_of, objects_total}
@@ -19,7 +20,7 @@ use Rattle.plain_machine.specs.Running.{instruction_at, after_step, run_on, firs
 use Rattle.plain_machine.specs.Machine.{code_of}
 use Rattle.plain_machine.specs.Reached.{RefersBelow, IsCallOf, IsStateOf, IsThreadOf}
 use Rattle.plain_machine.specs.Work.{mode_work}
-use Rattle.plain_machine.proofs.ReachedLists.{all_or, all_set, all_replicate, all_map}
+use Rattle.plain_monitor.proofs.Lists.{all_or, all_set, all_replicate, all_map}
 
 -- a built instruction of a program with this many declarations of objects
 abbrev pub IsRunnable : ℕ → Code → Type 0
@@ -31,19 +32,19 @@ IsRunnable n (code.Print x) = Unit {0}
 IsRunnable n code.End = Unit {0}
 IsRunnable n c = ⊥
 
-runnable : (locals n count : ℕ) (c : Code) → is_built_code c ≡ true → IsInstruction locals n count c → IsRunnable n c
-runnable locals n count (code.Set x v) b h = tt
-runnable locals n count (code.Ref x k) b h = h.1
-runnable locals n count (code.Enter x) b h = tt
-runnable locals n count (code.Exit x) b h = tt
-runnable locals n count (code.Print x) b h = tt
-runnable locals n count code.End b h = tt
-runnable locals n count c b h = absurd (false≢true b)
+runnable : (locals n : ℕ) (labels : List LabelDef) (c : Code) → is_built_code c ≡ true → IsInstruction locals n labels c → IsRunnable n c
+runnable locals n labels (code.Set x v) b h = tt
+runnable locals n labels (code.Ref x k) b h = h.1
+runnable locals n labels (code.Enter x) b h = tt
+runnable locals n labels (code.Exit x) b h = tt
+runnable locals n labels (code.Print x) b h = tt
+runnable locals n labels code.End b h = tt
+runnable locals n labels c b h = absurd (false≢true b)
 
-all_runnable : (locals n count : ℕ) (cs : List Code) → list_all is_built_code cs ≡ true → AllByRecursion (IsInstruction locals n count) cs → AllByRecursion (IsRunnable n) cs
-all_runnable locals n count [] b h = tt
-all_runnable locals n count (c ∷ cs) b h =
-    let p = and_parts (is_built_code c) (list_all is_built_code cs) b in (runnable locals n count c p.0 h.0, all_runnable locals n count cs p.1 h.1)
+all_runnable : (locals n : ℕ) (labels : List LabelDef) (cs : List Code) → list_all is_built_code cs ≡ true → AllByRecursion (IsInstruction locals n labels) cs → AllByRecursion (IsRunnable n) cs
+all_runnable locals n labels [] b h = tt
+all_runnable locals n labels (c ∷ cs) b h =
+    let p = and_parts (is_built_code c) (list_all is_built_code cs) b in (runnable locals n labels c p.0 h.0, all_runnable locals n labels cs p.1 h.1)
 
 -- each thread's instructions are runnable
 abbrev pub RunsAll : ℕ → ThreadDef → Type 0
@@ -53,7 +54,7 @@ threads_run : (n : ℕ) (ts : List ThreadDef) → list_all (λ t. list_all is_bu
 threads_run n [] b h = tt
 threads_run n (d ∷ ts) b h =
     let p = and_parts (list_all is_built_code d.code) (list_all (λ (t : ThreadDef). list_all is_built_code t.code) ts) b in
-    (all_runnable (length d.locals) n (length d.code) d.code p.0 h.0.code, threads_run n ts p.1 h.1)
+    (all_runnable (length d.locals) n d.labels d.code p.0 h.0.code, threads_run n ts p.1 h.1)
 
 pub program_runs : (p : ProgramText) → IsProgram p → is_built_program p ≡ true → AllByRecursion (RunsAll (length p.objects)) p.threads
 program_runs p h b = threads_run (length p.objects) p.threads b h.threads

@@ -13,10 +13,10 @@ behind_all m [] = Some m
 behind_all m (x ∷ xs) = option_and_then (λ next. behind_all next xs) (take m x.0 x.1.entry)
 
 -- the machine under the logs: the one behind all their entries in stamped order
-abbrev pub machine_under : ProgramText → ℕ → List (List Logged) → Option PlainMachine
-machine_under p fuel logs = behind_all (new_machine p fuel) (order logs)
+abbrev pub machine_after : ProgramText → ℕ → List (List Logged) → Option PlainMachine
+machine_after p fuel logs = behind_all (new_machine p fuel) (order logs)
 
--- each log's stamps rise strictly, and the machine takes every entry
+-- each log's stamps rise strictly from above 0, and the machine takes every entry
 pub record IsLegal (p : ProgramText) (fuel : ℕ) (logs : List (List Logged)) : Type 0 where
   pub rises : AllByRecursion (RisesAbove 0) logs
-  pub taken : IsSome (machine_under p fuel logs)
+  pub taken : IsSome (machine_after p fuel logs)

@@ -1,12 +1,13 @@
 -- The order of the logs where a thread logs one more entry.
-use Rattle.std.proofs.Common.{◌≡◌, ℕ, zero, suc, ◌+◌, ◌<◌, ◌≤◌, false, List, [], ◌∷◌, ◌++◌, length, map, refl, ap, sym, ◌∙◌, arith, inl, slice_set, slice_index_or}
+use Rattle.std.proofs.Common.{◌≡◌, ℕ, zero, suc, ◌+◌, ◌<◌, ◌≤◌, false, List, [], ◌∷◌, ◌++◌, length, map, refl, ap, sym, ◌∙◌, arith, inl, slice_index_or}
 use Rattle.std.proofs.Math.Nat.{add-zero, zero-add}
 use Rattle.std.proofs.lemmas.Bool.Decides.{nat_tests}
 use Rattle.std.specs.List.{AllByRecursion}
 use Rattle.plain_monitor.specs.declared.entry.Logged.{Logged}
 use Rattle.plain_monitor.specs.Order.{is_before, insert_ordered, ordered, with_threads, order}
 use Rattle.plain_monitor.specs.History.{RisesAbove, last_above, last_stamp, log_of, appended}
-use Rattle.plain_monitor.proofs.Orders.{Differs, DiffersFromAll, ordered_append, all_append, all_ordered}
+use Rattle.plain_monitor.proofs.Lists.{all_set, all_append}
+use Rattle.plain_monitor.proofs.Orders.{Differs, DiffersFromAll, ordered_append, all_ordered}
 
 -- the last stamp is no less than what the stamps rise from
 last_up : (n : ℕ) (log : List Logged) → RisesAbove n log → n ≤ last_above n log
@@ -23,17 +24,11 @@ rises_more : (n : ℕ) (log : List Logged) (l : Logged) → RisesAbove n log →
 rises_more n [] l r h = (h, tt)
 rises_more n (m ∷ log) l r h = (r.0, rises_more m.stamp log l r.1 h)
 
--- a fact of all of a list holds after one is set to a value that has it
-pub all_set : {A : Type 0} (P : A → Type 0) (xs : List A) (i : ℕ) (x : A) → P x → AllByRecursion P xs → AllByRecursion P (slice_set xs i x)
-all_set P [] i x p a = tt
-all_set P (y ∷ xs) zero x p a = (p, a.1)
-all_set P (y ∷ xs) (suc i) x p a = (a.0, all_set P xs i x p a.1)
-
 -- a fact of all lists of a list holds of each
-all_at : {A : Type 0} (P : List A → Type 0) (xs : List (List A)) (i : ℕ) → i < length xs → AllByRecursion P xs → P (slice_index_or xs i [])
-all_at P [] i h a = absurd (omega arith)
-all_at P (x ∷ xs) zero h a = a.0
-all_at P (x ∷ xs) (suc i) h a = all_at P xs i (omega arith) a.1
+all_within : {A : Type 0} (P : List A → Type 0) (xs : List (List A)) (i : ℕ) → i < length xs → AllByRecursion P xs → P (slice_index_or xs i [])
+all_within P [] i h a = absurd (omega arith)
+all_within P (x ∷ xs) zero h a = a.0
+all_within P (x ∷ xs) (suc i) h a = all_within P xs i (omega arith) a.1
 
 -- each of these has a smaller stamp than x
 abbrev pub IsLast : ℕ × Logged → List (ℕ × Logged) → Type 0
@@ -99,16 +94,16 @@ order_appended logs t l r h s = order_appended_from 0 logs t l r h s ∙ ap (λ 
 pub rises_appended : (logs : List (List Logged)) (t : ℕ) (l : Logged) → AllByRecursion (RisesAbove 0) logs → t < length logs → last_stamp (log_of logs t) < l.stamp
     → AllByRecursion (RisesAbove 0) (appended logs t l)
 rises_appended logs t l r h s =
-    all_set (RisesAbove 0) logs t (log_of logs t ++ l ∷ []) (rises_more 0 (log_of logs t) l (all_at (RisesAbove 0) logs t h r) s) r
+    all_set (RisesAbove 0) logs t (log_of logs t ++ l ∷ []) (rises_more 0 (log_of logs t) l (all_within (RisesAbove 0) logs t h r) s) r
 
 -- an entry above all others comes last in the order
 pub comes_last : (logs : List (List Logged)) (t : ℕ) (l : Logged) → AllByRecursion (RisesAbove 0) logs → t < length logs
     → AllByRecursion (λ log. last_stamp log < l.stamp) logs → order (appended logs t l) ≡ order logs ++ (t, l) ∷ []
 comes_last logs t l r h a =
-    order_appended logs t l r h (all_at (λ log. last_stamp log < l.stamp) logs t h a)
+    order_appended logs t l r h (all_within (λ log. last_stamp log < l.stamp) logs t h a)
     ∙ insert_last (t, l) (order logs) (all_ordered (λ y. y.1.stamp < l.stamp) (with_threads 0 logs) (all_last 0 (t, l) logs r a))
 
 -- the stamps of the logs still rise with an entry above all others
 pub rises_on : (logs : List (List Logged)) (t : ℕ) (l : Logged) → AllByRecursion (RisesAbove 0) logs → t < length logs
     → AllByRecursion (λ log. last_stamp log < l.stamp) logs → AllByRecursion (RisesAbove 0) (appended logs t l)
-rises_on logs t l r h a = rises_appended logs t l r h (all_at (λ log. last_stamp log < l.stamp) logs t h a)
+rises_on logs t l r h a = rises_appended logs t l r h (all_within (λ log. last_stamp log < l.stamp) logs t h a)

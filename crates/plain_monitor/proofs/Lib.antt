@@ -1,3 +1,4 @@
+pub mod Lists
 pub mod Waiting
 pub mod Orders
 pub mod Merging

@@ -6,7 +6,8 @@ use Rattle.std.specs.List.{AllByRecursion}
 use Rattle.plain_monitor.specs.declared.entry.Logged.{Logged}
 use Rattle.plain_monitor.specs.Order.{is_before, insert_ordered, ordered, with_threads, order}
 use Rattle.plain_monitor.specs.History.{RisesAbove, log_of}
-use Rattle.plain_monitor.proofs.Orders.{DiffersFromAll, ordered_append, all_append, all_ordered, insert_front}
+use Rattle.plain_monitor.proofs.Lists.{all_append}
+use Rattle.plain_monitor.proofs.Orders.{DiffersFromAll, ordered_append, all_ordered, insert_front}
 
 -- the entry stands before all of these
 abbrev pub IsFirst : ℕ × Logged → List (ℕ × Logged) → Type 0

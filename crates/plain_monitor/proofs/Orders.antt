@@ -63,11 +63,6 @@ pub all_ordered : (P : ℕ × Logged → Type 0) (xs : List (ℕ × Logged)) →
 all_ordered P [] a = tt
 all_ordered P (x ∷ xs) a = all_insert P x (ordered xs) a.0 (all_ordered P xs a.1)
 
--- a fact of all of two lists holds of all of both in a row
-pub all_append : (P : ℕ × Logged → Type 0) (xs ys : List (ℕ × Logged)) → AllByRecursion P xs → AllByRecursion P ys → AllByRecursion P (xs ++ ys)
-all_append P [] ys a b = b
-all_append P (x ∷ xs) ys a b = (a.0, all_append P xs ys a.1 b)
-
 -- an entry that stands before all of a list goes in front
 pub insert_front : (x : ℕ × Logged) (xs : List (ℕ × Logged)) → AllByRecursion (λ y. is_before x y ≡ true) xs → insert_ordered x xs ≡ x ∷ xs
 insert_front x [] a = refl

@@ -10,7 +10,7 @@ abbrev pub take_all : List PlainObject → List (ℕ × Logged) → Option (List
 take_all objects [] = Some objects
 take_all objects (x ∷ xs) = option_and_then (λ after. take_all after xs) (take_entry objects x.0 x.1.entry)
 
--- the stamps rise strictly, from above n
+-- the stamps rise strictly, from above n on
 abbrev pub RisesAbove : ℕ → List Logged → Type 0
 RisesAbove n [] = Unit {0}
 RisesAbove n (l ∷ log) = (n < l.stamp) × RisesAbove l.stamp log
@@ -27,7 +27,7 @@ last_stamp log = last_above 0 log
 abbrev pub objects_after : List (ℕ × ℕ) → List (List Logged) → Option (List PlainObject)
 objects_after shape logs = take_all (new_objects shape) (order logs)
 
--- each log's stamps rise strictly, and the plain objects take every entry of order(logs)
+-- each log's stamps rise strictly from above 0, and the plain objects take every entry of the order
 pub record LegalObjects (shape : List (ℕ × ℕ)) (logs : List (List Logged)) : Type 0 where
   pub rises : AllByRecursion (RisesAbove 0) logs
   pub taken : IsSome (objects_after shape logs)

@@ -17,7 +17,7 @@ pub fn moment(count: u64, tick: u32) -> u64
     count.saturating_mul(u64::from(tick)).saturating_add(1)
 }
 
-/// A clock for tests, which goes on by one step at each call.
+/// A clock that counts, for `main` and for tests, which goes on by one step at each call.
 ///
 /// It counts in one atomic word, so threads may share it. What it answers is shown by a test alone: no contract says it.
 #[derive(Drop)]

@@ -3,7 +3,7 @@ use Rattle.std.proofs.lemmas.Bool.Decides.{nat_tests}
 use Rattle.object_program.specs.Steps.{before_of, text_of}
 use Rattle.object_program.specs.Built.{is_built}
 use Rattle.object_program.proofs.Allowed.{allowed_law, built_code_law}
-use Rattle.object_program.proofs.Runs.{program_is, no_thread, not_read, stage_answer}
+use Rattle.object_program.proofs.Runs.{program_is, no_thread, not_read, refused_answer}
 use Rattle.object_program.proofs.reader.read_program.Goals as goal
 
 pub returns-in-Err : goal.returns-in-Err
@@ -13,7 +13,7 @@ returns-in-Err c =
       ok = tt;
       built = tt;
       code = tt;
-      err = stage_answer c.args.bytes.now c.in-Err.why c.of_text-in-Err.result few c.in-Err.ensures (cc);
+      err = refused_answer c.args.bytes.now c.in-Err.why c.of_text-in-Err.result few c.in-Err.ensures (cc);
     }
 
 pub returns-then-is_empty-clause-err : goal.returns-then-is_empty-clause-err
