@@ -3,6 +3,7 @@ use Rattle.std.proofs.Common.{◌≡◌, ℕ, zero, suc, ◌+◌, ◌<◌, ◌�
 use Rattle.std.proofs.Common.{length-append}
 use Rattle.std.proofs.lemmas.List.{length-set, length-replicate, length-map}
 use Rattle.std.specs.List.{AllByRecursion}
+use Rattle.plain_monitor.proofs.Appending.{last_more}
 use Rattle.plain_monitor.proofs.Lists.{all_set, all_weaker, all_push, all_replicate}
 use Rattle.plain_monitor.specs.declared.entry.Entry.{Entry}
 use Rattle.plain_monitor.specs.declared.entry.Logged.{Logged}
@@ -29,10 +30,6 @@ behind_one_more : (m : PlainMachine) (xs : List (ℕ × Logged)) (x : ℕ × Log
 behind_one_more m [] x n k h step = let same : n ≡ m = cc h in rw (← same, step) refl
 behind_one_more m (y ∷ ys) x n k h step =
     behind_first ys (ys ++ x ∷ []) n k (take m y.0 y.1.entry) (λ next g. behind_one_more next ys x n k g step) h
-
-last_more : (n : ℕ) (log : List Logged) (l : Logged) → last_above n (log ++ l ∷ []) ≡ l.stamp
-last_more n [] l = refl
-last_more n (m ∷ log) l = last_more m.stamp log l
 
 all_of_log : (P : Logged → Type 0) (logs : List (List Logged)) (t : ℕ) → AllByRecursion (λ log. AllByRecursion P log) logs → AllByRecursion P (log_of logs t)
 all_of_log P [] t a = tt

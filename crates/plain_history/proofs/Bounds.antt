@@ -11,7 +11,7 @@ use Rattle.plain_monitor.specs.Order.{is_before, order}
 use Rattle.plain_monitor.specs.History.{appended, last_above, last_stamp, log_of, RisesAbove}
 use Rattle.plain_monitor.proofs.Merging.{empty_order}
 use Rattle.plain_monitor.proofs.Orders.{all_insert}
-use Rattle.plain_monitor.proofs.Appending.{order_appended}
+use Rattle.plain_monitor.proofs.Appending.{last_more, order_appended}
 use Rattle.plain_history.specs.Tied.{bound_to, is_same_object, is_tied}
 use Rattle.plain_history.specs.Appending.{MayAppend}
 use Rattle.plain_history.specs.Stamps.{IsBounded, bound_of, StampsBound, IsAboveBounds}
@@ -74,14 +74,9 @@ above_bounds before after logs kept t l bounds above step = may_append_by before
 pub empty_bounded : (objects : List PlainObject) (logs : List (List Logged)) (kept : List ℕ) → ((t : ℕ) → log_of logs t ≡ []) → StampsBound objects logs kept
 empty_bounded objects logs kept h o x at = rw (empty_order logs h) tt
 
--- the last stamp of a log with one more entry is that entry's
-last_is_new : (n : ℕ) (log : List Logged) (l : Logged) → last_above n (log ++ l ∷ []) ≡ l.stamp
-last_is_new n [] l = refl
-last_is_new n (m ∷ log) l = last_is_new m.stamp log l
-
 -- the thread's last stamp is then the new one
 last_of_own : (logs : List (List Logged)) (t : ℕ) (l : Logged) → t < length logs → last_stamp (log_of (appended logs t l) t) ≡ l.stamp
-last_of_own logs t l h = ap last_stamp (get_or-set_same logs t (log_of logs t ++ l ∷ []) [] h) ∙ last_is_new 0 (log_of logs t) l
+last_of_own logs t l h = ap last_stamp (get_or-set_same logs t (log_of logs t ++ l ∷ []) [] h) ∙ last_more 0 (log_of logs t) l
 
 -- another thread's log is as it was
 log_of_other : (logs : List (List Logged)) (t u : ℕ) (l : Logged) → u ≢ t → log_of (appended logs t l) u ≡ log_of logs u

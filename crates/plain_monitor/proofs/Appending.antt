@@ -107,3 +107,8 @@ comes_last logs t l r h a =
 pub rises_on : (logs : List (List Logged)) (t : ℕ) (l : Logged) → AllByRecursion (RisesAbove 0) logs → t < length logs
     → AllByRecursion (λ log. last_stamp log < l.stamp) logs → AllByRecursion (RisesAbove 0) (appended logs t l)
 rises_on logs t l r h a = rises_appended logs t l r h (all_within (λ log. last_stamp log < l.stamp) logs t h a)
+
+-- the last stamp of a log is that of its last entry
+pub last_more : (n : ℕ) (log : List Logged) (l : Logged) → last_above n (log ++ l ∷ []) ≡ l.stamp
+last_more n [] l = refl
+last_more n (m ∷ log) l = last_more m.stamp log l

@@ -10,7 +10,7 @@ abbrev pub take_all : List PlainObject → List (ℕ × Logged) → Option (List
 take_all objects [] = Some objects
 take_all objects (x ∷ xs) = option_and_then (λ after. take_all after xs) (take_entry objects x.0 x.1.entry)
 
--- the stamps rise strictly, from above n on
+-- the stamps rise strictly, and the first is above n
 abbrev pub RisesAbove : ℕ → List Logged → Type 0
 RisesAbove n [] = Unit {0}
 RisesAbove n (l ∷ log) = (n < l.stamp) × RisesAbove l.stamp log
