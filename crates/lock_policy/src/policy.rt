@@ -1,0 +1,60 @@
+// When the objects of a class are rebiased or revoked in bulk.
+
+ghost use Rattle.std.specs.Prelude.{◌≡◌};
+ghost use Rattle.lock_policy.specs.Policy.{decided, is_reset};
+
+// The count at which a class is rebiased in bulk, and from which a count may be reset.
+const BULK_REBIAS_THRESHOLD: u32 = 20;
+
+// The count at which a class is revoked in bulk, and above which a count no longer rises.
+const BULK_REVOKE_THRESHOLD: u32 = 40;
+
+// After so many milliseconds without a bulk operation a count is reset.
+const DECAY_TIME: u64 = 25_000;
+
+/// What is to be done about a class when a bias of one of its objects is given up.
+#[derive(Clone, Copy, Debug, PartialEq, Eq)]
+pub enum Verdict {
+    /// The bias of that one object is revoked.
+    Single,
+    /// The biases of all objects of the class are made invalid at once, and the objects may be biased again.
+    BulkRebias,
+    /// The biases of all objects of the class are revoked, and its objects are not biased again.
+    BulkRevoke,
+}
+
+/// The verdict on a class whose revocation count is `count`, and its new count.
+///
+/// `last` is the moment of the class's last bulk operation, in milliseconds from 1, or 0 where there was none, and
+/// `now` is the moment of this call on the same clock. All numbers are taken, also a `now` before `last`. A count above
+/// 40 stays as it is, so that no count wraps.
+pub fn decide(count: u32, last: u64, now: u64) -> (Verdict, u32)
+    ensures { result ≡ decided count last now }
+{
+    let count = if has_decayed(count, last, now) {
+        0
+    } else {
+        count
+    };
+    let count = if count <= BULK_REVOKE_THRESHOLD {
+        count + 1
+    } else {
+        count
+    };
+    let verdict = match count {
+        BULK_REVOKE_THRESHOLD => Verdict::BulkRevoke,
+        BULK_REBIAS_THRESHOLD => Verdict::BulkRebias,
+        _ => Verdict::Single,
+    };
+    (verdict, count)
+}
+
+fn has_decayed(count: u32, last: u64, now: u64) -> bool
+    ensures { result ≡ is_reset count last now }
+{
+    BULK_REBIAS_THRESHOLD <= count
+        && count < BULK_REVOKE_THRESHOLD
+        && last != 0
+        && last <= now
+        && now - last >= DECAY_TIME
+}

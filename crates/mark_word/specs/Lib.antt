@@ -1,0 +1,5 @@
+pub mod Mark
+pub mod Owner
+pub mod Wait
+pub mod Hold
+pub mod Safe

@@ -1,0 +1,39 @@
+-- The mark words of OpenJDK 8's markOop.hpp for 64 bits: lock bits at 0, bias bit at 2, age at 3, epoch and hash at 8, thread at 10.
+use Rattle.std.specs.Prelude.{◌≡◌, ℕ, ◌+◌, ◌*◌, ◌^◌, ◌<◌}
+use Rattle.mark_word.specs.declared.mark.MarkForm.{MarkForm}
+use Rattle.mark_word.specs.declared.mark.MarkForm.TheVariants.{Inflating, Neutral, Anonymous, Biased, Locked, Inflated, Marked}
+
+-- the ranges of a form's fields
+abbrev pub IsMarkInRange : MarkForm → Type 0
+IsMarkInRange Inflating = Unit {0}
+IsMarkInRange (Neutral hash age) = (hash < 2 ^ 31) × (age < 16)
+IsMarkInRange (Anonymous epoch age) = (epoch < 4) × (age < 16)
+IsMarkInRange (Biased thread epoch age) = (thread < 32) × (epoch < 4) × (age < 16)
+IsMarkInRange (Locked thread place) = (thread < 32) × (place < 64)
+IsMarkInRange (Inflated monitor) = monitor < 2 ^ 20
+IsMarkInRange Marked = Unit {0}
+
+-- the word of a form
+abbrev pub mark_of : MarkForm → ℕ
+mark_of Inflating = 0
+mark_of (Neutral hash age) = hash * 256 + age * 8 + 1
+mark_of (Anonymous epoch age) = epoch * 256 + age * 8 + 5
+mark_of (Biased thread epoch age) = (thread + 1) * 1024 + epoch * 256 + age * 8 + 5
+mark_of (Locked thread place) = (thread + 1) * 4096 + place * 8
+mark_of (Inflated monitor) = (monitor + 1) * 8 + 2
+mark_of Marked = 3
+
+-- the word spells the form, whose fields are in their ranges
+abbrev pub SpellsMark : MarkForm → ℕ → Type 0
+SpellsMark form word = IsMarkInRange form × (word ≡ mark_of form)
+
+-- the form is biased, to a thread or to none
+abbrev pub IsBiasForm : MarkForm → Type 0
+IsBiasForm (Anonymous epoch age) = Unit {0}
+IsBiasForm (Biased thread epoch age) = Unit {0}
+IsBiasForm _ = ⊥
+
+-- the form is neutral
+abbrev pub IsNeutralForm : MarkForm → Type 0
+IsNeutralForm (Neutral hash age) = Unit {0}
+IsNeutralForm _ = ⊥
