@@ -1,7 +1,7 @@
-//! The plain monitor of the Java Language Specification 8, 17.1 and 17.2, and the entries that threads log.
+//! The plain monitor of the Java Language Specification 8, 17.1 and 17.2, the entries that threads log, and the words of values.
 //!
 //! `specs/` has the trusted definitions: the monitor and its steps, the objects that entries change, the one order of all
-//! logs, and the histories that are legal. The types here are what logs are made of.
+//! logs, the histories that are legal, and which word spells which value. The types here are what logs are made of.
 #![tactic(auto)]
 
 mod entry;
@@ -11,6 +11,7 @@ mod monitor;
 mod refusal;
 #[cfg(test)]
 mod tests;
+mod value_words;
 mod waiters;
 
 pub use entry::{Ending, Entry, Fault, Logged, Path, Value};
@@ -18,3 +19,4 @@ pub use laws::{an_entry_above_all_comes_last, least_head_comes_first, order_keep
 pub use list::List;
 pub use monitor::Monitor;
 pub use refusal::{BadWord, NoMemory, Refused};
+pub use value_words::{value_word, values_are_read_back, values_are_spelled_once, word_value};

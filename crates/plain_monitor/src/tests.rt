@@ -1,8 +1,10 @@
-//! Worked examples of the monitor, and the calls of `List`.
+//! Worked examples of the monitor and of the words of values, and the calls of `List`.
 
+use crate::entry::Value;
 use crate::list::List;
 use crate::monitor::Monitor;
-use crate::refusal::Refused;
+use crate::refusal::{BadWord, Refused};
+use crate::value_words::{value_word, word_value};
 use std::test::Fail;
 
 #[test]
@@ -31,4 +33,27 @@ fn a_list_gives_its_items_back(rt: HostRuntime) -> Result<(), Fail> {
     assert_eq!(rt; list.items(), [7, 8, 9].as_slice());
     assert_eq!(rt; list.into_vec().as_slice(), [7, 8, 9].as_slice());
     Ok(())
+}
+
+#[test]
+fn values_and_their_words(rt: HostRuntime) {
+    let greatest = (1_i64 << 61) - 1;
+    assert_eq!(rt; value_word(&Value::Nil), 0);
+    assert_eq!(rt; value_word(&Value::Int(0)), 9_223_372_036_854_775_809);
+    assert_eq!(rt; value_word(&Value::Int(-1 - greatest)), 1);
+    assert_eq!(rt;
+        value_word(&Value::Int(greatest)),
+        18_446_744_073_709_551_613
+    );
+    assert_eq!(rt; value_word(&Value::Ref(3)), 14);
+    assert_eq!(rt; word_value(0), Ok(Value::Nil));
+    assert_eq!(rt; word_value(1), Ok(Value::Int(-1 - greatest)));
+    assert_eq!(rt;
+        word_value(18_446_744_073_709_551_613),
+        Ok(Value::Int(greatest))
+    );
+    assert_eq!(rt; word_value(131_070), Ok(Value::Ref(32_767)));
+    assert_eq!(rt; word_value(131_074), Err(BadWord));
+    assert_eq!(rt; word_value(3), Err(BadWord));
+    assert_eq!(rt; word_value(4), Err(BadWord));
 }
