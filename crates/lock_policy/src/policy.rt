@@ -23,11 +23,14 @@ pub enum Verdict {
     BulkRevoke,
 }
 
-/// The verdict on a class whose revocation count is `count`, and its new count.
+/// The verdict on a class whose revocation count is `count`, and its new count, after `update_heuristics` of OpenJDK 8's
+/// biasedLocking.cpp.
 ///
 /// `last` is the moment of the class's last bulk operation, in milliseconds from 1, or 0 where there was none, and
-/// `now` is the moment of this call on the same clock. All numbers are taken, also a `now` before `last`. A count above
-/// 40 stays as it is, so that no count wraps.
+/// `now` is the moment of this call on the same clock. A count from 20 to 39 starts again at 0 where there was a bulk
+/// operation, and 25,000 or more passed from `last` to `now`. Then a count up to 40 rises by one: the verdict is
+/// `BulkRebias` where it comes to 20, `BulkRevoke` where it comes to 40, else `Single`. All numbers are taken, also a
+/// `now` before `last`, which resets nothing. A count above 40 stays as it is, so that no count wraps.
 pub fn decide(count: u32, last: u64, now: u64) -> (Verdict, u32)
     ensures { result ≡ decided count last now }
 {

@@ -1,3 +1,4 @@
+pub mod Record
 pub mod Mark
 pub mod Owner
 pub mod Wait

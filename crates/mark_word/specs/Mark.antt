@@ -1,5 +1,6 @@
 -- The mark words of OpenJDK 8's markOop.hpp for 64 bits: lock bits at 0, bias bit at 2, age at 3, epoch and hash at 8, thread at 10.
 use Rattle.std.specs.Prelude.{◌≡◌, ℕ, ◌+◌, ◌*◌, ◌^◌, ◌<◌}
+use Rattle.mark_word.specs.Record.{IsRecord, record_of}
 use Rattle.mark_word.specs.declared.mark.MarkForm.{MarkForm}
 use Rattle.mark_word.specs.declared.mark.MarkForm.TheVariants.{Inflating, Neutral, Anonymous, Biased, Locked, Inflated, Marked}
 
@@ -9,7 +10,7 @@ IsMarkInRange Inflating = Unit {0}
 IsMarkInRange (Neutral hash age) = (hash < 2 ^ 31) × (age < 16)
 IsMarkInRange (Anonymous epoch age) = (epoch < 4) × (age < 16)
 IsMarkInRange (Biased thread epoch age) = (thread < 32) × (epoch < 4) × (age < 16)
-IsMarkInRange (Locked thread place) = (thread < 32) × (place < 64)
+IsMarkInRange (Locked thread place) = IsRecord thread place
 IsMarkInRange (Inflated monitor) = monitor < 2 ^ 20
 IsMarkInRange Marked = Unit {0}
 
@@ -19,7 +20,7 @@ mark_of Inflating = 0
 mark_of (Neutral hash age) = hash * 256 + age * 8 + 1
 mark_of (Anonymous epoch age) = epoch * 256 + age * 8 + 5
 mark_of (Biased thread epoch age) = (thread + 1) * 1024 + epoch * 256 + age * 8 + 5
-mark_of (Locked thread place) = (thread + 1) * 4096 + place * 8
+mark_of (Locked thread place) = record_of thread place
 mark_of (Inflated monitor) = (monitor + 1) * 8 + 2
 mark_of Marked = 3
 

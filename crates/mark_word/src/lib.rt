@@ -10,6 +10,7 @@ mod hold;
 mod laws;
 mod mark;
 mod owner;
+mod record;
 mod safe;
 #[cfg(test)]
 mod tests;

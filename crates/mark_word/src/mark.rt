@@ -4,6 +4,7 @@ ghost use Rattle.std.specs.Prelude.{◌≡◌, ℕ, ◌/◌, ◌%◌, ◌^◌, �
 ghost use Rattle.mark_word.specs.Mark.{IsMarkInRange, mark_of, SpellsMark, IsBiasForm, IsNeutralForm};
 
 use crate::bad_mark::BadMark;
+use crate::record::{read_record, record_word};
 
 /// Step from one age to the next: bits 3 to 6.
 const AGE: u64 = 1 << 3;
@@ -11,10 +12,6 @@ const AGE: u64 = 1 << 3;
 const EPOCH: u64 = 1 << 8;
 /// Step from one biased thread to the next: from bit 10.
 const BIASED_THREAD: u64 = 1 << 10;
-/// Step from one place of a lock record to the next: bits 3 to 8.
-const PLACE: u64 = 1 << 3;
-/// Step from one locking thread to the next: from bit 12.
-const LOCKING_THREAD: u64 = 1 << 12;
 /// Step from one monitor to the next: from bit 3.
 const MONITOR: u64 = 1 << 3;
 
@@ -59,17 +56,10 @@ fn decode_locked(word: u64) -> Result<MarkForm, BadMark>
     ensures found { IfOk result (λ form. SpellsMark form word) }
     ensures none { OnErr result ((form : MarkForm) → SpellsMark form word → ⊥) }
 {
-    let place = word % LOCKING_THREAD / PLACE;
-    let raised = word / LOCKING_THREAD;
-    if word == 0 {
-        Ok(MarkForm::Inflating)
-    } else if place < 64 && 0 < raised && raised <= 32 {
-        Ok(MarkForm::Locked {
-            thread: (raised - 1) as u32,
-            place: place as u32,
-        })
-    } else {
-        Err(BadMark)
+    match read_record(word) {
+        Some((thread, place)) => Ok(MarkForm::Locked { thread, place }),
+        None if word == 0 => Ok(MarkForm::Inflating),
+        None => Err(BadMark),
     }
 }
 
@@ -157,8 +147,7 @@ pub fn encode(form: &MarkForm) -> u64
         MarkForm::Biased { thread, epoch, age } => {
             (thread as u64 + 1) * BIASED_THREAD + epoch as u64 * EPOCH + age as u64 * AGE + 0b101
         }
-        MarkForm::Locked { thread, place } => (thread as u64 + 1) * LOCKING_THREAD
-            + place as u64 * PLACE,
+        MarkForm::Locked { thread, place } => record_word(thread, place),
         MarkForm::Inflated { monitor } => (monitor as u64 + 1) * MONITOR + 0b010,
         MarkForm::Marked => 3,
     }

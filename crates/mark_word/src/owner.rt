@@ -4,13 +4,10 @@ ghost use Rattle.std.specs.Prelude.{◌≡◌, ◌%◌, IfOk, OnErr};
 ghost use Rattle.mark_word.specs.Owner.{IsOwnerInRange, owner_of, SpellsOwner};
 
 use crate::bad_mark::BadMark;
+use crate::record::{read_record, record_word};
 
 /// Step from one owning thread to the next: from bit 3.
 const THREAD: u64 = 1 << 3;
-/// Step from one place of a lock record to the next: bits 3 to 8.
-const PLACE: u64 = 1 << 3;
-/// Step from one lock record's thread to the next: from bit 12.
-const RECORD: u64 = 1 << 12;
 
 /// Who owns a monitor.
 #[derive(Clone, Copy, Debug, PartialEq, Eq)]
@@ -43,17 +40,10 @@ fn decode_record(word: u64) -> Result<OwnerForm, BadMark>
     ensures found { IfOk result (λ form. SpellsOwner form word) }
     ensures none { OnErr result ((form : OwnerForm) → SpellsOwner form word → ⊥) }
 {
-    let place = word % RECORD / PLACE;
-    let raised = word / RECORD;
-    if word == 0 {
-        Ok(OwnerForm::Free)
-    } else if place < 64 && 0 < raised && raised <= 32 {
-        Ok(OwnerForm::ByRecord {
-            thread: (raised - 1) as u32,
-            place: place as u32,
-        })
-    } else {
-        Err(BadMark)
+    match read_record(word) {
+        Some((thread, place)) => Ok(OwnerForm::ByRecord { thread, place }),
+        None if word == 0 => Ok(OwnerForm::Free),
+        None => Err(BadMark),
     }
 }
 
@@ -81,7 +71,6 @@ pub fn encode_owner(form: &OwnerForm) -> u64
     match *form {
         OwnerForm::Free => 0,
         OwnerForm::ByThread { thread } => (thread as u64 + 1) * THREAD + 0b001,
-        OwnerForm::ByRecord { thread, place } => (thread as u64 + 1) * RECORD
-            + place as u64 * PLACE,
+        OwnerForm::ByRecord { thread, place } => record_word(thread, place),
     }
 }
