@@ -1,5 +1,5 @@
 -- What a thread logs of an entry that it is offered is taken as the entry is.
-use Rattle.std.proofs.Common.{◌≡◌, ℕ, Bool, List, refl, ap, Option, Some, None, option_and_then, slice_get}
+use Rattle.std.proofs.Common.{◌≡◌, ℕ, List, refl, ap, Option, Some, None, option_and_then, slice_get}
 use Rattle.plain_monitor.specs.declared.entry.Path.{Path}
 use Rattle.plain_monitor.specs.declared.entry.Ending.TheVariants as ending
 use Rattle.plain_monitor.specs.declared.entry.Entry.{Entry}
@@ -15,7 +15,6 @@ use Rattle.plain_machine.specs.declared.call.Asked.TheVariants.{Calls, Resumes, 
 use Rattle.plain_machine.specs.Thread.{ThreadState}
 use Rattle.plain_machine.specs.Asking.{ask, fits, behind_entry, thread_after}
 use Rattle.plain_machine.specs.Machine.{PlainMachine, take, moved, code_of}
-use Rattle.bias_cli.specs.LinesLeft.{is_dump}
 use Rattle.bias_cli.specs.Turns.{logged_as, path_by}
 
 -- the thread behind an enter that is what it asked, by whichever path
@@ -65,36 +64,3 @@ taken_as_logged m t (Dump n) = refl
 taken_as_logged m t (Trap f i) = refl
 taken_as_logged m t Spent = refl
 taken_as_logged m t Done = refl
-
--- what is logged says its path already, and is a dump where the entry is
-pub logged_once : (m : PlainMachine) (t : ℕ) (e : Entry) → logged_as m t e ≡ logged_as m t (logged_as m t e)
-logged_once m t (Enter o path) = refl
-logged_once m t (Exit o) = refl
-logged_once m t (Get o k v) = refl
-logged_once m t (Put o k v) = refl
-logged_once m t (Wait o) = refl
-logged_once m t (Resume o) = refl
-logged_once m t (Notify o w) = refl
-logged_once m t (NotifyAll o n) = refl
-logged_once m t (Hash o v d) = refl
-logged_once m t (Print v) = refl
-logged_once m t (Dump n) = refl
-logged_once m t (Trap f i) = refl
-logged_once m t Spent = refl
-logged_once m t Done = refl
-
-pub same_dump : (m : PlainMachine) (t : ℕ) (e : Entry) → is_dump (logged_as m t e) ≡ is_dump e
-same_dump m t (Enter o path) = refl
-same_dump m t (Exit o) = refl
-same_dump m t (Get o k v) = refl
-same_dump m t (Put o k v) = refl
-same_dump m t (Wait o) = refl
-same_dump m t (Resume o) = refl
-same_dump m t (Notify o w) = refl
-same_dump m t (NotifyAll o n) = refl
-same_dump m t (Hash o v d) = refl
-same_dump m t (Print v) = refl
-same_dump m t (Dump n) = refl
-same_dump m t (Trap f i) = refl
-same_dump m t Spent = refl
-same_dump m t Done = refl

@@ -1,7 +1,7 @@
 -- Writing the lines of a text one after the other.
 use Rattle.std.proofs.Common.{◌≡◌, ℕ, List, [], ◌∷◌, ◌++◌, refl, ap, sym, ◌∙◌, append_assoc, append-nil, Option, Some}
 use Rattle.bias_cli.specs.Output.{Wrote, WroteFront}
-use Rattle.bias_cli.specs.RunText.{text_of_lines}
+use Rattle.lock_journal.specs.RunText.{text_of_lines}
 
 texts_append : (xs ys : List (List ℕ)) → text_of_lines (xs ++ ys) ≡ text_of_lines xs ++ text_of_lines ys
 texts_append [] ys = refl

@@ -4,20 +4,23 @@ use Rattle.std.specs.List.{list_any, list_all}
 use Rattle.run_io.specs.Faults.{rose}
 use Rattle.plain_monitor.specs.declared.entry.Ending.{Ending}
 use Rattle.plain_monitor.specs.declared.entry.Ending.TheVariants.{Done}
-use Rattle.plain_monitor.specs.Order.{order}
 use Rattle.object_program.specs.declared.error.ProgramError.{ProgramError}
 use Rattle.object_program.specs.Program.{ProgramText}
 use Rattle.object_program.specs.Refusal.{program_of}
-use Rattle.object_program.specs.Built.{is_built}
-use Rattle.plain_machine.specs.Machine.{PlainMachine, new_machine, ending_in, is_live, is_stuck}
+use Rattle.plain_machine.specs.Machine.{PlainMachine, ending_in, is_live, is_stuck}
 use Rattle.plain_machine.specs.Legal.{IsLegal, machine_after}
 use Rattle.bias_cli.specs.Input.{Took}
 use Rattle.bias_cli.specs.Output.{Wrote, WroteFront}
-use Rattle.bias_cli.specs.RunText.{text_of_run}
-use Rattle.bias_cli.specs.Turns.{AreInTurns}
-use Rattle.bias_cli.specs.declared.command.Options.{Options}
-use Rattle.bias_cli.specs.declared.record.RunRecord.{RunRecord}
-use Rattle.bias_cli.specs.declared.record.ClassLine.{ClassLine}
+use Rattle.bias_cli.specs.Shots.{AreRightShots}
+use Rattle.bias_cli.specs.Own.{AreOwnLogs}
+use Rattle.bias_cli.specs.Drawn.{HaveDraws}
+use Rattle.lock_journal.specs.RunText.{text_of_run}
+use Rattle.run_words.specs.declared.options.Options.{Options}
+use Rattle.run_words.specs.declared.options.Command.{Command}
+use Rattle.run_words.specs.declared.options.Command.TheVariants.{Run, Make}
+use Rattle.bias_cli.specs.Refused.{refusal_text}
+use Rattle.lock_journal.specs.declared.record.RunRecord.{RunRecord}
+use Rattle.lock_journal.specs.declared.record.ClassLine.{ClassLine}
 use Rattle.bias_cli.specs.declared.finish.Finish.{Finish}
 
 -- what a source tells at one moment: the bytes that are left, where it tells that, and its count of faults
@@ -35,6 +38,12 @@ source_seen left faults = record { left = left; faults = faults }
 
 abbrev pub sink_seen : Option (List ℕ) → ℕ → SinkSeen
 sink_seen held faults = record { held = held; faults = faults }
+
+-- the run that is asked for, where the words are accepted
+abbrev pub run_asked : Option Command → Option Options
+run_asked None = None
+run_asked (Some (Run o)) = Some o
+run_asked (Some (Make items)) = None
 
 -- what became of the source: it wasn't read, a read failed, or its text was read
 pub data Reading : Type 0 where
@@ -62,16 +71,13 @@ words_refused = Refuses 2 (codes "words refused\n")
 abbrev pub read_fault : Due
 read_fault = Refuses 5 (codes "read fault\n")
 
-abbrev pub text_refused : Due
-text_refused = Refuses 3 (codes "program: Later\n")
-
+-- a text that has no program is refused with its line and cause
 abbrev pub program_due : Result ProgramText ProgramError → Due
 program_due (Ok p) = Runs p
-program_due (Err e) = text_refused
+program_due (Err e) = Refuses 3 (refusal_text e)
 
--- a text runs where its forms are built and it has a program
 abbrev pub text_due : List ℕ → Due
-text_due bytes = if is_built bytes then program_due (program_of bytes) else text_refused
+text_due bytes = program_due (program_of bytes)
 
 abbrev pub due_of : Reading → Due
 due_of Unread = words_refused
@@ -106,30 +112,32 @@ IsOver m true = is_stuck m ≡ true
 abbrev pub idle_class : ClassLine
 idle_class = record { single = 0; rebias = 0; revoke = 0; count = 0; prototype = 1 }
 
--- the record is of this program under these options; there are no dumps and no biases yet
+-- the record is of this program under these options; there are no biases yet
 pub record IsRecordOf (o : Options) (p : ProgramText) (r : RunRecord) : Type 0 where
   pub program : r.program ≡ p
   pub fuel : r.fuel ≡ o.fuel
   pub start : r.start ≡ o.start
   pub bias : r.bias ≡ o.bias
   pub logs : length r.logs ≡ length p.threads
-  pub shots : r.shots ≡ replicate (length p.threads) []
+  pub shots : length r.shots ≡ length p.threads
   pub classes : r.classes ≡ replicate (length p.classes) idle_class
 
--- the machine takes the logged entries in stamped order, is this one behind them, and is over then; as long as programs run in
--- turns, the stamps count the entries, and each enter says whether it is its thread's first
+-- the machine takes the logged entries in stamped order, is this one behind them, and is over then; the shots are
+-- right, and each thread's log is right by itself
 pub record IsRunOf (o : Options) (p : ProgramText) (r : RunRecord) (machine : PlainMachine) : Type 0 where
   pub of : IsRecordOf o p r
   pub legal : IsLegal p o.fuel r.logs
   pub under : machine_after p o.fuel r.logs ≡ Some machine
   pub over : IsOver machine r.halted
-  pub turns : AreInTurns (new_machine p o.fuel) 0 (order r.logs)
+  pub shots : AreRightShots p o.fuel r.logs r.shots
+  pub entries : AreOwnLogs p o.fuel r.logs
+  pub draws : HaveDraws o.start r.logs
 
 -- a run: its status is that of the machine under the record, and its text is written
 pub record IsRun (o : Options) (p : ProgramText) (before after : SinkSeen) (status : ℕ) (r : RunRecord) : Type 0 where
   pub machine : PlainMachine
   pub run : IsRunOf o p r machine
-  pub written : IsWritten before after status (status_of machine) (text_of_run false false r machine)
+  pub written : IsWritten before after status (status_of machine) (text_of_run o.stats o.journal r machine)
 
 -- what was due was done
 abbrev pub Meets : Option Options → SinkSeen → SinkSeen → Finish → Due → Type 0

@@ -1,10 +1,9 @@
 pub mod Input
 pub mod Output
-pub mod Words
-pub mod RunText
-pub mod Command
-pub mod Merging
-pub mod LineView
-pub mod LinesLeft
+pub mod Refused
+pub mod Shots
+pub mod Own
+pub mod Drawn
 pub mod Turns
+pub mod Rooms
 pub mod Finish

@@ -1,46 +1,46 @@
 //! `biasrun`: runs a program of the object language and writes what it prints and how each of its threads ended.
 //!
 //! `biasrun` is the top call. Its contract is over the words, the bytes read, the bytes written, the counts of faults and what
-//! it answers: `specs/Finish.antt` says what is due and what counts as done, `specs/RunText.antt` what the text of a run is.
+//! it answers: `specs/Finish.antt` says what is due and what counts as done, and `lock_journal` what the text of a run is.
 #![tactic(auto)]
 
 ghost use Rattle.std.specs.Prelude.{◌≡◌, ◌⊎◌, map, string_bytes};
-ghost use Rattle.bias_cli.specs.Command.{accepted};
-ghost use Rattle.bias_cli.specs.Finish.{source_seen, sink_seen, IsGivenUp, IsFinish};
+ghost use Rattle.run_words.specs.Command.{accepted};
+ghost use Rattle.bias_cli.specs.Finish.{source_seen, sink_seen, run_asked, IsGivenUp, IsFinish};
 
-mod command;
+mod appending;
 mod finish;
+mod hashes;
 mod input;
-mod line;
-mod lines;
-mod order;
+mod laws;
 mod output;
-mod record;
 mod recording;
+mod refusal;
 mod run;
+mod shots;
+mod stamps;
 mod text;
 mod turns;
-mod words;
 
-pub use command::Options;
 pub use finish::Finish;
-pub use line::Line;
-pub use lines::Lines;
-pub use order::Merge;
-pub use record::{Cell, ClassLine, RunRecord, Shot};
+pub use laws::records_can_be_replayed;
+pub use lock_journal::{Cell, ClassLine, Line, Lines, Merge, RunRecord, Shot, replay};
 use run_io::{Clock, Gate, Sink, Source};
+pub use run_words::{Command, Options, WordsFault, read_words};
 use std::alloc::Global;
 use std::sync::Wait;
 use std::thread::Threads;
 
-/// Does what the words ask for: `run` reads a program from the source to its end, runs it, and writes to the sink what it
-/// prints, line by line, and then how each thread ended.
+/// Does what the words ask for: `run` reads a program from the source to its end, or one byte past the limit of a text, runs it,
+/// and writes to the sink the bytes of the run's text: what its threads print and dump, in stamped order, how each of them ended,
+/// and then, where the words ask for them, the lock statistics and the journal of all monitor calls.
 ///
-/// `words[0]` is the program's name. Where the words are not accepted, a read fails, or the text isn't wholly of the forms that
-/// are built or has no program, that is what is written, and there is no record (`Finish` has the statuses). At the first write that fails the writing stops, with a
-/// front of the text written and status 6. Want of memory comes only before the first byte is written.
+/// `words[0]` is the program's name. Where the words are not accepted, a read fails, or the text has no program, that is what is
+/// written, and there is no record (`Finish` has the statuses). At the first write that fails the writing stops, with a front of
+/// the text written and status 6. Want of memory comes only before the first byte is written.
 ///
-/// Today one thread runs on the calling thread, by the plain machine: `rt`, `clock` and `gate` are not used yet.
+/// Today all threads of a program run in turns on the calling thread, by the plain machine: `rt`, `clock` and `gate` are not
+/// used yet, and no object is ever biased or inflated.
 pub fn biasrun<R: Threads + Wait + Sync, S: Source, K: Sink, C: Clock + Sync, G: Gate + Sync>(
     rt: &R,
     alloc: Global,
@@ -53,7 +53,7 @@ pub fn biasrun<R: Threads + Wait + Sync, S: Source, K: Sink, C: Clock + Sync, G:
     // Either memory was wanting, with status 7 and nothing written; or the words, the text that was read and the run of the
     // plain machine say what is due, and that was written and answered, up to the first write that failed.
     ensures { IsGivenUp (sink_seen (K.held sink.old) (K.faults sink.old)) (sink_seen (K.held sink.new) (K.faults sink.new)) result
-        ⊎ IsFinish (accepted (map (λ w. string_bytes w) words.now))
+        ⊎ IsFinish (run_asked (accepted (map (λ w. string_bytes w) words.now)))
         (source_seen (S.left source.old) (S.faults source.old)) (source_seen (S.left source.new) (S.faults source.new))
         (sink_seen (K.held sink.old) (K.faults sink.old)) (sink_seen (K.held sink.new) (K.faults sink.new)) result }
 {

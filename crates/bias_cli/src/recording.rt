@@ -1,12 +1,12 @@
 //! Making the record of a run.
 
-ghost use Rattle.std.specs.Prelude.{◌≡◌, [], length, replicate, IfOk};
+ghost use Rattle.std.specs.Prelude.{◌≡◌, length, replicate, IfOk};
 ghost use Rattle.bias_cli.specs.Finish.{IsRecordOf, idle_class};
 
-use crate::command::Options;
-use crate::record::{ClassLine, RunRecord, Shot};
+use lock_journal::{ClassLine, RunRecord, Shot};
 use object_program::Program;
 use plain_monitor::{List, Logged, NoMemory};
+use run_words::Options;
 use std::alloc::Global;
 
 /// A class that no biases were counted for.
@@ -18,20 +18,22 @@ const IDLE: ClassLine = ClassLine {
     prototype: 1,
 };
 
-/// The record of a run of the program with these logs, in which nothing was dumped and nothing was biased.
+/// The record of a run of the program with these logs and shots, in which nothing was biased.
 pub(crate) fn record_of(
     alloc: Global,
     options: &Options,
     program: Program,
     logs: List<List<Logged>>,
+    shots: List<List<Shot>>,
     halted: bool,
 ) -> Result<RunRecord, NoMemory>
-    requires { length logs ≡ length program.threads }
+    requires logs { length logs ≡ length program.threads }
+    requires shots { length shots ≡ length program.threads }
     ensures of { IfOk result (IsRecordOf options.now program) }
     ensures logs { IfOk result (λ r. r.logs ≡ logs) }
+    ensures shots { IfOk result (λ r. r.shots ≡ shots) }
     ensures halted { IfOk result (λ r. r.halted ≡ halted) }
 {
-    let shots = no_shots(alloc, program.threads.items().len())?;
     let classes = idle_classes(alloc, program.classes.items().len())?;
     Ok(RunRecord {
         program,
@@ -39,23 +41,10 @@ pub(crate) fn record_of(
         start: options.start,
         bias: options.bias,
         logs,
-        shots: List::of(shots),
+        shots,
         classes: List::of(classes),
         halted,
     })
-}
-
-/// As many threads without a dump.
-fn no_shots(alloc: Global, count: usize) -> Result<Vec<List<Shot>>, NoMemory>
-    ensures { IfOk result (λ shots. shots.items ≡ replicate count []) }
-{
-    let mut shots = Vec::new(alloc);
-    for _ in 0..count {
-        if shots.push(List::of(Vec::new(alloc))).is_err() {
-            return Err(NoMemory);
-        }
-    }
-    Ok(shots)
 }
 
 /// As many classes for which nothing was counted.

@@ -5,32 +5,32 @@ ghost use Rattle.std.specs.List.{list_any};
 ghost use Rattle.run_io.specs.Faults.{rose};
 ghost use Rattle.plain_machine.specs.Machine.{ending_in};
 ghost use Rattle.bias_cli.specs.Output.{Wrote, WroteFront};
-ghost use Rattle.bias_cli.specs.RunText.{text_of_run};
-ghost use Rattle.bias_cli.specs.LinesLeft.{IsShown};
+ghost use Rattle.lock_journal.specs.RunText.{text_of_run};
+ghost use Rattle.lock_journal.specs.LinesLeft.{IsShown};
 ghost use Rattle.bias_cli.specs.Finish.{status_of, is_cut_short};
 
-use crate::line::Line;
-use crate::lines::Lines;
 use crate::output::write_piece;
-use crate::record::RunRecord;
+use lock_journal::{Line, Lines, RunRecord};
 use plain_machine::Machine;
 use plain_monitor::Ending;
 use run_io::{Failed, Sink};
 
-/// Writes the lines of the run's text, each by a write call of its own, and stops at the first write that fails. `Failed` comes
-/// only where the sink's count of faults rose, and then a front of the text is written.
+/// Writes the lines of the run's text, with statistics and the journal where asked, each by a write call of its own, and stops at
+/// the first write that fails. `Failed` comes only where the sink's count of faults rose, and then a front of the text is written.
 pub(crate) fn write_lines<K: Sink>(
     sink: &mut K,
     run: &RunRecord,
     machine: &Machine,
+    stats: bool,
+    journal: bool,
 ) -> Result<(), Failed>
     requires { IsShown run.now machine.now }
     ensures counted { K.faults sink.old ≤ K.faults sink.new }
-    ensures ok { OnOk result (Wrote (K.held sink.old) (K.held sink.new) (text_of_run false false run.now machine.now)) }
+    ensures ok { OnOk result (Wrote (K.held sink.old) (K.held sink.new) (text_of_run stats journal run.now machine.now)) }
     ensures failed { OnErr result (IsTrue (rose (K.faults sink.old) (K.faults sink.new))) }
-    ensures front { OnErr result (WroteFront (K.held sink.old) (K.held sink.new) (text_of_run false false run.now machine.now)) }
+    ensures front { OnErr result (WroteFront (K.held sink.old) (K.held sink.new) (text_of_run stats journal run.now machine.now)) }
 {
-    let mut lines = Lines::new(false, false);
+    let mut lines = Lines::new(stats, journal);
     let mut line = Line::new();
     while lines.next(run, machine, &mut line) {
         write_piece(sink, line.bytes())?;

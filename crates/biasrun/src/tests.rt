@@ -1,51 +1,59 @@
 //! Whole runs, from words and a text in memory to what a sink in memory holds.
 
+mod rows;
+mod texts;
+
+use bias_cli::replay;
 use run_io::{FreeGate, MemorySink, MemorySource, StepClock};
 use std::process::Abort;
 use std::sync::Wait;
 use std::test::Fail;
 use std::thread::Threads;
 
-const ANSWER: &str =
-    "class C 1\nobject a C\nthread t1\nlocal o\nlocal v\nref o a\nset v 42\nenter o\nprint v\nexit o\nend\n";
-
-const ANSWER_FIVE_LINES: &str = "class C 1\nobject a C\nthread t1\nlocal o\nlocal v\n";
-
-const EXIT_TOO_OFTEN: &str =
-    "class C 1\nobject a C\nthread t1\nlocal o\nref o a\nenter o\nenter o\nexit o\nexit o\nexit o\nend\n";
-
-/// What a call is made with: its second word, the text, the read and the write that fail, by number from 1 or 0 for none, and the
-/// most bytes that a read gives and a write takes.
+/// What a call is made with: the words behind the program's name, the text and how many empty lines stand behind it, the read and
+/// the write that fail, by number from 1 or 0 for none, and the most bytes that a read gives and a write takes.
 #[derive(Clone, Copy)]
 struct Call {
-    word: &'static str,
+    words: &'static [&'static str],
     text: &'static str,
+    empty_lines: u32,
     read_fails: u32,
     write_fails: u32,
     cut: u32,
 }
 
-const ALL_GOES_WELL: Call = Call {
-    word: "run",
-    text: ANSWER,
-    read_fails: 0,
-    write_fails: 0,
-    cut: 1000,
-};
+/// A run of the text with these words, in which no read and no write fails.
+fn calling(words: &'static [&'static str], text: &'static str) -> Call {
+    Call {
+        words,
+        text,
+        empty_lines: 0,
+        read_fails: 0,
+        write_fails: 0,
+        cut: 1000,
+    }
+}
 
-/// Makes the call, and compares its status, whether it has a record, and what the sink holds then.
-fn expect<R: Threads + Wait + Abort + AllocGlobal + Sync>(
-    rt: &R,
-    call: Call,
+/// What became of a call: its status, whether it has a record, whether the machine behind the record is stuck, and what the sink
+/// holds then.
+#[derive(Drop)]
+struct Made {
     status: u8,
     has_record: bool,
-    held: &str,
-) -> Result<(), Fail> {
-    let words = vec![in rt.alloc();
-        String::from_str(rt.alloc(), "biasrun")?,
-        String::from_str(rt.alloc(), call.word)?,
-    ]?;
-    let text = Vec::from_slice(rt.alloc(), call.text.as_bytes())?;
+    is_stuck: bool,
+    held: Vec<u8>,
+}
+
+/// Makes the call.
+fn make<R: Threads + Wait + Abort + AllocGlobal + Sync>(rt: &R, call: Call) -> Result<Made, Fail> {
+    let mut words = vec![in rt.alloc(); String::from_str(rt.alloc(), "biasrun")?]?;
+    for word in call.words {
+        words.push(String::from_str(rt.alloc(), word)?)?;
+    }
+    let mut text = Vec::from_slice(rt.alloc(), call.text.as_bytes())?;
+    for _ in 0..call.empty_lines {
+        text.push(b'\n')?;
+    }
     let read_fails = vec![in rt.alloc(); call.read_fails]?;
     let write_fails = vec![in rt.alloc(); call.write_fails]?;
     let mut source = MemorySource::new(text, read_fails, call.cut.max(1));
@@ -59,76 +67,31 @@ fn expect<R: Threads + Wait + Abort + AllocGlobal + Sync>(
         &StepClock::new(1, 1),
         &FreeGate,
     );
-    assert_eq!(rt; sink.held(), held.as_bytes());
-    assert_eq!(rt; finish.status, status);
-    assert_eq!(rt; finish.run.is_some(), has_record);
+    bias_cli::records_can_be_replayed();
+    let is_stuck = match &finish.run {
+        Some(run) if run.logs.items().len() <= 16 => replay(rt.alloc(), run)?.is_stuck(),
+        _ => false,
+    };
+    Ok(Made {
+        status: finish.status,
+        has_record: finish.run.is_some(),
+        is_stuck,
+        held: Vec::from_slice(rt.alloc(), sink.held())?,
+    })
+}
+
+/// Makes the call, and compares what became of it.
+fn expect<R: Threads + Wait + Abort + AllocGlobal + Sync>(
+    rt: &R,
+    call: Call,
+    status: u8,
+    has_record: bool,
+    held: &str,
+) -> Result<(), Fail> {
+    let made = make(rt, call)?;
+    assert_eq!(rt; made.held.as_slice(), held.as_bytes(), "{held}");
+    assert_eq!(rt; made.status, status, "{held}");
+    assert_eq!(rt; made.has_record, has_record, "{held}");
+    assert_eq!(rt; made.is_stuck, status == 4, "{held}");
     Ok(())
-}
-
-#[test]
-fn a_run_writes_its_prints_and_its_threads(rt: HostRuntime) -> Result<(), Fail> {
-    let answer = "t1: 42\nthread t1 done\n";
-    expect(&rt, ALL_GOES_WELL, 0, true, answer)?;
-    // Reads and writes of one byte each change nothing.
-    expect(
-        &rt,
-        Call {
-            cut: 1,
-            ..ALL_GOES_WELL
-        },
-        0,
-        true,
-        answer,
-    )?;
-    let too_often = Call {
-        text: EXIT_TOO_OFTEN,
-        ..ALL_GOES_WELL
-    };
-    expect(
-        &rt,
-        too_often,
-        1,
-        true,
-        "thread t1 fault IllegalMonitorState at 6\n",
-    )
-}
-
-#[test]
-fn what_cannot_run_is_refused(rt: HostRuntime) -> Result<(), Fail> {
-    let walk = Call {
-        word: "walk",
-        ..ALL_GOES_WELL
-    };
-    expect(&rt, walk, 2, false, "words refused\n")?;
-    let later = "program: Later\n";
-    let unclosed = Call {
-        text: ANSWER_FIVE_LINES,
-        ..ALL_GOES_WELL
-    };
-    expect(&rt, unclosed, 3, false, later)?;
-    let empty = Call {
-        text: "",
-        ..ALL_GOES_WELL
-    };
-    expect(&rt, empty, 3, false, later)
-}
-
-#[test]
-fn faults_end_a_call(rt: HostRuntime) -> Result<(), Fail> {
-    let read_fails = Call {
-        read_fails: 1,
-        ..ALL_GOES_WELL
-    };
-    expect(&rt, read_fails, 5, false, "read fault\n")?;
-    let write_fails = Call {
-        write_fails: 2,
-        ..ALL_GOES_WELL
-    };
-    expect(&rt, write_fails, 6, true, "t1: 42\n")?;
-    let both_fail = Call {
-        read_fails: 1,
-        write_fails: 1,
-        ..ALL_GOES_WELL
-    };
-    expect(&rt, both_fail, 6, false, "")
 }

@@ -1,10 +1,12 @@
 -- What a line without a cause of refusal has: operands that pass each test, room, and its place.
-use Rattle.std.proofs.Common.{◌≡◌, ℕ, Bool, true, false, if◌then◌else◌, List, [], ◌∷◌, length, refl, Option, Some, None, IsTrue, eqb-true}
+use Rattle.std.proofs.Common.{◌≡◌, ℕ, zero, suc, Bool, true, false, ◌==◌, if◌then◌else◌, List, [], ◌∷◌, length, slice_get, refl, subst, Option, Some, None, IsTrue, eqb-true}
 use Rattle.std.proofs.lemmas.Bool.{or_parts, not-false}
 use Rattle.object_program.specs.Name.{is_name}
 use Rattle.object_program.specs.Number.{number_of, is_within}
 use Rattle.object_program.specs.Valid.{is_among}
-use Rattle.object_program.specs.Line.{Operand, New, Known, Number, operands_of}
+use Rattle.object_program.specs.Line.{operands_of}
+use Rattle.object_program.specs.declared.operand.Operand.{Operand}
+use Rattle.object_program.specs.declared.operand.Operand.TheVariants.{New, Known, Number}
 use Rattle.object_program.specs.Reading.{Before, operand}
 use Rattle.object_program.specs.Refusal.{names_before, names_known, is_bad_name, is_twice, is_undeclared, is_bad_number, some_operand, passes_limit, opens_unclosed, is_in_place, keyword_cause}
 use Rattle.object_program.specs.declared.keyword.Keyword.{Keyword}
@@ -26,6 +28,8 @@ AreFine b later (o ∷ os) (w ∷ ws) = IsFine b later o w × AreFine b later os
 -- what holds of a line with this keyword and these operands that has no cause
 pub record HasNoCause (b : Before) (later : List (List ℕ)) (ws : List (List ℕ)) (k : Keyword) : Type 0 where
   pub place : is_in_place b k ≡ true
+  pub count : (length ws == length (operands_of k)) ≡ true
+  pub numbers : some_operand is_bad_number (operands_of k) ws ≡ false
   pub operands : AreFine b later (operands_of k) ws
   pub limit : passes_limit b ws k ≡ false
   pub closed : opens_unclosed later k ≡ false
@@ -67,18 +71,17 @@ no_cause b later ws k h =
     let closed = cond_none _ _ _ limit.1 in
     record {
       place = not-false _ place.0;
+      count = not-false _ count.0;
+      numbers = number.0;
       operands = all_fine b later (operands_of k) ws (eqb-true _ _ (not-false _ count.0)) name.0 new.0 known.0 number.0;
       limit = limit.0;
       closed = closed.0;
     }
 
--- operands one by one
-pub first_fine : (b : Before) (later : List (List ℕ)) (o : Operand) (os : List Operand) (ws : List (List ℕ))
-    → AreFine b later (o ∷ os) ws → IsFine b later o (operand ws 0)
-first_fine b later o os [] h = absurd h
-first_fine b later o os (w ∷ ws) h = h.0
-
-pub second_fine : (b : Before) (later : List (List ℕ)) (o p : Operand) (os : List Operand) (ws : List (List ℕ))
-    → AreFine b later (o ∷ p ∷ os) ws → IsFine b later p (operand ws 1)
-second_fine b later o p os [] h = absurd h
-second_fine b later o p os (w ∷ ws) h = first_fine b later p os ws h.1
+-- operand i passes, where the line wants it
+pub operand_fine : (b : Before) (later : List (List ℕ)) (os : List Operand) (ws : List (List ℕ)) (i : ℕ) (o : Operand)
+    → slice_get os i ≡ Some o → AreFine b later os ws → IsFine b later o (operand ws i)
+operand_fine b later [] ws i o wanted h = absurd (cc wanted)
+operand_fine b later (p ∷ os) [] i o wanted h = absurd h
+operand_fine b later (p ∷ os) (w ∷ ws) zero o wanted h = let same : p ≡ o = cc in subst (λ q. IsFine b later q w) same h.0
+operand_fine b later (p ∷ os) (w ∷ ws) (suc i) o wanted h = operand_fine b later os ws i o wanted h.1

@@ -1,37 +1,29 @@
--- A built line without a cause keeps what holds of the lines so far.
-use Rattle.std.proofs.Common.{◌≡◌, ℕ, ◌+◌, ◌<◌, ◌≤◌, ℤ, pos, negsuc, nat_abs, ◌≤ℤ◌, true, false, List, [], ◌∷◌, ◌++◌, length, map, refl, ◌∙◌, subst, arith, Option, Some, None, unwrap_or, IsTrue, leb-false, ltb-false}
-use Rattle.std.specs.List.{list_all}
-use Rattle.std.proofs.lemmas.Bool.{and_from}
-use Rattle.std.proofs.lemmas.Int.{ints}
+-- A line without a cause keeps what holds of the lines so far.
+use Rattle.std.proofs.Common.{◌≡◌, ℕ, ◌+◌, ◌<◌, ◌≤◌, Bool, true, false, List, [], ◌∷◌, ◌++◌, length, map, slice_get, refl, sym, subst, arith, Option, Some, None, IsTrue, leb-false, ltb-false, append_assoc, append-nil}
+use Rattle.std.specs.List.{AllByRecursion}
+use Rattle.std.proofs.lemmas.Bool.{not-false}
 use Rattle.std.proofs.lemmas.List.{length-map, length_push}
-use Rattle.std.proofs.lemmas.List.Folds.{list_all-append}
 use Rattle.object_program.specs.Name.{is_name}
-use Rattle.object_program.specs.Number.{number_of, is_within}
 use Rattle.object_program.specs.Program.{ProgramText, total_of}
 use Rattle.object_program.specs.Valid.{is_among, AreObjects, IsInstruction, IsThread}
-use Rattle.object_program.specs.Line.{Classes, Objects, Threads, Locals, Operand, New, Known, Number, a_local}
-use Rattle.object_program.specs.Reading.{Before, operand, number_at, count_at, local_at, object_at, class_at, declared_objects, in_section, behind_keyword}
-use Rattle.object_program.specs.Built.{is_built_keyword, is_built_code}
+use Rattle.object_program.specs.Line.{operands_of}
+use Rattle.object_program.specs.declared.operand.Space.TheVariants.{Classes, Objects, Threads, Locals}
+use Rattle.object_program.specs.declared.operand.Operand.TheVariants.{New, Known}
+use Rattle.object_program.specs.Reading.{Before, operand, count_at, class_at, labels_ahead, section_labels, instruction_on, declared_objects, behind_keyword}
 use Rattle.object_program.specs.declared.program.ClassDef.{ClassDef}
 use Rattle.object_program.specs.declared.program.ObjectDef.{ObjectDef}
+use Rattle.object_program.specs.declared.program.LabelDef.{LabelDef}
 use Rattle.object_program.specs.declared.program.ThreadDef.{ThreadDef}
 use Rattle.object_program.specs.declared.program.Code.{Code}
 use Rattle.object_program.specs.declared.program.Code.TheVariants as code
 use Rattle.object_program.specs.declared.keyword.Keyword.{Keyword}
-use Rattle.object_program.specs.declared.keyword.Keyword.TheVariants.{Class, Object, Thread, Local, Set, Ref, Enter, Exit, Print, End}
+use Rattle.object_program.specs.declared.keyword.Keyword.TheVariants.{Class, Object, Array, Thread, Local, Label, End}
 use Rattle.plain_monitor.proofs.Lists.{all_push, all_weaker}
 use Rattle.object_program.proofs.AllowedNames.{AreNames-push, AreNames-push_map, number_among-lt}
-use Rattle.object_program.proofs.AllowedCause.{HasNoCause, AreFine, first_fine, second_fine}
-use Rattle.object_program.proofs.AllowedParts.{IsAllowedText, IsOpenCode, IsOpen, IsSection, IsAllowedSoFar, IsOpenCode-more, IsThread-more, IsSection-more, AreObjects-more, AreObjects-push, total_of-push, EndsOnce-push, built_push}
-
--- what a number in its range is
-within : (low high : ℤ) (o : Option ℤ) → is_within low high o ≡ true → (low ≤ℤ unwrap_or o (pos 0)) × (unwrap_or o (pos 0) ≤ℤ high)
-within low high None h = absurd (cc h)
-within low high (Some z) h = grind (arith, ints)
-
-count_le : (n : ℕ) (z : ℤ) → (pos 0 ≤ℤ z) × (z ≤ℤ pos n) → nat_abs z ≤ n
-count_le n (pos k) h = omega (arith, ints)
-count_le n (negsuc k) h = absurd (omega (arith, ints))
+use Rattle.object_program.proofs.AllowedLabels.{AreTargets-more, AreTargets-push}
+use Rattle.object_program.proofs.AllowedCause.{HasNoCause, AreFine, operand_fine}
+use Rattle.object_program.proofs.AllowedOperands.{count_between, in_thread, instruction_fine}
+use Rattle.object_program.proofs.AllowedParts.{IsAllowedText, Ahead, ahead_of, ahead_with, IsOpenCode, IsOpen, IsOpenIn, IsSection, IsAllowedSoFar, IsOpenCode-more, IsThread-more, AreObjects-more, AreObjects-push, total_of-push, EndsOnce-push}
 
 -- a class
 IsAllowedText-class : (p : ProgramText) (c : ClassDef) → IsAllowedText p → IsTrue (is_name c.name) → is_among (map (λ d. d.name) p.classes) c.name ≡ false
@@ -48,10 +40,9 @@ IsAllowedText-class p c h name new slots room =
       thread_names = h.thread_names;
       threads = h.threads;
       threads_few = h.threads_few;
-      built = h.built;
     }
 
--- an object
+-- a declaration of objects
 IsAllowedText-object : (p : ProgramText) (d : ObjectDef) → IsAllowedText p → IsTrue (is_name d.name) → is_among (map (λ e. e.name) p.objects) d.name ≡ false
     → AreObjects (length p.classes) (total_of p.objects) (d ∷ []) → total_of p.objects + d.size ≤ 4096 → IsAllowedText (record p { objects = p.objects ++ d ∷ [] })
 IsAllowedText-object p d h name new here room =
@@ -66,30 +57,36 @@ IsAllowedText-object p d h name new here room =
       thread_names = h.thread_names;
       threads = all_weaker _ _ (IsThread-more _ _ (omega arith)) p.threads h.threads;
       threads_few = h.threads_few;
-      built = h.built;
     }
 
+-- no label stands behind a section's `end`
+abbrev at_end : Ahead
+at_end = record { labels = λ n. []; closed = true }
+
 -- a thread whose section is closed
-IsThread-closed : (objects : ℕ) (names : List (List ℕ)) (t : ThreadDef) → IsOpen objects names t → length t.code < 4096
+IsThread-closed : (objects : ℕ) (names : List (List ℕ)) (t : ThreadDef) → IsOpen objects names at_end t → length t.code < 4096
     → IsThread objects (record t { code = t.code ++ code.End ∷ [] })
 IsThread-closed objects names t o room =
     let l = length t.locals in
+    let one : length (t.code ++ code.End ∷ []) ≡ length t.code + 1 = length_push t.code code.End in
+    let seen : AllByRecursion (IsInstruction l objects (t.labels ++ [])) t.code = all_weaker _ _ (λ c i. i.operands) t.code o.code in
+    let all : AllByRecursion (IsInstruction l objects t.labels) t.code =
+    subst (λ ls. AllByRecursion (IsInstruction l objects ls) t.code) (append-nil t.labels) seen in
     record {
       locals = o.locals;
       locals_few = o.locals_few;
-      labels = rw o.labels tt;
-      targets = rw o.labels tt;
-      code = rw o.labels (all_push (IsInstruction l objects []) t.code code.End (all_weaker _ _ (λ c i. i.operands) t.code o.code) tt);
-      code_few = omega (arith, length_push t.code code.End);
-      ends = EndsOnce-push l objects t.code o.code;
+      labels = o.labels;
+      targets = AreTargets-more _ _ 1 (omega arith) t.labels o.targets;
+      code = all_push _ t.code code.End all tt;
+      code_few = omega arith;
+      ends = EndsOnce-push l objects (t.labels ++ []) t.code o.code;
     }
 
-IsAllowedText-thread : (p : ProgramText) (t : ThreadDef) → IsAllowedText p → IsOpen (length p.objects) (map (λ u. u.name) p.threads) t → length t.code < 4096
+IsAllowedText-thread : (p : ProgramText) (t : ThreadDef) → IsAllowedText p → IsOpenIn p at_end t → length t.code < 4096
     → IsAllowedText (record p { threads = p.threads ++ record t { code = t.code ++ code.End ∷ [] } ∷ [] })
 IsAllowedText-thread p t h o room =
     let closed : ThreadDef = record t { code = t.code ++ code.End ∷ [] } in
     let one : length (p.threads ++ closed ∷ []) ≡ length p.threads + 1 = length_push p.threads closed in
-    let all_built : list_all is_built_code closed.code ≡ true = built_push (length t.locals) (length p.objects) t.code o.code in
     record {
       class_names = h.class_names;
       class_slots = h.class_slots;
@@ -100,13 +97,12 @@ IsAllowedText-thread p t h o room =
       thread_names = AreNames-push_map (λ u. u.name) p.threads closed h.thread_names o.name o.new;
       threads = all_push _ p.threads closed h.threads (IsThread-closed (length p.objects) _ t o room);
       threads_few = let few = o.room in omega (arith, length-map p.threads (λ (u : ThreadDef). u.name));
-      built = list_all-append _ p.threads (closed ∷ []) ∙ and_from _ _ h.built (and_from _ _ all_built refl);
     }
 
 -- a local of an open section
-IsOpen-local : (objects : ℕ) (names : List (List ℕ)) (t : ThreadDef) (name : List ℕ) → IsOpen objects names t → IsTrue (is_name name) → is_among t.locals name ≡ false
-    → length t.locals < 32 → IsOpen objects names (record t { locals = t.locals ++ name ∷ [] })
-IsOpen-local objects names t name o here new room =
+IsOpen-local : (objects : ℕ) (names : List (List ℕ)) (ahead : Ahead) (t : ThreadDef) (name : List ℕ) → IsOpen objects names ahead t
+    → IsTrue (is_name name) → is_among t.locals name ≡ false → length t.locals < 32 → IsOpen objects names ahead (record t { locals = t.locals ++ name ∷ [] })
+IsOpen-local objects names ahead t name o here new room =
     let one : length (t.locals ++ name ∷ []) ≡ length t.locals + 1 = length_push t.locals name in
     record {
       name = o.name;
@@ -115,14 +111,48 @@ IsOpen-local objects names t name o here new room =
       locals = AreNames-push t.locals name o.locals here new;
       locals_few = omega arith;
       labels = o.labels;
-      code = all_weaker _ _ (IsOpenCode-more _ _ _ _ (omega arith) (omega arith)) t.code o.code;
-      code_few = o.code_few;
+      targets = o.targets;
+      code = all_weaker _ _ (IsOpenCode-more _ _ _ _ (omega arith)) t.code o.code;
+      closed = o.closed;
     }
 
+-- before a label's line the section has that label ahead
+abbrev at_label : List ℕ → List (List ℕ) → Ahead
+at_label name later = record (ahead_of later) { labels = λ n. record { name = name; index = n } ∷ [] ++ labels_ahead n later }
+
+-- a label of an open section, for the instruction behind it
+IsOpen-label : (objects : ℕ) (names : List (List ℕ)) (later : List (List ℕ)) (t : ThreadDef) (name : List ℕ) → IsOpen objects names (at_label name later) t
+    → IsTrue (is_name name) → is_among (map (λ l. l.name) t.labels) name ≡ false
+    → IsOpen objects names (ahead_of later) (record t { labels = t.labels ++ record { name = name; index = length t.code + 1 } ∷ [] })
+IsOpen-label objects names later t name o here new =
+    let next = length t.code + 1 in
+    let label : LabelDef = record { name = name; index = next } in
+    let IsAll : List LabelDef → Type 0 = λ ls. AllByRecursion (IsOpenCode (length t.locals) objects ls) t.code in
+    record {
+      name = o.name;
+      new = o.new;
+      room = o.room;
+      locals = o.locals;
+      locals_few = o.locals_few;
+      labels = AreNames-push_map (λ l. l.name) t.labels label o.labels here new;
+      targets = AreTargets-push next 1 t.labels label (omega arith) refl o.targets;
+      code = subst IsAll (sym (append_assoc t.labels (label ∷ []) (labels_ahead next later))) o.code;
+      closed = o.closed;
+    }
+
+-- before an instruction's line the labels ahead are those behind it
+abbrev at_code : List (List ℕ) → Ahead
+at_code later = record (ahead_of later) { labels = λ n. labels_ahead (n + 1) later }
+
 -- an instruction of an open section
-IsOpen-code : (objects : ℕ) (names : List (List ℕ)) (t : ThreadDef) (c : Code) → IsOpen objects names t → IsOpenCode (length t.locals) objects c
-    → length t.code < 4096 → IsOpen objects names (record t { code = t.code ++ c ∷ [] })
-IsOpen-code objects names t c o here room =
+IsOpen-code : (objects : ℕ) (names : List (List ℕ)) (later : List (List ℕ)) (t : ThreadDef) (c : Code) → IsOpen objects names (at_code later) t
+    → IsOpenCode (length t.locals) objects (section_labels t later) c → IsOpen objects names (ahead_of later) (record t { code = t.code ++ c ∷ [] })
+IsOpen-code objects names later t c o here =
+    let one : length (t.code ++ c ∷ []) ≡ length t.code + 1 = length_push t.code c in
+    let IsAll : List Code → ℕ → Type 0 = λ cs n. AllByRecursion (IsOpenCode (length t.locals) objects (t.labels ++ labels_ahead n later)) cs in
+    let before : length t.code + 1 + 1 ≡ length t.code + 2 = omega arith in
+    let behind : length t.code + 2 ≡ length (t.code ++ c ∷ []) + 1 = omega arith in
+    let all : IsAll t.code (length t.code + 2) = subst (IsAll t.code) before o.code in
     record {
       name = o.name;
       new = o.new;
@@ -130,119 +160,117 @@ IsOpen-code objects names t c o here room =
       locals = o.locals;
       locals_few = o.locals_few;
       labels = o.labels;
-      code = all_push _ t.code c o.code here;
-      code_few = omega (arith, length_push t.code c);
+      targets = AreTargets-more _ _ 1 (omega arith) t.labels o.targets;
+      code = subst (IsAll (t.code ++ c ∷ [])) behind (all_push _ t.code c all here);
+      closed = o.closed;
     }
 
--- the section of this thread is open
-abbrev in_thread : ProgramText → ThreadDef → Before
-in_thread p t = record { text = p; section = Some t }
+-- no section is open
+abbrev outside : ProgramText → Before
+outside p = record { text = p; section = None }
 
-class_kept : (b : Before) (later ws : List (List ℕ)) → IsAllowedSoFar b → HasNoCause b later ws Class → IsAllowedSoFar (behind_keyword b later ws Class)
-class_kept b later ws h n =
-    let name = first_fine b later (New Classes) (Number (pos 0) (pos 16) ∷ []) ws n.operands in
-    let number = second_fine b later (New Classes) (Number (pos 0) (pos 16)) [] ws n.operands in
-    let slots : count_at ws 1 ≤ 16 = count_le 16 (number_at ws 1) (within (pos 0) (pos 16) (number_of (operand ws 1)) number) in
+class_kept : (p : ProgramText) (later ws : List (List ℕ)) → IsAllowedText p → HasNoCause (outside p) later ws Class
+    → IsAllowedSoFar (behind_keyword (outside p) later ws Class) (ahead_of later)
+class_kept p later ws h n =
+    let name = operand_fine (outside p) later (operands_of Class) ws 0 (New Classes) refl n.operands in
+    let number = operand_fine (outside p) later (operands_of Class) ws 1 _ refl n.operands in
+    let slots = count_between 0 16 ws 1 number in
     record {
-      text = IsAllowedText-class b.text (record { name = operand ws 0; slots = count_at ws 1 }) h.text name.0 name.1 slots (leb-false _ _ n.limit);
-      section = h.section;
+      text = IsAllowedText-class p (record { name = operand ws 0; slots = count_at ws 1 }) h name.0 name.1 slots.1 (leb-false _ _ n.limit);
+      section = tt;
     }
 
-object_kept : (b : Before) (later ws : List (List ℕ)) → IsAllowedSoFar b → HasNoCause b later ws Object → IsAllowedSoFar (behind_keyword b later ws Object)
-object_kept b later ws h n =
-    let name = first_fine b later (New Objects) (Known Classes ∷ []) ws n.operands in
-    let class = second_fine b later (New Objects) (Known Classes) [] ws n.operands in
-    let below : class_at b.text ws 1 < length b.text.classes = subst (λ l. class_at b.text ws 1 < l) (length-map b.text.classes (λ c. c.name)) (number_among-lt _ _ class.1) in
-    let d : ObjectDef = declared_objects b.text ws 1 false in
-    let one : length (b.text.objects ++ d ∷ []) ≡ length b.text.objects + 1 = length_push b.text.objects d in
+-- a declaration of so many objects, of a class that is declared
+objects_kept : (p : ProgramText) (later ws : List (List ℕ)) (k : Keyword) (size : ℕ) (array : Bool) → IsAllowedText p
+    → slice_get (operands_of k) 0 ≡ Some (New Objects) → slice_get (operands_of k) 1 ≡ Some (Known Classes) → AreFine (outside p) later (operands_of k) ws
+    → 1 ≤ size → (array ≡ false → size ≡ 1) → total_of p.objects + size ≤ 4096
+    → IsAllowedText (record p { objects = p.objects ++ declared_objects p ws size array ∷ [] })
+objects_kept p later ws k size array h first second operands some one room =
+    let name = operand_fine (outside p) later (operands_of k) ws 0 (New Objects) first operands in
+    let class = operand_fine (outside p) later (operands_of k) ws 1 (Known Classes) second operands in
+    let below : class_at p ws 1 < length p.classes = subst (λ l. class_at p ws 1 < l) (length-map p.classes (λ c. c.name)) (number_among-lt _ _ class.1) in
+    IsAllowedText-object p (declared_objects p ws size array) h name.0 name.1 ((below, refl, some, one), tt) room
+
+object_kept : (p : ProgramText) (later ws : List (List ℕ)) → IsAllowedText p → HasNoCause (outside p) later ws Object
+    → IsAllowedSoFar (behind_keyword (outside p) later ws Object) (ahead_of later)
+object_kept p later ws h n = record {
+  text = objects_kept p later ws Object 1 false h refl refl n.operands (omega arith) (λ _. refl) (ltb-false _ _ n.limit);
+  section = tt;
+}
+
+array_kept : (p : ProgramText) (later ws : List (List ℕ)) → IsAllowedText p → HasNoCause (outside p) later ws Array
+    → IsAllowedSoFar (behind_keyword (outside p) later ws Array) (ahead_of later)
+array_kept p later ws h n =
+    let size = count_between 1 4096 ws 2 (operand_fine (outside p) later (operands_of Array) ws 2 _ refl n.operands) in
     record {
-      text = IsAllowedText-object b.text d h.text name.0 name.1 ((below, refl, omega arith, λ _. refl), tt) (ltb-false _ _ n.limit);
-      section = IsSection-more _ _ _ (omega arith) b.section h.section;
+      text = objects_kept p later ws Array (count_at ws 2) true h refl refl n.operands size.0 (λ e. absurd (cc e)) (ltb-false _ _ n.limit);
+      section = tt;
     }
 
-thread_kept : (b : Before) (later ws : List (List ℕ)) → IsAllowedSoFar b → HasNoCause b later ws Thread → IsAllowedSoFar (behind_keyword b later ws Thread)
-thread_kept b later ws h n =
-    let name = first_fine b later (New Threads) [] ws n.operands in
-    let room : length (map (λ t. t.name) b.text.threads) < 16 = rw length-map (leb-false _ _ n.limit) in
+thread_kept : (p : ProgramText) (later ws : List (List ℕ)) → IsAllowedText p → HasNoCause (outside p) later ws Thread
+    → IsAllowedSoFar (behind_keyword (outside p) later ws Thread) (ahead_of later)
+thread_kept p later ws h n =
+    let name = operand_fine (outside p) later (operands_of Thread) ws 0 (New Threads) refl n.operands in
+    let room : length (map (λ t. t.name) p.threads) < 16 = rw length-map (leb-false _ _ n.limit) in
     record {
-      text = h.text;
-      section = record { name = name.0; new = name.1; room = room; locals = tt; locals_few = omega arith; labels = refl; code = tt; code_few = omega arith };
+      text = h;
+      section = record {
+        name = name.0;
+        new = name.1;
+        room = room;
+        locals = tt;
+        locals_few = omega arith;
+        labels = tt;
+        targets = tt;
+        code = tt;
+        closed = not-false _ n.closed;
+      };
     }
 
--- the first operand is a local that is declared
-first_local : (p : ProgramText) (t : ThreadDef) (later ws : List (List ℕ)) (os : List Operand) → AreFine (in_thread p t) later (a_local ∷ os) ws → local_at t ws 0 < length t.locals
-first_local p t later ws os h = let known = first_fine (in_thread p t) later a_local os ws h in number_among-lt t.locals (operand ws 0) known.1
+local_kept : (p : ProgramText) (t : ThreadDef) (later ws : List (List ℕ)) → IsAllowedText p → IsOpenIn p (ahead_of later) t
+    → HasNoCause (in_thread p t) later ws Local → IsAllowedSoFar (behind_keyword (in_thread p t) later ws Local) (ahead_of later)
+local_kept p t later ws h o n =
+    let name = operand_fine (in_thread p t) later (operands_of Local) ws 0 (New Locals) refl n.operands in
+    record { text = h; section = IsOpen-local _ _ _ t (operand ws 0) o name.0 name.1 (leb-false _ _ n.limit) }
 
--- the second is a declaration of objects
-second_object : (p : ProgramText) (t : ThreadDef) (later ws : List (List ℕ)) → AreFine (in_thread p t) later (a_local ∷ Known Objects ∷ []) ws → object_at p ws 1 < length p.objects
-second_object p t later ws h =
-    let known = second_fine (in_thread p t) later a_local (Known Objects) [] ws h in
-    subst (λ l. object_at p ws 1 < l) (length-map p.objects (λ d. d.name)) (number_among-lt (map (λ d. d.name) p.objects) (operand ws 1) known.1)
+-- the label of a line is the one that the lines before it had ahead
+label_kept : (p : ProgramText) (t : ThreadDef) (later : List (List ℕ)) (w : List ℕ) (ws : List (List ℕ)) → IsAllowedText p
+    → IsOpenIn p (ahead_with (w ∷ ws) (Some Label) later) t → HasNoCause (in_thread p t) later ws Label
+    → IsAllowedSoFar (behind_keyword (in_thread p t) later ws Label) (ahead_of later)
+label_kept p t later w [] h o n = absurd n.operands
+label_kept p t later w (l ∷ m ∷ ws) h o n = absurd n.operands.1
+label_kept p t later w (l ∷ []) h o n =
+    let name = n.operands.0 in
+    let seen : IsOpenIn p (at_label l later) t = rw name.0 at o in
+    record { text = h; section = IsOpen-label _ _ later t l seen name.0 name.1 }
 
--- an instruction that isn't an `end`
-code_kept : (p : ProgramText) (t : ThreadDef) (c : Code) → IsAllowedText p → IsOpen (length p.objects) (map (λ u. u.name) p.threads) t
-    → IsOpenCode (length t.locals) (length p.objects) c → length t.code < 4096 → IsAllowedSoFar (in_thread p (record t { code = t.code ++ c ∷ [] }))
-code_kept p t c h o here room = record { text = h; section = IsOpen-code _ _ t c o here room }
+-- a line of an open section
+section_kept : (p : ProgramText) (t : ThreadDef) (later : List (List ℕ)) (w : List ℕ) (ws : List (List ℕ)) (k : Keyword) → IsAllowedText p
+    → IsOpenIn p (ahead_with (w ∷ ws) (Some k) later) t → HasNoCause (in_thread p t) later ws k
+    → IsAllowedSoFar (behind_keyword (in_thread p t) later ws k) (ahead_of later)
+section_kept p t later w ws Class h o n = absurd (cc o.closed)
+section_kept p t later w ws Object h o n = absurd (cc o.closed)
+section_kept p t later w ws Array h o n = absurd (cc o.closed)
+section_kept p t later w ws Thread h o n = absurd (cc o.closed)
+section_kept p t later w ws Local h o n = local_kept p t later ws h o n
+section_kept p t later w ws Label h o n = label_kept p t later w ws h o n
+section_kept p t later w ws End h o n = record { text = IsAllowedText-thread p t h o (leb-false _ _ n.limit); section = tt }
+section_kept p t later w ws k h o n =
+    let c : IsOpenCode (length t.locals) (length p.objects) (section_labels t later) (instruction_on p t later ws k) =
+    record { goes_on = λ e. absurd (cc e); operands = instruction_fine p t later ws k n.operands } in
+    record { text = h; section = IsOpen-code _ _ later t (instruction_on p t later ws k) o c }
 
--- what a line of a section keeps, where it may stand
-abbrev KeepsSection : Keyword → Type 0
-KeepsSection k = (p : ProgramText) (s : Option ThreadDef) (later ws : List (List ℕ)) → IsAllowedText p → IsSection (length p.objects) (map (λ u. u.name) p.threads) s
-    → HasNoCause (record { text = p; section = s }) later ws k → IsAllowedSoFar (in_section p s later ws k)
+-- a line outside sections
+outside_kept : (p : ProgramText) (later ws : List (List ℕ)) (k : Keyword) → IsAllowedText p → HasNoCause (outside p) later ws k
+    → IsAllowedSoFar (behind_keyword (outside p) later ws k) (ahead_of later)
+outside_kept p later ws Class h n = class_kept p later ws h n
+outside_kept p later ws Object h n = object_kept p later ws h n
+outside_kept p later ws Array h n = array_kept p later ws h n
+outside_kept p later ws Thread h n = thread_kept p later ws h n
+outside_kept p later ws k h n = absurd (cc n.place)
 
-local_kept : KeepsSection Local
-local_kept p None later ws h o n = absurd (cc n.place)
-local_kept p (Some t) later ws h o n =
-    let name = first_fine (in_thread p t) later (New Locals) [] ws n.operands in
-    record { text = h; section = IsOpen-local _ _ t (operand ws 0) o name.0 name.1 (leb-false _ _ n.limit) }
-
-set_kept : KeepsSection Set
-set_kept p None later ws h o n = absurd (cc n.place)
-set_kept p (Some t) later ws h o n =
-    let low = negsuc 2305843009213693951 in
-    let high = pos 2305843009213693951 in
-    let x = first_local p t later ws (Number low high ∷ []) n.operands in
-    let number = within low high (number_of (operand ws 1)) (second_fine (in_thread p t) later a_local (Number low high) [] ws n.operands) in
-    code_kept p t (code.Set (local_at t ws 0) (number_at ws 1)) h o (record { built = refl; goes_on = λ e. absurd (cc e); operands = (x, number) }) (leb-false _ _ n.limit)
-
-ref_kept : KeepsSection Ref
-ref_kept p None later ws h o n = absurd (cc n.place)
-ref_kept p (Some t) later ws h o n =
-    let x = first_local p t later ws (Known Objects ∷ []) n.operands in
-    let d = second_object p t later ws n.operands in
-    code_kept p t (code.Ref (local_at t ws 0) (object_at p ws 1)) h o (record { built = refl; goes_on = λ e. absurd (cc e); operands = (x, d) }) (leb-false _ _ n.limit)
-
-enter_kept : KeepsSection Enter
-enter_kept p None later ws h o n = absurd (cc n.place)
-enter_kept p (Some t) later ws h o n =
-    let x = first_local p t later ws [] n.operands in
-    code_kept p t (code.Enter (local_at t ws 0)) h o (record { built = refl; goes_on = λ e. absurd (cc e); operands = x }) (leb-false _ _ n.limit)
-
-exit_kept : KeepsSection Exit
-exit_kept p None later ws h o n = absurd (cc n.place)
-exit_kept p (Some t) later ws h o n =
-    let x = first_local p t later ws [] n.operands in
-    code_kept p t (code.Exit (local_at t ws 0)) h o (record { built = refl; goes_on = λ e. absurd (cc e); operands = x }) (leb-false _ _ n.limit)
-
-print_kept : KeepsSection Print
-print_kept p None later ws h o n = absurd (cc n.place)
-print_kept p (Some t) later ws h o n =
-    let x = first_local p t later ws [] n.operands in
-    code_kept p t (code.Print (local_at t ws 0)) h o (record { built = refl; goes_on = λ e. absurd (cc e); operands = x }) (leb-false _ _ n.limit)
-
-end_kept : KeepsSection End
-end_kept p None later ws h o n = absurd (cc n.place)
-end_kept p (Some t) later ws h o n = record { text = IsAllowedText-thread p t h o (leb-false _ _ n.limit); section = tt }
-
--- a line with a keyword that is built
-pub line_kept : (b : Before) (later ws : List (List ℕ)) (k : Keyword) → IsAllowedSoFar b → is_built_keyword k ≡ true → HasNoCause b later ws k → IsAllowedSoFar (behind_keyword b later ws k)
-line_kept b later ws Class h built n = class_kept b later ws h n
-line_kept b later ws Object h built n = object_kept b later ws h n
-line_kept b later ws Thread h built n = thread_kept b later ws h n
-line_kept b later ws Local h built n = local_kept b.text b.section later ws h.text h.section n
-line_kept b later ws Set h built n = set_kept b.text b.section later ws h.text h.section n
-line_kept b later ws Ref h built n = ref_kept b.text b.section later ws h.text h.section n
-line_kept b later ws Enter h built n = enter_kept b.text b.section later ws h.text h.section n
-line_kept b later ws Exit h built n = exit_kept b.text b.section later ws h.text h.section n
-line_kept b later ws Print h built n = print_kept b.text b.section later ws h.text h.section n
-line_kept b later ws End h built n = end_kept b.text b.section later ws h.text h.section n
-line_kept b later ws k h built n = absurd (cc built)
+pub line_kept : (p : ProgramText) (s : Option ThreadDef) (later : List (List ℕ)) (w : List ℕ) (ws : List (List ℕ)) (k : Keyword) → IsAllowedText p
+    → IsSection p (ahead_with (w ∷ ws) (Some k) later) s → HasNoCause (record { text = p; section = s }) later ws k
+    → IsAllowedSoFar (behind_keyword (record { text = p; section = s }) later ws k) (ahead_of later)
+line_kept p None later w ws k h o n = outside_kept p later ws k h n
+line_kept p (Some t) later w ws k h o n = section_kept p t later w ws k h o n

@@ -1,13 +1,12 @@
 -- A list cut at the first element that passes a test.
-use Rattle.std.proofs.Common.{◌≡◌, ℕ, ◌+◌, ◌<◌, ◌≤◌, ◌==◌, ◌&&◌, Bool, true, false, not, cond, if◌then◌else◌, ltb, List, [], ◌∷◌, ◌++◌, length, take, drop, filter, refl, ap, ◌∙◌, arith, Some, None}
+use Rattle.std.proofs.Common.{◌≡◌, ℕ, ◌+◌, ◌<◌, ◌≤◌, ◌==◌, Bool, true, false, not, cond, if◌then◌else◌, ltb, List, [], ◌∷◌, ◌++◌, length, take, drop, filter, refl, ap, ◌∙◌, arith, Some, None, get_or, length-drop, add-one, drop-cons}
 use Rattle.std.specs.Prelude.{position}
-use Rattle.std.specs.List.{slice_split, position_or_len, before_first, list_all}
+use Rattle.std.specs.List.{slice_split, position_or_len, before_first}
 use Rattle.std.proofs.lemmas.List.Splits.{slice_split_first}
 use Rattle.std.proofs.lemmas.Bool.Decides.{nat_tests}
 use Rattle.std.proofs.lemmas.Grind.{common_steps}
 use Rattle.object_program.specs.Text.{without_return, is_blank, is_empty}
 use Rattle.object_program.specs.Left.{words_in, words_from}
-use Rattle.object_program.specs.Built.{is_built_byte}
 
 none_by : (b : Bool) (n m : ℕ) → ltb n m ≡ b → None ≡ cond b (Some n) None → m ≤ n
 none_by true n m e h = absurd (cc h)
@@ -81,20 +80,9 @@ pub without_return_empty : (line : List ℕ) → length line ≡ 0 → without_r
 without_return_empty [] h = refl
 without_return_empty (b ∷ bs) h = absurd (omega arith)
 
--- bytes that are built hold no carriage return
-not_return : (b : ℕ) → is_built_byte b ≡ true → (b == 13) ≡ false
-not_return b h = grind (arith, nat_tests)
-
-and_left : (a b : Bool) → (a && b) ≡ true → a ≡ true
-and_left true b h = refl
-and_left false b h = (cc)
-
-and_right : (a b : Bool) → (a && b) ≡ true → b ≡ true
-and_right true b h = h
-and_right false b h = (cc)
-
-pub without_return_built : (line : List ℕ) → list_all is_built_byte line ≡ true → without_return line ≡ line
-without_return_built [] h = refl
-without_return_built (b ∷ []) h = rw (not_return b (and_left (is_built_byte b) true h)) refl
-without_return_built (b ∷ c ∷ bs) h =
-    ap (λ zs. b ∷ zs) (without_return_built (c ∷ bs) (and_right (is_built_byte b) (list_all is_built_byte (c ∷ bs)) h))
+-- one more element is passed
+pub drop-tail : {X : Type 0} (xs : List X) (n : ℕ) (x : X) (rest : List X) → x ∷ rest ≡ drop n xs → rest ≡ drop (n + 1) xs
+drop-tail xs n x rest e =
+    let some : n < length xs = omega (arith, ap length e, length-drop n xs) in
+    let cut : drop n xs ≡ get_or xs n x ∷ drop (n + 1) xs = rw add-one (drop-cons xs n x some) in
+    cc

@@ -1,13 +1,11 @@
 -- Numbers by their digits, their sign and their size.
-use Rattle.std.proofs.Common.{◌≡◌, ℕ, ◌+◌, ◌-◌, ◌*◌, ◌^◌, ◌<◌, ◌≤◌, Bool, true, false, if◌then◌else◌, List, length, get_or, drop, refl, arith, lit<, Some, None, ℤ, pos, negsuc, ◌≤ℤ◌}
+use Rattle.std.proofs.Common.{◌≡◌, ℕ, ◌+◌, ◌-◌, ◌*◌, ◌^◌, ◌<◌, ◌≤◌, true, if◌then◌else◌, List, length, get_or, drop, refl, arith, lit<, None}
 use Rattle.std.proofs.Math.Numerals.{add-one}
 use Rattle.std.proofs.Math.Seq.{drop-cons}
 use Rattle.std.proofs.Math.Nat.{pow-le-pow_right, pow-succ'}
 use Rattle.std.proofs.lemmas.Bool.Decides.{nat_tests}
-use Rattle.std.proofs.lemmas.Int.{ints}
 use Rattle.object_program.specs.Name.{is_digit}
-use Rattle.object_program.specs.Number.{number_behind, is_within}
-use Rattle.object_program.specs.Signs.{signed}
+use Rattle.object_program.specs.Number.{number_behind}
 
 pub digit_step : (n : ℕ) (bs : List ℕ) (i : ℕ) → i < length bs
     → number_behind n (drop i bs) ≡ (if is_digit (get_or bs i 0) then number_behind (10 * n + (get_or bs i 0 - 48)) (drop (i + 1) bs) else None)
@@ -22,9 +20,3 @@ digits_fit n i d h k l = let p : 10 ^ i ≤ 10 ^ 18 = pow-le-pow_right (lit< tt)
 
 pub more_digits : (n i d : ℕ) → n < 10 ^ i → d < 10 → 10 * n + d < 10 ^ (i + 1)
 more_digits n i d h l = rw (add-one, pow-succ' 10 i) (omega arith)
-
--- a size above 2^61 is out of each range of values
-pub too_large : (negative : Bool) (n : ℕ) (low high : ℤ) → 2305843009213693952 < n → negsuc 2305843009213693951 ≤ℤ low → high ≤ℤ pos 2305843009213693951
-    → is_within low high (Some (signed negative n)) ≡ false
-too_large true n low high h l r = grind (arith, ints, nat_tests)
-too_large false n low high h l r = grind (arith, ints, nat_tests)

@@ -1,10 +1,7 @@
 -- What is left of a text while it is read.
-use Rattle.std.specs.Prelude.{◌≡◌, ◌<◌, ◌+◌, ◌==◌, ℕ, true, false, not, List, [], ◌∷◌, filter, length, map, Option, Some, None, MatchOption, if◌then◌else◌}
+use Rattle.std.specs.Prelude.{◌+◌, ◌==◌, ℕ, not, List, [], ◌∷◌, filter, length, map, Option, Some, None, if◌then◌else◌}
 use Rattle.std.specs.List.{slice_split}
-use Rattle.std.specs.Str.{bytes_eq}
 use Rattle.object_program.specs.Text.{raw_lines, without_return, is_blank, is_empty}
-use Rattle.object_program.specs.Reading.{number_among}
-use Rattle.object_program.specs.Valid.{is_among}
 
 -- the lines of what is left, with their carriage returns; behind the last line nothing is left
 abbrev pub lines_left : Option (List ℕ) → List (List ℕ)
@@ -27,16 +24,6 @@ words_behind (Some text) = words_in text
 -- the words of a line that begins with these bytes and a blank
 abbrev pub words_from : List ℕ → Option (List ℕ) → List (List ℕ)
 words_from part rest = if length part == 0 then words_behind rest else part ∷ words_behind rest
-
--- what a look-up answers: whether the name stands among these, and its number
-abbrev pub IsPlace : List (List ℕ) → List ℕ → Option ℕ → Type 0
-IsPlace names name place =
-    MatchOption place (is_among names name ≡ false) (λ n. (is_among names name ≡ true) × (n ≡ number_among names name) × (n < length names))
-
--- the same, where the first of these names has number n
-abbrev pub place_from : ℕ → List (List ℕ) → List ℕ → Option ℕ
-place_from n [] name = None
-place_from n (x ∷ xs) name = if bytes_eq x name then Some n else place_from (n + 1) xs name
 
 -- what is left becomes less with each line
 abbrev pub left_length : Option (List ℕ) → ℕ

@@ -8,9 +8,11 @@ pub mod Valid
 pub mod Line
 pub mod Reading
 pub mod Refusal
-pub mod Built
+pub mod Directory
 pub mod Left
+pub mod Labels
 pub mod Steps
 pub mod Spelled
-pub mod Causes
 pub mod Signs
+pub mod Canonical
+pub mod Written

@@ -1,8 +1,12 @@
 -- The words that lines begin with, and the operands that each wants.
-use Rattle.std.specs.Prelude.{ℕ, ℤ, pos, negsuc, Bool, true, false, if◌then◌else◌, List, [], ◌∷◌, codes, Option, Some, None}
+use Rattle.std.specs.Prelude.{ℕ, pos, Bool, true, false, if◌then◌else◌, List, [], ◌∷◌, codes, Option, Some, None}
 use Rattle.std.specs.Str.{bytes_eq}
+use Rattle.plain_monitor.specs.Numbers.{least_number, greatest_number}
 use Rattle.object_program.specs.declared.keyword.Keyword.{Keyword}
 use Rattle.object_program.specs.declared.keyword.Keyword.TheVariants.{Class, Object, Array, Thread, Local, Label, Set, Add, Sub, Mul, Ref, Elem, Enter, Exit, Wait, Notify, NotifyAll, Get, Put, Hash, Print, Jump, Jlt, Jeq, Dump, End}
+use Rattle.object_program.specs.declared.operand.Space.TheVariants.{Classes, Objects, Threads, Locals, Labels}
+use Rattle.object_program.specs.declared.operand.Operand.{Operand}
+use Rattle.object_program.specs.declared.operand.Operand.TheVariants.{New, Known, Number}
 
 -- how each is spelled
 abbrev pub spellings : List (List ℕ × Keyword)
@@ -21,20 +25,6 @@ spelled_among (s ∷ ss) word = if bytes_eq s.0 word then Some s.1 else spelled_
 abbrev pub keyword_of : List ℕ → Option Keyword
 keyword_of word = spelled_among spellings word
 
--- the spaces that names are declared in
-pub data Space : Type 0 where
-  Classes : Space
-  Objects : Space
-  Threads : Space
-  Locals : Space
-  Labels : Space
-
--- what an operand has to be: a new name, a name that is declared, or a number from one to another
-pub data Operand : Type 0 where
-  New : Space → Operand
-  Known : Space → Operand
-  Number : ℤ → ℤ → Operand
-
 abbrev pub a_local : Operand
 a_local = Known Locals
 
@@ -49,7 +39,7 @@ operands_of Array = New Objects ∷ Known Classes ∷ Number (pos 1) (pos 4096) 
 operands_of Thread = New Threads ∷ []
 operands_of Local = New Locals ∷ []
 operands_of Label = New Labels ∷ []
-operands_of Set = a_local ∷ Number (negsuc 2305843009213693951) (pos 2305843009213693951) ∷ []
+operands_of Set = a_local ∷ Number least_number greatest_number ∷ []
 operands_of Add = a_local ∷ a_local ∷ a_local ∷ []
 operands_of Sub = a_local ∷ a_local ∷ a_local ∷ []
 operands_of Mul = a_local ∷ a_local ∷ a_local ∷ []

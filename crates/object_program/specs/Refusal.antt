@@ -6,7 +6,11 @@ use Rattle.object_program.specs.Text.{raw_lines, without_return, is_text_byte, w
 use Rattle.object_program.specs.Number.{number_of, is_within}
 use Rattle.object_program.specs.Program.{ProgramText, total_of}
 use Rattle.object_program.specs.Valid.{is_among}
-use Rattle.object_program.specs.Line.{Space, Classes, Objects, Threads, Locals, Labels, Operand, New, Known, Number, keyword_of, operands_of, is_outside}
+use Rattle.object_program.specs.Line.{keyword_of, operands_of, is_outside}
+use Rattle.object_program.specs.declared.operand.Space.{Space}
+use Rattle.object_program.specs.declared.operand.Space.TheVariants.{Classes, Objects, Threads, Locals, Labels}
+use Rattle.object_program.specs.declared.operand.Operand.{Operand}
+use Rattle.object_program.specs.declared.operand.Operand.TheVariants.{New, Known, Number}
 use Rattle.object_program.specs.Reading.{Before, nothing, first_keyword, ends_section, section_labels, count_at, behind_line}
 use Rattle.object_program.specs.declared.program.ThreadDef.{ThreadDef}
 use Rattle.object_program.specs.declared.keyword.Keyword.{Keyword}

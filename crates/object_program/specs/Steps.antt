@@ -1,69 +1,82 @@
 -- The state of the reader, and what reading a line answers.
-use Rattle.std.specs.Prelude.{◌≡◌, ◌⊎◌, ℕ, List, [], ◌∷◌, ◌++◌, Option, Some, None, option_map, Result, Ok, Err}
+use Rattle.std.specs.Prelude.{◌≡◌, ◌⊎◌, ℕ, Bool, true, false, not, if◌then◌else◌, List, [], map, take, Option, Some, None, option_map, Result, Ok, Err}
 use Rattle.object_program.specs.Program.{ProgramText}
-use Rattle.object_program.specs.Reading.{Before, behind_keyword, behind_line}
-use Rattle.object_program.specs.Refusal.{keyword_cause, line_cause}
+use Rattle.object_program.specs.Valid.{is_among}
+use Rattle.object_program.specs.Reading.{Before, ends_section}
+use Rattle.object_program.specs.Refusal.{names_before, is_bad_name, is_twice, is_bad_number, is_closed, is_end}
+use Rattle.object_program.specs.Labels.{labels_from, labels_at}
 use Rattle.object_program.specs.declared.program.ThreadDef.{ThreadDef}
-use Rattle.object_program.specs.declared.program.Code.{Code}
+use Rattle.object_program.specs.declared.operand.Space.{Space}
+use Rattle.object_program.specs.declared.operand.Space.TheVariants.{Labels}
+use Rattle.object_program.specs.declared.operand.Operand.{Operand}
+use Rattle.object_program.specs.declared.operand.Operand.TheVariants.{Known}
+use Rattle.object_program.specs.declared.operand.Test.{Test}
+use Rattle.object_program.specs.declared.operand.Test.TheVariants as test
 use Rattle.object_program.specs.declared.state.Declared.{Declared}
 use Rattle.object_program.specs.declared.state.Section.{Section}
 use Rattle.object_program.specs.declared.state.Reader.{Reader}
 use Rattle.object_program.specs.declared.keyword.Keyword.{Keyword}
+use Rattle.object_program.specs.declared.error.ProgramError.{ProgramError}
 use Rattle.object_program.specs.declared.error.Why.{Why}
-use Rattle.object_program.specs.declared.error.Why.TheVariants.{Later, NoMemory}
+use Rattle.object_program.specs.declared.error.Why.TheVariants.{NoMemory}
 
 -- the classes, objects and threads of the lines so far
 abbrev pub text_of : Declared → ProgramText
-text_of d = record { classes = d.classes.items; objects = d.objects.items; threads = d.threads.items }
+text_of d = record { classes = d.classes; objects = d.objects; threads = d.threads }
 
--- the thread of an open section; it has no labels yet
+-- the thread of an open section, as far as its lines go: the first of its labels stand on them
 abbrev pub thread_of : Section → ThreadDef
-thread_of s = record { name = s.name; locals = s.locals.items; labels = []; code = s.code.items }
-
--- with one more instruction, or one more local
-abbrev pub with_instruction : ThreadDef → Code → ThreadDef
-with_instruction t c = record t { code = t.code ++ c ∷ [] }
-
-abbrev pub with_local : ThreadDef → List ℕ → ThreadDef
-with_local t name = record t { locals = t.locals ++ name ∷ [] }
+thread_of s = record { name = s.name; locals = s.locals; labels = take s.declared s.labels; code = s.code.items }
 
 -- what the lines so far have declared
-abbrev pub before_in : Declared → Option ThreadDef → Before
-before_in d section = record { text = text_of d; section = section }
-
 abbrev pub before_of : Reader → Before
-before_of r = before_in r.declared (option_map thread_of r.section)
+before_of r = record { text = text_of r.declared; section = option_map thread_of r.section }
 
--- what is made of a line with this cause, which else stands for x
-abbrev pub IsMade : {A : Type 0} → Result A Why → Option Why → A → Type 0
-IsMade (Ok y) cause x = (cause ≡ None) × (y ≡ x)
-IsMade (Err why) cause x = cause ≡ Some why
+-- the lines ahead close the open section, and its labels are those so far and those on these lines
+pub record IsAhead (s : Section) (lines : List (List ℕ)) : Type 0 where
+  pub closed : is_closed lines ≡ true
+  pub labels : s.labels ≡ labels_from (thread_of s) lines
+
+abbrev pub HasAhead : Option Section → List (List ℕ) → Type 0
+HasAhead None lines = Unit {0}
+HasAhead (Some s) lines = IsAhead s lines
+
+-- the same, where the first of the lines has this keyword and these operands
+pub record IsAheadOf (s : Section) (later ws : List (List ℕ)) (k : Keyword) : Type 0 where
+  pub closed : (if ends_section (Some k) then is_end (Some k) else is_closed later) ≡ true
+  pub labels : s.labels ≡ labels_at (thread_of s) later ws k
+
+abbrev pub HasAheadOf : Option Section → List (List ℕ) → List (List ℕ) → Keyword → Type 0
+HasAheadOf None later ws k = Unit {0}
+HasAheadOf (Some s) later ws k = IsAheadOf s later ws k
+
+-- the names of all labels of the open section
+abbrev pub label_names : Option Section → List (List ℕ)
+label_names None = []
+label_names (Some s) = map (λ l. l.name) s.labels
+
+-- the names that a line may use, as the reader has collected them
+abbrev pub names_collected : Reader → Space → List (List ℕ)
+names_collected r Labels = label_names r.section
+names_collected r s = names_before (before_of r) s
+
+abbrev pub is_unknown : Reader → Operand → List ℕ → Bool
+is_unknown r (Known s) w = not (is_among (names_collected r s) w)
+is_unknown r o w = false
+
+-- an operand that fails this test
+abbrev pub fails : Test → Reader → Operand → List ℕ → Bool
+fails test.BadName r o w = is_bad_name o w
+fails test.Twice r o w = is_twice (before_of r) o w
+fails test.Undeclared r o w = is_unknown r o w
+fails test.BadNumber r o w = is_bad_number o w
 
 -- the state behind a line with this cause, where it has none; memory may be wanting
 abbrev pub IsStep : Result Reader Why → Option Why → Before → Type 0
 IsStep (Ok r) cause after = (cause ≡ None) × (before_of r ≡ after)
 IsStep (Err why) cause after = (cause ≡ Some why) ⊎ (why ≡ NoMemory)
 
--- the same for a line with this keyword and these operands, whatever lines follow it
-abbrev pub IsStepAnywhere : Reader → List (List ℕ) → Keyword → Result Reader Why → Type 0
-IsStepAnywhere reader ws k r =
-    (later : List (List ℕ)) → IsStep r (keyword_cause (before_of reader) later ws (Some k)) (behind_keyword (before_of reader) later ws k)
-
--- what these lines declare, where none of them has a cause
-abbrev pub unless_refused : Option Why → Option Before → Option Before
-unless_refused None after = after
-unless_refused (Some why) after = None
-
-abbrev pub behind_lines : Before → List (List ℕ) → Option Before
-behind_lines b [] = Some b
-behind_lines b (line ∷ later) = unless_refused (line_cause b later line) (behind_lines (behind_line b later line) later)
-
--- what the lines of a text declare; memory may be wanting
-abbrev pub IsWhole : Result Reader Why → Option Before → Type 0
-IsWhole (Ok r) after = after ≡ Some (before_of r)
-IsWhole (Err why) after = (after ≡ None) ⊎ (why ≡ NoMemory)
-
--- the cause that is answered: every refusal is answered by `Later` for now, but want of memory
-abbrev pub answered_why : Why → Why
-answered_why NoMemory = NoMemory
-answered_why why = Later
+-- a refusal of the line with this number; want of memory is no line's
+abbrev pub refusal : ℕ → Why → ProgramError
+refusal n NoMemory = record { line = 0; why = NoMemory }
+refusal n why = record { line = n; why = why }

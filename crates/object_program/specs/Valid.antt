@@ -1,7 +1,8 @@
 -- Which programs there are: those whose names, numbers, targets and counts a text may have.
-use Rattle.std.specs.Prelude.{◌≡◌, ℕ, ℤ, pos, negsuc, ◌≤ℤ◌, ◌+◌, ◌<◌, ◌≤◌, ◌==◌, Bool, true, false, List, [], ◌∷◌, length, map, IsTrue}
+use Rattle.std.specs.Prelude.{◌≡◌, ℕ, ◌+◌, ◌<◌, ◌≤◌, ◌==◌, Bool, true, false, List, [], ◌∷◌, length, map, IsTrue}
 use Rattle.std.specs.List.{AllByRecursion, list_any}
 use Rattle.std.specs.Str.{bytes_eq}
+use Rattle.plain_monitor.specs.Numbers.{IsInRange}
 use Rattle.object_program.specs.Name.{is_name}
 use Rattle.object_program.specs.Program.{ProgramText, total_of}
 use Rattle.object_program.specs.declared.program.ObjectDef.{ObjectDef}
@@ -18,10 +19,6 @@ is_among names name = list_any (λ n. bytes_eq n name) names
 abbrev pub AreNames : List (List ℕ) → Type 0
 AreNames [] = Unit {0}
 AreNames (n ∷ ns) = IsTrue (is_name n) × (is_among ns n ≡ false) × AreNames ns
-
--- a value's number: -2^61 to 2^61 - 1
-abbrev pub IsInRange : ℤ → Type 0
-IsInRange z = (negsuc 2305843009213693951 ≤ℤ z) × (z ≤ℤ pos 2305843009213693951)
 
 -- each declaration has a class of these, and stands for at least one object from number n on, an object for one
 abbrev pub AreObjects : ℕ → ℕ → List ObjectDef → Type 0

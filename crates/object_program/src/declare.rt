@@ -1,116 +1,120 @@
-//! Lines outside sections.
+//! What a line outside sections declares, where it has no cause of refusal.
 
-ghost use Rattle.std.specs.Prelude.{◌≡◌, ◌<◌, [], ◌∷◌, ◌++◌, length, false, MatchResult, OnOk};
+ghost use Rattle.std.specs.Prelude.{◌≡◌, ◌<◌, ◌≤◌, ◌+◌, pos, [], ◌∷◌, ◌++◌, length, true, IfOk, option_copied};
+ghost use Rattle.object_program.specs.Name.{is_name};
+ghost use Rattle.object_program.specs.Number.{number_of, is_within};
 ghost use Rattle.object_program.specs.Program.{total_of};
-ghost use Rattle.object_program.specs.Reading.{operand, count_at, declared_objects};
-ghost use Rattle.object_program.specs.Causes.{class_cause, object_cause};
-ghost use Rattle.object_program.specs.Left.{words_in};
-ghost use Rattle.object_program.specs.Steps.{text_of, IsMade};
+ghost use Rattle.object_program.specs.Reading.{operand, count_at, declared_objects, new_thread, labels_ahead};
+ghost use Rattle.object_program.specs.Left.{words_in, lines_ahead, left_length};
+ghost use Rattle.object_program.specs.Steps.{text_of, thread_of};
 
-use crate::error::Why;
-use crate::limits::{CLASSES, OBJECTS, SLOTS};
-use crate::name::Name;
-use crate::number::count_within;
+use crate::directory::Directory;
+use crate::labels::labels_ahead;
+use crate::name::name_of;
+use crate::number::count_of;
 use crate::program::{ClassDef, ObjectDef, ThreadDef};
-use crate::state::Declared;
-use crate::table::place_of;
-use crate::text::two_words;
+use crate::state::{Declared, Section};
+use crate::text::word_at;
+use plain_monitor::NoMemory;
+use std::alloc::Global;
 
-/// The class that a `class` line with these operands declares.
-pub fn class_on(declared: &Declared, operands: &[u8]) -> Result<ClassDef, Why>
-    ensures made { IsMade result (class_cause (text_of declared.now) (words_in operands.now))
-        (record { name = operand (words_in operands.now) 0; slots = count_at (words_in operands.now) 1 }) }
-    ensures room { OnOk result (length declared.now.classes.items < 64) }
+/// With the class of a `class` line with these operands.
+pub fn with_class(declared: Declared, operands: &[u8]) -> Result<Declared, NoMemory>
+    requires name { is_name (operand (words_in operands.now) 0) ≡ true }
+    requires slots { is_within (pos 0) (pos 4096) (number_of (operand (words_in operands.now) 1)) ≡ true }
+    requires room { length declared.classes < 64 }
+    ensures { IfOk result (λ d. text_of d
+        ≡ record (text_of declared) { classes = declared.classes ++ record { name = operand (words_in operands.now) 0; slots = count_at (words_in operands.now) 1 } ∷ [] }) }
 {
-    let Some((first, second)) = two_words(operands) else {
-        return Err(Why::Operands);
-    };
-    let Some(name) = Name::new(first) else {
-        return Err(Why::BadName);
-    };
-    if place_of(&declared.classes, first).is_some() {
-        return Err(Why::Twice);
-    }
-    let Some(slots) = count_within(second, SLOTS) else {
-        return Err(Why::BadNumber);
-    };
-    if declared.classes.len() >= CLASSES {
-        return Err(Why::Limit);
-    }
-    Ok(ClassDef { name, slots })
-}
-
-/// The declaration of an `object` line with these operands.
-pub fn object_on(declared: &Declared, operands: &[u8]) -> Result<ObjectDef, Why>
-    ensures made { IsMade result (object_cause (text_of declared.now) (words_in operands.now))
-        (declared_objects (text_of declared.now) (words_in operands.now) 1 false) }
-    ensures room { OnOk result (total_of declared.now.objects.items < 4096) }
-{
-    let Some((first, second)) = two_words(operands) else {
-        return Err(Why::Operands);
-    };
-    let Some(name) = Name::new(first) else {
-        return Err(Why::BadName);
-    };
-    if Name::new(second).is_none() {
-        return Err(Why::BadName);
-    }
-    if place_of(&declared.objects, first).is_some() {
-        return Err(Why::Twice);
-    }
-    let Some(class) = place_of(&declared.classes, second) else {
-        return Err(Why::Undeclared);
-    };
-    if declared.total >= OBJECTS {
-        return Err(Why::Limit);
-    }
-    Ok(ObjectDef {
-        name,
-        class: class as u32,
-        first: declared.total,
-        size: 1,
-        array: false,
+    let name = name_of(word_at(operands, 0));
+    let slots = count_of(word_at(operands, 1));
+    let Declared {
+        classes,
+        objects,
+        total,
+        threads,
+    } = declared;
+    let classes = classes.with(ClassDef { name, slots })?;
+    Ok(Declared {
+        classes,
+        objects,
+        total,
+        threads,
     })
 }
 
-/// With one more class. Where memory is wanting, `NoMemory`.
-pub fn with_class(mut declared: Declared, class: ClassDef) -> Result<Declared, Why>
-    requires { length declared.classes.items < 64 }
-    ensures { MatchResult result
-        (λ d. text_of d ≡ record (text_of declared) { classes = declared.classes.items ++ class ∷ [] })
-        (λ why. why ≡ Why.NoMemory) }
+/// With the objects of an `object` or an `array` line with these operands, as many as `size`.
+pub fn with_objects(
+    declared: Declared,
+    operands: &[u8],
+    size: u32,
+    array: bool,
+) -> Result<Declared, NoMemory>
+    requires name { is_name (operand (words_in operands.now) 0) ≡ true }
+    requires some { 1 ≤ size }
+    requires room { total_of declared.objects + size ≤ 4096 }
+    ensures { IfOk result (λ d. text_of d
+        ≡ record (text_of declared) { objects = declared.objects ++ declared_objects (text_of declared) (words_in operands.now) size array ∷ [] }) }
 {
-    match declared.classes.push(class) {
-        Ok(()) => Ok(declared),
-        Err(_) => Err(Why::NoMemory),
-    }
+    let name = name_of(word_at(operands, 0));
+    let class = declared.classes.number_of(word_at(operands, 1));
+    let Declared {
+        classes,
+        objects,
+        total,
+        threads,
+    } = declared;
+    let objects = objects.with(ObjectDef {
+        name,
+        class,
+        first: total,
+        size,
+        array,
+    })?;
+    Ok(Declared {
+        classes,
+        objects,
+        total: total + size,
+        threads,
+    })
 }
 
-/// With one more declaration of objects. Where memory is wanting, `NoMemory`.
-pub fn with_object(mut declared: Declared, object: ObjectDef) -> Result<Declared, Why>
-    requires size { object.size ≡ 1 }
-    requires room { total_of declared.objects.items < 4096 }
-    ensures { MatchResult result
-        (λ d. text_of d ≡ record (text_of declared) { objects = declared.objects.items ++ object ∷ [] })
-        (λ why. why ≡ Why.NoMemory) }
+/// With one more thread.
+pub fn with_thread(declared: Declared, thread: ThreadDef) -> Result<Declared, NoMemory>
+    ensures { IfOk result (λ d. text_of d ≡ record (text_of declared) { threads = declared.threads ++ thread ∷ [] }) }
 {
-    match declared.objects.push(object) {
-        Ok(()) => {
-            declared.total += 1;
-            Ok(declared)
-        }
-        Err(_) => Err(Why::NoMemory),
-    }
+    let Declared {
+        classes,
+        objects,
+        total,
+        threads,
+    } = declared;
+    let threads = threads.with(thread)?;
+    Ok(Declared {
+        classes,
+        objects,
+        total,
+        threads,
+    })
 }
 
-/// With one more thread. Where memory is wanting, `NoMemory`.
-pub fn with_thread(mut declared: Declared, thread: ThreadDef) -> Result<Declared, Why>
-    ensures { MatchResult result
-        (λ d. text_of d ≡ record (text_of declared) { threads = declared.threads.items ++ thread ∷ [] })
-        (λ why. why ≡ Why.NoMemory) }
+/// The section that a `thread` line with these operands opens, with these lines behind it. They have at most 1,048,576 bytes.
+pub fn new_section(
+    alloc: Global,
+    operands: &[u8],
+    later: Option<&[u8]>,
+) -> Result<Section, NoMemory>
+    requires name { is_name (operand (words_in operands.now) 0) ≡ true }
+    requires few { left_length (option_copied later) ≤ 1048577 }
+    ensures thread { IfOk result (λ s. thread_of s ≡ new_thread (operand (words_in operands.now) 0)) }
+    ensures labels { IfOk result (λ s. s.labels ≡ labels_ahead 1 (lines_ahead (option_copied later.entry))) }
 {
-    match declared.threads.push(thread) {
-        Ok(()) => Ok(declared),
-        Err(_) => Err(Why::NoMemory),
-    }
+    let labels = labels_ahead(alloc, later)?;
+    Ok(Section {
+        name: name_of(word_at(operands, 0)),
+        locals: Directory::new(alloc),
+        labels,
+        declared: 0,
+        code: Vec::new(alloc),
+    })
 }

@@ -1,6 +1,9 @@
 //! Why a text has no program.
 
-/// The cause of a refusal. `specs/Refusal.antt` says of each where it comes.
+use thiserror::Error;
+
+/// The cause of a refusal, numbered from 1 in this order: of the causes that a line has, the lowest-numbered is named.
+/// `specs/Refusal.antt` says of each where it comes.
 #[derive(Clone, Copy, Debug, PartialEq, Eq)]
 pub enum Why {
     /// The line has a byte that is neither a tab nor printing ASCII.
@@ -23,14 +26,15 @@ pub enum Why {
     NoThread,
     /// The section of this `thread` line isn't closed by `end`.
     NoEnd,
-    /// The text has forms that aren't built, or is refused. Its line is 0.
+    /// A form that isn't built. No text has this cause any more; it stands here so that the causes keep their numbers.
     Later,
     /// Memory is wanting. Its line is 0.
     NoMemory,
 }
 
 /// A refusal of a text: the number of the line, from 1, or 0 for the text as a whole, and the cause.
-#[derive(Clone, Copy, Debug, PartialEq, Eq)]
+#[derive(Clone, Copy, Debug, PartialEq, Eq, Error)]
+#[error("line {line}: {why:?}")]
 pub struct ProgramError {
     pub line: u32,
     pub why: Why,

@@ -1,28 +1,32 @@
-//! The text of object programs: what a program is, and the reader of its text.
+//! The text of object programs: what a program is, the reader of its text, and its canonical text.
 //!
-//! `specs/` has the language whole: the program that a text has, and the line and the cause of each refusal. The reader is
-//! built for some of its forms (`specs/Built.antt`), and answers `Later` for all others.
+//! `specs/` has the language: the program that a text has, the line and the cause of each refusal, and the text that a program
+//! is written as.
 #![tactic(auto)]
 
-mod built;
+mod cause;
 mod declare;
+mod directory;
 mod error;
 mod keyword;
+mod labels;
+mod laws;
 mod limits;
 mod name;
 mod number;
+mod operand;
 mod program;
 mod reader;
 mod section;
 mod shape;
 mod spelling;
 mod state;
-mod table;
-#[cfg(test)]
-mod tests;
 mod text;
+mod write;
 
 pub use error::{ProgramError, Why};
+pub use laws::canonical_texts_are_read_back;
 pub use name::Name;
 pub use program::{ClassDef, Code, LabelDef, ObjectDef, Program, ThreadDef};
 pub use reader::read_program;
+pub use write::write_program;

@@ -1,10 +1,12 @@
 //! Numbers.
 
-ghost use Rattle.std.specs.Prelude.{◌≡◌, ◌≤◌, ℤ, ℕ, pos, negsuc, nat_abs, ◌≤ℤ◌, int_le, ◌&&◌, Some, None, true, false, option_map, unwrap_or, MatchOption};
+ghost use Rattle.std.specs.Prelude.{◌≡◌, ◌≤◌, ℤ, ℕ, pos, nat_abs, ◌≤ℤ◌, int_le, ◌&&◌, Some, None, true, false, option_map, unwrap_or, MatchOption};
+ghost use Rattle.plain_monitor.specs.Numbers.{least_number, greatest_number};
 ghost use Rattle.object_program.specs.Number.{digits_of, number_of, is_within};
 ghost use Rattle.object_program.specs.Signs.{signed, has_size};
 
 use crate::name::is_digit;
+use plain_monitor::Value;
 
 /// The number of 1 to 19 digits; zeros may lead.
 #[tactic(auto, using(crate::proofs::Numbers::digit_step, crate::proofs::Numbers::digit_bounds, crate::proofs::Numbers::digits_fit, crate::proofs::Numbers::more_digits))]
@@ -40,53 +42,53 @@ fn sign_and_size(word: &[u8]) -> Option<(bool, u64)>
 }
 
 /// The number with this sign and size.
-fn signed(negative: bool, size: u64) -> i64
-    requires { size ≤ 2305843009213693952 }
+fn signed(negative: bool, size: u64) -> i128
     ensures { result ≡ signed negative size }
 {
-    if negative {
-        -(size as i64)
-    } else {
-        size as i64
-    }
+    let size = i128::from(size);
+    if negative { -size } else { size }
 }
 
 /// Whether the number is from `low` to `high`.
-fn is_between(number: i64, low: i64, high: i64) -> bool
+fn is_between(number: i128, low: i64, high: i64) -> bool
     ensures { result ≡ (int_le low number && int_le number high) }
 {
-    low <= number && number <= high
+    i128::from(low) <= number && number <= i128::from(high)
 }
 
-/// The number from `low` to `high` that the word is, if it is one. `low` is -2^61 at least, `high` is at most 2^61 - 1.
-#[tactic(auto, using(crate::proofs::Numbers::too_large))]
+/// The number from `low` to `high` that the word is, if it is one.
 pub fn number_within(word: &[u8], low: i64, high: i64) -> Option<i64>
-    requires low { negsuc 2305843009213693951 ≤ℤ low }
-    requires high { high ≤ℤ pos 2305843009213693951 }
     ensures { MatchOption result (is_within low high (number_of word.now) ≡ false)
         (λ z. (is_within low high (number_of word.now) ≡ true) × (number_of word.now ≡ Some z)) }
 {
     let Some((negative, size)) = sign_and_size(word) else {
         return None;
     };
-    if size > 2305843009213693952 {
-        return None;
-    }
     let number = signed(negative, size);
     if is_between(number, low, high) {
-        Some(number)
+        Some(number as i64)
     } else {
         None
     }
 }
 
-/// The number from 0 to `most` that the word is, if it is one.
-pub fn count_within(word: &[u8], most: u32) -> Option<u32>
-    ensures { MatchOption result (is_within (pos 0) (pos most) (number_of word.now) ≡ false)
-        (λ n. (is_within (pos 0) (pos most) (number_of word.now) ≡ true) × (n ≡ nat_abs (unwrap_or (number_of word.now) (pos 0)))) }
+/// The number that the word is, where that is from -2^61 to 2^61 - 1; else 0.
+pub fn number_of(word: &[u8]) -> i64
+    ensures { is_within least_number greatest_number (number_of word.now) ≡ true → number_of word.now ≡ Some result }
 {
-    let Some(number) = number_within(word, 0, i64::from(most)) else {
-        return None;
-    };
-    Some(number as u32)
+    match number_within(word, Value::LEAST, Value::GREATEST) {
+        Some(number) => number,
+        None => 0,
+    }
+}
+
+/// The number that the word is, where that is from 0 to 4,096, more than which nothing in a text counts; else 0.
+pub fn count_of(word: &[u8]) -> u32
+    ensures count { is_within (pos 0) (pos 4096) (number_of word.now) ≡ true → result ≡ nat_abs (unwrap_or (number_of word.now) (pos 0)) }
+    ensures few { result ≤ 4096 }
+{
+    match number_within(word, 0, 4096) {
+        Some(number) => number as u32,
+        None => 0,
+    }
 }

@@ -1,154 +1,112 @@
-//! The reader of programs.
+//! The reader of programs: a pass over the lines, which looks ahead once at each `thread` line.
 
-ghost use Rattle.std.specs.Prelude.{◌≡◌, ◌⊎◌, ◌≤◌, [], length, Option, Some, None, Ok, true, false, map, MatchResult, OnOk, IfOk, IfErr, IsTrue, option_copied};
-ghost use Rattle.std.specs.List.{list_all};
-ghost use Rattle.object_program.specs.Text.{raw_lines, words_of};
-ghost use Rattle.object_program.specs.Reading.{nothing, first_keyword, operand, instruction_on, behind_keyword, behind_line, section_behind};
-ghost use Rattle.object_program.specs.Refusal.{keyword_cause, line_cause, program_of, lines_of};
-ghost use Rattle.object_program.specs.Left.{words_in, lines_ahead};
-ghost use Rattle.object_program.specs.Steps.{before_of, text_of, thread_of, with_instruction, with_local, IsStep, IsStepAnywhere, behind_lines, IsWhole, answered_why};
-ghost use Rattle.object_program.specs.Built.{is_built, is_read, is_built_keyword, is_built_line, has_built_keyword, is_built_program};
-ghost use Rattle.object_program.specs.Line.{is_instruction};
-ghost use Rattle.object_program.specs.Causes.{class_cause, object_cause, thread_cause, local_cause, instruction_cause};
+ghost use Rattle.std.specs.Prelude.{◌≡◌, ◌⊎◌, ◌≤◌, ◌∷◌, true, length, Some, None, Ok, Err, IfOk, IfErr, option_copied};
+ghost use Rattle.object_program.specs.Line.{is_outside};
+ghost use Rattle.object_program.specs.Reading.{nothing, behind_keyword, behind_line};
+ghost use Rattle.object_program.specs.Refusal.{keyword_cause, line_cause, read_from, program_of, lines_of};
+ghost use Rattle.object_program.specs.Left.{words_in, lines_ahead, left_length};
+ghost use Rattle.object_program.specs.Steps.{before_of, text_of, HasAhead, HasAheadOf, IsStep, refusal};
+ghost use Rattle.object_program.specs.Canonical.{canonical};
 ghost use Rattle.object_program.specs.Valid.{IsProgram};
-ghost use Rattle.object_program.specs.declared.keyword.Keyword.TheVariants.{Class, Object, Thread, Local};
-ghost use Rattle.object_program.specs.declared.error.Why.TheVariants.{Later, NoMemory};
 
-use crate::built::is_built;
-use crate::declare::{class_on, object_on, with_class, with_object, with_thread};
+use crate::cause::keyword_cause;
+use crate::declare::{new_section, with_class, with_objects, with_thread};
+use crate::directory::Directory;
 use crate::error::{ProgramError, Why};
 use crate::keyword::Keyword;
+use crate::laws::canonical_texts_are_read_back;
 use crate::limits::BYTES;
-use crate::program::Program;
-use crate::section::{
-    closed, instruction_on, local_on, new_section, thread_on, with_code, with_local,
-};
-use crate::spelling::keyword_of;
-use crate::state::{Declared, Reader, Section};
-use crate::text::{drop_return, is_text, next_line, next_word, without_comment};
-use plain_monitor::List;
+use crate::number::count_of;
+use crate::program::{Code, Program};
+use crate::section::{closed, instruction_on, with_code, with_label, with_local};
+use crate::spelling::{is_outside, keyword_of};
+use crate::state::{Declared, Reader};
+use crate::text::{drop_return, is_text, next_line, next_word, without_comment, word_at};
+use plain_monitor::{List, NoMemory};
 use std::alloc::Global;
 
-/// A `class` line with these operands.
-fn class_line(reader: Reader, operands: &[u8]) -> Result<Reader, Why>
-    ensures { IsStep result (class_cause (text_of reader.declared) (words_in operands.now)) (behind_keyword (before_of reader) [] (words_in operands.now) Class) }
-{
-    let class = class_on(&reader.declared, operands)?;
-    let Reader { declared, section } = reader;
-    let declared = with_class(declared, class)?;
-    Ok(Reader { declared, section })
-}
-
-/// An `object` line with these operands.
-fn object_line(reader: Reader, operands: &[u8]) -> Result<Reader, Why>
-    ensures { IsStep result (object_cause (text_of reader.declared) (words_in operands.now)) (behind_keyword (before_of reader) [] (words_in operands.now) Object) }
-{
-    let object = object_on(&reader.declared, operands)?;
-    let Reader { declared, section } = reader;
-    let declared = with_object(declared, object)?;
-    Ok(Reader { declared, section })
-}
-
-/// A `thread` line with these operands, with these lines behind it.
-fn thread_line(
+/// What a line without a cause leaves, which has this keyword and these operands, with these lines behind it.
+fn behind_keyword(
     alloc: Global,
     reader: Reader,
+    keyword: Keyword,
     operands: &[u8],
     later: Option<&[u8]>,
-) -> Result<Reader, Why>
-    ensures { IsStep result (thread_cause (text_of reader.declared) (lines_ahead (option_copied later.entry)) (words_in operands.now)) (behind_keyword (before_of reader) [] (words_in operands.now) Thread) }
+) -> Result<Reader, NoMemory>
+    requires clean { keyword_cause (before_of reader) (lines_ahead (option_copied later)) (words_in operands.now) (Some keyword) ≡ None }
+    requires ahead { HasAheadOf reader.section (lines_ahead (option_copied later)) (words_in operands.now) keyword }
+    requires few { left_length (option_copied later) ≤ 1048577 }
+    ensures behind { IfOk result (λ r. before_of r ≡ behind_keyword (before_of reader) (lines_ahead (option_copied later.entry)) (words_in operands.now) keyword) }
+    ensures ahead { IfOk result (λ r. HasAhead r.section (lines_ahead (option_copied later.entry))) }
 {
-    let name = thread_on(&reader.declared, operands, later)?;
-    let Reader {
-        declared,
-        section: _,
-    } = reader;
-    let section = Some(new_section(alloc, name));
-    Ok(Reader { declared, section })
-}
-
-/// A `local` line with these operands.
-fn local_line(reader: Reader, operands: &[u8]) -> Result<Reader, Why>
-    ensures { IsStepAnywhere reader (words_in operands.now) Local result }
-{
+    if is_outside(keyword) {
+        return behind_declaration(alloc, reader, keyword, operands, later);
+    }
     let Reader { declared, section } = reader;
-    match section {
-        None => Err(Why::UnknownWord),
-        Some(section) => section_local(declared, section, operands),
+    let Some(section) = section else {
+        unreachable!()
+    };
+    match keyword {
+        Keyword::Local => Ok(Reader {
+            declared,
+            section: Some(with_local(section, operands)?),
+        }),
+        Keyword::Label => Ok(Reader {
+            declared,
+            section: Some(with_label(section)),
+        }),
+        Keyword::End => Ok(Reader {
+            declared: with_thread(declared, closed(with_code(section, Code::End)?))?,
+            section: None,
+        }),
+        keyword => {
+            let code = instruction_on(&declared, &section, keyword, operands);
+            Ok(Reader {
+                declared,
+                section: Some(with_code(section, code)?),
+            })
+        }
     }
 }
 
-/// A local of the open section.
-fn section_local(declared: Declared, section: Section, operands: &[u8]) -> Result<Reader, Why>
-    ensures { IsStep result (local_cause (thread_of section) (words_in operands.now))
-        (record { text = text_of declared; section = Some (with_local (thread_of section) (operand (words_in operands.now) 0)) }) }
-{
-    let name = local_on(&section, operands)?;
-    let section = Some(with_local(section, name)?);
-    Ok(Reader { declared, section })
-}
-
-/// A line with an instruction.
-fn instruction_line(
+/// What a line without a cause leaves that stands outside sections.
+fn behind_declaration(
     alloc: Global,
     reader: Reader,
     keyword: Keyword,
     operands: &[u8],
-) -> Result<Reader, Why>
-    requires built { is_built_keyword keyword ≡ true }
-    requires instruction { is_instruction keyword ≡ true }
-    ensures { IsStepAnywhere reader (words_in operands.now) keyword result }
+    later: Option<&[u8]>,
+) -> Result<Reader, NoMemory>
+    requires outside { is_outside keyword ≡ true }
+    requires clean { keyword_cause (before_of reader) (lines_ahead (option_copied later)) (words_in operands.now) (Some keyword) ≡ None }
+    requires ahead { HasAheadOf reader.section (lines_ahead (option_copied later)) (words_in operands.now) keyword }
+    requires few { left_length (option_copied later) ≤ 1048577 }
+    ensures behind { IfOk result (λ r. before_of r ≡ behind_keyword (before_of reader) (lines_ahead (option_copied later.entry)) (words_in operands.now) keyword) }
+    ensures ahead { IfOk result (λ r. HasAhead r.section (lines_ahead (option_copied later.entry))) }
 {
     let Reader { declared, section } = reader;
-    match section {
-        None => Err(Why::UnknownWord),
-        Some(section) => section_instruction(alloc, declared, section, keyword, operands),
-    }
-}
-
-/// An instruction of the open section.
-fn section_instruction(
-    alloc: Global,
-    declared: Declared,
-    section: Section,
-    keyword: Keyword,
-    operands: &[u8],
-) -> Result<Reader, Why>
-    requires built { is_built_keyword keyword ≡ true }
-    requires instruction { is_instruction keyword ≡ true }
-    ensures { IsStep result (instruction_cause (text_of declared) (thread_of section) (words_in operands.now) keyword)
-        (section_behind (text_of declared) (with_instruction (thread_of section) (instruction_on (text_of declared) (thread_of section) [] (words_in operands.now) keyword)) keyword) }
-{
-    let code = instruction_on(&declared, &section, keyword, operands)?;
-    let section = with_code(section, code)?;
-    behind_instruction(alloc, declared, section, keyword)
-}
-
-/// The state behind an instruction; `end` closes the section.
-fn behind_instruction(
-    alloc: Global,
-    declared: Declared,
-    section: Section,
-    keyword: Keyword,
-) -> Result<Reader, Why>
-    ensures { MatchResult result (λ r. before_of r ≡ section_behind (text_of declared) (thread_of section) keyword) (λ why. why ≡ NoMemory) }
-{
     match keyword {
-        Keyword::End => {
-            let declared = with_thread(declared, closed(alloc, section))?;
-            Ok(Reader {
-                declared,
-                section: None,
-            })
-        }
-        _ => Ok(Reader {
-            declared,
-            section: Some(section),
+        Keyword::Class => Ok(Reader {
+            declared: with_class(declared, operands)?,
+            section,
         }),
+        Keyword::Object => Ok(Reader {
+            declared: with_objects(declared, operands, 1, false)?,
+            section,
+        }),
+        Keyword::Array => Ok(Reader {
+            declared: with_objects(declared, operands, count_of(word_at(operands, 2)), true)?,
+            section,
+        }),
+        Keyword::Thread => Ok(Reader {
+            declared,
+            section: Some(new_section(alloc, operands, later)?),
+        }),
+        _ => unreachable!(),
     }
 }
 
-/// A line with this keyword and these operands.
+/// A line with this keyword and these operands, with these lines behind it.
 fn keyword_line(
     alloc: Global,
     reader: Reader,
@@ -156,15 +114,17 @@ fn keyword_line(
     operands: &[u8],
     later: Option<&[u8]>,
 ) -> Result<Reader, Why>
-    requires { is_built_keyword keyword ≡ true }
-    ensures { IsStep result (keyword_cause (before_of reader) (lines_ahead (option_copied later.entry)) (words_in operands.now) (Some keyword)) (behind_keyword (before_of reader) (lines_ahead (option_copied later.entry)) (words_in operands.now) keyword) }
+    requires ahead { HasAheadOf reader.section (lines_ahead (option_copied later)) (words_in operands.now) keyword }
+    requires few { left_length (option_copied later) ≤ 1048577 }
+    ensures step { IsStep result (keyword_cause (before_of reader) (lines_ahead (option_copied later.entry)) (words_in operands.now) (Some keyword)) (behind_keyword (before_of reader) (lines_ahead (option_copied later.entry)) (words_in operands.now) keyword) }
+    ensures ahead { IfOk result (λ r. HasAhead r.section (lines_ahead (option_copied later.entry))) }
 {
-    match keyword {
-        Keyword::Class => class_line(reader, operands),
-        Keyword::Object => object_line(reader, operands),
-        Keyword::Thread => thread_line(alloc, reader, operands, later),
-        Keyword::Local => local_line(reader, operands),
-        _ => instruction_line(alloc, reader, keyword, operands),
+    if let Some(why) = keyword_cause(&reader, keyword, operands, later) {
+        return Err(why);
+    }
+    match behind_keyword(alloc, reader, keyword, operands, later) {
+        Ok(reader) => Ok(reader),
+        Err(NoMemory) => Err(Why::NoMemory),
     }
 }
 
@@ -175,8 +135,10 @@ fn read_line(
     line: &[u8],
     later: Option<&[u8]>,
 ) -> Result<Reader, Why>
-    requires { has_built_keyword (words_of line.now) (first_keyword (words_of line.now)) ≡ true }
-    ensures { IsStep result (line_cause (before_of reader) (lines_ahead (option_copied later.entry)) line.now) (behind_line (before_of reader) (lines_ahead (option_copied later.entry)) line.now) }
+    requires ahead { HasAhead reader.section (line.now ∷ lines_ahead (option_copied later)) }
+    requires few { left_length (option_copied later) ≤ 1048577 }
+    ensures step { IsStep result (line_cause (before_of reader) (lines_ahead (option_copied later.entry)) line.now) (behind_line (before_of reader) (lines_ahead (option_copied later.entry)) line.now) }
+    ensures ahead { IfOk result (λ r. HasAhead r.section (lines_ahead (option_copied later.entry))) }
 {
     if !is_text(line) {
         return Err(Why::NotAscii);
@@ -192,66 +154,80 @@ fn read_line(
 
 /// The state before the first line.
 fn new_reader(alloc: Global) -> Reader
-    ensures { before_of result ≡ nothing }
+    ensures before { before_of result ≡ nothing }
+    ensures section { result.section ≡ None }
 {
     Reader {
         declared: Declared {
-            classes: Vec::new(alloc),
-            objects: Vec::new(alloc),
+            classes: Directory::new(alloc),
+            objects: Directory::new(alloc),
             total: 0,
-            threads: Vec::new(alloc),
+            threads: Directory::new(alloc),
         },
         section: None,
     }
 }
 
-/// All lines of a text.
-fn read_lines(alloc: Global, bytes: &[u8]) -> Result<Reader, Why>
-    requires { list_all is_built_line (raw_lines bytes.now) ≡ true }
-    ensures { IsWhole result (behind_lines nothing (lines_of bytes.now)) }
+/// All lines of a text of at most 1,048,576 bytes.
+///
+/// # Errors
+///
+/// The first line that has a cause, with its lowest-numbered cause. `NoMemory` at line 0 where an allocation fails.
+fn read_lines(alloc: Global, bytes: &[u8]) -> Result<Reader, ProgramError>
+    requires { length bytes.now ≤ 1048576 }
+    ensures ok { IfOk result (λ r. read_from 1 nothing (lines_of bytes.now) ≡ Ok (before_of r)) }
+    ensures err { IfErr result (λ e. (read_from 1 nothing (lines_of bytes.now) ≡ Err e) ⊎ (e ≡ record { line = 0; why = Why.NoMemory })) }
 {
     let mut reader = new_reader(alloc);
+    let mut number = 1;
     let mut left = Some(bytes);
     'lines: while let Some(text) = left {
         let (line, later) = next_line(text);
-        reader = read_line(alloc, reader, drop_return(line), later)?;
+        match read_line(alloc, reader, drop_return(line), later) {
+            Ok(next) => reader = next,
+            Err(why) => return Err(refusal(number, why)),
+        }
+        number += 1;
         left = later;
     }
     Ok(reader)
 }
 
-/// Reads the program that a text has (`specs/Refusal.antt`), if its forms are built (`specs/Built.antt`).
+/// Reads the program that a text has (`specs/Refusal.antt`).
 ///
 /// # Errors
 ///
-/// `Later` at line 0 where the text has forms that aren't built, or is refused. `NoMemory` at line 0 where an allocation
-/// fails, whatever the text. Nothing is kept.
+/// `Limit` at line 0 where the text has more than 1,048,576 bytes. Else the first line that has a cause of refusal, lines
+/// counted from 1, with its lowest-numbered cause, as `Why` numbers them. Else `NoThread` at line 0 where no line opens a
+/// section. `NoMemory` at line 0 where an allocation fails, whatever the text. Nothing is kept.
+///
+/// The canonical text of the program is read as the same program, unless it is too long for a text.
 pub fn read_program(alloc: Global, bytes: &[u8]) -> Result<Program, ProgramError>
     ensures ok { IfOk result (λ p. program_of bytes.now ≡ Ok p) }
-    ensures built { OnOk result (IsTrue (is_built bytes.now)) }
-    ensures code { IfOk result (λ p. IsTrue (is_built_program p)) }
-    ensures err { IfErr result (λ e. ((e ≡ record { line = 0; why = Later }) × (is_read bytes.now ≡ false)) ⊎ (e ≡ record { line = 0; why = NoMemory })) }
+    ensures err { IfErr result (λ e. (program_of bytes.now ≡ Err e) ⊎ (e ≡ record { line = 0; why = Why.NoMemory })) }
+    ensures again { IfOk result (λ p. length (canonical p) ≤ 1048576 → program_of (canonical p) ≡ Ok p) }
 {
-    if bytes.len() > BYTES || !is_built(bytes) {
-        return Err(of_text(Why::Later));
+    canonical_texts_are_read_back();
+    if bytes.len() > BYTES {
+        return Err(of_text(Why::Limit));
     }
-    let reader = match read_lines(alloc, bytes) {
-        Ok(reader) => reader,
-        Err(why) => return Err(of_text(answered_why(why))),
-    };
-    if reader.declared.threads.as_slice().is_empty() {
-        return Err(of_text(Why::Later));
+    let Reader {
+        declared,
+        section: _,
+    } = read_lines(alloc, bytes)?;
+    if declared.threads.items().is_empty() {
+        return Err(of_text(Why::NoThread));
     }
-    Ok(program(reader.declared))
+    Ok(program(declared))
 }
 
-/// The cause that is answered: every refusal is answered by `Later` for now, but want of memory.
-fn answered_why(why: Why) -> Why
-    ensures { result ≡ answered_why why }
+/// A refusal of the line with this number. Want of memory is no line's.
+fn refusal(line: u32, why: Why) -> ProgramError
+    ensures { result ≡ refusal line why }
 {
     match why {
-        Why::NoMemory => Why::NoMemory,
-        _ => Why::Later,
+        Why::NoMemory => of_text(Why::NoMemory),
+        why => ProgramError { line, why },
     }
 }
 
@@ -274,8 +250,8 @@ fn program(declared: Declared) -> Program
         threads,
     } = declared;
     Program {
-        classes: List::of(classes),
-        objects: List::of(objects),
-        threads: List::of(threads),
+        classes: List::of(classes.into_items()),
+        objects: List::of(objects.into_items()),
+        threads: List::of(threads.into_items()),
     }
 }

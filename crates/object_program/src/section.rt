@@ -1,172 +1,43 @@
-//! Lines of sections.
+//! What a line of a section stands for, where it has no cause of refusal.
 
-ghost use Rattle.std.specs.Prelude.{◌≡◌, ◌<◌, [], ◌∷◌, ◌++◌, length, Some, None, true, not, if◌then◌else◌, MatchResult, OnOk, option_copied};
+ghost use Rattle.std.specs.Prelude.{◌≡◌, ◌<◌, ◌==◌, ℕ, List, [], ◌∷◌, ◌++◌, ◌+◌, take, length, true, false, IfOk};
 ghost use Rattle.object_program.specs.Name.{is_name};
-ghost use Rattle.object_program.specs.Valid.{is_among};
-ghost use Rattle.object_program.specs.Reading.{operand, new_thread, instruction_on, number_among, local_at, object_at, number_at};
-ghost use Rattle.object_program.specs.Refusal.{is_closed};
-ghost use Rattle.object_program.specs.Left.{words_in, lines_ahead};
-ghost use Rattle.object_program.specs.Steps.{text_of, thread_of, IsMade};
-ghost use Rattle.object_program.specs.Causes.{thread_cause, local_cause, lock_cause, set_cause, ref_cause, end_cause, instruction_cause};
-ghost use Rattle.object_program.specs.Built.{is_built_keyword};
-ghost use Rattle.object_program.specs.Line.{is_instruction};
-ghost use Rattle.object_program.specs.declared.error.Why.TheVariants.{BadName, Undeclared};
+ghost use Rattle.object_program.specs.Line.{is_instruction, operands_of};
+ghost use Rattle.object_program.specs.Reading.{operand, local_at, object_at, target_among, instruction_on};
+ghost use Rattle.object_program.specs.Refusal.{is_bad_number, some_operand};
+ghost use Rattle.object_program.specs.Left.{words_in};
+ghost use Rattle.object_program.specs.Steps.{text_of, thread_of, IsAheadOf};
 
-use crate::error::Why;
 use crate::keyword::Keyword;
-use crate::limits::{CODE, GREATEST, LEAST, LOCALS, THREADS};
-use crate::name::Name;
-use crate::number::number_within;
+use crate::name::name_of;
+use crate::number::{count_of, number_of};
 use crate::program::{Code, ThreadDef};
-use crate::spelling::{ends_section, first_keyword, is_end};
 use crate::state::{Declared, Section};
-use crate::table::place_of;
-use crate::text::{drop_return, has_no_word, next_line, one_word, two_words};
-use plain_monitor::List;
-use std::alloc::Global;
+use crate::text::word_at;
+use plain_monitor::{List, NoMemory};
 
-/// Whether the section that these lines begin with is closed by its `end`.
-pub fn is_closed(lines: Option<&[u8]>) -> bool
-    ensures { result ≡ is_closed (lines_ahead (option_copied lines.entry)) }
+/// The number of the local that operand `i` names.
+fn local_at(section: &Section, operands: &[u8], i: usize) -> u32
+    ensures { result ≡ local_at (thread_of section.now) (words_in operands.now) i }
 {
-    let mut left = lines;
-    'lines: while let Some(text) = left {
-        let (line, rest) = next_line(text);
-        let keyword = first_keyword(drop_return(line));
-        if ends_section(keyword) {
-            return is_end(keyword);
-        }
-        left = rest;
-    }
-    false
+    section.locals.number_of(word_at(operands, i))
 }
 
-/// The name of the section that a `thread` line with these operands opens.
-pub fn thread_on(declared: &Declared, operands: &[u8], later: Option<&[u8]>) -> Result<Name, Why>
-    ensures { IsMade result (thread_cause (text_of declared.now) (lines_ahead (option_copied later.entry)) (words_in operands.now)) (operand (words_in operands.now) 0) }
+/// The number of the declaration of objects that operand `i` names.
+fn object_at(declared: &Declared, operands: &[u8], i: usize) -> u32
+    ensures { result ≡ object_at (text_of declared.now) (words_in operands.now) i }
 {
-    let Some(first) = one_word(operands) else {
-        return Err(Why::Operands);
-    };
-    let Some(name) = Name::new(first) else {
-        return Err(Why::BadName);
-    };
-    if place_of(&declared.threads, first).is_some() {
-        return Err(Why::Twice);
-    }
-    if declared.threads.len() >= THREADS {
-        return Err(Why::Limit);
-    }
-    if !is_closed(later) {
-        return Err(Why::NoEnd);
-    }
-    Ok(name)
+    declared.objects.number_of(word_at(operands, i))
 }
 
-/// The name that a `local` line with these operands declares.
-pub fn local_on(section: &Section, operands: &[u8]) -> Result<Name, Why>
-    ensures made { IsMade result (local_cause (thread_of section.now) (words_in operands.now)) (operand (words_in operands.now) 0) }
-    ensures room { OnOk result (length section.now.locals.items < 32) }
+/// The number of the instruction that operand `i` names by its label; 0 where the section has no such label.
+fn target_at(section: &Section, operands: &[u8], i: usize) -> u32
+    ensures { result ≡ target_among section.now.labels (operand (words_in operands.now) i) }
 {
-    let Some(first) = one_word(operands) else {
-        return Err(Why::Operands);
-    };
-    let Some(name) = Name::new(first) else {
-        return Err(Why::BadName);
-    };
-    if place_of(&section.locals, first).is_some() {
-        return Err(Why::Twice);
+    match section.labels.place_of(word_at(operands, i)) {
+        Some(place) => section.labels.items()[place].index,
+        None => 0,
     }
-    if section.locals.len() >= LOCALS {
-        return Err(Why::Limit);
-    }
-    Ok(name)
-}
-
-/// The number of the local that this operand names.
-fn local_number(section: &Section, word: &[u8]) -> Result<u32, Why>
-    ensures { IsMade result
-        (if not (is_name word.now) then Some BadName else if not (is_among section.now.locals.items word.now) then Some Undeclared else None)
-        (number_among section.now.locals.items word.now) }
-{
-    if Name::new(word).is_none() {
-        return Err(Why::BadName);
-    }
-    match place_of(&section.locals, word) {
-        None => Err(Why::Undeclared),
-        Some(place) => Ok(place as u32),
-    }
-}
-
-/// The only local that these operands name, where there is room for an instruction.
-fn only_local(section: &Section, operands: &[u8]) -> Result<u32, Why>
-    ensures { IsMade result (lock_cause (thread_of section.now) (words_in operands.now)) (local_at (thread_of section.now) (words_in operands.now) 0) }
-{
-    let Some(word) = one_word(operands) else {
-        return Err(Why::Operands);
-    };
-    let x = local_number(section, word)?;
-    if section.code.len() >= CODE {
-        return Err(Why::Limit);
-    }
-    Ok(x)
-}
-
-/// The instruction of a `set` line with these operands.
-fn set_on(section: &Section, operands: &[u8]) -> Result<Code, Why>
-    ensures { IsMade result (set_cause (thread_of section.now) (words_in operands.now))
-        (Code.Set (local_at (thread_of section.now) (words_in operands.now) 0) (number_at (words_in operands.now) 1)) }
-{
-    let Some((first, second)) = two_words(operands) else {
-        return Err(Why::Operands);
-    };
-    let x = local_number(section, first)?;
-    let Some(v) = number_within(second, LEAST, GREATEST) else {
-        return Err(Why::BadNumber);
-    };
-    if section.code.len() >= CODE {
-        return Err(Why::Limit);
-    }
-    Ok(Code::Set { x, v })
-}
-
-/// The instruction of a `ref` line with these operands.
-fn ref_on(declared: &Declared, section: &Section, operands: &[u8]) -> Result<Code, Why>
-    ensures { IsMade result (ref_cause (text_of declared.now) (thread_of section.now) (words_in operands.now))
-        (Code.Ref (local_at (thread_of section.now) (words_in operands.now) 0) (object_at (text_of declared.now) (words_in operands.now) 1)) }
-{
-    let Some((first, second)) = two_words(operands) else {
-        return Err(Why::Operands);
-    };
-    if Name::new(first).is_none() || Name::new(second).is_none() {
-        return Err(Why::BadName);
-    }
-    let Some(x) = place_of(&section.locals, first) else {
-        return Err(Why::Undeclared);
-    };
-    let Some(n) = place_of(&declared.objects, second) else {
-        return Err(Why::Undeclared);
-    };
-    if section.code.len() >= CODE {
-        return Err(Why::Limit);
-    }
-    Ok(Code::Ref {
-        x: x as u32,
-        n: n as u32,
-    })
-}
-
-/// The `end` of a section with no operands.
-fn end_on(section: &Section, operands: &[u8]) -> Result<Code, Why>
-    ensures { IsMade result (end_cause (thread_of section.now) (words_in operands.now)) Code.End }
-{
-    if !has_no_word(operands) {
-        return Err(Why::Operands);
-    }
-    if section.code.len() >= CODE {
-        return Err(Why::Limit);
-    }
-    Ok(Code::End)
 }
 
 /// The instruction that a line with this keyword and these operands stands for.
@@ -175,74 +46,130 @@ pub fn instruction_on(
     section: &Section,
     keyword: Keyword,
     operands: &[u8],
-) -> Result<Code, Why>
-    requires built { is_built_keyword keyword ≡ true }
+) -> Code
     requires instruction { is_instruction keyword ≡ true }
-    ensures { IsMade result (instruction_cause (text_of declared.now) (thread_of section.now) (words_in operands.now) keyword)
-        (instruction_on (text_of declared.now) (thread_of section.now) [] (words_in operands.now) keyword) }
+    requires count { (length (words_in operands.now) == length (operands_of keyword)) ≡ true }
+    requires numbers { some_operand is_bad_number (operands_of keyword) (words_in operands.now) ≡ false }
+    ensures { (later : List (List ℕ)) → IsAheadOf section.now later (words_in operands.now) keyword
+        → result ≡ instruction_on (text_of declared.now) (thread_of section.now) later (words_in operands.now) keyword }
 {
+    let x = local_at(section, operands, 0);
+    let y = local_at(section, operands, 1);
+    let z = local_at(section, operands, 2);
     match keyword {
-        Keyword::Set => set_on(section, operands),
-        Keyword::Ref => ref_on(declared, section, operands),
-        Keyword::Enter => Ok(Code::Enter {
-            x: only_local(section, operands)?,
-        }),
-        Keyword::Exit => Ok(Code::Exit {
-            x: only_local(section, operands)?,
-        }),
-        Keyword::Print => Ok(Code::Print {
-            x: only_local(section, operands)?,
-        }),
-        Keyword::End => end_on(section, operands),
-        _ => unreachable!(),
+        Keyword::Set => Code::Set {
+            x,
+            v: number_of(word_at(operands, 1)),
+        },
+        Keyword::Add => Code::Add { x, y, z },
+        Keyword::Sub => Code::Sub { x, y, z },
+        Keyword::Mul => Code::Mul { x, y, z },
+        Keyword::Ref => Code::Ref {
+            x,
+            n: object_at(declared, operands, 1),
+        },
+        Keyword::Elem => Code::Elem {
+            x,
+            n: object_at(declared, operands, 1),
+            i: z,
+        },
+        Keyword::Enter => Code::Enter { x },
+        Keyword::Exit => Code::Exit { x },
+        Keyword::Wait => Code::Wait { x },
+        Keyword::Notify => Code::Notify { x },
+        Keyword::NotifyAll => Code::NotifyAll { x },
+        Keyword::Get => Code::Get {
+            x,
+            o: y,
+            k: count_of(word_at(operands, 2)),
+        },
+        Keyword::Put => Code::Put {
+            o: x,
+            k: count_of(word_at(operands, 1)),
+            x: z,
+        },
+        Keyword::Hash => Code::Hash { x, o: y },
+        Keyword::Print => Code::Print { x },
+        Keyword::Jump => Code::Jump {
+            l: target_at(section, operands, 0),
+        },
+        Keyword::Jlt => Code::Jlt {
+            x,
+            y,
+            l: target_at(section, operands, 2),
+        },
+        Keyword::Jeq => Code::Jeq {
+            x,
+            y,
+            l: target_at(section, operands, 2),
+        },
+        Keyword::Dump => Code::Dump,
+        _ => Code::End,
     }
 }
 
-/// A section without lines.
-pub fn new_section(alloc: Global, name: Name) -> Section
-    ensures { thread_of result ≡ new_thread name }
+/// With the local of a `local` line with these operands. Where memory is wanting, `NoMemory`.
+pub fn with_local(section: Section, operands: &[u8]) -> Result<Section, NoMemory>
+    requires name { is_name (operand (words_in operands.now) 0) ≡ true }
+    requires room { length section.locals < 32 }
+    ensures thread { IfOk result (λ s. thread_of s ≡ record (thread_of section) { locals = section.locals ++ operand (words_in operands.now) 0 ∷ [] }) }
+    ensures labels { IfOk result (λ s. s.labels ≡ section.labels) }
 {
-    Section {
+    let Section {
         name,
-        locals: Vec::new(alloc),
-        code: Vec::new(alloc),
-    }
+        locals,
+        labels,
+        declared,
+        code,
+    } = section;
+    let locals = locals.with(name_of(word_at(operands, 0)))?;
+    Ok(Section {
+        name,
+        locals,
+        labels,
+        declared,
+        code,
+    })
 }
 
-/// With one more local. Where memory is wanting, `NoMemory`.
-pub fn with_local(mut section: Section, name: Name) -> Result<Section, Why>
-    requires { length section.locals.items < 32 }
-    ensures { MatchResult result
-        (λ s. thread_of s ≡ record (thread_of section) { locals = section.locals.items ++ name ∷ [] })
-        (λ why. why ≡ Why.NoMemory) }
+/// Behind the line of one more label.
+pub fn with_label(mut section: Section) -> Section
+    requires { section.declared < length section.labels }
+    ensures thread { thread_of result ≡ record (thread_of section) { labels = take (section.declared + 1) section.labels } }
+    ensures labels { result.labels ≡ section.labels }
 {
-    match section.locals.push(name) {
-        Ok(()) => Ok(section),
-        Err(_) => Err(Why::NoMemory),
-    }
+    section.declared += 1;
+    section
 }
 
 /// With one more instruction. Where memory is wanting, `NoMemory`.
-pub fn with_code(mut section: Section, code: Code) -> Result<Section, Why>
-    ensures { MatchResult result
-        (λ s. thread_of s ≡ record (thread_of section) { code = section.code.items ++ code ∷ [] })
-        (λ why. why ≡ Why.NoMemory) }
+pub fn with_code(mut section: Section, code: Code) -> Result<Section, NoMemory>
+    requires { length section.code.items < 4096 }
+    ensures thread { IfOk result (λ s. thread_of s ≡ record (thread_of section) { code = section.code.items ++ code ∷ [] }) }
+    ensures labels { IfOk result (λ s. s.labels ≡ section.labels) }
 {
     match section.code.push(code) {
         Ok(()) => Ok(section),
-        Err(_) => Err(Why::NoMemory),
+        Err(_) => Err(NoMemory),
     }
 }
 
-/// The thread of a section that is closed.
-pub fn closed(alloc: Global, section: Section) -> ThreadDef
+/// The thread of a section that is closed, all of whose labels stand on its lines so far.
+pub fn closed(section: Section) -> ThreadDef
+    requires { section.labels ≡ (thread_of section).labels }
     ensures { result ≡ thread_of section }
 {
-    let Section { name, locals, code } = section;
+    let Section {
+        name,
+        locals,
+        labels,
+        declared: _,
+        code,
+    } = section;
     ThreadDef {
         name,
-        locals: List::of(locals),
-        labels: List::of(Vec::new(alloc)),
+        locals: List::of(locals.into_items()),
+        labels: List::of(labels.into_items()),
         code: List::of(code),
     }
 }

@@ -2,14 +2,12 @@
 
 ghost use Rattle.std.specs.Prelude.{◌≡◌};
 ghost use Rattle.std.specs.Str.{bytes_eq};
-ghost use Rattle.object_program.specs.Line.{spelled_among, keyword_of, is_outside};
-ghost use Rattle.object_program.specs.Reading.{first_keyword, ends_section};
+ghost use Rattle.object_program.specs.Line.{spelled_among, keyword_of, is_outside, is_instruction};
+ghost use Rattle.object_program.specs.Reading.{ends_section};
 ghost use Rattle.object_program.specs.Refusal.{is_end};
-ghost use Rattle.object_program.specs.Text.{words_of};
 ghost use Rattle.object_program.specs.Spelled.{declaring, computing, locking, remaining};
 
 use crate::keyword::Keyword;
-use crate::text::{next_word, without_comment};
 
 /// Whether the word is spelled so.
 fn is_word(spelling: &[u8], word: &[u8]) -> bool
@@ -122,14 +120,6 @@ pub fn keyword_of(word: &[u8]) -> Option<Keyword>
     remaining(word)
 }
 
-/// The first word of the line, where it is a keyword.
-pub fn first_keyword(line: &[u8]) -> Option<Keyword>
-    ensures { result ≡ first_keyword (words_of line.now) }
-{
-    let (word, _) = next_word(without_comment(line))?;
-    keyword_of(word)
-}
-
 /// Whether a line with this keyword stands outside sections.
 pub fn is_outside(keyword: Keyword) -> bool
     ensures { result ≡ is_outside keyword }
@@ -137,6 +127,16 @@ pub fn is_outside(keyword: Keyword) -> bool
     match keyword {
         Keyword::Class | Keyword::Object | Keyword::Array | Keyword::Thread => true,
         _ => false,
+    }
+}
+
+/// Whether a line of a section with this keyword is an instruction.
+pub fn is_instruction(keyword: Keyword) -> bool
+    ensures { result ≡ is_instruction keyword }
+{
+    match keyword {
+        Keyword::Local | Keyword::Label => false,
+        keyword => !is_outside(keyword),
     }
 }
 

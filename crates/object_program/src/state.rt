@@ -3,21 +3,22 @@
 ghost use Rattle.std.specs.Prelude.{◌≡◌, ◌≤◌, length};
 ghost use Rattle.object_program.specs.Program.{total_of};
 
+use crate::directory::Directory;
 use crate::name::Name;
-use crate::program::{ClassDef, Code, ObjectDef, ThreadDef};
+use crate::program::{ClassDef, Code, LabelDef, ObjectDef, ThreadDef};
 
 /// The declarations of the lines so far.
 #[derive(Drop)]
 pub struct Declared {
     /// At most 64.
-    pub classes: Vec<ClassDef>,
-    pub objects: Vec<ObjectDef>,
+    pub classes: Directory<ClassDef>,
+    pub objects: Directory<ObjectDef>,
     /// How many objects the declarations stand for, at most 4,096.
     pub total: u32,
-    pub threads: Vec<ThreadDef>,
-    ghost classes_few: { length classes.items ≤ 64 },
-    ghost objects_few: { length objects.items ≤ total },
-    ghost total_is: { total ≡ total_of objects.items },
+    pub threads: Directory<ThreadDef>,
+    ghost classes_few: { length classes ≤ 64 },
+    ghost objects_few: { length objects ≤ total },
+    ghost total_is: { total ≡ total_of objects },
     ghost total_small: { total ≤ 4096 },
 }
 
@@ -26,9 +27,15 @@ pub struct Declared {
 pub struct Section {
     pub name: Name,
     /// At most 32.
-    pub locals: Vec<Name>,
+    pub locals: Directory<Name>,
+    /// All labels of the section, those on its later lines too.
+    pub labels: Directory<LabelDef>,
+    /// How many of the labels stand on the lines so far.
+    pub declared: usize,
+    /// At most 4,096.
     pub code: Vec<Code>,
-    ghost locals_few: { length locals.items ≤ 32 },
+    ghost locals_few: { length locals ≤ 32 },
+    ghost code_few: { length code.items ≤ 4096 },
 }
 
 /// What the lines so far have declared, and the section that is open.

@@ -130,16 +130,33 @@ pub fn one_word(text: &[u8]) -> Option<&[u8]>
     if has_no_word(rest) { Some(first) } else { None }
 }
 
-/// The two words; `None` where there are fewer or more.
-pub fn two_words(text: &[u8]) -> Option<(&[u8], &[u8])>
-    ensures { MatchOption result ((length (words_in text.now) == 2) ≡ false)
-        (λ w. ((length (words_in text.now) == 2) ≡ true) × (operand (words_in text.now) 0 ≡ w.0.now) × (operand (words_in text.now) 1 ≡ w.1.now)) }
+/// Whether this many words are left.
+pub fn has_words(text: &[u8], count: usize) -> bool
+    ensures { result ≡ (length (words_in text.now) == count) }
 {
-    let Some((first, rest)) = next_word(text) else {
-        return None;
-    };
-    let Some(second) = one_word(rest) else {
-        return None;
-    };
-    Some((first, second))
+    let mut left = text;
+    for _ in 0..count {
+        match next_word(left) {
+            Some((_, rest)) => left = rest,
+            None => return false,
+        }
+    }
+    has_no_word(left)
+}
+
+/// The word with this number, from 0; nothing where there are fewer.
+pub fn word_at(text: &[u8], number: usize) -> &[u8]
+    ensures { result.now ≡ operand (words_in text.now) number }
+{
+    let mut left = text;
+    for _ in 0..number {
+        match next_word(left) {
+            Some((_, rest)) => left = rest,
+            None => return &[],
+        }
+    }
+    match next_word(left) {
+        Some((word, _)) => word,
+        None => &[],
+    }
 }

@@ -8,7 +8,7 @@ use Rattle.plain_monitor.specs.declared.entry.Entry.{Entry}
 use Rattle.plain_monitor.specs.declared.entry.Logged.{Logged}
 use Rattle.plain_monitor.specs.Objects.{PlainObject, take_named, take_entry, named, hashed}
 use Rattle.plain_monitor.specs.Order.{is_before, order}
-use Rattle.plain_monitor.specs.History.{appended, last_above, last_stamp, log_of, RisesAbove}
+use Rattle.plain_monitor.specs.History.{appended, last_stamp, log_of, RisesAbove}
 use Rattle.plain_monitor.proofs.Merging.{empty_order}
 use Rattle.plain_monitor.proofs.Orders.{all_insert}
 use Rattle.plain_monitor.proofs.Appending.{last_more, order_appended}

@@ -15,18 +15,18 @@ use Rattle.plain_monitor.proofs.Threads.{other_thread, same_thread, thread_kept}
 use Rattle.plain_history.specs.Joined.{run_log, both, take_state, take_joined, take_all_joined, EachTakesItsOwn, EachTakesItsLog}
 
 -- the first of two steps
-first_some : {A B : Type 0} (f : A → Option B) (o : Option A) (b : B) → option_and_then f o ≡ Some b → (a : A) × (o ≡ Some a) × (f a ≡ Some b)
+pub first_some : {A B : Type 0} (f : A → Option B) (o : Option A) (b : B) → option_and_then f o ≡ Some b → (a : A) × (o ≡ Some a) × (f a ≡ Some b)
 first_some f None b h = absurd (cc h)
 first_some f (Some a) b h = (a, refl, h)
 
 -- what a list has at a place within it
-get_within : {A : Type 0} (xs : List A) (i : ℕ) → i < length xs → (x : A) × (slice_get xs i ≡ Some x)
+pub get_within : {A : Type 0} (xs : List A) (i : ℕ) → i < length xs → (x : A) × (slice_get xs i ≡ Some x)
 get_within [] i h = absurd (omega arith)
 get_within (x ∷ xs) zero h = (x, refl)
 get_within (x ∷ xs) (suc i) h = get_within xs i (omega arith)
 
 -- two lists of one length that agree at each place are the same
-same_lists : {A : Type 0} (xs ys : List A) → length ys ≡ length xs → ((i : ℕ) (x y : A) → slice_get xs i ≡ Some x → slice_get ys i ≡ Some y → x ≡ y) → xs ≡ ys
+pub same_lists : {A : Type 0} (xs ys : List A) → length ys ≡ length xs → ((i : ℕ) (x y : A) → slice_get xs i ≡ Some x → slice_get ys i ≡ Some y → x ≡ y) → xs ≡ ys
 same_lists [] [] n f = refl
 same_lists [] (y ∷ ys) n f = absurd (omega (arith, n))
 same_lists (x ∷ xs) [] n f = absurd (omega (arith, n))
@@ -41,7 +41,7 @@ log_within t n [] h = tt
 log_within t n (l ∷ log) h = (h, log_within t n log h)
 
 -- the entries of the logs are of threads that are there, where the first log is that of thread t
-logs_within : (t n : ℕ) (logs : List (List Logged)) → t + length logs ≤ n → AllByRecursion (λ (x : ℕ × Logged). x.0 < n) (with_threads t logs)
+pub logs_within : (t n : ℕ) (logs : List (List Logged)) → t + length logs ≤ n → AllByRecursion (λ (x : ℕ × Logged). x.0 < n) (with_threads t logs)
 logs_within t n [] h = tt
 logs_within t n (log ∷ logs) h =
     all_append (λ x. x.0 < n) (map (λ l. (t, l)) log) (with_threads (t + 1) logs) (log_within t n log (omega (arith, h))) (logs_within (t + 1) n logs (omega (arith, h)))

@@ -1,13 +1,10 @@
--- What a program's threads and declarations are.
-use Rattle.std.proofs.Common.{◌≡◌, ℕ, ◌<◌, ◌≤◌, length, get_or, IsTrue, ap, sym, ◌∙◌, []}
-use Rattle.std.specs.List.{list_all}
+-- The instructions of a thread.
+use Rattle.std.proofs.Common.{◌≡◌, ℕ, ◌<◌, ◌≤◌, [], length, get_or, ap, sym, ◌∙◌}
 use Rattle.std.proofs.lemmas.List.{get_or-map}
-use Rattle.std.proofs.lemmas.List.Sums.{AllPass-from_list_all}
 use Rattle.std.proofs.lemmas.List.Elements.{All-from_recursion}
 use Rattle.object_program.specs.declared.program.ThreadDef.{ThreadDef}
 use Rattle.object_program.specs.Program.{ProgramText}
 use Rattle.object_program.specs.Valid.{IsProgram, IsThread}
-use Rattle.object_program.specs.Built.{is_built_code, is_built_program}
 use Rattle.plain_machine.specs.Machine.{code_of}
 
 pub thread_code : (p : ProgramText) (t : ℕ) (d : ThreadDef) → t < length p.threads → d ≡ get_or p.threads t d → d.code ≡ code_of p t
@@ -20,8 +17,4 @@ thread_valid p t d v lt e = rw e (All-from_recursion (IsThread (length p.objects
 pub thread_short : (p : ProgramText) (t : ℕ) (d : ThreadDef) → IsProgram p → t < length p.threads → d ≡ get_or p.threads t d → length d.code ≤ 4096
 thread_short p t d v lt e = (thread_valid p t d v lt e).code_few
 
-pub thread_built : (p : ProgramText) (t : ℕ) (d : ThreadDef) → IsTrue (is_built_program p) → t < length p.threads → d ≡ get_or p.threads t d
-    → IsTrue (list_all is_built_code d.code)
-thread_built p t d b lt e = rw e (AllPass-from_list_all (λ (t : ThreadDef). list_all is_built_code t.code) p.threads b t d lt)
-
-pub ruleset codes = (thread_code, thread_short, thread_built)
+pub ruleset codes = (thread_code, thread_short)

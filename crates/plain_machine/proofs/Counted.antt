@@ -1,15 +1,14 @@
 -- No monitor counts more than its owner's holds, through what entries do.
-use Rattle.std.proofs.Common.{◌≡◌, inl, inr, ℕ, ◌+◌, ◌-◌, ◌<◌, ◌≤◌, Bool, true, false, leb, List, length, get_or, set, sum, Option, Some, None, refl, sym, ap, arith, ◌∙◌}
+use Rattle.std.proofs.Common.{◌≡◌, inl, inr, ℕ, ◌+◌, ◌-◌, ◌<◌, ◌≤◌, Bool, true, false, leb, List, [], ◌∷◌, length, get_or, set, sum, Option, Some, None, refl, sym, ap, arith, ◌∙◌}
 use Rattle.std.proofs.lemmas.List.{get_or-set_same, get_or-set_other, get_or_past}
 use Rattle.std.proofs.lemmas.List.Sums.{get_or-le-sum_by}
 use Rattle.std.proofs.lemmas.Bool.{cases_eq, cases_lt}
 use Rattle.std.proofs.lemmas.Bool.Decides.{nat_tests}
 use Rattle.std.proofs.lemmas.Option.{same_Some, cond_some, none-some}
-use Rattle.plain_monitor.specs.Monitor.{PlainMonitor, is_thread, owns, enter, exit}
-use Rattle.plain_monitor.specs.Objects.{PlainObject, new_object}
+use Rattle.plain_monitor.specs.Monitor.{PlainMonitor, is_thread, owns, enter, exit, wait, resumed, calls, notify, notify_all}
 use Rattle.plain_machine.specs.Thread.{ThreadState, holds_of}
 use Rattle.plain_machine.specs.Ready.{unrun}
-use Rattle.plain_machine.specs.Sound.{monitor_in, thread_in, owner_holds, AreCounted, AreKept, AreLow}
+use Rattle.plain_machine.specs.Sound.{thread_in, owner_holds, IsCounted, AreKept}
 
 -- nobody but t owns the monitor, and the count is at most h
 pub record IsOwnedBy (m : PlainMonitor) (t h : ℕ) : Type 0 where
@@ -55,6 +54,58 @@ exit_at m n t h true false e f b s =
 pub owned_exit : (m n : PlainMonitor) (t h : ℕ) → (m.owner ≡ Some t → m.count ≤ h) → exit m t ≡ Some n → IsOwnedBy n t (h - 1)
 owned_exit m n t h b s = exit_at m n t h (owns m t) (leb m.count 1) refl refl b s
 
+-- where t waits, nobody owns the monitor
+pub owned_wait : (m n : PlainMonitor) (t h : ℕ) → wait m t ≡ Some n → IsOwnedBy n t h
+owned_wait m n t h s =
+    let q = cond_some _ (record m { owner = None; count = 0; waits = _ }) n s in
+    owned_none n t h (sym (ap (λ (z : PlainMonitor). z.owner) q.1)) (sym (ap (λ (z : PlainMonitor). z.count) q.1))
+
+-- who waits was the owner
+pub wait_owner : (m n : PlainMonitor) (t : ℕ) → wait m t ≡ Some n → m.owner ≡ Some t
+wait_owner m n t s = owner_of m.owner t (cond_some (owns m t) (record m { owner = None; count = 0; waits = _ }) n s).0
+
+-- who resumes has the count that it had
+pub owned_resumed : (m n : PlainMonitor) (t c h : ℕ) → c ≤ h → resumed m t (Some c) ≡ Some n → IsOwnedBy n t h
+owned_resumed m n t c h le s =
+    let q = cond_some _ (record m { owner = Some t; count = c; called = _ }) n s in
+    owned_some n t h (sym (ap (λ (z : PlainMonitor). z.owner) q.1)) (omega (arith, ap (λ (z : PlainMonitor). z.count) q.1))
+
+-- who is called changes nothing of the owner
+pub record HasSameOwner (m n : PlainMonitor) : Type 0 where
+  pub owner : n.owner ≡ m.owner
+  pub count : n.count ≡ m.count
+
+pub owner-calls : (m n : PlainMonitor) (ws : List (ℕ × ℕ)) (woken : Option ℕ) → calls m ws woken ≡ Some n → HasSameOwner m n
+owner-calls m n [] None s =
+    let q = same_Some m n s in record { owner = sym (ap (λ (z : PlainMonitor). z.owner) q); count = sym (ap (λ (z : PlainMonitor). z.count) q) }
+owner-calls m n [] (Some u) s = absurd (none-some n s)
+owner-calls m n (p ∷ ps) None s = absurd (none-some n s)
+owner-calls m n (p ∷ ps) (Some u) s =
+    let q = cond_some _ (record m { waits = ps; called = _ }) n s in
+    record { owner = sym (ap (λ (z : PlainMonitor). z.owner) q.1); count = sym (ap (λ (z : PlainMonitor). z.count) q.1) }
+
+owned_same : (m n : PlainMonitor) (t h : ℕ) → owns m t ≡ true → (m.owner ≡ Some t → m.count ≤ h) → HasSameOwner m n → IsOwnedBy n t h
+owned_same m n t h e b q =
+    let o = owner_of m.owner t e in let c = b o in owned_some n t h (q.owner ∙ o) (omega (arith, c, q.count))
+
+notify_at : (m n : PlainMonitor) (t h : ℕ) (woken : Option ℕ) (own : Bool) → owns m t ≡ own → (m.owner ≡ Some t → m.count ≤ h)
+    → notify m t woken ≡ Some n → IsOwnedBy n t h
+notify_at m n t h woken true e b s = owned_same m n t h e b (owner-calls m n m.waits woken (rw e at s))
+notify_at m n t h woken false e b s = let q : None ≡ Some n = rw e at s in absurd (none-some n q)
+
+pub owned_notify : (m n : PlainMonitor) (t h : ℕ) (woken : Option ℕ) → (m.owner ≡ Some t → m.count ≤ h) → notify m t woken ≡ Some n → IsOwnedBy n t h
+owned_notify m n t h woken b s = notify_at m n t h woken (owns m t) refl b s
+
+all_at : (m n : PlainMonitor) (t h k : ℕ) (own : Bool) → owns m t ≡ own → (m.owner ≡ Some t → m.count ≤ h)
+    → notify_all m t k ≡ Some n → IsOwnedBy n t h
+all_at m n t h k true e b s =
+    let q = cond_some _ (record m { waits = []; called = _ }) n s in
+    owned_same m n t h e b (record { owner = sym (ap (λ (z : PlainMonitor). z.owner) q.1); count = sym (ap (λ (z : PlainMonitor). z.count) q.1) })
+all_at m n t h k false e b s = let q : None ≡ Some n = rw e at s in absurd (none-some n q)
+
+pub owned_notify_all : (m n : PlainMonitor) (t h k : ℕ) → (m.owner ≡ Some t → m.count ≤ h) → notify_all m t k ≡ Some n → IsOwnedBy n t h
+owned_notify_all m n t h k b s = all_at m n t h k (owns m t) refl b s
+
 -- threads whose holds of object k are the same
 same_holds : (threads : List ThreadState) (t k : ℕ) (s : ThreadState) (w : Option ℕ) → t < length threads
     → holds_of s k ≡ holds_of (thread_in threads t) k → owner_holds (set threads t s) k w ≡ owner_holds threads k w
@@ -65,16 +116,26 @@ same_holds threads t k s (Some u) lt e =
       | inr q ↦ ap (λ z. holds_of z k) (get_or-set_other threads t u s (unrun 0 0 0) q)
     ]
 
-pub counted_same : (objects : List PlainObject) (threads : List ThreadState) (t : ℕ) (s : ThreadState) → t < length threads
-    → s.holds ≡ (thread_in threads t).holds → AreCounted objects threads → AreCounted objects (set threads t s)
-counted_same objects threads t s lt e h k =
-    rw (same_holds threads t k s (monitor_in objects k).owner lt (ap (λ hs. get_or hs k 0) e)) (h k)
+-- a monitor counts no more beside a thread whose holds of the object are the same
+pub counted_same : (threads : List ThreadState) (t o : ℕ) (s : ThreadState) (m : PlainMonitor) → t < length threads
+    → holds_of s o ≡ holds_of (thread_in threads t) o → IsCounted threads o m → IsCounted (set threads t s) o m
+counted_same threads t o s m lt e h = rw (same_holds threads t o s m.owner lt e) h
 
-owned_holds : (threads : List ThreadState) (t o h : ℕ) (s : ThreadState) (n : PlainMonitor) (w : Option ℕ) → n.owner ≡ w → t < length threads
-    → holds_of s o ≡ h → IsOwnedBy n t h → n.count ≤ owner_holds (set threads t s) o w
-owned_holds threads t o h s n None e lt f b = omega (arith, b.free e)
-owned_holds threads t o h s n (Some u) e lt f b =
-    let p = b.held u e in rw (p.0, get_or-set_same threads t s (unrun 0 0 0) lt) (omega (arith, p.1, f))
+owned_holds : (threads : List ThreadState) (t o : ℕ) (s : ThreadState) (n : PlainMonitor) (w : Option ℕ) → n.owner ≡ w → t < length threads
+    → IsOwnedBy n t (holds_of s o) → n.count ≤ owner_holds (set threads t s) o w
+owned_holds threads t o s n None e lt b = omega (arith, b.free e)
+owned_holds threads t o s n (Some u) e lt b =
+    let p = b.held u e in rw (p.0, get_or-set_same threads t s (unrun 0 0 0) lt) p.1
+
+-- nor beside the thread that took a step with it
+pub counted_owned : (threads : List ThreadState) (t o : ℕ) (s : ThreadState) (n : PlainMonitor) → t < length threads
+    → IsOwnedBy n t (holds_of s o) → IsCounted (set threads t s) o n
+counted_owned threads t o s n lt b = owned_holds threads t o s n n.owner refl lt b
+
+-- the count of a monitor that t owns
+pub counted_owner : (threads : List ThreadState) (t o : ℕ) (m : PlainMonitor) → IsCounted threads o m → m.owner ≡ Some t
+    → m.count ≤ holds_of (thread_in threads t) o
+counted_owner threads t o m h e = rw e at h
 
 hold-le-sum : (xs : List ℕ) (o : ℕ) → get_or xs o 0 ≤ sum xs
 hold-le-sum xs o =
@@ -92,25 +153,5 @@ low_holds n threads o (Some t) k =
     ]
 
 -- no monitor counts more than 64
-pub are_low : (n : ℕ) (objects : List PlainObject) (threads : List ThreadState) → AreKept n threads → AreCounted objects threads → AreLow objects
-are_low n objects threads k h o = omega (arith, h o, low_holds n threads o (monitor_in objects o).owner k)
-
-count_at : (m n : PlainMonitor) (threads : List ThreadState) (k : ℕ) → m ≡ n → n.count ≤ owner_holds threads k n.owner
-    → m.count ≤ owner_holds threads k m.owner
-count_at m n threads k e h = rw e h
-
-pub counted_set : (objects : List PlainObject) (threads : List ThreadState) (o t h : ℕ) (y : PlainObject) (s : ThreadState)
-    → o < length objects → t < length threads → o < length (thread_in threads t).holds
-    → s.holds ≡ set (thread_in threads t).holds o h → IsOwnedBy y.monitor t h → AreCounted objects threads
-    → AreCounted (set objects o y) (set threads t s)
-counted_set objects threads o t h y s lo lt lh e b c k =
-    elim (cases_eq k o) [
-      | inl q ↦
-          let f = ap (λ hs. get_or hs o 0) e ∙ get_or-set_same (thread_in threads t).holds o h 0 lh in
-          let g = ap (λ (z : PlainObject). z.monitor) (get_or-set_same objects o y (new_object 0) lo) in
-          rw q (count_at (monitor_in (set objects o y) o) y.monitor (set threads t s) o g (owned_holds threads t o h s y.monitor y.monitor.owner refl lt f b))
-      | inr q ↦
-          let f = ap (λ hs. get_or hs k 0) e ∙ get_or-set_other (thread_in threads t).holds o k h 0 q in
-          let g = ap (λ (z : PlainObject). z.monitor) (get_or-set_other objects o k y (new_object 0) q) in
-          count_at (monitor_in (set objects o y) k) (monitor_in objects k) (set threads t s) k g (rw (same_holds threads t k s (monitor_in objects k).owner lt f) (c k))
-    ]
+pub count_low : (n : ℕ) (threads : List ThreadState) (o : ℕ) (m : PlainMonitor) → AreKept n threads → IsCounted threads o m → m.count ≤ 64
+count_low n threads o m k h = omega (arith, h, low_holds n threads o m.owner k)

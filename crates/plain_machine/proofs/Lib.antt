@@ -1,9 +1,12 @@
 pub mod Runs
-pub mod Calls
+pub mod Unwinding
 pub mod Counted
+pub mod Listed
+pub mod Steps
 pub mod Behind
 pub mod Taking
 pub mod Codes
+pub mod Declared
 pub mod Starts
 pub mod ReachedOver
 pub mod ReachedRunning
@@ -13,3 +16,9 @@ pub mod ReachedAsked
 pub mod ReachedKinds
 pub mod ReachedFirst
 pub mod ReachedOffered
+pub mod ReachedLists
+pub mod ReachedObjects
+pub mod ReachedEntries
+pub mod ReachedStanding
+pub mod ReachedPaths
+pub mod ReachedRange

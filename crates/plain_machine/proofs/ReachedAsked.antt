@@ -1,47 +1,50 @@
 -- What a thread of a reached machine asks, and what a taken entry says.
-use Rattle.std.proofs.Common.{◌≡◌, ℕ, suc, ◌+◌, ◌<◌, ◌≤◌, Bool, true, false, List, [], ◌∷◌, length, sum, nat_le, if◌then◌else◌, slice_get, slice_set, slice_index, Option, Some, None, option_and_then, option_map, refl, sym, ap, ◌∙◌, subst, arith, leb-true, leb-false}
+use Rattle.std.proofs.Common.{◌≡◌, ℕ, suc, ◌+◌, ◌<◌, ◌≤◌, Bool, true, false, List, [], ◌∷◌, length, sum, nat_le, if◌then◌else◌, slice_get, slice_set, slice_index, Option, Some, None, option_map, refl, sym, ap, ◌∙◌, subst, arith, leb-true, leb-false}
 use Rattle.std.proofs.lemmas.Option.{none-some, same_Some, cond_some, option_and_then_some}
 use Rattle.std.proofs.lemmas.List.Sums.{sum_by-cons}
 use Rattle.plain_monitor.specs.declared.entry.Ending.{Ending}
 use Rattle.plain_monitor.specs.declared.entry.Entry.{Entry}
-use Rattle.plain_monitor.specs.Monitor.{PlainMonitor}
-use Rattle.plain_monitor.specs.Objects.{PlainObject, take_entry, with_monitor}
+use Rattle.plain_monitor.specs.Objects.{PlainObject, take_at, take_named, take_entry}
+use Rattle.object_program.specs.Program.{ProgramText}
 use Rattle.plain_machine.specs.declared.call.Call.{Call}
 use Rattle.plain_machine.specs.declared.call.Mode.{Mode}
 use Rattle.plain_machine.specs.declared.call.Mode.TheVariants.{Calling, Waiting, Unwinding, Ended}
 use Rattle.plain_machine.specs.declared.call.Asked.{Asked}
 use Rattle.plain_machine.specs.declared.call.Asked.TheVariants.{Calls, Resumes, Leaves, Ends}
-use Rattle.plain_machine.specs.Thread.{ThreadState, holds_of}
+use Rattle.plain_machine.specs.Thread.{ThreadState}
 use Rattle.plain_machine.specs.Asking.{ask, ask_in, unwinds, held_from, fits, behind_entry, thread_after}
 use Rattle.plain_machine.specs.Machine.{PlainMachine, code_of, moved, take}
-use Rattle.plain_machine.specs.Work.{mode_work}
-use Rattle.plain_machine.specs.Reached.{IsCallOf, IsModeOf, IsStateOf, IsThreadOf}
+use Rattle.plain_machine.specs.ReachedThread.{IsObject, IsHeld, IsCallOf, IsModeOf, IsStateOf, IsThreadOf}
 use Rattle.plain_machine.proofs.ReachedFrame.{moved_to}
 
 -- a call that it stands before, which is paid for
-pub record IsPaid (n : ℕ) (s : ThreadState) (c : Call) : Type 0 where
+pub record IsPaid (p : ProgramText) (s : ThreadState) (c : Call) : Type 0 where
   pub fuel : 1 ≤ s.fuel
-  pub call : IsCallOf n s.holds c
-  pub one_entry : mode_work s.mode ≡ 1
+  pub call : IsCallOf p s.holds s.dumps c
+  pub mode : s.mode ≡ Calling c
+
+-- an object that it waits on
+pub record IsAwaited (p : ProgramText) (s : ThreadState) (o : ℕ) : Type 0 where
+  pub there : IsObject p o
+  pub mode : s.mode ≡ Waiting o
 
 -- a hold that it leaves, as it ends so
-pub record IsLeft (n : ℕ) (s : ThreadState) (o : ℕ) : Type 0 where
-  pub there : o < n
-  pub held : 1 ≤ holds_of s o
+pub record IsLeft (p : ProgramText) (s : ThreadState) (o : ℕ) : Type 0 where
+  pub held : IsHeld p s.holds o
   pub ending : Ending
   pub mode : s.mode ≡ Unwinding ending
 
 -- its end, with no hold left
-pub record IsLast (s : ThreadState) : Type 0 where
+pub record IsLast (s : ThreadState) (e : Ending) : Type 0 where
   pub none : sum s.holds ≡ 0
-  pub one_entry : mode_work s.mode ≡ 1
+  pub mode : s.mode ≡ Unwinding e
 
--- what holds of what a thread asks; nobody resumes in the built forms
-abbrev pub IsAskedOf : ℕ → ThreadState → Asked → Type 0
-IsAskedOf n s (Calls c) = IsPaid n s c
-IsAskedOf n s (Resumes o) = ⊥
-IsAskedOf n s (Leaves o) = IsLeft n s o
-IsAskedOf n s (Ends e) = IsLast s
+-- what holds of what a thread asks
+abbrev pub IsAskedOf : ProgramText → ThreadState → Asked → Type 0
+IsAskedOf p s (Calls c) = IsPaid p s c
+IsAskedOf p s (Resumes o) = IsAwaited p s o
+IsAskedOf p s (Leaves o) = IsLeft p s o
+IsAskedOf p s (Ends e) = IsLast s e
 
 -- the least object that is held, by its place
 pub record IsHeldAt (k : ℕ) (holds : List ℕ) (o : ℕ) : Type 0 where
@@ -70,26 +73,25 @@ none_held k [] e = refl
 none_held k (h ∷ holds) e = none_here k h holds (nat_le 1 h) refl e (none_held (k + 1) holds)
 
 -- what a thread that unwinds asks
-unwound_asks : (n : ℕ) (s : ThreadState) (e : Ending) (held : Option ℕ) (a : Asked) → IsStateOf n s → s.mode ≡ Unwinding e → held_from 0 s.holds ≡ held → ◌≡◌ {A = Option Asked} (Some (unwinds e held)) (Some a) → IsAskedOf n s a
-unwound_asks n s e None a st mode at asks = subst (IsAskedOf n s) (same_Some _ _ asks) (record { none = none_held 0 s.holds at; one_entry = ap mode_work mode })
-unwound_asks n s e (Some o) a st mode at asks =
+unwound_asks : (p : ProgramText) (s : ThreadState) (e : Ending) (held : Option ℕ) (a : Asked) → IsStateOf p s → s.mode ≡ Unwinding e → held_from 0 s.holds ≡ held → ◌≡◌ {A = Option Asked} (Some (unwinds e held)) (Some a) → IsAskedOf p s a
+unwound_asks p s e None a st mode at asks = subst (IsAskedOf p s) (same_Some _ _ asks) (record { none = none_held 0 s.holds at; mode = mode })
+unwound_asks p s e (Some o) a st mode at asks =
     let h = held_at 0 s.holds o at in
     let same : o ≡ h.place = omega (arith, h.is) in
-    subst (IsAskedOf n s) (same_Some _ _ asks) (record {
-      there = omega (arith, same, h.within, st.holds);
-      held = subst (λ (k : ℕ). 1 ≤ slice_index s.holds k) (sym same) h.held;
+    subst (IsAskedOf p s) (same_Some _ _ asks) (record {
+      held = (omega (arith, same, h.within, st.holds), subst (λ (k : ℕ). 1 ≤ slice_index s.holds k) (sym same) h.held);
       ending = e;
       mode = mode;
     })
 
-asks_in : (n : ℕ) (s : ThreadState) (mode : Mode) (a : Asked) → IsStateOf n s → s.mode ≡ mode → IsModeOf n s mode → ask_in s mode ≡ Some a → IsAskedOf n s a
-asks_in n s (Calling c) a st at h asks = subst (IsAskedOf n s) (same_Some _ _ asks) (record { fuel = h.0; call = h.1; one_entry = ap mode_work at })
-asks_in n s (Waiting o) a st at h asks = absurd h
-asks_in n s (Unwinding e) a st at h asks = unwound_asks n s e (held_from 0 s.holds) a st at refl asks
-asks_in n s (Ended e) a st at h asks = absurd (none-some a asks)
+asks_in : (p : ProgramText) (s : ThreadState) (mode : Mode) (a : Asked) → IsStateOf p s → s.mode ≡ mode → IsModeOf p s mode → ask_in s mode ≡ Some a → IsAskedOf p s a
+asks_in p s (Calling c) a st at h asks = subst (IsAskedOf p s) (same_Some _ _ asks) (record { fuel = h.0; call = h.1; mode = at })
+asks_in p s (Waiting o) a st at h asks = subst (IsAskedOf p s) (same_Some _ _ asks) (record { there = h; mode = at })
+asks_in p s (Unwinding e) a st at h asks = unwound_asks p s e (held_from 0 s.holds) a st at refl asks
+asks_in p s (Ended e) a st at h asks = absurd (none-some a asks)
 
-pub asked_of : (n : ℕ) (s : ThreadState) (a : Asked) → IsThreadOf n s → ask s ≡ Some a → IsAskedOf n s a
-asked_of n s a h asks = asks_in n s s.mode a h.state refl h.mode asks
+pub asked_of : (p : ProgramText) (s : ThreadState) (a : Asked) → IsThreadOf p s → ask s ≡ Some a → IsAskedOf p s a
+asked_of p s a h asks = asks_in p s s.mode a h.state refl h.mode asks
 
 -- an entry that a machine takes: what was asked, and what came of it
 pub record IsTaken (m : PlainMachine) (t : ℕ) (e : Entry) (next : PlainMachine) : Type 0 where
@@ -129,24 +131,20 @@ taken m t e next h = option_and_then_some _ (slice_get m.threads t) next h at_st
             let c = cond_some (fits a e) (behind_entry m.program (code_of m.program t) s a e) parts.s only in
             record { s = s; asked = a; objects = parts.objects; at = at; asks = asks; fit = c.0; takes = parts.takes; is = ap (λ (x : ThreadState). moved_to m t x parts.objects) c.1 ∙ parts.is }
 
--- a step of the monitor of object o that the objects take
-pub record IsStepAt (objects : List PlainObject) (o : ℕ) (step : PlainMonitor → Option PlainMonitor) (after : List PlainObject) : Type 0 where
+-- an entry that object o takes
+pub record IsTakenAt (objects : List PlainObject) (o t : ℕ) (e : Entry) (after : List PlainObject) : Type 0 where
   pub x : PlainObject
-  pub monitor : PlainMonitor
+  pub y : PlainObject
   pub there : slice_get objects o ≡ Some x
-  pub steps : step x.monitor ≡ Some monitor
-  pub is : slice_set objects o (record x { monitor = monitor }) ≡ after
+  pub takes : take_at x t e ≡ Some y
+  pub is : slice_set objects o y ≡ after
 
--- how `take_named` takes such a step
-abbrev pub stepped : List PlainObject → ℕ → (PlainMonitor → Option PlainMonitor) → Option (List PlainObject)
-stepped objects o step = option_and_then (λ x. option_map (λ y. slice_set objects o y) (with_monitor x (step x.monitor))) (slice_get objects o)
-
-pub step_at : (objects : List PlainObject) (o : ℕ) (step : PlainMonitor → Option PlainMonitor) (after : List PlainObject) → stepped objects o step ≡ Some after → IsStepAt objects o step after
-step_at objects o step after e = option_and_then_some _ (slice_get objects o) after e at_object
+pub taken_at : (objects : List PlainObject) (o t : ℕ) (e : Entry) (after : List PlainObject) → take_named objects t e (Some o) ≡ Some after → IsTakenAt objects o t e after
+taken_at objects o t e after h = option_and_then_some _ (slice_get objects o) after h at_object
   where
-    at_object : (x : PlainObject) → slice_get objects o ≡ Some x → option_map (λ y. slice_set objects o y) (with_monitor x (step x.monitor)) ≡ Some after → IsStepAt objects o step after
-    at_object x there put = go (step x.monitor) refl
+    at_object : (x : PlainObject) → slice_get objects o ≡ Some x → option_map (λ y. slice_set objects o y) (take_at x t e) ≡ Some after → IsTakenAt objects o t e after
+    at_object x there put = go (take_at x t e) refl
       where
-        go : (r : Option PlainMonitor) → step x.monitor ≡ r → IsStepAt objects o step after
+        go : (r : Option PlainObject) → take_at x t e ≡ r → IsTakenAt objects o t e after
         go None none = absurd (none-some after (rw none at put))
-        go (Some monitor) some = record { x = x; monitor = monitor; there = there; steps = some; is = same_Some _ _ (rw some at put) }
+        go (Some y) some = record { x = x; y = y; there = there; takes = some; is = same_Some _ _ (rw some at put) }

@@ -1,27 +1,42 @@
 -- A reached machine after one thread has moved: beside all objects, or with one of them.
-use Rattle.std.proofs.Common.{◌≡◌, ◌≢◌, ◌⊎◌, inl, inr, ℕ, zero, suc, ◌+◌, ◌<◌, List, [], ◌∷◌, length, slice_get, slice_set, slice_index, Some, refl, sym, ap, ◌∙◌, subst, arith, length-set, get_or-set_same, get_or-set_other}
-use Rattle.std.proofs.lemmas.Bool.{cases_eq}
+use Rattle.std.proofs.Common.{◌≡◌, ◌≢◌, ℕ, zero, suc, ◌+◌, ◌<◌, List, [], ◌∷◌, length, slice_get, slice_set, Some, refl, sym, ap, ◌∙◌, subst, arith, length-set}
 use Rattle.std.proofs.lemmas.Option.{none-some, same_Some}
 use Rattle.plain_monitor.specs.Monitor.{PlainMonitor}
 use Rattle.plain_monitor.specs.Objects.{PlainObject}
-use Rattle.object_program.specs.Program.{objects_total}
 use Rattle.plain_machine.specs.Thread.{ThreadState, holds_of}
 use Rattle.plain_machine.specs.Machine.{PlainMachine}
 use Rattle.plain_machine.specs.Work.{work_of, work_in, work_left}
-use Rattle.plain_machine.specs.Reached.{count_for, IsThreadOf, IsMonitorOf, IsReached}
-use Rattle.plain_monitor.proofs.Lists.{all_set, get_set_same, get_set_other}
-use Rattle.plain_machine.proofs.ReachedMonitor.{IsMonitorMove, monitor_beside, monitor_rests}
+use Rattle.plain_machine.specs.ReachedMonitor.{waiting_on, standing, StandsAt}
+use Rattle.plain_machine.specs.ReachedThread.{IsThreadOf}
+use Rattle.plain_machine.specs.Reached.{AtEach, HasSlots, HasHash, HasMonitor, HasThreads, IsReached}
+use Rattle.plain_monitor.proofs.Lists.{all_set}
+use Rattle.plain_machine.proofs.ReachedLists.{each_set}
+use Rattle.plain_machine.proofs.ReachedMonitor.{Shift, IsMonitorStep, IsAlike}
 
 -- a machine is reached from another, and has less work
 pub record IsProgress (m next : PlainMachine) : Type 0 where
   pub reached : IsReached next
   pub work : work_left next < work_left m
 
--- a thread moves: it is as it may be, and has less work
-pub record IsThreadMove (m : PlainMachine) (t : ℕ) (s next : ThreadState) : Type 0 where
+-- a thread of a reached machine
+pub record IsMaker (m : PlainMachine) (t : ℕ) (s : ThreadState) : Type 0 where
+  pub reached : IsReached m
   pub at : slice_get m.threads t ≡ Some s
-  pub thread : IsThreadOf (objects_total m.program) next
+
+-- a thread moves: it is as it may be, and has less work
+pub record IsThreadMove (m : PlainMachine) (s next : ThreadState) : Type 0 where
+  pub thread : IsThreadOf m.program next
   pub work : work_of next < work_of s
+
+-- it holds object o as often as before, and waits on it where it did
+pub record IsSteady (s next : ThreadState) (o : ℕ) : Type 0 where
+  pub holds : holds_of next o ≡ holds_of s o
+  pub waits : waiting_on next.mode o ≡ waiting_on s.mode o
+
+-- it holds object o, and waits on it, so much more or less often
+pub record IsChanged (change : Shift) (s next : ThreadState) (o : ℕ) : Type 0 where
+  pub holds : holds_of next o + change.loses ≡ holds_of s o + change.gains
+  pub waits : waiting_on next.mode o + change.leaves ≡ waiting_on s.mode o + change.comes
 
 -- the machine whose thread t and objects became these
 abbrev pub moved_to : PlainMachine → ℕ → ThreadState → List PlainObject → PlainMachine
@@ -32,67 +47,78 @@ work_in_set [] t s next e = absurd (none-some s e)
 work_in_set (x ∷ ss) zero s next e = let same : work_of x ≡ work_of s = ap work_of (same_Some x s e) in omega (arith, same)
 work_in_set (x ∷ ss) (suc t) s next e = omega (arith, work_in_set ss t s next e)
 
-less_work : (m : PlainMachine) (t : ℕ) (s next : ThreadState) (objects : List PlainObject) → IsThreadMove m t s next → work_left (moved_to m t next objects) < work_left m
-less_work m t s next objects move = omega (arith, work_in_set m.threads t s next move.at, move.work)
+less_work : (m : PlainMachine) (t : ℕ) (s next : ThreadState) (objects : List PlainObject) → slice_get m.threads t ≡ Some s → IsThreadMove m s next → work_left (moved_to m t next objects) < work_left m
+less_work m t s next objects at move = omega (arith, work_in_set m.threads t s next at, move.work)
 
-reached_with : (m : PlainMachine) (t : ℕ) (s next : ThreadState) (objects : List PlainObject) → IsReached m → IsThreadMove m t s next → length objects ≡ length m.objects → ((o : ℕ) (x : PlainObject) → slice_get objects o ≡ Some x → IsMonitorOf (slice_set m.threads t next) o x.monitor) → IsReached (moved_to m t next objects)
-reached_with m t s next objects h move same monitors =
+-- the threads beside a monitor that changes for thread t alone
+threads_beside : (threads : List ThreadState) (t o : ℕ) (s next : ThreadState) (m after : PlainMonitor) → slice_get threads t ≡ Some s
+    → AtEach (λ u x. StandsAt o u m x) threads → ((u : ℕ) → u ≢ t → IsAlike m after u) → StandsAt o t after next
+    → AtEach (λ u x. StandsAt o u after x) (slice_set threads t next)
+threads_beside threads t o s next m after at h alike own =
+    each_set (λ u x. StandsAt o u after x) threads t s next at own (λ u x other e.
+    let k = h u x e in let a = alike u other in record { holds = k.holds ∙ sym a.standing; listed = a.listed ∙ k.listed })
+
+-- the same where the monitor doesn't change
+threads_steady : (threads : List ThreadState) (t o : ℕ) (s next : ThreadState) (m : PlainMonitor) → slice_get threads t ≡ Some s
+    → AtEach (λ u x. StandsAt o u m x) threads → IsSteady s next o → AtEach (λ u x. StandsAt o u m x) (slice_set threads t next)
+threads_steady threads t o s next m at h steady =
+    let k = h t s at in
+    threads_beside threads t o s next m m at h (λ u other. record { standing = refl; listed = refl })
+    (record { holds = steady.holds ∙ k.holds; listed = k.listed ∙ sym steady.waits })
+
+-- the machine after the move is reached where its objects are as they may be beside the threads
+reached_with : (m : PlainMachine) (t : ℕ) (next : ThreadState) (objects : List PlainObject) → IsReached m → IsThreadOf m.program next → length objects ≡ length m.objects
+    → AtEach (HasSlots m.program) objects → AtEach HasHash objects → AtEach (HasMonitor (length m.threads)) objects
+    → AtEach (HasThreads (slice_set m.threads t next)) objects → IsReached (moved_to m t next objects)
+reached_with m t next objects h thread same slots hashes monitors standing =
+    let count : length (slice_set m.threads t next) ≡ length m.threads = length-set m.threads t next in
     record {
       program = h.program;
-      built = h.built;
-      thread_count = length-set m.threads t next ∙ h.thread_count;
+      thread_count = count ∙ h.thread_count;
       object_count = same ∙ h.object_count;
-      threads = all_set (IsThreadOf (objects_total m.program)) m.threads t next move.thread h.threads;
-      monitors = monitors;
+      threads = all_set (IsThreadOf m.program) m.threads t next thread h.threads;
+      slots = slots;
+      hashes = hashes;
+      monitors = subst (λ (n : ℕ). AtEach (HasMonitor n) objects) (sym count) monitors;
+      standing = standing;
     }
 
--- the holds of the thread on object o before it moves
-pub holds_agree : (m : PlainMachine) (t o : ℕ) (s : ThreadState) (x : PlainObject) → IsReached m → slice_get m.threads t ≡ Some s → slice_get m.objects o ≡ Some x → holds_of s o ≡ count_for x.monitor t
-holds_agree m t o s x h at there = (h.monitors o x there).agrees t s at
-
 -- the thread moved, and no object did
-pub progress_alone : (m : PlainMachine) (t : ℕ) (s next : ThreadState) → IsReached m → IsThreadMove m t s next → next.holds ≡ s.holds → IsProgress m (moved_to m t next m.objects)
-progress_alone m t s next h move holds = record { reached = reached_with m t s next m.objects h move refl monitors; work = less_work m t s next m.objects move }
-  where
-    monitors : (o : ℕ) (x : PlainObject) → slice_get m.objects o ≡ Some x → IsMonitorOf (slice_set m.threads t next) o x.monitor
-    monitors o x e =
-        monitor_beside m.threads t o s next x.monitor x.monitor move.at (h.monitors o x e) (monitor_rests m.threads t o x.monitor (h.monitors o x e))
-        (ap (λ (xs : List ℕ). slice_index xs o) holds ∙ holds_agree m t o s x h move.at e)
+pub progress_alone : (m : PlainMachine) (t : ℕ) (s next : ThreadState) → IsMaker m t s → IsThreadMove m s next → ((o : ℕ) → IsSteady s next o) → IsProgress m (moved_to m t next m.objects)
+progress_alone m t s next h move steady =
+    let r = h.reached in
+    record {
+      reached = reached_with m t next m.objects r move.thread refl r.slots r.hashes r.monitors (λ o x e. threads_steady m.threads t o s next x.monitor h.at (r.standing o x e) (steady o));
+      work = less_work m t s next m.objects h.at move;
+    }
 
--- the objects with this monitor at object o, which was x
-abbrev pub objects_with : List PlainObject → ℕ → PlainObject → PlainMonitor → List PlainObject
-objects_with objects o x after = slice_set objects o (record x { monitor = after })
-
--- the thread moved with the monitor of object o
-pub record IsMonitorStep (m : PlainMachine) (t o : ℕ) (s next : ThreadState) (x : PlainObject) (after : PlainMonitor) : Type 0 where
+-- object o, which was x, becomes y with a step of thread t
+pub record IsObjectStep (m : PlainMachine) (t o : ℕ) (change : Shift) (x y : PlainObject) : Type 0 where
   pub there : slice_get m.objects o ≡ Some x
-  pub move : IsMonitorMove (length m.threads) t x.monitor after
-  pub within : o < length s.holds
-  pub holds : next.holds ≡ slice_set s.holds o (count_for after t)
+  pub slots : HasSlots m.program o y
+  pub hash : HasHash o y
+  pub monitor : IsMonitorStep (length m.threads) t change x.monitor y.monitor
 
-pub progress_at : (m : PlainMachine) (t o : ℕ) (s next : ThreadState) (x : PlainObject) (after : PlainMonitor) → IsReached m → IsThreadMove m t s next → IsMonitorStep m t o s next x after → IsProgress m (moved_to m t next (objects_with m.objects o x after))
-progress_at m t o s next x after h move step =
-    let changed : List PlainObject = objects_with m.objects o x after in
-    record { reached = reached_with m t s next changed h move (length-set m.objects o (record x { monitor = after })) monitors; work = less_work m t s next changed move }
+-- the thread moved with object o
+pub progress_at : (m : PlainMachine) (t o : ℕ) (change : Shift) (s next : ThreadState) (x y : PlainObject) → IsMaker m t s → IsThreadMove m s next
+    → IsObjectStep m t o change x y → IsChanged change s next o → ((k : ℕ) → k ≢ o → IsSteady s next k)
+    → IsProgress m (moved_to m t next (slice_set m.objects o y))
+progress_at m t o change s next x y h move step changed steady =
+    record {
+      reached =
+          reached_with m t next (slice_set m.objects o y) h.reached move.thread (length-set m.objects o y)
+          (each_set (HasSlots m.program) m.objects o x y step.there step.slots (λ k z other e. h.reached.slots k z e))
+          (each_set HasHash m.objects o x y step.there step.hash (λ k z other e. h.reached.hashes k z e))
+          (each_set (HasMonitor (length m.threads)) m.objects o x y step.there step.monitor.monitor (λ k z other e. h.reached.monitors k z e))
+          (each_set (HasThreads (slice_set m.threads t next)) m.objects o x y step.there beside (λ k z other e. threads_steady m.threads t k s next z.monitor h.at (h.reached.standing k z e) (steady k other)));
+      work = less_work m t s next (slice_set m.objects o y) h.at move;
+    }
   where
-    at_other : (k : ℕ) (z : PlainObject) → k ≢ o → slice_get m.objects k ≡ Some z → IsMonitorOf (slice_set m.threads t next) k z.monitor
-    at_other k z other e =
-        monitor_beside m.threads t k s next z.monitor z.monitor move.at (h.monitors k z e) (monitor_rests m.threads t k z.monitor (h.monitors k z e))
-        (ap (λ (xs : List ℕ). slice_index xs k) step.holds ∙ get_or-set_other s.holds o k (count_for after t) 0 other ∙ holds_agree m t k s z h move.at e)
+    before : StandsAt o t x.monitor s
+    before = h.reached.standing o x step.there t s h.at
 
-    at_it : IsMonitorOf (slice_set m.threads t next) o after
-    at_it =
-        monitor_beside m.threads t o s next x.monitor after move.at (h.monitors o x step.there) step.move
-        (ap (λ (xs : List ℕ). slice_index xs o) step.holds ∙ get_or-set_same s.holds o (count_for after t) 0 step.within)
+    own : StandsAt o t y.monitor next
+    own = record { holds = omega (arith, before.holds, step.monitor.own.standing, changed.holds); listed = omega (arith, before.listed, step.monitor.own.listed, changed.waits) }
 
-    changed_to : (z : PlainObject) → slice_get (objects_with m.objects o x after) o ≡ Some z → after ≡ z.monitor
-    changed_to z e = ap (λ (w : PlainObject). w.monitor) (same_Some _ _ (sym (get_set_same m.objects o x (record x { monitor = after }) step.there) ∙ e))
-
-    monitors : (k : ℕ) (z : PlainObject) → slice_get (objects_with m.objects o x after) k ≡ Some z → IsMonitorOf (slice_set m.threads t next) k z.monitor
-    monitors k z e = go (cases_eq k o)
-      where
-        go : (k ≡ o) ⊎ (k ≡ o → ⊥) → IsMonitorOf (slice_set m.threads t next) k z.monitor
-        go (inl same) =
-            let here : slice_get (objects_with m.objects o x after) o ≡ Some z = subst (λ (i : ℕ). slice_get (objects_with m.objects o x after) i ≡ Some z) same e in
-            subst (λ (i : ℕ). IsMonitorOf (slice_set m.threads t next) i z.monitor) (sym same) (subst (IsMonitorOf (slice_set m.threads t next) o) (changed_to z here) at_it)
-        go (inr other) = at_other k z other (sym (get_set_other m.objects o k (record x { monitor = after }) (λ q. other (sym q))) ∙ e)
+    beside : HasThreads (slice_set m.threads t next) o y
+    beside = threads_beside m.threads t o s next x.monitor y.monitor h.at (h.reached.standing o x step.there) step.monitor.others own

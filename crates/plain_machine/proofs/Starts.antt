@@ -3,13 +3,15 @@ use Rattle.std.proofs.Common.{◌≡◌, ℕ, zero, suc, ◌+◌, ◌<◌, ◌�
 use Rattle.std.proofs.lemmas.List.{length-replicate, length-append, length-map, map-append, append-nil, take_more, take_all}
 use Rattle.std.proofs.lemmas.List.Concat.{flat_map-append}
 use Rattle.std.proofs.lemmas.List.Folds.{sum_by-replicate}
+use Rattle.plain_monitor.specs.Monitor.{free_monitor}
 use Rattle.plain_monitor.specs.Objects.{PlainObject, new_object, new_objects}
 use Rattle.object_program.specs.declared.program.ObjectDef.{ObjectDef}
 use Rattle.object_program.specs.declared.program.ClassDef.{ClassDef}
 use Rattle.object_program.specs.Program.{shape_from, total_of, slots_of_class}
 use Rattle.plain_machine.specs.Thread.{ThreadState}
 use Rattle.plain_machine.specs.Ready.{IsReady}
-use Rattle.plain_machine.specs.Sound.{monitor_in, AreCounted, IsKept}
+use Rattle.plain_machine.specs.Takable.{monitor_in}
+use Rattle.plain_machine.specs.Sound.{IsBeside, IsKept}
 
 -- a thread that ran from its start holds nothing
 pub kept_start : (n : ℕ) (s : ThreadState) → s.holds ≡ replicate n 0 → IsReady s → IsKept n s
@@ -67,11 +69,15 @@ pub total_at_end : (classes : List ClassDef) (ds es : List ObjectDef) (i : ℕ) 
 total_at_end classes ds es i objects e same le =
     ap length e ∙ length-new_objects classes (take i es) ∙ ap total_of (take_all i es le ∙ same)
 
-free_at : (shape : List (ℕ × ℕ)) (o : ℕ) → (monitor_in (new_objects shape) o).count ≡ 0
+free_at : (shape : List (ℕ × ℕ)) (o : ℕ) → monitor_in (new_objects shape) o ≡ free_monitor
 free_at [] o = refl
 free_at (x ∷ shape) zero = refl
 free_at (x ∷ shape) (suc o) = free_at shape o
 
--- no monitor of a new object counts
-pub counted_start : (shape : List (ℕ × ℕ)) (threads : List ThreadState) → AreCounted (new_objects shape) threads
-counted_start shape threads o = omega (arith, free_at shape o)
+free_beside : (threads : List ThreadState) (o : ℕ) → IsBeside threads o free_monitor
+free_beside threads o =
+    record { counted = omega arith; listed = λ t. record { once = omega arith; due = omega arith }; waiting = omega arith }
+
+-- the monitors of new objects
+pub beside_start : (shape : List (ℕ × ℕ)) (threads : List ThreadState) (o : ℕ) → IsBeside threads o (monitor_in (new_objects shape) o)
+beside_start shape threads o = rw (free_at shape o) (free_beside threads o)

@@ -1,15 +1,22 @@
 -- What a machine takes, by what its thread asks and what its objects take.
-use Rattle.std.proofs.Common.{◌≡◌, ℕ, ◌<◌, true, List, length, set, Option, Some, get_or, refl, subst}
-use Rattle.std.proofs.lemmas.List.{get_or_read}
+use Rattle.std.proofs.Common.{◌≡◌, ℕ, ◌<◌, true, List, length, set, slice_get, Option, Some, option_map, option_and_then, get_or, refl, sym, ap, ◌∙◌, subst}
+use Rattle.std.proofs.lemmas.List.{get_or_read, set-get_or}
 use Rattle.std.proofs.lemmas.Option.{slice_get-get_or}
 use Rattle.plain_monitor.specs.declared.entry.Entry.{Entry}
-use Rattle.plain_monitor.specs.Objects.{PlainObject, take_entry}
+use Rattle.plain_monitor.specs.Objects.{PlainObject, take_at, take_entry}
 use Rattle.plain_machine.specs.declared.call.Asked.{Asked}
 use Rattle.plain_machine.specs.Thread.{ThreadState}
 use Rattle.plain_machine.specs.Asking.{ask, fits, behind_entry, thread_after}
 use Rattle.plain_machine.specs.Machine.{PlainMachine, code_of, take, moved}
 use Rattle.plain_machine.specs.Ready.{unrun}
 use Rattle.plain_machine.specs.Sound.{thread_in}
+
+-- objects of which one takes the entry and stays as it is
+pub taken_same : (objects : List PlainObject) (o t : ℕ) (e : Entry) (x : PlainObject) → o < length objects → x ≡ get_or objects o x → take_at x t e ≡ Some x
+    → option_and_then (λ y. option_map (λ z. set objects o z) (take_at y t e)) (slice_get objects o) ≡ Some objects
+taken_same objects o t e x lt at h =
+    let r : slice_get objects o ≡ Some x = slice_get-get_or objects o x lt ∙ ap Some (sym at) in
+    rw (r, h) (ap (λ z. Some (set objects o z)) at ∙ ap Some (set-get_or objects o x))
 
 take_thread : (m : PlainMachine) (t : ℕ) (e : Entry) (r : Option PlainMachine) → t < length m.threads
     → moved m t (thread_after m.program (code_of m.program t) (thread_in m.threads t) e) (take_entry m.objects t e) ≡ r

@@ -7,8 +7,12 @@ pub mod Legal
 pub mod Ready
 pub mod ThreadView
 pub mod Next
+pub mod Takable
 pub mod Sound
 pub mod ObjectView
 pub mod MachineView
 pub mod Work
 pub mod Reached
+pub mod ReachedMonitor
+pub mod ReachedThread
+pub mod ReachedEntry

@@ -1,16 +1,11 @@
--- What is kept true of a machine whose program has built instructions alone.
-use Rattle.std.specs.Prelude.{◌≡◌, ℕ, ◌≤◌, List, length, sum, slice_index_or, Option, Some, None, IsTrue}
-use Rattle.std.specs.List.{All}
+-- What is kept true of a machine, so that no count and no room of a monitor gives out.
+use Rattle.std.specs.Prelude.{◌≡◌, ℕ, ◌+◌, ◌≤◌, ◌==◌, if◌then◌else◌, List, length, sum, slice_index_or, Option, Some, None}
+use Rattle.std.specs.List.{All, sum_by}
 use Rattle.plain_monitor.specs.Monitor.{PlainMonitor}
-use Rattle.plain_monitor.specs.Objects.{PlainObject, new_object}
-use Rattle.object_program.specs.Built.{is_built_program}
 use Rattle.plain_machine.specs.Thread.{ThreadState, holds_of}
 use Rattle.plain_machine.specs.Machine.{PlainMachine}
-use Rattle.plain_machine.specs.Ready.{unrun, IsReady}
-
--- the monitor of object o
-abbrev pub monitor_in : List PlainObject → ℕ → PlainMonitor
-monitor_in objects o = (slice_index_or objects o (new_object 0)).monitor
+use Rattle.plain_machine.specs.Ready.{unrun, IsReady, waits_on}
+use Rattle.plain_machine.specs.Takable.{monitor_in}
 
 abbrev pub thread_in : List ThreadState → ℕ → ThreadState
 thread_in threads t = slice_index_or threads t (unrun 0 0 0)
@@ -20,10 +15,47 @@ abbrev pub owner_holds : List ThreadState → ℕ → Option ℕ → ℕ
 owner_holds threads o None = 0
 owner_holds threads o (Some t) = holds_of (thread_in threads t) o
 
--- no monitor counts more than its owner's holds
-abbrev pub AreCounted : List PlainObject → List ThreadState → Type 0
-AreCounted objects threads =
-    (o : ℕ) → (monitor_in objects o).count ≤ owner_holds threads o (monitor_in objects o).owner
+-- the monitor of object o counts no more than its owner's holds
+abbrev pub IsCounted : List ThreadState → ℕ → PlainMonitor → Type 0
+IsCounted threads o m = m.count ≤ owner_holds threads o m.owner
+
+-- the sum of what thread t's places in the list weigh
+abbrev pub tally : (ℕ × ℕ → ℕ) → List (ℕ × ℕ) → ℕ → ℕ
+tally weight ps t = sum_by (λ p. if p.0 == t then weight p else 0) ps
+
+-- how often thread t stands in the list, and the sum of its counts there
+abbrev pub times : List (ℕ × ℕ) → ℕ → ℕ
+times ps t = tally (λ p. 1) ps t
+
+abbrev pub dues : List (ℕ × ℕ) → ℕ → ℕ
+dues ps t = tally (λ p. p.1) ps t
+
+-- the number, for a thread that waits on object o; 0 for each other
+abbrev pub while_waiting : ThreadState → ℕ → ℕ → ℕ
+while_waiting s o n = if waits_on s.mode o then n else 0
+
+-- thread t, in this state, waits or was called at most once at object o, and only while it waits on it; it gets no higher count
+-- back than its holds
+pub record IsListed (s : ThreadState) (o t : ℕ) (m : PlainMonitor) : Type 0 where
+  pub once : times m.waits t + times m.called t ≤ while_waiting s o 1
+  pub due : dues m.waits t + dues m.called t ≤ while_waiting s o (holds_of s o)
+
+abbrev pub AreListed : List ThreadState → ℕ → PlainMonitor → Type 0
+AreListed threads o m = (t : ℕ) → IsListed (thread_in threads t) o t m
+
+-- how many threads wait on object o
+abbrev pub waiting_on : List ThreadState → ℕ → ℕ
+waiting_on threads o = sum_by (λ s. while_waiting s o 1) threads
+
+-- no more are listed than wait
+abbrev pub AreWaiting : List ThreadState → ℕ → PlainMonitor → Type 0
+AreWaiting threads o m = length m.waits + length m.called ≤ waiting_on threads o
+
+-- the monitor of object o beside these threads
+pub record IsBeside (threads : List ThreadState) (o : ℕ) (m : PlainMonitor) : Type 0 where
+  pub counted : IsCounted threads o m
+  pub listed : AreListed threads o m
+  pub waiting : AreWaiting threads o m
 
 -- a thread of a machine of n objects: it has at most 64 holds in all
 pub record IsKept (n : ℕ) (s : ThreadState) : Type 0 where
@@ -34,13 +66,8 @@ pub record IsKept (n : ℕ) (s : ThreadState) : Type 0 where
 abbrev pub AreKept : ℕ → List ThreadState → Type 0
 AreKept n threads = All (IsKept n) threads
 
--- no monitor counts more than 64
-abbrev pub AreLow : List PlainObject → Type 0
-AreLow objects = (o : ℕ) → (monitor_in objects o).count ≤ 64
-
 pub record IsSound (m : PlainMachine) : Type 0 where
-  pub built : IsTrue (is_built_program m.program)
   pub threads : length m.threads ≡ length m.program.threads
   pub few : length m.threads ≤ 16
   pub kept : AreKept (length m.objects) m.threads
-  pub counted : AreCounted m.objects m.threads
+  pub monitors : (o : ℕ) → IsBeside m.threads o (monitor_in m.objects o)

@@ -1,6 +1,6 @@
 -- The state of a thread, and what its instructions do to it. A thread that isn't the owner may not exit, wait or notify: that is
 -- IllegalMonitorStateException of the Java Language Specification 8, 17.2. The rest of the language is this project's own.
-use Rattle.std.specs.Prelude.{ℕ, ℤ, pos, negsuc, ◌+ℤ◌, ◌-ℤ◌, ◌*ℤ◌, int_lt, int_le, nat_abs, ◌+◌, ◌-◌, Bool, ◌&&◌, nat_le, nat_lt, if◌then◌else◌, List, sum, slice_get, slice_index, slice_index_or, slice_set, Option, Some, None}
+use Rattle.std.specs.Prelude.{ℕ, ℤ, pos, ◌+ℤ◌, ◌-ℤ◌, ◌*ℤ◌, int_lt, int_le, nat_abs, ◌+◌, ◌-◌, Bool, ◌&&◌, nat_le, nat_lt, if◌then◌else◌, List, sum, slice_get, slice_index, slice_index_or, slice_set, Option, Some, None}
 use Rattle.plain_monitor.specs.declared.entry.Value.{Value}
 use Rattle.plain_monitor.specs.declared.entry.Value.TheVariants.{Nil, Int, Ref}
 use Rattle.plain_monitor.specs.declared.entry.Fault.{Fault}
@@ -8,6 +8,7 @@ use Rattle.plain_monitor.specs.declared.entry.Fault.TheVariants.{IllegalMonitorS
 use Rattle.plain_monitor.specs.declared.entry.Ending.{Ending}
 use Rattle.plain_monitor.specs.declared.entry.Ending.TheVariants.{Trap, Done}
 use Rattle.plain_monitor.specs.Objects.{same_value}
+use Rattle.plain_monitor.specs.Numbers.{is_in_range}
 use Rattle.object_program.specs.declared.program.ObjectDef.{ObjectDef}
 use Rattle.object_program.specs.declared.program.Code.{Code}
 use Rattle.object_program.specs.declared.program.Code.TheVariants as code
@@ -59,10 +60,6 @@ faults s fault = Stops (Trap fault (s.place + 1))
 -- x becomes the value
 abbrev pub sets : ThreadState → ℕ → Value → Step
 sets s x v = Goes (behind (with_local s x v))
-
--- a number of a value: -2^61 to 2^61 - 1
-abbrev pub is_in_range : ℤ → Bool
-is_in_range z = int_le (negsuc 2305843009213693951) z && int_le z (pos 2305843009213693951)
 
 -- x becomes the number, where a value may be it
 abbrev pub computes : ThreadState → ℕ → ℤ → Step

@@ -1,13 +1,12 @@
 //! The objects and the threads of a new machine.
 
-ghost use Rattle.std.specs.Prelude.{◌≡◌, ◌≤◌, ◌++◌, IfOk, OnOk, IsTrue, length, map, replicate, vec_len};
-ghost use Rattle.std.specs.List.{list_all};
-ghost use Rattle.object_program.specs.Built.{is_built_code, is_built_program};
-ghost use Rattle.object_program.specs.Program.{shape_of, objects_total, slots_of_class};
+ghost use Rattle.std.specs.Prelude.{◌≡◌, ◌≤◌, ◌++◌, IfOk, OnOk, length, map, replicate, vec_len};
+ghost use Rattle.object_program.specs.Program.{shape_of, objects_total};
 ghost use Rattle.plain_monitor.specs.Objects.{new_object, new_objects};
 ghost use Rattle.plain_machine.specs.Running.{first_state};
 ghost use Rattle.plain_machine.specs.Sound.{IsKept, AreKept};
 
+use crate::code::slots_of_class;
 use crate::object::Object;
 use crate::run::run;
 use crate::thread::Thread;
@@ -27,16 +26,6 @@ pub fn new_objects(alloc: Global, program: &Program) -> Result<Vec<Object>, NoMe
         push_objects(alloc, &mut objects, definition.size, slots)?;
     }
     Ok(objects)
-}
-
-/// The slots of an object of this class.
-fn slots_of_class(program: &Program, class: u32) -> u32
-    ensures { result ≡ slots_of_class program.now.classes class }
-{
-    match program.classes.items().get(class as usize) {
-        Some(definition) => definition.slots,
-        None => 0,
-    }
 }
 
 /// Adds this many objects with so many slots.
@@ -62,8 +51,7 @@ pub fn new_threads(
     objects: u32,
     fuel: u32,
 ) -> Result<Vec<Thread>, NoMemory>
-    requires built { IsTrue (is_built_program program.now) }
-    requires objects { objects ≡ objects_total program.now }
+    requires { objects ≡ objects_total program.now }
     ensures threads { IfOk result (λ v. v.items ≡ map (λ t. first_state program.now t fuel) program.now.threads) }
     ensures kept { IfOk result (λ v. AreKept objects v.items) }
     ensures few { IfOk result (λ v. length v.items ≤ 16) }
@@ -87,7 +75,6 @@ fn new_thread(
 ) -> Result<Thread, NoMemory>
     requires locals { length definition.now.locals ≤ 32 }
     requires few { length definition.now.code ≤ 4096 }
-    requires built { IsTrue (list_all is_built_code definition.now.code) }
     requires objects { objects ≡ objects_total program.now }
     ensures first { IfOk result (λ s. s ≡ first_state program.now definition.now fuel) }
     ensures kept { IfOk result (λ s. IsKept objects s) }

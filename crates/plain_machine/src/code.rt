@@ -1,20 +1,67 @@
 //! What the machine reads of a program.
 
-ghost use Rattle.std.specs.Prelude.{◌≡◌, ◌<◌, ◌≤◌, IsTrue, length};
-ghost use Rattle.std.specs.List.{list_all};
-ghost use Rattle.object_program.specs.Built.{is_built_code, is_built_program};
+ghost use Rattle.std.specs.Prelude.{◌≡◌, ◌<◌, ◌≤◌, if◌then◌else◌, length};
+ghost use Rattle.std.specs.List.Sorted.{IsNonDecreasingBy, IsPartitionPoint};
+ghost use Rattle.object_program.specs.Program.{has_object, slots_of_class, slots_of, class_from};
 ghost use Rattle.plain_machine.specs.Machine.{code_of};
 
-use object_program::{Code, Program};
+use object_program::{Code, ObjectDef, Program};
 
 /// The instructions of thread t.
 #[tactic(auto, using(crate::proofs::Codes::codes))]
 pub fn code_of(program: &Program, t: u32) -> &[Code]
-    requires within { t < length program.now.threads }
-    requires built { IsTrue (is_built_program program.now) }
+    requires { t < length program.now.threads }
     ensures code { result.now ≡ code_of program.now t }
     ensures few { length result.now ≤ 4096 }
-    ensures built { IsTrue (list_all is_built_code result.now) }
 {
     program.threads.items()[t as usize].code.items()
+}
+
+/// The slots of an object of this class.
+pub fn slots_of_class(program: &Program, class: u32) -> u32
+    ensures { result ≡ slots_of_class program.now.classes class }
+{
+    match program.classes.items().get(class as usize) {
+        Some(definition) => definition.slots,
+        None => 0,
+    }
+}
+
+/// The slots of object o; where there is no such object, those of class 0.
+pub fn slots_of(program: &Program, o: u32) -> u32
+    ensures { result ≡ slots_of program.now o }
+{
+    slots_of_class(program, class_of(program, o))
+}
+
+/// The class of object o; where there is no such object, 0. Declarations stand by rising numbers of their objects, so that it is
+/// found in few steps among many of them.
+fn class_of(program: &Program, o: u32) -> u32
+    ensures { result ≡ class_from program.now.objects o }
+{
+    let definitions = program.objects.items();
+    let begun = begun_by(definitions, o);
+    if begun == 0 {
+        return 0;
+    }
+    class_by(&definitions[begun - 1], o)
+}
+
+/// How many of the declarations don't stand behind object o.
+fn begun_by(definitions: &[ObjectDef], o: u32) -> usize
+    requires { IsNonDecreasingBy (λ d. d.first) definitions.now }
+    ensures bound { result ≤ length definitions.now }
+    ensures point { IsPartitionPoint (λ d. d.first ≤ o) (λ d. o < d.first) definitions.now result }
+{
+    definitions.partition_point(|definition| definition.first <= o)
+}
+
+/// The class of object o by this declaration; where it doesn't stand for the object, 0.
+fn class_by(definition: &ObjectDef, o: u32) -> u32
+    ensures { result ≡ (if has_object definition.now o then definition.now.class else 0) }
+{
+    if definition.first <= o && o - definition.first < definition.size {
+        return definition.class;
+    }
+    0
 }

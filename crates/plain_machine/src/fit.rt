@@ -1,24 +1,22 @@
 //! Which entries a thread asks for.
 
-ghost use Rattle.std.specs.Prelude.{◌≡◌, true, false, Some, IfNone, IfSome, OnSome};
+ghost use Rattle.std.specs.Prelude.{◌≡◌, ℕ, true, false, Some, IfNone, IfSome};
 ghost use Rattle.plain_monitor.specs.Objects.{same_value};
 ghost use Rattle.plain_machine.specs.declared.call.Call.TheVariants as call;
 ghost use Rattle.plain_monitor.specs.declared.entry.Ending.TheVariants as ending;
-ghost use Rattle.plain_machine.specs.Asking.{ask, fits, is_call, is_exit, is_ending, fault_number};
-ghost use Rattle.plain_machine.specs.Ready.{IsReady, IsReadyToAsk, IsBuiltAsked, IsBuiltCall, IsBuiltEntry};
+ghost use Rattle.plain_machine.specs.Asking.{ask, fits, is_call, is_exit, is_resume, is_ending, fault_number};
+ghost use Rattle.plain_machine.specs.Ready.{IsReady, IsReadyToAsk};
 
 use crate::call::{Asked, Call};
 use crate::thread::Thread;
 use plain_monitor::{Ending, Entry, Fault, Value};
 
 /// What the thread asks, where the entry is that; None where it asks for something else, or for nothing.
-#[tactic(auto, using(crate::proofs::Behind::built_entry, crate::proofs::Behind::built_asked))]
 pub fn asked_for(thread: &Thread, entry: &Entry) -> Option<Asked>
     requires { IsReady thread.now }
     ensures asked { IfSome result (λ asked. ask thread.now ≡ Some asked) }
     ensures fits { IfSome result (λ asked. fits asked entry.now ≡ true) }
     ensures ready { IfSome result (λ asked. IsReadyToAsk thread.now asked) }
-    ensures entry { OnSome result (IsBuiltEntry entry.now) }
     ensures other { IfNone result (IfSome (ask thread.now) (λ asked. fits asked entry.now ≡ false)) }
 {
     let asked = thread.asked()?;
@@ -30,27 +28,35 @@ pub fn asked_for(thread: &Thread, entry: &Entry) -> Option<Asked>
 
 /// Whether the entry is what is asked.
 fn fits(asked: Asked, entry: &Entry) -> bool
-    requires { IsBuiltAsked asked }
     ensures { result ≡ fits asked entry.now }
 {
     match asked {
         Asked::Calls { call } => is_call(call, entry),
+        Asked::Resumes { object } => is_resume(object, entry),
         Asked::Leaves { object } => is_exit(object, entry),
         Asked::Ends { ending } => is_ending(ending, entry),
-        Asked::Resumes { .. } => unreachable!(),
     }
 }
 
 /// Whether the entry is this call.
 fn is_call(call: Call, entry: &Entry) -> bool
-    requires { IsBuiltCall call }
     ensures { result ≡ is_call call entry.now }
 {
     match call {
         Call::Enter { object } => is_enter(object, entry),
         Call::Exit { object } => is_exit(object, entry),
+        Call::Wait { object } => is_wait(object, entry),
+        Call::Notify { object } => is_notify(object, entry),
+        Call::NotifyAll { object } => is_notify_all(object, entry),
+        Call::Get { object, slot, .. } => is_get(object, slot, entry),
+        Call::Put {
+            object,
+            slot,
+            value,
+        } => is_put(object, slot, value, entry),
+        Call::Hash { object, .. } => is_hash(object, entry),
         Call::Print { value } => is_print(value, entry),
-        _ => unreachable!(),
+        Call::Dump { number } => is_dump(number, entry),
     }
 }
 
@@ -76,6 +82,83 @@ fn is_exit(object: u32, entry: &Entry) -> bool
     }
 }
 
+fn is_wait(object: u32, entry: &Entry) -> bool
+    ensures { result ≡ is_call (call.Wait object) entry.now }
+{
+    match entry {
+        Entry::Wait { object: waited } => object == *waited,
+        _ => false,
+    }
+}
+
+fn is_resume(object: u32, entry: &Entry) -> bool
+    ensures { result ≡ is_resume object entry.now }
+{
+    match entry {
+        Entry::Resume { object: resumed } => object == *resumed,
+        _ => false,
+    }
+}
+
+fn is_notify(object: u32, entry: &Entry) -> bool
+    ensures { result ≡ is_call (call.Notify object) entry.now }
+{
+    match entry {
+        Entry::Notify {
+            object: notified,
+            ..
+        } => object == *notified,
+        _ => false,
+    }
+}
+
+fn is_notify_all(object: u32, entry: &Entry) -> bool
+    ensures { result ≡ is_call (call.NotifyAll object) entry.now }
+{
+    match entry {
+        Entry::NotifyAll {
+            object: notified,
+            ..
+        } => object == *notified,
+        _ => false,
+    }
+}
+
+fn is_get(object: u32, slot: u32, entry: &Entry) -> bool
+    ensures { (local : ℕ) → result ≡ is_call (call.Get local object slot) entry.now }
+{
+    match entry {
+        Entry::Get {
+            object: read,
+            slot: at,
+            ..
+        } => object == *read && slot == *at,
+        _ => false,
+    }
+}
+
+fn is_put(object: u32, slot: u32, value: Value, entry: &Entry) -> bool
+    ensures { result ≡ is_call (call.Put object slot value) entry.now }
+{
+    match entry {
+        Entry::Put {
+            object: written,
+            slot: at,
+            value: put,
+        } => object == *written && slot == *at && same_value(value, *put),
+        _ => false,
+    }
+}
+
+fn is_hash(object: u32, entry: &Entry) -> bool
+    ensures { (local : ℕ) → result ≡ is_call (call.Hash local object) entry.now }
+{
+    match entry {
+        Entry::Hash { object: hashed, .. } => object == *hashed,
+        _ => false,
+    }
+}
+
 fn is_print(value: Value, entry: &Entry) -> bool
     ensures { result ≡ is_call (call.Print value) entry.now }
 {
@@ -85,8 +168,17 @@ fn is_print(value: Value, entry: &Entry) -> bool
     }
 }
 
+fn is_dump(number: u32, entry: &Entry) -> bool
+    ensures { result ≡ is_call (call.Dump number) entry.now }
+{
+    match entry {
+        Entry::Dump { number: dumped } => number == *dumped,
+        _ => false,
+    }
+}
+
 /// Whether the values are the same.
-fn same_value(value: Value, other: Value) -> bool
+pub fn same_value(value: Value, other: Value) -> bool
     ensures { result ≡ same_value value other }
 {
     match (value, other) {

@@ -8,18 +8,22 @@ mod advance;
 mod build;
 mod call;
 mod code;
+mod compute;
 mod fit;
+mod jump;
 mod laws;
 mod machine;
 mod object;
+mod objects;
 mod offer;
+mod perform;
 mod run;
 mod step;
 mod thread;
 
 pub use laws::{
     a_machine_that_offers_nothing_is_over, each_entry_uses_up_work, machines_stay_reached,
-    offered_entries_are_taken,
+    offered_entries_are_taken, paths_and_draws_change_nothing, reached_machines_are_in_range,
 };
 pub use machine::Machine;
 pub use offer::Offer;

@@ -1,11 +1,10 @@
 //! The plain machine.
 
-ghost use Rattle.std.specs.Prelude.{◌≡◌, ◌<◌, if◌then◌else◌, length, OnOk, OnErr, IfOk, Some, None, IsTrue};
-ghost use Rattle.object_program.specs.Built.{is_built_program};
+ghost use Rattle.std.specs.Prelude.{◌≡◌, ◌<◌, if◌then◌else◌, length, OnOk, OnErr, IfOk, Some, None};
 ghost use Rattle.plain_machine.specs.Machine.{new_machine, take, object_at, monitor_at, slot_at, ending_of, ending_in, other_owner, wanted, is_blocked, is_waiting, is_barred, is_live, all_barred, is_stuck};
-ghost use Rattle.plain_machine.specs.Offering.{offered, call_offer, ending_entry};
-ghost use Rattle.plain_machine.specs.Ready.{IsBuiltCall};
-ghost use Rattle.plain_monitor.specs.Monitor.{is_thread};
+ghost use Rattle.plain_machine.specs.declared.call.Call.TheVariants as call;
+ghost use Rattle.plain_machine.specs.Offering.{offered, call_offer, resume_offer, unless_owned, hash_offer, oldest, ending_entry};
+ghost use Rattle.plain_monitor.specs.Monitor.{is_thread, is_listed};
 ghost use Rattle.std.specs.List.{list_any};
 
 use crate::advance::advance;
@@ -13,8 +12,8 @@ use crate::build::{new_objects, new_threads};
 use crate::call::{Asked, Call, Mode};
 use crate::code::code_of;
 use crate::fit::asked_for;
-use crate::object;
 use crate::object::Object;
+use crate::objects;
 use crate::offer::Offer;
 use crate::thread::Thread;
 use object_program::Program;
@@ -46,7 +45,6 @@ impl Machine {
     /// The machine before the first entry, where each thread has this much fuel. It keeps a copy of the program, and takes all
     /// memory that it will need; where memory is wanting there is none.
     pub fn new(alloc: Global, program: &Program, fuel: u32) -> Result<Machine, NoMemory>
-        requires { IsTrue (is_built_program program.now) }
         ensures { IfOk result (λ m. m ≡ new_machine program.now fuel) }
     {
         let program = program.try_clone(alloc)?;
@@ -59,37 +57,83 @@ impl Machine {
         })
     }
 
-    /// What thread t may do next, or why there is nothing: its next entry, an owner that it waits for, or that it has ended.
+    /// What thread t may do next: its next entry, with what the objects answer, or why there is none.
     pub fn offer(&self, t: u32) -> Offer
         requires { t < length self.now.threads }
         ensures { result ≡ offered self.now t }
     {
         match self.threads[t as usize].asked() {
             Some(Asked::Calls { call }) => self.offer_call(t, call),
+            Some(Asked::Resumes { object }) => self.offer_resume(t, object),
             Some(Asked::Leaves { object }) => Offer::Next(Entry::Exit { object }),
             Some(Asked::Ends { ending }) => Offer::Next(ending_entry(ending)),
-            Some(Asked::Resumes { .. }) => unreachable!(),
             None => Offer::Ended,
         }
     }
 
     /// What a thread that stands before the call is offered.
     fn offer_call(&self, t: u32, call: Call) -> Offer
-        requires { IsBuiltCall call }
         ensures { result ≡ call_offer self.now t call }
     {
         match call {
-            Call::Enter { object } => match self.other_owner(object, t) {
-                Some(owner) => Offer::Blocked { object, owner },
-                None => Offer::Next(Entry::Enter {
-                    object,
-                    path: Path::StackFirst,
-                }),
-            },
+            Call::Enter { object } => self.offer_enter(t, object),
             Call::Exit { object } => Offer::Next(Entry::Exit { object }),
+            Call::Wait { object } => Offer::Next(Entry::Wait { object }),
+            Call::Notify { object } => {
+                let woken = self.oldest(object);
+                Offer::Next(Entry::Notify { object, woken })
+            }
+            Call::NotifyAll { object } => {
+                let woken = self.waiting(object);
+                Offer::Next(Entry::NotifyAll { object, woken })
+            }
+            Call::Get { object, slot, .. } => {
+                let value = self.value_of(object, slot);
+                Offer::Next(Entry::Get {
+                    object,
+                    slot,
+                    value,
+                })
+            }
+            Call::Put {
+                object,
+                slot,
+                value,
+            } => Offer::Next(Entry::Put {
+                object,
+                slot,
+                value,
+            }),
+            Call::Hash { object, .. } => hash_offer(object, self.hash_of(object)),
             Call::Print { value } => Offer::Next(Entry::Print { value }),
-            _ => unreachable!(),
+            Call::Dump { number } => Offer::Next(Entry::Dump { number }),
         }
+    }
+
+    /// What a thread that enters the object is offered.
+    fn offer_enter(&self, t: u32, object: u32) -> Offer
+        ensures { result ≡ call_offer self.now t (call.Enter object) }
+    {
+        let path = Path::StackFirst;
+        unless_owned(
+            object,
+            self.other_owner(object, t),
+            Entry::Enter { object, path },
+        )
+    }
+
+    /// What a thread that waits on the object is offered: nothing until it is notified.
+    fn offer_resume(&self, t: u32, object: u32) -> Offer
+        ensures { let m = monitor_at self.now object in result ≡ resume_offer m t object (other_owner m t) }
+    {
+        if self.waits_on(t, object) {
+            return Offer::Waiting { object };
+        }
+        unless_owned(
+            object,
+            self.other_owner(object, t),
+            Entry::Resume { object },
+        )
     }
 
     /// Takes an entry of thread t, where the thread asks for it and the objects take it. Else it is refused, and the machine
@@ -106,7 +150,7 @@ impl Machine {
         let Some(asked) = asked_for(&self.threads[at], entry) else {
             return Err(Refused);
         };
-        object::take(&mut self.objects, t, entry)?;
+        objects::take(&mut self.objects, t, entry)?;
         let code = code_of(&self.program, t);
         advance(&self.program, code, &mut self.threads[at], asked, entry);
         Ok(())
@@ -142,7 +186,7 @@ impl Machine {
         requires slot { slot < length (object_at self.now o).slots }
         ensures { result ≡ slot_at self.now o slot }
     {
-        self.objects[o as usize].slot(slot)
+        self.value_of(o, slot)
     }
 
     /// Whether some thread is live, and none that is can go on by itself.
@@ -187,10 +231,7 @@ impl Machine {
         ensures { result ≡ is_waiting self.now t mode }
     {
         match mode {
-            Mode::Waiting { object } => match self.objects.get(object as usize) {
-                Some(object) => object.monitor().waits(t),
-                None => false,
-            },
+            Mode::Waiting { object } => self.waits_on(t, object),
             _ => false,
         }
     }
@@ -202,6 +243,53 @@ impl Machine {
         match wanted {
             Some(object) => self.other_owner(object, t).is_some(),
             None => false,
+        }
+    }
+
+    /// Whether the thread waits on the object and was not notified.
+    fn waits_on(&self, t: u32, object: u32) -> bool
+        ensures { result ≡ is_listed (monitor_at self.now object).waits t }
+    {
+        match self.objects.get(object as usize) {
+            Some(object) => object.monitor().waits(t),
+            None => false,
+        }
+    }
+
+    /// The oldest of those who wait on the object.
+    fn oldest(&self, object: u32) -> Option<u32>
+        ensures { result ≡ oldest (monitor_at self.now object).waits }
+    {
+        self.objects.get(object as usize)?.monitor().oldest()
+    }
+
+    /// How many wait on the object.
+    fn waiting(&self, object: u32) -> u32
+        ensures { result ≡ length (monitor_at self.now object).waits }
+    {
+        match self.objects.get(object as usize) {
+            Some(object) => object.monitor().waiting(),
+            None => 0,
+        }
+    }
+
+    /// What the slot of the object has; nil where there is no such slot.
+    fn value_of(&self, object: u32, slot: u32) -> Value
+        ensures { result ≡ slot_at self.now object slot }
+    {
+        match self.objects.get(object as usize) {
+            Some(object) => object.slot(slot),
+            None => Value::Nil,
+        }
+    }
+
+    /// The hash of the object, once it has one.
+    fn hash_of(&self, object: u32) -> Option<u32>
+        ensures { result ≡ (object_at self.now object).hash }
+    {
+        match self.objects.get(object as usize) {
+            Some(object) => object.hash(),
+            None => None,
         }
     }
 
@@ -223,6 +311,30 @@ fn other(owner: Option<u32>, t: u32) -> Option<u32>
     match owner {
         Some(owner) if owner != t => Some(owner),
         _ => None,
+    }
+}
+
+/// The entry, unless another thread has the monitor of the object.
+fn unless_owned(object: u32, owner: Option<u32>, entry: Entry) -> Offer
+    ensures { result ≡ unless_owned object owner entry }
+{
+    match owner {
+        Some(owner) => Offer::Blocked { object, owner },
+        None => Offer::Next(entry),
+    }
+}
+
+/// The hash that the object has, or a wish for one.
+fn hash_offer(object: u32, hash: Option<u32>) -> Offer
+    ensures { result ≡ hash_offer object hash }
+{
+    match hash {
+        Some(value) => Offer::Next(Entry::Hash {
+            object,
+            value,
+            drawn: None,
+        }),
+        None => Offer::NextHash { object },
     }
 }
 

@@ -1,10 +1,8 @@
 //! How a thread runs.
 
-ghost use Rattle.std.specs.Prelude.{◌≡◌, ◌≤◌, IsTrue, length};
-ghost use Rattle.std.specs.List.{list_all};
-ghost use Rattle.object_program.specs.Built.{is_built_code};
+ghost use Rattle.std.specs.Prelude.{◌≡◌, ◌≤◌, ℕ, false, length};
 ghost use Rattle.plain_machine.specs.Running.{run_on};
-ghost use Rattle.plain_machine.specs.Ready.{IsReady};
+ghost use Rattle.plain_machine.specs.Ready.{IsReady, waits_on};
 
 use crate::call::Mode;
 use crate::step::{Next, look};
@@ -15,16 +13,20 @@ use plain_monitor::Ending;
 /// Runs a thread that has this much fuel, up to its next call or its end.
 #[tactic(auto, using(crate::proofs::Runs::run_steps))]
 pub fn run(program: &Program, code: &[Code], thread: &mut Thread, fuel: u32)
-    requires few { length code.now ≤ 4096 }
-    requires built { IsTrue (list_all is_built_code code.now) }
+    requires { length code.now ≤ 4096 }
     ensures runs { thread.new ≡ run_on program.now code.now fuel thread.old }
     ensures holds { thread.new.holds ≡ thread.old.holds }
     ensures ready { IsReady thread.new }
+    ensures waits { (o : ℕ) → waits_on thread.new.mode o ≡ false }
 {
     let mut left = fuel;
     while left > 0 {
         match look(program, code, thread) {
-            Next::Sets { local, value } => thread.set_local(local, value),
+            Next::Sets { local, value } => {
+                thread.set_local(local, value);
+                thread.step();
+            }
+            Next::Jumps { place } => thread.go_to(place),
             Next::Calls { call } => return thread.stand(left, Mode::Calling { call }),
             Next::Stops { ending } => return thread.stand(left - 1, Mode::Unwinding { ending }),
         }

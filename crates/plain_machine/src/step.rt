@@ -1,15 +1,14 @@
 //! What an instruction leads to.
 
-ghost use Rattle.std.specs.Prelude.{◌≡◌, ◌<◌, ◌≤◌, IsTrue, length, slice_get};
-ghost use Rattle.std.specs.List.{list_all};
-ghost use Rattle.object_program.specs.Built.{is_built_code};
-ghost use Rattle.plain_machine.specs.Thread.{step_of, local, first_of, faults, enters, owner_only, Calls};
+ghost use Rattle.std.specs.Prelude.{◌≡◌, ◌<◌, ◌≤◌, length};
+ghost use Rattle.plain_machine.specs.Thread.{step_of, faults};
 ghost use Rattle.plain_machine.specs.Running.{instruction_at};
 ghost use Rattle.plain_machine.specs.Next.{meant, IsReadyNext};
-ghost use Rattle.plain_machine.specs.declared.call.Call.TheVariants as call;
-ghost use Rattle.plain_monitor.specs.declared.entry.Fault.TheVariants as fault;
 
 use crate::call::Call;
+use crate::compute::{add, element, first_object, mul, sub};
+use crate::jump::{jump, jump_below, jump_equal};
+use crate::perform::{dump, enter, exit, get, hash, notify, notify_all, print, put, wait};
 use crate::thread::Thread;
 use object_program::{Code, Program};
 use plain_monitor::{Ending, Fault, Value};
@@ -19,6 +18,8 @@ use plain_monitor::{Ending, Fault, Value};
 pub enum Next {
     /// The local becomes the value, and the thread goes on behind the instruction.
     Sets { local: u32, value: Value },
+    /// The thread goes on behind this many instructions.
+    Jumps { place: u32 },
     /// The thread stands before the call.
     Calls { call: Call },
     /// The thread ends so.
@@ -27,8 +28,7 @@ pub enum Next {
 
 /// What the instruction that the thread is at leads to. Behind the last one a thread is done.
 pub fn look(program: &Program, code: &[Code], thread: &Thread) -> Next
-    requires few { length code.now ≤ 4096 }
-    requires built { IsTrue (list_all is_built_code code.now) }
+    requires { length code.now ≤ 4096 }
     ensures next { step_of program.now thread.now (instruction_at code.now thread.now.place)
         ≡ meant thread.now result }
     ensures ready { IsReadyNext thread.now result }
@@ -43,8 +43,7 @@ pub fn look(program: &Program, code: &[Code], thread: &Thread) -> Next
 
 /// What this instruction leads to.
 fn next_at(program: &Program, thread: &Thread, instruction: Code) -> Next
-    requires place { thread.now.place < 4096 }
-    requires built { IsTrue (is_built_code instruction) }
+    requires { thread.now.place < 4096 }
     ensures next { step_of program.now thread.now instruction ≡ meant thread.now result }
     ensures ready { IsReadyNext thread.now result }
 {
@@ -53,38 +52,35 @@ fn next_at(program: &Program, thread: &Thread, instruction: Code) -> Next
             local: x,
             value: Value::Int(v),
         },
+        Code::Add { x, y, z } => add(thread, x, thread.local(y), thread.local(z)),
+        Code::Sub { x, y, z } => sub(thread, x, thread.local(y), thread.local(z)),
+        Code::Mul { x, y, z } => mul(thread, x, thread.local(y), thread.local(z)),
         Code::Ref { x, n } => Next::Sets {
             local: x,
             value: Value::Ref(first_object(program, n)),
         },
-        Code::Enter { x } => match thread.local(x) {
-            Value::Ref(object) => enter(thread, object),
-            _ => fault(thread, Fault::NotRef),
-        },
-        Code::Exit { x } => match thread.local(x) {
-            Value::Ref(object) => exit(thread, object),
-            _ => fault(thread, Fault::NotRef),
-        },
-        Code::Print { x } => print(thread, x),
+        Code::Elem { x, n, i } => element(program, thread, x, n, thread.local(i)),
+        Code::Enter { x } => enter(thread, thread.local(x)),
+        Code::Exit { x } => exit(thread, thread.local(x)),
+        Code::Wait { x } => wait(thread, thread.local(x)),
+        Code::Notify { x } => notify(thread, thread.local(x)),
+        Code::NotifyAll { x } => notify_all(thread, thread.local(x)),
+        Code::Get { x, o, k } => get(program, thread, x, thread.local(o), k),
+        Code::Put { o, k, x } => put(program, thread, thread.local(o), k, thread.local(x)),
+        Code::Hash { x, o } => hash(thread, x, thread.local(o)),
+        Code::Print { x } => print(thread, thread.local(x)),
+        Code::Jump { l } => jump(thread, l),
+        Code::Jlt { x, y, l } => jump_below(thread, thread.local(x), thread.local(y), l),
+        Code::Jeq { x, y, l } => jump_equal(thread, thread.local(x), thread.local(y), l),
+        Code::Dump => dump(thread),
         Code::End => Next::Stops {
             ending: Ending::Done,
         },
-        _ => unreachable!(),
-    }
-}
-
-/// The first object of a declaration.
-fn first_object(program: &Program, n: u32) -> u32
-    ensures { result ≡ first_of (slice_get program.now.objects n) }
-{
-    match program.objects.items().get(n as usize) {
-        Some(definition) => definition.first,
-        None => 0,
     }
 }
 
 /// A fault at the instruction that the thread is at.
-fn fault(thread: &Thread, fault: Fault) -> Next
+pub fn fault(thread: &Thread, fault: Fault) -> Next
     requires { thread.now.place < 4096 }
     ensures next { faults thread.now fault ≡ meant thread.now result }
     ensures ready { IsReadyNext thread.now result }
@@ -93,48 +89,6 @@ fn fault(thread: &Thread, fault: Fault) -> Next
         ending: Ending::Trap {
             fault,
             index: thread.place() + 1,
-        },
-    }
-}
-
-/// An enter, of at most 64 holds.
-fn enter(thread: &Thread, object: u32) -> Next
-    requires { thread.now.place < 4096 }
-    ensures next { enters thread.now object ≡ meant thread.now result }
-    ensures ready { IsReadyNext thread.now result }
-{
-    if thread.depth() >= 64 {
-        return fault(thread, Fault::TooDeep);
-    }
-    Next::Calls {
-        call: Call::Enter { object },
-    }
-}
-
-/// An exit, of an object that the thread holds.
-fn exit(thread: &Thread, object: u32) -> Next
-    requires { thread.now.place < 4096 }
-    ensures next { owner_only thread.now object fault.IllegalMonitorState (Calls (call.Exit object))
-        ≡ meant thread.now result }
-    ensures ready { IsReadyNext thread.now result }
-{
-    if thread.holds(object) < 1 {
-        return fault(thread, Fault::IllegalMonitorState);
-    }
-    Next::Calls {
-        call: Call::Exit { object },
-    }
-}
-
-/// A print of the local.
-fn print(thread: &Thread, x: u32) -> Next
-    requires { thread.now.place < 4096 }
-    ensures next { Calls (call.Print (local thread.now x)) ≡ meant thread.now result }
-    ensures ready { IsReadyNext thread.now result }
-{
-    Next::Calls {
-        call: Call::Print {
-            value: thread.local(x),
         },
     }
 }

@@ -60,12 +60,14 @@ impl Thread {
         self.place
     }
 
+    /// How many instructions it may still pay for.
     pub fn fuel(&self) -> u32
         ensures { result ≡ self.now.fuel }
     {
         self.fuel
     }
 
+    /// Whether it runs, waits, unwinds or has ended.
     pub fn mode(&self) -> Mode
         ensures { result ≡ self.now.mode }
     {
@@ -89,6 +91,7 @@ impl Thread {
         }
     }
 
+    /// What the local is; nil where there is no such local.
     pub fn local(&self, x: u32) -> Value
         ensures { result ≡ local self.now x }
     {
@@ -98,12 +101,10 @@ impl Thread {
         }
     }
 
-    /// x becomes the value, and the thread stands behind the instruction.
+    /// x becomes the value, where there is such a local.
     pub fn set_local(&mut self, x: u32, value: Value)
-        requires { self.old.place < 4096 }
-        ensures { self.new ≡ behind (with_local self.old x value) }
+        ensures { self.new ≡ with_local self.old x value }
     {
-        self.place += 1;
         let x = x as usize;
         if x >= self.locals.len() {
             return;
@@ -117,6 +118,27 @@ impl Thread {
         ensures { self.new ≡ behind self.old }
     {
         self.place += 1;
+    }
+
+    /// The thread stands behind this many instructions.
+    pub fn go_to(&mut self, place: u32)
+        ensures { self.new ≡ record self.old { place = place } }
+    {
+        self.place = place;
+    }
+
+    /// How many dumps it has made.
+    pub fn dumps(&self) -> u32
+        ensures { result ≡ self.now.dumps }
+    {
+        self.dumps
+    }
+
+    /// It has made this many dumps.
+    pub fn count_dumps(&mut self, dumps: u32)
+        ensures { self.new ≡ record self.old { dumps = dumps } }
+    {
+        self.dumps = dumps;
     }
 
     /// It has this much fuel, and is where the mode says.

@@ -1,12 +1,13 @@
 -- The words that a heap's slots hold for values. The words are this project's own.
-use Rattle.std.specs.Prelude.{◌≡◌, ℕ, ◌+◌, ◌*◌, ◌^◌, ◌<◌, pos, negsuc, ◌≤ℤ◌, ◌+ℤ◌, ◌*ℤ◌}
+use Rattle.std.specs.Prelude.{◌≡◌, ℕ, ◌+◌, ◌*◌, ◌^◌, ◌<◌, pos, ◌+ℤ◌, ◌*ℤ◌}
+use Rattle.plain_monitor.specs.Numbers.{IsInRange}
 use Rattle.plain_monitor.specs.declared.entry.Value.{Value}
 use Rattle.plain_monitor.specs.declared.entry.Value.TheVariants.{Nil, Int, Ref}
 
 -- the value is in its range: a number from -2^61 to 2^61 - 1, or an object below 2^15
 abbrev pub IsSpellable : Value → Type 0
 IsSpellable Nil = Unit {0}
-IsSpellable (Int i) = (negsuc 2305843009213693951 ≤ℤ i) × (i ≤ℤ pos 2305843009213693951)
+IsSpellable (Int i) = IsInRange i
 IsSpellable (Ref o) = o < 2 ^ 15
 
 -- the word is that of the value

@@ -11,6 +11,13 @@ pub enum Value {
     Ref(u32),
 }
 
+impl Value {
+    /// The least number of a value, -2^61.
+    pub const LEAST: i64 = -(1 << 61);
+    /// The greatest number of a value, 2^61 - 1.
+    pub const GREATEST: i64 = (1 << 61) - 1;
+}
+
 /// How an enter took its monitor. `First` means that the thread had no hold on the object before.
 #[derive(Clone, Copy, Debug, PartialEq, Eq)]
 pub enum Path {

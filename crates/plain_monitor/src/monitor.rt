@@ -1,6 +1,6 @@
 //! The monitor of one object.
 
-ghost use Rattle.std.specs.Prelude.{◌≡◌, ℕ, ◌+◌, ◌<◌, ◌≤◌, OnOk, OnErr, IfOk, Some, None, Option};
+ghost use Rattle.std.specs.Prelude.{◌≡◌, ℕ, ◌+◌, ◌<◌, ◌≤◌, OnOk, OnErr, IfOk, Some, None, Option, length, slice_get, option_map};
 ghost use Rattle.plain_monitor.specs.Monitor.{free_monitor, enter, exit, wait, resume, notify, notify_all, is_listed};
 
 use crate::refusal::{NoMemory, Refused};
@@ -203,6 +203,23 @@ impl Monitor {
         ensures { result ≡ self.now.plain.count }
     {
         self.count
+    }
+
+    /// The oldest of those who wait. `None` exactly where nobody waits.
+    pub fn oldest(&self) -> Option<u32>
+        ensures { result ≡ option_map (λ p. p.0) (slice_get self.now.plain.waits 0) }
+    {
+        match self.waits.get(0) {
+            Some((thread, _)) => Some(*thread),
+            None => None,
+        }
+    }
+
+    /// How many wait.
+    pub fn waiting(&self) -> u32
+        ensures { result ≡ length self.now.plain.waits }
+    {
+        self.waits.len() as u32
     }
 
     /// Whether `t` waits and wasn't notified.

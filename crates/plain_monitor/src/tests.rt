@@ -16,6 +16,8 @@ fn a_notified_thread_resumes_once_the_monitor_is_free(rt: HostRuntime) -> Result
     assert_eq!(rt; monitor.count(), 0);
     monitor.enter(1)?;
     assert!(rt; monitor.waits(0) && !monitor.called(0));
+    assert_eq!(rt; monitor.oldest(), Some(0));
+    assert_eq!(rt; monitor.waiting(), 1);
     assert_eq!(rt; monitor.notify(1)?, Some(0));
     assert!(rt; !monitor.waits(0) && monitor.called(0));
     assert_eq!(rt; monitor.resume(0), Err(Refused));

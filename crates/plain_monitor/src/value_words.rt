@@ -6,8 +6,6 @@ ghost use Rattle.plain_monitor.specs.ValueWords.{IsSpellable, SpellsValue};
 use crate::entry::Value;
 use crate::refusal::BadWord;
 
-/// The least number of a value, from which words count.
-const LEAST: i64 = -(1 << 61);
 /// Step from one number or object to the next. The two bits below say what the value is.
 const STEP: u64 = 1 << 2;
 /// One past the last object.
@@ -20,7 +18,7 @@ pub fn value_word(value: &Value) -> u64
 {
     match *value {
         Value::Nil => 0,
-        Value::Int(number) => (number - LEAST) as u64 * STEP + 0b01,
+        Value::Int(number) => (number - Value::LEAST) as u64 * STEP + 0b01,
         Value::Ref(object) => object as u64 * STEP + 0b10,
     }
 }
@@ -33,7 +31,7 @@ pub fn word_value(word: u64) -> Result<Value, BadWord>
 {
     match word % STEP {
         0b00 if word == 0 => Ok(Value::Nil),
-        0b01 => Ok(Value::Int((word / STEP) as i64 + LEAST)),
+        0b01 => Ok(Value::Int((word / STEP) as i64 + Value::LEAST)),
         0b10 if word / STEP < OBJECTS => Ok(Value::Ref((word / STEP) as u32)),
         _ => Err(BadWord),
     }

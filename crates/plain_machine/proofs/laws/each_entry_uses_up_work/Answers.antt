@@ -1,4 +1,4 @@
-use Rattle.plain_machine.proofs.ReachedKinds.{progress}
+use Rattle.plain_machine.proofs.ReachedEntries.{progress}
 use Rattle.plain_machine.proofs.laws.each_entry_uses_up_work.Goals as goal
 
 pub returns : goal.returns

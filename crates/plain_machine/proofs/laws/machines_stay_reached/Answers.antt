@@ -1,4 +1,4 @@
-use Rattle.plain_machine.proofs.ReachedKinds.{progress}
+use Rattle.plain_machine.proofs.ReachedEntries.{progress}
 use Rattle.plain_machine.proofs.ReachedFirst.{first_is_reached}
 use Rattle.plain_machine.proofs.laws.machines_stay_reached.Goals as goal
 

@@ -1,16 +1,20 @@
-use Rattle.std.proofs.Common.{◌≡◌, ◌<◌, length, ◌∙◌, Some, vec_len}
+use Rattle.std.proofs.Common.{◌≡◌, ◌<◌, length, ◌∙◌, Some, vec_len, subst}
 use Rattle.std.proofs.lemmas.List.{with_items_is}
 use Rattle.plain_monitor.specs.Objects.{take_entry}
+use Rattle.plain_machine.specs.Thread.{ThreadState}
 use Rattle.plain_machine.specs.Asking.{behind_entry}
 use Rattle.plain_machine.specs.Machine.{code_of}
 use Rattle.plain_machine.specs.MachineView.{plain_machine}
-use Rattle.plain_machine.proofs.Counted.{are_low}
-use Rattle.plain_machine.proofs.Behind.{sound_behind, length_behind}
+use Rattle.plain_machine.specs.Ready.{holds_behind}
+use Rattle.plain_machine.proofs.Behind.{IsAnswered, sound_behind, length_behind, same_read, takable}
 use Rattle.plain_machine.proofs.Taking.{taken}
 use Rattle.plain_machine.proofs.machine.Machine.take.Goals as goal
 
-pub take-requires-clause-low : goal.take-requires-clause-low
-take-requires-clause-low c = rw c.deref_mut.ensures.value (are_low _ _ _ c.self.invariant.kept c.self.invariant.counted)
+pub take-requires : goal.take-requires
+take-requires c =
+    let within : c.args.t < length c.self.inside.threads.items = rw (← c.self.view_is) at c.requires in
+    rw c.deref_mut.ensures.value
+    (takable (plain_machine c.self.inside) _ _ _ _ within c.index.ensures c.in-Some.ensures.asked c.in-Some.ensures.fits c.self.invariant)
 
 within : (c : goal.After-self-2-1) → c.args.t < length c.self.inside.threads.items
 within c = rw (← c.self.view_is) at c.requires
@@ -25,10 +29,22 @@ behind : (c : goal.After-self-2-1)
     → c.advance.new.thread ≡ behind_entry c.self.inside.program (code_of c.self.inside.program c.args.t) c.index_mut.result.now c.in-Some.asked c.args.entry.now
 behind c = rw c.code_of-code.ensures.code at c.advance.ensures.behind
 
+answered : (c : goal.After-self-2-1) → IsAnswered c.index.result.now c.advance.new.thread c.in-Some.asked
+answered c =
+    let same = same_read _ _ _ _ (within c) c.index_mut.ensures.value c.index.ensures in
+    let P : ThreadState → Type 0 = λ z. c.advance.new.thread.holds ≡ holds_behind z c.in-Some.asked in
+    record {
+      asked = c.in-Some.ensures.asked;
+      ready = c.in-Some.ensures.ready;
+      holds = subst P same c.advance.ensures.holds;
+      now = c.advance.ensures.ready;
+      waits = c.advance.ensures.waits;
+    }
+
 pub invariant_of-self-2 : goal.invariant_of-self-2
 invariant_of-self-2 c =
     rw (with_items_is c.self.inside.objects c.take.new.objects (as_many c))
-    (sound_behind (plain_machine c.self.inside) _ _ _ _ _ _ _ (within c) c.index.ensures c.index_mut.ensures.value c.in-Some.ensures.ready c.in-Some.ensures.fits (objects c) c.advance.ensures.holds c.advance.ensures.ready c.self.invariant)
+    (sound_behind (plain_machine c.self.inside) _ _ _ _ _ _ (within c) c.index.ensures c.in-Some.ensures.fits (objects c) (answered c) c.self.invariant)
 
 pub returns-clause-ok : goal.returns-clause-ok
 returns-clause-ok c =

@@ -1,0 +1,26 @@
+-- What is written of a text that has no program: the line, and the cause by its name.
+use Rattle.std.specs.Prelude.{ℕ, ◌==◌, if◌then◌else◌, List, ◌++◌, codes, decimal}
+use Rattle.object_program.specs.declared.error.ProgramError.{ProgramError}
+use Rattle.object_program.specs.declared.error.Why.{Why}
+use Rattle.object_program.specs.declared.error.Why.TheVariants.{NotAscii, UnknownWord, Operands, BadName, Twice, Undeclared, BadNumber, Limit, NoThread, NoEnd, Later, NoMemory}
+
+abbrev pub cause_text : Why → List ℕ
+cause_text NotAscii = codes "NotAscii"
+cause_text UnknownWord = codes "UnknownWord"
+cause_text Operands = codes "Operands"
+cause_text BadName = codes "BadName"
+cause_text Twice = codes "Twice"
+cause_text Undeclared = codes "Undeclared"
+cause_text BadNumber = codes "BadNumber"
+cause_text Limit = codes "Limit"
+cause_text NoThread = codes "NoThread"
+cause_text NoEnd = codes "NoEnd"
+cause_text Later = codes "Later"
+cause_text NoMemory = codes "NoMemory"
+
+-- where: line 0 is the text as a whole
+abbrev pub place_text : ℕ → List ℕ
+place_text line = if line == 0 then codes "program" else codes "line " ++ decimal line
+
+abbrev pub refusal_text : ProgramError → List ℕ
+refusal_text e = place_text e.line ++ codes ": " ++ cause_text e.why ++ codes "\n"

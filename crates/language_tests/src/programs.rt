@@ -1,0 +1,105 @@
+//! Texts that are read, and the programs that they have.
+
+use crate::texts::is_read;
+use object_program::{Code, Name, read_program};
+
+/// Lines that are read: with tabs, CR, comments, no line feed at the end, and names that several spaces share.
+#[test]
+fn texts_that_are_read(rt: HostRuntime) {
+    let alloc = rt.alloc();
+    let texts: [&[u8]; 7] = [
+        b"thread t\nend",
+        b"thread t\r\nend\r",
+        b"\t thread\t t \t\n  end\t",
+        b"thread t#no blank before it\n# a line\n\nend # done",
+        b"class n 1\nobject n n\nthread n\nlocal n\nlabel n\njump n\nend\n",
+        b"thread t\nlocal x\nset x -0\nset x 0000000000000000001\nset x -2305843009213693952\nend\n",
+        b"thread t\nlabel l\nend\nthread u\njump l\nlabel l\nend\n",
+    ];
+    for text in texts {
+        assert!(rt; is_read(alloc, text));
+    }
+}
+
+/// Each instruction with its operands, and labels before and behind the jumps.
+#[test]
+fn each_instruction(rt: HostRuntime) {
+    let text =
+        b"class C 3\narray s C 4\nobject a C\nthread t\nlocal x\nlocal y\nlocal z\nlabel top\nset x 7\nadd x y z\nsub y z x\nmul z x y\nref x a\nelem y s z\nenter x\nexit x\nwait x\nnotify x\nnotifyall x\nget z x 2\nput x 1 z\nlabel mid\nlabel also\nhash y x\nprint y\njump top\njlt x y low\njeq y z also\ndump\nlabel low\nend\n";
+    let Ok(program) = read_program(rt.alloc(), text) else {
+        panic!(rt; "refused")
+    };
+    let Some(thread) = program.threads.items().first() else {
+        panic!(rt; "no thread")
+    };
+    let code = [
+        Code::Set { x: 0, v: 7 },
+        Code::Add { x: 0, y: 1, z: 2 },
+        Code::Sub { x: 1, y: 2, z: 0 },
+        Code::Mul { x: 2, y: 0, z: 1 },
+        Code::Ref { x: 0, n: 1 },
+        Code::Elem { x: 1, n: 0, i: 2 },
+        Code::Enter { x: 0 },
+        Code::Exit { x: 0 },
+        Code::Wait { x: 0 },
+        Code::Notify { x: 0 },
+        Code::NotifyAll { x: 0 },
+        Code::Get { x: 2, o: 0, k: 2 },
+        Code::Put { o: 0, k: 1, x: 2 },
+        Code::Hash { x: 1, o: 0 },
+        Code::Print { x: 1 },
+        Code::Jump { l: 1 },
+        Code::Jlt { x: 0, y: 1, l: 20 },
+        Code::Jeq { x: 1, y: 2, l: 14 },
+        Code::Dump,
+        Code::End,
+    ];
+    assert!(rt; thread.code.items() == code.as_slice());
+    let targets = [1, 14, 14, 20];
+    assert!(rt; thread.labels.items().len() == 4);
+    for (label, target) in thread.labels.items().iter().zip(targets.as_slice()) {
+        assert!(rt; label.index == *target);
+    }
+}
+
+/// Objects go by the lines that declare them, arrays with all of their elements.
+#[test]
+fn objects_of_a_program(rt: HostRuntime) {
+    let text = b"class C 3\nclass D 0\nobject a D\narray s C 4\nobject b D\nthread t\nend\n";
+    let Ok(first) = read_program(rt.alloc(), text) else {
+        panic!(rt; "refused")
+    };
+    let Ok(program) = first.try_clone(rt.alloc()) else {
+        panic!(rt; "no copy")
+    };
+    assert!(rt; program.objects_total() == 6);
+    let rows = [
+        (0, 1, 0, (0, 0)),
+        (1, 0, 3, (1, 0)),
+        (4, 0, 3, (1, 3)),
+        (5, 1, 0, (2, 0)),
+    ];
+    for (o, class, slots, place) in rows {
+        if o < program.objects_total() {
+            assert!(rt; program.class_of(o) == class, "{o}");
+            assert!(rt; program.slots_of(o) == slots, "{o}");
+            assert!(rt; program.place_of(o) == place, "{o}");
+        }
+    }
+}
+
+#[test]
+fn names(rt: HostRuntime) {
+    let Some(name) = Name::new(b"_a1") else {
+        panic!(rt; "no name")
+    };
+    assert!(rt; name.bytes() == b"_a1".as_slice());
+    let Some(other) = Name::new(b"_a2") else {
+        panic!(rt; "no name")
+    };
+    assert!(rt; name == name && name != other && name < other);
+    assert!(rt; Name::new(b"1a").is_none());
+    assert!(rt; Name::new(b"").is_none());
+    assert!(rt; Name::new(&[b'a'; 32]).is_some());
+    assert!(rt; Name::new(&[b'a'; 33]).is_none());
+}

@@ -1,0 +1,58 @@
+//! What the tests share.
+
+use object_program::{Why, read_program};
+use std::alloc::{AllocError, Global};
+
+/// The program of the first example, one line each.
+pub const FIRST: [&[u8]; 11] = [
+    b"class C 1\n",
+    b"object a C\n",
+    b"thread t1\n",
+    b"local o\n",
+    b"local v\n",
+    b"ref o a\n",
+    b"set v 42\n",
+    b"enter o\n",
+    b"print v\n",
+    b"exit o\n",
+    b"end\n",
+];
+
+/// Whether the text has a program.
+pub fn is_read(alloc: Global, text: &[u8]) -> bool {
+    read_program(alloc, text).is_ok()
+}
+
+/// Whether the text is refused at this line for this cause.
+pub fn is_refused(alloc: Global, text: &[u8], line: u32, why: Why) -> bool {
+    match read_program(alloc, text) {
+        Ok(_) => false,
+        Err(error) => error.line == line && error.why == why,
+    }
+}
+
+/// Adds the piece this many times.
+pub fn add(text: &mut Vec<u8>, piece: &[u8], times: u32) -> Result<(), AllocError> {
+    for _ in 0..times {
+        text.extend_from_slice(piece)?;
+    }
+    Ok(())
+}
+
+/// Adds this many lines, each with its own number from 10000 on between the two pieces.
+pub fn add_numbered(
+    text: &mut Vec<u8>,
+    before: &[u8],
+    after: &[u8],
+    times: u16,
+) -> Result<(), AllocError> {
+    for n in 0..times {
+        text.extend_from_slice(before)?;
+        let number = u32::from(n) + 10000;
+        for place in [10000u32, 1000, 100, 10, 1] {
+            text.push(b'0' + (number / place % 10) as u8)?;
+        }
+        text.extend_from_slice(after)?;
+    }
+    Ok(())
+}

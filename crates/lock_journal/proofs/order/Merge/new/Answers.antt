@@ -1,0 +1,5 @@
+use Rattle.lock_journal.proofs.Merging.{all_left}
+use Rattle.lock_journal.proofs.order.Merge.new.Goals as goal
+
+pub returns : goal.returns
+returns c = all_left c.args.run.now.logs 16

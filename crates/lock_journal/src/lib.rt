@@ -1,0 +1,26 @@
+//! The record of a run, and the lines of its text.
+//!
+//! `RunRecord` is what a run leaves. `Merge` gives the entries of its logs by rising stamp, `Lines` the lines of its text, one at
+//! a time, and `replay` the machine under it. `specs/RunText.antt` says what the text of a run is.
+#![tactic(auto)]
+
+mod cells;
+mod classes;
+mod enters;
+mod journal;
+mod line;
+mod lines;
+mod order;
+mod prints;
+mod record;
+mod replaying;
+#[cfg(test)]
+mod tests;
+mod threads;
+mod words;
+
+pub use line::Line;
+pub use lines::Lines;
+pub use order::Merge;
+pub use record::{Cell, ClassLine, RunRecord, Shot};
+pub use replaying::replay;

@@ -1,0 +1,80 @@
+//! The lines of a run's text, one at a time.
+
+ghost use Rattle.std.specs.Prelude.{◌≡◌, ◌∷◌, [], MatchBool};
+ghost use Rattle.lock_journal.specs.RunText.{lines_of_run};
+ghost use Rattle.lock_journal.specs.LinesLeft.{lines_left, IsShown};
+ghost use Rattle.lock_journal.specs.declared.record.RunRecord.{RunRecord};
+ghost use Rattle.plain_machine.specs.Machine.{PlainMachine};
+
+use crate::cells::{Place, next_cell};
+use crate::classes::next_class;
+use crate::journal::next_entry;
+use crate::line::Line;
+use crate::order::Merge;
+use crate::prints::next_print;
+use crate::record::RunRecord;
+use crate::threads::next_thread;
+use plain_machine::Machine;
+
+/// The lines of a run's text, one after the other: what its entries print and dump by rising stamp, then how each thread ended
+/// or where it stands, then, where asked for, the statistics of each class, and a line for each entry by rising stamp. It takes
+/// no memory of the heap.
+#[derive(Drop)]
+pub struct Lines {
+    /// Whether the classes have lines.
+    stats: bool,
+    /// Whether the entries have lines of their own.
+    journal: bool,
+    /// The next cell of the dump that is being given.
+    cells: Option<Place>,
+    /// Gives the entries whose prints and dumps are left.
+    prints: Merge,
+    /// The next thread that has a line.
+    thread: u32,
+    /// The next class that has a line.
+    class: usize,
+    /// Gives the entries that the journal has left.
+    entries: Merge,
+}
+
+impl Lines {
+    /// Before the first line of any run, with the statistics and the journal where they are asked for.
+    pub fn new(stats: bool, journal: bool) -> Lines
+        ensures { (run : RunRecord) (m : PlainMachine) → lines_left run m result ≡ lines_of_run stats journal run m }
+    {
+        Lines {
+            stats,
+            journal,
+            cells: None,
+            prints: Merge::before_all(),
+            thread: 0,
+            class: 0,
+            entries: Merge::before_all(),
+        }
+    }
+
+    /// Writes the next line with its line feed into `out`, in place of what it held. False exactly after the last, and then
+    /// `out` is empty. Every call is given one run, of at most 16 logs whose stamps rise, and the machine under it: with the
+    /// program of the run and all of its threads.
+    pub fn next(&mut self, run: &RunRecord, machine: &Machine, out: &mut Line) -> bool
+        requires { IsShown run.now machine.now }
+        ensures { MatchBool result
+            (lines_left run.now machine.now self.old ≡ out.new ∷ lines_left run.now machine.now self.new)
+            ((lines_left run.now machine.now self.old ≡ []) × (lines_left run.now machine.now self.new ≡ []) × (out.new ≡ [])) }
+    {
+        out.clear();
+        if next_cell(&mut self.cells, run, out) {
+            return true;
+        }
+        if next_print(&mut self.prints, &mut self.cells, run, out) {
+            return true;
+        }
+        if next_thread(&mut self.thread, &run.program, machine, out) {
+            return true;
+        }
+        if self.stats && next_class(&mut self.class, run, out) {
+            return true;
+        }
+        self.journal && next_entry(&mut self.entries, run, out)
+    }
+}

@@ -1,0 +1,110 @@
+//! The lines ahead of a section: where it ends, and its labels, which may stand on any of its lines.
+
+ghost use Rattle.std.specs.Prelude.{◌≡◌, ◌≤◌, ◌+◌, ◌==◌, if◌then◌else◌, ◌++◌, [], ◌∷◌, length, IfOk, option_copied, option_to_list};
+ghost use Rattle.object_program.specs.Text.{words_of};
+ghost use Rattle.object_program.specs.Reading.{first_keyword, label_of, labels_on, labels_ahead, number_behind_line};
+ghost use Rattle.object_program.specs.Refusal.{is_closed};
+ghost use Rattle.object_program.specs.Left.{words_in, lines_ahead, left_length};
+
+use crate::directory::Directory;
+use crate::keyword::Keyword;
+use crate::name::Name;
+use crate::program::LabelDef;
+use crate::spelling::{ends_section, is_end, is_instruction, keyword_of};
+use crate::text::{drop_return, next_line, next_word, one_word, without_comment};
+use plain_monitor::NoMemory;
+use std::alloc::Global;
+
+/// Whether the section that these lines begin with is closed by its `end`.
+pub fn is_closed(lines: Option<&[u8]>) -> bool
+    ensures { result ≡ is_closed (lines_ahead (option_copied lines.entry)) }
+{
+    let mut left = lines;
+    'lines: while let Some(text) = left {
+        let (line, rest) = next_line(text);
+        let keyword = first_keyword(drop_return(line));
+        if ends_section(keyword) {
+            return is_end(keyword);
+        }
+        left = rest;
+    }
+    false
+}
+
+/// All labels of the section that these lines begin with, in their order. The lines have at most 1,048,576 bytes. Where memory
+/// is wanting, `NoMemory`.
+pub fn labels_ahead(alloc: Global, lines: Option<&[u8]>) -> Result<Directory<LabelDef>, NoMemory>
+    requires { left_length (option_copied lines) ≤ 1048577 }
+    ensures { IfOk result (λ labels. labels ≡ labels_ahead 1 (lines_ahead (option_copied lines.entry))) }
+{
+    let mut labels = Directory::new(alloc);
+    let mut number: u32 = 1;
+    let mut left = lines;
+    'lines: while let Some(text) = left {
+        let (line, rest) = next_line(text);
+        let line = drop_return(line);
+        let keyword = first_keyword(line);
+        if ends_section(keyword) {
+            return Ok(labels);
+        }
+        labels = with_labels_on(labels, line, number)?;
+        number = number_behind_line(number, keyword);
+        left = rest;
+    }
+    Ok(labels)
+}
+
+/// With the label that the line declares for the instruction with this number, if it declares one.
+fn with_labels_on(
+    labels: Directory<LabelDef>,
+    line: &[u8],
+    number: u32,
+) -> Result<Directory<LabelDef>, NoMemory>
+    ensures { IfOk result (λ d. d ≡ labels ++ labels_on number (words_of line.now) (first_keyword (words_of line.now))) }
+{
+    match label_on(line, number) {
+        Some(label) => labels.with(label),
+        None => Ok(labels),
+    }
+}
+
+/// The label that the line declares for the instruction with this number, if it declares one.
+fn label_on(line: &[u8], number: u32) -> Option<LabelDef>
+    ensures { labels_on number (words_of line.now) (first_keyword (words_of line.now)) ≡ option_to_list result }
+{
+    let (word, operands) = next_word(without_comment(line))?;
+    match keyword_of(word) {
+        Some(Keyword::Label) => label_of(operands, number),
+        _ => None,
+    }
+}
+
+/// The label of a `label` line with these operands, if they are a name and nothing else.
+fn label_of(operands: &[u8], number: u32) -> Option<LabelDef>
+    ensures { label_of number (words_in operands.now) ≡ option_to_list result }
+{
+    let name = Name::new(one_word(operands)?)?;
+    Some(LabelDef {
+        name,
+        index: number,
+    })
+}
+
+/// The number of the next instruction behind a line with this keyword.
+fn number_behind_line(number: u32, keyword: Option<Keyword>) -> u32
+    requires { number ≤ 1048577 }
+    ensures { result ≡ number_behind_line number keyword }
+{
+    match keyword {
+        Some(keyword) if is_instruction(keyword) => number + 1,
+        _ => number,
+    }
+}
+
+/// The first word of the line, where it is a keyword.
+fn first_keyword(line: &[u8]) -> Option<Keyword>
+    ensures { result ≡ first_keyword (words_of line.now) }
+{
+    let (word, _) = next_word(without_comment(line))?;
+    keyword_of(word)
+}

@@ -1,0 +1,436 @@
+//! The canonical text of a program, written.
+
+ghost use Rattle.std.specs.Prelude.{◌≡◌, ◌+◌, ◌∷◌, ◌++◌, [], map, if◌then◌else◌, OnOk, OnErr, Ok, ◌≤◌, length};
+ghost use Rattle.std.specs.List.{flat_map, join_with_byte};
+ghost use Rattle.object_program.specs.Canonical.{canonical, program_lines, line_text, class_name, object_name, local_name, label_name, class_words, object_words, opening_words, local_words, label_words, instruction_words, labels_at, code_lines, thread_lines};
+ghost use Rattle.object_program.specs.Refusal.{program_of};
+ghost use Rattle.object_program.specs.Written.{BeginsWith, lines_text};
+
+use crate::laws::canonical_texts_are_read_back;
+use crate::name::Name;
+use crate::program::{ClassDef, Code, LabelDef, ObjectDef, Program, ThreadDef};
+use itoa::Buffer;
+use plain_monitor::NoMemory;
+
+/// Writes the canonical text of the program behind the bytes of `out`. Where that text has at most 1,048,576 bytes, it is read
+/// as this very program. Where memory is wanting, `NoMemory`, and `out` is as it was before.
+pub fn write_program(program: &Program, out: &mut Vec<u8>) -> Result<(), NoMemory>
+    ensures ok { OnOk result (out.new.items ≡ out.old.items ++ canonical program.now) }
+    ensures err { OnErr result (out.new.items ≡ out.old.items) }
+    ensures read { length (canonical program.now) ≤ 1048576 → program_of (canonical program.now) ≡ Ok program.now }
+{
+    canonical_texts_are_read_back();
+    // A look at a field tells the proof what holds of every `Program`.
+    let _ = &program.threads;
+    let length = out.len();
+    let written = write_parts(program, out);
+    if written.is_err() {
+        out.truncate(length);
+    }
+    written
+}
+
+/// Writes the lines of the program, part by part.
+#[tactic(auto, using(crate::proofs::Written::err_behind))]
+fn write_parts(program: &Program, out: &mut Vec<u8>) -> Result<(), NoMemory>
+    ensures ok { OnOk result (out.new.items ≡ out.old.items ++ lines_text (program_lines program.now)) }
+    ensures err { OnErr result (BeginsWith out.old.items out.new.items) }
+{
+    let classes = program.classes.items();
+    let objects = program.objects.items();
+    write_classes(classes, out)?;
+    write_objects(classes, objects, out)?;
+    write_threads(objects, program.threads.items(), out)
+}
+
+/// Writes a line of these words.
+#[tactic(auto, using(crate::proofs::Written::err_behind))]
+fn write_line(out: &mut Vec<u8>, words: &[&[u8]]) -> Result<(), NoMemory>
+    ensures ok { OnOk result (out.new.items ≡ out.old.items ++ line_text (map (λ w. w.now) words.now)) }
+    ensures err { OnErr result (BeginsWith out.old.items out.new.items) }
+{
+    write_words(out, words)?;
+    write_bytes(out, b"\n")
+}
+
+/// Writes these words, with a space between each two.
+#[tactic(auto, using(crate::proofs::Written::err_behind))]
+fn write_words(out: &mut Vec<u8>, words: &[&[u8]]) -> Result<(), NoMemory>
+    ensures ok { OnOk result (out.new.items ≡ out.old.items ++ join_with_byte 32 (map (λ w. w.now) words.now)) }
+    ensures err { OnErr result (BeginsWith out.old.items out.new.items) }
+{
+    for (i, word) in words.iter().enumerate() {
+        write_word(out, i == 0, word)?;
+    }
+    Ok(())
+}
+
+/// Writes a word, behind a space unless it is the first of its line.
+fn write_word(out: &mut Vec<u8>, first: bool, word: &[u8]) -> Result<(), NoMemory>
+    ensures ok { OnOk result (out.new.items ≡ out.old.items ++ (if first then word.now else 32 ∷ word.now)) }
+    ensures err { OnErr result (BeginsWith out.old.items out.new.items) }
+{
+    if !first {
+        write_bytes(out, b" ")?;
+    }
+    write_bytes(out, word)
+}
+
+/// Writes these bytes.
+fn write_bytes(out: &mut Vec<u8>, bytes: &[u8]) -> Result<(), NoMemory>
+    ensures ok { OnOk result (out.new.items ≡ out.old.items ++ bytes.now) }
+    ensures err { OnErr result (BeginsWith out.old.items out.new.items) }
+{
+    out.extend_from_slice(bytes).map_err(|_| NoMemory)
+}
+
+/// Writes the lines of the classes.
+#[tactic(auto, using(crate::proofs::Written::err_behind))]
+fn write_classes(classes: &[ClassDef], out: &mut Vec<u8>) -> Result<(), NoMemory>
+    ensures ok { OnOk result (out.new.items ≡ out.old.items ++ lines_text (map class_words classes.now)) }
+    ensures err { OnErr result (BeginsWith out.old.items out.new.items) }
+{
+    for class in classes {
+        write_class(class, out)?;
+    }
+    Ok(())
+}
+
+/// Writes the line of a class.
+fn write_class(class: &ClassDef, out: &mut Vec<u8>) -> Result<(), NoMemory>
+    ensures ok { OnOk result (out.new.items ≡ out.old.items ++ line_text (class_words class.now)) }
+    ensures err { OnErr result (BeginsWith out.old.items out.new.items) }
+{
+    let mut slots = Buffer::new();
+    let words: [&[u8]; 3] = [
+        b"class",
+        class.name.bytes(),
+        slots.format(class.slots).as_bytes(),
+    ];
+    write_line(out, &words)
+}
+
+/// Writes the lines of the declarations of objects.
+#[tactic(auto, using(crate::proofs::Written::err_behind))]
+fn write_objects(
+    classes: &[ClassDef],
+    objects: &[ObjectDef],
+    out: &mut Vec<u8>,
+) -> Result<(), NoMemory>
+    ensures ok { OnOk result (out.new.items ≡ out.old.items ++ lines_text (map (object_words classes.now) objects.now)) }
+    ensures err { OnErr result (BeginsWith out.old.items out.new.items) }
+{
+    for object in objects {
+        write_object(classes, object, out)?;
+    }
+    Ok(())
+}
+
+/// Writes the line of a declaration of objects.
+fn write_object(classes: &[ClassDef], object: &ObjectDef, out: &mut Vec<u8>) -> Result<(), NoMemory>
+    ensures ok { OnOk result (out.new.items ≡ out.old.items ++ line_text (object_words classes.now object.now)) }
+    ensures err { OnErr result (BeginsWith out.old.items out.new.items) }
+{
+    let name = object.name.bytes();
+    let class = class_name(classes, object.class);
+    if object.array {
+        let mut size = Buffer::new();
+        let words: [&[u8]; 4] = [b"array", name, class, size.format(object.size).as_bytes()];
+        write_line(out, &words)
+    } else {
+        let words: [&[u8]; 3] = [b"object", name, class];
+        write_line(out, &words)
+    }
+}
+
+/// The name of the class with this number.
+fn class_name(classes: &[ClassDef], class: u32) -> &[u8]
+    ensures { result.now ≡ class_name classes.now class }
+{
+    match classes.get(class as usize) {
+        None => &[],
+        Some(found) => found.name.bytes(),
+    }
+}
+
+/// Writes the sections of the threads.
+#[tactic(auto, using(crate::proofs::Written::err_behind))]
+fn write_threads(
+    objects: &[ObjectDef],
+    threads: &[ThreadDef],
+    out: &mut Vec<u8>,
+) -> Result<(), NoMemory>
+    ensures ok { OnOk result (out.new.items ≡ out.old.items ++ lines_text (flat_map (thread_lines objects.now) threads.now)) }
+    ensures err { OnErr result (BeginsWith out.old.items out.new.items) }
+{
+    for thread in threads {
+        write_thread(objects, thread, out)?;
+    }
+    Ok(())
+}
+
+/// Writes the section of a thread.
+#[tactic(auto, using(crate::proofs::Written::err_behind))]
+fn write_thread(
+    objects: &[ObjectDef],
+    thread: &ThreadDef,
+    out: &mut Vec<u8>,
+) -> Result<(), NoMemory>
+    ensures ok { OnOk result (out.new.items ≡ out.old.items ++ lines_text (thread_lines objects.now thread.now)) }
+    ensures err { OnErr result (BeginsWith out.old.items out.new.items) }
+{
+    let words: [&[u8]; 2] = [b"thread", thread.name.bytes()];
+    write_line(out, &words)?;
+    write_locals(thread.locals.items(), out)?;
+    write_code(objects, thread, thread.code.items(), out)
+}
+
+/// Writes the lines of the locals.
+#[tactic(auto, using(crate::proofs::Written::err_behind))]
+fn write_locals(locals: &[Name], out: &mut Vec<u8>) -> Result<(), NoMemory>
+    ensures ok { OnOk result (out.new.items ≡ out.old.items ++ lines_text (map local_words locals.now)) }
+    ensures err { OnErr result (BeginsWith out.old.items out.new.items) }
+{
+    for local in locals {
+        write_local(local, out)?;
+    }
+    Ok(())
+}
+
+/// Writes the line of a local.
+fn write_local(local: &Name, out: &mut Vec<u8>) -> Result<(), NoMemory>
+    ensures ok { OnOk result (out.new.items ≡ out.old.items ++ line_text (local_words local.now)) }
+    ensures err { OnErr result (BeginsWith out.old.items out.new.items) }
+{
+    let words: [&[u8]; 2] = [b"local", local.bytes()];
+    write_line(out, &words)
+}
+
+/// Writes these instructions of a thread, from the first on, each behind its labels.
+#[tactic(auto, using(crate::proofs::Written::err_behind))]
+fn write_code(
+    objects: &[ObjectDef],
+    thread: &ThreadDef,
+    code: &[Code],
+    out: &mut Vec<u8>,
+) -> Result<(), NoMemory>
+    ensures ok { OnOk result (out.new.items ≡ out.old.items ++ lines_text (code_lines objects.now thread.now 1 code.now)) }
+    ensures err { OnErr result (BeginsWith out.old.items out.new.items) }
+{
+    for (i, instruction) in code.iter().enumerate() {
+        write_step(objects, thread, i + 1, *instruction, out)?;
+    }
+    Ok(())
+}
+
+/// Writes instruction `n` of a thread behind its labels.
+#[tactic(auto, using(crate::proofs::Written::err_behind))]
+fn write_step(
+    objects: &[ObjectDef],
+    thread: &ThreadDef,
+    n: usize,
+    code: Code,
+    out: &mut Vec<u8>,
+) -> Result<(), NoMemory>
+    ensures ok { OnOk result (out.new.items ≡ out.old.items
+        ++ (lines_text (map label_words (labels_at n thread.now.labels)) ++ line_text (instruction_words objects.now thread.now code))) }
+    ensures err { OnErr result (BeginsWith out.old.items out.new.items) }
+{
+    write_labels(n, thread.labels.items(), out)?;
+    write_instruction(objects, thread, code, out)
+}
+
+/// Writes the lines of those of these labels that name instruction `n`.
+#[tactic(auto, using(crate::proofs::Written::err_behind))]
+fn write_labels(n: usize, all: &[LabelDef], out: &mut Vec<u8>) -> Result<(), NoMemory>
+    ensures ok { OnOk result (out.new.items ≡ out.old.items ++ lines_text (map label_words (labels_at n all.now))) }
+    ensures err { OnErr result (BeginsWith out.old.items out.new.items) }
+{
+    for label in all {
+        if label.index as usize == n {
+            write_label(label, out)?;
+        }
+    }
+    Ok(())
+}
+
+/// Writes the line of a label.
+fn write_label(label: &LabelDef, out: &mut Vec<u8>) -> Result<(), NoMemory>
+    ensures ok { OnOk result (out.new.items ≡ out.old.items ++ line_text (label_words label.now)) }
+    ensures err { OnErr result (BeginsWith out.old.items out.new.items) }
+{
+    let words: [&[u8]; 2] = [b"label", label.name.bytes()];
+    write_line(out, &words)
+}
+
+/// Writes the line of an instruction.
+fn write_instruction(
+    objects: &[ObjectDef],
+    thread: &ThreadDef,
+    code: Code,
+    out: &mut Vec<u8>,
+) -> Result<(), NoMemory>
+    ensures ok { OnOk result (out.new.items ≡ out.old.items ++ line_text (instruction_words objects.now thread.now code)) }
+    ensures err { OnErr result (BeginsWith out.old.items out.new.items) }
+{
+    let locals = thread.locals.items();
+    let labels = thread.labels.items();
+    match code {
+        Code::Set { x, v } => {
+            let mut digits = Buffer::new();
+            let words: [&[u8]; 3] = [b"set", local_name(locals, x), digits.format(v).as_bytes()];
+            write_line(out, &words)
+        }
+        Code::Add { x, y, z } => {
+            let words: [&[u8]; 4] = [
+                b"add",
+                local_name(locals, x),
+                local_name(locals, y),
+                local_name(locals, z),
+            ];
+            write_line(out, &words)
+        }
+        Code::Sub { x, y, z } => {
+            let words: [&[u8]; 4] = [
+                b"sub",
+                local_name(locals, x),
+                local_name(locals, y),
+                local_name(locals, z),
+            ];
+            write_line(out, &words)
+        }
+        Code::Mul { x, y, z } => {
+            let words: [&[u8]; 4] = [
+                b"mul",
+                local_name(locals, x),
+                local_name(locals, y),
+                local_name(locals, z),
+            ];
+            write_line(out, &words)
+        }
+        Code::Ref { x, n } => {
+            let words: [&[u8]; 3] = [b"ref", local_name(locals, x), object_name(objects, n)];
+            write_line(out, &words)
+        }
+        Code::Elem { x, n, i } => {
+            let words: [&[u8]; 4] = [
+                b"elem",
+                local_name(locals, x),
+                object_name(objects, n),
+                local_name(locals, i),
+            ];
+            write_line(out, &words)
+        }
+        Code::Enter { x } => {
+            let words: [&[u8]; 2] = [b"enter", local_name(locals, x)];
+            write_line(out, &words)
+        }
+        Code::Exit { x } => {
+            let words: [&[u8]; 2] = [b"exit", local_name(locals, x)];
+            write_line(out, &words)
+        }
+        Code::Wait { x } => {
+            let words: [&[u8]; 2] = [b"wait", local_name(locals, x)];
+            write_line(out, &words)
+        }
+        Code::Notify { x } => {
+            let words: [&[u8]; 2] = [b"notify", local_name(locals, x)];
+            write_line(out, &words)
+        }
+        Code::NotifyAll { x } => {
+            let words: [&[u8]; 2] = [b"notifyall", local_name(locals, x)];
+            write_line(out, &words)
+        }
+        Code::Get { x, o, k } => {
+            let mut digits = Buffer::new();
+            let words: [&[u8]; 4] = [
+                b"get",
+                local_name(locals, x),
+                local_name(locals, o),
+                digits.format(k).as_bytes(),
+            ];
+            write_line(out, &words)
+        }
+        Code::Put { o, k, x } => {
+            let mut digits = Buffer::new();
+            let words: [&[u8]; 4] = [
+                b"put",
+                local_name(locals, o),
+                digits.format(k).as_bytes(),
+                local_name(locals, x),
+            ];
+            write_line(out, &words)
+        }
+        Code::Hash { x, o } => {
+            let words: [&[u8]; 3] = [b"hash", local_name(locals, x), local_name(locals, o)];
+            write_line(out, &words)
+        }
+        Code::Print { x } => {
+            let words: [&[u8]; 2] = [b"print", local_name(locals, x)];
+            write_line(out, &words)
+        }
+        Code::Jump { l } => {
+            let words: [&[u8]; 2] = [b"jump", label_name(labels, l)];
+            write_line(out, &words)
+        }
+        Code::Jlt { x, y, l } => {
+            let words: [&[u8]; 4] = [
+                b"jlt",
+                local_name(locals, x),
+                local_name(locals, y),
+                label_name(labels, l),
+            ];
+            write_line(out, &words)
+        }
+        Code::Jeq { x, y, l } => {
+            let words: [&[u8]; 4] = [
+                b"jeq",
+                local_name(locals, x),
+                local_name(locals, y),
+                label_name(labels, l),
+            ];
+            write_line(out, &words)
+        }
+        Code::Dump => {
+            let words: [&[u8]; 1] = [b"dump"];
+            write_line(out, &words)
+        }
+        Code::End => {
+            let words: [&[u8]; 1] = [b"end"];
+            write_line(out, &words)
+        }
+    }
+}
+
+/// The name of the local with this number.
+fn local_name(locals: &[Name], x: u32) -> &[u8]
+    ensures { result.now ≡ local_name locals.now x }
+{
+    match locals.get(x as usize) {
+        None => &[],
+        Some(name) => name.bytes(),
+    }
+}
+
+/// The name of the declaration of objects with this number.
+fn object_name(objects: &[ObjectDef], n: u32) -> &[u8]
+    ensures { result.now ≡ object_name objects.now n }
+{
+    match objects.get(n as usize) {
+        None => &[],
+        Some(object) => object.name.bytes(),
+    }
+}
+
+/// The name of the first label of this instruction.
+#[tactic(auto, using(crate::proofs::Written::label_name_step))]
+fn label_name(labels: &[LabelDef], l: u32) -> &[u8]
+    ensures { result.now ≡ label_name labels.now l }
+{
+    for label in labels {
+        if label.index == l {
+            return label.name.bytes();
+        }
+    }
+    &[]
+}

@@ -1,0 +1,121 @@
+//! The instructions that compute the value of a local.
+
+ghost use Rattle.std.specs.Prelude.{◌≡◌, ◌<◌, ◌+ℤ◌, ◌-ℤ◌, ◌*ℤ◌, nat_abs, slice_get, IfSome, is_some};
+ghost use Rattle.plain_machine.specs.Thread.{combines, computes, first_of, element, is_element};
+ghost use Rattle.plain_machine.specs.Next.{meant, IsReadyNext};
+
+use crate::step::{Next, fault};
+use crate::thread::Thread;
+use object_program::Program;
+use plain_monitor::{Fault, Value};
+
+/// x becomes the sum of two numbers.
+pub fn add(thread: &Thread, x: u32, y: Value, z: Value) -> Next
+    requires { thread.now.place < 4096 }
+    ensures next { combines thread.now x (λ a b. a +ℤ b) y z ≡ meant thread.now result }
+    ensures ready { IsReadyNext thread.now result }
+{
+    match (y, z) {
+        (Value::Int(y), Value::Int(z)) => compute(thread, x, sum(y, z)),
+        _ => fault(thread, Fault::NotInt),
+    }
+}
+
+/// x becomes the difference of two numbers.
+pub fn sub(thread: &Thread, x: u32, y: Value, z: Value) -> Next
+    requires { thread.now.place < 4096 }
+    ensures next { combines thread.now x (λ a b. a -ℤ b) y z ≡ meant thread.now result }
+    ensures ready { IsReadyNext thread.now result }
+{
+    match (y, z) {
+        (Value::Int(y), Value::Int(z)) => compute(thread, x, difference(y, z)),
+        _ => fault(thread, Fault::NotInt),
+    }
+}
+
+/// x becomes the product of two numbers.
+pub fn mul(thread: &Thread, x: u32, y: Value, z: Value) -> Next
+    requires { thread.now.place < 4096 }
+    ensures next { combines thread.now x (λ a b. a *ℤ b) y z ≡ meant thread.now result }
+    ensures ready { IsReadyNext thread.now result }
+{
+    match (y, z) {
+        (Value::Int(y), Value::Int(z)) => compute(thread, x, product(y, z)),
+        _ => fault(thread, Fault::NotInt),
+    }
+}
+
+fn sum(y: i64, z: i64) -> i128
+    ensures { result ≡ y +ℤ z }
+{
+    i128::from(y) + i128::from(z)
+}
+
+fn difference(y: i64, z: i64) -> i128
+    ensures { result ≡ y -ℤ z }
+{
+    i128::from(y) - i128::from(z)
+}
+
+fn product(y: i64, z: i64) -> i128
+    ensures { result ≡ y *ℤ z }
+{
+    i128::from(y) * i128::from(z)
+}
+
+/// x becomes the number, where a value may be it.
+fn compute(thread: &Thread, x: u32, z: i128) -> Next
+    requires { thread.now.place < 4096 }
+    ensures next { computes thread.now x z ≡ meant thread.now result }
+    ensures ready { IsReadyNext thread.now result }
+{
+    if z < i128::from(Value::LEAST) || z > i128::from(Value::GREATEST) {
+        return fault(thread, Fault::Overflow);
+    }
+    Next::Sets {
+        local: x,
+        value: Value::Int(z as i64),
+    }
+}
+
+/// The first object of a declaration.
+pub fn first_object(program: &Program, n: u32) -> u32
+    ensures { result ≡ first_of (slice_get program.now.objects n) }
+{
+    match program.objects.items().get(n as usize) {
+        Some(definition) => definition.first,
+        None => 0,
+    }
+}
+
+/// x refers to element i of declaration n.
+pub fn element(program: &Program, thread: &Thread, x: u32, n: u32, i: Value) -> Next
+    requires { thread.now.place < 4096 }
+    ensures next { element thread.now x (slice_get program.now.objects n) i ≡ meant thread.now result }
+    ensures ready { IsReadyNext thread.now result }
+{
+    let Value::Int(i) = i else {
+        return fault(thread, Fault::NotInt);
+    };
+    let Some(definition) = program.objects.items().get(n as usize) else {
+        return fault(thread, Fault::Range);
+    };
+    match place(i, definition.size) {
+        Some(place) => Next::Sets {
+            local: x,
+            value: Value::Ref(definition.first + place),
+        },
+        None => fault(thread, Fault::Range),
+    }
+}
+
+/// The number as a place in an array of this size.
+fn place(i: i64, size: u32) -> Option<u32>
+    ensures some { IfSome result (λ place. (place ≡ nat_abs i) × (place < size)) }
+    ensures test { is_some result ≡ is_element i size }
+{
+    if i < 0 || i >= i64::from(size) {
+        return None;
+    }
+    Some(i as u32)
+}

@@ -1,0 +1,9 @@
+pub mod Texts
+pub mod Digits
+pub mod Shapes
+pub mod Runs
+pub mod Rows
+pub mod Rules
+pub mod Walks
+pub mod Parses
+pub mod Taken

@@ -1,0 +1,4 @@
+pub mod Number
+pub mod Command
+pub mod Shape
+pub mod Clap

@@ -1,0 +1,61 @@
+//! The words of the command line, read as what they ask for.
+//!
+//! `read_words` answers exactly what `specs/Command.antt` accepts. A check of the words' shape goes first, so that no
+//! word gets a meaning that only `clap` gives it, as `--` does. Then `clap` parses, and its values are read.
+#![tactic(auto)]
+
+ghost use Rattle.std.specs.Prelude.{◌≡◌, IfOk, Some, None, Err, map, string_bytes};
+ghost use Rattle.run_words.specs.Command as spec;
+ghost use Rattle.run_words.specs.declared.WordsFault.TheVariants.{Refused};
+
+mod numbers;
+mod options;
+mod parser;
+#[cfg(test)]
+mod tests;
+mod words;
+
+pub use options::{Command, Options};
+use std::alloc::Global;
+use thiserror::Error;
+
+/// Why words ask for nothing.
+#[derive(Debug, Drop, Error)]
+pub enum WordsFault {
+    /// They aren't accepted.
+    #[error("words refused")]
+    Refused,
+    /// There was not enough memory to read them.
+    #[error("no memory")]
+    NoMemory,
+}
+
+/// What the words of the command line ask for. The first is the program's name and is not looked at.
+///
+/// `Refused` exactly where `specs/Command.antt` doesn't accept the words, which then ask for nothing; but where memory is wanting,
+/// any words may be answered `NoMemory`.
+pub fn read_words(alloc: Global, words: &[String]) -> Result<Command, WordsFault>
+    ensures ok { IfOk result (λ c. spec.accepted (map (λ w. string_bytes w) words.now) ≡ Some c) }
+    ensures refused { result ≡ Err Refused → spec.accepted (map (λ w. string_bytes w) words.now) ≡ None }
+{
+    match words {
+        [_, command, rest @ ..] if command.as_str() == "run" => read_run(alloc, rest),
+        _ => Err(WordsFault::Refused),
+    }
+}
+
+/// What the words behind `run` ask for.
+fn read_run(alloc: Global, words: &[String]) -> Result<Command, WordsFault>
+    ensures ok { IfOk result (λ c. spec.run_of (map (λ w. string_bytes w) words.now) ≡ Some c) }
+    ensures refused { result ≡ Err Refused → spec.run_of (map (λ w. string_bytes w) words.now) ≡ None }
+{
+    let has_shape = words::has_shape(alloc, words).map_err(|_| WordsFault::NoMemory)?;
+    if !has_shape {
+        return Err(WordsFault::Refused);
+    }
+    let values = parser::parse(alloc, words).map_err(|_| WordsFault::NoMemory)?;
+    match options::options_of(values) {
+        Some(options) => Ok(Command::Run(options)),
+        None => Err(WordsFault::Refused),
+    }
+}

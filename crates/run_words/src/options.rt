@@ -1,0 +1,89 @@
+//! What the words ask for.
+
+ghost use Rattle.std.specs.Prelude.{◌≡◌, option_map};
+ghost use Rattle.run_words.specs.Clap as told;
+ghost use Rattle.run_words.specs.Command as spec;
+ghost use Rattle.run_words.specs.Number as numbers;
+
+use crate::numbers::number;
+
+/// What the words ask for.
+#[derive(Clone, Copy, Debug, PartialEq, Eq)]
+pub enum Command {
+    /// To run a program.
+    Run(Options),
+    /// To make a program with this many items, 1 to 1,500. No words ask for it today.
+    Make { items: u32 },
+}
+
+/// How a program is run.
+#[derive(Clone, Copy, Debug, PartialEq, Eq)]
+pub struct Options {
+    /// How many workers run the threads, 1 to 16.
+    pub workers: u32,
+    /// How many instructions each thread may execute, 1 to 200,000.
+    pub fuel: u32,
+    /// How many instructions a thread executes at most before another gets its worker, 1 to 100,000.
+    pub quantum: u32,
+    /// Whether biased locking is on.
+    pub bias: bool,
+    /// What the generators of the identity hashes start from.
+    pub start: u32,
+    /// How many milliseconds one count of the clock stands for. With 0, time stands still.
+    pub tick: u32,
+    /// Whether statistics are written.
+    pub stats: bool,
+    /// Whether the journal is written.
+    pub journal: bool,
+}
+
+/// The options as texts, `None` where they weren't given.
+#[derive(Clone, Copy)]
+pub(crate) struct Values<'a> {
+    pub(crate) workers: Option<&'a str>,
+    pub(crate) fuel: Option<&'a str>,
+    pub(crate) quantum: Option<&'a str>,
+    pub(crate) bias: Option<&'a str>,
+    pub(crate) start: Option<&'a str>,
+    pub(crate) tick: Option<&'a str>,
+    pub(crate) stats: bool,
+    pub(crate) journal: bool,
+}
+
+/// The options that the texts say, or `None` where one of them says no value of its option.
+pub(crate) fn options_of(values: Values) -> Option<Options>
+    ensures { result ≡ spec.options_of (told.values_held values.entry) }
+{
+    Some(Options {
+        workers: number_or(values.workers, 4, 1, 16)?,
+        fuel: number_or(values.fuel, 20_000, 1, 200_000)?,
+        quantum: number_or(values.quantum, 1_000, 1, 100_000)?,
+        bias: switch_or(values.bias, true)?,
+        start: number_or(values.start, 1, 0, 4_294_967_295)?,
+        tick: number_or(values.tick, 0, 0, 4_294_967_295)?,
+        stats: values.stats,
+        journal: values.journal,
+    })
+}
+
+/// The number that the text says, or the default where there is no text.
+fn number_or(text: Option<&str>, default: u32, least: u32, most: u32) -> Option<u32>
+    ensures { result ≡ spec.read_or default (numbers.number least most) (option_map (λ s. s.now) text.entry) }
+{
+    match text {
+        None => Some(default),
+        Some(text) => number(text, least, most),
+    }
+}
+
+/// Whether the text says `on`, or the default where there is no text. `None` where it says neither `on` nor `off`.
+fn switch_or(text: Option<&str>, default: bool) -> Option<bool>
+    ensures { result ≡ spec.read_or default spec.switch (option_map (λ s. s.now) text.entry) }
+{
+    match text {
+        None => Some(default),
+        Some(text) if text == "on" => Some(true),
+        Some(text) if text == "off" => Some(false),
+        Some(_) => None,
+    }
+}

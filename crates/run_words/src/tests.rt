@@ -1,0 +1,124 @@
+//! Words that are accepted, and words that aren't.
+
+use crate::{Command, Options, WordsFault, read_words};
+use std::alloc::{AllocError, Global};
+use std::test::Fail;
+
+const DEFAULT: Options = Options {
+    workers: 4,
+    fuel: 20_000,
+    quantum: 1_000,
+    bias: true,
+    start: 1,
+    tick: 0,
+    stats: false,
+    journal: false,
+};
+
+/// What the line asks for, whose words stand between single spaces.
+fn read_line(alloc: Global, line: &str) -> Result<Option<Command>, AllocError> {
+    let mut words: Vec<String> = Vec::new(alloc);
+    for word in line.split(' ') {
+        words.push(String::from_str(alloc, word)?)?;
+    }
+    read(alloc, words.as_slice())
+}
+
+/// What the words ask for, or `None` where they are refused.
+fn read(alloc: Global, words: &[String]) -> Result<Option<Command>, AllocError> {
+    match read_words(alloc, words) {
+        Ok(command) => Ok(Some(command)),
+        Err(WordsFault::Refused) => Ok(None),
+        Err(WordsFault::NoMemory) => Err(AllocError),
+    }
+}
+
+#[test]
+fn options_are_read(rt: HostRuntime) -> Result<(), Fail> {
+    let workers = Options {
+        workers: 4,
+        stats: true,
+        ..DEFAULT
+    };
+    let all = Options {
+        workers: 16,
+        fuel: 200_000,
+        quantum: 7,
+        bias: false,
+        start: 0,
+        tick: 30,
+        stats: true,
+        journal: true,
+    };
+    let greatest_start = Options {
+        start: 4_294_967_295,
+        ..DEFAULT
+    };
+    let accepted = [
+        ("biasrun run --workers=04 --stats", workers),
+        ("biasrun run", DEFAULT),
+        ("--help run", DEFAULT),
+        (
+            "biasrun run --journal --tick 30 --bias=off --hash-start=0 --quantum 0000000007 --stats --fuel 200000 --workers=16",
+            all,
+        ),
+        ("biasrun run --hash-start 4294967295", greatest_start),
+        ("biasrun run --tick=0", DEFAULT),
+        ("biasrun run --bias on", DEFAULT),
+    ];
+    for (line, options) in accepted {
+        let command = read_line(rt.alloc(), line)?;
+        assert_eq!(rt; command, Some(Command::Run(options)), "at {line}");
+    }
+    Ok(())
+}
+
+#[test]
+fn other_words_are_refused(rt: HostRuntime) -> Result<(), Fail> {
+    let refused = [
+        "biasrun",
+        "biasrun make 5",
+        "biasrun run run",
+        "biasrun --stats run",
+        "biasrun RUN",
+        "biasrun run ",
+        "biasrun run --",
+        "biasrun run -s",
+        "biasrun run -",
+        "biasrun run --=4",
+        "biasrun run --help",
+        "biasrun run help",
+        "biasrun run -h",
+        "biasrun run --version",
+        "biasrun run --work 2",
+        "biasrun run --Fuel 5",
+        "biasrun run --stats=1",
+        "biasrun run --stats --stats",
+        "biasrun run --fuel 5 --fuel 5",
+        "biasrun run --fuel",
+        "biasrun run --fuel --stats",
+        "biasrun run --fuel=",
+        "biasrun run --fuel ",
+        "biasrun run --fuel 0",
+        "biasrun run --fuel 200001",
+        "biasrun run --fuel 00000000001",
+        "biasrun run --fuel +5",
+        "biasrun run --fuel -5",
+        "biasrun run --fuel=-5",
+        "biasrun run --fuel 5x",
+        "biasrun run --fuel==5",
+        "biasrun run --workers 17",
+        "biasrun run --quantum 100001",
+        "biasrun run --hash-start 4294967296",
+        "biasrun run --tick 9999999999",
+        "biasrun run --bias ON",
+        "biasrun run --bias",
+    ];
+    for line in refused {
+        let command = read_line(rt.alloc(), line)?;
+        assert!(rt; command.is_none(), "at {line}");
+    }
+    let command = read(rt.alloc(), &[])?;
+    assert!(rt; command.is_none());
+    Ok(())
+}
