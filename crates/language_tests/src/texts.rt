@@ -1,5 +1,10 @@
 //! What the tests share.
 
+ghost use Rattle.std.specs.Prelude.{◌≡◌, ◌⊎◌, true, Ok, Err};
+ghost use Rattle.object_program.specs.Program.{ProgramText};
+ghost use Rattle.object_program.specs.Refusal.{program_of};
+ghost use Rattle.object_program.specs.declared.error.Why.TheVariants.{NoMemory};
+
 use object_program::{Why, read_program};
 use std::alloc::{AllocError, Global};
 
@@ -19,12 +24,19 @@ pub const FIRST: [&[u8]; 11] = [
 ];
 
 /// Whether the text has a program.
-pub fn is_read(alloc: Global, text: &[u8]) -> bool {
-    read_program(alloc, text).is_ok()
+pub fn is_read(alloc: Global, text: &[u8]) -> bool
+    ensures { (result ≡ true) → (p : ProgramText) × (program_of text.now ≡ Ok p) }
+{
+    match read_program(alloc, text) {
+        Ok(_) => true,
+        Err(_) => false,
+    }
 }
 
 /// Whether the text is refused at this line for this cause.
-pub fn is_refused(alloc: Global, text: &[u8], line: u32, why: Why) -> bool {
+pub fn is_refused(alloc: Global, text: &[u8], line: u32, why: Why) -> bool
+    ensures { (result ≡ true) → (why ≡ NoMemory) ⊎ (program_of text.now ≡ Err (record { line = line; why = why })) }
+{
     match read_program(alloc, text) {
         Ok(_) => false,
         Err(error) => error.line == line && error.why == why,
