@@ -1,11 +1,11 @@
 //! Laws of the tables, which hold of all words, and that each form is read back from its word.
 
-ghost use Rattle.std.specs.Prelude.{◌≡◌, ℕ};
-ghost use Rattle.mark_word.specs.Hold.{IsHoldInRange, SpellsHold};
-ghost use Rattle.mark_word.specs.Mark.{IsMarkInRange, SpellsMark};
-ghost use Rattle.mark_word.specs.Owner.{IsOwnerInRange, SpellsOwner};
-ghost use Rattle.mark_word.specs.Safe.{IsSafeInRange, SpellsSafe};
-ghost use Rattle.mark_word.specs.Wait.{IsWaitInRange, SpellsWait};
+ghost use Rattle.std.specs.Prelude.{◌≡◌, ℕ, ◌↔◌, Some};
+ghost use Rattle.mark_word.specs.Hold.{IsHoldInRange, SpellsHold, read_hold};
+ghost use Rattle.mark_word.specs.Mark.{IsMarkInRange, SpellsMark, read_mark};
+ghost use Rattle.mark_word.specs.Owner.{IsOwnerInRange, SpellsOwner, read_owner};
+ghost use Rattle.mark_word.specs.Safe.{IsSafeInRange, SpellsSafe, read_safe};
+ghost use Rattle.mark_word.specs.Wait.{IsWaitInRange, SpellsWait, read_wait};
 
 use crate::bad_mark::BadMark;
 use crate::hold::{self, HoldForm};
@@ -37,6 +37,31 @@ pub fn holds_are_spelled_once()
 /// A word spells at most one state of safepoints.
 pub fn safepoints_are_spelled_once()
     ensures { (f g : SafeForm) (word : ℕ) → SpellsSafe f word → SpellsSafe g word → f ≡ g }
+{}
+
+/// A mark is read from a word exactly where the word spells it.
+pub fn marks_are_read()
+    ensures { (word : ℕ) (form : MarkForm) → (read_mark word ≡ Some form) ↔ SpellsMark form word }
+{}
+
+/// An owner is read from a word exactly where the word spells it.
+pub fn owners_are_read()
+    ensures { (word : ℕ) (form : OwnerForm) → (read_owner word ≡ Some form) ↔ SpellsOwner form word }
+{}
+
+/// A wait is read from a word exactly where the word spells it.
+pub fn waits_are_read()
+    ensures { (word : ℕ) (form : WaitForm) → (read_wait word ≡ Some form) ↔ SpellsWait form word }
+{}
+
+/// A state of holds is read from a word exactly where the word spells it.
+pub fn holds_are_read()
+    ensures { (word : ℕ) (form : HoldForm) → (read_hold word ≡ Some form) ↔ SpellsHold form word }
+{}
+
+/// A state of safepoints is read from a word exactly where the word spells it.
+pub fn safepoints_are_read()
+    ensures { (word : ℕ) (form : SafeForm) → (read_safe word ≡ Some form) ↔ SpellsSafe form word }
 {}
 
 /// A mark in range is read back from its word.

@@ -19,9 +19,10 @@ mod wait;
 pub use bad_mark::BadMark;
 pub use hold::{HoldForm, decode_hold, encode_hold};
 pub use laws::{
-    holds_are_read_back, holds_are_spelled_once, marks_are_read_back, marks_are_spelled_once,
-    owners_are_read_back, owners_are_spelled_once, safepoints_are_read_back,
-    safepoints_are_spelled_once, waits_are_read_back, waits_are_spelled_once,
+    holds_are_read, holds_are_read_back, holds_are_spelled_once, marks_are_read,
+    marks_are_read_back, marks_are_spelled_once, owners_are_read, owners_are_read_back,
+    owners_are_spelled_once, safepoints_are_read, safepoints_are_read_back,
+    safepoints_are_spelled_once, waits_are_read, waits_are_read_back, waits_are_spelled_once,
 };
 pub use mark::{
     MarkForm, biased_prototype, decode, encode, epoch_of, has_bias_pattern, is_neutral, neutral,

@@ -4,3 +4,4 @@ pub mod Orders
 pub mod Merging
 pub mod Threads
 pub mod Appending
+pub mod ValuesRead

@@ -19,4 +19,6 @@ pub use laws::{an_entry_above_all_comes_last, least_head_comes_first, order_keep
 pub use list::List;
 pub use monitor::Monitor;
 pub use refusal::{BadWord, NoMemory, Refused};
-pub use value_words::{value_word, values_are_read_back, values_are_spelled_once, word_value};
+pub use value_words::{
+    value_word, values_are_read, values_are_read_back, values_are_spelled_once, word_value,
+};

@@ -1,7 +1,7 @@
 //! The words that a heap's slots hold for values.
 
-ghost use Rattle.std.specs.Prelude.{◌≡◌, ℕ, IfOk, OnErr};
-ghost use Rattle.plain_monitor.specs.ValueWords.{IsSpellable, SpellsValue};
+ghost use Rattle.std.specs.Prelude.{◌≡◌, ℕ, ◌↔◌, Some, IfOk, OnErr};
+ghost use Rattle.plain_monitor.specs.ValueWords.{IsSpellable, SpellsValue, read_value, word_of};
 
 use crate::entry::Value;
 use crate::refusal::BadWord;
@@ -49,4 +49,10 @@ pub fn values_are_read_back(value: &Value) -> Result<Value, BadWord>
 pub fn values_are_spelled_once()
     ensures value { (u v : Value) (word : ℕ) → SpellsValue u word → SpellsValue v word → u ≡ v }
     ensures word { (value : Value) (v w : ℕ) → SpellsValue value v → SpellsValue value w → v ≡ w }
+{}
+
+/// A value is read from a word exactly where the word spells it, and a value in its range has a word.
+pub fn values_are_read()
+    ensures reads { (word : ℕ) (v : Value) → (read_value word ≡ Some v) ↔ SpellsValue v word }
+    ensures words { (v : Value) → IsSpellable v → SpellsValue v (word_of v) }
 {}

@@ -1,0 +1,125 @@
+-- How many hold words pass a test where one is stored in an empty place, and where one is cleared.
+use Rattle.std.proofs.Common.{◌≡◌, ◌≢◌, ℕ, zero, suc, ◌+◌, ◌<◌, ◌≤◌, ◌^◌, ◌==◌, ◌&&◌, nat_lt, eq-eqb, ne_eqb, Bool, true, false, List, [], ◌∷◌, length, slice_index, slice_set, Option, Some, None, refl, sym, ap, ◌∙◌, arith, subst, add-zero, zero-add}
+use Rattle.std.proofs.lemmas.Bool.Decides.{nat_tests}
+use Rattle.mark_word.specs.declared.hold.HoldForm.{HoldForm}
+use Rattle.mark_word.specs.declared.hold.HoldForm.TheVariants.{Empty, Holds}
+use Rattle.mark_word.specs.Hold.{read_hold}
+use Rattle.mark_word.proofs.ReadingHolds.{read_hold-hold_of, read_hold-spells}
+use Rattle.core_world.specs.Shape.{Shape}
+use Rattle.core_world.specs.Forms.{hold_word, names, names_form, is_deeper, deeper_form}
+use Rattle.core_world.specs.Stages.{one_if}
+use Rattle.core_world.specs.Locks.{number, named, times, again}
+use Rattle.core_world.specs.WordForms.{IsHold}
+use Rattle.core_world.proofs.Readings.{names_none, deeper_none, hold_some}
+
+-- LISTS OF WORDS. What a place has after a store, and how the number of those that pass a test changes.
+pub length_set : (hs : List ℕ) (p x : ℕ) → length (slice_set hs p x) ≡ length hs
+length_set [] p x = refl
+length_set (y ∷ hs) zero x = refl
+length_set (y ∷ hs) (suc p) x = ap suc (length_set hs p x)
+
+pub index_set : (hs : List ℕ) (p x : ℕ) → p < length hs → slice_index (slice_set hs p x) p ≡ x
+index_set [] p x h = absurd (omega arith)
+index_set (y ∷ hs) zero x h = refl
+index_set (y ∷ hs) (suc p) x h = index_set hs p x (omega arith)
+
+pub index_set_other : (hs : List ℕ) (p q x : ℕ) → q ≢ p → slice_index (slice_set hs p x) q ≡ slice_index hs q
+index_set_other [] p q x d = refl
+index_set_other (y ∷ hs) zero zero x d = absurd (d refl)
+index_set_other (y ∷ hs) zero (suc q) x d = refl
+index_set_other (y ∷ hs) (suc p) zero x d = refl
+index_set_other (y ∷ hs) (suc p) (suc q) x d = index_set_other hs p q x (λ e. d (ap suc e))
+
+-- past the end stands nothing
+pub index_past : (hs : List ℕ) (p : ℕ) → slice_index hs p ≢ 0 → p < length hs
+index_past [] p h = absurd (h refl)
+index_past (y ∷ hs) zero h = omega arith
+index_past (y ∷ hs) (suc p) h = let a = index_past hs p h in omega (arith, a)
+
+pub number_set : (test : ℕ → ℕ → Bool) (i : ℕ) (hs : List ℕ) (p x : ℕ) → p < length hs
+    → number test i (slice_set hs p x) + one_if (test (i + p) (slice_index hs p)) ≡ number test i hs + one_if (test (i + p) x)
+number_set test i [] p x h = absurd (omega arith)
+number_set test i (y ∷ hs) zero x h = rw (add-zero i) (omega arith)
+number_set test i (y ∷ hs) (suc p) x h =
+    let r = number_set test (i + 1) hs p x (omega arith) in
+    let e : i + 1 + p ≡ i + suc p = omega arith in
+    let r' = subst (λ k. number test (i + 1) (slice_set hs p x) + one_if (test k (slice_index hs p)) ≡ number test (i + 1) hs + one_if (test k x)) e r in
+    omega (arith, r')
+
+-- HOLD WORDS. One at a depth from 1 to 64 names its object alone.
+pub names_is : (i o d : ℕ) → o < 2 ^ 15 → 1 ≤ d → d ≤ 64 → names i (hold_word o d) ≡ (o == i)
+names_is i o d few some small = ap (λ f. names_form f i) (read_hold-hold_of (Holds o d) (few, some, small))
+
+pub deeper_is : (i o d : ℕ) → o < 2 ^ 15 → 1 ≤ d → d ≤ 64 → is_deeper i (hold_word o d) ≡ ((o == i) && nat_lt 1 d)
+deeper_is i o d few some small = ap (λ f. deeper_form f i) (read_hold-hold_of (Holds o d) (few, some, small))
+
+-- two hold words at such depths are the same only for the same object and depth
+pub hold_tells : (o d i e : ℕ) → d ≤ 64 → e ≤ 64 → hold_word o d ≡ hold_word i e → (o ≡ i) × (d ≡ e)
+hold_tells o d i e h g q = (omega arith, omega arith)
+
+pub same_hold : (i e o d : ℕ) → d ≤ 64 → e < 64 → (hold_word o d == hold_word i (e + 1)) ≡ ((o == i) && (d == e + 1))
+same_hold i e o d h g = cases (o == i) (d == e + 1) refl refl
+  where
+    cases : (a b : Bool) → (o == i) ≡ a → (d == e + 1) ≡ b → (hold_word o d == hold_word i (e + 1)) ≡ (a && b)
+    cases true true p q = let x : o ≡ i = grind (arith, nat_tests, p) in let y : d ≡ e + 1 = grind (arith, nat_tests, q) in eq-eqb _ _ (omega arith)
+    cases true false p q = ne_eqb _ _ (λ z. let y : d ≢ e + 1 = λ r. absurd (cc (sym (eq-eqb _ _ r) ∙ q)) in absurd (y (let x : o ≡ i = grind (arith, nat_tests, p) in omega arith)))
+    cases false b p q = ne_eqb _ _ (λ z. let y : o ≢ i = λ r. absurd (cc (sym (eq-eqb _ _ r) ∙ p)) in absurd (y (omega arith)))
+
+-- a word of a heap's form that is the hold word of o at depth d names one of its objects, at a depth from 1 on
+pub hold_in_form : (s : Shape) (o d n : ℕ) → d ≤ 64 → n ≡ hold_word o d → IsHold s (read_hold n) → (o < length s.objects) × (1 ≤ d)
+hold_in_form s o d n small e form = cases (read_hold n) refl form
+  where
+    cases : (f : Option HoldForm) → read_hold n ≡ f → IsHold s f → (o < length s.objects) × (1 ≤ d)
+    cases None g h = elim h [ ]
+    cases (Some Empty) g h = let spells = read_hold-spells n Empty g in absurd (hold_some o d (sym e ∙ spells.1))
+    cases (Some (Holds i j)) g h =
+        let spells = read_hold-spells n (Holds i j) g in
+        let same : hold_word o d ≡ hold_word i j = sym e ∙ spells.1 in
+        let tells = hold_tells o d i j small spells.0.2 same in
+        let within : i < length s.objects = h in
+        let deep : 1 ≤ j = spells.0.1 in
+        (omega (arith, tells.0, within), omega (arith, tells.1, deep))
+
+-- STORING. The hold word of o at depth d is stored in an empty place.
+module _ (hs : List ℕ) (p o d : ℕ) (within : p < length hs) (few : o < 2 ^ 15) (some : 1 ≤ d) (small : d ≤ 64) (empty : slice_index hs p ≡ 0) where
+  put : (test : ℕ → ℕ → Bool) → test p 0 ≡ false → number test 0 (slice_set hs p (hold_word o d)) ≡ number test 0 hs + one_if (test p (hold_word o d))
+  put test none =
+      let r = number_set test 0 hs p (hold_word o d) within in
+      let e : one_if (test (0 + p) (slice_index hs p)) ≡ 0 = ap (λ n. one_if (test n (slice_index hs p))) (zero-add p) ∙ ap (λ n. one_if (test p n)) empty ∙ ap one_if none in
+      let f : one_if (test (0 + p) (hold_word o d)) ≡ one_if (test p (hold_word o d)) = ap (λ n. one_if (test n (hold_word o d))) (zero-add p) in
+      omega (arith, r, e, f)
+
+  pub named_put : (i : ℕ) → named i (slice_set hs p (hold_word o d)) ≡ named i hs + one_if (o == i)
+  named_put i = put (λ q h. names i h) (names_none i) ∙ ap (λ b. named i hs + one_if b) (names_is i o d few some small)
+
+  pub times_put : (i e : ℕ) → e < 64 → times i (e + 1) (slice_set hs p (hold_word o d)) ≡ times i (e + 1) hs + one_if ((o == i) && (d == e + 1))
+  times_put i e g =
+      put (λ q h. h == hold_word i (e + 1)) (ne_eqb 0 (hold_word i (e + 1)) (λ z. hold_some i (e + 1) (sym z)))
+      ∙ ap (λ b. times i (e + 1) hs + one_if b) (same_hold i e o d small g)
+
+  pub again_put : (i : ℕ) (f : ℕ → ℕ) → again i f (slice_set hs p (hold_word o d)) ≡ again i f hs + one_if (((o == i) && nat_lt 1 d) && (f p == 3))
+  again_put i f =
+      put (λ q h. is_deeper i h && (f q == 3)) (ap (λ (b : Bool). b && (f p == 3)) (deeper_none i))
+      ∙ ap (λ (b : Bool). again i f hs + one_if (b && (f p == 3))) (deeper_is i o d few some small)
+
+-- CLEARING. The hold word of o at depth d is cleared.
+module _ (hs : List ℕ) (p o d : ℕ) (few : o < 2 ^ 15) (some : 1 ≤ d) (small : d ≤ 64) (full : slice_index hs p ≡ hold_word o d) where
+  clear : (test : ℕ → ℕ → Bool) → test p 0 ≡ false → number test 0 (slice_set hs p 0) + one_if (test p (hold_word o d)) ≡ number test 0 hs
+  clear test none =
+      let r = number_set test 0 hs p 0 (index_past hs p (λ z. hold_some o d (sym full ∙ z))) in
+      let e : one_if (test (0 + p) 0) ≡ 0 = ap (λ n. one_if (test n 0)) (zero-add p) ∙ ap one_if none in
+      let f : one_if (test (0 + p) (slice_index hs p)) ≡ one_if (test p (hold_word o d)) = ap (λ n. one_if (test n (slice_index hs p))) (zero-add p) ∙ ap (λ n. one_if (test p n)) full in
+      omega (arith, r, e, f)
+
+  pub named_clear : (i : ℕ) → named i (slice_set hs p 0) + one_if (o == i) ≡ named i hs
+  named_clear i = ap (λ b. named i (slice_set hs p 0) + one_if b) (sym (names_is i o d few some small)) ∙ clear (λ q h. names i h) (names_none i)
+
+  pub times_clear : (i e : ℕ) → e < 64 → times i (e + 1) (slice_set hs p 0) + one_if ((o == i) && (d == e + 1)) ≡ times i (e + 1) hs
+  times_clear i e g =
+      ap (λ b. times i (e + 1) (slice_set hs p 0) + one_if b) (sym (same_hold i e o d small g))
+      ∙ clear (λ q h. h == hold_word i (e + 1)) (ne_eqb 0 (hold_word i (e + 1)) (λ z. hold_some i (e + 1) (sym z)))
+
+  pub again_clear : (i : ℕ) (f : ℕ → ℕ) → again i f (slice_set hs p 0) + one_if (((o == i) && nat_lt 1 d) && (f p == 3)) ≡ again i f hs
+  again_clear i f =
+      ap (λ (b : Bool). again i f (slice_set hs p 0) + one_if (b && (f p == 3))) (sym (deeper_is i o d few some small))
+      ∙ clear (λ q h. is_deeper i h && (f q == 3)) (ap (λ (b : Bool). b && (f p == 3)) (deeper_none i))

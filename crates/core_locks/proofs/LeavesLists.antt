@@ -1,0 +1,94 @@
+-- A list of waiters with one more at its end.
+use Rattle.std.proofs.Common.{◌≡◌, ◌≢◌, ◌⊎◌, ℕ, ◌<◌, ◌==◌, ◌&&◌, ◌||◌, nat_lt, ne_eqb, eqb-true, Bool, true, false, cond, List, [], ◌∷◌, ◌++◌, Some, None, refl, sym, ap, ◌∙◌, arith, inl, inr}
+use Rattle.std.proofs.lemmas.Bool.Decides.{nat_tests}
+use Rattle.std.specs.List.{AllByRecursion}
+use Rattle.plain_monitor.specs.Monitor.{is_listed, count_of}
+use Rattle.plain_monitor.proofs.Lists.{all_push}
+use Rattle.core_world.specs.Forms.{waits_on, stamp_in}
+use Rattle.core_world.specs.Waits.{StandsBefore, StandByStamps}
+use Rattle.core_world.proofs.Frames.{frame2}
+use Rattle.core_world.proofs.Stands.{same_number}
+
+or_holds : (b : Bool) → (b || true) ≡ true
+or_holds true = refl
+or_holds false = refl
+
+-- who was listed is
+pub listed_forth : (ps : List (ℕ × ℕ)) (t c u : ℕ) → is_listed ps u ≡ true → is_listed (ps ++ (t, c) ∷ []) u ≡ true
+listed_forth [] t c u h = absurd (cc h)
+listed_forth (p ∷ ps) t c u h = at_head (p.0 == u) h (listed_forth ps t c u)
+  where
+    at_head : (b : Bool) → (b || is_listed ps u) ≡ true → (is_listed ps u ≡ true → is_listed (ps ++ (t, c) ∷ []) u ≡ true)
+        → (b || is_listed (ps ++ (t, c) ∷ []) u) ≡ true
+    at_head true h ih = refl
+    at_head false h ih = ih h
+
+-- so is the new one
+pub listed_last : (ps : List (ℕ × ℕ)) (t c : ℕ) → is_listed (ps ++ (t, c) ∷ []) t ≡ true
+listed_last [] t c = ap (λ (b : Bool). b || false) (same_number t)
+listed_last (p ∷ ps) t c = ap (λ b. (p.0 == t) || b) (listed_last ps t c) ∙ or_holds (p.0 == t)
+
+-- and nobody else
+pub listed_back : (ps : List (ℕ × ℕ)) (t c u : ℕ) → is_listed (ps ++ (t, c) ∷ []) u ≡ true → (is_listed ps u ≡ true) ⊎ (u ≡ t)
+listed_back [] t c u h = at_last (t == u) refl h
+  where
+    at_last : (b : Bool) → (t == u) ≡ b → (b || false) ≡ true → (is_listed [] u ≡ true) ⊎ (u ≡ t)
+    at_last true e h = inr (sym (eqb-true t u e))
+    at_last false e h = absurd (cc h)
+listed_back (p ∷ ps) t c u h = at_head (p.0 == u) h (listed_back ps t c u)
+  where
+    at_head : (b : Bool) → (b || is_listed (ps ++ (t, c) ∷ []) u) ≡ true → (is_listed (ps ++ (t, c) ∷ []) u ≡ true → (is_listed ps u ≡ true) ⊎ (u ≡ t))
+        → ((b || is_listed ps u) ≡ true) ⊎ (u ≡ t)
+    at_head true h ih = inl refl
+    at_head false h ih = ih h
+
+-- the new one keeps its count
+pub count_last : (ps : List (ℕ × ℕ)) (t c : ℕ) → is_listed ps t ≡ false → count_of (ps ++ (t, c) ∷ []) t ≡ Some c
+count_last [] t c h = ap (λ (b : Bool). cond b (Some c) None) (same_number t)
+count_last (p ∷ ps) t c h = at_head (p.0 == t) h (count_last ps t c)
+  where
+    at_head : (b : Bool) → (b || is_listed ps t) ≡ false → (is_listed ps t ≡ false → count_of (ps ++ (t, c) ∷ []) t ≡ Some c)
+        → cond b (Some p.1) (count_of (ps ++ (t, c) ∷ []) t) ≡ Some c
+    at_head true h ih = absurd (cc h)
+    at_head false h ih = ih h
+
+-- and every other one the count that it had
+pub count_else : (ps : List (ℕ × ℕ)) (t c u : ℕ) → u ≢ t → count_of (ps ++ (t, c) ∷ []) u ≡ count_of ps u
+count_else [] t c u d = ap (λ (b : Bool). cond b (Some c) None) (ne_eqb t u (λ e. d (sym e)))
+count_else (p ∷ ps) t c u d = ap (cond (p.0 == u) (Some p.1)) (count_else ps t c u d)
+
+listed_head : (p : ℕ × ℕ) (ps : List (ℕ × ℕ)) → is_listed (p ∷ ps) p.0 ≡ true
+listed_head p ps = ap (λ b. b || is_listed ps p.0) (same_number p.0)
+
+listed_tail : (p : ℕ × ℕ) (ps : List (ℕ × ℕ)) (u : ℕ) → is_listed ps u ≡ true → is_listed (p ∷ ps) u ≡ true
+listed_tail p ps u h = ap (λ b. (p.0 == u) || b) h ∙ or_holds (p.0 == u)
+
+-- one stands before the others by words that are the same
+before_same : (f g : ℕ → ℕ) (o : ℕ) (p : ℕ × ℕ) (qs : List (ℕ × ℕ)) → g p.0 ≡ f p.0 → ((u : ℕ) → is_listed qs u ≡ true → g u ≡ f u)
+    → AllByRecursion (StandsBefore f o p) qs → AllByRecursion (StandsBefore g o p) qs
+before_same f g o p [] e h a = tt
+before_same f g o p (q ∷ qs) e h a =
+    let Z : ℕ → ℕ → Type 0 = λ m n.
+    waits_on m o ≡ true → waits_on n o ≡ true → (nat_lt (stamp_in m) (stamp_in n) || ((stamp_in m == stamp_in n) && nat_lt p.0 q.0)) ≡ true in
+    (frame2 Z (sym e) (sym (h q.0 (listed_head q qs))) a.0, before_same f g o p qs e (λ u k. h u (listed_tail q qs u k)) a.1)
+
+-- those who wait stand by their stamps where their words are the same
+pub stand_same : (f g : ℕ → ℕ) (o : ℕ) (ps : List (ℕ × ℕ)) → ((u : ℕ) → is_listed ps u ≡ true → g u ≡ f u) → StandByStamps f o ps → StandByStamps g o ps
+stand_same f g o [] h a = tt
+stand_same f g o (p ∷ ps) h a =
+    (before_same f g o p ps (h p.0 (listed_head p ps)) (λ u k. h u (listed_tail p ps u k)) a.0, stand_same f g o ps (λ u k. h u (listed_tail p ps u k)) a.1)
+
+-- they do with one more, whose stamp is above theirs
+pub stand_last : (f g : ℕ → ℕ) (o t c : ℕ) (ps : List (ℕ × ℕ)) → ((u : ℕ) → is_listed ps u ≡ true → g u ≡ f u)
+    → ((u : ℕ) → is_listed ps u ≡ true → waits_on (f u) o ≡ true → stamp_in (f u) < stamp_in (g t)) → StandByStamps f o ps → StandByStamps g o (ps ++ (t, c) ∷ [])
+stand_last f g o t c [] h below a = (tt, tt)
+stand_last f g o t c (p ∷ ps) h below a =
+    let e = h p.0 (listed_head p ps) in
+    let last : StandsBefore g o p (t, c) = λ x y.
+    less (stamp_in (g p.0)) (stamp_in (g t)) p.0 t (let b = below p.0 (listed_head p ps) (ap (λ n. waits_on n o) (sym e) ∙ x) in omega (arith, b, ap stamp_in e)) in (
+      all_push (StandsBefore g o p) ps (t, c) (before_same f g o p ps e (λ u k. h u (listed_tail p ps u k)) a.0) last,
+      stand_last f g o t c ps (λ u k. h u (listed_tail p ps u k)) (λ u k. below u (listed_tail p ps u k)) a.1,
+    )
+  where
+    less : (m n a b : ℕ) → m < n → (nat_lt m n || ((m == n) && nat_lt a b)) ≡ true
+    less m n a b h = grind (arith, nat_tests)

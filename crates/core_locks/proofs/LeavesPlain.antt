@@ -1,0 +1,141 @@
+-- The plain objects take the Wait: the thread owns the object no more, and stands last among those who wait.
+use Rattle.std.proofs.Common.{◌≡◌, ◌≢◌, ◌⊎◌, ℕ, ◌+◌, ◌||◌, ne_eqb, Bool, true, false, cond, List, [], ◌∷◌, ◌++◌, slice_set, Some, None, refl, sym, ap, ◌∙◌, arith, inl, inr}
+use Rattle.std.proofs.lemmas.Option.{same_Some}
+use Rattle.plain_monitor.specs.declared.entry.Entry.TheVariants as entry
+use Rattle.plain_monitor.specs.declared.entry.Logged.{Logged}
+use Rattle.plain_monitor.specs.Monitor.{PlainMonitor, is_thread, is_listed, only_if, owns}
+use Rattle.plain_monitor.specs.Objects.{PlainObject, take_entry, with_monitor}
+use Rattle.plain_monitor.specs.History.{last_stamp}
+use Rattle.core_world.specs.declared.name.Name.TheVariants.{Stamp}
+use Rattle.core_world.specs.Known.{Known}
+use Rattle.core_world.specs.Locks.{who, holder, named, monitor_of, object_of, standing, or_zero, owner_at, waits_at, called_at}
+use Rattle.core_world.specs.Stages.{bears}
+use Rattle.core_world.specs.Stamps.{bound_stamp}
+use Rattle.core_world.specs.Valid.{Fits}
+use Rattle.core_world.specs.World.{World}
+use Rattle.core_world.proofs.Parts.{by_equal}
+use Rattle.core_world.proofs.Stands.{thread_is, unlisted_count}
+use Rattle.core_locks.proofs.Logging.{IsLogging}
+use Rattle.core_locks.proofs.Updates.{takes, monitor_here, monitor_else}
+use Rattle.core_locks.proofs.WaitOut.{out_unlisted}
+use Rattle.core_locks.proofs.LeavesLists.{listed_forth, listed_last, listed_back, count_last, count_else}
+use Rattle.core_locks.proofs.LeavesStates.{IsLeaving, HasLogged}
+
+-- the monitor after the owner t went to wait
+abbrev pub left_monitor : PlainMonitor → ℕ → PlainMonitor
+left_monitor m t = record m { owner = None; count = 0; waits = m.waits ++ (t, m.count) ∷ [] }
+
+abbrev pub left_object : PlainObject → ℕ → PlainObject
+left_object z t = record z { monitor = left_monitor z.monitor t }
+
+-- the objects after t went to wait on o
+abbrev pub left_objects : List PlainObject → ℕ → ℕ → List PlainObject
+left_objects P o t = slice_set P o (left_object (object_of P o) t)
+
+-- the entry as it is logged
+abbrev pub wait_entry : Known → ℕ → Logged
+wait_entry k o = record { stamp = last_stamp k.log + 1; entry = entry.Wait o }
+
+neither : (a b : Bool) → (a || b) ≡ false → (a ≡ false) × (b ≡ false)
+neither true b h = absurd (cc h)
+neither false b h = (refl, h)
+
+module _ (w : World) (P : List PlainObject) (o m t : ℕ) (v : Fits w P) (s : IsLeaving w P o m t) where
+  pub owner_before : (monitor_of P o).owner ≡ Some t
+  owner_before = thread_is (monitor_of P o).owner t s.owner
+
+  -- the thread stands on no list yet
+  pub unlisted : (i : ℕ) → (is_listed (waits_at P i) t ≡ false) × (is_listed (called_at P i) t ≡ false)
+  unlisted i = out_unlisted w P t v s.out (λ j e. absurd (cc (e, s.calm))) i
+
+  pub taken : take_entry P t (entry.Wait o) ≡ Some (left_objects P o t)
+  taken =
+      takes P o t (entry.Wait o) (left_object (object_of P o) t) s.object refl
+      (ap (λ b. with_monitor (object_of P o) (only_if b (left_monitor (monitor_of P o) t))) s.owner)
+
+  -- each monitor is as it was, but that of o
+  pub monitor_at : (i : ℕ) → ((i ≡ o) × (monitor_of (left_objects P o t) i ≡ left_monitor (monitor_of P o) t)) ⊎ ((i ≢ o) × (monitor_of (left_objects P o t) i ≡ monitor_of P i))
+  monitor_at i =
+      by_equal i o
+      (λ e. inl (e, ap (monitor_of (left_objects P o t)) e ∙ monitor_here P o (left_object (object_of P o) t) s.object))
+      (λ d. inr (d, monitor_else P o i (left_object (object_of P o) t) d))
+
+  -- o has no owner, and every other object the one that it had
+  pub owner_at_next : (i u : ℕ) → ((i ≡ o) × (owner_at (left_objects P o t) i u ≡ false)) ⊎ ((i ≢ o) × (owner_at (left_objects P o t) i u ≡ owner_at P i u))
+  owner_at_next i u = elim (monitor_at i) [
+    | inl a ↦ inl (a.0, ap (λ z. owns z u) a.1)
+    | inr a ↦ inr (a.0, ap (λ z. owns z u) a.1)
+  ]
+
+  pub owner_back : (i u : ℕ) → owner_at (left_objects P o t) i u ≡ true → (i ≢ o) × (owner_at P i u ≡ true)
+  owner_back i u e = elim (owner_at_next i u) [
+    | inl a ↦ absurd (cc (a.1, e))
+    | inr a ↦ (a.0, sym a.1 ∙ e)
+  ]
+
+  -- the new one waits on o, and who else waits did so before
+  pub waits_next : (i u : ℕ) → is_listed (waits_at (left_objects P o t) i) u ≡ true → ((i ≡ o) × (u ≡ t)) ⊎ (is_listed (waits_at P i) u ≡ true)
+  waits_next i u e = elim (monitor_at i) [
+    | inl a ↦ elim (listed_back (waits_at P o) t (monitor_of P o).count u (ap (λ (z : PlainMonitor). is_listed z.waits u) (sym a.1) ∙ e)) [
+      | inl b ↦ inr (ap (λ j. is_listed (waits_at P j) u) a.0 ∙ b)
+      | inr b ↦ inl (a.0, b)
+    ]
+    | inr a ↦ inr (ap (λ (z : PlainMonitor). is_listed z.waits u) (sym a.1) ∙ e)
+  ]
+
+  pub waits_still : (i u : ℕ) → is_listed (waits_at P i) u ≡ true → is_listed (waits_at (left_objects P o t) i) u ≡ true
+  waits_still i u e = elim (monitor_at i) [
+    | inl a ↦ ap (λ (z : PlainMonitor). is_listed z.waits u) a.1 ∙ listed_forth (waits_at P o) t (monitor_of P o).count u (ap (λ j. is_listed (waits_at P j) u) (sym a.0) ∙ e)
+    | inr a ↦ ap (λ (z : PlainMonitor). is_listed z.waits u) a.1 ∙ e
+  ]
+
+  pub waits_here : is_listed (waits_at (left_objects P o t) o) t ≡ true
+  waits_here = elim (monitor_at o) [
+    | inl a ↦ ap (λ (z : PlainMonitor). is_listed z.waits t) a.1 ∙ listed_last (waits_at P o) t (monitor_of P o).count
+    | inr a ↦ absurd (a.0 refl)
+  ]
+
+  pub holder_is : who w o ≡ Some t
+  holder_is = ap (λ f. holder f (λ z. named o (w.known z).holds)) s.manned
+
+  -- no other thread owns o or is taking it
+  pub others_out : (u : ℕ) → u ≢ t → (owner_at P o u ≡ false) × (bears (w.known u).stage o ≡ false)
+  others_out u d = neither (owner_at P o u) (bears (w.known u).stage o) (sym (v.owners.same o u) ∙ ap (λ a. is_thread a u) holder_is ∙ ne_eqb t u (λ e. d (sym e)))
+
+  -- nobody's number of plain holds changes: the thread's count goes from the owner's to that of one who waits
+  pub stands_next : (i u : ℕ) → ((i ≡ o) × (u ≡ t) × (standing (monitor_of (left_objects P o t) i) u ≡ (monitor_of P o).count)) ⊎ (standing (monitor_of (left_objects P o t) i) u ≡ standing (monitor_of P i) u)
+  stands_next i u = elim (monitor_at i) [
+    | inl a ↦
+        let next = ap (λ z. standing z u) a.1 in
+        by_equal u t
+        (λ e. inl (a.0, e, next ∙ ap (standing (left_monitor (monitor_of P o) t)) e ∙ own))
+        (λ d. inr (next ∙ other d ∙ ap (λ j. standing (monitor_of P j) u) (sym a.0)))
+    | inr a ↦ inr (ap (λ z. standing z u) a.1)
+  ]
+    where
+      own : standing (left_monitor (monitor_of P o) t) t ≡ (monitor_of P o).count
+      own =
+          let waits = ap or_zero (count_last (waits_at P o) t (monitor_of P o).count (unlisted o).0) in
+          let called = unlisted_count (called_at P o) t (unlisted o).1 in
+          omega (arith, waits, called)
+
+      other : u ≢ t → standing (left_monitor (monitor_of P o) t) u ≡ standing (monitor_of P o) u
+      other d =
+          let waits = ap or_zero (count_else (waits_at P o) t (monitor_of P o).count u d) in
+          let owner = ap (λ b. cond b (monitor_of P o).count 0) (others_out u d).0 in
+          omega (arith, waits, owner)
+
+  -- what the entry is above, and why it may be logged
+  pub is_logging : (l : Known) → HasLogged (w.known t) l o → IsLogging w P (left_objects P o t) t (wait_entry (w.known t) o) l
+  is_logging l h =
+      record {
+        within = s.within;
+        grows = h.log;
+        taken = taken;
+        up = omega arith;
+        above = λ i e.
+            let same : o ≡ i = same_Some o i e in
+            let bound : bound_stamp (λ u. (w.known u).log) (w.words (Stamp i)) (monitor_of P i).owner ≡ last_stamp (w.known t).log =
+            ap (λ j. bound_stamp (λ u. (w.known u).log) (w.words (Stamp j)) (monitor_of P j).owner) (sym same) ∙ ap (bound_stamp (λ u. (w.known u).log) (w.words (Stamp o))) owner_before in
+            omega (arith, bound);
+      }

@@ -1,0 +1,157 @@
+-- What follows where a thread logs an entry that the plain objects take: the logs, their order, the stamps and the lengths.
+use Rattle.std.proofs.Common.{◌≡◌, ◌≢◌, ℕ, zero, suc, ◌+◌, ◌<◌, ◌≤◌, ◌||◌, Bool, true, false, List, [], ◌∷◌, ◌++◌, length, slice_set, slice_get, Option, Some, None, option_and_then, option_map, refl, sym, ap, ◌∙◌, subst, arith}
+use Rattle.std.specs.List.{AllByRecursion}
+use Rattle.plain_monitor.specs.declared.entry.Entry.{Entry}
+use Rattle.plain_monitor.specs.declared.entry.Logged.{Logged}
+use Rattle.plain_monitor.specs.Objects.{PlainObject, take_at, take_entry, take_named, named}
+use Rattle.plain_monitor.specs.Order.{order}
+use Rattle.plain_monitor.specs.History.{LegalObjects, objects_after, appended, last_stamp, log_of}
+use Rattle.plain_monitor.proofs.Lists.{all_weaker}
+use Rattle.plain_monitor.proofs.Orders.{all_insert}
+use Rattle.plain_monitor.proofs.Appending.{order_appended, last_more}
+use Rattle.plain_history.specs.Appending.{MayAppend}
+use Rattle.plain_history.specs.Stamps.{IsBounded}
+use Rattle.plain_history.specs.Tied.{bound_to}
+use Rattle.plain_history.proofs.Bounds.{above_bound, unbound_may_append}
+use Rattle.plain_history.proofs.Inserting.{legal_with, objects_with}
+use Rattle.core_world.specs.declared.name.Name.TheVariants.{Stamp}
+use Rattle.core_world.specs.declared.task.Unfinished.{Unfinished}
+use Rattle.core_world.specs.Known.{Known}
+use Rattle.core_world.specs.Lengths.{LengthsFit, log_limit}
+use Rattle.core_world.specs.Locks.{monitor_of}
+use Rattle.core_world.specs.Safepoints.{is_ending, ends}
+use Rattle.core_world.specs.Stamps.{StampsFit, entries, bound_stamp}
+use Rattle.core_world.specs.Valid.{Fits}
+use Rattle.core_world.specs.Waits.{last_entry}
+use Rattle.core_world.specs.World.{World, told, logs, logs_from}
+use Rattle.core_world.proofs.Parts.{by_equal, told_else, each_told, logs_grow, logs_length, log_at}
+
+-- a log with one entry more
+pub ends_more : (log : List Logged) (l : Logged) → is_ending l.entry ≡ false → ends (log ++ l ∷ []) ≡ ends log
+ends_more [] l e = ap (λ b. b || false) e
+ends_more (m ∷ log) l e = ap (λ b. is_ending m.entry || b) (ends_more log l e)
+
+pub length_more : (log : List Logged) (l : Logged) → length (log ++ l ∷ []) ≡ length log + 1
+length_more [] l = refl
+length_more (m ∷ log) l = let a = length_more log l in omega (arith, a)
+
+pub last_entry_more : (log : List Logged) (l : Logged) → last_entry (log ++ l ∷ []) ≡ Some l
+last_entry_more [] l = refl
+last_entry_more (m ∷ []) l = refl
+last_entry_more (m ∷ n ∷ log) l = last_entry_more (n ∷ log) l
+
+entries_more : (all : List (List Logged)) (t : ℕ) (l : Logged) → t < length all → entries (appended all t l) ≡ entries all + 1
+entries_more [] t l h = absurd (omega arith)
+entries_more (log ∷ all) zero l h = let a = length_more log l in omega (arith, a)
+entries_more (log ∷ all) (suc t) l h = let a = entries_more all t l (omega arith) in omega (arith, a)
+
+set_length : (P : List PlainObject) (o : ℕ) (y : PlainObject) → length (slice_set P o y) ≡ length P
+set_length [] o y = refl
+set_length (z ∷ P) zero y = refl
+set_length (z ∷ P) (suc o) y = ap suc (set_length P o y)
+
+-- as many objects take an entry as there are afterwards
+pub taken_length : (P Q : List PlainObject) (t : ℕ) (e : Entry) → take_entry P t e ≡ Some Q → length Q ≡ length P
+taken_length P Q t e h = by_name (named e) h
+  where
+    by_object : (o : ℕ) (a : Option PlainObject) → option_map (λ y. slice_set P o y) a ≡ Some Q → length Q ≡ length P
+    by_object o None g = absurd (cc g)
+    by_object o (Some y) g = let same : slice_set P o y ≡ Q = cc g in ap (λ R. length R) (sym same) ∙ set_length P o y
+
+    by_get : (o : ℕ) (a : Option PlainObject) → option_and_then (λ x. option_map (λ y. slice_set P o y) (take_at x t e)) a ≡ Some Q → length Q ≡ length P
+    by_get o None g = absurd (cc g)
+    by_get o (Some x) g = by_object o (take_at x t e) g
+
+    by_name : (a : Option ℕ) → take_named P t e a ≡ Some Q → length Q ≡ length P
+    by_name None g = let same : P ≡ Q = cc g in ap (λ R. length R) (sym same)
+    by_name (Some o) g = by_get o (slice_get P o) g
+
+-- Thread t, which knew what it knew in w, logs y and then knows l; the plain objects P take the entry and become Q. The stamp is above t's last,
+-- and where the entry is bound to an object, above that object's bound.
+pub record IsLogging (w : World) (P Q : List PlainObject) (t : ℕ) (y : Logged) (l : Known) : Type 0 where
+  pub within : t < w.shape.threads
+  pub grows : l.log ≡ (w.known t).log ++ y ∷ []
+  pub taken : take_entry P t y.entry ≡ Some Q
+  pub up : last_stamp (w.known t).log < y.stamp
+  pub above : (o : ℕ) → bound_to y.entry ≡ Some o → bound_stamp (λ u. (w.known u).log) (w.words (Stamp o)) (monitor_of P o).owner < y.stamp
+
+module _ (w : World) (P Q : List PlainObject) (t : ℕ) (y : Logged) (l : Known) (v : Fits w P) (a : IsLogging w P Q t y l) where
+  -- the logs afterwards
+  abbrev next : List (List Logged)
+  next = logs_from 0 w.shape.threads (told t l w.known)
+
+  pub logs_are : logs_from 0 w.shape.threads (told t l w.known) ≡ appended (logs w) t y
+  logs_are = logs_grow w.shape.threads t y l w.known a.within a.grows
+
+  log_is : log_of (logs w) t ≡ (w.known t).log
+  log_is = log_at 0 w.shape.threads t t w.known (omega arith) a.within
+
+  many : t < length (logs w)
+  many = let b = logs_length 0 w.shape.threads w.known in omega (arith, b, a.within)
+
+  up_again : last_stamp (log_of (logs w) t) < y.stamp
+  up_again = let b = ap last_stamp log_is in omega (arith, b, a.up)
+
+  pub may_log : MayAppend (logs w) t y
+  may_log = by_bound (bound_to y.entry) refl
+    where
+      by_bound : (b : Option ℕ) → bound_to y.entry ≡ b → MayAppend (logs w) t y
+      by_bound None e = unbound_may_append (logs w) t y many up_again e
+      by_bound (Some o) e = above_bound (logs w) t y o (bound_stamp (λ u. (w.known u).log) (w.words (Stamp o)) (monitor_of P o).owner) many up_again e (v.stamps.bound o) (a.above o e)
+
+  -- the logs are legal, and the objects after them are Q
+  pub legal_next : LegalObjects w.shape.objects (logs_from 0 w.shape.threads (told t l w.known))
+  legal_next = subst (LegalObjects w.shape.objects) (sym logs_are) (legal_with w.shape.objects (logs w) t y P Q v.legal v.taken a.taken may_log)
+
+  pub taken_next : objects_after w.shape.objects (logs_from 0 w.shape.threads (told t l w.known)) ≡ Some Q
+  taken_next = ap (objects_after w.shape.objects) logs_are ∙ objects_with w.shape.objects (logs w) t y P Q v.legal v.taken a.taken may_log
+
+  pub sized_next : length Q ≡ length w.shape.objects
+  sized_next = taken_length P Q t y.entry a.taken ∙ v.sized
+
+  pub entries_next : entries (logs_from 0 w.shape.threads (told t l w.known)) ≡ entries (logs w) + 1
+  entries_next = ap entries logs_are ∙ entries_more (logs w) t y many
+
+  pub last_next : last_stamp l.log ≡ y.stamp
+  last_next = ap last_stamp a.grows ∙ last_more 0 (w.known t).log y
+
+  pub length_next : length l.log ≡ length (w.known t).log + 1
+  length_next = ap (λ z. length z) a.grows ∙ length_more (w.known t).log y
+
+  -- a bound of the entries on i holds with one entry more
+  pub bounded_next : (i s r : ℕ) → IsBounded (logs w) i s → s ≤ r → (bound_to y.entry ≡ Some i → y.stamp ≤ r) → IsBounded (logs_from 0 w.shape.threads (told t l w.known)) i r
+  bounded_next i s r bounded above new =
+      let B : ℕ × Logged → Type 0 = λ x. bound_to x.1.entry ≡ Some i → x.1.stamp ≤ r in
+      subst (λ z. AllByRecursion B (order z)) (sym logs_are)
+      (subst (AllByRecursion B) (sym (order_appended (logs w) t y v.legal.rises many up_again))
+      (all_insert B (t, y) (order (logs w)) new (all_weaker (λ x. bound_to x.1.entry ≡ Some i → x.1.stamp ≤ s) B (λ x f q. let g = f q in omega (arith, above, g)) (order (logs w)) bounded)))
+
+  -- The stamps fit afterwards, where the stamp words are the same: the new stamp is at most one more than the number of entries, and each
+  -- object's bound is no smaller, and covers the entry where that is bound to it.
+  pub stamps_next : (unfinished : ℕ → Option Unfinished) → y.stamp ≤ entries (logs w) + 1
+      → ((i : ℕ) → (bound_stamp (λ u. (w.known u).log) (w.words (Stamp i)) (monitor_of P i).owner ≤ bound_stamp (λ u. (told t l w.known u).log) (w.words (Stamp i)) (monitor_of Q i).owner)
+      × (bound_to y.entry ≡ Some i → y.stamp ≤ bound_stamp (λ u. (told t l w.known u).log) (w.words (Stamp i)) (monitor_of Q i).owner))
+      → StampsFit (logs_from 0 w.shape.threads (told t l w.known)) (λ u. (told t l w.known u).log) (λ o. w.words (Stamp o)) (λ o. (monitor_of Q o).owner) unfinished
+  stamps_next unfinished small bounds =
+      record {
+        logged = λ u. each_told (λ u k. last_stamp k.log ≤ entries (logs_from 0 w.shape.threads (told t l w.known))) t l w.known u
+            (omega (arith, entries_next, last_next, small)) (λ d. omega (arith, entries_next, v.stamps.logged u));
+        words = λ o. omega (arith, entries_next, v.stamps.words o);
+        even = λ o h. omega (arith, entries_next, v.stamps.words o);
+        bound = λ o. let b = bounds o in bounded_next o _ _ (v.stamps.bound o) b.0 b.1;
+      }
+
+  -- the lengths fit afterwards, where the thread runs, has room, and published no more than its new log
+  pub lengths_next : (word published : ℕ → ℕ) (requesting : ℕ → Bool) (halted : Bool) → length (w.known t).log < log_limit → (told t l w.known t).running ≡ true
+      → ((u : ℕ) → word u ≡ published u) → ((u : ℕ) → published u ≤ length (told t l w.known u).log)
+      → ((u : ℕ) → u ≢ t → (w.known u).running ≡ false → requesting u ≡ false → halted ≡ false → published u ≡ length (w.known u).log)
+      → LengthsFit word published (λ u. (told t l w.known u).log) (λ u. (told t l w.known u).running) requesting halted
+  lengths_next word published requesting halted room runs stored most all =
+      record {
+        few = λ u. each_told (λ u k. length k.log ≤ log_limit) t l w.known u (omega (arith, length_next, room)) (λ d. v.lengths.few u);
+        stored = stored;
+        most = most;
+        all = λ u r q h. by_equal u t
+            (λ e. let runs_here : (told t l w.known u).running ≡ true = ap (λ z. (told t l w.known z).running) e ∙ runs in absurd (cc (runs_here, r)))
+            (λ d. let same = told_else t l w.known u d in all u d (ap (λ (k : Known). k.running) (sym same) ∙ r) q h ∙ ap (λ (k : Known). length k.log) (sym same));
+      }

@@ -1,0 +1,221 @@
+-- The mark of one object changes: what stays of marks, locks and headers, which clauses read of marks only what stays, and that the other
+-- threads don't count on the mark that was there.
+use Rattle.std.proofs.Common.{◌≡◌, ◌≢◌, ◌⊎◌, ℕ, ◌+◌, ◌||◌, eq-eqb, ne_eqb, Bool, true, false, cond, List, [], Option, Some, refl, sym, ap, ◌∙◌, subst, inl, inr}
+use Rattle.mark_word.specs.Mark.{read_mark}
+use Rattle.plain_monitor.specs.declared.entry.Logged.{Logged}
+use Rattle.core_world.specs.declared.name.Name.TheVariants.{Mark}
+use Rattle.core_world.specs.declared.stage.Stage.{Stage}
+use Rattle.core_world.specs.declared.task.Unfinished.{Unfinished}
+use Rattle.core_world.specs.Forms.{is_biased, monitor_in}
+use Rattle.core_world.specs.Stages.{Inflation, inflation_in, bears}
+use Rattle.core_world.specs.Known.{Known}
+use Rattle.core_world.specs.World.{World, one, told}
+use Rattle.core_world.specs.Locks.{Lock, Leaning, Manned, lock, lock_form, header, header_form, marks, displaced, headers, owner_words, prototype_of, inflations}
+use Rattle.core_world.specs.SeenWords.{IsValidBias}
+use Rattle.core_world.specs.Biases.{BiasedAreFree}
+use Rattle.core_world.specs.Inflations.{InflationsAreOne}
+use Rattle.core_world.specs.Monitors.{MonitorsAreNamed}
+use Rattle.core_world.specs.Recursions.{RecursionsFit, Goes}
+use Rattle.core_world.specs.Waits.{WaitsFit}
+use Rattle.core_world.specs.Claims.{MonitorsAreClaimed, with_monitor}
+use Rattle.core_world.specs.Classes.{ClassesFit}
+use Rattle.core_world.proofs.Parts.{by_equal}
+use Rattle.core_world.proofs.SeenBack.{Back, stays_back}
+use Rattle.core_world.proofs.SeenMoves.{Spares}
+use Rattle.core_locks.proofs.MarkMeanings.{each_set, IsBare, bare_unnamed, bare_unbiased}
+
+-- MARKS f AND g THAT NAME THE SAME MONITORS. Four clauses read nothing else of marks.
+module _ (f g : ℕ → ℕ) (same : (i : ℕ) → monitor_in (f i) ≡ monitor_in (g i)) where
+  back : (i a : ℕ) → monitor_in (g i) ≡ Some a → monitor_in (f i) ≡ Some a
+  back i a e = same i ∙ e
+
+  forth : (i a : ℕ) → monitor_in (f i) ≡ Some a → monitor_in (g i) ≡ Some a
+  forth i a e = sym (same i) ∙ e
+
+  pub monitors_by_marks : (object header : ℕ → ℕ) → MonitorsAreNamed f object header → MonitorsAreNamed g object header
+  monitors_by_marks object header h = record {
+    own = λ i a e. h.own i a (back i a e);
+    neutral = λ i a e. h.neutral i a (back i a e);
+    alone = λ i j a e d. h.alone i j a (back i a e) (back j a d);
+  }
+
+  pub claims_by_marks : (threads objects claim : ℕ) (kept : ℕ → Option ℕ) → MonitorsAreClaimed threads objects claim f kept → MonitorsAreClaimed threads objects claim g kept
+  claims_by_marks threads objects claim kept h =
+      let named : ◌≡◌ {A = ℕ → Option ℕ} (λ i. monitor_in (f i)) (λ i. monitor_in (g i)) = λ j. λ i. same i j in
+      record {
+        holder = h.holder;
+        named = λ i a e. h.named i a (back i a e);
+        once = h.once;
+        apart = λ t i a e d. h.apart t i a e (back i a d);
+        all = λ a e. elim (h.all a e) [ inl b ↦ inl b | inr b ↦ inr (b.0, forth b.0 a b.1) ];
+        counted = subst (λ (n : ℕ → Option ℕ). claim ≡ with_monitor threads kept + with_monitor objects n) named h.counted;
+      }
+
+  pub waits_by_marks : (wait own : ℕ → ℕ) (log : ℕ → List Logged) (stage : ℕ → Stage) (operation : ℕ → Option Unfinished) (running : ℕ → Bool) (waits called : ℕ → List (ℕ × ℕ))
+      → WaitsFit f wait own log stage operation running waits called → WaitsFit g wait own log stage operation running waits called
+  waits_by_marks wait own log stage operation running waits called h = record {
+    waiting = h.waiting;
+    waiter = h.waiter;
+    notified = h.notified;
+    told = h.told;
+    resuming = h.resuming;
+    leaving = h.leaving;
+    unfinished = h.unfinished;
+    stored = h.stored;
+    entering = λ t i e. let a = h.entering t i e in (a.0, (a.1.0, forth i a.1.0 a.1.1));
+    done = h.done;
+    stopped = h.stopped;
+    stamped = h.stamped;
+    sorted = h.sorted;
+    inflated = λ i t e. let a = h.inflated i t e in (a.0, forth i a.0 a.1);
+  }
+
+  -- the locks may change too, but for those of inflated objects; and nobody comes to have one through a monitor
+  pub recursions_by_marks : (recursions : ℕ → ℕ) (lock next : ℕ → Lock) (holds : ℕ → List ℕ) (stage : ℕ → Stage) (saved : ℕ → ℕ) (displaced : ℕ → ℕ → ℕ) (waits called : ℕ → List (ℕ × ℕ))
+      → ((i u : ℕ) → next i ≡ Manned u → lock i ≡ Manned u) → ((i a : ℕ) → monitor_in (f i) ≡ Some a → next i ≡ lock i)
+      → RecursionsFit f recursions lock holds stage saved displaced waits called → RecursionsFit g recursions next holds stage saved displaced waits called
+  recursions_by_marks recursions lock next holds stage saved displaced waits called manned inflated h = record {
+    first = λ i t p e. h.first i t p (goes i t e);
+    others = λ i t p d e. h.others i t p d (goes i t e);
+    owned = λ i a t e k. h.owned i a t (back i a e) (manned i t k);
+    waiting = h.waiting;
+    resting = λ i a t p e k. h.resting i a t p (back i a e) (sym (inflated i a (back i a e)) ∙ k);
+    free = λ i a e k. h.free i a (back i a e) (sym (inflated i a (back i a e)) ∙ k);
+  }
+    where
+      goes : (i t : ℕ) → Goes (next i) (waits i) (called i) t → Goes (lock i) (waits i) (called i) t
+      goes i t (inl e) = inl (manned i t e)
+      goes i t (inr e) = inr e
+
+-- a mark with the bias pattern had it before, and its object leans to the same thread as before
+pub biases_by_marks : (f g : ℕ → ℕ) (lock next : ℕ → Lock) (holds : ℕ → List ℕ) (hash : ℕ → ℕ) (waits called : ℕ → List (ℕ × ℕ)) → ((i : ℕ) → is_biased (g i) ≡ true → is_biased (f i) ≡ true)
+    → ((i t : ℕ) → lock i ≡ Leaning t → is_biased (g i) ≡ true → next i ≡ Leaning t) → BiasedAreFree f lock holds hash waits called → BiasedAreFree g next holds hash waits called
+biases_by_marks f g lock next holds hash waits called back leans h = record {
+  hashless = λ i e. h.hashless i (back i e);
+  nobody = λ i e. h.nobody i (back i e);
+  unheld = λ i t e d. h.unheld i t (back i e) (λ k. d (leans i t k e));
+}
+
+-- without biasing no mark gets a bias pattern
+pub classes_by_marks : (biasing : Bool) (prototype count last f g rebiased revoked : ℕ → ℕ) → ((i : ℕ) → is_biased (f i) ≡ false → is_biased (g i) ≡ false)
+    → ClassesFit biasing prototype count last f rebiased revoked → ClassesFit biasing prototype count last g rebiased revoked
+classes_by_marks biasing prototype count last f g rebiased revoked forth h = record {
+  plain = h.plain;
+  unbiased = λ b i. forth i (h.unbiased b i);
+  few = h.few;
+  prototypes = h.prototypes;
+}
+
+-- the same marks are 0
+pub inflating_by_marks : (f g : ℕ → ℕ) (inflates inflation : ℕ → Option Inflation) → ((i : ℕ) → g i ≡ 0 → f i ≡ 0) → ((i : ℕ) → f i ≡ 0 → g i ≡ 0)
+    → InflationsAreOne f inflates inflation → InflationsAreOne g inflates inflation
+inflating_by_marks f g inflates inflation back forth h = record {
+  some = λ i e. h.some i (back i e);
+  zero = λ t i e. forth i.object (h.zero t i e);
+  one = h.one;
+}
+
+either : (a b c : Bool) → (a ≡ true → c ≡ true) → (a || b) ≡ true → (c || b) ≡ true
+either true b c f e = ap (λ d. d || b) (f refl)
+either false true false f e = refl
+either false true true f e = refl
+either false false c f e = absurd (cc e)
+
+-- THE MARK m IS WRITTEN AT o by a step of thread t, which knows l then.
+module _ (w : World) (o m t : ℕ) (l : Known) where
+  abbrev x : World
+  x = one (Mark o) m t l w
+
+  pub mark_here : marks x o ≡ m
+  mark_here = ap (λ (b : Bool). cond b m (marks w o)) (eq-eqb o o refl)
+
+  pub mark_else : (i : ℕ) → i ≢ o → marks x i ≡ marks w i
+  mark_else i d = ap (λ (b : Bool). cond b m (marks w i)) (ne_eqb i o d)
+
+  -- the same monitor is named, where the old mark and the new one name the same
+  pub names_same : monitor_in (marks w o) ≡ monitor_in m → (i : ℕ) → monitor_in (marks w i) ≡ monitor_in (marks x i)
+  names_same e i = each_set (λ j y. monitor_in (marks w j) ≡ monitor_in y) o m (marks w) i e (λ d. refl)
+
+  pub bias_back : is_biased m ≡ false → (i : ℕ) → is_biased (marks x i) ≡ true → (i ≢ o) × (is_biased (marks w i) ≡ true)
+  bias_back plain i = each_set (λ j y. is_biased y ≡ true → (j ≢ o) × (is_biased (marks w j) ≡ true)) o m (marks w) i (λ h. absurd (cc (h, plain))) (λ d h. (d, h))
+
+  pub bias_forth : is_biased m ≡ false → (i : ℕ) → is_biased (marks w i) ≡ false → is_biased (marks x i) ≡ false
+  bias_forth plain i = each_set (λ j y. is_biased (marks w j) ≡ false → is_biased y ≡ false) o m (marks w) i (λ h. plain) (λ d h. h)
+
+  pub bias_before : is_biased (marks w o) ≡ false → (i : ℕ) → is_biased (marks x i) ≡ false → is_biased (marks w i) ≡ false
+  bias_before plain i = each_set (λ j y. is_biased y ≡ false → is_biased (marks w j) ≡ false) o m (marks w) i (λ h. plain) (λ d h. h)
+
+  pub zero_back : m ≢ 0 → (i : ℕ) → marks x i ≡ 0 → marks w i ≡ 0
+  zero_back some i = each_set (λ j y. y ≡ 0 → marks w j ≡ 0) o m (marks w) i (λ h. absurd (some h)) (λ d h. h)
+
+  pub zero_forth : marks w o ≢ 0 → (i : ℕ) → marks w i ≡ 0 → marks x i ≡ 0
+  zero_forth some i = each_set (λ j y. marks w j ≡ 0 → y ≡ 0) o m (marks w) i (λ h. absurd (some h)) (λ d h. h)
+
+  -- the locks and headers, where the same objects are in the middle of an inflation
+  module _ (inflation : inflations w ≡ inflations x) where
+    pub lock_here : lock x o ≡ lock_form (read_mark m) (prototype_of w o) (owner_words w) (inflations w o)
+    lock_here = λ j. lock_form (read_mark (mark_here j)) (prototype_of w o) (owner_words w) (sym inflation j o)
+
+    pub lock_else : (i : ℕ) → i ≢ o → lock x i ≡ lock w i
+    lock_else i d = λ j. lock_form (read_mark (mark_else i d j)) (prototype_of w i) (owner_words w) (sym inflation j i)
+
+    pub header_here : header x o ≡ header_form (read_mark m) m (displaced w) (headers w) (inflations w o)
+    header_here = λ j. header_form (read_mark (mark_here j)) (mark_here j) (displaced w) (headers w) (sym inflation j o)
+
+    pub header_else : (i : ℕ) → i ≢ o → header x i ≡ header w i
+    header_else i d = λ j. header_form (read_mark (mark_else i d j)) (mark_else i d j) (displaced w) (headers w) (sym inflation j i)
+
+    -- the lock of the object is this one now, and each other lock is as before
+    pub lock_at : (f : Lock) → lock_form (read_mark m) (prototype_of w o) (owner_words w) (inflations w o) ≡ f → (i : ℕ) → ((i ≡ o) × (lock x i ≡ f)) ⊎ ((i ≢ o) × (lock x i ≡ lock w i))
+    lock_at f e i = by_equal i o (λ a. inl (a, ap (lock x) a ∙ lock_here ∙ e)) (λ d. inr (d, lock_else i d))
+
+    -- all headers stay, where the new mark means the header that the old one meant
+    pub header_same : header_form (read_mark m) m (displaced w) (headers w) (inflations w o) ≡ header w o → header w ≡ header x
+    header_same e = λ j. λ i. sym (by_equal i o (λ a. ap (header x) a ∙ header_here ∙ e ∙ ap (header w) (sym a)) (λ d. header_else i d)) j
+
+  -- what thread u, which knew k and knows y, may count on after the step it could count on before; so it is with the thread that makes
+  -- the step and with the others
+  pub mark_back : (k y : Known) (owner next : ℕ → ℕ → Bool) (u : ℕ) → ((i a : ℕ) → monitor_in (marks x i) ≡ Some a → monitor_in (marks w i) ≡ Some a)
+      → y.running ≡ k.running → y.requesting ≡ k.requesting → inflation_in y.stage ≡ inflation_in k.stage → y.kept ≡ k.kept → ((i : ℕ) → next i u ≡ true → owner i u ≡ true)
+      → ((i a : ℕ) → monitor_in (marks x i) ≡ Some a → (next i u || bears y.stage i) ≡ true → (owner i u || bears k.stage i) ≡ true) → Back w x k y owner next u
+  mark_back k y owner next u names run ask inflates kept owned held = record {
+    run = λ e. sym run ∙ e;
+    ask = λ e. sym ask ∙ e;
+    inflates = λ i e. sym inflates ∙ e;
+    kept = λ a e. sym kept ∙ e;
+    prototype = λ i. refl;
+    monitor = names;
+    owned = owned;
+    held = held;
+    manned = λ a e. e;
+  }
+
+  -- No other thread counts on the old mark: it names no monitor, has no bias pattern and isn't 0. The new one may be 0.
+  pub mark_spares : (owner next : ℕ → ℕ → Bool) (waiters next_waiters : ℕ → List (ℕ × ℕ)) → IsBare (marks w o) → marks w o ≢ 0 → IsBare m
+      → ((u : ℕ) (i : Inflation) → inflation_in (w.known u).stage ≡ Some i → marks w i.object ≡ 0)
+      → ((u i : ℕ) → u ≢ t → next i u ≡ true → owner i u ≡ true) → ((u i : ℕ) → u ≢ t → owner i u ≡ true → waiters i ≡ [] → next_waiters i ≡ [])
+      → ((u : ℕ) → (told t l w.known u).reached ≡ true → ⊥) → Spares (Mark o) m t l w owner next waiters next_waiters
+  mark_spares owner next waiters next_waiters old some new inflating owned unwaited unreached =
+      let names : (i : ℕ) → monitor_in (marks w i) ≡ monitor_in (marks x i) = names_same (old.unnamed ∙ sym new.unnamed) in
+      record {
+        before = λ u n s d e g.
+            stays_back w x (w.known u) (w.known u) owner next u
+            (mark_back (w.known u) (w.known u) owner next u (λ i a h. names i ∙ h) refl refl refl refl (λ i. owned u i d)
+            (λ i a h b. either (next i u) (bears (w.known u).stage i) (owner i u) (owned u i d) b)) n s g;
+        owned = λ u i d. owned u i d;
+        word = λ u s d st is. absurd (elim st [
+          | inl a ↦ elim a.1 [
+            | inl b ↦ bare_unbiased (marks w o) (prototype_of w o) old (subst (λ y. IsValidBias (read_mark y) (prototype_of w o)) (sym is) b)
+            | inr b ↦ elim b [
+              | inl c ↦ bare_unnamed (marks w o) c.0 old (ap monitor_in is ∙ c.1)
+              | inr c ↦ some (ap (marks w) (sym c.2) ∙ inflating u c.0 c.1)
+            ]
+          ]
+          | inr a ↦ bare_unbiased (marks w o) (prototype_of w o) old (subst (λ y. IsValidBias (read_mark y) (prototype_of w o)) (sym is) a.1)
+        ]);
+        bias = bias_forth new.unbiased;
+        waits = λ u i j d e h. h;
+        unwaited = unwaited;
+        unreached = unreached;
+        names = λ i a e. sym (names i) ∙ e;
+      }

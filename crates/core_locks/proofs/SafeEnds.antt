@@ -1,0 +1,134 @@
+-- A thread whose safepoint is reached releases it, or halts the run.
+use Rattle.std.proofs.Common.{◌≡◌, ◌≢◌, ℕ, ◌^◌, ◌<◌, ◌==◌, eq-eqb, ne_eqb, not, ◌&&◌, Bool, true, false, cond, Some, None, List, [], refl, sym, ap, ◌∙◌, arith, inl}
+use Rattle.std.proofs.lemmas.Nat.{pow_below}
+use Rattle.std.proofs.lemmas.Nat.Bits.{bit_at-zero, bit_at-pow_same, bit_at-pow_other}
+use Rattle.mark_word.specs.declared.safe.SafeForm.{SafeForm}
+use Rattle.mark_word.specs.Safe.{safe_of}
+use Rattle.mark_word.proofs.ReadingSafepoints.{read_safe-safe_of}
+use Rattle.plain_monitor.specs.Monitor.{is_thread}
+use Rattle.plain_monitor.specs.Objects.{PlainObject}
+use Rattle.core_world.specs.declared.act.Act.TheVariants.{Swap}
+use Rattle.core_world.specs.declared.name.Name.TheVariants.{Safe}
+use Rattle.core_world.specs.declared.stage.Stage.TheVariants.{Calm}
+use Rattle.core_world.specs.Acts.{after}
+use Rattle.core_world.specs.Forms.{runs_form, asks_in, requester_form}
+use Rattle.core_world.specs.World.{World}
+use Rattle.core_world.specs.Plans.{Errand, swap}
+use Rattle.core_world.specs.SafepointSteps.{reached_word, released_word, halted_word}
+use Rattle.core_world.specs.Steps.{moved, kept_by_act, seen_before}
+use Rattle.core_world.specs.Valid.{Fits, IsValid}
+use Rattle.core_locks.specs.SafepointLaws.{MayRelease, MayHalt}
+use Rattle.core_locks.proofs.SafeFacts.{fits_calm, few_bits, one_reached, reached_form, reached_reads, reached_found}
+use Rattle.core_locks.proofs.SafeCounts.{counts_since}
+use Rattle.core_locks.proofs.SafeStuck.{stuck}
+use Rattle.core_locks.proofs.SafeChanges.{Changes, known_then, changed_fits}
+
+-- the states after the release, and after the halt
+abbrev released_form : ℕ → SafeForm
+released_form t = record { running = 2 ^ t; requester = None; halted = false }
+
+abbrev halted_form : SafeForm
+halted_form = record { running = 0; requester = None; halted = true }
+
+-- the word at the reached safepoint of a thread in the middle of nothing
+pub reached_finds : (w : World) (P : List PlainObject) (t : ℕ) → (w.known t).reached ≡ true → (w.known t).stage ≡ Calm → IsValid w P → w.words Safe ≡ reached_word t
+reached_finds w P t reached calm valid = reached_found w P t (fits_calm w P t reached calm valid) reached
+
+module _ (w : World) (P : List PlainObject) (t : ℕ) (e : Errand) (within : t < w.shape.threads) (v : Fits w P) (reached : (w.known t).reached ≡ true) where
+  found : (w.words Safe == reached_word t) ≡ true
+  found = eq-eqb (w.words Safe) (reached_word t) (reached_found w P t v reached)
+
+  -- the step leaves the word that it stores
+  left : (word : ℕ) → after (Swap (reached_word t) word) (w.words Safe) ≡ word
+  left word = ap (λ b. cond b word (w.words Safe)) found
+
+  -- nobody runs by the word before
+  nobody_ran : (u : ℕ) → runs_form (Some (reached_form t)) u ≡ false
+  nobody_ran u = ap (λ n. n == 1) (bit_at-zero u)
+
+  -- the other threads don't ask, before and after
+  others_unasking : (u : ℕ) → u ≢ t → is_thread None u ≡ is_thread (Some t) u
+  others_unasking u d = sym (ne_eqb t u (λ s. d (sym s)))
+
+  -- whether the word that it stores has its request
+  abbrev asks_after : ℕ → Bool
+  asks_after word = asks_in (after (Swap (reached_word t) word) (w.words Safe)) (w.known t).thread
+
+  -- where it has none, the thread goes on to count on what it saw at its safepoint
+  kept_since : (word : ℕ) → asks_after word ≡ false
+      → kept_by_act Safe (Swap (reached_word t) word) (after (Swap (reached_word t) word) (w.words Safe)) (w.known t) (seen_before w.shape (w.known t)) ≡ (w.known t).stood
+  kept_since word unasking =
+      let call = cond (w.known t).running (seen_before w.shape (w.known t)) [] in
+      ap (λ b. cond (b && not (asks_after word)) (w.known t).stood call) reached ∙ ap (λ b. cond (not b) (w.known t).stood call) unasking
+
+  release_changes : MayRelease (w.known t) → e.unfinished ≡ (w.known t).unfinished → Changes w P t e (Swap (reached_word t) (released_word t)) (reached_form t) (released_form t)
+  release_changes may goes_on =
+      let runs : runs_form (Some (released_form t)) t ≡ true = ap (λ n. n == 1) (bit_at-pow_same t) in
+      record {
+        hit = found;
+        left = left (released_word t);
+        runs = refl;
+        asks = refl;
+        reaches = refl;
+        calm = may.calm;
+        goes_on = inl goes_on;
+        was = reached_reads w P t v reached;
+        unhalted = refl;
+        range = (pow_below t 32 (few_bits w P t v within), tt);
+        here = tt;
+        others_run = λ u d. ap (λ n. n == 1) (bit_at-pow_other t u d) ∙ sym (nobody_ran u);
+        others_ask = others_unasking;
+        others_unreached = λ u d r. one_reached w P t u v.safe reached d r;
+        unreached = λ r a. absurd (cc a);
+        halts = λ h r. absurd (cc h);
+        published = λ r a h. absurd (cc (r, runs));
+        ended = λ a r. absurd (cc (r, runs));
+        old = (w.known t).stood;
+        kept = kept_since (released_word t);
+        counts = λ r. counts_since w P t (safe_of (released_form t)) (known_then w t e (Swap (reached_word t) (released_word t))) reached refl v;
+      }
+
+  halt_changes : MayHalt w.shape.threads (w.known t) → e.unfinished ≡ (w.known t).unfinished → Changes w P t e (Swap (reached_word t) halted_word) (reached_form t) halted_form
+  halt_changes may goes_on = record {
+    hit = found;
+    left = left halted_word;
+    runs = refl;
+    asks = refl;
+    reaches = refl;
+    calm = may.calm;
+    goes_on = inl goes_on;
+    was = reached_reads w P t v reached;
+    unhalted = refl;
+    range = (omega arith, tt);
+    here = tt;
+    others_run = λ u d. refl;
+    others_ask = others_unasking;
+    others_unreached = λ u d r. one_reached w P t u v.safe reached d r;
+    unreached = λ r a. absurd (cc a);
+    halts = λ h r. record {
+      unasked = ap requester_form (read_safe-safe_of halted_form (omega arith, tt));
+      stopped = r ∙ nobody_ran t;
+      nobody = (v.safe.safepoint t reached).1;
+      unfinished = sym goes_on;
+      stuck = stuck w P t v reached within may;
+    };
+    published = λ r a h. absurd (cc h);
+    ended = λ a r. let live = may.live in absurd (cc (a, live));
+    old = (w.known t).stood;
+    kept = kept_since halted_word;
+    counts = λ r. counts_since w P t (safe_of halted_form) (known_then w t e (Swap (reached_word t) halted_word)) reached refl v;
+  }
+
+  released_fits : MayRelease (w.known t) → e.unfinished ≡ (w.known t).unfinished → Fits (moved (swap e Safe (reached_word t) (released_word t)) t w) P
+  released_fits may goes_on = changed_fits w P t e (Swap (reached_word t) (released_word t)) (reached_form t) (released_form t) within (release_changes may goes_on) v
+
+  halted_fits : MayHalt w.shape.threads (w.known t) → e.unfinished ≡ (w.known t).unfinished → Fits (moved (swap e Safe (reached_word t) halted_word) t w) P
+  halted_fits may goes_on = changed_fits w P t e (Swap (reached_word t) halted_word) (reached_form t) halted_form within (halt_changes may goes_on) v
+
+pub releasing_valid : (w : World) (P : List PlainObject) (t : ℕ) (e : Errand) → t < w.shape.threads → MayRelease (w.known t) → e.unfinished ≡ (w.known t).unfinished → IsValid w P
+    → IsValid (moved (swap e Safe (reached_word t) (released_word t)) t w) P
+releasing_valid w P t e within may goes_on valid = inl (released_fits w P t e within (fits_calm w P t may.reached may.calm valid) may.reached may goes_on)
+
+pub halting_valid : (w : World) (P : List PlainObject) (t : ℕ) (e : Errand) → t < w.shape.threads → MayHalt w.shape.threads (w.known t) → e.unfinished ≡ (w.known t).unfinished → IsValid w P
+    → IsValid (moved (swap e Safe (reached_word t) halted_word) t w) P
+halting_valid w P t e within may goes_on valid = inl (halted_fits w P t e within (fits_calm w P t may.reached may.calm valid) may.reached may goes_on)

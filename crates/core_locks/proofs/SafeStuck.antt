@@ -1,0 +1,82 @@
+-- By what the thread whose safepoint is reached has seen since, the threads are stuck.
+use Rattle.std.proofs.Common.{◌≡◌, ◌≢◌, ℕ, ◌<◌, ◌||◌, Bool, true, false, List, Option, Some, None, refl, sym, ap, ◌∙◌, inl, inr}
+use Rattle.mark_word.specs.declared.mark.MarkForm.TheVariants.{Inflated}
+use Rattle.mark_word.specs.declared.owner.OwnerForm.{OwnerForm}
+use Rattle.mark_word.specs.declared.owner.OwnerForm.TheVariants.{Free, ByThread, ByRecord}
+use Rattle.mark_word.specs.Mark.{read_mark}
+use Rattle.mark_word.specs.Owner.{read_owner}
+use Rattle.plain_monitor.specs.Monitor.{is_thread, owns}
+use Rattle.plain_monitor.specs.Objects.{PlainObject}
+use Rattle.core_world.specs.declared.name.Name.{Name}
+use Rattle.core_world.specs.declared.name.Name.TheVariants.{Mark, Waiting, Owner}
+use Rattle.core_world.specs.Forms.{monitor_in, waits_on, told_of, enters_on, says_ended}
+use Rattle.core_world.specs.Stages.{bears, calling}
+use Rattle.core_world.specs.Known.{last_seen}
+use Rattle.core_world.specs.World.{World}
+use Rattle.core_world.specs.Locks.{lock, holder, who, owner_lock, named, marks, monitor_of, owner_at}
+use Rattle.core_world.specs.Safepoints.{IsStuck, IsHeldUp, ends}
+use Rattle.core_world.specs.Valid.{Fits}
+use Rattle.core_world.proofs.Shows.{safepoint_calm, lock_by_form, inflated_form}
+use Rattle.core_world.proofs.Stands.{same_number}
+use Rattle.core_locks.specs.SafepointLaws.{IsOther, SeesHeldUp, SeesEnded, MayHalt}
+
+-- the thread that an owner word names has the lock
+other_holds : (a : Option OwnerForm) (u : ℕ) (count : ℕ → ℕ) → IsOther a u → (z : ℕ) × (z ≢ u) × (holder (owner_lock a) count ≡ Some z)
+other_holds None u count h = absurd h
+other_holds (Some Free) u count h = absurd h
+other_holds (Some (ByThread z)) u count h = (z, h, refl)
+other_holds (Some (ByRecord z p)) u count h = (z, h, refl)
+
+module _ (w : World) (P : List PlainObject) (t : ℕ) (v : Fits w P) (reached : (w.known t).reached ≡ true) where
+  -- each word is as the thread saw it
+  stands : (n : Name) (s : ℕ) → last_seen n (w.known t).stood ≡ Some s → w.words n ≡ s
+  stands n s e = v.seen.stands t n s reached e
+
+  -- nobody tells all waiters
+  uncalled : (o z : ℕ) → calling (w.known z).stage ≡ Some o → ⊥
+  uncalled o z e = let none = ap calling (safepoint_calm w P t z v reached) in absurd (cc (e, none))
+
+  -- who has the lock is the plain owner
+  plain_owner : (o z : ℕ) → who w o ≡ Some z → owner_at P o z ≡ true
+  plain_owner o z e = by_test (owner_at P o z) (sym (v.owners.same o z) ∙ ap (λ a. is_thread a z) e ∙ same_number z)
+    where
+      by_test : (b : Bool) → (b || bears (w.known z).stage o) ≡ true → b ≡ true
+      by_test true h = refl
+      by_test false h = let none = ap (λ s. bears s o) (safepoint_calm w P t z v reached) in absurd (cc (h, none))
+
+  -- another thread is the owner of an object whose owner word names it
+  other_owns : (o u mark m owner : ℕ) → last_seen (Mark o) (w.known t).stood ≡ Some mark → monitor_in mark ≡ Some m → last_seen (Owner m) (w.known t).stood ≡ Some owner
+      → IsOther (read_owner owner) u → (z : ℕ) × (z ≢ u) × (owns (monitor_of P o) z ≡ true)
+  other_owns o u mark m owner saw_mark is saw_owner other =
+      let form = inflated_form (read_mark (marks w o)) m (ap monitor_in (stands (Mark o) mark saw_mark) ∙ is) in
+      let word = stands (Owner m) owner saw_owner in
+      let locked : lock w o ≡ owner_lock (read_owner owner) = lock_by_form w o (Inflated m) form ∙ ap (λ n. owner_lock (read_owner n)) word in
+      let has = other_holds (read_owner owner) u (λ y. named o (w.known y).holds) other in
+      (has.0, has.1, plain_owner o has.0 (ap (λ k. holder k (λ y. named o (w.known y).holds)) locked ∙ has.2))
+
+  -- a thread that is held up by what was seen is held up
+  held_up : (u : ℕ) → SeesHeldUp (w.known t) u → IsHeldUp (monitor_of P) u (w.known u).unfinished
+  held_up u (o, s, saw, inl waits) = (o, inl (v.waits.waiter u o (ap (λ n. waits_on n o) (stands (Waiting u) s saw) ∙ waits)))
+  held_up u (o, s, saw, inr (how, (mark, m, owner, saw_mark, is, saw_owner, other))) = (
+    o,
+    inr (
+      elim how [
+        | inl a ↦ inl (elim (v.waits.told u o (ap (λ n. told_of n o) (stands (Waiting u) s saw) ∙ a)) [ inl b ↦ b | inr b ↦ absurd (uncalled o b.1.0 b.1.1) ])
+        | inr a ↦ inr (v.waits.entering u o (ap (λ n. enters_on n o) (stands (Waiting u) s saw) ∙ a)).0
+      ],
+      other_owns o u mark m owner saw_mark is saw_owner other,
+    ),
+  )
+
+  -- one that has ended by what was seen has ended
+  has_ended : (u : ℕ) → SeesEnded (w.known t) u → ends (w.known u).log ≡ true
+  has_ended u a = v.waits.done u (ap says_ended (stands (Waiting u) a.0 a.1) ∙ a.2)
+
+  pub stuck : t < w.shape.threads → MayHalt w.shape.threads (w.known t) → IsStuck w.shape.threads (λ u. ends (w.known u).log) (λ u. (w.known u).unfinished) (monitor_of P)
+  stuck within may = (
+    (t, within, may.live),
+    λ u few live. elim (may.stuck u few) [
+      | inl a ↦ let ended = has_ended u a in absurd (cc (ended, live))
+      | inr a ↦ held_up u a
+    ],
+  )

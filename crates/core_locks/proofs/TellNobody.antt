@@ -1,0 +1,49 @@
+-- Nobody waits on an object where its owner saw that nobody does.
+use Rattle.std.proofs.Common.{◌≡◌, ℕ, ◌<◌, ◌≤◌, ◌||◌, eq-eqb, nat_lt, Bool, true, false, List, [], ◌∷◌, Some, None, refl, ap, ◌∙◌, arith, inl, inr}
+use Rattle.std.proofs.lemmas.Bool.Decides.{nat_tests}
+use Rattle.plain_monitor.specs.Monitor.{is_listed}
+use Rattle.plain_monitor.specs.Objects.{PlainObject}
+use Rattle.core_world.specs.declared.stage.Stage.TheVariants.{Calm}
+use Rattle.core_world.specs.Known.{Known}
+use Rattle.core_world.specs.Locks.{monitor_of, named, owner_at, waits_at}
+use Rattle.core_world.specs.Stages.{calling}
+use Rattle.core_world.specs.Valid.{Fits}
+use Rattle.core_world.specs.World.{World}
+use Rattle.core_world.proofs.Counting.{named_none}
+use Rattle.core_world.proofs.Stands.{sound, waiter_stands}
+use Rattle.core_locks.specs.JournalLaws.{SawNobody}
+use Rattle.core_locks.proofs.TellTaken.{one_owner}
+
+-- a list that has nobody is empty
+unlisted_empty : (ps : List (ℕ × ℕ)) → ((u : ℕ) → is_listed ps u ≡ true → ⊥) → ps ≡ []
+unlisted_empty [] h = refl
+unlisted_empty (p ∷ ps) h = absurd (h p.0 (ap (λ b. b || is_listed ps p.0) (eq-eqb p.0 p.0 refl)))
+
+-- a thread that waits is one of the heap's, since the others have no holds
+pub waiter_below : (w : World) (P : List PlainObject) (o u : ℕ) → Fits w P → is_listed (waits_at P o) u ≡ true → u < w.shape.threads
+waiter_below w P o u v listed = cases (nat_lt u w.shape.threads) refl
+  where
+    cases : (b : Bool) → nat_lt u w.shape.threads ≡ b → u < w.shape.threads
+    cases true e = grind (arith, nat_tests)
+    cases false e =
+        let past : w.shape.threads ≤ u = grind (arith, nat_tests) in
+        let none : named o (w.known u).holds ≡ 0 = ap (λ (k : Known). named o k.holds) (v.absent u past) ∙ named_none o 64 in
+        absurd (omega (arith, none, v.holds.number u o, waiter_stands (monitor_of P o) u (sound w P v o) listed))
+
+module _ (w : World) (P : List PlainObject) (t o : ℕ) (v : Fits w P) (runs : (w.known t).running ≡ true) (calm : (w.known t).stage ≡ Calm) (own : owner_at P o t ≡ true) where
+  -- only the owner tells all waiters, and the thread is calm
+  nobody_calls : (u : ℕ) → calling (w.known u).stage ≡ Some o → ⊥
+  nobody_calls u e =
+      let none : calling (w.known u).stage ≡ None = ap (λ z. calling (w.known z).stage) (one_owner P o t u own (v.owners.calls o u e)) ∙ ap calling calm in
+      absurd (cc (e, none))
+
+  pub nobody_waits : SawNobody w.shape.threads (w.known t) o → waits_at P o ≡ []
+  nobody_waits (inl a) = v.seen.unwaited t o a.0 a.1 runs own a.2
+  nobody_waits (inr each) =
+      unlisted_empty (waits_at P o) (λ u listed.
+      let a = each u (waiter_below w P o u v listed) in
+      let no = v.seen.unwaiting t u o a.0 a.1 runs own a.2 in
+      elim (v.waits.waiting u o listed) [
+        | inl b ↦ absurd (cc (b, no))
+        | inr b ↦ nobody_calls b.1.0 b.1.1
+      ])

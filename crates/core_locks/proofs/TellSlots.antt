@@ -1,0 +1,99 @@
+-- After every legal history each object has the slots of its shape.
+use Rattle.std.proofs.Common.{◌≡◌, ℕ, zero, suc, ◌<◌, Bool, true, false, List, [], ◌∷◌, length, replicate, slice_get, slice_set, slice_index_or, Option, Some, None, option_and_then, refl, sym, ap, ◌∙◌, arith}
+use Rattle.std.proofs.lemmas.Option.{same_Some}
+use Rattle.plain_monitor.specs.declared.entry.Value.{Value}
+use Rattle.plain_monitor.specs.declared.entry.Entry.{Entry}
+use Rattle.plain_monitor.specs.declared.entry.Entry.TheVariants.{Enter, Exit, Get, Put, Wait, Resume, Notify, NotifyAll, Hash, Print, Dump, Trap, Spent, Done}
+use Rattle.plain_monitor.specs.declared.entry.Logged.{Logged}
+use Rattle.plain_monitor.specs.Monitor.{PlainMonitor, only_if}
+use Rattle.plain_monitor.specs.Objects.{PlainObject, new_objects, take_at, take_entry, take_named, named, with_monitor, with_hash}
+use Rattle.plain_monitor.specs.History.{take_all}
+use Rattle.plain_monitor.specs.Order.{order}
+use Rattle.plain_history.proofs.Swaps.{taken_at}
+use Rattle.core_world.specs.Shape.{slots_of}
+use Rattle.core_world.specs.Locks.{object_of}
+use Rattle.core_world.specs.Valid.{Fits}
+use Rattle.core_world.specs.World.{World, logs}
+use Rattle.core_world.proofs.Parts.{by_equal}
+use Rattle.core_locks.proofs.Updates.{object_here, object_else}
+
+-- an option that is made where the test holds
+pub made_by : {A : Type 0} (b : Bool) (x y : A) → only_if b x ≡ Some y → x ≡ y
+made_by true x y h = same_Some x y h
+made_by false x y h = absurd (cc h)
+
+monitor_slots : (x y : PlainObject) (m : Option PlainMonitor) → with_monitor x m ≡ Some y → length y.slots ≡ length x.slots
+monitor_slots x y None h = absurd (cc h)
+monitor_slots x y (Some m) h = ap (λ (z : PlainObject). length z.slots) (sym (same_Some _ y h))
+
+hash_slots : (x y : PlainObject) (m : Option (Option ℕ)) → with_hash x m ≡ Some y → length y.slots ≡ length x.slots
+hash_slots x y None h = absurd (cc h)
+hash_slots x y (Some m) h = ap (λ (z : PlainObject). length z.slots) (sym (same_Some _ y h))
+
+same_slots : (x y : PlainObject) → Some x ≡ Some y → length y.slots ≡ length x.slots
+same_slots x y h = ap (λ (z : PlainObject). length z.slots) (sym (same_Some x y h))
+
+set_slots : (xs : List Value) (i : ℕ) (v : Value) → length (slice_set xs i v) ≡ length xs
+set_slots [] i v = refl
+set_slots (x ∷ xs) zero v = refl
+set_slots (x ∷ xs) (suc i) v = ap suc (set_slots xs i v)
+
+-- an object keeps the number of its slots
+at_slots : (x y : PlainObject) (t : ℕ) (e : Entry) → take_at x t e ≡ Some y → length y.slots ≡ length x.slots
+at_slots x y t (Enter o path) h = monitor_slots x y _ h
+at_slots x y t (Exit o) h = monitor_slots x y _ h
+at_slots x y t (Wait o) h = monitor_slots x y _ h
+at_slots x y t (Resume o) h = monitor_slots x y _ h
+at_slots x y t (Notify o woken) h = monitor_slots x y _ h
+at_slots x y t (NotifyAll o woken) h = monitor_slots x y _ h
+at_slots x y t (Get o slot value) h = ap (λ (z : PlainObject). length z.slots) (sym (made_by _ x y h))
+at_slots x y t (Put o slot value) h = ap (λ (z : PlainObject). length z.slots) (sym (made_by _ _ y h)) ∙ set_slots x.slots slot value
+at_slots x y t (Hash o value drawn) h = hash_slots x y _ h
+at_slots x y t (Print value) h = same_slots x y h
+at_slots x y t (Dump number) h = same_slots x y h
+at_slots x y t (Trap fault index) h = same_slots x y h
+at_slots x y t Spent h = same_slots x y h
+at_slots x y t Done h = same_slots x y h
+
+-- the object at a number
+pub got_object : (P : List PlainObject) (o : ℕ) (x : PlainObject) → slice_get P o ≡ Some x → (o < length P) × (object_of P o ≡ x)
+got_object [] o x h = absurd (cc h)
+got_object (z ∷ P) zero x h = (omega arith, same_Some z x h)
+got_object (z ∷ P) (suc o) x h = let a = got_object P o x h in (omega (arith, a.0), a.1)
+
+entry_slots : (P Q : List PlainObject) (t : ℕ) (e : Entry) → take_entry P t e ≡ Some Q → (i : ℕ) → length (object_of Q i).slots ≡ length (object_of P i).slots
+entry_slots P Q t e h i = by_name (named e) h
+  where
+    by_name : (n : Option ℕ) → take_named P t e n ≡ Some Q → length (object_of Q i).slots ≡ length (object_of P i).slots
+    by_name None g = ap (λ R. length (object_of R i).slots) (sym (same_Some P Q g))
+    by_name (Some o) g =
+        let a = taken_at P Q t e o g in
+        let b = got_object P o a.x a.was in
+        let step : length a.y.slots ≡ length (object_of P o).slots = at_slots a.x a.y t e a.step ∙ ap (λ (z : PlainObject). length z.slots) (sym b.1) in
+        ap (λ R. length (object_of R i).slots) a.is ∙ by_equal i o
+        (λ s. ap (λ j. length (object_of (slice_set P o a.y) j).slots) s ∙ ap (λ (z : PlainObject). length z.slots) (object_here P o a.y b.0) ∙ step ∙ ap (λ j. length (object_of P j).slots) (sym s))
+        (λ d. ap (λ (z : PlainObject). length z.slots) (object_else P o i a.y d))
+
+-- the next lemma, by what the first entry makes of the objects
+all_slots_after : (P Q : List PlainObject) (x : ℕ × Logged) (xs : List (ℕ × Logged)) (i : ℕ) (a : Option (List PlainObject)) → take_entry P x.0 x.1.entry ≡ a
+    → ((R : List PlainObject) → take_all R xs ≡ Some Q → length (object_of Q i).slots ≡ length (object_of R i).slots)
+    → option_and_then (λ after. take_all after xs) a ≡ Some Q → length (object_of Q i).slots ≡ length (object_of P i).slots
+all_slots_after P Q x xs i None e rest h = absurd (cc h)
+all_slots_after P Q x xs i (Some R) e rest h = rest R h ∙ entry_slots P R x.0 x.1.entry e i
+
+all_slots : (P Q : List PlainObject) (xs : List (ℕ × Logged)) → take_all P xs ≡ Some Q → (i : ℕ) → length (object_of Q i).slots ≡ length (object_of P i).slots
+all_slots P Q [] h i = ap (λ R. length (object_of R i).slots) (sym (same_Some P Q h))
+all_slots P Q (x ∷ xs) h i = all_slots_after P Q x xs i (take_entry P x.0 x.1.entry) refl (λ R g. all_slots R Q xs g i) h
+
+replicate_length : (n : ℕ) (v : Value) → length (replicate n v) ≡ n
+replicate_length zero v = refl
+replicate_length (suc n) v = ap suc (replicate_length n v)
+
+new_slots : (shape : List (ℕ × ℕ)) (o : ℕ) → length (object_of (new_objects shape) o).slots ≡ (slice_index_or shape o (0, 0)).1
+new_slots [] o = refl
+new_slots (x ∷ shape) zero = replicate_length x.1 _
+new_slots (x ∷ shape) (suc o) = new_slots shape o
+
+-- in a world where every clause holds, each object has the slots of its shape
+pub slots_are : (w : World) (P : List PlainObject) → Fits w P → (o : ℕ) → length (object_of P o).slots ≡ slots_of w.shape o
+slots_are w P v o = all_slots (new_objects w.shape.objects) P (order (logs w)) v.taken o ∙ new_slots w.shape.objects o

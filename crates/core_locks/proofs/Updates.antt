@@ -1,0 +1,57 @@
+-- The plain objects when one of them changes.
+use Rattle.std.proofs.Common.{◌≡◌, ◌≢◌, ℕ, zero, suc, ◌<◌, List, [], ◌∷◌, length, slice_set, slice_get, Some, refl, sym, ap, ◌∙◌, arith}
+use Rattle.plain_monitor.specs.declared.entry.Value.{Value}
+use Rattle.plain_monitor.specs.declared.entry.Entry.{Entry}
+use Rattle.plain_monitor.specs.Objects.{PlainObject, take_at, take_entry, take_named, named}
+use Rattle.core_world.specs.Locks.{object_of, monitor_of, or_zero, hash_at, waits_at, called_at}
+use Rattle.core_world.proofs.Parts.{by_equal}
+
+pub object_here : (P : List PlainObject) (o : ℕ) (z : PlainObject) → o < length P → object_of (slice_set P o z) o ≡ z
+object_here [] o z h = absurd (omega arith)
+object_here (x ∷ P) zero z h = refl
+object_here (x ∷ P) (suc o) z h = object_here P o z (omega arith)
+
+pub object_else : (P : List PlainObject) (o i : ℕ) (z : PlainObject) → i ≢ o → object_of (slice_set P o z) i ≡ object_of P i
+object_else [] o i z d = refl
+object_else (x ∷ P) zero zero z d = absurd (d refl)
+object_else (x ∷ P) zero (suc i) z d = refl
+object_else (x ∷ P) (suc o) zero z d = refl
+object_else (x ∷ P) (suc o) (suc i) z d = object_else P o i z (λ e. d (ap suc e))
+
+got : (P : List PlainObject) (o : ℕ) → o < length P → slice_get P o ≡ Some (object_of P o)
+got [] o h = absurd (omega arith)
+got (x ∷ P) zero h = refl
+got (x ∷ P) (suc o) h = got P o (omega arith)
+
+-- objects take an entry that names o where o takes it
+pub takes : (P : List PlainObject) (o t : ℕ) (e : Entry) (z : PlainObject) → o < length P → named e ≡ Some o → take_at (object_of P o) t e ≡ Some z → take_entry P t e ≡ Some (slice_set P o z)
+takes P o t e z within n h = ap (take_named P t e) n ∙ rw (got P o within, h) refl
+
+-- a part of each object that the change leaves
+pub part_stays : {A : Type 0} (f : PlainObject → A) (P : List PlainObject) (o : ℕ) (z : PlainObject) → o < length P → f z ≡ f (object_of P o) → (i : ℕ) → f (object_of P i) ≡ f (object_of (slice_set P o z) i)
+part_stays f P o z within same i =
+    by_equal i o
+    (λ e. ap (λ j. f (object_of P j)) e ∙ sym same ∙ sym (ap f (object_here P o z within)) ∙ ap (λ j. f (object_of (slice_set P o z) j)) (sym e))
+    (λ d. sym (ap f (object_else P o i z d)))
+
+pub hashes_stay : (P : List PlainObject) (o : ℕ) (z : PlainObject) → o < length P → z.hash ≡ (object_of P o).hash → hash_at P ≡ hash_at (slice_set P o z)
+hashes_stay P o z within same = λ j. λ i. part_stays (λ y. or_zero y.hash) P o z within (ap or_zero same) i j
+
+pub slots_stay : (P : List PlainObject) (o : ℕ) (z : PlainObject) → o < length P → z.slots ≡ (object_of P o).slots
+    → ◌≡◌ {A = ℕ → List Value} (λ i. (object_of P i).slots) (λ i. (object_of (slice_set P o z) i).slots)
+slots_stay P o z within same = λ j. λ i. part_stays (λ y. y.slots) P o z within same i j
+
+pub waits_stay : (P : List PlainObject) (o : ℕ) (z : PlainObject) → o < length P → z.monitor.waits ≡ (object_of P o).monitor.waits → waits_at P ≡ waits_at (slice_set P o z)
+waits_stay P o z within same = λ j. λ i. part_stays (λ y. y.monitor.waits) P o z within same i j
+
+pub called_stay : (P : List PlainObject) (o : ℕ) (z : PlainObject) → o < length P → z.monitor.called ≡ (object_of P o).monitor.called → called_at P ≡ called_at (slice_set P o z)
+called_stay P o z within same = λ j. λ i. part_stays (λ y. y.monitor.called) P o z within same i j
+
+pub monitors_stay : (P : List PlainObject) (o : ℕ) (z : PlainObject) → o < length P → z.monitor ≡ (object_of P o).monitor → monitor_of P ≡ monitor_of (slice_set P o z)
+monitors_stay P o z within same = λ j. λ i. part_stays (λ y. y.monitor) P o z within same i j
+
+pub monitor_here : (P : List PlainObject) (o : ℕ) (z : PlainObject) → o < length P → monitor_of (slice_set P o z) o ≡ z.monitor
+monitor_here P o z within = ap (λ (y : PlainObject). y.monitor) (object_here P o z within)
+
+pub monitor_else : (P : List PlainObject) (o i : ℕ) (z : PlainObject) → i ≢ o → monitor_of (slice_set P o z) i ≡ monitor_of P i
+monitor_else P o i z d = ap (λ (y : PlainObject). y.monitor) (object_else P o i z d)

@@ -1,0 +1,132 @@
+-- When a thread may make the steps on stamps, slots, waiting words and lengths.
+use Rattle.std.specs.Prelude.{◌≡◌, ◌⊎◌, ℕ, ◌<◌, ◌≤◌, true, false, length, Some, None}
+use Rattle.plain_monitor.specs.declared.entry.Entry.{Entry}
+use Rattle.plain_monitor.specs.declared.entry.Entry.TheVariants.{Notify, NotifyAll, Print, Dump, Trap, Spent, Done}
+use Rattle.plain_monitor.specs.declared.entry.Value.{Value}
+use Rattle.plain_monitor.specs.ValueWords.{IsSpellable}
+use Rattle.core_world.specs.declared.name.Name.TheVariants.{Mark, Stamp, Waiting, Recursions}
+use Rattle.core_world.specs.declared.stage.Stage.TheVariants.{Calm, Enters, Resumes}
+use Rattle.core_world.specs.declared.task.Op.TheVariants as op
+use Rattle.core_world.specs.Shape.{Shape, slots_of}
+use Rattle.core_world.specs.Forms.{waits_on, monitor_in}
+use Rattle.core_world.specs.Known.{Known, last_seen, local_of}
+use Rattle.core_world.specs.Lengths.{log_limit}
+use Rattle.core_world.specs.Plans.{Errand, next_stamp}
+use Rattle.core_world.specs.Safepoints.{IsUnfinished, ends}
+use Rattle.core_world.specs.Slots.{IsHere}
+use Rattle.core_world.specs.Stamps.{lets_go}
+use Rattle.core_locks.specs.Knowing.{GoesOn, IsOut, HasHold, SawInflated, SawOwn}
+
+-- Loading the stamp, which logs Enter: the hold word stands at place p, the waiting word is Ready, and no exit or wait of o is unfinished, for
+-- which the stamp could be raised already.
+pub record MayLogEnter (s : Shape) (k : Known) (o p : ℕ) : Type 0 where
+  pub runs : k.running ≡ true
+  pub stage : k.stage ≡ Enters o p
+  pub ready : k.wait ≡ 0
+  pub staying : lets_go k.unfinished o ≡ false
+  pub object : o < length s.objects
+  pub room : length k.log < log_limit
+
+-- Loading the stamp, which logs Resume: the thread owns the monitor m of o, and has stored the recursions that it saved, in this call; and the
+-- waiting word is Ready.
+pub record MayLogResume (s : Shape) (k : Known) (o m : ℕ) : Type 0 where
+  pub runs : k.running ≡ true
+  pub stage : k.stage ≡ Resumes o
+  pub ready : k.wait ≡ 0
+  pub object : o < length s.objects
+  pub inflated : SawInflated k o m
+  pub owner : SawOwn k k.thread m
+  pub recursions : last_seen (Recursions m) k.seen ≡ Some k.saved
+  pub room : length k.log < log_limit
+
+-- Raising the stamp: the thread holds o, and is exiting it or beginning to wait on it.
+pub record MayRaise (k : Known) (e : Errand) (o : ℕ) : Type 0 where
+  pub runs : k.running ≡ true
+  pub calm : k.stage ≡ Calm
+  pub out : IsOut k
+  pub holds : HasHold k o
+  pub goes_on : GoesOn k e
+  pub letting : lets_go e.unfinished o ≡ true
+
+-- Loading or storing a slot, which logs Get or Put: the thread holds o.
+pub record MayTouch (s : Shape) (k : Known) (o slot : ℕ) : Type 0 where
+  pub runs : k.running ≡ true
+  pub calm : k.stage ≡ Calm
+  pub ready : k.wait ≡ 0
+  pub holds : HasHold k o
+  pub object : o < length s.objects
+  pub within : slot < slots_of s o
+  pub room : length k.log < log_limit
+
+-- a value that may be put
+pub record MayPut (s : Shape) (v : Value) : Type 0 where
+  pub spellable : IsSpellable v
+  pub here : IsHere s v
+
+-- Storing Ready in its own waiting word: in an enter whose hold word is stored, or in a wait whose monitor it has again.
+pub record MayBeReady (k : Known) (e : Errand) : Type 0 where
+  pub runs : k.running ≡ true
+  pub goes_on : GoesOn k e
+  pub before : (IsOut k × ((o p : ℕ) × (k.stage ≡ Enters o p))) ⊎ ((o : ℕ) × (k.stage ≡ Resumes o))
+
+-- Storing Entering with o: the enter of o is unfinished, and o was seen inflated in this call.
+pub record MayStand (s : Shape) (k : Known) (e : Errand) (o m : ℕ) : Type 0 where
+  pub runs : k.running ≡ true
+  pub calm : k.stage ≡ Calm
+  pub out : IsOut k
+  pub object : o < length s.objects
+  pub enters : IsUnfinished e.unfinished op.Enter o
+  pub goes_on : e.unfinished ≡ k.unfinished
+  pub inflated : SawInflated k o m
+
+-- Storing Ended: the log has its ending entry, and nothing is unfinished.
+pub record MayEnd (k : Known) (e : Errand) : Type 0 where
+  pub runs : k.running ≡ true
+  pub calm : k.stage ≡ Calm
+  pub out : IsOut k
+  pub ended : ends k.log ≡ true
+  pub goes_on : e.unfinished ≡ k.unfinished
+  pub nothing : k.unfinished ≡ None
+
+-- Storing Waiting with o and the entry's stamp, which logs Wait: the thread holds o, has seen in this call that it owns o's monitor m and what
+-- the recursions are, has saved these and raised the stamp.
+pub record MayWait (s : Shape) (k : Known) (e : Errand) (o m stamp : ℕ) : Type 0 where
+  pub runs : k.running ≡ true
+  pub calm : k.stage ≡ Calm
+  pub ready : k.wait ≡ 0
+  pub holds : HasHold k o
+  pub object : o < length s.objects
+  pub waits : IsUnfinished e.unfinished op.Wait o
+  pub goes_on : e.unfinished ≡ k.unfinished
+  pub inflated : SawInflated k o m
+  pub owner : SawOwn k k.thread m
+  pub recursions : last_seen (Recursions m) k.seen ≡ Some k.saved
+  pub stamped : last_seen (Stamp o) k.seen ≡ Some stamp
+  pub high : next_stamp (local_of k) ≤ stamp
+  pub room : length k.log < log_limit
+
+-- Nobody waits on o, of which the thread is the owner: in this call it saw a mark of o that names no monitor, or that no thread of n says
+-- it waits on o.
+abbrev pub SawNobody : ℕ → Known → ℕ → Type 0
+SawNobody n k o =
+    ((v : ℕ) × (last_seen (Mark o) k.seen ≡ Some v) × (monitor_in v ≡ None))
+    ⊎ ((t : ℕ) → t < n → (v : ℕ) × (last_seen (Waiting t) k.seen ≡ Some v) × (waits_on v o ≡ false))
+
+-- what may be logged by publishing the own length: what names no object, and a notify of an own object that wakes nobody
+abbrev pub MayTell : Shape → Known → Entry → Type 0
+MayTell s k (Print value) = Unit {0}
+MayTell s k (Dump number) = Unit {0}
+MayTell s k (Trap fault index) = Unit {0}
+MayTell s k Spent = Unit {0}
+MayTell s k Done = Unit {0}
+MayTell s k (Notify o None) = HasHold k o × (o < length s.objects) × SawNobody s.threads k o
+MayTell s k (NotifyAll o n) = HasHold k o × (o < length s.objects) × SawNobody s.threads k o × (n ≡ 0)
+MayTell s k _ = ⊥
+
+-- Publishing the own length with one entry more, which logs the entry.
+pub record MayPublish (s : Shape) (k : Known) (e : Entry) : Type 0 where
+  pub runs : k.running ≡ true
+  pub calm : k.stage ≡ Calm
+  pub ready : k.wait ≡ 0
+  pub tells : MayTell s k e
+  pub room : length k.log < log_limit

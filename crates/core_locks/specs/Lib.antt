@@ -1,0 +1,4 @@
+pub mod Knowing
+pub mod SafepointLaws
+pub mod JournalLaws
+pub mod LockLaws

@@ -1,0 +1,51 @@
+//! Laws of the steps on locks without biases: each kind of atomic step keeps the world valid, whatever other threads do.
+//!
+//! A law is a public function with an empty body. Its contract says of one kind of step: in every valid world in which the thread
+//! knows what it knows, the step gives a valid world, with the same plain objects or with those that took the step's entry.
+//! `specs/` says when a thread may make each step, by its own knowledge alone.
+#![tactic(auto)]
+
+mod entering;
+mod exiting;
+mod holding;
+mod leaving_to_wait;
+mod looks;
+mod marking;
+mod safepoint;
+mod telling;
+#[cfg(test)]
+mod tests;
+mod waiting;
+
+pub use entering::{
+    logging_a_resume_keeps_the_world_valid, logging_an_enter_keeps_the_world_valid,
+};
+pub use exiting::{
+    exiting_by_a_hold_word_keeps_the_world_valid, exiting_by_the_mark_keeps_the_world_valid,
+};
+pub use holding::{
+    clearing_a_hold_word_keeps_the_world_valid, storing_a_hold_word_keeps_the_world_valid,
+};
+pub use leaving_to_wait::logging_a_wait_keeps_the_world_valid;
+pub use looks::{
+    a_load_by_a_requester_keeps_the_world_valid, a_load_of_a_displaced_word_keeps_the_world_valid,
+    a_load_of_a_mark_keeps_the_world_valid,
+    a_load_of_a_waiting_word_or_length_keeps_the_world_valid,
+    a_load_of_the_safepoint_word_keeps_the_world_valid,
+};
+pub use marking::{
+    exchanging_a_neutral_mark_keeps_the_world_valid, storing_a_displaced_word_keeps_the_world_valid,
+};
+pub use safepoint::{
+    halting_keeps_the_world_valid, releasing_keeps_the_world_valid,
+    requesting_keeps_the_world_valid, resuming_keeps_the_world_valid,
+    stopping_keeps_the_world_valid,
+};
+pub use telling::{
+    logging_a_get_keeps_the_world_valid, logging_a_put_keeps_the_world_valid,
+    publishing_a_length_keeps_the_world_valid,
+};
+pub use waiting::{
+    raising_a_stamp_keeps_the_world_valid, storing_ended_keeps_the_world_valid,
+    storing_entering_keeps_the_world_valid, storing_ready_keeps_the_world_valid,
+};

@@ -1,0 +1,17 @@
+pub mod Readings
+pub mod Counting
+pub mod Frames
+pub mod Opens
+pub mod Stands
+pub mod Shows
+pub mod Parts
+pub mod Views
+pub mod Naming
+pub mod SeenBack
+pub mod SeenMoves
+pub mod SeenNoted
+pub mod Noting
+pub mod Glances
+pub mod ActsLook
+pub mod LookLaws
+pub mod LookSettles

@@ -1,0 +1,146 @@
+-- A load that logs nothing, and an exchange that misses, keep the world valid, with the same plain objects.
+use Rattle.std.proofs.Common.{◌≡◌, ℕ, ◌&&◌, ◌||◌, Bool, true, false, cond, List, [], ◌∷◌, Some, None, refl, sym, ap, ◌∙◌, subst, inl, inr}
+use Rattle.plain_monitor.specs.Objects.{PlainObject}
+use Rattle.core_world.specs.declared.act.Act.TheVariants.{Load}
+use Rattle.core_world.specs.declared.name.Name.{Name}
+use Rattle.core_world.specs.declared.name.Name.TheVariants as name
+use Rattle.core_world.specs.declared.name.Name.TheVariants.{Safe, Mark, Owner, Recursions}
+use Rattle.core_world.specs.declared.plan.Note.TheVariants.{Quiet}
+use Rattle.core_world.specs.declared.plan.Own.TheVariants.{Same}
+use Rattle.core_world.specs.declared.plan.StepPlan.{StepPlan}
+use Rattle.core_world.specs.Forms.{monitor_in, is_halted, is_still}
+use Rattle.core_world.specs.Known.{Made, last_seen, looked}
+use Rattle.core_world.specs.World.{World}
+use Rattle.core_world.specs.Locks.{marks, waits_at}
+use Rattle.core_world.specs.SeenWords.{HasMet, IsKeptOrNamed}
+use Rattle.core_world.specs.Looking.{IsOfMonitor, MayLook, IsLook, IsMiss}
+use Rattle.core_world.specs.Steps.{known_hit, known_miss, known_after, seen_before, stood_before, reached_after, halted_after}
+use Rattle.core_world.specs.Valid.{SeenFit, SafeFits}
+use Rattle.core_world.proofs.Glances.{Glance, still_nobody}
+use Rattle.core_world.proofs.ActsLook.{runs_load, asks_load, holds_load, wait_load, published_load, kept_load, seen_is_part, missed_word}
+
+module _ (w : World) (P : List PlainObject) (t : ℕ) (seen : SeenFit w P) (safe : SafeFits w P)
+    (idle : (w.known t).running ≡ true → (o : ℕ) → monitor_in (marks w o) ≡ None → waits_at P o ≡ []) where
+  -- a monitor that the thread has found is kept by it, or named by a mark
+  found_named : (at : Name) → MayLook (w.known t) at → (m : ℕ) → IsOfMonitor m at → IsKeptOrNamed w (w.known t) m
+  found_named at may m is = elim (may.found m is) [
+    | inl a ↦ inl a
+    | inr a ↦ inr (a.0, ap monitor_in (by_reached a.0 a.1 (w.known t).reached refl a.2 a.3) ∙ a.3)
+  ]
+    where
+      not_safe : at ≡ Safe → ⊥
+      not_safe e = elim (subst (IsOfMonitor m) e is) [ inl b ↦ absurd (cc b) | inr b ↦ absurd (cc b) ]
+
+      by_running : (o v : ℕ) (b : Bool) → (w.known t).running ≡ b → (w.known t).reached ≡ false → last_seen (Mark o) (w.known t).seen ≡ Some v → monitor_in v ≡ Some m → marks w o ≡ v
+      by_running o v true r n e g = seen.stays t (Mark o) v e (inl (r, inr (inl (m, g))))
+      by_running o v false r n e g = absurd (not_safe (may.outside r n))
+
+      by_reached : (o v : ℕ) (b : Bool) → (w.known t).reached ≡ b → last_seen (Mark o) (looked (w.known t)) ≡ Some v → monitor_in v ≡ Some m → marks w o ≡ v
+      by_reached o v true r e g = seen.stands t (Mark o) v r (ap (λ c. last_seen (Mark o) (cond c (w.known t).stood (w.known t).seen)) (sym r) ∙ e)
+      by_reached o v false r e g =
+          by_running o v (w.known t).running refl r (ap (λ c. last_seen (Mark o) (cond c (w.known t).stood (w.known t).seen)) (sym r) ∙ e) g
+
+  -- what the thread has learnt by looking at the safepoint word is so
+  learnt : (at : Name) → reached_after at Load (w.words at) (w.known t) ≡ true → ((w.known t).requesting ≡ true) × ((u : ℕ) → (w.known u).running ≡ false)
+  learnt name.Safe e = by_reached (w.known t).reached refl e
+    where
+      by_asking : (b : Bool) → (w.known t).requesting ≡ b → (b && is_still (w.words Safe)) ≡ true → ((w.known t).requesting ≡ true) × ((u : ℕ) → (w.known u).running ≡ false)
+      by_asking true r e = (r, still_nobody w P safe e)
+      by_asking false r e = absurd (cc e)
+
+      by_reached : (b : Bool) → (w.known t).reached ≡ b → (b || ((w.known t).requesting && is_still (w.words Safe))) ≡ true → ((w.known t).requesting ≡ true) × ((u : ℕ) → (w.known u).running ≡ false)
+      by_reached true r e = safe.safepoint t r
+      by_reached false r e = by_asking (w.known t).requesting refl e
+  learnt _ e = safe.safepoint t e
+
+  halt_learnt : (at : Name) → halted_after at (w.words at) (w.known t) ≡ true → is_halted (w.words Safe) ≡ true
+  halt_learnt name.Safe e = cases (w.known t).halted refl e
+    where
+      cases : (b : Bool) → (w.known t).halted ≡ b → (b || is_halted (w.words Safe)) ≡ true → is_halted (w.words Safe) ≡ true
+      cases true r e = safe.stopped t r
+      cases false r e = e
+  halt_learnt _ e = safe.stopped t e
+
+  -- what the thread goes on to count on at its safepoint it could count on before
+  since_there : (at : Name) (n : Name) (s : ℕ) → reached_after at Load (w.words at) (w.known t) ≡ true → last_seen n (stood_before at Load (w.known t)) ≡ Some s
+      → ((w.known t).reached ≡ true) × (last_seen n (w.known t).stood ≡ Some s)
+  since_there name.Safe n s r e = cases (w.known t).reached refl e
+    where
+      cases : (b : Bool) → (w.known t).reached ≡ b → last_seen n (cond b (w.known t).stood []) ≡ Some s → ((w.known t).reached ≡ true) × (last_seen n (w.known t).stood ≡ Some s)
+      cases true q e = (q, e)
+      cases false q e = absurd (cc e)
+  since_there _ n s r e = (r, e)
+
+  since_met : (at : Name) (m s : ℕ) → reached_after at Load (w.words at) (w.known t) ≡ true → HasMet (stood_before at Load (w.known t)) m s → IsKeptOrNamed w (w.known t) m
+  since_met at m s r (inl e) = let a = since_there at (Owner m) s r e in seen.monitors_since t m s a.0 (inl a.1)
+  since_met at m s r (inr e) = let a = since_there at (Recursions m) s r e in seen.monitors_since t m s a.0 (inr a.1)
+
+  -- a load, as it is written down
+  pub look_glance : (p : StepPlan) → IsLook (w.known t) p → Glance w P (w.known t) (known_after w.shape w.start p (w.words p.at) (w.known t)) p
+  look_glance p look =
+      let q : StepPlan = record p { act = Load; note = Quiet; own = Same } in
+      let same : q ≡ p = λ i. record p { act = sym look.act i; note = sym look.note i; own = sym look.own i } in
+      subst (λ z. Glance w P (w.known t) (known_after w.shape w.start z (w.words z.at) (w.known t)) z) same
+      (record {
+        same = record {
+          thread = refl;
+          log = refl;
+          running = sym (runs_load p.at (w.words p.at) (w.known t));
+          requesting = sym (asks_load p.at (w.words p.at) (w.known t));
+          kept = refl;
+          saved = refl;
+          holds = sym (holds_load p.at (w.known t));
+          wait = sym (wait_load p.at (w.known t));
+          published = sym (published_load p.at (w.known t));
+          stage = sym look.stage;
+          counts = refl;
+          unfinished = elim look.after [ inl e ↦ inl (sym e) | inr e ↦ inr e ];
+        };
+        looks = record {
+          word = refl;
+          run = runs_load p.at (w.words p.at) (w.known t);
+          ask = asks_load p.at (w.words p.at) (w.known t);
+          stage = look.stage;
+          kept = refl;
+          old = seen_before w.shape (w.known t);
+          seen = ap (λ (z : List Made). record { plan = q; found = w.words p.at } ∷ z) (kept_load p.at (w.words p.at) (w.known t) (seen_before w.shape (w.known t)));
+          part = seen_is_part w.shape (w.known t);
+          since = stood_before p.at Load (w.known t);
+          stood = refl;
+          there = λ n s r e. let a = since_there p.at n s r e in seen.stands t n s a.0 a.1;
+          there_monitors = since_met p.at;
+          fresh = found_named p.at look.may;
+          idle = idle;
+        };
+        reached = λ e. let a = learnt p.at e in (asks_load p.at (w.words p.at) (w.known t) ∙ a.0, a.1);
+        halted = halt_learnt p.at;
+      })
+
+  -- an exchange that missed
+  pub miss_glance : (p : StepPlan) → IsMiss (w.known t) p (w.words p.at) → Glance w P (w.known t) (known_after w.shape w.start p (w.words p.at) (w.known t)) p
+  miss_glance p miss =
+      let hit = known_hit w.shape w.start p (w.words p.at) (w.known t) in
+      let missed : known_miss w.shape w.start p (w.words p.at) (w.known t) ≡ known_after w.shape w.start p (w.words p.at) (w.known t) =
+      ap (λ (b : Bool). cond b hit (known_miss w.shape w.start p (w.words p.at) (w.known t))) (sym miss.missed) in
+      subst (λ z. Glance w P (w.known t) z p) missed
+      (record {
+        same = record { thread = refl; log = refl; running = refl; requesting = refl; kept = refl; saved = refl; holds = refl; wait = refl; published = refl; stage = refl; counts = refl; unfinished = inl refl };
+        looks = record {
+          word = missed_word p.act (w.words p.at) miss.missed;
+          run = refl;
+          ask = refl;
+          stage = refl;
+          kept = refl;
+          old = seen_before w.shape (w.known t);
+          seen = refl;
+          part = seen_is_part w.shape (w.known t);
+          since = (w.known t).stood;
+          stood = refl;
+          there = λ n s r e. seen.stands t n s r e;
+          there_monitors = λ m s r e. seen.monitors_since t m s r e;
+          fresh = found_named p.at miss.may;
+          idle = idle;
+        };
+        reached = safe.safepoint t;
+        halted = halt_learnt p.at;
+      })

@@ -1,0 +1,129 @@
+-- What the threads have seen stays when one of them makes a step that leaves its word as it was, whether it runs or not.
+use Rattle.std.proofs.Common.{◌≡◌, ◌⊎◌, ℕ, ◌||◌, Bool, true, false, cond, List, [], ◌∷◌, Some, None, sym, ap, ◌∙◌, refl, inl, inr}
+use Rattle.std.proofs.lemmas.Option.{same_Some}
+use Rattle.core_world.specs.declared.name.Name.{Name}
+use Rattle.core_world.specs.declared.name.Name.TheVariants.{Mark, Waiting, Owner, Recursions}
+use Rattle.core_world.specs.declared.plan.StepPlan.{StepPlan}
+use Rattle.core_world.specs.Acts.{after}
+use Rattle.core_world.specs.Names.{same_name}
+use Rattle.core_world.specs.Forms.{is_biased, monitor_in, waits_on}
+use Rattle.core_world.specs.Stages.{inflation_in, bears}
+use Rattle.core_world.specs.Known.{Known, Made, last_seen}
+use Rattle.core_world.specs.World.{World}
+use Rattle.core_world.specs.Locks.{marks}
+use Rattle.core_world.specs.SeenWords.{SeenStays, Stays, HasMet, IsKeptOrNamed}
+use Rattle.core_world.specs.Looking.{IsOfMonitor}
+use Rattle.core_world.proofs.Parts.{each_told}
+use Rattle.core_world.proofs.Naming.{same_named, noted}
+use Rattle.core_world.proofs.SeenBack.{Back, stays_back}
+use Rattle.core_world.proofs.SeenMoves.{IsPart}
+
+-- thread t, which knew k, has looked at the word of p, and knows l: it counts on some of what it saw before in its call, and since its
+-- safepoint was reached on what it saw since
+pub record Looks (w : World) (waiters : ℕ → List (ℕ × ℕ)) (k l : Known) (p : StepPlan) (found : ℕ) : Type 0 where
+  pub word : after p.act found ≡ w.words p.at
+  pub run : l.running ≡ k.running
+  pub ask : l.requesting ≡ k.requesting
+  pub stage : l.stage ≡ k.stage
+  pub kept : l.kept ≡ k.kept
+  pub old : List Made
+  pub seen : l.seen ≡ record { plan = p; found = found } ∷ old
+  pub part : IsPart old k.seen
+  pub since : List Made
+  pub stood : l.stood ≡ record { plan = p; found = found } ∷ since
+  pub there : (n : Name) (s : ℕ) → l.reached ≡ true → last_seen n since ≡ Some s → w.words n ≡ s
+  pub there_monitors : (m s : ℕ) → l.reached ≡ true → HasMet since m s → IsKeptOrNamed w k m
+  pub fresh : (m : ℕ) → IsOfMonitor m p.at → IsKeptOrNamed w k m
+  pub idle : k.running ≡ true → (o : ℕ) → monitor_in (marks w o) ≡ None → waiters o ≡ []
+
+module _ (p : StepPlan) (found t : ℕ) (l : Known) (w : World) (owner : ℕ → ℕ → Bool) (waiters : ℕ → List (ℕ × ℕ)) (looks : Looks w waiters (w.known t) l p found) (h : SeenStays w owner waiters) where
+  -- the word of the step is as it was left
+  just_seen : (n : Name) (s : ℕ) (old : List Made) → same_name n p.at ≡ true → cond (same_name n p.at) (Some (after p.act found)) (last_seen n old) ≡ Some s → w.words n ≡ s
+  just_seen n s old e a =
+      ap w.words (same_named n p.at e) ∙ sym looks.word ∙ same_Some _ _ (ap (λ c. cond c (Some (after p.act found)) (last_seen n old)) (sym e) ∙ a)
+
+  -- and the others as they were last seen before
+  newest : (n : Name) (s : ℕ) (old : List Made) → (last_seen n old ≡ Some s → w.words n ≡ s) → (b : Bool) → same_name n p.at ≡ b
+      → cond (same_name n p.at) (Some (after p.act found)) (last_seen n old) ≡ Some s → w.words n ≡ s
+  newest n s old before true e a = just_seen n s old e a
+  newest n s old before false e a = before (ap (λ c. cond c (Some (after p.act found)) (last_seen n old)) (sym e) ∙ a)
+
+  back : Back w (noted t l w) (w.known t) l owner owner t
+  back = record {
+    run = λ e. sym looks.run ∙ e;
+    ask = λ e. sym looks.ask ∙ e;
+    inflates = λ i e. ap inflation_in (sym looks.stage) ∙ e;
+    kept = λ m e. sym looks.kept ∙ e;
+    prototype = λ o. refl;
+    monitor = λ o m e. e;
+    owned = λ o e. e;
+    held = λ o m e a. subst_stage o a;
+    manned = λ m e. e;
+  }
+    where
+      subst_stage : (o : ℕ) → (owner o t || bears l.stage o) ≡ true → (owner o t || bears (w.known t).stage o) ≡ true
+      subst_stage o a = ap (λ s. owner o t || bears s o) (sym looks.stage) ∙ a
+
+  kept_forth : (m : ℕ) → IsKeptOrNamed w (w.known t) m → IsKeptOrNamed (noted t l w) l m
+  kept_forth m (inl a) = inl (looks.kept ∙ a)
+  kept_forth m (inr a) = inr a
+
+  met : (m s : ℕ) (old : List Made) → (HasMet old m s → IsKeptOrNamed w (w.known t) m) → (n : Name) → (same_name n p.at ≡ true → IsOfMonitor m p.at)
+      → (last_seen n old ≡ Some s → HasMet old m s) → (b : Bool) → same_name n p.at ≡ b
+      → cond (same_name n p.at) (Some (after p.act found)) (last_seen n old) ≡ Some s → IsKeptOrNamed w (w.known t) m
+  met m s old before n f g true e a = looks.fresh m (f e)
+  met m s old before n f g false e a = before (g (ap (λ c. cond c (Some (after p.act found)) (last_seen n old)) (sym e) ∙ a))
+
+  met_any : (m s : ℕ) (old all : List Made) → all ≡ record { plan = p; found = found } ∷ old → (HasMet old m s → IsKeptOrNamed w (w.known t) m) → HasMet all m s → IsKeptOrNamed w (w.known t) m
+  met_any m s old all e before (inl a) = met m s old before (Owner m) (λ b. inl b) (λ b. inl b) (same_name (Owner m) p.at) refl (ap (last_seen (Owner m)) (sym e) ∙ a)
+  met_any m s old all e before (inr a) = met m s old before (Recursions m) (λ b. inr b) (λ b. inr b) (same_name (Recursions m) p.at) refl (ap (last_seen (Recursions m)) (sym e) ∙ a)
+
+  part_met : (m s : ℕ) → HasMet looks.old m s → HasMet (w.known t).seen m s
+  part_met m s (inl a) = inl (looks.part (Owner m) s a)
+  part_met m s (inr a) = inr (looks.part (Recursions m) s a)
+
+  active : (l.running ≡ true) ⊎ (l.requesting ≡ true) → ((w.known t).running ≡ true) ⊎ ((w.known t).requesting ≡ true)
+  active (inl a) = inl (sym looks.run ∙ a)
+  active (inr a) = inr (sym looks.ask ∙ a)
+
+  pub seen_noted : SeenStays (noted t l w) owner waiters
+  seen_noted =
+      record {
+        stays = λ u n s. each_told (λ u y. last_seen n y.seen ≡ Some s → Stays (noted t l w) y owner u n s → w.words n ≡ s) t l w.known u
+            (λ e g. newest n s looks.old (λ a. h.stays t n s (looks.part n s a) (stays_back w (noted t l w) (w.known t) l owner owner t back n s g)) (same_name n p.at) refl (ap (last_seen n) (sym looks.seen) ∙ e))
+            (λ d e g. h.stays u n s e (stays_back w (noted t l w) (w.known u) (w.known u) owner owner u
+            (record { run = λ a. a; ask = λ a. a; inflates = λ i a. a; kept = λ m a. a; prototype = λ o. refl; monitor = λ o m a. a; owned = λ o a. a; held = λ o m a b. b; manned = λ m a. a }) n s g));
+        unbiased = λ u o s. each_told (λ u y. last_seen (Mark o) y.seen ≡ Some s → (y.running ≡ true) ⊎ (y.requesting ≡ true) → is_biased s ≡ false → is_biased (marks w o) ≡ false) t l w.known u
+            (λ e r g. mark o s r g (same_name (Mark o) p.at) refl (ap (last_seen (Mark o)) (sym looks.seen) ∙ e))
+            (λ d e r g. h.unbiased u o s e r g);
+        unwaiting = λ u y o s. each_told (λ u k. last_seen (Waiting y) k.seen ≡ Some s → k.running ≡ true → owner o u ≡ true → waits_on s o ≡ false → waits_on (w.words (Waiting y)) o ≡ false) t l w.known u
+            (λ e r a g. wait y o s r a g (same_name (Waiting y) p.at) refl (ap (last_seen (Waiting y)) (sym looks.seen) ∙ e))
+            (λ d e r a g. h.unwaiting u y o s e r a g);
+        unwaited = λ u o s. each_told (λ u y. last_seen (Mark o) y.seen ≡ Some s → y.running ≡ true → owner o u ≡ true → monitor_in s ≡ None → waiters o ≡ []) t l w.known u
+            (λ e r a g. alone o s r a g (same_name (Mark o) p.at) refl (ap (last_seen (Mark o)) (sym looks.seen) ∙ e))
+            (λ d e r a g. h.unwaited u o s e r a g);
+        stands = λ u n s. each_told (λ u y. y.reached ≡ true → last_seen n y.stood ≡ Some s → w.words n ≡ s) t l w.known u
+            (λ r e. newest n s looks.since (λ a. looks.there n s r a) (same_name n p.at) refl (ap (last_seen n) (sym looks.stood) ∙ e))
+            (λ d r e. h.stands u n s r e);
+        monitors = λ u m s. each_told (λ u y. y.running ≡ true → HasMet y.seen m s → IsKeptOrNamed (noted t l w) y m) t l w.known u
+            (λ r e. kept_forth m (met_any m s looks.old l.seen looks.seen (λ a. h.monitors t m s (sym looks.run ∙ r) (part_met m s a)) e))
+            (λ d r e. h.monitors u m s r e);
+        monitors_since = λ u m s. each_told (λ u y. y.reached ≡ true → HasMet y.stood m s → IsKeptOrNamed (noted t l w) y m) t l w.known u
+            (λ r e. kept_forth m (met_any m s looks.since l.stood looks.stood (looks.there_monitors m s r) e))
+            (λ d r e. h.monitors_since u m s r e);
+      }
+    where
+      mark : (o s : ℕ) → (l.running ≡ true) ⊎ (l.requesting ≡ true) → is_biased s ≡ false → (b : Bool) → same_name (Mark o) p.at ≡ b
+          → cond (same_name (Mark o) p.at) (Some (after p.act found)) (last_seen (Mark o) looks.old) ≡ Some s → is_biased (marks w o) ≡ false
+      mark o s r g true e a = ap is_biased (just_seen (Mark o) s looks.old e a) ∙ g
+      mark o s r g false e a = h.unbiased t o s (looks.part (Mark o) s (ap (λ c. cond c (Some (after p.act found)) (last_seen (Mark o) looks.old)) (sym e) ∙ a)) (active r) g
+
+      alone : (o s : ℕ) → l.running ≡ true → owner o t ≡ true → monitor_in s ≡ None → (b : Bool) → same_name (Mark o) p.at ≡ b
+          → cond (same_name (Mark o) p.at) (Some (after p.act found)) (last_seen (Mark o) looks.old) ≡ Some s → waiters o ≡ []
+      alone o s r q g true e a = looks.idle (sym looks.run ∙ r) o (ap monitor_in (just_seen (Mark o) s looks.old e a) ∙ g)
+      alone o s r q g false e a = h.unwaited t o s (looks.part (Mark o) s (ap (λ c. cond c (Some (after p.act found)) (last_seen (Mark o) looks.old)) (sym e) ∙ a)) (sym looks.run ∙ r) q g
+
+      wait : (y o s : ℕ) → l.running ≡ true → owner o t ≡ true → waits_on s o ≡ false → (b : Bool) → same_name (Waiting y) p.at ≡ b
+          → cond (same_name (Waiting y) p.at) (Some (after p.act found)) (last_seen (Waiting y) looks.old) ≡ Some s → waits_on (w.words (Waiting y)) o ≡ false
+      wait y o s r q g true e a = ap (λ z. waits_on z o) (just_seen (Waiting y) s looks.old e a) ∙ g
+      wait y o s r q g false e a = h.unwaiting t y o s (looks.part (Waiting y) s (ap (λ c. cond c (Some (after p.act found)) (last_seen (Waiting y) looks.old)) (sym e) ∙ a)) (sym looks.run ∙ r) q g

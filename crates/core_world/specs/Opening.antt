@@ -1,0 +1,53 @@
+-- The world before the first step.
+use Rattle.std.specs.Prelude.{ℕ, Bool, false, if◌then◌else◌, [], replicate, None, pos}
+use Rattle.mark_word.specs.Mark.{mark_of}
+use Rattle.mark_word.specs.declared.mark.MarkForm.TheVariants.{Neutral, Anonymous}
+use Rattle.plain_monitor.specs.ValueWords.{word_of}
+use Rattle.plain_monitor.specs.declared.entry.Value.TheVariants.{Int}
+use Rattle.core_world.specs.declared.name.Name.{Name}
+use Rattle.core_world.specs.declared.name.Name.TheVariants.{Prototype, Mark, Slot}
+use Rattle.core_world.specs.declared.stage.Stage.TheVariants.{Calm}
+use Rattle.core_world.specs.Shape.{Shape}
+use Rattle.core_world.specs.Known.{Known}
+use Rattle.core_world.specs.World.{World}
+
+-- the prototype of each class, and so the mark of each object: biased to nobody at epoch 0, or neutral
+abbrev pub first_mark : Bool → ℕ
+first_mark biasing = if biasing then mark_of (Anonymous 0 0) else mark_of (Neutral 0 0)
+
+-- each slot has the number 0, and every other word is 0
+abbrev pub first_word : Bool → Name → ℕ
+first_word biasing (Prototype c) = first_mark biasing
+first_word biasing (Mark o) = first_mark biasing
+first_word biasing (Slot o i) = word_of (Int (pos 0))
+first_word biasing _ = 0
+
+-- a thread that is stopped and has made no step
+abbrev pub first_known : ℕ → Known
+first_known t =
+    record {
+      thread = t;
+      log = [];
+      running = false;
+      requesting = false;
+      reached = false;
+      halted = false;
+      kept = None;
+      saved = 0;
+      holds = replicate 64 0;
+      wait = 0;
+      published = 0;
+      stage = Calm;
+      unfinished = None;
+      checking = false;
+      counts = [];
+      draws = 0;
+      shots = [];
+      seen = [];
+      stood = [];
+      steps = [];
+      call = None;
+    }
+
+abbrev pub opening : Shape → ℕ → Bool → World
+opening s start biasing = record { shape = s; start = start; biasing = biasing; words = first_word biasing; known = first_known }

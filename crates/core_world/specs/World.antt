@@ -1,0 +1,31 @@
+-- The world: the words by name, and what each thread knows. What changes when one word and one thread's knowledge change.
+use Rattle.std.specs.Prelude.{ℕ, zero, suc, ◌+◌, ◌==◌, Bool, cond, List, [], ◌∷◌}
+use Rattle.plain_monitor.specs.declared.entry.Logged.{Logged}
+use Rattle.core_world.specs.declared.name.Name.{Name}
+use Rattle.core_world.specs.Shape.{Shape}
+use Rattle.core_world.specs.Names.{written}
+use Rattle.core_world.specs.Known.{Known}
+
+pub record World : Type 0 where
+  -- these three are the heap's, and no step changes them: the shape, what its generators start from, and whether it has biases
+  pub shape : Shape
+  pub start : ℕ
+  pub biasing : Bool
+  pub words : Name → ℕ
+  pub known : ℕ → Known
+
+-- thread t knows k, and the others what they knew
+abbrev pub told : ℕ → Known → (ℕ → Known) → ℕ → Known
+told t k f u = cond (u == t) k (f u)
+
+-- the world in which the word is v, and thread t knows k
+abbrev pub one : Name → ℕ → ℕ → Known → World → World
+one at v t k w = record { shape = w.shape; start = w.start; biasing = w.biasing; words = written at v w.words; known = told t k w.known }
+
+-- the logs of n threads, from thread t on
+abbrev pub logs_from : ℕ → ℕ → (ℕ → Known) → List (List Logged)
+logs_from t zero f = []
+logs_from t (suc n) f = (f t).log ∷ logs_from (t + 1) n f
+
+abbrev pub logs : World → List (List Logged)
+logs w = logs_from 0 w.shape.threads w.known

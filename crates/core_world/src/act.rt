@@ -1,0 +1,68 @@
+//! What one atomic step does to its one word.
+
+ghost use Rattle.std.specs.Prelude.{◌≡◌, true};
+ghost use Rattle.core_world.specs.Acts.{after, hits};
+
+/// What an atomic step does to its word. All are sequentially consistent.
+#[derive(Clone, Copy)]
+pub enum Act {
+    /// Reads the word.
+    Load,
+    /// Writes `word`.
+    Store { word: u64 },
+    /// Compare-exchange: writes `word` where `expected` stands.
+    Swap { expected: u64, word: u64 },
+    /// Fetch-max: writes `word` where the word is smaller.
+    Raise { word: u64 },
+    /// Fetch-and: keeps of the word the bits of `bits` alone.
+    Mask { bits: u64 },
+    /// Fetch-add of one, which wraps at 2^64.
+    Count,
+}
+
+/// What an act makes of a word.
+#[derive(Clone, Copy, Debug, PartialEq, Eq)]
+pub struct Effect {
+    /// The word afterwards.
+    pub word: u64,
+    /// False exactly for a `Swap` that expected another word.
+    pub hit: bool,
+}
+
+/// What the act makes of the word `old`: the word afterwards, and whether the act did what it is for. A `Swap` whose expected
+/// word differs from `old` leaves the word and misses; every other act hits.
+pub fn apply(old: u64, act: &Act) -> Effect
+    ensures word { result.word ≡ after act.now old }
+    ensures hit { result.hit ≡ hits act.now old }
+{
+    match *act {
+        Act::Load => hit(old),
+        Act::Store { word } => hit(word),
+        Act::Swap { expected, word } => swap(old, expected, word),
+        Act::Raise { word } => hit(old.max(word)),
+        Act::Mask { bits } => hit(old & bits),
+        Act::Count => hit(old.wrapping_add(1)),
+    }
+}
+
+/// The effect of an act that hit and left the word so.
+fn hit(word: u64) -> Effect
+    ensures { result ≡ record { word = word; hit = true } }
+{
+    Effect { word, hit: true }
+}
+
+/// The effect of a compare-exchange.
+fn swap(old: u64, expected: u64, word: u64) -> Effect
+    ensures word { result.word ≡ after (Act.Swap expected word) old }
+    ensures hit { result.hit ≡ hits (Act.Swap expected word) old }
+{
+    if old == expected {
+        hit(word)
+    } else {
+        Effect {
+            word: old,
+            hit: false,
+        }
+    }
+}

@@ -1,0 +1,34 @@
+//! The heap of HotSpot's monitors as a world of plain data: its words, what each thread knows, the atomic steps of every
+//! operation, and which worlds are valid.
+//!
+//! Nothing here touches a heap. `specs/` has the definitions: the words by name, one step on one word, the steps that each
+//! operation makes (the files named for steps, `Operations` and `Calls`), and the clauses of a valid world, one file each
+//! (`docs/WORLD.md` tells them in plain words). The types here are what steps are made of; the functions are `apply` and laws.
+#![tactic(auto)]
+
+mod act;
+mod answer;
+mod framing;
+mod laws;
+mod name;
+mod plan;
+mod shown;
+mod stage;
+mod task;
+#[cfg(test)]
+mod tests;
+
+pub use act::{Act, Effect, apply};
+pub use answer::{
+    BiasTry, IllegalMonitorState, StackOut, TooDeep, TooManyDumps, Turn, Unguarded, Why,
+};
+pub use framing::{
+    clauses_of_locks_stay, clauses_of_logs_stay, clauses_of_monitors_stay, clauses_of_threads_stay,
+    clauses_of_words_stay,
+};
+pub use laws::{a_look_keeps_the_world_valid, the_opening_world_is_valid};
+pub use name::Name;
+pub use plan::{Note, Own, StepPlan};
+pub use shown::{all_clauses_hold_while_a_thread_runs, held_objects_are_stood_at, shown_is_plain};
+pub use stage::Stage;
+pub use task::{Op, Task, Unfinished};

@@ -1,0 +1,61 @@
+//! One step with all that it makes of its thread's knowledge.
+
+use crate::act::Act;
+use crate::name::Name;
+use crate::stage::Stage;
+use crate::task::{Task, Unfinished};
+use lock_policy::Verdict;
+use plain_monitor::Entry;
+
+/// What a step logs, where it hits.
+#[derive(Clone, Copy)]
+pub enum Note {
+    /// Nothing.
+    Quiet,
+    /// This entry. An Enter or a Resume gets one more than the greater of the word found and the thread's last stamp, every other
+    /// entry one more than the thread's last stamp.
+    Log { entry: Entry },
+    /// A Get with the value that the word found spells.
+    LogGet { object: u32, slot: u32 },
+    /// A Hash with the hash of the word found, not drawn, where that word is neutral and has a hash; no operation is unfinished
+    /// then. Else nothing.
+    LogHash { object: u32 },
+}
+
+/// What a thread keeps of a step for itself, where the step hits.
+#[derive(Clone, Copy)]
+pub enum Own {
+    /// Nothing.
+    Same,
+    /// The number found is the monitor that it keeps from now on.
+    Claim,
+    /// It keeps no monitor any more.
+    Spend,
+    /// The number found is the recursions that its wait saves.
+    Save,
+    /// It counts a verdict on the class, and a reset where there was one.
+    Count {
+        class: u32,
+        verdict: Verdict,
+        reset: bool,
+    },
+    /// What it has seen at its safepoint is its next shot.
+    Shot,
+}
+
+/// One atomic step, and what it makes of its thread's knowledge where it hits.
+#[derive(Clone, Copy)]
+pub struct StepPlan {
+    pub at: Name,
+    pub act: Act,
+    pub note: Note,
+    pub own: Own,
+    /// The call that it is a step of.
+    pub task: Task,
+    /// The operation that is unfinished afterwards.
+    pub after: Option<Unfinished>,
+    /// Whether a check is unfinished afterwards.
+    pub check: bool,
+    /// Where the thread stands afterwards.
+    pub stage: Stage,
+}

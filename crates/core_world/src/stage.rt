@@ -1,0 +1,61 @@
+//! Where a thread stands in the middle of an operation.
+
+/// Where a thread stands between a step on a lock and the step that tells it, so that the invariant can say by how much the words
+/// are ahead of the logs or behind them. A thread stands at one of these at a time.
+#[derive(Clone, Copy)]
+pub enum Stage {
+    /// Nothing is ahead or behind.
+    Calm,
+    /// It exchanged the object's neutral mark for its place, and hasn't stored the hold word.
+    Seizes {
+        object: u32,
+        place: u32,
+    },
+    /// It exchanged the free owner word of the object's monitor to enter, and hasn't stored the hold word.
+    Grabs {
+        object: u32,
+    },
+    /// Its new hold word stands at this place, and the Enter isn't logged.
+    Enters {
+        object: u32,
+        place: u32,
+    },
+    /// It exchanged the free owner word to resume, and the Resume isn't logged.
+    Resumes {
+        object: u32,
+    },
+    /// Its last Exit is logged, and the hold word at this place isn't cleared.
+    Exits {
+        object: u32,
+        place: u32,
+    },
+    /// Its Wait is logged, and the owner word isn't cleared.
+    Waits {
+        object: u32,
+    },
+    /// The monitor's recursions count the hold that it is about to store.
+    Ahead {
+        object: u32,
+    },
+    /// The monitor's recursions don't count the hold any more that it is about to clear.
+    Behind {
+        object: u32,
+    },
+    /// It exchanged the object's mark, which named this lock record, for 0, and hasn't stored the inflated mark.
+    Inflates {
+        object: u32,
+        thread: u32,
+        place: u32,
+    },
+    /// It told a waiter of the object, and the NotifyAll isn't logged.
+    Calls {
+        object: u32,
+    },
+    /// It carries out the revocation of the object's bias at its safepoint, from the first store on. `rebias` is true in an enter,
+    /// and `now` is the moment that the policy of bulk operations is given.
+    Settles {
+        object: u32,
+        rebias: bool,
+        now: u64,
+    },
+}

@@ -1,0 +1,6 @@
+pub mod ReadingRecords
+pub mod ReadingMarks
+pub mod ReadingOwners
+pub mod ReadingWaits
+pub mod ReadingHolds
+pub mod ReadingSafepoints
