@@ -157,7 +157,6 @@ module _ (w : World) (P : List PlainObject) (t : ℕ) (e : Errand) (p d : ℕ) (
     monitor = λ i a h. h;
     owned = λ i h. h;
     held = λ i a h b. subst (λ s. (owner_at P i u || bears s i) ≡ true) stage b;
-    manned = λ a h. h;
   }
 
   spares : Spares (Displaced t p) d t l w (owner_at P) (owner_at P) (waits_at P) (waits_at P)
@@ -176,7 +175,7 @@ module _ (w : World) (P : List PlainObject) (t : ℕ) (e : Errand) (p d : ℕ) (
   seen_law =
       seen_moves plan (w.words (Displaced t p)) t l w (owner_at P) (owner_at P) (waits_at P) (waits_at P) (seen_before w.shape (w.known t)) refl
       (counts_more (Displaced t p) d t l w (owner_at P) (owner_at P) (waits_at P) (waits_at P) (seen_before w.shape (w.known t)) (seen_is_part w.shape (w.known t))
-      (back (w.known t) l t refl refl refl refl) (λ a h. inl h) (λ a r h. elim h [ inl b ↦ absurd (cc b) | inr b ↦ absurd (cc b) ]) (λ i h. absurd (cc h)) (λ i h g. g) spares (λ u i h g. g) v.seen)
+      (back (w.known t) l t refl refl refl refl) (λ a h. inl h) (λ a r h. absurd (cc h)) (λ i h. absurd (cc h)) (λ i h g. g) spares (λ u i h g. g) v.seen)
       spares v.seen
 
   displaced_fits : Fits x P

@@ -12,7 +12,7 @@ use Rattle.plain_history.proofs.Swaps.{bound_is_named}
 use Rattle.core_world.specs.declared.act.Act.TheVariants.{Load}
 use Rattle.core_world.specs.declared.name.Name.TheVariants.{Safe, Stamp, Waiting, Length, Recursions}
 use Rattle.core_world.specs.declared.task.Op.TheVariants as op
-use Rattle.core_world.specs.declared.stage.Stage.TheVariants.{Calm, Seizes, Grabs, Resumes, Waits}
+use Rattle.core_world.specs.declared.stage.Stage.TheVariants.{Calm, Seizes, Grabs, Resumes, Waits, Calls}
 use Rattle.core_world.specs.Forms.{waits_on, told_of, enters_on, says_ended, stamp_in, monitor_in, asks_in, is_halted}
 use Rattle.core_world.specs.Stages.{ahead, behind, calling, extra, settling}
 use Rattle.core_world.specs.Known.{Known}
@@ -221,6 +221,7 @@ module _ (w : World) (P : List PlainObject) (t o : ℕ) (e : Entry) (r : Errand)
           | inl b ↦ inl (called_other w P t o e r m a v i u d ∙ b)
           | inr b ↦ inr (b.0, (b.1.0, calling_forth b.1.0 i b.1.1))
         ]);
+    telling = λ u i n h. v.waits.telling u i n (stage_back w P t o e r m a v u (Calls i n) h (λ c. absurd (cc c))).1;
     resuming = λ u i h.
         let b = stage_back w P t o e r m a v u (Resumes i) h (λ c. absurd (cc c)) in
         called_other w P t o e r m a v i u b.0 ∙ v.waits.resuming u i b.1;

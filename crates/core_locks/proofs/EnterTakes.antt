@@ -274,7 +274,7 @@ module _ (w : World) (P : List PlainObject) (t o : ℕ) (e : Entry) (r : Errand)
   seen_law =
       seen_moves (logging e r (Stamp o) Load) (w.words (Stamp o)) t l w (owner_at P) (owner_at Q) (waits_at P) (waits_at Q) []
       (ap (λ (b : Bool). let step : Made = record { plan = logging e r (Stamp o) Load; found = w.words (Stamp o) } in step ∷ cond b [] (seen_before w.shape (w.known t))) a.taking)
-      (counts_anew (Stamp o) (w.words (Stamp o)) t l w (owner_at Q) (waits_at Q) (λ i h. absurd (cc h)) (λ b g h. elim h [ inl c ↦ absurd (cc c) | inr c ↦ absurd (cc c) ]))
+      (counts_anew (Stamp o) (w.words (Stamp o)) t l w (owner_at Q) (waits_at Q) (λ i h. absurd (cc h)) (λ b g h. absurd (cc h)))
       (record {
         before = λ u n s d h g. stays_back w x (w.known u) (w.known u) (owner_at P) (owner_at Q) u
             (record {
@@ -286,7 +286,6 @@ module _ (w : World) (P : List PlainObject) (t o : ℕ) (e : Entry) (r : Errand)
               monitor = λ i b h. h;
               owned = λ i h. sym (owner_other i u d) ∙ h;
               held = λ i b h c. ap (λ q. q || bears (w.known u).stage i) (sym (owner_other i u d)) ∙ c;
-              manned = λ b h. h;
             }) n s g;
         owned = λ u i d h. sym (owner_other i u d) ∙ h;
         word = λ u s d h g. g;

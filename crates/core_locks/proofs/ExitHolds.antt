@@ -229,7 +229,6 @@ module _ (w : World) (P : List PlainObject) (t : ℕ) (e : Errand) (o d p : ℕ)
         monitor = λ i a b. b;
         owned = λ i a. sym (owner_same i u) ∙ a;
         held = λ i a b h. ap (λ c. c || bears (w.known u).stage i) (sym (owner_same i u)) ∙ h;
-        manned = λ i a. a;
       } in
       let mine : Back w x (w.known t) l (owner_at P) (owner_at Q) t = record {
         run = λ a. a;
@@ -240,7 +239,6 @@ module _ (w : World) (P : List PlainObject) (t : ℕ) (e : Errand) (o d p : ℕ)
         monitor = λ i a b. b;
         owned = λ i a. sym (owner_same i t) ∙ a;
         held = λ i a b h. (λ j. sym (owner_same i t) j || still.unborne i j) ∙ h;
-        manned = λ i a. a;
       } in
       let empty : (i : ℕ) → waits_at P i ≡ [] → waits_at Q i ≡ [] = λ i a. sym (λ j. waits j i) ∙ a in
       let spares : Spares (Hold t p) 0 t l w (owner_at P) (owner_at Q) (waits_at P) (waits_at Q) = record {
@@ -255,7 +253,7 @@ module _ (w : World) (P : List PlainObject) (t : ℕ) (e : Errand) (o d p : ℕ)
       } in
       seen_moves plan (w.words (Hold t p)) t l w (owner_at P) (owner_at Q) (waits_at P) (waits_at Q) (seen_before w.shape (w.known t)) refl
       (counts_more (Hold t p) 0 t l w (owner_at P) (owner_at Q) (waits_at P) (waits_at Q) (seen_before w.shape (w.known t)) (seen_is_part w.shape (w.known t)) mine
-      (λ i a. inl a) (λ i r a. elim a [ inl b ↦ absurd (cc b) | inr b ↦ absurd (cc b) ]) (λ i a. absurd (cc a)) (λ i a b. empty i b) spares (λ u i a b. b) v.seen)
+      (λ i a. inl a) (λ i r a. absurd (cc a)) (λ i a. absurd (cc a)) (λ i a b. empty i b) spares (λ u i a b. b) v.seen)
       spares v.seen
     where
       waits : waits_at P ≡ waits_at Q

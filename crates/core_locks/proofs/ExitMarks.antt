@@ -235,7 +235,7 @@ module _ (w : World) (P : List PlainObject) (t : ℕ) (e : Errand) (o h s p : �
       let back = mark_back w o h t l (w.known t) l (owner_at P) (owner_at Q) t (λ i a g. names i ∙ g) refl refl (sym still.inflates) refl
       (λ i a. (owner_back i t a).1) (λ i a b g. mine i g) in
       let counts = counts_more (Mark o) h t l w (owner_at P) (owner_at Q) (waits_at P) (waits_at Q) (seen_before w.shape (w.known t)) (seen_is_part w.shape (w.known t)) back
-      (λ i a. inl a) (λ i r a. elim a [ inl b ↦ absurd (cc b) | inr b ↦ absurd (cc b) ])
+      (λ i a. inl a) (λ i r a. absurd (cc a))
       (λ i a r b g. absurd ((owner_back i t b).0 (eqb-true i o a))) (λ i a b. empty i b) spares (λ u i a b. b) v.seen in
       subst (λ n. SeenStays (one (Mark o) n t l w) (owner_at Q) (waits_at Q)) writes
       (seen_moves plan (w.words (Mark o)) t l w (owner_at P) (owner_at Q) (waits_at P) (waits_at Q) (seen_before w.shape (w.known t)) refl
@@ -404,5 +404,5 @@ exit_misses w P t e o h s p within may other valid =
     miss_valid w P t (staged (Exits o p) (logging (Exit o) e (Mark o) (Swap (mark_of (Locked t p)) h))) within
     (record {
       missed = ne_eqb (w.words (Mark o)) (mark_of (Locked t p)) other;
-      may = record { outside = λ r n. absurd (cc (r, may.runs)); found = λ m is. elim is [ inl a ↦ absurd (cc a) | inr a ↦ absurd (cc a) ] };
+      may = record { outside = λ r n. absurd (cc (r, may.runs)); found = λ m is. absurd (cc is) };
     }) valid

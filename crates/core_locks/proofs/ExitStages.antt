@@ -10,7 +10,7 @@ use Rattle.plain_monitor.specs.Monitor.{is_listed}
 use Rattle.plain_monitor.specs.Objects.{PlainObject}
 use Rattle.core_world.specs.declared.name.Name.TheVariants.{Safe, Waiting, Length}
 use Rattle.core_world.specs.declared.stage.Stage.{Stage}
-use Rattle.core_world.specs.declared.stage.Stage.TheVariants.{Calm, Seizes, Grabs, Resumes, Exits, Waits, Behind}
+use Rattle.core_world.specs.declared.stage.Stage.TheVariants.{Calm, Seizes, Grabs, Resumes, Exits, Waits, Behind, Calls}
 use Rattle.core_world.specs.declared.task.Op.TheVariants as op
 use Rattle.core_world.specs.Forms.{runs_in, asks_in, is_halted, monitor_in, waits_on, stamp_in, enters_on, says_ended}
 use Rattle.core_world.specs.Stages.{Inflation, inflation_in, calling, settling, bears}
@@ -137,6 +137,7 @@ module _ (w : World) (P Q : List PlainObject) (t : ℕ) (y : Logged) (l : Known)
         waiter = v.waits.waiter;
         notified = λ u o h. elim (v.waits.notified u o h) [ inl b ↦ inl b | inr b ↦ inr (b.0, stage_forth u (Resumes o) b.1 (s.before.resumes o)) ];
         told = λ u o h. elim (v.waits.told u o h) [ inl b ↦ inl b | inr b ↦ inr (b.0, calls_forth o b.1) ];
+        telling = λ u o n e. v.waits.telling u o n (stage_back u (Calls o n) e (λ z. let c = ap calling z in absurd (cc (c, s.now.calls)))).1;
         resuming = λ u o e. v.waits.resuming u o (stage_back u (Resumes o) e (s.now.resumes o)).1;
         leaving = λ u o e. v.waits.leaving u o (stage_back u (Waits o) e (s.now.waits o)).1;
         unfinished = λ u o. each_told (λ u k. (is_listed (waits_at P o) u ≡ true) ⊎ (is_listed (called_at P o) u ≡ true) → IsUnfinished k.unfinished op.Wait o) t l w.known u

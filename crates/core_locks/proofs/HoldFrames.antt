@@ -7,7 +7,7 @@ use Rattle.plain_monitor.specs.History.{LegalObjects, objects_after}
 use Rattle.core_world.specs.declared.task.Op.TheVariants as op
 use Rattle.core_world.specs.declared.name.Name.TheVariants.{Stamp, Hold, Waiting, Recursions}
 use Rattle.core_world.specs.declared.stage.Stage.{Stage}
-use Rattle.core_world.specs.declared.stage.Stage.TheVariants.{Calm, Resumes, Waits, Exits}
+use Rattle.core_world.specs.declared.stage.Stage.TheVariants.{Calm, Resumes, Waits, Exits, Calls}
 use Rattle.core_world.specs.Forms.{enters_on, monitor_in, is_biased, is_neutral, hash_in, hold_word}
 use Rattle.core_world.specs.Stages.{Inflation, extra, bears, inflation_in, calling, settling}
 use Rattle.core_world.specs.Known.{Known, Made}
@@ -102,7 +102,7 @@ module _ (w : World) (P : List PlainObject) (t p n : ℕ) (l : Known) (within : 
       → ((o : ℕ) → (owner_at P o t || bears l.stage o) ≡ true → (owner_at P o t || bears (w.known t).stage o) ≡ true) → SeenFit x P
   hold_seen e s found old seen part held =
       seen_moves (staged s (store e (Hold t p) n)) found t l w (owner_at P) (owner_at P) (waits_at P) (waits_at P) old seen
-      (counts_more (Hold t p) n t l w (owner_at P) (owner_at P) (waits_at P) (waits_at P) old part back (λ m h. inl (sym b.kept ∙ h)) (λ m r h. elim h [ inl a ↦ absurd (cc a) | inr a ↦ absurd (cc a) ])
+      (counts_more (Hold t p) n t l w (owner_at P) (owner_at P) (waits_at P) (waits_at P) old part back (λ m h. inl (sym b.kept ∙ h)) (λ m r h. absurd (cc h))
       (λ o h. absurd (cc h)) (λ o a h. h) spares (λ u o a h. h) v.seen) spares v.seen
     where
       back : Back w x (w.known t) l (owner_at P) (owner_at P) t
@@ -115,13 +115,12 @@ module _ (w : World) (P : List PlainObject) (t p n : ℕ) (l : Known) (within : 
         monitor = λ o m h. h;
         owned = λ o h. h;
         held = λ o m a h. held o h;
-        manned = λ m h. h;
       }
 
       spares : Spares (Hold t p) n t l w (owner_at P) (owner_at P) (waits_at P) (waits_at P)
       spares = record {
         before = λ u m s d g. stays_back w x (w.known u) (w.known u) (owner_at P) (owner_at P) u
-            (record { run = λ a. a; ask = λ a. a; inflates = λ i a. a; kept = λ m a. a; prototype = λ o. refl; monitor = λ o m a. a; owned = λ o a. a; held = λ o m a h. h; manned = λ m a. a }) m s;
+            (record { run = λ a. a; ask = λ a. a; inflates = λ i a. a; kept = λ m a. a; prototype = λ o. refl; monitor = λ o m a. a; owned = λ o a. a; held = λ o m a h. h }) m s;
         owned = λ u o d h. h;
         word = λ u s d st is. absurd (elim st [ inl a ↦ d (sym a.1) | inr a ↦ a.1 ]);
         bias = λ o h. h;
@@ -153,6 +152,8 @@ module _ (w : World) (P : List PlainObject) (t p n : ℕ) (l : Known) (within : 
       | inr a ↦ inr (a.0, each_told (λ u y. (w.known u).stage ≡ Resumes o → y.stage ≡ Resumes o) t l w.known u (λ e. absurd (b.before.resumes o e)) (λ d e. e) a.1)
     ];
     told = λ u o h. elim (v.waits.told u o h) [ inl a ↦ inl a | inr a ↦ inr (a.0, teller o a.1) ];
+    telling = λ u o n h. v.waits.telling u o n
+        (each_told (λ u y. y.stage ≡ Calls o n → (w.known u).stage ≡ Calls o n) t l w.known u (λ e. let c = ap calling e in absurd (cc (c, b.now.calls))) (λ d e. e) h);
     resuming = λ u o h. v.waits.resuming u o (each_told (λ u y. y.stage ≡ Resumes o → (w.known u).stage ≡ Resumes o) t l w.known u (λ e. absurd (b.now.resumes o e)) (λ d e. e) h);
     leaving = λ u o h. v.waits.leaving u o (each_told (λ u y. y.stage ≡ Waits o → (w.known u).stage ≡ Waits o) t l w.known u (λ e. absurd (b.now.waits o e)) (λ d e. e) h);
     unfinished = λ u o h. each_told (λ u y. (is_listed (waits_at P o) u ≡ true) ⊎ (is_listed (called_at P o) u ≡ true) → IsUnfinished y.unfinished op.Wait o) t l w.known u

@@ -2,7 +2,7 @@
 use Rattle.std.proofs.Common.{◌≡◌, ◌≢◌, ℕ, ◌||◌, ◌==◌, ne_eqb, Bool, true, false, List, [], refl, sym, ap, ◌∙◌, inl, inr}
 use Rattle.plain_monitor.specs.Monitor.{PlainMonitor}
 use Rattle.plain_monitor.specs.Objects.{PlainObject}
-use Rattle.core_world.specs.declared.name.Name.TheVariants.{Mark, Waiting, Owner, Recursions}
+use Rattle.core_world.specs.declared.name.Name.TheVariants.{Mark, Waiting}
 use Rattle.core_world.specs.Forms.{waits_on}
 use Rattle.core_world.specs.Known.{Known, Made}
 use Rattle.core_world.specs.Locks.{owner_at, waits_at}
@@ -49,7 +49,6 @@ module _ (w : World) (P : List PlainObject) (o m t : ℕ) (l : Known) (v : Fits 
         monitor = λ i a e. e;
         owned = λ i e. (owner_back w P o m t v s i u e).1;
         held = λ i a e. by_owner i (owner_at (left_objects P o t) i u) refl;
-        manned = λ a e. e;
       }
     where
       by_owner : (i : ℕ) (b : Bool) → owner_at (left_objects P o t) i u ≡ b → (b || bears (w.known u).stage i) ≡ true → (owner_at P i u || bears (w.known u).stage i) ≡ true
@@ -75,7 +74,6 @@ module _ (w : World) (P : List PlainObject) (o m t : ℕ) (l : Known) (v : Fits 
             by_equal i o
             (λ q. ap (λ j. owner_at P j t || bears (w.known t).stage j) q ∙ ap (λ b. b || bears (w.known t).stage o) s.owner)
             (λ d. by_owner i d (owner_at (left_objects P o t) i t) refl (ap (λ f. owner_at (left_objects P o t) i t || bears f i) (sym h.stage) ∙ g));
-        manned = λ a e. e;
       }
     where
       by_owner : (i : ℕ) → i ≢ o → (b : Bool) → owner_at (left_objects P o t) i t ≡ b → (b || (o == i)) ≡ true → (owner_at P i t || bears (w.known t).stage i) ≡ true
@@ -116,9 +114,9 @@ module _ (w : World) (P : List PlainObject) (o m t : ℕ) (l : Known) (v : Fits 
             unwaiting_else u i b.0 (v.seen.unwaiting t u i x (part (Waiting u) x e) s.runs b.1 g);
         unwaited = λ i x e r a g. let b = owner_back w P o m t v s i t a in waiters_else i b.0 (v.seen.unwaited t i x (part (Mark i) x e) s.runs b.1 g);
         idle = λ i e. absurd (cc e);
-        monitors = λ a x r e. elim (v.seen.monitors t a x s.runs (elim e [ inl b ↦ inl (part (Owner a) x b) | inr b ↦ inr (part (Recursions a) x b) ])) [
+        monitors = λ a x r e. elim (v.seen.monitors t a x s.runs (e.0, e.1, part e.0 x e.2)) [
           | inl b ↦ inl (sym h.kept ∙ b)
           | inr b ↦ inr b
         ];
-        fresh = λ a r e. elim e [ inl b ↦ absurd (cc b) | inr b ↦ absurd (cc b) ];
+        fresh = λ a r e. absurd (cc e);
       }

@@ -88,7 +88,7 @@ module _ (w : World) (P : List PlainObject) (t : ℕ) (e : Errand) (o m stamp : 
       ap read_owner (v.seen.stays t (Owner m) _ may.owner (inl (may.runs, inr own)) ∙ ap (λ u. owner_of (ByThread u)) (v.numbered t)) ∙ read_owner-owner_of (ByThread t) small
 
   recursions_are : w.words (Recursions m) ≡ (w.known t).saved
-  recursions_are = v.seen.stays t (Recursions m) (w.known t).saved may.recursions (inl (may.runs, inr (own, owner_is)))
+  recursions_are = v.seen.stays t (Recursions m) (w.known t).saved may.recursions (inl (may.runs, inr own))
 
   -- and the stamp, since the thread owns the object
   stamp_is : w.words (Stamp o) ≡ stamp

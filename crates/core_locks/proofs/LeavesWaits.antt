@@ -7,23 +7,23 @@ use Rattle.plain_monitor.specs.declared.entry.Logged.{Logged}
 use Rattle.plain_monitor.specs.Monitor.{PlainMonitor, is_listed}
 use Rattle.plain_monitor.specs.Objects.{PlainObject}
 use Rattle.core_world.specs.declared.name.Name.TheVariants.{Stamp, Waiting}
-use Rattle.core_world.specs.declared.stage.Stage.TheVariants.{Waits, Resumes}
+use Rattle.core_world.specs.declared.stage.Stage.TheVariants.{Waits, Resumes, Calls}
 use Rattle.core_world.specs.declared.task.Op.TheVariants as op
 use Rattle.core_world.specs.Forms.{monitor_in, waits_on, told_of, enters_on, says_ended, stamp_in}
 use Rattle.core_world.specs.Known.{Known}
-use Rattle.core_world.specs.Locks.{marks, monitor_of, waits_at, called_at}
+use Rattle.core_world.specs.Locks.{marks, monitor_of, waits_at, called_at, owner_at}
 use Rattle.core_world.specs.Safepoints.{IsUnfinished, ends}
 use Rattle.core_world.specs.Stages.{calling}
 use Rattle.core_world.specs.Stamps.{bound_stamp}
 use Rattle.core_world.specs.Valid.{Fits}
-use Rattle.core_world.specs.Waits.{WaitsFit, StandByStamps, last_entry}
+use Rattle.core_world.specs.Waits.{WaitsFit, StandByStamps, AreTold, last_entry}
 use Rattle.core_world.specs.World.{World}
 use Rattle.core_world.proofs.Stands.{same_number}
 use Rattle.core_locks.proofs.Logging.{last_entry_more}
-use Rattle.core_locks.proofs.LeavesLists.{stand_same, stand_last}
+use Rattle.core_locks.proofs.LeavesLists.{stand_same, stand_last, told_same}
 use Rattle.core_locks.proofs.LeavesStamps.{waiter_bounded}
 use Rattle.core_locks.proofs.LeavesStates.{IsLeaving, HasLogged, waiting_word}
-use Rattle.core_locks.proofs.LeavesPlain.{left_objects, left_monitor, wait_entry, monitor_at, owner_before, unlisted, waits_next, waits_still, waits_here}
+use Rattle.core_locks.proofs.LeavesPlain.{left_objects, left_monitor, wait_entry, monitor_at, owner_before, unlisted, waits_next, waits_still, waits_here, others_out}
 use Rattle.core_locks.proofs.LeavesWords.{left_world, word_waits, word_untold, word_unentering, word_unended, word_stamp, word_here, word_own, word_else, each_word, stage_at, stage_back, stage_forth}
 
 module _ (w : World) (P : List PlainObject) (o m t : ℕ) (l : Known) (v : Fits w P) (s : IsLeaving w P o m t) (h : HasLogged (w.known t) l o) where
@@ -102,6 +102,17 @@ module _ (w : World) (P : List PlainObject) (o m t : ℕ) (l : Known) (v : Fits 
               | inl a ↦ inl a
               | inr a ↦ inr (waits_still w P o m t v s i u a.0, calls_on i a.1)
             ]);
+        telling = λ u i n e.
+            let was = stage_back w P o m t l v s h u (Calls i n) e (λ c. cc c) in
+            elim (monitor_at w P o m t v s i) [
+              | inl a ↦
+                  let none = (others_out w P o m t v s u was.0).0 in
+                  let owner = v.owners.calls i u (ap calling was.1) in
+                  absurd (cc (none, ap (λ j. owner_at P j u) (sym a.0) ∙ owner))
+              | inr a ↦
+                  subst (λ (z : PlainMonitor). AreTold (λ y. x.words (Waiting y)) i n z.waits) (sym a.1)
+                  (told_same (λ y. w.words (Waiting y)) (λ y. x.words (Waiting y)) i n (waits_at P i) (λ y k. same_word y (waiter_other y i k)) (v.waits.telling u i n was.1))
+            ];
         resuming = λ u i e. v.waits.resuming u i (stage_back w P o m t l v s h u (Resumes i) e (λ c. cc c)).1;
         leaving = λ u i e. elim (stage_at w P o m t l v s h u) [
           | inl a ↦

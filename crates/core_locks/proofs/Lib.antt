@@ -10,6 +10,7 @@ pub mod SafeStops
 pub mod SafeStuck
 pub mod SafeEnds
 pub mod WaitOut
+pub mod LeavesLists
 pub mod WaitRuns
 pub mod WaitFrames
 pub mod WaitSeen
@@ -35,7 +36,6 @@ pub mod HoldFrames
 pub mod HoldWays
 pub mod HoldStored
 pub mod HoldCleared
-pub mod LeavesLists
 pub mod LeavesStamps
 pub mod LeavesStates
 pub mod LeavesPlain

@@ -25,7 +25,7 @@ may_look k at inside other = record {
 pub may_look_safe : (k : Known) → MayLook k Safe
 may_look_safe k = record {
   outside = λ r n. refl;
-  found = λ m is. elim is [ inl a ↦ absurd (cc a) | inr a ↦ absurd (cc a) ];
+  found = λ m is. absurd (cc is);
 }
 
 pub load_valid : (w : World) (P : List PlainObject) (t : ℕ) (e : Errand) (at : Name) → t < w.shape.threads → MayLook (w.known t) at → GoesOn (w.known t) e

@@ -58,6 +58,7 @@ module _ (f g : ℕ → ℕ) (same : (i : ℕ) → monitor_in (f i) ≡ monitor_
     waiter = h.waiter;
     notified = h.notified;
     told = h.told;
+    telling = h.telling;
     resuming = h.resuming;
     leaving = h.leaving;
     unfinished = h.unfinished;
@@ -187,7 +188,6 @@ module _ (w : World) (o m t : ℕ) (l : Known) where
     monitor = names;
     owned = owned;
     held = held;
-    manned = λ a e. e;
   }
 
   -- No other thread counts on the old mark: it names no monitor, has no bias pattern and isn't 0. The new one may be 0.
@@ -208,7 +208,10 @@ module _ (w : World) (o m t : ℕ) (l : Known) where
             | inl b ↦ bare_unbiased (marks w o) (prototype_of w o) old (subst (λ y. IsValidBias (read_mark y) (prototype_of w o)) (sym is) b)
             | inr b ↦ elim b [
               | inl c ↦ bare_unnamed (marks w o) c.0 old (ap monitor_in is ∙ c.1)
-              | inr c ↦ some (ap (marks w) (sym c.2) ∙ inflating u c.0 c.1)
+              | inr c ↦ elim c [
+                | inl f ↦ some (ap (marks w) (sym f.2) ∙ inflating u f.0 f.1)
+                | inr f ↦ let bare = old.unbiased in let bias = ap is_biased is ∙ f.0 in absurd (cc (bare, bias))
+              ]
             ]
           ]
           | inr a ↦ bare_unbiased (marks w o) (prototype_of w o) old (subst (λ y. IsValidBias (read_mark y) (prototype_of w o)) (sym is) a.1)

@@ -64,6 +64,7 @@ module _ (f : ℕ → Known) (t : ℕ) (l : Known) (goes : (l.unfinished ≡ (f 
     waiter = h.waiter;
     notified = h.notified;
     told = h.told;
+    telling = h.telling;
     resuming = h.resuming;
     leaving = h.leaving;
     unfinished = λ u o e. each_told (λ u y. (is_listed (waits o) u ≡ true) ⊎ (is_listed (called o) u ≡ true) → IsUnfinished y.unfinished op.Wait o) t l f u

@@ -3,7 +3,7 @@
 use Rattle.std.proofs.Common.{◌≡◌, ◌≢◌, ◌⊎◌, ℕ, ◌+◌, Bool, List, Option, Some, refl, sym, ap, ◌∙◌, subst, arith, inl, inr}
 use Rattle.plain_monitor.specs.declared.entry.Logged.{Logged}
 use Rattle.core_world.specs.declared.stage.Stage.{Stage}
-use Rattle.core_world.specs.declared.stage.Stage.TheVariants.{Calm, Resumes, Waits}
+use Rattle.core_world.specs.declared.stage.Stage.TheVariants.{Calm, Resumes, Waits, Calls}
 use Rattle.core_world.specs.declared.task.Unfinished.{Unfinished}
 use Rattle.core_world.specs.Stages.{ahead, behind, calling}
 use Rattle.core_world.specs.Known.{Known}
@@ -67,6 +67,7 @@ module _ (f : ℕ → Known) (t : ℕ) (l : Known) (calm : (f t).stage ≡ Calm)
       waiter = h.waiter;
       notified = λ u o e. elim (h.notified u o e) [ inl a ↦ inl a | inr a ↦ inr (a.0, stage_forth u (Resumes o) a.1 (λ z. cc z)) ];
       told = λ u o e. elim (h.told u o e) [ inl a ↦ inl a | inr a ↦ inr (a.0, (a.1.0, calls_forth a.1.0 o a.1.1)) ];
+      telling = λ u o n e. h.telling u o n (stage_back u (Calls o n) e (λ z. aside.calls o (ap calling z)));
       resuming = λ u o e. h.resuming u o (stage_back u (Resumes o) e (aside.resumes o));
       leaving = λ u o e. h.leaving u o (stage_back u (Waits o) e (aside.waits o));
       unfinished = h.unfinished;

@@ -69,7 +69,7 @@ module _ (w : World) (P : List PlainObject) (t : ℕ) (e : Errand) (o : ℕ) (ma
     ]);
     waits = λ u i h. h;
     no_mark = λ i is. absurd (cc is);
-    no_monitor = λ m is. elim is [ inl a ↦ absurd (cc a) | inr a ↦ absurd (cc a) ];
+    no_monitor = λ m is. absurd (cc is);
   }
 
   waits_law : WaitsFit (marks w) (λ u. w.words (Waiting u)) (λ u. (x.known u).wait) (λ u. (w.known u).log) (λ u. (w.known u).stage) (λ u. (x.known u).unfinished) (λ u. (w.known u).running) (waits_at P) (called_at P)
@@ -78,6 +78,7 @@ module _ (w : World) (P : List PlainObject) (t : ℕ) (e : Errand) (o : ℕ) (ma
     waiter = v.waits.waiter;
     notified = v.waits.notified;
     told = v.waits.told;
+    telling = v.waits.telling;
     resuming = v.waits.resuming;
     leaving = v.waits.leaving;
     unfinished = wait_goes_on w P t l x.words leaves v;

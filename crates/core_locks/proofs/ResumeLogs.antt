@@ -94,7 +94,7 @@ module _ (w : World) (P : List PlainObject) (t o m : ℕ) (within : t < w.shape.
   recursions : (b : ℕ) → monitor_in (marks w o) ≡ Some b → lock w o ≡ Manned t → w.words (Recursions b) ≡ again o (displaced w t) (w.known t).holds
   recursions b h g =
       let same : b ≡ m = same_Some _ _ (sym h ∙ mark) in
-      ap (λ c. w.words (Recursions c)) same ∙ v.seen.stays t (Recursions m) (w.known t).saved may.recursions (inl (may.runs, inr (own, manned))) ∙ v.recursions.waiting o t (inr called)
+      ap (λ c. w.words (Recursions c)) same ∙ v.seen.stays t (Recursions m) (w.known t).saved may.recursions (inl (may.runs, inr own)) ∙ v.recursions.waiting o t (inr called)
 
   is_taking : IsTaking w P t o (Resume o) after
   is_taking = record {

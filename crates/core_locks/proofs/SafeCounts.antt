@@ -10,14 +10,15 @@ use Rattle.core_world.specs.Locks.{owner_at, waits_at}
 use Rattle.core_world.specs.Looking.{IsOfMonitor}
 use Rattle.core_world.specs.SeenWords.{StaysWhileRunning, StaysWhileAsking, IsKeptOrNamed}
 use Rattle.core_world.specs.Valid.{Fits, SeenFit}
+use Rattle.core_world.specs.Steps.{undisplaced}
+use Rattle.core_world.proofs.ActsLook.{undisplaced_is_part}
 use Rattle.core_world.proofs.SeenMoves.{IsPart, Counts, counts_anew}
 use Rattle.core_locks.proofs.SafeFacts.{unmonitored_unwaited}
 
 module _ (w : World) (P : List PlainObject) (t word : ℕ) (l : Known) where
   -- the safepoint word is of no monitor
   of_none : (m : ℕ) → IsOfMonitor m Safe → ⊥
-  of_none m (inl e) = absurd (cc e)
-  of_none m (inr e) = absurd (cc e)
+  of_none m e = absurd (cc e)
 
   -- what stays while a request stands stays while the thread runs
   asking_runs : (owner : ℕ → ℕ → Bool) (n : Name) (s : ℕ) → StaysWhileAsking w n s → StaysWhileRunning w (w.known t) owner t n s
@@ -58,17 +59,20 @@ module _ (w : World) (P : List PlainObject) (t word : ℕ) (l : Known) where
   counts_begun = counts_anew Safe word t l w (owner_at P) (waits_at P) (λ o e r a g. absurd (cc e)) (λ m r is. absurd (of_none m is))
 
   -- a thread that leaves its reached safepoint, where each word is as it saw it
-  pub counts_since : (w.known t).reached ≡ true → l.kept ≡ (w.known t).kept → Fits w P → Counts Safe word t l w (owner_at P) (waits_at P) (w.known t).stood
+  pub counts_since : (w.known t).reached ≡ true → l.kept ≡ (w.known t).kept → Fits w P → Counts Safe word t l w (owner_at P) (waits_at P) (undisplaced (w.known t).stood)
   counts_since reached kept v = record {
-    others = λ n s e a st. v.seen.stands t n s reached e;
-    unbiased = λ o s e g r. ap is_biased (v.seen.stands t (Mark o) s reached e) ∙ g;
-    unwaiting = λ u o s e a g r. ap (λ z. waits_on z o) (v.seen.stands t (Waiting u) s reached e) ∙ g;
-    unwaited = λ o s e r a g. unmonitored_unwaited w P o v (ap monitor_in (v.seen.stands t (Mark o) s reached e) ∙ g);
+    others = λ n s e a st. v.seen.stands t n s reached (part n s e);
+    unbiased = λ o s e g r. ap is_biased (v.seen.stands t (Mark o) s reached (part (Mark o) s e)) ∙ g;
+    unwaiting = λ u o s e a g r. ap (λ z. waits_on z o) (v.seen.stands t (Waiting u) s reached (part (Waiting u) s e)) ∙ g;
+    unwaited = λ o s e r a g. unmonitored_unwaited w P o v (ap monitor_in (v.seen.stands t (Mark o) s reached (part (Mark o) s e)) ∙ g);
     idle = λ o e r a g. absurd (cc e);
-    monitors = λ m s r e. forth m (v.seen.monitors_since t m s reached e);
+    monitors = λ m s r e. forth m (v.seen.monitors_since t m s reached (e.0, e.1, part e.0 s e.2));
     fresh = λ m r is. absurd (of_none m is);
   }
     where
+      part : IsPart (undisplaced (w.known t).stood) (w.known t).stood
+      part = undisplaced_is_part (w.known t).stood
+
       forth : (m : ℕ) → IsKeptOrNamed w (w.known t) m → IsKeptOrNamed (one Safe word t l w) l m
       forth m (inl a) = inl (kept ∙ a)
       forth m (inr a) = inr a

@@ -15,7 +15,7 @@ use Rattle.core_world.specs.Forms.{runs_form, asks_in, requester_form}
 use Rattle.core_world.specs.World.{World}
 use Rattle.core_world.specs.Plans.{Errand, swap}
 use Rattle.core_world.specs.SafepointSteps.{reached_word, released_word, halted_word}
-use Rattle.core_world.specs.Steps.{moved, kept_by_act, seen_before}
+use Rattle.core_world.specs.Steps.{moved, kept_by_act, undisplaced, seen_before}
 use Rattle.core_world.specs.Valid.{Fits, IsValid}
 use Rattle.core_locks.specs.SafepointLaws.{MayRelease, MayHalt}
 use Rattle.core_locks.proofs.SafeFacts.{fits_calm, few_bits, one_reached, reached_form, reached_reads, reached_found}
@@ -56,10 +56,10 @@ module _ (w : World) (P : List PlainObject) (t : ℕ) (e : Errand) (within : t <
 
   -- where it has none, the thread goes on to count on what it saw at its safepoint
   kept_since : (word : ℕ) → asks_after word ≡ false
-      → kept_by_act Safe (Swap (reached_word t) word) (after (Swap (reached_word t) word) (w.words Safe)) (w.known t) (seen_before w.shape (w.known t)) ≡ (w.known t).stood
+      → kept_by_act Safe (Swap (reached_word t) word) (after (Swap (reached_word t) word) (w.words Safe)) (w.known t) (seen_before w.shape (w.known t)) ≡ undisplaced (w.known t).stood
   kept_since word unasking =
       let call = cond (w.known t).running (seen_before w.shape (w.known t)) [] in
-      ap (λ b. cond (b && not (asks_after word)) (w.known t).stood call) reached ∙ ap (λ b. cond (not b) (w.known t).stood call) unasking
+      ap (λ b. cond (b && not (asks_after word)) (undisplaced (w.known t).stood) call) reached ∙ ap (λ b. cond (not b) (undisplaced (w.known t).stood) call) unasking
 
   release_changes : MayRelease (w.known t) → e.unfinished ≡ (w.known t).unfinished → Changes w P t e (Swap (reached_word t) (released_word t)) (reached_form t) (released_form t)
   release_changes may goes_on =
@@ -83,7 +83,7 @@ module _ (w : World) (P : List PlainObject) (t : ℕ) (e : Errand) (within : t <
         halts = λ h r. absurd (cc h);
         published = λ r a h. absurd (cc (r, runs));
         ended = λ a r. absurd (cc (r, runs));
-        old = (w.known t).stood;
+        old = undisplaced (w.known t).stood;
         kept = kept_since (released_word t);
         counts = λ r. counts_since w P t (safe_of (released_form t)) (known_then w t e (Swap (reached_word t) (released_word t))) reached refl v;
       }
@@ -114,7 +114,7 @@ module _ (w : World) (P : List PlainObject) (t : ℕ) (e : Errand) (within : t <
     };
     published = λ r a h. absurd (cc h);
     ended = λ a r. let live = may.live in absurd (cc (a, live));
-    old = (w.known t).stood;
+    old = undisplaced (w.known t).stood;
     kept = kept_since halted_word;
     counts = λ r. counts_since w P t (safe_of halted_form) (known_then w t e (Swap (reached_word t) halted_word)) reached refl v;
   }

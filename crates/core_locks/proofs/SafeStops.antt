@@ -15,7 +15,7 @@ use Rattle.core_world.specs.Forms.{runs_form, requester_in, requester_form, asks
 use Rattle.core_world.specs.World.{World}
 use Rattle.core_world.specs.Plans.{Errand, quiet, swap}
 use Rattle.core_world.specs.SafepointSteps.{all_but, running_too, requested_by}
-use Rattle.core_world.specs.Steps.{moved, seen_before}
+use Rattle.core_world.specs.Steps.{moved, seen_before, undisplaced}
 use Rattle.core_world.specs.Valid.{Fits, IsValid}
 use Rattle.core_world.specs.WordForms.{IsSafe}
 use Rattle.core_world.proofs.ActsLook.{seen_is_part}
@@ -134,7 +134,7 @@ module _ (w : World) (P : List PlainObject) (t : ℕ) (e : Errand) (within : t <
       }
     where
       anew : (b : Bool) → (w.known t).reached ≡ b → (asks : Bool) → requester_in (w.words Safe) ≡ None
-          → cond (b && not asks) (w.known t).stood (cond (w.known t).running (seen_before w.shape (w.known t)) []) ≡ []
+          → cond (b && not asks) (undisplaced (w.known t).stood) (cond (w.known t).running (seen_before w.shape (w.known t)) []) ≡ []
       anew true r asks unasked = absurd (unasked_unreached w P t v.safe unasked r)
       anew false r asks unasked = ap (λ b. cond b (seen_before w.shape (w.known t)) []) may.stopped
 
@@ -194,7 +194,7 @@ module _ (w : World) (P : List PlainObject) (t : ℕ) (e : Errand) (within : t <
       }
     where
       goes_on_seen : (b : Bool) → (w.known t).reached ≡ b → (asks : Bool)
-          → cond (b && not asks) (w.known t).stood (cond (w.known t).running (seen_before w.shape (w.known t)) []) ≡ seen_before w.shape (w.known t)
+          → cond (b && not asks) (undisplaced (w.known t).stood) (cond (w.known t).running (seen_before w.shape (w.known t)) []) ≡ seen_before w.shape (w.known t)
       goes_on_seen true r asks = absurd (running_unreached w P t t v.safe may.runs r)
       goes_on_seen false r asks = ap (λ b. cond b (seen_before w.shape (w.known t)) []) may.runs
 

@@ -92,7 +92,7 @@ module _ (w : World) (P : List PlainObject) (t : ℕ) (e : Errand) (act : Act) (
   spares : Spares Safe word t l w (owner_at P) (owner_at P) (waits_at P) (waits_at P)
   spares = record {
     before = λ u n s d seen st. stays_back w x (w.known u) (w.known u) (owner_at P) (owner_at P) u
-        (record { run = λ a. a; ask = λ a. a; inflates = λ i a. a; kept = λ m a. a; prototype = λ o. refl; monitor = λ o m a. a; owned = λ o a. a; held = λ o m a b. b; manned = λ m a. a }) n s st;
+        (record { run = λ a. a; ask = λ a. a; inflates = λ i a. a; kept = λ m a. a; prototype = λ o. refl; monitor = λ o m a. a; owned = λ o a. a; held = λ o m a b. b }) n s st;
     owned = λ u o d h. h;
     word = λ u s d st was. elim st [ inl a ↦ absurd a.1 | inr a ↦ absurd a.1 ];
     bias = λ o h. h;
@@ -143,6 +143,7 @@ module _ (w : World) (P : List PlainObject) (t : ℕ) (e : Errand) (act : Act) (
     waiter = v.waits.waiter;
     notified = v.waits.notified;
     told = v.waits.told;
+    telling = v.waits.telling;
     resuming = v.waits.resuming;
     leaving = v.waits.leaving;
     unfinished = λ u o h. each_told (λ u y. (is_listed (waits_at P o) u ≡ true) ⊎ (is_listed (called_at P o) u ≡ true) → IsUnfinished y.unfinished op.Wait o) t l w.known u

@@ -203,7 +203,7 @@ module _ (w : World) (P : List PlainObject) (t : ℕ) (e : Errand) (o mark p : �
       seen_moves plan (w.words (Mark o)) t l w (owner_at P) (owner_at P) (waits_at P) (waits_at P) (seen_before w.shape (w.known t)) refl
       (counts_more (Mark o) m t l w (owner_at P) (owner_at P) (waits_at P) (waits_at P) (seen_before w.shape (w.known t)) (seen_is_part w.shape (w.known t))
       (mark_back w o m t l (w.known t) l (owner_at P) (owner_at P) t (λ i a n. names i ∙ n) refl refl (sym (ap inflation_in may.calm)) refl (λ i h. h) held)
-      (λ a h. inl h) (λ a r h. elim h [ inl b ↦ absurd (cc b) | inr b ↦ absurd (cc b) ])
+      (λ a h. inl h) (λ a r h. absurd (cc h))
       (λ i h r own n. unwaited_fits w P t v may.runs i (ap (λ j. monitor_in (marks w j)) (eqb-true i o h) ∙ old.unnamed))
       (λ i h g. g) spares (λ u i h g. g) v.seen)
       spares v.seen
@@ -325,6 +325,6 @@ seizes w P t e o mark p within may valid = by_test (w.words (Mark o) == mark) re
         miss_valid w P t (seizing t e o mark p) within
         (record {
           missed = missed;
-          may = record { outside = λ stopped. let runs = may.runs in absurd (cc (stopped, runs)); found = λ a h. elim h [ inl b ↦ absurd (cc b) | inr b ↦ absurd (cc b) ] };
+          may = record { outside = λ stopped. let runs = may.runs in absurd (cc (stopped, runs)); found = λ a h. absurd (cc h) };
         })
         valid

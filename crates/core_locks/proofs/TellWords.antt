@@ -1,7 +1,7 @@
 -- A step on a slot or on a published length leaves every other word, and what the clauses read of them.
-use Rattle.std.proofs.Common.{◌≡◌, ◌⊎◌, ℕ, ◌==◌, ◌&&◌, true, false, cond, refl, sym, ap, ◌∙◌, inl, inr}
+use Rattle.std.proofs.Common.{◌≡◌, ◌⊎◌, ℕ, ◌==◌, ◌&&◌, true, false, cond, refl, sym, ap, ◌∙◌, arith, inl, inr}
 use Rattle.core_world.specs.declared.name.Name.{Name}
-use Rattle.core_world.specs.declared.name.Name.TheVariants.{Mark, Slot, Length, Owner, Recursions}
+use Rattle.core_world.specs.declared.name.Name.TheVariants.{Mark, Slot, Length, Owner, Recursions, Header, Object}
 use Rattle.core_world.specs.Looking.{IsOfMonitor}
 use Rattle.core_world.specs.Names.{kind, first, second, same_name, written}
 
@@ -28,5 +28,8 @@ no_mark at o told e = let f = untold (Mark o) at told refl refl in absurd (cc (e
 
 -- and no word of a monitor
 pub of_no_monitor : (at : Name) (m : ℕ) → IsTold at → IsOfMonitor m at → ⊥
-of_no_monitor at m told (inl e) = let f = untold (Owner m) at told refl refl in absurd (cc (e, f))
-of_no_monitor at m told (inr e) = let f = untold (Recursions m) at told refl refl in absurd (cc (e, f))
+of_no_monitor (Owner i) m told is = elim told [ inl e ↦ absurd (omega (arith, e)) | inr e ↦ absurd (omega (arith, e)) ]
+of_no_monitor (Recursions i) m told is = elim told [ inl e ↦ absurd (omega (arith, e)) | inr e ↦ absurd (omega (arith, e)) ]
+of_no_monitor (Header i) m told is = elim told [ inl e ↦ absurd (omega (arith, e)) | inr e ↦ absurd (omega (arith, e)) ]
+of_no_monitor (Object i) m told is = elim told [ inl e ↦ absurd (omega (arith, e)) | inr e ↦ absurd (omega (arith, e)) ]
+of_no_monitor _ m told is = absurd (cc is)

@@ -1,7 +1,6 @@
 -- A running, calm thread whose waiting word is Ready logs an entry by a step on a slot or a published length, and the plain objects keep
 -- their monitors and hashes.
 use Rattle.std.proofs.Common.{◌≡◌, ◌≢◌, ◌⊎◌, ℕ, ◌+◌, ◌<◌, ◌≤◌, ◌||◌, true, false, List, [], ◌∷◌, ◌++◌, length, Option, Some, None, refl, sym, ap, ◌∙◌, subst, arith, inl}
-use Rattle.mark_word.specs.Owner.{read_owner}
 use Rattle.plain_monitor.specs.declared.entry.Entry.TheVariants as entry
 use Rattle.plain_monitor.specs.declared.entry.Logged.{Logged}
 use Rattle.plain_monitor.specs.Monitor.{is_listed, owns}
@@ -192,6 +191,7 @@ module _ (w : World) (P Q : List PlainObject) (t : ℕ) (p : StepPlan) (y : Logg
     waiter = v.waits.waiter;
     notified = v.waits.notified;
     told = v.waits.told;
+    telling = v.waits.telling;
     resuming = v.waits.resuming;
     leaving = v.waits.leaving;
     unfinished = λ u o. each_told (λ u k. (is_listed (waits_at P o) u ≡ true) ⊎ (is_listed (called_at P o) u ≡ true) → IsUnfinished k.unfinished op.Wait o) t l w.known u
@@ -239,7 +239,6 @@ module _ (w : World) (P Q : List PlainObject) (t : ℕ) (p : StepPlan) (y : Logg
     monitor = λ o n e. ap monitor_in (λ i. marks_stay i o) ∙ e;
     owned = λ o e. e;
     held = λ o n e h. ap (λ s. owner_at P o u || bears s o) stage ∙ h;
-    manned = λ n e. ap read_owner (λ i. owner_words_stay i n) ∙ e;
   }
 
   spares : Spares p.at (after p.act (w.words p.at)) t l w (owner_at P) (owner_at P) (waits_at P) (waits_at P)

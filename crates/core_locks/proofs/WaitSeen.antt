@@ -1,6 +1,5 @@
 -- What the threads have seen stays at a quiet step of a running thread on a stamp or on its waiting word.
 use Rattle.std.proofs.Common.{◌≡◌, ◌≢◌, ℕ, ◌||◌, true, false, List, ◌∷◌, Some, refl, sym, ap, ◌∙◌, inl}
-use Rattle.mark_word.specs.Owner.{read_owner}
 use Rattle.plain_monitor.specs.Objects.{PlainObject}
 use Rattle.core_world.specs.declared.name.Name.{Name}
 use Rattle.core_world.specs.declared.name.Name.TheVariants.{Mark, Waiting}
@@ -47,7 +46,6 @@ module _ (w : World) (P : List PlainObject) (t : ℕ) (l : Known) (p : StepPlan)
     monitor = λ o m e. ap (λ (g : ℕ → ℕ). monitor_in (g o)) same.marks ∙ e;
     owned = λ o e. e;
     held = λ o m e a. ap (λ s. owner_at P o u || bears s o) stage ∙ a;
-    manned = λ m e. ap (λ (g : ℕ → ℕ). read_owner (g m)) same.owners ∙ e;
   }
 
   spares : Leaves (w.known t) l → OthersStand w.words (written p.at v w.words) → (w.known t).running ≡ true → Unminded w P t p.at v → Fits w P

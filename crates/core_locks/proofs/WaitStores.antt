@@ -25,6 +25,7 @@ use Rattle.core_world.specs.Waits.{WaitsFit, StandsBefore, StandByStamps, last_e
 use Rattle.core_world.specs.WordForms.{IsWait}
 use Rattle.core_world.proofs.ActsLook.{seen_is_part}
 use Rattle.core_locks.specs.Knowing.{GoesOn}
+use Rattle.core_locks.proofs.LeavesLists.{told_same}
 use Rattle.core_locks.proofs.WaitFrames.{Leaves, OthersStand, each_written, wait_goes_on, lets_nothing_go, left_fits}
 use Rattle.core_locks.proofs.WaitOut.{fails}
 use Rattle.core_locks.proofs.WaitSeen.{Unminded, left_seen}
@@ -98,7 +99,7 @@ module _ (w : World) (P : List PlainObject) (t : ℕ) (e : Errand) (word : ℕ) 
     ]);
     waits = λ u o h. at (λ u y _. waits_on y o ≡ false) u (may.unwaiting o) (λ d. h);
     no_mark = λ o is. absurd (cc is);
-    no_monitor = λ m is. elim is [ inl a ↦ absurd (cc a) | inr a ↦ absurd (cc a) ];
+    no_monitor = λ m is. absurd (cc is);
   }
 
   forms_law : FormsFit x
@@ -120,6 +121,9 @@ module _ (w : World) (P : List PlainObject) (t : ℕ) (e : Errand) (word : ℕ) 
         (λ h. inr (may.called o h)) (λ d. v.waits.notified u o);
     told = λ u o. at (λ u y _. told_of y o ≡ true → (is_listed (called_at P o) u ≡ true) ⊎ ((is_listed (waits_at P o) u ≡ true) × ((z : ℕ) × (calling (w.known z).stage ≡ Some o)))) u
         (λ h. absurd (cc (h, may.untold o))) (λ d. v.waits.told u o);
+    telling = λ u o n e. told_same (λ z. w.words (Waiting z)) (λ z. x.words (Waiting z)) o n (waits_at P o)
+        (λ z. at (λ i y _. is_listed (waits_at P o) i ≡ true → y ≡ w.words (Waiting i)) z (λ h. absurd (cc (h, may.unlisted o))) (λ d h. refl))
+        (v.waits.telling u o n e);
     resuming = v.waits.resuming;
     leaving = v.waits.leaving;
     unfinished = wait_goes_on w P t l x.words leaves v;

@@ -29,7 +29,7 @@ module _ (w : World) (P : List PlainObject) (t : ℕ) (seen : SeenFit w P) (safe
   ]
     where
       not_safe : at ≡ Safe → ⊥
-      not_safe e = elim (subst (IsOfMonitor m) e is) [ inl b ↦ absurd (cc b) | inr b ↦ absurd (cc b) ]
+      not_safe e = absurd (cc (subst (IsOfMonitor m) e is))
 
       by_running : (o v : ℕ) (b : Bool) → (w.known t).running ≡ b → (w.known t).reached ≡ false → last_seen (Mark o) (w.known t).seen ≡ Some v → monitor_in v ≡ Some m → marks w o ≡ v
       by_running o v true r n e g = seen.stays t (Mark o) v e (inl (r, inr (inl (m, g))))
@@ -72,8 +72,7 @@ module _ (w : World) (P : List PlainObject) (t : ℕ) (seen : SeenFit w P) (safe
   since_there _ n s r e = (r, e)
 
   since_met : (at : Name) (m s : ℕ) → reached_after at Load (w.words at) (w.known t) ≡ true → HasMet (stood_before at Load (w.known t)) m s → IsKeptOrNamed w (w.known t) m
-  since_met at m s r (inl e) = let a = since_there at (Owner m) s r e in seen.monitors_since t m s a.0 (inl a.1)
-  since_met at m s r (inr e) = let a = since_there at (Recursions m) s r e in seen.monitors_since t m s a.0 (inr a.1)
+  since_met at m s r e = let a = since_there at e.0 s r e.2 in seen.monitors_since t m s a.0 (e.0, e.1, a.1)
 
   -- a load, as it is written down
   pub look_glance : (p : StepPlan) → IsLook (w.known t) p → Glance w P (w.known t) (known_after w.shape w.start p (w.words p.at) (w.known t)) p

@@ -67,6 +67,7 @@ module _ (w : World) (P : List PlainObject) (t : ℕ) (l : Known) (within : t < 
     waiter = v.waits.waiter;
     notified = v.waits.notified;
     told = v.waits.told;
+    telling = v.waits.telling;
     resuming = v.waits.resuming;
     leaving = v.waits.leaving;
     unfinished = λ u o h. each_told (λ u y. (is_listed (waits_at P o) u ≡ true) ⊎ (is_listed (called_at P o) u ≡ true) → IsUnfinished y.unfinished op.Wait o) t l w.known u

@@ -14,6 +14,7 @@ use Rattle.core_world.specs.declared.stage.Stage.{Stage}
 use Rattle.core_world.specs.declared.stage.Stage.TheVariants.{Calm}
 use Rattle.core_world.specs.Shape.{Shape, IsInLimits}
 use Rattle.core_world.specs.Forms.{hash_in, is_halted, monitor_in}
+use Rattle.core_world.specs.Counts.{no_counts}
 use Rattle.core_world.specs.World.{World, logs, logs_from}
 use Rattle.core_world.specs.Locks.{Lock, Open, lock, lock_form, header, header_form, marks, inflations, displaced, headers, object_of, monitor_of, named, holder, who, standing, owner_at, hash_at, waits_at, called_at}
 use Rattle.core_world.specs.Opening.{opening, first_known, first_mark}
@@ -64,11 +65,11 @@ hash_none objects =
     λ i. λ o. at o i
 
 -- no thread has counted a verdict
-no_rebias : (n c : ℕ) → rebiases n (λ t. []) c ≡ 0
+no_rebias : (n c : ℕ) → rebiases n (λ t c. no_counts) c ≡ 0
 no_rebias zero c = refl
 no_rebias (suc n) c = let a = no_rebias n c in omega (arith, a)
 
-no_revoke : (n c : ℕ) → revokes n (λ t. []) c ≡ 0
+no_revoke : (n c : ℕ) → revokes n (λ t c. no_counts) c ≡ 0
 no_revoke zero c = refl
 no_revoke (suc n) c = let a = no_revoke n c in omega (arith, a)
 
@@ -77,7 +78,7 @@ no_monitor : (biasing : Bool) (m : ℕ) → monitor_in (first_mark biasing) ≡ 
 no_monitor biasing m e = let a = first_monitor biasing in absurd (cc (a, e))
 
 first_prototype : (biasing : Bool) (n c : ℕ) → biasing ≡ true
-    → first_mark biasing ≡ (if revokes n (λ t. []) c == 0 then rebiases n (λ t. []) c % 4 * 256 + 5 else 1)
+    → first_mark biasing ≡ (if revokes n (λ t c. no_counts) c == 0 then rebiases n (λ t c. no_counts) c % 4 * 256 + 5 else 1)
 first_prototype true n c e = rw (no_revoke n c, no_rebias n c) refl
 first_prototype false n c e = absurd (cc e)
 
@@ -238,6 +239,7 @@ module _ (s : Shape) (start : ℕ) (biasing : Bool) where
         waiter = λ t o e. absurd (cc (e, no_wait o));
         notified = λ t o e. absurd (cc e);
         told = λ t o e. absurd (cc (e, no_told o));
+        telling = λ t o n e. absurd (cc e);
         resuming = λ t o e. absurd (cc e);
         leaving = λ t o e. absurd (cc e);
         unfinished = λ t o e. elim e [ inl h ↦ absurd (cc h) | inr h ↦ absurd (cc h) ];
@@ -276,7 +278,7 @@ module _ (s : Shape) (start : ℕ) (biasing : Bool) where
             omega (arith, a, b);
       }
 
-  classes : ClassesFit biasing (λ c. first_mark biasing) (λ c. 0) (λ c. 0) (marks world) (rebiases s.threads (λ t. [])) (revokes s.threads (λ t. []))
+  classes : ClassesFit biasing (λ c. first_mark biasing) (λ c. 0) (λ c. 0) (marks world) (rebiases s.threads (λ t c. no_counts)) (revokes s.threads (λ t c. no_counts))
   classes =
       record {
         plain = λ e c. (plain_prototype biasing e, refl, refl);

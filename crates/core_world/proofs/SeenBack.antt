@@ -1,15 +1,13 @@
 -- What a thread may count on after a step it could count on before.
 use Rattle.std.proofs.Common.{◌≡◌, ℕ, ◌||◌, Bool, true, Some, subst, inl, inr}
 use Rattle.mark_word.specs.Mark.{read_mark}
-use Rattle.mark_word.specs.Owner.{read_owner}
-use Rattle.mark_word.specs.declared.owner.OwnerForm.TheVariants.{ByThread}
 use Rattle.core_world.specs.declared.name.Name.{Name}
 use Rattle.core_world.specs.declared.name.Name.TheVariants.{Safe, Prototype, Count, Last, Mark, Stamp, Slot, Hold, Displaced, Waiting, Length, Owner, Recursions, Header, Object, Claim}
 use Rattle.core_world.specs.Forms.{monitor_in}
 use Rattle.core_world.specs.Stages.{Inflation, inflation_in, bears}
 use Rattle.core_world.specs.Known.{Known}
 use Rattle.core_world.specs.World.{World}
-use Rattle.core_world.specs.Locks.{marks, owner_words, prototype_of}
+use Rattle.core_world.specs.Locks.{marks, prototype_of}
 use Rattle.core_world.specs.SeenWords.{Stays, StaysWhileRunning, StaysWhileAsking, IsValidBias, IsOwnMonitor}
 
 -- in world w thread u knew k, and in x it knows l; the plain owners were `owner`, and are `next`
@@ -22,7 +20,6 @@ pub record Back (w x : World) (k l : Known) (owner next : ℕ → ℕ → Bool) 
   pub monitor : (o m : ℕ) → monitor_in (marks x o) ≡ Some m → monitor_in (marks w o) ≡ Some m
   pub owned : (o : ℕ) → next o u ≡ true → owner o u ≡ true
   pub held : (o m : ℕ) → monitor_in (marks x o) ≡ Some m → (next o u || bears l.stage o) ≡ true → (owner o u || bears k.stage o) ≡ true
-  pub manned : (m : ℕ) → read_owner (owner_words x m) ≡ Some (ByThread u) → read_owner (owner_words w m) ≡ Some (ByThread u)
 
 module _ (w x : World) (k l : Known) (owner next : ℕ → ℕ → Bool) (u : ℕ) (b : Back w x k l owner next u) where
   own_back : (m : ℕ) → IsOwnMonitor x l next u m → IsOwnMonitor w k owner u m
@@ -35,7 +32,8 @@ module _ (w x : World) (k l : Known) (owner next : ℕ → ℕ → Bool) (u : �
   running_back (Last c) v h = h
   running_back (Mark o) v (inl h) = inl (subst (IsValidBias (read_mark v)) (b.prototype o) h)
   running_back (Mark o) v (inr (inl h)) = inr (inl h)
-  running_back (Mark o) v (inr (inr h)) = inr (inr (h.0, b.inflates h.0 h.1, h.2))
+  running_back (Mark o) v (inr (inr (inl h))) = inr (inr (inl (h.0, b.inflates h.0 h.1, h.2)))
+  running_back (Mark o) v (inr (inr (inr h))) = inr (inr (inr (h.0, b.owned o h.1)))
   running_back (Stamp o) v h = b.owned o h
   running_back (Slot o i) v h = b.owned o h
   running_back (Hold t p) v h = h
@@ -47,7 +45,7 @@ module _ (w x : World) (k l : Known) (owner next : ℕ → ℕ → Bool) (u : �
   running_back (Owner m) v (inl h) = inl (b.kept m h)
   running_back (Owner m) v (inr h) = inr (own_back m h)
   running_back (Recursions m) v (inl h) = inl (b.kept m h)
-  running_back (Recursions m) v (inr h) = inr (own_back m h.0, b.manned m h.1)
+  running_back (Recursions m) v (inr h) = inr (own_back m h)
   running_back (Header m) v h = b.kept m h
   running_back (Object m) v h = b.kept m h
   running_back Claim v h = h

@@ -2,10 +2,10 @@
 use Rattle.std.proofs.Common.{◌≡◌, ◌≢◌, ◌⊎◌, ℕ, Bool, true, false, cond, List, [], ◌∷◌, Some, None, sym, ap, ◌∙◌, refl, subst, inl, inr}
 use Rattle.std.proofs.lemmas.Option.{same_Some}
 use Rattle.core_world.specs.declared.name.Name.{Name}
-use Rattle.core_world.specs.declared.name.Name.TheVariants.{Mark, Waiting, Owner, Recursions}
+use Rattle.core_world.specs.declared.name.Name.TheVariants.{Mark, Waiting}
 use Rattle.core_world.specs.declared.plan.StepPlan.{StepPlan}
 use Rattle.core_world.specs.Acts.{after}
-use Rattle.core_world.specs.Names.{same_name, written}
+use Rattle.core_world.specs.Names.{same_name, its_monitor, written}
 use Rattle.core_world.specs.Forms.{is_biased, monitor_in, waits_on}
 use Rattle.core_world.specs.Known.{Known, Made, last_seen}
 use Rattle.core_world.specs.World.{World, one, told}
@@ -67,10 +67,7 @@ module _ (p : StepPlan) (found t : ℕ) (l : Known) (w : World) (owner next : �
             (λ d e r a g. spares.unwaited u o d (spares.owned u o d a) (h.unwaited u o s e r (spares.owned u o d a) g));
         stands = λ u n s r. absurd (spares.unreached u r);
         monitors = λ u m s. each_told (λ u y. y.running ≡ true → HasMet y.seen m s → IsKeptOrNamed x y m) t l w.known u
-            (λ r e. elim e [
-              | inl a ↦ met m s r (Owner m) (λ b. inl b) (λ b. inl b) (same_name (Owner m) p.at) refl (ap (last_seen (Owner m)) (sym seen) ∙ a)
-              | inr a ↦ met m s r (Recursions m) (λ b. inr b) (λ b. inr b) (same_name (Recursions m) p.at) refl (ap (last_seen (Recursions m)) (sym seen) ∙ a)
-            ])
+            (λ r e. met m s r e.0 e.1 (same_name e.0 p.at) refl (ap (last_seen e.0) (sym seen) ∙ e.2))
             (λ d r e. forth (w.known u) m (h.monitors u m s r e));
         monitors_since = λ u m s r. absurd (spares.unreached u r);
       }
@@ -79,10 +76,9 @@ module _ (p : StepPlan) (found t : ℕ) (l : Known) (w : World) (owner next : �
       forth k m (inl a) = inl a
       forth k m (inr a) = inr (a.0, spares.names a.0 m a.1)
 
-      met : (m s : ℕ) → l.running ≡ true → (n : Name) → (same_name n p.at ≡ true → IsOfMonitor m p.at) → (last_seen n old ≡ Some s → HasMet old m s)
-          → (b : Bool) → same_name n p.at ≡ b → cond (same_name n p.at) (Some v) (last_seen n old) ≡ Some s → IsKeptOrNamed x l m
-      met m s r n f g true e a = mine.fresh m r (f e)
-      met m s r n f g false e a = mine.monitors m s r (g (ap (λ c. cond c (Some v) (last_seen n old)) (sym e) ∙ a))
+      met : (m s : ℕ) → l.running ≡ true → (n : Name) → its_monitor n ≡ Some m → (b : Bool) → same_name n p.at ≡ b → cond (same_name n p.at) (Some v) (last_seen n old) ≡ Some s → IsKeptOrNamed x l m
+      met m s r n is true e a = mine.fresh m r (ap its_monitor (sym (same_named n p.at e)) ∙ is)
+      met m s r n is false e a = mine.monitors m s r (n, is, ap (λ c. cond c (Some v) (last_seen n old)) (sym e) ∙ a)
 
       own : (n : Name) (s : ℕ) (b : Bool) → same_name n p.at ≡ b → cond (same_name n p.at) (Some v) (last_seen n old) ≡ Some s → Stays x l next t n s → written p.at v w.words n ≡ s
       own n s true e h g = ap (λ c. cond c v (w.words n)) e ∙ same_Some _ _ (ap (λ c. cond c (Some v) (last_seen n old)) (sym e) ∙ h)
@@ -126,7 +122,7 @@ counts_more at v t l w owner next waiters next_waiters old part back kept fresh 
       unwaiting = λ u o s e a g r. waits u o (back.owned o a) (h.unwaiting t u o s (part (Waiting u) s e) (back.run r) (back.owned o a) g);
       unwaited = λ o s e r a g. unwaited o a (h.unwaited t o s (part (Mark o) s e) (back.run r) (back.owned o a) g);
       idle = idle;
-      monitors = λ m s r e. elim (h.monitors t m s (back.run r) (elim e [ inl a ↦ inl (part (Owner m) s a) | inr a ↦ inr (part (Recursions m) s a) ])) [
+      monitors = λ m s r e. elim (h.monitors t m s (back.run r) (e.0, e.1, part e.0 s e.2)) [
         | inl a ↦ kept m a
         | inr a ↦ inr (a.0, spares.names a.0 m a.1)
       ];
@@ -144,6 +140,6 @@ counts_anew at v t l w next next_waiters idle fresh =
       unwaiting = λ u o s e. absurd (cc e);
       unwaited = λ o s e. absurd (cc e);
       idle = idle;
-      monitors = λ m s r e. elim e [ inl a ↦ absurd (cc a) | inr a ↦ absurd (cc a) ];
+      monitors = λ m s r e. absurd (cc e.2);
       fresh = fresh;
     }

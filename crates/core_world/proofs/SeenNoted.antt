@@ -2,10 +2,10 @@
 use Rattle.std.proofs.Common.{◌≡◌, ◌⊎◌, ℕ, ◌||◌, Bool, true, false, cond, List, [], ◌∷◌, Some, None, sym, ap, ◌∙◌, refl, inl, inr}
 use Rattle.std.proofs.lemmas.Option.{same_Some}
 use Rattle.core_world.specs.declared.name.Name.{Name}
-use Rattle.core_world.specs.declared.name.Name.TheVariants.{Mark, Waiting, Owner, Recursions}
+use Rattle.core_world.specs.declared.name.Name.TheVariants.{Mark, Waiting}
 use Rattle.core_world.specs.declared.plan.StepPlan.{StepPlan}
 use Rattle.core_world.specs.Acts.{after}
-use Rattle.core_world.specs.Names.{same_name}
+use Rattle.core_world.specs.Names.{same_name, its_monitor}
 use Rattle.core_world.specs.Forms.{is_biased, monitor_in, waits_on}
 use Rattle.core_world.specs.Stages.{inflation_in, bears}
 use Rattle.core_world.specs.Known.{Known, Made, last_seen}
@@ -58,7 +58,6 @@ module _ (p : StepPlan) (found t : ℕ) (l : Known) (w : World) (owner : ℕ →
     monitor = λ o m e. e;
     owned = λ o e. e;
     held = λ o m e a. subst_stage o a;
-    manned = λ m e. e;
   }
     where
       subst_stage : (o : ℕ) → (owner o t || bears l.stage o) ≡ true → (owner o t || bears (w.known t).stage o) ≡ true
@@ -68,19 +67,16 @@ module _ (p : StepPlan) (found t : ℕ) (l : Known) (w : World) (owner : ℕ →
   kept_forth m (inl a) = inl (looks.kept ∙ a)
   kept_forth m (inr a) = inr a
 
-  met : (m s : ℕ) (old : List Made) → (HasMet old m s → IsKeptOrNamed w (w.known t) m) → (n : Name) → (same_name n p.at ≡ true → IsOfMonitor m p.at)
-      → (last_seen n old ≡ Some s → HasMet old m s) → (b : Bool) → same_name n p.at ≡ b
+  met : (m s : ℕ) (old : List Made) → (HasMet old m s → IsKeptOrNamed w (w.known t) m) → (n : Name) → its_monitor n ≡ Some m → (b : Bool) → same_name n p.at ≡ b
       → cond (same_name n p.at) (Some (after p.act found)) (last_seen n old) ≡ Some s → IsKeptOrNamed w (w.known t) m
-  met m s old before n f g true e a = looks.fresh m (f e)
-  met m s old before n f g false e a = before (g (ap (λ c. cond c (Some (after p.act found)) (last_seen n old)) (sym e) ∙ a))
+  met m s old before n is true e a = looks.fresh m (ap its_monitor (sym (same_named n p.at e)) ∙ is)
+  met m s old before n is false e a = before (n, is, ap (λ c. cond c (Some (after p.act found)) (last_seen n old)) (sym e) ∙ a)
 
   met_any : (m s : ℕ) (old all : List Made) → all ≡ record { plan = p; found = found } ∷ old → (HasMet old m s → IsKeptOrNamed w (w.known t) m) → HasMet all m s → IsKeptOrNamed w (w.known t) m
-  met_any m s old all e before (inl a) = met m s old before (Owner m) (λ b. inl b) (λ b. inl b) (same_name (Owner m) p.at) refl (ap (last_seen (Owner m)) (sym e) ∙ a)
-  met_any m s old all e before (inr a) = met m s old before (Recursions m) (λ b. inr b) (λ b. inr b) (same_name (Recursions m) p.at) refl (ap (last_seen (Recursions m)) (sym e) ∙ a)
+  met_any m s old all e before a = met m s old before a.0 a.1 (same_name a.0 p.at) refl (ap (last_seen a.0) (sym e) ∙ a.2)
 
   part_met : (m s : ℕ) → HasMet looks.old m s → HasMet (w.known t).seen m s
-  part_met m s (inl a) = inl (looks.part (Owner m) s a)
-  part_met m s (inr a) = inr (looks.part (Recursions m) s a)
+  part_met m s a = (a.0, a.1, looks.part a.0 s a.2)
 
   active : (l.running ≡ true) ⊎ (l.requesting ≡ true) → ((w.known t).running ≡ true) ⊎ ((w.known t).requesting ≡ true)
   active (inl a) = inl (sym looks.run ∙ a)
@@ -92,7 +88,7 @@ module _ (p : StepPlan) (found t : ℕ) (l : Known) (w : World) (owner : ℕ →
         stays = λ u n s. each_told (λ u y. last_seen n y.seen ≡ Some s → Stays (noted t l w) y owner u n s → w.words n ≡ s) t l w.known u
             (λ e g. newest n s looks.old (λ a. h.stays t n s (looks.part n s a) (stays_back w (noted t l w) (w.known t) l owner owner t back n s g)) (same_name n p.at) refl (ap (last_seen n) (sym looks.seen) ∙ e))
             (λ d e g. h.stays u n s e (stays_back w (noted t l w) (w.known u) (w.known u) owner owner u
-            (record { run = λ a. a; ask = λ a. a; inflates = λ i a. a; kept = λ m a. a; prototype = λ o. refl; monitor = λ o m a. a; owned = λ o a. a; held = λ o m a b. b; manned = λ m a. a }) n s g));
+            (record { run = λ a. a; ask = λ a. a; inflates = λ i a. a; kept = λ m a. a; prototype = λ o. refl; monitor = λ o m a. a; owned = λ o a. a; held = λ o m a b. b }) n s g));
         unbiased = λ u o s. each_told (λ u y. last_seen (Mark o) y.seen ≡ Some s → (y.running ≡ true) ⊎ (y.requesting ≡ true) → is_biased s ≡ false → is_biased (marks w o) ≡ false) t l w.known u
             (λ e r g. mark o s r g (same_name (Mark o) p.at) refl (ap (last_seen (Mark o)) (sym looks.seen) ∙ e))
             (λ d e r g. h.unbiased u o s e r g);

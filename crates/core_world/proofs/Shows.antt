@@ -80,7 +80,7 @@ owner_even w objects o t fits owner rest = by_stage (w.known t).stage refl
     by_stage (Ahead i) e = refl
     by_stage (Behind i) e = refl
     by_stage (Inflates i u p) e = refl
-    by_stage (Calls i) e = refl
+    by_stage (Calls i n) e = refl
     by_stage (Settles i r n) e = refl
 
 -- an object that no thread is taking, or has to let go since its Wait, shows its plain owner and count

@@ -1,16 +1,16 @@
 -- The words of the classes.
-use Rattle.std.specs.Prelude.{◌≡◌, ℕ, zero, suc, ◌+◌, ◌*◌, ◌%◌, ◌≤◌, ◌==◌, if◌then◌else◌, Bool, true, false, List}
-use Rattle.core_world.specs.Counts.{ClassCounts, counts_of}
+use Rattle.std.specs.Prelude.{◌≡◌, ℕ, zero, suc, ◌+◌, ◌*◌, ◌%◌, ◌≤◌, ◌==◌, if◌then◌else◌, Bool, true, false}
+use Rattle.core_world.specs.Counts.{ClassCounts}
 use Rattle.core_world.specs.Forms.{is_biased}
 
 -- the bulk rebiases and the bulk revokes of a class that the first n threads have counted
-abbrev pub rebiases : ℕ → (ℕ → List ClassCounts) → ℕ → ℕ
+abbrev pub rebiases : ℕ → (ℕ → ℕ → ClassCounts) → ℕ → ℕ
 rebiases zero counts c = 0
-rebiases (suc n) counts c = rebiases n counts c + (counts_of (counts n) c).rebias
+rebiases (suc n) counts c = rebiases n counts c + (counts n c).rebias
 
-abbrev pub revokes : ℕ → (ℕ → List ClassCounts) → ℕ → ℕ
+abbrev pub revokes : ℕ → (ℕ → ℕ → ClassCounts) → ℕ → ℕ
 revokes zero counts c = 0
-revokes (suc n) counts c = revokes n counts c + (counts_of (counts n) c).revoke
+revokes (suc n) counts c = revokes n counts c + (counts n c).revoke
 
 pub record ClassesFit (biasing : Bool) (prototype count last mark rebiased revoked : ℕ → ℕ) : Type 0 where
   -- without biasing nothing is biased or counted

@@ -1,5 +1,5 @@
 -- How often a thread carried out each verdict on a class.
-use Rattle.std.specs.Prelude.{ℕ, ◌+◌, Bool, List, slice_index_or, slice_set}
+use Rattle.std.specs.Prelude.{ℕ, ◌+◌, ◌==◌, Bool, cond}
 use Rattle.lock_policy.specs.declared.policy.Verdict.{Verdict}
 use Rattle.lock_policy.specs.declared.policy.Verdict.TheVariants.{Single, BulkRebias, BulkRevoke}
 use Rattle.core_world.specs.Stages.{one_if}
@@ -23,9 +23,6 @@ with_verdict k BulkRevoke = record k { revoke = k.revoke + 1 }
 abbrev pub with_reset : ClassCounts → Bool → ClassCounts
 with_reset k reset = record k { reset = k.reset + one_if reset }
 
-abbrev pub counts_of : List ClassCounts → ℕ → ClassCounts
-counts_of counts c = slice_index_or counts c no_counts
-
 -- the counts by class with one more verdict on class c
-abbrev pub counted : List ClassCounts → ℕ → Verdict → Bool → List ClassCounts
-counted counts c verdict reset = slice_set counts c (with_reset (with_verdict (counts_of counts c) verdict) reset)
+abbrev pub counted : (ℕ → ClassCounts) → ℕ → Verdict → Bool → ℕ → ClassCounts
+counted counts c verdict reset d = cond (d == c) (with_reset (with_verdict (counts c) verdict) reset) (counts d)

@@ -1,20 +1,22 @@
 -- The next step of a thread, and runs of steps.
-use Rattle.std.specs.Prelude.{◌≡◌, ◌⊎◌, ℕ, ◌<◌, cond, true, List, length, Some}
+use Rattle.std.specs.Prelude.{◌≡◌, ◌⊎◌, ℕ, ◌<◌, ◌&&◌, cond, true, List, length, Some}
 use Rattle.core_world.specs.declared.plan.Note.{Note}
 use Rattle.core_world.specs.declared.plan.Note.TheVariants.{Quiet}
 use Rattle.core_world.specs.declared.plan.StepPlan.{StepPlan}
 use Rattle.core_world.specs.declared.task.Task.{Task}
 use Rattle.plain_monitor.specs.declared.entry.Logged.{Logged}
+use Rattle.core_world.specs.declared.stage.Stage.TheVariants.{Calm}
 use Rattle.core_world.specs.Shape.{Shape}
+use Rattle.core_world.specs.Stages.{is_calm}
 use Rattle.core_world.specs.Known.{Known, start_of}
 use Rattle.core_world.specs.Lengths.{log_limit}
 use Rattle.core_world.specs.Todo.{Todo, done, never, step, ◌>>=◌, head}
 use Rattle.core_world.specs.Calls.{steps_of, may_begin}
 use Rattle.core_world.specs.Steps.{rest, idle, known_after}
 
--- what is to do now: the rest of the call that goes on, or else the steps of this call, where it may begin
+-- what is to do now: the rest of the call that goes on, or else the steps of this call, where it may begin, by a thread in the middle of nothing
 unfoldable pub due : Shape → ℕ → Known → Task → Todo (Unit {0})
-due s start k t = cond (idle s k) (cond (may_begin s k t) (steps_of s t (start_of start k)) never) (rest s k)
+due s start k t = cond (idle s k) (cond (is_calm k.stage && may_begin s k t) (steps_of s t (start_of start k)) never) (rest s k)
 
 abbrev pub HasRoom : Note → List Logged → Type 0
 HasRoom Quiet log = Unit {0}
@@ -35,6 +37,7 @@ Heads t (step p f) = p.task ≡ t
 -- the call t begins with these steps
 pub record Begins {A : Type 0} (s : Shape) (start : ℕ) (k : Known) (t : Task) (d : Todo A) (then : A → Todo (Unit {0})) : Type 0 where
   pub over : idle s k ≡ true
+  pub calm : k.stage ≡ Calm
   pub may : may_begin s k t ≡ true
   pub heads : Heads t d
   pub is : steps_of s t (start_of start k) ≡ (d >>= then)

@@ -80,7 +80,7 @@ pub record Known : Type 0 where
   pub stage : Stage
   pub unfinished : Option Unfinished
   pub checking : Bool
-  pub counts : List ClassCounts
+  pub counts : ℕ → ClassCounts
   -- how many logged hashes were drawn by it
   pub draws : ℕ
   pub shots : List Shot

@@ -1,7 +1,15 @@
 -- The words of the heap by name.
-use Rattle.std.specs.Prelude.{ℕ, ◌==◌, ◌&&◌, Bool, cond}
+use Rattle.std.specs.Prelude.{ℕ, ◌==◌, ◌&&◌, Bool, cond, Option, Some, None}
 use Rattle.core_world.specs.declared.name.Name.{Name}
 use Rattle.core_world.specs.declared.name.Name.TheVariants.{Safe, Prototype, Count, Last, Mark, Stamp, Slot, Hold, Displaced, Waiting, Length, Owner, Recursions, Header, Object, Claim}
+
+-- the monitor of which this is a word
+abbrev pub its_monitor : Name → Option ℕ
+its_monitor (Owner m) = Some m
+its_monitor (Recursions m) = Some m
+its_monitor (Header m) = Some m
+its_monitor (Object m) = Some m
+its_monitor _ = None
 
 -- a name is told by three numbers, the kind of word first, so that words of different kinds differ by computation
 abbrev pub kind : Name → ℕ

@@ -8,6 +8,7 @@ use Rattle.core_world.specs.declared.name.Name.{Name}
 use Rattle.core_world.specs.declared.name.Name.TheVariants.{Prototype, Mark, Slot}
 use Rattle.core_world.specs.declared.stage.Stage.TheVariants.{Calm}
 use Rattle.core_world.specs.Shape.{Shape}
+use Rattle.core_world.specs.Counts.{no_counts}
 use Rattle.core_world.specs.Known.{Known}
 use Rattle.core_world.specs.World.{World}
 
@@ -40,7 +41,7 @@ first_known t =
       stage = Calm;
       unfinished = None;
       checking = false;
-      counts = [];
+      counts = λ c. no_counts;
       draws = 0;
       shots = [];
       seen = [];

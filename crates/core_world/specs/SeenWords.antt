@@ -2,16 +2,15 @@
 use Rattle.std.specs.Prelude.{◌≡◌, ◌⊎◌, ℕ, ◌||◌, Bool, true, false, List, [], Option, Some, None}
 use Rattle.mark_word.specs.declared.mark.MarkForm.{MarkForm}
 use Rattle.mark_word.specs.declared.mark.MarkForm.TheVariants.{Biased}
-use Rattle.mark_word.specs.declared.owner.OwnerForm.TheVariants.{ByThread}
 use Rattle.mark_word.specs.Mark.{read_mark}
-use Rattle.mark_word.specs.Owner.{read_owner}
 use Rattle.core_world.specs.declared.name.Name.{Name}
 use Rattle.core_world.specs.declared.name.Name.TheVariants.{Safe, Prototype, Count, Last, Mark, Stamp, Slot, Hold, Displaced, Waiting, Length, Owner, Recursions, Header, Object, Claim}
+use Rattle.core_world.specs.Names.{its_monitor}
 use Rattle.core_world.specs.Forms.{epoch_in, is_biased, monitor_in, waits_on, told_of}
 use Rattle.core_world.specs.Stages.{Inflation, inflation_in, bears}
 use Rattle.core_world.specs.Known.{Known, Made, last_seen}
 use Rattle.core_world.specs.World.{World}
-use Rattle.core_world.specs.Locks.{has_epoch, marks, owner_words, prototype_of}
+use Rattle.core_world.specs.Locks.{has_epoch, marks, prototype_of}
 
 -- the mark is validly biased to a thread, by this prototype
 abbrev pub IsValidBias : Option MarkForm → ℕ → Type 0
@@ -34,6 +33,7 @@ StaysWhileRunning w k owner t (Count c) v = Unit {0}
 StaysWhileRunning w k owner t (Last c) v = Unit {0}
 StaysWhileRunning w k owner t (Mark o) v =
     IsValidBias (read_mark v) (prototype_of w o) ⊎ ((m : ℕ) × (monitor_in v ≡ Some m)) ⊎ InMiddleOf k (λ i. i.object ≡ o)
+    ⊎ ((is_biased v ≡ true) × (owner o t ≡ true))
 StaysWhileRunning w k owner t (Stamp o) v = owner o t ≡ true
 StaysWhileRunning w k owner t (Slot o s) v = owner o t ≡ true
 StaysWhileRunning w k owner t (Hold u p) v = u ≡ t
@@ -42,8 +42,7 @@ StaysWhileRunning w k owner t (Waiting u) v =
     ((o : ℕ) × (owner o t ≡ true) × (waits_on v o ≡ true)) ⊎ ((u ≡ t) × ((o : ℕ) × (told_of v o ≡ true)))
 StaysWhileRunning w k owner t (Length u) v = ⊥
 StaysWhileRunning w k owner t (Owner m) v = (k.kept ≡ Some m) ⊎ IsOwnMonitor w k owner t m
-StaysWhileRunning w k owner t (Recursions m) v =
-    (k.kept ≡ Some m) ⊎ (IsOwnMonitor w k owner t m × (read_owner (owner_words w m) ≡ Some (ByThread t)))
+StaysWhileRunning w k owner t (Recursions m) v = (k.kept ≡ Some m) ⊎ IsOwnMonitor w k owner t m
 StaysWhileRunning w k owner t (Header m) v = k.kept ≡ Some m
 StaysWhileRunning w k owner t (Object m) v = k.kept ≡ Some m
 StaysWhileRunning w k owner t Claim v = ⊥
@@ -64,9 +63,9 @@ Stays w k owner t n v =
 abbrev pub IsKeptOrNamed : World → Known → ℕ → Type 0
 IsKeptOrNamed w k m = (k.kept ≡ Some m) ⊎ ((o : ℕ) × (monitor_in (marks w o) ≡ Some m))
 
--- these steps were on the owner word or the recursions of m
+-- a step of these was on a word of m
 abbrev pub HasMet : List Made → ℕ → ℕ → Type 0
-HasMet steps m v = (last_seen (Owner m) steps ≡ Some v) ⊎ (last_seen (Recursions m) steps ≡ Some v)
+HasMet steps m v = (n : Name) × (its_monitor n ≡ Some m) × (last_seen n steps ≡ Some v)
 
 pub record SeenStays (w : World) (owner : ℕ → ℕ → Bool) (waits : ℕ → List (ℕ × ℕ)) : Type 0 where
   pub stays : (t : ℕ) (n : Name) (v : ℕ) → last_seen n (w.known t).seen ≡ Some v → Stays w (w.known t) owner t n v → w.words n ≡ v
@@ -80,6 +79,6 @@ pub record SeenStays (w : World) (owner : ℕ → ℕ → Bool) (waits : ℕ →
   pub unwaited : (t o v : ℕ) → last_seen (Mark o) (w.known t).seen ≡ Some v → (w.known t).running ≡ true → owner o t ≡ true → monitor_in v ≡ None → waits o ≡ []
   -- at its reached safepoint each word is as the thread saw it since
   pub stands : (t : ℕ) (n : Name) (v : ℕ) → (w.known t).reached ≡ true → last_seen n (w.known t).stood ≡ Some v → w.words n ≡ v
-  -- a running thread has seen owner and recursions only of such monitors as it keeps or a mark names; so has one at its reached safepoint
+  -- a running thread has seen words only of such monitors as it keeps or a mark names; so has one at its reached safepoint
   pub monitors : (t m v : ℕ) → (w.known t).running ≡ true → HasMet (w.known t).seen m v → IsKeptOrNamed w (w.known t) m
   pub monitors_since : (t m v : ℕ) → (w.known t).reached ≡ true → HasMet (w.known t).stood m v → IsKeptOrNamed w (w.known t) m

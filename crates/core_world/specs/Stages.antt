@@ -1,7 +1,7 @@
 -- What a thread's stage says of an object.
-use Rattle.std.specs.Prelude.{ℕ, ◌==◌, Bool, false, cond, Option, Some, None}
+use Rattle.std.specs.Prelude.{ℕ, ◌==◌, Bool, true, false, cond, Option, Some, None}
 use Rattle.core_world.specs.declared.stage.Stage.{Stage}
-use Rattle.core_world.specs.declared.stage.Stage.TheVariants.{Seizes, Grabs, Enters, Resumes, Exits, Waits, Ahead, Behind, Inflates, Calls, Settles}
+use Rattle.core_world.specs.declared.stage.Stage.TheVariants.{Calm, Seizes, Grabs, Enters, Resumes, Exits, Waits, Ahead, Behind, Inflates, Calls, Settles}
 
 -- 1 where the test holds, and else 0
 abbrev pub one_if : Bool → ℕ
@@ -37,6 +37,11 @@ pub record Inflation : Type 0 where
   pub thread : ℕ
   pub place : ℕ
 
+-- the thread is in the middle of nothing
+abbrev pub is_calm : Stage → Bool
+is_calm Calm = true
+is_calm _ = false
+
 -- the inflation that the thread is in the middle of
 abbrev pub inflation_in : Stage → Option Inflation
 inflation_in (Inflates object thread place) = Some (record { object = object; thread = thread; place = place })
@@ -44,7 +49,7 @@ inflation_in _ = None
 
 -- the object whose waiters it is telling
 abbrev pub calling : Stage → Option ℕ
-calling (Calls object) = Some object
+calling (Calls object told) = Some object
 calling _ = None
 
 -- a bias that is being revoked at a safepoint: its object, whether a new bias is allowed, and the moment for the policy

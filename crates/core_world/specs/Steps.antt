@@ -120,7 +120,7 @@ abbrev pub saved_after : Own → ℕ → ℕ → ℕ
 saved_after Save found saved = found
 saved_after _ found saved = saved
 
-abbrev pub counts_after : Own → List ClassCounts → List ClassCounts
+abbrev pub counts_after : Own → (ℕ → ClassCounts) → (ℕ → ClassCounts)
 counts_after (Count class verdict reset) counts = counted counts class verdict reset
 counts_after _ counts = counts
 
@@ -156,13 +156,22 @@ abbrev pub seen_before : Shape → Known → List Made
 seen_before s k = cond (idle s k && not k.requesting) [] k.seen
 
 -- The steps that log Enter or Resume, and that set the thread running again after a stop, begin anew, since the thread counts on more words
--- from then on; and the release of a safepoint leaves what was seen at it.
+-- from then on. The release of a safepoint leaves what was seen at it, but for displaced words: a record may change from then on, and the
+-- thread may come to inflate the lock that rests on it.
+abbrev pub is_displaced : Name → Bool
+is_displaced (name.Displaced t p) = true
+is_displaced _ = false
+
+abbrev pub undisplaced : List Made → List Made
+undisplaced [] = []
+undisplaced (m ∷ ms) = cond (is_displaced m.plan.at) (undisplaced ms) (m ∷ undisplaced ms)
+
 abbrev pub kept_by_note : Note → List Made → List Made
 kept_by_note (Log e) seen = cond (is_taking e) [] seen
 kept_by_note _ seen = seen
 
 abbrev pub kept_by_act : Name → Act → ℕ → Known → List Made → List Made
-kept_by_act name.Safe (act.Swap expected word) left k seen = cond (k.reached && not (asks_in left k.thread)) k.stood (cond k.running seen [])
+kept_by_act name.Safe (act.Swap expected word) left k seen = cond (k.reached && not (asks_in left k.thread)) (undisplaced k.stood) (cond k.running seen [])
 kept_by_act _ _ left k seen = seen
 
 -- since its safepoint was reached

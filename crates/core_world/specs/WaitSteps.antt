@@ -112,22 +112,22 @@ monitor_notify_steps e k n o = do
   words ← look_steps e n
   notify_first (by_age (waiters o 0 words)) e k o
 
--- Each waiter is told, the oldest first; the last of these steps logs NotifyAll with their number.
+-- Behind as many as are told already, each waiter is told, the oldest first; the last of these steps logs NotifyAll with their number.
 abbrev pub notify_each : List (ℕ × ℕ) → Errand → ℕ → ℕ → Todo (Unit {0})
-notify_each [] e o total = done tt
-notify_each (p ∷ []) e o total = do
-  _ ← ask (logging (entry.NotifyAll o total) e (Waiting p.0) (Store (wait_of (wait.Notified o))))
+notify_each [] e o told = done tt
+notify_each (p ∷ []) e o told = do
+  _ ← ask (logging (entry.NotifyAll o (told + 1)) e (Waiting p.0) (Store (wait_of (wait.Notified o))))
   done tt
-notify_each (p ∷ q ∷ ps) e o total = do
-  _ ← ask (staged (Calls o) (store e (Waiting p.0) (wait_of (wait.Notified o))))
-  notify_each (q ∷ ps) e o total
+notify_each (p ∷ q ∷ ps) e o told = do
+  _ ← ask (staged (Calls o (told + 1)) (store e (Waiting p.0) (wait_of (wait.Notified o))))
+  notify_each (q ∷ ps) e o (told + 1)
 
 abbrev pub notify_listed : List (ℕ × ℕ) → Errand → Local → ℕ → Todo ℕ
 notify_listed [] e k o = do
   _ ← publish_steps (entry.NotifyAll o 0) e k
   done 0
 notify_listed (p ∷ ps) e k o = do
-  _ ← notify_each (p ∷ ps) e o (length (p ∷ ps))
+  _ ← notify_each (p ∷ ps) e o 0
   done (length (p ∷ ps))
 
 abbrev pub monitor_notify_all_steps : Errand → Local → ℕ → ℕ → Todo ℕ

@@ -1,5 +1,5 @@
 -- The waiting words say who waits and who was called.
-use Rattle.std.specs.Prelude.{◌≡◌, ◌⊎◌, ℕ, ◌==◌, ◌&&◌, ◌||◌, nat_lt, Bool, true, false, List, [], ◌∷◌, Option, Some, None}
+use Rattle.std.specs.Prelude.{◌≡◌, ◌⊎◌, ℕ, zero, suc, ◌==◌, ◌&&◌, ◌||◌, nat_lt, Bool, true, false, List, [], ◌∷◌, Option, Some, None}
 use Rattle.std.specs.List.{AllByRecursion}
 use Rattle.mark_word.specs.Wait.{wait_of}
 use Rattle.mark_word.specs.declared.wait.WaitForm.TheVariants.{Notified}
@@ -9,7 +9,7 @@ use Rattle.plain_monitor.specs.Monitor.{is_listed}
 use Rattle.core_world.specs.declared.task.Op.TheVariants as op
 use Rattle.core_world.specs.declared.task.Unfinished.{Unfinished}
 use Rattle.core_world.specs.declared.stage.Stage.{Stage}
-use Rattle.core_world.specs.declared.stage.Stage.TheVariants.{Resumes, Waits}
+use Rattle.core_world.specs.declared.stage.Stage.TheVariants.{Resumes, Waits, Calls}
 use Rattle.core_world.specs.Forms.{monitor_in, waits_on, stamp_in, told_of, enters_on, says_ended}
 use Rattle.core_world.specs.Stages.{calling}
 use Rattle.core_world.specs.Safepoints.{IsUnfinished, ends}
@@ -23,6 +23,12 @@ StandsBefore wait o p q =
 abbrev pub StandByStamps : (ℕ → ℕ) → ℕ → List (ℕ × ℕ) → Type 0
 StandByStamps wait o [] = Unit {0}
 StandByStamps wait o (p ∷ ps) = AllByRecursion (StandsBefore wait o p) ps × StandByStamps wait o ps
+
+-- the first n of those who wait on o were told, and all others say that they wait
+abbrev pub AreTold : (ℕ → ℕ) → ℕ → ℕ → List (ℕ × ℕ) → Type 0
+AreTold wait o n [] = n ≡ 0
+AreTold wait o zero (p ∷ ps) = (waits_on (wait p.0) o ≡ true) × AreTold wait o zero ps
+AreTold wait o (suc n) (p ∷ ps) = (told_of (wait p.0) o ≡ true) × AreTold wait o n ps
 
 -- the last entry of a log
 abbrev pub last_entry : List Logged → Option Logged
@@ -38,6 +44,8 @@ pub record WaitsFit (mark wait own : ℕ → ℕ) (log : ℕ → List Logged) (s
   -- who was called has a word that says so, or has the lock again and is about to log it
   pub notified : (t o : ℕ) → is_listed (called o) t ≡ true → (told_of (wait t) o ≡ true) ⊎ ((wait t ≡ 0) × (stage t ≡ Resumes o))
   pub told : (t o : ℕ) → told_of (wait t) o ≡ true → (is_listed (called o) t ≡ true) ⊎ ((is_listed (waits o) t ≡ true) × ((u : ℕ) × (calling (stage u) ≡ Some o)))
+  -- an owner who is telling all tells the oldest first
+  pub telling : (t o n : ℕ) → stage t ≡ Calls o n → AreTold wait o n (waits o)
   pub resuming : (t o : ℕ) → stage t ≡ Resumes o → is_listed (called o) t ≡ true
   -- who has logged its Wait and not let go waits
   pub leaving : (t o : ℕ) → stage t ≡ Waits o → is_listed (waits o) t ≡ true

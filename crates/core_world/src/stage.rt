@@ -47,9 +47,10 @@ pub enum Stage {
         thread: u32,
         place: u32,
     },
-    /// It told a waiter of the object, and the NotifyAll isn't logged.
+    /// It told so many waiters of the object, but not all, and the NotifyAll isn't logged.
     Calls {
         object: u32,
+        told: u32,
     },
     /// It carries out the revocation of the object's bias at its safepoint, from the first store on. `rebias` is true in an enter,
     /// and `now` is the moment that the policy of bulk operations is given.
