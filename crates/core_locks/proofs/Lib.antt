@@ -59,3 +59,4 @@ pub mod ExitHolds
 pub mod ExitMarks
 pub mod RefutedOrders
 pub mod RefutedSteps
+pub mod PublishesAll

@@ -26,7 +26,7 @@ use Rattle.core_world.proofs.Stands.{thread_is}
 use Rattle.core_world.proofs.Noting.{unfinished_forth}
 use Rattle.core_world.proofs.Shows.{fits_running}
 use Rattle.core_locks.specs.JournalLaws.{MayRaise}
-use Rattle.core_locks.proofs.WaitFrames.{Leaves, OthersStand, left_fits, each_written, wait_goes_on, lets_nothing_go}
+use Rattle.core_locks.proofs.WaitFrames.{Leaves, OthersStand, left_fits, each_written, wait_goes_on, lets_nothing_go, lengths_stand}
 use Rattle.core_locks.proofs.WaitOut.{holder_owns}
 use Rattle.core_locks.proofs.WaitSeen.{Unminded, left_seen}
 
@@ -55,10 +55,10 @@ module _ (w : World) (P : List PlainObject) (t : ℕ) (e : Errand) (o : ℕ) (ma
   owner_is = thread_is (monitor_of P o).owner t owned
 
   leaves : Leaves (w.known t) l
-  leaves = record { thread = refl; log = refl; running = refl; requesting = refl; reached = refl; halted = refl; kept = refl; saved = refl; holds = refl; published = refl; stage = refl; counts = refl; unfinished = elim may.goes_on [ inl a ↦ inl (sym a) | inr a ↦ inr a ] }
+  leaves = record { thread = refl; log = refl; running = refl; requesting = refl; reached = refl; halted = refl; kept = refl; saved = refl; holds = refl; stage = refl; counts = refl; unfinished = elim may.goes_on [ inl a ↦ inl (sym a) | inr a ↦ inr a ] }
 
   others : OthersStand w.words (written (Stamp o) (max n s) w.words)
-  others = record { safe = refl; prototypes = refl; counts = refl; lasts = refl; marks = refl; slots = refl; holds = refl; displaced = refl; lengths = refl; owners = refl; recursions = refl; headers = refl; objects = refl; claim = refl }
+  others = record { safe = refl; prototypes = refl; counts = refl; lasts = refl; marks = refl; slots = refl; holds = refl; displaced = refl; owners = refl; recursions = refl; headers = refl; objects = refl; claim = refl }
 
   -- only an owner counts on a stamp
   unminded : Unminded w P t (Stamp o) (max n s)
@@ -115,7 +115,7 @@ module _ (w : World) (P : List PlainObject) (t : ℕ) (e : Errand) (o : ℕ) (ma
   raised within =
       left_fits w P t l x.words leaves within others may.runs
       (left_seen w P t l p n (seen_before w.shape (w.known t)) leaves refl (seen_is_part w.shape (w.known t)) others may.runs unminded v)
-      v.forms waits_law stamps_law v
+      v.forms waits_law stamps_law (lengths_stand w P t l x.words leaves refl refl v) v
 
 -- the thread stands calm
 pub raising_valid : (w : World) (P : List PlainObject) (t : ℕ) (e : Errand) (o : ℕ) → t < w.shape.threads → MayRaise (w.known t) e o

@@ -1,5 +1,5 @@
 -- A thread whose safepoint is reached releases it, or halts the run.
-use Rattle.std.proofs.Common.{◌≡◌, ◌≢◌, ℕ, ◌^◌, ◌<◌, ◌==◌, eq-eqb, ne_eqb, not, ◌&&◌, Bool, true, false, cond, Some, None, List, [], refl, sym, ap, ◌∙◌, arith, inl}
+use Rattle.std.proofs.Common.{◌≡◌, ◌≢◌, ℕ, ◌^◌, ◌<◌, ◌==◌, eq-eqb, ne_eqb, not, ◌&&◌, Bool, true, false, cond, Some, None, List, [], refl, sym, ap, ◌∙◌, arith, inl, inr}
 use Rattle.std.proofs.lemmas.Nat.{pow_below}
 use Rattle.std.proofs.lemmas.Nat.Bits.{bit_at-zero, bit_at-pow_same, bit_at-pow_other}
 use Rattle.mark_word.specs.declared.safe.SafeForm.{SafeForm}
@@ -9,14 +9,15 @@ use Rattle.plain_monitor.specs.Monitor.{is_thread}
 use Rattle.plain_monitor.specs.Objects.{PlainObject}
 use Rattle.core_world.specs.declared.act.Act.TheVariants.{Swap}
 use Rattle.core_world.specs.declared.name.Name.TheVariants.{Safe}
-use Rattle.core_world.specs.declared.stage.Stage.TheVariants.{Calm}
 use Rattle.core_world.specs.Acts.{after}
 use Rattle.core_world.specs.Forms.{runs_form, asks_in, requester_form}
+use Rattle.core_world.specs.Known.{Known}
 use Rattle.core_world.specs.World.{World}
 use Rattle.core_world.specs.Plans.{Errand, swap}
 use Rattle.core_world.specs.SafepointSteps.{reached_word, released_word, halted_word}
 use Rattle.core_world.specs.Steps.{moved, kept_by_act, undisplaced, seen_before}
 use Rattle.core_world.specs.Valid.{Fits, IsValid}
+use Rattle.core_world.proofs.Parts.{by_equal}
 use Rattle.core_locks.specs.SafepointLaws.{MayRelease, MayHalt}
 use Rattle.core_locks.proofs.SafeFacts.{fits_calm, few_bits, one_reached, reached_form, reached_reads, reached_found}
 use Rattle.core_locks.proofs.SafeCounts.{counts_since}
@@ -30,9 +31,15 @@ released_form t = record { running = 2 ^ t; requester = None; halted = false }
 abbrev halted_form : SafeForm
 halted_form = record { running = 0; requester = None; halted = true }
 
--- the word at the reached safepoint of a thread in the middle of nothing
-pub reached_finds : (w : World) (P : List PlainObject) (t : ℕ) → (w.known t).reached ≡ true → (w.known t).stage ≡ Calm → IsValid w P → w.words Safe ≡ reached_word t
-reached_finds w P t reached calm valid = reached_found w P t (fits_calm w P t reached calm valid) reached
+-- the word at a thread's reached safepoint, also while it revokes a bias there
+pub reached_finds : (w : World) (P : List PlainObject) (t : ℕ) → (w.known t).reached ≡ true → IsValid w P → w.words Safe ≡ reached_word t
+reached_finds w P t reached valid = elim valid [
+  | inl v ↦ reached_found w P t v reached
+  | inr s ↦
+      let reached_before : (s.before.known t).reached ≡ true = by_equal t s.requester (λ e. ap (λ z. (s.before.known z).reached) e ∙ s.reached)
+      (λ d. ap (λ (k : Known). k.reached) (sym (s.others t d)) ∙ reached) in
+      s.untouched ∙ reached_found s.before P t s.fits reached_before
+]
 
 module _ (w : World) (P : List PlainObject) (t : ℕ) (e : Errand) (within : t < w.shape.threads) (v : Fits w P) (reached : (w.known t).reached ≡ true) where
   found : (w.words Safe == reached_word t) ≡ true

@@ -1,5 +1,5 @@
 -- By what the thread whose safepoint is reached has seen since, the threads are stuck.
-use Rattle.std.proofs.Common.{◌≡◌, ◌≢◌, ℕ, ◌<◌, ◌||◌, Bool, true, false, List, Option, Some, None, refl, sym, ap, ◌∙◌, inl, inr}
+use Rattle.std.proofs.Common.{◌≡◌, ◌≢◌, ℕ, ◌<◌, ◌||◌, Bool, true, false, List, Option, Some, None, refl, sym, ap, ◌∙◌, inl, inr, eq-eqb, subst}
 use Rattle.mark_word.specs.declared.mark.MarkForm.TheVariants.{Inflated}
 use Rattle.mark_word.specs.declared.owner.OwnerForm.{OwnerForm}
 use Rattle.mark_word.specs.declared.owner.OwnerForm.TheVariants.{Free, ByThread, ByRecord}
@@ -12,20 +12,23 @@ use Rattle.core_world.specs.declared.name.Name.TheVariants.{Mark, Waiting, Owner
 use Rattle.core_world.specs.Forms.{monitor_in, waits_on, told_of, enters_on, says_ended}
 use Rattle.core_world.specs.Stages.{bears, calling}
 use Rattle.core_world.specs.Known.{last_seen}
+use Rattle.core_world.specs.LookSteps.{is_open_to}
+use Rattle.core_world.specs.Shape.{Shape}
+use Rattle.core_world.specs.WordForms.{IsOwner}
 use Rattle.core_world.specs.World.{World}
 use Rattle.core_world.specs.Locks.{lock, holder, who, owner_lock, named, marks, monitor_of, owner_at}
 use Rattle.core_world.specs.Safepoints.{IsStuck, IsHeldUp, ends}
 use Rattle.core_world.specs.Valid.{Fits}
 use Rattle.core_world.proofs.Shows.{safepoint_calm, lock_by_form, inflated_form}
 use Rattle.core_world.proofs.Stands.{same_number}
-use Rattle.core_locks.specs.SafepointLaws.{IsOther, SeesHeldUp, SeesEnded, MayHalt}
+use Rattle.core_locks.specs.SafepointLaws.{SeesHeldUp, SeesEnded, MayHalt}
 
--- the thread that an owner word names has the lock
-other_holds : (a : Option OwnerForm) (u : ℕ) (count : ℕ → ℕ) → IsOther a u → (z : ℕ) × (z ≢ u) × (holder (owner_lock a) count ≡ Some z)
-other_holds None u count h = absurd h
-other_holds (Some Free) u count h = absurd h
-other_holds (Some (ByThread z)) u count h = (z, h, refl)
-other_holds (Some (ByRecord z p)) u count h = (z, h, refl)
+-- a lock that isn't open to a thread is another's
+other_holds : (s : Shape) (a : Option OwnerForm) (u : ℕ) (count : ℕ → ℕ) → IsOwner s a → is_open_to a u ≡ false → (z : ℕ) × (z ≢ u) × (holder (owner_lock a) count ≡ Some z)
+other_holds s None u count form h = absurd form
+other_holds s (Some Free) u count form h = absurd (cc h)
+other_holds s (Some (ByThread z)) u count form h = (z, (λ e. let same = eq-eqb z u e in absurd (cc (same, h))), refl)
+other_holds s (Some (ByRecord z p)) u count form h = (z, (λ e. let same = eq-eqb z u e in absurd (cc (same, h))), refl)
 
 module _ (w : World) (P : List PlainObject) (t : ℕ) (v : Fits w P) (reached : (w.known t).reached ≡ true) where
   -- each word is as the thread saw it
@@ -46,12 +49,12 @@ module _ (w : World) (P : List PlainObject) (t : ℕ) (v : Fits w P) (reached : 
 
   -- another thread is the owner of an object whose owner word names it
   other_owns : (o u mark m owner : ℕ) → last_seen (Mark o) (w.known t).stood ≡ Some mark → monitor_in mark ≡ Some m → last_seen (Owner m) (w.known t).stood ≡ Some owner
-      → IsOther (read_owner owner) u → (z : ℕ) × (z ≢ u) × (owns (monitor_of P o) z ≡ true)
+      → is_open_to (read_owner owner) u ≡ false → (z : ℕ) × (z ≢ u) × (owns (monitor_of P o) z ≡ true)
   other_owns o u mark m owner saw_mark is saw_owner other =
       let form = inflated_form (read_mark (marks w o)) m (ap monitor_in (stands (Mark o) mark saw_mark) ∙ is) in
       let word = stands (Owner m) owner saw_owner in
       let locked : lock w o ≡ owner_lock (read_owner owner) = lock_by_form w o (Inflated m) form ∙ ap (λ n. owner_lock (read_owner n)) word in
-      let has = other_holds (read_owner owner) u (λ y. named o (w.known y).holds) other in
+      let has = other_holds w.shape (read_owner owner) u (λ y. named o (w.known y).holds) (subst (λ n. IsOwner w.shape (read_owner n)) word (v.forms.owners m)) other in
       (has.0, has.1, plain_owner o has.0 (ap (λ k. holder k (λ y. named o (w.known y).holds)) locked ∙ has.2))
 
   -- a thread that is held up by what was seen is held up

@@ -1,8 +1,8 @@
 -- A thread exchanges a neutral mark for its place, where it has stored that mark as the displaced word.
-use Rattle.std.proofs.Common.{◌≡◌, ◌≢◌, ◌⊎◌, ℕ, ◌<◌, ◌≤◌, ◌==◌, ◌||◌, eq-eqb, ne_eqb, eqb-true, Bool, true, false, cond, List, slice_index, Option, Some, refl, sym, ap, ◌∙◌, subst, arith, inl, inr}
+use Rattle.std.proofs.Common.{◌≡◌, ◌≢◌, ◌⊎◌, ℕ, ◌<◌, ◌≤◌, ◌==◌, ◌||◌, eq-eqb, ne_eqb, eqb-true, Bool, true, false, cond, List, slice_index, Option, Some, refl, sym, ap, ◌∙◌, subst, arith, inl, inr, zero, suc}
 use Rattle.mark_word.specs.declared.mark.MarkForm.TheVariants.{Locked}
 use Rattle.mark_word.specs.Mark.{mark_of, read_mark}
-use Rattle.plain_monitor.specs.Monitor.{is_thread}
+use Rattle.plain_monitor.specs.Monitor.{is_thread, is_listed}
 use Rattle.plain_monitor.specs.Objects.{PlainObject}
 use Rattle.core_world.specs.declared.act.Act.TheVariants.{Swap}
 use Rattle.core_world.specs.declared.name.Name.TheVariants.{Mark, Displaced}
@@ -13,7 +13,7 @@ use Rattle.core_world.specs.Forms.{is_neutral, hash_in, hold_word, monitor_in}
 use Rattle.core_world.specs.Stages.{Inflation, inflation_in, bears, calling, extra}
 use Rattle.core_world.specs.Known.{Known, last_seen}
 use Rattle.core_world.specs.World.{World, one}
-use Rattle.core_world.specs.Locks.{Lock, Open, Leaning, Resting, Manned, lock, holder, who, header, marks, displaced, headers, owner_words, prototype_of, inflations, named, owner_at, hash_at, waits_at}
+use Rattle.core_world.specs.Locks.{Lock, Open, Leaning, Resting, Manned, lock, holder, who, header, marks, displaced, headers, owner_words, prototype_of, inflations, named, owner_at, hash_at, waits_at, standing, monitor_of, called_at}
 use Rattle.core_world.specs.WordForms.{IsMark}
 use Rattle.core_world.specs.Holds.{HoldsFitLogs}
 use Rattle.core_world.specs.Owners.{LocksArePlain}
@@ -35,6 +35,7 @@ use Rattle.core_world.proofs.ActsLook.{seen_is_part}
 use Rattle.core_world.proofs.SeenMoves.{Spares, counts_more, seen_moves}
 use Rattle.core_world.proofs.LookSettles.{unwaited_fits, miss_valid}
 use Rattle.core_world.proofs.Shows.{fits_running}
+use Rattle.core_world.proofs.Stands.{standing_is}
 use Rattle.core_locks.specs.LockLaws.{MaySeize}
 use Rattle.core_locks.proofs.MarkMeanings.{each_set, IsBare, bare_unnamed, neutral_bare, neutral_some, neutral_lock, neutral_header, locked_read, locked_bare, locked_some, locked_lock, locked_header}
 use Rattle.core_locks.proofs.MarkChanges.{names_same, bias_back, bias_forth, bias_before, zero_back, zero_forth, lock_at, header_same, mark_back, mark_spares, monitors_by_marks, claims_by_marks, waits_by_marks, recursions_by_marks, biases_by_marks, classes_by_marks, inflating_by_marks}
@@ -128,6 +129,26 @@ module _ (w : World) (P : List PlainObject) (t : ℕ) (e : Errand) (o mark p : �
   -- LOCKS. The lock was open and rests on the place now, and each other one stays.
   was_open : lock w o ≡ Open
   was_open = neutral_lock (marks w o) (prototype_of w o) (owner_words w) (inflations w o) was_neutral
+
+  -- nobody had it, so the thread has no hold word of the object
+  unheld : named o (w.known t).holds ≡ 0
+  unheld = by_standing (standing (monitor_of P o) t) refl
+    where
+      unowned : owner_at P o t ≡ true → ⊥
+      unowned owns =
+          let nobody = ap (λ f. is_thread (holder f (λ u. named o (w.known u).holds)) t) was_open in
+          let somebody = v.owners.same o t ∙ ap (λ b. b || bears (w.known t).stage o) owns in
+          absurd (cc (nobody, somebody))
+
+      unlisted : (is_listed (waits_at P o) t ≡ true) ⊎ (is_listed (called_at P o) t ≡ true) → ⊥
+      unlisted h = let named = v.waits.inflated o t h in bare_unnamed (marks w o) named.0 old named.1
+
+      by_standing : (n : ℕ) → standing (monitor_of P o) t ≡ n → named o (w.known t).holds ≡ 0
+      by_standing zero none = omega (arith, v.holds.number t o, none, ap (λ s. extra s o) may.calm)
+      by_standing (suc n) some = absurd (elim (standing_is (monitor_of P o) t (omega (arith, some))) [
+        | inl a ↦ unowned a
+        | inr a ↦ unlisted a
+      ])
 
   lock_now : (i : ℕ) → ((i ≡ o) × (lock x i ≡ Resting t p)) ⊎ ((i ≢ o) × (lock x i ≡ lock w i))
   lock_now = lock_at w o m t l inflation (Resting t p) (locked_lock m t p (prototype_of w o) (owner_words w) (inflations w o) spelled)
@@ -236,7 +257,7 @@ module _ (w : World) (P : List PlainObject) (t : ℕ) (e : Errand) (o mark p : �
     seized = λ i u q s. elim (stage_at w.known t l may.calm u) [
       | inl a ↦
           let r = same_seizing o p i q (sym a.1 ∙ s) in
-          let at : (lock x o ≡ Resting t p) × (slice_index (w.known t).holds p ≡ 0) × (p < 64) × (named o (w.known t).holds ≡ 0) = (lock_is, may.free.empty, may.free.place, may.unheld) in
+          let at : (lock x o ≡ Resting t p) × (slice_index (w.known t).holds p ≡ 0) × (p < 64) × (named o (w.known t).holds ≡ 0) = (lock_is, may.free.empty, may.free.place, unheld) in
           subst (λ (z : ℕ × ℕ × ℕ). (lock x z.0 ≡ Resting z.1 z.2) × (slice_index (w.known z.1).holds z.2 ≡ 0) × (z.2 < 64) × (named z.0 (w.known z.1).holds ≡ 0)) (λ j. (r.0 j, sym a.0 j, r.1 j)) at
       | inr a ↦ let b = v.records.seized i u q (sym a.1 ∙ s) in (lock_forth i (Resting u q) b.0 (λ c. cc c), b.1, b.2, b.3)
     ];
@@ -250,7 +271,7 @@ module _ (w : World) (P : List PlainObject) (t : ℕ) (e : Errand) (o mark p : �
       lock_is = elim (lock_now o) [ inl a ↦ a.1 | inr a ↦ absurd (a.0 refl) ]
 
       no_record : (q d : ℕ) → d ≤ 64 → slice_index (w.known t).holds q ≡ hold_word o d → ⊥
-      no_record q d small h = omega (arith, standing_names w P v t q o d small h, may.unheld)
+      no_record q d small h = omega (arith, standing_names w P v t q o d small h, unheld)
 
   hashes_law : HashesFit (marks x) (lock x) (header w) (λ u. (w.known u).holds) (displaced w) (hash_at P)
   hashes_law = record {

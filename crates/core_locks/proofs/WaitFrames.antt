@@ -1,5 +1,5 @@
--- A quiet step of a running thread on a stamp or on its waiting word keeps every clause that reads neither, nor what the thread has
--- unfinished.
+-- A quiet step of a running thread on a stamp, on its waiting word or on its published length keeps every clause that reads none of them,
+-- nor what the thread has unfinished.
 use Rattle.std.proofs.Common.{◌≡◌, ◌≢◌, ◌⊎◌, ℕ, ◌<◌, ◌≤◌, ◌==◌, eq-eqb, ne_eqb, cond, Bool, true, false, List, Option, Some, None, refl, sym, ap, ◌∙◌, subst, arith}
 use Rattle.plain_monitor.specs.Monitor.{is_listed}
 use Rattle.plain_monitor.specs.Objects.{PlainObject}
@@ -35,8 +35,8 @@ use Rattle.core_world.proofs.Parts.{by_equal, each_told, part_moves, logs_stay}
 use Rattle.core_world.proofs.Views.{lock_stays, header_stays, inflations_stay, who_stays}
 use Rattle.core_world.proofs.Noting.{unfinished_forth, lets_go_back}
 
--- all that the clauses read of a thread's knowledge is the same, but for what it has seen and its waiting word; and where it had nothing
--- unfinished, it may have begun an operation
+-- all that the clauses read of a thread's knowledge is the same, but for what it has seen, its waiting word and its published length; and
+-- where it had nothing unfinished, it may have begun an operation
 pub record Leaves (k l : Known) : Type 0 where
   pub thread : k.thread ≡ l.thread
   pub log : k.log ≡ l.log
@@ -47,12 +47,11 @@ pub record Leaves (k l : Known) : Type 0 where
   pub kept : k.kept ≡ l.kept
   pub saved : k.saved ≡ l.saved
   pub holds : k.holds ≡ l.holds
-  pub published : k.published ≡ l.published
   pub stage : k.stage ≡ l.stage
   pub counts : k.counts ≡ l.counts
   pub unfinished : (k.unfinished ≡ l.unfinished) ⊎ (k.unfinished ≡ None)
 
--- all words are the same but for the stamps and the waiting words
+-- all words are the same but for the stamps, the waiting words and the lengths
 pub record OthersStand (f g : Name → ℕ) : Type 0 where
   pub safe : f Safe ≡ g Safe
   pub prototypes : ◌≡◌ {A = ℕ → ℕ} (λ c. f (Prototype c)) (λ c. g (Prototype c))
@@ -62,7 +61,6 @@ pub record OthersStand (f g : Name → ℕ) : Type 0 where
   pub slots : ◌≡◌ {A = ℕ → ℕ → ℕ} (λ o i. f (Slot o i)) (λ o i. g (Slot o i))
   pub holds : ◌≡◌ {A = ℕ → ℕ → ℕ} (λ t p. f (Hold t p)) (λ t p. g (Hold t p))
   pub displaced : ◌≡◌ {A = ℕ → ℕ → ℕ} (λ t p. f (Displaced t p)) (λ t p. g (Displaced t p))
-  pub lengths : ◌≡◌ {A = ℕ → ℕ} (λ t. f (Length t)) (λ t. g (Length t))
   pub owners : ◌≡◌ {A = ℕ → ℕ} (λ m. f (Owner m)) (λ m. g (Owner m))
   pub recursions : ◌≡◌ {A = ℕ → ℕ} (λ m. f (Recursions m)) (λ m. g (Recursions m))
   pub headers : ◌≡◌ {A = ℕ → ℕ} (λ m. f (Header m)) (λ m. g (Header m))
@@ -103,12 +101,18 @@ module _ (w : World) (P : List PlainObject) (t : ℕ) (l : Known) (f : Name → 
   lets_nothing_go o u h =
       each_told (λ u y. lets_go y.unfinished o ≡ false → lets_go (w.known u).unfinished o ≡ false) t l w.known u (λ g. lets_go_back o (w.known t) l b.unfinished g) (λ d g. g) h
 
-  -- the clauses that read the stamps, the waiting words or what is unfinished are given
+  -- the lengths fit as they did if the thread publishes nothing
+  pub lengths_stand : ◌≡◌ {A = ℕ → ℕ} (λ u. w.words (Length u)) (λ u. f (Length u)) → (w.known t).published ≡ l.published → Fits w P
+      → LengthsFit (λ u. f (Length u)) (λ u. (x.known u).published) (λ u. (w.known u).log) (λ u. (w.known u).running) (λ u. (w.known u).requesting) (is_halted (w.words Safe))
+  lengths_stand words published v = frame6 LengthsFit words (part_moves (λ y. y.published) t l w.known published) refl refl refl refl v.lengths
+
+  -- the clauses that read the stamps, the waiting words, the lengths or what is unfinished are given
   pub left_fits : t < w.shape.threads → OthersStand w.words f → (w.known t).running ≡ true → SeenFit x P → FormsFit x
       → WaitsFit (marks w) (λ u. f (Waiting u)) (λ u. (x.known u).wait) (λ u. (w.known u).log) (λ u. (w.known u).stage) (λ u. (x.known u).unfinished) (λ u. (w.known u).running) (waits_at P) (called_at P)
       → StampsFit (logs w) (λ u. (w.known u).log) (λ o. f (Stamp o)) (λ o. (monitor_of P o).owner) (λ u. (x.known u).unfinished)
+      → LengthsFit (λ u. f (Length u)) (λ u. (x.known u).published) (λ u. (w.known u).log) (λ u. (w.known u).running) (λ u. (w.known u).requesting) (is_halted (w.words Safe))
       → Fits w P → Fits x P
-  left_fits within same runs seen forms waits stamps v =
+  left_fits within same runs seen forms waits stamps lengths v =
       let holds = part_moves (λ y. y.holds) t l w.known b.holds in
       let stage = part_moves (λ y. y.stage) t l w.known b.stage in
       let running = part_moves (λ y. y.running) t l w.known b.running in
@@ -146,7 +150,7 @@ module _ (w : World) (P : List PlainObject) (t : ℕ) (l : Known) (f : Name → 
         slots = frame2 (SlotsFit w.shape) same.slots refl v.slots;
         waits = frame9 WaitsFit same.marks refl refl log stage refl running refl refl waits;
         stamps = frame5 StampsFit all log refl refl refl stamps;
-        lengths = frame6 LengthsFit same.lengths (part_moves (λ y. y.published) t l w.known b.published) log running requesting (ap is_halted same.safe) v.lengths;
+        lengths = frame6 LengthsFit refl refl log running requesting (ap is_halted same.safe) lengths;
         claims = frame3 (MonitorsAreClaimed w.shape.threads _) same.claim same.marks (part_moves (λ y. y.kept) t l w.known b.kept) v.claims;
         classes = frame6 (ClassesFit w.biasing) same.prototypes same.counts same.lasts same.marks (λ i. rebiases w.shape.threads (counts i)) (λ i. revokes w.shape.threads (counts i)) v.classes;
       }

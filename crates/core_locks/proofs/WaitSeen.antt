@@ -1,4 +1,4 @@
--- What the threads have seen stays at a quiet step of a running thread on a stamp or on its waiting word.
+-- What the threads have seen stays at a quiet step of a running thread on a stamp, on its waiting word or on its published length.
 use Rattle.std.proofs.Common.{◌≡◌, ◌≢◌, ℕ, ◌||◌, true, false, List, ◌∷◌, Some, refl, sym, ap, ◌∙◌, inl}
 use Rattle.plain_monitor.specs.Objects.{PlainObject}
 use Rattle.core_world.specs.declared.name.Name.{Name}

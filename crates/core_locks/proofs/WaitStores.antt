@@ -26,7 +26,7 @@ use Rattle.core_world.specs.WordForms.{IsWait}
 use Rattle.core_world.proofs.ActsLook.{seen_is_part}
 use Rattle.core_locks.specs.Knowing.{GoesOn}
 use Rattle.core_locks.proofs.LeavesLists.{told_same}
-use Rattle.core_locks.proofs.WaitFrames.{Leaves, OthersStand, each_written, wait_goes_on, lets_nothing_go, left_fits}
+use Rattle.core_locks.proofs.WaitFrames.{Leaves, OthersStand, each_written, wait_goes_on, lets_nothing_go, lengths_stand, left_fits}
 use Rattle.core_locks.proofs.WaitOut.{fails}
 use Rattle.core_locks.proofs.WaitSeen.{Unminded, left_seen}
 
@@ -74,10 +74,10 @@ module _ (w : World) (P : List PlainObject) (t : ℕ) (e : Errand) (word : ℕ) 
   said = ap (λ u. cond (t == u) word (w.known t).wait) (v.numbered t) ∙ ap (λ (b : Bool). cond b word (w.known t).wait) (eq-eqb t t refl)
 
   leaves : Leaves (w.known t) l
-  leaves = record { thread = refl; log = refl; running = refl; requesting = refl; reached = refl; halted = refl; kept = refl; saved = refl; holds = refl; published = refl; stage = refl; counts = refl; unfinished = elim may.goes_on [ inl a ↦ inl (sym a) | inr a ↦ inr a ] }
+  leaves = record { thread = refl; log = refl; running = refl; requesting = refl; reached = refl; halted = refl; kept = refl; saved = refl; holds = refl; stage = refl; counts = refl; unfinished = elim may.goes_on [ inl a ↦ inl (sym a) | inr a ↦ inr a ] }
 
   others : OthersStand w.words (written (Waiting t) word w.words)
-  others = record { safe = refl; prototypes = refl; counts = refl; lasts = refl; marks = refl; slots = refl; holds = refl; displaced = refl; lengths = refl; owners = refl; recursions = refl; headers = refl; objects = refl; claim = refl }
+  others = record { safe = refl; prototypes = refl; counts = refl; lasts = refl; marks = refl; slots = refl; holds = refl; displaced = refl; owners = refl; recursions = refl; headers = refl; objects = refl; claim = refl }
 
   -- a fact of each waiting word and what its thread knows
   at : (Q : ℕ → ℕ → Known → Type 0) (u : ℕ) → Q t word l → (u ≢ t → Q u (w.words (Waiting u)) (w.known u)) → Q u (x.words (Waiting u)) (x.known u)
@@ -150,4 +150,4 @@ module _ (w : World) (P : List PlainObject) (t : ℕ) (e : Errand) (word : ℕ) 
   said_fits within =
       left_fits w P t l x.words leaves within others may.runs
       (left_seen w P t l p (w.words (Waiting t)) (seen_before w.shape (w.known t)) leaves refl (seen_is_part w.shape (w.known t)) others may.runs unminded v)
-      forms_law waits_law stamps_law v
+      forms_law waits_law stamps_law (lengths_stand w P t l x.words leaves refl refl v) v

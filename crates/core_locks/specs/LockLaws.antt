@@ -22,12 +22,12 @@ pub record MayDisplace (k : Known) (e : Errand) (p : ℕ) : Type 0 where
   pub unseized : (o : ℕ) → k.stage ≡ Seizes o p → ⊥
   pub goes_on : GoesOn k e
 
--- Exchanging the neutral mark of o for the place p: the mark was stored there as the displaced word, in this call, and the thread has no hold of o.
+-- Exchanging a neutral mark of o for the place p: the mark was stored there as the displaced word, in this call. Whether o has that mark, the
+-- exchange tells.
 pub record MaySeize (k : Known) (e : Errand) (o mark p : ℕ) : Type 0 where
   pub runs : k.running ≡ true
   pub calm : k.stage ≡ Calm
   pub free : IsFree k p
-  pub unheld : named o k.holds ≡ 0
   pub neutral : is_neutral mark ≡ true
   pub stored : last_seen (Displaced k.thread p) k.seen ≡ Some mark
   pub goes_on : GoesOn k e
@@ -54,8 +54,8 @@ pub record MayHold (s : Shape) (k : Known) (e : Errand) (o d p : ℕ) : Type 0 w
   pub before : Precedes k o p
   pub goes_on : GoesOn k e
 
--- Clearing a hold word, which logs Exit: the deepest of several, whose displaced word was seen to be 0 in this call; or to be another one, and the
--- recursions are lowered already.
+-- Clearing a hold word, which logs Exit: the deepest of several, whose displaced word was seen to be 0 in this call; or to be another one, the
+-- inflated mark and the own owner word were seen in this call, and the recursions are lowered already.
 pub record MayLeave (s : Shape) (k : Known) (o d p : ℕ) : Type 0 where
   pub runs : k.running ≡ true
   pub ready : k.wait ≡ 0

@@ -1,12 +1,11 @@
 -- When a thread may make the steps on the safepoint word.
-use Rattle.std.specs.Prelude.{◌≡◌, ◌⊎◌, ◌≢◌, ℕ, ◌<◌, true, false, length, Option, Some, None}
+use Rattle.std.specs.Prelude.{◌≡◌, ◌⊎◌, ℕ, ◌<◌, true, false, length, Some, None}
 use Rattle.mark_word.specs.Owner.{read_owner}
-use Rattle.mark_word.specs.declared.owner.OwnerForm.{OwnerForm}
-use Rattle.mark_word.specs.declared.owner.OwnerForm.TheVariants.{ByThread, ByRecord}
 use Rattle.core_world.specs.declared.name.Name.TheVariants.{Mark, Waiting, Owner}
 use Rattle.core_world.specs.declared.stage.Stage.TheVariants.{Calm}
 use Rattle.core_world.specs.Forms.{enters_on, told_of, waits_on, says_ended, monitor_in, requester_in, is_halted}
 use Rattle.core_world.specs.Known.{Known, last_seen}
+use Rattle.core_world.specs.LookSteps.{is_open_to}
 use Rattle.core_world.specs.Safepoints.{ends}
 
 -- Clearing its bit: the thread has published its whole log, and says so where that has its ending entry. Both stand in what it last stored in
@@ -36,25 +35,20 @@ pub record MayRelease (k : Known) : Type 0 where
   pub reached : k.reached ≡ true
   pub calm : k.stage ≡ Calm
 
--- the owner is another thread, or a record of one
-abbrev pub IsOther : Option OwnerForm → ℕ → Type 0
-IsOther (Some (ByThread thread)) t = thread ≢ t
-IsOther (Some (ByRecord thread place)) t = thread ≢ t
-IsOther _ t = ⊥
-
--- By what thread r has seen since its safepoint was reached, thread t waits, or was told of or enters an object of which another is the owner.
+-- By what this thread has seen since its safepoint was reached, thread t waits, or was told of or enters an object that isn't open to it. Some
+-- words are loaded more than once; at a reached safepoint they are as they were.
 abbrev pub SeesHeldUp : Known → ℕ → Type 0
 SeesHeldUp k t =
     (o v : ℕ) × (last_seen (Waiting t) k.stood ≡ Some v)
     × ((waits_on v o ≡ true)
     ⊎ (((told_of v o ≡ true) ⊎ (enters_on v o ≡ true))
-    × ((mark m owner : ℕ) × (last_seen (Mark o) k.stood ≡ Some mark) × (monitor_in mark ≡ Some m) × (last_seen (Owner m) k.stood ≡ Some owner) × IsOther (read_owner owner) t)))
+    × ((mark m owner : ℕ) × (last_seen (Mark o) k.stood ≡ Some mark) × (monitor_in mark ≡ Some m) × (last_seen (Owner m) k.stood ≡ Some owner) × (is_open_to (read_owner owner) t ≡ false))))
 
 -- By what it has seen, thread t has ended.
 abbrev pub SeesEnded : Known → ℕ → Type 0
 SeesEnded k t = (v : ℕ) × (last_seen (Waiting t) k.stood ≡ Some v) × (says_ended v ≡ true)
 
--- Halting: its safepoint is reached, and by what it has seen since, some of the n threads hasn't ended, and each that hasn't is held up.
+-- Halting: its safepoint is reached, it hasn't ended itself, and by what it has seen since, each of the n threads has ended or is held up.
 pub record MayHalt (n : ℕ) (k : Known) : Type 0 where
   pub reached : k.reached ≡ true
   pub calm : k.stage ≡ Calm

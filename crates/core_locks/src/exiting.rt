@@ -18,7 +18,9 @@ ghost use Rattle.core_locks.specs.LockLaws.{MayLeave, MayLetGo};
 /// count falls by one. The record is recursive by its displaced word 0; or it was made through the monitor, whose recursions the
 /// thread has lowered already, so that they count one record less than it has until this step.
 pub fn exiting_by_a_hold_word_keeps_the_world_valid()
-    // `t` is one of the heap's threads, by the definition of the steps; `MayLeave` is the thread's own knowledge, of what it last stored and saw
+    // `t` is one of the heap's threads, by the definition of the steps. `MayLeave` is of what the thread last stored and saw; that the hold
+    // isn't the only one where its displaced word is 0, and that the owner word names the thread, follows from the clauses on records,
+    // recursions and owners where these words were loaded
     ensures { (w : World) (objects : List PlainObject) (t : ℕ) (e : Errand) (o d p : ℕ) → t < w.shape.threads
         → MayLeave w.shape (w.known t) o d p → IsValid w objects
         → Logs w objects t (logging (Exit o) e (Hold t p) (Store 0)) (Exit o) }
@@ -28,8 +30,9 @@ pub fn exiting_by_a_hold_word_keeps_the_world_valid()
 /// valid world: the object has no plain owner any more, and its stamp word, which the thread has raised, bounds the entry. Where
 /// the mark is another one meanwhile, since another thread inflates the object, the step changes no word and logs nothing.
 pub fn exiting_by_the_mark_keeps_the_world_valid()
-    // `t` is one of the heap's threads, by the definition of the steps; `MayLetGo` is the thread's own knowledge, of what it last stored and
-    // saw; whether the mark names the record is what the exchange itself tells
+    // `t` is one of the heap's threads, by the definition of the steps. `MayLetGo` is of what the thread last stored and saw; that the mark
+    // which the steps loaded and expect is that of this record, and its hold the last, follows from the clauses on records and owners where
+    // it was loaded. Whether the mark still is, the exchange itself tells
     ensures hit { (w : World) (objects : List PlainObject) (t : ℕ) (e : Errand) (o header stamp p : ℕ) → t < w.shape.threads
         → MayLetGo w.shape (w.known t) o header stamp p → w.words (Mark o) ≡ mark_of (Locked t p) → IsValid w objects
         → Logs w objects t (staged (Exits o p) (logging (Exit o) e (Mark o) (Swap (mark_of (Locked t p)) header))) (Exit o) }

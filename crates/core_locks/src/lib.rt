@@ -1,4 +1,5 @@
-//! Laws of the steps on locks without biases: each kind of atomic step keeps the world valid, whatever other threads do.
+//! Laws of the steps on the safepoint word, the journal and lock records: each kind of atomic step keeps the world valid, whatever
+//! other threads do.
 //!
 //! A law is a public function with an empty body. Its contract says of one kind of step: in every valid world in which the thread
 //! knows what it knows, the step gives a valid world, with the same plain objects or with those that took the step's entry.
@@ -43,7 +44,7 @@ pub use safepoint::{
 };
 pub use telling::{
     logging_a_get_keeps_the_world_valid, logging_a_put_keeps_the_world_valid,
-    publishing_a_length_keeps_the_world_valid,
+    publishing_a_length_keeps_the_world_valid, publishing_the_whole_log_keeps_the_world_valid,
 };
 pub use waiting::{
     raising_a_stamp_keeps_the_world_valid, storing_ended_keeps_the_world_valid,

@@ -1,4 +1,5 @@
-//! Laws of the loads that log nothing, of every word but those of a monitor. Their functions do nothing.
+//! Laws of the loads that log nothing: of the safepoint word, marks, displaced words, waiting words and lengths. Their functions do
+//! nothing. Loads of other words are looks by `core_world`'s law, and so is an exchange that misses.
 //!
 //! In each law the step belongs to the call that the thread is in the middle of, or begins: it goes on with what the thread has
 //! unfinished, or begins an operation where that is nothing, and leaves the thread where it stands and what it checks.

@@ -13,8 +13,9 @@ ghost use Rattle.core_world.specs.World.{World};
 ghost use Rattle.core_locks.specs.LockLaws.{MayDisplace, MaySeize};
 
 /// A thread that stores a displaced word at a free place of its own, for which it has exchanged no mark, keeps the world valid, with
-/// the same plain objects. It stands where it stood: an inflation that it is in the middle of goes on.
-// `t < w.shape.threads` and where the thread stands come from the definition of the steps, all else from the thread's own knowledge.
+/// the same plain objects. It stands where it stood: an enter that has taken the monitor, or raised the recursions, goes on.
+// `t < w.shape.threads`, where the thread stands and what is unfinished come from the definition of the steps, all else from the thread's
+// own knowledge.
 pub fn storing_a_displaced_word_keeps_the_world_valid()
     ensures { (w : World) (objects : List PlainObject) (t : ℕ) (e : Errand) (p d : ℕ) → t < w.shape.threads → MayDisplace (w.known t) e p
         → IsValid w objects → IsValid (moved (staged (w.known t).stage (store e (Displaced t p) d)) t w) objects }
@@ -22,7 +23,8 @@ pub fn storing_a_displaced_word_keeps_the_world_valid()
 
 /// A thread that exchanges the neutral mark of an object for its place, where it has stored that mark as the displaced word, keeps
 /// the world valid, with the same plain objects, whether the exchange hits or misses. Where it hits, the lock rests on that place.
-// `t < w.shape.threads` and the mark that is expected come from the definition of the steps, all else from the thread's own knowledge.
+// `t < w.shape.threads`, the mark that is expected and what is unfinished come from the definition of the steps. That the mark is neutral is
+// tested, but for its age, which is 0 in each mark that was loaded in a valid world; all else is of the thread's own knowledge.
 pub fn exchanging_a_neutral_mark_keeps_the_world_valid()
     ensures { (w : World) (objects : List PlainObject) (t : ℕ) (e : Errand) (o mark p : ℕ) → t < w.shape.threads
         → MaySeize (w.known t) e o mark p → IsValid w objects

@@ -3,7 +3,7 @@
 //! `specs/SafepointLaws` says by what it knows itself when a thread may make each step. Each step belongs to a call whose plan says
 //! what is unfinished meanwhile: it is what the thread has unfinished, and a request may begin an operation too.
 
-ghost use Rattle.std.specs.Prelude.{◌≡◌, ℕ, ◌<◌, List};
+ghost use Rattle.std.specs.Prelude.{◌≡◌, ℕ, ◌<◌, List, true};
 ghost use Rattle.mark_word.specs.Safe.{read_safe};
 ghost use Rattle.plain_monitor.specs.Objects.{PlainObject};
 ghost use Rattle.core_world.specs.declared.act.Act.TheVariants.{Mask};
@@ -40,17 +40,18 @@ pub fn requesting_keeps_the_world_valid()
 {}
 
 /// The thread whose safepoint is reached takes its request away and runs again. The exchange hits: the word is the one that it
-/// expects, since nobody else may change it. The release leaves what is unfinished, by its plan.
+/// expects, since nobody else may change it, also where a bias is being revoked. The release leaves what is unfinished, by its plan.
+// The release that ends a revocation is another kind of step: its thread stands at `Settles`, and no law has it yet.
 pub fn releasing_keeps_the_world_valid()
-    ensures finds { (w : World) (objects : List PlainObject) (t : ℕ) → MayRelease (w.known t) → IsValid w objects
+    ensures finds { (w : World) (objects : List PlainObject) (t : ℕ) → (w.known t).reached ≡ true → IsValid w objects
         → w.words Safe ≡ reached_word t }
     ensures valid { (w : World) (objects : List PlainObject) (t : ℕ) (e : Errand) → t < w.shape.threads → MayRelease (w.known t)
         → e.unfinished ≡ (w.known t).unfinished → IsValid w objects
         → IsValid (moved (swap e Safe (reached_word t) (released_word t)) t w) objects }
 {}
 
-/// The thread whose safepoint is reached halts the run, where by what it has seen since some thread hasn't ended and each that
-/// hasn't is held up: the threads are stuck then. The exchange hits, and the halt leaves what is unfinished, by its plan.
+/// The thread whose safepoint is reached halts the run, where it hasn't ended itself and by what it has seen since each thread has
+/// ended or is held up: the threads are stuck then. The exchange hits, and the halt leaves what is unfinished, by its plan.
 pub fn halting_keeps_the_world_valid()
     ensures finds { (w : World) (objects : List PlainObject) (t : ℕ) → MayHalt w.shape.threads (w.known t) → IsValid w objects
         → w.words Safe ≡ reached_word t }

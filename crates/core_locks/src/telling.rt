@@ -1,7 +1,7 @@
 //! Laws of the steps by which a running thread logs an entry without taking or leaving a lock: on a slot of an object that it holds, and
-//! on its published length.
+//! on its published length. And of the step by which it publishes its whole log.
 
-ghost use Rattle.std.specs.Prelude.{◌≡◌, ◌+◌, ◌<◌, ℕ, List, length, None};
+ghost use Rattle.std.specs.Prelude.{◌≡◌, ◌+◌, ◌<◌, ℕ, true, List, length, None};
 ghost use Rattle.plain_monitor.specs.declared.entry.Entry.{Entry};
 ghost use Rattle.plain_monitor.specs.declared.entry.Entry.TheVariants.{Get, Put};
 ghost use Rattle.plain_monitor.specs.declared.entry.Value.{Value};
@@ -10,8 +10,10 @@ ghost use Rattle.plain_monitor.specs.ValueWords.{read_value, word_of};
 ghost use Rattle.core_world.specs.declared.act.Act.TheVariants.{Store};
 ghost use Rattle.core_world.specs.declared.name.Name.TheVariants.{Slot, Length};
 ghost use Rattle.core_world.specs.declared.plan.Note.TheVariants.{LogGet};
+ghost use Rattle.core_world.specs.declared.stage.Stage.TheVariants.{Calm};
 ghost use Rattle.core_world.specs.Operations.{value_found};
-ghost use Rattle.core_world.specs.Plans.{Errand, logging, load};
+ghost use Rattle.core_world.specs.Plans.{Errand, logging, load, store};
+ghost use Rattle.core_world.specs.Steps.{moved};
 ghost use Rattle.core_world.specs.Valid.{IsValid};
 ghost use Rattle.core_world.specs.World.{World};
 ghost use Rattle.core_locks.specs.JournalLaws.{MayTouch, MayPut, MayPublish};
@@ -47,4 +49,14 @@ pub fn publishing_a_length_keeps_the_world_valid()
     ensures { (w : World) (objects : List PlainObject) (t : ℕ) (e : Errand) (entry : Entry) → t < w.shape.threads
         → MayPublish w.shape (w.known t) entry → IsValid w objects
         → Logs w objects t (logging entry e (Length t) (Store (length (w.known t).log + 1))) entry }
+{}
+
+/// A running thread in the middle of nothing publishes its whole log, and logs nothing: its length word becomes the length of its log.
+/// So it does before it stops. The world stays valid, with the same plain objects.
+// The thread knows of itself that it runs in the middle of nothing; that the stored length is that of its log, and that the step leaves
+// what is unfinished, is by the definition of the steps.
+pub fn publishing_the_whole_log_keeps_the_world_valid()
+    ensures { (w : World) (objects : List PlainObject) (t : ℕ) (e : Errand) → t < w.shape.threads → (w.known t).running ≡ true
+        → (w.known t).stage ≡ Calm → e.unfinished ≡ (w.known t).unfinished → IsValid w objects
+        → IsValid (moved (store e (Length t) (length (w.known t).log)) t w) objects }
 {}

@@ -1,5 +1,5 @@
-//! Steps that lack one premise of their law. Each leads to a world that is not valid, whatever plain objects one takes: so the laws need
-//! these premises.
+//! Steps that no law allows: each lacks a premise of the law of its kind, or is another step than the law has. Each leads to a world that
+//! is not valid, whatever plain objects one takes.
 
 ghost use Rattle.std.specs.Prelude.{◌≡◌, ◌≢◌, ℕ, ◌+◌, ◌<◌, length, true, false};
 ghost use Rattle.std.specs.List.{AllByRecursion};

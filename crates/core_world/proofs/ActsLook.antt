@@ -7,6 +7,7 @@ use Rattle.core_world.specs.declared.name.Name.TheVariants as name
 use Rattle.core_world.specs.Acts.{after, hits}
 use Rattle.core_world.specs.Shape.{Shape}
 use Rattle.core_world.specs.Known.{Known, Made, left_by, last_seen}
+use Rattle.core_world.specs.Settling.{write_by}
 use Rattle.core_world.specs.Steps.{runs_after, asks_after, holds_after, wait_after, published_after, kept_by_act, seen_before, undisplaced, is_displaced, idle}
 use Rattle.core_world.specs.Names.{same_name}
 use Rattle.core_world.proofs.Naming.{same_named}
@@ -86,3 +87,12 @@ missed_word (Store word) n e = absurd (cc e)
 missed_word (Raise word) n e = absurd (cc e)
 missed_word (Mask bits) n e = absurd (cc e)
 missed_word Count n e = absurd (cc e)
+
+-- and it is no store
+pub missed_write : (at : Name) (act : Act) (n : ℕ) → hits act n ≡ false → write_by at act ≡ []
+missed_write at (Swap expected word) n e = refl
+missed_write at Load n e = absurd (cc e)
+missed_write at (Store word) n e = absurd (cc e)
+missed_write at (Raise word) n e = absurd (cc e)
+missed_write at (Mask bits) n e = absurd (cc e)
+missed_write at Count n e = absurd (cc e)

@@ -57,6 +57,7 @@ seen_stays w next owner next_owner waits next_waits s e k o q h =
       unwaiting = seen.unwaiting;
       unwaited = seen.unwaited;
       stands = seen.stands;
+      looks = seen.looks;
       monitors = seen.monitors;
       monitors_since = seen.monitors_since;
     }

@@ -10,14 +10,15 @@ use Rattle.core_world.specs.declared.plan.Own.TheVariants.{Same}
 use Rattle.core_world.specs.declared.plan.StepPlan.{StepPlan}
 use Rattle.core_world.specs.Forms.{monitor_in, is_halted, is_still}
 use Rattle.core_world.specs.Known.{Made, last_seen, looked}
+use Rattle.core_world.specs.Stages.{settling}
 use Rattle.core_world.specs.World.{World}
 use Rattle.core_world.specs.Locks.{marks, waits_at}
-use Rattle.core_world.specs.SeenWords.{HasMet, IsKeptOrNamed}
+use Rattle.core_world.specs.SeenWords.{HasMet, IsKeptOrNamed, AllLooked}
 use Rattle.core_world.specs.Looking.{IsOfMonitor, MayLook, IsLook, IsMiss}
 use Rattle.core_world.specs.Steps.{known_hit, known_miss, known_after, seen_before, stood_before, reached_after, halted_after}
 use Rattle.core_world.specs.Valid.{SeenFit, SafeFits}
 use Rattle.core_world.proofs.Glances.{Glance, still_nobody}
-use Rattle.core_world.proofs.ActsLook.{runs_load, asks_load, holds_load, wait_load, published_load, kept_load, seen_is_part, missed_word}
+use Rattle.core_world.proofs.ActsLook.{runs_load, asks_load, holds_load, wait_load, published_load, kept_load, seen_is_part, missed_word, missed_write}
 
 module _ (w : World) (P : List PlainObject) (t : ℕ) (seen : SeenFit w P) (safe : SafeFits w P)
     (idle : (w.known t).running ≡ true → (o : ℕ) → monitor_in (marks w o) ≡ None → waits_at P o ≡ []) where
@@ -74,6 +75,14 @@ module _ (w : World) (P : List PlainObject) (t : ℕ) (seen : SeenFit w P) (safe
   since_met : (at : Name) (m s : ℕ) → reached_after at Load (w.words at) (w.known t) ≡ true → HasMet (stood_before at Load (w.known t)) m s → IsKeptOrNamed w (w.known t) m
   since_met at m s r e = let a = since_there at e.0 s r e.2 in seen.monitors_since t m s a.0 (e.0, e.1, a.1)
 
+  since_looked : (at : Name) → reached_after at Load (w.words at) (w.known t) ≡ true → settling (w.known t).stage ≡ None → AllLooked w.words (stood_before at Load (w.known t))
+  since_looked name.Safe r e = cases (w.known t).reached refl
+    where
+      cases : (b : Bool) → (w.known t).reached ≡ b → AllLooked w.words (cond b (w.known t).stood [])
+      cases true q = seen.looks t q e
+      cases false q = tt
+  since_looked _ r e = seen.looks t r e
+
   -- a load, as it is written down
   pub look_glance : (p : StepPlan) → IsLook (w.known t) p → Glance w P (w.known t) (known_after w.shape w.start p (w.words p.at) (w.known t)) p
   look_glance p look =
@@ -97,6 +106,8 @@ module _ (w : World) (P : List PlainObject) (t : ℕ) (seen : SeenFit w P) (safe
         };
         looks = record {
           word = refl;
+          as_found = refl;
+          unwritten = refl;
           run = runs_load p.at (w.words p.at) (w.known t);
           ask = asks_load p.at (w.words p.at) (w.known t);
           stage = look.stage;
@@ -107,6 +118,7 @@ module _ (w : World) (P : List PlainObject) (t : ℕ) (seen : SeenFit w P) (safe
           since = stood_before p.at Load (w.known t);
           stood = refl;
           there = λ n s r e. let a = since_there p.at n s r e in seen.stands t n s a.0 a.1;
+          there_looked = since_looked p.at;
           there_monitors = since_met p.at;
           fresh = found_named p.at look.may;
           idle = idle;
@@ -126,6 +138,8 @@ module _ (w : World) (P : List PlainObject) (t : ℕ) (seen : SeenFit w P) (safe
         same = record { thread = refl; log = refl; running = refl; requesting = refl; kept = refl; saved = refl; holds = refl; wait = refl; published = refl; stage = refl; counts = refl; unfinished = inl refl };
         looks = record {
           word = missed_word p.act (w.words p.at) miss.missed;
+          as_found = refl;
+          unwritten = missed_write p.at p.act (w.words p.at) miss.missed;
           run = refl;
           ask = refl;
           stage = refl;
@@ -136,6 +150,7 @@ module _ (w : World) (P : List PlainObject) (t : ℕ) (seen : SeenFit w P) (safe
           since = (w.known t).stood;
           stood = refl;
           there = λ n s r e. seen.stands t n s r e;
+          there_looked = seen.looks t;
           there_monitors = λ m s r e. seen.monitors_since t m s r e;
           fresh = found_named p.at miss.may;
           idle = idle;

@@ -2,8 +2,7 @@
 use Rattle.std.proofs.Common.{◌≡◌, ◌≢◌, ℕ, ◌<◌, ◌&&◌, ◌||◌, Bool, true, false, cond, List, [], ◌∷◌, ◌++◌, append-nil, eq-eqb, None, refl, sym, ap, ◌∙◌, subst, inl, inr}
 use Rattle.plain_monitor.specs.Monitor.{is_thread, is_listed}
 use Rattle.plain_monitor.specs.Objects.{PlainObject}
-use Rattle.core_world.specs.declared.act.Act.{Act}
-use Rattle.core_world.specs.declared.act.Act.TheVariants.{Load, Store, Swap, Raise, Mask, Count}
+use Rattle.core_world.specs.declared.act.Act.TheVariants.{Load}
 use Rattle.core_world.specs.declared.name.Name.{Name}
 use Rattle.core_world.specs.declared.name.Name.TheVariants as name
 use Rattle.core_world.specs.declared.name.Name.TheVariants.{Safe}
@@ -20,13 +19,13 @@ use Rattle.core_world.specs.Known.{Known}
 use Rattle.core_world.specs.World.{World, told}
 use Rattle.core_world.specs.Looking.{IsLook, IsMiss, MayLook}
 use Rattle.core_world.specs.Stages.{Settlement, settling}
-use Rattle.core_world.specs.Settling.{stored, write_by, writes_in}
+use Rattle.core_world.specs.Settling.{FoundAfter, stored, writes_in}
 use Rattle.core_world.specs.Steps.{known_hit, known_miss, known_after, moved, stood_before, reached_after, halted_after}
 use Rattle.core_world.specs.Valid.{Fits, IsSettling, IsValid, settled_known}
 use Rattle.core_world.proofs.Parts.{by_equal, told_here, told_else, each_told}
 use Rattle.core_world.proofs.Naming.{noted, noted_alone}
 use Rattle.core_world.proofs.Glances.{Glance, glance_seen, glance_safe, glance_fits, one_requester}
-use Rattle.core_world.proofs.ActsLook.{runs_load, asks_load, holds_load, wait_load, published_load, missed_word}
+use Rattle.core_world.proofs.ActsLook.{runs_load, asks_load, holds_load, wait_load, published_load, missed_word, missed_write}
 use Rattle.core_world.proofs.LookLaws.{look_glance, miss_glance}
 
 -- what the requester knows, by the words before its first store and what it knew then
@@ -42,10 +41,11 @@ settled_with s f b known k =
       call = k.call;
     }
 
--- the steps of a thread change, and nothing else that it knows
-pub record OnlySteps (k l : Known) : Type 0 where
+-- the steps of a thread change, and nothing else that it knows; the last one found its word as it is
+pub record OnlySteps (words : Name → ℕ) (k l : Known) : Type 0 where
   pub is : l ≡ record k { seen = l.seen; stood = l.stood; steps = l.steps; call = l.call }
   pub writes : writes_in l.stood ≡ writes_in k.stood
+  pub found : (f : Name → ℕ) → words ≡ stored (writes_in k.stood) f → FoundAfter f k.stood → FoundAfter f l.stood
 
 -- nobody waits on an object whose mark names no monitor
 pub unwaited_fits : (w : World) (P : List PlainObject) (t : ℕ) → Fits w P → (w.known t).running ≡ true → (o : ℕ) → monitor_in (marks w o) ≡ None → waits_at P o ≡ []
@@ -78,7 +78,7 @@ module _ (w : World) (P : List PlainObject) (s : IsSettling w P) where
           absurd (cc (none, asks))
 
   -- a step of the requester on no word
-  mine : (l : Known) (p : StepPlan) → Glance w P (w.known s.requester) l p → OnlySteps (w.known s.requester) l → IsSettling (noted s.requester l w) P
+  mine : (l : Known) (p : StepPlan) → Glance w P (w.known s.requester) l p → OnlySteps w.words (w.known s.requester) l → IsSettling (noted s.requester l w) P
   mine l p g only =
       let here = told_here s.requester l w.known in
       record {
@@ -98,6 +98,7 @@ module _ (w : World) (P : List PlainObject) (s : IsSettling w P) where
         writes = ap (λ (k : Known). writes_in k.stood ++ s.rest) here ∙ ap (λ z. z ++ s.rest) only.writes ∙ s.writes;
         begun = λ e. s.begun (sym only.writes ∙ ap (λ (k : Known). writes_in k.stood) (sym here) ∙ e);
         words = s.words ∙ ap (λ z. stored z s.before.words) (sym only.writes ∙ ap (λ (k : Known). writes_in k.stood) (sym here));
+        found = subst (λ (k : Known). FoundAfter s.before.words k.stood) (sym here) (only.found s.before.words s.words s.found);
         untouched = s.untouched;
         knows =
             let known = settled_known s.before s.requester s.settlement in
@@ -136,6 +137,7 @@ module _ (w : World) (P : List PlainObject) (s : IsSettling w P) where
         writes = ap (λ (k : Known). writes_in k.stood ++ s.rest) kept ∙ s.writes;
         begun = λ e. s.begun (ap (λ (k : Known). writes_in k.stood) (sym kept) ∙ e);
         words = s.words ∙ ap (λ (k : Known). stored (writes_in k.stood) s.before.words) (sym kept);
+        found = subst (λ (k : Known). FoundAfter s.before.words k.stood) (sym kept) s.found;
         untouched = s.untouched;
         knows = kept ∙ s.knows
             ∙ ap (λ (k : Known). settled_with s.before.shape s.before.words s.settlement k (w.known s.requester)) (sym kept_before)
@@ -160,11 +162,16 @@ module _ (w : World) (P : List PlainObject) (s : IsSettling w P) where
   halted_same _ k = refl
 
   -- a load changes only the steps of the requester at its safepoint
-  look_only : (p : StepPlan) → IsLook (w.known s.requester) p → OnlySteps (w.known s.requester) (known_after w.shape w.start p (w.words p.at) (w.known s.requester))
+  look_only : (p : StepPlan) → IsLook (w.known s.requester) p → OnlySteps w.words (w.known s.requester) (known_after w.shape w.start p (w.words p.at) (w.known s.requester))
   look_only p look =
       let q : StepPlan = record p { act = Load; note = Quiet; own = Same } in
       let same : q ≡ p = λ i. record p { act = sym look.act i; note = sym look.note i; own = sym look.own i } in
-      subst (λ z. OnlySteps (w.known s.requester) (known_after w.shape w.start z (w.words z.at) (w.known s.requester))) same (record { is = only; writes = append-nil _ ∙ ap writes_in (stood p.at) })
+      subst (λ z. OnlySteps w.words (w.known s.requester) (known_after w.shape w.start z (w.words z.at) (w.known s.requester))) same
+      (record {
+        is = only;
+        writes = append-nil _ ∙ ap writes_in (stood p.at);
+        found = λ f e g. subst (λ ms. FoundAfter f (record { plan = q; found = w.words p.at } ∷ ms)) (sym (stood p.at)) (ap (λ (z : Name → ℕ). z p.at) e, g);
+      })
     where
       unfinished : p.after ≡ (w.known s.requester).unfinished
       unfinished = elim look.after [ inl e ↦ e | inr e ↦ absurd (unfinished_now e) ]
@@ -195,21 +202,18 @@ module _ (w : World) (P : List PlainObject) (s : IsSettling w P) where
           }
 
   -- so does an exchange that misses
-  miss_only : (p : StepPlan) → IsMiss (w.known s.requester) p (w.words p.at) → OnlySteps (w.known s.requester) (known_after w.shape w.start p (w.words p.at) (w.known s.requester))
+  miss_only : (p : StepPlan) → IsMiss (w.known s.requester) p (w.words p.at) → OnlySteps w.words (w.known s.requester) (known_after w.shape w.start p (w.words p.at) (w.known s.requester))
   miss_only p miss =
       let hit = known_hit w.shape w.start p (w.words p.at) (w.known s.requester) in
       let missed : known_miss w.shape w.start p (w.words p.at) (w.known s.requester) ≡ known_after w.shape w.start p (w.words p.at) (w.known s.requester) =
       ap (λ (b : Bool). cond b hit (known_miss w.shape w.start p (w.words p.at) (w.known s.requester))) (sym miss.missed) in
-      subst (OnlySteps (w.known s.requester)) missed (record { is = only; writes = ap (λ z. writes_in (w.known s.requester).stood ++ z) (nothing p.act miss.missed) ∙ append-nil _ })
+      subst (OnlySteps w.words (w.known s.requester)) missed
+      (record {
+        is = only;
+        writes = ap (λ z. writes_in (w.known s.requester).stood ++ z) (missed_write p.at p.act (w.words p.at) miss.missed) ∙ append-nil _;
+        found = λ f e g. (ap (λ (z : Name → ℕ). z p.at) e, g);
+      })
     where
-      nothing : (act : Act) → hits act (w.words p.at) ≡ false → write_by p.at act ≡ []
-      nothing (Swap expected word) e = refl
-      nothing Load e = absurd (cc e)
-      nothing (Store word) e = absurd (cc e)
-      nothing (Raise word) e = absurd (cc e)
-      nothing (Mask bits) e = absurd (cc e)
-      nothing Count e = absurd (cc e)
-
       only : let l = known_miss w.shape w.start p (w.words p.at) (w.known s.requester) in
           l ≡ record (w.known s.requester) { seen = l.seen; stood = l.stood; steps = l.steps; call = l.call }
       only = let l = known_miss w.shape w.start p (w.words p.at) (w.known s.requester) in λ i. record l { halted = halted_same p.at (w.known s.requester) i }

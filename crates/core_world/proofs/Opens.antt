@@ -130,6 +130,7 @@ module _ (s : Shape) (start : ℕ) (biasing : Bool) where
         unwaiting = λ t u o v e g h i. absurd (cc e);
         unwaited = λ t o v e g h i. absurd (cc e);
         stands = λ t n v e. absurd (cc e);
+        looks = λ t e. absurd (cc e);
         monitors = λ t m v e. absurd (cc e);
         monitors_since = λ t m v e. absurd (cc e);
       }

@@ -66,6 +66,7 @@ module _ (p : StepPlan) (found t : ℕ) (l : Known) (w : World) (owner next : �
             (λ e r a g. alone o s (same_name (Mark o) p.at) refl (ap (last_seen (Mark o)) (sym seen) ∙ e) r a g)
             (λ d e r a g. spares.unwaited u o d (spares.owned u o d a) (h.unwaited u o s e r (spares.owned u o d a) g));
         stands = λ u n s r. absurd (spares.unreached u r);
+        looks = λ u r. absurd (spares.unreached u r);
         monitors = λ u m s. each_told (λ u y. y.running ≡ true → HasMet y.seen m s → IsKeptOrNamed x y m) t l w.known u
             (λ r e. met m s r e.0 e.1 (same_name e.0 p.at) refl (ap (last_seen e.0) (sym seen) ∙ e.2))
             (λ d r e. forth (w.known u) m (h.monitors u m s r e));

@@ -1,5 +1,5 @@
 -- What the threads have seen stays when one of them makes a step that leaves its word as it was, whether it runs or not.
-use Rattle.std.proofs.Common.{◌≡◌, ◌⊎◌, ℕ, ◌||◌, Bool, true, false, cond, List, [], ◌∷◌, Some, None, sym, ap, ◌∙◌, refl, inl, inr}
+use Rattle.std.proofs.Common.{◌≡◌, ◌⊎◌, ℕ, ◌||◌, Bool, true, false, cond, List, [], ◌∷◌, Some, None, sym, ap, ◌∙◌, refl, subst, inl, inr}
 use Rattle.std.proofs.lemmas.Option.{same_Some}
 use Rattle.core_world.specs.declared.name.Name.{Name}
 use Rattle.core_world.specs.declared.name.Name.TheVariants.{Mark, Waiting}
@@ -7,11 +7,12 @@ use Rattle.core_world.specs.declared.plan.StepPlan.{StepPlan}
 use Rattle.core_world.specs.Acts.{after}
 use Rattle.core_world.specs.Names.{same_name, its_monitor}
 use Rattle.core_world.specs.Forms.{is_biased, monitor_in, waits_on}
-use Rattle.core_world.specs.Stages.{inflation_in, bears}
+use Rattle.core_world.specs.Stages.{inflation_in, bears, settling}
 use Rattle.core_world.specs.Known.{Known, Made, last_seen}
 use Rattle.core_world.specs.World.{World}
 use Rattle.core_world.specs.Locks.{marks}
-use Rattle.core_world.specs.SeenWords.{SeenStays, Stays, HasMet, IsKeptOrNamed}
+use Rattle.core_world.specs.SeenWords.{SeenStays, Stays, HasMet, IsKeptOrNamed, AllLooked}
+use Rattle.core_world.specs.Settling.{write_by}
 use Rattle.core_world.specs.Looking.{IsOfMonitor}
 use Rattle.core_world.proofs.Parts.{each_told}
 use Rattle.core_world.proofs.Naming.{same_named, noted}
@@ -22,6 +23,8 @@ use Rattle.core_world.proofs.SeenMoves.{IsPart}
 -- safepoint was reached on what it saw since
 pub record Looks (w : World) (waiters : ℕ → List (ℕ × ℕ)) (k l : Known) (p : StepPlan) (found : ℕ) : Type 0 where
   pub word : after p.act found ≡ w.words p.at
+  pub as_found : found ≡ w.words p.at
+  pub unwritten : write_by p.at p.act ≡ []
   pub run : l.running ≡ k.running
   pub ask : l.requesting ≡ k.requesting
   pub stage : l.stage ≡ k.stage
@@ -32,6 +35,7 @@ pub record Looks (w : World) (waiters : ℕ → List (ℕ × ℕ)) (k l : Known)
   pub since : List Made
   pub stood : l.stood ≡ record { plan = p; found = found } ∷ since
   pub there : (n : Name) (s : ℕ) → l.reached ≡ true → last_seen n since ≡ Some s → w.words n ≡ s
+  pub there_looked : l.reached ≡ true → settling k.stage ≡ None → AllLooked w.words since
   pub there_monitors : (m s : ℕ) → l.reached ≡ true → HasMet since m s → IsKeptOrNamed w k m
   pub fresh : (m : ℕ) → IsOfMonitor m p.at → IsKeptOrNamed w k m
   pub idle : k.running ≡ true → (o : ℕ) → monitor_in (marks w o) ≡ None → waiters o ≡ []
@@ -101,6 +105,9 @@ module _ (p : StepPlan) (found t : ℕ) (l : Known) (w : World) (owner : ℕ →
         stands = λ u n s. each_told (λ u y. y.reached ≡ true → last_seen n y.stood ≡ Some s → w.words n ≡ s) t l w.known u
             (λ r e. newest n s looks.since (λ a. looks.there n s r a) (same_name n p.at) refl (ap (last_seen n) (sym looks.stood) ∙ e))
             (λ d r e. h.stands u n s r e);
+        looks = λ u. each_told (λ u y. y.reached ≡ true → settling y.stage ≡ None → AllLooked w.words y.stood) t l w.known u
+            (λ r e. subst (AllLooked w.words) (sym looks.stood) (looks.unwritten, looks.as_found, looks.there_looked r (ap settling (sym looks.stage) ∙ e)))
+            (λ d r e. h.looks u r e);
         monitors = λ u m s. each_told (λ u y. y.running ≡ true → HasMet y.seen m s → IsKeptOrNamed (noted t l w) y m) t l w.known u
             (λ r e. kept_forth m (met_any m s looks.old l.seen looks.seen (λ a. h.monitors t m s (sym looks.run ∙ r) (part_met m s a)) e))
             (λ d r e. h.monitors u m s r e);

@@ -10,7 +10,7 @@ use Rattle.core_world.specs.declared.task.Task.TheVariants.{Enter, Exit, Wait, N
 use Rattle.core_world.specs.Shape.{Shape, slots_of}
 use Rattle.mark_word.specs.Mark.{mark_of}
 use Rattle.mark_word.specs.declared.mark.MarkForm.TheVariants.{Locked}
-use Rattle.core_world.specs.Forms.{is_neutral}
+use Rattle.core_world.specs.Forms.{is_neutral, waits_on, says_ended}
 use Rattle.core_world.specs.Locks.{named}
 use Rattle.core_world.specs.Settling.{first_place}
 use Rattle.core_world.specs.Safepoints.{ends}
@@ -80,11 +80,11 @@ may_act k = may_operate k false
 abbrev pub is_own_first : Known → ℕ → ℕ → Bool
 is_own_first k o mark = nat_lt 0 (named o k.holds) && (mark == mark_of (Locked k.thread (first_place o k.holds)))
 
--- the call may begin
+-- the call may begin: no exit asks for a safepoint, nor does a wait that has let go; and a thread that has ended says so before it stops
 abbrev pub may_begin : Shape → Known → Task → Bool
 may_begin s k (Enter o now) = is_object s o && may_operate k (goes_on_with op.Enter o k.unfinished)
-may_begin s k (Exit o) = is_object s o && may_operate k (goes_on_with op.Exit o k.unfinished)
-may_begin s k (Wait o now) = is_object s o && may_operate k (goes_on_with op.Wait o k.unfinished)
+may_begin s k (Exit o) = is_object s o && k.running && may_operate k (goes_on_with op.Exit o k.unfinished)
+may_begin s k (Wait o now) = is_object s o && (k.running || not (waits_on k.wait o)) && may_operate k (goes_on_with op.Wait o k.unfinished)
 may_begin s k (Notify o now) = is_object s o && may_operate k (goes_on_with op.Notify o k.unfinished)
 may_begin s k (NotifyAll o now) = is_object s o && may_operate k (goes_on_with op.NotifyAll o k.unfinished)
 may_begin s k (Hash o now) = is_object s o && may_operate k (goes_on_with op.Hash o k.unfinished)
@@ -94,11 +94,11 @@ may_begin s k (Print value) = is_value s value && may_act k
 may_begin s k Dump = may_operate k (goes_on_with op.Dump 0 k.unfinished)
 may_begin s k (Finish ending) = list_all (λ h. h == 0) k.holds && may_act k
 may_begin s k Poll = k.running
-may_begin s k Stop = k.running
+may_begin s k Stop = k.running && (not (ends k.log) || says_ended k.wait)
 may_begin s k Resume = not k.running && not k.requesting
-may_begin s k Check = not (ends k.log) && (k.running || (k.requesting && k.checking))
+may_begin s k Check = not (ends k.log) && ((k.running && not k.checking) || (k.requesting && k.checking))
 may_begin s k (StackEnter o mark) = is_object s o && may_act k && nat_lt (free_place k.holds) 64 && (is_neutral mark || is_own_first k o mark)
-may_begin s k (StackExit o) = is_object s o && nat_lt 0 (named o k.holds) && may_operate k (goes_on_with op.Exit o k.unfinished)
+may_begin s k (StackExit o) = is_object s o && k.running && nat_lt 0 (named o k.holds) && may_operate k (goes_on_with op.Exit o k.unfinished)
 may_begin s k Request = may_act k
 may_begin s k Reached = k.requesting && is_none k.unfinished && not k.checking
 may_begin s k Release = k.reached && is_none k.unfinished && not k.checking

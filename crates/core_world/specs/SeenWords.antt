@@ -1,5 +1,5 @@
 -- What a thread has seen in the middle of a call is still there, where no other thread may change it meanwhile.
-use Rattle.std.specs.Prelude.{◌≡◌, ◌⊎◌, ℕ, ◌||◌, Bool, true, false, List, [], Option, Some, None}
+use Rattle.std.specs.Prelude.{◌≡◌, ◌⊎◌, ℕ, ◌||◌, Bool, true, false, List, [], ◌∷◌, Option, Some, None}
 use Rattle.mark_word.specs.declared.mark.MarkForm.{MarkForm}
 use Rattle.mark_word.specs.declared.mark.MarkForm.TheVariants.{Biased}
 use Rattle.mark_word.specs.Mark.{read_mark}
@@ -7,9 +7,10 @@ use Rattle.core_world.specs.declared.name.Name.{Name}
 use Rattle.core_world.specs.declared.name.Name.TheVariants.{Safe, Prototype, Count, Last, Mark, Stamp, Slot, Hold, Displaced, Waiting, Length, Owner, Recursions, Header, Object, Claim}
 use Rattle.core_world.specs.Names.{its_monitor}
 use Rattle.core_world.specs.Forms.{epoch_in, is_biased, monitor_in, waits_on, told_of}
-use Rattle.core_world.specs.Stages.{Inflation, inflation_in, bears}
+use Rattle.core_world.specs.Stages.{Inflation, inflation_in, bears, settling}
 use Rattle.core_world.specs.Known.{Known, Made, last_seen}
 use Rattle.core_world.specs.World.{World}
+use Rattle.core_world.specs.Settling.{write_by}
 use Rattle.core_world.specs.Locks.{has_epoch, marks, prototype_of}
 
 -- the mark is validly biased to a thread, by this prototype
@@ -67,6 +68,11 @@ IsKeptOrNamed w k m = (k.kept ≡ Some m) ⊎ ((o : ℕ) × (monitor_in (marks w
 abbrev pub HasMet : List Made → ℕ → ℕ → Type 0
 HasMet steps m v = (n : Name) × (its_monitor n ≡ Some m) × (last_seen n steps ≡ Some v)
 
+-- each of these steps looked at its word, and found it as it is
+abbrev pub AllLooked : (Name → ℕ) → List Made → Type 0
+AllLooked words [] = Unit {0}
+AllLooked words (m ∷ ms) = (write_by m.plan.at m.plan.act ≡ []) × (m.found ≡ words m.plan.at) × AllLooked words ms
+
 pub record SeenStays (w : World) (owner : ℕ → ℕ → Bool) (waits : ℕ → List (ℕ × ℕ)) : Type 0 where
   pub stays : (t : ℕ) (n : Name) (v : ℕ) → last_seen n (w.known t).seen ≡ Some v → Stays w (w.known t) owner t n v → w.words n ≡ v
   -- a mark that had no bias pattern has none
@@ -79,6 +85,8 @@ pub record SeenStays (w : World) (owner : ℕ → ℕ → Bool) (waits : ℕ →
   pub unwaited : (t o v : ℕ) → last_seen (Mark o) (w.known t).seen ≡ Some v → (w.known t).running ≡ true → owner o t ≡ true → monitor_in v ≡ None → waits o ≡ []
   -- at its reached safepoint each word is as the thread saw it since
   pub stands : (t : ℕ) (n : Name) (v : ℕ) → (w.known t).reached ≡ true → last_seen n (w.known t).stood ≡ Some v → w.words n ≡ v
+  -- and it has only looked since, unless it revokes a bias
+  pub looks : (t : ℕ) → (w.known t).reached ≡ true → settling (w.known t).stage ≡ None → AllLooked w.words (w.known t).stood
   -- a running thread has seen words only of such monitors as it keeps or a mark names; so has one at its reached safepoint
   pub monitors : (t m v : ℕ) → (w.known t).running ≡ true → HasMet (w.known t).seen m v → IsKeptOrNamed w (w.known t) m
   pub monitors_since : (t m v : ℕ) → (w.known t).reached ≡ true → HasMet (w.known t).stood m v → IsKeptOrNamed w (w.known t) m

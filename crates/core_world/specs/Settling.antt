@@ -1,6 +1,6 @@
 -- What a revocation at a safepoint stores, one store after the other: a single revocation, a bulk rebias or a bulk revoke, after
 -- OpenJDK 8's biasedLocking.cpp (revoke_bias, bulk_revoke_or_rebias_at_safepoint).
-use Rattle.std.specs.Prelude.{ℕ, zero, suc, ◌+◌, ◌%◌, ◌==◌, ◌&&◌, if◌then◌else◌, Bool, true, false, List, [], ◌∷◌, ◌++◌, Option, Some, None}
+use Rattle.std.specs.Prelude.{◌≡◌, ℕ, zero, suc, ◌+◌, ◌%◌, ◌==◌, ◌&&◌, if◌then◌else◌, Bool, true, false, List, [], ◌∷◌, ◌++◌, Option, Some, None}
 use Rattle.std.specs.List.{position_or_len}
 use Rattle.mark_word.specs.declared.mark.MarkForm.{MarkForm}
 use Rattle.mark_word.specs.declared.mark.MarkForm.TheVariants.{Neutral, Anonymous, Biased, Locked}
@@ -43,6 +43,11 @@ write_by at _ = []
 abbrev pub writes_in : List Made → List Write
 writes_in [] = []
 writes_in (m ∷ ms) = writes_in ms ++ write_by m.plan.at m.plan.act
+
+-- each of these steps found its word as the stores before it left it, of these words
+abbrev pub FoundAfter : (Name → ℕ) → List Made → Type 0
+FoundAfter f [] = Unit {0}
+FoundAfter f (m ∷ ms) = (m.found ≡ stored (writes_in ms) f m.plan.at) × FoundAfter f ms
 
 -- a rule says which stores to make, by the words that it finds
 abbrev pub Rule : Type 0

@@ -31,7 +31,7 @@ use Rattle.core_world.specs.Stamps.{StampsFit}
 use Rattle.core_world.specs.Lengths.{LengthsFit}
 use Rattle.core_world.specs.Claims.{MonitorsAreClaimed}
 use Rattle.core_world.specs.Classes.{ClassesFit, rebiases, revokes}
-use Rattle.core_world.specs.Settling.{Write, settle_writes, stored, writes_in}
+use Rattle.core_world.specs.Settling.{Write, FoundAfter, settle_writes, stored, writes_in}
 
 -- the three clauses that speak of a world's words as they are, whatever is under way
 abbrev pub SeenFit : World → List PlainObject → Type 0
@@ -117,6 +117,8 @@ pub record IsSettling (w : World) (objects : List PlainObject) : Type 0 where
   pub writes : writes_in (w.known requester).stood ++ rest ≡ settle_writes before.shape requester settlement before.words
   pub begun : writes_in (w.known requester).stood ≢ []
   pub words : w.words ≡ stored (writes_in (w.known requester).stood) before.words
+  -- what its steps since its safepoint was reached found is what was there before, but for its stores
+  pub found : FoundAfter before.words (w.known requester).stood
   -- the safepoint word is none of them
   pub untouched : w.words Safe ≡ before.words Safe
   pub knows : w.known requester ≡ settled_known before requester settlement (w.known requester)

@@ -19,8 +19,8 @@ pub fn the_opening_world_is_valid()
 
 /// A load that logs nothing, and an exchange that finds another word than it expects, keep every valid world valid, with the same
 /// plain objects: of any thread, whether it runs, is stopped, or stands at its reached safepoint, also while a bias is being
-/// revoked. A thread that neither runs nor stands at its safepoint looks at the safepoint word alone, and nobody looks at the owner
-/// or the recursions of a monitor that it neither keeps nor has seen named by a mark.
+/// revoked. A thread that neither runs nor stands at its safepoint looks at the safepoint word alone, and nobody looks at a
+/// word of a monitor that it neither keeps nor has seen named by a mark.
 pub fn a_look_keeps_the_world_valid()
     ensures load { (w : World) (objects : List PlainObject) (t : ℕ) (p : StepPlan) → t < w.shape.threads → IsLook (w.known t) p
         → IsValid w objects → IsValid (moved p t w) objects }
