@@ -1,6 +1,7 @@
 -- A running thread loads the stamp of an object that it is taking, and logs the entry by which it becomes the plain owner: an Enter or a
 -- Resume. Who owns, waits and was called, who has the lock and how often each thread holds, afterwards.
 use Rattle.std.proofs.Common.{◌≡◌, ◌≢◌, ◌⊎◌, ℕ, ◌+◌, ◌<◌, ◌==◌, ◌||◌, ne_eqb, Bool, true, false, cond, List, [], ◌∷◌, length, slice_set, Option, Some, None, refl, sym, ap, ◌∙◌, subst, arith, inl, inr}
+use Rattle.std.proofs.Math.Bool.{or-false}
 use Rattle.plain_monitor.specs.declared.entry.Entry.{Entry}
 use Rattle.plain_monitor.specs.Monitor.{PlainMonitor, is_thread, is_listed, count_of, owns}
 use Rattle.plain_monitor.specs.Objects.{PlainObject, take_at}
@@ -204,17 +205,13 @@ module _ (w : World) (P : List PlainObject) (t o : ℕ) (e : Entry) (r : Errand)
     | inr b ↦ v.owners.same i u ∙ ap (λ c. c || bears (w.known u).stage i) (sym (owner_other i u b.0)) ∙ ap (λ s. owner_at Q i u || bears s i) (sym b.1)
   ]
     where
-      or_false : (b : Bool) → (b || false) ≡ b
-      or_false true = refl
-      or_false false = refl
-
       or_calm : (b : Bool) (s : Stage) (i : ℕ) → s ≡ Calm → (b || bears s i) ≡ b
-      or_calm b s i h = ap (λ q. b || bears q i) h ∙ or_false b
+      or_calm b s i h = ap (λ q. b || bears q i) h ∙ or-false b
 
       mine : (i : ℕ) → is_thread (who w i) t ≡ owner_at Q i t
       mine i = by_equal i o
           (λ s. ap (λ j. is_thread (who w j) t) s ∙ ap (λ q. is_thread q t) (who_bears w P o t v borne) ∙ sym (owner_here t) ∙ ap (λ j. owner_at Q j t) (sym s))
-          (λ n. v.owners.same i t ∙ ap (λ b. owner_at P i t || b) (unborne i n) ∙ or_false (owner_at P i t) ∙ sym (owner_else i t n))
+          (λ n. v.owners.same i t ∙ ap (λ b. owner_at P i t || b) (unborne i n) ∙ or-false (owner_at P i t) ∙ sym (owner_else i t n))
 
   pub owners_law : LocksArePlain (who x) (λ u. (x.known u).stage) (owner_at Q)
   owners_law = record {

@@ -1,40 +1,30 @@
 -- What holds where a thread may leave by clearing a hold word: it is the plain owner, has several holds, and the recursions count its records,
 -- but for the one that it clears.
-use Rattle.std.proofs.Common.{◌≡◌, ◌≢◌, ℕ, zero, suc, ◌+◌, ◌<◌, ◌≤◌, ◌^◌, ◌==◌, ◌&&◌, ◌||◌, nat_lt, eq-eqb, Bool, true, false, List, [], ◌∷◌, Option, Some, None, refl, sym, ap, ◌∙◌, subst, arith, inl, inr}
+use Rattle.std.proofs.Common.{◌≡◌, ◌≢◌, ℕ, zero, suc, ◌+◌, ◌<◌, ◌≤◌, ◌^◌, ◌==◌, ◌&&◌, nat_lt, eq-eqb, Bool, true, false, List, [], ◌∷◌, Option, Some, None, refl, sym, ap, ◌∙◌, subst, arith, inl, inr}
 use Rattle.std.proofs.lemmas.Bool.Decides.{nat_tests}
 use Rattle.mark_word.specs.Hold.{read_hold}
-use Rattle.mark_word.specs.Mark.{read_mark}
-use Rattle.mark_word.specs.Owner.{read_owner, owner_of}
 use Rattle.mark_word.specs.declared.hold.HoldForm.{HoldForm}
 use Rattle.mark_word.specs.declared.hold.HoldForm.TheVariants.{Empty, Holds}
-use Rattle.mark_word.specs.declared.owner.OwnerForm.TheVariants.{ByThread}
 use Rattle.mark_word.proofs.ReadingHolds.{read_hold-spells}
-use Rattle.mark_word.proofs.ReadingOwners.{read_owner-owner_of}
 use Rattle.plain_monitor.specs.Objects.{PlainObject}
-use Rattle.core_world.specs.declared.name.Name.TheVariants.{Mark, Hold, Displaced, Owner}
+use Rattle.core_world.specs.declared.name.Name.TheVariants.{Mark, Hold, Displaced}
 use Rattle.core_world.specs.declared.stage.Stage.{Stage}
 use Rattle.core_world.specs.declared.stage.Stage.TheVariants.{Calm, Behind}
 use Rattle.core_world.specs.Forms.{is_deeper, deeper_form, hold_word, monitor_in}
-use Rattle.core_world.specs.Stages.{one_if, bears, extra, ahead, behind}
+use Rattle.core_world.specs.Stages.{one_if, extra, ahead, behind}
 use Rattle.core_world.specs.Known.{last_seen}
-use Rattle.core_world.specs.Locks.{Manned, lock, lock_form, owner_lock, marks, prototype_of, owner_words, inflations, displaced, monitor_of, number, named, times, again, owner_at}
+use Rattle.core_world.specs.Locks.{Manned, lock, marks, displaced, monitor_of, number, named, times, again, owner_at}
 use Rattle.core_world.specs.Valid.{Fits}
 use Rattle.core_world.specs.World.{World}
 use Rattle.core_world.proofs.Stands.{same_number}
-use Rattle.core_world.proofs.Shows.{inflated_form}
 use Rattle.core_locks.specs.Knowing.{SawInflated, SawOwn}
 use Rattle.core_locks.specs.LockLaws.{MayLeave}
 use Rattle.core_locks.proofs.HoldClears.{and_false}
 use Rattle.core_locks.proofs.HoldCounts.{hold_in_form}
 use Rattle.core_locks.proofs.WaitOut.{ready_is_out, even_holder_owns}
+use Rattle.core_locks.proofs.HoldWays.{saw_manned}
 use Rattle.core_locks.proofs.ExitEntries.{own_displaced}
 use Rattle.core_locks.proofs.ExitStages.{IsStill, calm_still, behind_still}
-
--- an object whose mark names a monitor is the thread's by that monitor's owner word
-pub manned_by : (w : World) (o m t : ℕ) → monitor_in (marks w o) ≡ Some m → owner_words w m ≡ owner_of (ByThread t) → t < 32 → lock w o ≡ Manned t
-manned_by w o m t names owned few =
-    ap (λ f. lock_form f (prototype_of w o) (owner_words w) (inflations w o)) (inflated_form (read_mark (marks w o)) m names)
-    ∙ ap (λ n. owner_lock (read_owner n)) owned ∙ ap owner_lock (read_owner-owner_of (ByThread t) few)
 
 -- the hold word of a deeper record
 deeper_word : (o h : ℕ) → is_deeper o h ≡ true → (e : ℕ) × (2 ≤ e) × (e ≤ 64) × (h ≡ hold_word o e)
@@ -94,10 +84,7 @@ module _ (w : World) (P : List PlainObject) (t o d p : ℕ) (within : t < w.shap
     mark_names = ap monitor_in (v.seen.stays t (Mark o) inflated.0 inflated.1 (inl (may.runs, inr (inl (m, inflated.2))))) ∙ inflated.2
 
     manned : lock w o ≡ Manned t
-    manned =
-        let mine : (owner_at P o t || bears (w.known t).stage o) ≡ true = ap (λ b. b || bears (w.known t).stage o) leaves_owned.0 in
-        let word = v.seen.stays t (Owner m) (owner_of (ByThread (w.known t).thread)) own (inl (may.runs, inr (o, mark_names, mine))) in
-        manned_by w o m t mark_names (word ∙ ap (λ u. owner_of (ByThread u)) (v.numbered t)) (omega (arith, within, v.limits.threads))
+    manned = saw_manned w P t o may.runs v m (omega (arith, within, v.limits.threads)) leaves_owned.0 inflated own
 
     -- the recursions and this hold are the records that were made through the monitor, so there is a deeper one
     behind_again : 1 ≤ again o (displaced w t) (w.known t).holds

@@ -1,5 +1,6 @@
 -- A thread stores a new hold word of an object in an empty place.
 use Rattle.std.proofs.Common.{◌≡◌, ◌≢◌, ◌⊎◌, ℕ, ◌+◌, ◌<◌, ◌≤◌, ◌==◌, ◌&&◌, ◌||◌, nat_lt, eq-eqb, ne_eqb, Bool, true, false, List, slice_index, slice_set, Some, refl, sym, ap, ◌∙◌, subst, arith, inl, inr}
+use Rattle.std.proofs.Math.Bool.{or-true}
 use Rattle.std.proofs.lemmas.Bool.Decides.{nat_tests}
 use Rattle.mark_word.specs.Mark.{read_mark}
 use Rattle.plain_monitor.specs.Monitor.{is_thread, is_listed}
@@ -160,14 +161,10 @@ module _ (w : World) (P : List PlainObject) (t : ℕ) (e : Errand) (o d p : ℕ)
       by_equal i o
       (λ s.
       let here = ap (λ j. owner_at P j t || bears (w.known t).stage j) s ∙ way_bears w P t o p way in
-      here ∙ sym (ap (λ (b : Bool). owner_at P i t || b) (eq-eqb o i (sym s)) ∙ or_true (owner_at P i t)))
+      here ∙ sym (ap (λ (b : Bool). owner_at P i t || b) (eq-eqb o i (sym s)) ∙ or-true (owner_at P i t)))
       (λ n.
       let other = ne_eqb o i (λ q. n (sym q)) in
       ap (λ (b : Bool). owner_at P i t || b) (at_stage (λ s. bears s i ≡ false) w P t o p way other refl other refl ∙ sym other))
-    where
-      or_true : (b : Bool) → (b || true) ≡ true
-      or_true true = refl
-      or_true false = refl
 
   same_law : (i u : ℕ) → is_thread (holder (lock w i) (λ z. named i (told t l w.known z).holds)) u ≡ (owner_at P i u || bears (told t l w.known u).stage i)
   same_law i u = ap (λ f. is_thread f u) (holder_same i) ∙ v.owners.same i u ∙ elim (stage_at u) [

@@ -1,5 +1,6 @@
 -- The four ways in which a thread comes to store a hold word, and what each says of the world.
-use Rattle.std.proofs.Common.{◌≡◌, ℕ, ◌<◌, ◌≤◌, ◌||◌, eq-eqb, Bool, true, false, List, Some, refl, sym, ap, ◌∙◌, subst, arith, inl, inr}
+use Rattle.std.proofs.Common.{◌≡◌, ℕ, ◌<◌, ◌≤◌, ◌||◌, eq-eqb, Bool, true, List, Some, refl, sym, ap, ◌∙◌, subst, arith, inl, inr}
+use Rattle.std.proofs.Math.Bool.{or-true}
 use Rattle.mark_word.specs.declared.mark.MarkForm.TheVariants.{Inflated}
 use Rattle.mark_word.specs.declared.owner.OwnerForm.TheVariants.{ByThread}
 use Rattle.mark_word.specs.Mark.{read_mark}
@@ -62,15 +63,11 @@ at_stage F w P t o p (ByHolding a) f g h i = subst F (sym a.stage) g
 at_stage F w P t o p (ByGrabbing a) f g h i = subst F (sym a.stage) h
 at_stage F w P t o p (ByRaising a) f g h i = subst F (sym a.stage) i
 
-or_true : (b : Bool) → (b || true) ≡ true
-or_true true = refl
-or_true false = refl
-
 -- the thread owns the object, or has its lock
 pub way_bears : (w : World) (P : List PlainObject) (t o p : ℕ) → Way w P t o p → (owner_at P o t || bears (w.known t).stage o) ≡ true
-way_bears w P t o p (BySeizing a) = ap (λ s. owner_at P o t || bears s o) a.stage ∙ ap (λ (b : Bool). owner_at P o t || b) (eq-eqb o o refl) ∙ or_true (owner_at P o t)
+way_bears w P t o p (BySeizing a) = ap (λ s. owner_at P o t || bears s o) a.stage ∙ ap (λ (b : Bool). owner_at P o t || b) (eq-eqb o o refl) ∙ or-true (owner_at P o t)
 way_bears w P t o p (ByHolding a) = ap (λ (b : Bool). b || bears (w.known t).stage o) a.owner
-way_bears w P t o p (ByGrabbing a) = ap (λ s. owner_at P o t || bears s o) a.stage ∙ ap (λ (b : Bool). owner_at P o t || b) (eq-eqb o o refl) ∙ or_true (owner_at P o t)
+way_bears w P t o p (ByGrabbing a) = ap (λ s. owner_at P o t || bears s o) a.stage ∙ ap (λ (b : Bool). owner_at P o t || b) (eq-eqb o o refl) ∙ or-true (owner_at P o t)
 way_bears w P t o p (ByRaising a) = ap (λ (b : Bool). b || bears (w.known t).stage o) a.owner
 
 module _ (w : World) (P : List PlainObject) (t o : ℕ) (runs : (w.known t).running ≡ true) (v : Fits w P) where

@@ -1,5 +1,6 @@
 -- A list of waiters with one more at its end.
 use Rattle.std.proofs.Common.{◌≡◌, ◌≢◌, ◌⊎◌, ℕ, ◌<◌, ◌==◌, ◌&&◌, ◌||◌, nat_lt, ne_eqb, eqb-true, Bool, true, false, cond, List, [], ◌∷◌, ◌++◌, Some, None, refl, sym, ap, ◌∙◌, arith, inl, inr, zero, suc}
+use Rattle.std.proofs.Math.Bool.{or-true}
 use Rattle.std.proofs.lemmas.Bool.Decides.{nat_tests}
 use Rattle.std.specs.List.{AllByRecursion}
 use Rattle.plain_monitor.specs.Monitor.{is_listed, count_of}
@@ -8,10 +9,6 @@ use Rattle.core_world.specs.Forms.{waits_on, told_of, stamp_in}
 use Rattle.core_world.specs.Waits.{StandsBefore, StandByStamps, AreTold}
 use Rattle.core_world.proofs.Frames.{frame2}
 use Rattle.core_world.proofs.Stands.{same_number}
-
-or_holds : (b : Bool) → (b || true) ≡ true
-or_holds true = refl
-or_holds false = refl
 
 -- who was listed is
 pub listed_forth : (ps : List (ℕ × ℕ)) (t c u : ℕ) → is_listed ps u ≡ true → is_listed (ps ++ (t, c) ∷ []) u ≡ true
@@ -26,7 +23,7 @@ listed_forth (p ∷ ps) t c u h = at_head (p.0 == u) h (listed_forth ps t c u)
 -- so is the new one
 pub listed_last : (ps : List (ℕ × ℕ)) (t c : ℕ) → is_listed (ps ++ (t, c) ∷ []) t ≡ true
 listed_last [] t c = ap (λ (b : Bool). b || false) (same_number t)
-listed_last (p ∷ ps) t c = ap (λ b. (p.0 == t) || b) (listed_last ps t c) ∙ or_holds (p.0 == t)
+listed_last (p ∷ ps) t c = ap (λ b. (p.0 == t) || b) (listed_last ps t c) ∙ or-true (p.0 == t)
 
 -- and nobody else
 pub listed_back : (ps : List (ℕ × ℕ)) (t c u : ℕ) → is_listed (ps ++ (t, c) ∷ []) u ≡ true → (is_listed ps u ≡ true) ⊎ (u ≡ t)
@@ -61,7 +58,7 @@ listed_head : (p : ℕ × ℕ) (ps : List (ℕ × ℕ)) → is_listed (p ∷ ps)
 listed_head p ps = ap (λ b. b || is_listed ps p.0) (same_number p.0)
 
 listed_tail : (p : ℕ × ℕ) (ps : List (ℕ × ℕ)) (u : ℕ) → is_listed ps u ≡ true → is_listed (p ∷ ps) u ≡ true
-listed_tail p ps u h = ap (λ b. (p.0 == u) || b) h ∙ or_holds (p.0 == u)
+listed_tail p ps u h = ap (λ b. (p.0 == u) || b) h ∙ or-true (p.0 == u)
 
 -- one stands before the others by words that are the same
 before_same : (f g : ℕ → ℕ) (o : ℕ) (p : ℕ × ℕ) (qs : List (ℕ × ℕ)) → g p.0 ≡ f p.0 → ((u : ℕ) → is_listed qs u ≡ true → g u ≡ f u)

@@ -1,5 +1,6 @@
 -- A thread that was called and has the object's monitor again loads the object's stamp, and so logs its Resume.
-use Rattle.std.proofs.Common.{◌≡◌, ℕ, ◌+◌, ◌<◌, ◌||◌, is_none, Bool, true, false, cond, List, slice_set, Some, None, refl, sym, ap, ◌∙◌, arith, inl, inr}
+use Rattle.std.proofs.Common.{◌≡◌, ℕ, ◌+◌, ◌<◌, ◌||◌, is_none, true, false, cond, List, slice_set, Some, None, refl, sym, ap, ◌∙◌, arith, inl, inr}
+use Rattle.std.proofs.Math.Bool.{or-true}
 use Rattle.std.proofs.lemmas.Option.{same_Some}
 use Rattle.mark_word.specs.declared.owner.OwnerForm.TheVariants.{ByThread}
 use Rattle.mark_word.specs.Owner.{read_owner, owner_of}
@@ -77,11 +78,7 @@ module _ (w : World) (P : List PlainObject) (t o m : ℕ) (within : t < w.shape.
   mark = ap monitor_in (v.seen.stays t (Mark o) may.inflated.0 may.inflated.1 (inl (may.runs, inr (inl (m, may.inflated.2))))) ∙ may.inflated.2
 
   own : IsOwnMonitor w (w.known t) (owner_at P) t m
-  own = (o, mark, ap (λ b. owner_at P o t || b) borne ∙ or_true (owner_at P o t))
-    where
-      or_true : (b : Bool) → (b || true) ≡ true
-      or_true true = refl
-      or_true false = refl
+  own = (o, mark, ap (λ b. owner_at P o t || b) borne ∙ or-true (owner_at P o t))
 
   -- so the owner word still says so
   manned : read_owner (owner_words w m) ≡ Some (ByThread t)

@@ -12,8 +12,8 @@ use Rattle.core_world.specs.SeenWords.{StaysWhileRunning, StaysWhileAsking, IsKe
 use Rattle.core_world.specs.Valid.{Fits, SeenFit}
 use Rattle.core_world.specs.Steps.{undisplaced}
 use Rattle.core_world.proofs.ActsLook.{undisplaced_is_part}
+use Rattle.core_world.proofs.LookSettles.{unwaited_fits}
 use Rattle.core_world.proofs.SeenMoves.{IsPart, Counts, counts_anew}
-use Rattle.core_locks.proofs.SafeFacts.{unmonitored_unwaited}
 
 module _ (w : World) (P : List PlainObject) (t word : ℕ) (l : Known) where
   -- the safepoint word is of no monitor
@@ -64,7 +64,7 @@ module _ (w : World) (P : List PlainObject) (t word : ℕ) (l : Known) where
     others = λ n s e a st. v.seen.stands t n s reached (part n s e);
     unbiased = λ o s e g r. ap is_biased (v.seen.stands t (Mark o) s reached (part (Mark o) s e)) ∙ g;
     unwaiting = λ u o s e a g r. ap (λ z. waits_on z o) (v.seen.stands t (Waiting u) s reached (part (Waiting u) s e)) ∙ g;
-    unwaited = λ o s e r a g. unmonitored_unwaited w P o v (ap monitor_in (v.seen.stands t (Mark o) s reached (part (Mark o) s e)) ∙ g);
+    unwaited = λ o s e r a g. unwaited_fits w P v o (ap monitor_in (v.seen.stands t (Mark o) s reached (part (Mark o) s e)) ∙ g);
     idle = λ o e r a g. absurd (cc e);
     monitors = λ m s r e. forth m (v.seen.monitors_since t m s reached (e.0, e.1, part e.0 s e.2));
     fresh = λ m r is. absurd (of_none m is);

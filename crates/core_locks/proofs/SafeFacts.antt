@@ -1,20 +1,19 @@
 -- What the safepoint word and the threads' requests say in a valid world.
-use Rattle.std.proofs.Common.{◌≡◌, ◌≢◌, ℕ, ◌<◌, ◌||◌, eq-eqb, Bool, true, false, cond, List, [], ◌∷◌, Option, Some, None, refl, sym, ap, ◌∙◌, subst, arith, inl, inr}
+use Rattle.std.proofs.Common.{◌≡◌, ◌≢◌, ℕ, ◌<◌, Bool, true, false, cond, List, Option, Some, None, refl, sym, ap, ◌∙◌, subst, arith, inl, inr}
 use Rattle.mark_word.specs.declared.safe.SafeForm.{SafeForm}
 use Rattle.mark_word.specs.Safe.{safe_of, read_safe}
 use Rattle.mark_word.proofs.ReadingSafepoints.{read_safe-spells}
-use Rattle.plain_monitor.specs.Monitor.{is_thread, is_listed}
+use Rattle.plain_monitor.specs.Monitor.{is_thread}
 use Rattle.plain_monitor.specs.Objects.{PlainObject}
 use Rattle.core_world.specs.declared.act.Act.{Act}
 use Rattle.core_world.specs.declared.name.Name.TheVariants.{Safe}
 use Rattle.core_world.specs.declared.stage.Stage.TheVariants.{Calm}
 use Rattle.core_world.specs.Acts.{after, hits}
 use Rattle.core_world.specs.Shape.{Shape}
-use Rattle.core_world.specs.Forms.{runs_form, requester_in, requester_form, is_halted, halted_form, monitor_in}
+use Rattle.core_world.specs.Forms.{runs_form, requester_in, requester_form, is_halted, halted_form}
 use Rattle.core_world.specs.Stages.{settling}
 use Rattle.core_world.specs.Known.{Known}
 use Rattle.core_world.specs.World.{World, one}
-use Rattle.core_world.specs.Locks.{marks, waits_at}
 use Rattle.core_world.specs.Plans.{Errand, quiet}
 use Rattle.core_world.specs.Steps.{known_hit, known_miss, moved}
 use Rattle.core_world.specs.WordForms.{IsSafe}
@@ -115,17 +114,6 @@ reached_reads w P t v reached =
 -- so is the word then
 pub reached_found : (w : World) (P : List PlainObject) (t : ℕ) → Fits w P → (w.known t).reached ≡ true → w.words Safe ≡ safe_of (reached_form t)
 reached_found w P t v reached = (read_safe-spells (w.words Safe) (reached_form t) (reached_reads w P t v reached)).1
-
--- nobody waits on an object whose mark names no monitor
-pub unmonitored_unwaited : (w : World) (P : List PlainObject) (o : ℕ) → Fits w P → monitor_in (marks w o) ≡ None → waits_at P o ≡ []
-unmonitored_unwaited w P o v none = empty (waits_at P o) refl
-  where
-    empty : (ps : List (ℕ × ℕ)) → waits_at P o ≡ ps → waits_at P o ≡ []
-    empty [] e = e
-    empty (p ∷ ps) e =
-        let listed : is_listed (waits_at P o) p.0 ≡ true = ap (λ qs. is_listed qs p.0) e ∙ ap (λ b. b || is_listed ps p.0) (eq-eqb p.0 p.0 refl) in
-        let named = (v.waits.inflated o p.0 (inl listed)).1 in
-        absurd (cc (named, none))
 
 -- the world after a step that hits
 pub hit_moved : (w : World) (P : List PlainObject) (t : ℕ) (e : Errand) (act : Act) → hits act (w.words Safe) ≡ true

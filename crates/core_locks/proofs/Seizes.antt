@@ -225,7 +225,7 @@ module _ (w : World) (P : List PlainObject) (t : ℕ) (e : Errand) (o mark p : �
       (counts_more (Mark o) m t l w (owner_at P) (owner_at P) (waits_at P) (waits_at P) (seen_before w.shape (w.known t)) (seen_is_part w.shape (w.known t))
       (mark_back w o m t l (w.known t) l (owner_at P) (owner_at P) t (λ i a n. names i ∙ n) refl refl (sym (ap inflation_in may.calm)) refl (λ i h. h) held)
       (λ a h. inl h) (λ a r h. absurd (cc h))
-      (λ i h r own n. unwaited_fits w P t v may.runs i (ap (λ j. monitor_in (marks w j)) (eqb-true i o h) ∙ old.unnamed))
+      (λ i h r own n. unwaited_fits w P v i (ap (λ j. monitor_in (marks w j)) (eqb-true i o h) ∙ old.unnamed))
       (λ i h g. g) spares (λ u i h g. g) v.seen)
       spares v.seen
 

@@ -1,5 +1,6 @@
 -- A load that logs nothing, and an exchange that misses, keep the world valid while a bias is being revoked too.
 use Rattle.std.proofs.Common.{◌≡◌, ◌≢◌, ℕ, ◌<◌, ◌&&◌, ◌||◌, Bool, true, false, cond, List, [], ◌∷◌, ◌++◌, append-nil, eq-eqb, None, refl, sym, ap, ◌∙◌, subst, inl, inr}
+use Rattle.std.proofs.Math.Bool.{or-false}
 use Rattle.plain_monitor.specs.Monitor.{is_thread, is_listed}
 use Rattle.plain_monitor.specs.Objects.{PlainObject}
 use Rattle.core_world.specs.declared.act.Act.TheVariants.{Load}
@@ -48,8 +49,8 @@ pub record OnlySteps (words : Name → ℕ) (k l : Known) : Type 0 where
   pub found : (f : Name → ℕ) → words ≡ stored (writes_in k.stood) f → FoundAfter f k.stood → FoundAfter f l.stood
 
 -- nobody waits on an object whose mark names no monitor
-pub unwaited_fits : (w : World) (P : List PlainObject) (t : ℕ) → Fits w P → (w.known t).running ≡ true → (o : ℕ) → monitor_in (marks w o) ≡ None → waits_at P o ≡ []
-unwaited_fits w P t v r o none = empty (waits_at P o) refl
+pub unwaited_fits : (w : World) (P : List PlainObject) → Fits w P → (o : ℕ) → monitor_in (marks w o) ≡ None → waits_at P o ≡ []
+unwaited_fits w P v o none = empty (waits_at P o) refl
   where
     empty : (ps : List (ℕ × ℕ)) → waits_at P o ≡ ps → waits_at P o ≡ []
     empty [] e = e
@@ -152,13 +153,9 @@ module _ (w : World) (P : List PlainObject) (s : IsSettling w P) where
   unfinished_now : (w.known s.requester).unfinished ≡ None → ⊥
   unfinished_now e = let some = ap (λ (k : Known). k.unfinished) s.knows ∙ s.unfinished in absurd (cc (e, some))
 
-  or_fails : (b : Bool) → (b || false) ≡ b
-  or_fails true = refl
-  or_fails false = refl
-
   -- no halt is learnt
   halted_same : (at : Name) (k : Known) → halted_after at (w.words at) k ≡ k.halted
-  halted_same name.Safe k = ap (λ b. k.halted || b) no_halt ∙ or_fails k.halted
+  halted_same name.Safe k = ap (λ b. k.halted || b) no_halt ∙ or-false k.halted
   halted_same _ k = refl
 
   -- a load changes only the steps of the requester at its safepoint
@@ -243,7 +240,7 @@ module _ (w : World) (P : List PlainObject) (s : IsSettling w P) where
       let at = elsewhere t p.at d look.may in
       let look_before = subst (λ k. IsLook k p) (s.others t d) look in
       let before : Glance s.before P (s.before.known t) l p =
-      subst (λ z. Glance s.before P (s.before.known t) z p) (same_before t p d at) (look_glance s.before P t s.fits.seen s.fits.safe (unwaited_fits s.before P t s.fits) p look_before) in
+      subst (λ z. Glance s.before P (s.before.known t) z p) (same_before t p d at) (look_glance s.before P t s.fits.seen s.fits.safe (λ r. unwaited_fits s.before P s.fits) p look_before) in
       others t l p d (subst (λ (z : Shape). t < z.threads) s.shape within) (look_glance w P t s.seen s.safe (nobody t) p look) before)
 
   settled_miss : (t : ℕ) (p : StepPlan) → t < w.shape.threads → IsMiss (w.known t) p (w.words p.at) → IsSettling (noted t (known_after w.shape w.start p (w.words p.at) (w.known t)) w) P
@@ -257,7 +254,7 @@ module _ (w : World) (P : List PlainObject) (s : IsSettling w P) where
       let word : w.words p.at ≡ s.before.words p.at = ap w.words at ∙ s.untouched ∙ ap s.before.words (sym at) in
       let miss_before : IsMiss (s.before.known t) p (s.before.words p.at) = record { missed = ap (hits p.act) (sym word) ∙ miss.missed; may = subst (λ k. MayLook k p.at) (s.others t d) miss.may } in
       let before : Glance s.before P (s.before.known t) l p =
-      subst (λ z. Glance s.before P (s.before.known t) z p) (same_before t p d at) (miss_glance s.before P t s.fits.seen s.fits.safe (unwaited_fits s.before P t s.fits) p miss_before) in
+      subst (λ z. Glance s.before P (s.before.known t) z p) (same_before t p d at) (miss_glance s.before P t s.fits.seen s.fits.safe (λ r. unwaited_fits s.before P s.fits) p miss_before) in
       others t l p d (subst (λ (z : Shape). t < z.threads) s.shape within) (miss_glance w P t s.seen s.safe (nobody t) p miss) before)
 
 -- a load that logs nothing keeps the world valid, with the same plain objects
@@ -265,7 +262,7 @@ pub look_valid : (w : World) (P : List PlainObject) (t : ℕ) (p : StepPlan) →
 look_valid w P t p within look valid =
     let same = noted_alone p.at (after p.act (w.words p.at)) t (known_after w.shape w.start p (w.words p.at) (w.known t)) w (ap (λ a. after a (w.words p.at)) look.act) in
     subst (λ x. IsValid x P) (sym same) (elim valid [
-      | inl v ↦ inl (glance_fits w P t (known_after w.shape w.start p (w.words p.at) (w.known t)) p (look_glance w P t v.seen v.safe (unwaited_fits w P t v) p look) within v)
+      | inl v ↦ inl (glance_fits w P t (known_after w.shape w.start p (w.words p.at) (w.known t)) p (look_glance w P t v.seen v.safe (λ r. unwaited_fits w P v) p look) within v)
       | inr s ↦ inr (settled_look w P s t p within look)
     ])
 
@@ -274,6 +271,6 @@ pub miss_valid : (w : World) (P : List PlainObject) (t : ℕ) (p : StepPlan) →
 miss_valid w P t p within miss valid =
     let same = noted_alone p.at (after p.act (w.words p.at)) t (known_after w.shape w.start p (w.words p.at) (w.known t)) w (missed_word p.act (w.words p.at) miss.missed) in
     subst (λ x. IsValid x P) (sym same) (elim valid [
-      | inl v ↦ inl (glance_fits w P t (known_after w.shape w.start p (w.words p.at) (w.known t)) p (miss_glance w P t v.seen v.safe (unwaited_fits w P t v) p miss) within v)
+      | inl v ↦ inl (glance_fits w P t (known_after w.shape w.start p (w.words p.at) (w.known t)) p (miss_glance w P t v.seen v.safe (λ r. unwaited_fits w P v) p miss) within v)
       | inr s ↦ inr (settled_miss w P s t p within miss)
     ])

@@ -1,5 +1,6 @@
 -- What the words of an object show of its owner and count.
 use Rattle.std.proofs.Common.{◌≡◌, ◌≢◌, ℕ, ◌==◌, ◌||◌, eqb-true, ne_eqb, Bool, true, false, cond, List, Option, Some, None, refl, sym, ap, ◌∙◌, arith, inl, inr}
+use Rattle.std.proofs.Math.Bool.{or-false, or-true}
 use Rattle.std.proofs.lemmas.Bool.Decides.{nat_tests}
 use Rattle.std.proofs.lemmas.Option.{same_Some}
 use Rattle.mark_word.specs.declared.mark.MarkForm.{MarkForm}
@@ -21,27 +22,17 @@ use Rattle.core_world.specs.Locks.{monitor_of, named, standing, or_zero, owner_a
 use Rattle.core_world.specs.Valid.{Fits, IsValid, Valid}
 use Rattle.core_world.proofs.Stands.{sound, same_number, thread_is, same_owner, no_owner, unowned_count, owner_standing, outside_standing, waiter_uncalled}
 
--- a test or what fails
-or_fails : (b : Bool) → (b || false) ≡ b
-or_fails true = refl
-or_fails false = refl
-
--- a test or what holds
-or_holds : (b : Bool) → (b || true) ≡ true
-or_holds true = refl
-or_holds false = refl
-
 -- a thread that bears nothing of the object has its lock exactly where it is the plain owner
 who_without : (w : World) (objects : List PlainObject) (o t : ℕ) → Fits w objects → bears (w.known t).stage o ≡ false
     → is_thread (who w o) t ≡ owner_at objects o t
 who_without w objects o t fits e =
-    let unborne : (owner_at objects o t || bears (w.known t).stage o) ≡ owner_at objects o t = ap (λ b. owner_at objects o t || b) e ∙ or_fails (owner_at objects o t) in
+    let unborne : (owner_at objects o t || bears (w.known t).stage o) ≡ owner_at objects o t = ap (λ b. owner_at objects o t || b) e ∙ or-false (owner_at objects o t) in
     fits.owners.same o t ∙ unborne
 
 -- a thread that bears the object has its lock
 pub who_bears : (w : World) (objects : List PlainObject) (o t : ℕ) → Fits w objects → bears (w.known t).stage o ≡ true → who w o ≡ Some t
 who_bears w objects o t fits e =
-    let borne : (owner_at objects o t || bears (w.known t).stage o) ≡ true = ap (λ b. owner_at objects o t || b) e ∙ or_holds (owner_at objects o t) in
+    let borne : (owner_at objects o t || bears (w.known t).stage o) ≡ true = ap (λ b. owner_at objects o t || b) e ∙ or-true (owner_at objects o t) in
     thread_is (who w o) t (fits.owners.same o t ∙ borne)
 
 -- with the plain owner and the number of its holds by the plain monitor, the plain owner and count are shown
