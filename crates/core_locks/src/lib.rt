@@ -12,10 +12,9 @@ mod holding;
 mod leaving_to_wait;
 mod looks;
 mod marking;
+mod refused;
 mod safepoint;
 mod telling;
-#[cfg(test)]
-mod tests;
 mod waiting;
 
 pub use entering::{
@@ -36,6 +35,10 @@ pub use looks::{
 };
 pub use marking::{
     exchanging_a_neutral_mark_keeps_the_world_valid, storing_a_displaced_word_keeps_the_world_valid,
+};
+pub use refused::{
+    no_exchange_of_another_mark, no_exchange_without_the_displaced_word, no_exit_below_the_stamp,
+    no_exit_by_another, no_get_without_the_lock, no_length_ahead_of_the_log,
 };
 pub use safepoint::{
     halting_keeps_the_world_valid, releasing_keeps_the_world_valid,

@@ -14,7 +14,7 @@ use Rattle.core_world.proofs.Shows.{running_fits}
 use Rattle.core_world.proofs.Stands.{thread_is}
 use Rattle.core_locks.proofs.RefutedOrders.{exit_refused}
 use Rattle.core_locks.proofs.RefutedSteps.{knows, swap_hits, hit_fits, refused_is_invalid}
-use Rattle.core_locks.proofs.tests.no_exit_by_another.Goals as goal
+use Rattle.core_locks.proofs.refused.no_exit_by_another.Goals as goal
 
 pub returns : goal.returns
 returns c w o t u q header e v runs other owns mark above valid =

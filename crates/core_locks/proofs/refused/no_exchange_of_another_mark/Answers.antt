@@ -17,7 +17,7 @@ use Rattle.core_world.proofs.Shows.{running_fits, written_there}
 use Rattle.core_world.proofs.Stands.{same_number}
 use Rattle.core_locks.proofs.MarkMeanings.{locked_read}
 use Rattle.core_locks.proofs.RefutedSteps.{knows, hit, swap_hits, hit_fits, record_holder}
-use Rattle.core_locks.proofs.tests.no_exchange_of_another_mark.Goals as goal
+use Rattle.core_locks.proofs.refused.no_exchange_of_another_mark.Goals as goal
 
 abbrev exchange : (o t u p q : ℕ) → Errand → StepPlan
 exchange o t u p q e = staged (Seizes o p) (swap e (Mark o) (mark_of (Locked u q)) (mark_of (Locked t p)))

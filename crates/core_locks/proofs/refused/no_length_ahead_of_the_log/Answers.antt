@@ -8,7 +8,7 @@ use Rattle.core_world.specs.Plans.{logging, next_stamp}
 use Rattle.core_world.proofs.Parts.{told_here}
 use Rattle.core_locks.proofs.Logging.{length_more}
 use Rattle.core_locks.proofs.RefutedSteps.{knows, hit_fits}
-use Rattle.core_locks.proofs.tests.no_length_ahead_of_the_log.Goals as goal
+use Rattle.core_locks.proofs.refused.no_length_ahead_of_the_log.Goals as goal
 
 pub returns : goal.returns
 returns c w t n value e runs ahead valid =

@@ -26,7 +26,7 @@ use Rattle.core_world.proofs.Stands.{no_owner}
 use Rattle.core_locks.proofs.MarkMeanings.{neutral_lock}
 use Rattle.core_locks.proofs.RefutedOrders.{last_is_ordered}
 use Rattle.core_locks.proofs.RefutedSteps.{knows, hit, swap_hits, hit_fits}
-use Rattle.core_locks.proofs.tests.no_exit_below_the_stamp.Goals as goal
+use Rattle.core_locks.proofs.refused.no_exit_below_the_stamp.Goals as goal
 
 abbrev leave : (o t p header : ℕ) → Errand → StepPlan
 leave o t p header e = staged (Exits o p) (logging (Exit o) e (Mark o) (Swap (mark_of (Locked t p)) header))

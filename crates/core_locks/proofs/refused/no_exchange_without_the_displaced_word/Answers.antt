@@ -14,7 +14,7 @@ use Rattle.core_world.proofs.Parts.{told_here}
 use Rattle.core_world.proofs.Shows.{written_there, lock_by_form}
 use Rattle.core_locks.proofs.MarkMeanings.{locked_read}
 use Rattle.core_locks.proofs.RefutedSteps.{knows, hit, swap_hits, hit_fits}
-use Rattle.core_locks.proofs.tests.no_exchange_without_the_displaced_word.Goals as goal
+use Rattle.core_locks.proofs.refused.no_exchange_without_the_displaced_word.Goals as goal
 
 abbrev exchange : (o t mark p : ℕ) → Errand → StepPlan
 exchange o t mark p e = staged (Seizes o p) (swap e (Mark o) mark (mark_of (Locked t p)))

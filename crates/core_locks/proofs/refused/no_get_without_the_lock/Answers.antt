@@ -10,7 +10,7 @@ use Rattle.core_world.specs.Operations.{value_found}
 use Rattle.core_world.proofs.Shows.{running_fits}
 use Rattle.core_locks.proofs.RefutedOrders.{get_refused}
 use Rattle.core_locks.proofs.RefutedSteps.{knows, hit_fits, refused_is_invalid}
-use Rattle.core_locks.proofs.tests.no_get_without_the_lock.Goals as goal
+use Rattle.core_locks.proofs.refused.no_get_without_the_lock.Goals as goal
 
 pub returns : goal.returns
 returns c w o slot t e v runs out above valid =
