@@ -186,7 +186,7 @@ module _ (w : World) (P : List PlainObject) (t : ℕ) (e : Errand) (within : t <
         unreached = λ r a. running_unreached w P t t v.safe may.runs r;
         halts = λ h r. let not_halted = unhalted_by v f reads may.runs in absurd (cc (h, not_halted));
         published = λ r a h. let asks = same_number t in absurd (cc (a, asks));
-        ended = λ a r. let live = may.live in absurd (cc (a, live));
+        ended = λ a r. ended_stands w P t v (may.ended a);
         old = seen_before w.shape (w.known t);
         kept = λ a. goes_on_seen (w.known t).reached refl (asks_in (after (Swap word (requested_by (read_safe word) t)) (w.words Safe)) (w.known t).thread);
         counts = λ r. counts_stopped w P t (safe_of (requested f)) (known_then w t e (Swap word (requested_by (read_safe word) t))) (seen_before w.shape (w.known t))

@@ -23,11 +23,11 @@ pub record MayResume (k : Known) (word : ℕ) : Type 0 where
   pub unasked : requester_in word ≡ None
   pub unhalted : is_halted word ≡ false
 
--- Requesting: the thread runs and hasn't ended, and the word that it expects has no requester.
+-- Requesting: the thread runs, says so where it has ended, and the word that it expects has no requester.
 pub record MayRequest (k : Known) (word : ℕ) : Type 0 where
   pub runs : k.running ≡ true
   pub calm : k.stage ≡ Calm
-  pub live : ends k.log ≡ false
+  pub ended : ends k.log ≡ true → says_ended k.wait ≡ true
   pub unasked : requester_in word ≡ None
 
 -- Releasing: its safepoint is reached, and it is in the middle of nothing.

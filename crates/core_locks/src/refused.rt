@@ -27,10 +27,10 @@ pub fn no_exchange_of_another_mark()
         → Valid (moved (staged (Seizes o p) (swap e (Mark o) (mark_of (Locked u q)) (mark_of (Locked t p)))) t w) → ⊥ }
 {}
 
-/// A running thread that exchanges a mark for a place whose displaced word isn't neutral: it hasn't stored the mark there.
+/// A running thread that exchanges a neutral mark for a place where it hasn't stored that mark as the displaced word.
 pub fn no_exchange_without_the_displaced_word()
-    ensures { (w : World) (o t mark p : ℕ) (e : Errand) → (w.known t).running ≡ true → p < 64 → w.words (Mark o) ≡ mark
-        → is_neutral (w.words (Displaced t p)) ≡ false
+    ensures { (w : World) (o t mark p : ℕ) (e : Errand) → Valid w → (w.known t).running ≡ true → p < 64 → is_neutral mark ≡ true
+        → w.words (Mark o) ≡ mark → w.words (Displaced t p) ≢ mark
         → Valid (moved (staged (Seizes o p) (swap e (Mark o) mark (mark_of (Locked t p)))) t w) → ⊥ }
 {}
 
@@ -47,7 +47,7 @@ pub fn no_exit_by_another()
     ensures { (w : World) (o t u q header : ℕ) (e : Errand) (v : Valid w) → (w.known t).running ≡ true → u ≢ t → owner_at v.objects o u ≡ true
         → w.words (Mark o) ≡ mark_of (Locked u q)
         → AllByRecursion (λ log. last_stamp log < next_stamp (local_of (w.known t))) (logs w)
-        → Valid (moved (logging (Exit o) e (Mark o) (Swap (mark_of (Locked u q)) header)) t w) → ⊥ }
+        → Valid (moved (staged (Exits o q) (logging (Exit o) e (Mark o) (Swap (mark_of (Locked u q)) header))) t w) → ⊥ }
 {}
 
 /// A running thread that loads a slot of an object which it doesn't own. The Get would come last of all entries.

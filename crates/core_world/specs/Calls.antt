@@ -72,15 +72,23 @@ is_free_for k going_on = is_none k.unfinished || going_on
 abbrev pub may_operate : Known → Bool → Bool
 may_operate k going_on = not k.checking && (k.running || (k.requesting && going_on)) && is_free_for k going_on && not (ends k.log) && nat_le (length k.log + 2) log_limit
 
--- a call that makes one entry at once, or a part by itself, may begin: nothing is unfinished
+-- a call that makes one entry at once may begin: nothing is unfinished
 abbrev pub may_act : Known → Bool
 may_act k = may_operate k false
+
+-- a part that logs one entry may begin by itself: its thread runs, and the log has no ending entry, and room for that one
+abbrev pub may_log_once : Known → Bool → Bool
+may_log_once k going_on = not k.checking && k.running && is_free_for k going_on && not (ends k.log) && nat_lt (length k.log) log_limit
+
+-- the thread says so where its log has an ending entry
+abbrev pub has_said : Known → Bool
+has_said k = not (ends k.log) || says_ended k.wait
 
 -- the mark names the thread's record of o with depth 1, and the thread has one
 abbrev pub is_own_first : Known → ℕ → ℕ → Bool
 is_own_first k o mark = nat_lt 0 (named o k.holds) && (mark == mark_of (Locked k.thread (first_place o k.holds)))
 
--- the call may begin: no exit asks for a safepoint, nor does a wait that has let go; and a thread that has ended says so before it stops
+-- the call may begin: no exit asks for a safepoint, nor does a wait that has let go; and a thread that has ended says so before it stops or asks
 abbrev pub may_begin : Shape → Known → Task → Bool
 may_begin s k (Enter o now) = is_object s o && may_operate k (goes_on_with op.Enter o k.unfinished)
 may_begin s k (Exit o) = is_object s o && k.running && may_operate k (goes_on_with op.Exit o k.unfinished)
@@ -94,11 +102,11 @@ may_begin s k (Print value) = is_value s value && may_act k
 may_begin s k Dump = may_operate k (goes_on_with op.Dump 0 k.unfinished)
 may_begin s k (Finish ending) = list_all (λ h. h == 0) k.holds && may_act k
 may_begin s k Poll = k.running
-may_begin s k Stop = k.running && (not (ends k.log) || says_ended k.wait)
+may_begin s k Stop = k.running && has_said k
 may_begin s k Resume = not k.running && not k.requesting
 may_begin s k Check = not (ends k.log) && ((k.running && not k.checking) || (k.requesting && k.checking))
-may_begin s k (StackEnter o mark) = is_object s o && may_act k && nat_lt (free_place k.holds) 64 && (is_neutral mark || is_own_first k o mark)
-may_begin s k (StackExit o) = is_object s o && k.running && nat_lt 0 (named o k.holds) && may_operate k (goes_on_with op.Exit o k.unfinished)
-may_begin s k Request = may_act k
+may_begin s k (StackEnter o mark) = is_object s o && may_log_once k false && nat_lt (free_place k.holds) 64 && (is_neutral mark || is_own_first k o mark)
+may_begin s k (StackExit o) = is_object s o && nat_lt 0 (named o k.holds) && may_log_once k (goes_on_with op.Exit o k.unfinished)
+may_begin s k Request = k.running && is_none k.unfinished && not k.checking && has_said k
 may_begin s k Reached = k.requesting && is_none k.unfinished && not k.checking
 may_begin s k Release = k.reached && is_none k.unfinished && not k.checking
