@@ -1,0 +1,11 @@
+pub mod Blockers
+pub mod Walks
+pub mod Circles
+pub mod Walked
+pub mod Turns
+pub mod Tallied
+pub mod Takers
+pub mod Entered
+pub mod Listed
+pub mod Few
+pub mod Counting

@@ -1,0 +1,14 @@
+use Rattle.std.proofs.Common.{◌<◌, ◌^◌, subst, arith}
+use Rattle.plain_monitor.specs.Order.{order}
+use Rattle.object_program.specs.Valid.{IsProgram}
+use Rattle.lock_journal.specs.declared.record.RunRecord.{RunRecord}
+use Rattle.wait_report.proofs.Few.{few_entries}
+use Rattle.wait_report.proofs.counts.entries_are_few.Goals as goal
+
+pub returns : goal.returns
+returns c =
+    let run = c.args.run.now in
+    let allowed : IsProgram run.program = subst (λ (r : RunRecord). IsProgram r.program) c.run.view_is c.run.invariant in
+    let small : run.fuel < 2 ^ 32 = omega arith in
+    few_entries run.program run.fuel (order run.logs) (record { reached = c.machines_stay_reached.ensures.each; less = c.each_entry_uses_up_work.ensures }) allowed small
+    (c.machines_stay_reached.ensures.first run.program run.fuel allowed) c.requires.legal.taken

@@ -1,0 +1,4 @@
+//! Machines that stand still, and a record written by hand.
+
+mod records;
+mod standing;
