@@ -24,9 +24,11 @@ mod state;
 mod text;
 mod write;
 
+pub use directory::{Directory, Named};
 pub use error::{ProgramError, Why};
 pub use laws::canonical_texts_are_read_back;
 pub use name::Name;
+pub use number::number_within;
 pub use program::{ClassDef, Code, LabelDef, ObjectDef, Program, ThreadDef};
 pub use reader::read_program;
 pub use write::write_program;

@@ -1,0 +1,258 @@
+-- A line of the journal as words.
+use Rattle.std.proofs.Common.{◌≡◌, ℕ, ◌+◌, ◌<◌, ◌^◌, ◌==◌, ◌||◌, Bool, true, false, not, List, [], ◌∷◌, ◌++◌, length, map, get_or, refl, subst, ◌∙◌, ap, arith, append_assoc, append-nil, codes, Option, Some, None}
+use Rattle.std.specs.Prelude.{decimal}
+use Rattle.std.specs.Fmt.{signed_decimal}
+use Rattle.std.specs.List.{AllByRecursion, list_all, join_with_byte}
+use Rattle.std.proofs.lemmas.Bool.{and_parts}
+use Rattle.std.proofs.lemmas.Bool.Decides.{nat_tests}
+use Rattle.std.proofs.lemmas.List.{length-map}
+use Rattle.std.proofs.lemmas.List.Elements.{All-from_recursion}
+use Rattle.std.proofs.lemmas.List.Splits.{slice_split_at, slice_split_none}
+use Rattle.plain_monitor.specs.declared.entry.Value.{Value}
+use Rattle.plain_monitor.specs.declared.entry.Value.TheVariants.{Nil, Int, Ref}
+use Rattle.plain_monitor.specs.declared.entry.Path.{Path}
+use Rattle.plain_monitor.specs.declared.entry.Path.TheVariants.{BiasOwn, BiasTaken, StackFirst, StackAgain, MonitorFirst, MonitorAgain}
+use Rattle.plain_monitor.specs.declared.entry.Fault.{Fault}
+use Rattle.plain_monitor.specs.declared.entry.Fault.TheVariants.{IllegalMonitorState, Unguarded, NotRef, NotInt, Range, Overflow, TooDeep, TooManyDumps}
+use Rattle.plain_monitor.specs.declared.entry.Entry.{Entry}
+use Rattle.plain_monitor.specs.declared.entry.Entry.TheVariants.{Enter, Exit, Get, Put, Wait, Resume, Notify, NotifyAll, Hash, Print, Dump, Trap, Spent, Done}
+use Rattle.plain_monitor.specs.declared.entry.Logged.{Logged}
+use Rattle.object_program.specs.declared.program.ObjectDef.{ObjectDef}
+use Rattle.object_program.specs.Program.{ProgramText, objects_total}
+use Rattle.object_program.specs.Valid.{IsProgram}
+use Rattle.object_program.specs.Name.{is_name}
+use Rattle.object_program.proofs.CanonicalText.{is_word_byte, is_word}
+use Rattle.object_program.proofs.CanonicalNames.{name_word, nth_is_name}
+use Rattle.object_program.proofs.CanonicalNumbers.{decimal_word, signed_word}
+use Rattle.plain_machine.specs.ReachedThread.{IsValueOf}
+use Rattle.lock_journal.specs.Words.{element_text, object_text, thread_text, value_text, path_text, fault_text}
+use Rattle.lock_journal.specs.RunText.{journal_line, entry_text, newline, woken_text, draw_text}
+use Rattle.bias_check.specs.declared.spelled.Verb.{Verb}
+use Rattle.bias_check.specs.declared.spelled.Verb.TheVariants as verb
+use Rattle.bias_check.specs.Lines.{IsEntryIn, Tells}
+use Rattle.bias_check.specs.Words.{words_of}
+use Rattle.bias_check.proofs.Spellings.{verb_text}
+use Rattle.bias_check.proofs.ThreadsRead.{thread_name}
+use Rattle.bias_check.proofs.ObjectsRead.{stands, array_text, single_text, object_is_name}
+
+abbrev pub verb_in : Entry → Verb
+verb_in (Enter o path) = verb.Enter
+verb_in (Exit o) = verb.Exit
+verb_in (Wait o) = verb.Wait
+verb_in (Resume o) = verb.Resume
+verb_in (Get o k v) = verb.Get
+verb_in (Put o k v) = verb.Put
+verb_in (Notify o woken) = verb.Notify
+verb_in (NotifyAll o n) = verb.NotifyAll
+verb_in (Hash o v drawn) = verb.Hash
+verb_in (Print v) = verb.Print
+verb_in (Dump n) = verb.Dump
+verb_in (Trap fault index) = verb.Fault
+verb_in Spent = verb.Spent
+verb_in Done = verb.Done
+
+abbrev pub draw_words : Option ℕ → List (List ℕ)
+draw_words None = []
+draw_words (Some n) = codes "draw" ∷ decimal n ∷ []
+
+-- the words behind the verb
+abbrev pub args_of : ProgramText → Entry → List (List ℕ)
+args_of p (Enter o path) = object_text p o ∷ path_text path ∷ []
+args_of p (Exit o) = object_text p o ∷ []
+args_of p (Wait o) = object_text p o ∷ []
+args_of p (Resume o) = object_text p o ∷ []
+args_of p (Get o k v) = object_text p o ∷ decimal k ∷ value_text p v ∷ []
+args_of p (Put o k v) = object_text p o ∷ decimal k ∷ value_text p v ∷ []
+args_of p (Notify o woken) = object_text p o ∷ woken_text p woken ∷ []
+args_of p (NotifyAll o n) = object_text p o ∷ decimal n ∷ []
+args_of p (Hash o v drawn) = object_text p o ∷ decimal v ∷ draw_words drawn
+args_of p (Print v) = value_text p v ∷ []
+args_of p (Dump n) = decimal n ∷ []
+args_of p (Trap fault index) = fault_text fault ∷ codes "at" ∷ decimal index ∷ []
+args_of p Spent = []
+args_of p Done = []
+
+abbrev pub line_words : ProgramText → ℕ × Logged → List (List ℕ)
+line_words p x =
+    (64 ∷ decimal x.1.stamp) ∷ thread_text p x.0 ∷ verb_text (verb_in x.1.entry) ∷ args_of p x.1.entry
+
+-- pieces with spaces between them
+spaced : (a b : List ℕ) → (a ++ codes " ") ++ b ≡ a ++ 32 ∷ b
+spaced a b = append_assoc a (codes " ") b
+
+spaced_twice : (a b c : List ℕ) → (((a ++ codes " ") ++ b) ++ codes " ") ++ c ≡ a ++ 32 ∷ (b ++ 32 ∷ c)
+spaced_twice a b c =
+    spaced ((a ++ codes " ") ++ b) c ∙ ap (λ x. x ++ 32 ∷ c) (spaced a b) ∙ append_assoc a (32 ∷ b) (32 ∷ c)
+
+entry_is : (p : ProgramText) (e : Entry) → entry_text p e ≡ join_with_byte 32 (verb_text (verb_in e) ∷ args_of p e)
+entry_is p (Enter o path) = spaced (codes "enter " ++ object_text p o) (path_text path)
+entry_is p (Exit o) = refl
+entry_is p (Wait o) = refl
+entry_is p (Resume o) = refl
+entry_is p (Get o k v) = spaced_twice (codes "get " ++ object_text p o) (decimal k) (value_text p v)
+entry_is p (Put o k v) = spaced_twice (codes "put " ++ object_text p o) (decimal k) (value_text p v)
+entry_is p (Notify o woken) = spaced (codes "notify " ++ object_text p o) (woken_text p woken)
+entry_is p (NotifyAll o n) = spaced (codes "notifyall " ++ object_text p o) (decimal n)
+entry_is p (Hash o v None) =
+    append-nil (((codes "hash " ++ object_text p o) ++ codes " ") ++ decimal v) ∙ spaced (codes "hash " ++ object_text p o) (decimal v)
+entry_is p (Hash o v (Some n)) =
+    ap (λ x. x ++ draw_text (Some n)) (spaced (codes "hash " ++ object_text p o) (decimal v))
+    ∙ append_assoc (codes "hash " ++ object_text p o) (32 ∷ decimal v) (draw_text (Some n))
+entry_is p (Print v) = refl
+entry_is p (Dump n) = refl
+entry_is p (Trap fault index) = append_assoc (codes "fault " ++ fault_text fault) (codes " at ") (decimal index)
+entry_is p Spent = refl
+entry_is p Done = refl
+
+-- a line of the journal is its words
+pub line_is : (p : ProgramText) (x : ℕ × Logged) → journal_line p x ≡ join_with_byte 32 (line_words p x) ++ 10 ∷ []
+line_is p x =
+    let stamp = 64 ∷ decimal x.1.stamp in
+    let thread = thread_text p x.0 in
+    ap (λ (b : List ℕ). b ++ newline) (spaced_twice stamp thread (entry_text p x.1.entry)
+    ∙ ap (λ (e : List ℕ). stamp ++ 32 ∷ (thread ++ 32 ∷ e)) (entry_is p x.1.entry))
+
+-- a text with neither a space nor a line feed
+abbrev pub spaceless : List ℕ → Bool
+spaceless w = list_all (λ b. not ((b == 32) || (b == 10))) w
+
+byte_spaceless : (b : ℕ) → is_word_byte b ≡ true → not ((b == 32) || (b == 10)) ≡ true
+byte_spaceless b h = grind (arith, nat_tests)
+
+bytes_spaceless : (w : List ℕ) → list_all is_word_byte w ≡ true → spaceless w ≡ true
+bytes_spaceless [] h = refl
+bytes_spaceless (b ∷ bs) h =
+    let parts = and_parts (is_word_byte b) (list_all is_word_byte bs) h in rw (byte_spaceless b parts.0) (bytes_spaceless bs parts.1)
+
+word_spaceless : (w : List ℕ) → is_word w ≡ true → spaceless w ≡ true
+word_spaceless [] h = refl
+word_spaceless (b ∷ bs) h = bytes_spaceless (b ∷ bs) h
+
+spaceless_append : (a b : List ℕ) → spaceless a ≡ true → spaceless b ≡ true → spaceless (a ++ b) ≡ true
+spaceless_append [] b h k = k
+spaceless_append (x ∷ xs) b h k =
+    let parts = and_parts (not ((x == 32) || (x == 10))) (spaceless xs) h in rw parts.0 (spaceless_append xs b parts.1 k)
+
+decimal_spaceless : (n : ℕ) → n < 2 ^ 46 → spaceless (decimal n) ≡ true
+decimal_spaceless n h = word_spaceless (decimal n) (decimal_word n (omega (arith, h)))
+
+name_spaceless : (w : List ℕ) → is_name w ≡ true → spaceless w ≡ true
+name_spaceless w h = word_spaceless w (name_word w h)
+
+element_spaceless : (d : ObjectDef) (i : ℕ) (b : Bool) → d.array ≡ b → is_name d.name ≡ true → i < 2 ^ 46 → spaceless (element_text i (Some d)) ≡ true
+element_spaceless d i true a h lt =
+    rw (array_text d i a) (spaceless_append d.name (91 ∷ (decimal i ++ 93 ∷ [])) (name_spaceless d.name h) (spaceless_append (decimal i) (93 ∷ []) (decimal_spaceless i lt) refl))
+element_spaceless d i false a h lt = rw (single_text d i a) (name_spaceless d.name h)
+
+object_spaceless : (p : ProgramText) (o : ℕ) → IsProgram p → o < objects_total p → spaceless (object_text p o) ≡ true
+object_spaceless p o h lt =
+    let r = stands (length p.classes) 0 0 p.objects o h.objects (omega arith) (omega (arith, lt)) in
+    let s = r.3 in
+    let number : 0 + r.0 ≡ r.0 = omega arith in
+    let text : object_text p o ≡ element_text r.1 (Some r.2) = rw (s.place, number, s.at) refl in
+    let few = h.objects_few in
+    rw text (element_spaceless r.2 r.1 r.2.array refl (object_is_name p r.0 r.2 h s.at) (omega (arith, s.object, few, lt)))
+
+thread_spaceless : (p : ProgramText) (t : ℕ) → IsProgram p → t < length p.threads → spaceless (thread_text p t) ≡ true
+thread_spaceless p t h lt =
+    let within : t < length (map (λ d. d.name) p.threads) = omega (arith, lt, length-map p.threads (λ d. d.name)) in
+    rw (thread_name p.threads t) (name_spaceless (get_or (map (λ d. d.name) p.threads) t []) (nth_is_name (map (λ d. d.name) p.threads) t h.thread_names within))
+
+value_spaceless : (p : ProgramText) (v : Value) → IsProgram p → IsValueOf (objects_total p) v → spaceless (value_text p v) ≡ true
+value_spaceless p Nil h valid = refl
+value_spaceless p (Int z) h valid = word_spaceless (signed_decimal z) (signed_word z valid.1)
+value_spaceless p (Ref o) h valid = object_spaceless p o h valid.0
+
+path_spaceless : (path : Path) → spaceless (path_text path) ≡ true
+path_spaceless BiasOwn = refl
+path_spaceless BiasTaken = refl
+path_spaceless StackFirst = refl
+path_spaceless StackAgain = refl
+path_spaceless MonitorFirst = refl
+path_spaceless MonitorAgain = refl
+
+fault_spaceless : (f : Fault) → spaceless (fault_text f) ≡ true
+fault_spaceless IllegalMonitorState = refl
+fault_spaceless Unguarded = refl
+fault_spaceless NotRef = refl
+fault_spaceless NotInt = refl
+fault_spaceless Range = refl
+fault_spaceless Overflow = refl
+fault_spaceless TooDeep = refl
+fault_spaceless TooManyDumps = refl
+
+verb_spaceless : (v : Verb) → spaceless (verb_text v) ≡ true
+verb_spaceless verb.Enter = refl
+verb_spaceless verb.Exit = refl
+verb_spaceless verb.Wait = refl
+verb_spaceless verb.Resume = refl
+verb_spaceless verb.Get = refl
+verb_spaceless verb.Put = refl
+verb_spaceless verb.Notify = refl
+verb_spaceless verb.NotifyAll = refl
+verb_spaceless verb.Hash = refl
+verb_spaceless verb.Print = refl
+verb_spaceless verb.Dump = refl
+verb_spaceless verb.Fault = refl
+verb_spaceless verb.Spent = refl
+verb_spaceless verb.Done = refl
+
+abbrev pub AreSpaceless : List (List ℕ) → Type 0
+AreSpaceless ws = AllByRecursion (λ w. spaceless w ≡ true) ws
+
+word_small : (n : ℕ) → n < 2 ^ 32 → spaceless (decimal n) ≡ true
+word_small n h = decimal_spaceless n (omega (arith, h))
+
+args_spaceless : (p : ProgramText) (e : Entry) → IsProgram p → IsEntryIn p e → AreSpaceless (args_of p e)
+args_spaceless p (Enter o path) h valid = (object_spaceless p o h valid, (path_spaceless path, tt))
+args_spaceless p (Exit o) h valid = (object_spaceless p o h valid, tt)
+args_spaceless p (Wait o) h valid = (object_spaceless p o h valid, tt)
+args_spaceless p (Resume o) h valid = (object_spaceless p o h valid, tt)
+args_spaceless p (Get o k v) h valid = (object_spaceless p o h valid.0, (word_small k valid.1, (value_spaceless p v h valid.2, tt)))
+args_spaceless p (Put o k v) h valid = (object_spaceless p o h valid.0, (word_small k valid.1, (value_spaceless p v h valid.2, tt)))
+args_spaceless p (Notify o None) h valid = (object_spaceless p o h valid.0, (refl, tt))
+args_spaceless p (Notify o (Some t)) h valid = (object_spaceless p o h valid.0, (thread_spaceless p t h valid.1, tt))
+args_spaceless p (NotifyAll o n) h valid = (object_spaceless p o h valid.0, (word_small n valid.1, tt))
+args_spaceless p (Hash o v None) h valid = (object_spaceless p o h valid.0, (word_small v valid.1, tt))
+args_spaceless p (Hash o v (Some n)) h valid = (object_spaceless p o h valid.0, (word_small v valid.1, (refl, (word_small n valid.2, tt))))
+args_spaceless p (Print v) h valid = (value_spaceless p v h valid, tt)
+args_spaceless p (Dump n) h valid = (word_small n valid, tt)
+args_spaceless p (Trap fault index) h valid = (fault_spaceless fault, (refl, (word_small index valid, tt)))
+args_spaceless p Spent h valid = tt
+args_spaceless p Done h valid = tt
+
+pub line_spaceless : (p : ProgramText) (line : List ℕ) (x : ℕ × Logged) → IsProgram p → Tells p line x → AreSpaceless (line_words p x)
+line_spaceless p line x h t =
+    (decimal_spaceless x.1.stamp t.below, (thread_spaceless p x.0 h t.thread, (verb_spaceless (verb_in x.1.entry), args_spaceless p x.1.entry h t.entry)))
+
+-- words between spaces are found again
+other_byte : (b : ℕ) → not ((b == 32) || (b == 10)) ≡ true → (b == 32) ≡ false
+other_byte b h = grind (arith, nat_tests)
+
+each_other : (w : List ℕ) → spaceless w ≡ true → AllByRecursion (λ b. (b == 32) ≡ false) w
+each_other [] h = tt
+each_other (b ∷ bs) h = let parts = and_parts (not ((b == 32) || (b == 10))) (spaceless bs) h in (other_byte b parts.0, each_other bs parts.1)
+
+pub words_again : (w : List ℕ) (ws : List (List ℕ)) → AreSpaceless (w ∷ ws) → words_of (join_with_byte 32 (w ∷ ws)) ≡ w ∷ ws
+words_again w [] h =
+    slice_split_none (λ b. b == 32) w (All-from_recursion (λ b. (b == 32) ≡ false) w (each_other w h.0))
+words_again w (v ∷ ws) h =
+    slice_split_at (λ b. b == 32) w 32 (join_with_byte 32 (v ∷ ws)) (All-from_recursion (λ b. (b == 32) ≡ false) w (each_other w h.0)) refl
+    ∙ ap (λ (xs : List (List ℕ)). w ∷ xs) (words_again v ws h.1)
+
+-- the words with spaces between them have no line feed
+feedless_byte : (b : ℕ) → not ((b == 32) || (b == 10)) ≡ true → (b == 10) ≡ false
+feedless_byte b h = grind (arith, nat_tests)
+
+abbrev pub Feedless : List ℕ → Type 0
+Feedless bs = AllByRecursion (λ b. (b == 10) ≡ false) bs
+
+feedless_word : (w rest : List ℕ) → spaceless w ≡ true → Feedless rest → Feedless (w ++ rest)
+feedless_word [] rest h k = k
+feedless_word (b ∷ bs) rest h k =
+    let parts = and_parts (not ((b == 32) || (b == 10))) (spaceless bs) h in (feedless_byte b parts.0, feedless_word bs rest parts.1 k)
+
+pub feedless_words : (ws : List (List ℕ)) → AreSpaceless ws → Feedless (join_with_byte 32 ws)
+feedless_words [] h = tt
+feedless_words (w ∷ []) h = subst Feedless (append-nil w) (feedless_word w [] h.0 tt)
+feedless_words (w ∷ v ∷ ws) h = feedless_word w (32 ∷ join_with_byte 32 (v ∷ ws)) h.0 (refl, feedless_words (v ∷ ws) h.1)

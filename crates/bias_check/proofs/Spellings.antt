@@ -1,0 +1,93 @@
+-- What words are spelled as.
+use Rattle.std.proofs.Common.{◌≡◌, ℕ, Bool, true, false, if◌then◌else◌, List, [], ◌∷◌, refl, subst, codes, Option, Some, bytes_eq}
+use Rattle.std.specs.List.{AllByRecursion}
+use Rattle.std.proofs.lemmas.Option.{same_Some}
+use Rattle.std.proofs.lemmas.Slice.Eq.{bytes_eq-Decides}
+use Rattle.plain_monitor.specs.declared.entry.Path.{Path}
+use Rattle.plain_monitor.specs.declared.entry.Path.TheVariants.{BiasOwn, BiasTaken, StackFirst, StackAgain, MonitorFirst, MonitorAgain}
+use Rattle.plain_monitor.specs.declared.entry.Fault.{Fault}
+use Rattle.plain_monitor.specs.declared.entry.Fault.TheVariants.{IllegalMonitorState, Unguarded, NotRef, NotInt, Range, Overflow, TooDeep, TooManyDumps}
+use Rattle.lock_journal.specs.Words.{path_text, fault_text}
+use Rattle.bias_check.specs.declared.spelled.Verb.{Verb}
+use Rattle.bias_check.specs.declared.spelled.Verb.TheVariants as verb
+use Rattle.bias_check.specs.Spelled.{spelled, verbs, paths, faults}
+
+abbrev pub verb_text : Verb → List ℕ
+verb_text verb.Enter = codes "enter"
+verb_text verb.Exit = codes "exit"
+verb_text verb.Wait = codes "wait"
+verb_text verb.Resume = codes "resume"
+verb_text verb.Get = codes "get"
+verb_text verb.Put = codes "put"
+verb_text verb.Notify = codes "notify"
+verb_text verb.NotifyAll = codes "notifyall"
+verb_text verb.Hash = codes "hash"
+verb_text verb.Print = codes "print"
+verb_text verb.Dump = codes "dump"
+verb_text verb.Fault = codes "fault"
+verb_text verb.Spent = codes "spent"
+verb_text verb.Done = codes "done"
+
+-- the word is this text
+pub same_word : (a b : List ℕ) → bytes_eq a b ≡ true → a ≡ b
+same_word a b h = (bytes_eq-Decides a b).0 h
+
+spelled_by : {X : Type 0} (P : List ℕ → X → Type 0) (s : List ℕ × X) (w : List ℕ) (x : X) (rest : Option X) (b : Bool) → bytes_eq s.0 w ≡ b
+    → (if b then Some s.1 else rest) ≡ Some x → P s.0 s.1 → (rest ≡ Some x → P w x) → P w x
+spelled_by {X} P s w x rest true e h here ih =
+    let Q : List ℕ → Type 0 = λ v. P v s.1 in
+    let R : X → Type 0 = λ y. P w y in
+    subst R (same_Some s.1 x h) (subst Q (same_word s.0 w e) here)
+spelled_by P s w x rest false e h here ih = ih h
+
+-- what holds of each spelling holds of the word that was found
+spelled_is : {X : Type 0} (P : List ℕ → X → Type 0) (table : List (List ℕ × X)) (w : List ℕ) (x : X) → AllByRecursion (λ s. P s.0 s.1) table → spelled table w ≡ Some x → P w x
+spelled_is P [] w x all h = absurd (cc h)
+spelled_is P (s ∷ ss) w x all h =
+    spelled_by P s w x (spelled ss w) (bytes_eq s.0 w) refl h all.0 (λ k. spelled_is P ss w x all.1 k)
+
+pub verb_is : (w : List ℕ) (v : Verb) → spelled verbs w ≡ Some v → verb_text v ≡ w
+verb_is w v h =
+    spelled_is (λ (w : List ℕ) (v : Verb). verb_text v ≡ w) verbs w v (refl, (refl, (refl, (refl, (refl, (refl, (refl, (refl, (refl, (refl, (refl, (refl, (refl, (refl, tt)))))))))))))) h
+
+pub path_is : (w : List ℕ) (v : Path) → spelled paths w ≡ Some v → path_text v ≡ w
+path_is w v h =
+    spelled_is (λ (w : List ℕ) (v : Path). path_text v ≡ w) paths w v (refl, (refl, (refl, (refl, (refl, (refl, tt)))))) h
+
+pub fault_is : (w : List ℕ) (v : Fault) → spelled faults w ≡ Some v → fault_text v ≡ w
+fault_is w v h =
+    spelled_is (λ (w : List ℕ) (v : Fault). fault_text v ≡ w) faults w v (refl, (refl, (refl, (refl, (refl, (refl, (refl, (refl, tt)))))))) h
+
+pub verb_read : (v : Verb) → spelled verbs (verb_text v) ≡ Some v
+verb_read verb.Enter = refl
+verb_read verb.Exit = refl
+verb_read verb.Wait = refl
+verb_read verb.Resume = refl
+verb_read verb.Get = refl
+verb_read verb.Put = refl
+verb_read verb.Notify = refl
+verb_read verb.NotifyAll = refl
+verb_read verb.Hash = refl
+verb_read verb.Print = refl
+verb_read verb.Dump = refl
+verb_read verb.Fault = refl
+verb_read verb.Spent = refl
+verb_read verb.Done = refl
+
+pub path_read : (v : Path) → spelled paths (path_text v) ≡ Some v
+path_read BiasOwn = refl
+path_read BiasTaken = refl
+path_read StackFirst = refl
+path_read StackAgain = refl
+path_read MonitorFirst = refl
+path_read MonitorAgain = refl
+
+pub fault_read : (v : Fault) → spelled faults (fault_text v) ≡ Some v
+fault_read IllegalMonitorState = refl
+fault_read Unguarded = refl
+fault_read NotRef = refl
+fault_read NotInt = refl
+fault_read Range = refl
+fault_read Overflow = refl
+fault_read TooDeep = refl
+fault_read TooManyDumps = refl

@@ -1,0 +1,9 @@
+use Rattle.std.proofs.Common.{◌≡◌, ◌≤◌, length}
+use Rattle.bias_check.specs.Marks.{drawers_to}
+use Rattle.bias_check.proofs.hashes.new_drawers.Given as goal
+
+abbrev pub invariant-loop-t : goal.invariant-loop-t
+invariant-loop-t l = record {
+  drawers : l.drawers.items ≡ drawers_to l.start l.t;
+  few : length l.program.threads ≤ 16;
+}

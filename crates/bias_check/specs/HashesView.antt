@@ -1,0 +1,11 @@
+-- What contracts see of `Hashes`.
+use Rattle.std.specs.Prelude.{◌≤◌, length}
+use Rattle.bias_check.specs.declared.hashes.Hashes.TheInside.{Inside}
+use Rattle.bias_check.specs.HashState.{HashState}
+
+abbrev pub hash_state : Inside → HashState
+hash_state a = record { marks = a.marks.items; drawers = a.drawers.items }
+
+-- a program has no more objects
+abbrev pub IsSmall : Inside → Type 0
+IsSmall a = length a.marks.items ≤ 4096

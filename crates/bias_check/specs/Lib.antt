@@ -1,0 +1,13 @@
+pub mod Lines
+pub mod Steps
+pub mod Hashes
+pub mod Answer
+pub mod HashState
+pub mod HashesView
+pub mod Marks
+pub mod Spelled
+pub mod Words
+pub mod Table
+pub mod Checking
+pub mod Logs
+pub mod Printed

@@ -1,0 +1,51 @@
+-- The lines of a journal, and which entries a line tells.
+use Rattle.std.specs.Prelude.{◌≡◌, ℕ, ◌<◌, ◌≤◌, ◌^◌, ◌==◌, if◌then◌else◌, List, [], ◌∷◌, length, MatchOption}
+use Rattle.std.specs.List.{onto_first}
+use Rattle.plain_monitor.specs.declared.entry.Entry.{Entry}
+use Rattle.plain_monitor.specs.declared.entry.Entry.TheVariants.{Enter, Exit, Get, Put, Wait, Resume, Notify, NotifyAll, Hash, Print, Dump, Trap, Spent, Done}
+use Rattle.plain_monitor.specs.declared.entry.Logged.{Logged}
+use Rattle.object_program.specs.Program.{ProgramText, objects_total}
+use Rattle.plain_machine.specs.ReachedThread.{IsValueOf}
+use Rattle.lock_journal.specs.RunText.{journal_line}
+
+-- the lines of a text, each with its line feed; bytes behind the last line feed are a line without one
+abbrev pub lines_of : List ℕ → List (List ℕ)
+lines_of [] = []
+lines_of (b ∷ bs) = if b == 10 then (b ∷ []) ∷ lines_of bs else onto_first b (lines_of bs)
+
+-- a number of 32 bits
+abbrev pub IsWord : ℕ → Type 0
+IsWord n = n < 2 ^ 32
+
+abbrev pub IsObject : ProgramText → ℕ → Type 0
+IsObject p o = o < objects_total p
+
+-- an entry of the program: its objects, its threads and its values are the program's, and its numbers have 32 bits
+abbrev pub IsEntryIn : ProgramText → Entry → Type 0
+IsEntryIn p (Enter o path) = IsObject p o
+IsEntryIn p (Exit o) = IsObject p o
+IsEntryIn p (Wait o) = IsObject p o
+IsEntryIn p (Resume o) = IsObject p o
+IsEntryIn p (Get o k v) = IsObject p o × IsWord k × IsValueOf (objects_total p) v
+IsEntryIn p (Put o k v) = IsObject p o × IsWord k × IsValueOf (objects_total p) v
+IsEntryIn p (Notify o woken) = IsObject p o × MatchOption woken (Unit {0}) (λ t. t < length p.threads)
+IsEntryIn p (NotifyAll o n) = IsObject p o × IsWord n
+IsEntryIn p (Hash o v drawn) = IsObject p o × IsWord v × MatchOption drawn (Unit {0}) IsWord
+IsEntryIn p (Print v) = IsValueOf (objects_total p) v
+IsEntryIn p (Dump n) = IsWord n
+IsEntryIn p (Trap fault index) = IsWord index
+IsEntryIn p Spent = Unit {0}
+IsEntryIn p Done = Unit {0}
+
+-- the line tells this entry of this thread: it is the entry's line of the journal. Stamps are from 1 to 2^46 - 1
+pub record Tells (p : ProgramText) (line : List ℕ) (x : ℕ × Logged) : Type 0 where
+  pub thread : x.0 < length p.threads
+  pub above_zero : 1 ≤ x.1.stamp
+  pub below : x.1.stamp < 2 ^ 46
+  pub entry : IsEntryIn p x.1.entry
+  pub text : journal_line p x ≡ line
+
+-- the line tells an entry. It may tell two, where an object is named `nil` or a thread `none`
+pub record IsReadable (p : ProgramText) (line : List ℕ) : Type 0 where
+  pub told : ℕ × Logged
+  pub tells : Tells p line told

@@ -1,0 +1,35 @@
+-- How the words are spelled that say what a thread did.
+use Rattle.std.specs.Prelude.{ℕ, if◌then◌else◌, List, [], ◌∷◌, codes, Option, Some, None}
+use Rattle.std.specs.Str.{bytes_eq}
+use Rattle.plain_monitor.specs.declared.entry.Path.{Path}
+use Rattle.plain_monitor.specs.declared.entry.Path.TheVariants.{BiasOwn, BiasTaken, StackFirst, StackAgain, MonitorFirst, MonitorAgain}
+use Rattle.plain_monitor.specs.declared.entry.Fault.{Fault}
+use Rattle.plain_monitor.specs.declared.entry.Fault.TheVariants.{IllegalMonitorState, Unguarded, NotRef, NotInt, Range, Overflow, TooDeep, TooManyDumps}
+use Rattle.bias_check.specs.declared.spelled.Verb.{Verb}
+use Rattle.bias_check.specs.declared.spelled.Verb.TheVariants as verb
+
+-- what the first of these that is spelled so stands for
+abbrev pub spelled : {X : Type 0} → List (List ℕ × X) → List ℕ → Option X
+spelled [] word = None
+spelled (s ∷ ss) word = if bytes_eq s.0 word then Some s.1 else spelled ss word
+
+abbrev pub acts : List (List ℕ × Verb)
+acts =
+    (codes "notify", verb.Notify) ∷ (codes "notifyall", verb.NotifyAll) ∷ (codes "hash", verb.Hash) ∷ (codes "print", verb.Print)
+    ∷ (codes "dump", verb.Dump) ∷ (codes "fault", verb.Fault) ∷ (codes "spent", verb.Spent) ∷ (codes "done", verb.Done) ∷ []
+
+abbrev pub verbs : List (List ℕ × Verb)
+verbs =
+    (codes "enter", verb.Enter) ∷ (codes "exit", verb.Exit) ∷ (codes "wait", verb.Wait) ∷ (codes "resume", verb.Resume)
+    ∷ (codes "get", verb.Get) ∷ (codes "put", verb.Put) ∷ acts
+
+abbrev pub paths : List (List ℕ × Path)
+paths =
+    (codes "bias-own", BiasOwn) ∷ (codes "bias-taken", BiasTaken) ∷ (codes "stack-first", StackFirst)
+    ∷ (codes "stack-again", StackAgain) ∷ (codes "monitor-first", MonitorFirst) ∷ (codes "monitor-again", MonitorAgain) ∷ []
+
+abbrev pub faults : List (List ℕ × Fault)
+faults =
+    (codes "IllegalMonitorState", IllegalMonitorState) ∷ (codes "Unguarded", Unguarded) ∷ (codes "NotRef", NotRef)
+    ∷ (codes "NotInt", NotInt) ∷ (codes "Range", Range) ∷ (codes "Overflow", Overflow) ∷ (codes "TooDeep", TooDeep)
+    ∷ (codes "TooManyDumps", TooManyDumps) ∷ []

@@ -1,0 +1,23 @@
+//! The check of a journal: whether its lines are a legal history of a program's monitor calls, and if not, at which line it
+//! stops being one.
+//!
+//! `specs/` has the trusted definitions: the lines of a text and which entries a line tells (`Lines`), the run of the plain
+//! machine that they are (`Steps`), where the hashes fit the threads' generators (`Hashes`), and the answer (`Answer`).
+#![tactic(auto)]
+
+mod answer;
+mod check;
+mod entries;
+mod hashes;
+mod laws;
+mod lines;
+mod names;
+mod spelled;
+#[cfg(test)]
+mod tests;
+
+pub use answer::{CheckFault, Checked, Reached};
+pub use check::check_journal;
+pub use laws::{
+    a_line_is_at_most_one_step, journals_of_legal_logs_are_runs, runs_split_into_legal_logs,
+};

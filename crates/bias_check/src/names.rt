@@ -1,0 +1,169 @@
+//! The names of a program, and the words that stand for numbers and names.
+
+ghost use Rattle.std.specs.Prelude.{◌≡◌, ◌<◌, ◌==◌, map, length, position, IfOk, IfSome, MatchOption, Some, None};
+ghost use Rattle.bias_check.specs.Table.{names_of, place_in, thread_in, declared_in, element_in, object_in, int_in, count_below, count_in, stamp_in, unbracketed};
+
+use itoa::Buffer;
+use object_program::{Directory, Name, ObjectDef, Program, number_within};
+use plain_monitor::NoMemory;
+use std::alloc::Global;
+
+/// The greatest stamp is below this.
+const STAMP_LIMIT: i64 = 1 << 46;
+/// The most threads that a program has.
+const MOST_THREADS: usize = 16;
+
+/// The names of a program's threads and its declarations of objects.
+#[derive(Drop)]
+pub(crate) struct Names {
+    pub(crate) threads: Directory<Name>,
+    pub(crate) objects: Directory<ObjectDef>,
+}
+
+impl Names {
+    /// The names of this program.
+    pub(crate) fn new(alloc: Global, program: &Program) -> Result<Names, NoMemory>
+        ensures { IfOk result (λ names. names ≡ names_of program.now) }
+    {
+        let threads = thread_names(alloc, program)?;
+        let objects = object_names(alloc, program)?;
+        Ok(Names { threads, objects })
+    }
+
+    /// The number of the thread with this name.
+    pub(crate) fn thread(&self, word: &[u8]) -> Option<u32>
+        ensures thread { result ≡ thread_in self.now word.now }
+        ensures within { IfSome result (λ t. t < length self.now.threads) }
+    {
+        let place = self.threads.place_of(word)?;
+        if place < MOST_THREADS {
+            Some(place as u32)
+        } else {
+            None
+        }
+    }
+
+    /// The declaration of objects with this name.
+    fn declared(&self, name: &[u8]) -> Option<ObjectDef>
+        ensures { result ≡ declared_in self.now name.now }
+    {
+        let place = self.objects.place_of(name)?;
+        self.objects.items().get(place).copied()
+    }
+
+    /// The number of the object that the word names: `NAME`, or `NAME[i]` for an element of an array.
+    pub(crate) fn object(&self, word: &[u8]) -> Option<u32>
+        ensures { result ≡ object_in self.now word.now }
+    {
+        match bracket(word) {
+            None => self.single(word),
+            Some(end) => self.element(&word[..end], &word[end + 1..]),
+        }
+    }
+
+    /// The object of a declaration that is no array.
+    fn single(&self, name: &[u8]) -> Option<u32>
+        ensures { result ≡ element_in self.now name.now None }
+    {
+        let declared = self.declared(name)?;
+        if declared.array {
+            return None;
+        }
+        Some(declared.first)
+    }
+
+    /// An element of the array with this name, whose number and closing bracket are given.
+    fn element(&self, name: &[u8], index: &[u8]) -> Option<u32>
+        ensures { result ≡ element_in self.now name.now (Some index.now) }
+    {
+        let declared = self.declared(name)?;
+        if !declared.array {
+            return None;
+        }
+        let digits = unbracketed(index)?;
+        let index = count_below(digits, declared.size)?;
+        declared.first.checked_add(index)
+    }
+}
+
+/// The names of the program's threads.
+fn thread_names(alloc: Global, program: &Program) -> Result<Directory<Name>, NoMemory>
+    ensures { IfOk result (λ names. names ≡ map (λ t. t.name) program.now.threads) }
+{
+    let mut names = Directory::new(alloc);
+    for thread in program.threads.items() {
+        names = names.with(thread.name)?;
+    }
+    Ok(names)
+}
+
+/// The program's declarations of objects.
+fn object_names(alloc: Global, program: &Program) -> Result<Directory<ObjectDef>, NoMemory>
+    ensures { IfOk result (λ objects. objects ≡ program.now.objects) }
+{
+    let mut objects = Directory::new(alloc);
+    for object in program.objects.items() {
+        objects = objects.with(*object)?;
+    }
+    Ok(objects)
+}
+
+/// Where the opening bracket stands.
+fn bracket(word: &[u8]) -> Option<usize>
+    ensures { result ≡ position (λ b. b == 91) word.now }
+{
+    word.iter().position(|b| *b == b'[')
+}
+
+/// What stands before the closing bracket at the end.
+fn unbracketed(index: &[u8]) -> Option<&[u8]>
+    ensures { MatchOption result (unbracketed index.now ≡ None) (λ digits. unbracketed index.now ≡ Some digits.now) }
+{
+    let Some((last, front)) = index.split_last() else {
+        return None;
+    };
+    if *last == b']' { Some(front) } else { None }
+}
+
+/// The number from `low` to `high` that the word is, written as numbers are printed.
+pub(crate) fn int_in(word: &[u8], low: i64, high: i64) -> Option<i64>
+    ensures { result ≡ int_in low high word.now }
+{
+    let number = number_within(word, low, high)?;
+    let mut buffer = Buffer::new();
+    if buffer.format(number).as_bytes() == word {
+        Some(number)
+    } else {
+        None
+    }
+}
+
+/// The number below the limit that the word is.
+fn count_below(word: &[u8], limit: u32) -> Option<u32>
+    ensures { result ≡ count_below limit word.now }
+{
+    let number = count_in(word)?;
+    if number < limit { Some(number) } else { None }
+}
+
+/// The number below 2^32 that the word is.
+pub(crate) fn count_in(word: &[u8]) -> Option<u32>
+    ensures { result ≡ count_in word.now }
+{
+    let number = int_in(word, 0, i64::from(u32::MAX))?;
+    Some(number as u32)
+}
+
+/// The stamp that the word is: `@`, and a number from 1 to 2^46 - 1.
+pub(crate) fn stamp_in(word: &[u8]) -> Option<u64>
+    ensures { result ≡ stamp_in word.now }
+{
+    let Some((first, digits)) = word.split_first() else {
+        return None;
+    };
+    if *first != b'@' {
+        return None;
+    }
+    let number = int_in(digits, 1, STAMP_LIMIT - 1)?;
+    Some(number as u64)
+}

@@ -1,0 +1,105 @@
+//! Journals whose answers are known from outside.
+
+use crate::{CheckFault, Checked, Reached, check_journal};
+use object_program::read_program;
+use std::alloc::Global;
+use std::test::Fail;
+
+/// A thread that enters, prints and leaves.
+const PRINTS: &[u8] =
+    b"class C 1\nobject a C\nthread t1\nlocal o\nlocal v\nref o a\nset v 42\nenter o\nprint v\nexit o\nend\n";
+
+/// A thread that asks for a hash.
+const HASHES: &[u8] =
+    b"class C 1\nobject a C\nthread t1\nlocal o\nlocal v\nref o a\nhash v o\nprint v\nend\n";
+
+/// A thread that waits, and nobody wakes it.
+const WAITS: &[u8] =
+    b"class C 1\nobject a C\nthread t1\nlocal o\nref o a\nenter o\nwait o\nexit o\nend\n";
+
+/// Two threads, and an object that is named as no value is.
+const PAIR: &[u8] =
+    b"class C 1\nobject nil C\nthread t1\nlocal o\nprint o\nend\nthread t2\nlocal o\nref o nil\nprint o\nend\n";
+
+/// The answer, with 1,000 units of fuel and generators from 1.
+fn answer(
+    alloc: Global,
+    program: &[u8],
+    lines: &[u8],
+) -> Result<Result<Checked, CheckFault>, Fail> {
+    let program = read_program(alloc, program)?;
+    if lines.len() > 1000 {
+        return Ok(Err(CheckFault::NoMemory));
+    }
+    Ok(check_journal(alloc, &program, 1000, 1, lines))
+}
+
+const ENDED: Checked = Checked::Legal {
+    entries: 4,
+    state: Reached::Ended,
+};
+
+#[test]
+fn a_whole_run_is_legal(rt: HostRuntime) -> Result<(), Fail> {
+    let lines = b"@1 t1 enter a stack-first\n@2 t1 print 42\n@3 t1 exit a\n@4 t1 done\n";
+    assert_eq!(rt; answer(rt.alloc(), PRINTS, lines)?, Ok(ENDED));
+    Ok(())
+}
+
+#[test]
+fn a_wait_that_is_not_asked_is_no_step(rt: HostRuntime) -> Result<(), Fail> {
+    let lines = b"@1 t1 enter a stack-first\n@2 t1 print 42\n@3 t1 wait a\n@4 t1 done\n";
+    let step = Checked::NoStep { line: 3 };
+    assert_eq!(rt; answer(rt.alloc(), PRINTS, lines)?, Ok(step));
+    Ok(())
+}
+
+#[test]
+fn no_lines_are_legal(rt: HostRuntime) -> Result<(), Fail> {
+    let open = Checked::Legal {
+        entries: 0,
+        state: Reached::Open,
+    };
+    assert_eq!(rt; answer(rt.alloc(), PRINTS, b"")?, Ok(open));
+    Ok(())
+}
+
+#[test]
+fn a_line_of_no_entry_is_unreadable(rt: HostRuntime) -> Result<(), Fail> {
+    let other = b"@1 t1 enter z stack-first\n@2 t1 print 42\n@3 t1 exit a\n@4 t1 done\n";
+    let first = CheckFault::Unreadable { line: 1 };
+    assert_eq!(rt; answer(rt.alloc(), PRINTS, other)?, Err(first));
+    let cut = b"@1 t1 enter a stack-first\n@2 t1 print 42\n@3 t1 exit a\n@4 t1 done";
+    let last = CheckFault::Unreadable { line: 4 };
+    assert_eq!(rt; answer(rt.alloc(), PRINTS, cut)?, Err(last));
+    Ok(())
+}
+
+#[test]
+fn a_hash_that_nobody_drew_is_bad(rt: HostRuntime) -> Result<(), Fail> {
+    let lines = b"@1 t1 hash a 77\n@2 t1 print 77\n@3 t1 done\n";
+    let bad = Checked::BadHash { object: 0 };
+    assert_eq!(rt; answer(rt.alloc(), HASHES, lines)?, Ok(bad));
+    Ok(())
+}
+
+#[test]
+fn a_thread_that_waits_for_ever_is_stuck(rt: HostRuntime) -> Result<(), Fail> {
+    let stuck = Checked::Legal {
+        entries: 2,
+        state: Reached::Stuck,
+    };
+    let lines = b"@1 t1 enter a monitor-first\n@2 t1 wait a\n";
+    assert_eq!(rt; answer(rt.alloc(), WAITS, lines)?, Ok(stuck));
+    Ok(())
+}
+
+#[test]
+fn a_word_with_two_readings_is_what_the_machine_takes(rt: HostRuntime) -> Result<(), Fail> {
+    let lines = b"@1 t1 print nil\n@1 t2 print nil\n@2 t1 done\n@2 t2 done\n";
+    assert_eq!(rt; answer(rt.alloc(), PAIR, lines)?, Ok(ENDED));
+    let turned = b"@1 t2 print nil\n@1 t1 print nil\n@2 t1 done\n@2 t2 done\n";
+    let step = Checked::NoStep { line: 2 };
+    assert_eq!(rt; answer(rt.alloc(), PAIR, turned)?, Ok(step));
+    Ok(())
+}
