@@ -1,35 +1,18 @@
 -- A thread whose new hold word stands loads the object's stamp, and so logs its Enter.
-use Rattle.std.proofs.Common.{◌≡◌, ◌⊎◌, ℕ, ◌+◌, ◌<◌, ◌&&◌, not, is_none, true, false, cond, List, slice_set, Option, Some, None, refl, ap, ◌∙◌, arith, inl, inr}
-use Rattle.plain_monitor.specs.declared.entry.Path.{Path}
-use Rattle.plain_monitor.specs.declared.entry.Entry.TheVariants.{Enter}
-use Rattle.plain_monitor.specs.Monitor.{PlainMonitor, is_thread, is_listed, is_outside, only_if, enter}
-use Rattle.plain_monitor.specs.Objects.{PlainObject, with_monitor}
-use Rattle.core_world.specs.declared.act.Act.TheVariants.{Load}
-use Rattle.core_world.specs.declared.name.Name.TheVariants.{Stamp, Recursions}
-use Rattle.core_world.specs.declared.stage.Stage.TheVariants.{Resumes}
-use Rattle.core_world.specs.Forms.{monitor_in}
-use Rattle.core_world.specs.Stages.{ahead, behind, bears, extra, one_if}
-use Rattle.core_world.specs.World.{World}
-use Rattle.core_world.specs.Locks.{Manned, lock, marks, displaced, object_of, monitor_of, again, standing, owner_at, waits_at, called_at}
-use Rattle.core_world.specs.Plans.{Errand, logging}
-use Rattle.core_world.specs.Valid.{Fits, IsValid}
-use Rattle.core_world.proofs.Stands.{sound, same_number, unowned_count, unlisted_count}
-use Rattle.core_world.proofs.Shows.{fits_running}
-use Rattle.core_locks.specs.Knowing.{Logs}
-use Rattle.core_locks.specs.JournalLaws.{MayLogEnter}
+use Rattle.core_locks.proofs.Prelude.{◌≡◌, ◌⊎◌, ℕ, ◌+◌, ◌<◌, ◌&&◌, not, true, false, cond, List, slice_set, Option, Some, None, refl, ap, ◌∙◌, arith, inl, inr, is_none, PlainMonitor, is_thread, is_listed, only_if, is_outside, enter, PlainObject, with_monitor, Enter, Path, Stamp, Recursions, Resumes, monitor_in, bears, hold_words_ahead, recursions_ahead, recursions_behind, one_if, World, OwnedBy, lock, marks, displaced_words, recursion_count, holds_by_monitor, object_of, monitor_of, owner_at, waits_at, notified_at, Purpose, logging_plan, Fits, lets_go, Load, same_number, sound, unlisted_count, unowned_count, fits_running, Logs, MayLogEnter, LogsValid, log_enter_plan}
 use Rattle.core_locks.proofs.WaitOut.{out_unlisted, out_standing, ready_is_out}
 use Rattle.core_locks.proofs.EnterTakes.{IsTaking, owner_or_taker}
 use Rattle.core_locks.proofs.EnterFits.{taken, taking_fits}
 
-module _ (w : World) (P : List PlainObject) (t o p : ℕ) (path : Path) (within : t < w.shape.threads) (may : MayLogEnter w.shape (w.known t) o p) (v : Fits w P) where
+module _ (w : World) (P : List PlainObject) (t o p : ℕ) (path : Path) (within : t < w.shape.threads) (may : MayLogEnter w.shape (w.known t) o p path) (v : Fits w P) where
   -- the plain monitor afterwards
-  abbrev m : PlainMonitor
+  abbrev pub m : PlainMonitor
   m = record (monitor_of P o) { owner = Some t; count = (monitor_of P o).count + 1 }
 
   not_resuming : (i : ℕ) → (w.known t).stage ≡ Resumes i → ⊥
   not_resuming i h = absurd (cc (may.stage, h))
 
-  unlisted : (is_listed (waits_at P o) t ≡ false) × (is_listed (called_at P o) t ≡ false)
+  unlisted : (is_listed (waits_at P o) t ≡ false) × (is_listed (notified_at P o) t ≡ false)
   unlisted = out_unlisted w P t v (ready_is_out (w.known t) may.ready) not_resuming o
 
   owner_is : (b : Option ℕ) → (monitor_of P o).owner ≡ b → (b ≡ None) ⊎ (b ≡ Some t)
@@ -56,12 +39,12 @@ module _ (w : World) (P : List PlainObject) (t o p : ℕ) (path : Path) (within 
   ]
 
   -- it holds once more by the plain monitor, and has no hold word besides those any more
-  number : standing m t ≡ standing (monitor_of P o) t + extra (w.known t).stage o
+  number : holds_by_monitor m t ≡ holds_by_monitor (monitor_of P o) t + hold_words_ahead (w.known t).stage o
   number =
       let waits = unlisted_count (waits_at P o) t unlisted.0 in
-      let called = unlisted_count (called_at P o) t unlisted.1 in
+      let called = unlisted_count (notified_at P o) t unlisted.1 in
       let now = ap (λ b. cond b ((monitor_of P o).count + 1) 0) (same_number t) in
-      let more : extra (w.known t).stage o ≡ 1 = ap (λ s. extra s o) may.stage ∙ ap one_if (same_number o) in
+      let more : hold_words_ahead (w.known t).stage o ≡ 1 = ap (λ s. hold_words_ahead s o) may.stage ∙ ap one_if (same_number o) in
       let before = out_standing w P t v (ready_is_out (w.known t) may.ready) o (not_resuming o) in
       elim (owner_is (monitor_of P o).owner refl) [
         | inl h ↦ let none = ap (λ b. cond (is_thread b t) (monitor_of P o).count 0) h in omega (arith, waits, called, now, more, before, none, free_count h)
@@ -69,20 +52,21 @@ module _ (w : World) (P : List PlainObject) (t o p : ℕ) (path : Path) (within 
             let own = ap (λ b. cond (is_thread b t) (monitor_of P o).count 0) h ∙ ap (λ b. cond b (monitor_of P o).count 0) (same_number t) in omega (arith, waits, called, now, more, before, own)
       ]
 
-  recursions : (b : ℕ) → monitor_in (marks w o) ≡ Some b → lock w o ≡ Manned t → w.words (Recursions b) ≡ again o (displaced w t) (w.known t).holds
+  recursions : (b : ℕ) → monitor_in (marks w o) ≡ Some b → lock w o ≡ OwnedBy t → w.words (Recursions b) ≡ recursion_count o (displaced_words w t) (w.known t).holds
   recursions b h g =
       let before = v.recursions.owned o b t h g (λ s. absurd (cc (may.stage, s))) (not_resuming o) in
-      omega (arith, before, ap (λ s. behind s o) may.stage, ap (λ s. ahead s o) may.stage)
+      omega (arith, before, ap (λ s. recursions_behind s o) may.stage, ap (λ s. recursions_ahead s o) may.stage)
 
-  is_taking : IsTaking w P t o (Enter o path) m
+  pub is_taking : IsTaking w P t o (Enter o path) m
   is_taking = record {
     within = within;
     object = may.object;
     runs = may.runs;
-    stage = inl (p, may.stage);
+    stage = inl (p, path, may.stage);
     ready = may.ready;
     room = may.room;
-    even = λ h. may.staying;
+    own_entry = may.own_entry;
+    even = λ h. elim may.own_entry.operation [ inl none ↦ ap (λ u. lets_go u o) none | inr enters ↦ ap (λ u. lets_go u o) enters ];
     taking = refl;
     tied = refl;
     takes = ap (with_monitor (object_of P o)) enters;
@@ -95,14 +79,12 @@ module _ (w : World) (P : List PlainObject) (t o p : ℕ) (path : Path) (within 
     recursions = recursions;
   }
 
-  pub enter_logs : (e : Errand) → Logs w P t (logging (Enter o path) e (Stamp o) Load) (Enter o path)
+  pub enter_logs : (e : Purpose) → Logs w P t (logging_plan (Enter o path) e (Stamp o) Load) (Enter o path)
   enter_logs e = record {
     now = slice_set P o (record (object_of P o) { monitor = m });
     taken = taken w P t o (Enter o path) e m is_taking v;
     valid = inl (taking_fits w P t o (Enter o path) e m is_taking v);
   }
 
-pub logging_an_enter : (w : World) (P : List PlainObject) (t : ℕ) (e : Errand) (o p : ℕ) (path : Path) → t < w.shape.threads → MayLogEnter w.shape (w.known t) o p
-    → IsValid w P → Logs w P t (logging (Enter o path) e (Stamp o) Load) (Enter o path)
-logging_an_enter w P t e o p path within may valid =
-    enter_logs w P t o p path within may (fits_running w P t may.runs valid) e
+pub logging_an_enter : (e : Purpose) (o p : ℕ) (path : Path) → LogsValid (λ w t. MayLogEnter w.shape (w.known t) o p path) (λ w t. log_enter_plan e o path) (Enter o path)
+logging_an_enter e o p path w P t within may valid = enter_logs w P t o p path within may (fits_running w P t may.runs valid) e

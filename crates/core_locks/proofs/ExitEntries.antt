@@ -1,19 +1,9 @@
 -- The Exit that a step logs, as the plain objects take it from their owner, and what the thread has seen of its own displaced words.
-use Rattle.std.proofs.Common.{◌≡◌, ℕ, ◌+◌, ◌<◌, true, List, [], ◌∷◌, ◌++◌, length, slice_set, Some, refl, sym, ap, ◌∙◌, arith, inl}
-use Rattle.std.proofs.lemmas.Option.{same_Some}
-use Rattle.plain_monitor.specs.declared.entry.Entry.TheVariants.{Exit}
-use Rattle.plain_monitor.specs.declared.entry.Logged.{Logged}
-use Rattle.plain_monitor.specs.Monitor.{PlainMonitor, exit}
-use Rattle.plain_monitor.specs.Objects.{PlainObject, take_entry, with_monitor}
-use Rattle.plain_monitor.specs.History.{last_stamp}
-use Rattle.core_world.specs.declared.name.Name.TheVariants.{Stamp, Displaced}
-use Rattle.core_world.specs.Known.{Known, last_seen}
-use Rattle.core_world.specs.Locks.{object_of, monitor_of}
-use Rattle.core_world.specs.Stamps.{bound_stamp}
-use Rattle.core_world.specs.Valid.{Fits}
-use Rattle.core_world.specs.World.{World}
+use Rattle.core_locks.proofs.Prelude.{◌≡◌, ℕ, ◌+◌, ◌<◌, ◌==◌, true, List, [], ◌∷◌, ◌++◌, length, slice_set, Some, refl, sym, ap, ◌∙◌, arith, inl, same_Some, PlainMonitor, exit, PlainObject, take_entry, with_monitor, Logged, last_stamp, Exit, Name, Stamp, Displaced, inflation_in, Known, last_seen, World, logs, Lock, lock, header, inflations, object_of, monitor_of, hash_at, waits_at, notified_at, inflated_to, Fits, bound_stamp, inflations_stay, IsOwnEntry}
 use Rattle.core_locks.proofs.Logging.{IsLogging}
-use Rattle.core_locks.proofs.Updates.{takes}
+use Rattle.core_locks.proofs.Clauses.{Parts, parts_of}
+use Rattle.core_locks.proofs.Steps.{Fields, IsStep, next, stepped, logs_next}
+use Rattle.core_locks.proofs.Updates.{takes, hashes_stay, slots_stay, waits_stay, called_stay}
 
 abbrev pub exit_entry : Known → ℕ → Logged
 exit_entry k o = record { stamp = last_stamp k.log + 1; entry = Exit o }
@@ -31,17 +21,19 @@ exit_taken P o t monitor inside exits = takes P o t (Exit o) (object_with P o mo
 
 -- the stamp of the owner's entry is above its last one, which bounds the entries on the object
 pub exit_logging : (w : World) (P Q : List PlainObject) (t o : ℕ) (l : Known) → t < w.shape.threads → (monitor_of P o).owner ≡ Some t → take_entry P t (Exit o) ≡ Some Q
-    → l.log ≡ (w.known t).log ++ exit_entry (w.known t) o ∷ [] → IsLogging w P Q t (exit_entry (w.known t) o) l
-exit_logging w P Q t o l within owner taken grows = record {
+    → l.log ≡ (w.known t).log ++ exit_entry (w.known t) o ∷ [] → IsOwnEntry (w.known t) (Exit o) → IsLogging w P Q t (exit_entry (w.known t) o) l
+exit_logging w P Q t o l within owner taken grows own = record {
   within = within;
   grows = grows;
   taken = taken;
+  own = own;
   up = omega arith;
   above = λ i b.
       let s : o ≡ i = same_Some o i b in
       let last = ap (bound_stamp (λ u. (w.known u).log) (w.words (Stamp o))) owner in
       let bound = ap (λ j. bound_stamp (λ u. (w.known u).log) (w.words (Stamp j)) (monitor_of P j).owner) (sym s) ∙ last in
       omega (arith, bound);
+  follows = λ k. refl;
 }
 
 -- a displaced word of its own is as a running thread last saw it
@@ -49,3 +41,45 @@ pub own_displaced : (w : World) (P : List PlainObject) (t p h : ℕ) → Fits w 
     → w.words (Displaced t p) ≡ h
 own_displaced w P t p h v runs seen =
     ap (λ u. w.words (Displaced u p)) (sym (v.numbered t)) ∙ v.seen.stays t (Displaced (w.known t).thread p) h seen (inl (runs, inl (v.numbered t)))
+
+-- THE PARTS after a step by which the monitor of o becomes m, which lists the same threads: these are the locks, and each named monitor and each
+-- header is as it was
+abbrev pub exit_parts : World → World → List PlainObject → (ℕ → Lock) → Parts → Parts
+exit_parts w x P locks p = record p {
+  logs = logs x;
+  inflated = inflated_to w;
+  inflates = λ u. inflation_in (w.known u).stage;
+  inflation = inflations w;
+  lock = locks;
+  header = header w;
+  hash = hash_at P;
+  waits = waits_at P;
+  called = notified_at P;
+  slots = λ i. (object_of P i).slots;
+}
+
+module _ {w : World} {t : ℕ} {l : Known} {fields : Fields} (s : IsStep w t l fields) (f : Name → ℕ) (P : List PlainObject) (o : ℕ) (m : PlainMonitor) (inside : o < length P) (waits : m.waits ≡ (monitor_of P o).waits)
+    (called : m.called ≡ (monitor_of P o).called) where
+  abbrev n : World
+  n = next w t l fields f
+
+  abbrev Q : List PlainObject
+  Q = objects_where P o m
+
+  pub exit_are : (locks : ℕ → Lock) → ((u : ℕ) → inflation_in (fields (u == t) l (w.known u)).stage ≡ inflation_in (w.known u).stage) → inflated_to (next w t l fields f) ≡ inflated_to w → lock (next w t l fields f) ≡ locks
+      → header (next w t l fields f) ≡ header w → parts_of (next w t l fields f) (objects_where P o m) ≡ exit_parts w (stepped w t l f) P locks (parts_of (next w t l fields f) (objects_where P o m))
+  exit_are locks inflates names lock_is header_is =
+      let inflation : inflations n ≡ inflations w = inflations_stay w.shape.threads _ _ (λ j. λ u. inflates u j) in
+      let z : PlainObject = object_with P o m in
+      λ j. record (parts_of n Q) {
+        logs = logs_next s f j;
+        inflated = names j;
+        inflates = λ u. inflates u j;
+        inflation = inflation j;
+        lock = lock_is j;
+        header = header_is j;
+        hash = sym (hashes_stay P o z inside refl) j;
+        waits = sym (waits_stay P o z inside waits) j;
+        called = sym (called_stay P o z inside called) j;
+        slots = sym (slots_stay P o z inside refl) j;
+      }

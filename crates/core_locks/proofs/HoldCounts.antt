@@ -1,16 +1,5 @@
 -- How many hold words pass a test where one is stored in an empty place, and where one is cleared.
-use Rattle.std.proofs.Common.{◌≡◌, ◌≢◌, ℕ, zero, suc, ◌+◌, ◌<◌, ◌≤◌, ◌^◌, ◌==◌, ◌&&◌, nat_lt, eq-eqb, ne_eqb, Bool, true, false, List, [], ◌∷◌, length, slice_index, slice_set, Option, Some, None, refl, sym, ap, ◌∙◌, arith, subst, add-zero, zero-add}
-use Rattle.std.proofs.lemmas.Bool.Decides.{nat_tests}
-use Rattle.mark_word.specs.declared.hold.HoldForm.{HoldForm}
-use Rattle.mark_word.specs.declared.hold.HoldForm.TheVariants.{Empty, Holds}
-use Rattle.mark_word.specs.Hold.{read_hold}
-use Rattle.mark_word.proofs.ReadingHolds.{read_hold-hold_of, read_hold-spells}
-use Rattle.core_world.specs.Shape.{Shape}
-use Rattle.core_world.specs.Forms.{hold_word, names, names_form, is_deeper, deeper_form}
-use Rattle.core_world.specs.Stages.{one_if}
-use Rattle.core_world.specs.Locks.{number, named, times, again}
-use Rattle.core_world.specs.WordForms.{IsHold}
-use Rattle.core_world.proofs.Readings.{names_none, deeper_none, hold_some}
+use Rattle.core_locks.proofs.Prelude.{◌≡◌, ◌≢◌, ℕ, zero, suc, ◌+◌, ◌<◌, ◌≤◌, ◌^◌, ◌==◌, ◌&&◌, nat_lt, eq-eqb, ne_eqb, Bool, true, false, List, [], ◌∷◌, length, slice_index, slice_set, Option, Some, None, refl, sym, ap, ◌∙◌, subst, arith, add-zero, zero-add, nat_tests, read_hold, Holds, Empty, HoldForm, read_hold-spells, read_hold-hold_of, hold_word, is_deeper, names, deeper_form, names_form, one_if, hold_count, depth_count, recursion_count, count_where, Shape, IsHold, hold_some, deeper_none, names_none}
 
 -- LISTS OF WORDS. What a place has after a store, and how the number of those that pass a test changes.
 pub length_set : (hs : List ℕ) (p x : ℕ) → length (slice_set hs p x) ≡ length hs
@@ -37,13 +26,13 @@ index_past (y ∷ hs) zero h = omega arith
 index_past (y ∷ hs) (suc p) h = let a = index_past hs p h in omega (arith, a)
 
 pub number_set : (test : ℕ → ℕ → Bool) (i : ℕ) (hs : List ℕ) (p x : ℕ) → p < length hs
-    → number test i (slice_set hs p x) + one_if (test (i + p) (slice_index hs p)) ≡ number test i hs + one_if (test (i + p) x)
+    → count_where test i (slice_set hs p x) + one_if (test (i + p) (slice_index hs p)) ≡ count_where test i hs + one_if (test (i + p) x)
 number_set test i [] p x h = absurd (omega arith)
 number_set test i (y ∷ hs) zero x h = rw (add-zero i) (omega arith)
 number_set test i (y ∷ hs) (suc p) x h =
     let r = number_set test (i + 1) hs p x (omega arith) in
     let e : i + 1 + p ≡ i + suc p = omega arith in
-    let r' = subst (λ k. number test (i + 1) (slice_set hs p x) + one_if (test k (slice_index hs p)) ≡ number test (i + 1) hs + one_if (test k x)) e r in
+    let r' = subst (λ k. count_where test (i + 1) (slice_set hs p x) + one_if (test k (slice_index hs p)) ≡ count_where test (i + 1) hs + one_if (test k x)) e r in
     omega (arith, r')
 
 -- HOLD WORDS. One at a depth from 1 to 64 names its object alone.
@@ -82,44 +71,44 @@ hold_in_form s o d n small e form = cases (read_hold n) refl form
 
 -- STORING. The hold word of o at depth d is stored in an empty place.
 module _ (hs : List ℕ) (p o d : ℕ) (within : p < length hs) (few : o < 2 ^ 15) (some : 1 ≤ d) (small : d ≤ 64) (empty : slice_index hs p ≡ 0) where
-  put : (test : ℕ → ℕ → Bool) → test p 0 ≡ false → number test 0 (slice_set hs p (hold_word o d)) ≡ number test 0 hs + one_if (test p (hold_word o d))
+  put : (test : ℕ → ℕ → Bool) → test p 0 ≡ false → count_where test 0 (slice_set hs p (hold_word o d)) ≡ count_where test 0 hs + one_if (test p (hold_word o d))
   put test none =
       let r = number_set test 0 hs p (hold_word o d) within in
       let e : one_if (test (0 + p) (slice_index hs p)) ≡ 0 = ap (λ n. one_if (test n (slice_index hs p))) (zero-add p) ∙ ap (λ n. one_if (test p n)) empty ∙ ap one_if none in
       let f : one_if (test (0 + p) (hold_word o d)) ≡ one_if (test p (hold_word o d)) = ap (λ n. one_if (test n (hold_word o d))) (zero-add p) in
       omega (arith, r, e, f)
 
-  pub named_put : (i : ℕ) → named i (slice_set hs p (hold_word o d)) ≡ named i hs + one_if (o == i)
-  named_put i = put (λ q h. names i h) (names_none i) ∙ ap (λ b. named i hs + one_if b) (names_is i o d few some small)
+  pub named_put : (i : ℕ) → hold_count i (slice_set hs p (hold_word o d)) ≡ hold_count i hs + one_if (o == i)
+  named_put i = put (λ q h. names i h) (names_none i) ∙ ap (λ b. hold_count i hs + one_if b) (names_is i o d few some small)
 
-  pub times_put : (i e : ℕ) → e < 64 → times i (e + 1) (slice_set hs p (hold_word o d)) ≡ times i (e + 1) hs + one_if ((o == i) && (d == e + 1))
+  pub times_put : (i e : ℕ) → e < 64 → depth_count i (e + 1) (slice_set hs p (hold_word o d)) ≡ depth_count i (e + 1) hs + one_if ((o == i) && (d == e + 1))
   times_put i e g =
       put (λ q h. h == hold_word i (e + 1)) (ne_eqb 0 (hold_word i (e + 1)) (λ z. hold_some i (e + 1) (sym z)))
-      ∙ ap (λ b. times i (e + 1) hs + one_if b) (same_hold i e o d small g)
+      ∙ ap (λ b. depth_count i (e + 1) hs + one_if b) (same_hold i e o d small g)
 
-  pub again_put : (i : ℕ) (f : ℕ → ℕ) → again i f (slice_set hs p (hold_word o d)) ≡ again i f hs + one_if (((o == i) && nat_lt 1 d) && (f p == 3))
+  pub again_put : (i : ℕ) (f : ℕ → ℕ) → recursion_count i f (slice_set hs p (hold_word o d)) ≡ recursion_count i f hs + one_if (((o == i) && nat_lt 1 d) && (f p == 3))
   again_put i f =
       put (λ q h. is_deeper i h && (f q == 3)) (ap (λ (b : Bool). b && (f p == 3)) (deeper_none i))
-      ∙ ap (λ (b : Bool). again i f hs + one_if (b && (f p == 3))) (deeper_is i o d few some small)
+      ∙ ap (λ (b : Bool). recursion_count i f hs + one_if (b && (f p == 3))) (deeper_is i o d few some small)
 
 -- CLEARING. The hold word of o at depth d is cleared.
 module _ (hs : List ℕ) (p o d : ℕ) (few : o < 2 ^ 15) (some : 1 ≤ d) (small : d ≤ 64) (full : slice_index hs p ≡ hold_word o d) where
-  clear : (test : ℕ → ℕ → Bool) → test p 0 ≡ false → number test 0 (slice_set hs p 0) + one_if (test p (hold_word o d)) ≡ number test 0 hs
+  clear : (test : ℕ → ℕ → Bool) → test p 0 ≡ false → count_where test 0 (slice_set hs p 0) + one_if (test p (hold_word o d)) ≡ count_where test 0 hs
   clear test none =
       let r = number_set test 0 hs p 0 (index_past hs p (λ z. hold_some o d (sym full ∙ z))) in
       let e : one_if (test (0 + p) 0) ≡ 0 = ap (λ n. one_if (test n 0)) (zero-add p) ∙ ap one_if none in
       let f : one_if (test (0 + p) (slice_index hs p)) ≡ one_if (test p (hold_word o d)) = ap (λ n. one_if (test n (slice_index hs p))) (zero-add p) ∙ ap (λ n. one_if (test p n)) full in
       omega (arith, r, e, f)
 
-  pub named_clear : (i : ℕ) → named i (slice_set hs p 0) + one_if (o == i) ≡ named i hs
-  named_clear i = ap (λ b. named i (slice_set hs p 0) + one_if b) (sym (names_is i o d few some small)) ∙ clear (λ q h. names i h) (names_none i)
+  pub named_clear : (i : ℕ) → hold_count i (slice_set hs p 0) + one_if (o == i) ≡ hold_count i hs
+  named_clear i = ap (λ b. hold_count i (slice_set hs p 0) + one_if b) (sym (names_is i o d few some small)) ∙ clear (λ q h. names i h) (names_none i)
 
-  pub times_clear : (i e : ℕ) → e < 64 → times i (e + 1) (slice_set hs p 0) + one_if ((o == i) && (d == e + 1)) ≡ times i (e + 1) hs
+  pub times_clear : (i e : ℕ) → e < 64 → depth_count i (e + 1) (slice_set hs p 0) + one_if ((o == i) && (d == e + 1)) ≡ depth_count i (e + 1) hs
   times_clear i e g =
-      ap (λ b. times i (e + 1) (slice_set hs p 0) + one_if b) (sym (same_hold i e o d small g))
+      ap (λ b. depth_count i (e + 1) (slice_set hs p 0) + one_if b) (sym (same_hold i e o d small g))
       ∙ clear (λ q h. h == hold_word i (e + 1)) (ne_eqb 0 (hold_word i (e + 1)) (λ z. hold_some i (e + 1) (sym z)))
 
-  pub again_clear : (i : ℕ) (f : ℕ → ℕ) → again i f (slice_set hs p 0) + one_if (((o == i) && nat_lt 1 d) && (f p == 3)) ≡ again i f hs
+  pub again_clear : (i : ℕ) (f : ℕ → ℕ) → recursion_count i f (slice_set hs p 0) + one_if (((o == i) && nat_lt 1 d) && (f p == 3)) ≡ recursion_count i f hs
   again_clear i f =
-      ap (λ (b : Bool). again i f (slice_set hs p 0) + one_if (b && (f p == 3))) (sym (deeper_is i o d few some small))
+      ap (λ (b : Bool). recursion_count i f (slice_set hs p 0) + one_if (b && (f p == 3))) (sym (deeper_is i o d few some small))
       ∙ clear (λ q h. is_deeper i h && (f q == 3)) (ap (λ (b : Bool). b && (f p == 3)) (deeper_none i))

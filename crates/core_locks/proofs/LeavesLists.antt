@@ -1,14 +1,5 @@
 -- A list of waiters with one more at its end.
-use Rattle.std.proofs.Common.{◌≡◌, ◌≢◌, ◌⊎◌, ℕ, ◌<◌, ◌==◌, ◌&&◌, ◌||◌, nat_lt, ne_eqb, eqb-true, Bool, true, false, cond, List, [], ◌∷◌, ◌++◌, Some, None, refl, sym, ap, ◌∙◌, arith, inl, inr, zero, suc}
-use Rattle.std.proofs.Math.Bool.{or-true}
-use Rattle.std.proofs.lemmas.Bool.Decides.{nat_tests}
-use Rattle.std.specs.List.{AllByRecursion}
-use Rattle.plain_monitor.specs.Monitor.{is_listed, count_of}
-use Rattle.plain_monitor.proofs.Lists.{all_push}
-use Rattle.core_world.specs.Forms.{waits_on, told_of, stamp_in}
-use Rattle.core_world.specs.Waits.{StandsBefore, StandByStamps, AreTold}
-use Rattle.core_world.proofs.Frames.{frame2}
-use Rattle.core_world.proofs.Stands.{same_number}
+use Rattle.core_locks.proofs.Prelude.{◌≡◌, ◌≢◌, ◌⊎◌, ℕ, zero, suc, ◌<◌, ◌==◌, ◌&&◌, ◌||◌, nat_lt, ne_eqb, Bool, true, false, cond, List, [], ◌∷◌, ◌++◌, Some, None, refl, sym, ap, ◌∙◌, arith, inl, inr, eqb-true, or-true, nat_tests, AllByRecursion, is_listed, count_of, all_push, waits_on, says_notified, stamp_in, StandByStamps, AreNotified, StandsBefore, same_number, frame2}
 
 -- who was listed is
 pub listed_forth : (ps : List (ℕ × ℕ)) (t c u : ℕ) → is_listed ps u ≡ true → is_listed (ps ++ (t, c) ∷ []) u ≡ true
@@ -76,10 +67,10 @@ stand_same f g o (p ∷ ps) h a =
     (before_same f g o p ps (h p.0 (listed_head p ps)) (λ u k. h u (listed_tail p ps u k)) a.0, stand_same f g o ps (λ u k. h u (listed_tail p ps u k)) a.1)
 
 -- so are those told who were
-pub told_same : (f g : ℕ → ℕ) (o n : ℕ) (ps : List (ℕ × ℕ)) → ((u : ℕ) → is_listed ps u ≡ true → g u ≡ f u) → AreTold f o n ps → AreTold g o n ps
+pub told_same : (f g : ℕ → ℕ) (o n : ℕ) (ps : List (ℕ × ℕ)) → ((u : ℕ) → is_listed ps u ≡ true → g u ≡ f u) → AreNotified f o n ps → AreNotified g o n ps
 told_same f g o n [] h a = a
 told_same f g o zero (p ∷ ps) h a = (ap (λ x. waits_on x o) (h p.0 (listed_head p ps)) ∙ a.0, told_same f g o zero ps (λ u k. h u (listed_tail p ps u k)) a.1)
-told_same f g o (suc n) (p ∷ ps) h a = (ap (λ x. told_of x o) (h p.0 (listed_head p ps)) ∙ a.0, told_same f g o n ps (λ u k. h u (listed_tail p ps u k)) a.1)
+told_same f g o (suc n) (p ∷ ps) h a = (ap (λ x. says_notified x o) (h p.0 (listed_head p ps)) ∙ a.0, told_same f g o n ps (λ u k. h u (listed_tail p ps u k)) a.1)
 
 -- they do with one more, whose stamp is above theirs
 pub stand_last : (f g : ℕ → ℕ) (o t c : ℕ) (ps : List (ℕ × ℕ)) → ((u : ℕ) → is_listed ps u ≡ true → g u ≡ f u)

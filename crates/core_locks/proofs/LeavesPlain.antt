@@ -1,25 +1,11 @@
 -- The plain objects take the Wait: the thread owns the object no more, and stands last among those who wait.
-use Rattle.std.proofs.Common.{◌≡◌, ◌≢◌, ◌⊎◌, ℕ, ◌+◌, ◌||◌, ne_eqb, Bool, true, false, cond, List, [], ◌∷◌, ◌++◌, slice_set, Some, None, refl, sym, ap, ◌∙◌, arith, inl, inr}
-use Rattle.std.proofs.lemmas.Option.{same_Some}
+use Rattle.core_locks.proofs.Prelude.{◌≡◌, ◌≢◌, ◌⊎◌, ℕ, ◌+◌, ◌||◌, ne_eqb, Bool, true, false, cond, List, [], ◌∷◌, ◌++◌, slice_set, Some, None, refl, sym, ap, ◌∙◌, arith, inl, inr, same_Some, PlainMonitor, is_thread, is_listed, owns, only_if, PlainObject, take_entry, with_monitor, Logged, last_stamp, Stamp, bears, Known, World, who, holder, hold_count, holds_by_monitor, object_of, monitor_of, owner_at, waits_at, notified_at, or_zero, Fits, bound_stamp, by_equal, thread_is, unlisted_count}
 use Rattle.plain_monitor.specs.declared.entry.Entry.TheVariants as entry
-use Rattle.plain_monitor.specs.declared.entry.Logged.{Logged}
-use Rattle.plain_monitor.specs.Monitor.{PlainMonitor, is_thread, is_listed, only_if, owns}
-use Rattle.plain_monitor.specs.Objects.{PlainObject, take_entry, with_monitor}
-use Rattle.plain_monitor.specs.History.{last_stamp}
-use Rattle.core_world.specs.declared.name.Name.TheVariants.{Stamp}
-use Rattle.core_world.specs.Known.{Known}
-use Rattle.core_world.specs.Locks.{who, holder, named, monitor_of, object_of, standing, or_zero, owner_at, waits_at, called_at}
-use Rattle.core_world.specs.Stages.{bears}
-use Rattle.core_world.specs.Stamps.{bound_stamp}
-use Rattle.core_world.specs.Valid.{Fits}
-use Rattle.core_world.specs.World.{World}
-use Rattle.core_world.proofs.Parts.{by_equal}
-use Rattle.core_world.proofs.Stands.{thread_is, unlisted_count}
 use Rattle.core_locks.proofs.Logging.{IsLogging}
 use Rattle.core_locks.proofs.Updates.{takes, monitor_here, monitor_else}
 use Rattle.core_locks.proofs.WaitOut.{out_unlisted}
 use Rattle.core_locks.proofs.LeavesLists.{listed_forth, listed_last, listed_back, count_last, count_else}
-use Rattle.core_locks.proofs.LeavesStates.{IsLeaving, HasLogged}
+use Rattle.core_locks.proofs.LeavesStates.{IsLeaving}
 
 -- the monitor after the owner t went to wait
 abbrev pub left_monitor : PlainMonitor → ℕ → PlainMonitor
@@ -40,12 +26,12 @@ neither : (a b : Bool) → (a || b) ≡ false → (a ≡ false) × (b ≡ false)
 neither true b h = absurd (cc h)
 neither false b h = (refl, h)
 
-module _ (w : World) (P : List PlainObject) (o m t : ℕ) (v : Fits w P) (s : IsLeaving w P o m t) where
+module _ {w : World} {P : List PlainObject} {o m t : ℕ} (v : Fits w P) (s : IsLeaving w P o m t) where
   pub owner_before : (monitor_of P o).owner ≡ Some t
   owner_before = thread_is (monitor_of P o).owner t s.owner
 
   -- the thread stands on no list yet
-  pub unlisted : (i : ℕ) → (is_listed (waits_at P i) t ≡ false) × (is_listed (called_at P i) t ≡ false)
+  pub unlisted : (i : ℕ) → (is_listed (waits_at P i) t ≡ false) × (is_listed (notified_at P i) t ≡ false)
   unlisted i = out_unlisted w P t v s.out (λ j e. absurd (cc (e, s.calm))) i
 
   pub taken : take_entry P t (entry.Wait o) ≡ Some (left_objects P o t)
@@ -96,46 +82,48 @@ module _ (w : World) (P : List PlainObject) (o m t : ℕ) (v : Fits w P) (s : Is
   ]
 
   pub holder_is : who w o ≡ Some t
-  holder_is = ap (λ f. holder f (λ z. named o (w.known z).holds)) s.manned
+  holder_is = ap (λ f. holder f (λ z. hold_count o (w.known z).holds)) s.thread_owns
 
   -- no other thread owns o or is taking it
   pub others_out : (u : ℕ) → u ≢ t → (owner_at P o u ≡ false) × (bears (w.known u).stage o ≡ false)
   others_out u d = neither (owner_at P o u) (bears (w.known u).stage o) (sym (v.owners.same o u) ∙ ap (λ a. is_thread a u) holder_is ∙ ne_eqb t u (λ e. d (sym e)))
 
   -- nobody's number of plain holds changes: the thread's count goes from the owner's to that of one who waits
-  pub stands_next : (i u : ℕ) → ((i ≡ o) × (u ≡ t) × (standing (monitor_of (left_objects P o t) i) u ≡ (monitor_of P o).count)) ⊎ (standing (monitor_of (left_objects P o t) i) u ≡ standing (monitor_of P i) u)
+  pub stands_next : (i u : ℕ) → ((i ≡ o) × (u ≡ t) × (holds_by_monitor (monitor_of (left_objects P o t) i) u ≡ (monitor_of P o).count)) ⊎ (holds_by_monitor (monitor_of (left_objects P o t) i) u ≡ holds_by_monitor (monitor_of P i) u)
   stands_next i u = elim (monitor_at i) [
     | inl a ↦
-        let next = ap (λ z. standing z u) a.1 in
+        let next = ap (λ z. holds_by_monitor z u) a.1 in
         by_equal u t
-        (λ e. inl (a.0, e, next ∙ ap (standing (left_monitor (monitor_of P o) t)) e ∙ own))
-        (λ d. inr (next ∙ other d ∙ ap (λ j. standing (monitor_of P j) u) (sym a.0)))
-    | inr a ↦ inr (ap (λ z. standing z u) a.1)
+        (λ e. inl (a.0, e, next ∙ ap (holds_by_monitor (left_monitor (monitor_of P o) t)) e ∙ own))
+        (λ d. inr (next ∙ other d ∙ ap (λ j. holds_by_monitor (monitor_of P j) u) (sym a.0)))
+    | inr a ↦ inr (ap (λ z. holds_by_monitor z u) a.1)
   ]
     where
-      own : standing (left_monitor (monitor_of P o) t) t ≡ (monitor_of P o).count
+      own : holds_by_monitor (left_monitor (monitor_of P o) t) t ≡ (monitor_of P o).count
       own =
           let waits = ap or_zero (count_last (waits_at P o) t (monitor_of P o).count (unlisted o).0) in
-          let called = unlisted_count (called_at P o) t (unlisted o).1 in
+          let called = unlisted_count (notified_at P o) t (unlisted o).1 in
           omega (arith, waits, called)
 
-      other : u ≢ t → standing (left_monitor (monitor_of P o) t) u ≡ standing (monitor_of P o) u
+      other : u ≢ t → holds_by_monitor (left_monitor (monitor_of P o) t) u ≡ holds_by_monitor (monitor_of P o) u
       other d =
           let waits = ap or_zero (count_else (waits_at P o) t (monitor_of P o).count u d) in
           let owner = ap (λ b. cond b (monitor_of P o).count 0) (others_out u d).0 in
           omega (arith, waits, owner)
 
   -- what the entry is above, and why it may be logged
-  pub is_logging : (l : Known) → HasLogged (w.known t) l o → IsLogging w P (left_objects P o t) t (wait_entry (w.known t) o) l
-  is_logging l h =
+  pub is_logging : (l : Known) → l.log ≡ (w.known t).log ++ wait_entry (w.known t) o ∷ [] → IsLogging w P (left_objects P o t) t (wait_entry (w.known t) o) l
+  is_logging l grows =
       record {
         within = s.within;
-        grows = h.log;
+        grows = grows;
         taken = taken;
+        own = record { operation = inr s.waits; shot = tt };
         up = omega arith;
         above = λ i e.
             let same : o ≡ i = same_Some o i e in
             let bound : bound_stamp (λ u. (w.known u).log) (w.words (Stamp i)) (monitor_of P i).owner ≡ last_stamp (w.known t).log =
             ap (λ j. bound_stamp (λ u. (w.known u).log) (w.words (Stamp j)) (monitor_of P j).owner) (sym same) ∙ ap (bound_stamp (λ u. (w.known u).log) (w.words (Stamp o))) owner_before in
             omega (arith, bound);
+        follows = λ k. refl;
       }

@@ -1,25 +1,6 @@
 -- How large stamps are, and that whoever waits on an object has a stamp within the object's bound.
-use Rattle.std.proofs.Common.{◌≡◌, ℕ, zero, suc, ◌+◌, ◌*◌, ◌^◌, ◌<◌, ◌≤◌, ◌==◌, Bool, true, false, cond, List, [], ◌∷◌, length, Some, refl, ap, ◌∙◌, subst, arith, inl, inr}
-use Rattle.std.proofs.lemmas.Bool.{cases_lt}
-use Rattle.std.proofs.lemmas.Option.{same_Some}
-use Rattle.std.specs.List.{AllByRecursion}
+use Rattle.core_locks.proofs.Prelude.{◌≡◌, ℕ, zero, suc, ◌+◌, ◌<◌, ◌≤◌, ◌^◌, ◌==◌, Bool, true, false, cond, List, [], ◌∷◌, length, Some, refl, ap, subst, arith, inl, inr, ◌*◌, same_Some, AllByRecursion, cases_lt, PlainObject, Logged, last_stamp, log_of, order, of_thread, thread_kept, bound_to, Stamp, Waiting, waits_on, stamp_in, Known, World, logs, logs_from, monitor_of, Fits, last_entry, bound_stamp, entries, log_limit, log_at}
 use Rattle.plain_monitor.specs.declared.entry.Entry.TheVariants as entry
-use Rattle.plain_monitor.specs.declared.entry.Logged.{Logged}
-use Rattle.plain_monitor.specs.Objects.{PlainObject}
-use Rattle.plain_monitor.specs.Order.{order, of_thread}
-use Rattle.plain_monitor.specs.History.{last_stamp}
-use Rattle.plain_monitor.proofs.Threads.{thread_kept}
-use Rattle.plain_history.specs.Tied.{bound_to}
-use Rattle.core_world.specs.declared.name.Name.TheVariants.{Stamp, Waiting}
-use Rattle.core_world.specs.Forms.{waits_on, stamp_in}
-use Rattle.core_world.specs.Known.{Known}
-use Rattle.core_world.specs.Lengths.{log_limit}
-use Rattle.core_world.specs.Locks.{monitor_of}
-use Rattle.core_world.specs.Stamps.{entries, bound_stamp}
-use Rattle.core_world.specs.Valid.{Fits}
-use Rattle.core_world.specs.Waits.{last_entry}
-use Rattle.core_world.specs.World.{World, logs, logs_from}
-use Rattle.core_world.proofs.Parts.{log_at}
 
 -- the number of entries of n logs, none of which is longer than the limit
 pub entries_few : (u n : ℕ) (f : ℕ → Known) → ((z : ℕ) → length (f z).log ≤ log_limit) → entries (logs_from u n f) ≤ n * log_limit
@@ -49,15 +30,19 @@ all_last Z [] y a e = absurd (cc e)
 all_last Z (l ∷ []) y a e = subst Z (same_Some l y e) a.0
 all_last Z (l ∷ m ∷ log) y a e = all_last Z (m ∷ log) y a.1 e
 
--- the last entry of a thread's log, where it is bound to an object, has no stamp above the object's bound
+-- no entry of a thread's log that is bound to an object has a stamp above the object's bound
+pub all_of_log : (w : World) (P : List PlainObject) (u o : ℕ) → Fits w P
+    → AllByRecursion (λ l. bound_to l.entry ≡ Some o → l.stamp ≤ bound_stamp (λ z. (w.known z).log) (w.words (Stamp o)) (monitor_of P o).owner) (log_of (logs w) u)
+all_of_log w P u o v =
+    let Z : Logged → Type 0 = λ l. bound_to l.entry ≡ Some o → l.stamp ≤ bound_stamp (λ z. (w.known z).log) (w.words (Stamp o)) (monitor_of P o).owner in
+    subst (AllByRecursion Z) (thread_kept (logs w) u v.legal.rises) (all_of_thread Z u (order (logs w)) (v.stamps.bound o))
+
+-- nor has its last entry
 pub last_bounded : (w : World) (P : List PlainObject) (u o : ℕ) (y : Logged) → Fits w P → last_entry (w.known u).log ≡ Some y → bound_to y.entry ≡ Some o
     → y.stamp ≤ bound_stamp (λ z. (w.known z).log) (w.words (Stamp o)) (monitor_of P o).owner
 last_bounded w P u o y v e b =
-    let s = bound_stamp (λ z. (w.known z).log) (w.words (Stamp o)) (monitor_of P o).owner in
-    let Z : Logged → Type 0 = λ l. bound_to l.entry ≡ Some o → l.stamp ≤ s in
-    let all : AllByRecursion Z (of_thread u (order (logs w))) = all_of_thread Z u (order (logs w)) (v.stamps.bound o) in
-    let log : of_thread u (order (logs w)) ≡ (w.known u).log = thread_kept (logs w) u v.legal.rises ∙ log_at 0 w.shape.threads u u w.known (omega arith) there in
-    all_last Z (w.known u).log y (subst (AllByRecursion Z) log all) e b
+    let Z : Logged → Type 0 = λ l. bound_to l.entry ≡ Some o → l.stamp ≤ bound_stamp (λ z. (w.known z).log) (w.words (Stamp o)) (monitor_of P o).owner in
+    all_last Z (w.known u).log y (subst (AllByRecursion Z) (log_at 0 w.shape.threads u u w.known (omega arith) there) (all_of_log w P u o v)) e b
   where
     -- a thread that the heap lacks has logged nothing
     there : u < w.shape.threads

@@ -1,30 +1,7 @@
 -- What is so of the world where a thread may log its Wait, by what it knows, and what it knows afterwards.
-use Rattle.std.proofs.Common.{◌≡◌, ℕ, ◌+◌, ◌<◌, ◌≤◌, ◌||◌, true, List, [], ◌∷◌, ◌++◌, length, Some, sym, ap, ◌∙◌, arith, inl, inr}
-use Rattle.mark_word.specs.declared.owner.OwnerForm.TheVariants.{ByThread}
-use Rattle.mark_word.specs.Mark.{read_mark}
-use Rattle.mark_word.specs.Owner.{owner_of, read_owner}
-use Rattle.mark_word.specs.Wait.{wait_of}
+use Rattle.core_locks.proofs.Prelude.{◌≡◌, ℕ, ◌+◌, ◌<◌, ◌≤◌, ◌||◌, true, List, length, Some, sym, ap, ◌∙◌, arith, inl, inr, read_mark, read_owner, owner_of, wait_of, ByThread, read_owner-owner_of, PlainObject, last_stamp, Mark, Stamp, Owner, Recursions, Calm, monitor_in, bears, recursions_ahead, recursions_behind, Known, World, OwnedBy, lock, lock_form, marks, displaced_words, owner_words, prototype_of, inflations, hold_count, recursion_count, monitor_of, owner_at, owner_lock, IsOwnMonitor, Purpose, Fits, IsUnfinished, log_limit, inflated_form, IsOut, MayWait}
 use Rattle.mark_word.specs.declared.wait.WaitForm.TheVariants as wait
-use Rattle.mark_word.proofs.ReadingOwners.{read_owner-owner_of}
-use Rattle.plain_monitor.specs.declared.entry.Entry.TheVariants as entry
-use Rattle.plain_monitor.specs.Objects.{PlainObject}
-use Rattle.plain_monitor.specs.History.{last_stamp}
-use Rattle.core_world.specs.declared.name.Name.TheVariants.{Mark, Stamp, Owner, Recursions}
-use Rattle.core_world.specs.declared.stage.Stage.TheVariants.{Calm, Waits}
 use Rattle.core_world.specs.declared.task.Op.TheVariants as op
-use Rattle.core_world.specs.Forms.{monitor_in}
-use Rattle.core_world.specs.Known.{Known}
-use Rattle.core_world.specs.Lengths.{log_limit}
-use Rattle.core_world.specs.Locks.{Manned, lock, lock_form, owner_lock, marks, owner_words, prototype_of, inflations, displaced, monitor_of, owner_at, named, again}
-use Rattle.core_world.specs.Plans.{Errand}
-use Rattle.core_world.specs.Safepoints.{IsUnfinished}
-use Rattle.core_world.specs.SeenWords.{IsOwnMonitor}
-use Rattle.core_world.specs.Stages.{ahead, behind, bears}
-use Rattle.core_world.specs.Valid.{Fits}
-use Rattle.core_world.specs.World.{World}
-use Rattle.core_world.proofs.Shows.{inflated_form}
-use Rattle.core_locks.specs.JournalLaws.{MayWait}
-use Rattle.core_locks.specs.Knowing.{IsOut}
 use Rattle.core_locks.proofs.WaitOut.{holder_owns, ready_is_out}
 
 -- Thread t holds o, whose monitor is m, and is ready to wait there.
@@ -36,11 +13,11 @@ pub record IsLeaving (w : World) (P : List PlainObject) (o m t : ℕ) : Type 0 w
   pub out : IsOut (w.known t)
   -- it is the plain owner, with as many holds as it has hold words
   pub owner : owner_at P o t ≡ true
-  pub count : named o (w.known t).holds ≡ (monitor_of P o).count
+  pub count : hold_count o (w.known t).holds ≡ (monitor_of P o).count
   -- and has the lock through the monitor, whose recursions it has saved
   pub inflated : monitor_in (marks w o) ≡ Some m
-  pub manned : lock w o ≡ Manned t
-  pub saved : (w.known t).saved ≡ again o (displaced w t) (w.known t).holds
+  pub thread_owns : lock w o ≡ OwnedBy t
+  pub saved : (w.known t).saved ≡ recursion_count o (displaced_words w t) (w.known t).holds
   -- the stamp word is no less than the stamp of its next entry
   pub raised : last_stamp (w.known t).log + 1 ≤ w.words (Stamp o)
   pub waits : IsUnfinished (w.known t).unfinished op.Wait o
@@ -50,28 +27,11 @@ pub record IsLeaving (w : World) (P : List PlainObject) (o m t : ℕ) : Type 0 w
 abbrev pub waiting_word : Known → ℕ → ℕ
 waiting_word k o = wait_of (wait.Waiting o (last_stamp k.log + 1))
 
--- Where it knew k, it knows l afterwards: its Wait is logged, its waiting word is stored, and it stands before the letting go.
-pub record HasLogged (k l : Known) (o : ℕ) : Type 0 where
-  pub thread : k.thread ≡ l.thread
-  pub log : l.log ≡ k.log ++ record { stamp = last_stamp k.log + 1; entry = entry.Wait o } ∷ []
-  pub running : k.running ≡ l.running
-  pub requesting : k.requesting ≡ l.requesting
-  pub reached : k.reached ≡ l.reached
-  pub halted : k.halted ≡ l.halted
-  pub kept : k.kept ≡ l.kept
-  pub saved : k.saved ≡ l.saved
-  pub holds : k.holds ≡ l.holds
-  pub wait : l.wait ≡ waiting_word k o
-  pub published : k.published ≡ l.published
-  pub stage : l.stage ≡ Waits o
-  pub unfinished : k.unfinished ≡ l.unfinished
-  pub counts : k.counts ≡ l.counts
-
-module _ (w : World) (P : List PlainObject) (t : ℕ) (e : Errand) (o m stamp : ℕ) (within : t < w.shape.threads) (may : MayWait w.shape (w.known t) e o m stamp) (v : Fits w P) where
+module _ (w : World) (P : List PlainObject) (t : ℕ) (e : Purpose) (o m stamp : ℕ) (within : t < w.shape.threads) (may : MayWait w.shape (w.known t) e o m stamp) (v : Fits w P) where
   out : IsOut (w.known t)
   out = ready_is_out (w.known t) may.ready
 
-  owns : (owner_at P o t ≡ true) × (named o (w.known t).holds ≡ (monitor_of P o).count)
+  owns : (owner_at P o t ≡ true) × (hold_count o (w.known t).holds ≡ (monitor_of P o).count)
   owns = holder_owns w P t v out o may.calm may.holds
 
   -- the words are as it saw them in this call: the mark, since it is inflated
@@ -94,16 +54,16 @@ module _ (w : World) (P : List PlainObject) (t : ℕ) (e : Errand) (o m stamp : 
   stamp_is : w.words (Stamp o) ≡ stamp
   stamp_is = v.seen.stays t (Stamp o) stamp may.stamped (inl (may.runs, owns.0))
 
-  manned : lock w o ≡ Manned t
-  manned =
+  thread_owns : lock w o ≡ OwnedBy t
+  thread_owns =
       ap (λ f. lock_form f (prototype_of w o) (owner_words w) (inflations w o)) (inflated_form (read_mark (marks w o)) m mark_is)
       ∙ ap owner_lock owner_is
 
-  saved : (w.known t).saved ≡ again o (displaced w t) (w.known t).holds
+  saved : (w.known t).saved ≡ recursion_count o (displaced_words w t) (w.known t).holds
   saved =
-      let a = v.recursions.owned o m t mark_is manned (λ s. absurd (cc (s, may.calm))) (λ s. absurd (cc (s, may.calm))) in
-      let none_behind = ap (λ s. behind s o) may.calm in
-      let none_ahead = ap (λ s. ahead s o) may.calm in
+      let a = v.recursions.owned o m t mark_is thread_owns (λ s. absurd (cc (s, may.calm))) (λ s. absurd (cc (s, may.calm))) in
+      let none_behind = ap (λ s. recursions_behind s o) may.calm in
+      let none_ahead = ap (λ s. recursions_ahead s o) may.calm in
       omega (arith, a, none_behind, none_ahead, recursions_are)
 
   pub leaving : IsLeaving w P o m t
@@ -117,7 +77,7 @@ module _ (w : World) (P : List PlainObject) (t : ℕ) (e : Errand) (o m stamp : 
         owner = owns.0;
         count = owns.1;
         inflated = mark_is;
-        manned = manned;
+        thread_owns = thread_owns;
         saved = saved;
         raised = omega (arith, stamp_is, may.high);
         waits = sym may.goes_on ∙ may.waits;

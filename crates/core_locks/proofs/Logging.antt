@@ -1,30 +1,11 @@
 -- What follows where a thread logs an entry that the plain objects take: the logs, their order, the stamps and the lengths.
-use Rattle.std.proofs.Common.{◌≡◌, ◌≢◌, ℕ, zero, suc, ◌+◌, ◌<◌, ◌≤◌, ◌||◌, Bool, true, false, List, [], ◌∷◌, ◌++◌, length, slice_set, slice_get, Option, Some, None, option_and_then, option_map, refl, sym, ap, ◌∙◌, subst, arith}
-use Rattle.std.specs.List.{AllByRecursion}
-use Rattle.plain_monitor.specs.declared.entry.Entry.{Entry}
-use Rattle.plain_monitor.specs.declared.entry.Logged.{Logged}
-use Rattle.plain_monitor.specs.Objects.{PlainObject, take_at, take_entry, take_named, named}
-use Rattle.plain_monitor.specs.Order.{order}
-use Rattle.plain_monitor.specs.History.{LegalObjects, objects_after, appended, last_stamp, log_of}
-use Rattle.plain_monitor.proofs.Lists.{all_weaker}
+use Rattle.core_locks.proofs.Prelude.{◌≡◌, ◌≢◌, ℕ, zero, suc, ◌+◌, ◌<◌, ◌≤◌, ◌||◌, Bool, true, false, List, [], ◌∷◌, ◌++◌, length, slice_set, Option, Some, None, refl, sym, ap, ◌∙◌, subst, arith, slice_get, option_and_then, option_map, AllByRecursion, PlainObject, take_entry, take_at, take_named, Logged, last_stamp, objects_after, LegalObjects, log_of, appended, Entry, order, all_weaker, order_appended, last_more, bound_to, IsBounded, Stamp, Known, World, with_known, logs, logs_from, monitor_of, is_taking, Fits, last_entry, ends, is_ending, bound_stamp, StampsFit, entries, LengthsFit, log_limit, by_equal, each_with_known, with_known_here, with_known_else, logs_length, log_at, logs_grow, IsOwnEntry}
+use Rattle.plain_monitor.specs.Objects.{named}
 use Rattle.plain_monitor.proofs.Orders.{all_insert}
-use Rattle.plain_monitor.proofs.Appending.{order_appended, last_more}
 use Rattle.plain_history.specs.Appending.{MayAppend}
-use Rattle.plain_history.specs.Stamps.{IsBounded}
-use Rattle.plain_history.specs.Tied.{bound_to}
 use Rattle.plain_history.proofs.Bounds.{above_bound, unbound_may_append}
 use Rattle.plain_history.proofs.Inserting.{legal_with, objects_with}
-use Rattle.core_world.specs.declared.name.Name.TheVariants.{Stamp}
-use Rattle.core_world.specs.declared.task.Unfinished.{Unfinished}
-use Rattle.core_world.specs.Known.{Known}
-use Rattle.core_world.specs.Lengths.{LengthsFit, log_limit}
-use Rattle.core_world.specs.Locks.{monitor_of}
-use Rattle.core_world.specs.Safepoints.{is_ending, ends}
-use Rattle.core_world.specs.Stamps.{StampsFit, entries, bound_stamp}
-use Rattle.core_world.specs.Valid.{Fits}
-use Rattle.core_world.specs.Waits.{last_entry}
-use Rattle.core_world.specs.World.{World, told, logs, logs_from}
-use Rattle.core_world.proofs.Parts.{by_equal, told_else, each_told, logs_grow, logs_length, log_at}
+use Rattle.core_locks.proofs.StampsLogged.{stamp_logged}
 
 -- a log with one entry more
 pub ends_more : (log : List Logged) (l : Logged) → is_ending l.entry ≡ false → ends (log ++ l ∷ []) ≡ ends log
@@ -67,20 +48,22 @@ taken_length P Q t e h = by_name (named e) h
     by_name (Some o) g = by_get o (slice_get P o) g
 
 -- Thread t, which knew what it knew in w, logs y and then knows l; the plain objects P take the entry and become Q. The stamp is above t's last,
--- and where the entry is bound to an object, above that object's bound.
+-- and where the entry is bound to an object, above that object's bound. The entry is that of its own operation.
 pub record IsLogging (w : World) (P Q : List PlainObject) (t : ℕ) (y : Logged) (l : Known) : Type 0 where
   pub within : t < w.shape.threads
   pub grows : l.log ≡ (w.known t).log ++ y ∷ []
   pub taken : take_entry P t y.entry ≡ Some Q
   pub up : last_stamp (w.known t).log < y.stamp
+  pub own : IsOwnEntry (w.known t) y.entry
   pub above : (o : ℕ) → bound_to y.entry ≡ Some o → bound_stamp (λ u. (w.known u).log) (w.words (Stamp o)) (monitor_of P o).owner < y.stamp
+  pub follows : is_taking y.entry ≡ false → y.stamp ≡ last_stamp (w.known t).log + 1
 
 module _ (w : World) (P Q : List PlainObject) (t : ℕ) (y : Logged) (l : Known) (v : Fits w P) (a : IsLogging w P Q t y l) where
   -- the logs afterwards
   abbrev next : List (List Logged)
-  next = logs_from 0 w.shape.threads (told t l w.known)
+  next = logs_from 0 w.shape.threads (with_known t l w.known)
 
-  pub logs_are : logs_from 0 w.shape.threads (told t l w.known) ≡ appended (logs w) t y
+  pub logs_are : logs_from 0 w.shape.threads (with_known t l w.known) ≡ appended (logs w) t y
   logs_are = logs_grow w.shape.threads t y l w.known a.within a.grows
 
   log_is : log_of (logs w) t ≡ (w.known t).log
@@ -100,16 +83,16 @@ module _ (w : World) (P Q : List PlainObject) (t : ℕ) (y : Logged) (l : Known)
       by_bound (Some o) e = above_bound (logs w) t y o (bound_stamp (λ u. (w.known u).log) (w.words (Stamp o)) (monitor_of P o).owner) many up_again e (v.stamps.bound o) (a.above o e)
 
   -- the logs are legal, and the objects after them are Q
-  pub legal_next : LegalObjects w.shape.objects (logs_from 0 w.shape.threads (told t l w.known))
+  pub legal_next : LegalObjects w.shape.objects (logs_from 0 w.shape.threads (with_known t l w.known))
   legal_next = subst (LegalObjects w.shape.objects) (sym logs_are) (legal_with w.shape.objects (logs w) t y P Q v.legal v.taken a.taken may_log)
 
-  pub taken_next : objects_after w.shape.objects (logs_from 0 w.shape.threads (told t l w.known)) ≡ Some Q
+  pub taken_next : objects_after w.shape.objects (logs_from 0 w.shape.threads (with_known t l w.known)) ≡ Some Q
   taken_next = ap (objects_after w.shape.objects) logs_are ∙ objects_with w.shape.objects (logs w) t y P Q v.legal v.taken a.taken may_log
 
   pub sized_next : length Q ≡ length w.shape.objects
   sized_next = taken_length P Q t y.entry a.taken ∙ v.sized
 
-  pub entries_next : entries (logs_from 0 w.shape.threads (told t l w.known)) ≡ entries (logs w) + 1
+  pub entries_next : entries (logs_from 0 w.shape.threads (with_known t l w.known)) ≡ entries (logs w) + 1
   entries_next = ap entries logs_are ∙ entries_more (logs w) t y many
 
   pub last_next : last_stamp l.log ≡ y.stamp
@@ -119,7 +102,7 @@ module _ (w : World) (P Q : List PlainObject) (t : ℕ) (y : Logged) (l : Known)
   length_next = ap (λ z. length z) a.grows ∙ length_more (w.known t).log y
 
   -- a bound of the entries on i holds with one entry more
-  pub bounded_next : (i s r : ℕ) → IsBounded (logs w) i s → s ≤ r → (bound_to y.entry ≡ Some i → y.stamp ≤ r) → IsBounded (logs_from 0 w.shape.threads (told t l w.known)) i r
+  pub bounded_next : (i s r : ℕ) → IsBounded (logs w) i s → s ≤ r → (bound_to y.entry ≡ Some i → y.stamp ≤ r) → IsBounded (logs_from 0 w.shape.threads (with_known t l w.known)) i r
   bounded_next i s r bounded above new =
       let B : ℕ × Logged → Type 0 = λ x. bound_to x.1.entry ≡ Some i → x.1.stamp ≤ r in
       subst (λ z. AllByRecursion B (order z)) (sym logs_are)
@@ -128,30 +111,48 @@ module _ (w : World) (P Q : List PlainObject) (t : ℕ) (y : Logged) (l : Known)
 
   -- The stamps fit afterwards, where the stamp words are the same: the new stamp is at most one more than the number of entries, and each
   -- object's bound is no smaller, and covers the entry where that is bound to it.
-  pub stamps_next : (unfinished : ℕ → Option Unfinished) → y.stamp ≤ entries (logs w) + 1
-      → ((i : ℕ) → (bound_stamp (λ u. (w.known u).log) (w.words (Stamp i)) (monitor_of P i).owner ≤ bound_stamp (λ u. (told t l w.known u).log) (w.words (Stamp i)) (monitor_of Q i).owner)
-      × (bound_to y.entry ≡ Some i → y.stamp ≤ bound_stamp (λ u. (told t l w.known u).log) (w.words (Stamp i)) (monitor_of Q i).owner))
-      → StampsFit (logs_from 0 w.shape.threads (told t l w.known)) (λ u. (told t l w.known u).log) (λ o. w.words (Stamp o)) (λ o. (monitor_of Q o).owner) unfinished
-  stamps_next unfinished small bounds =
+  pub stamps_next : y.stamp ≤ entries (logs w) + 1
+      → ((i : ℕ) → (bound_stamp (λ u. (w.known u).log) (w.words (Stamp i)) (monitor_of P i).owner ≤ bound_stamp (λ u. (with_known t l w.known u).log) (w.words (Stamp i)) (monitor_of Q i).owner)
+      × (bound_to y.entry ≡ Some i → y.stamp ≤ bound_stamp (λ u. (with_known t l w.known u).log) (w.words (Stamp i)) (monitor_of Q i).owner))
+      → StampsFit (logs_from 0 w.shape.threads (with_known t l w.known)) (λ u. (with_known t l w.known u).log) (λ o. w.words (Stamp o)) (λ o. (monitor_of Q o).owner) (λ u. (with_known t l w.known u).unfinished)
+  stamps_next small bounds =
       record {
-        logged = λ u. each_told (λ u k. last_stamp k.log ≤ entries (logs_from 0 w.shape.threads (told t l w.known))) t l w.known u
+        logged = λ u. each_with_known (λ u k. last_stamp k.log ≤ entries (logs_from 0 w.shape.threads (with_known t l w.known))) t l w.known u
             (omega (arith, entries_next, last_next, small)) (λ d. omega (arith, entries_next, v.stamps.logged u));
         words = λ o. omega (arith, entries_next, v.stamps.words o);
         even = λ o h. omega (arith, entries_next, v.stamps.words o);
         bound = λ o. let b = bounds o in bounded_next o _ _ (v.stamps.bound o) b.0 b.1;
+        exact = λ o. stamp_logged w P Q t y l o (w.words (Stamp o)) a.grows a.taken a.own.operation a.follows (v.stamps.exact o);
       }
 
+  -- no bound of the stamps on an object falls while it has the same owner
+  pub bound_grows : (word : ℕ) (owner : Option ℕ) → bound_stamp (λ u. (w.known u).log) word owner ≤ bound_stamp (λ u. (with_known t l w.known u).log) word owner
+  bound_grows word None = omega arith
+  bound_grows word (Some u) = each_with_known (λ u k. last_stamp (w.known u).log ≤ last_stamp k.log) t l w.known u (omega (arith, last_next, a.up)) (λ d. omega arith)
+
+  -- So the stamps fit where each object has the owner that it had, and the entry is bound to none but the thread's: the bound of that is the
+  -- entry's own stamp.
+  pub stamps_owned : y.stamp ≡ last_stamp (w.known t).log + 1 → ((i : ℕ) → (monitor_of Q i).owner ≡ (monitor_of P i).owner)
+      → ((i : ℕ) → bound_to y.entry ≡ Some i → (monitor_of P i).owner ≡ Some t)
+      → StampsFit (logs_from 0 w.shape.threads (with_known t l w.known)) (λ u. (with_known t l w.known u).log) (λ o. w.words (Stamp o)) (λ o. (monitor_of Q o).owner) (λ u. (with_known t l w.known u).unfinished)
+  stamps_owned stamp same owned =
+      stamps_next (omega (arith, stamp, v.stamps.logged t)) (λ i.
+      let bound : Option ℕ → ℕ = bound_stamp (λ u. (with_known t l w.known u).log) (w.words (Stamp i)) in (
+        omega (arith, ap bound (same i), bound_grows (w.words (Stamp i)) (monitor_of P i).owner),
+        λ e. omega (arith, ap bound (same i ∙ owned i e), ap (λ (k : Known). last_stamp k.log) (with_known_here t l w.known), last_next),
+      ))
+
   -- the lengths fit afterwards, where the thread runs, has room, and published no more than its new log
-  pub lengths_next : (word published : ℕ → ℕ) (requesting : ℕ → Bool) (halted : Bool) → length (w.known t).log < log_limit → (told t l w.known t).running ≡ true
-      → ((u : ℕ) → word u ≡ published u) → ((u : ℕ) → published u ≤ length (told t l w.known u).log)
+  pub lengths_next : (word published : ℕ → ℕ) (requesting : ℕ → Bool) (halted : Bool) → length (w.known t).log < log_limit → (with_known t l w.known t).running ≡ true
+      → ((u : ℕ) → word u ≡ published u) → ((u : ℕ) → published u ≤ length (with_known t l w.known u).log)
       → ((u : ℕ) → u ≢ t → (w.known u).running ≡ false → requesting u ≡ false → halted ≡ false → published u ≡ length (w.known u).log)
-      → LengthsFit word published (λ u. (told t l w.known u).log) (λ u. (told t l w.known u).running) requesting halted
+      → LengthsFit word published (λ u. (with_known t l w.known u).log) (λ u. (with_known t l w.known u).running) requesting halted
   lengths_next word published requesting halted room runs stored most all =
       record {
-        few = λ u. each_told (λ u k. length k.log ≤ log_limit) t l w.known u (omega (arith, length_next, room)) (λ d. v.lengths.few u);
+        few = λ u. each_with_known (λ u k. length k.log ≤ log_limit) t l w.known u (omega (arith, length_next, room)) (λ d. v.lengths.few u);
         stored = stored;
         most = most;
         all = λ u r q h. by_equal u t
-            (λ e. let runs_here : (told t l w.known u).running ≡ true = ap (λ z. (told t l w.known z).running) e ∙ runs in absurd (cc (runs_here, r)))
-            (λ d. let same = told_else t l w.known u d in all u d (ap (λ (k : Known). k.running) (sym same) ∙ r) q h ∙ ap (λ (k : Known). length k.log) (sym same));
+            (λ e. let runs_here : (with_known t l w.known u).running ≡ true = ap (λ z. (with_known t l w.known z).running) e ∙ runs in absurd (cc (runs_here, r)))
+            (λ d. let same = with_known_else t l w.known u d in all u d (ap (λ (k : Known). k.running) (sym same) ∙ r) q h ∙ ap (λ (k : Known). length k.log) (sym same));
       }

@@ -1,27 +1,8 @@
 -- The mark of one object changes: what stays of marks, locks and headers, which clauses read of marks only what stays, and that the other
 -- threads don't count on the mark that was there.
-use Rattle.std.proofs.Common.{◌≡◌, ◌≢◌, ◌⊎◌, ℕ, ◌+◌, ◌||◌, eq-eqb, ne_eqb, Bool, true, false, cond, List, [], Option, Some, refl, sym, ap, ◌∙◌, subst, inl, inr}
-use Rattle.mark_word.specs.Mark.{read_mark}
-use Rattle.plain_monitor.specs.declared.entry.Logged.{Logged}
-use Rattle.core_world.specs.declared.name.Name.TheVariants.{Mark}
-use Rattle.core_world.specs.declared.stage.Stage.{Stage}
-use Rattle.core_world.specs.declared.task.Unfinished.{Unfinished}
-use Rattle.core_world.specs.Forms.{is_biased, monitor_in}
-use Rattle.core_world.specs.Stages.{Inflation, inflation_in, bears}
-use Rattle.core_world.specs.Known.{Known}
-use Rattle.core_world.specs.World.{World, one, told}
-use Rattle.core_world.specs.Locks.{Lock, Leaning, Manned, lock, lock_form, header, header_form, marks, displaced, headers, owner_words, prototype_of, inflations}
-use Rattle.core_world.specs.SeenWords.{IsValidBias}
-use Rattle.core_world.specs.Biases.{BiasedAreFree}
-use Rattle.core_world.specs.Inflations.{InflationsAreOne}
-use Rattle.core_world.specs.Monitors.{MonitorsAreNamed}
-use Rattle.core_world.specs.Recursions.{RecursionsFit, Goes}
-use Rattle.core_world.specs.Waits.{WaitsFit}
-use Rattle.core_world.specs.Claims.{MonitorsAreClaimed, with_monitor}
-use Rattle.core_world.specs.Classes.{ClassesFit}
-use Rattle.core_world.proofs.Parts.{by_equal}
-use Rattle.core_world.proofs.SeenBack.{Back, stays_back}
-use Rattle.core_world.proofs.SeenMoves.{Spares}
+use Rattle.core_locks.proofs.Prelude.{◌≡◌, ◌≢◌, ◌⊎◌, ℕ, ◌+◌, ◌||◌, eq-eqb, ne_eqb, Bool, true, false, cond, List, [], Option, Some, None, refl, sym, ap, ◌∙◌, subst, inl, inr, read_mark, Logged, Mark, Stage, is_biased, monitor_in, Inflation, inflation_in, bears, revocation_in, Known, World, with_word_and_known, with_known, Lock, BiasedTo, OwnedBy, lock, lock_form, header, header_form, marks, displaced_words, headers, owner_words, prototype_of, inflations, IsValidBias, RecursionsFit, GoesByMonitor, WaitsFit, BiasedAreFree, InflationsAreOne, MonitorsAreClaimed, ClassesFit, Unfinished, MonitorsAreNamed, by_equal, stays_back, Back, Spares}
+use Rattle.core_world.specs.Clauses.Claims.{count_with_monitor}
+use Rattle.core_locks.proofs.OwnSeen.{either}
 use Rattle.core_locks.proofs.MarkMeanings.{each_set, IsBare, bare_unnamed, bare_unbiased}
 
 -- MARKS f AND g THAT NAME THE SAME MONITORS. Four clauses read nothing else of marks.
@@ -32,14 +13,14 @@ module _ (f g : ℕ → ℕ) (same : (i : ℕ) → monitor_in (f i) ≡ monitor_
   forth : (i a : ℕ) → monitor_in (f i) ≡ Some a → monitor_in (g i) ≡ Some a
   forth i a e = sym (same i) ∙ e
 
-  pub monitors_by_marks : (object header : ℕ → ℕ) → MonitorsAreNamed f object header → MonitorsAreNamed g object header
+  pub monitors_by_marks : (object header : ℕ → ℕ) → MonitorsAreNamed (λ i. monitor_in (f i)) object header → MonitorsAreNamed (λ i. monitor_in (g i)) object header
   monitors_by_marks object header h = record {
     own = λ i a e. h.own i a (back i a e);
     neutral = λ i a e. h.neutral i a (back i a e);
     alone = λ i j a e d. h.alone i j a (back i a e) (back j a d);
   }
 
-  pub claims_by_marks : (threads objects claim : ℕ) (kept : ℕ → Option ℕ) → MonitorsAreClaimed threads objects claim f kept → MonitorsAreClaimed threads objects claim g kept
+  pub claims_by_marks : (threads objects claim : ℕ) (kept : ℕ → Option ℕ) → MonitorsAreClaimed threads objects claim (λ i. monitor_in (f i)) kept → MonitorsAreClaimed threads objects claim (λ i. monitor_in (g i)) kept
   claims_by_marks threads objects claim kept h =
       let named : ◌≡◌ {A = ℕ → Option ℕ} (λ i. monitor_in (f i)) (λ i. monitor_in (g i)) = λ j. λ i. same i j in
       record {
@@ -48,11 +29,11 @@ module _ (f g : ℕ → ℕ) (same : (i : ℕ) → monitor_in (f i) ≡ monitor_
         once = h.once;
         apart = λ t i a e d. h.apart t i a e (back i a d);
         all = λ a e. elim (h.all a e) [ inl b ↦ inl b | inr b ↦ inr (b.0, forth b.0 a b.1) ];
-        counted = subst (λ (n : ℕ → Option ℕ). claim ≡ with_monitor threads kept + with_monitor objects n) named h.counted;
+        counted = subst (λ (n : ℕ → Option ℕ). claim ≡ count_with_monitor threads kept + count_with_monitor objects n) named h.counted;
       }
 
   pub waits_by_marks : (wait own : ℕ → ℕ) (log : ℕ → List Logged) (stage : ℕ → Stage) (operation : ℕ → Option Unfinished) (running : ℕ → Bool) (waits called : ℕ → List (ℕ × ℕ))
-      → WaitsFit f wait own log stage operation running waits called → WaitsFit g wait own log stage operation running waits called
+      → WaitsFit (λ i. monitor_in (f i)) wait own log stage operation running waits called → WaitsFit (λ i. monitor_in (g i)) wait own log stage operation running waits called
   waits_by_marks wait own log stage operation running waits called h = record {
     waiting = h.waiting;
     waiter = h.waiter;
@@ -73,24 +54,25 @@ module _ (f g : ℕ → ℕ) (same : (i : ℕ) → monitor_in (f i) ≡ monitor_
 
   -- the locks may change too, but for those of inflated objects; and nobody comes to have one through a monitor
   pub recursions_by_marks : (recursions : ℕ → ℕ) (lock next : ℕ → Lock) (holds : ℕ → List ℕ) (stage : ℕ → Stage) (saved : ℕ → ℕ) (displaced : ℕ → ℕ → ℕ) (waits called : ℕ → List (ℕ × ℕ))
-      → ((i u : ℕ) → next i ≡ Manned u → lock i ≡ Manned u) → ((i a : ℕ) → monitor_in (f i) ≡ Some a → next i ≡ lock i)
+      → ((i u : ℕ) → next i ≡ OwnedBy u → lock i ≡ OwnedBy u) → ((i a : ℕ) → monitor_in (f i) ≡ Some a → next i ≡ lock i)
       → RecursionsFit f recursions lock holds stage saved displaced waits called → RecursionsFit g recursions next holds stage saved displaced waits called
-  recursions_by_marks recursions lock next holds stage saved displaced waits called manned inflated h = record {
+  recursions_by_marks recursions lock next holds stage saved displaced waits called thread_owns inflated h = record {
     first = λ i t p e. h.first i t p (goes i t e);
     others = λ i t p d e. h.others i t p d (goes i t e);
-    owned = λ i a t e k. h.owned i a t (back i a e) (manned i t k);
+    owned = λ i a t e k. h.owned i a t (back i a e) (thread_owns i t k);
     waiting = h.waiting;
-    resting = λ i a t p e k. h.resting i a t p (back i a e) (sym (inflated i a (back i a e)) ∙ k);
+    on_record = λ i a t p e k. h.on_record i a t p (back i a e) (sym (inflated i a (back i a e)) ∙ k);
     free = λ i a e k. h.free i a (back i a e) (sym (inflated i a (back i a e)) ∙ k);
+    thread_owns = h.thread_owns;
   }
     where
-      goes : (i t : ℕ) → Goes (next i) (waits i) (called i) t → Goes (lock i) (waits i) (called i) t
-      goes i t (inl e) = inl (manned i t e)
+      goes : (i t : ℕ) → GoesByMonitor (next i) (waits i) (called i) t → GoesByMonitor (lock i) (waits i) (called i) t
+      goes i t (inl e) = inl (thread_owns i t e)
       goes i t (inr e) = inr e
 
 -- a mark with the bias pattern had it before, and its object leans to the same thread as before
 pub biases_by_marks : (f g : ℕ → ℕ) (lock next : ℕ → Lock) (holds : ℕ → List ℕ) (hash : ℕ → ℕ) (waits called : ℕ → List (ℕ × ℕ)) → ((i : ℕ) → is_biased (g i) ≡ true → is_biased (f i) ≡ true)
-    → ((i t : ℕ) → lock i ≡ Leaning t → is_biased (g i) ≡ true → next i ≡ Leaning t) → BiasedAreFree f lock holds hash waits called → BiasedAreFree g next holds hash waits called
+    → ((i t : ℕ) → lock i ≡ BiasedTo t → is_biased (g i) ≡ true → next i ≡ BiasedTo t) → BiasedAreFree f lock holds hash waits called → BiasedAreFree g next holds hash waits called
 biases_by_marks f g lock next holds hash waits called back leans h = record {
   hashless = λ i e. h.hashless i (back i e);
   nobody = λ i e. h.nobody i (back i e);
@@ -116,16 +98,10 @@ inflating_by_marks f g inflates inflation back forth h = record {
   one = h.one;
 }
 
-either : (a b c : Bool) → (a ≡ true → c ≡ true) → (a || b) ≡ true → (c || b) ≡ true
-either true b c f e = ap (λ d. d || b) (f refl)
-either false true false f e = refl
-either false true true f e = refl
-either false false c f e = absurd (cc e)
-
 -- THE MARK m IS WRITTEN AT o by a step of thread t, which knows l then.
 module _ (w : World) (o m t : ℕ) (l : Known) where
   abbrev x : World
-  x = one (Mark o) m t l w
+  x = with_word_and_known (Mark o) m t l w
 
   pub mark_here : marks x o ≡ m
   mark_here = ap (λ (b : Bool). cond b m (marks w o)) (eq-eqb o o refl)
@@ -160,28 +136,29 @@ module _ (w : World) (o m t : ℕ) (l : Known) where
     pub lock_else : (i : ℕ) → i ≢ o → lock x i ≡ lock w i
     lock_else i d = λ j. lock_form (read_mark (mark_else i d j)) (prototype_of w i) (owner_words w) (sym inflation j i)
 
-    pub header_here : header x o ≡ header_form (read_mark m) m (displaced w) (headers w) (inflations w o)
-    header_here = λ j. header_form (read_mark (mark_here j)) (mark_here j) (displaced w) (headers w) (sym inflation j o)
+    pub header_here : header x o ≡ header_form (read_mark m) m (displaced_words w) (headers w) (inflations w o)
+    header_here = λ j. header_form (read_mark (mark_here j)) (mark_here j) (displaced_words w) (headers w) (sym inflation j o)
 
     pub header_else : (i : ℕ) → i ≢ o → header x i ≡ header w i
-    header_else i d = λ j. header_form (read_mark (mark_else i d j)) (mark_else i d j) (displaced w) (headers w) (sym inflation j i)
+    header_else i d = λ j. header_form (read_mark (mark_else i d j)) (mark_else i d j) (displaced_words w) (headers w) (sym inflation j i)
 
     -- the lock of the object is this one now, and each other lock is as before
     pub lock_at : (f : Lock) → lock_form (read_mark m) (prototype_of w o) (owner_words w) (inflations w o) ≡ f → (i : ℕ) → ((i ≡ o) × (lock x i ≡ f)) ⊎ ((i ≢ o) × (lock x i ≡ lock w i))
     lock_at f e i = by_equal i o (λ a. inl (a, ap (lock x) a ∙ lock_here ∙ e)) (λ d. inr (d, lock_else i d))
 
     -- all headers stay, where the new mark means the header that the old one meant
-    pub header_same : header_form (read_mark m) m (displaced w) (headers w) (inflations w o) ≡ header w o → header w ≡ header x
+    pub header_same : header_form (read_mark m) m (displaced_words w) (headers w) (inflations w o) ≡ header w o → header w ≡ header x
     header_same e = λ j. λ i. sym (by_equal i o (λ a. ap (header x) a ∙ header_here ∙ e ∙ ap (header w) (sym a)) (λ d. header_else i d)) j
 
   -- what thread u, which knew k and knows y, may count on after the step it could count on before; so it is with the thread that makes
   -- the step and with the others
   pub mark_back : (k y : Known) (owner next : ℕ → ℕ → Bool) (u : ℕ) → ((i a : ℕ) → monitor_in (marks x i) ≡ Some a → monitor_in (marks w i) ≡ Some a)
-      → y.running ≡ k.running → y.requesting ≡ k.requesting → inflation_in y.stage ≡ inflation_in k.stage → y.kept ≡ k.kept → ((i : ℕ) → next i u ≡ true → owner i u ≡ true)
+      → y.running ≡ k.running → y.requesting ≡ k.requesting → inflation_in y.stage ≡ inflation_in k.stage → (revocation_in y.stage ≡ None → revocation_in k.stage ≡ None) → y.kept ≡ k.kept → ((i : ℕ) → next i u ≡ true → owner i u ≡ true)
       → ((i a : ℕ) → monitor_in (marks x i) ≡ Some a → (next i u || bears y.stage i) ≡ true → (owner i u || bears k.stage i) ≡ true) → Back w x k y owner next u
-  mark_back k y owner next u names run ask inflates kept owned held = record {
+  mark_back k y owner next u names run ask inflates none_revokes kept owned held = record {
     run = λ e. sym run ∙ e;
     ask = λ e. sym ask ∙ e;
+    not_revoking = none_revokes;
     inflates = λ i e. sym inflates ∙ e;
     kept = λ a e. sym kept ∙ e;
     prototype = λ i. refl;
@@ -194,13 +171,13 @@ module _ (w : World) (o m t : ℕ) (l : Known) where
   pub mark_spares : (owner next : ℕ → ℕ → Bool) (waiters next_waiters : ℕ → List (ℕ × ℕ)) → IsBare (marks w o) → marks w o ≢ 0 → IsBare m
       → ((u : ℕ) (i : Inflation) → inflation_in (w.known u).stage ≡ Some i → marks w i.object ≡ 0)
       → ((u i : ℕ) → u ≢ t → next i u ≡ true → owner i u ≡ true) → ((u i : ℕ) → u ≢ t → owner i u ≡ true → waiters i ≡ [] → next_waiters i ≡ [])
-      → ((u : ℕ) → (told t l w.known u).reached ≡ true → ⊥) → Spares (Mark o) m t l w owner next waiters next_waiters
+      → ((u : ℕ) → (with_known t l w.known u).reached ≡ true → ⊥) → Spares (Mark o) m t l w owner next waiters next_waiters
   mark_spares owner next waiters next_waiters old some new inflating owned unwaited unreached =
       let names : (i : ℕ) → monitor_in (marks w i) ≡ monitor_in (marks x i) = names_same (old.unnamed ∙ sym new.unnamed) in
       record {
         before = λ u n s d e g.
             stays_back w x (w.known u) (w.known u) owner next u
-            (mark_back (w.known u) (w.known u) owner next u (λ i a h. names i ∙ h) refl refl refl refl (λ i. owned u i d)
+            (mark_back (w.known u) (w.known u) owner next u (λ i a h. names i ∙ h) refl refl refl (λ a. a) refl (λ i. owned u i d)
             (λ i a h b. either (next i u) (bears (w.known u).stage i) (owner i u) (owned u i d) b)) n s g;
         owned = λ u i d. owned u i d;
         word = λ u s d st is. absurd (elim st [
@@ -214,7 +191,7 @@ module _ (w : World) (o m t : ℕ) (l : Known) where
               ]
             ]
           ]
-          | inr a ↦ bare_unbiased (marks w o) (prototype_of w o) old (subst (λ y. IsValidBias (read_mark y) (prototype_of w o)) (sym is) a.1)
+          | inr a ↦ bare_unbiased (marks w o) (prototype_of w o) old (subst (λ y. IsValidBias (read_mark y) (prototype_of w o)) (sym is) a.2)
         ]);
         bias = bias_forth new.unbiased;
         waits = λ u i j d e h. h;

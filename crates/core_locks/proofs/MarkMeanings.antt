@@ -1,15 +1,5 @@
 -- What a mark means that is neutral, or that names a lock record.
-use Rattle.std.proofs.Common.{◌≡◌, ◌≢◌, ℕ, ◌<◌, ◌==◌, eq-eqb, ne_eqb, eqb-true, Bool, true, false, cond, Option, Some, None, refl, sym, ap, ◌∙◌, subst}
-use Rattle.mark_word.specs.declared.mark.MarkForm.{MarkForm}
-use Rattle.mark_word.specs.declared.mark.MarkForm.TheVariants.{Neutral, Biased, Locked}
-use Rattle.mark_word.specs.Mark.{mark_of, read_mark}
-use Rattle.mark_word.proofs.ReadingMarks.{read_mark-mark_of, read_mark-spells}
-use Rattle.core_world.specs.Forms.{is_neutral, is_neutral_form, is_biased, is_biased_form, monitor_in, monitor_form}
-use Rattle.core_world.specs.Stages.{Inflation}
-use Rattle.core_world.specs.Locks.{Open, Resting, lock_form, header_form}
-use Rattle.core_world.specs.SeenWords.{IsValidBias}
-use Rattle.core_world.proofs.Parts.{by_equal}
-use Rattle.core_world.proofs.Readings.{mark_zero}
+use Rattle.core_locks.proofs.Prelude.{◌≡◌, ◌≢◌, ℕ, ◌<◌, ◌==◌, eq-eqb, ne_eqb, Bool, true, false, cond, Option, Some, None, refl, sym, ap, ◌∙◌, subst, eqb-true, MarkForm, read_mark, mark_of, read_owner, Locked, Neutral, Biased, read_mark-mark_of, read_mark-spells, is_biased, is_neutral, monitor_in, is_biased_form, monitor_form, is_neutral_form, Inflation, Open, OnRecord, lock_form, header_form, IsValidBias, Shape, IsOwner, IsMark, WordsHaveForms, by_equal, mark_zero}
 
 -- a fact of the words of which the one at o is v now: by that of v, and of the others as they were
 pub each_set : {A : Type 0} (Q : ℕ → A → Type 0) (o : ℕ) (v : A) (f : ℕ → A) (i : ℕ) → Q o v → (i ≢ o → Q i (f i)) → Q i (cond (i == o) v (f i))
@@ -71,9 +61,17 @@ locked_some n t p e z = absurd (cc (sym e ∙ ap read_mark z ∙ mark_zero))
 
 -- the lock rests on that record, whose displaced word is the header
 pub locked_lock : (n t p prototype : ℕ) (owners : ℕ → ℕ) (inflation : Option Inflation) → read_mark n ≡ Some (Locked t p)
-    → lock_form (read_mark n) prototype owners inflation ≡ Resting t p
+    → lock_form (read_mark n) prototype owners inflation ≡ OnRecord t p
 locked_lock n t p prototype owners inflation e = ap (λ f. lock_form f prototype owners inflation) e
 
 pub locked_header : (n t p : ℕ) (displaced : ℕ → ℕ → ℕ) (headers : ℕ → ℕ) (inflation : Option Inflation) → read_mark n ≡ Some (Locked t p)
     → header_form (read_mark n) n displaced headers inflation ≡ Some (displaced t p)
 locked_header n t p displaced headers inflation e = ap (λ f. header_form f n displaced headers inflation) e
+
+-- FORMS. A word of the kind that changes has its form, and so have all.
+module _ {s : Shape} {mark owner waiting object : ℕ → ℕ} {hold : ℕ → ℕ → ℕ} {safe : ℕ} (i n : ℕ) (h : WordsHaveForms s mark owner waiting object hold safe) where
+  pub forms_marked : IsMark s (read_mark n) → WordsHaveForms s (λ o. cond (o == i) n (mark o)) owner waiting object hold safe
+  forms_marked is = let marks : (o : ℕ) → IsMark s (read_mark (cond (o == i) n (mark o))) = λ o. each_set (λ o y. IsMark s (read_mark y)) i n mark o is (λ d. h.marks o) in search (marks, h)
+
+  pub forms_owned : IsOwner s (read_owner n) → WordsHaveForms s mark (λ m. cond (m == i) n (owner m)) waiting object hold safe
+  forms_owned is = let owners : (m : ℕ) → IsOwner s (read_owner (cond (m == i) n (owner m))) = λ m. each_set (λ m y. IsOwner s (read_owner y)) i n owner m is (λ d. h.owners m) in search (owners, h)

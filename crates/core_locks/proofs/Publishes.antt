@@ -1,35 +1,14 @@
 -- A thread publishes its length with one entry more, and so logs that entry.
-use Rattle.std.proofs.Common.{◌≡◌, ℕ, ◌+◌, ◌<◌, ◌==◌, ◌&&◌, ne_eqb, max, true, false, cond, if◌then◌else◌, List, [], ◌++◌, append-nil, length, slice_set, Some, None, refl, sym, ap, ◌∙◌, subst, arith, inl, inr}
-use Rattle.plain_monitor.specs.declared.entry.Entry.{Entry}
-use Rattle.plain_monitor.specs.declared.entry.Entry.TheVariants.{Notify, NotifyAll, Print, Dump, Trap, Spent, Done}
-use Rattle.plain_monitor.specs.declared.entry.Logged.{Logged}
-use Rattle.plain_monitor.specs.declared.entry.Value.{Value}
-use Rattle.plain_monitor.specs.History.{last_stamp}
-use Rattle.plain_monitor.specs.Monitor.{PlainMonitor, calls, only_if, owns}
-use Rattle.plain_monitor.specs.Objects.{PlainObject, take_at, take_entry, with_monitor}
+use Rattle.core_locks.proofs.Prelude.{◌≡◌, ◌≢◌, ℕ, ◌+◌, ◌<◌, ◌≤◌, ◌==◌, ◌&&◌, max, true, false, cond, List, [], ◌∷◌, ◌++◌, length, slice_set, Some, None, refl, sym, ap, ◌∙◌, subst, arith, inl, inr, if◌then◌else◌, append-nil, PlainMonitor, owns, only_if, calls, PlainObject, take_entry, take_at, with_monitor, Logged, last_stamp, Entry, Notify, NotifyAll, Print, Dump, Trap, Spent, Done, Value, bound_to, Safepoint, Slot, Length, StepPlan, names, is_halted, Known, World, with_known, logs_from, object_of, monitor_of, owner_at, hash_at, Stays, Purpose, with_stage, publish_plan, world_after, known_hit, seen_before, stamp_by, is_taking, Fits, SeenFit, DrawsFit, draw_in, SlotsFit, Shape, each_with_known, fits_running, Logs, LogsValid, MayPublish, MayTell, IsOwnEntry}
 use Rattle.plain_monitor.specs.Objects as plain
-use Rattle.plain_history.specs.Tied.{bound_to}
-use Rattle.core_world.specs.declared.act.Act.TheVariants.{Store}
-use Rattle.core_world.specs.declared.name.Name.TheVariants.{Slot, Length}
-use Rattle.core_world.specs.declared.plan.StepPlan.{StepPlan}
-use Rattle.core_world.specs.Known.{Known, last_seen}
-use Rattle.core_world.specs.Locks.{object_of, monitor_of, owner_at}
-use Rattle.core_world.specs.Names.{written}
-use Rattle.core_world.specs.Plans.{Errand, logging}
-use Rattle.core_world.specs.Slots.{SlotsFit}
-use Rattle.core_world.specs.Shape.{Shape}
-use Rattle.core_world.specs.Steps.{is_taking, known_hit, seen_before, stamp_by}
-use Rattle.core_world.specs.Valid.{Fits, IsValid}
-use Rattle.core_world.specs.World.{World, told}
-use Rattle.core_world.proofs.ActsLook.{seen_is_part}
-use Rattle.core_world.proofs.Parts.{each_told}
-use Rattle.core_world.proofs.Shows.{written_there, fits_running}
-use Rattle.core_locks.specs.JournalLaws.{MayPublish, MayTell}
-use Rattle.core_locks.specs.Knowing.{Logs}
 use Rattle.core_locks.proofs.Logging.{length_more}
 use Rattle.core_locks.proofs.TellNobody.{nobody_waits}
 use Rattle.core_locks.proofs.TellTaken.{IsFreeToTell, IsTaken, owns_held, object_there, unbound_taken, owner_taken}
-use Rattle.core_locks.proofs.Tells.{Tells, tells}
+use Rattle.core_locks.proofs.Tells.{IsTelling, tells_so, still_parts, still_are, told_step}
+use Rattle.core_locks.proofs.Clauses.{seen, lengths, AllHold}
+use Rattle.core_locks.proofs.OwnSeen.{own_seen}
+use Rattle.core_locks.proofs.Steps.{announcing, IsStep, next, each_written, step_fits, seen_next, lengths_next}
+use Rattle.core_locks.proofs.Drawing.{draws_counted, draws_still}
 use Rattle.core_locks.proofs.Updates.{slots_stay}
 
 -- What an entry that may be published makes of the plain objects: they keep their slots too. It is no Enter or Resume.
@@ -40,8 +19,8 @@ record IsQuiet (P : List PlainObject) (t : ℕ) (y : Entry) : Type 0 where
   pub untaking : is_taking y ≡ false
 
 -- one that names no object
-quiet_unbound : (P : List PlainObject) (t : ℕ) (y : Entry) → take_entry P t y ≡ Some P → bound_to y ≡ None → is_taking y ≡ false → IsQuiet P t y
-quiet_unbound P t y taken unbound untaking = record { now = P; entry = unbound_taken P t y taken unbound; slots = refl; untaking = untaking }
+quiet_unbound : (P : List PlainObject) (t : ℕ) (y : Entry) → take_entry P t y ≡ Some P → bound_to y ≡ None → is_taking y ≡ false → draw_in y ≡ None → IsQuiet P t y
+quiet_unbound P t y taken unbound untaking undrawn = record { now = P; entry = unbound_taken P t y taken unbound undrawn; slots = refl; untaking = untaking }
 
 -- one of an object's owner, which leaves its monitor as it is
 quiet_owner : (P : List PlainObject) (t o : ℕ) (y : Entry) (m : PlainMonitor) → o < length P → owner_at P o t ≡ true → bound_to y ≡ Some o → plain.named y ≡ Some o → is_taking y ≡ false
@@ -73,11 +52,11 @@ nobody_called m none =
     first ∙ second
 
 entry_quiet : (w : World) (P : List PlainObject) (t : ℕ) → Fits w P → IsFreeToTell (w.known t) → (y : Entry) → MayTell w.shape (w.known t) y → IsQuiet P t y
-entry_quiet w P t v free (Print value) h = quiet_unbound P t (Print value) refl refl refl
-entry_quiet w P t v free (Dump number) h = quiet_unbound P t (Dump number) refl refl refl
-entry_quiet w P t v free (Trap fault index) h = quiet_unbound P t (Trap fault index) refl refl refl
-entry_quiet w P t v free Spent h = quiet_unbound P t Spent refl refl refl
-entry_quiet w P t v free Done h = quiet_unbound P t Done refl refl refl
+entry_quiet w P t v free (Print value) h = quiet_unbound P t (Print value) refl refl refl refl
+entry_quiet w P t v free (Dump number) h = quiet_unbound P t (Dump number) refl refl refl refl
+entry_quiet w P t v free (Trap fault index) h = quiet_unbound P t (Trap fault index) refl refl refl refl
+entry_quiet w P t v free Spent h = quiet_unbound P t Spent refl refl refl refl
+entry_quiet w P t v free Done h = quiet_unbound P t Done refl refl refl refl
 entry_quiet w P t v free (Notify o None) h =
     let own = owns_held w P t v free o h.0 in
     let none = nobody_waits w P t o v free.runs free.calm own h.2 in
@@ -92,49 +71,60 @@ entry_quiet w P t v free _ h = absurd h
 may_free : (s : Shape) (k : Known) (y : Entry) → MayPublish s k y → IsFreeToTell k
 may_free s k y may = record { runs = may.runs; calm = may.calm; ready = may.ready; room = may.room }
 
-module _ (w : World) (P : List PlainObject) (t : ℕ) (e : Errand) (y : Entry) (within : t < w.shape.threads) (free : IsFreeToTell (w.known t)) (v : Fits w P) (b : IsQuiet P t y) where
+module _ (w : World) (P : List PlainObject) (t : ℕ) (e : Purpose) (y : Entry) (within : t < w.shape.threads) (free : IsFreeToTell (w.known t)) (own : IsOwnEntry (w.known t) y) (v : Fits w P) (b : IsQuiet P t y) where
+  -- the step, at the stage at which the thread stands
   abbrev plan : StepPlan
-  plan = logging y e (Length t) (Store (length (w.known t).log + 1))
+  plan = with_stage (w.known t).stage (publish_plan e t y (length (w.known t).log + 1))
 
   abbrev told_entry : Logged
   told_entry = record { stamp = stamp_by y (w.words (Length t)) (last_stamp (w.known t).log); entry = y }
 
-  abbrev known : Known
-  known = known_hit w.shape w.start plan (w.words (Length t)) (w.known t)
+  abbrev l : Known
+  l = known_hit w.shape w.start plan (w.words (Length t)) (w.known t)
 
+  abbrev x : World
+  x = world_after plan t w
+
+  -- nobody counts on a length
+  uncounted : (u s : ℕ) → u ≢ t → Stays w (w.known u) (owner_at P) u (Length t) s → w.words (Length t) ≡ s → ⊥
+  uncounted u s d (inl a) is = a.1
+  uncounted u s d (inr a) is = a.2
+
+  seen_law : SeenFit x P
+  seen_law = let kept = ap (λ c. record { plan = plan; found = w.words (Length t) } ∷ cond c [] (seen_before w.shape (w.known t))) b.untaking in own_seen w P t plan (search (free.runs, kept, uncounted)) v
+
+  step : IsStep w t l announcing
+  step = record { within = within; mine = refl; others = λ k. refl }
+
+  abbrev z : World
+  z = next w t l announcing x.words
+
+  tells : IsTelling w P b.now t told_entry l
+  tells = tells_so v within free refl (ap (λ c. cond c (max (w.words (Length t)) (last_stamp (w.known t).log) + 1) (last_stamp (w.known t).log + 1)) b.untaking) b.entry own
+
+  drawn : DrawsFit w.start (logs_from 0 w.shape.threads (with_known t l w.known)) (λ u. (with_known t l w.known u).log) (λ u. (with_known t l w.known u).draws) (hash_at P)
+  drawn = draws_still w P b.now t told_entry l v tells.logs (draws_counted y (w.known t).draws) b.entry.undrawn
+
+  all_after : AllHold (still_parts step tells x.words)
+  all_after seen = seen_next step x.words P seen_law
   -- each length word is as its thread published it
-  lengths_told : (u : ℕ) → written (Length t) (length (w.known t).log + 1) w.words (Length u) ≡ (told t known w.known u).published
-  lengths_told u =
-      each_told (λ u k. written (Length t) (length (w.known t).log + 1) w.words (Length u) ≡ k.published) t known w.known u
-      (written_there (Length t) (length (w.known t).log + 1) w.words)
-      (λ d. ap (λ c. cond c (length (w.known t).log + 1) (w.words (Length u))) (ne_eqb u t d) ∙ v.lengths.stored u)
+  all_after lengths = record {
+    few = (lengths_next step P (length_more (w.known t).log told_entry) free.room free.runs v).few;
+    stored = λ u. each_written (λ u n k. n ≡ k.published) t (length (w.known t).log + 1) l (λ u. w.words (Length u)) w.known u refl (λ d. v.lengths.stored u);
+    most = λ u. each_with_known (λ u k. k.published ≤ length k.log) t l w.known u (let a = length_more (w.known t).log told_entry in omega (arith, a)) (λ d. v.lengths.most u);
+    all = λ u. each_with_known (λ u k. (w.known u).running ≡ false → (w.known u).requesting ≡ false → is_halted (w.words Safepoint) ≡ false → k.published ≡ length k.log) t l w.known u
+        (λ r q h. sym (length_more (w.known t).log told_entry)) (λ d. v.lengths.all u);
+  }
+  all_after c = told_step step tells v (subst (SlotsFit w.shape (λ i j. w.words (Slot i j))) b.slots v.slots) drawn c
 
-  publish_tells : Tells w P b.now t plan told_entry known
-  publish_tells =
-      let before = seen_before w.shape (w.known t) in
-      record {
-        within = within;
-        free = free;
-        before = record { thread = refl; running = refl; requesting = refl; reached = refl; halted = refl; kept = refl; saved = refl; holds = refl; wait = refl; stage = free.calm; counts = refl; unfinished = refl };
-        old = cond (is_taking y) [] before;
-        seen = refl;
-        part = λ n s h. seen_is_part w.shape (w.known t) n s (ap (λ c. last_seen n (cond c [] before)) (sym b.untaking) ∙ h);
-        grows = refl;
-        stamp = ap (λ c. cond c (max (w.words (Length t)) (last_stamp (w.known t).log) + 1) (last_stamp (w.known t).log + 1)) b.untaking;
-        entry = b.entry;
-        word = inr refl;
-        alone = λ u s d h. elim h [ inl c ↦ absurd c.1 | inr c ↦ absurd c.1 ];
-        slots = subst (SlotsFit w.shape (λ o i. w.words (Slot o i))) b.slots v.slots;
-        stored = lengths_told;
-        most = let a = length_more (w.known t).log told_entry in omega (arith, a);
-      }
+  published : Fits x b.now
+  published = step_fits step x.words b.now (still_parts step tells x.words) (still_are step tells b.entry.hashes x.words) all_after
 
-  publishes : Logs w P t (logging y e (Length t) (Store (length (w.known t).log + 1))) y
-  publishes = record { now = b.now; taken = b.entry.taken; valid = inl (tells w P b.now t plan told_entry known v publish_tells) }
+  publishes : Logs w P t (publish_plan e t y (length (w.known t).log + 1)) y
+  publishes = record { now = b.now; taken = b.entry.taken; valid = inl (subst (λ stage. Fits (world_after (with_stage stage (publish_plan e t y (length (w.known t).log + 1))) t w) b.now) free.calm published) }
 
-pub publish_law : (w : World) (P : List PlainObject) (t : ℕ) (e : Errand) (y : Entry) → t < w.shape.threads → MayPublish w.shape (w.known t) y → IsValid w P
-    → Logs w P t (logging y e (Length t) (Store (length (w.known t).log + 1))) y
-publish_law w P t e y within may is =
+pub publish_law : (e : Purpose) (y : Entry) → LogsValid (λ w t. MayPublish w.shape (w.known t) y) (λ w t. publish_plan e t y (length (w.known t).log + 1)) y
+publish_law e y w P t within may is =
     let v = fits_running w P t may.runs is in
     let free = may_free w.shape (w.known t) y may in
-    publishes w P t e y within free v (entry_quiet w P t v free y may.tells)
+    publishes w P t e y within free may.own_entry v (entry_quiet w P t v free y may.tells)

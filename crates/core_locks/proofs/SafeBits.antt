@@ -1,15 +1,8 @@
 -- The safepoint word with one thread's bit set or cleared.
-use Rattle.std.proofs.Common.{◌≡◌, ◌≢◌, ℕ, ◌+◌, ◌-◌, ◌*◌, ◌^◌, ◌<◌, ◌≤◌, ◌==◌, eqb-true, bit_and, nat_lt, Bool, true, false, Option, Some, None, IfSome, refl, sym, ap, ◌∙◌, subst, arith}
+use Rattle.core_locks.proofs.Prelude.{◌≡◌, ◌≢◌, ℕ, ◌+◌, ◌<◌, ◌≤◌, ◌^◌, ◌==◌, nat_lt, Bool, true, false, Option, Some, None, refl, sym, ap, ◌∙◌, subst, arith, eqb-true, ◌-◌, IfSome, bit_and, ◌*◌, nat_tests, pow_below, and_comm, and-not, or_disjoint, or_lt, bit_at-zero, bit_at-pow_same, bit_at-pow_other, bit_at-lt, bit_at_above, bit_at_and, bit_at_or, bit_at_not, bit_at_cat_low, and_pow, same_from_bits_below, SafeForm, safe_of, IsSafeInRange, requester_of, halt_of, runs_form, all_but}
 use Rattle.std.specs.Int.{bit_at}
 use Rattle.std.specs.Int.RustNames.{bit_or}
-use Rattle.std.proofs.lemmas.Bool.Decides.{nat_tests}
-use Rattle.std.proofs.lemmas.Nat.{and_comm, and-not, or_disjoint, or_lt, pow_below}
-use Rattle.std.proofs.lemmas.Nat.Bits.{bit_at-lt, bit_at-zero, bit_at_above, bit_at_and, bit_at_or, bit_at_not, bit_at_cat_low, bit_at-pow_same, bit_at-pow_other, and_pow, same_from_bits_below}
 use mir.Syntax.{w64}
-use Rattle.mark_word.specs.declared.safe.SafeForm.{SafeForm}
-use Rattle.mark_word.specs.Safe.{IsSafeInRange, safe_of, requester_of, halt_of}
-use Rattle.core_world.specs.Forms.{runs_form}
-use Rattle.core_world.specs.SafepointSteps.{all_but}
 
 module _ (n t : ℕ) (small : n < 2 ^ 64) (within : t < 64) where
   -- a number that has the bit, with the bit cleared

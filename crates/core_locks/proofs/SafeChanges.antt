@@ -1,44 +1,33 @@
 -- A step that changes the safepoint word keeps every clause, by the state that the word spelled and the one that it spells then.
-use Rattle.std.proofs.Common.{◌≡◌, ◌≢◌, ℕ, ◌<◌, ◌&&◌, ◌||◌, Bool, true, false, List, ◌∷◌, length, Some, IfSome, refl, sym, ap, ◌∙◌, subst, inl, inr}
-use Rattle.mark_word.specs.declared.safe.SafeForm.{SafeForm}
-use Rattle.mark_word.specs.Safe.{IsSafeInRange, safe_of, read_safe}
-use Rattle.mark_word.proofs.ReadingSafepoints.{read_safe-safe_of}
-use Rattle.plain_monitor.specs.Monitor.{is_thread}
-use Rattle.plain_monitor.specs.Objects.{PlainObject}
-use Rattle.core_world.specs.declared.act.Act.{Act}
-use Rattle.core_world.specs.declared.name.Name.TheVariants.{Safe, Waiting}
-use Rattle.core_world.specs.declared.stage.Stage.TheVariants.{Calm}
-use Rattle.core_world.specs.Acts.{after, hits}
-use Rattle.core_world.specs.Forms.{runs_in, runs_form, asks_in, requester_form, is_halted, halted_form, says_ended}
-use Rattle.core_world.specs.Known.{Known, Made}
-use Rattle.core_world.specs.World.{World, one}
-use Rattle.core_world.specs.Locks.{owner_at, waits_at}
-use Rattle.core_world.specs.Plans.{Errand, quiet}
-use Rattle.core_world.specs.Safepoints.{ends}
-use Rattle.core_world.specs.Steps.{known_hit, moved, runs_after, asks_after, reached_after, kept_by_act, seen_before}
-use Rattle.core_world.specs.Valid.{Fits}
-use Rattle.core_world.specs.WordForms.{IsSafe}
-use Rattle.core_world.proofs.Parts.{each_told}
-use Rattle.core_world.proofs.SeenMoves.{Counts}
-use Rattle.core_locks.specs.Knowing.{GoesOn}
+use Rattle.core_locks.proofs.Prelude.{◌≡◌, ◌≢◌, ℕ, ◌<◌, ◌&&◌, ◌||◌, Bool, true, false, List, ◌∷◌, length, Some, None, refl, sym, ap, ◌∙◌, subst, inl, inr, IfSome, SafeForm, safe_of, read_safe, IsSafeInRange, read_safe-safe_of, is_thread, PlainObject, Safepoint, Waiting, Calm, says_ended, is_halted, asks_in, runs_form, runs_in, requester_form, requester_in, halted_form, word_after, hits, Known, StepMade, World, with_word_and_known, with_known, monitor_of, owner_at, waits_at, Purpose, quiet_plan, world_after, known_hit, seen_before, kept_by_act, reached_after, runs_after, asks_after, Fits, SeenFit, ends, IsStuck, IsSafepoint, Act, each_with_known, part_moves, stays_back, Spares, seen_moves, Counts, GoesOn}
 use Rattle.core_locks.proofs.SafeFacts.{hit_moved}
-use Rattle.core_locks.proofs.SafeTurns.{Halts, Turns, turned_fits}
+use Rattle.core_locks.proofs.Clauses.{kept_parts, parts_stand, absent, seen, forms, safe, quiet as calmly, waits, stamps, shots, lengths, AllHold, clauses}
+use Rattle.core_locks.proofs.OwnSeen.{back_by}
+use Rattle.core_locks.proofs.Steps.{asking, IsStep, next, step_fits, seen_next, absent_next, waits_go_on, stamps_go_on, dumps_go_on}
+
+-- a halt by thread t: nobody runs, and the threads are stuck
+pub record Halts (w : World) (P : List PlainObject) (t word : ℕ) (l : Known) : Type 0 where
+  pub unasked : requester_in word ≡ None
+  pub stopped : l.running ≡ false
+  pub nobody : (u : ℕ) → (w.known u).running ≡ false
+  pub unfinished : (w.known t).unfinished ≡ l.unfinished
+  pub stuck : IsStuck w.shape.threads (λ u. ends (w.known u).log) (λ u. (w.known u).unfinished) (monitor_of P)
 
 -- what thread t knows after its step, if it hits
-abbrev pub known_then : World → ℕ → Errand → Act → Known
-known_then w t e act = known_hit w.shape w.start (quiet e Safe act) (w.words Safe) (w.known t)
+abbrev pub known_then : World → ℕ → Purpose → Act → Known
+known_then w t e act = known_hit w.shape w.start (quiet_plan e Safepoint act) (w.words Safepoint) (w.known t)
 
 -- the step of thread t makes of the safepoint word, which spelled f, one that spells g
-pub record Changes (w : World) (P : List PlainObject) (t : ℕ) (e : Errand) (act : Act) (f g : SafeForm) : Type 0 where
-  pub hit : hits act (w.words Safe) ≡ true
-  pub left : after act (w.words Safe) ≡ safe_of g
+pub record Changes (w : World) (P : List PlainObject) (t : ℕ) (e : Purpose) (act : Act) (f g : SafeForm) : Type 0 where
+  pub hit : hits act (w.words Safepoint) ≡ true
+  pub left : word_after act (w.words Safepoint) ≡ safe_of g
   -- an act that changes the word tells its thread what the word says of it
-  pub runs : runs_after Safe act (after act (w.words Safe)) (w.known t) ≡ runs_in (after act (w.words Safe)) (w.known t).thread
-  pub asks : asks_after Safe act (after act (w.words Safe)) (w.known t) ≡ asks_in (after act (w.words Safe)) (w.known t).thread
-  pub reaches : reached_after Safe act (after act (w.words Safe)) (w.known t) ≡ ((w.known t).reached && asks_in (after act (w.words Safe)) (w.known t).thread)
+  pub runs : runs_after Safepoint act (word_after act (w.words Safepoint)) (w.known t) ≡ runs_in (word_after act (w.words Safepoint)) (w.known t).thread
+  pub asks : asks_after Safepoint act (word_after act (w.words Safepoint)) (w.known t) ≡ asks_in (word_after act (w.words Safepoint)) (w.known t).thread
+  pub reaches : reached_after Safepoint act (word_after act (w.words Safepoint)) (w.known t) ≡ ((w.known t).reached && asks_in (word_after act (w.words Safepoint)) (w.known t).thread)
   pub calm : (w.known t).stage ≡ Calm
   pub goes_on : GoesOn (w.known t) e
-  pub was : read_safe (w.words Safe) ≡ Some f
+  pub was : read_safe (w.words Safepoint) ≡ Some f
   pub unhalted : f.halted ≡ false
   pub range : IsSafeInRange g
   pub here : IfSome g.requester (λ u. u < w.shape.threads)
@@ -52,16 +41,16 @@ pub record Changes (w : World) (P : List PlainObject) (t : ℕ) (e : Errand) (ac
   pub published : runs_form (Some g) t ≡ false → is_thread g.requester t ≡ false → g.halted ≡ false → (w.known t).published ≡ length (w.known t).log
   pub ended : ends (w.known t).log ≡ true → runs_form (Some g) t ≡ false → says_ended (w.words (Waiting t)) ≡ true
   -- what the thread goes on to count on
-  pub old : List Made
-  pub kept : asks_in (after act (w.words Safe)) (w.known t).thread ≡ is_thread g.requester t
-      → kept_by_act Safe act (after act (w.words Safe)) (w.known t) (seen_before w.shape (w.known t)) ≡ old
-  pub counts : (known_then w t e act).running ≡ runs_form (Some g) t → Counts Safe (safe_of g) t (known_then w t e act) w (owner_at P) (waits_at P) old
+  pub old : List StepMade
+  pub kept : asks_in (word_after act (w.words Safepoint)) (w.known t).thread ≡ is_thread g.requester t
+      → kept_by_act Safepoint act (word_after act (w.words Safepoint)) (w.known t) (seen_before w.shape (w.known t)) ≡ old
+  pub counts : (known_then w t e act).running ≡ runs_form (Some g) t → Counts Safepoint (safe_of g) t (known_then w t e act) w (owner_at P) (waits_at P) old
 
 both_true : (a b : Bool) → (a && b) ≡ true → (a ≡ true) × (b ≡ true)
 both_true true b h = (refl, h)
 both_true false b h = absurd (cc h)
 
-module _ (w : World) (P : List PlainObject) (t : ℕ) (e : Errand) (act : Act) (f g : SafeForm) (within : t < w.shape.threads) (c : Changes w P t e act f g) (v : Fits w P) where
+module _ (w : World) (P : List PlainObject) (t : ℕ) (e : Purpose) (act : Act) (f g : SafeForm) (within : t < w.shape.threads) (c : Changes w P t e act f g) (v : Fits w P) where
   abbrev l : Known
   l = known_then w t e act
 
@@ -83,67 +72,99 @@ module _ (w : World) (P : List PlainObject) (t : ℕ) (e : Errand) (act : Act) (
   runs_known =
       let word = c.left in
       let thread = v.numbered t in
-      let same : runs_in (after act (w.words Safe)) (w.known t).thread ≡ runs_in (safe_of g) t = λ i. runs_in (word i) (thread i) in
+      let same : runs_in (word_after act (w.words Safepoint)) (w.known t).thread ≡ runs_in (safe_of g) t = λ i. runs_in (word i) (thread i) in
       c.runs ∙ same ∙ runs_now t
 
-  asks_same : asks_in (after act (w.words Safe)) (w.known t).thread ≡ is_thread g.requester t
+  asks_same : asks_in (word_after act (w.words Safepoint)) (w.known t).thread ≡ is_thread g.requester t
   asks_same =
       let word = c.left in
       let thread = v.numbered t in
-      let same : asks_in (after act (w.words Safe)) (w.known t).thread ≡ asks_in (safe_of g) t = λ i. asks_in (word i) (thread i) in
+      let same : asks_in (word_after act (w.words Safepoint)) (w.known t).thread ≡ asks_in (safe_of g) t = λ i. asks_in (word i) (thread i) in
       same ∙ asks_now t
 
   asks_known : l.requesting ≡ is_thread g.requester t
   asks_known = c.asks ∙ asks_same
 
-  unhalted_before : is_halted (w.words Safe) ≡ false
+  unhalted_before : is_halted (w.words Safepoint) ≡ false
   unhalted_before = ap halted_form c.was ∙ c.unhalted
 
-  form_now : IsSafe w.shape (read_safe (safe_of g))
-  form_now = subst (IsSafe w.shape) (sym reads) c.here
+  form_now : IsSafepoint w.shape (read_safe (safe_of g))
+  form_now = subst (IsSafepoint w.shape) (sym reads) c.here
 
-  halt_learnt : (b : Bool) → (w.known t).halted ≡ b → (b || is_halted (after act (w.words Safe))) ≡ true → is_halted (safe_of g) ≡ true
+  halt_learnt : (b : Bool) → (w.known t).halted ≡ b → (b || is_halted (word_after act (w.words Safepoint))) ≡ true → is_halted (safe_of g) ≡ true
   halt_learnt true k h = let was = v.safe.stopped t k in let not_was = unhalted_before in absurd (cc (was, not_was))
   halt_learnt false k h = ap is_halted (sym c.left) ∙ h
 
-  turns : Turns w P t e act (safe_of g) l
-  turns = record {
-    left = c.left;
-    same = record {
-      thread = refl;
-      log = refl;
-      kept = refl;
-      saved = refl;
-      holds = refl;
-      wait = refl;
-      published = refl;
-      stage = c.calm;
-      counts = refl;
-      unfinished = elim c.goes_on [ inl a ↦ inl (sym a) | inr a ↦ inr a ];
-    };
-    calm = refl;
-    unhalted = unhalted_before;
-    form = form_now;
-    running = runs_now t ∙ sym runs_known;
-    requesting = asks_now t ∙ sym asks_known;
-    others = λ u d. (
-      runs_now u ∙ c.others_run u d ∙ ap (λ z. runs_form z u) (sym c.was),
-      asks_now u ∙ c.others_ask u d ∙ ap (λ z. is_thread (requester_form z) u) (sym c.was),
-    );
-    unreached = λ u. each_told (λ u y. y.reached ≡ true → ⊥) t l w.known u
-        (λ r. let a = both_true (w.known t).reached (asks_in (after act (w.words Safe)) (w.known t).thread) (sym c.reaches ∙ r) in c.unreached a.0 (sym asks_same ∙ a.1))
-        (λ d r. c.others_unreached u d r);
-    halted = halt_learnt (w.known t).halted refl;
-    halts = λ h. c.halts (sym halted_now ∙ h) runs_known;
-    published = λ r a h. c.published (sym runs_known ∙ r) (sym asks_known ∙ a) (sym halted_now ∙ h);
-    ended = λ a r. c.ended a (sym runs_known ∙ r);
-    old = c.old;
-    seen = ap (λ (z : List Made). record { plan = quiet e Safe act; found = w.words Safe } ∷ z) (c.kept asks_same);
-    counts = c.counts runs_known;
+  unreached : (u : ℕ) → (with_known t l w.known u).reached ≡ true → ⊥
+  unreached u = each_with_known (λ u y. y.reached ≡ true → ⊥) t l w.known u
+      (λ r. let a = both_true (w.known t).reached (asks_in (word_after act (w.words Safepoint)) (w.known t).thread) (sym c.reaches ∙ r) in c.unreached a.0 (sym asks_same ∙ a.1))
+      (λ d r. c.others_unreached u d r)
+
+  step : IsStep w t l asking
+  step = record { within = within; mine = λ i. record l { stage = sym c.calm i }; others = λ k. refl }
+
+  abbrev x : World
+  x = with_word_and_known Safepoint (safe_of g) t l w
+
+  -- the others count on what they counted on, which is never the safepoint word
+  spares : Spares Safepoint (safe_of g) t l w (owner_at P) (owner_at P) (waits_at P) (waits_at P)
+  spares = record {
+    before = λ u n s d seen. stays_back w x (w.known u) (w.known u) (owner_at P) (owner_at P) u (back_by w x (w.known u) (w.known u) (owner_at P) (owner_at P) u refl refl (λ h. h) refl refl (λ h. h) refl (λ o h. h) (λ o m g h. h)) n s;
+    owned = λ u o d h. h;
+    word = λ u s d st was. elim st [ inl a ↦ absurd a.1 | inr a ↦ absurd a.2 ];
+    bias = λ o h. h;
+    waits = λ u y o d a h. h;
+    unwaited = λ u o d a h. h;
+    unreached = unreached;
+    names = λ o m h. h;
   }
 
-  pub changed_fits : Fits (moved (quiet e Safe act) t w) P
+  seen_law : SeenFit x P
+  seen_law =
+      subst (λ n. SeenFit (with_word_and_known Safepoint n t l w) P) c.left
+      (seen_moves (quiet_plan e Safepoint act) (w.words Safepoint) t l w (owner_at P) (owner_at P) (waits_at P) (waits_at P) c.old (ap (λ (z : List StepMade). record { plan = quiet_plan e Safepoint act; found = w.words Safepoint } ∷ z) (c.kept asks_same))
+      (subst (λ n. Counts Safepoint n t l w (owner_at P) (waits_at P) c.old) (sym c.left) (c.counts runs_known))
+      (subst (λ n. Spares Safepoint n t l w (owner_at P) (owner_at P) (waits_at P) (waits_at P)) (sym c.left) spares) v.seen)
+
+  abbrev z : World
+  z = next w t l asking x.words
+
+  all_after : AllHold (kept_parts w z P)
+  all_after absent = absent_next step P v
+  all_after seen = seen_next step x.words P seen_law
+  all_after forms = search (form_now, v.forms)
+  all_after safe = record {
+    bits = λ u. each_with_known (λ u y. runs_in (safe_of g) u ≡ y.running) t l w.known u (runs_now t ∙ sym runs_known) (λ d. runs_now u ∙ c.others_run u d ∙ ap (λ z. runs_form z u) (sym c.was) ∙ v.safe.bits u);
+    few = λ u. each_with_known (λ u y. y.running ≡ true → u < w.shape.threads) t l w.known u (λ r. within) (λ d. v.safe.few u);
+    requester = λ u. each_with_known (λ u y. asks_in (safe_of g) u ≡ y.requesting) t l w.known u (asks_now t ∙ sym asks_known)
+        (λ d. asks_now u ∙ c.others_ask u d ∙ ap (λ z. is_thread (requester_form z) u) (sym c.was) ∙ v.safe.requester u);
+    safepoint = λ u r. absurd (unreached u r);
+    stopped = λ u. each_with_known (λ u y. y.halted ≡ true → is_halted (safe_of g) ≡ true) t l w.known u (halt_learnt (w.known t).halted refl)
+        (λ d h. let was = v.safe.stopped u h in absurd (cc (was, unhalted_before)));
+    still = λ h.
+        let a = c.halts (sym halted_now ∙ h) runs_known in (
+          a.unasked,
+          λ u. each_with_known (λ u y. y.running ≡ false) t l w.known u a.stopped (λ d. a.nobody u),
+          subst (λ z. IsStuck w.shape.threads (λ u. ends (w.known u).log) z (monitor_of P)) (part_moves (λ y. y.unfinished) t l w.known a.unfinished) a.stuck,
+        );
+  }
+  all_after calmly = record { quiet = λ u. each_with_known (λ u y. y.running ≡ false → (w.known u).stage ≡ Calm) t l w.known u (λ r. c.calm) (λ d. v.quiet.quiet u); none_revokes = v.quiet.none_revokes }
+  all_after waits =
+      let stopped : (u : ℕ) → ends (w.known u).log ≡ true → (with_known t l w.known u).running ≡ false → says_ended (w.words (Waiting u)) ≡ true =
+      λ u. each_with_known (λ u y. ends (w.known u).log ≡ true → y.running ≡ false → says_ended (w.words (Waiting u)) ≡ true) t l w.known u (λ a r. c.ended a (sym runs_known ∙ r)) (λ d. v.waits.stopped u) in
+      search (stopped, waits_go_on step P c.goes_on v)
+  all_after stamps = stamps_go_on step P c.goes_on v
+  all_after shots = dumps_go_on step P c.goes_on v
+  all_after lengths = record {
+    few = v.lengths.few;
+    stored = v.lengths.stored;
+    most = v.lengths.most;
+    all = λ u. each_with_known (λ u y. y.running ≡ false → y.requesting ≡ false → is_halted (safe_of g) ≡ false → (w.known u).published ≡ length (w.known u).log) t l w.known u
+        (λ r a h. c.published (sym runs_known ∙ r) (sym asks_known ∙ a) (sym halted_now ∙ h)) (λ d r a h. v.lengths.all u r a unhalted_before);
+  }
+  all_after k = clauses w P v k
+
+  pub changed_fits : Fits (world_after (quiet_plan e Safepoint act) t w) P
   changed_fits =
-      let word = c.left in
-      let after_it = turned_fits w P t e act (safe_of g) l within turns v in
-      hit_moved w P t e act c.hit (subst (λ n. Fits (one Safe n t l w) P) (sym word) after_it)
+      hit_moved w P t e act c.hit (subst (λ n. Fits (with_word_and_known Safepoint n t l w) P) (sym c.left)
+      (step_fits step x.words P (kept_parts w z P) (parts_stand w z P refl (λ u. refl) (λ u. refl) refl refl refl (λ e. refl)) all_after))

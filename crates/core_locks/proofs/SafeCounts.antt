@@ -1,32 +1,18 @@
 -- What a thread goes on to count on after its step on the safepoint word.
-use Rattle.std.proofs.Common.{◌≡◌, ℕ, Bool, true, false, List, [], ap, ◌∙◌, inl, inr}
-use Rattle.plain_monitor.specs.Objects.{PlainObject}
-use Rattle.core_world.specs.declared.name.Name.{Name}
-use Rattle.core_world.specs.declared.name.Name.TheVariants.{Safe, Prototype, Count, Last, Mark, Stamp, Slot, Hold, Displaced, Waiting, Length, Owner, Recursions, Header, Object, Claim}
-use Rattle.core_world.specs.Forms.{is_biased, monitor_in, waits_on}
-use Rattle.core_world.specs.Known.{Known, Made}
-use Rattle.core_world.specs.World.{World, one}
-use Rattle.core_world.specs.Locks.{owner_at, waits_at}
-use Rattle.core_world.specs.Looking.{IsOfMonitor}
-use Rattle.core_world.specs.SeenWords.{StaysWhileRunning, StaysWhileAsking, IsKeptOrNamed}
-use Rattle.core_world.specs.Valid.{Fits, SeenFit}
-use Rattle.core_world.specs.Steps.{undisplaced}
-use Rattle.core_world.proofs.ActsLook.{undisplaced_is_part}
-use Rattle.core_world.proofs.LookSettles.{unwaited_fits}
-use Rattle.core_world.proofs.SeenMoves.{IsPart, Counts, counts_anew}
+use Rattle.core_locks.proofs.Prelude.{◌≡◌, ℕ, Bool, true, false, List, [], ap, ◌∙◌, inl, inr, PlainObject, Name, Safepoint, Prototype, Mark, Stamp, Slot, Hold, Displaced, Waiting, Length, Owner, Recursions, Header, Object, Claim, Revocations, LastBulk, is_biased, monitor_in, waits_on, Known, StepMade, World, owner_at, waits_at, StaysWhileRunning, StaysWhileAsking, only_headers, is_header, Fits, SeenFit, IsOfMonitor, headers_are_part, Counts, IsPart, counts_anew, unwaited_fits}
 
 module _ (w : World) (P : List PlainObject) (t word : ℕ) (l : Known) where
   -- the safepoint word is of no monitor
-  of_none : (m : ℕ) → IsOfMonitor m Safe → ⊥
+  of_none : (m : ℕ) → IsOfMonitor m Safepoint → ⊥
   of_none m e = absurd (cc e)
 
   -- what stays while a request stands stays while the thread runs
   asking_runs : (owner : ℕ → ℕ → Bool) (n : Name) (s : ℕ) → StaysWhileAsking w n s → StaysWhileRunning w (w.known t) owner t n s
   asking_runs owner (Prototype c) s h = tt
-  asking_runs owner (Count c) s h = tt
-  asking_runs owner (Last c) s h = tt
+  asking_runs owner (Revocations c) s h = tt
+  asking_runs owner (LastBulk c) s h = tt
   asking_runs owner (Mark o) s h = inl h
-  asking_runs owner Safe s h = absurd h
+  asking_runs owner Safepoint s h = absurd h
   asking_runs owner (Stamp o) s h = absurd h
   asking_runs owner (Slot o i) s h = absurd h
   asking_runs owner (Hold u p) s h = absurd h
@@ -40,11 +26,11 @@ module _ (w : World) (P : List PlainObject) (t word : ℕ) (l : Known) where
   asking_runs owner Claim s h = absurd h
 
   -- a thread that ran, and runs no more: what it counts on, since its request stands, it could count on while it ran
-  pub counts_stopped : (old : List Made) → IsPart old (w.known t).seen → (w.known t).running ≡ true → l.running ≡ false → SeenFit w P → Counts Safe word t l w (owner_at P) (waits_at P) old
+  pub counts_stopped : (old : List StepMade) → IsPart old (w.known t).seen → (w.known t).running ≡ true → l.running ≡ false → SeenFit w P → Counts Safepoint word t l w (owner_at P) (waits_at P) old
   counts_stopped old part runs stops h = record {
     others = λ n s e a st. elim st [
       | inl b ↦ let r = b.0 in absurd (cc (r, stops))
-      | inr b ↦ h.stays t n s (part n s e) (inl (runs, asking_runs (owner_at P) n s b.1))
+      | inr b ↦ h.stays t n s (part n s e) (inl (runs, asking_runs (owner_at P) n s b.2))
     ];
     unbiased = λ o s e g r. h.unbiased t o s (part (Mark o) s e) (inl runs) g;
     unwaiting = λ u o s e a g r. absurd (cc (r, stops));
@@ -55,24 +41,26 @@ module _ (w : World) (P : List PlainObject) (t word : ℕ) (l : Known) where
   }
 
   -- a thread that begins anew
-  pub counts_begun : Counts Safe word t l w (owner_at P) (waits_at P) []
-  counts_begun = counts_anew Safe word t l w (owner_at P) (waits_at P) (λ o e r a g. absurd (cc e)) (λ m r is. absurd (of_none m is))
+  pub counts_begun : Counts Safepoint word t l w (owner_at P) (waits_at P) []
+  counts_begun = counts_anew Safepoint word t l w (owner_at P) (waits_at P) (λ o e r a g. absurd (cc e)) (λ m r is. absurd (of_none m is))
 
   -- a thread that leaves its reached safepoint, where each word is as it saw it
-  pub counts_since : (w.known t).reached ≡ true → l.kept ≡ (w.known t).kept → Fits w P → Counts Safe word t l w (owner_at P) (waits_at P) (undisplaced (w.known t).stood)
+  pub counts_since : (w.known t).reached ≡ true → l.kept ≡ (w.known t).kept → Fits w P → Counts Safepoint word t l w (owner_at P) (waits_at P) (only_headers (w.known t).seen_at_safepoint)
   counts_since reached kept v = record {
     others = λ n s e a st. v.seen.stands t n s reached (part n s e);
     unbiased = λ o s e g r. ap is_biased (v.seen.stands t (Mark o) s reached (part (Mark o) s e)) ∙ g;
     unwaiting = λ u o s e a g r. ap (λ z. waits_on z o) (v.seen.stands t (Waiting u) s reached (part (Waiting u) s e)) ∙ g;
     unwaited = λ o s e r a g. unwaited_fits w P v o (ap monitor_in (v.seen.stands t (Mark o) s reached (part (Mark o) s e)) ∙ g);
     idle = λ o e r a g. absurd (cc e);
-    monitors = λ m s r e. forth m (v.seen.monitors_since t m s reached (e.0, e.1, part e.0 s e.2));
+    monitors = λ m s r e. absurd (no_monitor e.0 (headers_are_part (w.known t).seen_at_safepoint e.0 s e.2).0 m e.1);
     fresh = λ m r is. absurd (of_none m is);
   }
     where
-      part : IsPart (undisplaced (w.known t).stood) (w.known t).stood
-      part = undisplaced_is_part (w.known t).stood
+      part : IsPart (only_headers (w.known t).seen_at_safepoint) (w.known t).seen_at_safepoint
+      part n s e = (headers_are_part (w.known t).seen_at_safepoint n s e).1
 
-      forth : (m : ℕ) → IsKeptOrNamed w (w.known t) m → IsKeptOrNamed (one Safe word t l w) l m
-      forth m (inl a) = inl (kept ∙ a)
-      forth m (inr a) = inr a
+      -- a mark or a prototype is of no monitor
+      no_monitor : (n : Name) → is_header n ≡ true → (m : ℕ) → IsOfMonitor m n → ⊥
+      no_monitor (Mark o) h m e = absurd (cc e)
+      no_monitor (Prototype c) h m e = absurd (cc e)
+      no_monitor _ h m e = absurd (cc h)

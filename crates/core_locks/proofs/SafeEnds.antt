@@ -1,24 +1,5 @@
 -- A thread whose safepoint is reached releases it, or halts the run.
-use Rattle.std.proofs.Common.{◌≡◌, ◌≢◌, ℕ, ◌^◌, ◌<◌, ◌==◌, eq-eqb, ne_eqb, not, ◌&&◌, Bool, true, false, cond, Some, None, List, [], refl, sym, ap, ◌∙◌, arith, inl, inr}
-use Rattle.std.proofs.lemmas.Nat.{pow_below}
-use Rattle.std.proofs.lemmas.Nat.Bits.{bit_at-zero, bit_at-pow_same, bit_at-pow_other}
-use Rattle.mark_word.specs.declared.safe.SafeForm.{SafeForm}
-use Rattle.mark_word.specs.Safe.{safe_of}
-use Rattle.mark_word.proofs.ReadingSafepoints.{read_safe-safe_of}
-use Rattle.plain_monitor.specs.Monitor.{is_thread}
-use Rattle.plain_monitor.specs.Objects.{PlainObject}
-use Rattle.core_world.specs.declared.act.Act.TheVariants.{Swap}
-use Rattle.core_world.specs.declared.name.Name.TheVariants.{Safe}
-use Rattle.core_world.specs.Acts.{after}
-use Rattle.core_world.specs.Forms.{runs_form, asks_in, requester_form}
-use Rattle.core_world.specs.Known.{Known}
-use Rattle.core_world.specs.World.{World}
-use Rattle.core_world.specs.Plans.{Errand, swap}
-use Rattle.core_world.specs.SafepointSteps.{reached_word, released_word, halted_word}
-use Rattle.core_world.specs.Steps.{moved, kept_by_act, undisplaced, seen_before}
-use Rattle.core_world.specs.Valid.{Fits, IsValid}
-use Rattle.core_world.proofs.Parts.{by_equal}
-use Rattle.core_locks.specs.SafepointLaws.{MayRelease, MayHalt}
+use Rattle.core_locks.proofs.Prelude.{◌≡◌, ◌≢◌, ℕ, ◌<◌, ◌^◌, ◌==◌, ◌&&◌, not, eq-eqb, ne_eqb, Bool, true, false, cond, List, [], Some, None, refl, sym, ap, ◌∙◌, arith, inl, inr, pow_below, bit_at-zero, bit_at-pow_same, bit_at-pow_other, SafeForm, safe_of, read_safe-safe_of, is_thread, PlainObject, Safepoint, Calm, asks_in, runs_form, requester_form, word_after, Known, World, Purpose, world_after, seen_before, only_headers, kept_by_act, Fits, Swap, reached_word, released_word, halted_word, by_equal, KeepsValid, FindsWord, MayHalt, MayRelease, release_plan, halt_plan}
 use Rattle.core_locks.proofs.SafeFacts.{fits_calm, few_bits, one_reached, reached_form, reached_reads, reached_found}
 use Rattle.core_locks.proofs.SafeCounts.{counts_since}
 use Rattle.core_locks.proofs.SafeStuck.{stuck}
@@ -32,7 +13,7 @@ abbrev halted_form : SafeForm
 halted_form = record { running = 0; requester = None; halted = true }
 
 -- the word at a thread's reached safepoint, also while it revokes a bias there
-pub reached_finds : (w : World) (P : List PlainObject) (t : ℕ) → (w.known t).reached ≡ true → IsValid w P → w.words Safe ≡ reached_word t
+pub reached_finds : FindsWord (λ w t. (w.known t).reached ≡ true) Safepoint reached_word
 reached_finds w P t reached valid = elim valid [
   | inl v ↦ reached_found w P t v reached
   | inr s ↦
@@ -41,13 +22,13 @@ reached_finds w P t reached valid = elim valid [
       s.untouched ∙ reached_found s.before P t s.fits reached_before
 ]
 
-module _ (w : World) (P : List PlainObject) (t : ℕ) (e : Errand) (within : t < w.shape.threads) (v : Fits w P) (reached : (w.known t).reached ≡ true) where
-  found : (w.words Safe == reached_word t) ≡ true
-  found = eq-eqb (w.words Safe) (reached_word t) (reached_found w P t v reached)
+module _ (w : World) (P : List PlainObject) (t : ℕ) (e : Purpose) (within : t < w.shape.threads) (v : Fits w P) (reached : (w.known t).reached ≡ true) where
+  found : (w.words Safepoint == reached_word t) ≡ true
+  found = eq-eqb (w.words Safepoint) (reached_word t) (reached_found w P t v reached)
 
   -- the step leaves the word that it stores
-  left : (word : ℕ) → after (Swap (reached_word t) word) (w.words Safe) ≡ word
-  left word = ap (λ b. cond b word (w.words Safe)) found
+  left : (word : ℕ) → word_after (Swap (reached_word t) word) (w.words Safepoint) ≡ word
+  left word = ap (λ b. cond b word (w.words Safepoint)) found
 
   -- nobody runs by the word before
   nobody_ran : (u : ℕ) → runs_form (Some (reached_form t)) u ≡ false
@@ -59,17 +40,17 @@ module _ (w : World) (P : List PlainObject) (t : ℕ) (e : Errand) (within : t <
 
   -- whether the word that it stores has its request
   abbrev asks_after : ℕ → Bool
-  asks_after word = asks_in (after (Swap (reached_word t) word) (w.words Safe)) (w.known t).thread
+  asks_after word = asks_in (word_after (Swap (reached_word t) word) (w.words Safepoint)) (w.known t).thread
 
   -- where it has none, the thread goes on to count on what it saw at its safepoint
   kept_since : (word : ℕ) → asks_after word ≡ false
-      → kept_by_act Safe (Swap (reached_word t) word) (after (Swap (reached_word t) word) (w.words Safe)) (w.known t) (seen_before w.shape (w.known t)) ≡ undisplaced (w.known t).stood
+      → kept_by_act Safepoint (Swap (reached_word t) word) (word_after (Swap (reached_word t) word) (w.words Safepoint)) (w.known t) (seen_before w.shape (w.known t)) ≡ only_headers (w.known t).seen_at_safepoint
   kept_since word unasking =
       let call = cond (w.known t).running (seen_before w.shape (w.known t)) [] in
-      ap (λ b. cond (b && not (asks_after word)) (undisplaced (w.known t).stood) call) reached ∙ ap (λ b. cond (not b) (undisplaced (w.known t).stood) call) unasking
+      ap (λ b. cond (b && not (asks_after word)) (only_headers (w.known t).seen_at_safepoint) call) reached ∙ ap (λ b. cond (not b) (only_headers (w.known t).seen_at_safepoint) call) unasking
 
-  release_changes : MayRelease (w.known t) → e.unfinished ≡ (w.known t).unfinished → Changes w P t e (Swap (reached_word t) (released_word t)) (reached_form t) (released_form t)
-  release_changes may goes_on =
+  release_changes : MayRelease (w.known t) e → Changes w P t e (Swap (reached_word t) (released_word t)) (reached_form t) (released_form t)
+  release_changes may =
       let runs : runs_form (Some (released_form t)) t ≡ true = ap (λ n. n == 1) (bit_at-pow_same t) in
       record {
         hit = found;
@@ -78,7 +59,7 @@ module _ (w : World) (P : List PlainObject) (t : ℕ) (e : Errand) (within : t <
         asks = refl;
         reaches = refl;
         calm = may.calm;
-        goes_on = inl goes_on;
+        goes_on = inl may.goes_on;
         was = reached_reads w P t v reached;
         unhalted = refl;
         range = (pow_below t 32 (few_bits w P t v within), tt);
@@ -90,20 +71,20 @@ module _ (w : World) (P : List PlainObject) (t : ℕ) (e : Errand) (within : t <
         halts = λ h r. absurd (cc h);
         published = λ r a h. absurd (cc (r, runs));
         ended = λ a r. absurd (cc (r, runs));
-        old = undisplaced (w.known t).stood;
+        old = only_headers (w.known t).seen_at_safepoint;
         kept = kept_since (released_word t);
         counts = λ r. counts_since w P t (safe_of (released_form t)) (known_then w t e (Swap (reached_word t) (released_word t))) reached refl v;
       }
 
-  halt_changes : MayHalt w.shape.threads (w.known t) → e.unfinished ≡ (w.known t).unfinished → Changes w P t e (Swap (reached_word t) halted_word) (reached_form t) halted_form
-  halt_changes may goes_on = record {
+  halt_changes : MayHalt w.shape.threads (w.known t) e → Changes w P t e (Swap (reached_word t) halted_word) (reached_form t) halted_form
+  halt_changes may = record {
     hit = found;
     left = left halted_word;
     runs = refl;
     asks = refl;
     reaches = refl;
     calm = may.calm;
-    goes_on = inl goes_on;
+    goes_on = inl may.goes_on;
     was = reached_reads w P t v reached;
     unhalted = refl;
     range = (omega arith, tt);
@@ -116,26 +97,25 @@ module _ (w : World) (P : List PlainObject) (t : ℕ) (e : Errand) (within : t <
       unasked = ap requester_form (read_safe-safe_of halted_form (omega arith, tt));
       stopped = r ∙ nobody_ran t;
       nobody = (v.safe.safepoint t reached).1;
-      unfinished = sym goes_on;
+      unfinished = sym may.goes_on;
       stuck = stuck w P t v reached within may;
     };
     published = λ r a h. absurd (cc h);
     ended = λ a r. let live = may.live in absurd (cc (a, live));
-    old = undisplaced (w.known t).stood;
+    old = only_headers (w.known t).seen_at_safepoint;
     kept = kept_since halted_word;
     counts = λ r. counts_since w P t (safe_of halted_form) (known_then w t e (Swap (reached_word t) halted_word)) reached refl v;
   }
 
-  released_fits : MayRelease (w.known t) → e.unfinished ≡ (w.known t).unfinished → Fits (moved (swap e Safe (reached_word t) (released_word t)) t w) P
-  released_fits may goes_on = changed_fits w P t e (Swap (reached_word t) (released_word t)) (reached_form t) (released_form t) within (release_changes may goes_on) v
+  pub released_fits : MayRelease (w.known t) e → Fits (world_after (release_plan e Calm t) t w) P
+  released_fits may = changed_fits w P t e (Swap (reached_word t) (released_word t)) (reached_form t) (released_form t) within (release_changes may) v
 
-  halted_fits : MayHalt w.shape.threads (w.known t) → e.unfinished ≡ (w.known t).unfinished → Fits (moved (swap e Safe (reached_word t) halted_word) t w) P
-  halted_fits may goes_on = changed_fits w P t e (Swap (reached_word t) halted_word) (reached_form t) halted_form within (halt_changes may goes_on) v
+  halted_fits : MayHalt w.shape.threads (w.known t) e → Fits (world_after (halt_plan e t) t w) P
+  halted_fits may = changed_fits w P t e (Swap (reached_word t) halted_word) (reached_form t) halted_form within (halt_changes may) v
 
-pub releasing_valid : (w : World) (P : List PlainObject) (t : ℕ) (e : Errand) → t < w.shape.threads → MayRelease (w.known t) → e.unfinished ≡ (w.known t).unfinished → IsValid w P
-    → IsValid (moved (swap e Safe (reached_word t) (released_word t)) t w) P
-releasing_valid w P t e within may goes_on valid = inl (released_fits w P t e within (fits_calm w P t may.reached may.calm valid) may.reached may goes_on)
+-- THE LAWS
+pub releasing_valid : (e : Purpose) → KeepsValid (λ w t. MayRelease (w.known t) e) (λ w t. release_plan e Calm t)
+releasing_valid e w P t within may valid = inl (released_fits w P t e within (fits_calm w P t may.reached may.calm valid) may.reached may)
 
-pub halting_valid : (w : World) (P : List PlainObject) (t : ℕ) (e : Errand) → t < w.shape.threads → MayHalt w.shape.threads (w.known t) → e.unfinished ≡ (w.known t).unfinished → IsValid w P
-    → IsValid (moved (swap e Safe (reached_word t) halted_word) t w) P
-halting_valid w P t e within may goes_on valid = inl (halted_fits w P t e within (fits_calm w P t may.reached may.calm valid) may.reached may goes_on)
+pub halting_valid : (e : Purpose) → KeepsValid (λ w t. MayHalt w.shape.threads (w.known t) e) (λ w t. halt_plan e t)
+halting_valid e w P t within may valid = inl (halted_fits w P t e within (fits_calm w P t may.reached may.calm valid) may.reached may)

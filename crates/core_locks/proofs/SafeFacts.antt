@@ -1,40 +1,21 @@
 -- What the safepoint word and the threads' requests say in a valid world.
-use Rattle.std.proofs.Common.{◌≡◌, ◌≢◌, ℕ, ◌<◌, Bool, true, false, cond, List, Option, Some, None, refl, sym, ap, ◌∙◌, subst, arith, inl, inr}
-use Rattle.mark_word.specs.declared.safe.SafeForm.{SafeForm}
-use Rattle.mark_word.specs.Safe.{safe_of, read_safe}
-use Rattle.mark_word.proofs.ReadingSafepoints.{read_safe-spells}
-use Rattle.plain_monitor.specs.Monitor.{is_thread}
-use Rattle.plain_monitor.specs.Objects.{PlainObject}
-use Rattle.core_world.specs.declared.act.Act.{Act}
-use Rattle.core_world.specs.declared.name.Name.TheVariants.{Safe}
-use Rattle.core_world.specs.declared.stage.Stage.TheVariants.{Calm}
-use Rattle.core_world.specs.Acts.{after, hits}
-use Rattle.core_world.specs.Shape.{Shape}
-use Rattle.core_world.specs.Forms.{runs_form, requester_in, requester_form, is_halted, halted_form}
-use Rattle.core_world.specs.Stages.{settling}
-use Rattle.core_world.specs.Known.{Known}
-use Rattle.core_world.specs.World.{World, one}
-use Rattle.core_world.specs.Plans.{Errand, quiet}
-use Rattle.core_world.specs.Steps.{known_hit, known_miss, moved}
-use Rattle.core_world.specs.WordForms.{IsSafe}
-use Rattle.core_world.specs.Valid.{Fits, SafeFits, IsSettling, IsValid}
-use Rattle.core_world.proofs.Glances.{one_requester}
-use Rattle.core_world.proofs.Stands.{thread_is}
+use Rattle.core_locks.proofs.Prelude.{◌≡◌, ◌≢◌, ℕ, ◌<◌, Bool, true, false, cond, List, Option, Some, None, refl, sym, ap, ◌∙◌, subst, arith, inl, inr, SafeForm, safe_of, read_safe, read_safe-spells, is_thread, PlainObject, Safepoint, Calm, is_halted, runs_form, requester_form, requester_in, halted_form, revocation_in, word_after, hits, Known, World, with_word_and_known, Purpose, quiet_plan, world_after, known_hit, known_miss, Fits, IsValid, SafepointFits, IsRevoking, Shape, IsSafepoint, Act, thread_is}
+use Rattle.core_world.proofs.NoWordChanges.{one_requester}
 use Rattle.core_locks.proofs.SafeBits.{no_bits}
 
 -- while a bias is being revoked, its thread's safepoint is reached, and its request stands
-settling_reached : (w : World) (P : List PlainObject) (s : IsSettling w P) → (w.known s.requester).reached ≡ true
-settling_reached w P s = ap (λ (k : Known). k.reached) s.knows ∙ s.reached
+revoking_reached : (w : World) (P : List PlainObject) (s : IsRevoking w P) → (w.known s.requester).reached ≡ true
+revoking_reached w P s = ap (λ (k : Known). k.reached) s.knows ∙ s.reached
 
-settling_asks : (w : World) (P : List PlainObject) (s : IsSettling w P) → (w.known s.requester).requesting ≡ true
-settling_asks w P s = (s.safe.safepoint s.requester (settling_reached w P s)).0
+revoking_asks : (w : World) (P : List PlainObject) (s : IsRevoking w P) → (w.known s.requester).requesting ≡ true
+revoking_asks w P s = (s.safe.safepoint s.requester (revoking_reached w P s)).0
 
 -- and where the safepoint word has no requester
-pub fits_unasked : (w : World) (P : List PlainObject) → requester_in (w.words Safe) ≡ None → IsValid w P → Fits w P
+pub fits_unasked : (w : World) (P : List PlainObject) → requester_in (w.words Safepoint) ≡ None → IsValid w P → Fits w P
 fits_unasked w P none valid = elim valid [
   | inl v ↦ v
   | inr s ↦
-      let asks = s.safe.requester s.requester ∙ settling_asks w P s in
+      let asks = s.safe.requester s.requester ∙ revoking_asks w P s in
       let not_asked = ap (λ a. is_thread a s.requester) none in
       absurd (cc (asks, not_asked))
 ]
@@ -44,36 +25,36 @@ pub fits_calm : (w : World) (P : List PlainObject) (t : ℕ) → (w.known t).rea
 fits_calm w P t reached calm valid = elim valid [
   | inl v ↦ v
   | inr s ↦
-      let same = one_requester w P s.safe t s.requester (s.safe.safepoint t reached).0 (settling_asks w P s) in
-      let none = ap (λ u. settling (w.known u).stage) (sym same) ∙ ap settling calm in
-      let some = s.settles in
+      let same = one_requester w P s.safe t s.requester (s.safe.safepoint t reached).0 (revoking_asks w P s) in
+      let none = ap (λ u. revocation_in (w.known u).stage) (sym same) ∙ ap revocation_in calm in
+      let some = s.its_revocation in
       absurd (cc (none, some))
 ]
 
 -- the state that the safepoint word spells
-spelled : (s : Shape) (a : Option SafeForm) → IsSafe s a → (f : SafeForm) × (a ≡ Some f)
+spelled : (s : Shape) (a : Option SafeForm) → IsSafepoint s a → (f : SafeForm) × (a ≡ Some f)
 spelled s None h = absurd h
 spelled s (Some f) h = (f, refl)
 
-pub safe_form : (w : World) (P : List PlainObject) → Fits w P → (f : SafeForm) × (read_safe (w.words Safe) ≡ Some f)
-safe_form w P v = spelled w.shape (read_safe (w.words Safe)) v.forms.safepoint
+pub safe_form : (w : World) (P : List PlainObject) → Fits w P → (f : SafeForm) × (read_safe (w.words Safepoint) ≡ Some f)
+safe_form w P v = spelled w.shape (read_safe (w.words Safepoint)) v.forms.safepoint
 
 -- a thread below the heap's number of threads has a bit in the word
 pub few_bits : (w : World) (P : List PlainObject) (t : ℕ) → Fits w P → t < w.shape.threads → t < 32
 few_bits w P t v within = let few = v.limits.threads in omega (arith, few, within)
 
 -- nothing is halted while a thread runs, or a request stands
-pub running_unhalted : (w : World) (P : List PlainObject) (t : ℕ) → SafeFits w P → (w.known t).running ≡ true → is_halted (w.words Safe) ≡ false
-running_unhalted w P t safe runs = cases (is_halted (w.words Safe)) refl
+pub running_unhalted : (w : World) (P : List PlainObject) (t : ℕ) → SafepointFits w P → (w.known t).running ≡ true → is_halted (w.words Safepoint) ≡ false
+running_unhalted w P t safe runs = cases (is_halted (w.words Safepoint)) refl
   where
-    cases : (b : Bool) → is_halted (w.words Safe) ≡ b → is_halted (w.words Safe) ≡ false
+    cases : (b : Bool) → is_halted (w.words Safepoint) ≡ b → is_halted (w.words Safepoint) ≡ false
     cases true e = let stopped = (safe.still e).1 t in absurd (cc (stopped, runs))
     cases false e = e
 
-pub asking_unhalted : (w : World) (P : List PlainObject) (t : ℕ) → SafeFits w P → (w.known t).requesting ≡ true → is_halted (w.words Safe) ≡ false
-asking_unhalted w P t safe asks = cases (is_halted (w.words Safe)) refl
+pub asking_unhalted : (w : World) (P : List PlainObject) (t : ℕ) → SafepointFits w P → (w.known t).requesting ≡ true → is_halted (w.words Safepoint) ≡ false
+asking_unhalted w P t safe asks = cases (is_halted (w.words Safepoint)) refl
   where
-    cases : (b : Bool) → is_halted (w.words Safe) ≡ b → is_halted (w.words Safe) ≡ false
+    cases : (b : Bool) → is_halted (w.words Safepoint) ≡ b → is_halted (w.words Safepoint) ≡ false
     cases true e =
         let none = ap (λ a. is_thread a t) (safe.still e).0 in
         let some = safe.requester t ∙ asks in
@@ -81,30 +62,30 @@ asking_unhalted w P t safe asks = cases (is_halted (w.words Safe)) refl
     cases false e = e
 
 -- no safepoint is reached while a thread runs, or where the word has no requester
-pub running_unreached : (w : World) (P : List PlainObject) (t u : ℕ) → SafeFits w P → (w.known t).running ≡ true → (w.known u).reached ≡ true → ⊥
+pub running_unreached : (w : World) (P : List PlainObject) (t u : ℕ) → SafepointFits w P → (w.known t).running ≡ true → (w.known u).reached ≡ true → ⊥
 running_unreached w P t u safe runs reached = let stopped = (safe.safepoint u reached).1 t in absurd (cc (stopped, runs))
 
-pub unasked_unreached : (w : World) (P : List PlainObject) (u : ℕ) → SafeFits w P → requester_in (w.words Safe) ≡ None → (w.known u).reached ≡ true → ⊥
+pub unasked_unreached : (w : World) (P : List PlainObject) (u : ℕ) → SafepointFits w P → requester_in (w.words Safepoint) ≡ None → (w.known u).reached ≡ true → ⊥
 unasked_unreached w P u safe none reached =
     let asks = safe.requester u ∙ (safe.safepoint u reached).0 in
     let not_asked = ap (λ a. is_thread a u) none in
     absurd (cc (asks, not_asked))
 
 -- at most one is
-pub one_reached : (w : World) (P : List PlainObject) (t u : ℕ) → SafeFits w P → (w.known t).reached ≡ true → u ≢ t → (w.known u).reached ≡ true → ⊥
+pub one_reached : (w : World) (P : List PlainObject) (t u : ℕ) → SafepointFits w P → (w.known t).reached ≡ true → u ≢ t → (w.known u).reached ≡ true → ⊥
 one_reached w P t u safe mine d reached = d (one_requester w P safe u t (safe.safepoint u reached).0 (safe.safepoint t mine).0)
 
 -- the state at the reached safepoint of t
 abbrev pub reached_form : ℕ → SafeForm
 reached_form t = record { running = 0; requester = Some t; halted = false }
 
-pub reached_reads : (w : World) (P : List PlainObject) (t : ℕ) → Fits w P → (w.known t).reached ≡ true → read_safe (w.words Safe) ≡ Some (reached_form t)
+pub reached_reads : (w : World) (P : List PlainObject) (t : ℕ) → Fits w P → (w.known t).reached ≡ true → read_safe (w.words Safepoint) ≡ Some (reached_form t)
 reached_reads w P t v reached =
     let s = safe_form w P v in
     let f = s.0 in
     let reads = s.1 in
     let at = v.safe.safepoint t reached in
-    let spells = read_safe-spells (w.words Safe) f reads in
+    let spells = read_safe-spells (w.words Safepoint) f reads in
     let running : f.running ≡ 0 = no_bits f spells.0 (λ u. ap (λ z. runs_form z u) (sym reads) ∙ v.safe.bits u ∙ at.1 u) in
     let requester : f.requester ≡ Some t = thread_is f.requester t (ap (λ z. is_thread (requester_form z) t) (sym reads) ∙ v.safe.requester t ∙ at.0) in
     let halted : f.halted ≡ false = ap (λ z. halted_form z) (sym reads) ∙ asking_unhalted w P t v.safe at.0 in
@@ -112,12 +93,12 @@ reached_reads w P t v reached =
     reads ∙ ap Some form
 
 -- so is the word then
-pub reached_found : (w : World) (P : List PlainObject) (t : ℕ) → Fits w P → (w.known t).reached ≡ true → w.words Safe ≡ safe_of (reached_form t)
-reached_found w P t v reached = (read_safe-spells (w.words Safe) (reached_form t) (reached_reads w P t v reached)).1
+pub reached_found : (w : World) (P : List PlainObject) (t : ℕ) → Fits w P → (w.known t).reached ≡ true → w.words Safepoint ≡ safe_of (reached_form t)
+reached_found w P t v reached = (read_safe-spells (w.words Safepoint) (reached_form t) (reached_reads w P t v reached)).1
 
 -- the world after a step that hits
-pub hit_moved : (w : World) (P : List PlainObject) (t : ℕ) (e : Errand) (act : Act) → hits act (w.words Safe) ≡ true
-    → Fits (one Safe (after act (w.words Safe)) t (known_hit w.shape w.start (quiet e Safe act) (w.words Safe) (w.known t)) w) P → Fits (moved (quiet e Safe act) t w) P
+pub hit_moved : (w : World) (P : List PlainObject) (t : ℕ) (e : Purpose) (act : Act) → hits act (w.words Safepoint) ≡ true
+    → Fits (with_word_and_known Safepoint (word_after act (w.words Safepoint)) t (known_hit w.shape w.start (quiet_plan e Safepoint act) (w.words Safepoint) (w.known t)) w) P → Fits (world_after (quiet_plan e Safepoint act) t w) P
 hit_moved w P t e act h v =
-    let p = quiet e Safe act in
-    subst (λ b. Fits (one Safe (after act (w.words Safe)) t (cond b (known_hit w.shape w.start p (w.words Safe) (w.known t)) (known_miss w.shape w.start p (w.words Safe) (w.known t))) w) P) (sym h) v
+    let p = quiet_plan e Safepoint act in
+    subst (λ b. Fits (with_word_and_known Safepoint (word_after act (w.words Safepoint)) t (cond b (known_hit w.shape w.start p (w.words Safepoint) (w.known t)) (known_miss w.shape w.start p (w.words Safepoint) (w.known t))) w) P) (sym h) v

@@ -1,29 +1,6 @@
 -- A thread stops, resumes, and requests a safepoint.
-use Rattle.std.proofs.Common.{◌≡◌, ℕ, ◌-◌, ◌^◌, ◌<◌, ◌==◌, eq-eqb, eqb-true, ne_eqb, not, ◌&&◌, Bool, true, false, cond, List, [], Option, Some, None, IfSome, bit_and, refl, sym, ap, ◌∙◌, subst, inl, inr}
-use Rattle.mark_word.specs.declared.safe.SafeForm.{SafeForm}
-use Rattle.mark_word.specs.Safe.{safe_of, read_safe}
-use Rattle.mark_word.specs.Wait.{read_wait}
-use Rattle.mark_word.specs.declared.wait.WaitForm.{WaitForm}
+use Rattle.core_locks.proofs.Prelude.{◌≡◌, ℕ, ◌<◌, ◌^◌, ◌==◌, ◌&&◌, not, eq-eqb, ne_eqb, Bool, true, false, cond, List, [], Option, Some, None, refl, sym, ap, ◌∙◌, subst, inl, inr, eqb-true, ◌-◌, IfSome, bit_and, read_wait, SafeForm, safe_of, read_safe, WaitForm, read_safe-spells, is_thread, PlainObject, Safepoint, Waiting, waits_on, says_ended, is_halted, asks_in, runs_form, waits_form, ended_form, requester_form, requester_in, halted_form, word_after, World, Purpose, swap, world_after, seen_before, only_headers, Fits, IsValid, Swap, Mask, IsSafepoint, all_but, running_too, requested_by, same_number, fits_running, seen_is_part, miss_valid, KeepsValid, MayStop, MayResume, MayRequest, stop_plan, resume_plan, request_plan}
 use Rattle.mark_word.specs.declared.wait.WaitForm.TheVariants as wait
-use Rattle.mark_word.proofs.ReadingSafepoints.{read_safe-spells}
-use Rattle.plain_monitor.specs.Monitor.{is_thread}
-use Rattle.plain_monitor.specs.Objects.{PlainObject}
-use Rattle.core_world.specs.declared.act.Act.TheVariants.{Swap, Mask}
-use Rattle.core_world.specs.declared.name.Name.TheVariants.{Safe, Waiting}
-use Rattle.core_world.specs.Acts.{after}
-use Rattle.core_world.specs.Forms.{runs_form, requester_in, requester_form, asks_in, halted_form, is_halted, waits_on, waits_form, says_ended, ended_form}
-use Rattle.core_world.specs.World.{World}
-use Rattle.core_world.specs.Plans.{Errand, quiet, swap}
-use Rattle.core_world.specs.SafepointSteps.{all_but, running_too, requested_by}
-use Rattle.core_world.specs.Steps.{moved, seen_before, undisplaced}
-use Rattle.core_world.specs.Valid.{Fits, IsValid}
-use Rattle.core_world.specs.WordForms.{IsSafe}
-use Rattle.core_world.proofs.ActsLook.{seen_is_part}
-use Rattle.core_world.proofs.LookSettles.{miss_valid}
-use Rattle.core_world.proofs.Stands.{same_number}
-use Rattle.core_world.proofs.Shows.{fits_running}
-use Rattle.core_locks.specs.Knowing.{GoesOn}
-use Rattle.core_locks.specs.SafepointLaws.{MayStop, MayResume, MayRequest}
 use Rattle.core_locks.proofs.LookOn.{may_look_safe}
 use Rattle.core_locks.proofs.SafeBits.{without, including, without_other, without_mine, without_range, including_other, including_mine, including_range, masked}
 use Rattle.core_locks.proofs.SafeFacts.{fits_unasked, safe_form, few_bits, running_unhalted, running_unreached, unasked_unreached}
@@ -49,21 +26,20 @@ ended_stands w P t v e = elim (v.waits.stored t) [
   | inr a ↦ absurd (waits_unended (w.known t).wait a.0 a.1 e)
 ]
 
-module _ (w : World) (P : List PlainObject) (t : ℕ) (e : Errand) (within : t < w.shape.threads) where
+module _ (w : World) (P : List PlainObject) (t : ℕ) (e : Purpose) (within : t < w.shape.threads) where
   -- a thread that runs, by the state that the word spells
-  runs_by : Fits w P → (f : SafeForm) → read_safe (w.words Safe) ≡ Some f → (w.known t).running ≡ true → runs_form (Some f) t ≡ true
+  runs_by : Fits w P → (f : SafeForm) → read_safe (w.words Safepoint) ≡ Some f → (w.known t).running ≡ true → runs_form (Some f) t ≡ true
   runs_by v f reads runs = ap (λ z. runs_form z t) (sym reads) ∙ v.safe.bits t ∙ runs
 
-  unhalted_by : Fits w P → (f : SafeForm) → read_safe (w.words Safe) ≡ Some f → (w.known t).running ≡ true → f.halted ≡ false
+  unhalted_by : Fits w P → (f : SafeForm) → read_safe (w.words Safepoint) ≡ Some f → (w.known t).running ≡ true → f.halted ≡ false
   unhalted_by v f reads runs = ap halted_form (sym reads) ∙ running_unhalted w P t v.safe runs
 
-  here_by : Fits w P → (f : SafeForm) → read_safe (w.words Safe) ≡ Some f → IfSome f.requester (λ u. u < w.shape.threads)
-  here_by v f reads = subst (IsSafe w.shape) reads v.forms.safepoint
+  here_by : Fits w P → (f : SafeForm) → read_safe (w.words Safepoint) ≡ Some f → IfSome f.requester (λ u. u < w.shape.threads)
+  here_by v f reads = subst (IsSafepoint w.shape) reads v.forms.safepoint
 
-  stop_changes : (v : Fits w P) (f : SafeForm) → read_safe (w.words Safe) ≡ Some f → MayStop (w.known t) → e.unfinished ≡ (w.known t).unfinished
-      → Changes w P t e (Mask (all_but t)) f (without f t)
-  stop_changes v f reads may goes_on =
-      let spells = read_safe-spells (w.words Safe) f reads in
+  stop_changes : (v : Fits w P) (f : SafeForm) → read_safe (w.words Safepoint) ≡ Some f → MayStop (w.known t) e → Changes w P t e (Mask (all_but t)) f (without f t)
+  stop_changes v f reads may =
+      let spells = read_safe-spells (w.words Safepoint) f reads in
       let bits = few_bits w P t v within in
       let runs = runs_by v f reads may.runs in
       record {
@@ -73,7 +49,7 @@ module _ (w : World) (P : List PlainObject) (t : ℕ) (e : Errand) (within : t <
         asks = refl;
         reaches = refl;
         calm = may.calm;
-        goes_on = inl goes_on;
+        goes_on = inl may.goes_on;
         was = reads;
         unhalted = unhalted_by v f reads may.runs;
         range = without_range f t spells.0 bits;
@@ -91,32 +67,32 @@ module _ (w : World) (P : List PlainObject) (t : ℕ) (e : Errand) (within : t <
             may.runs (r ∙ without_mine f t spells.0 bits runs) v.seen;
       }
 
-  pub stopping_valid : MayStop (w.known t) → e.unfinished ≡ (w.known t).unfinished → IsValid w P → IsValid (moved (quiet e Safe (Mask (all_but t))) t w) P
-  stopping_valid may goes_on valid =
+  stop_valid : MayStop (w.known t) e → IsValid w P → IsValid (world_after (stop_plan e t) t w) P
+  stop_valid may valid =
       let v = fits_running w P t may.runs valid in
       let s = safe_form w P v in
-      inl (changed_fits w P t e (Mask (all_but t)) s.0 (without s.0 t) within (stop_changes v s.0 s.1 may goes_on) v)
+      inl (changed_fits w P t e (Mask (all_but t)) s.0 (without s.0 t) within (stop_changes v s.0 s.1 may) v)
 
   -- a stopped thread sets its bit in a word with no requester and no halt
-  resume_changes : (v : Fits w P) (f : SafeForm) (word : ℕ) → read_safe (w.words Safe) ≡ Some f → MayResume (w.known t) word → e.unfinished ≡ (w.known t).unfinished → w.words Safe ≡ word
+  resume_changes : (v : Fits w P) (f : SafeForm) (word : ℕ) → read_safe (w.words Safepoint) ≡ Some f → MayResume (w.known t) e word → w.words Safepoint ≡ word
       → Changes w P t e (Swap word (running_too (read_safe word) t)) f (including f t)
-  resume_changes v f word reads may goes_on found =
-      let spells = read_safe-spells (w.words Safe) f reads in
+  resume_changes v f word reads may found =
+      let spells = read_safe-spells (w.words Safepoint) f reads in
       let bits = few_bits w P t v within in
       let stopped : runs_form (Some f) t ≡ false = ap (λ z. runs_form z t) (sym reads) ∙ v.safe.bits t ∙ may.stopped in
-      let test : (w.words Safe == word) ≡ true = eq-eqb (w.words Safe) word found in
-      let unasked : requester_in (w.words Safe) ≡ None = ap requester_in found ∙ may.unasked in
+      let test : (w.words Safepoint == word) ≡ true = eq-eqb (w.words Safepoint) word found in
+      let unasked : requester_in (w.words Safepoint) ≡ None = ap requester_in found ∙ may.unasked in
       let new : running_too (read_safe word) t ≡ safe_of (including f t) = ap (λ n. running_too (read_safe n) t) (sym found) ∙ ap (λ z. running_too z t) reads in
       let not_halted : f.halted ≡ false = ap halted_form (sym reads) ∙ ap is_halted found ∙ may.unhalted in
       let runs = including_mine f t spells.0 bits stopped in
       record {
         hit = test;
-        left = ap (λ b. cond b (running_too (read_safe word) t) (w.words Safe)) test ∙ new;
+        left = ap (λ b. cond b (running_too (read_safe word) t) (w.words Safepoint)) test ∙ new;
         runs = refl;
         asks = refl;
         reaches = refl;
         calm = v.quiet.quiet t may.stopped;
-        goes_on = inl goes_on;
+        goes_on = inl may.goes_on;
         was = reads;
         unhalted = not_halted;
         range = including_range f t spells.0 bits stopped;
@@ -129,29 +105,28 @@ module _ (w : World) (P : List PlainObject) (t : ℕ) (e : Errand) (within : t <
         published = λ r a h. absurd (cc (r, runs));
         ended = λ a r. absurd (cc (r, runs));
         old = [];
-        kept = λ a. anew (w.known t).reached refl (asks_in (after (Swap word (running_too (read_safe word) t)) (w.words Safe)) (w.known t).thread) unasked;
+        kept = λ a. anew (w.known t).reached refl (asks_in (word_after (Swap word (running_too (read_safe word) t)) (w.words Safepoint)) (w.known t).thread) unasked;
         counts = λ r. counts_begun w P t (safe_of (including f t)) (known_then w t e (Swap word (running_too (read_safe word) t)));
       }
     where
-      anew : (b : Bool) → (w.known t).reached ≡ b → (asks : Bool) → requester_in (w.words Safe) ≡ None
-          → cond (b && not asks) (undisplaced (w.known t).stood) (cond (w.known t).running (seen_before w.shape (w.known t)) []) ≡ []
+      anew : (b : Bool) → (w.known t).reached ≡ b → (asks : Bool) → requester_in (w.words Safepoint) ≡ None
+          → cond (b && not asks) (only_headers (w.known t).seen_at_safepoint) (cond (w.known t).running (seen_before w.shape (w.known t)) []) ≡ []
       anew true r asks unasked = absurd (unasked_unreached w P t v.safe unasked r)
       anew false r asks unasked = ap (λ b. cond b (seen_before w.shape (w.known t)) []) may.stopped
 
   -- an exchange that misses
-  missing_valid : (word new : ℕ) → (w.words Safe == word) ≡ false → IsValid w P → IsValid (moved (swap e Safe word new) t w) P
-  missing_valid word new h valid = miss_valid w P t (swap e Safe word new) within (record { missed = h; may = may_look_safe (w.known t) }) valid
+  missing_valid : (word new : ℕ) → (w.words Safepoint == word) ≡ false → IsValid w P → IsValid (world_after (swap e Safepoint word new) t w) P
+  missing_valid word new h valid = miss_valid w P t (swap e Safepoint word new) within (record { missed = h; may = may_look_safe (w.known t) }) valid
 
-  pub resuming_valid : (word : ℕ) → MayResume (w.known t) word → e.unfinished ≡ (w.known t).unfinished → IsValid w P
-      → IsValid (moved (swap e Safe word (running_too (read_safe word) t)) t w) P
-  resuming_valid word may goes_on valid = cases (w.words Safe == word) refl
+  resume_valid : (word : ℕ) → MayResume (w.known t) e word → IsValid w P → IsValid (world_after (resume_plan e t word) t w) P
+  resume_valid word may valid = cases (w.words Safepoint == word) refl
     where
-      cases : (b : Bool) → (w.words Safe == word) ≡ b → IsValid (moved (swap e Safe word (running_too (read_safe word) t)) t w) P
+      cases : (b : Bool) → (w.words Safepoint == word) ≡ b → IsValid (world_after (resume_plan e t word) t w) P
       cases true h =
-          let found = eqb-true (w.words Safe) word h in
+          let found = eqb-true (w.words Safepoint) word h in
           let v = fits_unasked w P (ap requester_in found ∙ may.unasked) valid in
           let s = safe_form w P v in
-          inl (changed_fits w P t e (Swap word (running_too (read_safe word) t)) s.0 (including s.0 t) within (resume_changes v s.0 word s.1 may goes_on found) v)
+          inl (changed_fits w P t e (Swap word (running_too (read_safe word) t)) s.0 (including s.0 t) within (resume_changes v s.0 word s.1 may found) v)
       cases false h = missing_valid word (running_too (read_safe word) t) h valid
 
   -- the state with t's request, and t not running
@@ -159,23 +134,23 @@ module _ (w : World) (P : List PlainObject) (t : ℕ) (e : Errand) (within : t <
   requested f = record f { running = f.running - 2 ^ t; requester = Some t }
 
   -- a running thread exchanges its bit for its request, in a word with no requester
-  request_changes : (v : Fits w P) (f : SafeForm) (word : ℕ) → read_safe (w.words Safe) ≡ Some f → MayRequest (w.known t) word → GoesOn (w.known t) e → w.words Safe ≡ word
+  request_changes : (v : Fits w P) (f : SafeForm) (word : ℕ) → read_safe (w.words Safepoint) ≡ Some f → MayRequest (w.known t) e word → w.words Safepoint ≡ word
       → Changes w P t e (Swap word (requested_by (read_safe word) t)) f (requested f)
-  request_changes v f word reads may goes_on found =
-      let spells = read_safe-spells (w.words Safe) f reads in
+  request_changes v f word reads may found =
+      let spells = read_safe-spells (w.words Safepoint) f reads in
       let bits = few_bits w P t v within in
       let runs = runs_by v f reads may.runs in
-      let test : (w.words Safe == word) ≡ true = eq-eqb (w.words Safe) word found in
+      let test : (w.words Safepoint == word) ≡ true = eq-eqb (w.words Safepoint) word found in
       let none : f.requester ≡ None = ap requester_form (sym reads) ∙ ap requester_in found ∙ may.unasked in
       let new : requested_by (read_safe word) t ≡ safe_of (requested f) = ap (λ n. requested_by (read_safe n) t) (sym found) ∙ ap (λ z. requested_by z t) reads in
       record {
         hit = test;
-        left = ap (λ b. cond b (requested_by (read_safe word) t) (w.words Safe)) test ∙ new;
+        left = ap (λ b. cond b (requested_by (read_safe word) t) (w.words Safepoint)) test ∙ new;
         runs = refl;
         asks = refl;
         reaches = refl;
         calm = may.calm;
-        goes_on = goes_on;
+        goes_on = may.goes_on;
         was = reads;
         unhalted = unhalted_by v f reads may.runs;
         range = let low = without_range f t spells.0 bits in (low.0, bits);
@@ -188,24 +163,34 @@ module _ (w : World) (P : List PlainObject) (t : ℕ) (e : Errand) (within : t <
         published = λ r a h. let asks = same_number t in absurd (cc (a, asks));
         ended = λ a r. ended_stands w P t v (may.ended a);
         old = seen_before w.shape (w.known t);
-        kept = λ a. goes_on_seen (w.known t).reached refl (asks_in (after (Swap word (requested_by (read_safe word) t)) (w.words Safe)) (w.known t).thread);
+        kept = λ a. goes_on_seen (w.known t).reached refl (asks_in (word_after (Swap word (requested_by (read_safe word) t)) (w.words Safepoint)) (w.known t).thread);
         counts = λ r. counts_stopped w P t (safe_of (requested f)) (known_then w t e (Swap word (requested_by (read_safe word) t))) (seen_before w.shape (w.known t))
             (seen_is_part w.shape (w.known t)) may.runs (r ∙ without_mine f t spells.0 bits runs) v.seen;
       }
     where
       goes_on_seen : (b : Bool) → (w.known t).reached ≡ b → (asks : Bool)
-          → cond (b && not asks) (undisplaced (w.known t).stood) (cond (w.known t).running (seen_before w.shape (w.known t)) []) ≡ seen_before w.shape (w.known t)
+          → cond (b && not asks) (only_headers (w.known t).seen_at_safepoint) (cond (w.known t).running (seen_before w.shape (w.known t)) []) ≡ seen_before w.shape (w.known t)
       goes_on_seen true r asks = absurd (running_unreached w P t t v.safe may.runs r)
       goes_on_seen false r asks = ap (λ b. cond b (seen_before w.shape (w.known t)) []) may.runs
 
-  pub requesting_valid : (word : ℕ) → MayRequest (w.known t) word → GoesOn (w.known t) e → IsValid w P → IsValid (moved (swap e Safe word (requested_by (read_safe word) t)) t w) P
-  requesting_valid word may goes_on valid =
+  request_valid : (word : ℕ) → MayRequest (w.known t) e word → IsValid w P → IsValid (world_after (request_plan e t word) t w) P
+  request_valid word may valid =
       let v = fits_running w P t may.runs valid in
       let s = safe_form w P v in
-      cases v s.0 s.1 (w.words Safe == word) refl
+      cases v s.0 s.1 (w.words Safepoint == word) refl
     where
-      cases : Fits w P → (f : SafeForm) → read_safe (w.words Safe) ≡ Some f → (b : Bool) → (w.words Safe == word) ≡ b
-          → IsValid (moved (swap e Safe word (requested_by (read_safe word) t)) t w) P
+      cases : Fits w P → (f : SafeForm) → read_safe (w.words Safepoint) ≡ Some f → (b : Bool) → (w.words Safepoint == word) ≡ b
+          → IsValid (world_after (request_plan e t word) t w) P
       cases v f reads true h =
-          inl (changed_fits w P t e (Swap word (requested_by (read_safe word) t)) f (requested f) within (request_changes v f word reads may goes_on (eqb-true (w.words Safe) word h)) v)
+          inl (changed_fits w P t e (Swap word (requested_by (read_safe word) t)) f (requested f) within (request_changes v f word reads may (eqb-true (w.words Safepoint) word h)) v)
       cases v f reads false h = missing_valid word (requested_by (read_safe word) t) h valid
+
+-- THE LAWS
+pub stopping_valid : (e : Purpose) → KeepsValid (λ w t. MayStop (w.known t) e) (λ w t. stop_plan e t)
+stopping_valid e w P t within may valid = stop_valid w P t e within may valid
+
+pub resuming_valid : (e : Purpose) (word : ℕ) → KeepsValid (λ w t. MayResume (w.known t) e word) (λ w t. resume_plan e t word)
+resuming_valid e word w P t within may valid = resume_valid w P t e within word may valid
+
+pub requesting_valid : (e : Purpose) (word : ℕ) → KeepsValid (λ w t. MayRequest (w.known t) e word) (λ w t. request_plan e t word)
+requesting_valid e word w P t within may valid = request_valid w P t e within word may valid

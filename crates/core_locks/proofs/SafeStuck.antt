@@ -1,27 +1,6 @@
 -- By what the thread whose safepoint is reached has seen since, the threads are stuck.
-use Rattle.std.proofs.Common.{◌≡◌, ◌≢◌, ℕ, ◌<◌, ◌||◌, Bool, true, false, List, Option, Some, None, refl, sym, ap, ◌∙◌, inl, inr, eq-eqb, subst}
-use Rattle.mark_word.specs.declared.mark.MarkForm.TheVariants.{Inflated}
-use Rattle.mark_word.specs.declared.owner.OwnerForm.{OwnerForm}
-use Rattle.mark_word.specs.declared.owner.OwnerForm.TheVariants.{Free, ByThread, ByRecord}
-use Rattle.mark_word.specs.Mark.{read_mark}
-use Rattle.mark_word.specs.Owner.{read_owner}
-use Rattle.plain_monitor.specs.Monitor.{is_thread, owns}
-use Rattle.plain_monitor.specs.Objects.{PlainObject}
-use Rattle.core_world.specs.declared.name.Name.{Name}
-use Rattle.core_world.specs.declared.name.Name.TheVariants.{Mark, Waiting, Owner}
-use Rattle.core_world.specs.Forms.{monitor_in, waits_on, told_of, enters_on, says_ended}
-use Rattle.core_world.specs.Stages.{bears, calling}
-use Rattle.core_world.specs.Known.{last_seen}
-use Rattle.core_world.specs.LookSteps.{is_open_to}
-use Rattle.core_world.specs.Shape.{Shape}
-use Rattle.core_world.specs.WordForms.{IsOwner}
-use Rattle.core_world.specs.World.{World}
-use Rattle.core_world.specs.Locks.{lock, holder, who, owner_lock, named, marks, monitor_of, owner_at}
-use Rattle.core_world.specs.Safepoints.{IsStuck, IsHeldUp, ends}
-use Rattle.core_world.specs.Valid.{Fits}
-use Rattle.core_world.proofs.Shows.{safepoint_calm, lock_by_form, inflated_form}
-use Rattle.core_world.proofs.Stands.{same_number}
-use Rattle.core_locks.specs.SafepointLaws.{SeesHeldUp, SeesEnded, MayHalt}
+use Rattle.core_locks.proofs.Prelude.{◌≡◌, ◌≢◌, ℕ, ◌<◌, ◌||◌, eq-eqb, Bool, true, false, List, Option, Some, None, refl, sym, ap, ◌∙◌, subst, inl, inr, read_mark, read_owner, Inflated, ByThread, Free, ByRecord, OwnerForm, is_thread, owns, PlainObject, Name, Mark, Waiting, Owner, monitor_in, waits_on, says_notified, enters_on, says_ended, bears, notification_in, last_seen, World, lock, marks, who, holder, hold_count, monitor_of, owner_at, owner_lock, Fits, ends, IsStuck, IsHeldUp, Shape, IsOwner, same_number, inflated_form, lock_by_form, safepoint_calm, MayHalt, SeesHeldUp, SeesEnded, Purpose}
+use Rattle.core_world.specs.Trees.LookSteps.{is_open_to}
 
 -- a lock that isn't open to a thread is another's
 other_holds : (s : Shape) (a : Option OwnerForm) (u : ℕ) (count : ℕ → ℕ) → IsOwner s a → is_open_to a u ≡ false → (z : ℕ) × (z ≢ u) × (holder (owner_lock a) count ≡ Some z)
@@ -32,12 +11,12 @@ other_holds s (Some (ByRecord z p)) u count form h = (z, (λ e. let same = eq-eq
 
 module _ (w : World) (P : List PlainObject) (t : ℕ) (v : Fits w P) (reached : (w.known t).reached ≡ true) where
   -- each word is as the thread saw it
-  stands : (n : Name) (s : ℕ) → last_seen n (w.known t).stood ≡ Some s → w.words n ≡ s
+  stands : (n : Name) (s : ℕ) → last_seen n (w.known t).seen_at_safepoint ≡ Some s → w.words n ≡ s
   stands n s e = v.seen.stands t n s reached e
 
   -- nobody tells all waiters
-  uncalled : (o z : ℕ) → calling (w.known z).stage ≡ Some o → ⊥
-  uncalled o z e = let none = ap calling (safepoint_calm w P t z v reached) in absurd (cc (e, none))
+  uncalled : (o z : ℕ) → notification_in (w.known z).stage ≡ Some o → ⊥
+  uncalled o z e = let none = ap notification_in (safepoint_calm w P t z v reached) in absurd (cc (e, none))
 
   -- who has the lock is the plain owner
   plain_owner : (o z : ℕ) → who w o ≡ Some z → owner_at P o z ≡ true
@@ -48,14 +27,14 @@ module _ (w : World) (P : List PlainObject) (t : ℕ) (v : Fits w P) (reached : 
       by_test false h = let none = ap (λ s. bears s o) (safepoint_calm w P t z v reached) in absurd (cc (h, none))
 
   -- another thread is the owner of an object whose owner word names it
-  other_owns : (o u mark m owner : ℕ) → last_seen (Mark o) (w.known t).stood ≡ Some mark → monitor_in mark ≡ Some m → last_seen (Owner m) (w.known t).stood ≡ Some owner
+  other_owns : (o u mark m owner : ℕ) → last_seen (Mark o) (w.known t).seen_at_safepoint ≡ Some mark → monitor_in mark ≡ Some m → last_seen (Owner m) (w.known t).seen_at_safepoint ≡ Some owner
       → is_open_to (read_owner owner) u ≡ false → (z : ℕ) × (z ≢ u) × (owns (monitor_of P o) z ≡ true)
   other_owns o u mark m owner saw_mark is saw_owner other =
       let form = inflated_form (read_mark (marks w o)) m (ap monitor_in (stands (Mark o) mark saw_mark) ∙ is) in
       let word = stands (Owner m) owner saw_owner in
       let locked : lock w o ≡ owner_lock (read_owner owner) = lock_by_form w o (Inflated m) form ∙ ap (λ n. owner_lock (read_owner n)) word in
-      let has = other_holds w.shape (read_owner owner) u (λ y. named o (w.known y).holds) (subst (λ n. IsOwner w.shape (read_owner n)) word (v.forms.owners m)) other in
-      (has.0, has.1, plain_owner o has.0 (ap (λ k. holder k (λ y. named o (w.known y).holds)) locked ∙ has.2))
+      let has = other_holds w.shape (read_owner owner) u (λ y. hold_count o (w.known y).holds) (subst (λ n. IsOwner w.shape (read_owner n)) word (v.forms.owners m)) other in
+      (has.0, has.1, plain_owner o has.0 (ap (λ k. holder k (λ y. hold_count o (w.known y).holds)) locked ∙ has.2))
 
   -- a thread that is held up by what was seen is held up
   held_up : (u : ℕ) → SeesHeldUp (w.known t) u → IsHeldUp (monitor_of P) u (w.known u).unfinished
@@ -64,7 +43,7 @@ module _ (w : World) (P : List PlainObject) (t : ℕ) (v : Fits w P) (reached : 
     o,
     inr (
       elim how [
-        | inl a ↦ inl (elim (v.waits.told u o (ap (λ n. told_of n o) (stands (Waiting u) s saw) ∙ a)) [ inl b ↦ b | inr b ↦ absurd (uncalled o b.1.0 b.1.1) ])
+        | inl a ↦ inl (elim (v.waits.told u o (ap (λ n. says_notified n o) (stands (Waiting u) s saw) ∙ a)) [ inl b ↦ b | inr b ↦ absurd (uncalled o b.1.0 b.1.1) ])
         | inr a ↦ inr (v.waits.entering u o (ap (λ n. enters_on n o) (stands (Waiting u) s saw) ∙ a)).0
       ],
       other_owns o u mark m owner saw_mark is saw_owner other,
@@ -75,7 +54,7 @@ module _ (w : World) (P : List PlainObject) (t : ℕ) (v : Fits w P) (reached : 
   has_ended : (u : ℕ) → SeesEnded (w.known t) u → ends (w.known u).log ≡ true
   has_ended u a = v.waits.done u (ap says_ended (stands (Waiting u) a.0 a.1) ∙ a.2)
 
-  pub stuck : t < w.shape.threads → MayHalt w.shape.threads (w.known t) → IsStuck w.shape.threads (λ u. ends (w.known u).log) (λ u. (w.known u).unfinished) (monitor_of P)
+  pub stuck : {e : Purpose} → t < w.shape.threads → MayHalt w.shape.threads (w.known t) e → IsStuck w.shape.threads (λ u. ends (w.known u).log) (λ u. (w.known u).unfinished) (monitor_of P)
   stuck within may = (
     (t, within, may.live),
     λ u few live. elim (may.stuck u few) [

@@ -1,17 +1,6 @@
 -- Nobody waits on an object where its owner saw that nobody does.
-use Rattle.std.proofs.Common.{◌≡◌, ℕ, ◌<◌, ◌≤◌, ◌||◌, eq-eqb, nat_lt, Bool, true, false, List, [], ◌∷◌, Some, None, refl, ap, ◌∙◌, arith, inl, inr}
-use Rattle.std.proofs.lemmas.Bool.Decides.{nat_tests}
-use Rattle.plain_monitor.specs.Monitor.{is_listed}
-use Rattle.plain_monitor.specs.Objects.{PlainObject}
-use Rattle.core_world.specs.declared.stage.Stage.TheVariants.{Calm}
-use Rattle.core_world.specs.Known.{Known}
-use Rattle.core_world.specs.Locks.{monitor_of, named, owner_at, waits_at}
-use Rattle.core_world.specs.Stages.{calling}
-use Rattle.core_world.specs.Valid.{Fits}
-use Rattle.core_world.specs.World.{World}
+use Rattle.core_locks.proofs.Prelude.{◌≡◌, ℕ, ◌<◌, ◌≤◌, ◌||◌, nat_lt, eq-eqb, Bool, true, false, List, [], ◌∷◌, Some, None, refl, ap, ◌∙◌, arith, inl, inr, nat_tests, is_listed, PlainObject, Calm, notification_in, Known, World, hold_count, monitor_of, owner_at, waits_at, Fits, sound, waiter_stands, SawNobody}
 use Rattle.core_world.proofs.Counting.{named_none}
-use Rattle.core_world.proofs.Stands.{sound, waiter_stands}
-use Rattle.core_locks.specs.JournalLaws.{SawNobody}
 use Rattle.core_locks.proofs.TellTaken.{one_owner}
 
 -- a list that has nobody is empty
@@ -27,14 +16,14 @@ waiter_below w P o u v listed = cases (nat_lt u w.shape.threads) refl
     cases true e = grind (arith, nat_tests)
     cases false e =
         let past : w.shape.threads ≤ u = grind (arith, nat_tests) in
-        let none : named o (w.known u).holds ≡ 0 = ap (λ (k : Known). named o k.holds) (v.absent u past) ∙ named_none o 64 in
+        let none : hold_count o (w.known u).holds ≡ 0 = ap (λ (k : Known). hold_count o k.holds) (v.absent u past) ∙ named_none o 64 in
         absurd (omega (arith, none, v.holds.number u o, waiter_stands (monitor_of P o) u (sound w P v o) listed))
 
 module _ (w : World) (P : List PlainObject) (t o : ℕ) (v : Fits w P) (runs : (w.known t).running ≡ true) (calm : (w.known t).stage ≡ Calm) (own : owner_at P o t ≡ true) where
   -- only the owner tells all waiters, and the thread is calm
-  nobody_calls : (u : ℕ) → calling (w.known u).stage ≡ Some o → ⊥
+  nobody_calls : (u : ℕ) → notification_in (w.known u).stage ≡ Some o → ⊥
   nobody_calls u e =
-      let none : calling (w.known u).stage ≡ None = ap (λ z. calling (w.known z).stage) (one_owner P o t u own (v.owners.calls o u e)) ∙ ap calling calm in
+      let none : notification_in (w.known u).stage ≡ None = ap (λ z. notification_in (w.known z).stage) (one_owner P o t u own (v.owners.calls o u e)) ∙ ap notification_in calm in
       absurd (cc (e, none))
 
   pub nobody_waits : SawNobody w.shape.threads (w.known t) o → waits_at P o ≡ []

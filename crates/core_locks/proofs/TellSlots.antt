@@ -1,20 +1,6 @@
 -- After every legal history each object has the slots of its shape.
-use Rattle.std.proofs.Common.{◌≡◌, ℕ, zero, suc, ◌<◌, Bool, true, false, List, [], ◌∷◌, length, replicate, slice_get, slice_set, slice_index_or, Option, Some, None, option_and_then, refl, sym, ap, ◌∙◌, arith}
-use Rattle.std.proofs.lemmas.Option.{same_Some}
-use Rattle.plain_monitor.specs.declared.entry.Value.{Value}
-use Rattle.plain_monitor.specs.declared.entry.Entry.{Entry}
-use Rattle.plain_monitor.specs.declared.entry.Entry.TheVariants.{Enter, Exit, Get, Put, Wait, Resume, Notify, NotifyAll, Hash, Print, Dump, Trap, Spent, Done}
-use Rattle.plain_monitor.specs.declared.entry.Logged.{Logged}
-use Rattle.plain_monitor.specs.Monitor.{PlainMonitor, only_if}
-use Rattle.plain_monitor.specs.Objects.{PlainObject, new_objects, take_at, take_entry, take_named, named, with_monitor, with_hash}
-use Rattle.plain_monitor.specs.History.{take_all}
-use Rattle.plain_monitor.specs.Order.{order}
-use Rattle.plain_history.proofs.Swaps.{taken_at}
-use Rattle.core_world.specs.Shape.{slots_of}
-use Rattle.core_world.specs.Locks.{object_of}
-use Rattle.core_world.specs.Valid.{Fits}
-use Rattle.core_world.specs.World.{World, logs}
-use Rattle.core_world.proofs.Parts.{by_equal}
+use Rattle.core_locks.proofs.Prelude.{◌≡◌, ℕ, zero, suc, ◌<◌, Bool, true, false, List, [], ◌∷◌, length, slice_set, Option, Some, None, refl, sym, ap, ◌∙◌, arith, slice_get, option_and_then, replicate, slice_index_or, same_Some, PlainMonitor, only_if, PlainObject, take_entry, take_at, with_monitor, take_named, new_objects, with_hash, Logged, take_all, Entry, Exit, Get, Notify, NotifyAll, Hash, Enter, Put, Wait, Resume, Print, Dump, Trap, Spent, Done, Value, order, taken_at, World, logs, object_of, Fits, slots_of, by_equal}
+use Rattle.plain_monitor.specs.Objects.{named}
 use Rattle.core_locks.proofs.Updates.{object_here, object_else}
 
 -- an option that is made where the test holds

@@ -1,22 +1,9 @@
 -- What a thread that is free to log an entry owns, and what entries make of the plain objects that keep their monitors and hashes.
-use Rattle.std.proofs.Common.{◌≡◌, ◌⊎◌, ℕ, ◌<◌, true, List, length, slice_set, Some, None, refl, sym, ap, ◌∙◌, arith, inl, inr}
-use Rattle.std.proofs.lemmas.Option.{same_Some}
-use Rattle.plain_monitor.specs.declared.entry.Entry.{Entry}
-use Rattle.plain_monitor.specs.Monitor.{is_listed}
-use Rattle.plain_monitor.specs.Objects.{PlainObject, take_at, take_entry}
+use Rattle.core_locks.proofs.Prelude.{◌≡◌, ℕ, ◌<◌, true, List, length, slice_set, Some, None, refl, sym, ap, ◌∙◌, arith, same_Some, PlainObject, take_entry, take_at, Entry, bound_to, Calm, Known, World, object_of, monitor_of, owner_at, hash_at, Fits, log_limit, draw_in, thread_is, HasHold}
 use Rattle.plain_monitor.specs.Objects as plain
-use Rattle.plain_history.specs.Tied.{bound_to}
-use Rattle.core_world.specs.declared.name.Name.TheVariants.{Waiting}
-use Rattle.core_world.specs.declared.stage.Stage.TheVariants.{Calm}
-use Rattle.core_world.specs.Known.{Known}
-use Rattle.core_world.specs.Lengths.{log_limit}
-use Rattle.core_world.specs.Locks.{object_of, monitor_of, owner_at, hash_at, waits_at, called_at}
-use Rattle.core_world.specs.Valid.{Fits}
-use Rattle.core_world.specs.World.{World}
-use Rattle.core_world.proofs.Stands.{thread_is}
-use Rattle.core_locks.specs.Knowing.{HasHold}
+use Rattle.core_locks.proofs.Drawing.{bound_undrawn}
 use Rattle.core_locks.proofs.Updates.{takes, monitors_stay, hashes_stay}
-use Rattle.core_locks.proofs.WaitOut.{out_word, out_unlisted, holder_owns, ready_is_out}
+use Rattle.core_locks.proofs.WaitOut.{holder_owns, ready_is_out}
 
 -- The thread runs in the middle of nothing, its waiting word is Ready, and its log has room.
 pub record IsFreeToTell (k : Known) : Type 0 where
@@ -26,17 +13,7 @@ pub record IsFreeToTell (k : Known) : Type 0 where
   pub room : length k.log < log_limit
 
 module _ (w : World) (P : List PlainObject) (t : ℕ) (v : Fits w P) (free : IsFreeToTell (w.known t)) where
-  pub word_ready : w.words (Waiting t) ≡ 0
-  word_ready = out_word w P t v (ready_is_out (w.known t) free.ready) ∙ free.ready
-
-  -- it stands at no object's lists
-  pub unlisted : (o : ℕ) → (is_listed (waits_at P o) t ≡ true) ⊎ (is_listed (called_at P o) t ≡ true) → ⊥
-  unlisted o h =
-      let calm = free.calm in
-      let b = out_unlisted w P t v (ready_is_out (w.known t) free.ready) (λ i e. absurd (cc (e, calm))) o in
-      elim h [ inl e ↦ absurd (cc (e, b.0)) | inr e ↦ absurd (cc (e, b.1)) ]
-
-  -- and owns each object that it holds
+  -- it owns each object that it holds
   pub owns_held : (o : ℕ) → HasHold (w.known t) o → owner_at P o t ≡ true
   owns_held o holds = (holder_owns w P t v (ready_is_out (w.known t) free.ready) o free.calm holds).0
 
@@ -55,16 +32,18 @@ pub record IsTaken (P Q : List PlainObject) (t : ℕ) (e : Entry) : Type 0 where
   pub owned : (o : ℕ) → bound_to e ≡ Some o → owner_at P o t ≡ true
   pub monitors : monitor_of P ≡ monitor_of Q
   pub hashes : hash_at P ≡ hash_at Q
+  pub undrawn : draw_in e ≡ None
 
 -- an entry that names no object
-pub unbound_taken : (P : List PlainObject) (t : ℕ) (e : Entry) → take_entry P t e ≡ Some P → bound_to e ≡ None → IsTaken P P t e
-unbound_taken P t e taken unbound = record { taken = taken; owned = λ o b. absurd (cc (b, unbound)); monitors = refl; hashes = refl }
+pub unbound_taken : (P : List PlainObject) (t : ℕ) (e : Entry) → take_entry P t e ≡ Some P → bound_to e ≡ None → draw_in e ≡ None → IsTaken P P t e
+unbound_taken P t e taken unbound undrawn = record { undrawn = undrawn; taken = taken; owned = λ o b. absurd (cc (b, unbound)); monitors = refl; hashes = refl }
 
 -- an entry of an object's owner, which makes z of the object
 pub owner_taken : (P : List PlainObject) (t o : ℕ) (e : Entry) (z : PlainObject) → o < length P → owner_at P o t ≡ true → bound_to e ≡ Some o → plain.named e ≡ Some o
     → z.monitor ≡ monitor_of P o → z.hash ≡ (object_of P o).hash → take_at (object_of P o) t e ≡ Some z → IsTaken P (slice_set P o z) t e
 owner_taken P t o e z within own bound names monitor hash taken =
     record {
+      undrawn = bound_undrawn e o bound;
       taken = takes P o t e z within names taken;
       owned = λ i b. ap (λ j. owner_at P j t) (same_Some i o (sym b ∙ bound)) ∙ own;
       monitors = monitors_stay P o z within monitor;

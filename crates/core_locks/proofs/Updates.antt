@@ -1,10 +1,6 @@
 -- The plain objects when one of them changes.
-use Rattle.std.proofs.Common.{◌≡◌, ◌≢◌, ℕ, zero, suc, ◌<◌, List, [], ◌∷◌, length, slice_set, slice_get, Some, refl, sym, ap, ◌∙◌, arith}
-use Rattle.plain_monitor.specs.declared.entry.Value.{Value}
-use Rattle.plain_monitor.specs.declared.entry.Entry.{Entry}
-use Rattle.plain_monitor.specs.Objects.{PlainObject, take_at, take_entry, take_named, named}
-use Rattle.core_world.specs.Locks.{object_of, monitor_of, or_zero, hash_at, waits_at, called_at}
-use Rattle.core_world.proofs.Parts.{by_equal}
+use Rattle.core_locks.proofs.Prelude.{◌≡◌, ◌≢◌, ℕ, zero, suc, ◌<◌, List, [], ◌∷◌, length, slice_set, Some, refl, sym, ap, ◌∙◌, arith, slice_get, PlainObject, take_entry, take_at, take_named, Entry, Value, object_of, monitor_of, hash_at, waits_at, notified_at, or_zero, by_equal}
+use Rattle.plain_monitor.specs.Objects.{named}
 
 pub object_here : (P : List PlainObject) (o : ℕ) (z : PlainObject) → o < length P → object_of (slice_set P o z) o ≡ z
 object_here [] o z h = absurd (omega arith)
@@ -44,7 +40,7 @@ slots_stay P o z within same = λ j. λ i. part_stays (λ y. y.slots) P o z with
 pub waits_stay : (P : List PlainObject) (o : ℕ) (z : PlainObject) → o < length P → z.monitor.waits ≡ (object_of P o).monitor.waits → waits_at P ≡ waits_at (slice_set P o z)
 waits_stay P o z within same = λ j. λ i. part_stays (λ y. y.monitor.waits) P o z within same i j
 
-pub called_stay : (P : List PlainObject) (o : ℕ) (z : PlainObject) → o < length P → z.monitor.called ≡ (object_of P o).monitor.called → called_at P ≡ called_at (slice_set P o z)
+pub called_stay : (P : List PlainObject) (o : ℕ) (z : PlainObject) → o < length P → z.monitor.called ≡ (object_of P o).monitor.called → notified_at P ≡ notified_at (slice_set P o z)
 called_stay P o z within same = λ j. λ i. part_stays (λ y. y.monitor.called) P o z within same i j
 
 pub monitors_stay : (P : List PlainObject) (o : ℕ) (z : PlainObject) → o < length P → z.monitor ≡ (object_of P o).monitor → monitor_of P ≡ monitor_of (slice_set P o z)

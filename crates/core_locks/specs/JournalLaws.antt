@@ -1,31 +1,33 @@
 -- When a thread may make the steps on stamps, slots, waiting words and lengths.
 use Rattle.std.specs.Prelude.{◌≡◌, ◌⊎◌, ℕ, ◌<◌, ◌≤◌, true, false, length, Some, None}
 use Rattle.plain_monitor.specs.declared.entry.Entry.{Entry}
-use Rattle.plain_monitor.specs.declared.entry.Entry.TheVariants.{Notify, NotifyAll, Print, Dump, Trap, Spent, Done}
+use Rattle.plain_monitor.specs.declared.entry.Entry.TheVariants.{Enter, Get, Notify, NotifyAll, Print, Dump, Trap, Spent, Done}
+use Rattle.plain_monitor.specs.declared.entry.Path.{Path}
 use Rattle.plain_monitor.specs.declared.entry.Value.{Value}
-use Rattle.plain_monitor.specs.ValueWords.{IsSpellable}
+use Rattle.plain_monitor.specs.ValueWords.{IsSpellable, read_value}
 use Rattle.core_world.specs.declared.name.Name.TheVariants.{Mark, Stamp, Waiting, Recursions}
 use Rattle.core_world.specs.declared.stage.Stage.TheVariants.{Calm, Enters, Resumes}
 use Rattle.core_world.specs.declared.task.Op.TheVariants as op
-use Rattle.core_world.specs.Shape.{Shape, slots_of}
-use Rattle.core_world.specs.Forms.{waits_on, monitor_in}
-use Rattle.core_world.specs.Known.{Known, last_seen, local_of}
-use Rattle.core_world.specs.Lengths.{log_limit}
-use Rattle.core_world.specs.Plans.{Errand, next_stamp}
-use Rattle.core_world.specs.Safepoints.{IsUnfinished, ends}
-use Rattle.core_world.specs.Slots.{IsHere}
-use Rattle.core_world.specs.Stamps.{lets_go}
-use Rattle.core_locks.specs.Knowing.{GoesOn, IsOut, HasHold, SawInflated, SawOwn}
+use Rattle.core_world.specs.Words.Shape.{Shape, slots_of}
+use Rattle.core_world.specs.Words.Forms.{waits_on, monitor_in}
+use Rattle.core_world.specs.Threads.Known.{Known, last_seen, local_of}
+use Rattle.core_world.specs.Clauses.Lengths.{log_limit}
+use Rattle.core_world.specs.Locks.{hold_count}
+use Rattle.core_world.specs.Trees.Operations.{value_found}
+use Rattle.core_world.specs.Trees.Plans.{Purpose, next_stamp}
+use Rattle.core_world.specs.Clauses.Safepoints.{IsUnfinished, ends}
+use Rattle.core_world.specs.Clauses.Slots.{IsHere}
+use Rattle.core_locks.specs.Knowing.{GoesOn, IsOut, HasHold, SawInflated, SawOwn, IsOwnEntry}
 
--- Loading the stamp, which logs Enter: the hold word stands at place p, the waiting word is Ready, and no exit or wait of o is unfinished, for
--- which the stamp could be raised already.
-pub record MayLogEnter (s : Shape) (k : Known) (o p : ℕ) : Type 0 where
+-- Loading the stamp, which logs Enter: the hold word stands at place p, the waiting word is Ready, and no other operation is unfinished, such as
+-- an exit or a wait, for which the stamp could be raised already.
+pub record MayLogEnter (s : Shape) (k : Known) (o p : ℕ) (path : Path) : Type 0 where
   pub runs : k.running ≡ true
-  pub stage : k.stage ≡ Enters o p
+  pub stage : k.stage ≡ Enters o p path
   pub ready : k.wait ≡ 0
-  pub staying : lets_go k.unfinished o ≡ false
   pub object : o < length s.objects
   pub room : length k.log < log_limit
+  pub own_entry : IsOwnEntry k (Enter o path)
 
 -- Loading the stamp, which logs Resume: the thread owns the monitor m of o, and has stored the recursions that it saved, in this call; and the
 -- waiting word is Ready.
@@ -39,16 +41,16 @@ pub record MayLogResume (s : Shape) (k : Known) (o m : ℕ) : Type 0 where
   pub recursions : last_seen (Recursions m) k.seen ≡ Some k.saved
   pub room : length k.log < log_limit
 
--- Raising the stamp: the thread holds o, and is exiting it or beginning to wait on it.
-pub record MayRaise (k : Known) (e : Errand) (o : ℕ) : Type 0 where
+-- Raising the stamp: the thread holds o, and is beginning to wait on it, or exiting it where that is its only hold.
+pub record MayRaise (k : Known) (e : Purpose) (o : ℕ) : Type 0 where
   pub runs : k.running ≡ true
   pub calm : k.stage ≡ Calm
   pub out : IsOut k
   pub holds : HasHold k o
   pub goes_on : GoesOn k e
-  pub letting : lets_go e.unfinished o ≡ true
+  pub letting : IsUnfinished e.unfinished op.Wait o ⊎ (IsUnfinished e.unfinished op.Exit o × (hold_count o k.holds ≡ 1))
 
--- Loading or storing a slot, which logs Get or Put: the thread holds o.
+-- Loading or storing a slot of o: the thread holds o, and has nothing unfinished.
 pub record MayTouch (s : Shape) (k : Known) (o slot : ℕ) : Type 0 where
   pub runs : k.running ≡ true
   pub calm : k.stage ≡ Calm
@@ -56,21 +58,28 @@ pub record MayTouch (s : Shape) (k : Known) (o slot : ℕ) : Type 0 where
   pub holds : HasHold k o
   pub object : o < length s.objects
   pub within : slot < slots_of s o
+  pub nothing : k.unfinished ≡ None
   pub room : length k.log < log_limit
 
--- a value that may be put
-pub record MayPut (s : Shape) (v : Value) : Type 0 where
+-- Loading it, which logs Get: nothing is unfinished afterwards, by the plan.
+pub record MayGet (s : Shape) (k : Known) (e : Purpose) (o slot : ℕ) : Type 0 where
+  pub touches : MayTouch s k o slot
+  pub nothing : e.unfinished ≡ None
+
+-- Storing a value there, which logs Put: the value may stand in a slot.
+pub record MayPut (s : Shape) (k : Known) (o slot : ℕ) (v : Value) : Type 0 where
+  pub touches : MayTouch s k o slot
   pub spellable : IsSpellable v
   pub here : IsHere s v
 
 -- Storing Ready in its own waiting word: in an enter whose hold word is stored, or in a wait whose monitor it has again.
-pub record MayBeReady (k : Known) (e : Errand) : Type 0 where
+pub record MayBeReady (k : Known) (e : Purpose) : Type 0 where
   pub runs : k.running ≡ true
   pub goes_on : GoesOn k e
-  pub before : (IsOut k × ((o p : ℕ) × (k.stage ≡ Enters o p))) ⊎ ((o : ℕ) × (k.stage ≡ Resumes o))
+  pub before : (IsOut k × ((o p : ℕ) × ((path : Path) × (k.stage ≡ Enters o p path)))) ⊎ ((o : ℕ) × (k.stage ≡ Resumes o))
 
 -- Storing Entering with o: the enter of o is unfinished, and o was seen inflated in this call.
-pub record MayStand (s : Shape) (k : Known) (e : Errand) (o m : ℕ) : Type 0 where
+pub record MayStand (s : Shape) (k : Known) (e : Purpose) (o m : ℕ) : Type 0 where
   pub runs : k.running ≡ true
   pub calm : k.stage ≡ Calm
   pub out : IsOut k
@@ -80,7 +89,7 @@ pub record MayStand (s : Shape) (k : Known) (e : Errand) (o m : ℕ) : Type 0 wh
   pub inflated : SawInflated k o m
 
 -- Storing Ended: the log has its ending entry, and nothing is unfinished.
-pub record MayEnd (k : Known) (e : Errand) : Type 0 where
+pub record MayEnd (k : Known) (e : Purpose) : Type 0 where
   pub runs : k.running ≡ true
   pub calm : k.stage ≡ Calm
   pub out : IsOut k
@@ -90,7 +99,7 @@ pub record MayEnd (k : Known) (e : Errand) : Type 0 where
 
 -- Storing Waiting with o and the entry's stamp, which logs Wait: the thread holds o, has seen in this call that it owns o's monitor m and what
 -- the recursions are, has saved these and raised the stamp.
-pub record MayWait (s : Shape) (k : Known) (e : Errand) (o m stamp : ℕ) : Type 0 where
+pub record MayWait (s : Shape) (k : Known) (e : Purpose) (o m stamp : ℕ) : Type 0 where
   pub runs : k.running ≡ true
   pub calm : k.stage ≡ Calm
   pub ready : k.wait ≡ 0
@@ -123,10 +132,21 @@ MayTell s k (Notify o None) = HasHold k o × (o < length s.objects) × SawNobody
 MayTell s k (NotifyAll o n) = HasHold k o × (o < length s.objects) × SawNobody s.threads k o × (n ≡ 0)
 MayTell s k _ = ⊥
 
--- Publishing the own length with one entry more, which logs the entry.
+-- Publishing the length of the whole log, which logs nothing.
+pub record MayPublishLog (k : Known) (e : Purpose) : Type 0 where
+  pub runs : k.running ≡ true
+  pub calm : k.stage ≡ Calm
+  pub goes_on : e.unfinished ≡ k.unfinished
+
+-- Publishing the own length with one entry more, which logs the entry, of its own operation.
 pub record MayPublish (s : Shape) (k : Known) (e : Entry) : Type 0 where
   pub runs : k.running ≡ true
   pub calm : k.stage ≡ Calm
   pub ready : k.wait ≡ 0
   pub tells : MayTell s k e
   pub room : length k.log < log_limit
+  pub own_entry : IsOwnEntry k e
+
+-- the entry that a Get makes of the word that it finds
+abbrev pub get_entry : ℕ → ℕ → ℕ → Entry
+get_entry o slot word = Get o slot (value_found (read_value word))

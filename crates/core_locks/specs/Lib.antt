@@ -1,4 +1,12 @@
 pub mod Knowing
+pub mod LoadLaws
 pub mod SafepointLaws
 pub mod JournalLaws
 pub mod LockLaws
+pub mod MonitorLaws
+pub mod WakeLaws
+pub mod HashLaws
+pub mod ShotLaws
+pub mod DrawnHashes
+pub mod OwnersEntries
+pub mod RefusedPlans

@@ -1,4 +1,4 @@
-//! Laws of steps on the safepoint word, the journal and lock records: such a step keeps the world valid, whatever other threads do.
+//! Laws of steps on the safepoint word, the journal, lock records and monitors: such a step keeps the world valid, whatever other threads do.
 //! `docs/WORLD.md` lists the kinds of step that have a law, and those that have none yet.
 //!
 //! A law is a public function with an empty body. Its contract says of one kind of step: in every valid world in which the thread
@@ -8,20 +8,32 @@
 
 mod entering;
 mod exiting;
+mod hashing;
 mod holding;
 mod leaving_to_wait;
 mod looks;
 mod marking;
+mod monitors;
 mod refused;
 mod safepoint;
+mod shooting;
 mod telling;
 mod waiting;
+mod waking;
 
 pub use entering::{
     logging_a_resume_keeps_the_world_valid, logging_an_enter_keeps_the_world_valid,
+    the_stamp_of_a_taking_follows_from_the_logs,
 };
 pub use exiting::{
     exiting_by_a_hold_word_keeps_the_world_valid, exiting_by_the_mark_keeps_the_world_valid,
+};
+pub use hashing::{
+    drawing_a_hash_into_a_mark_keeps_the_world_valid,
+    drawing_a_hash_into_a_monitor_keeps_the_world_valid, each_hash_is_drawn_once,
+    finding_a_hash_in_a_mark_keeps_the_world_valid,
+    finding_a_hash_in_a_monitor_keeps_the_world_valid,
+    finding_a_hash_in_an_own_record_keeps_the_world_valid,
 };
 pub use holding::{
     clearing_a_hold_word_keeps_the_world_valid, storing_a_hold_word_keeps_the_world_valid,
@@ -36,14 +48,34 @@ pub use looks::{
 pub use marking::{
     exchanging_a_neutral_mark_keeps_the_world_valid, storing_a_displaced_word_keeps_the_world_valid,
 };
+pub use monitors::{
+    claiming_a_monitor_keeps_the_world_valid, exchanging_a_free_owner_keeps_the_world_valid,
+    exchanging_a_locked_mark_keeps_the_world_valid, freeing_a_monitor_keeps_the_world_valid,
+    letting_go_in_a_wait_keeps_the_world_valid, loading_a_word_of_a_monitor_keeps_the_world_valid,
+    naming_a_monitor_keeps_the_world_valid, preparing_a_monitor_keeps_the_world_valid,
+    resuming_by_the_monitor_keeps_the_world_valid, storing_recursions_keeps_the_world_valid,
+    storing_the_owner_keeps_the_world_valid,
+};
 pub use refused::{
-    no_exchange_of_another_mark, no_exchange_without_the_displaced_word, no_exit_below_the_stamp,
-    no_exit_by_another, no_get_without_the_lock, no_length_ahead_of_the_log,
+    no_draw_out_of_turn, no_entry_without_the_lock, no_exchange_of_another_mark,
+    no_exchange_without_the_displaced_word, no_exit_below_the_stamp, no_exit_by_another,
+    no_exit_with_another_stamp, no_free_monitor_with_recursions, no_get_without_the_lock,
+    no_halt_while_one_can_go_on, no_hash_in_a_displaced_word_that_is_copied,
+    no_inflation_by_a_store, no_inflation_without_the_header, no_inflation_without_the_owner,
+    no_length_ahead_of_the_log, no_notify_all_that_misses_one, no_notify_of_a_later_waiter,
+    no_notify_of_nobody, no_recursion_without_a_hold, no_resume_untold,
+    no_resume_with_another_count, no_second_draw, no_second_owner, no_store_over_an_inflated_mark,
+    no_store_over_anothers_inflation,
 };
 pub use safepoint::{
     halting_keeps_the_world_valid, releasing_keeps_the_world_valid,
     requesting_keeps_the_world_valid, resuming_keeps_the_world_valid,
     stopping_keeps_the_world_valid,
+};
+pub use shooting::{
+    each_shot_is_right, keeping_a_shot_keeps_the_world_valid,
+    no_shot_of_an_owner_without_its_enter, no_shot_that_differs_from_its_cut,
+    the_looks_of_a_dump_see_all,
 };
 pub use telling::{
     logging_a_get_keeps_the_world_valid, logging_a_put_keeps_the_world_valid,
@@ -52,4 +84,8 @@ pub use telling::{
 pub use waiting::{
     raising_a_stamp_keeps_the_world_valid, storing_ended_keeps_the_world_valid,
     storing_entering_keeps_the_world_valid, storing_ready_keeps_the_world_valid,
+};
+pub use waking::{
+    logging_a_notify_all_keeps_the_world_valid, logging_a_notify_keeps_the_world_valid,
+    telling_one_of_several_keeps_the_world_valid,
 };

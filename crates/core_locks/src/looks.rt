@@ -4,55 +4,49 @@
 //! In each law the step belongs to the call that the thread is in the middle of, or begins: it goes on with what the thread has
 //! unfinished, or begins an operation where that is nothing, and leaves the thread where it stands and what it checks.
 
-ghost use Rattle.std.specs.Prelude.{◌≡◌, ◌⊎◌, ℕ, ◌<◌, true, List};
-ghost use Rattle.plain_monitor.specs.Objects.{PlainObject};
-ghost use Rattle.core_world.specs.declared.name.Name.TheVariants.{Safe, Mark, Displaced, Waiting, Length};
-ghost use Rattle.core_world.specs.Forms.{is_still};
-ghost use Rattle.core_world.specs.Plans.{Errand, load, staged};
-ghost use Rattle.core_world.specs.Steps.{moved};
-ghost use Rattle.core_world.specs.Valid.{IsValid};
+ghost use Rattle.std.specs.Prelude.{◌≡◌, ℕ, true};
+ghost use Rattle.core_world.specs.declared.name.Name.TheVariants.{Safepoint, Mark, Displaced, Waiting, Length};
+ghost use Rattle.core_world.specs.Words.Forms.{is_still};
+ghost use Rattle.core_world.specs.Trees.Plans.{Purpose, load_plan};
+ghost use Rattle.core_world.specs.Steps.{world_after};
 ghost use Rattle.core_world.specs.World.{World};
-ghost use Rattle.core_locks.specs.Knowing.{GoesOn};
+ghost use Rattle.core_locks.specs.Knowing.{KeepsValid};
+ghost use Rattle.core_locks.specs.LoadLaws.{MayLoadSafepoint, MayLoadRequested, MayLoad};
 
 /// A load of the safepoint word keeps the world valid, of any thread: one that runs, one that is stopped, one whose request stands.
 /// That the step goes on is by the plan of its call; the thread is one of the heap's.
 pub fn a_load_of_the_safepoint_word_keeps_the_world_valid()
-    ensures { (w : World) (objects : List PlainObject) (t : ℕ) (e : Errand) → t < w.shape.threads → GoesOn (w.known t) e
-        → e.check ≡ (w.known t).checking → IsValid w objects → IsValid (moved (staged (w.known t).stage (load e Safe)) t w) objects }
+    ensures { (e : Purpose)
+        → KeepsValid (λ w t. MayLoadSafepoint (w.known t) e) (λ w t. load_plan e (w.known t).stage Safepoint) }
 {}
 
 /// A load of the safepoint word by the thread whose request stands, as it knows itself, keeps the world valid. It tells the thread
 /// that its safepoint is reached, where no thread runs by the word.
 pub fn a_load_by_a_requester_keeps_the_world_valid()
-    ensures valid { (w : World) (objects : List PlainObject) (t : ℕ) (e : Errand) → t < w.shape.threads
-        → (w.known t).requesting ≡ true → GoesOn (w.known t) e → e.check ≡ (w.known t).checking → IsValid w objects
-        → IsValid (moved (staged (w.known t).stage (load e Safe)) t w) objects }
-    ensures learns { (w : World) (t : ℕ) (e : Errand) → (w.known t).requesting ≡ true → is_still (w.words Safe) ≡ true
-        → ((moved (staged (w.known t).stage (load e Safe)) t w).known t).reached ≡ true }
+    ensures valid { (e : Purpose)
+        → KeepsValid (λ w t. MayLoadRequested (w.known t) e) (λ w t. load_plan e (w.known t).stage Safepoint) }
+    ensures learns { (w : World) (t : ℕ) (e : Purpose) → (w.known t).requesting ≡ true → is_still (w.words Safepoint) ≡ true
+        → ((world_after (load_plan e (w.known t).stage Safepoint) t w).known t).reached ≡ true }
 {}
 
 /// A load of a mark keeps the world valid, of a thread that runs, or that knows its safepoint to be reached.
 pub fn a_load_of_a_mark_keeps_the_world_valid()
-    ensures { (w : World) (objects : List PlainObject) (t : ℕ) (e : Errand) (o : ℕ) → t < w.shape.threads
-        → ((w.known t).running ≡ true) ⊎ ((w.known t).reached ≡ true) → GoesOn (w.known t) e → e.check ≡ (w.known t).checking
-        → IsValid w objects → IsValid (moved (staged (w.known t).stage (load e (Mark o))) t w) objects }
+    ensures { (e : Purpose) (o : ℕ)
+        → KeepsValid (λ w t. MayLoad (w.known t) e) (λ w t. load_plan e (w.known t).stage (Mark o)) }
 {}
 
 /// A load of the displaced word of any lock record keeps the world valid, of a thread that runs, or that knows its safepoint to be
 /// reached.
 pub fn a_load_of_a_displaced_word_keeps_the_world_valid()
-    ensures { (w : World) (objects : List PlainObject) (t : ℕ) (e : Errand) (u p : ℕ) → t < w.shape.threads
-        → ((w.known t).running ≡ true) ⊎ ((w.known t).reached ≡ true) → GoesOn (w.known t) e → e.check ≡ (w.known t).checking
-        → IsValid w objects → IsValid (moved (staged (w.known t).stage (load e (Displaced u p))) t w) objects }
+    ensures { (e : Purpose) (u p : ℕ)
+        → KeepsValid (λ w t. MayLoad (w.known t) e) (λ w t. load_plan e (w.known t).stage (Displaced u p)) }
 {}
 
 /// A load of any thread's waiting word or published length keeps the world valid, of a thread that runs, or that knows its
 /// safepoint to be reached.
 pub fn a_load_of_a_waiting_word_or_length_keeps_the_world_valid()
-    ensures waiting { (w : World) (objects : List PlainObject) (t : ℕ) (e : Errand) (u : ℕ) → t < w.shape.threads
-        → ((w.known t).running ≡ true) ⊎ ((w.known t).reached ≡ true) → GoesOn (w.known t) e → e.check ≡ (w.known t).checking
-        → IsValid w objects → IsValid (moved (staged (w.known t).stage (load e (Waiting u))) t w) objects }
-    ensures length { (w : World) (objects : List PlainObject) (t : ℕ) (e : Errand) (u : ℕ) → t < w.shape.threads
-        → ((w.known t).running ≡ true) ⊎ ((w.known t).reached ≡ true) → GoesOn (w.known t) e → e.check ≡ (w.known t).checking
-        → IsValid w objects → IsValid (moved (staged (w.known t).stage (load e (Length u))) t w) objects }
+    ensures waiting { (e : Purpose) (u : ℕ)
+        → KeepsValid (λ w t. MayLoad (w.known t) e) (λ w t. load_plan e (w.known t).stage (Waiting u)) }
+    ensures length { (e : Purpose) (u : ℕ)
+        → KeepsValid (λ w t. MayLoad (w.known t) e) (λ w t. load_plan e (w.known t).stage (Length u)) }
 {}

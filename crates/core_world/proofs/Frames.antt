@@ -1,10 +1,10 @@
 -- A clause stays where its parts stay.
 use Rattle.std.proofs.Common.{◌≡◌, ℕ, Bool, List, subst}
 use Rattle.core_world.specs.declared.name.Name.{Name}
-use Rattle.core_world.specs.Shape.{Shape}
-use Rattle.core_world.specs.Known.{Known}
+use Rattle.core_world.specs.Words.Shape.{Shape}
+use Rattle.core_world.specs.Threads.Known.{Known}
 use Rattle.core_world.specs.World.{World}
-use Rattle.core_world.specs.SeenWords.{SeenStays}
+use Rattle.core_world.specs.Clauses.SeenWords.{SeenStays}
 
 -- functions are the same where they are the same at each number
 pub same : {A : Type 0} {f g : ℕ → A} → ((n : ℕ) → f n ≡ g n) → f ≡ g
@@ -57,7 +57,6 @@ seen_stays w next owner next_owner waits next_waits s e k o q h =
       unwaiting = seen.unwaiting;
       unwaited = seen.unwaited;
       stands = seen.stands;
-      looks = seen.looks;
+      alone = seen.alone;
       monitors = seen.monitors;
-      monitors_since = seen.monitors_since;
     }

@@ -4,84 +4,71 @@ use Rattle.plain_monitor.specs.Objects.{PlainObject}
 use Rattle.core_world.specs.declared.act.Act.TheVariants.{Load}
 use Rattle.core_world.specs.declared.name.Name.{Name}
 use Rattle.core_world.specs.declared.name.Name.TheVariants as name
-use Rattle.core_world.specs.declared.name.Name.TheVariants.{Safe, Mark, Owner, Recursions}
+use Rattle.core_world.specs.declared.name.Name.TheVariants.{Safepoint, Mark, Owner, Recursions}
 use Rattle.core_world.specs.declared.plan.Note.TheVariants.{Quiet}
 use Rattle.core_world.specs.declared.plan.Own.TheVariants.{Same}
 use Rattle.core_world.specs.declared.plan.StepPlan.{StepPlan}
-use Rattle.core_world.specs.Forms.{monitor_in, is_halted, is_still}
-use Rattle.core_world.specs.Known.{Made, last_seen, looked}
-use Rattle.core_world.specs.Stages.{settling}
+use Rattle.core_world.specs.Words.Forms.{monitor_in, is_halted, is_still}
+use Rattle.core_world.specs.Words.Shape.{Shape}
+use Rattle.core_world.specs.Words.Acts.{hits}
+use Rattle.core_world.specs.Threads.Known.{Known, StepMade, last_seen}
+use Rattle.core_world.specs.Threads.Stages.{revocation_in}
 use Rattle.core_world.specs.World.{World}
 use Rattle.core_world.specs.Locks.{marks, waits_at}
-use Rattle.core_world.specs.SeenWords.{HasMet, IsKeptOrNamed, AllLooked}
+use Rattle.core_world.specs.Clauses.SeenWords.{IsKeptOrNamed, AreTheSteps}
 use Rattle.core_world.specs.Looking.{IsOfMonitor, MayLook, IsLook, IsMiss}
-use Rattle.core_world.specs.Steps.{known_hit, known_miss, known_after, seen_before, stood_before, reached_after, halted_after}
-use Rattle.core_world.specs.Valid.{SeenFit, SafeFits}
-use Rattle.core_world.proofs.Glances.{Glance, still_nobody}
+use Rattle.core_world.specs.Steps.{known_hit, known_miss, known_after, seen_before, seen_at_safepoint_before, reached_after, halted_after, shots_after}
+use Rattle.core_world.specs.Valid.{SeenFit, SafepointFits}
+use Rattle.core_world.proofs.NoWordChanges.{Glance, still_nobody}
 use Rattle.core_world.proofs.ActsLook.{runs_load, asks_load, holds_load, wait_load, published_load, kept_load, seen_is_part, missed_word, missed_write}
 
-module _ (w : World) (P : List PlainObject) (t : ℕ) (seen : SeenFit w P) (safe : SafeFits w P)
+module _ (w : World) (P : List PlainObject) (t : ℕ) (seen : SeenFit w P) (safe : SafepointFits w P)
     (idle : (w.known t).running ≡ true → (o : ℕ) → monitor_in (marks w o) ≡ None → waits_at P o ≡ []) where
-  -- a monitor that the thread has found is kept by it, or named by a mark
-  found_named : (at : Name) → MayLook (w.known t) at → (m : ℕ) → IsOfMonitor m at → IsKeptOrNamed w (w.known t) m
-  found_named at may m is = elim (may.found m is) [
+  -- a monitor that the running thread has found is kept by it, or named by a mark
+  found_named : (at : Name) → MayLook (w.known t) at → (w.known t).running ≡ true → (m : ℕ) → IsOfMonitor m at → IsKeptOrNamed w (w.known t) m
+  found_named at may r m is = elim (may.found r m is) [
     | inl a ↦ inl a
-    | inr a ↦ inr (a.0, ap monitor_in (by_reached a.0 a.1 (w.known t).reached refl a.2 a.3) ∙ a.3)
+    | inr a ↦ inr (a.0, ap monitor_in (seen.stays t (Mark a.0) a.1 a.2 (inl (r, inr (inl (m, a.3))))) ∙ a.3)
   ]
-    where
-      not_safe : at ≡ Safe → ⊥
-      not_safe e = absurd (cc (subst (IsOfMonitor m) e is))
-
-      by_running : (o v : ℕ) (b : Bool) → (w.known t).running ≡ b → (w.known t).reached ≡ false → last_seen (Mark o) (w.known t).seen ≡ Some v → monitor_in v ≡ Some m → marks w o ≡ v
-      by_running o v true r n e g = seen.stays t (Mark o) v e (inl (r, inr (inl (m, g))))
-      by_running o v false r n e g = absurd (not_safe (may.outside r n))
-
-      by_reached : (o v : ℕ) (b : Bool) → (w.known t).reached ≡ b → last_seen (Mark o) (looked (w.known t)) ≡ Some v → monitor_in v ≡ Some m → marks w o ≡ v
-      by_reached o v true r e g = seen.stands t (Mark o) v r (ap (λ c. last_seen (Mark o) (cond c (w.known t).stood (w.known t).seen)) (sym r) ∙ e)
-      by_reached o v false r e g =
-          by_running o v (w.known t).running refl r (ap (λ c. last_seen (Mark o) (cond c (w.known t).stood (w.known t).seen)) (sym r) ∙ e) g
 
   -- what the thread has learnt by looking at the safepoint word is so
   learnt : (at : Name) → reached_after at Load (w.words at) (w.known t) ≡ true → ((w.known t).requesting ≡ true) × ((u : ℕ) → (w.known u).running ≡ false)
-  learnt name.Safe e = by_reached (w.known t).reached refl e
+  learnt name.Safepoint e = by_reached (w.known t).reached refl e
     where
-      by_asking : (b : Bool) → (w.known t).requesting ≡ b → (b && is_still (w.words Safe)) ≡ true → ((w.known t).requesting ≡ true) × ((u : ℕ) → (w.known u).running ≡ false)
+      by_asking : (b : Bool) → (w.known t).requesting ≡ b → (b && is_still (w.words Safepoint)) ≡ true → ((w.known t).requesting ≡ true) × ((u : ℕ) → (w.known u).running ≡ false)
       by_asking true r e = (r, still_nobody w P safe e)
       by_asking false r e = absurd (cc e)
 
-      by_reached : (b : Bool) → (w.known t).reached ≡ b → (b || ((w.known t).requesting && is_still (w.words Safe))) ≡ true → ((w.known t).requesting ≡ true) × ((u : ℕ) → (w.known u).running ≡ false)
+      by_reached : (b : Bool) → (w.known t).reached ≡ b → (b || ((w.known t).requesting && is_still (w.words Safepoint))) ≡ true → ((w.known t).requesting ≡ true) × ((u : ℕ) → (w.known u).running ≡ false)
       by_reached true r e = safe.safepoint t r
       by_reached false r e = by_asking (w.known t).requesting refl e
   learnt _ e = safe.safepoint t e
 
-  halt_learnt : (at : Name) → halted_after at (w.words at) (w.known t) ≡ true → is_halted (w.words Safe) ≡ true
-  halt_learnt name.Safe e = cases (w.known t).halted refl e
+  halt_learnt : (at : Name) → halted_after at (w.words at) (w.known t) ≡ true → is_halted (w.words Safepoint) ≡ true
+  halt_learnt name.Safepoint e = cases (w.known t).halted refl e
     where
-      cases : (b : Bool) → (w.known t).halted ≡ b → (b || is_halted (w.words Safe)) ≡ true → is_halted (w.words Safe) ≡ true
+      cases : (b : Bool) → (w.known t).halted ≡ b → (b || is_halted (w.words Safepoint)) ≡ true → is_halted (w.words Safepoint) ≡ true
       cases true r e = safe.stopped t r
       cases false r e = e
   halt_learnt _ e = safe.stopped t e
 
   -- what the thread goes on to count on at its safepoint it could count on before
-  since_there : (at : Name) (n : Name) (s : ℕ) → reached_after at Load (w.words at) (w.known t) ≡ true → last_seen n (stood_before at Load (w.known t)) ≡ Some s
-      → ((w.known t).reached ≡ true) × (last_seen n (w.known t).stood ≡ Some s)
-  since_there name.Safe n s r e = cases (w.known t).reached refl e
+  since_there : (at : Name) (n : Name) (s : ℕ) → reached_after at Load (w.words at) (w.known t) ≡ true → last_seen n (seen_at_safepoint_before at Load (w.known t)) ≡ Some s
+      → ((w.known t).reached ≡ true) × (last_seen n (w.known t).seen_at_safepoint ≡ Some s)
+  since_there name.Safepoint n s r e = cases (w.known t).reached refl e
     where
-      cases : (b : Bool) → (w.known t).reached ≡ b → last_seen n (cond b (w.known t).stood []) ≡ Some s → ((w.known t).reached ≡ true) × (last_seen n (w.known t).stood ≡ Some s)
+      cases : (b : Bool) → (w.known t).reached ≡ b → last_seen n (cond b (w.known t).seen_at_safepoint []) ≡ Some s → ((w.known t).reached ≡ true) × (last_seen n (w.known t).seen_at_safepoint ≡ Some s)
       cases true q e = (q, e)
       cases false q e = absurd (cc e)
   since_there _ n s r e = (r, e)
 
-  since_met : (at : Name) (m s : ℕ) → reached_after at Load (w.words at) (w.known t) ≡ true → HasMet (stood_before at Load (w.known t)) m s → IsKeptOrNamed w (w.known t) m
-  since_met at m s r e = let a = since_there at e.0 s r e.2 in seen.monitors_since t m s a.0 (e.0, e.1, a.1)
-
-  since_looked : (at : Name) → reached_after at Load (w.words at) (w.known t) ≡ true → settling (w.known t).stage ≡ None → AllLooked w.words (stood_before at Load (w.known t))
-  since_looked name.Safe r e = cases (w.known t).reached refl
+  since_alone : (at : Name) → reached_after at Load (w.words at) (w.known t) ≡ true → revocation_in (w.known t).stage ≡ None → AreTheSteps w.words (seen_at_safepoint_before at Load (w.known t))
+  since_alone name.Safepoint r e = cases (w.known t).reached refl
     where
-      cases : (b : Bool) → (w.known t).reached ≡ b → AllLooked w.words (cond b (w.known t).stood [])
-      cases true q = seen.looks t q e
-      cases false q = tt
-  since_looked _ r e = seen.looks t r e
+      cases : (b : Bool) → (w.known t).reached ≡ b → AreTheSteps w.words (cond b (w.known t).seen_at_safepoint [])
+      cases true q = seen.alone t q e
+      cases false q = record { before = w.words; found = tt; same = refl }
+  since_alone _ r e = seen.alone t r e
 
   -- a load, as it is written down
   pub look_glance : (p : StepPlan) → IsLook (w.known t) p → Glance w P (w.known t) (known_after w.shape w.start p (w.words p.at) (w.known t)) p
@@ -102,6 +89,7 @@ module _ (w : World) (P : List PlainObject) (t : ℕ) (seen : SeenFit w P) (safe
           published = sym (published_load p.at (w.known t));
           stage = sym look.stage;
           counts = refl;
+          draws = refl;
           unfinished = elim look.after [ inl e ↦ inl (sym e) | inr e ↦ inr e ];
         };
         looks = record {
@@ -113,13 +101,12 @@ module _ (w : World) (P : List PlainObject) (t : ℕ) (seen : SeenFit w P) (safe
           stage = look.stage;
           kept = refl;
           old = seen_before w.shape (w.known t);
-          seen = ap (λ (z : List Made). record { plan = q; found = w.words p.at } ∷ z) (kept_load p.at (w.words p.at) (w.known t) (seen_before w.shape (w.known t)));
+          seen = ap (λ (z : List StepMade). record { plan = q; found = w.words p.at } ∷ z) (kept_load p.at (w.words p.at) (w.known t) (seen_before w.shape (w.known t)));
           part = seen_is_part w.shape (w.known t);
-          since = stood_before p.at Load (w.known t);
-          stood = refl;
+          since = seen_at_safepoint_before p.at Load (w.known t);
+          seen_at_safepoint = refl;
           there = λ n s r e. let a = since_there p.at n s r e in seen.stands t n s a.0 a.1;
-          there_looked = since_looked p.at;
-          there_monitors = since_met p.at;
+          alone = since_alone p.at;
           fresh = found_named p.at look.may;
           idle = idle;
         };
@@ -135,7 +122,7 @@ module _ (w : World) (P : List PlainObject) (t : ℕ) (seen : SeenFit w P) (safe
       ap (λ (b : Bool). cond b hit (known_miss w.shape w.start p (w.words p.at) (w.known t))) (sym miss.missed) in
       subst (λ z. Glance w P (w.known t) z p) missed
       (record {
-        same = record { thread = refl; log = refl; running = refl; requesting = refl; kept = refl; saved = refl; holds = refl; wait = refl; published = refl; stage = refl; counts = refl; unfinished = inl refl };
+        same = record { thread = refl; log = refl; running = refl; requesting = refl; kept = refl; saved = refl; holds = refl; wait = refl; published = refl; stage = refl; counts = refl; draws = refl; unfinished = inl refl };
         looks = record {
           word = missed_word p.act (w.words p.at) miss.missed;
           as_found = refl;
@@ -147,14 +134,21 @@ module _ (w : World) (P : List PlainObject) (t : ℕ) (seen : SeenFit w P) (safe
           old = seen_before w.shape (w.known t);
           seen = refl;
           part = seen_is_part w.shape (w.known t);
-          since = (w.known t).stood;
-          stood = refl;
+          since = (w.known t).seen_at_safepoint;
+          seen_at_safepoint = refl;
           there = λ n s r e. seen.stands t n s r e;
-          there_looked = seen.looks t;
-          there_monitors = λ m s r e. seen.monitors_since t m s r e;
+          alone = seen.alone t;
           fresh = found_named p.at miss.may;
           idle = idle;
         };
         reached = safe.safepoint t;
         halted = halt_learnt p.at;
       })
+
+-- neither keeps a shot
+pub look_shots : (s : Shape) (start : ℕ) (p : StepPlan) (n : ℕ) (k : Known) → IsLook k p → k.shots ≡ (known_after s start p n k).shots
+look_shots s start p n k look =
+    sym (ap (λ a. (cond (hits a n) (known_hit s start p n k) (known_miss s start p n k)).shots) look.act ∙ ap (λ o. shots_after o s k) look.own)
+
+pub miss_shots : (s : Shape) (start : ℕ) (p : StepPlan) (n : ℕ) (k : Known) → IsMiss k p n → k.shots ≡ (known_after s start p n k).shots
+miss_shots s start p n k miss = sym (ap (λ b. (cond b (known_hit s start p n k) (known_miss s start p n k)).shots) miss.missed)

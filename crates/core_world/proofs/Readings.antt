@@ -15,9 +15,9 @@ use Rattle.plain_monitor.specs.declared.entry.Value.{Value}
 use Rattle.plain_monitor.specs.declared.entry.Value.TheVariants.{Int}
 use Rattle.plain_monitor.specs.Monitor.{is_thread}
 use Rattle.plain_monitor.specs.ValueWords.{read_value, word_of}
-use Rattle.core_world.specs.Shape.{Shape}
-use Rattle.core_world.specs.Forms.{is_biased, is_biased_form, monitor_in, monitor_form, hash_in, hash_form, waits_on, waits_form, told_of, told_form, enters_on, enters_form, says_ended, ended_form, names, names_form, is_deeper, deeper_form, hold_word, runs_in, runs_form, requester_form, asks_in, is_halted, halted_form}
-use Rattle.core_world.specs.WordForms.{IsMark}
+use Rattle.core_world.specs.Words.Shape.{Shape}
+use Rattle.core_world.specs.Words.Forms.{is_biased, is_biased_form, monitor_in, monitor_form, hash_in, hash_form, waits_on, waits_form, says_notified, notified_form, enters_on, enters_form, says_ended, ended_form, names, names_form, is_deeper, deeper_form, hold_word, runs_in, runs_form, requester_form, asks_in, is_halted, halted_form}
+use Rattle.core_world.specs.Clauses.WordForms.{IsMark}
 use Rattle.core_world.specs.Opening.{first_mark}
 
 pub mark_zero : read_mark 0 ≡ Some Inflating
@@ -57,8 +57,8 @@ value_zero = refl
 pub no_wait : (o : ℕ) → waits_on 0 o ≡ false
 no_wait o = ap (λ f. waits_form f o) wait_zero
 
-pub no_told : (o : ℕ) → told_of 0 o ≡ false
-no_told o = ap (λ f. told_form f o) wait_zero
+pub no_told : (o : ℕ) → says_notified 0 o ≡ false
+no_told o = ap (λ f. notified_form f o) wait_zero
 
 pub no_entering : (o : ℕ) → enters_on 0 o ≡ false
 no_entering o = ap (λ f. enters_form f o) wait_zero

@@ -1,20 +1,21 @@
 -- What a thread may count on after a step it could count on before.
-use Rattle.std.proofs.Common.{◌≡◌, ℕ, ◌||◌, Bool, true, Some, subst, inl, inr}
+use Rattle.std.proofs.Common.{◌≡◌, ℕ, ◌||◌, Bool, true, Some, None, subst, inl, inr}
 use Rattle.mark_word.specs.Mark.{read_mark}
 use Rattle.core_world.specs.declared.name.Name.{Name}
-use Rattle.core_world.specs.declared.name.Name.TheVariants.{Safe, Prototype, Count, Last, Mark, Stamp, Slot, Hold, Displaced, Waiting, Length, Owner, Recursions, Header, Object, Claim}
-use Rattle.core_world.specs.Forms.{monitor_in}
-use Rattle.core_world.specs.Stages.{Inflation, inflation_in, bears}
-use Rattle.core_world.specs.Known.{Known}
+use Rattle.core_world.specs.declared.name.Name.TheVariants.{Safepoint, Prototype, Revocations, LastBulk, Mark, Stamp, Slot, Hold, Displaced, Waiting, Length, Owner, Recursions, Header, Object, Claim}
+use Rattle.core_world.specs.Words.Forms.{monitor_in}
+use Rattle.core_world.specs.Threads.Stages.{Inflation, inflation_in, bears, revocation_in}
+use Rattle.core_world.specs.Threads.Known.{Known}
 use Rattle.core_world.specs.World.{World}
 use Rattle.core_world.specs.Locks.{marks, prototype_of}
-use Rattle.core_world.specs.SeenWords.{Stays, StaysWhileRunning, StaysWhileAsking, IsValidBias, IsOwnMonitor}
+use Rattle.core_world.specs.Clauses.SeenWords.{Stays, StaysWhileRunning, StaysWhileAsking, IsValidBias, IsOwnMonitor}
 
 -- in world w thread u knew k, and in x it knows l; the plain owners were `owner`, and are `next`
 pub record Back (w x : World) (k l : Known) (owner next : ℕ → ℕ → Bool) (u : ℕ) : Type 0 where
   pub run : l.running ≡ true → k.running ≡ true
   pub ask : l.requesting ≡ true → k.requesting ≡ true
   pub inflates : (i : Inflation) → inflation_in l.stage ≡ Some i → inflation_in k.stage ≡ Some i
+  pub not_revoking : revocation_in l.stage ≡ None → revocation_in k.stage ≡ None
   pub kept : (m : ℕ) → l.kept ≡ Some m → k.kept ≡ Some m
   pub prototype : (o : ℕ) → prototype_of x o ≡ prototype_of w o
   pub monitor : (o m : ℕ) → monitor_in (marks x o) ≡ Some m → monitor_in (marks w o) ≡ Some m
@@ -26,10 +27,10 @@ module _ (w x : World) (k l : Known) (owner next : ℕ → ℕ → Bool) (u : �
   own_back m h = (h.0, b.monitor h.0 m h.1, b.held h.0 m h.1 h.2)
 
   running_back : (n : Name) (v : ℕ) → StaysWhileRunning x l next u n v → StaysWhileRunning w k owner u n v
-  running_back Safe v h = h
+  running_back Safepoint v h = h
   running_back (Prototype c) v h = h
-  running_back (Count c) v h = h
-  running_back (Last c) v h = h
+  running_back (Revocations c) v h = h
+  running_back (LastBulk c) v h = h
   running_back (Mark o) v (inl h) = inl (subst (IsValidBias (read_mark v)) (b.prototype o) h)
   running_back (Mark o) v (inr (inl h)) = inr (inl h)
   running_back (Mark o) v (inr (inr (inl h))) = inr (inr (inl (h.0, b.inflates h.0 h.1, h.2)))
@@ -52,10 +53,10 @@ module _ (w x : World) (k l : Known) (owner next : ℕ → ℕ → Bool) (u : �
 
   asking_back : (n : Name) (v : ℕ) → StaysWhileAsking x n v → StaysWhileAsking w n v
   asking_back (Prototype c) v h = h
-  asking_back (Count c) v h = h
-  asking_back (Last c) v h = h
+  asking_back (Revocations c) v h = h
+  asking_back (LastBulk c) v h = h
   asking_back (Mark o) v h = subst (IsValidBias (read_mark v)) (b.prototype o) h
-  asking_back Safe v h = h
+  asking_back Safepoint v h = h
   asking_back (Stamp o) v h = h
   asking_back (Slot o i) v h = h
   asking_back (Hold t p) v h = h
@@ -70,4 +71,4 @@ module _ (w x : World) (k l : Known) (owner next : ℕ → ℕ → Bool) (u : �
 
   pub stays_back : (n : Name) (v : ℕ) → Stays x l next u n v → Stays w k owner u n v
   stays_back n v (inl h) = inl (b.run h.0, running_back n v h.1)
-  stays_back n v (inr h) = inr (b.ask h.0, asking_back n v h.1)
+  stays_back n v (inr h) = inr (b.ask h.0, b.not_revoking h.1, asking_back n v h.2)

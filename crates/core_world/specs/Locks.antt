@@ -6,37 +6,43 @@ use Rattle.mark_word.specs.declared.owner.OwnerForm.{OwnerForm}
 use Rattle.mark_word.specs.declared.owner.OwnerForm.TheVariants.{Free, ByThread, ByRecord}
 use Rattle.mark_word.specs.Mark.{read_mark}
 use Rattle.mark_word.specs.Owner.{read_owner}
-use Rattle.plain_monitor.specs.Monitor.{PlainMonitor, count_of, owns}
+use Rattle.plain_monitor.specs.Monitor.{PlainMonitor, owns}
 use Rattle.plain_monitor.specs.Objects.{PlainObject, new_object}
+pub use Rattle.plain_history.specs.HeldByLog.{or_zero, holds_by_monitor}
 use Rattle.core_world.specs.declared.name.Name.TheVariants.{Prototype, Mark, Displaced, Owner, Header}
-use Rattle.core_world.specs.Shape.{class_of}
-use Rattle.core_world.specs.Forms.{epoch_in, names, is_deeper, hold_word}
-use Rattle.core_world.specs.Stages.{Inflation, inflation_in, one_if}
+use Rattle.core_world.specs.Words.Shape.{class_of}
+use Rattle.core_world.specs.Words.Forms.{epoch_in, monitor_in, names, is_deeper, hold_word}
+use Rattle.core_world.specs.Threads.Stages.{Inflation, inflation_in, one_if}
 use Rattle.core_world.specs.World.{World}
 
 pub data Lock : Type 0 where
   -- nobody has it
   Open : Lock
   -- it is validly biased to a thread, which has it where it has a hold word for it
-  Leaning : (thread : ℕ) → Lock
+  BiasedTo : (thread : ℕ) → Lock
   -- it rests on a lock record of a thread: by the mark, by the owner word, or by the mark that is being inflated
-  Resting : (thread place : ℕ) → Lock
+  OnRecord : (thread place : ℕ) → Lock
   -- a thread has it through the monitor
-  Manned : (thread : ℕ) → Lock
+  OwnedBy : (thread : ℕ) → Lock
 
 abbrev pub has_epoch : Option ℕ → ℕ → Bool
 has_epoch None epoch = false
 has_epoch (Some e) epoch = e == epoch
 
+-- the mark is biased to a thread, in the epoch of this prototype
+abbrev pub is_valid_bias : Option MarkForm → ℕ → Bool
+is_valid_bias (Some (Biased thread epoch age)) prototype = has_epoch (epoch_in prototype) epoch
+is_valid_bias _ prototype = false
+
 abbrev pub record_lock : Option Inflation → Lock
 record_lock None = Open
-record_lock (Some i) = Resting i.thread i.place
+record_lock (Some i) = OnRecord i.thread i.place
 
 abbrev pub owner_lock : Option OwnerForm → Lock
 owner_lock None = Open
 owner_lock (Some Free) = Open
-owner_lock (Some (ByThread thread)) = Manned thread
-owner_lock (Some (ByRecord thread place)) = Resting thread place
+owner_lock (Some (ByThread thread)) = OwnedBy thread
+owner_lock (Some (ByRecord thread place)) = OnRecord thread place
 
 -- the lock that a mark of this form means: by the prototype of the object's class, the owner words, and the record that the mark
 -- named before it was exchanged for 0
@@ -45,8 +51,8 @@ lock_form None prototype owners named = Open
 lock_form (Some Inflating) prototype owners named = record_lock named
 lock_form (Some (Neutral hash age)) prototype owners named = Open
 lock_form (Some (Anonymous epoch age)) prototype owners named = Open
-lock_form (Some (Biased thread epoch age)) prototype owners named = if has_epoch (epoch_in prototype) epoch then Leaning thread else Open
-lock_form (Some (Locked thread place)) prototype owners named = Resting thread place
+lock_form (Some (Biased thread epoch age)) prototype owners named = if has_epoch (epoch_in prototype) epoch then BiasedTo thread else Open
+lock_form (Some (Locked thread place)) prototype owners named = OnRecord thread place
 lock_form (Some (Inflated monitor)) prototype owners named = owner_lock (read_owner (owners monitor))
 lock_form (Some Marked) prototype owners named = Open
 
@@ -64,14 +70,18 @@ inflation_of o (suc n) f = is_for o (f n) (inflation_of o n f)
 abbrev pub marks : World → ℕ → ℕ
 marks w o = w.words (Mark o)
 
+-- the monitor that each mark names
+abbrev pub inflated_to : World → ℕ → Option ℕ
+inflated_to w o = monitor_in (w.words (Mark o))
+
 abbrev pub prototype_of : World → ℕ → ℕ
 prototype_of w o = w.words (Prototype (class_of w.shape o))
 
 abbrev pub owner_words : World → ℕ → ℕ
 owner_words w m = w.words (Owner m)
 
-abbrev pub displaced : World → ℕ → ℕ → ℕ
-displaced w t p = w.words (Displaced t p)
+abbrev pub displaced_words : World → ℕ → ℕ → ℕ
+displaced_words w t p = w.words (Displaced t p)
 
 abbrev pub headers : World → ℕ → ℕ
 headers w m = w.words (Header m)
@@ -95,42 +105,42 @@ header_form (Some (Inflated monitor)) mark displaced headers named = Some (heade
 header_form _ mark displaced headers named = None
 
 abbrev pub header : World → ℕ → Option ℕ
-header w o = header_form (read_mark (marks w o)) (marks w o) (displaced w) (headers w) (inflations w o)
+header w o = header_form (read_mark (marks w o)) (marks w o) (displaced_words w) (headers w) (inflations w o)
 
 -- how many of the words pass the test, where the first stands at place i
-abbrev pub number : (ℕ → ℕ → Bool) → ℕ → List ℕ → ℕ
-number test i [] = 0
-number test i (h ∷ hs) = one_if (test i h) + number test (i + 1) hs
+abbrev pub count_where : (ℕ → ℕ → Bool) → ℕ → List ℕ → ℕ
+count_where test i [] = 0
+count_where test i (h ∷ hs) = one_if (test i h) + count_where test (i + 1) hs
 
 -- the number of hold words that name o
-abbrev pub named : ℕ → List ℕ → ℕ
-named o hs = number (λ p h. names o h) 0 hs
+abbrev pub hold_count : ℕ → List ℕ → ℕ
+hold_count o hs = count_where (λ p h. names o h) 0 hs
 
 -- how often the hold word of o at depth d stands there
-abbrev pub times : ℕ → ℕ → List ℕ → ℕ
-times o d hs = number (λ p h. h == hold_word o d) 0 hs
+abbrev pub depth_count : ℕ → ℕ → List ℕ → ℕ
+depth_count o d hs = count_where (λ p h. h == hold_word o d) 0 hs
 
 -- the number of the records of o above depth 1 that were made through the monitor: their displaced word is 3
-abbrev pub again : ℕ → (ℕ → ℕ) → List ℕ → ℕ
-again o displaced hs = number (λ p h. is_deeper o h && (displaced p == 3)) 0 hs
+abbrev pub recursion_count : ℕ → (ℕ → ℕ) → List ℕ → ℕ
+recursion_count o displaced hs = count_where (λ p h. is_deeper o h && (displaced p == 3)) 0 hs
 
 -- who has the lock, by the number of hold words that each thread has for the object
 abbrev pub holder : Lock → (ℕ → ℕ) → Option ℕ
 holder Open count = None
-holder (Leaning thread) count = if count thread == 0 then None else Some thread
-holder (Resting thread place) count = Some thread
-holder (Manned thread) count = Some thread
+holder (BiasedTo thread) count = if count thread == 0 then None else Some thread
+holder (OnRecord thread place) count = Some thread
+holder (OwnedBy thread) count = Some thread
 
 abbrev pub who : World → ℕ → Option ℕ
-who w o = holder (lock w o) (λ t. named o (w.known t).holds)
+who w o = holder (lock w o) (λ t. hold_count o (w.known t).holds)
 
 -- the owner and count that the header of o means
-abbrev pub shown_by : Option ℕ → (ℕ → ℕ) → Option ℕ × ℕ
-shown_by None count = (None, 0)
-shown_by (Some t) count = (Some t, count t)
+abbrev pub owner_and_count_by : Option ℕ → (ℕ → ℕ) → Option ℕ × ℕ
+owner_and_count_by None count = (None, 0)
+owner_and_count_by (Some t) count = (Some t, count t)
 
-abbrev pub shown : World → ℕ → Option ℕ × ℕ
-shown w o = shown_by (who w o) (λ t. named o (w.known t).holds)
+abbrev pub owner_and_count : World → ℕ → Option ℕ × ℕ
+owner_and_count w o = owner_and_count_by (who w o) (λ t. hold_count o (w.known t).holds)
 
 -- the plain objects by number
 abbrev pub object_of : List PlainObject → ℕ → PlainObject
@@ -138,14 +148,6 @@ object_of objects o = slice_index_or objects o (new_object 0)
 
 abbrev pub monitor_of : List PlainObject → ℕ → PlainMonitor
 monitor_of objects o = (object_of objects o).monitor
-
-abbrev pub or_zero : Option ℕ → ℕ
-or_zero None = 0
-or_zero (Some n) = n
-
--- the holds that t has by the plain monitor: as its owner, or as one who waits or was called
-abbrev pub standing : PlainMonitor → ℕ → ℕ
-standing m t = (if owns m t then m.count else 0) + or_zero (count_of m.waits t) + or_zero (count_of m.called t)
 
 abbrev pub owner_at : List PlainObject → ℕ → ℕ → Bool
 owner_at objects o t = owns (monitor_of objects o) t
@@ -156,5 +158,5 @@ hash_at objects o = or_zero (object_of objects o).hash
 abbrev pub waits_at : List PlainObject → ℕ → List (ℕ × ℕ)
 waits_at objects o = (monitor_of objects o).waits
 
-abbrev pub called_at : List PlainObject → ℕ → List (ℕ × ℕ)
-called_at objects o = (monitor_of objects o).called
+abbrev pub notified_at : List PlainObject → ℕ → List (ℕ × ℕ)
+notified_at objects o = (monitor_of objects o).called

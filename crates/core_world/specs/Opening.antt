@@ -7,9 +7,8 @@ use Rattle.plain_monitor.specs.declared.entry.Value.TheVariants.{Int}
 use Rattle.core_world.specs.declared.name.Name.{Name}
 use Rattle.core_world.specs.declared.name.Name.TheVariants.{Prototype, Mark, Slot}
 use Rattle.core_world.specs.declared.stage.Stage.TheVariants.{Calm}
-use Rattle.core_world.specs.Shape.{Shape}
-use Rattle.core_world.specs.Counts.{no_counts}
-use Rattle.core_world.specs.Known.{Known}
+use Rattle.core_world.specs.Words.Shape.{Shape}
+use Rattle.core_world.specs.Threads.Known.{Known}
 use Rattle.core_world.specs.World.{World}
 
 -- the prototype of each class, and so the mark of each object: biased to nobody at epoch 0, or neutral
@@ -41,11 +40,11 @@ first_known t =
       stage = Calm;
       unfinished = None;
       checking = false;
-      counts = λ c. no_counts;
+      counts = [];
       draws = 0;
       shots = [];
       seen = [];
-      stood = [];
+      seen_at_safepoint = [];
       steps = [];
       call = None;
     }

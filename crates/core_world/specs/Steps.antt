@@ -1,5 +1,5 @@
 -- What one step makes of its thread's knowledge, and of the world.
-use Rattle.std.specs.Prelude.{ℕ, ◌+◌, ◌==◌, ◌&&◌, ◌||◌, max, not, cond, Bool, true, false, List, [], ◌∷◌, ◌++◌, length, slice_set, Option, Some, None}
+use Rattle.std.specs.Prelude.{ℕ, ◌+◌, ◌==◌, ◌&&◌, ◌||◌, max, not, if◌then◌else◌, Bool, true, false, List, [], ◌∷◌, ◌++◌, length, slice_set, Option, Some, None}
 use Rattle.plain_monitor.specs.declared.entry.Entry.{Entry}
 use Rattle.plain_monitor.specs.declared.entry.Entry.TheVariants as entry
 use Rattle.plain_monitor.specs.declared.entry.Logged.{Logged}
@@ -12,41 +12,41 @@ use Rattle.core_world.specs.declared.name.Name.TheVariants as name
 use Rattle.core_world.specs.declared.plan.Note.{Note}
 use Rattle.core_world.specs.declared.plan.Note.TheVariants.{Quiet, Log, LogGet, LogHash}
 use Rattle.core_world.specs.declared.plan.Own.{Own}
-use Rattle.core_world.specs.declared.plan.Own.TheVariants.{Claim, Spend, Save, Count, Shot}
+use Rattle.core_world.specs.declared.plan.Own.TheVariants.{Claim, Spend, Save, CountVerdict, TakeShot}
 use Rattle.core_world.specs.declared.plan.StepPlan.{StepPlan}
 use Rattle.core_world.specs.declared.task.Unfinished.{Unfinished}
-use Rattle.core_world.specs.Shape.{Shape, class_of}
-use Rattle.core_world.specs.Acts.{after, hits}
-use Rattle.core_world.specs.Forms.{runs_in, asks_in, is_halted, is_still, hash_in}
-use Rattle.core_world.specs.Counts.{ClassCounts, counted}
-use Rattle.core_world.specs.Known.{Known, Made, Begun, last_seen, start_of}
-use Rattle.core_world.specs.Known as known
-use Rattle.core_world.specs.World.{World, one}
-use Rattle.core_world.specs.Locks.{lock_form, holder, named, or_zero, shown_by}
-use Rattle.core_world.specs.Settling.{holds_in, words_from}
-use Rattle.core_world.specs.Todo.{Todo, done, after_answers, is_over}
-use Rattle.core_world.specs.Operations.{value_found}
-use Rattle.core_world.specs.Calls.{steps_of}
+use Rattle.core_world.specs.Words.Shape.{Shape, class_of}
+use Rattle.core_world.specs.Words.Acts.{word_after, hits}
+use Rattle.core_world.specs.Words.Forms.{runs_in, asks_in, is_halted, is_still, hash_in}
+use Rattle.core_world.specs.Threads.Counts.{CountedVerdict, with_verdict_counted}
+use Rattle.core_world.specs.Threads.Known.{Known, StepMade, CallUnderway, last_seen, start_of}
+use Rattle.core_world.specs.Threads.Known as known
+use Rattle.core_world.specs.World.{World, with_word_and_known}
+use Rattle.core_world.specs.Locks.{lock_form, holder, hold_count, or_zero, owner_and_count_by}
+use Rattle.core_world.specs.RevocationRules.{holds_in, words_from}
+use Rattle.core_world.specs.Trees.Todo.{Todo, done, after_answers, is_over}
+use Rattle.core_world.specs.Trees.Operations.{value_found}
+use Rattle.core_world.specs.Trees.Calls.{steps_of}
 use Rattle.mark_word.specs.Mark.{read_mark}
 
 -- CALLS. What is left to do of the call that was begun last, and whether that call is over.
-abbrev pub left_of : Shape → Option Begun → Todo (Unit {0})
+abbrev pub left_of : Shape → Option CallUnderway → Todo (Unit {0})
 left_of s None = done tt
 left_of s (Some b) = after_answers (steps_of s b.task b.start) b.answers
 
-abbrev pub rest : Shape → Known → Todo (Unit {0})
-rest s k = left_of s k.call
+abbrev pub rest_of_call : Shape → Known → Todo (Unit {0})
+rest_of_call s k = left_of s k.call
 
-unfoldable pub idle : Shape → Known → Bool
-idle s k = is_over (rest s k)
+unfoldable pub is_idle : Shape → Known → Bool
+is_idle s k = is_over (rest_of_call s k)
 
 -- the call that a step belongs to, with what it found: the one that goes on, or a new one
-abbrev pub with_answer : ℕ → Option Begun → Option Begun
+abbrev pub with_answer : ℕ → Option CallUnderway → Option CallUnderway
 with_answer n None = None
 with_answer n (Some b) = Some (record b { answers = n ∷ b.answers })
 
-abbrev pub call_after : Shape → ℕ → StepPlan → ℕ → Known → Option Begun
-call_after s start p n k = cond (idle s k) (Some (record { task = p.task; start = start_of start k; answers = n ∷ [] })) (with_answer n k.call)
+abbrev pub call_after : Shape → ℕ → StepPlan → ℕ → Known → Option CallUnderway
+call_after s start p n k = if is_idle s k then Some (record { task = p.task; start = start_of start k; answers = n ∷ [] }) else with_answer n k.call
 
 -- LOGS. An Enter and a Resume are stamped above the stamp that they load.
 abbrev pub is_taking : Entry → Bool
@@ -55,20 +55,20 @@ is_taking (entry.Resume o) = true
 is_taking _ = false
 
 abbrev pub stamp_by : Entry → ℕ → ℕ → ℕ
-stamp_by e found last = cond (is_taking e) (max found last + 1) (last + 1)
+stamp_by e found last = if is_taking e then max found last + 1 else last + 1
 
-abbrev pub logged : Entry → ℕ → List Logged → List Logged
-logged e found log = log ++ record { stamp = stamp_by e found (last_stamp log); entry = e } ∷ []
+abbrev pub with_entry : Entry → ℕ → List Logged → List Logged
+with_entry e found log = log ++ record { stamp = stamp_by e found (last_stamp log); entry = e } ∷ []
 
 abbrev pub log_after : Note → ℕ → List Logged → List Logged
 log_after Quiet found log = log
-log_after (Log e) found log = logged e found log
-log_after (LogGet o slot) found log = logged (entry.Get o slot (value_found (read_value found))) found log
-log_after (LogHash o) found log = cond (hash_in found == 0) log (logged (entry.Hash o (hash_in found) None) found log)
+log_after (Log e) found log = with_entry e found log
+log_after (LogGet o slot) found log = with_entry (entry.Get o slot (value_found (read_value found))) found log
+log_after (LogHash o) found log = if hash_in found == 0 then log else with_entry (entry.Hash o (hash_in found) None) found log
 
 -- a hash that is found ends its operation
 abbrev pub unfinished_after : Note → ℕ → Option Unfinished → Option Unfinished
-unfinished_after (LogHash o) found u = cond (hash_in found == 0) u None
+unfinished_after (LogHash o) found u = if hash_in found == 0 then u else None
 unfinished_after _ found u = u
 
 abbrev pub draws_after : Note → ℕ → ℕ
@@ -78,23 +78,23 @@ draws_after _ draws = draws
 -- THE SAFEPOINT WORD. A step that changes it tells whether the thread runs and whether its request stands; a load by the requester tells
 -- whether the safepoint is reached.
 abbrev pub runs_after : Name → Act → ℕ → Known → Bool
-runs_after name.Safe act.Load word k = k.running
-runs_after name.Safe _ word k = runs_in word k.thread
+runs_after name.Safepoint act.Load word k = k.running
+runs_after name.Safepoint _ word k = runs_in word k.thread
 runs_after _ act word k = k.running
 
 abbrev pub asks_after : Name → Act → ℕ → Known → Bool
-asks_after name.Safe act.Load word k = k.requesting
-asks_after name.Safe _ word k = asks_in word k.thread
+asks_after name.Safepoint act.Load word k = k.requesting
+asks_after name.Safepoint _ word k = asks_in word k.thread
 asks_after _ act word k = k.requesting
 
 abbrev pub reached_after : Name → Act → ℕ → Known → Bool
-reached_after name.Safe act.Load word k = k.reached || (k.requesting && is_still word)
-reached_after name.Safe _ word k = k.reached && asks_in word k.thread
+reached_after name.Safepoint act.Load word k = k.reached || (k.requesting && is_still word)
+reached_after name.Safepoint _ word k = k.reached && asks_in word k.thread
 reached_after _ act word k = k.reached
 
 -- the halt is known once it was found or set
 abbrev pub halted_after : Name → ℕ → Known → Bool
-halted_after name.Safe word k = k.halted || is_halted word
+halted_after name.Safepoint word k = k.halted || is_halted word
 halted_after _ word k = k.halted
 
 -- OWN WORDS
@@ -103,7 +103,7 @@ holds_after (name.Hold t p) (act.Store word) k = slice_set k.holds p word
 holds_after _ _ k = k.holds
 
 abbrev pub wait_after : Name → Act → Known → ℕ
-wait_after (name.Waiting t) (act.Store word) k = cond (t == k.thread) word k.wait
+wait_after (name.Waiting t) (act.Store word) k = if t == k.thread then word else k.wait
 wait_after _ _ k = k.wait
 
 abbrev pub published_after : Name → Act → Known → ℕ
@@ -120,70 +120,70 @@ abbrev pub saved_after : Own → ℕ → ℕ → ℕ
 saved_after Save found saved = found
 saved_after _ found saved = saved
 
-abbrev pub counts_after : Own → (ℕ → ClassCounts) → (ℕ → ClassCounts)
-counts_after (Count class verdict reset) counts = counted counts class verdict reset
+abbrev pub counts_after : Own → List CountedVerdict → List CountedVerdict
+counts_after (CountVerdict class verdict reset) counts = with_verdict_counted counts class verdict reset
 counts_after _ counts = counts
 
 -- the words as the thread last saw them at its safepoint
 abbrev pub seen_words : Known → Name → ℕ
-seen_words k n = or_zero (last_seen n k.stood)
+seen_words k n = or_zero (last_seen n k.seen_at_safepoint)
 
 -- who has the lock of o and how often, by words in which nothing is being inflated
-abbrev pub shown_in : Shape → (Name → ℕ) → ℕ → Option ℕ × ℕ
-shown_in s f o =
-    shown_by
-    (holder (lock_form (read_mark (f (name.Mark o))) (f (name.Prototype (class_of s o))) (λ m. f (name.Owner m)) None) (λ t. named o (holds_in f t)))
-    (λ t. named o (holds_in f t))
+abbrev pub owner_and_count_in : Shape → (Name → ℕ) → ℕ → Option ℕ × ℕ
+owner_and_count_in s f o =
+    owner_and_count_by
+    (holder (lock_form (read_mark (f (name.Mark o))) (f (name.Prototype (class_of s o))) (λ m. f (name.Owner m)) None) (λ t. hold_count o (holds_in f t)))
+    (λ t. hold_count o (holds_in f t))
 
 -- the lengths of n logs, from thread t on; its own is that of its log
 abbrev pub cut_from : ℕ → ℕ → Known → List ℕ
-cut_from t n k = words_from t n (λ u. cond (u == k.thread) (length k.log) (seen_words k (name.Length u)))
+cut_from t n k = words_from t n (λ u. if u == k.thread then length k.log else seen_words k (name.Length u))
 
 abbrev pub cells_from : ℕ → List (ℕ × ℕ) → Shape → (Name → ℕ) → List (Option ℕ × ℕ)
 cells_from o [] s f = []
-cells_from o (x ∷ xs) s f = shown_in s f o ∷ cells_from (o + 1) xs s f
+cells_from o (x ∷ xs) s f = owner_and_count_in s f o ∷ cells_from (o + 1) xs s f
 
 -- the shot that its steps at the safepoint make
-abbrev pub shot_of : Shape → Known → known.Shot
+abbrev pub shot_of : Shape → Known → known.DumpShot
 shot_of s k = record { number = length k.shots + 1; cut = cut_from 0 s.threads k; cells = cells_from 0 s.objects s (seen_words k) }
 
-abbrev pub shots_after : Own → Shape → Known → List known.Shot
-shots_after Shot s k = k.shots ++ shot_of s k ∷ []
+abbrev pub shots_after : Own → Shape → Known → List known.DumpShot
+shots_after TakeShot s k = k.shots ++ shot_of s k ∷ []
 shots_after _ s k = k.shots
 
 -- WHAT IT HAS SEEN. A call begins with nothing seen, unless a request stands that an earlier one made.
-abbrev pub seen_before : Shape → Known → List Made
-seen_before s k = cond (idle s k && not k.requesting) [] k.seen
+abbrev pub seen_before : Shape → Known → List StepMade
+seen_before s k = if is_idle s k && not k.requesting then [] else k.seen
 
 -- The steps that log Enter or Resume, and that set the thread running again after a stop, begin anew, since the thread counts on more words
--- from then on. The release of a safepoint leaves what was seen at it, but for displaced words: a record may change from then on, and the
--- thread may come to inflate the lock that rests on it.
-abbrev pub is_displaced : Name → Bool
-is_displaced (name.Displaced t p) = true
-is_displaced _ = false
+-- from then on. The release of a safepoint leaves the marks and prototypes that were seen at it: later steps of the call go by no others.
+abbrev pub is_header : Name → Bool
+is_header (name.Mark o) = true
+is_header (name.Prototype c) = true
+is_header _ = false
 
-abbrev pub undisplaced : List Made → List Made
-undisplaced [] = []
-undisplaced (m ∷ ms) = cond (is_displaced m.plan.at) (undisplaced ms) (m ∷ undisplaced ms)
+abbrev pub only_headers : List StepMade → List StepMade
+only_headers [] = []
+only_headers (m ∷ ms) = if is_header m.plan.at then m ∷ only_headers ms else only_headers ms
 
-abbrev pub kept_by_note : Note → List Made → List Made
-kept_by_note (Log e) seen = cond (is_taking e) [] seen
+abbrev pub kept_by_note : Note → List StepMade → List StepMade
+kept_by_note (Log e) seen = if is_taking e then [] else seen
 kept_by_note _ seen = seen
 
-abbrev pub kept_by_act : Name → Act → ℕ → Known → List Made → List Made
-kept_by_act name.Safe (act.Swap expected word) left k seen = cond (k.reached && not (asks_in left k.thread)) (undisplaced k.stood) (cond k.running seen [])
+abbrev pub kept_by_act : Name → Act → ℕ → Known → List StepMade → List StepMade
+kept_by_act name.Safepoint (act.Swap expected word) left k seen = if k.reached && not (asks_in left k.thread) then only_headers k.seen_at_safepoint else if k.running then seen else []
 kept_by_act _ _ left k seen = seen
 
 -- since its safepoint was reached
-abbrev pub stood_before : Name → Act → Known → List Made
-stood_before name.Safe act.Load k = cond k.reached k.stood []
-stood_before _ _ k = k.stood
+abbrev pub seen_at_safepoint_before : Name → Act → Known → List StepMade
+seen_at_safepoint_before name.Safepoint act.Load k = if k.reached then k.seen_at_safepoint else []
+seen_at_safepoint_before _ _ k = k.seen_at_safepoint
 
 -- THE STEP. Of thread t's plan, which finds n: what it knows where the act hits, and where it misses.
 abbrev pub known_hit : Shape → ℕ → StepPlan → ℕ → Known → Known
 known_hit s start p n k =
-    let left = after p.act n in
-    let step : Made = record { plan = p; found = n } in
+    let left = word_after p.act n in
+    let step : StepMade = record { plan = p; found = n } in
     record {
       thread = k.thread;
       log = log_after p.note n k.log;
@@ -203,25 +203,25 @@ known_hit s start p n k =
       draws = draws_after p.note k.draws;
       shots = shots_after p.own s k;
       seen = step ∷ kept_by_note p.note (kept_by_act p.at p.act left k (seen_before s k));
-      stood = step ∷ stood_before p.at p.act k;
+      seen_at_safepoint = step ∷ seen_at_safepoint_before p.at p.act k;
       steps = step ∷ k.steps;
       call = call_after s start p n k;
     }
 
 abbrev pub known_miss : Shape → ℕ → StepPlan → ℕ → Known → Known
 known_miss s start p n k =
-    let step : Made = record { plan = p; found = n } in
+    let step : StepMade = record { plan = p; found = n } in
     record k {
       halted = halted_after p.at n k;
       seen = step ∷ seen_before s k;
-      stood = step ∷ k.stood;
+      seen_at_safepoint = step ∷ k.seen_at_safepoint;
       steps = step ∷ k.steps;
       call = call_after s start p n k;
     }
 
 abbrev pub known_after : Shape → ℕ → StepPlan → ℕ → Known → Known
-known_after s start p n k = cond (hits p.act n) (known_hit s start p n k) (known_miss s start p n k)
+known_after s start p n k = if hits p.act n then known_hit s start p n k else known_miss s start p n k
 
 -- the world that this step of thread t makes
-abbrev pub moved : StepPlan → ℕ → World → World
-moved p t w = one p.at (after p.act (w.words p.at)) t (known_after w.shape w.start p (w.words p.at) (w.known t)) w
+abbrev pub world_after : StepPlan → ℕ → World → World
+world_after p t w = with_word_and_known p.at (word_after p.act (w.words p.at)) t (known_after w.shape w.start p (w.words p.at) (w.known t)) w

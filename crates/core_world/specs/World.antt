@@ -1,10 +1,10 @@
 -- The world: the words by name, and what each thread knows. What changes when one word and one thread's knowledge change.
-use Rattle.std.specs.Prelude.{ℕ, zero, suc, ◌+◌, ◌==◌, Bool, cond, List, [], ◌∷◌}
+use Rattle.std.specs.Prelude.{ℕ, zero, suc, ◌+◌, ◌==◌, Bool, if◌then◌else◌, List, [], ◌∷◌}
 use Rattle.plain_monitor.specs.declared.entry.Logged.{Logged}
 use Rattle.core_world.specs.declared.name.Name.{Name}
-use Rattle.core_world.specs.Shape.{Shape}
-use Rattle.core_world.specs.Names.{written}
-use Rattle.core_world.specs.Known.{Known}
+use Rattle.core_world.specs.Words.Shape.{Shape}
+use Rattle.core_world.specs.Words.Names.{with_word}
+use Rattle.core_world.specs.Threads.Known.{Known}
 
 pub record World : Type 0 where
   -- these three are the heap's, and no step changes them: the shape, what its generators start from, and whether it has biases
@@ -15,12 +15,12 @@ pub record World : Type 0 where
   pub known : ℕ → Known
 
 -- thread t knows k, and the others what they knew
-abbrev pub told : ℕ → Known → (ℕ → Known) → ℕ → Known
-told t k f u = cond (u == t) k (f u)
+abbrev pub with_known : ℕ → Known → (ℕ → Known) → ℕ → Known
+with_known t k f u = if u == t then k else f u
 
 -- the world in which the word is v, and thread t knows k
-abbrev pub one : Name → ℕ → ℕ → Known → World → World
-one at v t k w = record { shape = w.shape; start = w.start; biasing = w.biasing; words = written at v w.words; known = told t k w.known }
+abbrev pub with_word_and_known : Name → ℕ → ℕ → Known → World → World
+with_word_and_known at v t k w = record { shape = w.shape; start = w.start; biasing = w.biasing; words = with_word at v w.words; known = with_known t k w.known }
 
 -- the logs of n threads, from thread t on
 abbrev pub logs_from : ℕ → ℕ → (ℕ → Known) → List (List Logged)

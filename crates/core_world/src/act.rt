@@ -1,7 +1,7 @@
 //! What one atomic step does to its one word.
 
 ghost use Rattle.std.specs.Prelude.{◌≡◌, true};
-ghost use Rattle.core_world.specs.Acts.{after, hits};
+ghost use Rattle.core_world.specs.Words.Acts.{word_after, hits};
 
 /// What an atomic step does to its word. All are sequentially consistent.
 #[derive(Clone, Copy)]
@@ -32,7 +32,7 @@ pub struct Effect {
 /// What the act makes of the word `old`: the word afterwards, and whether the act did what it is for. A `Swap` whose expected
 /// word differs from `old` leaves the word and misses; every other act hits.
 pub fn apply(old: u64, act: &Act) -> Effect
-    ensures word { result.word ≡ after act.now old }
+    ensures word { result.word ≡ word_after act.now old }
     ensures hit { result.hit ≡ hits act.now old }
 {
     match *act {
@@ -54,7 +54,7 @@ fn hit(word: u64) -> Effect
 
 /// The effect of a compare-exchange.
 fn swap(old: u64, expected: u64, word: u64) -> Effect
-    ensures word { result.word ≡ after (Act.Swap expected word) old }
+    ensures word { result.word ≡ word_after (Act.Swap expected word) old }
     ensures hit { result.hit ≡ hits (Act.Swap expected word) old }
 {
     if old == expected {

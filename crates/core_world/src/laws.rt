@@ -3,11 +3,11 @@
 ghost use Rattle.std.specs.Prelude.{ℕ, ◌<◌, Bool, List};
 ghost use Rattle.plain_monitor.specs.Objects.{PlainObject, new_objects};
 ghost use Rattle.core_world.specs.declared.plan.StepPlan.{StepPlan};
-ghost use Rattle.core_world.specs.Shape.{Shape, IsInLimits};
+ghost use Rattle.core_world.specs.Words.Shape.{Shape, IsInLimits};
 ghost use Rattle.core_world.specs.World.{World};
 ghost use Rattle.core_world.specs.Opening.{opening};
 ghost use Rattle.core_world.specs.Looking.{IsLook, IsMiss};
-ghost use Rattle.core_world.specs.Steps.{moved};
+ghost use Rattle.core_world.specs.Steps.{world_after};
 ghost use Rattle.core_world.specs.Valid.{Fits, IsValid, Valid};
 
 /// The world before the first step is valid, for each shape within the limits, whatever number the generators start from, and
@@ -23,7 +23,7 @@ pub fn the_opening_world_is_valid()
 /// word of a monitor that it neither keeps nor has seen named by a mark.
 pub fn a_look_keeps_the_world_valid()
     ensures load { (w : World) (objects : List PlainObject) (t : ℕ) (p : StepPlan) → t < w.shape.threads → IsLook (w.known t) p
-        → IsValid w objects → IsValid (moved p t w) objects }
+        → IsValid w objects → IsValid (world_after p t w) objects }
     ensures miss { (w : World) (objects : List PlainObject) (t : ℕ) (p : StepPlan) → t < w.shape.threads
-        → IsMiss (w.known t) p (w.words p.at) → IsValid w objects → IsValid (moved p t w) objects }
+        → IsMiss (w.known t) p (w.words p.at) → IsValid w objects → IsValid (world_after p t w) objects }
 {}

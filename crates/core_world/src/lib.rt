@@ -8,10 +8,10 @@
 
 mod act;
 mod answer;
-mod framing;
 mod laws;
 mod name;
 mod plan;
+mod refused;
 mod shown;
 mod stage;
 mod task;
@@ -22,13 +22,14 @@ pub use act::{Act, Effect, apply};
 pub use answer::{
     BiasTry, IllegalMonitorState, StackOut, TooDeep, TooManyDumps, Turn, Unguarded, Why,
 };
-pub use framing::{
-    clauses_of_locks_stay, clauses_of_logs_stay, clauses_of_monitors_stay, clauses_of_threads_stay,
-    clauses_of_words_stay,
-};
 pub use laws::{a_look_keeps_the_world_valid, the_opening_world_is_valid};
 pub use name::Name;
 pub use plan::{Note, Own, StepPlan};
+pub use refused::{
+    no_displaced_header_lost, no_hash_changed, no_hash_drawn_twice, no_hash_that_nobody_drew,
+    no_hold_by_the_monitor_before_its_recursions, no_revocation_without_a_bias, no_stale_bias_held,
+    no_stamp_from_nowhere, no_two_owners, no_word_changed_at_a_safepoint,
+};
 pub use shown::{all_clauses_hold_while_a_thread_runs, held_objects_are_stood_at, shown_is_plain};
 pub use stage::Stage;
 pub use task::{Op, Task, Unfinished};

@@ -4,13 +4,13 @@
 #[derive(Clone, Copy)]
 pub enum Name {
     /// Which threads run, which one has requested a safepoint, and whether the run is halted.
-    Safe,
+    Safepoint,
     /// The header that the class's new objects get; its epoch is the class's.
     Prototype { class: u32 },
     /// How many revocations of the class count for the policy of bulk operations.
-    Count { class: u32 },
+    Revocations { class: u32 },
     /// The moment of the class's last bulk operation, 0 for none.
-    Last { class: u32 },
+    LastBulk { class: u32 },
     /// The object's header.
     Mark { object: u32 },
     /// A stamp that no entry which left the object free is above.

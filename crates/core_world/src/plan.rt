@@ -34,13 +34,13 @@ pub enum Own {
     /// The number found is the recursions that its wait saves.
     Save,
     /// It counts a verdict on the class, and a reset where there was one.
-    Count {
+    CountVerdict {
         class: u32,
         verdict: Verdict,
         reset: bool,
     },
     /// What it has seen at its safepoint is its next shot.
-    Shot,
+    TakeShot,
 }
 
 /// One atomic step, and what it makes of its thread's knowledge where it hits.

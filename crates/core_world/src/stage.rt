@@ -1,5 +1,7 @@
 //! Where a thread stands in the middle of an operation.
 
+use plain_monitor::Path;
+
 /// Where a thread stands between a step on a lock and the step that tells it, so that the invariant can say by how much the words
 /// are ahead of the logs or behind them. A thread stands at one of these at a time.
 #[derive(Clone, Copy)]
@@ -15,10 +17,15 @@ pub enum Stage {
     Grabs {
         object: u32,
     },
-    /// Its new hold word stands at this place, and the Enter isn't logged.
+    /// It has stored a bias to itself, by an exchange of the mark or in a bulk rebias, and hasn't stored the hold word.
+    Takes {
+        object: u32,
+    },
+    /// Its new hold word stands at this place, and the Enter, which will have this path, isn't logged.
     Enters {
         object: u32,
         place: u32,
+        path: Path,
     },
     /// It exchanged the free owner word to resume, and the Resume isn't logged.
     Resumes {
@@ -31,6 +38,10 @@ pub enum Stage {
     },
     /// Its Wait is logged, and the owner word isn't cleared.
     Waits {
+        object: u32,
+    },
+    /// It stored itself as the owner of the object's monitor, in place of its own record, and hasn't stored the recursions.
+    TakesOver {
         object: u32,
     },
     /// The monitor's recursions count the hold that it is about to store.
@@ -47,14 +58,14 @@ pub enum Stage {
         thread: u32,
         place: u32,
     },
-    /// It told so many waiters of the object, but not all, and the NotifyAll isn't logged.
-    Calls {
+    /// It notified so many waiters of the object, but not all, and the NotifyAll isn't logged.
+    Notifies {
         object: u32,
-        told: u32,
+        notified: u32,
     },
     /// It carries out the revocation of the object's bias at its safepoint, from the first store on. `rebias` is true in an enter,
     /// and `now` is the moment that the policy of bulk operations is given.
-    Settles {
+    Revokes {
         object: u32,
         rebias: bool,
         now: u64,

@@ -13,7 +13,7 @@ use Rattle.plain_history.specs.Appending.{MayAppend}
 use Rattle.plain_history.proofs.Swaps.{take_swap}
 
 -- what does not stand before y does not stand before x, where x stands before y
-not_before : (x y z : ℕ × Logged) → is_before x y ≡ true → is_before z y ≡ false → is_before z x ≡ false
+pub not_before : (x y z : ℕ × Logged) → is_before x y ≡ true → is_before z y ≡ false → is_before z x ≡ false
 not_before x y z h k = grind (arith, nat_tests)
 
 -- none of these stands before x
@@ -26,7 +26,7 @@ IsOrdered [] = Unit {0}
 IsOrdered (x ∷ xs) = NoneBefore x xs × IsOrdered xs
 
 -- where none stands before y, none stands before what stands before y
-none_before : (x y : ℕ × Logged) (zs : List (ℕ × Logged)) → is_before x y ≡ true → NoneBefore y zs → NoneBefore x zs
+pub none_before : (x y : ℕ × Logged) (zs : List (ℕ × Logged)) → is_before x y ≡ true → NoneBefore y zs → NoneBefore x zs
 none_before x y [] h a = tt
 none_before x y (z ∷ zs) h a = (not_before x y z h a.0, none_before x y zs h a.1)
 
@@ -42,7 +42,7 @@ insert_is_ordered x [] a = (tt, tt)
 insert_is_ordered x (y ∷ ys) a = ordered_insert_at_head x y ys (is_before x y) refl a (insert_is_ordered x ys a.1)
 
 -- the order is ordered
-ordered_is_ordered : (xs : List (ℕ × Logged)) → IsOrdered (ordered xs)
+pub ordered_is_ordered : (xs : List (ℕ × Logged)) → IsOrdered (ordered xs)
 ordered_is_ordered [] = tt
 ordered_is_ordered (x ∷ xs) = insert_is_ordered x (ordered xs) (ordered_is_ordered xs)
 
@@ -72,12 +72,12 @@ abbrev pub IsBehindTied : ℕ × Logged → List (ℕ × Logged) → Type 0
 IsBehindTied x zs = AllByRecursion (λ z. is_tied z.1.entry x.1.entry ≡ true → is_before z x ≡ true) zs
 
 -- what would stand before, if it were tied, and does not, is not tied
-untied : (tied before : Bool) → (tied ≡ true → before ≡ true) → before ≡ false → tied ≡ false
+pub untied : (tied before : Bool) → (tied ≡ true → before ≡ true) → before ≡ false → tied ≡ false
 untied false before h k = refl
 untied true before h k = absurd (cc (h refl, k))
 
 -- nothing behind the place of x is tied to it
-free_behind : (x y : ℕ × Logged) (zs : List (ℕ × Logged)) → is_before x y ≡ true → NoneBefore y zs → IsBehindTied x zs → IsFree x zs
+pub free_behind : (x y : ℕ × Logged) (zs : List (ℕ × Logged)) → is_before x y ≡ true → NoneBefore y zs → IsBehindTied x zs → IsFree x zs
 free_behind x y [] h a b = tt
 free_behind x y (z ∷ zs) h a b = (untied (is_tied z.1.entry x.1.entry) (is_before z x) b.0 (not_before x y z h a.0), free_behind x y zs h a.1 b.1)
 

@@ -4,3 +4,8 @@ pub mod Bounds
 pub mod SoundSteps
 pub mod SoundHistories
 pub mod Joined
+pub mod Without
+pub mod HoldSteps
+pub mod HeldByLog
+pub mod Owners
+pub mod EntriesOn

@@ -44,7 +44,7 @@ times_front : (p : ℕ × ℕ) (ps : List (ℕ × ℕ)) (t : ℕ) → times_list
 times_front p ps t = refl
 
 -- both parts of a test that holds hold
-both_true : (a b : Bool) → (a && b) ≡ true → (a ≡ true) × (b ≡ true)
+pub both_true : (a b : Bool) → (a && b) ≡ true → (a ≡ true) × (b ≡ true)
 both_true true b h = (refl, h)
 both_true false b h = absurd (cc h)
 
@@ -89,7 +89,7 @@ pub enter_sound : (m n : PlainMonitor) (t : ℕ) → IsSound m → enter m t ≡
 enter_sound m n t s h = enter_by_owner m.owner m.count t m.waits m.called n s h
 
 -- where t owns the monitor, the owner is t
-owner_is : (o : Option ℕ) (t : ℕ) → is_thread o t ≡ true → o ≡ Some t
+pub owner_is : (o : Option ℕ) (t : ℕ) → is_thread o t ≡ true → o ≡ Some t
 owner_is None t h = absurd (cc h)
 owner_is (Some u) t h = let e : u ≡ t = grind (arith, nat_tests, h) in ap Some e
 
@@ -161,7 +161,7 @@ none_without_at_head p ps t true e ih = rw e ih
 none_without_at_head p ps t false e ih = rw (e, e) (omega (arith, ih))
 
 -- a thread that was taken out is listed no time
-none_without : (ps : List (ℕ × ℕ)) (t : ℕ) → times_listed (without ps t) t ≡ 0
+pub none_without : (ps : List (ℕ × ℕ)) (t : ℕ) → times_listed (without ps t) t ≡ 0
 none_without [] t = refl
 none_without (p ∷ ps) t = none_without_at_head p ps t (p.0 == t) refl (none_without ps t)
 

@@ -3,3 +3,5 @@ pub mod Appending
 pub mod Stamps
 pub mod Sound
 pub mod Joined
+pub mod HeldByLog
+pub mod EnterPaths

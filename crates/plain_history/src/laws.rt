@@ -1,16 +1,18 @@
 //! Laws of histories, which hold of all logs.
 
-ghost use Rattle.std.specs.Prelude.{◌≡◌, ℕ, ◌<◌, ◌≤◌, List, [], length, Option, Some, None, slice_get, slice_set};
+ghost use Rattle.std.specs.Prelude.{◌≡◌, ℕ, ◌<◌, ◌≤◌, false, List, [], ◌∷◌, ◌++◌, length, Option, Some, None, slice_get, slice_set};
 ghost use Rattle.std.specs.List.{AllByRecursion};
 ghost use Rattle.plain_monitor.specs.declared.entry.Entry.{Entry};
 ghost use Rattle.plain_monitor.specs.declared.entry.Logged.{Logged};
 ghost use Rattle.plain_monitor.specs.Objects.{PlainObject, new_objects, take_entry};
 ghost use Rattle.plain_monitor.specs.Order.{order, insert_ordered};
 ghost use Rattle.plain_monitor.specs.History.{RisesAbove, LegalObjects, take_all, objects_after, last_stamp, log_of, appended};
-ghost use Rattle.plain_history.specs.Tied.{bound_to};
+ghost use Rattle.plain_history.specs.Tied.{bound_to, is_same_object};
 ghost use Rattle.plain_history.specs.Appending.{MayAppend};
 ghost use Rattle.plain_history.specs.Stamps.{IsBounded, StampsBound, IsAboveBounds};
 ghost use Rattle.plain_history.specs.Sound.{IsSound};
+ghost use Rattle.plain_history.specs.HeldByLog.{holds_by_monitor, held_by, nothing_held};
+ghost use Rattle.plain_history.specs.EnterPaths.{entries_on};
 ghost use Rattle.plain_history.specs.Joined.{EachTakesItsOwn, EachTakesItsLog, take_all_joined};
 
 /// Where the logs are legal, and the objects after them take an entry that a thread may append: the logs with the entry are
@@ -24,6 +26,15 @@ pub fn an_appended_entry_is_taken_last()
         → objects_after shape (appended logs t l) ≡ Some after }
     ensures inserted { (logs : List (List Logged)) (t : ℕ) (l : Logged) → AllByRecursion (RisesAbove 0) logs → MayAppend logs t l
         → order (appended logs t l) ≡ insert_ordered (t, l) (order logs) }
+{}
+
+/// Of the entries on its object, in the order of all logs, an appended entry stands last; on each other object there are the
+/// entries that were there. A hash is on none.
+pub fn an_appended_entry_is_last_on_its_object()
+    ensures on { (logs : List (List Logged)) (t o : ℕ) (l : Logged) → AllByRecursion (RisesAbove 0) logs → MayAppend logs t l
+        → bound_to l.entry ≡ Some o → entries_on o (order (appended logs t l)) ≡ entries_on o (order logs) ++ l.entry ∷ [] }
+    ensures elsewhere { (logs : List (List Logged)) (t o : ℕ) (l : Logged) → AllByRecursion (RisesAbove 0) logs → MayAppend logs t l
+        → is_same_object (bound_to l.entry) (Some o) ≡ false → entries_on o (order (appended logs t l)) ≡ entries_on o (order logs) }
 {}
 
 /// A thread may append an entry whose stamp is above its last and above a bound on the entries that are bound to the same
@@ -62,6 +73,14 @@ pub fn stamps_stay_bounded()
 pub fn monitors_stay_sound()
     ensures { (shape : List (ℕ × ℕ)) (logs : List (List Logged)) (objects : List PlainObject) → objects_after shape logs ≡ Some objects
         → AllByRecursion (λ x. IsSound x.monitor) objects }
+{}
+
+/// After every legal history, how often a thread holds an object by its own log is how often it stands at the object's plain
+/// monitor: the count that it has there as the owner, or keeps as one who waits or was called.
+pub fn holds_follow_from_the_own_log()
+    ensures { (shape : List (ℕ × ℕ)) (logs : List (List Logged)) (objects : List PlainObject) (t o : ℕ) (x : PlainObject)
+        → LegalObjects shape logs → objects_after shape logs ≡ Some objects → slice_get objects o ≡ Some x
+        → held_by nothing_held (log_of logs t) o ≡ holds_by_monitor x.monitor t }
 {}
 
 /// The states that threads have, and what an entry of its own makes of a thread's state, where that takes it. A crate above

@@ -8,6 +8,7 @@
 mod laws;
 
 pub use laws::{
-    ThreadStates, a_stamp_above_the_bound_may_be_appended, an_appended_entry_is_taken_last,
-    monitors_stay_sound, objects_and_threads_join, stamps_stay_bounded,
+    ThreadStates, a_stamp_above_the_bound_may_be_appended, an_appended_entry_is_last_on_its_object,
+    an_appended_entry_is_taken_last, holds_follow_from_the_own_log, monitors_stay_sound,
+    objects_and_threads_join, stamps_stay_bounded,
 };

@@ -1,7 +1,6 @@
-use Rattle.core_locks.proofs.LookOn.{load_valid, may_look}
-use Rattle.core_world.specs.declared.name.Name.TheVariants.{Displaced}
+use Rattle.core_locks.proofs.Prelude.{Displaced}
+use Rattle.core_locks.proofs.LookOn.{loads}
 use Rattle.core_locks.proofs.looks.a_load_of_a_displaced_word_keeps_the_world_valid.Goals as goal
 
 pub returns : goal.returns
-returns c w P t e u p within inside goes_on check valid =
-    load_valid w P t e (Displaced u p) within (may_look (w.known t) (Displaced u p) inside (λ m is. absurd (cc is))) goes_on check valid
+returns c e u p = loads e (Displaced u p) (λ m is. absurd (cc is))

@@ -1,56 +1,5 @@
-use Rattle.std.proofs.Common.{◌≡◌, ◌<◌, ℕ, true, List, refl, sym, ap, ◌∙◌, arith}
-use Rattle.std.proofs.lemmas.Option.{same_Some}
-use Rattle.mark_word.specs.declared.mark.MarkForm.TheVariants.{Neutral, Locked}
-use Rattle.mark_word.specs.Mark.{mark_of, read_mark}
-use Rattle.mark_word.proofs.ReadingMarks.{read_mark-spells}
-use Rattle.plain_monitor.specs.Objects.{PlainObject}
-use Rattle.plain_monitor.specs.History.{objects_after}
-use Rattle.core_world.specs.declared.name.Name.TheVariants.{Mark, Displaced}
-use Rattle.core_world.specs.declared.plan.StepPlan.{StepPlan}
-use Rattle.core_world.specs.declared.stage.Stage.TheVariants.{Seizes}
-use Rattle.core_world.specs.Forms.{is_neutral, hash_in, hash_form}
-use Rattle.core_world.specs.World.{World}
-use Rattle.core_world.specs.Locks.{Resting, lock, marks, displaced, headers, inflations, hash_at}
-use Rattle.core_world.specs.Plans.{Errand, staged, swap}
-use Rattle.core_world.specs.Valid.{Fits}
-use Rattle.core_world.proofs.Parts.{told_here, logs_stay}
-use Rattle.core_world.proofs.Shows.{running_fits, written_there, lock_by_form}
-use Rattle.core_locks.proofs.MarkMeanings.{neutral_is, neutral_header, locked_read, locked_header}
-use Rattle.core_locks.proofs.RefutedSteps.{knows, hit, swap_hits, hit_fits}
+use Rattle.core_locks.proofs.RefutedExchanges.{exchange_refused}
 use Rattle.core_locks.proofs.refused.no_exchange_without_the_displaced_word.Goals as goal
 
-abbrev exchange : (o t mark p : ℕ) → Errand → StepPlan
-exchange o t mark p e = staged (Seizes o p) (swap e (Mark o) mark (mark_of (Locked t p)))
-
--- a neutral word is told by its hash, as its age is 0
-neutral_word : (n : ℕ) → is_neutral n ≡ true → n ≡ mark_of (Neutral (hash_in n) 0)
-neutral_word n e =
-    let f = neutral_is n e in
-    (read_mark-spells n (Neutral f.0 0) f.1).1 ∙ ap (λ h. mark_of (Neutral h 0)) (sym (ap hash_form f.1))
-
--- the lock rests on a record whose displaced word is the header, so that it is neutral and has the plain hash, as the mark had
-no_exchange : (w : World) (P Q : List PlainObject) (o t mark p : ℕ) (e : Errand) → (w.known t).running ≡ true → p < 64 → is_neutral mark ≡ true → w.words (Mark o) ≡ mark
-    → Fits w P → Fits (hit (exchange o t mark p e) t w) Q → w.words (Displaced t p) ≡ mark
-no_exchange w P Q o t mark p e runs place neutral found before fits =
-    let x = hit (exchange o t mark p e) t w in
-    let goes_on : (x.known t).running ≡ true = ap (λ k. k.running) (told_here t (knows (exchange o t mark p e) t w) w.known) ∙ runs in
-    let few : t < 32 = omega (arith, fits.limits.threads, fits.safe.few t goes_on) in
-    let word : marks x o ≡ mark_of (Locked t p) = written_there (Mark o) _ w.words ∙ (swap_hits (w.words (Mark o)) mark (mark_of (Locked t p)) found).1 in
-    let form = ap read_mark word ∙ locked_read t p few place in
-    let rests : lock x o ≡ Resting t p = lock_by_form x o (Locked t p) form in
-    let header : is_neutral (w.words (Displaced t p)) ≡ true = fits.records.header o t p rests in
-    let hash_now : hash_in (w.words (Displaced t p)) ≡ hash_at Q o =
-    fits.hashes.stands o (w.words (Displaced t p)) (locked_header (marks x o) t p (displaced x) (headers x) (inflations x o) form) in
-    let was_neutral : is_neutral (marks w o) ≡ true = ap is_neutral found ∙ neutral in
-    let hash_before : hash_in (marks w o) ≡ hash_at P o =
-    before.hashes.stands o (marks w o) (neutral_header (marks w o) (displaced w) (headers w) (inflations w o) was_neutral) in
-    let logs_same = ap (objects_after w.shape.objects) (logs_stay 0 w.shape.threads t (knows (exchange o t mark p e) t w) w.known refl) in
-    let objects : Q ≡ P = same_Some Q P (sym fits.taken ∙ logs_same ∙ before.taken) in
-    let hash : hash_in (w.words (Displaced t p)) ≡ hash_in mark = hash_now ∙ ap (λ z. hash_at z o) objects ∙ sym hash_before ∙ ap hash_in found in
-    neutral_word (w.words (Displaced t p)) header ∙ ap (λ h. mark_of (Neutral h 0)) hash ∙ sym (neutral_word mark neutral)
-
 pub returns : goal.returns
-returns c w o t mark p e v runs place neutral found other valid =
-    let test = swap_hits (w.words (Mark o)) mark (mark_of (Locked t p)) found in
-    let afterwards = hit_fits (exchange o t mark p e) t w test.0 runs valid in
-    other (no_exchange w v.objects afterwards.0 o t mark p e runs place neutral found (running_fits w v t runs) afterwards.1)
+returns c = exchange_refused

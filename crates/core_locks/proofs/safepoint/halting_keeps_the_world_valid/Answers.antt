@@ -2,7 +2,7 @@ use Rattle.core_locks.proofs.SafeEnds.{reached_finds, halting_valid}
 use Rattle.core_locks.proofs.safepoint.halting_keeps_the_world_valid.Goals as goal
 
 pub returns-clause-finds : goal.returns-clause-finds
-returns-clause-finds c w P t may valid = reached_finds w P t may.reached valid
+returns-clause-finds c = reached_finds
 
 pub returns-clause-valid : goal.returns-clause-valid
 returns-clause-valid c = halting_valid

@@ -2,4 +2,4 @@ use Rattle.core_locks.proofs.SafeStops.{requesting_valid}
 use Rattle.core_locks.proofs.safepoint.requesting_keeps_the_world_valid.Goals as goal
 
 pub returns : goal.returns
-returns c w P t e word within may goes_on valid = requesting_valid w P t e within word may goes_on valid
+returns c = requesting_valid

@@ -2,4 +2,4 @@ use Rattle.core_locks.proofs.SafeStops.{stopping_valid}
 use Rattle.core_locks.proofs.safepoint.stopping_keeps_the_world_valid.Goals as goal
 
 pub returns : goal.returns
-returns c w P t e within may goes_on valid = stopping_valid w P t e within may goes_on valid
+returns c = stopping_valid

@@ -1,4 +1,4 @@
-use Rattle.core_world.proofs.Opens.{opening_fits, opening_valid}
+use Rattle.core_world.proofs.OpeningFits.{opening_fits, opening_valid}
 use Rattle.core_world.proofs.laws.the_opening_world_is_valid.Goals as goal
 
 pub returns-clause-fits : goal.returns-clause-fits

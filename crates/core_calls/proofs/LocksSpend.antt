@@ -1,0 +1,156 @@
+-- How many steps the parts of calls make: locks, monitors, waits, biases, safepoints, hashes.
+use Rattle.std.proofs.Common.{ℕ, suc, ◌+◌, ◌≤◌, ◌==◌, cond, Bool, Option, Some, None, arith}
+use Rattle.mark_word.specs.declared.mark.MarkForm.{MarkForm}
+use Rattle.mark_word.specs.declared.mark.MarkForm.TheVariants.{Inflating, Neutral, Anonymous, Biased, Locked, Inflated, Marked}
+use Rattle.mark_word.specs.declared.owner.OwnerForm.{OwnerForm}
+use Rattle.mark_word.specs.declared.owner.OwnerForm.TheVariants.{Free, ByThread, ByRecord}
+use Rattle.mark_word.specs.Mark.{mark_of, read_mark}
+use Rattle.mark_word.specs.Owner.{owner_of, read_owner}
+use Rattle.plain_monitor.specs.declared.entry.Path.{Path}
+use Rattle.plain_monitor.specs.declared.entry.Path.TheVariants.{StackFirst, StackAgain, MonitorFirst, MonitorAgain}
+use Rattle.core_world.specs.declared.plan.StepPlan.{StepPlan}
+use Rattle.core_world.specs.declared.name.Name.TheVariants.{Mark}
+use Rattle.core_world.specs.declared.plan.Own.TheVariants as own
+use Rattle.core_world.specs.declared.stage.Stage.{Stage}
+use Rattle.core_world.specs.declared.stage.Stage.TheVariants.{Calm, Grabs, Ahead, Inflates}
+use Rattle.core_world.specs.declared.answer.StackOut.{StackOut}
+use Rattle.core_world.specs.declared.answer.StackOut.TheVariants.{Left, Monitor, Not}
+use Rattle.core_world.specs.declared.answer.Why.TheVariants as why
+use Rattle.core_world.specs.Words.Forms.{is_entering, is_biased}
+use Rattle.core_world.specs.Threads.Known.{Local}
+use Rattle.core_world.specs.Locks.{hold_count}
+use Rattle.core_world.specs.Trees.Plans.{Purpose, with_own, store, swap, done_with, pending_for}
+use Rattle.core_world.specs.Trees.Todo.{Todo, step, ◌>>=◌, ask}
+use Rattle.core_world.specs.Trees.LockSteps.{hold_steps, stack_enter_at, stack_exit_at, raise_steps, stack_exit_steps}
+use Rattle.core_world.specs.Trees.MonitorSteps.{inflate_with, inflate_by, inflate_at, inflate_steps, record_steps, monitor_enter_at, monitor_enter_steps, monitor_exit_steps}
+use Rattle.core_world.specs.Trees.BiasSteps.{bias_exit_steps}
+use Rattle.core_calls.proofs.Spends.{Spend, spend_done, spend_never, spend_more, spend_step, spend_either, spend_both, spend_any}
+use Rattle.core_calls.proofs.MonitorsSay.{prepare_spends, own_spends}
+
+-- steps of every kind
+abbrev pub Any : StepPlan → Type 0
+Any p = Unit {0}
+
+pub any_step : {A : Type 0} {rest : A → ℕ} {p : StepPlan} {f : ℕ → Todo A} {n : ℕ} → ((word : ℕ) → Spend Any rest n (f word)) → Spend Any rest (suc n) (step p f)
+any_step h = spend_step tt h
+
+-- nothing is left after the answer
+abbrev pub Nothing : {A : Type 0} → A → ℕ
+Nothing a = 0
+
+module _ (e : Purpose) (k : Local) (o : ℕ) where
+  pub hold_spends : (path : Path) → Spend Any Nothing 3 (hold_steps e k o path)
+  hold_spends path =
+      any_step {n = 2} (λ _. spend_either (is_entering k.wait)
+      (any_step {n = 1} (λ _. any_step {n = 0} (λ _. spend_done (omega arith))))
+      (any_step {n = 1} (λ _. spend_done (omega arith))))
+
+  -- The hold is stored, and that is the answer.
+  held_spends : (path : Path) → Spend Any Nothing 3 (hold_steps e k o path >>= λ path. done_with path)
+  held_spends path = spend_both (hold_spends path) (λ path. spend_done {n = 0} (omega arith)) (omega arith)
+
+  pub stack_enter_spends : (form : Option MarkForm) (mark : ℕ) → Spend Any Nothing 5 (stack_enter_at form e k o mark)
+  stack_enter_spends (Some (Neutral hash age)) mark =
+      any_step {n = 4} (λ _. any_step {n = 3} (λ found. spend_either (found == mark) (held_spends StackFirst) (spend_done (omega arith))))
+  stack_enter_spends (Some (Locked thread place)) mark = spend_more (omega arith) (any_step {n = 3} (λ _. held_spends StackAgain))
+  stack_enter_spends (Some Inflating) mark = spend_never
+  stack_enter_spends (Some (Anonymous epoch age)) mark = spend_never
+  stack_enter_spends (Some (Biased thread epoch age)) mark = spend_never
+  stack_enter_spends (Some (Inflated monitor)) mark = spend_never
+  stack_enter_spends (Some Marked) mark = spend_never
+  stack_enter_spends None mark = spend_never
+
+  raise_spends : Spend Any Nothing 1 (raise_steps e k o)
+  raise_spends = spend_either (hold_count o k.holds == 1) (any_step {n = 0} (λ _. spend_done (omega arith))) (spend_done (omega arith))
+
+  -- where the object is inflated, so many are left for its monitor
+  abbrev pub to_monitor : ℕ → StackOut → ℕ
+  to_monitor n Left = 0
+  to_monitor n (Monitor number) = n
+  to_monitor n (Not why) = 0
+
+  exit_at_spends : (n : ℕ) → 2 ≤ n → (form : Option MarkForm) (header mark : ℕ) → Spend Any (to_monitor n) n (stack_exit_at form e k o header mark)
+  exit_at_spends n two (Some Inflating) header mark = spend_done (omega arith)
+  exit_at_spends n two (Some (Locked thread place)) header mark =
+      spend_more two (any_step {n = 1} (λ found. spend_either (found == mark) (any_step {n = 0} (λ _. spend_done (omega arith))) (spend_done (omega arith))))
+  exit_at_spends n two (Some (Inflated monitor)) header mark = spend_done (omega arith)
+  exit_at_spends n two (Some (Neutral hash age)) header mark = spend_never
+  exit_at_spends n two (Some (Anonymous epoch age)) header mark = spend_never
+  exit_at_spends n two (Some (Biased thread epoch age)) header mark = spend_never
+  exit_at_spends n two (Some Marked) header mark = spend_never
+  exit_at_spends n two None header mark = spend_never
+
+  pub stack_exit_spends : (n : ℕ) → 2 ≤ n → Spend Any (to_monitor n) (n + 3) (stack_exit_steps e k o)
+  stack_exit_spends n two =
+      spend_both {k = n + 2} raise_spends (λ _. spend_more (omega arith) (any_step {n = n + 1} (λ header. spend_either (header == 0)
+      (spend_more (omega (arith, two)) (any_step {n = 0} (λ _. spend_done (omega arith))))
+      (spend_more (omega arith) (any_step {n = n} (λ mark. exit_at_spends n two (read_mark mark) header mark)))))) (omega arith)
+
+  -- under a bias the exit is made, and else so many are left
+  abbrev pub unless_biased : ℕ → Bool → ℕ
+  unless_biased n biased = cond biased 0 n
+
+  pub bias_exit_spends : (n : ℕ) → 1 ≤ n → Spend Any (unless_biased n) (n + 2) (bias_exit_steps e k o)
+  bias_exit_spends n one =
+      spend_both {k = n + 1} raise_spends (λ _. spend_more (omega arith) (any_step {n = n} (λ mark. spend_either (is_biased mark)
+      (spend_more one (any_step {n = 0} (λ _. spend_done (omega arith))))
+      (spend_done (omega arith))))) (omega arith)
+
+  -- MONITORS
+  naming_spends : (mark m : ℕ) → Spend Any Nothing 1 (ask (with_own own.Spend (swap e (Mark o) mark (mark_of (Inflated m)))) >>= λ found. cond (found == mark) (done_with m) (pending_for (why.Raced mark found)))
+  naming_spends mark m = any_step {n = 0} (λ found. spend_either (found == mark) (spend_done (omega arith)) (spend_done (omega arith)))
+
+  inflated_spends : (m : ℕ) → Spend Any Nothing 1 (ask (with_own own.Spend (store e (Mark o) (mark_of (Inflated m)))) >>= λ _. done_with m)
+  inflated_spends m = any_step {n = 0} (λ _. spend_done (omega arith))
+
+  pub inflate_with_spends : (form : Option MarkForm) (mark m : ℕ) → Spend Any Nothing 7 (inflate_with form e o mark m)
+  inflate_with_spends (Some (Locked thread place)) mark m =
+      any_step {n = 6} (λ found. spend_either (found == mark)
+      (any_step {n = 5} (λ header. spend_both {k = 1} (spend_any (prepare_spends e (Inflates o thread place) o m header (owner_of (ByRecord thread place)))) (λ _. inflated_spends m) (omega arith)))
+      (spend_done (omega arith)))
+  inflate_with_spends (Some (Neutral hash age)) mark m =
+      spend_both {k = 1} (spend_any (prepare_spends e Calm o m mark (owner_of Free))) (λ _. naming_spends mark m) (omega arith)
+  inflate_with_spends (Some Inflating) mark m = spend_never
+  inflate_with_spends (Some (Anonymous epoch age)) mark m = spend_never
+  inflate_with_spends (Some (Biased thread epoch age)) mark m = spend_never
+  inflate_with_spends (Some (Inflated monitor)) mark m = spend_never
+  inflate_with_spends (Some Marked) mark m = spend_never
+  inflate_with_spends None mark m = spend_never
+
+  inflate_by_spends : (kept : Option ℕ) (mark : ℕ) → Spend Any Nothing 8 (inflate_by kept e o mark)
+  inflate_by_spends (Some m) mark = spend_more (omega arith) (inflate_with_spends (read_mark mark) mark m)
+  inflate_by_spends None mark = any_step {n = 7} (λ m. inflate_with_spends (read_mark mark) mark m)
+
+  inflate_at_spends : (form : Option MarkForm) (kept : Option ℕ) (mark : ℕ) → Spend Any Nothing 8 (inflate_at form e kept o mark)
+  inflate_at_spends (Some Inflating) kept mark = spend_done (omega arith)
+  inflate_at_spends (Some (Inflated monitor)) kept mark = spend_done (omega arith)
+  inflate_at_spends (Some (Neutral hash age)) kept mark = inflate_by_spends kept mark
+  inflate_at_spends (Some (Anonymous epoch age)) kept mark = inflate_by_spends kept mark
+  inflate_at_spends (Some (Biased thread epoch age)) kept mark = inflate_by_spends kept mark
+  inflate_at_spends (Some (Locked thread place)) kept mark = inflate_by_spends kept mark
+  inflate_at_spends (Some Marked) kept mark = inflate_by_spends kept mark
+  inflate_at_spends None kept mark = inflate_by_spends kept mark
+
+  pub inflate_spends : (kept : Option ℕ) → Spend Any Nothing 9 (inflate_steps e kept o)
+  inflate_spends kept = any_step {n = 8} (λ mark. inflate_at_spends (read_mark mark) kept mark)
+
+  record_spends : (stage : Stage) (path : Path) → Spend Any Nothing 4 (record_steps e stage k o path)
+  record_spends stage path = any_step {n = 3} (λ _. held_spends path)
+
+  monitor_enter_at_spends : (form : Option OwnerForm) (m found : ℕ) → Spend Any Nothing 6 (monitor_enter_at form e k o m found)
+  monitor_enter_at_spends (Some Free) m found = spend_more (omega arith) (record_spends (Grabs o) MonitorFirst)
+  monitor_enter_at_spends (Some (ByThread thread)) m found =
+      spend_either (thread == k.thread) (any_step {n = 5} (λ recursions. any_step {n = 4} (λ _. record_spends (Ahead o) MonitorAgain))) (spend_more (omega arith) (any_step {n = 0} (λ _. spend_done (omega arith))))
+  monitor_enter_at_spends (Some (ByRecord thread place)) m found =
+      spend_either (thread == k.thread) (any_step {n = 5} (λ _. any_step {n = 4} (λ _. record_spends (Ahead o) MonitorAgain))) (spend_more (omega arith) (any_step {n = 0} (λ _. spend_done (omega arith))))
+  monitor_enter_at_spends None m found = spend_never
+
+  pub monitor_enter_spends : (m : ℕ) → Spend Any Nothing 7 (monitor_enter_steps e k o m)
+  monitor_enter_spends m = any_step {n = 6} (λ found. monitor_enter_at_spends (read_owner found) m found)
+
+  pub monitor_exit_spends : (m : ℕ) → Spend Any Nothing 6 (monitor_exit_steps e k o m)
+  monitor_exit_spends m =
+      any_step {n = 5} (λ owner. spend_both {k = 3} (spend_any (own_spends (read_owner owner) e k o m)) (λ _.
+      any_step {n = 2} (λ recursions. spend_either (recursions == 0)
+      (any_step {n = 1} (λ _. any_step {n = 0} (λ _. spend_done (omega arith))))
+      (any_step {n = 1} (λ _. any_step {n = 0} (λ _. spend_done (omega arith)))))) (omega arith))

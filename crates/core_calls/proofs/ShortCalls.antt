@@ -1,0 +1,104 @@
+-- The enters that are common take few steps.
+use Rattle.std.proofs.Common.{◌≡◌, ℕ, ◌+◌, ◌==◌, cond, Bool, true, false, Option, Some, Result, Err, refl, ap, sym, subst, arith, eq-eqb}
+use Rattle.mark_word.specs.declared.mark.MarkForm.{MarkForm}
+use Rattle.mark_word.specs.declared.mark.MarkForm.TheVariants.{Neutral, Anonymous, Biased}
+use Rattle.mark_word.specs.Mark.{read_mark}
+use Rattle.plain_monitor.specs.declared.entry.Path.{Path}
+use Rattle.plain_monitor.specs.declared.entry.Path.TheVariants.{BiasOwn}
+use Rattle.core_world.specs.declared.name.Name.TheVariants.{Prototype}
+use Rattle.core_world.specs.declared.task.Op.TheVariants as op
+use Rattle.core_world.specs.declared.task.Task.TheVariants as task
+use Rattle.core_world.specs.declared.answer.BiasTry.{BiasTry}
+use Rattle.core_world.specs.declared.answer.BiasTry.TheVariants.{Unbiased, Valid}
+use Rattle.core_world.specs.declared.answer.Turn.{Turn}
+use Rattle.core_world.specs.declared.answer.TooDeep.{TooDeep}
+use Rattle.core_world.specs.Words.Forms.{is_biased, is_biased_form}
+use Rattle.core_world.specs.Threads.Known.{Start}
+use Rattle.core_world.specs.Trees.Plans.{Purpose, purpose, load, free_place}
+use Rattle.core_world.specs.Words.Shape.{Shape, class_of}
+use Rattle.core_world.specs.Threads.Stages.{Revocation}
+use Rattle.core_world.specs.Trees.Todo.{Todo, done, never, ◌>>=◌, ask, after_answer}
+use Rattle.core_world.specs.Trees.BiasSteps.{bias_enter_at, bias_enter_by, bias_enter_steps, took_steps}
+use Rattle.core_world.specs.Trees.Operations.{goes_on_with, answer, enter_at, enter_revoked, enter_tried, full_steps, enter_steps}
+use Rattle.core_calls.specs.Bounds.{IsWithin, a_revocation}
+use Rattle.core_calls.proofs.Spends.{Spend, spend_never, spend_then}
+use Rattle.core_calls.proofs.LocksSpend.{Any, Nothing, stack_enter_spends}
+use Rattle.core_calls.proofs.PartsSpend.{took_spends}
+use Rattle.core_calls.proofs.CallsSpend.{answers, enter_at_spends, tried_spends, spend_within}
+
+module _ (s : Shape) (k : Start) (o now : ℕ) where
+  abbrev entering : Purpose
+  entering = purpose (task.Enter o now) op.Enter o
+
+  abbrev revoking : Revocation
+  revoking = record { object = o; rebias = true; now = now }
+
+  -- what is to do once the mark is loaded, and once the prototype is
+  abbrev by_mark : ℕ → Todo BiasTry
+  by_mark mark = after_answer (bias_enter_steps entering k.local (class_of s o) o) mark
+
+  abbrev goes_on : Todo BiasTry → Todo (Result (Turn Path) TooDeep)
+  goes_on tried = (tried >>= λ tried. enter_tried tried s entering k revoking) >>= answer
+
+  abbrev too_deep : Todo (Result (Turn Path) TooDeep)
+  too_deep = done (Err record {})
+
+  -- the enter at its first answer, of a thread that requests no safepoint
+  at_mark : (full requesting : Bool) (mark n : ℕ) → requesting ≡ false → Spend Any Nothing n (goes_on (by_mark mark)) → Spend Any Nothing n (after_answer (cond full (full_steps k o) (cond requesting (enter_revoked s true entering k revoking) (bias_enter_steps entering k.local (class_of s o) o >>= λ tried. enter_tried tried s entering k revoking) >>= answer)) mark)
+  at_mark true requesting mark n none h = full (goes_on_with op.Enter o k.unfinished)
+    where
+      full : (b : Bool) → Spend Any Nothing n (after_answer (cond b never too_deep) mark)
+      full true = spend_never
+      full false = spend_never
+  at_mark false true mark n none h = absurd (cc none)
+  at_mark false false mark n none h = h
+
+  -- a mark without the bias pattern
+  unbiased : (mark n : ℕ) → is_biased mark ≡ false → Spend Any Nothing n (enter_at (read_mark mark) entering k o mark) → Spend Any Nothing n (goes_on (by_mark mark))
+  unbiased mark n none h = by_bias (is_biased mark) none _
+    where
+      by_bias : (b : Bool) → b ≡ false → (x : Todo BiasTry) → Spend Any Nothing n (goes_on (cond b x (done (Unbiased mark))))
+      by_bias true none x = absurd (cc none)
+      by_bias false none x = answers h
+
+  pub unbiased_enter : (mark : ℕ) → k.requesting ≡ false → is_biased mark ≡ false → IsWithin 16 (after_answer (enter_steps s k o now) mark)
+  unbiased_enter mark none plain =
+      spend_within _ 16 (at_mark (free_place k.local.holds == 64) k.requesting mark 16 none (unbiased mark 16 plain (enter_at_spends s entering k (read_mark mark) o mark)))
+
+  pub free_enter : (mark hash age : ℕ) → k.requesting ≡ false → read_mark mark ≡ Some (Neutral hash age) → IsWithin 5 (after_answer (enter_steps s k o now) mark)
+  free_enter mark hash age none is =
+      spend_within _ 5 (at_mark (free_place k.local.holds == 64) k.requesting mark 5 none (unbiased mark 5 (ap is_biased_form is)
+      (subst (λ (form : Option MarkForm). Spend Any Nothing 5 (enter_at form entering k o mark)) (sym is) (stack_enter_spends entering k.local o (read_mark mark) mark))))
+
+  -- and at its second
+  at_prototype : (full requesting : Bool) (mark prototype n : ℕ) → requesting ≡ false → Spend Any Nothing n (after_answer (goes_on (by_mark mark)) prototype) → Spend Any Nothing n (after_answer (after_answer (cond full (full_steps k o) (cond requesting (enter_revoked s true entering k revoking) (bias_enter_steps entering k.local (class_of s o) o >>= λ tried. enter_tried tried s entering k revoking) >>= answer)) mark) prototype)
+  at_prototype true requesting mark prototype n none h = full (goes_on_with op.Enter o k.unfinished)
+    where
+      full : (b : Bool) → Spend Any Nothing n (after_answer (after_answer (cond b never too_deep) mark) prototype)
+      full true = spend_never
+      full false = spend_never
+  at_prototype false true mark prototype n none h = absurd (cc none)
+  at_prototype false false mark prototype n none h = h
+
+  biased : (mark prototype n : ℕ) → is_biased mark ≡ true → Spend Any Nothing n (goes_on (bias_enter_by (read_mark prototype) entering k.local o mark prototype)) → Spend Any Nothing n (after_answer (goes_on (by_mark mark)) prototype)
+  biased mark prototype n so h = by_bias (is_biased mark) so
+    where
+      by_bias : (b : Bool) → b ≡ true → Spend Any Nothing n (after_answer (goes_on (cond b (ask (load entering (Prototype (class_of s o))) >>= λ prototype. bias_enter_by (read_mark prototype) entering k.local o mark prototype) (done (Unbiased mark)))) prototype)
+      by_bias true so = h
+      by_bias false so = absurd (cc so)
+
+  -- the hold alone is stored
+  own : (epoch age mark : ℕ) → Spend Any Nothing 3 (goes_on (bias_enter_at (Some (Biased k.local.thread epoch age)) epoch entering k.local o mark))
+  own epoch age mark = answers (by_epoch (epoch == epoch) (eq-eqb epoch epoch refl) (k.local.thread == k.local.thread) (eq-eqb k.local.thread k.local.thread refl) _)
+    where
+      by_epoch : (b : Bool) → b ≡ true → (c : Bool) → c ≡ true → (x : Todo BiasTry) → Spend Any Nothing 3 (cond b (cond c (took_steps entering k.local o BiasOwn) (done (Valid mark))) x >>= λ tried. enter_tried tried s entering k revoking)
+      by_epoch false so c c_so x = absurd (cc so)
+      by_epoch true so false c_so x = absurd (cc c_so)
+      by_epoch true so true c_so x =
+          spend_then (took_spends entering k.local o (a_revocation s + 18) 16 (a_revocation s + 18) (omega arith) (omega arith) (omega arith) BiasOwn) (tried_spends s entering k revoking)
+
+  pub own_enter : (mark prototype epoch age other : ℕ) → k.requesting ≡ false → read_mark mark ≡ Some (Biased k.local.thread epoch age) → read_mark prototype ≡ Some (Anonymous epoch other) → IsWithin 3 (after_answer (after_answer (enter_steps s k o now) mark) prototype)
+  own_enter mark prototype epoch age other none is valid =
+      spend_within _ 3 (at_prototype (free_place k.local.holds == 64) k.requesting mark prototype 3 none (biased mark prototype 3 (ap is_biased_form is)
+      (subst (λ (form : Option MarkForm). Spend Any Nothing 3 (goes_on (bias_enter_by form entering k.local o mark prototype))) (sym valid)
+      (subst (λ (form : Option MarkForm). Spend Any Nothing 3 (goes_on (bias_enter_at form epoch entering k.local o mark))) (sym is) (own epoch age mark)))))

@@ -1,0 +1,13 @@
+use Rattle.core_calls.proofs.Runs.{tells}
+use Rattle.core_calls.proofs.OtherCallsSay.{dump_says}
+use Rattle.core_calls.proofs.ShotsKept.{dump_shoots}
+use Rattle.core_calls.proofs.telling.dump_logs_its_answer.Goals as goal
+
+pub returns-clause-steps : goal.returns-clause-steps
+returns-clause-steps c = dump_says
+
+pub returns-clause-run : goal.returns-clause-run
+returns-clause-run c s k shape start before after answer ran = tells (dump_says s k) ran
+
+pub returns-clause-keeps : goal.returns-clause-keeps
+returns-clause-keeps c s k shape start number before after ran = dump_shoots shape start s k number before after ran

@@ -1,0 +1,46 @@
+-- How many atomic steps a call makes at most, whatever words its steps find: no call waits or tries again.
+use Rattle.std.specs.Prelude.{ℕ, zero, suc, ◌+◌, ◌*◌, length}
+use Rattle.core_world.specs.declared.task.Task.{Task}
+use Rattle.core_world.specs.declared.task.Task.TheVariants.{Enter, Exit, Wait, Notify, NotifyAll, Hash, Get, Put, Print, Dump, Finish, Poll, Stop, Resume, Check, StackEnter, StackExit, Request, Reached, Release}
+use Rattle.core_world.specs.Words.Shape.{Shape}
+use Rattle.core_world.specs.Trees.Todo.{Todo, done, never, step}
+
+-- on no path are there more than n steps
+abbrev pub IsWithin : {A : Type 0} → ℕ → Todo A → Type 0
+IsWithin n (done a) = Unit {0}
+IsWithin n never = Unit {0}
+IsWithin zero (step p f) = ⊥
+IsWithin (suc n) (step p f) = (word : ℕ) → IsWithin n (f word)
+
+-- the visit of a lock record at a bulk operation: its hold word, the mark of its object, the 64 hold words of the thread that has the bias,
+-- and at most a store for each of these and for the mark
+abbrev pub a_visit : ℕ
+a_visit = 1 + 1 + 64 + 64 + 1
+
+-- the revocation of a bias: a safepoint is requested, and released at the end; the 64 lock records of each thread are visited at most
+-- once; and there are at most 143 steps besides
+abbrev pub a_revocation : Shape → ℕ
+a_revocation s = 64 * a_visit * s.threads + 143
+
+-- at most so many steps has a call
+abbrev pub most_steps : Shape → Task → ℕ
+most_steps s (Enter o now) = a_revocation s + 20
+most_steps s (Exit o) = 11
+most_steps s (Wait o now) = a_revocation s + 25
+most_steps s (Notify o now) = a_revocation s + s.threads + 4
+most_steps s (NotifyAll o now) = a_revocation s + 2 * s.threads + 4
+most_steps s (Hash o now) = a_revocation s + 15
+most_steps s (Get o slot) = 1
+most_steps s (Put o slot value) = 1
+most_steps s (Print value) = 1
+most_steps s Dump = 66 * length s.objects + s.threads + 6
+most_steps s (Finish ending) = 2
+most_steps s Poll = 1
+most_steps s Stop = 2
+most_steps s Resume = 2
+most_steps s Check = 3 * s.threads + 4
+most_steps s (StackEnter o mark) = 5
+most_steps s (StackExit o) = 5
+most_steps s Request = 2
+most_steps s Reached = 1
+most_steps s Release = 1

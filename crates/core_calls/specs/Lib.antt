@@ -1,0 +1,6 @@
+pub mod Paths
+pub mod Causes
+pub mod CallsSay
+pub mod Bounds
+pub mod Woken
+pub mod Stuck

@@ -1,0 +1,34 @@
+//! Laws of calls on the heap, by the trees of their steps alone: what each call logs and leaves unfinished, why it is pending, and how
+//! many steps it makes.
+//!
+//! A law is a public function with an empty body. No world is spoken of: a call's steps are a tree, with a branch for each word that
+//! a step may find, and a law holds along every path. So the code that makes a call's steps knows all this by following the
+//! tree.
+#![tactic(auto)]
+
+mod bounding;
+mod locking;
+mod running;
+mod stopping;
+mod telling;
+mod waiting;
+
+pub use bounding::{a_revocation_is_bounded, common_enters_are_short, every_call_is_bounded};
+pub use locking::{
+    enter_logs_its_answer, exit_logs_its_answer, stack_enter_logs_its_answer,
+    stack_exit_logs_its_answer,
+};
+pub use running::{a_run_follows_a_path_of_its_tree, steps_make_of_knowledge_what_they_leave};
+pub use stopping::{
+    check_answers_whether_any_thread_goes_on, check_logs_nothing, poll_logs_nothing,
+    reached_logs_nothing, release_logs_nothing, request_logs_nothing, resume_logs_nothing,
+    stop_logs_nothing,
+};
+pub use telling::{
+    dump_logs_its_answer, finish_logs_its_ending, get_logs_its_answer, hash_logs_its_answer,
+    print_logs_its_value, put_logs_its_value,
+};
+pub use waiting::{
+    notify_all_logs_its_answer, notify_logs_its_answer, notify_wakes_the_oldest_waiter,
+    wait_logs_its_answer,
+};

@@ -1,0 +1,62 @@
+-- The bias law holds of the opening world.
+use Rattle.std.proofs.Common.{◌≡◌, ℕ, zero, suc, ◌+◌, Bool, true, false, None, List, [], refl, sym, ap, arith, subst, inl}
+use Rattle.plain_monitor.specs.declared.entry.Entry.{Entry}
+use Rattle.plain_monitor.specs.Order.{order, ordered, with_threads}
+use Rattle.core_world.specs.declared.stage.Stage.TheVariants.{Calm}
+use Rattle.core_world.specs.Threads.Counts.{no_counts}
+use Rattle.core_world.specs.Words.Shape.{Shape, class_of}
+use Rattle.core_world.specs.World.{logs_from}
+use Rattle.core_world.specs.Locks.{lock}
+use Rattle.core_world.specs.Opening.{opening, first_known, first_mark}
+use Rattle.core_counts.specs.BiasLaw.{BiasLaw, BiasLawHolds}
+use Rattle.core_counts.specs.CountsAndVerdicts.{CountFits, sum_below}
+use Rattle.core_counts.specs.MarksAndLogs.{is_anonymous, is_anonymous_form}
+use Rattle.plain_history.specs.EnterPaths.{entries_on}
+use Rattle.core_world.proofs.Readings.{mark_five}
+
+no_entries : (u v n : ℕ) → with_threads u (logs_from v n first_known) ≡ []
+no_entries u v zero = refl
+no_entries u v (suc n) = no_entries (u + 1) (v + 1) n
+
+none_on : (n : ℕ) → ◌≡◌ {A = ℕ → List Entry} (λ (o : ℕ). entries_on o (order (logs_from 0 n first_known))) (λ (o : ℕ). [])
+none_on n = λ i. λ o. entries_on o (ordered (no_entries 0 0 n i))
+
+sum_none : (n : ℕ) → sum_below n (λ i. 0) ≡ 0
+sum_none zero = refl
+sum_none (suc n) = let a = sum_none n in omega (arith, a)
+
+first_anonymous : (biasing : Bool) → biasing ≡ true → is_anonymous (first_mark biasing) ≡ true
+first_anonymous true e = ap is_anonymous_form mark_five
+first_anonymous false e = absurd (cc e)
+
+counts_none : (n : ℕ) → n ≡ 0 → CountFits 0 n n n n
+counts_none n e = subst (λ (m : ℕ). CountFits 0 m m m m) (sym e) (record {
+  revoked = refl;
+  rebiased = λ h. absurd (omega arith);
+  spent = omega arith;
+  few = omega arith;
+  capped = omega arith;
+  even = λ h. refl;
+  rebias_once = λ h. refl;
+  revoke_once = λ h. refl;
+})
+
+pub opening_meets : (s : Shape) (start : ℕ) (biasing : Bool) → BiasLawHolds (opening s start biasing)
+opening_meets s start biasing =
+    subst (λ (entries : ℕ → List Entry). BiasLaw biasing s.threads s.classes (class_of s) (λ o. first_mark biasing) (lock (opening s start biasing)) entries (λ t. []) (λ t. Calm) (λ t. None) (λ c. 0) (λ t c. no_counts))
+    (sym (none_on s.threads))
+    (record {
+      marks = record {
+        ended = λ o e. absurd (cc e);
+        stays = λ o. tt;
+        biased = λ t o path e. absurd (cc e);
+        unbiased = λ t o path e. absurd (cc e);
+        unentered = λ e o f g. inl (first_anonymous biasing e);
+        entered = λ e o path f g. absurd (cc g);
+      };
+      paths = record { logged = λ t. tt; coming = λ t o path e. absurd (cc e) };
+      count_fits = λ c. counts_none _ (sum_none s.threads);
+      verdicts = λ t. inl (let a = sum_none s.classes in omega (arith, a));
+      plain = λ e o. refl;
+      uncounted = λ e t c. refl;
+    })

@@ -1,0 +1,41 @@
+-- The law of biases: what the counts of verdicts and the words of the classes say of one another, and what the logs say of the marks.
+use Rattle.std.specs.Prelude.{◌≡◌, ℕ, Bool, false, List, Option}
+use Rattle.std.specs.List.{list_any}
+use Rattle.plain_monitor.specs.declared.entry.Entry.{Entry}
+use Rattle.plain_monitor.specs.declared.entry.Logged.{Logged}
+use Rattle.plain_monitor.specs.Order.{order}
+use Rattle.plain_history.specs.EnterPaths.{entries_on, needs_bias}
+use Rattle.core_world.specs.declared.name.Name.TheVariants.{Revocations}
+use Rattle.core_world.specs.declared.stage.Stage.{Stage}
+use Rattle.core_world.specs.declared.task.Unfinished.{Unfinished}
+use Rattle.core_world.specs.Threads.Counts.{ClassCounts, counts_of}
+use Rattle.core_world.specs.Locks.{Lock, lock, marks}
+use Rattle.core_world.specs.Words.Shape.{class_of}
+use Rattle.core_world.specs.World.{World, logs}
+use Rattle.core_counts.specs.MarksAndLogs.{EntersFitMarks, PathsFitHolds}
+use Rattle.core_counts.specs.CountsAndVerdicts.{ClassFits, VerdictsFit, sum_below, verdicts_on}
+
+-- a class's counts, summed over the first n threads
+abbrev pub summed : ℕ → (ℕ → ℕ → ClassCounts) → ℕ → ClassCounts
+summed n counts c =
+    record {
+      single = sum_below n (λ t. (counts t c).single);
+      rebias = sum_below n (λ t. (counts t c).rebias);
+      revoke = sum_below n (λ t. (counts t c).revoke);
+      reset = sum_below n (λ t. (counts t c).reset);
+    }
+
+-- the law, of threads and classes below these numbers; `counts` are each thread's, by class
+pub record BiasLaw (biasing : Bool) (threads classes : ℕ) (class mark : ℕ → ℕ) (lock : ℕ → Lock) (entries : ℕ → List Entry) (log : ℕ → List Logged) (stage : ℕ → Stage) (unfinished : ℕ → Option Unfinished) (count : ℕ → ℕ) (counts : ℕ → ℕ → ClassCounts) : Type 0 where
+  pub marks : EntersFitMarks biasing class mark lock entries log stage unfinished (λ c. (summed threads counts c).revoke)
+  pub paths : PathsFitHolds log stage
+  pub count_fits : (c : ℕ) → ClassFits (count c) (summed threads counts c)
+  pub verdicts : (t : ℕ) → VerdictsFit mark (sum_below classes (λ c. verdicts_on (counts t c))) (log t) (stage t) (unfinished t)
+  -- without biases no Enter has a bias path, and no verdict is counted
+  pub plain : biasing ≡ false → (o : ℕ) → list_any needs_bias (entries o) ≡ false
+  pub uncounted : biasing ≡ false → (t c : ℕ) → verdicts_on (counts t c) ≡ 0
+
+abbrev pub BiasLawHolds : World → Type 0
+BiasLawHolds w =
+    BiasLaw w.biasing w.shape.threads w.shape.classes (class_of w.shape) (marks w) (lock w) (λ o. entries_on o (order (logs w)))
+    (λ t. (w.known t).log) (λ t. (w.known t).stage) (λ t. (w.known t).unfinished) (λ c. w.words (Revocations c)) (λ t. counts_of (w.known t).counts)

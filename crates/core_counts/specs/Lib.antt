@@ -1,0 +1,6 @@
+pub mod MarksAndLogs
+pub mod CountsAndVerdicts
+pub mod BiasLaw
+pub mod Moves
+pub mod Steps
+pub mod OfARun

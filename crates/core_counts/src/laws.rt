@@ -1,0 +1,56 @@
+//! Laws of the parts of the law of biases, over the functions that it reads.
+
+ghost use Rattle.std.specs.Prelude.{ℕ, Bool, List, Option};
+ghost use Rattle.plain_monitor.specs.declared.entry.Entry.{Entry};
+ghost use Rattle.plain_monitor.specs.declared.entry.Logged.{Logged};
+ghost use Rattle.lock_policy.specs.Policy.{decided};
+ghost use Rattle.core_world.specs.declared.name.Name.{Name};
+ghost use Rattle.core_world.specs.declared.name.Name.TheVariants.{Revocations, LastBulk};
+ghost use Rattle.core_world.specs.declared.stage.Stage.{Stage};
+ghost use Rattle.core_world.specs.declared.task.Unfinished.{Unfinished};
+ghost use Rattle.core_world.specs.Threads.Counts.{ClassCounts};
+ghost use Rattle.core_world.specs.Locks.{Lock};
+ghost use Rattle.core_world.specs.Words.Names.{with_word};
+ghost use Rattle.core_world.specs.Opening.{opening};
+ghost use Rattle.core_world.specs.RevocationRules.{revocation_writes, words_after};
+ghost use Rattle.core_world.specs.Words.Shape.{Shape, class_of};
+ghost use Rattle.core_world.specs.Threads.Stages.{Revocation};
+ghost use Rattle.core_counts.specs.BiasLaw.{BiasLawHolds};
+ghost use Rattle.core_counts.specs.CountsAndVerdicts.{ClassFits, once_more};
+ghost use Rattle.core_counts.specs.MarksAndLogs.{EntersFitMarks};
+ghost use Rattle.core_counts.specs.Moves.{LeansByMark, BiasesKept, OthersStay, LogsEntry, LogsNothing, IsGentle, Touched};
+
+/// The arithmetic of counts and verdicts: every verdict of the policy, with the count's decay to 0 before it or without, keeps what the
+/// count of a class and its verdicts say of one another.
+pub fn a_counted_verdict_fits()
+    ensures { (k : ClassCounts) (count last now : ℕ) → ClassFits count k → ClassFits (decided count last now).1 (once_more k count last now) }
+{}
+
+/// The opening world meets the law of biases, with biases and without.
+pub fn the_opening_world_meets_the_law_of_biases()
+    ensures { (s : Shape) (start : ℕ) (biasing : Bool) → BiasLawHolds (opening s start biasing) }
+{}
+
+/// A step that logs an entry, and leaves the biases, keeps what the law of biases says of enters and marks.
+pub fn a_logged_entry_keeps_enters_and_marks()
+    ensures { (biasing : Bool) (class mark : ℕ → ℕ) (lock : ℕ → Lock) (entries : ℕ → List Entry) (log : ℕ → List Logged) (stage : ℕ → Stage) (unfinished : ℕ → Option Unfinished) (revoked mark2 : ℕ → ℕ) (lock2 : ℕ → Lock) (entries2 : ℕ → List Entry) (log2 : ℕ → List Logged) (stage2 : ℕ → Stage) (unfinished2 : ℕ → Option Unfinished) (t : ℕ) (y : Logged)
+        → EntersFitMarks biasing class mark lock entries log stage unfinished revoked → LeansByMark mark lock → BiasesKept mark lock mark2 lock2
+        → OthersStay t log stage unfinished log2 stage2 unfinished2 → LogsEntry t y mark entries log stage unfinished entries2 log2 stage2 unfinished2
+        → EntersFitMarks biasing class mark2 lock2 entries2 log2 stage2 unfinished2 revoked }
+{}
+
+/// A step that logs nothing, and a revocation as a whole, keep what the law of biases says of enters and marks.
+pub fn a_quiet_step_keeps_enters_and_marks()
+    ensures { (biasing : Bool) (class mark : ℕ → ℕ) (lock : ℕ → Lock) (entries : ℕ → List Entry) (log : ℕ → List Logged) (stage : ℕ → Stage) (unfinished : ℕ → Option Unfinished) (revoked mark2 : ℕ → ℕ) (lock2 : ℕ → Lock) (stage2 : ℕ → Stage) (unfinished2 : ℕ → Option Unfinished) (revoked2 : ℕ → ℕ) (t : ℕ)
+        → EntersFitMarks biasing class mark lock entries log stage unfinished revoked → OthersStay t log stage unfinished log stage2 unfinished2
+        → LogsNothing biasing t class mark lock entries stage unfinished revoked mark2 lock2 stage2 unfinished2 revoked2
+        → EntersFitMarks biasing class mark2 lock2 entries log stage2 unfinished2 revoked2 }
+{}
+
+/// What the stores of a revocation as a whole do to marks: none gets the bias pattern, and an anonymous mark stays so, but for the
+/// revocation's own object, and in a bulk revoke for the objects of its class. After its first store, the counts of classes stay.
+pub fn a_revocation_is_gentle()
+    ensures { (s : Shape) (t : ℕ) (b : Revocation) (f : Name → ℕ)
+        → IsGentle (Touched s b.object (decided (f (Revocations (class_of s b.object))) (f (LastBulk (class_of s b.object))) b.now).0)
+        (with_word (Revocations (class_of s b.object)) (decided (f (Revocations (class_of s b.object))) (f (LastBulk (class_of s b.object))) b.now).1 f) (words_after (revocation_writes s t b f) f) }
+{}

@@ -1,0 +1,28 @@
+//! The law of biases: what the counts of verdicts and the words of the classes say of one another, and what the logs say of the
+//! marks. It holds of the opening world, and each step keeps it.
+#![tactic(auto)]
+
+mod kinds;
+mod laws;
+mod runs;
+mod steps;
+
+pub use kinds::{
+    a_look_keeps_the_law_of_biases, hashing_keeps_the_law_of_biases,
+    logging_keeps_the_law_of_biases, making_a_monitor_keeps_the_law_of_biases,
+    owning_a_monitor_keeps_the_law_of_biases, steps_of_lock_records_keep_the_law_of_biases,
+    steps_of_the_journal_keep_the_law_of_biases, steps_of_the_safepoint_keep_the_law_of_biases,
+};
+pub use laws::{
+    a_counted_verdict_fits, a_logged_entry_keeps_enters_and_marks,
+    a_quiet_step_keeps_enters_and_marks, a_revocation_is_gentle,
+    the_opening_world_meets_the_law_of_biases,
+};
+pub use runs::the_law_of_biases_holds_of_runs;
+pub use steps::{
+    a_miss_keeps_the_law_of_biases, a_revocation_leaves_no_bias_or_its_own,
+    a_step_beside_the_biases_keeps_the_law_of_biases, dropping_a_bias_keeps_the_law_of_biases,
+    ending_a_revocation_keeps_the_law_of_biases, logging_an_enter_keeps_the_law_of_biases,
+    logging_an_entry_keeps_the_law_of_biases, storing_a_hold_word_keeps_the_law_of_biases,
+    taking_a_bias_keeps_the_law_of_biases,
+};

@@ -1,0 +1,50 @@
+-- The shots stay right where a thread logs an entry of its own.
+use Rattle.core_locks.proofs.Prelude.{◌≡◌, ◌⊎◌, ℕ, ◌<◌, false, List, [], ◌∷◌, ◌++◌, length, Option, Some, refl, sym, ap, ◌∙◌, subst, arith, inl, inr, PlainObject, Logged, Known, World, with_known, logs, Fits}
+use Rattle.plain_monitor.specs.declared.entry.Entry.{Entry}
+use Rattle.plain_monitor.specs.declared.entry.Entry.TheVariants.{Enter, Exit, Wait, Resume, Notify, NotifyAll, Hash, Dump}
+use Rattle.core_world.specs.declared.task.Op.{Op}
+use Rattle.core_world.specs.declared.task.Op.TheVariants as op
+use Rattle.core_world.specs.declared.task.Unfinished.{Unfinished}
+use Rattle.core_world.specs.Trees.Operations.{goes_on_with}
+use Rattle.core_world.specs.Clauses.Safepoints.{IsUnfinished}
+use Rattle.core_world.specs.Shots.{AreOfDumps, ShotsFit}
+use Rattle.core_world.specs.World.{logs_from}
+use Rattle.core_world.proofs.KnowledgeParts.{logs_length}
+use Rattle.core_world.proofs.ShotsStay.{IsDump, IsNoDump, dump_or_not, dumps_dump, dumps_other, shots_with}
+use Rattle.core_locks.specs.Knowing.{IsOfLastShot, operation_of}
+use Rattle.core_locks.proofs.Logging.{IsLogging, logs_are}
+
+-- what is unfinished is no dump where it is another operation
+other_operation : (u : Option Unfinished) (a : Op) (o : ℕ) → goes_on_with op.Dump 0 (Some (record { op = a; object = o })) ≡ false → IsUnfinished u a o → IsUnfinished u op.Dump 0 → ⊥
+other_operation u a o other e d = let f = ap (goes_on_with op.Dump 0) e in let g = ap (goes_on_with op.Dump 0) d in absurd (cc (other, f, g))
+
+-- nor where an entry that is no dump is its own
+no_dump : (u : Option Unfinished) (e : Entry) → IsNoDump e → u ≡ operation_of e → IsUnfinished u op.Dump 0 → ⊥
+no_dump u (Enter o path) n h d = other_operation u op.Enter o refl h d
+no_dump u (Exit o) n h d = other_operation u op.Exit o refl h d
+no_dump u (Wait o) n h d = other_operation u op.Wait o refl h d
+no_dump u (Resume o) n h d = other_operation u op.Wait o refl h d
+no_dump u (Notify o woken) n h d = other_operation u op.Notify o refl h d
+no_dump u (NotifyAll o woken) n h d = other_operation u op.NotifyAll o refl h d
+no_dump u (Hash o value drawn) n h d = other_operation u op.Hash o refl h d
+no_dump u (Dump number) n h d = let e = ap (λ z. length z) (n 0 []) in absurd (omega (arith, e))
+no_dump u _ n h d = absurd (cc (h, d))
+
+module _ (w : World) (P Q : List PlainObject) (t : ℕ) (y : Logged) (l : Known) (v : Fits w P) (a : IsLogging w P Q t y l) where
+  mine : AreOfDumps t l.log (w.known t).shots l.unfinished
+  mine = subst (λ z. AreOfDumps t z (w.known t).shots l.unfinished) (sym a.grows) (by_entry (dump_or_not y.entry))
+    where
+      by_entry : IsDump y.entry ⊎ IsNoDump y.entry → AreOfDumps t ((w.known t).log ++ y ∷ []) (w.known t).shots l.unfinished
+      by_entry (inl d) =
+          let last : IsOfLastShot (w.known t) (Dump d.number) = subst (IsOfLastShot (w.known t)) d.is a.own.shot in
+          dumps_dump t (w.known t).log y (w.known t).shots (w.known t).unfinished l.unfinished (d.is ∙ ap Dump last.0) last.1 (v.shots.dumps t)
+      by_entry (inr n) =
+          dumps_other t (w.known t).log y (w.known t).shots (w.known t).unfinished l.unfinished n
+          (λ d. elim a.own.operation [ inl e ↦ absurd (cc (e, d)) | inr h ↦ no_dump (w.known t).unfinished y.entry n h d ]) (v.shots.dumps t)
+
+  -- whatever it has unfinished afterwards
+  pub shots_logged : ShotsFit w.shape.objects (logs_from 0 w.shape.threads (with_known t l w.known)) (λ u. (with_known t l w.known u).log) (λ u. (w.known u).shots) (λ u. (with_known t l w.known u).unfinished)
+  shots_logged =
+      let within : t < length (logs w) = let b = logs_length 0 w.shape.threads w.known in let c = a.within in omega (arith, b, c) in
+      subst (λ z. ShotsFit w.shape.objects z (λ u. (with_known t l w.known u).log) (λ u. (w.known u).shots) (λ u. (with_known t l w.known u).unfinished)) (sym (logs_are w P Q t y l v a))
+      (shots_with w.shape.objects (logs w) t y l w.known within mine v.shots)

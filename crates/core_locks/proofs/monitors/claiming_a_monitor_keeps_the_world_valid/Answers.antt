@@ -1,0 +1,5 @@
+use Rattle.core_locks.proofs.Claims.{claims_one}
+use Rattle.core_locks.proofs.monitors.claiming_a_monitor_keeps_the_world_valid.Goals as goal
+
+pub returns : goal.returns
+returns c = claims_one

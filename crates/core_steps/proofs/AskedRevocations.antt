@@ -1,0 +1,117 @@
+-- A revocation from the request for its safepoint on, or from where its request stands.
+use Rattle.std.proofs.Common.{◌≡◌, ℕ, ◌<◌, Bool, true, false, List, length, Some, refl, sym, ap, ◌∙◌, subst}
+use Rattle.mark_word.specs.Mark.{read_mark}
+use Rattle.core_world.specs.declared.answer.Turn.{Turn}
+use Rattle.core_world.specs.declared.answer.Turn.TheVariants.{Done, Pending}
+use Rattle.core_world.specs.declared.name.Name.TheVariants as name
+use Rattle.core_world.specs.declared.task.Op.{Op}
+use Rattle.core_world.specs.declared.task.Op.TheVariants as op
+use Rattle.core_world.specs.Threads.AtRest.{AtRest, MayAsk, MayRevoke}
+use Rattle.core_world.specs.Trees.BiasSteps.{stage_after}
+use Rattle.core_world.specs.Words.Forms.{waits_on}
+use Rattle.core_world.specs.Threads.Known.{Known, StepMade, last_seen}
+use Rattle.core_world.specs.Locks.{is_valid_bias}
+use Rattle.core_world.specs.Trees.Operations.{and_then, revocation_steps}
+use Rattle.core_world.specs.Trees.Plans.{Purpose, done_with}
+use Rattle.core_world.specs.Trees.SafepointSteps.{release_to, safepoint_steps}
+use Rattle.core_world.specs.Trees.RevocationSteps.{revoke_at_safepoint_steps}
+use Rattle.core_world.specs.Words.Shape.{class_of}
+use Rattle.core_world.specs.Threads.Stages.{Revocation}
+use Rattle.core_world.specs.Steps.{seen_before}
+use Rattle.core_world.specs.Trees.Todo.{Todo, ◌>>=◌}
+use Rattle.core_world.specs.Valid.{RevokesWithin}
+use Rattle.core_steps.specs.Logic.{Heap, Does}
+use Rattle.core_steps.proofs.Requests.{Asks, Since, Stood, BeginsSafepoint, safepoint_does}
+use Rattle.core_steps.proofs.Resting.{Carries}
+use Rattle.core_steps.proofs.Revocations.{Released, Revoked, revoke_does, release_does}
+use Rattle.core_steps.proofs.SafepointLooks.{going}
+use Rattle.core_steps.proofs.Trees.{answers, binds, follows}
+
+module _ (heap : Heap) (e : Purpose) (b : Revocation) where
+  -- a valid bias of the object was seen by these steps
+  abbrev pub ValidBiasIn : List StepMade → Type 0
+  ValidBiasIn seen =
+      (v p : ℕ) × (last_seen (name.Mark b.object) seen ≡ Some v) × (last_seen (name.Prototype (class_of heap.shape b.object)) seen ≡ Some p) × (is_valid_bias (read_mark v) p ≡ true)
+
+  -- what a thread has to know that asks for a revocation, or whose request for it stands
+  pub record BeginsRevocation (operation : Op) (k : Known) : Type 0 where
+    pub begins : BeginsSafepoint heap e k.thread k
+    pub saw : ValidBiasIn (seen_before heap.shape k)
+    pub unreached : k.reached ≡ false
+    pub unwaiting : operation ≡ op.Wait → waits_on k.wait b.object ≡ false
+
+  may_ask : (a : Op) (l : Known) → RevokesWithin a b.rebias → (a ≡ op.Wait → waits_on l.wait b.object ≡ false) → MayRevoke heap.shape l b.object
+      → MayAsk heap.shape l (Some (record { op = a; object = b.object }))
+  may_ask op.Enter l allowed out may = may
+  may_ask op.Exit l allowed out may = absurd allowed
+  may_ask op.Wait l allowed out may = (out refl, may)
+  may_ask op.Notify l allowed out may = may
+  may_ask op.NotifyAll l allowed out may = may
+  may_ask op.Hash l allowed out may = may
+  may_ask op.Dump l allowed out may = absurd allowed
+
+  module _ (operation : Op) (unfinished : e.unfinished ≡ Some (record { op = operation; object = b.object })) (allowed : RevokesWithin operation b.rebias) (object : b.object < length heap.shape.objects)
+      (unchecks : e.check ≡ false) where
+    -- while its request stands it is at rest
+    asked : (k : Known) → BeginsRevocation operation k → (l : Known) → Asks heap e k.thread l → Since heap e k.thread k l → (k.reached ≡ false → l.reached ≡ false) → AtRest heap.shape l
+    asked k may l a since unreached =
+        let carries : Carries l.log l.wait l.holds l.shots l.unfinished = subst (Carries l.log l.wait l.holds l.shots) a.mine a.carries in
+        let saw = may.saw in
+        let revokes : MayRevoke heap.shape l b.object = ((saw.0, saw.1, since.mark b.object ∙ saw.2, since.prototype (class_of heap.shape b.object) ∙ saw.3, saw.4), unreached may.unreached) in
+        record {
+          calm = a.calm;
+          ended = carries.ended;
+          place = carries.place;
+          untold = carries.untold;
+          shots = carries.shots_logged;
+          stopped = λ asks. a.stopped;
+          asks = λ asks unchecked. subst (MayAsk heap.shape l) (sym unfinished ∙ a.mine) (may_ask operation l allowed (λ waits. ap (λ z. waits_on z.wait b.object) since.local ∙ may.unwaiting waits) revokes);
+          checks = λ checks. let check = a.check in absurd (cc (checks, check, unchecks));
+        }
+
+    -- behind the safepoint
+    abbrev revoking : ℕ → Turn (Unit {0}) → Todo (Turn Bool)
+    revoking me turn = and_then turn (λ u. do
+      none_revokes ← revoke_at_safepoint_steps heap.shape me e b
+      _ ← release_to (stage_after none_revokes.took b.object) e me
+      done_with none_revokes.took)
+
+    released_since : (k l m : Known) (took : Bool) → Since heap e k.thread k l → Released heap e b k.thread l took m → Released heap e b k.thread k took m
+    released_since k l m took since x = record {
+      local = x.local ∙ since.local;
+      kept = x.kept ∙ since.kept;
+      saved = x.saved ∙ since.saved;
+      draws = x.draws ∙ since.draws;
+      shots = x.shots ∙ since.shots;
+      runs = x.runs;
+      unasks = x.unasks;
+      unchecks = x.unchecks;
+      mine = x.mine;
+      stage = x.stage;
+      mark = x.mark;
+      unseen = x.unseen;
+      untaken = x.untaken;
+    }
+
+    revoked_since : (k l m : Known) (turn : Turn Bool) → Since heap e k.thread k l → Revoked heap e b k.thread l turn m → Revoked heap e b k.thread k turn m
+    revoked_since k l m (Done took) since x = released_since k l m took since x
+    revoked_since k l m (Pending why) since x = x
+
+    then_revoking : (k : Known) → BeginsRevocation operation k → (f : Bool) (turn : Turn (Unit {0})) (l : Known) → (f ≡ false) × Stood heap e k.thread k turn l
+        → Does heap f (revoking k.thread turn) l (λ f turn m. (f ≡ false) × Revoked heap e b k.thread k turn m)
+    then_revoking k may f (Done x) l s =
+        let unwritten = s.1.2 may.unreached in
+        let since = s.1.1 in
+        let saw = may.saw in
+        subst (λ z. Does heap z (revoking k.thread (Done tt)) l (λ f turn m. (f ≡ false) × Revoked heap e b k.thread k turn m)) (sym s.0)
+        (going heap (revoke_at_safepoint_steps heap.shape k.thread e b) (λ none_revokes. release_to (stage_after none_revokes.took b.object) e k.thread >>= (λ u. done_with none_revokes.took)) l _ (
+        follows heap false (revoke_at_safepoint_steps heap.shape k.thread e b) l _ _ (revoke_does heap e b k.thread operation unfinished allowed object l s.1.0 unwritten
+        (saw.0, saw.1, since.mark b.object ∙ saw.2, since.prototype (class_of heap.shape b.object) ∙ saw.3, saw.4))
+        (λ f a m y. follows heap false _ m _ _ (release_does heap e b k.thread l s.1.0 unwritten m a y.1) (λ f turn n z. (z.0, revoked_since k l n turn since z.1)))))
+    then_revoking k may f (Pending why) l s = answers heap f (Pending why) l _ s
+
+    pub revocation_does : (fresh : Bool) (k : Known) → BeginsRevocation operation k
+        → Does heap fresh (revocation_steps heap.shape k.thread k.requesting e b) k (λ f turn l. (f ≡ false) × Revoked heap e b k.thread k turn l)
+    revocation_does fresh k may =
+        binds heap fresh (safepoint_steps e k.thread k.requesting) (revoking k.thread) k _ (
+        follows heap fresh _ k _ _ (safepoint_does heap e k.thread k (asked k may) fresh may.begins) (λ f turn l x. then_revoking k may f turn l x))

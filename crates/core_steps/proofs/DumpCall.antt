@@ -1,0 +1,303 @@
+-- A dump begins well: it looks at all objects and lengths at a safepoint, keeps its shot, releases the safepoint and logs its entry.
+use Rattle.std.proofs.Common.{◌≡◌, ℕ, zero, suc, ◌+◌, ◌<◌, ◌==◌, ◌||◌, ◌&&◌, ◌++◌, eq-eqb, Bool, true, false, cond, List, [], ◌∷◌, length, Option, Some, None, refl, sym, ap, ◌∙◌, subst, inl, inr, arith}
+use Rattle.std.proofs.lemmas.List.{length-append, length-map}
+use Rattle.mark_word.specs.declared.mark.MarkForm.{MarkForm}
+use Rattle.mark_word.specs.declared.mark.MarkForm.TheVariants.{Biased, Locked, Inflated}
+use Rattle.mark_word.specs.declared.owner.OwnerForm.{OwnerForm}
+use Rattle.mark_word.specs.declared.owner.OwnerForm.TheVariants.{ByThread, ByRecord}
+use Rattle.mark_word.specs.Mark.{read_mark}
+use Rattle.mark_word.specs.Owner.{read_owner}
+use Rattle.plain_monitor.specs.declared.entry.Entry.TheVariants as entry
+use Rattle.core_world.specs.declared.act.Act.TheVariants.{Load}
+use Rattle.core_world.specs.declared.answer.Turn.{Turn}
+use Rattle.core_world.specs.declared.answer.Turn.TheVariants.{Done, Pending}
+use Rattle.core_world.specs.declared.name.Name.{Name}
+use Rattle.core_world.specs.declared.name.Name.TheVariants as name
+use Rattle.core_world.specs.declared.stage.Stage.TheVariants.{Calm}
+use Rattle.core_world.specs.declared.task.Op.TheVariants as op
+use Rattle.core_world.specs.declared.task.Task.TheVariants.{Dump}
+use Rattle.core_world.specs.declared.task.Unfinished.{Unfinished}
+use Rattle.core_world.specs.Threads.AtRest.{AtRest, MayAsk}
+use Rattle.core_world.specs.Trees.Calls.{steps_of, may_begin}
+use Rattle.core_world.specs.Words.Forms.{epoch_in, runs_in}
+use Rattle.core_world.specs.Threads.Known.{Known, Local, DumpShot, local_of, start_of}
+use Rattle.core_world.specs.Clauses.Lengths.{log_limit}
+use Rattle.core_world.specs.Locks.{has_epoch}
+use Rattle.core_world.specs.Trees.LookSteps.{keep_shot_plan, look_at_holds, look_at_owner, look_behind, look_at_objects, take_shot_steps}
+use Rattle.core_world.specs.Trees.Operations.{answer, and_then, goes_on_with, dump_going}
+use Rattle.core_world.specs.Trees.Plans.{Purpose, purpose, load, done_with}
+use Rattle.core_world.specs.Trees.SafepointSteps.{reached_word, released_word, safepoint_steps, release_safepoint, release_plan}
+use Rattle.core_world.specs.Clauses.Safepoints.{IsUnfinished, ends}
+use Rattle.core_world.specs.Words.Shape.{Shape, class_of}
+use Rattle.core_world.specs.Shots.{dumps_from}
+use Rattle.core_world.specs.Steps.{known_hit, shot_of, seen_at_safepoint_before}
+use Rattle.core_world.specs.Trees.Todo.{Todo, done, never, step, ask, all_from, ◌>>=◌}
+use Rattle.core_world.specs.Trees.WaitSteps.{publish_steps}
+use Rattle.core_locks.specs.ShotLaws.{SawAll, SawSteps, MayKeepShot, shot_looks}
+use Rattle.core_locks.proofs.Shoots.{keeps_shot}
+use Rattle.core_locks.proofs.ShotTree.{looks_first, looks_see}
+use Rattle.core_steps.specs.Logic.{Heap, Stands, Does}
+use Rattle.core_steps.specs.Sound.{Finishes, BeginsWell}
+use Rattle.core_steps.proofs.Facts.{Untold, fits_here, ready_here}
+use Rattle.core_steps.proofs.LawRules.{home, keeps, releases, publishes}
+use Rattle.core_steps.proofs.Requests.{Asks, Stood, BeginsSafepoint, safepoint_does}
+use Rattle.core_steps.proofs.Resting.{Carries, logged_carries, rests}
+use Rattle.core_steps.proofs.SafeCalls.{closes, released_unasks}
+use Rattle.core_steps.proofs.SafepointLooks.{Reaches, Seeing, seeing_all, seeing_itself, keeps_look, saw_there, still_seen, going}
+use Rattle.core_steps.proofs.SafeWords.{reached_there, released_runs, few_threads}
+use Rattle.core_steps.proofs.Tests.{asking_goes, free_runs, Operates, operates, going_is, goes_on_or_begins, is_of_kind}
+use Rattle.core_steps.proofs.Trees.{answers, chooses, chooses_then, follows, binds, hitting, finding}
+
+-- LOOKS. All steps of the tree are loads that log and keep nothing, whatever they find.
+abbrev Looks : {A : Type 0} → Purpose → Todo A → Type 0
+Looks e (done a) = Unit {0}
+Looks e never = ⊥
+Looks e (step p f) = ((at : Name) × (p ≡ load e at)) × ((n : ℕ) → Looks e (f n))
+
+looks_bind : {A B : Type 0} (e : Purpose) (d : Todo A) (g : A → Todo B) → Looks e d → ((a : A) → Looks e (g a)) → Looks e (d >>= g)
+looks_bind e (done a) g h k = k a
+looks_bind e never g h k = h
+looks_bind e (step p f) g h k = (h.0, λ n. looks_bind e (f n) g (h.1 n) k)
+
+looks_each : (e : Purpose) (i n : ℕ) (f : ℕ → Todo (Unit {0})) → ((j : ℕ) → Looks e (f j)) → Looks e (all_from i n f)
+looks_each e i zero f h = tt
+looks_each e i (suc n) f h = looks_bind e (f i) (λ u. all_from (i + 1) n f) (h i) (λ u. looks_each e (i + 1) n f h)
+
+module _ (e : Purpose) where
+  look_one : (at : Name) → Looks {A = Unit {0}} e (ask (load e at) >>= (λ n. done tt))
+  look_one at = ((at, refl), λ n. tt)
+
+  look_holds : (t : ℕ) → Looks e (look_at_holds e t)
+  look_holds t = looks_each e 0 64 (λ p. ask (load e (name.Hold t p)) >>= (λ n. done tt)) (λ p. look_one (name.Hold t p))
+
+  look_owner : (f : Option OwnerForm) → Looks e (look_at_owner f e)
+  look_owner (Some (ByThread thread)) = look_holds thread
+  look_owner (Some (ByRecord thread place)) = look_holds thread
+  look_owner _ = tt
+
+  look_valid : (b : Bool) (t : ℕ) → Looks e (cond b (look_at_holds e t) (done tt))
+  look_valid true t = look_holds t
+  look_valid false t = tt
+
+  look_named : (f : Option MarkForm) (s : Shape) (o : ℕ) → Looks e (look_behind f e s o)
+  look_named (Some (Biased thread epoch age)) s o = ((name.Prototype (class_of s o), refl), λ n. look_valid (has_epoch (epoch_in n) epoch) thread)
+  look_named (Some (Locked thread place)) s o = look_holds thread
+  look_named (Some (Inflated monitor)) s o = ((name.Owner monitor, refl), λ n. look_owner (read_owner n))
+  look_named _ s o = tt
+
+  look_all : (s : Shape) → Looks e (shot_looks e s)
+  look_all s = looks_bind e (look_at_objects e s) (λ u. all_from 0 s.threads (λ t. ask (load e (name.Length t)) >>= (λ n. done tt)))
+      (looks_each e 0 (length s.objects) (λ o. ask (load e (name.Mark o)) >>= (λ mark. look_behind (read_mark mark) e s o)) (λ o. ((name.Mark o, refl), λ n. look_named (read_mark n) s o)))
+      (λ u. looks_each e 0 s.threads (λ t. ask (load e (name.Length t)) >>= (λ n. done tt)) (λ t. look_one (name.Length t)))
+
+-- a load at the reached safepoint forgets nothing
+stood_kept : (at : Name) (k : Known) → k.reached ≡ true → seen_at_safepoint_before at Load k ≡ k.seen_at_safepoint
+stood_kept name.Safepoint k reached = ap (λ (b : Bool). cond b k.seen_at_safepoint []) reached
+stood_kept _ k reached = refl
+
+-- no other operation is unfinished
+unwaiting_dump : (u : Option Unfinished) → IsUnfinished u op.Dump 0 → (o : ℕ) → IsUnfinished u op.Wait o → ⊥
+unwaiting_dump u e o h = let a = ap (is_of_kind op.Dump) (sym e ∙ h) in cc a
+
+unentering_dump : (u : Option Unfinished) → IsUnfinished u op.Dump 0 → (o : ℕ) → IsUnfinished u op.Enter o → ⊥
+unentering_dump u e o h = let a = ap (is_of_kind op.Dump) (sym e ∙ h) in cc a
+
+-- what each dump works for
+abbrev dump_errand : Purpose
+dump_errand = purpose Dump op.Dump 0
+
+module _ (heap : Heap) (me : ℕ) (here : Local) (shots : List DumpShot) (room : length here.log < log_limit) where
+  -- the thread stands at its reached safepoint, and the parts of its knowledge that the tree takes are what they were when the call began
+  record Dumps (k : Known) : Type 0 where
+    reaches : Reaches me k dump_errand
+    same : local_of k ≡ here
+    shots_are : k.shots ≡ shots
+
+  or_true : (a b : Bool) → a ≡ true → (a || b) ≡ true
+  or_true true b e = refl
+  or_true false b e = absurd (cc e)
+
+  after_load : (at : Name) (n : ℕ) (k : Known) → Dumps k → Dumps (known_hit heap.shape heap.start (load dump_errand at) n k)
+  after_load name.Safepoint n k d =
+      let r = d.reaches in
+      record {
+        reaches = record { number = r.number; reached = or_true k.reached _ r.reached; stopped = r.stopped; calm = refl; check = refl; mine = refl; live = r.live; carries = r.carries };
+        same = d.same;
+        shots_are = d.shots_are;
+      }
+  after_load _ n k d =
+      let r = d.reaches in
+      record {
+        reaches = record { number = r.number; reached = r.reached; stopped = r.stopped; calm = refl; check = refl; mine = refl; live = r.live; carries = r.carries };
+        same = d.same;
+        shots_are = d.shots_are;
+      }
+
+  -- the looks, each of which stays seen
+  looks_do : {A : Type 0} (d : Todo A) (k : Known) → Looks dump_errand d → Dumps k → Does heap false d k (λ b a l. Dumps l × Seeing k l × SawSteps d l (λ x. Unit {0}))
+  looks_do (done a) k h s = answers heap false a k _ (s, seeing_itself k, tt)
+  looks_do never k h s = absurd h
+  looks_do {A} (step p f) k h s =
+      let at = h.0.0 in
+      subst (λ z. Does heap false (step z f) k (λ b a l. Dumps l × Seeing k l × SawSteps (step z f) l (λ x. Unit {0}))) (sym h.0.1)
+      (hitting heap false (load dump_errand at) f k _ (λ n. refl) (λ i. keeps_look heap me dump_errand at k s.reaches) (λ n i was.
+      let l = known_hit heap.shape heap.start (load dump_errand at) n k in
+      let kept = stood_kept at k s.reaches.reached in
+      let seeing : Seeing k l = still_seen heap me dump_errand at k n s.reaches.reached kept was in
+      follows heap false (f n) l _ _ (looks_do (f n) l (h.1 n) (after_load at n k s)) (λ b a m x.
+      (x.0, seeing_all k l m seeing x.1, (n, x.1.saw at n (saw_there heap me dump_errand at k n kept), x.2)))))
+
+  -- behind the shot: it has no entry yet
+  record HasShot (shot : DumpShot) (k : Known) : Type 0 where
+    reached : k.reached ≡ true
+    calm : k.stage ≡ Calm
+    mine : dump_errand.unfinished ≡ k.unfinished
+    live : ends k.log ≡ false
+    untold : Untold k
+    same : local_of k ≡ here
+    shots_are : k.shots ≡ shots ++ shot ∷ []
+    logged : length shots ≡ length (dumps_from 0 here.log)
+
+  -- the release and the entry
+  abbrev released : Todo (Turn ℕ)
+  released = do
+    _ ← release_safepoint dump_errand here.thread
+    _ ← publish_steps (entry.Dump (length shots + 1)) dump_errand here
+    done_with (length shots + 1)
+
+  ending_does : (k : Known) (shot : DumpShot) → HasShot shot k → Does heap false released k (λ b r l. AtRest heap.shape l)
+  ending_does k shot r = subst (λ z. Does heap false (release_safepoint dump_errand z.thread >>= (λ u. publish_steps (entry.Dump (length shots + 1)) dump_errand z >>= (λ u. done_with (length shots + 1)))) k (λ b r l. AtRest heap.shape l)) r.same (
+      finding heap false (release_plan dump_errand Calm k.thread) _ k _ (λ n was. eq-eqb n (reached_word k.thread) (reached_there heap k n was.stands was.found r.reached))
+      (λ i. releases heap k dump_errand (record { reached = r.reached; calm = r.calm; goes_on = r.mine })) (λ n i was.
+      let exchange = release_plan dump_errand Calm k.thread in
+      let l = known_hit heap.shape heap.start exchange n k in
+      let found = reached_there heap k n was.stands was.found r.reached in
+      let hit = eq-eqb n (reached_word k.thread) found in
+      let runs : l.running ≡ true = ap (λ (b : Bool). runs_in (cond b (released_word k.thread) n) k.thread) hit ∙ released_runs k.thread (few_threads heap k was.stands) in
+      let unasks : l.requesting ≡ false = released_unasks heap k n was.stands found in
+      chooses_then heap false (n == reached_word k.thread) _ _ (λ u. publish_steps (entry.Dump (length shots + 1)) dump_errand (local_of k) >>= (λ u. done_with (length shots + 1))) l _
+      (λ yes. hitting heap false _ _ l _ (λ n. refl)
+      (λ i. publishes heap l dump_errand (entry.Dump (length shots + 1)) (λ v. record {
+        runs = runs;
+        calm = refl;
+        ready = ready_here heap l v runs (unwaiting_dump l.unfinished refl) (unentering_dump l.unfinished refl) r.untold r.live;
+        tells = tt;
+        room = subst (λ z. length z.log < log_limit) (sym r.same) room;
+        own_entry = record {
+          operation = inr refl;
+          shot =
+              let all : length k.shots ≡ length shots + 1 = ap (λ z. length z) r.shots_are ∙ length-append shots (shot ∷ []) in
+              let dumps : length (dumps_from 0 k.log) ≡ length shots = ap (λ z. length (dumps_from 0 z.log)) r.same ∙ sym r.logged in
+              (sym all, all ∙ ap (λ z. z + 1) (sym dumps));
+        };
+      }))
+      (λ n i was. answers heap false _ _ _ (rests heap.shape _ refl unasks refl (logged_carries k.log _ k.wait _ r.live refl r.untold))))
+      (λ no. absurd (cc (hit, no)))))
+
+  -- the load that keeps the shot
+  shooting_does : (k : Known) → Dumps k → SawAll heap.shape k → Does heap false (ask (keep_shot_plan dump_errand) >>= (λ n. done tt)) k (λ b (u : Unit {0}) l. Does heap false released l (λ b r l. AtRest heap.shape l))
+  shooting_does k d saw =
+      let r = d.reaches in
+      let p = keep_shot_plan dump_errand in
+      let logged : length k.shots ≡ length (dumps_from 0 k.log) = r.carries.shots_logged refl in
+      hitting heap false p _ k _ (λ n. refl)
+      (λ i. keeps heap k (λ s y. MayKeepShot s y dump_errand) (λ t y. keep_shot_plan dump_errand) (keeps_shot dump_errand)
+      (λ v. record { reached = r.reached; calm = r.calm; dumps = sym r.mine; goes_on = r.mine; logged = logged; saw = saw })) (λ n i was.
+      let l = known_hit heap.shape heap.start p n k in
+      answers heap false _ l _ (ending_does l (shot_of heap.shape k) (record {
+        reached = or_true k.reached _ r.reached;
+        calm = refl;
+        mine = refl;
+        live = r.live;
+        untold = r.carries.untold;
+        same = d.same;
+        shots_are = ap (λ z. z ++ shot_of heap.shape k ∷ []) d.shots_are;
+        logged = ap (λ z. length z) (sym d.shots_are) ∙ logged ∙ ap (λ z. length (dumps_from 0 z.log)) d.same;
+      })))
+
+  -- all that is done at the reached safepoint
+  abbrev dumped : Turn (Unit {0}) → Todo (Turn ℕ)
+  dumped turn = and_then turn (λ u. do
+    _ ← take_shot_steps dump_errand heap.shape
+    released)
+
+  standing_does : (k : Known) → Dumps k → Does heap false (dumped (Done tt)) k (λ b r l. AtRest heap.shape l)
+  standing_does k d =
+      let shoot = ask (keep_shot_plan dump_errand) in
+      subst (λ z. Does heap false (z >>= (λ u. released)) k (λ b r l. AtRest heap.shape l)) (sym (looks_first dump_errand heap.shape))
+      (going heap (shot_looks dump_errand heap.shape >>= (λ u. shoot >>= (λ n. done tt))) (λ u. released) k _ (
+      going heap (shot_looks dump_errand heap.shape) (λ u. shoot >>= (λ n. done tt)) k _ (
+      follows heap false (shot_looks dump_errand heap.shape) k _ _ (looks_do (shot_looks dump_errand heap.shape) k (look_all dump_errand heap.shape) d) (λ b u l x.
+      shooting_does l x.0 (looks_see l dump_errand heap.shape _ x.2)))))
+
+  then_dumped : (k0 : Known) → local_of k0 ≡ here → k0.shots ≡ shots → (b : Bool) (r : Turn (Unit {0})) (k : Known) → (b ≡ false) × Stood heap dump_errand me k0 r k
+      → Does heap b (dumped r) k (λ b r l. AtRest heap.shape l)
+  then_dumped k0 same shots_are b (Done x) k s =
+      subst (λ z. Does heap z (dumped (Done tt)) k (λ b r l. AtRest heap.shape l)) (sym s.0) (standing_does k (record { reaches = s.1.0; same = s.1.1.local ∙ same; shots_are = s.1.1.shots ∙ shots_are }))
+  then_dumped k0 same shots_are b (Pending why) k s = answers heap b _ k _ s.1
+
+module _ (heap : Heap) where
+  -- a thread whose request for a dump stands is at rest
+  asks_dump : (me : ℕ) (k : Known) → Asks heap dump_errand me k → AtRest heap.shape k
+  asks_dump me k a = record {
+    calm = a.calm;
+    ended = λ ended. let live = a.live in absurd (cc (ended, live));
+    place = λ o h. absurd (unentering_dump k.unfinished (sym a.mine) o h);
+    untold = a.carries.untold;
+    shots = λ h. a.carries.shots_logged refl;
+    stopped = λ asks. a.stopped;
+    asks = λ asks unchecks. subst (MayAsk heap.shape k) a.mine tt;
+    checks = λ checks. let unchecks = a.check in absurd (cc (checks, unchecks));
+  }
+
+  -- where no dump is unfinished, each shot has its entry
+  shots_logged : (k : Known) → Stands heap k → k.running ≡ true → k.unfinished ≡ None → length k.shots ≡ length (dumps_from 0 k.log)
+  shots_logged k v runs nothing =
+      home heap k v (λ s y. y.unfinished ≡ None → length y.shots ≡ length (dumps_from 0 y.log)) (λ none. elim ((fits_here heap k v runs).shots.dumps k.thread) [
+        | inl a ↦ sym (length-map _ _) ∙ ap (λ z. length z) a
+        | inr a ↦ let dumps = a.1 in absurd (cc (none, dumps))
+      ]) nothing
+
+  dump_carries : (k : Known) → AtRest heap.shape k → ends k.log ≡ false → length k.shots ≡ length (dumps_from 0 k.log) → Carries k.log k.wait k.holds k.shots dump_errand.unfinished
+  dump_carries k rest live logged = record {
+    ended = λ ended. absurd (cc (ended, live));
+    place = λ o h. absurd (unentering_dump dump_errand.unfinished refl o h);
+    untold = rest.untold;
+    shots_logged = λ h. logged;
+  }
+
+  -- a dump that begins, or goes on behind its request
+  starts : (k : Known) → Stands heap k → AtRest heap.shape k → Operates k (goes_on_with op.Dump 0 k.unfinished) → BeginsSafepoint heap dump_errand k.thread k
+  starts k v rest a = record {
+    number = refl;
+    rest = rest;
+    live = a.live;
+    carries = dump_carries k rest a.live (cases k.running refl a.runs);
+    asking = λ asks. (sym a.unchecking, sym (going_is op.Dump 0 k.unfinished (asking_goes k.running k.requesting (goes_on_with op.Dump 0 k.unfinished) a.runs (rest.stopped asks))));
+    running = λ free. (free_runs k.running k.requesting (goes_on_with op.Dump 0 k.unfinished) a.runs free, goes_on_or_begins op.Dump 0 k.unfinished a.free);
+  }
+    where
+      cases : (b : Bool) → k.running ≡ b → (b || (k.requesting && goes_on_with op.Dump 0 k.unfinished)) ≡ true → length k.shots ≡ length (dumps_from 0 k.log)
+      cases true runs h = elim (goes_on_or_begins op.Dump 0 k.unfinished a.free) [
+        | inl goes ↦ rest.shots (sym goes)
+        | inr none ↦ shots_logged k v runs none
+      ]
+      cases false stops h = rest.shots (going_is op.Dump 0 k.unfinished (asking_goes k.running k.requesting (goes_on_with op.Dump 0 k.unfinished) a.runs stops))
+
+  dump_finishes : (k : Known) → Stands heap k → AtRest heap.shape k → may_begin heap.shape heap.biasing k Dump ≡ true → Finishes heap true (steps_of heap.shape Dump (start_of heap.start k)) k
+  unfolding steps_of
+  dump_finishes k v rest may =
+      let a = operates k (goes_on_with op.Dump 0 k.unfinished) may in
+      let room : length k.log < log_limit = let r = a.room in omega arith in
+      let s = start_of heap.start k in
+      closes heap true _ k (
+      chooses heap true (length k.shots == 4) _ _ k _ (λ h. answers heap true _ k _ rest) (λ h.
+      binds heap true (dump_going heap.shape dump_errand s) answer k _ (
+      follows heap true _ k _ _ (
+      binds heap true (safepoint_steps dump_errand k.thread k.requesting) (dumped heap k.thread (local_of k) k.shots room) k _ (
+      follows heap true _ k _ _ (safepoint_does heap dump_errand k.thread k (λ l a since unreached. asks_dump k.thread l a) true (starts k v rest a)) (λ b r l x.
+      then_dumped heap k.thread (local_of k) k.shots room k refl refl b r l x)))
+      (λ b r l x. answers heap b _ l _ x))))
+
+  pub dump_begins : BeginsWell heap Dump
+  dump_begins = record { does = dump_finishes }

@@ -1,0 +1,145 @@
+-- The laws of core_locks as rules of the logic: what the thread knows is enough. Two rules turn a law into one for its plan, whatever the
+-- law is; behind them stand those on the safepoint word, the journal and lock records.
+use Rattle.std.proofs.Common.{ℕ, ◌+◌, ◌<◌, length, sym, subst}
+use Rattle.mark_word.specs.Mark.{mark_of}
+use Rattle.mark_word.specs.declared.mark.MarkForm.TheVariants.{Locked}
+use Rattle.plain_monitor.specs.declared.entry.Entry.{Entry}
+use Rattle.plain_monitor.specs.declared.entry.Entry.TheVariants.{Put, Enter, Exit}
+use Rattle.plain_monitor.specs.declared.entry.Path.{Path}
+use Rattle.plain_monitor.specs.declared.entry.Value.{Value}
+use Rattle.core_world.specs.declared.name.Name.TheVariants as name
+use Rattle.core_world.specs.declared.plan.StepPlan.{StepPlan}
+use Rattle.core_world.specs.declared.stage.Stage.TheVariants.{Calm}
+use Rattle.core_world.specs.Words.Shape.{Shape}
+use Rattle.core_world.specs.Threads.Known.{Known, local_of}
+use Rattle.core_world.specs.Looking.{IsLook}
+use Rattle.core_world.specs.Trees.LockSteps.{displace_plan, seize_plan, hold_plan, store_ready_plan, log_enter_plan, raise_stamp_plan, leave_plan, let_go_plan, clear_plan}
+use Rattle.core_world.specs.Trees.Operations.{get_plan, put_plan, store_ended_plan}
+use Rattle.core_world.specs.Trees.Plans.{Purpose, next_stamp}
+use Rattle.core_world.specs.Trees.SafepointSteps.{publish_log_plan, stop_plan, resume_plan, request_plan, release_plan, halt_plan}
+use Rattle.core_world.specs.Steps.{world_after}
+use Rattle.core_world.specs.Valid.{IsValid, Valid}
+use Rattle.core_world.specs.Trees.WaitSteps.{publish_plan}
+use Rattle.core_world.proofs.LookWhileRevoking.{look_valid}
+use Rattle.core_world.proofs.KnowledgeParts.{by_equal}
+use Rattle.core_locks.specs.Knowing.{KeepsValid, LogsFound}
+use Rattle.core_locks.specs.SafepointLaws.{MayStop, MayResume, MayRequest, MayRelease, MayHalt}
+use Rattle.core_locks.specs.JournalLaws.{MayGet, MayPut, get_entry, MayPublish, MayPublishLog, MayRaise, MayLogEnter, MayBeReady, MayEnd}
+use Rattle.core_locks.specs.LockLaws.{MayDisplace, MaySeize, MayHold, MayLeave, MayClear, MayLetGo}
+use Rattle.core_locks.proofs.SafeStops.{stopping_valid, resuming_valid, requesting_valid}
+use Rattle.core_locks.proofs.SafeEnds.{releasing_valid, halting_valid}
+use Rattle.core_locks.proofs.TouchSlots.{get_law, put_law}
+use Rattle.core_locks.proofs.Publishes.{publish_law}
+use Rattle.core_locks.proofs.PublishesAll.{publish_all_law}
+use Rattle.core_locks.proofs.Displaces.{displaces}
+use Rattle.core_locks.proofs.Seizes.{seizes}
+use Rattle.core_locks.proofs.HoldLaw.{stored_valid}
+use Rattle.core_locks.proofs.HoldCleared.{cleared_valid}
+use Rattle.core_locks.proofs.EnterLogs.{logging_an_enter}
+use Rattle.core_locks.proofs.ExitHolds.{exits_by_a_hold_word}
+use Rattle.core_locks.proofs.ExitMarks.{exits_by_the_mark, exit_misses}
+use Rattle.core_locks.proofs.RaiseStamps.{raising_valid}
+use Rattle.core_locks.proofs.WaitLaws.{ready_valid, ended_valid}
+use Rattle.core_steps.specs.Logic.{Heap, Stands, Keeps}
+
+module _ (heap : Heap) (k : Known) where
+  -- what holds of the world's shape and of what its thread knows, holds of these
+  pub home : (v : Stands heap k) (P : Shape → Known → Type 0) → P v.world.shape (v.world.known k.thread) → P heap.shape k
+  home v P h = subst (λ (z : Heap). P z.shape k) v.is_of (subst (P v.world.shape) v.knows h)
+
+  pub away : (v : Stands heap k) (P : Shape → Known → Type 0) → P heap.shape k → P v.world.shape (v.world.known k.thread)
+  away v P h = subst (P v.world.shape) (sym v.knows) (subst (λ (z : Heap). P z.shape k) (sym v.is_of) h)
+
+  pub inside : (v : Stands heap k) → k.thread < v.world.shape.threads
+  inside v = subst (λ (z : Heap). k.thread < z.shape.threads) (sym v.is_of) v.within
+
+  -- A law of a step that leaves the plain objects, as a rule for the plan that the thread's knowledge makes. Its premise may use that there is
+  -- such a world.
+  pub keeps : (May : Shape → Known → Type 0) (plan : ℕ → Known → StepPlan) → KeepsValid (λ w t. May w.shape (w.known t)) (λ w t. plan t (w.known t))
+      → (Stands heap k → May heap.shape k) → Keeps heap (plan k.thread k) k
+  keeps May plan law may = record {
+    by = λ v. record {
+      objects = v.objects;
+      is = home v (λ s y. May s y → IsValid (world_after (plan k.thread y) k.thread v.world) v.objects) (λ a. law v.world v.objects k.thread (inside v) a v.valid) (may v);
+    };
+  }
+
+  -- and one of a step that logs an entry, which may be made of the word that it finds
+  pub enters_in_log : (May : Shape → Known → Type 0) (plan : ℕ → Known → StepPlan) (entry : ℕ → Entry) → LogsFound (λ w t. May w.shape (w.known t)) (λ w t. plan t (w.known t)) entry
+      → (Stands heap k → May heap.shape k) → Keeps heap (plan k.thread k) k
+  enters_in_log May plan entry law may = record {
+    by = λ v. home v
+        (λ s y. May s y → Valid (world_after (plan k.thread y) k.thread v.world))
+        (λ a. let h = law v.world v.objects k.thread (inside v) a v.valid in record { objects = h.now; is = h.valid }) (may v);
+  }
+
+  -- LOADS
+  pub looks : (p : StepPlan) → IsLook k p → Keeps heap p k
+  looks p look = keeps (λ s y. IsLook y p) (λ t y. p) (λ w objects t within may valid. look_valid w objects t p within may valid) (λ v. look)
+
+  -- THE SAFEPOINT WORD
+  pub stops : (e : Purpose) → MayStop k e → Keeps heap (stop_plan e k.thread) k
+  stops e may = keeps (λ s y. MayStop y e) (λ t y. stop_plan e t) (stopping_valid e) (λ v. may)
+
+  pub resumes : (e : Purpose) (word : ℕ) → MayResume k e word → Keeps heap (resume_plan e k.thread word) k
+  resumes e word may = keeps (λ s y. MayResume y e word) (λ t y. resume_plan e t word) (resuming_valid e word) (λ v. may)
+
+  pub requests : (e : Purpose) (word : ℕ) → MayRequest k e word → Keeps heap (request_plan e k.thread word) k
+  requests e word may = keeps (λ s y. MayRequest y e word) (λ t y. request_plan e t word) (requesting_valid e word) (λ v. may)
+
+  pub releases : (e : Purpose) → MayRelease k e → Keeps heap (release_plan e Calm k.thread) k
+  releases e may = keeps (λ s y. MayRelease y e) (λ t y. release_plan e Calm t) (releasing_valid e) (λ v. may)
+
+  pub halts : (e : Purpose) → MayHalt heap.shape.threads k e → Keeps heap (halt_plan e k.thread) k
+  halts e may = keeps (λ s y. MayHalt s.threads y e) (λ t y. halt_plan e t) (halting_valid e) (λ v. may)
+
+  -- THE JOURNAL
+  pub publishes_all : (e : Purpose) → MayPublishLog k e → Keeps heap (publish_log_plan e k.thread (length k.log)) k
+  publishes_all e may = keeps (λ s y. MayPublishLog y e) (λ t y. publish_log_plan e t (length y.log)) (publish_all_law e) (λ v. may)
+
+  pub gets : (e : Purpose) (o slot : ℕ) → (Stands heap k → MayGet heap.shape k e o slot) → Keeps heap (get_plan e o slot) k
+  gets e o slot may = enters_in_log (λ s y. MayGet s y e o slot) (λ t y. get_plan e o slot) (get_entry o slot) (get_law e o slot) may
+
+  pub puts : (e : Purpose) (o slot : ℕ) (value : Value) → (Stands heap k → MayPut heap.shape k o slot value) → Keeps heap (put_plan e o slot value) k
+  puts e o slot value may = enters_in_log (λ s y. MayPut s y o slot value) (λ t y. put_plan e o slot value) (λ n. Put o slot value) (put_law e o slot value) may
+
+  pub publishes : (e : Purpose) (entry : Entry) → (Stands heap k → MayPublish heap.shape k entry) → Keeps heap (publish_plan e k.thread entry (length k.log + 1)) k
+  publishes e entry may = enters_in_log (λ s y. MayPublish s y entry) (λ t y. publish_plan e t entry (length y.log + 1)) (λ n. entry) (publish_law e entry) may
+
+  pub raises : (e : Purpose) (o : ℕ) → (Stands heap k → MayRaise k e o) → Keeps heap (raise_stamp_plan e o (next_stamp (local_of k))) k
+  raises e o may = keeps (λ s y. MayRaise y e o) (λ t y. raise_stamp_plan e o (next_stamp (local_of y))) (raising_valid e o) may
+
+  pub logs_enter : (e : Purpose) (o p : ℕ) (path : Path) → (Stands heap k → MayLogEnter heap.shape k o p path) → Keeps heap (log_enter_plan e o path) k
+  logs_enter e o p path may = enters_in_log (λ s y. MayLogEnter s y o p path) (λ t y. log_enter_plan e o path) (λ n. Enter o path) (logging_an_enter e o p path) may
+
+  pub readies : (e : Purpose) → (Stands heap k → MayBeReady k e) → Keeps heap (store_ready_plan e k.stage k.thread) k
+  readies e may = keeps (λ s y. MayBeReady y e) (λ t y. store_ready_plan e y.stage t) (ready_valid e) may
+
+  pub says_ended_rule : (e : Purpose) → (Stands heap k → MayEnd k e) → Keeps heap (store_ended_plan e k.thread) k
+  says_ended_rule e may = keeps (λ s y. MayEnd y e) (λ t y. store_ended_plan e t) (ended_valid e) may
+
+  -- LOCK RECORDS
+  pub displaces_rule : (e : Purpose) (p d : ℕ) → (Stands heap k → MayDisplace k e p) → Keeps heap (displace_plan e k.stage k.thread p d) k
+  displaces_rule e p d may = keeps (λ s y. MayDisplace y e p) (λ t y. displace_plan e y.stage t p d) (displaces e p d) may
+
+  pub seizes_rule : (e : Purpose) (o mark p : ℕ) → (Stands heap k → MaySeize k e o mark p) → Keeps heap (seize_plan e k.thread o mark p) k
+  seizes_rule e o mark p may = keeps (λ s y. MaySeize y e o mark p) (λ t y. seize_plan e t o mark p) (seizes e o mark p) may
+
+  pub holds_rule : (e : Purpose) (o d p : ℕ) (path : Path) → (Stands heap k → MayHold heap.shape k e o d p) → Keeps heap (hold_plan e k.thread o d p path) k
+  holds_rule e o d p path may = keeps (λ s y. MayHold s y e o d p) (λ t y. hold_plan e t o d p path) (stored_valid e o d p path) may
+
+  pub leaves_rule : (e : Purpose) (o d p : ℕ) → (Stands heap k → MayLeave heap.shape k o d p) → Keeps heap (leave_plan e k.thread o p) k
+  leaves_rule e o d p may = enters_in_log (λ s y. MayLeave s y o d p) (λ t y. leave_plan e t o p) (λ n. Exit o) (exits_by_a_hold_word e o d p) may
+
+  pub clears_rule : (e : Purpose) (o p : ℕ) → (Stands heap k → MayClear k e o p) → Keeps heap (clear_plan e k.thread p) k
+  clears_rule e o p may = keeps (λ s y. MayClear y e o p) (λ t y. clear_plan e t p) (cleared_valid e o p) may
+
+  -- whether the exchange hits or misses
+  pub lets_go_rule : (e : Purpose) (o header stamp p : ℕ) → (Stands heap k → MayLetGo heap.shape k o header stamp p) → Keeps heap (let_go_plan e o (mark_of (Locked k.thread p)) header p) k
+  lets_go_rule e o header stamp p may = record {
+    by = λ v.
+        let a = away v (λ s y. MayLetGo s y o header stamp p) (may v) in
+        by_equal (v.world.words (name.Mark o)) (mark_of (Locked k.thread p))
+        (λ is. let h = exits_by_the_mark e o header stamp p v.world v.objects k.thread (inside v) (a, is) v.valid in record { objects = h.now; is = h.valid })
+        (λ n. record { objects = v.objects; is = exit_misses e o header stamp p v.world v.objects k.thread (inside v) (a, n) v.valid });
+  }

@@ -1,0 +1,83 @@
+-- Each world that a heap comes to is sound.
+use Rattle.std.proofs.Common.{◌≡◌, ℕ, ◌<◌, true, false, refl, sym, subst}
+use Rattle.core_world.specs.declared.plan.StepPlan.{StepPlan}
+use Rattle.core_world.specs.Threads.AtRest.{AtRest}
+use Rattle.core_world.specs.Due.{IsNext}
+use Rattle.core_world.specs.Threads.Known.{Known}
+use Rattle.core_world.specs.Opening.{opening, first_known}
+use Rattle.core_world.specs.Words.Shape.{Shape, IsInLimits}
+use Rattle.core_world.specs.Steps.{rest_of_call, is_idle, world_after}
+use Rattle.core_world.specs.Trees.Todo.{Todo, done, never, step}
+use Rattle.core_world.specs.Valid.{Valid}
+use Rattle.core_world.specs.World.{World}
+use Rattle.core_world.proofs.OpeningFits.{opening_valid}
+use Rattle.core_world.proofs.Readings.{no_told}
+use Rattle.core_steps.specs.Logic.{Heap, heap_of}
+use Rattle.core_steps.specs.Sound.{Finishes, Sound}
+use Rattle.core_steps.specs.Reached.{Comes, opens, moves, comes}
+use Rattle.core_steps.proofs.NextSteps.{stepping_sound, idle_rests}
+use Rattle.core_steps.proofs.Resting.{rests}
+use Rattle.core_steps.proofs.Table.{calls_begin}
+
+-- THE OPENING WORLD is sound: no call was begun, and every thread is at rest.
+first_rests : (s : Shape) (t : ℕ) → AtRest s (first_known t)
+first_rests s t = rests s (first_known t) refl refl refl (record { ended = λ h. absurd (cc h); place = λ o h. absurd (cc h); untold = no_told; shots_logged = λ h. refl })
+
+pub opening_sound : (heap : Heap) → IsInLimits heap.shape → Sound (opening heap.shape heap.start heap.biasing)
+opening_sound heap limits = record {
+  valid = opening_valid heap.shape heap.start heap.biasing limits;
+  goes_on = λ t h. record { by = first_rests heap.shape t };
+}
+
+-- OF A SOUND WORLD. Nothing of its calls says that no valid world comes there.
+pub sound_comes : (w : World) (t : ℕ) → Sound w → t < w.shape.threads → comes (rest_of_call w.shape (w.known t)) ≡ true
+sound_comes w t sound within = cases (rest_of_call w.shape (w.known t)) (sound.goes_on t within)
+  where
+    cases : (d : Todo (Unit {0})) → Finishes (heap_of w) false d (w.known t) → comes d ≡ true
+    cases (done a) f = refl
+    cases never f = absurd f.by
+    cases (step p g) f = refl
+
+-- a thread whose call is over is at rest
+pub sound_rests : (w : World) (t : ℕ) → Sound w → t < w.shape.threads → is_idle w.shape (w.known t) ≡ true → AtRest w.shape (w.known t)
+sound_rests w t sound within over = idle_rests (heap_of w) (w.known t) (sound.goes_on t within) over
+
+-- THE LAW, for a step of any call; and by what the thread knows: a shared table's rule that its world is sound asks no more of a step than
+-- that it is the next one.
+pub next_step_sound : (w : World) (t : ℕ) (p : StepPlan) → t < w.shape.threads → Sound w → IsNext w.shape w.start w.biasing (w.known t) p → Sound (world_after p t w)
+next_step_sound w t p within = stepping_sound w t p within (calls_begin (heap_of w) p.task)
+
+pub known_step_sound : (heap : Heap) (k : Known) (p : StepPlan) → IsNext heap.shape heap.start heap.biasing k p → (w : World) → heap_of w ≡ heap
+    → w.known k.thread ≡ k → k.thread < heap.shape.threads → Sound w → Sound (world_after p k.thread w)
+known_step_sound heap k p next w is_of knows within sound =
+    next_step_sound w k.thread p
+    (subst (λ (z : Heap). k.thread < z.shape.threads) (sym is_of) within)
+    sound
+    (subst (λ (z : Heap). IsNext z.shape z.start z.biasing (w.known k.thread) p) (sym is_of) (subst (λ y. IsNext heap.shape heap.start heap.biasing y p) (sym knows) next))
+
+-- REACHED WORLDS
+-- a sound world of this heap
+pub record SoundOf (heap : Heap) (w : World) : Type 0 where
+  pub sound : Sound w
+  pub is_of : heap_of w ≡ heap
+
+comes_sound : (heap : Heap) (w : World) → IsInLimits heap.shape → Comes heap w → SoundOf heap w
+comes_sound heap w limits opens = record { sound = opening_sound heap limits; is_of = refl }
+comes_sound heap w limits (moves v t p before within next) =
+    let a = comes_sound heap v limits before in
+    record {
+      sound = next_step_sound v t p within a.sound next;
+      is_of = a.is_of;
+    }
+
+pub reached_worlds_sound : (heap : Heap) (w : World) → IsInLimits heap.shape → Comes heap w → Sound w
+reached_worlds_sound heap w limits c = (comes_sound heap w limits c).sound
+
+-- and in each of them what is left of a call comes somewhere
+pub reached_worlds_come : (heap : Heap) (w : World) (t : ℕ) → IsInLimits heap.shape → Comes heap w → t < heap.shape.threads → comes (rest_of_call w.shape (w.known t)) ≡ true
+reached_worlds_come heap w t limits c within =
+    let a = comes_sound heap w limits c in
+    sound_comes w t a.sound (subst (λ (z : Heap). t < z.shape.threads) (sym a.is_of) within)
+
+pub reached_worlds_valid : (heap : Heap) (w : World) → IsInLimits heap.shape → Comes heap w → Valid w
+reached_worlds_valid heap w limits c = (reached_worlds_sound heap w limits c).valid

@@ -1,0 +1,100 @@
+-- What a tree's steps would have to keep, followed from a world in which the tree begins. So weakened trees are refuted.
+use Rattle.std.proofs.Common.{◌≡◌, ◌≢◌, ℕ, ◌+◌, ◌^◌, ◌<◌, ◌≤◌, ◌&&◌, Bool, true, false, List, length, slice_index, slice_set, eq-eqb, refl, sym, ap, ◌∙◌, arith, inl, inr}
+use Rattle.std.proofs.lemmas.Option.{same_Some}
+use Rattle.plain_monitor.specs.History.{objects_after}
+use Rattle.plain_monitor.specs.Objects.{PlainObject}
+use Rattle.core_world.specs.declared.act.Act.TheVariants.{Mask}
+use Rattle.core_world.specs.declared.name.Name.TheVariants as name
+use Rattle.core_world.specs.declared.plan.StepPlan.{StepPlan}
+use Rattle.core_world.specs.declared.stage.Stage.{Stage}
+use Rattle.core_world.specs.declared.stage.Stage.TheVariants.{Calm}
+use Rattle.core_world.specs.Words.Acts.{word_after}
+use Rattle.core_world.specs.Words.Forms.{is_neutral, hold_word, asks_in}
+use Rattle.core_world.specs.Threads.Known.{Known, local_of}
+use Rattle.core_world.specs.Locks.{hold_count, holds_by_monitor, monitor_of}
+use Rattle.core_world.specs.Trees.Plans.{Purpose, with_stage, store, free_place, top_place}
+use Rattle.core_world.specs.Trees.SafepointSteps.{all_but, stop_plan}
+use Rattle.core_world.specs.Threads.Stages.{hold_words_ahead, one_if}
+use Rattle.core_world.specs.Steps.{is_idle, world_after, known_hit}
+use Rattle.core_world.specs.Trees.Todo.{Todo, step}
+use Rattle.core_world.specs.Valid.{Valid, IsValid, Fits}
+use Rattle.core_world.specs.World.{World}
+use Rattle.core_world.specs.Trees.LockSteps.{clear_plan}
+use Rattle.core_world.proofs.KnowledgeParts.{by_equal, with_known_here, logs_stay}
+use Rattle.core_locks.proofs.HoldCounts.{named_clear}
+use Rattle.core_locks.proofs.RefutedSteps.{knows, hit, hit_fits}
+use Rattle.core_locks.proofs.SafeFacts.{running_unreached}
+use Rattle.core_locks.proofs.RefutedExchanges.{exchange_refused}
+use Rattle.core_steps.specs.Logic.{Heap, Stands, DoesSteps}
+use Rattle.core_steps.specs.Weakened.{late_displaced_steps, early_clearing_steps, stop_at_stage_steps}
+use Rattle.core_steps.proofs.Facts.{fits_here, limits_here}
+use Rattle.core_steps.proofs.LawRules.{away}
+use Rattle.core_steps.proofs.Places.{top_here, few_here}
+use Rattle.core_steps.proofs.SafeWords.{safe_fits, stopped_runs}
+
+module _ (heap : Heap) (k : Known) (fresh : Bool) (v : Stands heap k) (at_first : is_idle heap.shape k ≡ fresh) where
+  runs_there : k.running ≡ true → (v.world.known k.thread).running ≡ true
+  runs_there runs = away heap k v (λ s y. y.running ≡ true) runs
+
+  -- a tree's first step, from this world
+  first_valid : {A : Type 0} (p : StepPlan) (f : ℕ → Todo A) → DoesSteps heap fresh (step p f) k → Valid (world_after p k.thread v.world)
+  first_valid p f does = (does.by.0 at_first).by v
+
+  -- THE DISPLACED WORD AFTER THE EXCHANGE
+  pub late_displaced_fails : (e : Purpose) (o mark : ℕ) → k.running ≡ true → free_place k.holds < 64 → is_neutral mark ≡ true → v.world.words (name.Mark o) ≡ mark
+      → v.world.words (name.Displaced k.thread (free_place k.holds)) ≢ mark → DoesSteps heap fresh (late_displaced_steps e (local_of k) o mark) k → ⊥
+  late_displaced_fails e o mark runs place neutral found other does =
+      exchange_refused v.world o k.thread mark (free_place k.holds) e (record { objects = v.objects; is = v.valid }) (runs_there runs) place neutral found other (first_valid _ _ does)
+
+  -- A HOLD WORD CLEARED BEFORE THE EXIT IS LOGGED: the plain monitor counts a hold that has no word
+  cleared_counts : (w : World) (P Q : List PlainObject) (t o p : ℕ) (e : Purpose) → Fits w P → Fits (hit (store e (name.Hold t p) 0) t w) Q → (w.known t).stage ≡ Calm → o < 2 ^ 15
+      → slice_index (w.known t).holds p ≡ hold_word o (hold_count o (w.known t).holds) → 1 ≤ hold_count o (w.known t).holds → hold_count o (w.known t).holds ≤ 64 → ⊥
+  cleared_counts w P Q t o p e before afterwards calm few top some small =
+      let plan = clear_plan e t p in
+      let l = knows plan t w in
+      let logs_same = ap (objects_after w.shape.objects) (logs_stay 0 w.shape.threads t l w.known refl) in
+      let objects : Q ≡ P = same_Some Q P (sym afterwards.taken ∙ logs_same ∙ before.taken) in
+      let mine = with_known_here t l w.known in
+      let now : hold_count o (slice_set (w.known t).holds p 0) ≡ holds_by_monitor (monitor_of Q o) t + 0 =
+      ap (λ (y : Known). hold_count o y.holds) (sym mine) ∙ afterwards.holds.number t o ∙ ap (λ (y : Known). holds_by_monitor (monitor_of Q o) t + hold_words_ahead y.stage o) mine in
+      let was : hold_count o (w.known t).holds ≡ holds_by_monitor (monitor_of P o) t + 0 = before.holds.number t o ∙ ap (λ z. holds_by_monitor (monitor_of P o) t + hold_words_ahead z o) calm in
+      let stays : holds_by_monitor (monitor_of Q o) t ≡ holds_by_monitor (monitor_of P o) t = ap (λ z. holds_by_monitor (monitor_of z o) t) objects in
+      let less : hold_count o (slice_set (w.known t).holds p 0) + 1 ≡ hold_count o (w.known t).holds =
+      ap (λ b. hold_count o (slice_set (w.known t).holds p 0) + one_if b) (sym (eq-eqb o o refl)) ∙ named_clear (w.known t).holds p o (hold_count o (w.known t).holds) few some small top o in
+      absurd (omega (arith, now, was, stays, less))
+
+  pub early_clearing_fails : (e : Purpose) (o header mark : ℕ) → k.running ≡ true → k.stage ≡ Calm → o < length heap.shape.objects → 1 ≤ hold_count o k.holds
+      → DoesSteps heap fresh (early_clearing_steps e (local_of k) o header mark) k → ⊥
+  early_clearing_fails e o header mark runs calm object some does =
+      let fits = fits_here heap k v runs in
+      let few = (limits_here heap k v runs).objects in
+      let p = top_place o k.holds in
+      let afterwards = hit_fits (store e (name.Hold k.thread p) 0) k.thread v.world refl (runs_there runs) (first_valid _ _ does) in
+      cleared_counts v.world v.objects afterwards.0 k.thread o p e fits afterwards.1 (away heap k v (λ s y. y.stage ≡ Calm) calm) (omega (arith, few, object))
+      (away heap k v (λ s y. slice_index y.holds p ≡ hold_word o (hold_count o y.holds)) (top_here heap k v runs o some).0)
+      (away heap k v (λ s y. 1 ≤ hold_count o y.holds) some) (away heap k v (λ s y. hold_count o y.holds ≤ 64) (few_here heap k v runs o))
+
+  -- A STOP AT ANOTHER STAGE: a thread that doesn't run stands in the middle of nothing
+  still_calm : (w : World) (P : List PlainObject) (t : ℕ) → IsValid w P → (w.known t).running ≡ false → (w.known t).reached ≡ false → (w.known t).stage ≡ Calm
+  still_calm w P t valid stopped unreached = elim valid [
+    | inl a ↦ a.quiet.quiet t stopped
+    | inr s ↦ by_equal t s.requester
+        (λ same. let reached = ap (λ z. (w.known z).reached) same ∙ ap (λ (y : Known). y.reached) s.knows ∙ s.reached in absurd (cc (reached, unreached)))
+        (λ d. let same = s.others t d in ap (λ (y : Known). y.stage) same ∙ s.fits.quiet.quiet t (ap (λ (y : Known). y.running) (sym same) ∙ stopped))
+  ]
+
+  pub stop_at_stage_fails : (e : Purpose) (stage : Stage) → k.running ≡ true → stage ≢ Calm → DoesSteps heap fresh (stop_at_stage_steps e stage (local_of k)) k → ⊥
+  stop_at_stage_fails e stage runs middle does =
+      let stop = with_stage stage (stop_plan e k.thread) in
+      let n = v.world.words name.Safepoint in
+      let last : Valid (world_after stop k.thread v.world) = first_valid stop _ does in
+      let knows_so : (world_after stop k.thread v.world).known k.thread ≡ known_hit heap.shape heap.start stop n k =
+      with_known_here k.thread _ v.world.known ∙ (λ i. known_hit (v.is_of i).shape (v.is_of i).start stop n (v.knows i)) in
+      middle (sym (ap (λ (y : Known). y.stage) knows_so) ∙ still_calm (world_after stop k.thread v.world) last.objects k.thread last.is
+      (ap (λ (y : Known). y.running) knows_so ∙ stopped_runs heap k n v refl runs)
+      (ap (λ (y : Known). y.reached) knows_so ∙ ap (λ (b : Bool). b && asks_in (word_after (Mask (all_but k.thread)) n) k.thread) (unreached k.reached refl)))
+    where
+      unreached : (b : Bool) → k.reached ≡ b → k.reached ≡ false
+      unreached true reached =
+          absurd (running_unreached v.world v.objects k.thread k.thread (safe_fits heap k (v.world.words name.Safepoint) v refl) (runs_there runs) (away heap k v (λ s y. y.reached ≡ true) reached))
+      unreached false reached = reached

@@ -1,0 +1,109 @@
+-- What a thread at rest carries from call to call, over the parts of its knowledge that say it, so that it passes by computation the steps
+-- that leave these parts.
+use Rattle.std.proofs.Common.{◌≡◌, ℕ, ◌<◌, ◌||◌, Bool, true, false, List, [], ◌∷◌, ◌++◌, length, Option, None, ap, sym, refl, subst}
+use Rattle.plain_monitor.specs.declared.entry.Logged.{Logged}
+use Rattle.core_world.specs.declared.stage.Stage.TheVariants.{Calm}
+use Rattle.core_world.specs.declared.task.Op.TheVariants as op
+use Rattle.core_world.specs.declared.task.Unfinished.{Unfinished}
+use Rattle.core_world.specs.Threads.AtRest.{AtRest, MayAsk}
+use Rattle.core_world.specs.Words.Forms.{says_notified, says_ended}
+use Rattle.core_world.specs.Words.Shape.{Shape}
+use Rattle.core_world.specs.Threads.Known.{Known, DumpShot}
+use Rattle.core_world.specs.Trees.Plans.{free_place}
+use Rattle.core_world.specs.Clauses.Safepoints.{ends, is_ending, IsUnfinished}
+use Rattle.core_world.specs.Shots.{dumps_from}
+
+pub record Carries (log : List Logged) (wait : ℕ) (holds : List ℕ) (shots : List DumpShot) (unfinished : Option Unfinished) : Type 0 where
+  pub ended : ends log ≡ true → (says_ended wait ≡ true) × (unfinished ≡ None)
+  pub place : (o : ℕ) → IsUnfinished unfinished op.Enter o → free_place holds < 64
+  pub untold : (o : ℕ) → says_notified wait o ≡ false
+  pub shots_logged : IsUnfinished unfinished op.Dump 0 → length shots ≡ length (dumps_from 0 log)
+
+pub carried : (s : Shape) (k : Known) → AtRest s k → Carries k.log k.wait k.holds k.shots k.unfinished
+carried s k rest = record { ended = rest.ended; place = rest.place; untold = rest.untold; shots_logged = rest.shots }
+
+-- a thread that runs asks for no safepoint, and one that asks for none has no check unfinished
+pub unasking : (s : Shape) (k : Known) → AtRest s k → k.running ≡ true → k.requesting ≡ false
+unasking s k rest runs = cases k.requesting rest.stopped
+  where
+    cases : (b : Bool) → (b ≡ true → k.running ≡ false) → b ≡ false
+    cases true f = let stopped = f refl in absurd (cc (stopped, runs))
+    cases false f = refl
+
+pub unchecking : (s : Shape) (k : Known) → AtRest s k → k.requesting ≡ false → k.checking ≡ false
+unchecking s k rest unasks = cases k.checking rest.checks
+  where
+    cases : (b : Bool) → (b ≡ true → k.requesting ≡ true) → b ≡ false
+    cases true f = let asks = f refl in absurd (cc (asks, unasks))
+    cases false f = refl
+
+-- so the thread is at rest where it asks for nothing
+pub rests : (s : Shape) (k : Known) → k.stage ≡ Calm → k.requesting ≡ false → k.checking ≡ false → Carries k.log k.wait k.holds k.shots k.unfinished → AtRest s k
+rests s k calm unasks unchecks carries = record {
+  calm = calm;
+  ended = carries.ended;
+  place = carries.place;
+  untold = carries.untold;
+  shots = carries.shots_logged;
+  stopped = λ asks. absurd (cc (asks, unasks));
+  asks = λ asks. absurd (cc (asks, unasks));
+  checks = λ checks. absurd (cc (checks, unchecks));
+}
+
+-- and where it has nothing unfinished but its request
+pub rests_asking : (s : Shape) (k : Known) → k.stage ≡ Calm → k.running ≡ false → k.unfinished ≡ None → k.checking ≡ false → Carries k.log k.wait k.holds k.shots k.unfinished → AtRest s k
+rests_asking s k calm stopped nothing unchecks carries = record {
+  calm = calm;
+  ended = carries.ended;
+  place = carries.place;
+  untold = carries.untold;
+  shots = carries.shots_logged;
+  stopped = λ asks. stopped;
+  asks = λ asks unchecking. asks_nothing nothing;
+  checks = λ checks. absurd (cc (checks, unchecks));
+}
+  where
+    asks_nothing : k.unfinished ≡ None → MayAsk s k k.unfinished
+    asks_nothing e = subst (MayAsk s k) (sym e) tt
+
+-- or only its check
+pub rests_checking : (s : Shape) (k : Known) → k.stage ≡ Calm → k.running ≡ false → k.requesting ≡ true → k.checking ≡ true → Carries k.log k.wait k.holds k.shots k.unfinished → AtRest s k
+rests_checking s k calm stopped asks checks carries = record {
+  calm = calm;
+  ended = carries.ended;
+  place = carries.place;
+  untold = carries.untold;
+  shots = carries.shots_logged;
+  stopped = λ asks. stopped;
+  asks = λ asks unchecks. absurd (cc (checks, unchecks));
+  checks = λ checks. asks;
+}
+
+-- LIVE LOGS. An entry that ends nothing leaves a log as live as it was.
+pub live_behind : (log : List Logged) (l : Logged) → ends log ≡ false → is_ending l.entry ≡ false → ends (log ++ l ∷ []) ≡ false
+live_behind [] l live e = ap (λ (b : Bool). b || false) e
+live_behind (m ∷ log) l live e = cases (is_ending m.entry) live (live_behind log l)
+  where
+    cases : (b : Bool) → (b || ends log) ≡ false → (ends log ≡ false → is_ending l.entry ≡ false → ends (log ++ l ∷ []) ≡ false) → (b || ends (log ++ l ∷ [])) ≡ false
+    cases true live f = absurd (cc live)
+    cases false live f = f live e
+
+pub ends_behind : (log : List Logged) (l : Logged) → is_ending l.entry ≡ true → ends (log ++ l ∷ []) ≡ true
+ends_behind [] l e = ap (λ (b : Bool). b || false) e
+ends_behind (m ∷ log) l e = let a = ends_behind log l e in cases (is_ending m.entry) a
+  where
+    cases : (b : Bool) → ends (log ++ l ∷ []) ≡ true → (b || ends (log ++ l ∷ [])) ≡ true
+    cases true a = refl
+    cases false a = a
+
+-- A thread whose log is live and whose unfinished operation is no dump carries that it is live, a free place where an enter is unfinished, and that it
+-- was not told.
+pub live_carries : {shots : List DumpShot} (log : List Logged) (wait : ℕ) (holds : List ℕ) (unfinished : Option Unfinished) → ends log ≡ false
+    → ((o : ℕ) → IsUnfinished unfinished op.Enter o → free_place holds < 64) → (IsUnfinished unfinished op.Dump 0 → ⊥) → ((o : ℕ) → says_notified wait o ≡ false) → Carries log wait holds shots unfinished
+live_carries log wait holds unfinished live place undumped untold =
+    record { ended = λ ended. absurd (cc (ended, live)); place = place; untold = untold; shots_logged = λ dumps. absurd (undumped dumps) }
+
+-- and so it does after an entry that ends nothing, with which its operation ends
+pub logged_carries : {shots : List DumpShot} (log : List Logged) (l : Logged) (wait : ℕ) (holds : List ℕ) → ends log ≡ false → is_ending l.entry ≡ false → ((o : ℕ) → says_notified wait o ≡ false)
+    → Carries (log ++ l ∷ []) wait holds shots None
+logged_carries log l wait holds live e untold = live_carries (log ++ l ∷ []) wait holds None (live_behind log l live e) (λ o h. absurd (cc h)) (λ h. absurd (cc h)) untold

@@ -1,0 +1,455 @@
+-- A revocation at a reached safepoint: its steps, from the loads by which the policy decides up to the release.
+use Rattle.std.proofs.Common.{◌≡◌, ℕ, ◌<◌, ◌==◌, ◌&&◌, ◌++◌, not, eq-eqb, Bool, true, false, cond, List, [], ◌∷◌, length, Option, Some, None, refl, sym, ap, ◌∙◌, subst, inl, inr}
+use Rattle.mark_word.specs.Mark.{read_mark}
+use Rattle.lock_policy.specs.declared.policy.Verdict.{Verdict}
+use Rattle.lock_policy.specs.Policy.{decided, is_reset}
+use Rattle.core_world.specs.declared.answer.Turn.{Turn}
+use Rattle.core_world.specs.declared.answer.Turn.TheVariants.{Done, Pending}
+use Rattle.core_world.specs.declared.name.Name.{Name}
+use Rattle.core_world.specs.declared.name.Name.TheVariants as name
+use Rattle.core_world.specs.declared.plan.Own.TheVariants as own
+use Rattle.core_world.specs.declared.plan.StepPlan.{StepPlan}
+use Rattle.core_world.specs.declared.stage.Stage.TheVariants.{Calm}
+use Rattle.core_world.specs.declared.task.Op.{Op}
+use Rattle.core_world.specs.Threads.AtRest.{AtRest, SawValidBias}
+use Rattle.core_world.specs.Trees.BiasSteps.{stage_after}
+use Rattle.core_world.specs.Words.Forms.{asks_in, runs_in, epoch_in, is_biased}
+use Rattle.core_world.specs.Threads.Known.{Known, StepMade, local_of, last_seen, left_by}
+use Rattle.core_world.specs.Locks.{is_valid_bias}
+use Rattle.core_world.specs.Words.Names.{same_name, its_monitor}
+use Rattle.core_world.specs.Trees.Plans.{Purpose, with_stage, load, store, done_with}
+use Rattle.core_world.specs.Trees.SafepointSteps.{reached_word, released_word, release_plan, release_to}
+use Rattle.core_world.specs.Clauses.SeenWords.{IsValidBias}
+use Rattle.core_world.specs.RevocationRules.{writes_in}
+use Rattle.core_world.specs.Trees.RevocationSteps.{revocation_stage, revoke_plan, verdict_steps, decided_steps, RevocationOutcome, revoke_at_safepoint_steps}
+use Rattle.core_world.specs.Words.Shape.{class_of}
+use Rattle.core_world.specs.Threads.Stages.{Revocation, revocation_in}
+use Rattle.core_world.specs.Steps.{known_hit, seen_before, only_headers, is_header}
+use Rattle.core_world.specs.Trees.Todo.{Todo, done, never, step, ◌>>=◌}
+use Rattle.core_world.specs.Valid.{RevokesWithin}
+use Rattle.core_world.proofs.ActsLook.{headers_are_part}
+use Rattle.core_world.proofs.Naming.{same_named}
+use Rattle.core_bias.specs.Revoking.{IsNextStore, AreAllStores, Leads, TellsBias}
+use Rattle.core_bias.proofs.NewBias.{answer_tells}
+use Rattle.core_bias.proofs.RevocationRuns.{steps_next, steps_all}
+use Rattle.core_locks.proofs.LookOn.{may_look}
+use Rattle.core_locks.specs.Knowing.{IsBiasTo}
+use Rattle.core_steps.specs.Logic.{Heap, Stands, Was, Does}
+use Rattle.core_steps.proofs.BiasFacts.{valid_is}
+use Rattle.core_steps.proofs.BiasRules.{begins_revoking_rule, goes_on_revoking_rule, ends_revoking_rule}
+use Rattle.core_steps.proofs.LawRules.{home, away, looks}
+use Rattle.core_steps.proofs.RevocationTrees.{IsLooked, IsStored, InMiddle, middle_binds, middle_verdict, answers_left, revocation_untaken}
+use Rattle.core_steps.proofs.SafepointLooks.{Reaches, is_as_seen, fits_reached, keeps_look}
+use Rattle.core_steps.proofs.SafeWords.{reached_there, released_asks, released_runs, few_threads}
+use Rattle.core_steps.proofs.SeenSteps.{same_as_itself}
+use Rattle.core_steps.proofs.Trees.{answers, chooses_then, hitting, finding}
+
+-- some step of these was on the word of this name
+abbrev pub HasSeen : Name → List StepMade → Type 0
+HasSeen n ms = (v : ℕ) × (last_seen n ms ≡ Some v)
+
+seen_more : (n : Name) (m : StepMade) (ms : List StepMade) → HasSeen n ms → HasSeen n (m ∷ ms)
+seen_more n m ms h = cases (same_name n m.plan.at)
+  where
+    cases : (b : Bool) → (v : ℕ) × (cond b (Some (left_by m)) (last_seen n ms) ≡ Some v)
+    cases true = (left_by m, refl)
+    cases false = h
+
+-- of the marks and prototypes all is kept that was seen at the safepoint
+headers_stay : (n : Name) → is_header n ≡ true → (ms : List StepMade) → last_seen n (only_headers ms) ≡ last_seen n ms
+headers_stay n h [] = refl
+headers_stay n h (m ∷ ms) = by_header (is_header m.plan.at) refl (headers_stay n h ms)
+  where
+    unless : is_header m.plan.at ≡ false → (b : Bool) → same_name n m.plan.at ≡ b → last_seen n (only_headers ms) ≡ last_seen n ms → last_seen n (only_headers ms) ≡ cond b (Some (left_by m)) (last_seen n ms)
+    unless g true e rest = let same = ap is_header (same_named n m.plan.at e) in absurd (cc (same, h, g))
+    unless g false e rest = rest
+
+    by_header : (b : Bool) → is_header m.plan.at ≡ b → last_seen n (only_headers ms) ≡ last_seen n ms → last_seen n (cond b (m ∷ only_headers ms) (only_headers ms)) ≡ last_seen n (m ∷ ms)
+    by_header true g rest = ap (λ z. cond (same_name n m.plan.at) (Some (left_by m)) z) rest
+    by_header false g rest = unless g (same_name n m.plan.at) refl rest
+
+headers_alone : (n : Name) → is_header n ≡ false → (ms : List StepMade) → last_seen n (only_headers ms) ≡ None
+headers_alone n h ms = cases (last_seen n (only_headers ms)) refl
+  where
+    cases : (a : Option ℕ) → last_seen n (only_headers ms) ≡ a → a ≡ None
+    cases None e = refl
+    cases (Some v) e = let is = (headers_are_part ms n v e).0 in absurd (cc (is, h))
+
+module _ (heap : Heap) (e : Purpose) (b : Revocation) (me : ℕ) where
+  abbrev T : Todo RevocationOutcome
+  T = revoke_at_safepoint_steps heap.shape me e b
+
+  abbrev c : ℕ
+  c = class_of heap.shape b.object
+
+  -- the parts that a revocation leaves
+  pub record Leaves (k l : Known) : Type 0 where
+    pub local : local_of l ≡ local_of k
+    pub running : l.running ≡ k.running
+    pub reached : l.reached ≡ k.reached
+    pub kept : l.kept ≡ k.kept
+    pub saved : l.saved ≡ k.saved
+    pub draws : l.draws ≡ k.draws
+    pub shots : l.shots ≡ k.shots
+    pub mine : e.unfinished ≡ l.unfinished
+    pub check : e.check ≡ l.checking
+
+  leaves_on : (k l m : Known) → Leaves k l → Leaves l m → Leaves k m
+  leaves_on k l m x y = record {
+    local = y.local ∙ x.local;
+    running = y.running ∙ x.running;
+    reached = y.reached ∙ x.reached;
+    kept = y.kept ∙ x.kept;
+    saved = y.saved ∙ x.saved;
+    draws = y.draws ∙ x.draws;
+    shots = y.shots ∙ x.shots;
+    mine = y.mine;
+    check = y.check;
+  }
+
+  -- a load or a store of a revocation leaves them, and is the newest of its steps at the safepoint
+  record Adds (p : StepPlan) (n : ℕ) (k l : Known) : Type 0 where
+    leaves : Leaves k l
+    seen_at_safepoint : l.seen_at_safepoint ≡ record { plan = p; found = n } ∷ k.seen_at_safepoint
+    stage : l.stage ≡ p.stage
+
+  abbrev then_known : StepPlan → ℕ → Known → Known
+  then_known p n k = known_hit heap.shape heap.start p n k
+
+  abbrev looking : Name → StepPlan
+  looking at = with_stage (revocation_stage b) (load e at)
+
+  abbrev storing : Name → ℕ → StepPlan
+  storing at word = with_stage (revocation_stage b) (store e at word)
+
+  look_adds : (at : Name) → IsLooked at → (n : ℕ) (k : Known) → Adds (looking at) n k (then_known (looking at) n k)
+  look_adds (name.Prototype a) h n k =
+      record { leaves = record { local = refl; running = refl; reached = refl; kept = refl; saved = refl; draws = refl; shots = refl; mine = refl; check = refl }; seen_at_safepoint = refl; stage = refl }
+  look_adds (name.Revocations a) h n k =
+      record { leaves = record { local = refl; running = refl; reached = refl; kept = refl; saved = refl; draws = refl; shots = refl; mine = refl; check = refl }; seen_at_safepoint = refl; stage = refl }
+  look_adds (name.LastBulk a) h n k =
+      record { leaves = record { local = refl; running = refl; reached = refl; kept = refl; saved = refl; draws = refl; shots = refl; mine = refl; check = refl }; seen_at_safepoint = refl; stage = refl }
+  look_adds (name.Mark a) h n k =
+      record { leaves = record { local = refl; running = refl; reached = refl; kept = refl; saved = refl; draws = refl; shots = refl; mine = refl; check = refl }; seen_at_safepoint = refl; stage = refl }
+  look_adds (name.Hold u p) h n k =
+      record { leaves = record { local = refl; running = refl; reached = refl; kept = refl; saved = refl; draws = refl; shots = refl; mine = refl; check = refl }; seen_at_safepoint = refl; stage = refl }
+  look_adds _ h n k = absurd h
+
+  store_adds : (at : Name) (word : ℕ) → IsStored at → (n : ℕ) (k : Known) → Adds (storing at word) n k (then_known (storing at word) n k)
+  store_adds (name.Prototype a) word h n k =
+      record { leaves = record { local = refl; running = refl; reached = refl; kept = refl; saved = refl; draws = refl; shots = refl; mine = refl; check = refl }; seen_at_safepoint = refl; stage = refl }
+  store_adds (name.LastBulk a) word h n k =
+      record { leaves = record { local = refl; running = refl; reached = refl; kept = refl; saved = refl; draws = refl; shots = refl; mine = refl; check = refl }; seen_at_safepoint = refl; stage = refl }
+  store_adds (name.Mark a) word h n k =
+      record { leaves = record { local = refl; running = refl; reached = refl; kept = refl; saved = refl; draws = refl; shots = refl; mine = refl; check = refl }; seen_at_safepoint = refl; stage = refl }
+  store_adds (name.Displaced u p) word h n k =
+      record { leaves = record { local = refl; running = refl; reached = refl; kept = refl; saved = refl; draws = refl; shots = refl; mine = refl; check = refl }; seen_at_safepoint = refl; stage = refl }
+  store_adds _ word h n k = absurd h
+
+  looked_shared : (at : Name) → IsLooked at → (m : ℕ) → its_monitor at ≡ Some m → ⊥
+  looked_shared (name.Prototype a) h m is = cc is
+  looked_shared (name.Revocations a) h m is = cc is
+  looked_shared (name.LastBulk a) h m is = cc is
+  looked_shared (name.Mark a) h m is = cc is
+  looked_shared (name.Hold u p) h m is = cc is
+  looked_shared _ h m is = absurd h
+
+  -- FROM A REACHED SAFEPOINT where the thread has stored nothing
+  module _ (k0 : Known) (r : Reaches me k0 e) (unwritten : writes_in k0.seen_at_safepoint ≡ []) where
+    -- behind the first store, with the steps ms since, and this tree left to do
+    pub record Revokes (k : Known) (ms : List StepMade) (d : Todo RevocationOutcome) : Type 0 where
+      pub leaves : Leaves k0 k
+      pub stage : k.stage ≡ revocation_stage b
+      pub seen_at_safepoint : k.seen_at_safepoint ≡ ms ++ k0.seen_at_safepoint
+      pub path : Leads T ms d
+      pub mark : HasSeen (name.Mark b.object) k.seen_at_safepoint
+      pub prototype : HasSeen (name.Prototype c) k.seen_at_safepoint
+
+    number_of : (k : Known) → Leaves k0 k → k.thread ≡ me
+    number_of k x = ap (λ z. z.thread) x.local ∙ r.number
+
+    -- all its stores are made, and it has come to this answer
+    abbrev pub Made_all : RevocationOutcome → Known → Type 0
+    Made_all a l = (ms : List StepMade) × Revokes l ms (done a)
+
+    abbrev Q : Bool → RevocationOutcome → Known → Type 0
+    Q f a l = (f ≡ false) × Made_all a l
+
+    then_revokes : (p : StepPlan) (n : ℕ) (f : ℕ → Todo RevocationOutcome) (k l : Known) (ms : List StepMade) → Revokes k ms (step p f) → Adds p n k l → p.stage ≡ revocation_stage b → Revokes l (record { plan = p; found = n } ∷ ms) (f n)
+    then_revokes p n f k l ms x a at =
+        let m : StepMade = record { plan = p; found = n } in
+        record {
+          leaves = leaves_on k0 k l x.leaves a.leaves;
+          stage = a.stage ∙ at;
+          seen_at_safepoint = a.seen_at_safepoint ∙ ap (λ z. m ∷ z) x.seen_at_safepoint;
+          path = (f, x.path, refl);
+          mark = subst (HasSeen (name.Mark b.object)) (sym a.seen_at_safepoint) (seen_more (name.Mark b.object) m k.seen_at_safepoint x.mark);
+          prototype = subst (HasSeen (name.Prototype c)) (sym a.seen_at_safepoint) (seen_more (name.Prototype c) m k.seen_at_safepoint x.prototype);
+        }
+
+    by_look : (at : Name) (f : ℕ → Todo RevocationOutcome) (k : Known) (ms : List StepMade) → IsLooked at → Revokes k ms (step (looking at) f)
+        → ((n : ℕ) (l : Known) (ms : List StepMade) → Revokes l ms (f n) → Does heap false (f n) l Q) → Does heap false (step (looking at) f) k Q
+    by_look at f k ms h x go =
+        hitting heap false (looking at) f k Q (λ n. refl)
+        (λ i. looks heap k (looking at) (record {
+          act = refl;
+          note = refl;
+          own = refl;
+          stage = sym x.stage;
+          check = x.leaves.check;
+          after = inl x.leaves.mine;
+          may = may_look k at (inr (x.leaves.reached ∙ r.reached)) (looked_shared at h);
+        }))
+        (λ n i was. go n (then_known (looking at) n k) (record { plan = looking at; found = n } ∷ ms) (then_revokes (looking at) n f k (then_known (looking at) n k) ms x (look_adds at h n k) refl))
+
+    by_store : (at : Name) (word : ℕ) (f : ℕ → Todo RevocationOutcome) (k : Known) (ms : List StepMade) → IsStored at → Revokes k ms (step (storing at word) f)
+        → ((n : ℕ) (l : Known) (ms : List StepMade) → Revokes l ms (f n) → Does heap false (f n) l Q) → Does heap false (step (storing at word) f) k Q
+    by_store at word f k ms h x go =
+        hitting heap false (storing at word) f k Q (λ n. refl)
+        (λ i. goes_on_revoking_rule heap k e b at word (λ v. record {
+          reached = x.leaves.reached ∙ r.reached;
+          its_revocation = ap revocation_in x.stage;
+          store = record {
+            next = subst (λ t. IsNextStore heap.shape t b k.seen_at_safepoint at word) (sym (number_of k x.leaves))
+                (subst (λ z. IsNextStore heap.shape me b z at word) (sym x.seen_at_safepoint) (steps_next heap.shape me e b ms k0.seen_at_safepoint unwritten (storing at word) f word x.path refl));
+            goes_on = x.leaves.mine;
+            check = x.leaves.check;
+          };
+        }))
+        (λ n i was. go n (then_known (storing at word) n k) (record { plan = storing at word; found = n } ∷ ms) (then_revokes (storing at word) n f k (then_known (storing at word) n k) ms x (store_adds at word h n k) refl))
+
+    middle_does : (d : Todo RevocationOutcome) (k : Known) (ms : List StepMade) → InMiddle e b d → Revokes k ms d → Does heap false d k Q
+    middle_does (done a) k ms h x = answers heap false a k Q (refl, (ms, x))
+    middle_does never k ms h x = absurd h
+    middle_does (step p f) k ms h x = elim h.0 [
+      | inl a ↦
+          subst (λ z. Does heap false (step z f) k Q) (sym a.2)
+          (by_look a.0 f k ms a.1 (subst (λ z. Revokes k ms (step z f)) a.2 x) (λ n l ms y. middle_does (f n) l ms (h.1 n) y))
+      | inr a ↦
+          subst (λ z. Does heap false (step z f) k Q) (sym a.3)
+          (by_store a.0 a.1 f k ms a.2 (subst (λ z. Revokes k ms (step z f)) a.3 x) (λ n l ms y. middle_does (f n) l ms (h.1 n) y))
+    ]
+
+    -- what the call that made the request saw of the object's mark is still there
+    still_valid : (v : Stands heap k0) (saw : SawValidBias heap.shape k0 b.object) → (v.world.words (name.Mark b.object) ≡ saw.0) × (v.world.words (name.Prototype c) ≡ saw.1)
+    still_valid v saw =
+        let fits = fits_reached heap k0 v r.reached r.calm in
+        let asks = (fits.safe.safepoint k0.thread (away heap k0 v (λ s y. y.reached ≡ true) r.reached)).0 in
+        let none_revokes = away heap k0 v (λ s y. revocation_in y.stage ≡ None) (ap revocation_in r.calm) in
+        let prototype = fits.seen.stays k0.thread (name.Prototype (class_of v.world.shape b.object)) saw.1
+        (away heap k0 v (λ s y. last_seen (name.Prototype (class_of s b.object)) y.seen ≡ Some saw.1) saw.3) (inr (asks, none_revokes, tt)) in
+        let valid : IsValidBias (read_mark saw.0) (v.world.words (name.Prototype (class_of v.world.shape b.object))) =
+        subst (IsValidBias (read_mark saw.0)) (sym prototype) (valid_is (read_mark saw.0) saw.1 saw.4) in (
+          fits.seen.stays k0.thread (name.Mark b.object) saw.0 (away heap k0 v (λ s y. last_seen (name.Mark b.object) y.seen ≡ Some saw.0) saw.2) (inr (asks, none_revokes, valid)),
+          home heap k0 v (λ s y. v.world.words (name.Prototype (class_of s b.object)) ≡ saw.1) prototype,
+        )
+
+  -- a prototype that was seen in the calls of the request
+  still_prototype : (k : Known) (v : Stands heap k) (p : ℕ) → k.reached ≡ true → k.stage ≡ Calm → last_seen (name.Prototype c) k.seen ≡ Some p → v.world.words (name.Prototype c) ≡ p
+  still_prototype k v p reached calm saw =
+      let fits = fits_reached heap k v reached calm in
+      let asks = (fits.safe.safepoint k.thread (away heap k v (λ s y. y.reached ≡ true) reached)).0 in
+      let none_revokes = away heap k v (λ s y. revocation_in y.stage ≡ None) (ap revocation_in calm) in
+      home heap k v (λ s y. v.world.words (name.Prototype (class_of s b.object)) ≡ p)
+      (fits.seen.stays k.thread (name.Prototype (class_of v.world.shape b.object)) p (away heap k v (λ s y. last_seen (name.Prototype (class_of s b.object)) y.seen ≡ Some p) saw) (inr (asks, none_revokes, tt)))
+
+  -- THE STEPS of a revocation for this operation, by a thread that saw a valid bias when it asked
+  module _ (operation : Op) (unfinished : e.unfinished ≡ Some (record { op = operation; object = b.object })) (allowed : RevokesWithin operation b.rebias) (object : b.object < length heap.shape.objects) where
+    module _ (k0 : Known) (r : Reaches me k0 e) (unwritten : writes_in k0.seen_at_safepoint ≡ []) (mark prototype count last : ℕ) (valid : is_valid_bias (read_mark mark) prototype ≡ true) where
+      abbrev looks_so_far : List StepMade
+      looks_so_far =
+          record { plan = load e (name.LastBulk c); found = last } ∷ record { plan = load e (name.Revocations c); found = count } ∷ record { plan = load e (name.Prototype c); found = prototype }
+          ∷ record { plan = load e (name.Mark b.object); found = mark } ∷ []
+
+      abbrev k4 : Known
+      k4 = then_known (load e (name.LastBulk c)) last (then_known (load e (name.Revocations c)) count (then_known (load e (name.Prototype c)) prototype (then_known (load e (name.Mark b.object)) mark k0)))
+
+      abbrev verdict : Verdict
+      verdict = (decided count last b.now).0
+
+      abbrev word : ℕ
+      word = (decided count last b.now).1
+
+      abbrev first_store : StepPlan
+      first_store = revoke_plan e b (own.CountVerdict c verdict (is_reset count last b.now)) (name.Revocations c) word
+
+      abbrev rest_of : ℕ → Todo RevocationOutcome
+      rest_of n = verdict_steps heap.shape me c e b (epoch_in prototype) verdict >>= (λ took. done (record { verdict = verdict; took = took }))
+
+      abbrev after_last : ℕ → ℕ → ℕ → ℕ → Todo RevocationOutcome
+      after_last m p a l = cond (is_valid_bias (read_mark m) p) (decided_steps heap.shape me c e b (epoch_in p) a l) never
+
+      path : Leads T looks_so_far (step first_store rest_of)
+      path = (
+        after_last mark prototype count,
+        (
+          λ a. step (load e (name.LastBulk c)) (after_last mark prototype a),
+          (
+            λ p. step (load e (name.Revocations c)) (λ a. step (load e (name.LastBulk c)) (after_last mark p a)),
+            (λ m. step (load e (name.Prototype c)) (λ p. step (load e (name.Revocations c)) (λ a. step (load e (name.LastBulk c)) (after_last m p a))), refl, refl),
+            refl,
+          ),
+          refl,
+        ),
+        ap (λ (z : Bool). cond z (decided_steps heap.shape me c e b (epoch_in prototype) count last) never) (sym valid),
+      )
+
+      saw_mark : last_seen (name.Mark b.object) k4.seen_at_safepoint ≡ Some mark
+      saw_mark = ap (λ (z : Bool). cond z (Some mark) (last_seen (name.Mark b.object) k0.seen_at_safepoint)) (same_as_itself (name.Mark b.object))
+
+      saw_prototype : last_seen (name.Prototype c) k4.seen_at_safepoint ≡ Some prototype
+      saw_prototype = ap (λ (z : Bool). cond z (Some prototype) (last_seen (name.Prototype c) (record { plan = load e (name.Mark b.object); found = mark } ∷ k0.seen_at_safepoint))) (same_as_itself (name.Prototype c))
+
+      saw_count : last_seen (name.Revocations c) k4.seen_at_safepoint ≡ Some count
+      saw_count = ap (λ (z : Bool). cond z (Some count) (last_seen (name.Revocations c) k0.seen_at_safepoint)) (same_as_itself (name.Revocations c))
+
+      saw_last : last_seen (name.LastBulk c) k4.seen_at_safepoint ≡ Some last
+      saw_last = ap (λ (z : Bool). cond z (Some last) (last_seen (name.LastBulk c) k0.seen_at_safepoint)) (same_as_itself (name.LastBulk c))
+
+      decides : Does heap false (decided_steps heap.shape me c e b (epoch_in prototype) count last) k4 (λ f a l. (f ≡ false) × Made_all k0 r unwritten a l)
+      decides =
+          hitting heap false first_store rest_of k4 _ (λ n. refl)
+          (λ i. begins_revoking_rule heap k4 e b verdict (is_reset count last b.now) (name.Revocations c) word (λ v. record {
+            reached = r.reached;
+            calm = refl;
+            operation = operation;
+            unfinished = unfinished;
+            allowed = allowed;
+            object = object;
+            unwritten = ap (λ z. (((z ++ []) ++ []) ++ []) ++ []) unwritten;
+            biased = (mark, prototype, saw_mark, saw_prototype, valid);
+            decides = (count, last, saw_count, saw_last, refl, refl);
+            store = record {
+              next = subst (λ t. IsNextStore heap.shape t b k4.seen_at_safepoint (name.Revocations c) word) (sym r.number) (steps_next heap.shape me e b looks_so_far k0.seen_at_safepoint unwritten first_store rest_of word path refl);
+              goes_on = refl;
+              check = refl;
+            };
+          }))
+          (λ n i was. middle_does k0 r unwritten (rest_of n) (then_known first_store n k4) (record { plan = first_store; found = n } ∷ looks_so_far)
+          (middle_binds e b (verdict_steps heap.shape me c e b (epoch_in prototype) verdict) (λ took. done (record { verdict = verdict; took = took })) (middle_verdict e b heap.shape me c (epoch_in prototype) verdict) (λ took. tt))
+          (record {
+            leaves = record { local = refl; running = refl; reached = refl; kept = refl; saved = refl; draws = refl; shots = refl; mine = refl; check = refl };
+            stage = refl;
+            seen_at_safepoint = refl;
+            path = (rest_of, path, refl);
+            mark = (mark, saw_mark);
+            prototype = (prototype, saw_prototype);
+          }))
+
+    pub revoke_does : (k0 : Known) (r : Reaches me k0 e) (unwritten : writes_in k0.seen_at_safepoint ≡ []) → SawValidBias heap.shape k0 b.object → Does heap false T k0 (λ f a l. (f ≡ false) × Made_all k0 r unwritten a l)
+    revoke_does k0 r unwritten saw =
+        let R : Bool → RevocationOutcome → Known → Type 0 = λ f a l. (f ≡ false) × Made_all k0 r unwritten a l in
+        hitting heap false (load e (name.Mark b.object)) _ k0 R (λ n. refl) (λ i. keeps_look heap me e (name.Mark b.object) k0 r) (λ mark i0 was0.
+        let k1 = then_known (load e (name.Mark b.object)) mark k0 in
+        let r1 : Reaches me k1 e = record { number = r.number; reached = r.reached; stopped = r.stopped; calm = refl; check = refl; mine = refl; live = r.live; carries = r.carries } in
+        hitting heap false (load e (name.Prototype c)) _ k1 R (λ n. refl) (λ i. keeps_look heap me e (name.Prototype c) k1 r1) (λ prototype i1 was1.
+        let k2 = then_known (load e (name.Prototype c)) prototype k1 in
+        let r2 : Reaches me k2 e = record { number = r.number; reached = r.reached; stopped = r.stopped; calm = refl; check = refl; mine = refl; live = r.live; carries = r.carries } in
+        hitting heap false (load e (name.Revocations c)) _ k2 R (λ n. refl) (λ i. keeps_look heap me e (name.Revocations c) k2 r2) (λ count i2 was2.
+        let k3 = then_known (load e (name.Revocations c)) count k2 in
+        let r3 : Reaches me k3 e = record { number = r.number; reached = r.reached; stopped = r.stopped; calm = refl; check = refl; mine = refl; live = r.live; carries = r.carries } in
+        hitting heap false (load e (name.LastBulk c)) _ k3 R (λ n. refl) (λ i. keeps_look heap me e (name.LastBulk c) k3 r3) (λ last i3 was3.
+        let there = still_valid k0 r unwritten was0.stands saw in
+        let mark_is : mark ≡ saw.0 = sym was0.found ∙ there.0 in
+        let prototype_is : prototype ≡ saw.1 =
+        sym was1.found ∙ still_prototype k1 was1.stands saw.1 r.reached refl (ap (λ (z : Bool). last_seen (name.Prototype c) (cond (z && not k0.requesting) [] k0.seen)) i0 ∙ saw.3) in
+        let valid : is_valid_bias (read_mark mark) prototype ≡ true = (λ j. is_valid_bias (read_mark (mark_is j)) (prototype_is j)) ∙ saw.4 in
+        subst (λ (z : Bool). Does heap false (cond z (decided_steps heap.shape me c e b (epoch_in prototype) count last) never) (then_known (load e (name.LastBulk c)) last k3) R) (sym valid)
+        (decides k0 r unwritten mark prototype count last valid)))))
+
+  -- THE RELEASE. What these words of mark and prototype tell of the bias, by whether the thread gave itself a new one.
+  abbrev pub Tells : ℕ → Bool → ℕ → ℕ → Type 0
+  Tells t true v p = IsBiasTo t (read_mark v) (epoch_in p)
+  Tells t false v p = is_biased v ≡ false
+
+  tells_of : (t : ℕ) (took : Bool) (f : Name → ℕ) (v p : ℕ) → f (name.Mark b.object) ≡ v → f (name.Prototype c) ≡ p → TellsBias t b.object c took f → Tells t took v p
+  tells_of t true f v p mark prototype h = subst (λ z. IsBiasTo t (read_mark z) (epoch_in p)) mark (subst (λ z. IsBiasTo t (read_mark (f (name.Mark b.object))) (epoch_in z)) prototype h)
+  tells_of t false f v p mark prototype h = subst (λ z. is_biased z ≡ false) mark h
+
+  -- behind it the thread runs, and has seen in its call the object's mark and its class's prototype alone, besides such words of others
+  pub record Released (k : Known) (took : Bool) (l : Known) : Type 0 where
+    pub local : local_of l ≡ local_of k
+    pub kept : l.kept ≡ k.kept
+    pub saved : l.saved ≡ k.saved
+    pub draws : l.draws ≡ k.draws
+    pub shots : l.shots ≡ k.shots
+    pub runs : l.running ≡ true
+    pub unasks : l.requesting ≡ false
+    pub unchecks : l.checking ≡ false
+    pub mine : e.unfinished ≡ l.unfinished
+    pub stage : l.stage ≡ stage_after took b.object
+    pub mark : (v p : ℕ) × (last_seen (name.Mark b.object) l.seen ≡ Some v) × (last_seen (name.Prototype c) l.seen ≡ Some p) × Tells l.thread took v p
+    pub unseen : (n : Name) → is_header n ≡ false → same_name n name.Safepoint ≡ false → last_seen n l.seen ≡ None
+    pub untaken : b.rebias ≡ false → took ≡ false
+
+  -- what a revocation comes to
+  abbrev pub Revoked : Known → Turn Bool → Known → Type 0
+  Revoked k (Done took) l = Released k took l
+  Revoked k (Pending why) l = AtRest heap.shape l
+
+  pub release_does : (k0 : Known) (r : Reaches me k0 e) (unwritten : writes_in k0.seen_at_safepoint ≡ []) (k : Known) (a : RevocationOutcome) → Made_all k0 r unwritten a k
+      → Does heap false (release_to (stage_after a.took b.object) e me >>= (λ u. done_with a.took)) k (λ f turn l. (f ≡ false) × Revoked k0 turn l)
+  release_does k0 r unwritten k a all =
+      let x = all.1 in
+      let R : Bool → Turn Bool → Known → Type 0 = λ f turn l. (f ≡ false) × Revoked k0 turn l in
+      let reached : k.reached ≡ true = x.leaves.reached ∙ r.reached in
+      let number : k.thread ≡ me = number_of k0 r unwritten k x.leaves in
+      let finds : (n : ℕ) → Was heap (release_plan (record e { check = false }) (stage_after a.took b.object) k.thread) k n → (n == reached_word k.thread) ≡ true =
+      λ n was. eq-eqb n (reached_word k.thread) (reached_there heap k n was.stands was.found reached) in
+      subst (λ t. Does heap false (release_to (stage_after a.took b.object) e t >>= (λ u. done_with a.took)) k R) number (
+      finding heap false (release_plan (record e { check = false }) (stage_after a.took b.object) k.thread) _ k R finds
+      (λ i. ends_revoking_rule heap k (record e { check = false }) b a.took (λ v. record {
+        reached = reached;
+        its_revocation = ap revocation_in x.stage;
+        all = subst (λ t. AreAllStores heap.shape t b k.seen_at_safepoint) (sym number) (subst (λ z. AreAllStores heap.shape me b z) (sym x.seen_at_safepoint) (steps_all heap.shape me e b all.0 k0.seen_at_safepoint unwritten a x.path));
+        goes_on = x.leaves.mine;
+      }))
+      (λ n i was.
+      let l = then_known (release_plan (record e { check = false }) (stage_after a.took b.object) k.thread) n k in
+      let hit = finds n was in
+      chooses_then heap false (n == reached_word k.thread) (done tt) never (λ u. done_with a.took) l R
+      (λ yes. answers heap false (Done a.took) l R (refl, released k0 r unwritten k a all n was hit))
+      (λ no. absurd (cc (hit, no)))))
+    where
+      released : (k0 : Known) (r : Reaches me k0 e) (unwritten : writes_in k0.seen_at_safepoint ≡ []) (k : Known) (a : RevocationOutcome) → Made_all k0 r unwritten a k → (n : ℕ)
+          → Was heap (release_plan (record e { check = false }) (stage_after a.took b.object) k.thread) k n → (n == reached_word k.thread) ≡ true
+          → Released k0 a.took (then_known (release_plan (record e { check = false }) (stage_after a.took b.object) k.thread) n k)
+      released k0 r unwritten k a all n was hit =
+          let x = all.1 in
+          let v = was.stands in
+          let few = few_threads heap k v in
+          let reached : k.reached ≡ true = x.leaves.reached ∙ r.reached in
+          let number : k.thread ≡ me = number_of k0 r unwritten k x.leaves in
+          let left : ℕ = cond (n == reached_word k.thread) (released_word k.thread) n in
+          let unasks : asks_in left k.thread ≡ false = ap (λ (z : Bool). asks_in (cond z (released_word k.thread) n) k.thread) hit ∙ released_asks k.thread few in
+          let call : List StepMade = cond k.running (seen_before heap.shape k) [] in
+          let kept : cond (k.reached && not (asks_in left k.thread)) (only_headers k.seen_at_safepoint) call ≡ only_headers k.seen_at_safepoint =
+          ap (λ (z : Bool). cond (z && not (asks_in left k.thread)) (only_headers k.seen_at_safepoint) call) reached ∙ ap (λ (z : Bool). cond (not z) (only_headers k.seen_at_safepoint) call) unasks in
+          let told : TellsBias k.thread b.object c a.took v.world.words =
+          home heap k v (λ s y. TellsBias k.thread b.object (class_of s b.object) a.took v.world.words)
+          (answer_tells v.world v.objects k.thread e b all.0 k0.seen_at_safepoint a (away heap k v (λ s y. y.reached ≡ true) reached) (away heap k v (λ s y. revocation_in y.stage ≡ Some b) (ap revocation_in x.stage))
+          (away heap k v (λ s y. y.seen_at_safepoint ≡ all.0 ++ k0.seen_at_safepoint) x.seen_at_safepoint) unwritten
+          (away heap k v (λ s y. Leads (revoke_at_safepoint_steps s k.thread e b) all.0 (done a)) (subst (λ t. Leads (revoke_at_safepoint_steps heap.shape t e b) all.0 (done a)) (sym number) x.path)) v.valid) in
+          record {
+            local = x.leaves.local;
+            kept = x.leaves.kept;
+            saved = x.leaves.saved;
+            draws = x.leaves.draws;
+            shots = x.leaves.shots;
+            runs = ap (λ (z : Bool). runs_in (cond z (released_word k.thread) n) k.thread) hit ∙ released_runs k.thread few;
+            unasks = unasks;
+            unchecks = refl;
+            mine = refl;
+            stage = refl;
+            mark = (
+              x.mark.0,
+              x.prototype.0,
+              ap (last_seen (name.Mark b.object)) kept ∙ headers_stay (name.Mark b.object) refl k.seen_at_safepoint ∙ x.mark.1,
+              ap (last_seen (name.Prototype c)) kept ∙ headers_stay (name.Prototype c) refl k.seen_at_safepoint ∙ x.prototype.1,
+              tells_of k.thread a.took v.world.words x.mark.0 x.prototype.0 (is_as_seen heap k v reached (name.Mark b.object) x.mark.0 x.mark.1)
+                  (is_as_seen heap k v reached (name.Prototype c) x.prototype.0 x.prototype.1) told,
+            );
+            unseen = λ m hidden other. ap (λ (z : Bool). cond z (Some left) (last_seen m (cond (k.reached && not (asks_in left k.thread)) (only_headers k.seen_at_safepoint) call))) other
+                ∙ ap (last_seen m) kept ∙ headers_alone m hidden k.seen_at_safepoint;
+            untaken = λ none. answers_left (λ (a : RevocationOutcome). a.took ≡ false) T (done a) all.0 x.path (revocation_untaken e b none heap.shape me);
+          }

@@ -1,0 +1,51 @@
+-- What a thread has seen after a step that hits.
+use Rattle.std.proofs.Common.{◌≡◌, ℕ, ◌==◌, ◌&&◌, not, eq-eqb, Bool, true, false, cond, List, [], Some, None, refl, ap, ◌∙◌}
+use Rattle.core_world.specs.declared.name.Name.{Name}
+use Rattle.core_world.specs.declared.plan.StepPlan.{StepPlan}
+use Rattle.core_world.specs.Words.Acts.{word_after}
+use Rattle.core_world.specs.Words.Names.{kind_of, first_index, second_index, same_name}
+use Rattle.core_world.specs.Threads.Known.{Known, StepMade, last_seen}
+use Rattle.core_world.specs.Steps.{is_idle, known_hit, known_miss, seen_before, kept_by_note, kept_by_act}
+use Rattle.core_steps.specs.Logic.{Heap}
+
+pub same_as_itself : (n : Name) → same_name n n ≡ true
+same_as_itself n =
+    let a = eq-eqb (kind_of n) (kind_of n) refl in let b = eq-eqb (second_index n) (second_index n) refl in let c = eq-eqb (first_index n) (first_index n) refl in
+    ap (λ (z : Bool). z && (second_index n == second_index n) && (first_index n == first_index n)) a ∙ ap (λ (z : Bool). z && (first_index n == first_index n)) b ∙ c
+
+module _ (heap : Heap) (p : StepPlan) (n : ℕ) (k : Known) where
+  -- its own word, as the step left it
+  pub saw_newest : last_seen p.at (known_hit heap.shape heap.start p n k).seen ≡ Some (word_after p.act n)
+  saw_newest = ap
+      (λ (b : Bool). cond b (Some (word_after p.act n)) (last_seen p.at (kept_by_note p.note (kept_by_act p.at p.act (word_after p.act n) k (seen_before heap.shape k)))))
+      (same_as_itself p.at)
+
+  -- another word as it saw it before, where this is not the call's first step
+  pub saw_older : (at : Name) → is_idle heap.shape k ≡ false → same_name at p.at ≡ false → kept_by_note p.note (kept_by_act p.at p.act (word_after p.act n) k (seen_before heap.shape k)) ≡ seen_before heap.shape k
+      → last_seen at (known_hit heap.shape heap.start p n k).seen ≡ last_seen at k.seen
+  saw_older at going other kept =
+      ap (λ (b : Bool). cond b (Some (word_after p.act n)) (last_seen at (kept_by_note p.note (kept_by_act p.at p.act (word_after p.act n) k (seen_before heap.shape k))))) other
+      ∙ ap (last_seen at) kept
+      ∙ ap (λ (b : Bool). last_seen at (cond (b && not k.requesting) [] k.seen)) going
+
+  -- any word, where this is not the call's first step
+  pub saw_any : (at : Name) → is_idle heap.shape k ≡ false → kept_by_note p.note (kept_by_act p.at p.act (word_after p.act n) k (seen_before heap.shape k)) ≡ seen_before heap.shape k
+      → last_seen at (known_hit heap.shape heap.start p n k).seen ≡ cond (same_name at p.at) (Some (word_after p.act n)) (last_seen at k.seen)
+  saw_any at going kept =
+      ap (λ (z : List StepMade). cond (same_name at p.at) (Some (word_after p.act n)) (last_seen at z)) kept
+      ∙ ap (λ (b : Bool). cond (same_name at p.at) (Some (word_after p.act n)) (last_seen at (cond (b && not k.requesting) [] k.seen))) going
+
+  -- after the call's first step it has seen that alone, unless a request stands
+  pub first_any : (at : Name) → is_idle heap.shape k ≡ true → k.requesting ≡ false → kept_by_note p.note (kept_by_act p.at p.act (word_after p.act n) k (seen_before heap.shape k)) ≡ seen_before heap.shape k
+      → last_seen at (known_hit heap.shape heap.start p n k).seen ≡ cond (same_name at p.at) (Some (word_after p.act n)) None
+  first_any at over unasks kept =
+      ap (λ (z : List StepMade). cond (same_name at p.at) (Some (word_after p.act n)) (last_seen at z)) kept
+      ∙ ap (λ (b : Bool). cond (same_name at p.at) (Some (word_after p.act n)) (last_seen at (cond (b && not k.requesting) [] k.seen))) over
+      ∙ ap (λ (b : Bool). cond (same_name at p.at) (Some (word_after p.act n)) (last_seen at (cond (not b) [] k.seen))) unasks
+
+  -- and after an exchange that misses
+  pub missed_any : (at : Name) → is_idle heap.shape k ≡ false → last_seen at (known_miss heap.shape heap.start p n k).seen ≡ cond (same_name at p.at) (Some (word_after p.act n)) (last_seen at k.seen)
+  missed_any at going = ap (λ (b : Bool). cond (same_name at p.at) (Some (word_after p.act n)) (last_seen at (cond (b && not k.requesting) [] k.seen))) going
+
+  pub missed_newest : last_seen p.at (known_miss heap.shape heap.start p n k).seen ≡ Some (word_after p.act n)
+  missed_newest = ap (λ (b : Bool). cond b (Some (word_after p.act n)) (last_seen p.at (seen_before heap.shape k))) (same_as_itself p.at)

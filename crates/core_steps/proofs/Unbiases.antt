@@ -1,0 +1,280 @@
+-- The end of an object's bias, with which waiting, notifying and hashing begin: a look that finds none, an exchange, or a revocation.
+use Rattle.std.proofs.Common.{◌≡◌, ◌⊎◌, ℕ, ◌<◌, ◌==◌, ◌&&◌, not, eq-eqb, Bool, true, false, cond, [], length, Option, Some, None, refl, sym, ap, ◌∙◌, subst, inl, inr}
+use Rattle.mark_word.specs.declared.mark.MarkForm.{MarkForm}
+use Rattle.mark_word.specs.declared.mark.MarkForm.TheVariants.{Inflating, Neutral, Anonymous, Biased, Locked, Inflated, Marked}
+use Rattle.mark_word.specs.Mark.{mark_of, read_mark}
+use Rattle.core_world.specs.declared.answer.BiasTry.{BiasTry}
+use Rattle.core_world.specs.declared.answer.BiasTry.TheVariants.{Unbiased, Valid, Raced}
+use Rattle.core_world.specs.declared.answer.Turn.{Turn}
+use Rattle.core_world.specs.declared.answer.Turn.TheVariants.{Done, Pending}
+use Rattle.core_world.specs.declared.answer.Why.{Why}
+use Rattle.core_world.specs.declared.answer.Why.TheVariants as why
+use Rattle.core_world.specs.declared.name.Name.TheVariants as name
+use Rattle.core_world.specs.declared.stage.Stage.TheVariants.{Calm}
+use Rattle.core_world.specs.declared.task.Op.{Op}
+use Rattle.core_world.specs.declared.task.Op.TheVariants as op
+use Rattle.core_world.specs.Threads.AtRest.{AtRest, MayAsk, MayRevoke}
+use Rattle.core_world.specs.Trees.BiasSteps.{unbias_plan, bias_drop_at, bias_drop_by, bias_drop_steps, stage_after}
+use Rattle.core_world.specs.Trees.BiasSteps as bias_steps
+use Rattle.core_world.specs.Words.Forms.{is_biased, is_biased_form, epoch_in, waits_on}
+use Rattle.core_world.specs.Threads.Known.{Known, local_of, last_seen, start_of}
+use Rattle.core_world.specs.Locks.{is_valid_bias}
+use Rattle.core_world.specs.Trees.Operations.{and_then, goes_on_with, revocation_steps, revoked_steps, unbias_tried, unbias_steps}
+use Rattle.core_world.specs.Trees.Plans.{Purpose, load, done_with}
+use Rattle.core_world.specs.Clauses.Safepoints.{IsUnfinished, ends}
+use Rattle.core_world.specs.Words.Shape.{class_of}
+use Rattle.core_world.specs.Threads.Stages.{Revocation}
+use Rattle.core_world.specs.Steps.{known_hit, known_miss, seen_before}
+use Rattle.core_world.specs.Trees.Todo.{Todo, done, ◌>>=◌}
+use Rattle.core_world.specs.Valid.{RevokesWithin}
+use Rattle.core_bias.specs.Biasing.{IsLoose}
+use Rattle.core_steps.specs.Logic.{Heap, Does}
+use Rattle.core_steps.proofs.AskedRevocations.{BeginsRevocation, revocation_does}
+use Rattle.core_steps.proofs.BiasFacts.{SawHeaders, headers_first, headers_more, look_prototype, unreached_here, biasing_here, IsPrototype, prototype_here, prototype_neutral, neutral_reads_so, loose_unepoched, stale_epoch, own_epoch}
+use Rattle.core_steps.proofs.BiasRules.{unbiases_rule}
+use Rattle.core_steps.proofs.LawRules.{looks}
+use Rattle.core_steps.proofs.Requests.{BeginsSafepoint, asking_saw}
+use Rattle.core_steps.proofs.Resting.{Carries, rests, live_carries}
+use Rattle.core_steps.proofs.Revocations.{Released, Revoked}
+use Rattle.core_steps.proofs.SeenSteps.{saw_newest, saw_older}
+use Rattle.core_steps.proofs.StackExits.{SawUnbiased, look_mark}
+use Rattle.core_steps.proofs.Tests.{Operates, asking_goes, free_runs, going_is, goes_on_or_begins}
+use Rattle.core_steps.proofs.Trees.{answers, binds, chooses, follows, hitting, swapping, once_idle}
+
+module _ (heap : Heap) (e : Purpose) (b : Revocation) where
+  -- a running thread in the middle of nothing, whose call has looked at marks and prototypes alone since it began with this knowledge
+  pub record HasLooked (k l : Known) : Type 0 where
+    pub local : local_of l ≡ local_of k
+    pub kept : l.kept ≡ k.kept
+    pub saved : l.saved ≡ k.saved
+    pub draws : l.draws ≡ k.draws
+    pub shots : l.shots ≡ k.shots
+    pub runs : l.running ≡ true
+    pub unasks : l.requesting ≡ false
+    pub calm : l.stage ≡ Calm
+    pub check : e.check ≡ l.checking
+    pub mine : l.unfinished ≡ e.unfinished
+    pub headers : SawHeaders l
+
+  -- what follows: the mark was seen without the bias pattern, or the operation goes on in another call
+  pub record Unbiases (k : Known) (Q : Bool → Turn (Unit {0}) → Known → Type 0) : Type 0 where
+    pub unbiased : (l : Known) → HasLooked k l → SawUnbiased l b.object → Q false (Done tt) l
+    pub pends : (f : Bool) (l : Known) (w : Why) → AtRest heap.shape l → Q f (Pending w) l
+
+  -- what a thread has to know that begins such an operation, or goes on with it
+  pub record BeginsUnbias (operation : Op) (k : Known) : Type 0 where
+    pub begins : BeginsSafepoint heap e k.thread k
+    pub check : e.check ≡ k.checking
+    pub asked : k.requesting ≡ true → MayRevoke heap.shape k b.object
+    pub unwaiting : operation ≡ op.Wait → waits_on k.wait b.object ≡ false
+
+  module _ (operation : Op) (unfinished : e.unfinished ≡ Some (record { op = operation; object = b.object })) (allowed : RevokesWithin operation b.rebias) (none : b.rebias ≡ false)
+      (object : b.object < length heap.shape.objects) (unchecks : e.check ≡ false) (k : Known) (may : BeginsUnbias operation k) (Q : Bool → Turn (Unit {0}) → Known → Type 0) (outs : Unbiases k Q) where
+    abbrev o : ℕ
+    o = b.object
+
+    abbrev c : ℕ
+    c = class_of heap.shape o
+
+    looked_carries : (l : Known) → HasLooked k l → Carries l.log l.wait l.holds l.shots e.unfinished
+    looked_carries l x =
+        subst (λ z. Carries z.log z.wait z.holds l.shots e.unfinished) (sym x.local) (subst (λ z. Carries k.log k.wait k.holds z e.unfinished) (sym x.shots) may.begins.carries)
+
+    looked_rests : (l : Known) → HasLooked k l → AtRest heap.shape l
+    looked_rests l x = rests heap.shape l x.calm x.unasks (sym x.check ∙ unchecks) (subst (Carries l.log l.wait l.holds l.shots) (sym x.mine) (looked_carries l x))
+
+    -- A REVOCATION
+    abbrev after : Turn Bool → Todo (Turn (Unit {0}))
+    after turn = and_then turn (λ took. done_with tt)
+
+    after_does : (k0 : Known) → local_of k0 ≡ local_of k → k0.kept ≡ k.kept → k0.saved ≡ k.saved → k0.draws ≡ k.draws → k0.shots ≡ k.shots → (f : Bool) (turn : Turn Bool) (l : Known)
+        → (f ≡ false) × Revoked heap e b k0.thread k0 turn l → Does heap f (after turn) l Q
+    after_does k0 local kept saved draws shots f (Done took) l x =
+        let released : Released heap e b k0.thread k0 false l = subst (λ z. Released heap e b k0.thread k0 z l) (x.1.untaken none) x.1 in
+        subst (λ z. Does heap z (done_with tt) l Q) (sym x.0) (answers heap false (Done tt) l Q (outs.unbiased l (record {
+          local = released.local ∙ local;
+          kept = released.kept ∙ kept;
+          saved = released.saved ∙ saved;
+          draws = released.draws ∙ draws;
+          shots = released.shots ∙ shots;
+          runs = released.runs;
+          unasks = released.unasks;
+          calm = released.stage;
+          check = unchecks ∙ sym released.unchecks;
+          mine = sym released.mine;
+          headers = released.unseen;
+        }) (released.mark.0, released.mark.2, released.mark.4)))
+    after_does k0 local kept saved draws shots f (Pending w) l x = answers heap f (Pending w) l Q (outs.pends f l w x.1)
+
+    revoked_does : (fresh : Bool) (k0 : Known) → BeginsRevocation heap e b operation k0 → local_of k0 ≡ local_of k → k0.kept ≡ k.kept → k0.saved ≡ k.saved → k0.draws ≡ k.draws → k0.shots ≡ k.shots
+        → Does heap fresh (revoked_steps heap.shape k.thread k0.requesting e b) k0 Q
+    revoked_does fresh k0 begins local kept saved draws shots =
+        subst (λ z. Does heap fresh (revocation_steps heap.shape z k0.requesting e b >>= after) k0 Q) (ap (λ z. z.thread) local)
+        (binds heap fresh (revocation_steps heap.shape k0.thread k0.requesting e b) after k0 Q (
+        follows heap fresh _ k0 _ _ (revocation_does heap e b operation unfinished allowed object unchecks fresh k0 begins) (λ f turn l x. after_does k0 local kept saved draws shots f turn l x)))
+
+    -- WITHOUT A SAFEPOINT
+    abbrev R : Bool → BiasTry → Known → Type 0
+    R f tried l = Does heap f (unbias_tried tried heap.shape e (start_of heap.start k) b) l Q
+
+    abbrev dropping : ℕ → ℕ → Todo BiasTry
+    dropping mark neutral = bias_steps.unbias_swap_steps e o mark neutral
+
+    module _ (l : Known) (mark prototype : ℕ) (x : HasLooked k l) (unreached : l.reached ≡ false) (saw_mark : last_seen (name.Mark o) l.seen ≡ Some mark) (saw_prototype : last_seen (name.Prototype c) l.seen ≡ Some prototype) where
+      -- an anonymous or stale mark becomes neutral
+      drop_does : (neutral : ℕ) → IsLoose (read_mark mark) (epoch_in prototype) → (neutral ≡ mark_of (Neutral 0 0)) ⊎ ((neutral ≡ prototype) × (epoch_in prototype ≡ None)) → is_biased neutral ≡ false
+          → Does heap false (dropping mark neutral) l R
+      drop_does neutral loose to plain =
+          let exchange = unbias_plan e o mark neutral in
+          swapping heap false exchange mark neutral (λ n. done (Unbiased neutral)) (λ n. done (Raced mark n)) l R refl
+          (λ i. unbiases_rule heap l e o mark neutral (λ v. record {
+            prototype = prototype;
+            exchange = record { runs = x.runs; calm = x.calm; saw = saw_prototype; loose = loose; goes_on = sym x.mine };
+            to = to;
+          }))
+          (λ n i was h.
+          let m = known_hit heap.shape heap.start exchange n l in
+          answers heap false (Unbiased neutral) m R (answers heap false (Done tt) m Q (outs.unbiased m (record {
+            local = x.local;
+            kept = x.kept;
+            saved = x.saved;
+            draws = x.draws;
+            shots = x.shots;
+            runs = x.runs;
+            unasks = x.unasks;
+            calm = refl;
+            check = refl;
+            mine = refl;
+            headers = headers_more heap exchange n l refl i refl x.headers;
+          }) (neutral, saw_newest heap exchange n l ∙ ap (λ (z : Bool). Some (cond z neutral n)) (eq-eqb n mark h), plain))))
+          (λ n i was h.
+          let m = known_miss heap.shape heap.start exchange n l in
+          answers heap false (Raced mark n) m R (answers heap false (Pending (why.Raced mark n)) m Q (outs.pends false m (why.Raced mark n)
+          (rests heap.shape m x.calm x.unasks (sym x.check ∙ unchecks) (subst (Carries l.log l.wait l.holds l.shots) (sym x.mine) (looked_carries l x))))))
+
+      -- another's valid bias, or the thread's own
+      valid_does : is_valid_bias (read_mark mark) prototype ≡ true → Does heap false (revoked_steps heap.shape k.thread false e b) l Q
+      valid_does valid =
+          once_idle heap false _ _ l Q (λ i.
+          let before : seen_before heap.shape l ≡ l.seen = ap (λ (z : Bool). cond (z && not l.requesting) [] l.seen) i in
+          subst (λ (z : Bool). Does heap false (revoked_steps heap.shape k.thread z e b) l Q) x.unasks
+          (revoked_does false l (record {
+            begins = record {
+              number = refl;
+              rest = looked_rests l x;
+              live = ap (λ z. ends z.log) x.local ∙ may.begins.live;
+              carries = looked_carries l x;
+              asking = λ asks. let unasks = x.unasks in absurd (cc (asks, unasks));
+              running = λ free. (x.runs, inl (sym x.mine));
+            };
+            saw = (mark, prototype, ap (last_seen (name.Mark o)) before ∙ saw_mark, ap (last_seen (name.Prototype c)) before ∙ saw_prototype, valid);
+            unreached = unreached;
+            unwaiting = λ waits. ap (λ z. waits_on z.wait o) x.local ∙ may.unwaiting waits;
+          }) x.local x.kept x.saved x.draws x.shots))
+
+      neutral_plain : is_biased (mark_of (Neutral 0 0)) ≡ false
+      neutral_plain = ap is_biased_form neutral_reads_so
+
+      at_does : (epoch : ℕ) (f : Option MarkForm) → epoch_in prototype ≡ Some epoch → read_mark mark ≡ f → is_biased_form f ≡ true → Does heap false (bias_drop_at f epoch e o mark) l R
+      at_does epoch None is reads biased = absurd (cc biased)
+      at_does epoch (Some Inflating) is reads biased = absurd (cc biased)
+      at_does epoch (Some (Neutral hash age)) is reads biased = absurd (cc biased)
+      at_does epoch (Some (Anonymous old age)) is reads biased = drop_does (mark_of (Neutral 0 0)) (subst (λ f. IsLoose f (epoch_in prototype)) (sym reads) tt) (inl refl) neutral_plain
+      at_does epoch (Some (Biased u old age)) is reads biased =
+          chooses heap false (old == epoch) _ _ l R
+          (λ now. answers heap false (Valid mark) l R (valid_does (ap (λ f. is_valid_bias f prototype) reads ∙ own_epoch old epoch (epoch_in prototype) is now)))
+          (λ stale. drop_does (mark_of (Neutral 0 0)) (subst (λ f. IsLoose f (epoch_in prototype)) (sym reads) (stale_epoch old epoch (epoch_in prototype) is stale)) (inl refl) neutral_plain)
+      at_does epoch (Some (Locked u p)) is reads biased = absurd (cc biased)
+      at_does epoch (Some (Inflated m)) is reads biased = absurd (cc biased)
+      at_does epoch (Some Marked) is reads biased = absurd (cc biased)
+
+      by_does : (epoch : Option ℕ) → epoch_in prototype ≡ epoch → is_biased mark ≡ true → IsPrototype prototype → Does heap false (bias_drop_by epoch e o mark prototype) l R
+      by_does (Some epoch) is biased form = at_does epoch (read_mark mark) is refl biased
+      by_does None is biased form =
+          drop_does prototype (loose_unepoched (read_mark mark) (epoch_in prototype) biased is) (inr (refl, is)) (ap is_biased (prototype_neutral prototype form is) ∙ neutral_plain)
+
+    dropped_does : k.requesting ≡ false → Does heap true (bias_drop_steps e c o) k R
+    dropped_does free =
+        let begins = may.begins.running free in
+        let runs = begins.0 in
+        let look = load e (name.Mark o) in
+        let ask_prototype = load e (name.Prototype c) in
+        hitting heap true look _ k R (λ n. refl) (λ i. looks heap k look (look_mark heap k e runs may.begins.rest.calm may.check begins.1 o)) (λ mark i was.
+        let l = known_hit heap.shape heap.start look mark k in
+        let headers : SawHeaders l = headers_first heap look mark k refl i free refl in
+        chooses heap false (is_biased mark) _ _ l R
+        (λ yes.
+        let biasing = biasing_here heap k was.stands runs o (ap is_biased was.found ∙ yes) in
+        hitting heap false ask_prototype _ l R (λ n. refl) (λ j. looks heap l ask_prototype (look_prototype l e runs refl refl (inl refl) c)) (λ prototype j was1.
+        let m = known_hit heap.shape heap.start ask_prototype prototype l in
+        by_does m mark prototype (record {
+          local = refl;
+          kept = refl;
+          saved = refl;
+          draws = refl;
+          shots = refl;
+          runs = runs;
+          unasks = free;
+          calm = refl;
+          check = refl;
+          mine = refl;
+          headers = headers_more heap ask_prototype prototype l refl j refl headers;
+        }) (unreached_here heap k was.stands runs)
+        (saw_older heap ask_prototype prototype l (name.Mark o) j refl refl ∙ saw_newest heap look mark k) (saw_newest heap ask_prototype prototype l)
+        (epoch_in prototype) refl yes (prototype_here heap l was1.stands runs c prototype biasing was1.found)))
+        (λ no. answers heap false (Unbiased mark) l R (answers heap false (Done tt) l Q (outs.unbiased l (record {
+          local = refl;
+          kept = refl;
+          saved = refl;
+          draws = refl;
+          shots = refl;
+          runs = runs;
+          unasks = free;
+          calm = refl;
+          check = refl;
+          mine = refl;
+          headers = headers;
+        }) (mark, saw_newest heap look mark k, no)))))
+
+    pub unbias_does : Does heap true (unbias_steps heap.shape e (start_of heap.start k) b) k Q
+    unbias_does =
+        chooses heap true k.requesting _ _ k Q
+        (λ asks.
+        let asked = may.asked asks in
+        let saw = asked.0 in
+        let before = asking_saw heap e k.thread k asks in
+        subst (λ (z : Bool). Does heap true (revoked_steps heap.shape k.thread z e b) k Q) asks
+        (revoked_does true k (record {
+          begins = may.begins;
+          saw = (saw.0, saw.1, ap (last_seen (name.Mark o)) before ∙ saw.2, ap (last_seen (name.Prototype c)) before ∙ saw.3, saw.4);
+          unreached = asked.1;
+          unwaiting = may.unwaiting;
+        }) refl refl refl refl refl))
+        (λ free. binds heap true (bias_drop_steps e c o) (λ tried. unbias_tried tried heap.shape e (start_of heap.start k) b) k Q (dropped_does free))
+
+-- a call of such an operation, by its own conditions
+pub starts_unbias : (heap : Heap) (e : Purpose) (b : Revocation) (a : Op) (k : Known) → e.unfinished ≡ Some (record { op = a; object = b.object }) → e.check ≡ false → AtRest heap.shape k
+    → Operates k (goes_on_with a b.object k.unfinished) → ((i : ℕ) → IsUnfinished e.unfinished op.Enter i → ⊥) → (IsUnfinished e.unfinished op.Dump 0 → ⊥)
+    → (MayAsk heap.shape k (Some (record { op = a; object = b.object })) → MayRevoke heap.shape k b.object) → (a ≡ op.Wait → waits_on k.wait b.object ≡ false) → BeginsUnbias heap e b a k
+starts_unbias heap e b a k unfinished unchecks rest may unentering undumped revokes unwaiting = record {
+  begins = record {
+    number = refl;
+    rest = rest;
+    live = may.live;
+    carries = live_carries k.log k.wait k.holds e.unfinished may.live (λ i h. absurd (unentering i h)) undumped rest.untold;
+    asking = λ asks. (unchecks ∙ sym may.unchecking, unfinished ∙ sym (goes asks));
+    running = λ free. (
+      free_runs k.running k.requesting (goes_on_with a b.object k.unfinished) may.runs free,
+      elim (goes_on_or_begins a b.object k.unfinished may.free) [
+        | inl g ↦ inl (unfinished ∙ g)
+        | inr g ↦ inr g
+      ],
+    );
+  };
+  check = unchecks ∙ sym may.unchecking;
+  asked = λ asks. revokes (subst (MayAsk heap.shape k) (goes asks) (rest.asks asks may.unchecking));
+  unwaiting = unwaiting;
+}
+  where
+    goes : k.requesting ≡ true → IsUnfinished k.unfinished a b.object
+    goes asks = going_is a b.object k.unfinished (asking_goes k.running k.requesting (goes_on_with a b.object k.unfinished) may.runs (rest.stopped asks))

@@ -1,0 +1,14 @@
+use Rattle.core_steps.proofs.ReachedWorlds.{next_step_sound, known_step_sound, sound_comes, sound_rests}
+use Rattle.core_steps.proofs.stepping.next_steps_keep_worlds_sound.Goals as goal
+
+pub returns-clause-sound : goal.returns-clause-sound
+returns-clause-sound c = next_step_sound
+
+pub returns-clause-known : goal.returns-clause-known
+returns-clause-known c = known_step_sound
+
+pub returns-clause-comes : goal.returns-clause-comes
+returns-clause-comes c = sound_comes
+
+pub returns-clause-rests : goal.returns-clause-rests
+returns-clause-rests c = sound_rests

@@ -1,0 +1,5 @@
+pub mod Logic
+pub mod Sound
+pub mod Reached
+pub mod Weakened
+pub mod SmallWorlds

@@ -1,0 +1,52 @@
+-- A program logic over trees of steps: which steps keep every valid world valid, by what their thread knows alone.
+use Rattle.std.specs.Prelude.{◌≡◌, ℕ, ◌<◌, Bool, false, List}
+use Rattle.plain_monitor.specs.Objects.{PlainObject}
+use Rattle.core_world.specs.declared.plan.StepPlan.{StepPlan}
+use Rattle.core_world.specs.Words.Shape.{Shape}
+use Rattle.core_world.specs.Threads.Known.{Known}
+use Rattle.core_world.specs.Trees.Todo.{Todo, done, never, step}
+use Rattle.core_world.specs.Steps.{is_idle, known_after, world_after}
+use Rattle.core_world.specs.Valid.{IsValid, Valid}
+use Rattle.core_world.specs.World.{World}
+
+-- what no step changes
+pub record Heap : Type 0 where
+  pub shape : Shape
+  pub start : ℕ
+  pub biasing : Bool
+
+abbrev pub heap_of : World → Heap
+heap_of w = record { shape = w.shape; start = w.start; biasing = w.biasing }
+
+-- a valid world of this heap in which the thread of this knowledge knows it
+pub record Stands (heap : Heap) (k : Known) : Type 0 where
+  pub world : World
+  pub objects : List PlainObject
+  pub is_of : heap_of world ≡ heap
+  pub knows : world.known k.thread ≡ k
+  pub within : k.thread < heap.shape.threads
+  pub valid : IsValid world objects
+
+-- the step leads from every such world to a valid one
+pub record Keeps (heap : Heap) (p : StepPlan) (k : Known) : Type 0 where
+  pub by : (v : Stands heap k) → Valid (world_after p k.thread v.world)
+
+-- there was such a world, and the step found n
+pub record Was (heap : Heap) (p : StepPlan) (k : Known) (n : ℕ) : Type 0 where
+  pub stands : Stands heap k
+  pub found : stands.world.words p.at ≡ n
+
+-- Each step of the tree keeps every valid world valid, and at an answer Q holds; `fresh` says that no step of the call was made yet.
+abbrev pub Doing : {A : Type 0} → Heap → Bool → Todo A → Known → (Bool → A → Known → Type 0) → Type 0
+Doing heap fresh (done a) k Q = Q fresh a k
+Doing heap fresh never k Q = ⊥
+Doing heap fresh (step p f) k Q =
+    (is_idle heap.shape k ≡ fresh → Keeps heap p k)
+    × ((n : ℕ) → is_idle heap.shape k ≡ fresh → Was heap p k n → Doing heap false (f n) (known_after heap.shape heap.start p n k) Q)
+
+pub record Does {A : Type 0} (heap : Heap) (fresh : Bool) (d : Todo A) (k : Known) (Q : Bool → A → Known → Type 0) : Type 0 where
+  pub by : Doing heap fresh d k Q
+
+-- The same where anything may hold behind its answers.
+abbrev pub DoesSteps : {A : Type 0} → Heap → Bool → Todo A → Known → Type 0
+DoesSteps heap fresh d k = Does heap fresh d k (λ b a l. Unit {0})

@@ -1,0 +1,51 @@
+-- Trees of steps that are wrong in one way each, and the stages at which no thread may stop.
+use Rattle.std.specs.Prelude.{ℕ, ◌==◌, nat_lt, cond, Bool, true, false}
+use Rattle.plain_monitor.specs.declared.entry.Path.{Path}
+use Rattle.plain_monitor.specs.declared.entry.Path.TheVariants.{StackFirst}
+use Rattle.core_world.specs.declared.answer.StackOut.{StackOut}
+use Rattle.core_world.specs.declared.answer.StackOut.TheVariants.{Left, Not}
+use Rattle.core_world.specs.declared.answer.Turn.{Turn}
+use Rattle.core_world.specs.declared.answer.Why.TheVariants as why
+use Rattle.core_world.specs.declared.stage.Stage.{Stage}
+use Rattle.core_world.specs.declared.stage.Stage.TheVariants.{Seizes, Grabs, Enters, Resumes, Exits, Waits, Inflates, Notifies}
+use Rattle.core_world.specs.Threads.Known.{Local}
+use Rattle.core_world.specs.Trees.LockSteps.{displace_plan, seize_plan, let_go_plan, clear_plan, hold_steps}
+use Rattle.core_world.specs.Trees.Plans.{Purpose, with_stage, done_with, pending_for, free_place, top_place}
+use Rattle.core_world.specs.Trees.SafepointSteps.{stop_plan}
+use Rattle.core_world.specs.Trees.Todo.{Todo, done, ◌>>=◌, ask}
+
+-- An enter by a neutral mark that stores the displaced word only after the exchange.
+abbrev pub late_displaced_steps : Purpose → Local → ℕ → ℕ → Todo (Turn Path)
+late_displaced_steps e k o mark = do
+  found ← ask (seize_plan e k.thread o mark (free_place k.holds))
+  cond (found == mark) (do
+    _ ← ask (displace_plan e (Seizes o (free_place k.holds)) k.thread (free_place k.holds) mark)
+    path ← hold_steps e k o StackFirst
+    done_with path) (pending_for (why.Raced mark found))
+
+-- An exit that clears its hold word before it puts the header back.
+abbrev pub early_clearing_steps : Purpose → Local → ℕ → ℕ → ℕ → Todo StackOut
+early_clearing_steps e k o header mark = do
+  _ ← ask (clear_plan e k.thread (top_place o k.holds))
+  found ← ask (let_go_plan e o mark header (top_place o k.holds))
+  cond (found == mark) (done Left) (done (Not (why.Raced mark found)))
+
+-- A stop by a thread that stands, and goes on to stand, at this stage. Its log is published.
+abbrev pub stop_at_stage_steps : Purpose → Stage → Local → Todo (Unit {0})
+stop_at_stage_steps e stage k = do
+  _ ← ask (with_stage stage (stop_plan e k.thread))
+  done tt
+
+-- A thread at this stage is in the middle of taking or leaving a lock, of a wait, of an inflation, or of telling several of those who wait, so
+-- that no thread may stop there. (Where it has taken a bias, or has become a monitor's owner in place of its record, the clauses hold of a thread in
+-- the middle of nothing too.)
+abbrev pub is_between : Stage → Bool
+is_between (Seizes object place) = true
+is_between (Grabs object) = true
+is_between (Enters object place path) = true
+is_between (Resumes object) = true
+is_between (Exits object place) = true
+is_between (Waits object) = true
+is_between (Inflates object thread place) = true
+is_between (Notifies object told) = nat_lt 0 told
+is_between _ = false

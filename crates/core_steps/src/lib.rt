@@ -1,0 +1,11 @@
+//! The law of all steps: every next step of a thread leads from a sound world to a sound one.
+#![tactic(auto)]
+
+mod refused;
+mod stepping;
+
+pub use refused::{
+    no_displaced_word_after_the_exchange, no_hold_word_cleared_before_the_exchange,
+    no_stop_between_steps_on_a_lock, no_stop_in_the_middle_of_a_lock,
+};
+pub use stepping::{next_steps_keep_worlds_sound, reached_worlds_are_valid};

@@ -1,0 +1,61 @@
+//! Trees of steps that are weakened in one way each, or begun where they may not be: none keeps every valid world valid. The functions do
+//! nothing.
+//!
+//! Each law has two kinds of clauses. The first is of every heap and every valid world in which a thread that knows `k` comes to the weakened
+//! steps: they don't keep that world valid, whatever is to hold behind them. The last names a world to which a small heap comes by its calls,
+//! so that there is such a world.
+
+ghost use Rattle.std.specs.Prelude.{◌≡◌, ◌≢◌, ◌⊎◌, ℕ, ◌<◌, ◌≤◌, Bool, true, false, length, Some};
+ghost use Rattle.core_world.specs.declared.name.Name.TheVariants.{Mark, Displaced};
+ghost use Rattle.core_world.specs.declared.stage.Stage.{Stage};
+ghost use Rattle.core_world.specs.declared.stage.Stage.TheVariants.{Calm, Seizes, Ahead, Behind};
+ghost use Rattle.core_world.specs.Words.Forms.{is_neutral, monitor_in};
+ghost use Rattle.core_world.specs.Threads.Known.{Known, local_of};
+ghost use Rattle.core_world.specs.Locks.{OwnedBy, lock, hold_count};
+ghost use Rattle.core_world.specs.Trees.Plans.{Purpose, free_place};
+ghost use Rattle.core_world.specs.Trees.SafepointSteps.{stop_steps};
+ghost use Rattle.core_world.specs.Steps.{is_idle};
+ghost use Rattle.core_steps.specs.Logic.{Heap, Stands, DoesSteps};
+ghost use Rattle.core_steps.specs.Reached.{Comes};
+ghost use Rattle.core_steps.specs.SmallWorlds.{small, neutral, running, seized, entered, known_in};
+ghost use Rattle.core_steps.specs.Weakened.{late_displaced_steps, early_clearing_steps, stop_at_stage_steps, is_between};
+
+/// An enter that stores the displaced word only after it has exchanged the neutral mark: the exchange leads to a world in which
+/// a mark names a record that has no header.
+pub fn no_displaced_word_after_the_exchange()
+    ensures refused { (heap : Heap) (k : Known) (fresh : Bool) (v : Stands heap k) (e : Purpose) (o mark : ℕ)
+        → is_idle heap.shape k ≡ fresh → k.running ≡ true → free_place k.holds < 64 → is_neutral mark ≡ true → v.world.words (Mark o) ≡ mark
+        → v.world.words (Displaced k.thread (free_place k.holds)) ≢ mark → DoesSteps heap fresh (late_displaced_steps e (local_of k) o mark) k → ⊥ }
+    ensures there { (e : Purpose)
+        → Comes small running × (DoesSteps small true (late_displaced_steps e (local_of (known_in running)) 0 neutral) (known_in running) → ⊥) }
+{}
+
+/// An exit that clears its hold word before it puts the header back: the plain monitor still counts the hold.
+pub fn no_hold_word_cleared_before_the_exchange()
+    ensures refused { (heap : Heap) (k : Known) (fresh : Bool) (v : Stands heap k) (e : Purpose) (o header mark : ℕ)
+        → is_idle heap.shape k ≡ fresh → k.running ≡ true → k.stage ≡ Calm → o < length heap.shape.objects → 1 ≤ hold_count o k.holds
+        → DoesSteps heap fresh (early_clearing_steps e (local_of k) o header mark) k → ⊥ }
+    ensures there { (e : Purpose) (header mark : ℕ)
+        → Comes small entered × (DoesSteps small true (early_clearing_steps e (local_of (known_in entered)) 0 header mark) (known_in entered) → ⊥) }
+{}
+
+/// A stop while a step on a lock is unfinished: a thread that doesn't run would stand in the middle of taking or leaving a lock.
+pub fn no_stop_between_steps_on_a_lock()
+    ensures refused { (heap : Heap) (k : Known) (fresh : Bool) (v : Stands heap k) (e : Purpose) (stage : Stage)
+        → is_idle heap.shape k ≡ fresh → k.running ≡ true → stage ≢ Calm → DoesSteps heap fresh (stop_at_stage_steps e stage (local_of k)) k → ⊥ }
+    ensures there { (e : Purpose)
+        → Comes small seized × (DoesSteps small false (stop_at_stage_steps e (Seizes 0 0) (local_of (known_in seized))) (known_in seized) → ⊥) }
+{}
+
+/// A stop, by the steps that every stop makes, of a thread that stands in the middle of taking or leaving a lock, of a wait, of an
+/// inflation, or of telling several of those who wait: it would stand in the middle of nothing then, where the locks, its hold words or the
+/// waiting words are ahead of its log, or behind it. So are the recursions of a monitor that it owns, where they are ahead or behind.
+pub fn no_stop_in_the_middle_of_a_lock()
+    ensures refused { (heap : Heap) (k : Known) (fresh : Bool) (v : Stands heap k) (e : Purpose)
+        → is_idle heap.shape k ≡ fresh → k.running ≡ true → is_between k.stage ≡ true → DoesSteps heap fresh (stop_steps e (local_of k)) k → ⊥ }
+    ensures counting { (heap : Heap) (k : Known) (fresh : Bool) (v : Stands heap k) (e : Purpose) (o m : ℕ)
+        → is_idle heap.shape k ≡ fresh → k.running ≡ true → monitor_in (v.world.words (Mark o)) ≡ Some m → lock v.world o ≡ OwnedBy k.thread
+        → (k.stage ≡ Ahead o) ⊎ (k.stage ≡ Behind o) → DoesSteps heap fresh (stop_steps e (local_of k)) k → ⊥ }
+    ensures there { (e : Purpose)
+        → Comes small seized × (DoesSteps small false (stop_steps e (local_of (known_in seized))) (known_in seized) → ⊥) }
+{}

@@ -1,0 +1,36 @@
+//! The law of all steps. The functions do nothing.
+
+ghost use Rattle.std.specs.Prelude.{◌≡◌, ℕ, ◌<◌, true};
+ghost use Rattle.core_world.specs.declared.plan.StepPlan.{StepPlan};
+ghost use Rattle.core_world.specs.Threads.AtRest.{AtRest};
+ghost use Rattle.core_world.specs.Due.{IsNext};
+ghost use Rattle.core_world.specs.Threads.Known.{Known};
+ghost use Rattle.core_world.specs.Opening.{opening};
+ghost use Rattle.core_world.specs.Words.Shape.{IsInLimits};
+ghost use Rattle.core_world.specs.Steps.{world_after, rest_of_call, is_idle};
+ghost use Rattle.core_world.specs.Valid.{Valid};
+ghost use Rattle.core_world.specs.World.{World};
+ghost use Rattle.core_steps.specs.Logic.{Heap, heap_of};
+ghost use Rattle.core_steps.specs.Reached.{Comes, comes};
+ghost use Rattle.core_steps.specs.Sound.{Sound};
+
+/// In a sound world the next step of any thread leads to a sound world: in whatever call, whether it begins the call or goes on with it, and
+/// whatever the other threads are in the middle of. The step is a function of what its thread knows alone. In a sound world no thread
+/// stands where its call says that no valid world comes, and a thread whose call is over is at rest.
+pub fn next_steps_keep_worlds_sound()
+    ensures sound { (w : World) (t : ℕ) (p : StepPlan) → t < w.shape.threads → Sound w
+        → IsNext w.shape w.start w.biasing (w.known t) p → Sound (world_after p t w) }
+    ensures known { (heap : Heap) (k : Known) (p : StepPlan) → IsNext heap.shape heap.start heap.biasing k p
+        → (w : World) → heap_of w ≡ heap → w.known k.thread ≡ k → k.thread < heap.shape.threads → Sound w → Sound (world_after p k.thread w) }
+    ensures comes { (w : World) (t : ℕ) → Sound w → t < w.shape.threads → comes (rest_of_call w.shape (w.known t)) ≡ true }
+    ensures rests { (w : World) (t : ℕ) → Sound w → t < w.shape.threads → is_idle w.shape (w.known t) ≡ true → AtRest w.shape (w.known t) }
+{}
+
+/// The opening world is sound, and each world to which a heap comes from there is sound, and so valid. There no thread's call says that no valid world comes.
+pub fn reached_worlds_are_valid()
+    ensures opening { (heap : Heap) → IsInLimits heap.shape → Sound (opening heap.shape heap.start heap.biasing) }
+    ensures sound { (heap : Heap) (w : World) → IsInLimits heap.shape → Comes heap w → Sound w }
+    ensures valid { (heap : Heap) (w : World) → IsInLimits heap.shape → Comes heap w → Valid w }
+    ensures goes_on { (heap : Heap) (w : World) (t : ℕ) → IsInLimits heap.shape → Comes heap w → t < heap.shape.threads
+        → comes (rest_of_call w.shape (w.known t)) ≡ true }
+{}

@@ -1,0 +1,280 @@
+-- A load that logs nothing, and an exchange that misses, keep the world valid while a bias is being revoked too.
+use Rattle.std.proofs.Common.{◌≡◌, ◌≢◌, ℕ, ◌<◌, ◌&&◌, ◌||◌, Bool, true, false, cond, List, [], ◌∷◌, ◌++◌, append-nil, eq-eqb, None, refl, sym, ap, ◌∙◌, subst, inl, inr}
+use Rattle.std.proofs.Math.Bool.{or-false}
+use Rattle.plain_monitor.specs.Monitor.{is_thread, is_listed}
+use Rattle.plain_monitor.specs.Objects.{PlainObject}
+use Rattle.core_world.specs.declared.act.Act.TheVariants.{Load}
+use Rattle.core_world.specs.declared.name.Name.{Name}
+use Rattle.core_world.specs.declared.name.Name.TheVariants as name
+use Rattle.core_world.specs.declared.name.Name.TheVariants.{Safepoint}
+use Rattle.core_world.specs.declared.plan.Note.TheVariants.{Quiet}
+use Rattle.core_world.specs.declared.plan.Own.TheVariants.{Same}
+use Rattle.core_world.specs.declared.plan.StepPlan.{StepPlan}
+use Rattle.lock_policy.specs.Policy.{decided, is_reset}
+use Rattle.core_world.specs.Words.Shape.{Shape, class_of}
+use Rattle.core_world.specs.Threads.Counts.{with_verdict_counted}
+use Rattle.core_world.specs.Words.Acts.{word_after, hits}
+use Rattle.core_world.specs.Words.Forms.{is_halted, is_still, monitor_in}
+use Rattle.core_world.specs.Locks.{marks, waits_at}
+use Rattle.core_world.specs.Threads.Known.{Known}
+use Rattle.core_world.specs.World.{World, with_known}
+use Rattle.core_world.specs.Looking.{IsLook, IsMiss, MayLook}
+use Rattle.core_world.specs.Threads.Stages.{Revocation, revocation_in}
+use Rattle.core_world.specs.RevocationRules.{FoundAfter, words_after, writes_in}
+use Rattle.core_world.specs.Steps.{known_hit, known_miss, known_after, world_after, seen_at_safepoint_before, reached_after, halted_after}
+use Rattle.core_world.specs.Valid.{Fits, IsRevoking, IsValid, requester_known}
+use Rattle.core_world.proofs.KnowledgeParts.{by_equal, with_known_here, with_known_else, each_with_known}
+use Rattle.core_world.proofs.Naming.{with_knowledge, with_knowledge_alone}
+use Rattle.core_world.proofs.NoWordChanges.{Glance, glance_seen, glance_safe, glance_fits, one_requester}
+use Rattle.core_world.proofs.ActsLook.{runs_load, asks_load, holds_load, wait_load, published_load, missed_word, missed_write}
+use Rattle.core_world.proofs.LookLaws.{look_glance, miss_glance, look_shots, miss_shots}
+
+-- what the requester knows, by the words before its first store and what it knew then
+abbrev requester_known_with : Shape → (Name → ℕ) → Revocation → Known → Known → Known
+requester_known_with s f b known k =
+    let c = class_of s b.object in
+    record known {
+      counts = with_verdict_counted known.counts c (decided (f (name.Revocations c)) (f (name.LastBulk c)) b.now).0 (is_reset (f (name.Revocations c)) (f (name.LastBulk c)) b.now);
+      stage = k.stage;
+      seen = k.seen;
+      seen_at_safepoint = k.seen_at_safepoint;
+      steps = k.steps;
+      call = k.call;
+    }
+
+-- the steps of a thread change, and nothing else that it knows; the last one found its word as it is
+pub record OnlySteps (words : Name → ℕ) (k l : Known) : Type 0 where
+  pub is : l ≡ record k { seen = l.seen; seen_at_safepoint = l.seen_at_safepoint; steps = l.steps; call = l.call }
+  pub writes : writes_in l.seen_at_safepoint ≡ writes_in k.seen_at_safepoint
+  pub found : (f : Name → ℕ) → words ≡ words_after (writes_in k.seen_at_safepoint) f → FoundAfter f k.seen_at_safepoint → FoundAfter f l.seen_at_safepoint
+
+-- nobody waits on an object whose mark names no monitor
+pub unwaited_fits : (w : World) (P : List PlainObject) → Fits w P → (o : ℕ) → monitor_in (marks w o) ≡ None → waits_at P o ≡ []
+unwaited_fits w P v o none = empty (waits_at P o) refl
+  where
+    empty : (ps : List (ℕ × ℕ)) → waits_at P o ≡ ps → waits_at P o ≡ []
+    empty [] e = e
+    empty (p ∷ ps) e =
+        let listed : is_listed (waits_at P o) p.0 ≡ true = ap (λ qs. is_listed qs p.0) e ∙ ap (λ b. b || is_listed ps p.0) (eq-eqb p.0 p.0 refl) in
+        let named = (v.waits.inflated o p.0 (inl listed)).1 in
+        absurd (cc (named, none))
+
+module _ (w : World) (P : List PlainObject) (s : IsRevoking w P) where
+  reached_now : (w.known s.requester).reached ≡ true
+  reached_now = ap (λ (k : Known). k.reached) s.knows ∙ s.reached
+
+  -- nobody runs
+  nobody : (t : ℕ) → (w.known t).running ≡ true → (o : ℕ) → monitor_in (marks w o) ≡ None → waits_at P o ≡ []
+  nobody t r o e = let stopped = (s.safe.safepoint s.requester reached_now).1 t in absurd (cc (stopped, r))
+
+  -- nothing is halted while a request stands
+  no_halt : is_halted (w.words Safepoint) ≡ false
+  no_halt = cases (is_halted (w.words Safepoint)) refl
+    where
+      cases : (b : Bool) → is_halted (w.words Safepoint) ≡ b → is_halted (w.words Safepoint) ≡ false
+      cases false e = e
+      cases true e =
+          let none = ap (λ a. is_thread a s.requester) (s.safe.still e).0 in
+          let asks = s.safe.requester s.requester ∙ (s.safe.safepoint s.requester reached_now).0 in
+          absurd (cc (none, asks))
+
+  -- a step of the requester on no word
+  mine : (l : Known) (p : StepPlan) → Glance w P (w.known s.requester) l p → OnlySteps w.words (w.known s.requester) l → IsRevoking (with_knowledge s.requester l w) P
+  mine l p g only =
+      let here = with_known_here s.requester l w.known in
+      record {
+        before = s.before;
+        fits = s.fits;
+        shape = s.shape;
+        start = s.start;
+        biasing = s.biasing;
+        requester = s.requester;
+        reached = s.reached;
+        revocation = s.revocation;
+        its_revocation = ap (λ k. revocation_in k.stage) here ∙ ap revocation_in (sym g.same.stage) ∙ s.its_revocation;
+        operation = s.operation;
+        unfinished = s.unfinished;
+        allowed = s.allowed;
+        object = s.object;
+        biased = s.biased;
+        rest = s.rest;
+        writes = ap (λ (k : Known). writes_in k.seen_at_safepoint ++ s.rest) here ∙ ap (λ z. z ++ s.rest) only.writes ∙ s.writes;
+        begun = λ e. s.begun (sym only.writes ∙ ap (λ (k : Known). writes_in k.seen_at_safepoint) (sym here) ∙ e);
+        words = s.words ∙ ap (λ z. words_after z s.before.words) (sym only.writes ∙ ap (λ (k : Known). writes_in k.seen_at_safepoint) (sym here));
+        found = subst (λ (k : Known). FoundAfter s.before.words k.seen_at_safepoint) (sym here) (only.found s.before.words s.words s.found);
+        untouched = s.untouched;
+        knows =
+            let known = requester_known s.before s.requester s.revocation in
+            let was : record (w.known s.requester) { seen = l.seen; seen_at_safepoint = l.seen_at_safepoint; steps = l.steps; call = l.call }
+            ≡ record (known (w.known s.requester)) { seen = l.seen; seen_at_safepoint = l.seen_at_safepoint; steps = l.steps; call = l.call } =
+            ap (λ (k : Known). record k { seen = l.seen; seen_at_safepoint = l.seen_at_safepoint; steps = l.steps; call = l.call }) s.knows in
+            let stage : record (known (w.known s.requester)) { seen = l.seen; seen_at_safepoint = l.seen_at_safepoint; steps = l.steps; call = l.call } ≡ known l =
+            ap (λ z. record (known (w.known s.requester)) { stage = z; seen = l.seen; seen_at_safepoint = l.seen_at_safepoint; steps = l.steps; call = l.call }) g.same.stage in
+            here ∙ only.is ∙ was ∙ stage ∙ ap known (sym here);
+        others = λ u d. with_known_else s.requester l w.known u d ∙ s.others u d;
+        seen = glance_seen w P s.requester l p g s.seen;
+        forms = s.forms;
+        safe = glance_safe w P s.requester l p g s.safe;
+      }
+
+  -- a step of another thread, which looks at the safepoint word
+  others : (t : ℕ) (l : Known) (p : StepPlan) → t ≢ s.requester → t < s.before.shape.threads → (w.known t).shots ≡ l.shots → Glance w P (w.known t) l p → Glance s.before P (s.before.known t) l p
+      → IsRevoking (with_knowledge t l w) P
+  others t l p d within same g before =
+      let kept = with_known_else t l w.known s.requester (λ e. d (sym e)) in
+      let kept_before = with_known_else t l s.before.known s.requester (λ e. d (sym e)) in
+      record {
+        before = with_knowledge t l s.before;
+        fits = glance_fits s.before P t l p before within (ap (λ (k : Known). k.shots) (sym (s.others t d)) ∙ same) s.fits;
+        shape = s.shape;
+        start = s.start;
+        biasing = s.biasing;
+        requester = s.requester;
+        reached = ap (λ (k : Known). k.reached) kept_before ∙ s.reached;
+        revocation = s.revocation;
+        its_revocation = ap (λ (k : Known). revocation_in k.stage) kept ∙ s.its_revocation;
+        operation = s.operation;
+        unfinished = ap (λ (k : Known). k.unfinished) kept_before ∙ s.unfinished;
+        allowed = s.allowed;
+        object = s.object;
+        biased = s.biased;
+        rest = s.rest;
+        writes = ap (λ (k : Known). writes_in k.seen_at_safepoint ++ s.rest) kept ∙ s.writes;
+        begun = λ e. s.begun (ap (λ (k : Known). writes_in k.seen_at_safepoint) (sym kept) ∙ e);
+        words = s.words ∙ ap (λ (k : Known). words_after (writes_in k.seen_at_safepoint) s.before.words) (sym kept);
+        found = subst (λ (k : Known). FoundAfter s.before.words k.seen_at_safepoint) (sym kept) s.found;
+        untouched = s.untouched;
+        knows = kept ∙ s.knows
+            ∙ ap (λ (k : Known). requester_known_with s.before.shape s.before.words s.revocation k (w.known s.requester)) (sym kept_before)
+            ∙ ap (λ (k : Known). requester_known (with_knowledge t l s.before) s.requester s.revocation k) (sym kept);
+        others = λ u e. each_with_known (λ u y. y ≡ with_known t l s.before.known u) t l w.known u (sym (with_known_here t l s.before.known)) (λ c. s.others u e ∙ sym (with_known_else t l s.before.known u c));
+        seen = glance_seen w P t l p g s.seen;
+        forms = s.forms;
+        safe = glance_safe w P t l p g s.safe;
+      }
+
+  -- what the requester has unfinished
+  unfinished_now : (w.known s.requester).unfinished ≡ None → ⊥
+  unfinished_now e = let some = ap (λ (k : Known). k.unfinished) s.knows ∙ s.unfinished in absurd (cc (e, some))
+
+  -- no halt is learnt
+  halted_same : (at : Name) (k : Known) → halted_after at (w.words at) k ≡ k.halted
+  halted_same name.Safepoint k = ap (λ b. k.halted || b) no_halt ∙ or-false k.halted
+  halted_same _ k = refl
+
+  -- a load changes only the steps of the requester at its safepoint
+  look_only : (p : StepPlan) → IsLook (w.known s.requester) p → OnlySteps w.words (w.known s.requester) (known_after w.shape w.start p (w.words p.at) (w.known s.requester))
+  look_only p look =
+      let q : StepPlan = record p { act = Load; note = Quiet; own = Same } in
+      let same : q ≡ p = λ i. record p { act = sym look.act i; note = sym look.note i; own = sym look.own i } in
+      subst (λ z. OnlySteps w.words (w.known s.requester) (known_after w.shape w.start z (w.words z.at) (w.known s.requester))) same
+      (record {
+        is = only;
+        writes = append-nil _ ∙ ap writes_in (stood p.at);
+        found = λ f e g. subst (λ ms. FoundAfter f (record { plan = q; found = w.words p.at } ∷ ms)) (sym (stood p.at)) (ap (λ (z : Name → ℕ). z p.at) e, g);
+      })
+    where
+      unfinished : p.after ≡ (w.known s.requester).unfinished
+      unfinished = elim look.after [ inl e ↦ e | inr e ↦ absurd (unfinished_now e) ]
+
+      reached : (at : Name) (n : ℕ) → reached_after at Load n (w.known s.requester) ≡ (w.known s.requester).reached
+      reached name.Safepoint n = ap (λ b. b || ((w.known s.requester).requesting && is_still n)) reached_now ∙ sym reached_now
+      reached _ n = refl
+
+      stood : (at : Name) → seen_at_safepoint_before at Load (w.known s.requester) ≡ (w.known s.requester).seen_at_safepoint
+      stood name.Safepoint = ap (λ b. cond b (w.known s.requester).seen_at_safepoint []) reached_now
+      stood _ = refl
+
+      only : let l = known_after w.shape w.start (record p { act = Load; note = Quiet; own = Same }) (w.words p.at) (w.known s.requester) in
+          l ≡ record (w.known s.requester) { seen = l.seen; seen_at_safepoint = l.seen_at_safepoint; steps = l.steps; call = l.call }
+      only =
+          let l = known_after w.shape w.start (record p { act = Load; note = Quiet; own = Same }) (w.words p.at) (w.known s.requester) in
+          λ i. record l {
+            running = runs_load p.at (w.words p.at) (w.known s.requester) i;
+            requesting = asks_load p.at (w.words p.at) (w.known s.requester) i;
+            reached = reached p.at (w.words p.at) i;
+            halted = halted_same p.at (w.known s.requester) i;
+            holds = holds_load p.at (w.known s.requester) i;
+            wait = wait_load p.at (w.known s.requester) i;
+            published = published_load p.at (w.known s.requester) i;
+            stage = look.stage i;
+            unfinished = unfinished i;
+            checking = look.check i;
+          }
+
+  -- so does an exchange that misses
+  miss_only : (p : StepPlan) → IsMiss (w.known s.requester) p (w.words p.at) → OnlySteps w.words (w.known s.requester) (known_after w.shape w.start p (w.words p.at) (w.known s.requester))
+  miss_only p miss =
+      let hit = known_hit w.shape w.start p (w.words p.at) (w.known s.requester) in
+      let missed : known_miss w.shape w.start p (w.words p.at) (w.known s.requester) ≡ known_after w.shape w.start p (w.words p.at) (w.known s.requester) =
+      ap (λ (b : Bool). cond b hit (known_miss w.shape w.start p (w.words p.at) (w.known s.requester))) (sym miss.missed) in
+      subst (OnlySteps w.words (w.known s.requester)) missed
+      (record {
+        is = only;
+        writes = ap (λ z. writes_in (w.known s.requester).seen_at_safepoint ++ z) (missed_write p.at p.act (w.words p.at) miss.missed) ∙ append-nil _;
+        found = λ f e g. (ap (λ (z : Name → ℕ). z p.at) e, g);
+      })
+    where
+      only : let l = known_miss w.shape w.start p (w.words p.at) (w.known s.requester) in
+          l ≡ record (w.known s.requester) { seen = l.seen; seen_at_safepoint = l.seen_at_safepoint; steps = l.steps; call = l.call }
+      only = let l = known_miss w.shape w.start p (w.words p.at) (w.known s.requester) in λ i. record l { halted = halted_same p.at (w.known s.requester) i }
+
+  -- a thread other than the requester looks at the safepoint word alone
+  elsewhere : (t : ℕ) (at : Name) → t ≢ s.requester → MayLook (w.known t) at → at ≡ Safepoint
+  elsewhere t at d may = may.outside ((s.safe.safepoint s.requester reached_now).1 t) (cases (w.known t).reached refl)
+    where
+      cases : (b : Bool) → (w.known t).reached ≡ b → (w.known t).reached ≡ false
+      cases true e = absurd (d (one_requester w P s.safe t s.requester (s.safe.safepoint t e).0 (s.safe.safepoint s.requester reached_now).0))
+      cases false e = e
+
+  -- what it knows after its step is the same from the world before the first store
+  same_before : (t : ℕ) (p : StepPlan) → t ≢ s.requester → p.at ≡ Safepoint
+      → known_after s.before.shape s.before.start p (s.before.words p.at) (s.before.known t) ≡ known_after w.shape w.start p (w.words p.at) (w.known t)
+  same_before t p d e =
+      let word : s.before.words p.at ≡ w.words p.at = ap s.before.words e ∙ sym s.untouched ∙ ap w.words (sym e) in
+      λ i. known_after (sym s.shape i) (sym s.start i) p (word i) (sym (s.others t d) i)
+
+  revoking_look : (t : ℕ) (p : StepPlan) → t < w.shape.threads → IsLook (w.known t) p → IsRevoking (with_knowledge t (known_after w.shape w.start p (w.words p.at) (w.known t)) w) P
+  revoking_look t p within look =
+      by_equal t s.requester
+      (λ e. subst (λ z. IsLook (w.known z) p → IsRevoking (with_knowledge z (known_after w.shape w.start p (w.words p.at) (w.known z)) w) P) (sym e)
+      (λ h. mine (known_after w.shape w.start p (w.words p.at) (w.known s.requester)) p (look_glance w P s.requester s.seen s.safe (nobody s.requester) p h) (look_only p h)) look)
+      (λ d.
+      let l = known_after w.shape w.start p (w.words p.at) (w.known t) in
+      let at = elsewhere t p.at d look.may in
+      let look_before = subst (λ k. IsLook k p) (s.others t d) look in
+      let before : Glance s.before P (s.before.known t) l p =
+      subst (λ z. Glance s.before P (s.before.known t) z p) (same_before t p d at) (look_glance s.before P t s.fits.seen s.fits.safe (λ r. unwaited_fits s.before P s.fits) p look_before) in
+      others t l p d (subst (λ (z : Shape). t < z.threads) s.shape within) (look_shots w.shape w.start p (w.words p.at) (w.known t) look) (look_glance w P t s.seen s.safe (nobody t) p look) before)
+
+  revoking_miss : (t : ℕ) (p : StepPlan) → t < w.shape.threads → IsMiss (w.known t) p (w.words p.at) → IsRevoking (with_knowledge t (known_after w.shape w.start p (w.words p.at) (w.known t)) w) P
+  revoking_miss t p within miss =
+      by_equal t s.requester
+      (λ e. subst (λ z. IsMiss (w.known z) p (w.words p.at) → IsRevoking (with_knowledge z (known_after w.shape w.start p (w.words p.at) (w.known z)) w) P) (sym e)
+      (λ h. mine (known_after w.shape w.start p (w.words p.at) (w.known s.requester)) p (miss_glance w P s.requester s.seen s.safe (nobody s.requester) p h) (miss_only p h)) miss)
+      (λ d.
+      let l = known_after w.shape w.start p (w.words p.at) (w.known t) in
+      let at = elsewhere t p.at d miss.may in
+      let word : w.words p.at ≡ s.before.words p.at = ap w.words at ∙ s.untouched ∙ ap s.before.words (sym at) in
+      let miss_before : IsMiss (s.before.known t) p (s.before.words p.at) = record { missed = ap (hits p.act) (sym word) ∙ miss.missed; may = subst (λ k. MayLook k p.at) (s.others t d) miss.may } in
+      let before : Glance s.before P (s.before.known t) l p =
+      subst (λ z. Glance s.before P (s.before.known t) z p) (same_before t p d at) (miss_glance s.before P t s.fits.seen s.fits.safe (λ r. unwaited_fits s.before P s.fits) p miss_before) in
+      others t l p d (subst (λ (z : Shape). t < z.threads) s.shape within) (miss_shots w.shape w.start p (w.words p.at) (w.known t) miss) (miss_glance w P t s.seen s.safe (nobody t) p miss) before)
+
+-- a load that logs nothing keeps the world valid, with the same plain objects
+pub look_valid : (w : World) (P : List PlainObject) (t : ℕ) (p : StepPlan) → t < w.shape.threads → IsLook (w.known t) p → IsValid w P → IsValid (world_after p t w) P
+look_valid w P t p within look valid =
+    let same = with_knowledge_alone p.at (word_after p.act (w.words p.at)) t (known_after w.shape w.start p (w.words p.at) (w.known t)) w (ap (λ a. word_after a (w.words p.at)) look.act) in
+    subst (λ x. IsValid x P) (sym same) (elim valid [
+      | inl v ↦ inl (glance_fits w P t (known_after w.shape w.start p (w.words p.at) (w.known t)) p (look_glance w P t v.seen v.safe (λ r. unwaited_fits w P v) p look) within (look_shots w.shape w.start p (w.words p.at) (w.known t) look) v)
+      | inr s ↦ inr (revoking_look w P s t p within look)
+    ])
+
+-- so does an exchange that misses
+pub miss_valid : (w : World) (P : List PlainObject) (t : ℕ) (p : StepPlan) → t < w.shape.threads → IsMiss (w.known t) p (w.words p.at) → IsValid w P → IsValid (world_after p t w) P
+miss_valid w P t p within miss valid =
+    let same = with_knowledge_alone p.at (word_after p.act (w.words p.at)) t (known_after w.shape w.start p (w.words p.at) (w.known t)) w (missed_word p.act (w.words p.at) miss.missed) in
+    subst (λ x. IsValid x P) (sym same) (elim valid [
+      | inl v ↦ inl (glance_fits w P t (known_after w.shape w.start p (w.words p.at) (w.known t)) p (miss_glance w P t v.seen v.safe (λ r. unwaited_fits w P v) p miss) within (miss_shots w.shape w.start p (w.words p.at) (w.known t) miss) v)
+      | inr s ↦ inr (revoking_miss w P s t p within miss)
+    ])

@@ -1,0 +1,19 @@
+-- What holds of every valid world, a file for each subject.
+pub mod SeenWords
+pub mod WordForms
+pub mod Safepoints
+pub mod Holds
+pub mod Owners
+pub mod Biases
+pub mod Records
+pub mod Inflations
+pub mod Monitors
+pub mod Recursions
+pub mod Hashes
+pub mod Draws
+pub mod Slots
+pub mod Waits
+pub mod Stamps
+pub mod Lengths
+pub mod Claims
+pub mod Classes

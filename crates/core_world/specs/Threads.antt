@@ -1,0 +1,5 @@
+-- What a thread knows, and where it stands.
+pub mod Stages
+pub mod Counts
+pub mod Known
+pub mod AtRest

@@ -1,0 +1,52 @@
+-- What each thread knows between its calls, whatever its last call was. A call may begin from there where its own conditions hold.
+use Rattle.std.specs.Prelude.{◌≡◌, ℕ, ◌<◌, true, false, length, Option, Some, None}
+use Rattle.mark_word.specs.Mark.{read_mark}
+use Rattle.core_world.specs.declared.name.Name.TheVariants.{Mark, Prototype}
+use Rattle.core_world.specs.declared.stage.Stage.TheVariants.{Calm}
+use Rattle.core_world.specs.declared.task.Op.{Op}
+use Rattle.core_world.specs.declared.task.Op.TheVariants as op
+use Rattle.core_world.specs.declared.task.Unfinished.{Unfinished}
+use Rattle.core_world.specs.Words.Forms.{waits_on, says_notified, says_ended}
+use Rattle.core_world.specs.Words.Shape.{Shape, class_of}
+use Rattle.core_world.specs.Threads.Known.{Known, last_seen}
+use Rattle.core_world.specs.Locks.{is_valid_bias}
+use Rattle.core_world.specs.Trees.Plans.{free_place}
+use Rattle.core_world.specs.Clauses.Safepoints.{ends, IsUnfinished}
+use Rattle.core_world.specs.Shots.{dumps_from}
+
+-- the thread saw a valid bias of o since the call began that made its request
+abbrev pub SawValidBias : Shape → Known → ℕ → Type 0
+SawValidBias s k o =
+    (v p : ℕ) × (last_seen (Mark o) k.seen ≡ Some v) × (last_seen (Prototype (class_of s o)) k.seen ≡ Some p) × (is_valid_bias (read_mark v) p ≡ true)
+
+-- that, and it has not reached its safepoint: in the call in which it does, it goes on up to the release
+abbrev pub MayRevoke : Shape → Known → ℕ → Type 0
+MayRevoke s k o = SawValidBias s k o × (k.reached ≡ false)
+
+-- what a thread has seen that asks for a safepoint for this operation. An exit asks for none, nor does a wait that has let go; a dump looks at the
+-- words at the safepoint alone, and each other operation revokes a bias that it saw
+abbrev pub MayAsk : Shape → Known → Option Unfinished → Type 0
+MayAsk s k None = Unit {0}
+MayAsk s k (Some u) = by_op u.op
+  where
+    by_op : Op → Type 0
+    by_op op.Exit = ⊥
+    by_op op.Dump = Unit {0}
+    by_op op.Wait = (waits_on k.wait u.object ≡ false) × MayRevoke s k u.object
+    by_op _ = MayRevoke s k u.object
+
+pub record AtRest (s : Shape) (k : Known) : Type 0 where
+  pub calm : k.stage ≡ Calm
+  -- it has ended with nothing unfinished, and says so
+  pub ended : ends k.log ≡ true → (says_ended k.wait ≡ true) × (k.unfinished ≡ None)
+  -- an unfinished enter has a place for its hold word
+  pub place : (o : ℕ) → IsUnfinished k.unfinished op.Enter o → free_place k.holds < 64
+  -- that it was notified it has not stored itself
+  pub untold : (o : ℕ) → says_notified k.wait o ≡ false
+  -- a thread that asks for a safepoint doesn't run; it asks for a check, or for its operation
+  pub stopped : k.requesting ≡ true → k.running ≡ false
+  pub asks : k.requesting ≡ true → k.checking ≡ false → MayAsk s k k.unfinished
+  -- an unfinished dump has not taken its shot: each that the thread keeps stands for a dump that it has logged
+  pub shots : IsUnfinished k.unfinished op.Dump 0 → length k.shots ≡ length (dumps_from 0 k.log)
+  -- a check is unfinished only while it asks
+  pub checks : k.checking ≡ true → k.requesting ≡ true

@@ -1,0 +1,13 @@
+-- The steps of every operation, as trees that branch by the word that a step finds.
+pub mod Todo
+pub mod Plans
+pub mod LockSteps
+pub mod MonitorSteps
+pub mod WaitSteps
+pub mod BiasSteps
+pub mod SafepointSteps
+pub mod RevocationSteps
+pub mod HashSteps
+pub mod LookSteps
+pub mod Operations
+pub mod Calls

@@ -1,0 +1,109 @@
+-- The steps of each call, and when a call may begin.
+use Rattle.std.specs.Prelude.{ℕ, ◌+◌, ◌==◌, ◌&&◌, ◌||◌, nat_lt, nat_le, not, is_none, if◌then◌else◌, Bool, true, false, length}
+use Rattle.std.specs.List.{list_all}
+use Rattle.plain_monitor.specs.declared.entry.Value.{Value}
+use Rattle.plain_monitor.specs.declared.entry.Value.TheVariants.{Nil, Int, Ref}
+use Rattle.plain_monitor.specs.Numbers.{is_in_range}
+use Rattle.core_world.specs.declared.task.Op.TheVariants as op
+use Rattle.core_world.specs.declared.task.Task.{Task}
+use Rattle.core_world.specs.declared.task.Task.TheVariants.{Enter, Exit, Wait, Notify, NotifyAll, Hash, Get, Put, Print, Dump, Finish, Poll, Stop, Resume, Check, StackEnter, StackExit, Request, Reached, Release}
+use Rattle.core_world.specs.Words.Shape.{Shape, slots_of}
+use Rattle.mark_word.specs.Mark.{mark_of}
+use Rattle.mark_word.specs.declared.mark.MarkForm.TheVariants.{Locked}
+use Rattle.core_world.specs.Words.Forms.{is_neutral}
+use Rattle.core_world.specs.Locks.{hold_count}
+use Rattle.core_world.specs.RevocationRules.{first_place}
+use Rattle.core_world.specs.Clauses.Safepoints.{ends}
+use Rattle.core_world.specs.Clauses.Lengths.{log_limit}
+use Rattle.core_world.specs.Threads.Known.{Known, Start}
+use Rattle.core_world.specs.Trees.Todo.{Todo, done, ◌>>=◌}
+use Rattle.core_world.specs.Trees.Plans.{Purpose, purpose, free_place}
+use Rattle.core_world.specs.Trees.LockSteps.{stack_enter_steps, stack_exit_steps}
+use Rattle.core_world.specs.Trees.SafepointSteps.{stop_steps, resume_steps, poll_steps, request_steps, reached_steps, release_safepoint}
+use Rattle.core_world.specs.Trees.Operations.{lone_purpose, goes_on_with, enter_steps, exit_steps, wait_steps, notify_steps, notify_all_steps, hash_steps, get_steps, put_steps, print_steps, finish_steps, dump_steps, check_steps}
+
+-- whatever the answer is
+abbrev pub end : {A : Type 0} → A → Todo (Unit {0})
+end a = done tt
+
+-- a call that leaves as they are the unfinished operation and the check
+abbrev pub side_purpose : Task → Start → Purpose
+side_purpose task k = record { task = task; unfinished = k.unfinished; check = k.checking }
+
+-- all that is to do in a call that begins when its thread knows this
+unfoldable pub steps_of : Shape → Task → Start → Todo (Unit {0})
+steps_of s (Enter o now) k = enter_steps s k o now >>= end
+steps_of s (Exit o) k = exit_steps k o >>= end
+steps_of s (Wait o now) k = wait_steps s k o now >>= end
+steps_of s (Notify o now) k = notify_steps s k o now >>= end
+steps_of s (NotifyAll o now) k = notify_all_steps s k o now >>= end
+steps_of s (Hash o now) k = hash_steps s k o now >>= end
+steps_of s (Get o slot) k = get_steps k o slot >>= end
+steps_of s (Put o slot value) k = put_steps k o slot value >>= end
+steps_of s (Print value) k = print_steps k value
+steps_of s Dump k = dump_steps s k >>= end
+steps_of s (Finish ending) k = finish_steps k ending
+steps_of s Poll k = poll_steps (side_purpose Poll k) >>= end
+steps_of s Stop k = stop_steps (side_purpose Stop k) k.local
+steps_of s Resume k = resume_steps (side_purpose Resume k) k.local >>= end
+steps_of s Check k = check_steps s k >>= end
+steps_of s (StackEnter o mark) k = stack_enter_steps (lone_purpose (StackEnter o mark)) k.local o mark >>= end
+steps_of s (StackExit o) k = stack_exit_steps (purpose (StackExit o) op.Exit o) k.local o >>= end
+steps_of s Request k = request_steps (lone_purpose Request) k.local.thread >>= end
+steps_of s Reached k = reached_steps (lone_purpose Reached) >>= end
+steps_of s Release k = release_safepoint (lone_purpose Release) k.local.thread
+
+-- the object is there
+abbrev pub is_object : Shape → ℕ → Bool
+is_object s o = nat_lt o (length s.objects)
+
+-- the value may stand in a slot: it is in its range, and a reference names an object
+abbrev pub is_value : Shape → Value → Bool
+is_value s Nil = true
+is_value s (Int i) = is_in_range i
+is_value s (Ref o) = is_object s o
+
+-- nothing is unfinished but this operation on o, which then goes on
+abbrev pub is_free_for : Known → Bool → Bool
+is_free_for k going_on = is_none k.unfinished || going_on
+
+-- an operation may begin: its thread runs, or has a standing request that this same operation made; no check is unfinished; the log has
+-- no ending entry, and room for two entries
+abbrev pub may_operate : Known → Bool → Bool
+may_operate k going_on = not k.checking && (k.running || (k.requesting && going_on)) && is_free_for k going_on && not (ends k.log) && nat_le (length k.log + 2) log_limit
+
+-- a call that makes one entry at once may begin: nothing is unfinished
+abbrev pub may_act : Known → Bool
+may_act k = may_operate k false
+
+-- a part that logs one entry may begin by itself: its thread runs, and the log has no ending entry, and room for that one
+abbrev pub may_log_once : Known → Bool → Bool
+may_log_once k going_on = not k.checking && k.running && is_free_for k going_on && not (ends k.log) && nat_lt (length k.log) log_limit
+
+-- the mark names the thread's record of o with depth 1, and the thread has one
+abbrev pub is_own_first : Known → ℕ → ℕ → Bool
+is_own_first k o mark = nat_lt 0 (hold_count o k.holds) && (mark == mark_of (Locked k.thread (first_place o k.holds)))
+
+-- The call may begin, by its own conditions. The two parts of an operation that may be called by themselves on a lock can't know that its mark has no
+-- bias pattern, so they are calls of heaps without biases.
+abbrev pub may_begin : Shape → Bool → Known → Task → Bool
+may_begin s biasing k (Enter o now) = is_object s o && may_operate k (goes_on_with op.Enter o k.unfinished)
+may_begin s biasing k (Exit o) = is_object s o && may_operate k (goes_on_with op.Exit o k.unfinished)
+may_begin s biasing k (Wait o now) = is_object s o && may_operate k (goes_on_with op.Wait o k.unfinished)
+may_begin s biasing k (Notify o now) = is_object s o && may_operate k (goes_on_with op.Notify o k.unfinished)
+may_begin s biasing k (NotifyAll o now) = is_object s o && may_operate k (goes_on_with op.NotifyAll o k.unfinished)
+may_begin s biasing k (Hash o now) = is_object s o && may_operate k (goes_on_with op.Hash o k.unfinished)
+may_begin s biasing k (Get o slot) = is_object s o && nat_lt slot (slots_of s o) && may_act k
+may_begin s biasing k (Put o slot value) = is_object s o && nat_lt slot (slots_of s o) && is_value s value && may_act k
+may_begin s biasing k (Print value) = is_value s value && may_act k
+may_begin s biasing k Dump = may_operate k (goes_on_with op.Dump 0 k.unfinished)
+may_begin s biasing k (Finish ending) = list_all (λ h. h == 0) k.holds && may_act k
+may_begin s biasing k Poll = k.running
+may_begin s biasing k Stop = k.running
+may_begin s biasing k Resume = not k.running && not k.requesting
+may_begin s biasing k Check = not (ends k.log) && (if k.requesting then k.checking else k.running)
+may_begin s biasing k (StackEnter o mark) = not biasing && is_object s o && may_log_once k false && nat_lt (free_place k.holds) 64 && (is_neutral mark || is_own_first k o mark)
+may_begin s biasing k (StackExit o) = not biasing && is_object s o && nat_lt 0 (hold_count o k.holds) && may_log_once k (goes_on_with op.Exit o k.unfinished)
+may_begin s biasing k Request = k.running && is_none k.unfinished && not k.checking
+may_begin s biasing k Reached = k.requesting && is_none k.unfinished && not k.checking
+may_begin s biasing k Release = k.reached && is_none k.unfinished && not k.checking

@@ -1,0 +1,80 @@
+-- How the steps of the operations are written down.
+use Rattle.std.specs.Prelude.{ℕ, ◌+◌, ◌==◌, Bool, false, List, Option, Some, None}
+use Rattle.std.specs.List.{position_or_len}
+use Rattle.plain_monitor.specs.declared.entry.Entry.{Entry}
+use Rattle.plain_monitor.specs.History.{last_stamp}
+use Rattle.core_world.specs.declared.act.Act.{Act}
+use Rattle.core_world.specs.declared.act.Act.TheVariants as act
+use Rattle.core_world.specs.declared.name.Name.{Name}
+use Rattle.core_world.specs.declared.plan.Note.TheVariants as note
+use Rattle.core_world.specs.declared.plan.Own.{Own}
+use Rattle.core_world.specs.declared.plan.Own.TheVariants as own
+use Rattle.core_world.specs.declared.plan.StepPlan.{StepPlan}
+use Rattle.core_world.specs.declared.stage.Stage.{Stage}
+use Rattle.core_world.specs.declared.stage.Stage.TheVariants.{Calm}
+use Rattle.core_world.specs.declared.task.Task.{Task}
+use Rattle.core_world.specs.declared.task.Op.{Op}
+use Rattle.core_world.specs.declared.task.Unfinished.{Unfinished}
+use Rattle.core_world.specs.declared.answer.Turn.{Turn}
+use Rattle.core_world.specs.declared.answer.Turn.TheVariants.{Done, Pending}
+use Rattle.core_world.specs.declared.answer.Why.{Why}
+use Rattle.core_world.specs.Words.Forms.{hold_word}
+use Rattle.core_world.specs.Threads.Known.{Local}
+use Rattle.core_world.specs.Locks.{hold_count}
+use Rattle.core_world.specs.Trees.Todo.{Todo, done}
+
+-- the call whose steps a part makes, and what is unfinished while it makes them
+pub record Purpose : Type 0 where
+  pub task : Task
+  pub unfinished : Option Unfinished
+  pub check : Bool
+
+-- a call that leaves its operation on o unfinished until it logs its entry
+abbrev pub purpose : Task → Op → ℕ → Purpose
+purpose task op o = record { task = task; unfinished = Some (record { op = op; object = o }); check = false }
+
+-- a step that logs nothing and stands in the middle of nothing
+abbrev pub quiet_plan : Purpose → Name → Act → StepPlan
+quiet_plan e at act = record { at = at; act = act; note = note.Quiet; own = own.Same; task = e.task; after = e.unfinished; check = e.check; stage = Calm }
+
+-- the step after which the thread stands at this stage
+abbrev pub with_stage : Stage → StepPlan → StepPlan
+with_stage stage p = record p { stage = stage }
+
+-- the step of which the thread keeps this for itself
+abbrev pub with_own : Own → StepPlan → StepPlan
+with_own own p = record p { own = own }
+
+-- the step that logs this entry and ends the operation
+abbrev pub logging_plan : Entry → Purpose → Name → Act → StepPlan
+logging_plan entry e at act = record (quiet_plan e at act) { note = note.Log entry; after = None }
+
+-- a load that logs nothing, by a thread that stands at this stage; and by one that stands in the middle of nothing
+abbrev pub load_plan : Purpose → Stage → Name → StepPlan
+load_plan e stage at = with_stage stage (quiet_plan e at act.Load)
+
+abbrev pub load : Purpose → Name → StepPlan
+load e at = load_plan e Calm at
+
+abbrev pub store : Purpose → Name → ℕ → StepPlan
+store e at word = quiet_plan e at (act.Store word)
+
+abbrev pub swap : Purpose → Name → ℕ → ℕ → StepPlan
+swap e at expected word = quiet_plan e at (act.Swap expected word)
+
+abbrev pub done_with : {A : Type 0} → A → Todo (Turn A)
+done_with a = done (Done a)
+
+abbrev pub pending_for : {A : Type 0} → Why → Todo (Turn A)
+pending_for why = done (Pending why)
+
+-- the lowest free place; the place of the record of o with the greatest depth
+abbrev pub free_place : List ℕ → ℕ
+free_place holds = position_or_len (λ h. h == 0) holds
+
+abbrev pub top_place : ℕ → List ℕ → ℕ
+top_place o holds = position_or_len (λ h. h == hold_word o (hold_count o holds)) holds
+
+-- the stamp of the thread's next entry, if that is no Enter or Resume
+abbrev pub next_stamp : Local → ℕ
+next_stamp k = last_stamp k.log + 1
