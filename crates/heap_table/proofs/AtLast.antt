@@ -1,0 +1,52 @@
+-- What the last state of the table says.
+use Rattle.std.proofs.Common.{◌≡◌, ℕ, zero, suc, ◌+◌, ◌<◌, List, [], ◌∷◌, ◌++◌, length, take, get_or, Some, sym, ap, ◌∙◌, subst, arith, append-nil}
+use Rattle.std.specs.Prelude.{slice_index, slice_get}
+use Rattle.std.proofs.lemmas.List.{take_more, take_all}
+use mathlib.Core.Option.{some, some-injective, some-ne-none}
+use lib.ListN.{get_elem?}
+use Rattle.atomic_table.specs.Table.{Final, Seen}
+use Rattle.core_steps.specs.Logic.{Heap}
+use Rattle.core_world.specs.Threads.Known.{Known}
+use Rattle.heap_table.specs.Layout.{place_of, word_count}
+use Rattle.heap_table.specs.Ruled.{Each, Rules, Ruled, heap_in}
+use Rattle.heap_table.specs.declared.setting.Setting.{Setting}
+use Rattle.std.specs.List.{All}
+use Rattle.heap_table.specs.Seen.{HeapSeen, PassSeen, IsOf, AllOf, LastWorld}
+
+at_place : (xs : List ℕ) (i x : ℕ) → get_elem? xs i ≡ some x → (i < length xs) × (get_or xs i 0 ≡ x)
+at_place [] i x e = absurd (some-ne-none x (sym e))
+at_place (y ∷ ys) zero x e = (omega arith, some-injective _ _ e)
+at_place (y ∷ ys) (suc i) x e = let h = at_place ys i x e in (omega (arith, h.0), h.1)
+
+pub copies : (xs copy : List ℕ) (i x : ℕ) → get_elem? xs i ≡ some x → copy ≡ take i xs → copy ++ x ∷ [] ≡ take (i + 1) xs
+copies xs copy i x e c = let h = at_place xs i x e in (λ j. c j ++ sym h.1 j ∷ []) ∙ sym (take_more xs i 0 h.0)
+
+each_at : (P : Known → Type 0) (v : List Known) (i : ℕ) (k : Known) → Each P v → slice_get v i ≡ Some k → P k
+each_at P [] i k h e = absurd (cc)
+each_at P (x ∷ xs) zero k h e = let s : x ≡ k = cc in subst P s h.0
+each_at P (x ∷ xs) (suc i) k h e = each_at P xs i k h.1 e
+
+pub final : {S : Type 0} (b : Heap) (id : ℕ) (v : List Known) (ws copy : List ℕ) (xs : List S) (n : ℕ) → Final (Seen (Rules {S = S} b) id v) ws xs → n ≡ word_count b.shape → copy ≡ take n ws → LastWorld b copy v
+final b id v ws copy xs n ((s, ((w, who, sh, sound), at), words, count, slots)) e c =
+    let same : copy ≡ s.words = c ∙ ap (take n) (sym words) ∙ take_all n s.words (omega (arith, sh.wide, e)) in
+    let mine = sh.knows id v at in
+    record {
+      world = w;
+      is_of = sh.is_of;
+      sound = sound;
+      words_are = λ m here. ap (λ (l : List ℕ). slice_index l (place_of b.shape m)) same ∙ sh.words_are m here;
+      knows = λ i k there. (each_at (λ (k : Known). (w.known k.thread ≡ k) × (who k.thread ≡ id)) v i k mine.0 there).0;
+    }
+
+pub final_as : {S : Type 0} (b : Heap) (key : Setting) (id : ℕ) (v u : List Known) (ws copy : List ℕ) (xs : List S) (n : ℕ) → heap_in key ≡ b → v ≡ u → Final (Seen (Ruled {S = S} key) id v) ws xs → n ≡ word_count b.shape → copy ≡ take n ws → LastWorld b copy u
+final_as {S} b key id v u ws copy xs n k e f c t =
+    let P : Heap × List Known → Type 0 = λ z. Final (Seen (Rules {S = S} z.0) id z.1) ws xs in
+    final {S = S} b id u ws copy xs n (subst P (λ j. (k j, e j)) f) c t
+
+pub all_yielded : {A : Type 0} (xs ys zs : List A) → xs ++ ys ≡ zs → length ys ≡ 0 → xs ≡ zs
+all_yielded xs [] zs e n = sym (append-nil xs) ∙ e
+all_yielded xs (y ∷ ys) zs e n = absurd (omega arith)
+
+pub all_of : (h : HeapSeen) (ps : List PassSeen) → All (IsOf h) ps → AllOf h ps
+all_of h [] f = tt
+all_of h (p ∷ ps) f = ((f 0 p (omega arith)).table, all_of h ps (λ k d lt. f (suc k) d (omega arith)))

@@ -1,0 +1,160 @@
+-- What a pass keeps follows its thread's step, where the step hits.
+use Rattle.std.proofs.Common.{◌≡◌, ℕ, ◌+◌, ◌≤◌, length, length-append, arith, ◌==◌, Bool, true, false, cond, List, [], ◌∷◌, ◌++◌, Option, Some, None, refl, sym, ap, ◌∙◌, subst}
+use Rattle.plain_monitor.specs.declared.entry.Entry.{Entry}
+use Rattle.plain_monitor.specs.declared.entry.Entry.TheVariants as entry
+use Rattle.plain_monitor.specs.declared.entry.Logged.{Logged}
+use Rattle.plain_monitor.specs.History.{last_stamp, last_above}
+use Rattle.plain_monitor.specs.ValueWords.{read_value}
+use Rattle.core_world.specs.Trees.Operations.{value_found}
+use Rattle.core_world.specs.declared.act.Act.{Act as ActOf}
+use Rattle.core_world.specs.declared.act.Act.TheVariants as act
+use Rattle.core_world.specs.declared.name.Name.{Name}
+use Rattle.core_world.specs.declared.name.Name.TheVariants as name
+use Rattle.core_world.specs.declared.plan.Note.{Note}
+use Rattle.core_world.specs.declared.plan.Note.TheVariants.{Quiet, Log, LogGet, LogHash}
+use Rattle.core_world.specs.declared.plan.StepPlan.{StepPlan}
+use Rattle.core_world.specs.Words.Acts.{word_after, hits}
+use Rattle.core_world.specs.Words.Forms.{hash_in}
+use Rattle.core_world.specs.Threads.Known.{Known}
+use Rattle.core_world.specs.Words.Shape.{Shape}
+use Rattle.core_world.specs.Steps.{known_after, known_hit, known_miss, log_after, with_entry, stamp_by, runs_after, asks_after, reached_after, halted_after, kept_after, saved_after, holds_after, wait_after, published_after, unfinished_after}
+use Rattle.core_world.specs.declared.plan.Own.{Own}
+use Rattle.core_world.specs.declared.plan.Own.TheVariants as own
+use Rattle.core_world.specs.Threads.Known.{DumpShot}
+use Rattle.core_world.specs.Steps.{shots_after}
+use Rattle.heap_table.specs.Cells.{cells_shown}
+use Rattle.heap_table.specs.Drafts.{IsDrafted, taken_after}
+use Rattle.core_world.specs.Threads.Counts.{CountedVerdict}
+use Rattle.core_world.specs.Steps.{counts_after, draws_after}
+use Rattle.lock_policy.specs.Draws.{state_after}
+use Rattle.heap_table.specs.Tallies.{counts_shown}
+use Rattle.heap_table.specs.declared.afters.Stand.{Stand}
+use Rattle.heap_table.specs.declared.mirror.Mirror.{Mirror}
+use Rattle.heap_table.specs.Kept.{Follows, entry_after, with_any_entry, stand_after}
+
+pub log_is : (note : Note) (found : ℕ) (log : List Logged) → log_after note found log ≡ with_any_entry (entry_after note found) found log
+log_is Quiet found log = refl
+log_is (Log e) found log = refl
+log_is (LogGet o slot) found log = refl
+log_is (LogHash o) found log = cases (hash_in found == 0)
+  where
+    cases : (b : Bool) → cond b log (with_entry (entry.Hash o (hash_in found) None) found log) ≡ with_any_entry (cond b None (Some (entry.Hash o (hash_in found) None))) found log
+    cases true = refl
+    cases false = refl
+
+pub last_end : (n : ℕ) (log : List Logged) (l : Logged) → last_above n (log ++ l ∷ []) ≡ l.stamp
+last_end n [] l = refl
+last_end n (x ∷ log) l = last_end x.stamp log l
+
+pub noted : (note : Note) (found last stamp : ℕ) (log next : List Logged) (e : Entry) → entry_after note found ≡ Some e → stamp ≡ stamp_by e found last → next ≡ log ++ record { stamp = stamp; entry = e } ∷ []
+    → last_stamp log ≡ last → (next ≡ log_after note found log) × (last_stamp next ≡ stamp)
+noted note found last stamp log next e is by more same =
+    let s : stamp ≡ stamp_by e found (last_stamp log) = by ∙ ap (stamp_by e found) (sym same) in
+    let a : next ≡ with_entry e found log = more ∙ ap (λ (x : ℕ). log ++ record { stamp = x; entry = e } ∷ []) s in
+    (a ∙ ap (λ (x : Option Entry). with_any_entry x found log) (sym is) ∙ sym (log_is note found log), ap last_stamp more ∙ last_end 0 log (record { stamp = stamp; entry = e }))
+
+abbrev stand_of : Known → Stand
+stand_of k = record { running = k.running; requesting = k.requesting; reached = k.reached; halted = k.halted }
+
+abbrev stand_known : Name → ActOf → ℕ → Known → Stand
+stand_known at a word k = record { running = runs_after at a word k; requesting = asks_after at a word k; reached = reached_after at a word k; halted = halted_after at word k }
+
+known_stand : (a : Name) (c : ActOf) (word : ℕ) (k : Known) (s : Stand) → k.running ≡ s.running → k.requesting ≡ s.requesting → k.reached ≡ s.reached → k.halted ≡ s.halted
+    → stand_known a c word k ≡ stand_after a c word k.thread s
+known_stand a c word k s r q e h = same a c word k ∙ ap (stand_after a c word k.thread) (λ i. record { running = r i; requesting = q i; reached = e i; halted = h i })
+  where
+    same : (a : Name) (c : ActOf) (word : ℕ) (k : Known) → stand_known a c word k ≡ stand_after a c word k.thread (stand_of k)
+    same name.Safepoint act.Load word k = refl
+    same name.Safepoint (act.Store x) word k = refl
+    same name.Safepoint (act.Swap x y) word k = refl
+    same name.Safepoint (act.Raise x) word k = refl
+    same name.Safepoint (act.Mask x) word k = refl
+    same name.Safepoint act.Count word k = refl
+    same (name.Prototype x) c word k = refl
+    same (name.Revocations x) c word k = refl
+    same (name.LastBulk x) c word k = refl
+    same (name.Mark x) c word k = refl
+    same (name.Stamp x) c word k = refl
+    same (name.Slot x y) c word k = refl
+    same (name.Hold x y) c word k = refl
+    same (name.Displaced x y) c word k = refl
+    same (name.Waiting x) c word k = refl
+    same (name.Length x) c word k = refl
+    same (name.Owner x) c word k = refl
+    same (name.Recursions x) c word k = refl
+    same (name.Header x) c word k = refl
+    same (name.Object x) c word k = refl
+    same name.Claim c word k = refl
+
+most_draws : (e : Entry) (draws : ℕ) → draws_after (Log e) draws ≤ draws + 1
+most_draws (entry.Hash o value (Some number)) draws = omega arith
+most_draws (entry.Hash o value None) draws = omega arith
+most_draws e draws = omega arith
+
+-- each draw that is installed is logged
+few_draws : (note : Note) (found : ℕ) (log : List Logged) (draws : ℕ) → draws ≤ length log → draws_after note draws ≤ length (log_after note found log)
+few_draws Quiet found log draws h = h
+few_draws (Log e) found log draws h =
+    let n = length-append log (record { stamp = stamp_by e found (last_stamp log); entry = e } ∷ []) in
+    let d = most_draws e draws in omega (arith, n, d, h)
+few_draws (LogGet o slot) found log draws h = let n = length-append log (record { stamp = last_stamp log + 1; entry = entry.Get o slot (value_found (read_value found)) } ∷ []) in omega (arith, n, h)
+few_draws (LogHash o) found log draws h = cases (hash_in found == 0)
+  where
+    cases : (b : Bool) → draws ≤ length (cond b log (with_entry (entry.Hash o (hash_in found) None) found log))
+    cases true = h
+    cases false = let n = length-append log (record { stamp = last_stamp log + 1; entry = entry.Hash o (hash_in found) None } ∷ []) in omega (arith, n, h)
+
+-- the shots that are taken are those that the thread knows
+shots_follow : (o : Own) (s : Shape) (k : Known) (taken : List DumpShot) (cut : List ℕ) (cells : List (Option ℕ × ℕ)) → k.shots ≡ taken → IsDrafted o s k cut cells
+    → shots_after o s k ≡ taken_after o taken cut cells
+shots_follow own.TakeShot s k taken cut cells e d = λ i. e i ++ record { number = length (e i) + 1; cut = sym d.0 i; cells = sym d.1 i } ∷ []
+shots_follow own.Same s k taken cut cells e d = e
+shots_follow own.Claim s k taken cut cells e d = e
+shots_follow own.Spend s k taken cut cells e d = e
+shots_follow own.Save s k taken cut cells e d = e
+shots_follow (own.CountVerdict class verdict reset) s k taken cut cells e d = e
+
+pub follow_hit : (s : Shape) (start : ℕ) (p : StepPlan) (n : ℕ) (k : Known) (m l : Mirror) → hits p.act n ≡ true → Follows m k
+    → l.thread ≡ m.thread
+    → (last_stamp m.log.items ≡ m.last → (l.log.items ≡ log_after p.note n m.log.items) × (last_stamp l.log.items ≡ l.last))
+    → l.stand ≡ stand_after p.at p.act (word_after p.act n) m.thread m.stand
+    → l.kept ≡ kept_after p.own n m.kept
+    → l.saved ≡ saved_after p.own n m.saved
+    → ((k : Known) → k.holds ≡ m.holds → l.holds ≡ holds_after p.at p.act k)
+    → ((k : Known) → k.thread ≡ m.thread → k.wait ≡ m.wait → l.wait ≡ wait_after p.at p.act k)
+    → ((k : Known) → k.published ≡ m.published → l.published ≡ published_after p.at p.act k)
+    → l.unfinished ≡ unfinished_after p.note n p.after
+    → l.checking ≡ p.check
+    → (l.limit ≡ m.limit) × (l.classes ≡ m.classes) × (l.first ≡ m.first)
+    → ((n : ℕ) (k : List CountedVerdict) → m.counts.items ≡ counts_shown 0 n k → l.counts.items ≡ counts_shown 0 n (counts_after p.own k))
+    → l.drawing.installed ≡ draws_after p.note m.drawing.installed
+    → ((first : ℕ) → m.drawing.generator ≡ state_after first (m.drawing.installed + 1) → l.drawing.generator ≡ state_after first (l.drawing.installed + 1))
+    → l.shots.taken.items ≡ taken_after p.own m.shots.taken.items m.shots.draft.cut.items (cells_shown m.shots.draft.cells.items)
+    → IsDrafted p.own s k m.shots.draft.cut.items (cells_shown m.shots.draft.cells.items)
+    → Follows l (known_after s start p n k)
+follow_hit s start p n k m l hit f thread log stand kept saved holds wait published unfinished checking fixed counts draws generator shots drafted =
+    let g = log (sym (ap last_stamp f.log) ∙ f.last) in
+    let st : stand_known p.at p.act (word_after p.act n) k ≡ l.stand = known_stand p.at p.act (word_after p.act n) k m.stand f.running f.requesting f.reached f.halted ∙ ap (λ (t : ℕ). stand_after p.at p.act (word_after p.act n) t m.stand) f.thread ∙ sym stand in
+    let logs : log_after p.note n k.log ≡ l.log.items = ap (log_after p.note n) f.log ∙ sym g.0 in
+    let here : Follows l (known_hit s start p n k) = record {
+      thread = f.thread ∙ sym thread;
+      log = logs;
+      last = ap last_stamp logs ∙ g.1;
+      running = ap (λ (x : Stand). x.running) st;
+      requesting = ap (λ (x : Stand). x.requesting) st;
+      reached = ap (λ (x : Stand). x.reached) st;
+      halted = ap (λ (x : Stand). x.halted) st;
+      kept = ap (kept_after p.own n) f.kept ∙ sym kept;
+      saved = ap (saved_after p.own n) f.saved ∙ sym saved;
+      holds = sym (holds k f.holds);
+      wait = sym (wait k f.thread f.wait);
+      published = sym (published k f.published);
+      unfinished = sym unfinished;
+      checking = sym checking;
+      counts = counts m.classes k.counts f.counts ∙ ap (λ c. counts_shown 0 c (counts_after p.own k.counts)) (sym fixed.1);
+      shots = shots_follow p.own s k m.shots.taken.items _ _ f.shots drafted ∙ sym shots;
+      draws = ap (draws_after p.note) f.draws ∙ sym draws;
+      few = few_draws p.note n k.log k.draws f.few;
+      generator = generator m.first (f.generator ∙ ap (λ n. state_after m.first (n + 1)) f.draws) ∙ (λ i. state_after (sym fixed.2 i) ((draws ∙ ap (draws_after p.note) (sym f.draws)) i + 1));
+    } in
+    subst (λ (b : Bool). Follows l (cond b (known_hit s start p n k) (known_miss s start p n k))) (sym hit) here

@@ -1,0 +1,44 @@
+-- What a thread knows behind its step.
+use Rattle.std.proofs.Common.{◌≡◌, ℕ, ◌<◌, eq-eqb, ne_eqb, ◌≢◌, Bool, true, false, cond, refl, sym, ap, ◌∙◌, subst}
+use Rattle.core_world.specs.declared.plan.StepPlan.{StepPlan}
+use Rattle.core_world.specs.Words.Acts.{hits}
+use Rattle.core_world.specs.Threads.Known.{Known}
+use Rattle.core_world.specs.Words.Shape.{Shape}
+use Rattle.core_world.specs.Steps.{known_after, known_hit, known_miss, world_after}
+use Rattle.core_world.specs.Steps.{rest_of_call}
+use Rattle.core_world.specs.World.{World, with_known}
+use Rattle.core_steps.specs.Logic.{Heap, Was}
+use Rattle.core_steps.specs.Reached.{comes}
+use Rattle.core_steps.proofs.ReachedWorlds.{sound_comes}
+use Rattle.heap_table.specs.Ruled.{Stepped}
+
+pub same_thread : (s : Shape) (start : ℕ) (p : StepPlan) (n : ℕ) (k : Known) → (known_after s start p n k).thread ≡ k.thread
+same_thread s start p n k = cases (hits p.act n)
+  where
+    cases : (b : Bool) → (cond b (known_hit s start p n k) (known_miss s start p n k)).thread ≡ k.thread
+    cases true = refl
+    cases false = refl
+
+pub told_here : (t : ℕ) (k : Known) (f : ℕ → Known) → with_known t k f t ≡ k
+told_here t k f = ap (λ (b : Bool). cond b k (f t)) (eq-eqb t t refl)
+
+pub told_else : (t : ℕ) (k : Known) (f : ℕ → Known) (u : ℕ) → u ≢ t → with_known t k f u ≡ f u
+told_else t k f u d = ap (λ (b : Bool). cond b k (f u)) (ne_eqb u t d)
+
+-- in the sound world behind a step what is left of the call comes to an end or to a next step
+pub goes_on : (heap : Heap) (k : Known) (p : StepPlan) (n : ℕ) (l : Known) → Stepped heap k p n → k.thread < heap.shape.threads → l ≡ known_after heap.shape heap.start p n k
+    → comes (rest_of_call heap.shape l) ≡ true
+goes_on heap k p n l was within is =
+    let w : World = was.world in
+    let here : (world_after p k.thread w).known k.thread ≡ known_after w.shape w.start p (w.words p.at) (w.known k.thread) = told_here k.thread (known_after w.shape w.start p (w.words p.at) (w.known k.thread)) w.known in
+    let now : (world_after p k.thread w).known k.thread ≡ known_after heap.shape heap.start p n k = here ∙ λ i. known_after (was.is_of i).shape (was.is_of i).start p (was.was_there i) (was.knew i) in
+    let a = sound_comes (world_after p k.thread w) k.thread was.sound_after (subst (λ (h : Heap). k.thread < h.shape.threads) (sym was.is_of) within) in
+    (λ i. comes (rest_of_call (sym was.is_of i).shape ((is ∙ sym now) i))) ∙ a
+
+-- what a step tells, in the terms of the law of all steps: there was a valid world in which the thread knew this and the step found n
+pub was_of : (heap : Heap) (k : Known) (p : StepPlan) (n : ℕ) → Stepped heap k p n → k.thread < heap.shape.threads → Was heap p k n
+was_of heap k p n s within =
+    record {
+      stands = record { world = s.world; objects = s.sound.valid.objects; is_of = s.is_of; knows = s.knew; within = within; valid = s.sound.valid.is };
+      found = s.was_there;
+    }

@@ -1,0 +1,12 @@
+pub mod Places
+pub mod Knows
+pub mod Allowed
+pub mod Seats
+pub mod Reading
+pub mod Follow
+pub mod Stamps
+pub mod AtLast
+pub mod Opens
+pub mod Legal
+pub mod Counting
+pub mod Resuming

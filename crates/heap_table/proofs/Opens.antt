@@ -1,0 +1,200 @@
+-- The world at the start is sound, and the first seat knows all of it.
+use Rattle.std.proofs.Common.{◌≡◌, ◌≢◌, ℕ, zero, suc, ◌+◌, ◌*◌, ◌-◌, ◌<◌, ◌≤◌, Bool, List, [], ◌∷◌, ◌++◌, length, get_or, refl, sym, ap, ◌∙◌, subst, arith, add-one, append-nil}
+use Rattle.std.proofs.Math.Nat.{mul-suc}
+use Rattle.std.specs.Prelude.{All, map, slice_index, replicate}
+use Rattle.std.specs.List.{AllByRecursion}
+use Rattle.std.proofs.lemmas.List.{get_or-replicate}
+use mathlib.Core.Option.{some, some-injective, some-ne-none}
+use lib.ListN.{get_elem?}
+use Rattle.atomic_table.specs.Table.{Me, opening as opening_state}
+use Rattle.core_world.specs.declared.name.Name.{Name}
+use Rattle.core_world.specs.declared.name.Name.TheVariants.{Safepoint, Prototype, Revocations, LastBulk, Mark, Stamp, Slot, Hold, Displaced, Waiting, Length, Owner, Recursions, Header, Object, Claim}
+use Rattle.core_world.specs.Opening.{first_mark, first_word, first_known, opening}
+use Rattle.core_world.specs.Words.Shape.{Shape, IsInLimits}
+use Rattle.core_world.specs.World.{World}
+use Rattle.core_steps.specs.Logic.{Heap}
+use Rattle.core_steps.proofs.ReachedWorlds.{opening_sound}
+use Rattle.heap_table.specs.Layout.{IsIn, place_of, word_count}
+use Rattle.core_world.specs.Threads.Known.{Known}
+use Rattle.heap_table.specs.Firsts.{first_knowns}
+use Rattle.heap_table.specs.Openings.{copies, spread, object_words, opening_groups}
+use Rattle.heap_table.specs.Kept.{Follows}
+use Rattle.heap_table.specs.declared.mirror.Mirror.{Mirror}
+use Rattle.heap_table.specs.Ruled.{Each, Differ, Ruled, heap_in, only, others}
+use Rattle.heap_table.specs.declared.setting.Setting.{Setting}
+use Rattle.heap_table.specs.Seen.{HeapSeen, PassSeen, first_pass, first_passes}
+
+append_append : (xs ys zs : List ℕ) → (xs ++ ys) ++ zs ≡ xs ++ (ys ++ zs)
+append_append [] ys zs = refl
+append_append (x ∷ xs) ys zs = ap (λ (l : List ℕ). x ∷ l) (append_append xs ys zs)
+
+-- where the groups of the k-th kind begin, and how many there are of which words
+abbrev begins : ℕ → List (ℕ × List ℕ) → ℕ
+begins zero rs = 0
+begins (suc k) [] = 0
+begins (suc k) (r ∷ rs) = length r.1 * r.0 + begins k rs
+
+abbrev run : ℕ → List (ℕ × List ℕ) → ℕ × List ℕ
+run k [] = (0, [])
+run zero (r ∷ rs) = r
+run (suc k) (r ∷ rs) = run k rs
+
+in_front : (xs ys : List ℕ) (i : ℕ) → i < length xs → get_or (xs ++ ys) i 0 ≡ get_or xs i 0
+in_front [] ys i h = absurd (omega (arith, h))
+in_front (x ∷ xs) ys zero h = refl
+in_front (x ∷ xs) ys (suc i) h = in_front xs ys i (omega (arith, h))
+
+behind : (xs ys : List ℕ) (i j : ℕ) → i ≡ length xs + j → get_or (xs ++ ys) i 0 ≡ get_or ys j 0
+behind [] ys i j e = let f : i ≡ j = omega (arith, e) in ap (λ (x : ℕ). get_or ys x 0) f
+behind (x ∷ xs) ys zero j e = absurd (omega (arith, e))
+behind (x ∷ xs) ys (suc i) j e = behind xs ys i j (omega (arith, e))
+
+in_copies : (n : ℕ) (g ys : List ℕ) (a i at : ℕ) → at ≡ length g * a + i → a < n → i < length g → get_or (copies n g ++ ys) at 0 ≡ get_or g i 0
+in_copies zero g ys a i at e h l = absurd (omega (arith, h))
+in_copies (suc n) g ys zero i at e h l =
+    let f : at ≡ i = omega (arith, e) in
+    ap (λ (z : List ℕ). get_or z at 0) (append_append g (copies n g) ys) ∙ ap (λ (x : ℕ). get_or (g ++ (copies n g ++ ys)) x 0) f ∙ in_front g (copies n g ++ ys) i l
+in_copies (suc n) g ys (suc a) i at e h l =
+    let d : length g * suc a ≡ length g * a + length g = mul-suc (length g) a in
+    ap (λ (z : List ℕ). get_or z at 0) (append_append g (copies n g) ys) ∙ behind g (copies n g ++ ys) at (length g * a + i) (omega (arith, e, d))
+    ∙ in_copies n g ys a i (length g * a + i) refl (omega (arith, h)) l
+
+length_append : (xs ys : List ℕ) → length (xs ++ ys) ≡ length xs + length ys
+length_append [] ys = omega arith
+length_append (x ∷ xs) ys = let h = length_append xs ys in omega (arith, h)
+
+length_copies : (n : ℕ) (g : List ℕ) → length (copies n g) ≡ length g * n
+length_copies zero g = let e : length g * 0 ≡ 0 = omega arith in sym e
+length_copies (suc n) g = let a = length_append g (copies n g) in let b = length_copies n g in let d : length g * suc n ≡ length g * n + length g = mul-suc (length g) n in omega (arith, a, b, d)
+
+in_run : (k : ℕ) (rs : List (ℕ × List ℕ)) (a i at : ℕ) → at ≡ begins k rs + (length (run k rs).1 * a + i) → a < (run k rs).0 → i < length (run k rs).1
+    → get_or (spread rs) at 0 ≡ get_or (run k rs).1 i 0
+in_run zero [] a i at e h l = absurd (omega (arith, h))
+in_run (suc k) [] a i at e h l = absurd (omega (arith, h))
+in_run zero (r ∷ rs) a i at e h l = in_copies r.0 r.1 (spread rs) a i at (omega (arith, e)) h l
+in_run (suc k) (r ∷ rs) a i at e h l =
+    let w = length_copies r.0 r.1 in
+    behind (copies r.0 r.1) (spread rs) at (begins k rs + (length (run k rs).1 * a + i)) (omega (arith, e, w)) ∙ in_run k rs a i (begins k rs + (length (run k rs).1 * a + i)) refl h l
+
+found : (s : Shape) (biasing : Bool) (k a i at : ℕ) → at ≡ begins k (opening_groups s biasing) + (length (run k (opening_groups s biasing)).1 * a + i)
+    → a < (run k (opening_groups s biasing)).0 → i < length (run k (opening_groups s biasing)).1 → get_or (spread (opening_groups s biasing)) at 0 ≡ get_or (run k (opening_groups s biasing)).1 i 0
+found s biasing k a i at e h l = in_run k (opening_groups s biasing) a i at e h l
+
+slot_word : (mark i : ℕ) → i < 16 → get_or (object_words mark) (2 + i) 0 ≡ 9223372036854775809
+slot_word mark i h = behind (mark ∷ 0 ∷ []) (replicate 16 9223372036854775809 ++ replicate 14 0) (2 + i) i (omega arith) ∙ in_front (replicate 16 9223372036854775809) (replicate 14 0) i h ∙ get_or-replicate 16 i 9223372036854775809 0 h
+
+words_at : (s : Shape) (biasing : Bool) (n : Name) → IsIn s n → get_or (spread (opening_groups s biasing)) (place_of s n) 0 ≡ first_word biasing n
+words_at s biasing Safepoint h = found s biasing 0 0 0 (place_of s Safepoint) (omega arith) (omega arith) (omega arith)
+words_at s biasing Claim h = found s biasing 0 8 0 (place_of s Claim) (omega arith) (omega arith) (omega arith)
+words_at s biasing (Prototype c) h = found s biasing 1 c 0 (place_of s (Prototype c)) (omega arith) h (omega arith)
+words_at s biasing (Revocations c) h = found s biasing 1 c 1 (place_of s (Revocations c)) (omega arith) h (omega arith)
+words_at s biasing (LastBulk c) h = found s biasing 1 c 2 (place_of s (LastBulk c)) (omega arith) h (omega arith)
+words_at s biasing (Mark o) h = found s biasing 2 o 0 (place_of s (Mark o)) (omega arith) h (omega arith)
+words_at s biasing (Stamp o) h = found s biasing 2 o 1 (place_of s (Stamp o)) (omega arith) h (omega arith)
+words_at s biasing (Slot o i) h = found s biasing 2 o (2 + i) (place_of s (Slot o i)) (omega arith) h.0 (omega (arith, h.1)) ∙ slot_word (first_mark biasing) i h.1
+words_at s biasing (Hold t p) h = found s biasing 3 (144 * t + p) 0 (place_of s (Hold t p)) (omega arith) (omega (arith, h.0, h.1)) (omega arith)
+words_at s biasing (Displaced t p) h = found s biasing 3 (144 * t + 64 + p) 0 (place_of s (Displaced t p)) (omega arith) (omega (arith, h.0, h.1)) (omega arith)
+words_at s biasing (Length t) h = found s biasing 3 (144 * t + 128) 0 (place_of s (Length t)) (omega arith) (omega (arith, h)) (omega arith)
+words_at s biasing (Waiting t) h = found s biasing 3 (144 * t + 136) 0 (place_of s (Waiting t)) (omega arith) (omega (arith, h)) (omega arith)
+words_at s biasing (Owner m) h = found s biasing 3 (144 * s.threads + 16 * m) 0 (place_of s (Owner m)) (omega arith) (omega (arith, h)) (omega arith)
+words_at s biasing (Recursions m) h = found s biasing 3 (144 * s.threads + 16 * m + 1) 0 (place_of s (Recursions m)) (omega arith) (omega (arith, h)) (omega arith)
+words_at s biasing (Header m) h = found s biasing 3 (144 * s.threads + 16 * m + 2) 0 (place_of s (Header m)) (omega arith) (omega (arith, h)) (omega arith)
+words_at s biasing (Object m) h = found s biasing 3 (144 * s.threads + 16 * m + 3) 0 (place_of s (Object m)) (omega arith) (omega (arith, h)) (omega arith)
+
+abbrev total : List (ℕ × List ℕ) → ℕ
+total [] = 0
+total (r ∷ rs) = length r.1 * r.0 + total rs
+
+wide_as : (rs : List (ℕ × List ℕ)) → length (spread rs) ≡ total rs
+wide_as [] = refl
+wide_as (r ∷ rs) = let a = length_append (copies r.0 r.1) (spread rs) in let b = length_copies r.0 r.1 in let c = wide_as rs in omega (arith, a, b, c)
+
+pub opening_count : (s : Shape) (biasing : Bool) (ws : List ℕ) → ws ≡ spread (opening_groups s biasing) → length ws ≡ word_count s
+opening_count s biasing ws e = let h = wide_as (opening_groups s biasing) in let g : length ws ≡ length (spread (opening_groups s biasing)) = ap length e in omega (arith, h, g)
+
+-- four kinds of group that were put behind one another
+pub chained : (w x y z v a b c d : List ℕ) → w ≡ [] → x ≡ w ++ a → y ≡ x ++ b → z ≡ y ++ c → v ≡ z ++ d → v ≡ a ++ (b ++ (c ++ (d ++ [])))
+chained w x y z v a b c d e f g h i =
+    i ∙ (λ j. (h ∙ (λ k. (g ∙ (λ l. (f ∙ (λ m. e m ++ a)) l ++ b)) k ++ c)) j ++ d) ∙ append_append (a ++ b) c d ∙ append_append a b (c ++ d)
+    ∙ ap (λ (u : List ℕ). a ++ (b ++ (c ++ u))) (sym (append-nil d))
+
+-- the objects of a shape that is made are in its limits
+pub each_fits : (slots classes : List ℕ) → All (λ n. n ≤ 16) slots → All (λ c. c < length slots) classes
+    → AllByRecursion {X = ℕ × ℕ} (λ x. (x.0 < length slots) × (x.1 ≤ 16)) (map (λ c. (c, slice_index slots c)) classes)
+each_fits slots [] h g = tt
+each_fits slots (c ∷ cs) h g = let low = g 0 0 (omega arith) in ((low, h c 0 low), each_fits slots cs h (λ k d lt. g (suc k) d (omega (arith, lt))))
+
+objects_few : (slots classes : List ℕ) → length {A = ℕ × ℕ} (map (λ c. (c, slice_index slots c)) classes) ≡ length classes
+objects_few slots [] = refl
+objects_few slots (c ∷ cs) = let h = objects_few slots cs in omega (arith, h)
+
+pub shape_fits : (threads : ℕ) (slots classes : List ℕ) (objects : List (ℕ × ℕ)) → (threads ≤ 16) × (length slots ≤ 64) × (length classes ≤ 4096)
+    → All (λ n. n ≤ 16) slots → All (λ c. c < length slots) classes → objects ≡ map (λ c. (c, slice_index slots c)) classes
+    → IsInLimits (record { threads = threads; classes = length slots; objects = objects })
+shape_fits threads slots classes objects few h g e =
+    subst (λ (z : List (ℕ × ℕ)). IsInLimits (record { threads = threads; classes = length slots; objects = z })) (sym e)
+    (record { threads = few.0; classes = few.1; objects = (let n = objects_few slots classes in omega (arith, n, few.2)); each = each_fits slots classes h g })
+
+abbrev nobody_else : ℕ → ℕ
+nobody_else t = 0
+
+knowns_each : (w : World) → ((t : ℕ) → w.known t ≡ first_known t) → (t n : ℕ) → Each (λ (k : Known). (w.known k.thread ≡ k) × (nobody_else k.thread ≡ 0)) (first_knowns t n)
+knowns_each w e t zero = tt
+knowns_each w e t (suc n) = ((e t, refl), knowns_each w e (suc t) n)
+
+knowns_above : (u t n : ℕ) → u < t → Each (λ (k : Known). k.thread ≢ u) (first_knowns t n)
+knowns_above u t zero h = tt
+knowns_above u t (suc n) h = ((λ e. omega arith), knowns_above u (suc t) n (omega arith))
+
+knowns_differ : (t n : ℕ) → Differ (first_knowns t n)
+knowns_differ t zero = tt
+knowns_differ t (suc n) = (knowns_above t (suc t) n (omega arith), knowns_differ (suc t) n)
+
+abbrev first_of : Heap → World
+first_of b = opening b.shape b.start b.biasing
+
+pub opens : {S : Type 0} (b : Setting) (ws : List ℕ) → IsInLimits b.shape → ws ≡ spread (opening_groups b.shape b.biasing) → Ruled {S = S} b (opening_state ws [] (first_knowns 0 b.shape.threads))
+opens {S} b ws is e = (
+  first_of (heap_in b),
+  nobody_else,
+  record {
+    is_of = refl;
+    wide = opening_count b.shape b.biasing ws e;
+    words_are = λ n here. ap (λ (l : List ℕ). get_or l (place_of b.shape n) 0) e ∙ words_at b.shape b.biasing n here;
+    knows = λ id v at. one id v at;
+  },
+  opening_sound (heap_in b) is,
+)
+  where
+    one : (id : ℕ) (v : List Known) → get_elem? (first_knowns 0 b.shape.threads ∷ []) id ≡ some v → Each (λ (k : Known). ((first_of (heap_in b)).known k.thread ≡ k) × (nobody_else k.thread ≡ id)) v × Differ v
+    one zero v at = subst (λ (u : List Known). Each (λ (k : Known). ((first_of (heap_in b)).known k.thread ≡ k) × (nobody_else k.thread ≡ 0)) u × Differ u) (some-injective _ _ at) (knowns_each (first_of (heap_in b)) (λ t. refl) 0 b.shape.threads, knowns_differ 0 b.shape.threads)
+    one (suc id) v at = absurd (some-ne-none v (sym at))
+
+-- the first of the threads from t on, and the others
+pub knowns_next : (t n : ℕ) → t < n → first_knowns t (n - t) ≡ first_known t ∷ first_knowns (suc t) (n - suc t)
+knowns_next t n h = let e : n - t ≡ suc (n - suc t) = omega arith in ap (first_knowns t) e
+
+passes_suc : (h : HeapSeen) (limit t n j : ℕ) → t + n ≡ j → first_passes h limit t n ++ first_pass h limit j ∷ [] ≡ first_passes h limit t (suc n)
+passes_suc h limit t zero j e = let f : j ≡ t = omega (arith, e) in ap (λ (i : ℕ). first_pass h limit i ∷ []) f
+passes_suc h limit t (suc n) j e = ap (λ (ps : List PassSeen). first_pass h limit t ∷ ps) (passes_suc h limit (suc t) n j (omega (arith, e)))
+
+pub passes_more : (h : HeapSeen) (limit n : ℕ) → first_passes h limit 0 n ++ first_pass h limit n ∷ [] ≡ first_passes h limit 0 (n + 1)
+passes_more h limit n = passes_suc h limit 0 n n (omega arith) ∙ ap (first_passes h limit 0) (sym (add-one n))
+
+pub others_next : (t n : ℕ) (v : List Known) → t < n → v ≡ first_knowns t (n - t) → others v ≡ first_knowns (t + 1) (n - (t + 1))
+others_next t n v h e = ap others (e ∙ knowns_next t n h) ∙ rw (add-one t) refl
+
+copies_more : (n : ℕ) (g : List ℕ) → copies n g ++ g ≡ copies (suc n) g
+copies_more zero g = sym (append-nil g)
+copies_more (suc n) g = append_append g (copies n g) g ∙ ap (λ (l : List ℕ). g ++ l) (copies_more n g)
+
+-- one more copy behind those that were put there
+pub one_more : (ws xs g : List ℕ) (n : ℕ) → ws ≡ xs ++ copies n g → ws ++ g ≡ xs ++ copies (n + 1) g
+one_more ws xs g n e = ap (λ (l : List ℕ). l ++ g) e ∙ append_append xs (copies n g) g ∙ ap (λ (l : List ℕ). xs ++ l) (copies_more n g ∙ ap (λ (k : ℕ). copies k g) (sym (add-one n)))
+
+-- what `first_pass` makes is a pass
+pub own_pass : (m : Mirror) (me old : Me (Unit {0}) (List Known)) (t n : ℕ) → me ≡ (only old.0 ∷ [], []) → old.0 ≡ first_knowns t (n - t) → t < n → Follows m (first_known t)
+    → (me ≡ (only me.0 ∷ [], [])) × Follows m ((only me.0))
+own_pass m me old t n e is lt f =
+    let same : only me.0 ≡ first_known t = ap (λ (x : Me (Unit {0}) (List Known)). only x.0) e ∙ ap only (is ∙ knowns_next t n lt) in
+    (e ∙ sym (ap (λ (x : Me (Unit {0}) (List Known)). (only x.0 ∷ [], [])) e), subst (λ (k : Known). Follows m (k)) (sym same) f)

@@ -1,0 +1,65 @@
+-- A stamp is at most the number of all entries, so it fits its word.
+use Rattle.std.proofs.Common.{◌≡◌, inl, inr, ℕ, zero, suc, ◌+◌, ◌*◌, ◌≤◌, ◌==◌, Bool, true, false, cond, List, length, refl, sym, ap, ◌∙◌, subst, arith}
+use borrow.Author.Tests.{eqb-true, eqb-false}
+use Rattle.plain_monitor.specs.declared.entry.Logged.{Logged}
+use Rattle.plain_monitor.specs.History.{last_stamp}
+use Rattle.plain_monitor.specs.Objects.{PlainObject}
+use Rattle.core_world.specs.declared.plan.Note.{Note}
+use Rattle.core_world.specs.declared.plan.Note.TheVariants.{Quiet, Log, LogGet, LogHash}
+use Rattle.core_world.specs.declared.plan.StepPlan.{StepPlan}
+use Rattle.core_world.specs.Words.Acts.{hits}
+use Rattle.core_world.specs.Threads.Known.{Known}
+use Rattle.core_world.specs.Clauses.Lengths.{log_limit}
+use Rattle.core_world.specs.Clauses.Stamps.{entries}
+use Rattle.core_world.specs.Steps.{known_after, known_hit, known_miss, log_after, world_after, stamp_by}
+use Rattle.core_world.specs.Valid.{Fits, IsValid}
+use Rattle.core_world.specs.World.{World, logs_from}
+use Rattle.heap_table.specs.Kept.{StampFits}
+use Rattle.core_steps.specs.Logic.{Heap}
+use Rattle.heap_table.specs.Ruled.{Stepped}
+use Rattle.heap_table.proofs.Follow.{last_end}
+use Rattle.heap_table.proofs.Knows.{told_here}
+
+entries_few : (u n : ℕ) (f : ℕ → Known) → ((z : ℕ) → length (f z).log ≤ log_limit) → entries (logs_from u n f) ≤ n * 400066
+entries_few u zero f few = omega arith
+entries_few u (suc n) f few = let h = entries_few (u + 1) n f few in let g = few u in omega (arith, h, g)
+
+fits_few : (w : World) (objects : List PlainObject) → Fits w objects → (t : ℕ) → last_stamp (w.known t).log ≤ 6401056
+fits_few w objects f t = let a = f.stamps.logged t in let b = entries_few 0 w.shape.threads w.known f.lengths.few in let c = f.limits.threads in omega (arith, a, b, c)
+
+few : (w : World) (objects : List PlainObject) → IsValid w objects → (t : ℕ) → last_stamp (w.known t).log ≤ 6401056
+few w objects (inl f) t = fits_few w objects f t
+few w objects (inr s) t = cases (t == s.requester) refl
+  where
+    cases : (b : Bool) → (t == s.requester) ≡ b → last_stamp (w.known t).log ≤ 6401056
+    cases true e =
+        let is : t ≡ s.requester = eqb-true t s.requester e in
+        let logs : (w.known t).log ≡ (s.before.known t).log = ap (λ (u : ℕ). (w.known u).log) is ∙ ap (λ (k : Known). k.log) s.knows ∙ ap (λ (u : ℕ). (s.before.known u).log) (sym is) in
+        let h = fits_few s.before objects s.fits t in
+        subst (λ (l : List Logged). last_stamp l ≤ 6401056) (sym logs) h
+    cases false e =
+        let h = fits_few s.before objects s.fits t in
+        subst (λ (k : Known). last_stamp k.log ≤ 6401056) (sym (s.others t (eqb-false t s.requester e))) h
+
+log_hit : (w : World) (p : StepPlan) (n : ℕ) (k : Known) → hits p.act n ≡ true → (known_after w.shape w.start p n k).log ≡ log_after p.note n k.log
+log_hit w p n k hit = ap (λ (b : Bool). (cond b (known_hit w.shape w.start p n k) (known_miss w.shape w.start p n k)).log) hit
+
+by_note : (note : Note) (log : List Logged) (n last : ℕ) → last_stamp log ≤ 6401056 → last_stamp (log_after note n log) ≤ 6401056 → last_stamp log ≡ last → StampFits note n last
+by_note Quiet log n last a b e = omega (arith, a, e)
+by_note (Log entry) log n last a b e =
+    let end = last_end 0 log (record { stamp = stamp_by entry n (last_stamp log); entry = entry }) in
+    let c : stamp_by entry n (last_stamp log) ≤ 6401056 = subst (λ (x : ℕ). x ≤ 6401056) end b in
+    let d : stamp_by entry n last ≤ 6401056 = subst (λ (x : ℕ). stamp_by entry n x ≤ 6401056) e c in omega (arith, d)
+by_note (LogGet o slot) log n last a b e = omega (arith, a, e)
+by_note (LogHash o) log n last a b e = omega (arith, a, e)
+
+pub stamp_fits : (b : Heap) (k : Known) (p : StepPlan) (n last : ℕ) → Stepped b k p n → last_stamp k.log ≡ last → hits p.act n ≡ true → StampFits p.note n last
+stamp_fits b k p n last was same hit =
+    let w : World = was.world in
+    let t : ℕ = k.thread in
+    let old = few w was.sound.valid.objects was.sound.valid.is t in
+    let new = few (world_after p t w) was.sound_after.valid.objects was.sound_after.valid.is t in
+    let here : (world_after p t w).known t ≡ known_after w.shape w.start p (w.words p.at) (w.known t) = told_here t (known_after w.shape w.start p (w.words p.at) (w.known t)) w.known in
+    let now : (world_after p t w).known t ≡ known_after w.shape w.start p n k = here ∙ λ i. known_after w.shape w.start p (was.was_there i) (was.knew i) in
+    let log : ((world_after p t w).known t).log ≡ log_after p.note n k.log = ap (λ (x : Known). x.log) now ∙ log_hit w p n k hit in
+    by_note p.note k.log n last (subst (λ (x : Known). last_stamp x.log ≤ 6401056) was.knew old) (subst (λ (l : List Logged). last_stamp l ≤ 6401056) log new) same

@@ -1,0 +1,23 @@
+use Rattle.std.proofs.Common.{[], ◌∷◌, ◌++◌, ◌∙◌, arith}
+use Rattle.heap_table.proofs.Opens.{opens, passes_more}
+use Rattle.core_steps.proofs.ReachedWorlds.{opening_sound}
+use Rattle.heap_table.specs.Ruled.{heap_in}
+use Rattle.heap_table.proofs.begins.begin.Goals as goal
+
+pub of_words-requires : goal.of_words-requires
+of_words-requires c = opens c.args.setting _ c.threads-threads.ensures.limits (c.as_slice.ensures.value ∙ c.in_ok-start.ensures.words)
+
+pub loop-thread-preserved : goal.loop-thread-preserved
+loop-thread-preserved c =
+    let inv = c.loop-thread.invariant in
+    let s = c.in_ok-pass.ensures.seat in
+    let p = c.push_reserved.ensures in
+    record {
+      seat = (s.0 ∙ inv.seat.0, s.1);
+      made = p.items ∙ (λ i. inv.made i ++ c.in_ok-pass.ensures.pass i ∷ []) ∙ passes_more (record { table = c.in_ok-words.words.shared.table_id; heap = heap_in c.args.setting }) _ c.loop-thread.thread;
+      len = omega (arith, p.len, inv.len);
+      room = omega (arith, p.capacity, inv.room);
+    }
+
+pub returns-clause-opening : goal.returns-clause-opening
+returns-clause-opening c = opening_sound (heap_in c.args.setting) c.threads-threads.ensures.limits

@@ -1,0 +1,16 @@
+use Rattle.std.proofs.Common.{◌+◌, ◌*◌, [], ◌∷◌, ◌++◌, ◌∙◌}
+use Rattle.heap_table.specs.Openings.{copies, class_words, object_words}
+use Rattle.heap_table.proofs.Opens.{chained, opening_count}
+use Rattle.heap_table.proofs.opening.opening_words.Goals as goal
+
+pub returns-clause-words : goal.returns-clause-words
+returns-clause-words c =
+    let mark = c.mark_word-mark.ensures in
+    let classes = c.classes-classes.ensures in
+    let objects = c.objects-objects.ensures in
+    let threads = c.threads-threads.ensures.same in
+    chained _ _ _ _ _ _ _ _ _ c.in_ok-words.ensures.items c.in_ok-push_copies.ensures c.in_ok-push_copies-2.ensures c.in_ok-push_copies-3.ensures c.in_ok-push_copies-4.ensures
+    ∙ λ i. copies 16 (0 ∷ []) ++ (copies (classes i) (class_words (mark i)) ++ (copies (objects i) (object_words (mark i)) ++ (copies (144 * threads i + 16 * (objects i + threads i)) (0 ∷ []) ++ [])))
+
+pub returns-clause-count : goal.returns-clause-count
+returns-clause-count c = opening_count c.args.setting.now.shape c.args.setting.now.biasing _ (returns-clause-words c)

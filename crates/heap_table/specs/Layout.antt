@@ -1,0 +1,93 @@
+-- Where each word lies.
+use Rattle.std.specs.Prelude.{ℕ, ◌+◌, ◌*◌, ◌<◌, List, length, map, slice_index}
+use Rattle.core_world.specs.declared.name.Name.{Name}
+use Rattle.core_world.specs.declared.name.Name.TheVariants.{Safepoint, Prototype, Revocations, LastBulk, Mark, Stamp, Slot, Hold, Displaced, Waiting, Length, Owner, Recursions, Header, Object, Claim}
+use Rattle.core_world.specs.Words.Shape.{Shape}
+
+-- the shape with so many threads, with classes of so many slots, and with an object of each of these classes
+abbrev pub shape_of : ℕ → List ℕ → List ℕ → Shape
+shape_of threads slots classes = record { threads = threads; classes = length slots; objects = map (λ c. (c, slice_index slots c)) classes }
+
+-- how many objects there are
+abbrev pub many : Shape → ℕ
+many s = length s.objects
+
+-- The words lie in groups: one of the heap, of 16 words; one for each class, of 16 words; one for each object, of 32 words; one for each
+-- thread, of 144 words; one for each monitor, of 16 words. Here the groups of each kind begin.
+abbrev pub classes_from : ℕ
+classes_from = 16
+
+abbrev pub objects_from : Shape → ℕ
+objects_from s = classes_from + 16 * s.classes
+
+abbrev pub threads_from : Shape → ℕ
+threads_from s = objects_from s + 32 * many s
+
+abbrev pub monitors_from : Shape → ℕ
+monitors_from s = threads_from s + 144 * s.threads
+
+abbrev pub word_count : Shape → ℕ
+word_count s = monitors_from s + 16 * (many s + s.threads)
+
+-- A word's place. The words of one group are mostly stored by one thread at a time; those of two groups, and the words of the heap, and a thread's
+-- waiting word and its other words, lie 8 words apart or more, and so in different lines of a cache.
+abbrev pub place_of : Shape → Name → ℕ
+place_of s Safepoint = 0
+place_of s Claim = 8
+place_of s (Prototype c) = classes_from + 16 * c
+place_of s (Revocations c) = classes_from + 16 * c + 1
+place_of s (LastBulk c) = classes_from + 16 * c + 2
+place_of s (Mark o) = objects_from s + 32 * o
+place_of s (Stamp o) = objects_from s + 32 * o + 1
+place_of s (Slot o i) = objects_from s + 32 * o + 2 + i
+place_of s (Hold t p) = threads_from s + 144 * t + p
+place_of s (Displaced t p) = threads_from s + 144 * t + 64 + p
+place_of s (Length t) = threads_from s + 144 * t + 128
+place_of s (Waiting t) = threads_from s + 144 * t + 136
+place_of s (Owner m) = monitors_from s + 16 * m
+place_of s (Recursions m) = monitors_from s + 16 * m + 1
+place_of s (Header m) = monitors_from s + 16 * m + 2
+place_of s (Object m) = monitors_from s + 16 * m + 3
+
+-- the kind of group that a word is in: the heap's, a class's, an object's, a thread's, a monitor's
+abbrev pub group : Name → ℕ
+group Safepoint = 0
+group Claim = 0
+group (Prototype c) = 1
+group (Revocations c) = 1
+group (LastBulk c) = 1
+group (Mark o) = 2
+group (Stamp o) = 2
+group (Slot o i) = 2
+group (Hold t p) = 3
+group (Displaced t p) = 3
+group (Length t) = 3
+group (Waiting t) = 3
+group (Owner m) = 4
+group (Recursions m) = 4
+group (Header m) = 4
+group (Object m) = 4
+
+-- the heap has such a word: each object has room for 16 slots, and each thread for 64 lock records
+abbrev pub IsIn : Shape → Name → Type 0
+IsIn s Safepoint = Unit {0}
+IsIn s (Prototype c) = c < s.classes
+IsIn s (Revocations c) = c < s.classes
+IsIn s (LastBulk c) = c < s.classes
+IsIn s (Mark o) = o < many s
+IsIn s (Stamp o) = o < many s
+IsIn s (Slot o i) = (o < many s) × (i < 16)
+IsIn s (Hold t p) = (t < s.threads) × (p < 64)
+IsIn s (Displaced t p) = (t < s.threads) × (p < 64)
+IsIn s (Waiting t) = t < s.threads
+IsIn s (Length t) = t < s.threads
+IsIn s (Owner m) = m < many s + s.threads
+IsIn s (Recursions m) = m < many s + s.threads
+IsIn s (Header m) = m < many s + s.threads
+IsIn s (Object m) = m < many s + s.threads
+IsIn s Claim = Unit {0}
+
+-- a hold word has one of the 64 places
+abbrev pub IsPlaced : Name → Type 0
+IsPlaced (Hold t p) = p < 64
+IsPlaced _ = Unit {0}

@@ -1,0 +1,10 @@
+pub mod Layout
+pub mod Firsts
+pub mod Cells
+pub mod Drafts
+pub mod Tallies
+pub mod Kept
+pub mod Ruled
+pub mod Openings
+pub mod Seen
+pub mod Fresh

@@ -1,0 +1,223 @@
+//! What a step makes of the parts of its thread's knowledge that a pass keeps.
+ghost use Rattle.std.specs.Prelude.{◌≡◌, ◌<◌, ◌≤◌, ℕ, vec_capacity, vec_len};
+ghost use Rattle.core_world.specs.Threads.Known.{Known};
+ghost use Rattle.core_world.specs.Steps.{kept_after, saved_after, unfinished_after, runs_after, asks_after, reached_after, halted_after, is_taking, stamp_by, holds_after, wait_after, published_after, log_after};
+ghost use Rattle.plain_monitor.specs.Monitor.{is_thread};
+ghost use Rattle.plain_monitor.specs.History.{last_stamp};
+ghost use Rattle.heap_table.specs.Kept.{HasRoom, StampFits, entry_after, looked, left, stand_after};
+ghost use Rattle.heap_table.specs.Layout.{IsPlaced};
+
+use crate::reads::{hash_of_word, safe_of_word, value_of_word};
+use core_world::{Act, Name, Note, Own, Unfinished};
+use mark_word::SafeForm;
+use plain_monitor::{Entry, Logged};
+
+/// What a thread knows of the safepoint word.
+#[derive(Clone, Copy)]
+pub struct Stand {
+    pub running: bool,
+    pub requesting: bool,
+    pub reached: bool,
+    pub halted: bool,
+}
+
+pub fn kept_next(own: &Own, found: u64, kept: Option<u64>) -> Option<u64>
+    ensures { result ≡ kept_after own.now found kept }
+{
+    match *own {
+        Own::Claim => Some(found),
+        Own::Spend => None,
+        _ => kept,
+    }
+}
+
+pub fn saved_next(own: &Own, found: u64, saved: u64) -> u64
+    ensures { result ≡ saved_after own.now found saved }
+{
+    match *own {
+        Own::Save => found,
+        _ => saved,
+    }
+}
+
+pub fn entry_next(note: &Note, found: u64) -> Option<Entry>
+    ensures { result ≡ entry_after note.now found }
+{
+    match *note {
+        Note::Quiet => None,
+        Note::Log { entry } => Some(entry),
+        Note::LogGet { object, slot } => Some(Entry::Get {
+            object,
+            slot,
+            value: value_of_word(found),
+        }),
+        Note::LogHash { object } => {
+            let value = hash_of_word(found);
+            if value == 0 {
+                None
+            } else {
+                Some(Entry::Hash {
+                    object,
+                    value,
+                    drawn: None,
+                })
+            }
+        }
+    }
+}
+
+pub fn unfinished_next(note: &Note, found: u64, after: Option<Unfinished>) -> Option<Unfinished>
+    ensures { result ≡ unfinished_after note.now found after }
+{
+    match *note {
+        Note::LogHash { object: _ } => if hash_of_word(found) == 0 {
+            after
+        } else {
+            None
+        },
+        _ => after,
+    }
+}
+
+/// The stamp of an entry.
+pub fn stamp_next(entry: &Entry, found: u64, last: u64) -> u64
+    requires { stamp_by entry.now found last < 18446744073709551616 }
+    ensures { result ≡ stamp_by entry.now found last }
+{
+    match *entry {
+        Entry::Enter { object: _, path: _ } => found.max(last) + 1,
+        Entry::Resume { object: _ } => found.max(last) + 1,
+        _ => last + 1,
+    }
+}
+
+/// What the thread knows of the safepoint word after it loaded this.
+fn looked_next(form: Option<SafeForm>, stand: Stand) -> Stand
+    ensures { result ≡ looked form stand }
+{
+    match form {
+        None => stand,
+        Some(form) => Stand {
+            running: stand.running,
+            requesting: stand.requesting,
+            reached: stand.reached || (stand.requesting && form.running == 0),
+            halted: stand.halted || form.halted,
+        },
+    }
+}
+
+fn asks(form: &SafeForm, thread: u32) -> bool
+    ensures { result ≡ is_thread form.now.requester thread }
+{
+    match form.requester {
+        None => false,
+        Some(requester) => requester == thread,
+    }
+}
+
+/// What the thread knows of the safepoint word after it left this there.
+fn left_next(form: Option<SafeForm>, thread: u32, stand: Stand) -> Stand
+    requires { thread < 16 }
+    ensures { result ≡ left form thread stand }
+{
+    match form {
+        None => Stand {
+            running: false,
+            requesting: false,
+            reached: false,
+            halted: stand.halted,
+        },
+        Some(form) => {
+            let asks = asks(&form, thread);
+            Stand {
+                running: (form.running >> thread) & 1 == 1,
+                requesting: asks,
+                reached: stand.reached && asks,
+                halted: stand.halted || form.halted,
+            }
+        }
+    }
+}
+
+/// What the thread knows of the safepoint word after an act that hit left this word.
+pub fn stand_next(at: Name, act: &Act, word: u64, thread: u32, stand: Stand) -> Stand
+    requires { thread < 16 }
+    ensures { result ≡ stand_after at act.now word thread stand }
+{
+    match at {
+        Name::Safepoint => {
+            let form = safe_of_word(word);
+            match *act {
+                Act::Load => looked_next(form, stand),
+                _ => left_next(form, thread, stand),
+            }
+        }
+        _ => stand,
+    }
+}
+
+/// Whether the thread knows of the halt, after an exchange that found this word and missed.
+pub fn halted_next(at: Name, word: u64, halted: bool) -> bool
+    ensures { (k : Known) → k.halted ≡ halted → result ≡ halted_after at word k }
+{
+    match at {
+        Name::Safepoint => match safe_of_word(word) {
+            None => halted,
+            Some(form) => halted || form.halted,
+        },
+        _ => halted,
+    }
+}
+
+/// What it last stored in its waiting word.
+pub fn wait_next(at: Name, act: &Act, thread: u32, wait: u64) -> u64
+    ensures { (k : Known) → k.thread ≡ thread → k.wait ≡ wait → result ≡ wait_after at act.now k }
+{
+    match at {
+        Name::Waiting { thread: of } => match *act {
+            Act::Store { word } if of == thread => word,
+            _ => wait,
+        },
+        _ => wait,
+    }
+}
+
+/// What it last stored in its length word.
+pub fn published_next(at: Name, act: &Act, published: u64) -> u64
+    ensures { (k : Known) → k.published ≡ published → result ≡ published_after at act.now k }
+{
+    match at {
+        Name::Length { thread: _ } => match *act {
+            Act::Store { word } => word,
+            _ => published,
+        },
+        _ => published,
+    }
+}
+
+/// What it last stored in its hold words.
+pub fn store_hold(holds: &mut [u64; 64], at: Name, act: &Act)
+    requires { IsPlaced at }
+    ensures { (k : Known) → k.holds ≡ holds.old → holds.new ≡ holds_after at act.now k }
+{
+    if let Name::Hold { thread: _, place } = at {
+        if let Act::Store { word } = *act {
+            holds[place as usize] = word;
+        }
+    }
+}
+
+/// The log and its last stamp.
+pub fn note_entry(log: &mut Vec<Logged>, last: &mut u64, note: &Note, found: u64)
+    requires room { HasRoom note.now log.old.items (vec_capacity log.old) }
+    requires stamp { StampFits note.now found last.old }
+    ensures log { last_stamp log.old.items ≡ last.old → (log.new.items ≡ log_after note.now found log.old.items) × (last_stamp log.new.items ≡ last.new) }
+    ensures room { vec_capacity log.new ≡ vec_capacity log.old }
+    ensures within { (limit : ℕ) → HasRoom note.now log.old.items limit → vec_len log.old ≤ limit → vec_len log.new ≤ limit }
+{
+    if let Some(entry) = entry_next(note, found) {
+        let stamp = stamp_next(&entry, found, *last);
+        log.push_reserved(Logged { stamp, entry });
+        *last = stamp;
+    }
+}

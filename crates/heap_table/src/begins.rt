@@ -1,0 +1,110 @@
+//! How a heap begins.
+ghost use Rattle.std.specs.Prelude.{◌≡◌, ◌+◌, ◌*◌, ◌-◌, ◌%◌, ◌^◌, ◌<◌, ◌≤◌, [], IfOk};
+ghost use Rattle.core_world.specs.Opening.{opening};
+ghost use Rattle.core_world.specs.Words.Shape.{IsInLimits};
+ghost use Rattle.core_steps.specs.Sound.{Sound};
+ghost use Rattle.heap_table.specs.Firsts.{first_knowns};
+ghost use Rattle.heap_table.specs.Layout.{word_count};
+ghost use Rattle.heap_table.specs.Ruled.{heap_in};
+ghost use Rattle.heap_table.specs.Seen.{first_pass, first_passes};
+
+use crate::choice::First;
+use crate::heap::{Heap, Spare};
+use crate::mirror::Mirror;
+use crate::opening::opening_words;
+use crate::pass::Pass;
+use crate::rule::{Place, Words};
+use crate::setting::Setting;
+use crate::shape::HeapShape;
+use crate::shots::Shots;
+use plain_monitor::{List, NoMemory};
+use std::alloc::{AllocError, Global};
+
+// The pass of the next thread.
+fn next_pass(
+    alloc: Global,
+    words: &Words,
+    setting: &Setting,
+    seat: &mut Place,
+    thread: u32,
+    limit: u32,
+) -> Result<Pass, AllocError>
+    requires setting { IsInLimits setting.now.shape × (words.now.shared.key ≡ setting.now) × (words.now.shared.table_id.words ≡ word_count setting.now.shape) }
+    requires thread { thread < setting.now.shape.threads }
+    requires seat { (seat.old.table_id ≡ words.now.shared.table_id) × (seat.old.me ≡ (first_knowns thread (setting.now.shape.threads - thread), [])) }
+    ensures seat { IfOk result (λ _. (seat.new.table_id ≡ seat.old.table_id) × (seat.new.me ≡ (first_knowns (thread + 1) (setting.now.shape.threads - (thread + 1)), []))) }
+    ensures pass { IfOk result (λ p. p ≡ first_pass (record { table = words.now.shared.table_id; heap = heap_in setting.now }) limit thread) }
+{
+    let first = setting.start.wrapping_add(thread);
+    let shots = Shots::new(alloc, setting.shape.threads(), setting.shape.objects())?;
+    let mirror = Mirror::new(alloc, thread, limit, setting.shape.classes(), first, shots)?;
+    let own = words.shared.split_seat::<First>(seat);
+    Ok(Pass { seat: own, mirror })
+}
+
+// Room for what `close` gives.
+fn spare(alloc: Global, words: usize, threads: usize) -> Result<Spare, AllocError>
+    ensures { IfOk result (λ s. (s.words ≡ words) × (s.threads ≡ threads)) }
+{
+    Ok(Spare {
+        words,
+        threads,
+        copy: Vec::with_capacity(alloc, words)?,
+        logs: Vec::with_capacity(alloc, threads)?,
+        shots: Vec::with_capacity(alloc, threads)?,
+        counts: Vec::with_capacity(alloc, threads)?,
+    })
+}
+
+// A heap, and a stopped pass for each thread, with room for so many entries.
+fn begin(alloc: Global, setting: Setting, limit: u32) -> Result<(Heap, Vec<Pass>), AllocError>
+    ensures heap { IfOk result (λ r. r.0.heap ≡ heap_in setting) }
+    ensures passes { IfOk result (λ r. r.1.items ≡ first_passes r.0 limit 0 setting.shape.threads) }
+    ensures opening { IfOk result (λ r. Sound (opening setting.shape setting.start setting.biasing)) }
+{
+    let start = opening_words(alloc, &setting)?;
+    let threads = setting.shape.threads();
+    let spare = spare(alloc, start.len(), threads as usize)?;
+    let mut passes = Vec::with_capacity(alloc, threads as usize)?;
+    let (words, mut seat): (Words, Place) = Words::of_words(alloc, start.as_slice(), &setting)?;
+    for thread in 0..threads {
+        let pass = next_pass(alloc, &words, &setting, &mut seat, thread, limit)?;
+        passes.push_reserved(pass);
+    }
+    let heap = Heap {
+        words,
+        setting,
+        spare,
+    };
+    Ok((heap, passes))
+}
+
+impl Heap {
+    /// A heap of this shape, with biases or without, whose hash generators start from `start`, and a pass for each thread, in order:
+    /// stopped, with nothing logged, held, requested, counted or unfinished, and with room for the entries that so much fuel
+    /// may log. Its words are made as those of the opening world; the contract says that this world is
+    /// sound, and that the passes know what its threads know. Nothing takes memory later. The fuel is at most 200,000. `NoMemory` where
+    /// memory is wanting.
+    pub fn new(
+        alloc: Global,
+        shape: HeapShape,
+        fuel: u32,
+        start: u32,
+        biasing: bool,
+    ) -> Result<(Heap, List<Pass>), NoMemory>
+        requires { fuel ≤ 200000 }
+        ensures heap { IfOk result (λ r. r.0.heap ≡ record { shape = shape; start = start; biasing = biasing }) }
+        ensures passes { IfOk result (λ r. r.1 ≡ first_passes r.0 (2 * fuel + 66) 0 shape.threads) }
+        ensures opening { IfOk result (λ r. Sound (opening shape start biasing)) }
+    {
+        let setting = Setting {
+            shape,
+            start,
+            biasing,
+        };
+        match begin(alloc, setting, 2 * fuel + 66) {
+            Ok((heap, passes)) => Ok((heap, List::of(passes))),
+            Err(_) => Err(NoMemory),
+        }
+    }
+}

@@ -1,0 +1,97 @@
+//! The heap, and its one step.
+ghost use Rattle.std.specs.Prelude.{◌≡◌, ◌≤◌, ◌<◌, [], length, vec_capacity, true};
+ghost use Rattle.core_world.specs.Due.{IsNext};
+ghost use Rattle.core_world.specs.Steps.{known_after, rest_of_call};
+ghost use Rattle.core_steps.specs.Reached.{comes};
+ghost use Rattle.heap_table.specs.Layout.{IsIn, word_count};
+ghost use Rattle.heap_table.specs.Drafts.{HasPlace, IsDrafted, IsLeft};
+ghost use Rattle.heap_table.specs.Kept.{HasRoom};
+ghost use Rattle.heap_table.specs.Ruled.{heap_in, Stepped};
+ghost use Rattle.heap_table.specs.Seen.{HeapSeen, IsOf};
+
+use crate::counts::ClassCounts;
+use crate::pass::Pass;
+use crate::rule::Words;
+use crate::setting::Setting;
+use crate::shape::HeapShape;
+use crate::shots::Shot;
+use crate::steps::step;
+use core_world::StepPlan;
+use plain_monitor::{List, Logged};
+use std::marker::Model;
+
+/// The words of a heap, which its threads share. They are at each moment those of a sound world.
+#[derive(Drop)]
+pub struct Heap {
+    pub(crate) words: Words,
+    pub(crate) setting: Setting,
+    pub(crate) spare: Spare,
+}
+
+/// Room for what `close` gives: for so many words, and for what so many passes leave.
+#[derive(Drop)]
+pub(crate) struct Spare {
+    pub words: usize,
+    pub threads: usize,
+    pub copy: Vec<u64>,
+    pub logs: Vec<List<Logged>>,
+    pub shots: Vec<List<Shot>>,
+    pub counts: Vec<List<ClassCounts>>,
+    pub ghost empty: { (copy.items ≡ []) × (logs.items ≡ []) × (shots.items ≡ []) × (counts.items ≡ []) },
+    pub ghost room: { (words ≤ vec_capacity copy) × (threads ≤ vec_capacity logs) × (threads ≤ vec_capacity shots) × (threads ≤ vec_capacity counts) },
+}
+
+impl Model for Heap {
+    ghost Value = { HeapSeen };
+
+    ghost view = { λ h. record { table = h.words.shared.table_id; heap = heap_in h.setting } };
+
+    ghost invariant = { λ h. (h.words.shared.key ≡ h.setting) × (h.words.shared.table_id.words ≡ word_count h.setting.shape) × (h.words.shared.table_id.slots ≡ 0) × (h.spare.words ≡ word_count h.setting.shape) × (h.spare.threads ≡ h.setting.shape.threads) };
+}
+
+impl Heap {
+    /// How many there are of everything.
+    pub fn shape(&self) -> &HeapShape
+        ensures { result.now ≡ self.now.heap.shape }
+    {
+        &self.setting.shape
+    }
+
+    /// What the hash generators start from.
+    pub fn start(&self) -> u32
+        ensures { result ≡ self.now.heap.start }
+    {
+        self.setting.start
+    }
+
+    /// Whether the heap has biases.
+    pub fn has_biases(&self) -> bool
+        ensures { result ≡ self.now.heap.biasing }
+    {
+        self.setting.biasing
+    }
+
+    /// One atomic act on the word of the plan, which is the next step of the pass's thread. It answers the word that it found. The log of the pass has
+    /// room where the step logs. A step that takes a shot has a place for it, and the pass's draft is that shot.
+    ///
+    /// There was a sound world of this heap in which the thread knew what it did and the word stood there, and the step made a sound
+    /// world of it. The pass knows what the step makes of its knowledge, and what is left of the call comes to an end or to a next step.
+    pub fn step(&self, pass: &mut Pass, plan: StepPlan) -> u64
+        requires heap { IsOf self.now pass.old }
+        requires next { IsNext self.now.heap.shape self.now.heap.start self.now.heap.biasing pass.old.known plan }
+        requires at { IsIn self.now.heap.shape plan.at }
+        requires room { HasRoom plan.note pass.old.known.log pass.old.limit }
+        requires place { HasPlace plan.own (length pass.old.known.shots) }
+        requires drafted { IsDrafted plan.own self.now.heap.shape pass.old.known pass.old.cut pass.old.cells }
+        ensures heap { IsOf self.now pass.new }
+        ensures draft { IsLeft plan.own pass.old.cut pass.old.cells pass.new.cut pass.new.cells }
+        ensures limit { pass.new.limit ≡ pass.old.limit }
+        ensures known { pass.new.known ≡ known_after self.now.heap.shape self.now.heap.start plan result pass.old.known }
+        ensures stepped { Stepped self.now.heap pass.old.known plan result }
+        ensures comes { comes (rest_of_call self.now.heap.shape pass.new.known) ≡ true }
+    {
+        let found = step(&self.words, &self.setting, &mut pass.seat, plan);
+        pass.mirror.follow(&plan, found);
+        found
+    }
+}

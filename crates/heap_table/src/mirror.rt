@@ -1,0 +1,148 @@
+//! What a pass keeps of its steps: at run time what its thread knows.
+ghost use Rattle.std.specs.Prelude.{◌≡◌, ◌+◌, ◌^◌, ◌<◌, ◌≤◌, ℕ, IfOk, [], length, true, vec_capacity, vec_len};
+ghost use Rattle.heap_table.specs.Cells.{cells_shown};
+ghost use Rattle.heap_table.specs.Drafts.{IsDrafted, HasPlace, IsLeft, taken_after};
+ghost use Rattle.heap_table.specs.Tallies.{counts_shown};
+
+use crate::afters::{
+    Stand, halted_next, kept_next, note_entry, published_next, saved_next, stand_next, store_hold,
+    unfinished_next, wait_next,
+};
+use crate::counts::{ClassCounts, NO_COUNTS, count_next};
+use crate::draws::{Drawing, draw_next};
+use crate::shots::Shots;
+use core_world::{Own, StepPlan, Unfinished, apply};
+use plain_monitor::Logged;
+use std::alloc::{AllocError, Global};
+
+#[derive(Drop)]
+pub struct Mirror {
+    pub thread: u32,
+    /// How many entries the log may have.
+    pub limit: u32,
+    /// The number of classes.
+    pub classes: u32,
+    /// The first word of the thread's generator.
+    pub first: u32,
+    pub log: Vec<Logged>,
+    pub last: u64,
+    pub stand: Stand,
+    pub kept: Option<u64>,
+    pub saved: u64,
+    pub holds: [u64; 64],
+    pub wait: u64,
+    pub published: u64,
+    pub unfinished: Option<Unfinished>,
+    pub checking: bool,
+    pub counts: Vec<ClassCounts>,
+    pub drawing: Drawing,
+    pub shots: Shots,
+    pub ghost has_room: { limit ≤ vec_capacity log },
+    pub ghost within: { vec_len log ≤ limit },
+    pub ghost low: { thread < 16 },
+}
+
+// The shots behind a step that hit.
+fn shoot(shots: &mut Shots, own: &Own)
+    requires { HasPlace own.now (length shots.old.taken.items) }
+    ensures fixed { (shots.new.threads ≡ shots.old.threads) × (shots.new.objects ≡ shots.old.objects) }
+    ensures taken { shots.new.taken.items ≡ taken_after own.now shots.old.taken.items shots.old.draft.cut.items (cells_shown shots.old.draft.cells.items) }
+    ensures draft { IsLeft own.now shots.old.draft.cut.items (cells_shown shots.old.draft.cells.items) shots.new.draft.cut.items (cells_shown shots.new.draft.cells.items) }
+{
+    if let Own::TakeShot = *own {
+        shots.take();
+    }
+}
+
+/// No verdict on any of so many classes.
+fn no_counts(alloc: Global, classes: u32) -> Result<Vec<ClassCounts>, AllocError>
+    ensures { IfOk result (λ v. v.items ≡ counts_shown 0 classes []) }
+{
+    let mut counts = Vec::with_capacity(alloc, classes as usize)?;
+    for _class in 0..classes {
+        counts.push(NO_COUNTS)?;
+    }
+    Ok(counts)
+}
+
+impl Mirror {
+    ghost use Rattle.std.specs.Prelude.{replicate};
+    ghost use Rattle.plain_monitor.specs.History.{last_stamp};
+    ghost use Rattle.core_world.specs.Words.Acts.{word_after, hits};
+    ghost use Rattle.core_world.specs.Threads.Known.{Known};
+    ghost use Rattle.core_world.specs.Opening.{first_known};
+    ghost use Rattle.core_world.specs.Words.Shape.{Shape};
+    ghost use Rattle.core_world.specs.Steps.{known_after, with_entry, stamp_by};
+    ghost use Rattle.heap_table.specs.Kept.{Follows, HasRoom, StampFits, EntryFits, with_any_entry, entry_after};
+    ghost use Rattle.heap_table.specs.Layout.{IsPlaced};
+
+    /// What the thread knows before its first step.
+    pub fn new(
+        alloc: Global,
+        thread: u32,
+        limit: u32,
+        classes: u32,
+        first: u32,
+        shots: Shots,
+    ) -> Result<Mirror, AllocError>
+        requires thread { thread < 16 }
+        requires shots { shots.taken.items ≡ [] }
+        ensures follows { IfOk result (λ m. Follows m (first_known thread)) }
+        ensures fixed { IfOk result (λ m. (m.limit ≡ limit) × (m.classes ≡ classes) × (m.first ≡ first) × (m.shots ≡ shots)) }
+    {
+        Ok(Mirror {
+            thread,
+            limit,
+            classes,
+            first,
+            log: Vec::with_capacity(alloc, limit as usize)?,
+            last: 0,
+            stand: Stand {
+                running: false,
+                requesting: false,
+                reached: false,
+                halted: false,
+            },
+            kept: None,
+            saved: 0,
+            holds: [0; 64],
+            wait: 0,
+            published: 0,
+            unfinished: None,
+            checking: false,
+            counts: no_counts(alloc, classes)?,
+            drawing: Drawing::new(first),
+            shots,
+        })
+    }
+
+    /// Follows a step that found this word.
+    pub fn follow(&mut self, step: &StepPlan, found: u64)
+        requires at { IsPlaced step.now.at }
+        requires room { HasRoom step.now.note self.old.log.items self.old.limit }
+        requires shots { HasPlace step.now.own (length self.old.shots.taken.items) }
+        requires draws { self.old.drawing.installed ≤ length self.old.log.items }
+        requires stamp { hits step.now.act found ≡ true → StampFits step.now.note found self.old.last }
+        ensures follows { (s : Shape) (start : ℕ) (k : Known) → Follows self.old k → IsDrafted step.now.own s k self.old.shots.draft.cut.items (cells_shown self.old.shots.draft.cells.items) → Follows self.new (known_after s start step.now found k) }
+        ensures fixed { (self.new.limit ≡ self.old.limit) × (self.new.classes ≡ self.old.classes) × (self.new.first ≡ self.old.first) × (self.new.shots.threads ≡ self.old.shots.threads) × (self.new.shots.objects ≡ self.old.shots.objects) }
+        ensures draft { IsLeft step.now.own self.old.shots.draft.cut.items (cells_shown self.old.shots.draft.cells.items) self.new.shots.draft.cut.items (cells_shown self.new.shots.draft.cells.items) }
+    {
+        let effect = apply(found, &step.act);
+        if effect.hit {
+            note_entry(&mut self.log, &mut self.last, &step.note, found);
+            self.stand = stand_next(step.at, &step.act, effect.word, self.thread, self.stand);
+            self.kept = kept_next(&step.own, found, self.kept);
+            self.saved = saved_next(&step.own, found, self.saved);
+            store_hold(&mut self.holds, step.at, &step.act);
+            self.wait = wait_next(step.at, &step.act, self.thread, self.wait);
+            self.published = published_next(step.at, &step.act, self.published);
+            self.unfinished = unfinished_next(&step.note, found, step.after);
+            self.checking = step.check;
+            count_next(&mut self.counts, &step.own);
+            draw_next(&mut self.drawing, &step.note);
+            shoot(&mut self.shots, &step.own);
+        } else {
+            self.stand.halted = halted_next(step.at, found, self.stand.halted);
+        }
+    }
+}

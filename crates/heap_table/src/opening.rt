@@ -1,0 +1,51 @@
+//! The words before the first step.
+ghost use Rattle.std.specs.Prelude.{◌≡◌, ◌++◌, IfOk, length};
+ghost use Rattle.core_world.specs.Opening.{first_mark};
+ghost use Rattle.heap_table.specs.Layout.{word_count};
+ghost use Rattle.heap_table.specs.Openings.{copies, spread, opening_groups};
+
+use crate::setting::Setting;
+use std::alloc::{AllocError, Global};
+
+/// Each slot's word at first, that of the number 0.
+const ZERO: u64 = (1 << 63) + 1;
+
+// Puts so many copies of the group behind the words.
+fn push_copies(words: &mut Vec<u64>, count: usize, group: &[u64]) -> Result<(), AllocError>
+    ensures { IfOk result (λ _. words.new.items ≡ words.old.items ++ copies count group.now) }
+{
+    for _i in 0..count {
+        words.extend_from_slice(group)?;
+    }
+    Ok(())
+}
+
+// Each class's prototype at first, and each object's mark.
+fn mark_word(biasing: bool) -> u64
+    ensures { result ≡ first_mark biasing }
+{
+    if biasing { 5 } else { 1 }
+}
+
+/// The words of the opening world, by their places.
+pub fn opening_words(alloc: Global, setting: &Setting) -> Result<Vec<u64>, AllocError>
+    ensures words { IfOk result (λ v. v.items ≡ spread (opening_groups setting.now.shape setting.now.biasing)) }
+    ensures count { IfOk result (λ v. length v.items ≡ word_count setting.now.shape) }
+{
+    let threads = setting.shape.threads() as usize;
+    let classes = setting.shape.classes() as usize;
+    let objects = setting.shape.objects();
+    let mark = mark_word(setting.biasing);
+    let rest = 144 * threads + 16 * (objects + threads);
+    let class = [mark, 0, 0, 0, 0, 0, 0, 0, 0, 0, 0, 0, 0, 0, 0, 0];
+    let object = [
+        mark, 0, ZERO, ZERO, ZERO, ZERO, ZERO, ZERO, ZERO, ZERO, ZERO, ZERO, ZERO, ZERO, ZERO,
+        ZERO, ZERO, ZERO, 0, 0, 0, 0, 0, 0, 0, 0, 0, 0, 0, 0, 0, 0,
+    ];
+    let mut words = Vec::with_capacity(alloc, 16 + 16 * classes + 32 * objects + rest)?;
+    push_copies(&mut words, 16, &[0])?;
+    push_copies(&mut words, classes, &class)?;
+    push_copies(&mut words, objects, &object)?;
+    push_copies(&mut words, rest, &[0])?;
+    Ok(words)
+}

@@ -1,0 +1,199 @@
+//! What one thread steps with.
+ghost use Rattle.std.specs.Prelude.{◌≡◌, ◌+◌, ◌-◌, ◌<◌, ◌≤◌, [], ◌∷◌, ◌++◌, length};
+ghost use Rattle.lock_policy.specs.Draws.{nth_value};
+ghost use Rattle.core_world.specs.Locks.{hold_count};
+ghost use Rattle.heap_table.specs.Kept.{all_holds};
+ghost use Rattle.heap_table.specs.Seen.{PassSeen};
+ghost use Rattle.heap_table.specs.Tallies.{counts_shown};
+
+use crate::counts::ClassCounts;
+use crate::mirror::Mirror;
+use crate::reads::{held_of, holds_of};
+use crate::rule::Place;
+use crate::shots::{Cell, Shot};
+use core_world::Unfinished;
+use plain_monitor::Logged;
+use std::marker::Model;
+
+/// A thread's own part of a heap: it alone makes the thread's steps, and knows what the thread knows.
+#[derive(Drop)]
+pub struct Pass {
+    pub(crate) seat: Place,
+    pub(crate) mirror: Mirror,
+}
+
+impl Model for Pass {
+    ghost use Rattle.std.specs.Prelude.{◌≡◌, [], ◌∷◌};
+    ghost use Rattle.heap_table.specs.Cells.{cells_shown};
+    ghost use Rattle.heap_table.specs.Ruled.{only};
+    ghost use Rattle.heap_table.specs.Seen.{PassSeen};
+    ghost use Rattle.heap_table.specs.Kept.{Follows};
+
+    ghost Value = { PassSeen };
+
+    ghost view = { λ p. record { table = p.seat.table_id; known = only p.seat.me.0; limit = p.mirror.limit; classes = p.mirror.classes; first = p.mirror.first; threads = p.mirror.shots.threads; objects = p.mirror.shots.objects; cut = p.mirror.shots.draft.cut.items; cells = cells_shown p.mirror.shots.draft.cells.items } };
+
+    ghost invariant = { λ p. (p.seat.me ≡ (only p.seat.me.0 ∷ [], [])) × Follows p.mirror ((only p.seat.me.0)) };
+}
+
+impl Pass {
+    /// The thread's number, from 0.
+    pub fn thread(&self) -> u32
+        ensures same { result ≡ self.now.known.thread }
+        ensures low { result < 16 }
+    {
+        self.mirror.thread
+    }
+
+    /// The thread's log, in its own order.
+    pub fn log(&self) -> &[Logged]
+        ensures { result.now ≡ self.now.known.log }
+    {
+        self.mirror.log.as_slice()
+    }
+
+    /// How many entries may still be logged.
+    pub fn room(&self) -> u32
+        ensures room { result + length self.now.known.log ≡ self.now.limit }
+    {
+        self.mirror.limit - self.mirror.log.len() as u32
+    }
+
+    /// How many holds the thread has on the object, by its hold words.
+    pub fn held(&self, object: u32) -> u32
+        ensures held { result ≡ hold_count object self.now.known.holds }
+        ensures few { result ≤ 64 }
+    {
+        held_of(&self.mirror.holds, object)
+    }
+
+    /// How many holds the thread has, by its hold words.
+    pub fn holds(&self) -> u32
+        ensures holds { result ≡ all_holds self.now.known.holds }
+        ensures few { result ≤ 64 }
+    {
+        holds_of(&self.mirror.holds)
+    }
+
+    /// The thread's 64 hold words, as it last stored them.
+    pub fn hold_words(&self) -> &[u64; 64]
+        ensures { result.now ≡ self.now.known.holds }
+    {
+        &self.mirror.holds
+    }
+
+    /// What the thread last stored in its waiting word.
+    pub fn wait_word(&self) -> u64
+        ensures { result ≡ self.now.known.wait }
+    {
+        self.mirror.wait
+    }
+
+    /// Whether the thread runs.
+    pub fn running(&self) -> bool
+        ensures { result ≡ self.now.known.running }
+    {
+        self.mirror.stand.running
+    }
+
+    /// Whether the thread's request for a safepoint stands.
+    pub fn requesting(&self) -> bool
+        ensures { result ≡ self.now.known.requesting }
+    {
+        self.mirror.stand.requesting
+    }
+
+    /// Whether the thread's request stands, and it has seen that no thread runs.
+    pub fn reached(&self) -> bool
+        ensures { result ≡ self.now.known.reached }
+    {
+        self.mirror.stand.reached
+    }
+
+    /// Whether the thread has seen or set the halt.
+    pub fn halted(&self) -> bool
+        ensures { result ≡ self.now.known.halted }
+    {
+        self.mirror.stand.halted
+    }
+
+    /// The unfinished operation, other than a check.
+    pub fn unfinished(&self) -> Option<Unfinished>
+        ensures { result ≡ self.now.known.unfinished }
+    {
+        self.mirror.unfinished
+    }
+
+    /// Whether a check is unfinished.
+    pub fn checking(&self) -> bool
+        ensures { result ≡ self.now.known.checking }
+    {
+        self.mirror.checking
+    }
+
+    /// The monitor that the thread has claimed and no mark names.
+    pub fn kept(&self) -> Option<u64>
+        ensures { result ≡ self.now.known.kept }
+    {
+        self.mirror.kept
+    }
+
+    /// The recursions that the thread's wait saved.
+    pub fn saved(&self) -> u64
+        ensures { result ≡ self.now.known.saved }
+    {
+        self.mirror.saved
+    }
+
+    /// The verdicts that the thread carried out, by class.
+    pub fn counts(&self) -> &[ClassCounts]
+        ensures { result.now ≡ counts_shown 0 self.now.classes self.now.known.counts }
+    {
+        self.mirror.counts.as_slice()
+    }
+
+    /// The dumps that the thread has taken, in their order.
+    pub fn shots(&self) -> &[Shot]
+        ensures { result.now ≡ self.now.known.shots }
+    {
+        self.mirror.shots.taken.as_slice()
+    }
+
+    /// Begins a shot: nothing was seen for it.
+    pub fn begin_shot(&mut self)
+        ensures { self.new ≡ record self.old { cut = []; cells = [] } }
+    {
+        self.mirror.shots.draft.cut.clear();
+        self.mirror.shots.draft.cells.clear();
+    }
+
+    /// The next thread's log has this length at the safepoint.
+    pub fn see_length(&mut self, entries: u32)
+        requires { length self.old.cut < self.old.threads }
+        ensures { self.new ≡ record self.old { cut = self.old.cut ++ entries ∷ [] } }
+    {
+        self.mirror.shots.draft.cut.push_reserved(entries);
+    }
+
+    /// The next object's lock is so at the safepoint.
+    pub fn see_cell(&mut self, cell: Cell)
+        requires { length self.old.cells < self.old.objects }
+        ensures { self.new ≡ record self.old { cells = self.old.cells ++ (cell.owner, cell.count) ∷ [] } }
+    {
+        self.mirror.shots.draft.cells.push_reserved(cell);
+    }
+
+    /// How many hashes that the thread drew are installed.
+    pub fn draws(&self) -> u64
+        ensures { result ≡ self.now.known.draws }
+    {
+        self.mirror.drawing.installed
+    }
+
+    /// The hash that the thread draws next.
+    pub fn draw(&self) -> u32
+        ensures { result ≡ nth_value self.now.first (self.now.known.draws + 1) }
+    {
+        self.mirror.drawing.next
+    }
+}

@@ -1,0 +1,32 @@
+//! The rule of the table: the heap is a sound world.
+use crate::setting::Setting;
+use atomic_table::{Seat, Table, TableRule};
+use std::alloc::Global;
+use std::marker::Model;
+
+/// What a seat knows: what some threads know. No value of it is made.
+pub struct Knows {}
+
+impl Model for Knows {
+    ghost use Rattle.std.specs.Prelude.{List, []};
+    ghost use Rattle.core_world.specs.Threads.Known.{Known};
+
+    ghost Value = { List Known };
+
+    ghost view = { λ m. [] };
+}
+
+pub struct WorldIsSound;
+
+impl TableRule<(), Knows, Setting> for WorldIsSound {
+    ghost use Rattle.heap_table.specs.Firsts.{first_knowns};
+    ghost use Rattle.heap_table.specs.Ruled.{Ruled};
+
+    ghost holds = { Ruled };
+
+    ghost first = { λ b. first_knowns 0 b.shape.threads };
+}
+
+pub type Words = Table<(), Knows, Setting, WorldIsSound, Global>;
+
+pub type Place = Seat<(), Knows>;

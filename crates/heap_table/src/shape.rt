@@ -1,0 +1,308 @@
+//! How many there are of everything, and where each word lies.
+ghost use Rattle.std.specs.Prelude.{◌≡◌, ◌≢◌, ◌⊎◌, ◌<◌, ◌≤◌, ◌+◌, ◌*◌, All, IfOk, length, map, slice_index};
+ghost use Rattle.core_world.specs.Words.Shape.{Shape, IsInLimits, class_of, slots_of};
+ghost use Rattle.core_world.specs.Words.Names.{first_index};
+ghost use Rattle.heap_table.specs.Layout.{IsIn, group, place_of, word_count, many, shape_of, classes_from, objects_from, threads_from, monitors_from};
+
+use core_world::Name;
+use plain_monitor::NoMemory;
+use std::alloc::{AllocError, Global};
+use std::marker::Model;
+
+/// The shape of a heap. It keeps the class and the number of slots of each object.
+#[derive(Drop)]
+pub struct HeapShape {
+    threads: u32,
+    classes: u32,
+    objects: Vec<(u32, u32)>,
+}
+
+impl Model for HeapShape {
+    ghost use Rattle.core_world.specs.Words.Shape.{Shape, IsInLimits};
+
+    ghost Value = { Shape };
+
+    ghost view = { λ s. record { threads = s.threads; classes = s.classes; objects = s.objects.items } };
+
+    ghost invariant = { λ s. IsInLimits (record { threads = s.threads; classes = s.classes; objects = s.objects.items }) };
+}
+
+/// Places in the table. Each of these is the place of the word of that name.
+impl HeapShape {
+    /// The safepoint word.
+    pub fn safe_at(&self) -> usize
+        ensures { result ≡ place_of self.now Name.Safepoint }
+    {
+        0
+    }
+
+    /// How many monitors have been claimed.
+    pub fn claim_at(&self) -> usize
+        ensures { result ≡ place_of self.now Name.Claim }
+    {
+        8
+    }
+
+    /// The prototype of the class.
+    pub fn prototype_at(&self, class: u32) -> usize
+        requires { class < self.now.classes }
+        ensures { result ≡ place_of self.now (Name.Prototype class) }
+    {
+        self.class_at(class)
+    }
+
+    /// The count of revocations of the class.
+    pub fn count_at(&self, class: u32) -> usize
+        requires { class < self.now.classes }
+        ensures { result ≡ place_of self.now (Name.Revocations class) }
+    {
+        self.class_at(class) + 1
+    }
+
+    /// The moment of the class's last bulk operation.
+    pub fn last_at(&self, class: u32) -> usize
+        requires { class < self.now.classes }
+        ensures { result ≡ place_of self.now (Name.LastBulk class) }
+    {
+        self.class_at(class) + 2
+    }
+
+    /// The mark of the object.
+    pub fn mark_at(&self, object: u32) -> usize
+        requires { object < many self.now }
+        ensures { result ≡ place_of self.now (Name.Mark object) }
+    {
+        self.group_at(object)
+    }
+
+    /// The stamp of the object.
+    pub fn stamp_at(&self, object: u32) -> usize
+        requires { object < many self.now }
+        ensures { result ≡ place_of self.now (Name.Stamp object) }
+    {
+        self.group_at(object) + 1
+    }
+
+    /// This slot of the object.
+    pub fn slot_at(&self, object: u32, slot: u32) -> usize
+        requires { (object < many self.now) × (slot < 16) }
+        ensures { result ≡ place_of self.now (Name.Slot object slot) }
+    {
+        self.group_at(object) + 2 + slot as usize
+    }
+
+    /// The thread's hold word of this place.
+    pub fn hold_at(&self, thread: u32, place: u32) -> usize
+        requires { (thread < self.now.threads) × (place < 64) }
+        ensures { result ≡ place_of self.now (Name.Hold thread place) }
+    {
+        self.thread_at(thread) + place as usize
+    }
+
+    /// The displaced header of the thread's lock record of this place.
+    pub fn displaced_at(&self, thread: u32, place: u32) -> usize
+        requires { (thread < self.now.threads) × (place < 64) }
+        ensures { result ≡ place_of self.now (Name.Displaced thread place) }
+    {
+        self.thread_at(thread) + 64 + place as usize
+    }
+
+    /// The thread's waiting word.
+    pub fn wait_at(&self, thread: u32) -> usize
+        requires { thread < self.now.threads }
+        ensures { result ≡ place_of self.now (Name.Waiting thread) }
+    {
+        self.thread_at(thread) + 136
+    }
+
+    /// The thread's published length.
+    pub fn length_at(&self, thread: u32) -> usize
+        requires { thread < self.now.threads }
+        ensures { result ≡ place_of self.now (Name.Length thread) }
+    {
+        self.thread_at(thread) + 128
+    }
+
+    /// The owner word of the monitor.
+    pub fn owner_at(&self, monitor: u32) -> usize
+        requires { monitor < many self.now + self.now.threads }
+        ensures { result ≡ place_of self.now (Name.Owner monitor) }
+    {
+        self.monitor_at(monitor)
+    }
+
+    /// The recursions of the monitor.
+    pub fn recursions_at(&self, monitor: u32) -> usize
+        requires { monitor < many self.now + self.now.threads }
+        ensures { result ≡ place_of self.now (Name.Recursions monitor) }
+    {
+        self.monitor_at(monitor) + 1
+    }
+
+    /// The header that the monitor keeps.
+    pub fn header_at(&self, monitor: u32) -> usize
+        requires { monitor < many self.now + self.now.threads }
+        ensures { result ≡ place_of self.now (Name.Header monitor) }
+    {
+        self.monitor_at(monitor) + 2
+    }
+
+    /// The object of the monitor.
+    pub fn object_at(&self, monitor: u32) -> usize
+        requires { monitor < many self.now + self.now.threads }
+        ensures { result ≡ place_of self.now (Name.Object monitor) }
+    {
+        self.monitor_at(monitor) + 3
+    }
+
+    /// The word of this name.
+    pub fn place(&self, at: Name) -> usize
+        requires { IsIn self.now at }
+        ensures place { result ≡ place_of self.now at }
+        ensures within { result < word_count self.now }
+    {
+        match at {
+            Name::Safepoint => self.safe_at(),
+            Name::Prototype { class } => self.prototype_at(class),
+            Name::Revocations { class } => self.count_at(class),
+            Name::LastBulk { class } => self.last_at(class),
+            Name::Mark { object } => self.mark_at(object),
+            Name::Stamp { object } => self.stamp_at(object),
+            Name::Slot { object, slot } => self.slot_at(object, slot),
+            Name::Hold { thread, place } => self.hold_at(thread, place),
+            Name::Displaced { thread, place } => self.displaced_at(thread, place),
+            Name::Waiting { thread } => self.wait_at(thread),
+            Name::Length { thread } => self.length_at(thread),
+            Name::Owner { monitor } => self.owner_at(monitor),
+            Name::Recursions { monitor } => self.recursions_at(monitor),
+            Name::Header { monitor } => self.header_at(monitor),
+            Name::Object { monitor } => self.object_at(monitor),
+            Name::Claim => self.claim_at(),
+        }
+    }
+}
+
+// Where the groups of words begin.
+impl HeapShape {
+    fn class_at(&self, class: u32) -> usize
+        requires { class < self.now.classes }
+        ensures place { result ≡ classes_from + 16 * class }
+        ensures low { result < 1000000 }
+    {
+        let _classes = self.classes;
+        16 + 16 * class as usize
+    }
+
+    fn group_at(&self, object: u32) -> usize
+        requires { object < many self.now }
+        ensures place { result ≡ objects_from self.now + 32 * object }
+        ensures low { result < 1000000 }
+    {
+        16 + 16 * self.classes as usize + 32 * object as usize
+    }
+
+    fn thread_at(&self, thread: u32) -> usize
+        requires { thread < self.now.threads }
+        ensures place { result ≡ threads_from self.now + 144 * thread }
+        ensures low { result < 1000000 }
+    {
+        16 + 16 * self.classes as usize + 32 * self.objects.len() + 144 * thread as usize
+    }
+
+    fn monitor_at(&self, monitor: u32) -> usize
+        requires { monitor < many self.now + self.now.threads }
+        ensures place { result ≡ monitors_from self.now + 16 * monitor }
+        ensures low { result < 1000000 }
+    {
+        let objects = 16 + 16 * self.classes as usize;
+        let threads = objects + 32 * self.objects.len();
+        threads + 144 * self.threads as usize + 16 * monitor as usize
+    }
+}
+
+// The class and the number of slots of each object.
+fn objects_of(alloc: Global, slots: &[u32], classes: &[u32]) -> Result<Vec<(u32, u32)>, AllocError>
+    requires { All (λ c. c < length slots.now) classes.now }
+    ensures { IfOk result (λ v. v.items ≡ map (λ c. (c, slice_index slots.now c)) classes.now) }
+{
+    let mut objects = Vec::with_capacity(alloc, classes.len())?;
+    for class in classes {
+        objects.push((*class, slots[*class as usize]))?;
+    }
+    Ok(objects)
+}
+
+impl HeapShape {
+    /// The shape of so many threads, of classes whose objects have so many slots, and of an object of each of these classes.
+    pub fn of(
+        alloc: Global,
+        threads: u32,
+        slots: &[u32],
+        classes: &[u32],
+    ) -> Result<HeapShape, NoMemory>
+        requires counts { (threads ≤ 16) × (length slots.now ≤ 64) × (length classes.now ≤ 4096) }
+        requires slots { All (λ n. n ≤ 16) slots.now }
+        requires classes { All (λ c. c < length slots.now) classes.now }
+        ensures { IfOk result (λ s. s ≡ shape_of threads slots.now classes.now) }
+    {
+        match objects_of(alloc, slots, classes) {
+            Err(_) => Err(NoMemory),
+            Ok(objects) => Ok(HeapShape {
+                threads,
+                classes: slots.len() as u32,
+                objects,
+            }),
+        }
+    }
+
+    /// The number of threads, at most 16.
+    pub fn threads(&self) -> u32
+        ensures same { result ≡ self.now.threads }
+        ensures limits { IsInLimits self.now }
+    {
+        self.threads
+    }
+
+    /// The number of classes, at most 64.
+    pub fn classes(&self) -> u32
+        ensures { result ≡ self.now.classes }
+    {
+        self.classes
+    }
+
+    /// The number of objects, at most 4096.
+    pub fn objects(&self) -> usize
+        ensures { result ≡ length self.now.objects }
+    {
+        self.objects.len()
+    }
+
+    /// The class of the object.
+    pub fn class_of(&self, object: u32) -> u32
+        requires { object < many self.now }
+        ensures class { result ≡ class_of self.now object }
+        ensures within { result < self.now.classes }
+    {
+        self.objects[object as usize].0
+    }
+
+    /// The number of the object's slots, at most 16.
+    pub fn slots_of(&self, object: u32) -> u32
+        requires { object < many self.now }
+        ensures slots { result ≡ slots_of self.now object }
+        ensures few { result ≤ 16 }
+    {
+        self.objects[object as usize].1
+    }
+}
+
+/// No two names have one place.
+pub fn no_two_names_have_one_place()
+    ensures { (s : Shape) (m n : Name) → IsIn s m → IsIn s n → place_of s m ≡ place_of s n → m ≡ n }
+{}
+
+/// The words of two groups, which different threads may store, lie 8 words or more apart, and so in different lines of a cache of 64 bytes a
+/// line. A group is that of one class, object, thread or monitor, or has the words of the heap.
+pub fn words_of_two_groups_lie_apart()
+    ensures { (s : Shape) (m n : Name) → IsIn s m → IsIn s n → (group m ≢ group n) ⊎ (first_index m ≢ first_index n) → (place_of s m + 8 ≤ place_of s n) ⊎ (place_of s n + 8 ≤ place_of s m) }
+{}

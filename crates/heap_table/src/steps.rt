@@ -1,0 +1,45 @@
+//! The one step.
+ghost use Rattle.std.specs.Prelude.{◌≡◌, [], ◌∷◌};
+ghost use Rattle.core_world.specs.Steps.{known_after};
+ghost use Rattle.heap_table.specs.Layout.{word_count};
+ghost use Rattle.heap_table.specs.Ruled.{only, heap_in, MayStep, Stepped};
+
+use crate::choice::{Chosen, Does};
+use crate::rule::{Place, Words};
+use crate::setting::Setting;
+use core_world::{Act, StepPlan};
+use std::marker::Brand;
+
+fn step_as<C: Chosen>(words: &Words, setting: &Setting, seat: &mut Place, plan: StepPlan) -> u64
+    requires chosen { (C.heap ≡ heap_in setting.now) × (C.plan ≡ plan) }
+    requires setting { (words.now.shared.key ≡ setting.now) × (words.now.shared.table_id.words ≡ word_count setting.now.shape) }
+    requires seat { (seat.old.table_id ≡ words.now.shared.table_id) × (seat.old.me ≡ (only seat.old.me.0 ∷ [], [])) }
+    requires may { MayStep (heap_in setting.now) (only seat.old.me.0) plan }
+    ensures seat { (seat.new.table_id ≡ seat.old.table_id) × (seat.new.me ≡ (known_after setting.now.shape setting.now.start plan result (only seat.old.me.0) ∷ [], [])) }
+    ensures stepped { Stepped (heap_in setting.now) (only seat.old.me.0) plan result }
+{
+    let at = setting.shape.place(plan.at);
+    match plan.act {
+        Act::Load => words.shared.load::<Does<C>>(seat, at),
+        Act::Store { word } => words.shared.swap::<Does<C>>(seat, at, word),
+        Act::Swap { expected, word } => {
+            words
+                .shared
+                .compare_exchange::<Does<C>>(seat, at, expected, word)
+        }
+        Act::Raise { word } => words.shared.fetch_max::<Does<C>>(seat, at, word),
+        Act::Mask { bits } => words.shared.fetch_and::<Does<C>>(seat, at, bits),
+        Act::Count => words.shared.fetch_add::<Does<C>>(seat, at, 1),
+    }
+}
+
+/// One atomic act on the word of the plan. It answers the word that it found.
+pub fn step(words: &Words, setting: &Setting, seat: &mut Place, plan: StepPlan) -> u64
+    requires setting { (words.now.shared.key ≡ setting.now) × (words.now.shared.table_id.words ≡ word_count setting.now.shape) }
+    requires seat { (seat.old.table_id ≡ words.now.shared.table_id) × (seat.old.me ≡ (only seat.old.me.0 ∷ [], [])) }
+    requires may { MayStep (heap_in setting.now) (only seat.old.me.0) plan }
+    ensures seat { (seat.new.table_id ≡ seat.old.table_id) × (seat.new.me ≡ (known_after setting.now.shape setting.now.start plan result (only seat.old.me.0) ∷ [], [])) }
+    ensures stepped { Stepped (heap_in setting.now) (only seat.old.me.0) plan result }
+{
+    step_as::<Brand>(words, setting, seat, plan)
+}
