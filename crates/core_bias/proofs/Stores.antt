@@ -14,7 +14,7 @@ use Rattle.core_world.specs.Clauses.SeenWords.{HasMet, AreTheSteps}
 use Rattle.core_world.specs.RevocationRules.{Write, write, words_after, revocation_writes, holds_in, first_place, writes_in, FoundAfter}
 use Rattle.core_world.specs.Trees.RevocationSteps.{revocation_stage, revoke_plan}
 use Rattle.core_world.specs.Steps.{holds_after, wait_after, published_after, kept_after, saved_after, shots_after, counts_after}
-use Rattle.core_world.specs.Valid.{RevokesWithin, requester_known}
+use Rattle.core_world.specs.Valid.{RevokesSince, RevokesWithin, requester_known}
 use Rattle.core_world.proofs.NoWordChanges.{one_requester}
 use Rattle.core_world.proofs.Naming.{same_named}
 use Rattle.core_locks.proofs.SafeFacts.{one_reached}
@@ -211,8 +211,8 @@ module _ (w : World) (P : List PlainObject) (r : ℕ) (b : Revocation) (g : Goin
   pub store_revokes : (rest : List Write) → writes_in (w.known r).seen_at_safepoint ++ write at word ∷ rest ≡ revocation_writes g.before.shape r b g.before.words
       → (let c = class_of g.before.shape b.object in
       l.counts ≡ with_verdict_counted (g.before.known r).counts c (decided (g.before.words (Revocations c)) (g.before.words (LastBulk c)) b.now).0 (is_reset (g.before.words (Revocations c)) (g.before.words (LastBulk c)) b.now))
-      → IsRevoking x P
-  store_revokes rest writes counts = record {
+      → RevokesSince x P g.before
+  store_revokes rest writes counts = (record {
     before = g.before;
     fits = g.fits;
     shape = g.shape;
@@ -242,7 +242,7 @@ module _ (w : World) (P : List PlainObject) (r : ℕ) (b : Revocation) (g : Goin
     seen = seen_law;
     forms = forms_law;
     safe = safe_law;
-  }
+  }, refl)
 
 -- WHAT SUCH A STORE LEAVES, where the thread keeps nothing of it but a count
 module _ (s : Shape) (start : ℕ) (e : Purpose) (b : Revocation) (o : Own) (at : Name) (word n : ℕ) (k : Known) (its_revocation : is_revocation_word at ≡ true)
@@ -308,7 +308,7 @@ module _ (w : World) (P : List PlainObject) (e : Purpose) (b : Revocation) (at :
       → kept_after o (w.words at) (w.known r).kept ≡ (w.known r).kept → saved_after o (w.words at) (w.known r).saved ≡ (w.known r).saved → shots_after o w.shape (w.known r) ≡ (w.known r).shots
       → (let c = class_of w.shape b.object in
       counts_after o (w.known r).counts ≡ with_verdict_counted (g.before.known r).counts c (decided (g.before.words (Revocations c)) (g.before.words (LastBulk c)) b.now).0 (is_reset (g.before.words (Revocations c)) (g.before.words (LastBulk c)) b.now))
-      → IsRevoking (world_after (plan o) r w) P
+      → RevokesSince (world_after (plan o) r w) P g.before
   next_store r g o within may kept saved shots counts =
       let front = may.next g.before.words (subst (λ s. IsBiasedToOne s g.before.words b.object) (sym g.shape) g.biased) g.found in
       let good = goods r g within front.0 front.1 in
@@ -322,7 +322,7 @@ module _ (w : World) (P : List PlainObject) (e : Purpose) (b : Revocation) (at :
 
   -- THE FIRST STORE: every clause holds, and the thread counts the verdict.
   pub first_store : (r : ℕ) (verdict : Verdict) (reset : Bool) → r < w.shape.threads → MayBeginRevoking w.shape (w.known r) e r b verdict reset at word → Fits w P
-      → IsRevoking (world_after (plan (own.CountVerdict (class_of w.shape b.object) verdict reset)) r w) P
+      → RevokesSince (world_after (plan (own.CountVerdict (class_of w.shape b.object) verdict reset)) r w) P w
   first_store r verdict reset within may v =
       let c = class_of w.shape b.object in
       let stands = λ (n : Name) (m : ℕ). v.seen.stands r n m may.reached in
@@ -357,7 +357,7 @@ module _ (w : World) (P : List PlainObject) (e : Purpose) (b : Revocation) (at :
 
 -- A STORE IN THE MIDDLE: the thread whose revocation is under way makes the next store, and keeps nothing of it.
 pub middle_store : (w : World) (P : List PlainObject) (e : Purpose) (at : Name) (word : ℕ) (s : IsRevoking w P)
-    → s.requester < w.shape.threads → MayStore w.shape (w.known s.requester) e s.requester s.revocation at word → IsRevoking (world_after (revoke_plan e s.revocation own.Same at word) s.requester w) P
+    → s.requester < w.shape.threads → MayStore w.shape (w.known s.requester) e s.requester s.revocation at word → RevokesSince (world_after (revoke_plan e s.revocation own.Same at word) s.requester w) P s.before
 middle_store w P e at word s within may =
     let r = s.requester in
     let counts : (requester_known s.before r s.revocation (w.known r)).counts ≡ (w.known r).counts = sym (ap (λ (k : Known). k.counts) s.knows) in

@@ -7,6 +7,7 @@ use Rattle.core_world.specs.declared.plan.Own.TheVariants as own
 use Rattle.core_world.specs.Threads.Stages.{Revocation}
 use Rattle.core_world.specs.Locks.{is_valid_bias}
 use Rattle.core_world.specs.RevocationRules.{Write, revocation_writes, writes_in}
+use Rattle.core_world.specs.Valid.{RevokesSince}
 use Rattle.core_world.proofs.NoWordChanges.{one_requester}
 use Rattle.core_locks.proofs.Clauses as clause
 use Rattle.core_bias.specs.Revoking.{MayBeginRevoking, MayGoOnRevoking, MayStore, MayEndRevoking, HasCounted, IsBiasedToOne, revoked_world}
@@ -91,17 +92,27 @@ release_fits w P t e b took may =
     let own = subst (λ u. MayEndRevoking w.shape (w.known u) e u b) (sym it) may in
     release_ends w P s e (all_made w P e b s own) (made w P e b s own) own.goes_on b.object took)
 
--- THE STORES, by what the thread knows
+-- THE STORES, by what the thread knows: the first one, from the world in which it is made
+pub begin_revokes : (w : World) (P : List PlainObject) (r : ℕ) (e : Purpose) (b : Revocation) (verdict : Verdict) (reset : Bool) (at : Name) (word : ℕ) → MayBeginRevoking w.shape (w.known r) e r b verdict reset at word
+    → Fits w P → RevokesSince (world_after (revoke_plan e b (own.CountVerdict (class_of w.shape b.object) verdict reset) at word) r w) P w
+begin_revokes w P r e b verdict reset at word may v = first_store w P e b at word r verdict reset (reached_within w P r may.reached (unseen w P v)) may v
+
+-- and each other one
+pub goes_on_revokes : (e : Purpose) (b : Revocation) (at : Name) (word : ℕ) (w : World) (P : List PlainObject) (s : IsRevoking w P) → s.requester < w.shape.threads
+    → MayGoOnRevoking w.shape (w.known s.requester) e s.requester b at word → RevokesSince (world_after (revoke_plan e b own.Same at word) s.requester w) P s.before
+goes_on_revokes e b at word w P s within mine =
+    let same : s.revocation ≡ b = let both : Some s.revocation ≡ Some b = sym s.its_revocation ∙ mine.its_revocation in cc both in
+    subst (λ c. RevokesSince (world_after (revoke_plan e c own.Same at word) s.requester w) P s.before) same
+    (middle_store w P e at word s within (subst (λ c. MayStore w.shape (w.known s.requester) e s.requester c at word) (sym same) mine.store))
+
+-- so both keep the world valid
 pub begin_valid : (w : World) (P : List PlainObject) (r : ℕ) (e : Purpose) (b : Revocation) (verdict : Verdict) (reset : Bool) (at : Name) (word : ℕ) → MayBeginRevoking w.shape (w.known r) e r b verdict reset at word
     → IsValid w P → IsValid (world_after (revoke_plan e b (own.CountVerdict (class_of w.shape b.object) verdict reset) at word) r w) P
 begin_valid w P r e b verdict reset at word may valid =
-    let v = fits_calm w P r may.reached may.calm valid in
-    inr (first_store w P e b at word r verdict reset (reached_within w P r may.reached (unseen w P v)) may v)
+    inr (begin_revokes w P r e b verdict reset at word may (fits_calm w P r may.reached may.calm valid)).0
 
 pub goes_on_valid : (e : Purpose) (b : Revocation) (at : Name) (word : ℕ) → KeepsValid (λ w r. MayGoOnRevoking w.shape (w.known r) e r b at word) (λ w r. revoke_plan e b own.Same at word)
 goes_on_valid e b at word w P t within may =
     by_requester w P t b may.reached may.its_revocation (λ u. IsValid (world_after (revoke_plan e b own.Same at word) u w) P) (λ s it.
-    let mine = subst (λ u. MayGoOnRevoking w.shape (w.known u) e u b at word) (sym it) may in
-    let same : s.revocation ≡ b = let both : Some s.revocation ≡ Some b = sym s.its_revocation ∙ mine.its_revocation in cc both in
-    inr (subst (λ c. IsRevoking (world_after (revoke_plan e c own.Same at word) s.requester w) P) same
-    (middle_store w P e at word s (subst (λ u. u < w.shape.threads) (sym it) within) (subst (λ c. MayStore w.shape (w.known s.requester) e s.requester c at word) (sym same) mine.store))))
+    inr (goes_on_revokes e b at word w P s (subst (λ u. u < w.shape.threads) (sym it) within)
+        (subst (λ u. MayGoOnRevoking w.shape (w.known u) e u b at word) (sym it) may)).0)

@@ -1,7 +1,7 @@
 //! Laws of a revocation of biases at a safepoint: as a whole, and of each of its steps that changes a word or ends it. Loads in its middle are
 //! looks by `core_world`'s law. The functions do nothing.
 
-ghost use Rattle.std.specs.Prelude.{◌≡◌, ℕ, ◌++◌, Bool, true, List, [], Some};
+ghost use Rattle.std.specs.Prelude.{◌≡◌, ℕ, ◌<◌, ◌++◌, Bool, true, List, [], Some};
 ghost use Rattle.lock_policy.specs.declared.policy.Verdict.{Verdict};
 ghost use Rattle.plain_monitor.specs.Objects.{PlainObject};
 ghost use Rattle.core_world.specs.declared.name.Name.{Name};
@@ -18,7 +18,7 @@ ghost use Rattle.core_world.specs.Words.Shape.{Shape, class_of};
 ghost use Rattle.core_world.specs.Threads.Stages.{Revocation, revocation_in};
 ghost use Rattle.core_world.specs.Steps.{world_after};
 ghost use Rattle.core_world.specs.Trees.Todo.{Todo, done, step};
-ghost use Rattle.core_world.specs.Valid.{Fits, IsValid};
+ghost use Rattle.core_world.specs.Valid.{Fits, IsRevoking, RevokesSince, IsValid};
 ghost use Rattle.core_world.specs.World.{World};
 ghost use Rattle.core_locks.specs.Knowing.{KeepsValid};
 ghost use Rattle.core_bias.specs.Revoking.{AreAllStores, HasCounted, IsNextStore, Leads, TellsBias, MayBeginRevoking, MayEndRevoking, MayGoOnRevoking, MayLookAfterRevoking, revoked_world};
@@ -33,22 +33,29 @@ pub fn a_revocation_as_a_whole_keeps_the_world_valid()
         → is_biased (marks w b.object) ≡ true → HasCounted w r b l → l.seen ≡ [] → l.seen_at_safepoint ≡ [] → Fits w objects → Fits (revoked_world w r b l) objects }
 {}
 
-/// The first store of a revocation, with which its thread counts the verdict, keeps the world valid, with the same plain objects.
+/// The first store of a revocation, with which its thread counts the verdict, keeps the world valid, with the same plain objects. The
+/// revocation is under way then, since the world in which the store is made.
 pub fn the_first_store_keeps_the_world_valid()
     // `MayBeginRevoking`: the operation is unfinished since its first step; that its safepoint is reached, what it saw there of the mark, the
     // prototype and the words of the class, and that it stored nothing there are of its steps; the verdict, and that this is the rules' first
     // store, follow from what it saw (`the_steps_make_the_stores_of_the_rules`). That the object was validly biased before the first store
     // follows from the clause that a word at a reached safepoint is as it was seen there
-    ensures { (w : World) (objects : List PlainObject) (r : ℕ) (e : Purpose) (b : Revocation) (verdict : Verdict) (reset : Bool) (at : Name) (word : ℕ)
+    ensures keeps { (w : World) (objects : List PlainObject) (r : ℕ) (e : Purpose) (b : Revocation) (verdict : Verdict) (reset : Bool) (at : Name) (word : ℕ)
         → MayBeginRevoking w.shape (w.known r) e r b verdict reset at word → IsValid w objects
         → IsValid (world_after (revoke_plan e b (own.CountVerdict (class_of w.shape b.object) verdict reset) at word) r w) objects }
+    ensures begins { (w : World) (objects : List PlainObject) (r : ℕ) (e : Purpose) (b : Revocation) (verdict : Verdict) (reset : Bool) (at : Name) (word : ℕ)
+        → MayBeginRevoking w.shape (w.known r) e r b verdict reset at word → Fits w objects
+        → RevokesSince (world_after (revoke_plan e b (own.CountVerdict (class_of w.shape b.object) verdict reset) at word) r w) objects w }
 {}
 
-/// So does each other store.
+/// So does each other store. The revocation that is under way goes on.
 pub fn the_next_store_keeps_the_world_valid()
     // `MayGoOnRevoking`: where the thread stands, and its steps since its safepoint was reached, by which this is the rules' next store
-    ensures { (e : Purpose) (b : Revocation) (at : Name) (word : ℕ)
+    ensures keeps { (e : Purpose) (b : Revocation) (at : Name) (word : ℕ)
         → KeepsValid (λ w r. MayGoOnRevoking w.shape (w.known r) e r b at word) (λ w r. revoke_plan e b own.Same at word) }
+    ensures goes_on { (e : Purpose) (b : Revocation) (at : Name) (word : ℕ) (w : World) (objects : List PlainObject) (s : IsRevoking w objects)
+        → s.requester < w.shape.threads → MayGoOnRevoking w.shape (w.known s.requester) e s.requester b at word
+        → RevokesSince (world_after (revoke_plan e b own.Same at word) s.requester w) objects s.before }
 {}
 
 /// The steps of a revocation make exactly the stores that its rules list, in their order, whatever the thread finds: where they have led to a

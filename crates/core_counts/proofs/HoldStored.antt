@@ -11,7 +11,7 @@ use Rattle.plain_history.specs.EnterPaths.{is_by_bias, is_own, is_first}
 use Rattle.plain_history.specs.HeldByLog.{held_by, nothing_held}
 use Rattle.core_world.specs.declared.name.Name.TheVariants.{Mark, Prototype, Hold}
 use Rattle.core_world.specs.declared.stage.Stage.TheVariants.{Takes}
-use Rattle.core_world.specs.Words.Forms.{is_biased, hold_word}
+use Rattle.core_world.specs.Words.Forms.{is_biased, epoch_in, hold_word}
 use Rattle.core_world.specs.Threads.Known.{Known}
 use Rattle.core_world.specs.Locks.{BiasedTo, lock, is_valid_bias, marks, hold_count, prototype_of}
 use Rattle.core_world.specs.Trees.Plans.{Purpose}
@@ -23,25 +23,28 @@ use Rattle.core_world.specs.Valid.{Fits}
 use Rattle.core_world.specs.World.{World}
 use Rattle.core_world.specs.Trees.LockSteps.{hold_plan}
 use Rattle.core_counts.specs.BiasLaw.{BiasLawHolds}
-use Rattle.core_counts.specs.Steps.{SawOwnBias, WentBefore, MayComeBy}
+use Rattle.core_locks.specs.Knowing.{IsBiasTo, SawOwnBias}
+use Rattle.core_counts.specs.Steps.{WentBefore, MayComeBy}
 use Rattle.core_counts.proofs.Holds.{held_named}
 use Rattle.core_counts.proofs.Leaning.{leans, rests_unbiased, manned_unbiased, inflated_unbiased, left_biases, left_counts}
 use Rattle.core_counts.proofs.Logged.{unbiased_still}
 use Rattle.core_counts.proofs.Beside.{coming_world, hit_keeps, beside_keeps}
 
-valid_by : (m : Option MarkForm) (prototype u epoch age : ℕ) → m ≡ Some (Biased u epoch age) → is_valid_bias m prototype ≡ true → IsValidBias m prototype
-valid_by m p u epoch age is h = subst (λ f. IsValidBias f p) (sym is) (ap (λ f. is_valid_bias f p) (sym is) ∙ h)
+-- a mark that is validly biased to thread t
+biased_form : (t : ℕ) (m : Option MarkForm) (p : ℕ) → IsBiasTo t m (epoch_in p) → (epoch age : ℕ) × (m ≡ Some (Biased t epoch age)) × (is_valid_bias m p ≡ true) × IsValidBias m p
+biased_form t (Some (Biased u epoch age)) p h = (epoch, age, ap (λ z. Some (Biased z epoch age)) h.0, h.1, h.1)
+biased_form t _ p h = absurd h
 
 -- a thread that saw its own bias has it still
 own_still : (w : World) (P : List PlainObject) (t o : ℕ) → Fits w P → (w.known t).running ≡ true → SawOwnBias w.shape (w.known t) o → lock w o ≡ BiasedTo t
 own_still w P t o v runs saw =
-    let mark = saw.0 in
-    let prototype = saw.1 in
-    let proto : prototype_of w o ≡ prototype = v.seen.stays t (Prototype (class_of w.shape o)) prototype saw.5 (inl (runs, tt)) in
-    let valid : is_valid_bias (read_mark mark) (prototype_of w o) ≡ true = ap (is_valid_bias (read_mark mark)) proto ∙ saw.7 in
-    let is : marks w o ≡ mark = v.seen.stays t (Mark o) mark saw.4 (inl (runs, inl (valid_by (read_mark mark) (prototype_of w o) (w.known t).thread saw.2 saw.3 saw.6 valid))) in
+    let proto : prototype_of w o ≡ saw.1 = v.seen.stays t (Prototype (class_of w.shape o)) saw.1 saw.3 (inl (runs, tt)) in
+    let its : IsBiasTo (w.known t).thread (read_mark saw.0) (epoch_in (prototype_of w o)) =
+    subst (λ z. IsBiasTo (w.known t).thread (read_mark saw.0) (epoch_in z)) (sym proto) saw.4 in
+    let form = biased_form (w.known t).thread (read_mark saw.0) (prototype_of w o) its in
+    let is : marks w o ≡ saw.0 = v.seen.stays t (Mark o) saw.0 saw.2 (inl (runs, inl form.4)) in
     leans w o t
-    (saw.2, saw.3, ap read_mark is ∙ saw.6 ∙ ap (λ u. Some (Biased u saw.2 saw.3)) (v.numbered t), ap (λ m. is_valid_bias (read_mark m) (prototype_of w o)) is ∙ valid)
+    (form.0, form.1, ap read_mark is ∙ form.2 ∙ ap (λ u. Some (Biased u form.0 form.1)) (v.numbered t), ap (λ m. is_valid_bias (read_mark m) (prototype_of w o)) is ∙ form.3)
 
 -- what a thread comes to an Enter by, in its world
 record Comes (w : World) (t o : ℕ) (path : Path) : Type 0 where
@@ -63,7 +66,7 @@ module _ (w : World) (P : List PlainObject) (t o p : ℕ) (v : Fits w P) (runs :
   own_bias true = refl
   own_bias false = refl
 
-  by_path : (path : Path) → WentBefore w.shape (w.known t) o p path → (path ≡ BiasTaken) ⊎ Comes w t o path
+  by_path : (path : Path) → WentBefore w.biasing w.shape (w.known t) o p path → (path ≡ BiasTaken) ⊎ Comes w t o path
   by_path BiasTaken h = inl refl
   by_path BiasOwn h = inr (record {
     none = λ i. ap (λ s. path_into s i) h.0;
@@ -84,7 +87,7 @@ module _ (w : World) (P : List PlainObject) (t o p : ℕ) (v : Fits w P) (runs :
     even = ap (λ s. hold_words_ahead s o) h.0;
     first = some (hold_count o (w.known t).holds) h.1;
     leaning = λ b. absurd (cc b);
-    unbiased = λ b. unbiased_still w P t o v runs h.2;
+    unbiased = λ b. elim h.2 [ inl plain ↦ v.classes.unbiased plain o | inr saw ↦ unbiased_still w P t o v runs saw ];
   })
   by_path MonitorFirst h = let grabbed = v.records.grabbed o t h in inr (record {
     none = λ i. ap (λ s. path_into s i) h;
@@ -101,14 +104,14 @@ module _ (w : World) (P : List PlainObject) (t o p : ℕ) (v : Fits w P) (runs :
     unbiased = λ b. unbiased_still w P t o v runs (saw.0, saw.1, inflated_unbiased saw.0 h.2.0 saw.2);
   })
 
-module _ (w : World) (P : List PlainObject) (t : ℕ) (e : Purpose) (o d p : ℕ) (path : Path) (within : t < w.shape.threads) (may : MayComeBy w.shape (w.known t) e o p path) (v : Fits w P) (law : BiasLawHolds w) where
+module _ (w : World) (P : List PlainObject) (t : ℕ) (e : Purpose) (o d p : ℕ) (path : Path) (within : t < w.shape.threads) (may : MayComeBy w.biasing w.shape (w.known t) e o p path) (v : Fits w P) (law : BiasLawHolds w) where
   abbrev l : Known
   l = known_hit w.shape w.start (hold_plan e t o d p path) (w.words (Hold t p)) (w.known t)
 
   -- it has taken the bias, and its path is as it was
   taken : path ≡ BiasTaken → BiasLawHolds (world_after (hold_plan e t o d p path) t w)
   taken h =
-      let stage : (w.known t).stage ≡ Takes o = subst (WentBefore w.shape (w.known t) o p) h may.before in
+      let stage : (w.known t).stage ≡ Takes o = subst (WentBefore w.biasing w.shape (w.known t) o p) h may.before in
       beside_keeps w t (hold_plan e t o d p path) law
       (record {
         log = refl;

@@ -3,6 +3,7 @@ use Rattle.std.specs.Prelude.{◌≡◌, ℕ, Bool, false, List, Option}
 use Rattle.std.specs.List.{list_any}
 use Rattle.plain_monitor.specs.declared.entry.Entry.{Entry}
 use Rattle.plain_monitor.specs.declared.entry.Logged.{Logged}
+use Rattle.plain_monitor.specs.Objects.{PlainObject}
 use Rattle.plain_monitor.specs.Order.{order}
 use Rattle.plain_history.specs.EnterPaths.{entries_on, needs_bias}
 use Rattle.core_world.specs.declared.name.Name.TheVariants.{Revocations}
@@ -11,6 +12,7 @@ use Rattle.core_world.specs.declared.task.Unfinished.{Unfinished}
 use Rattle.core_world.specs.Threads.Counts.{ClassCounts, counts_of}
 use Rattle.core_world.specs.Locks.{Lock, lock, marks}
 use Rattle.core_world.specs.Words.Shape.{class_of}
+use Rattle.core_world.specs.Valid.{IsValidWith, ValidWith}
 use Rattle.core_world.specs.World.{World, logs}
 use Rattle.core_counts.specs.MarksAndLogs.{EntersFitMarks, PathsFitHolds}
 use Rattle.core_counts.specs.CountsAndVerdicts.{ClassFits, VerdictsFit, sum_below, verdicts_on}
@@ -39,3 +41,11 @@ abbrev pub BiasLawHolds : World → Type 0
 BiasLawHolds w =
     BiasLaw w.biasing w.shape.threads w.shape.classes (class_of w.shape) (marks w) (lock w) (λ o. entries_on o (order (logs w)))
     (λ t. (w.known t).log) (λ t. (w.known t).stage) (λ t. (w.known t).unfinished) (λ c. w.words (Revocations c)) (λ t. counts_of (w.known t).counts)
+
+-- The law among the clauses of a valid world: every clause of `Fits` holds, and the law of biases; or a bias is being revoked in a world of which they
+-- held before the first store.
+abbrev pub IsWhollyValid : World → List PlainObject → Type 0
+IsWhollyValid = IsValidWith BiasLawHolds
+
+abbrev pub WhollyValid : World → Type 0
+WhollyValid = ValidWith BiasLawHolds

@@ -1,7 +1,6 @@
 -- When a step keeps the law of biases: what its thread knows, and what the step leaves.
 use Rattle.std.specs.Prelude.{◌≡◌, ◌⊎◌, ℕ, ◌+◌, ◌<◌, Bool, true, false, List, [], ◌∷◌, ◌++◌, Some, None}
 use Rattle.mark_word.specs.Mark.{read_mark}
-use Rattle.mark_word.specs.declared.mark.MarkForm.TheVariants.{Biased}
 use Rattle.plain_monitor.specs.declared.entry.Entry.{Entry}
 use Rattle.plain_monitor.specs.declared.entry.Entry.TheVariants as entry
 use Rattle.plain_monitor.specs.declared.entry.Logged.{Logged}
@@ -28,7 +27,7 @@ use Rattle.core_world.specs.Steps.{counts_after, is_taking, log_after, unfinishe
 use Rattle.core_world.specs.Valid.{Fits, IsRevoking}
 use Rattle.core_world.specs.World.{World, logs}
 use Rattle.core_counts.specs.BiasLaw.{BiasLawHolds}
-use Rattle.core_locks.specs.Knowing.{GoesOn, WorksFor, HasHold, SawInflated}
+use Rattle.core_locks.specs.Knowing.{GoesOn, WorksFor, HasHold, SawInflated, SawOwnBias}
 
 -- WORDS. The marks, the prototypes and the counts of revocations are the words that the law reads.
 abbrev pub is_bias_word : Name → Bool
@@ -56,28 +55,22 @@ pub record IsBeside (w : World) (t : ℕ) (p : StepPlan) : Type 0 where
 abbrev pub SawUnbiased : Known → ℕ → Type 0
 SawUnbiased k o = (v : ℕ) × (last_seen (Mark o) k.seen ≡ Some v) × (is_biased v ≡ false)
 
--- a mark of o that is biased to the thread itself, and a prototype by which it is validly so
-abbrev pub SawOwnBias : Shape → Known → ℕ → Type 0
-SawOwnBias s k o =
-    (v p epoch age : ℕ) × (last_seen (Mark o) k.seen ≡ Some v) × (last_seen (Prototype (class_of s o)) k.seen ≡ Some p)
-    × (read_mark v ≡ Some (Biased k.thread epoch age)) × (is_valid_bias (read_mark v) p ≡ true)
-
 -- THE HOLD WORD. What went before a hold word of o at place p, by the path of the Enter that comes: the thread saw its own bias; it gave itself the
--- bias; it exchanged the neutral mark for that place; it holds o and saw a mark without the bias pattern; it exchanged the free owner word; or it
--- holds o, saw its monitor and raised the recursions.
-abbrev pub WentBefore : Shape → Known → ℕ → ℕ → Path → Type 0
-WentBefore s k o p BiasOwn = (k.stage ≡ Calm) × SawOwnBias s k o
-WentBefore s k o p BiasTaken = k.stage ≡ Takes o
-WentBefore s k o p StackFirst = k.stage ≡ Seizes o p
-WentBefore s k o p StackAgain = (k.stage ≡ Calm) × HasHold k o × SawUnbiased k o
-WentBefore s k o p MonitorFirst = k.stage ≡ Grabs o
-WentBefore s k o p MonitorAgain = (k.stage ≡ Ahead o) × HasHold k o × ((m : ℕ) × SawInflated k o m)
+-- bias; it exchanged the neutral mark for that place; it holds o and saw a mark without the bias pattern, or the heap has no biases; it exchanged the
+-- free owner word; or it holds o, saw its monitor and raised the recursions.
+abbrev pub WentBefore : Bool → Shape → Known → ℕ → ℕ → Path → Type 0
+WentBefore biasing s k o p BiasOwn = (k.stage ≡ Calm) × SawOwnBias s k o
+WentBefore biasing s k o p BiasTaken = k.stage ≡ Takes o
+WentBefore biasing s k o p StackFirst = k.stage ≡ Seizes o p
+WentBefore biasing s k o p StackAgain = (k.stage ≡ Calm) × HasHold k o × ((biasing ≡ false) ⊎ SawUnbiased k o)
+WentBefore biasing s k o p MonitorFirst = k.stage ≡ Grabs o
+WentBefore biasing s k o p MonitorAgain = (k.stage ≡ Ahead o) × HasHold k o × ((m : ℕ) × SawInflated k o m)
 
--- Storing it.
-pub record MayComeBy (s : Shape) (k : Known) (e : Purpose) (o p : ℕ) (path : Path) : Type 0 where
+-- Storing it, in a heap with biases or without.
+pub record MayComeBy (biasing : Bool) (s : Shape) (k : Known) (e : Purpose) (o p : ℕ) (path : Path) : Type 0 where
   pub runs : k.running ≡ true
   pub goes_on : GoesOn k e
-  pub before : WentBefore s k o p path
+  pub before : WentBefore biasing s k o p path
 
 -- TAKING A BIAS. A mark with the bias pattern that is validly biased to nobody, by the prototype that the thread saw in this call: anonymous, or
 -- stale.

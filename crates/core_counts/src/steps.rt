@@ -41,7 +41,7 @@ pub fn a_step_beside_the_biases_keeps_the_law_of_biases()
 /// The store of a hold word, with which a thread comes to be about to log an Enter, keeps the law of biases, by whatever path.
 pub fn storing_a_hold_word_keeps_the_law_of_biases()
     ensures { (w : World) (objects : List PlainObject) (t : ℕ) (e : Purpose) (o d p : ℕ) (path : Path) → t < w.shape.threads
-        → MayComeBy w.shape (w.known t) e o p path → Fits w objects → BiasLawHolds w → BiasLawHolds (world_after (hold_plan e t o d p path) t w) }
+        → MayComeBy w.biasing w.shape (w.known t) e o p path → Fits w objects → BiasLawHolds w → BiasLawHolds (world_after (hold_plan e t o d p path) t w) }
 {}
 
 /// A step that logs an entry and leaves the biases keeps the law of biases, whatever the entry is.

@@ -32,8 +32,9 @@ use Rattle.core_locks.proofs.LookOn.{may_look}
 use Rattle.core_locks.proofs.MarkHolds.{standing_names}
 use Rattle.core_locks.proofs.OwnerTurns.{rest_hold}
 use Rattle.core_bias.specs.Biasing.{IsLoose}
+use Rattle.core_counts.specs.Steps.{WentBefore}
 use Rattle.core_steps.specs.Logic.{Heap, Stands, Does}
-use Rattle.core_steps.proofs.BiasFacts.{SawHeaders, headers_first, headers_more, look_prototype, unreached_here, bias_stays, biasing_here, IsPrototype, IsPrototypeForm, prototype_here, prototype_form, prototype_neutral, own_bias, neutral_reads_so, loose_unepoched, stale_epoch, own_epoch}
+use Rattle.core_steps.proofs.BiasFacts.{SawHeaders, headers_first, headers_more, look_prototype, unreached_here, bias_stays, biasing_here, IsPrototype, IsPrototypeForm, prototype_here, prototype_form, prototype_neutral, own_bias, neutral_reads_so, loose_unepoched, stale_epoch, own_epoch, free_bias}
 use Rattle.core_steps.proofs.BiasRules.{rebiases_rule, unbiases_rule}
 use Rattle.core_steps.proofs.Facts.{Untold, fits_here}
 use Rattle.core_steps.proofs.Inflations.{form_found}
@@ -100,10 +101,10 @@ module _ (heap : Heap) (o : ℕ) (e : Purpose) (enters : IsUnfinished e.unfinish
   module _ (here : Local) (kept : Option ℕ) (Q : Bool → BiasTry → Known → Type 0) where
     -- THE HOLD under a bias to the thread
     took_does : EnterOutcomes here kept Q → (k : Known) (path : Path) → Taking heap k.running k.requesting k.log e o → k.unfinished ≡ e.unfinished → Untold k → free_place k.holds < 64 → (k.stage ≡ Takes o) ⊎ (k.stage ≡ Calm)
-        → SawOwnBias heap.shape k o → Does heap false (took_steps e (local_of k) o path) k Q
-    took_does outs k path a mine untold place stage saw =
+        → SawOwnBias heap.shape k o → WentBefore heap.biasing heap.shape k o (free_place k.holds) path → Does heap false (took_steps e (local_of k) o path) k Q
+    took_does outs k path a mine untold place stage saw went =
         binds heap false (hold_steps e (local_of k) o path) (λ p. done (Took p)) k Q (
-        follows heap false _ k _ _ (hold_does heap k e o path a mine untold place (inr (inr (inr (inr (stage, saw)))))) (λ f p l x. answers heap f (Took p) l Q (outs.took f l p x)))
+        follows heap false _ k _ _ (hold_does heap k e o path a mine untold place (inr (inr (inr (inr (stage, saw)))), went)) (λ f p l x. answers heap f (Took p) l Q (outs.took f l p x)))
 
     -- behind the loads of the mark and the prototype
     module _ (outs : Tries here kept Q) (k : Known) (mark prototype : ℕ) (x : Enters k) (local : local_of k ≡ here) (same : k.kept ≡ kept) (headers : SawHeaders k) (unreached : k.reached ≡ false)
@@ -118,11 +119,14 @@ module _ (heap : Heap) (o : ℕ) (e : Purpose) (enters : IsUnfinished e.unfinish
           let own = mark_of (Biased k.thread epoch 0) in
           let exchange = rebias_plan e k.thread o mark epoch in
           swapping heap false exchange mark own (λ n. took_steps e (local_of k) o BiasTaken) (λ n. done (Raced mark n)) k Q refl
-          (λ i. rebiases_rule heap k e o mark epoch (λ v. record {
-            prototype = prototype;
-            exchange = record { runs = x.takes.runs; calm = x.calm; saw = saw_prototype; loose = loose; goes_on = sym x.mine };
-            valid = is;
-          }))
+          (λ i. rebiases_rule heap k e o mark prototype epoch (λ v. (
+            record {
+              prototype = prototype;
+              exchange = record { runs = x.takes.runs; calm = x.calm; saw = saw_prototype; loose = loose; goes_on = sym x.mine };
+              valid = is;
+            },
+            record { runs = x.takes.runs; calm = x.calm; goes_on = inl (sym x.mine); saw = free_bias heap.shape k o mark prototype saw_prototype loose; valid = is },
+          )))
           (λ n i was h.
           let l = known_hit heap.shape heap.start exchange n k in
           took_does outs.outcomes l BiasTaken x.takes refl x.untold x.place (inl refl) (
@@ -131,7 +135,7 @@ module _ (heap : Heap) (o : ℕ) (e : Purpose) (enters : IsUnfinished e.unfinish
             saw_newest heap exchange n k ∙ ap (λ (z : Bool). Some (cond z own n)) (eq-eqb n mark h),
             saw_older heap exchange n k (name.Prototype (class_of heap.shape o)) i refl refl ∙ saw_prototype,
             own_bias heap k was.stands prototype epoch is,
-          ))
+          ) refl)
           (λ n i was h. answers heap false (Raced mark n) _ Q (races n (known_miss heap.shape heap.start exchange n k)
           (record { takes = x.takes; mine = x.mine; check = x.check; calm = x.calm; untold = x.untold; place = x.place })))
 
@@ -146,8 +150,10 @@ module _ (heap : Heap) (o : ℕ) (e : Purpose) (enters : IsUnfinished e.unfinish
           (λ now.
           let valid = own_epoch old epoch (epoch_in prototype) is now in
           chooses heap false (u == k.thread) _ _ k Q
-          (λ mine. took_does outs.outcomes k BiasOwn x.takes x.mine x.untold x.place (inr x.calm)
-          (mark, prototype, saw_mark, saw_prototype, subst (λ f. IsBiasTo k.thread f (epoch_in prototype)) (sym reads) (eqb-true u k.thread mine, valid)))
+          (λ mine.
+          let saw : SawOwnBias heap.shape k o =
+          (mark, prototype, saw_mark, saw_prototype, subst (λ f. IsBiasTo k.thread f (epoch_in prototype)) (sym reads) (eqb-true u k.thread mine, valid)) in
+          took_does outs.outcomes k BiasOwn x.takes x.mine x.untold x.place (inr x.calm) saw (x.calm, saw))
           (λ other. answers heap false (Valid mark) k Q (outs.valid k mark (record {
             going = x;
             local = local;
@@ -173,13 +179,24 @@ module _ (heap : Heap) (o : ℕ) (e : Purpose) (enters : IsUnfinished e.unfinish
       by_does (Some (Neutral hash age)) reads_so form biased is =
           let none : epoch_in prototype ≡ None = ap epoch_form reads_so in
           let exchange = unbias_plan e o mark prototype in
+          let loose = loose_unepoched (read_mark mark) (epoch_in prototype) biased none in
           let reads : read_mark prototype ≡ Some (Neutral 0 0) = ap read_mark (prototype_neutral prototype is none) ∙ neutral_reads_so in
           swapping heap false exchange mark prototype (λ n. done (Unbiased prototype)) (λ n. done (Raced mark n)) k Q refl
-          (λ i. unbiases_rule heap k e o mark prototype (λ v. record {
-            prototype = prototype;
-            exchange = record { runs = x.takes.runs; calm = x.calm; saw = saw_prototype; loose = loose_unepoched (read_mark mark) (epoch_in prototype) biased none; goes_on = sym x.mine };
-            to = inr (refl, none);
-          }))
+          (λ i. unbiases_rule heap k e o mark prototype prototype (λ v. (
+            record {
+              prototype = prototype;
+              exchange = record { runs = x.takes.runs; calm = x.calm; saw = saw_prototype; loose = loose; goes_on = sym x.mine };
+              to = inr (refl, none);
+            },
+            record {
+              runs = x.takes.runs;
+              calm = x.calm;
+              goes_on = inl (sym x.mine);
+              saw = free_bias heap.shape k o mark prototype saw_prototype loose;
+              unbiased = ap is_biased_form reads;
+              why = inl none;
+            },
+          )))
           (λ n i was h.
           let l = known_hit heap.shape heap.start exchange n k in
           answers heap false (Unbiased prototype) l Q (outs.outcomes.unbiased l prototype (record {
@@ -289,7 +306,7 @@ module _ (heap : Heap) (e : Purpose) (b : Revocation) (enters : IsUnfinished e.u
   own_does (Some (Anonymous epoch age)) mark p x bias saw = absurd bias
   own_does (Some (Biased u epoch age)) mark p x bias saw =
       chooses heap false (u == k.thread) _ _ (then_known true mark) Q
-      (λ mine. took_does heap o e enters here kept Q outs (then_known true mark) BiasTaken (taking heap o e here k enters wants local x.runs x.unasks) refl untold_here place_here (inl refl) saw)
+      (λ mine. took_does heap o e enters here kept Q outs (then_known true mark) BiasTaken (taking heap o e here k enters wants local x.runs x.unasks) refl untold_here place_here (inl refl) saw refl)
       (λ no. absurd (cc (eq-eqb u k.thread bias.0, no)))
   own_does (Some (Locked u p)) mark q x bias saw = absurd bias
   own_does (Some (Inflated m)) mark p x bias saw = absurd bias

@@ -16,7 +16,7 @@ use Rattle.core_world.specs.Looking.{IsLook}
 use Rattle.core_world.specs.Words.Names.{same_name}
 use Rattle.core_world.specs.Trees.Plans.{Purpose, load}
 use Rattle.core_world.specs.Clauses.SeenWords.{IsValidBias}
-use Rattle.core_world.specs.Words.Shape.{class_of}
+use Rattle.core_world.specs.Words.Shape.{Shape, class_of}
 use Rattle.core_world.specs.Steps.{is_idle, known_hit, seen_before, is_header, kept_by_note, kept_by_act}
 use Rattle.core_world.specs.Words.Acts.{word_after}
 use Rattle.core_world.proofs.Naming.{same_named}
@@ -25,6 +25,7 @@ use Rattle.core_locks.proofs.LookOn.{may_look}
 use Rattle.core_bias.specs.Biasing.{IsLoose}
 use Rattle.core_bias.proofs.Unseen.{unseen}
 use Rattle.core_bias.proofs.Wholes.{biasing_on}
+use Rattle.core_counts.specs.Steps.{SawFreeBias}
 use Rattle.core_steps.specs.Logic.{Heap, Stands}
 use Rattle.core_steps.proofs.Facts.{fits_here}
 use Rattle.core_steps.proofs.LawRules.{away}
@@ -146,6 +147,21 @@ pub own_bias : (heap : Heap) (k : Known) → Stands heap k → (p epoch : ℕ) �
 own_bias heap k v p epoch e =
     subst (λ z. IsBiasTo k.thread z (epoch_in p)) (sym (read_mark-mark_of (Biased k.thread epoch 0) (few_threads heap k v, epoch_small p epoch e, omega arith)))
     (refl, ap (λ z. has_epoch z epoch) e ∙ eq-eqb epoch epoch refl)
+
+-- a mark that is anonymous or stale by its class's prototype, which was seen, is free
+pub free_bias : (s : Shape) (k : Known) (o mark prototype : ℕ) → last_seen (name.Prototype (class_of s o)) k.seen ≡ Some prototype → IsLoose (read_mark mark) (epoch_in prototype)
+    → SawFreeBias s k o mark prototype
+free_bias s k o mark prototype seen loose = record { seen = seen; biased = pattern (read_mark mark) loose; free = free (read_mark mark) loose }
+  where
+    pattern : (f : Option MarkForm) → IsLoose f (epoch_in prototype) → is_biased_form f ≡ true
+    pattern (Some (Anonymous epoch age)) h = refl
+    pattern (Some (Biased thread epoch age)) h = refl
+    pattern _ h = absurd h
+
+    free : (f : Option MarkForm) → IsLoose f (epoch_in prototype) → is_valid_bias f prototype ≡ false
+    free (Some (Anonymous epoch age)) h = refl
+    free (Some (Biased thread epoch age)) h = h
+    free _ h = absurd h
 
 -- LOOSE MARKS: anonymous, or with a stale bias
 pub loose_unepoched : (f : Option MarkForm) (x : Option ℕ) → is_biased_form f ≡ true → x ≡ None → IsLoose f x

@@ -1,60 +1,115 @@
--- The laws of core_bias as rules of the logic.
-use Rattle.std.proofs.Common.{ℕ, Bool, inl}
+-- The laws of core_bias, with those of core_counts beside them, as rules of the logic.
+use Rattle.std.proofs.Common.{◌≡◌, ℕ, ◌<◌, Bool, true, false, Option, Some, None, refl, sym, ◌∙◌, subst, inl, inr}
+use Rattle.mark_word.specs.declared.mark.MarkForm.{MarkForm}
+use Rattle.mark_word.specs.declared.mark.MarkForm.TheVariants.{Biased}
+use Rattle.mark_word.specs.Mark.{read_mark}
 use Rattle.lock_policy.specs.declared.policy.Verdict.{Verdict}
 use Rattle.core_world.specs.declared.name.Name.{Name}
+use Rattle.core_world.specs.declared.name.Name.TheVariants.{Mark, Prototype}
 use Rattle.core_world.specs.declared.plan.Own.TheVariants as own
 use Rattle.core_world.specs.Trees.BiasSteps.{rebias_plan, unbias_plan, stage_after}
 use Rattle.core_world.specs.Threads.Known.{Known}
+use Rattle.core_world.specs.Words.Forms.{epoch_in, is_biased, is_biased_form}
 use Rattle.core_world.specs.Trees.Plans.{Purpose}
 use Rattle.core_world.specs.Trees.SafepointSteps.{release_plan}
 use Rattle.core_world.specs.Trees.RevocationSteps.{revoke_plan}
 use Rattle.core_world.specs.Words.Shape.{class_of}
-use Rattle.core_world.specs.Threads.Stages.{Revocation}
+use Rattle.core_world.specs.Threads.Stages.{Revocation, revocation_in}
 use Rattle.core_world.specs.Steps.{world_after}
-use Rattle.core_world.specs.Valid.{IsValid}
-use Rattle.core_world.specs.Trees.RevocationSteps.{revoke_plan}
-use Rattle.core_world.specs.Trees.SafepointSteps.{release_plan}
-use Rattle.core_world.specs.Trees.BiasSteps.{stage_after, rebias_plan, unbias_plan}
+use Rattle.core_world.specs.Valid.{IsRevoking}
+use Rattle.core_locks.specs.Knowing.{IsBiasTo}
 use Rattle.core_bias.specs.Biasing.{MayRebias, MayUnbias}
-use Rattle.core_bias.specs.Revoking.{MayBeginRevoking, MayGoOnRevoking, MayEndRevoking}
+use Rattle.core_bias.specs.Revoking.{MayBeginRevoking, MayGoOnRevoking, MayEndRevoking, TellsBias}
 use Rattle.core_bias.proofs.Rebiases.{rebias_valid, drop_valid}
-use Rattle.core_bias.proofs.Wholes.{begin_valid, goes_on_valid, release_fits}
+use Rattle.core_bias.proofs.Wholes.{all_made, begin_revokes, goes_on_revokes, release_fits}
+use Rattle.core_counts.specs.BiasLaw.{BiasLawHolds, IsWhollyValid, WhollyValid}
+use Rattle.core_counts.specs.Steps.{MayTakeBias, MayDropBias}
+use Rattle.core_counts.proofs.BiasTakes.{bias_taken}
+use Rattle.core_counts.proofs.BiasDrops.{bias_dropped}
+use Rattle.core_counts.proofs.RevocationEnds.{revocation_ended}
 use Rattle.core_steps.specs.Logic.{Heap, Stands, Keeps}
-use Rattle.core_steps.proofs.LawRules.{home, inside, keeps}
+use Rattle.core_steps.proofs.LawRules.{away, home, inside, keeps, calm_in_all}
+use Rattle.core_steps.proofs.Wholes.{requester_is}
+
+-- what the steps of a revocation tell of the new bias is whether the mark has the bias pattern
+took_biased : (t o c : ℕ) (took : Bool) (f : Name → ℕ) → TellsBias t o c took f → took ≡ is_biased (f (Mark o))
+took_biased t o c false f tells = sym tells
+took_biased t o c true f tells = cases (read_mark (f (Mark o))) tells
+  where
+    cases : (m : Option MarkForm) → IsBiasTo t m (epoch_in (f (Prototype c))) → true ≡ is_biased_form m
+    cases (Some (Biased thread epoch age)) h = refl
+    cases _ h = absurd h
 
 module _ (heap : Heap) (k : Known) where
-  -- EXCHANGES of a mark that is anonymous or stale
-  pub rebiases_rule : (e : Purpose) (o mark epoch : ℕ) → (Stands heap k → MayRebias heap.shape k e o mark epoch) → Keeps heap (rebias_plan e k.thread o mark epoch) k
-  rebiases_rule e o mark epoch may = keeps heap k (λ s y. MayRebias s y e o mark epoch) (λ t y. rebias_plan e t o mark epoch) (rebias_valid e o mark epoch) may
+  -- EXCHANGES of a mark that is anonymous or stale: for the own bias
+  pub rebiases_rule : (e : Purpose) (o mark prototype epoch : ℕ) → (Stands heap k → MayRebias heap.shape k e o mark epoch × MayTakeBias heap.shape k e o mark prototype epoch)
+      → Keeps heap (rebias_plan e k.thread o mark epoch) k
+  rebiases_rule e o mark prototype epoch may =
+      keeps heap k (λ s y. MayRebias s y e o mark epoch × MayTakeBias s y e o mark prototype epoch) (λ t y. rebias_plan e t o mark epoch)
+      (λ w P t within m valid. rebias_valid e o mark epoch w P t within m.0 valid)
+      (λ w P t within m v law. bias_taken w P t e o mark prototype epoch within m.1 v law) (λ t y h. refl) (λ s y a. a.1.runs) may
 
-  pub unbiases_rule : (e : Purpose) (o mark neutral : ℕ) → (Stands heap k → MayUnbias heap.shape k e o mark neutral) → Keeps heap (unbias_plan e o mark neutral) k
-  unbiases_rule e o mark neutral may = keeps heap k (λ s y. MayUnbias s y e o mark neutral) (λ t y. unbias_plan e o mark neutral) (drop_valid e o mark neutral) may
+  -- and for a mark without the bias pattern
+  pub unbiases_rule : (e : Purpose) (o mark prototype neutral : ℕ) → (Stands heap k → MayUnbias heap.shape k e o mark neutral × MayDropBias heap.shape k e o mark prototype neutral)
+      → Keeps heap (unbias_plan e o mark neutral) k
+  unbiases_rule e o mark prototype neutral may =
+      keeps heap k (λ s y. MayUnbias s y e o mark neutral × MayDropBias s y e o mark prototype neutral) (λ t y. unbias_plan e o mark neutral)
+      (λ w P t within m valid. drop_valid e o mark neutral w P t within m.0 valid)
+      (λ w P t within m v law. bias_dropped w P t e o mark prototype neutral within m.1 v law) (λ t y h. refl) (λ s y a. a.1.runs) may
 
-  -- A REVOCATION: its first store, each other one, and the release
+  -- A REVOCATION: its first store, with which the law holds of the world before
   pub begins_revoking_rule : (e : Purpose) (b : Revocation) (verdict : Verdict) (reset : Bool) (at : Name) (word : ℕ) → (Stands heap k → MayBeginRevoking heap.shape k e k.thread b verdict reset at word)
       → Keeps heap (revoke_plan e b (own.CountVerdict (class_of heap.shape b.object) verdict reset) at word) k
   begins_revoking_rule e b verdict reset at word may = record {
-    by = λ v. record {
-      objects = v.objects;
-      is = home heap k v (λ s y. MayBeginRevoking s y e k.thread b verdict reset at word → IsValid (world_after (revoke_plan e b (own.CountVerdict (class_of s b.object) verdict reset) at word) k.thread v.world) v.objects)
-          (λ a. begin_valid v.world v.objects k.thread e b verdict reset at word a v.valid) (may v);
-    };
+    by = λ v.
+        let a = calm_in_all heap k v (may v).reached (may v).calm in
+        home heap k v (λ s y. MayBeginRevoking s y e k.thread b verdict reset at word
+        → WhollyValid (world_after (revoke_plan e b (own.CountVerdict (class_of s b.object) verdict reset) at word) k.thread v.world))
+        (λ m.
+        let r = begin_revokes v.world v.objects k.thread e b verdict reset at word m a.fits in
+        record { objects = v.objects; is = inr (r.0, subst BiasLawHolds (sym r.1) a.biases) }) (may v);
   }
 
+  -- what the thread whose safepoint is reached does in the middle of a revocation, by the world and its own revocation there
+  in_middle : (F : (v : Stands heap k) → ℕ → Type 0) (b : Revocation) → ((v : Stands heap k) (s : IsRevoking v.world v.objects) → s.requester ≡ k.thread → BiasLawHolds s.before → F v s.requester)
+      → (v : Stands heap k) → k.reached ≡ true → revocation_in k.stage ≡ Some b → F v k.thread
+  in_middle F b law v reached its = elim v.valid [
+    | inl a ↦ let none = a.0.quiet.none_revokes k.thread in let some = away heap k v (λ s y. revocation_in y.stage ≡ Some b) its in absurd (cc (none, some))
+    | inr a ↦
+        let same = requester_is v.world v.objects a.0 k.thread (away heap k v (λ s y. y.reached ≡ true) reached) in
+        subst (F v) same (law v a.0 same a.1)
+  ]
+
+  -- each other store, with which it goes on holding there
   pub goes_on_revoking_rule : (e : Purpose) (b : Revocation) (at : Name) (word : ℕ) → (Stands heap k → MayGoOnRevoking heap.shape k e k.thread b at word) → Keeps heap (revoke_plan e b own.Same at word) k
   goes_on_revoking_rule e b at word may = record {
-    by = λ v. record {
-      objects = v.objects;
-      is = home heap k v (λ s y. MayGoOnRevoking s y e k.thread b at word → IsValid (world_after (revoke_plan e b own.Same at word) k.thread v.world) v.objects)
-          (λ a. goes_on_valid e b at word v.world v.objects k.thread (inside heap k v) a v.valid) (may v);
-    };
+    by = λ v. in_middle (λ v u. WhollyValid (world_after (revoke_plan e b own.Same at word) u v.world)) b
+        (λ v s same law.
+        let within = subst (λ u. u < v.world.shape.threads) (sym same) (inside heap k v) in
+        let mine = subst (λ u. MayGoOnRevoking v.world.shape (v.world.known u) e u b at word) (sym same) (away heap k v (λ z y. MayGoOnRevoking z y e k.thread b at word) (may v)) in
+        let r = goes_on_revokes e b at word v.world v.objects s within mine in
+        record { objects = v.objects; is = inr (r.0, subst BiasLawHolds (sym r.1) law) }) v (may v).reached (may v).its_revocation;
   }
 
-  pub ends_revoking_rule : (e : Purpose) (b : Revocation) (took : Bool) → (Stands heap k → MayEndRevoking heap.shape k e k.thread b) → Keeps heap (release_plan e (stage_after took b.object) k.thread) k
-  ends_revoking_rule e b took may = record {
-    by = λ v. record {
-      objects = v.objects;
-      is = home heap k v (λ s y. MayEndRevoking s y e k.thread b → IsValid (world_after (release_plan e (stage_after took b.object) k.thread) k.thread v.world) v.objects)
-          (λ a. inl (release_fits v.world v.objects k.thread e b took a v.valid)) (may v);
-    };
+  -- and the release, which counts as a whole: whether a bias was taken, the object's words tell then
+  pub ends_revoking_rule : (e : Purpose) (b : Revocation) (took : Bool)
+      → (Stands heap k → MayEndRevoking heap.shape k e k.thread b) → ((v : Stands heap k) → TellsBias k.thread b.object (class_of heap.shape b.object) took v.world.words)
+      → Keeps heap (release_plan e (stage_after took b.object) k.thread) k
+  ends_revoking_rule e b took may tells = record {
+    by = λ v. in_middle (λ v u. WhollyValid (world_after (release_plan e (stage_after took b.object) u) u v.world)) b
+        (λ v s same law.
+        let m = away heap k v (λ z y. MayEndRevoking z y e k.thread b) (may v) in
+        let mine = subst (λ u. MayEndRevoking v.world.shape (v.world.known u) e u b) (sym same) m in
+        let its : s.revocation ≡ b = let both : Some s.revocation ≡ Some b = sym s.its_revocation ∙ mine.its_revocation in cc both in
+        let told : TellsBias k.thread s.revocation.object (class_of v.world.shape s.revocation.object) took v.world.words =
+        subst (λ (c : Revocation). TellsBias k.thread c.object (class_of v.world.shape c.object) took v.world.words) (sym its)
+        (away heap k v (λ z y. TellsBias k.thread b.object (class_of z b.object) took v.world.words) (tells v)) in
+        let fits = release_fits v.world v.objects s.requester e b took mine (inr s) in
+        let counted : BiasLawHolds (world_after (release_plan e (stage_after took s.revocation.object) s.requester) s.requester v.world) =
+        revocation_ended v.world v.objects s e took
+        (record { over = all_made v.world v.objects e b s mine; says = took_biased k.thread s.revocation.object (class_of v.world.shape s.revocation.object) took v.world.words told; goes_on = mine.goes_on }) law in
+        record {
+          objects = v.objects;
+          is = inl (fits, subst (λ (c : Revocation). BiasLawHolds (world_after (release_plan e (stage_after took c.object) s.requester) s.requester v.world)) its counted);
+        }) v (may v).reached (may v).its_revocation;
   }

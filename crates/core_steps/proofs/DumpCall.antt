@@ -35,11 +35,12 @@ use Rattle.core_world.specs.Trees.Todo.{Todo, done, never, step, ask, all_from, 
 use Rattle.core_world.specs.Trees.WaitSteps.{publish_steps}
 use Rattle.core_locks.specs.ShotLaws.{SawAll, SawSteps, MayKeepShot, shot_looks}
 use Rattle.core_locks.proofs.Shoots.{keeps_shot}
+use Rattle.core_counts.proofs.QuietKinds as quiet
 use Rattle.core_locks.proofs.ShotTree.{looks_first, looks_see}
 use Rattle.core_steps.specs.Logic.{Heap, Stands, Does}
 use Rattle.core_steps.specs.Sound.{Finishes, BeginsWell}
 use Rattle.core_steps.proofs.Facts.{Untold, fits_here, ready_here}
-use Rattle.core_steps.proofs.LawRules.{home, keeps, releases, publishes}
+use Rattle.core_steps.proofs.LawRules.{home, keeps_calm, releases, publishes}
 use Rattle.core_steps.proofs.Requests.{Asks, Stood, BeginsSafepoint, safepoint_does}
 use Rattle.core_steps.proofs.Resting.{Carries, logged_carries, rests}
 use Rattle.core_steps.proofs.SafeCalls.{closes, released_unasks}
@@ -177,7 +178,7 @@ module _ (heap : Heap) (me : ℕ) (here : Local) (shots : List DumpShot) (room :
       let unasks : l.requesting ≡ false = released_unasks heap k n was.stands found in
       chooses_then heap false (n == reached_word k.thread) _ _ (λ u. publish_steps (entry.Dump (length shots + 1)) dump_errand (local_of k) >>= (λ u. done_with (length shots + 1))) l _
       (λ yes. hitting heap false _ _ l _ (λ n. refl)
-      (λ i. publishes heap l dump_errand (entry.Dump (length shots + 1)) (λ v. record {
+      (λ i. publishes heap l dump_errand (entry.Dump (length shots + 1)) (λ v. (record {
         runs = runs;
         calm = refl;
         ready = ready_here heap l v runs (unwaiting_dump l.unfinished refl) (unentering_dump l.unfinished refl) r.untold r.live;
@@ -190,7 +191,7 @@ module _ (heap : Heap) (me : ℕ) (here : Local) (shots : List DumpShot) (room :
               let dumps : length (dumps_from 0 k.log) ≡ length shots = ap (λ z. length (dumps_from 0 z.log)) r.same ∙ sym r.logged in
               (sym all, all ∙ ap (λ z. z + 1) (sym dumps));
         };
-      }))
+      }, tt)))
       (λ n i was. answers heap false _ _ _ (rests heap.shape _ refl unasks refl (logged_carries k.log _ k.wait _ r.live refl r.untold))))
       (λ no. absurd (cc (hit, no)))))
 
@@ -201,7 +202,7 @@ module _ (heap : Heap) (me : ℕ) (here : Local) (shots : List DumpShot) (room :
       let p = keep_shot_plan dump_errand in
       let logged : length k.shots ≡ length (dumps_from 0 k.log) = r.carries.shots_logged refl in
       hitting heap false p _ k _ (λ n. refl)
-      (λ i. keeps heap k (λ s y. MayKeepShot s y dump_errand) (λ t y. keep_shot_plan dump_errand) (keeps_shot dump_errand)
+      (λ i. keeps_calm heap k (λ s y. MayKeepShot s y dump_errand) (λ t y. keep_shot_plan dump_errand) (keeps_shot dump_errand) (quiet.keeps_shot dump_errand) (λ t y h. refl) r.reached r.calm
       (λ v. record { reached = r.reached; calm = r.calm; dumps = sym r.mine; goes_on = r.mine; logged = logged; saw = saw })) (λ n i was.
       let l = known_hit heap.shape heap.start p n k in
       answers heap false _ l _ (ending_does l (shot_of heap.shape k) (record {

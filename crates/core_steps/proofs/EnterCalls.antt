@@ -28,6 +28,7 @@ use Rattle.core_world.specs.Steps.{seen_before}
 use Rattle.core_world.specs.Trees.Todo.{Todo, ◌>>=◌}
 use Rattle.core_world.specs.Clauses.WordForms.{IsMark}
 use Rattle.core_locks.specs.Knowing.{GoesOn}
+use Rattle.core_counts.specs.Steps.{SawUnbiased}
 use Rattle.core_steps.specs.Logic.{Heap, Stands, Does}
 use Rattle.core_steps.specs.Sound.{Finishes, BeginsWell}
 use Rattle.core_steps.proofs.AskedRevocations.{BeginsRevocation, revocation_does}
@@ -40,7 +41,6 @@ use Rattle.core_steps.proofs.Resting.{live_carries}
 use Rattle.core_steps.proofs.Revocations.{Revoked}
 use Rattle.core_steps.proofs.SafeCalls.{closes}
 use Rattle.core_steps.proofs.StackEnters.{Taking, undumped_enter, stack_first_does, stack_again_does}
-use Rattle.core_steps.proofs.StackExits.{SawUnbiased}
 use Rattle.core_steps.proofs.Tests.{both, below, operates, asking_goes, free_runs, going_is, goes_on_or_begins}
 use Rattle.core_steps.proofs.Trees.{answers, binds, chooses, follows, once_idle}
 
@@ -97,7 +97,8 @@ module _ (heap : Heap) (o : ℕ) (e : Purpose) (enters : IsUnfinished e.unfinish
       (λ mine. let same : u ≡ k.thread = eqb-true u s.local.thread mine ∙ ap (λ z. z.thread) here in
       subst (λ z. Does heap false (stack_enter_at (read_mark mark) e z o mark) k (λ b r l. AtRest heap.shape l)) (sym here)
       (subst (λ z. Does heap false (stack_enter_at z e (local_of k) o mark) k (λ b r l. AtRest heap.shape l)) (sym reads)
-      (stack_again_does heap false k e o x.takes x.calm (inl (sym x.mine)) x.untold x.place (holds p (ap (λ z. Some (Locked z p)) same)))))
+      (stack_again_does heap false k e o x.takes x.calm (inl (sym x.mine)) x.untold x.place (holds p (ap (λ z. Some (Locked z p)) same))
+      (inr (refl, (mark, saw, ap is_biased_form reads ∙ unbiased))))))
       (λ other.
       subst (λ z. Does heap false (inflate_steps e s.kept o >>= (λ turn. and_then turn (λ m. monitor_enter_steps e z o m))) k (λ b r l. AtRest heap.shape l)) (sym here)
       (inflates_does s.kept k x kept none unseen (mark, saw, ap is_biased_form reads ∙ unbiased)))

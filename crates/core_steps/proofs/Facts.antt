@@ -1,5 +1,5 @@
 -- What a running thread may count on by the clauses of the world that it stands in: of its waiting word and its places.
-use Rattle.std.proofs.Common.{◌≡◌, ℕ, ◌<◌, ◌^◌, eq-eqb, true, false, List, length, Option, Some, None, refl, sym, ap, ◌∙◌, subst, arith, inl, inr}
+use Rattle.std.proofs.Common.{◌≡◌, ◌⊎◌, ℕ, ◌<◌, ◌^◌, eq-eqb, Bool, true, false, List, length, Option, Some, None, refl, sym, ap, ◌∙◌, subst, arith, inl, inr}
 use Rattle.std.proofs.lemmas.Bool.Decides.{nat_tests}
 use Rattle.mark_word.specs.declared.wait.WaitForm.{WaitForm}
 use Rattle.mark_word.specs.declared.wait.WaitForm.TheVariants as wait
@@ -21,8 +21,9 @@ use Rattle.core_world.proofs.NoWordChanges.{one_requester}
 use Rattle.core_world.proofs.OwnersShown.{fits_running}
 use Rattle.core_locks.specs.Knowing.{IsOut}
 use Rattle.core_locks.proofs.WaitOut.{fails, out_word, out_waits, out_told}
+use Rattle.core_counts.specs.Steps.{SawUnbiased}
 use Rattle.core_steps.specs.Logic.{Heap, Stands}
-use Rattle.core_steps.proofs.LawRules.{home, away}
+use Rattle.core_steps.proofs.LawRules.{home, away, valid_here}
 
 -- a waiting word that says it waits names an object in the range of the word
 pub waits_range : (n o : ℕ) → waits_on n o ≡ true → o < 2 ^ 15
@@ -49,6 +50,10 @@ enters_is n i h = cases (read_wait n) h
     cases (Some (wait.Waiting j x)) h = absurd (cc h)
     cases (Some (wait.Notified j)) h = absurd (cc h)
     cases (Some wait.Ended) h = absurd (cc h)
+
+-- the object's mark has no bias pattern: the heap has no biases, or the thread saw so in this call
+abbrev pub Unbiased : Heap → Bool → Known → ℕ → Type 0
+Unbiased heap fresh k o = (heap.biasing ≡ false) ⊎ ((fresh ≡ false) × SawUnbiased k o)
 
 -- no wait is unfinished
 abbrev pub Unwaiting : Known → Type 0
@@ -111,7 +116,7 @@ module _ (w : World) (P : List PlainObject) (t : ℕ) (v : Fits w P) where
 
 -- every clause holds where a thread runs, and where one asks for a safepoint in the middle of nothing
 pub fits_asking : (heap : Heap) (k : Known) (v : Stands heap k) → k.requesting ≡ true → k.stage ≡ Calm → Fits v.world v.objects
-fits_asking heap k v asks calm = elim v.valid [
+fits_asking heap k v asks calm = elim (valid_here heap k v) [
   | inl a ↦ a
   | inr s ↦
       let reached = ap (λ (y : Known). y.reached) s.knows ∙ s.reached in
@@ -123,7 +128,7 @@ fits_asking heap k v asks calm = elim v.valid [
 
 module _ (heap : Heap) (k : Known) (v : Stands heap k) (runs : k.running ≡ true) where
   pub fits_here : Fits v.world v.objects
-  fits_here = fits_running v.world v.objects k.thread (away heap k v (λ z y. y.running ≡ true) runs) v.valid
+  fits_here = fits_running v.world v.objects k.thread (away heap k v (λ z y. y.running ≡ true) runs) (valid_here heap k v)
 
   pub out_here : Unwaiting k → Untold k → IsOut k
   out_here = home heap k v (λ z y. Unwaiting y → Untold y → IsOut y) (out_is v.world v.objects k.thread fits_here)

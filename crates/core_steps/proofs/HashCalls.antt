@@ -33,6 +33,7 @@ use Rattle.core_world.proofs.Naming.{same_named}
 use Rattle.core_locks.specs.HashLaws.{MayHash, HasRecord, IsItsNext}
 use Rattle.core_locks.specs.Knowing.{SawInflated}
 use Rattle.core_locks.proofs.HashPlaces.{record_is_first}
+use Rattle.core_counts.specs.Steps.{SawUnbiased}
 use Rattle.core_steps.specs.Logic.{Heap, Stands, Keeps, Does}
 use Rattle.core_steps.specs.Sound.{Finishes, BeginsWell}
 use Rattle.core_steps.proofs.Facts.{fits_here, ready_here}
@@ -42,7 +43,7 @@ use Rattle.core_steps.proofs.LawRules.{home, away}
 use Rattle.core_steps.proofs.Resting.{Carries, rests, live_carries, logged_carries}
 use Rattle.core_steps.proofs.SafeCalls.{closes}
 use Rattle.core_steps.proofs.SeenSteps.{saw_newest, saw_any, saw_older}
-use Rattle.core_steps.proofs.StackExits.{SawUnbiased, unbiased_here}
+use Rattle.core_steps.proofs.StackExits.{unbiased_here}
 use Rattle.core_steps.proofs.Tests.{both, below, operates, is_of_kind}
 use Rattle.core_steps.proofs.Trees.{answers, binds, chooses, hitting, swapping}
 use Rattle.core_steps.proofs.Unbiases.{unbias_does, starts_unbias}
@@ -265,7 +266,7 @@ module _ (heap : Heap) where
       closes heap true _ k (
       binds heap true (unbias_steps heap.shape e s (no_bias o now)) (λ turn. and_then turn (λ u. hash_header_steps e (local_of k) k.kept (draw heap e o (local_of k) k.draws call) o)) k _ (
       unbias_does heap e (no_bias o now) op.Hash refl refl refl call.object refl k
-      (starts_unbias heap e (no_bias o now) op.Hash k refl refl rest a (unentering_hash e.unfinished o refl) (undumped_hash e.unfinished o refl) (λ z. z) (λ waits. absurd (cc waits))) _
+      (starts_unbias heap e (no_bias o now) op.Hash k refl refl rest a (unentering_hash e.unfinished o refl) (undumped_hash e.unfinished o refl) (λ z. z) (λ waits. absurd (cc waits)) (inl refl)) _
       (record {
         unbiased = λ l x bare.
             header_does heap e o (local_of k) k.draws call k.kept l

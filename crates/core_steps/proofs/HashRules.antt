@@ -1,5 +1,5 @@
 -- The laws of core_locks on hashes, as rules of the logic. A load logs the hash that it finds, if it finds one.
-use Rattle.std.proofs.Common.{◌≡◌, ◌≢◌, ℕ, Some, sym, subst}
+use Rattle.std.proofs.Common.{◌≡◌, ◌≢◌, ℕ, true, Some, refl, sym, subst, inl}
 use Rattle.plain_monitor.specs.declared.entry.Entry.TheVariants.{Hash}
 use Rattle.core_world.specs.declared.name.Name.{Name}
 use Rattle.core_world.specs.declared.name.Name.TheVariants as name
@@ -15,31 +15,47 @@ use Rattle.core_locks.specs.Knowing.{GoesOn, SawInflated, KeepsValid, LogsFound,
 use Rattle.core_locks.proofs.HashFinds.{finds_in_mark, looks_in_mark, finds_in_record, looks_in_record, finds_in_header, looks_in_header}
 use Rattle.core_locks.proofs.HashHeader.{draws_header, draw_misses_header}
 use Rattle.core_locks.proofs.HashMark.{draws_mark, draw_misses_mark}
+use Rattle.core_counts.specs.Steps.{KeepsBiases}
+use Rattle.core_counts.proofs.LoggedKinds as logged
 use Rattle.core_steps.specs.Logic.{Heap, Stands, Keeps}
-use Rattle.core_steps.proofs.LawRules.{away, inside}
+use Rattle.core_steps.proofs.LawRules.{away, inside, runs_in_all}
+use Rattle.core_steps.proofs.Wholes.{kept_whole}
 
 module _ (heap : Heap) (k : Known) where
   -- such a load of the word that the thread has in mind, and such an exchange, whichever way it goes
   finding_rule : (May : Shape → Known → Type 0) (e : Purpose) (at : ℕ → Name) (o : ℕ)
       → LogsFound (λ w t. May w.shape (w.known t) × HasHash w (at t)) (λ w t. find_hash_plan e (at t) o) (hash_entry o)
       → KeepsValid (λ w t. May w.shape (w.known t) × HasNoHash w (at t)) (λ w t. find_hash_plan e (at t) o)
-      → (Stands heap k → May heap.shape k) → Keeps heap (find_hash_plan e (at k.thread) o) k
-  finding_rule May e at o found none may = record {
+      → KeepsBiases (λ w t. May w.shape (w.known t)) (λ w t. find_hash_plan e (at t) o)
+      → (Stands heap k → k.running ≡ true) → (Stands heap k → May heap.shape k) → Keeps heap (find_hash_plan e (at k.thread) o) k
+  finding_rule May e at o found none biases runs may = record {
     by = λ v.
         let a = away heap k v May (may v) in
+        let all = runs_in_all heap k v (runs v) in
+        let plan = find_hash_plan e (at k.thread) o in
+        let law = biases v.world v.objects k.thread (inside heap k v) a all.fits all.biases in
         by_equal (hash_in (v.world.words (at k.thread))) 0
-        (λ no. record { objects = v.objects; is = none v.world v.objects k.thread (inside heap k v) (a, no) v.valid })
-        (λ some. let h = found v.world v.objects k.thread (inside heap k v) (a, some) v.valid in record { objects = h.now; is = h.valid });
+        (λ no. kept_whole v.world v.objects k.thread plan all (λ h. refl) v.objects (none v.world v.objects k.thread (inside heap k v) (a, no) (inl all.fits)) law)
+        (λ some.
+        let h = found v.world v.objects k.thread (inside heap k v) (a, some) (inl all.fits) in
+        kept_whole v.world v.objects k.thread plan all (λ h. refl) h.now h.valid law);
   }
 
   drawing_rule : (May : World → ℕ → Type 0) (e : Purpose) (draw : NextDraw) (at : Name) (o header : ℕ)
       → LogsValid (λ w t. May w t × (w.words at ≡ header)) (λ w t. draw_plan e draw at o header) (Hash o draw.value (Some draw.number))
       → KeepsValid (λ w t. May w t × (w.words at ≢ header)) (λ w t. draw_plan e draw at o header)
-      → ((v : Stands heap k) → May v.world k.thread) → Keeps heap (draw_plan e draw at o header) k
-  drawing_rule May e draw at o header hit miss may = record {
-    by = λ v. by_equal (v.world.words at) header
-        (λ same. let h = hit v.world v.objects k.thread (inside heap k v) (may v, same) v.valid in record { objects = h.now; is = h.valid })
-        (λ other. record { objects = v.objects; is = miss v.world v.objects k.thread (inside heap k v) (may v, other) v.valid });
+      → KeepsBiases May (λ w t. draw_plan e draw at o header)
+      → (Stands heap k → k.running ≡ true) → ((v : Stands heap k) → May v.world k.thread) → Keeps heap (draw_plan e draw at o header) k
+  drawing_rule May e draw at o header hit miss biases runs may = record {
+    by = λ v.
+        let all = runs_in_all heap k v (runs v) in
+        let plan = draw_plan e draw at o header in
+        let law = biases v.world v.objects k.thread (inside heap k v) (may v) all.fits all.biases in
+        by_equal (v.world.words at) header
+        (λ same.
+        let h = hit v.world v.objects k.thread (inside heap k v) (may v, same) (inl all.fits) in
+        kept_whole v.world v.objects k.thread plan all (λ h. refl) h.now h.valid law)
+        (λ other. kept_whole v.world v.objects k.thread plan all (λ h. refl) v.objects (miss v.world v.objects k.thread (inside heap k v) (may v, other) (inl all.fits)) law);
   }
 
   next_there : (v : Stands heap k) (draw : NextDraw) → IsItsNext heap.start k draw → IsItsNext v.world.start (v.world.known k.thread) draw
@@ -47,26 +63,26 @@ module _ (heap : Heap) (k : Known) where
 
   -- the mark, the record of the thread at depth 1, the header of the monitor
   pub finds_mark_rule : (e : Purpose) (o : ℕ) → (Stands heap k → MayHash heap.shape k o) → GoesOn k e → Keeps heap (find_hash_plan e (name.Mark o) o) k
-  finds_mark_rule e o may goes = finding_rule (λ s y. MayFind s y e o) e (λ t. name.Mark o) o (finds_in_mark e o) (looks_in_mark e o) (λ v. record { hashes = may v; goes_on = goes })
+  finds_mark_rule e o may goes = finding_rule (λ s y. MayFind s y e o) e (λ t. name.Mark o) o (finds_in_mark e o) (looks_in_mark e o) (logged.finds_mark e o) (λ v. (may v).runs) (λ v. record { hashes = may v; goes_on = goes })
 
   pub finds_record_rule : (e : Purpose) (o p : ℕ) → (Stands heap k → MayHash heap.shape k o) → HasRecord k o p → GoesOn k e → Keeps heap (find_hash_plan e (name.Displaced k.thread p) o) k
-  finds_record_rule e o p may has goes = finding_rule (λ s y. MayFindInRecord s y e o p) e (λ t. name.Displaced t p) o (finds_in_record e o p) (looks_in_record e o p)
+  finds_record_rule e o p may has goes = finding_rule (λ s y. MayFindInRecord s y e o p) e (λ t. name.Displaced t p) o (finds_in_record e o p) (looks_in_record e o p) (logged.finds_record e o p) (λ v. (may v).runs)
       (λ v. record { finds = record { hashes = may v; goes_on = goes }; has = has })
 
   pub finds_header_rule : (e : Purpose) (o m : ℕ) → (Stands heap k → MayHash heap.shape k o) → SawInflated k o m → GoesOn k e → Keeps heap (find_hash_plan e (name.Header m) o) k
-  finds_header_rule e o m may saw goes = finding_rule (λ s y. MayFindInMonitor s y e o m) e (λ t. name.Header m) o (finds_in_header e o m) (looks_in_header e o m)
+  finds_header_rule e o m may saw goes = finding_rule (λ s y. MayFindInMonitor s y e o m) e (λ t. name.Header m) o (finds_in_header e o m) (looks_in_header e o m) (logged.finds_header e o m) (λ v. (may v).runs)
       (λ v. record { finds = record { hashes = may v; goes_on = goes }; inflated = saw })
 
   -- the draw, into the mark or into the header
   pub draws_mark_rule : (e : Purpose) (draw : NextDraw) (o mark : ℕ) → (Stands heap k → MayHash heap.shape k o) → IsHashless mark → IsItsNext heap.start k draw → Keeps heap (draw_plan e draw (name.Mark o) o mark) k
   draws_mark_rule e draw o mark may bare next = drawing_rule
-      (λ w t. MayDrawInMark w.start w.shape (w.known t) draw o mark) e draw (name.Mark o) o mark (draws_mark e draw o mark) (draw_misses_mark e draw o mark)
+      (λ w t. MayDrawInMark w.start w.shape (w.known t) draw o mark) e draw (name.Mark o) o mark (draws_mark e draw o mark) (draw_misses_mark e draw o mark) (logged.draws_mark_kind e draw o mark) (λ v. (may v).runs)
       (λ v. record { draws = record { hashes = away heap k v (λ s y. MayHash s y o) (may v); next = next_there v draw next }; hashless = bare })
 
   pub draws_header_rule : (e : Purpose) (draw : NextDraw) (o m header : ℕ) → (Stands heap k → MayHash heap.shape k o) → SawInflated k o m → hash_in header ≡ 0 → IsItsNext heap.start k draw
       → Keeps heap (draw_plan e draw (name.Header m) o header) k
   draws_header_rule e draw o m header may saw bare next = drawing_rule
-      (λ w t. MayDrawInMonitor w.start w.shape (w.known t) draw o m header) e draw (name.Header m) o header (draws_header e draw o m header) (draw_misses_header e draw o m header)
+      (λ w t. MayDrawInMonitor w.start w.shape (w.known t) draw o m header) e draw (name.Header m) o header (draws_header e draw o m header) (draw_misses_header e draw o m header) (logged.draws_header_kind e draw o m header) (λ v. (may v).runs)
       (λ v. record {
         draws = record { hashes = away heap k v (λ s y. MayHash s y o) (may v); next = next_there v draw next };
         inflated = away heap k v (λ s y. SawInflated y o m) saw;

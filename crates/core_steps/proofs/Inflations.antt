@@ -30,11 +30,11 @@ use Rattle.core_locks.specs.Knowing.{SawInflated}
 use Rattle.core_locks.proofs.LookOn.{may_look}
 use Rattle.core_locks.proofs.NamesLaws.{inflated_read}
 use Rattle.core_steps.specs.Logic.{Heap, Stands, Keeps, Does}
-use Rattle.core_steps.proofs.Facts.{fits_here}
+use Rattle.core_steps.proofs.Facts.{fits_here, Unbiased}
 use Rattle.core_steps.proofs.LawRules.{away, looks}
 use Rattle.core_steps.proofs.MonitorRules.{claims_rule, prepares_owner_rule, prepares_recursions_rule, prepares_header_rule, prepares_object_rule, inflates_rule, names_rule, names_neutral_rule}
 use Rattle.core_steps.proofs.SeenSteps.{saw_newest, saw_any}
-use Rattle.core_steps.proofs.StackExits.{Unbiased, unbiased_here, look_mark}
+use Rattle.core_steps.proofs.StackExits.{unbiased_here, look_mark}
 use Rattle.core_steps.proofs.Trees.{answers, binds, hitting, swapping}
 
 -- the word is of no monitor, so that no word of a monitor is it

@@ -23,6 +23,7 @@ use Rattle.core_world.specs.Clauses.Safepoints.{is_ending}
 use Rattle.core_world.specs.Words.Shape.{slots_of}
 use Rattle.core_locks.specs.JournalLaws.{MayTell, MayTouch, MayPut, MayPublish}
 use Rattle.core_locks.specs.Knowing.{IsOfLastShot}
+use Rattle.core_counts.specs.Steps.{SawNone}
 use Rattle.core_steps.specs.Logic.{Heap, Stands}
 use Rattle.core_steps.specs.Sound.{Finishes, BeginsWell}
 use Rattle.core_steps.proofs.Facts.{limits_here, ready_here, out_here}
@@ -103,7 +104,7 @@ module _ (heap : Heap) where
   print_finishes k value rest may =
       let m = both (is_value heap.shape value) (may_act k) may in
       let a = acts k m.1 in
-      hitting heap true _ _ k _ (λ n. refl) (λ i. publishes heap k (lone_purpose (Print value)) (entry.Print value) (prints k value rest a)) (λ n i was.
+      hitting heap true _ _ k _ (λ n. refl) (λ i. publishes heap k (lone_purpose (Print value)) (entry.Print value) (λ v. (prints k value rest a v, tt))) (λ n i was.
       answers heap false _ _ _ (rests heap.shape _ refl (unasking heap.shape k rest a.runs) refl
       (logged_carries k.log _ k.wait k.holds a.live refl rest.untold)))
 
@@ -121,6 +122,11 @@ module _ (heap : Heap) where
   ending_shot k ending.Spent = tt
   ending_shot k ending.Done = tt
 
+  unbiasing_none : (k : Known) (how : Ending) → SawNone k (ending_entry how)
+  unbiasing_none k (ending.Trap fault index) = tt
+  unbiasing_none k ending.Spent = tt
+  unbiasing_none k ending.Done = tt
+
   ending_ends : (how : Ending) → is_ending (ending_entry how) ≡ true
   ending_ends (ending.Trap fault index) = refl
   ending_ends ending.Spent = refl
@@ -133,14 +139,14 @@ module _ (heap : Heap) where
       let m = both (list_all (λ h. h == 0) k.holds) (may_act k) may in
       let a = acts k m.1 in
       let e = lone_purpose (Finish how) in
-      hitting heap true _ _ k _ (λ n. refl) (λ i. publishes heap k e (ending_entry how) (λ v. record {
+      hitting heap true _ _ k _ (λ n. refl) (λ i. publishes heap k e (ending_entry how) (λ v. (record {
         runs = a.runs;
         calm = rest.calm;
         ready = ready_acts k rest a v;
         tells = tells_ending k how;
         own_entry = record { operation = inl a.nothing; shot = ending_shot k how };
         room = let r = a.room in omega arith;
-      })) (λ n i was.
+      }, unbiasing_none k how))) (λ n i was.
       hitting heap false _ _ _ _ (λ n. refl) (λ i. says_ended_rule heap _ e (λ v. record {
         runs = a.runs;
         calm = refl;

@@ -1,4 +1,5 @@
 pub mod Trees
+pub mod Wholes
 pub mod NextSteps
 pub mod LawRules
 pub mod MonitorRules

@@ -24,7 +24,6 @@ use Rattle.core_world.specs.Clauses.Safepoints.{IsUnfinished}
 use Rattle.core_world.specs.Steps.{is_idle, known_hit, known_miss}
 use Rattle.core_world.specs.Clauses.WordForms.{IsOwner}
 use Rattle.core_locks.specs.Knowing.{IsOut, SawInflated, SawOwn}
-use Rattle.core_locks.specs.LockLaws.{Precedes}
 use Rattle.core_locks.proofs.Supplies.{thread_owned_held, own_record_held}
 use Rattle.core_steps.specs.Logic.{Heap, Stands, Keeps, Does}
 use Rattle.core_steps.proofs.Facts.{Untold, fits_here, limits_here, out_here}
@@ -34,7 +33,7 @@ use Rattle.core_steps.proofs.MonitorRules.{looks_at_monitor, mans_rule, raises_c
 use Rattle.core_steps.proofs.Places.{free_here}
 use Rattle.core_steps.proofs.Resting.{rests, live_carries}
 use Rattle.core_steps.proofs.SeenSteps.{saw_newest, saw_older, missed_any, missed_newest}
-use Rattle.core_steps.proofs.StackEnters.{Taking, undumped_enter, hold_does}
+use Rattle.core_steps.proofs.StackEnters.{Taking, Comes, undumped_enter, hold_does}
 use Rattle.core_steps.proofs.Trees.{answers, binds, chooses, exchanging, follows, hitting}
 use Rattle.core_steps.proofs.WaitRules.{stands_rule}
 
@@ -60,7 +59,7 @@ module _ (heap : Heap) (e : Purpose) (o m : ℕ) where
   -- the displaced word 3, and the hold word, where one of the ways is gone that lead there
   record_does : (k : Known) (stage : Stage) (path : Path) → Taking heap k.running k.requesting k.log e o → k.unfinished ≡ e.unfinished → Untold k → free_place k.holds < 64 → k.stage ≡ stage
       → ((i p : ℕ) → stage ≡ Seizes i p → ⊥)
-      → ((n : ℕ) → is_idle heap.shape k ≡ false → Precedes heap.shape (known_hit heap.shape heap.start (displace_plan e stage k.thread (free_place k.holds) 3) n k) o (free_place k.holds))
+      → ((n : ℕ) → is_idle heap.shape k ≡ false → Comes heap (known_hit heap.shape heap.start (displace_plan e stage k.thread (free_place k.holds) 3) n k) o (free_place k.holds) path)
       → Does heap false (record_steps e stage (local_of k) o path) k (λ b r l. AtRest heap.shape l)
   record_does k stage path a mine untold place at unseized before =
       let displace = displace_plan e stage k.thread (free_place k.holds) 3 in
@@ -78,12 +77,8 @@ module _ (heap : Heap) (e : Purpose) (o m : ℕ) where
       record_does k (Ahead o) MonitorAgain x.takes x.mine x.untold x.place at (λ i p h. cc h) (λ n i.
       let displace = displace_plan e (Ahead o) k.thread (free_place k.holds) 3 in
       let older = saw_older heap displace n k in
-      inr (inr (inr (inl (
-        refl,
-        holds,
-        saw_newest heap displace n k,
-        (m, (x.inflated.0, older (name.Mark o) i refl refl ∙ x.inflated.1, x.inflated.2), older (name.Owner m) i refl refl ∙ own),
-      )))))
+      let inflated : SawInflated (known_hit heap.shape heap.start displace n k) o m = (x.inflated.0, older (name.Mark o) i refl refl ∙ x.inflated.1, x.inflated.2) in
+      (inr (inr (inr (inl (refl, holds, saw_newest heap displace n k, (m, inflated, older (name.Owner m) i refl refl ∙ own))))), (refl, holds, (m, inflated))))
 
   again_does : (k : Known) → Entering k → k.stage ≡ Calm → 1 ≤ hold_count o k.holds → SawOwn k k.thread m → Does heap false (monitor_again_steps e (local_of k) o m) k (λ b r l. AtRest heap.shape l)
   again_does k x calm holds own =
@@ -213,7 +208,7 @@ module _ (heap : Heap) (e : Purpose) (o m : ℕ) where
       let l = known_hit heap.shape heap.start grab n k in
       subst (λ f. Does heap false (monitor_enter_at f e (local_of k) o m n) l (λ b r l. AtRest heap.shape l)) (sym (ap read_owner h ∙ read_owner-owner_of Free tt))
       (record_does l (Grabs o) MonitorFirst x.takes refl x.untold x.place refl (λ i p h. cc h) (λ r j.
-      inr (inr (inl (refl, saw_newest heap (displace_plan e (Grabs o) k.thread (free_place k.holds) 3) r l))))))
+      (inr (inr (inl (refl, saw_newest heap (displace_plan e (Grabs o) k.thread (free_place k.holds) 3) r l))), refl))))
       (λ n i was h.
       let l = known_miss heap.shape heap.start grab n k in
       missed_does (read_owner n) l n

@@ -12,9 +12,11 @@ use Rattle.core_world.specs.Trees.Todo.{Todo, done, never, step, head, after_ans
 use Rattle.core_world.specs.Trees.Calls.{steps_of, may_begin}
 use Rattle.core_world.specs.Steps.{rest_of_call, is_idle, left_of, with_answer, call_after, known_hit, known_miss, known_after, world_after}
 use Rattle.core_world.specs.Due.{steps_due, IsNext}
-use Rattle.core_world.specs.Valid.{IsValid, Valid}
+use Rattle.core_world.specs.Valid.{IsValid}
 use Rattle.core_world.specs.World.{World}
 use Rattle.core_world.proofs.KnowledgeParts.{by_equal, each_with_known}
+use Rattle.core_world.proofs.LookWhileRevoking.{forgotten}
+use Rattle.core_counts.specs.BiasLaw.{BiasLawHolds, WhollyValid}
 use Rattle.core_steps.specs.Logic.{Heap, heap_of, Stands, Keeps, Was}
 use Rattle.core_steps.specs.Sound.{Finishes, BeginsWell, Sound}
 
@@ -27,9 +29,9 @@ number_is w P t v = elim v [
       (λ n. ap (λ (k : Known). k.thread) (s.others t n) ∙ s.fits.numbered t)
 ]
 
-abbrev pub stands_here : (w : World) (t : ℕ) → t < w.shape.threads → Valid w → Stands (heap_of w) (w.known t)
+abbrev pub stands_here : (w : World) (t : ℕ) → t < w.shape.threads → WhollyValid w → Stands (heap_of w) (w.known t)
 stands_here w t within v =
-    let same : (w.known t).thread ≡ t = number_is w v.objects t v.is in
+    let same : (w.known t).thread ≡ t = number_is w v.objects t (forgotten BiasLawHolds w v.objects v.is) in
     record { world = w; objects = v.objects; is_of = refl; knows = ap w.known same; within = subst (λ u. u < w.shape.threads) (sym same) within; valid = v.is }
 
 module _ (s : Shape) (start : ℕ) (k : Known) (p : StepPlan) (n : ℕ) where
@@ -131,9 +133,9 @@ pub stepping_sound : (w : World) (t : ℕ) (p : StepPlan) → t < w.shape.thread
     → IsNext w.shape w.start w.biasing (w.known t) p → Sound (world_after p t w)
 stepping_sound w t p within begins sound next =
     let here = goes w t p within begins sound next in
-    let number : (w.known t).thread ≡ t = number_is w sound.valid.objects t sound.valid.is in
+    let number : (w.known t).thread ≡ t = number_is w sound.valid.objects t (forgotten BiasLawHolds w sound.valid.objects sound.valid.is) in
     record {
-      valid = subst (λ u. Valid (world_after p u w)) number (here.keeps.by (stands_here w t within sound.valid));
+      valid = subst (λ u. WhollyValid (world_after p u w)) number (here.keeps.by (stands_here w t within sound.valid));
       goes_on = λ u h. each_with_known (λ u y. u < w.shape.threads → Finishes (heap_of w) false (rest_of_call w.shape y) y) t (known_after w.shape w.start p (w.words p.at) (w.known t)) w.known u
           (λ h. here.goes_on) (λ d h. sound.goes_on u h) h;
     }

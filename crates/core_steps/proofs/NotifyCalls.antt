@@ -28,6 +28,7 @@ use Rattle.core_world.proofs.OwnersShown.{lock_by_form}
 use Rattle.core_locks.specs.Knowing.{IsOut, IsOwnEntry}
 use Rattle.core_locks.specs.JournalLaws.{SawNobody}
 use Rattle.core_locks.proofs.WaitOut.{ready_is_out}
+use Rattle.core_counts.specs.Steps.{SawUnbiased}
 use Rattle.core_steps.specs.Logic.{Heap, Stands, Does}
 use Rattle.core_steps.specs.Sound.{Finishes, BeginsWell}
 use Rattle.core_steps.proofs.ExitFacts.{unopen}
@@ -37,7 +38,7 @@ use Rattle.core_steps.proofs.LawRules.{away, looks}
 use Rattle.core_steps.proofs.SafeCalls.{closes}
 use Rattle.core_steps.proofs.SafepointLooks.{going}
 use Rattle.core_steps.proofs.SeenSteps.{saw_newest}
-use Rattle.core_steps.proofs.StackExits.{SawUnbiased, unbiased_here, look_mark}
+use Rattle.core_steps.proofs.StackExits.{unbiased_here, look_mark}
 use Rattle.core_steps.proofs.Tellings.{IsTelling, telling_of, Telling, telling_ready, telling_rests, publishes_does, monitor_notify_does, monitor_notify_all_does}
 use Rattle.core_steps.proofs.Tests.{both, below, some_named, operates}
 use Rattle.core_steps.proofs.Trees.{answers, binds, chooses, follows, hitting}
@@ -60,7 +61,7 @@ module _ (heap : Heap) (e : Purpose) (o : ℕ) where
       (lock_by_form v.world o (Neutral hash age) (ap read_mark found ∙ reads))
 
   finds : (k : Known) (x : Telling heap e o k) → k.stage ≡ Calm → SawUnbiased k o → (mark : ℕ) (v : Stands heap k) → v.world.words (name.Mark o) ≡ mark → Finds (known_hit heap.shape heap.start (load e (name.Mark o)) mark k) mark
-  finds k x calm unbiased mark v found = record {
+  finds k x calm unbiased mark v found = let still : is_biased mark ≡ false = ap is_biased (sym found) ∙ unbiased_here heap false k o v x.runs (inr (refl, unbiased)) in record {
     tells = record {
       runs = x.runs;
       unasks = x.unasks;
@@ -73,11 +74,12 @@ module _ (heap : Heap) (e : Purpose) (o : ℕ) where
       check = refl;
       untold = x.untold;
       telling = x.telling;
+      unbiased = (mark, saw_newest heap (load e (name.Mark o)) mark k, still);
     };
     calm = refl;
     saw = saw_newest heap (load e (name.Mark o)) mark k;
     form = form_found heap e o k mark v x.runs found;
-    unbiased = ap is_biased (sym found) ∙ unbiased_here heap false k o v x.runs (inr (refl, unbiased));
+    unbiased = still;
     held = λ hash age reads. held_unfree k v mark hash age x calm found reads;
   }
 
@@ -100,7 +102,7 @@ module _ (heap : Heap) (e : Purpose) (o : ℕ) where
       let own : IsOwnEntry k (entry.Notify o None) = record { operation = inr (x.tells.mine ∙ notifies); shot = tt } in
       by_form (λ f. notify_at f heap.shape e (local_of k) o) (read_mark mark) k mark x refl
       (answers heap false _ k _ (telling_rests heap e o k x.tells x.calm))
-      (λ t p nobody. publishes_does heap e o _ (entry.Notify o None) k x.tells x.calm (x.tells.holds, x.tells.object, nobody) own refl)
+      (λ t p nobody. publishes_does heap e o _ (entry.Notify o None) k x.tells x.calm (x.tells.holds, x.tells.object, nobody) own (mark, x.saw, x.unbiased) refl)
       (λ m. going heap (monitor_notify_steps e (local_of k) heap.shape.threads o) done_with k _ (
       follows heap false _ k _ _ (monitor_notify_does heap e o k x.tells x.calm notifies) (λ b r l rest. answers heap false _ l _ rest)))
 
@@ -109,7 +111,7 @@ module _ (heap : Heap) (e : Purpose) (o : ℕ) where
       let own : IsOwnEntry k (entry.NotifyAll o 0) = record { operation = inr (x.tells.mine ∙ notifies); shot = tt } in
       by_form (λ f. notify_all_at f heap.shape e (local_of k) o) (read_mark mark) k mark x refl
       (answers heap false _ k _ (telling_rests heap e o k x.tells x.calm))
-      (λ t p nobody. publishes_does heap e o _ (entry.NotifyAll o 0) k x.tells x.calm (x.tells.holds, x.tells.object, nobody, refl) own refl)
+      (λ t p nobody. publishes_does heap e o _ (entry.NotifyAll o 0) k x.tells x.calm (x.tells.holds, x.tells.object, nobody, refl) own (mark, x.saw, x.unbiased) refl)
       (λ m. going heap (monitor_notify_all_steps e (local_of k) heap.shape.threads o) done_with k _ (
       follows heap false _ k _ _ (monitor_notify_all_does heap e o k x.tells x.calm notifies) (λ b r l rest. answers heap false _ l _ rest)))
 
@@ -126,7 +128,7 @@ module _ (heap : Heap) (k : Known) (o now : ℕ) (rest : AtRest heap.shape k) wh
       let look = load e (name.Mark o) in
       binds heap true (unbias_steps heap.shape e (start_of heap.start k) (no_bias o now)) (λ turn. and_then turn (λ u. ask look >>= (λ mark. steps (read_mark mark)))) k _ (
       unbias_does heap e (no_bias o now) a is allowed refl object unchecks k
-      (starts_unbias heap e (no_bias o now) a k is unchecks rest operates_here telling.unentering telling.undumped saw (λ waits. absurd (no_wait waits))) _
+      (starts_unbias heap e (no_bias o now) a k is unchecks rest operates_here telling.unentering telling.undumped saw (λ waits. absurd (no_wait waits)) (inr (some_named (hold_count o k.holds) some))) _
       (record {
         unbiased = λ l x bare.
             let tells : Telling heap e o l = record {
@@ -141,6 +143,7 @@ module _ (heap : Heap) (k : Known) (o now : ℕ) (rest : AtRest heap.shape k) wh
               check = x.check;
               untold = λ i. ap (λ z. says_notified z.wait i) x.local ∙ rest.untold i;
               telling = telling;
+              unbiased = bare;
             } in
             hitting heap false look _ l _ (λ n. refl) (λ i. looks heap l look (look_mark heap l e x.runs x.calm x.check (inl (sym x.mine)) o)) (λ mark i was.
             then_so (known_hit heap.shape heap.start look mark l) mark x.local (finds heap e o l tells x.calm bare mark was.stands was.found));

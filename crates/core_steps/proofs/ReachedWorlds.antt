@@ -1,5 +1,5 @@
 -- Each world that a heap comes to is sound.
-use Rattle.std.proofs.Common.{◌≡◌, ℕ, ◌<◌, true, false, refl, sym, subst}
+use Rattle.std.proofs.Common.{◌≡◌, ℕ, ◌<◌, true, false, refl, sym, subst, inl}
 use Rattle.core_world.specs.declared.plan.StepPlan.{StepPlan}
 use Rattle.core_world.specs.Threads.AtRest.{AtRest}
 use Rattle.core_world.specs.Due.{IsNext}
@@ -8,10 +8,12 @@ use Rattle.core_world.specs.Opening.{opening, first_known}
 use Rattle.core_world.specs.Words.Shape.{Shape, IsInLimits}
 use Rattle.core_world.specs.Steps.{rest_of_call, is_idle, world_after}
 use Rattle.core_world.specs.Trees.Todo.{Todo, done, never, step}
-use Rattle.core_world.specs.Valid.{Valid}
 use Rattle.core_world.specs.World.{World}
-use Rattle.core_world.proofs.OpeningFits.{opening_valid}
+use Rattle.plain_monitor.specs.Objects.{new_objects}
+use Rattle.core_world.proofs.OpeningFits.{opening_fits}
 use Rattle.core_world.proofs.Readings.{no_told}
+use Rattle.core_counts.specs.BiasLaw.{WhollyValid}
+use Rattle.core_counts.proofs.Opening.{opening_meets}
 use Rattle.core_steps.specs.Logic.{Heap, heap_of}
 use Rattle.core_steps.specs.Sound.{Finishes, Sound}
 use Rattle.core_steps.specs.Reached.{Comes, opens, moves, comes}
@@ -25,7 +27,10 @@ first_rests s t = rests s (first_known t) refl refl refl (record { ended = λ h.
 
 pub opening_sound : (heap : Heap) → IsInLimits heap.shape → Sound (opening heap.shape heap.start heap.biasing)
 opening_sound heap limits = record {
-  valid = opening_valid heap.shape heap.start heap.biasing limits;
+  valid = record {
+    objects = new_objects heap.shape.objects;
+    is = inl (opening_fits heap.shape heap.start heap.biasing limits, opening_meets heap.shape heap.start heap.biasing);
+  };
   goes_on = λ t h. record { by = first_rests heap.shape t };
 }
 
@@ -79,5 +84,5 @@ reached_worlds_come heap w t limits c within =
     let a = comes_sound heap w limits c in
     sound_comes w t a.sound (subst (λ (z : Heap). t < z.shape.threads) (sym a.is_of) within)
 
-pub reached_worlds_valid : (heap : Heap) (w : World) → IsInLimits heap.shape → Comes heap w → Valid w
+pub reached_worlds_valid : (heap : Heap) (w : World) → IsInLimits heap.shape → Comes heap w → WhollyValid w
 reached_worlds_valid heap w limits c = (reached_worlds_sound heap w limits c).valid

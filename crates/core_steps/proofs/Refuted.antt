@@ -28,7 +28,9 @@ use Rattle.core_locks.proofs.RefutedExchanges.{exchange_refused}
 use Rattle.core_steps.specs.Logic.{Heap, Stands, DoesSteps}
 use Rattle.core_steps.specs.Weakened.{late_displaced_steps, early_clearing_steps, stop_at_stage_steps}
 use Rattle.core_steps.proofs.Facts.{fits_here, limits_here}
-use Rattle.core_steps.proofs.LawRules.{away}
+use Rattle.core_world.proofs.LookWhileRevoking.{without_clause}
+use Rattle.core_counts.specs.BiasLaw.{BiasLawHolds}
+use Rattle.core_steps.proofs.LawRules.{away, valid_here}
 use Rattle.core_steps.proofs.Places.{top_here, few_here}
 use Rattle.core_steps.proofs.SafeWords.{safe_fits, stopped_runs}
 
@@ -38,13 +40,13 @@ module _ (heap : Heap) (k : Known) (fresh : Bool) (v : Stands heap k) (at_first 
 
   -- a tree's first step, from this world
   first_valid : {A : Type 0} (p : StepPlan) (f : ℕ → Todo A) → DoesSteps heap fresh (step p f) k → Valid (world_after p k.thread v.world)
-  first_valid p f does = (does.by.0 at_first).by v
+  first_valid p f does = without_clause BiasLawHolds (world_after p k.thread v.world) ((does.by.0 at_first).by v)
 
   -- THE DISPLACED WORD AFTER THE EXCHANGE
   pub late_displaced_fails : (e : Purpose) (o mark : ℕ) → k.running ≡ true → free_place k.holds < 64 → is_neutral mark ≡ true → v.world.words (name.Mark o) ≡ mark
       → v.world.words (name.Displaced k.thread (free_place k.holds)) ≢ mark → DoesSteps heap fresh (late_displaced_steps e (local_of k) o mark) k → ⊥
   late_displaced_fails e o mark runs place neutral found other does =
-      exchange_refused v.world o k.thread mark (free_place k.holds) e (record { objects = v.objects; is = v.valid }) (runs_there runs) place neutral found other (first_valid _ _ does)
+      exchange_refused v.world o k.thread mark (free_place k.holds) e (record { objects = v.objects; is = valid_here heap k v }) (runs_there runs) place neutral found other (first_valid _ _ does)
 
   -- A HOLD WORD CLEARED BEFORE THE EXIT IS LOGGED: the plain monitor counts a hold that has no word
   cleared_counts : (w : World) (P Q : List PlainObject) (t o p : ℕ) (e : Purpose) → Fits w P → Fits (hit (store e (name.Hold t p) 0) t w) Q → (w.known t).stage ≡ Calm → o < 2 ^ 15

@@ -37,7 +37,7 @@ use Rattle.core_locks.specs.Knowing.{IsBiasTo}
 use Rattle.core_steps.specs.Logic.{Heap, Stands, Was, Does}
 use Rattle.core_steps.proofs.BiasFacts.{valid_is}
 use Rattle.core_steps.proofs.BiasRules.{begins_revoking_rule, goes_on_revoking_rule, ends_revoking_rule}
-use Rattle.core_steps.proofs.LawRules.{home, away, looks}
+use Rattle.core_steps.proofs.LawRules.{home, away, looks, valid_here}
 use Rattle.core_steps.proofs.RevocationTrees.{IsLooked, IsStored, InMiddle, middle_binds, middle_verdict, answers_left, revocation_untaken}
 use Rattle.core_steps.proofs.SafepointLooks.{Reaches, is_as_seen, fits_reached, keeps_look}
 use Rattle.core_steps.proofs.SafeWords.{reached_there, released_asks, released_runs, few_threads}
@@ -387,6 +387,18 @@ module _ (heap : Heap) (e : Purpose) (b : Revocation) (me : ℕ) where
   Revoked k (Done took) l = Released k took l
   Revoked k (Pending why) l = AtRest heap.shape l
 
+  -- before it, what the steps answer is whether the object's words have the bias pattern
+  told_there : (k0 : Known) (r : Reaches me k0 e) (unwritten : writes_in k0.seen_at_safepoint ≡ []) (k : Known) (a : RevocationOutcome) → Made_all k0 r unwritten a k → (v : Stands heap k)
+      → TellsBias k.thread b.object c a.took v.world.words
+  told_there k0 r unwritten k a all v =
+      let x = all.1 in
+      let reached : k.reached ≡ true = x.leaves.reached ∙ r.reached in
+      let number : k.thread ≡ me = number_of k0 r unwritten k x.leaves in
+      home heap k v (λ s y. TellsBias k.thread b.object (class_of s b.object) a.took v.world.words)
+      (answer_tells v.world v.objects k.thread e b all.0 k0.seen_at_safepoint a (away heap k v (λ s y. y.reached ≡ true) reached) (away heap k v (λ s y. revocation_in y.stage ≡ Some b) (ap revocation_in x.stage))
+      (away heap k v (λ s y. y.seen_at_safepoint ≡ all.0 ++ k0.seen_at_safepoint) x.seen_at_safepoint) unwritten
+      (away heap k v (λ s y. Leads (revoke_at_safepoint_steps s k.thread e b) all.0 (done a)) (subst (λ t. Leads (revoke_at_safepoint_steps heap.shape t e b) all.0 (done a)) (sym number) x.path)) (valid_here heap k v))
+
   pub release_does : (k0 : Known) (r : Reaches me k0 e) (unwritten : writes_in k0.seen_at_safepoint ≡ []) (k : Known) (a : RevocationOutcome) → Made_all k0 r unwritten a k
       → Does heap false (release_to (stage_after a.took b.object) e me >>= (λ u. done_with a.took)) k (λ f turn l. (f ≡ false) × Revoked k0 turn l)
   release_does k0 r unwritten k a all =
@@ -403,7 +415,7 @@ module _ (heap : Heap) (e : Purpose) (b : Revocation) (me : ℕ) where
         its_revocation = ap revocation_in x.stage;
         all = subst (λ t. AreAllStores heap.shape t b k.seen_at_safepoint) (sym number) (subst (λ z. AreAllStores heap.shape me b z) (sym x.seen_at_safepoint) (steps_all heap.shape me e b all.0 k0.seen_at_safepoint unwritten a x.path));
         goes_on = x.leaves.mine;
-      }))
+      }) (λ v. told_there k0 r unwritten k a all v))
       (λ n i was.
       let l = then_known (release_plan (record e { check = false }) (stage_after a.took b.object) k.thread) n k in
       let hit = finds n was in
@@ -425,11 +437,7 @@ module _ (heap : Heap) (e : Purpose) (b : Revocation) (me : ℕ) where
           let call : List StepMade = cond k.running (seen_before heap.shape k) [] in
           let kept : cond (k.reached && not (asks_in left k.thread)) (only_headers k.seen_at_safepoint) call ≡ only_headers k.seen_at_safepoint =
           ap (λ (z : Bool). cond (z && not (asks_in left k.thread)) (only_headers k.seen_at_safepoint) call) reached ∙ ap (λ (z : Bool). cond (not z) (only_headers k.seen_at_safepoint) call) unasks in
-          let told : TellsBias k.thread b.object c a.took v.world.words =
-          home heap k v (λ s y. TellsBias k.thread b.object (class_of s b.object) a.took v.world.words)
-          (answer_tells v.world v.objects k.thread e b all.0 k0.seen_at_safepoint a (away heap k v (λ s y. y.reached ≡ true) reached) (away heap k v (λ s y. revocation_in y.stage ≡ Some b) (ap revocation_in x.stage))
-          (away heap k v (λ s y. y.seen_at_safepoint ≡ all.0 ++ k0.seen_at_safepoint) x.seen_at_safepoint) unwritten
-          (away heap k v (λ s y. Leads (revoke_at_safepoint_steps s k.thread e b) all.0 (done a)) (subst (λ t. Leads (revoke_at_safepoint_steps heap.shape t e b) all.0 (done a)) (sym number) x.path)) v.valid) in
+          let told = told_there k0 r unwritten k a all v in
           record {
             local = x.leaves.local;
             kept = x.leaves.kept;

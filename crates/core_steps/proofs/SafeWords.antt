@@ -17,12 +17,12 @@ use Rattle.core_locks.proofs.SafeFacts.{safe_form, few_bits, fits_unasked}
 use Rattle.core_locks.proofs.SafeEnds.{reached_finds}
 use Rattle.core_steps.specs.Logic.{Heap, Stands}
 use Rattle.core_steps.proofs.Facts.{fits_here}
-use Rattle.core_steps.proofs.LawRules.{away, inside}
+use Rattle.core_steps.proofs.LawRules.{away, inside, valid_here}
 
 module _ (heap : Heap) (k : Known) (n : ℕ) (v : Stands heap k) (found : v.world.words name.Safepoint ≡ n) where
   -- the word says of the thread what the thread knows
   pub safe_fits : SafepointFits v.world v.objects
-  safe_fits = elim v.valid [ inl a ↦ a.safe | inr a ↦ a.safe ]
+  safe_fits = elim v.valid [ inl a ↦ a.0.safe | inr a ↦ a.0.safe ]
 
   bit_is : runs_in n k.thread ≡ k.running
   bit_is = ap (λ m. runs_in m k.thread) (sym found) ∙ safe_fits.bits k.thread ∙ ap (λ (y : Known). y.running) v.knows
@@ -65,7 +65,7 @@ module _ (heap : Heap) (k : Known) (n : ℕ) (v : Stands heap k) (found : v.worl
   -- a resume in a word with no requester leaves it without one
   pub resumed_asks : k.running ≡ false → requester_in n ≡ None → asks_in (running_too (read_safe n) k.thread) k.thread ≡ false
   resumed_asks stopped none =
-      let fits = fits_unasked v.world v.objects (ap requester_in found ∙ none) v.valid in
+      let fits = fits_unasked v.world v.objects (ap requester_in found ∙ none) (valid_here heap k v) in
       let s = form_here fits in
       let spells = read_safe-spells n s.0 s.1 in
       let low = few_here fits in
@@ -96,7 +96,7 @@ module _ (heap : Heap) (k : Known) (n : ℕ) (v : Stands heap k) (found : v.worl
 
   -- AT ITS REACHED SAFEPOINT it finds the word of that, and after its release or a halt it doesn't ask
   pub reached_there : k.reached ≡ true → n ≡ reached_word k.thread
-  reached_there reached = sym found ∙ reached_finds v.world v.objects k.thread (away heap k v (λ s y. y.reached ≡ true) reached) v.valid
+  reached_there reached = sym found ∙ reached_finds v.world v.objects k.thread (away heap k v (λ s y. y.reached ≡ true) reached) (valid_here heap k v)
 
 pub released_asks : (t : ℕ) → t < 32 → asks_in (released_word t) t ≡ false
 released_asks t low = ap (λ z. is_thread (requester_form z) t) (read_safe-safe_of (record { running = 2 ^ t; requester = None; halted = false }) (pow_below t 32 low, tt))
@@ -110,7 +110,7 @@ halted_asks t = ap (λ z. is_thread (requester_form z) t) (read_safe-safe_of (re
 
 -- a thread of the heap has a bit in the word
 pub few_threads : (heap : Heap) (k : Known) → Stands heap k → k.thread < 32
-few_threads heap k v = elim v.valid [
+few_threads heap k v = elim (valid_here heap k v) [
   | inl fits ↦ few_bits v.world v.objects k.thread fits (inside heap k v)
   | inr a ↦ let few = a.fits.limits.threads in let same = a.shape in let within = subst (λ s. k.thread < s.threads) same (inside heap k v) in omega (arith, few, within)
 ]

@@ -14,7 +14,7 @@ use Rattle.core_world.proofs.Naming.{same_named}
 use Rattle.core_locks.proofs.SafeFacts.{fits_calm}
 use Rattle.core_steps.proofs.Resting.{Carries}
 use Rattle.core_steps.specs.Logic.{Heap, Stands, Was, Keeps, Does}
-use Rattle.core_steps.proofs.LawRules.{away, looks}
+use Rattle.core_steps.proofs.LawRules.{away, looks, valid_here}
 use Rattle.core_steps.proofs.SeenSteps.{same_as_itself}
 use Rattle.core_steps.proofs.Trees.{answers, follows}
 
@@ -42,16 +42,16 @@ seeing_itself k = record { saw = λ n v e. e }
 module _ (heap : Heap) where
   module _ (k : Known) (v : Stands heap k) where
     seen_fit : SeenFit v.world v.objects
-    seen_fit = elim v.valid [ inl a ↦ a.seen | inr a ↦ a.seen ]
+    seen_fit = elim v.valid [ inl a ↦ a.0.seen | inr a ↦ a.0.seen ]
 
     pub forms_fit : FormsFit v.world
-    forms_fit = elim v.valid [ inl a ↦ a.forms | inr a ↦ a.forms ]
+    forms_fit = elim v.valid [ inl a ↦ a.0.forms | inr a ↦ a.0.forms ]
 
     pub is_as_seen : k.reached ≡ true → (n : Name) (u : ℕ) → last_seen n k.seen_at_safepoint ≡ Some u → v.world.words n ≡ u
     is_as_seen reached n u saw = seen_fit.stands k.thread n u (away heap k v (λ s y. y.reached ≡ true) reached) (away heap k v (λ s y. last_seen n y.seen_at_safepoint ≡ Some u) saw)
 
     pub fits_reached : k.reached ≡ true → k.stage ≡ Calm → Fits v.world v.objects
-    fits_reached reached calm = fits_calm v.world v.objects k.thread (away heap k v (λ s y. y.reached ≡ true) reached) (away heap k v (λ s y. y.stage ≡ Calm) calm) v.valid
+    fits_reached reached calm = fits_calm v.world v.objects k.thread (away heap k v (λ s y. y.reached ≡ true) reached) (away heap k v (λ s y. y.stage ≡ Calm) calm) (valid_here heap k v)
 
   -- a load there
   module _ (me : ℕ) (e : Purpose) (at : Name) (k : Known) where

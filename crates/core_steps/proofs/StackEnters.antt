@@ -7,6 +7,7 @@ use Rattle.mark_word.proofs.ReadingMarks.{read_mark-mark_of}
 use Rattle.plain_monitor.specs.declared.entry.Logged.{Logged}
 use Rattle.plain_monitor.specs.declared.entry.Path.{Path}
 use Rattle.plain_monitor.specs.declared.entry.Path.TheVariants.{StackFirst, StackAgain}
+use Rattle.core_world.specs.declared.name.Name.TheVariants as name
 use Rattle.core_world.specs.declared.answer.Why.TheVariants as why
 use Rattle.core_world.specs.declared.stage.Stage.TheVariants.{Calm, Enters}
 use Rattle.core_world.specs.declared.task.Op.TheVariants as op
@@ -25,16 +26,17 @@ use Rattle.core_world.specs.RevocationRules.{first_place}
 use Rattle.core_world.proofs.Readings.{no_told}
 use Rattle.core_locks.specs.Knowing.{GoesOn}
 use Rattle.core_locks.specs.LockLaws.{Precedes}
+use Rattle.core_counts.specs.Steps.{WentBefore}
 use Rattle.core_steps.specs.Logic.{Heap, Stands, Keeps, Does}
 use Rattle.core_steps.specs.Sound.{Finishes, BeginsWell}
 use Rattle.core_steps.proofs.Trees.{answers, chooses, follows, binds, hitting, swapping}
 use Rattle.core_steps.proofs.LawRules.{displaces_rule, seizes_rule, holds_rule, readies, logs_enter}
-use Rattle.core_steps.proofs.Facts.{Untold, Unwaiting, out_here, ready_entered, limits_here}
+use Rattle.core_steps.proofs.Facts.{Untold, Unwaiting, out_here, ready_entered, limits_here, Unbiased}
 use Rattle.core_steps.proofs.Places.{free_here, room_here, bottom_here}
-use Rattle.core_steps.proofs.SeenSteps.{saw_newest}
+use Rattle.core_steps.proofs.SeenSteps.{saw_newest, saw_older}
 use Rattle.core_steps.proofs.Resting.{unasking, rests, live_carries, logged_carries}
 use Rattle.core_steps.proofs.SafeCalls.{closes}
-use Rattle.core_steps.proofs.Tests.{both, none_is, or_false, below, logs_once, is_of_kind}
+use Rattle.core_steps.proofs.Tests.{both, none_is, or_false, below, logs_once, is_of_kind, not_true}
 
 -- what a thread that takes o by this purpose counts on all the way, by parts of its knowledge that don't change until the entry is logged
 pub record Taking (heap : Heap) (running requesting : Bool) (log : List Logged) (e : Purpose) (o : ℕ) : Type 0 where
@@ -78,21 +80,25 @@ module _ (heap : Heap) where
       (λ no. log_enter_does k e o (free_place l.holds) path a stage mine
       (λ v. ready_entered heap k v a.runs none (ap is_entering (sym wait) ∙ no) untold a.live) untold)
 
+  -- what went before a hold word, for the clauses and for the law of biases
+  abbrev pub Comes : Known → ℕ → ℕ → Path → Type 0
+  Comes k o p path = Precedes heap.shape k o p × WentBefore heap.biasing heap.shape k o p path
+
   pub hold_does : (k : Known) (e : Purpose) (o : ℕ) (path : Path) → Taking heap k.running k.requesting k.log e o → k.unfinished ≡ e.unfinished → Untold k
-      → free_place k.holds < 64 → Precedes heap.shape k o (free_place k.holds) → Does heap false (hold_steps e (local_of k) o path) k (λ b r l. AtRest heap.shape l)
+      → free_place k.holds < 64 → Comes k o (free_place k.holds) path → Does heap false (hold_steps e (local_of k) o path) k (λ b r l. AtRest heap.shape l)
   hold_does k e o path a mine untold place before =
       let none : Unwaiting k = λ i h. a.unwaiting i (sym mine ∙ h) in
       hitting heap false _ _ k _ (λ n. refl)
-      (λ i. holds_rule heap k e o (hold_count o k.holds + 1) (free_place k.holds) path (λ v. record {
+      (λ i. holds_rule heap k e o (hold_count o k.holds + 1) (free_place k.holds) path (λ v. (record {
         runs = a.runs;
         out = out_here heap k v a.runs none untold;
         free = free_here heap k v a.runs place;
         depth = refl;
         small = room_here heap k v a.runs o place;
         object = a.object;
-        before = before;
+        before = before.0;
         goes_on = inl (sym mine);
-      }))
+      }, before.1)))
       (λ n i was. entered_does _ e o path (local_of k) a
       refl refl untold refl refl)
 
@@ -118,18 +124,21 @@ module _ (heap : Heap) where
         goes_on = inl refl;
       }))
       (λ n i was h. binds heap false (hold_steps e (local_of k) o StackFirst) done_with _ _ (
-      follows heap false _ _ _ _ (hold_does _ e o StackFirst a refl untold place (inl refl))
+      follows heap false _ _ _ _ (hold_does _ e o StackFirst a refl untold place (inl refl, refl))
       (λ b r l h. answers heap b _ l _ h)))
       (λ n i was h. answers heap false _ _ _ (rests heap.shape _ refl a.unasks a.unchecks (live_carries k.log k.wait k.holds e.unfinished a.live (λ i h. place) (undumped_enter e o a.enters) untold))))
 
   pub stack_again_does : (fresh : Bool) (k : Known) (e : Purpose) (o : ℕ) → Taking heap k.running k.requesting k.log e o → k.stage ≡ Calm → GoesOn k e → Untold k
-      → free_place k.holds < 64 → 1 ≤ hold_count o k.holds → Does heap fresh (stack_again_steps e (local_of k) o) k (λ b r l. AtRest heap.shape l)
-  stack_again_does fresh k e o a calm goes untold place holds =
+      → free_place k.holds < 64 → 1 ≤ hold_count o k.holds → Unbiased heap fresh k o → Does heap fresh (stack_again_steps e (local_of k) o) k (λ b r l. AtRest heap.shape l)
+  stack_again_does fresh k e o a calm goes untold place holds unbiased =
       let p = free_place k.holds in
       hitting heap fresh _ _ k _ (λ n. refl) (λ i. displaces_free k e 0 a.runs calm goes place) (λ n i was.
       binds heap false (hold_steps e (local_of k) o StackAgain) done_with _ _ (
       follows heap false _ _ _ _ (hold_does _ e o StackAgain a refl untold place
-      (inr (inl (refl, holds, saw_newest heap (displace_plan e Calm k.thread p 0) n k))))
+      (inr (inl (refl, holds, saw_newest heap (displace_plan e Calm k.thread p 0) n k)), (refl, holds, elim unbiased [
+        | inl plain ↦ inl plain
+        | inr saw ↦ inr (saw.1.0, saw_older heap (displace_plan e Calm k.thread p 0) n k (name.Mark o) (i ∙ saw.0) refl refl ∙ saw.1.1, saw.1.2)
+      ])))
       (λ b r l h. answers heap b _ l _ h)))
 
   neutral_reads : (f : Option MarkForm) → is_neutral_form f ≡ true → (hash age : ℕ) × (f ≡ Some (Neutral hash age))
@@ -144,8 +153,8 @@ module _ (heap : Heap) where
 
   -- an enter by a neutral mark, or by one that names the thread's first record of o
   pub stack_enter_does : (fresh : Bool) (k : Known) (e : Purpose) (o mark : ℕ) → Stands heap k → Taking heap k.running k.requesting k.log e o → k.stage ≡ Calm → GoesOn k e → Untold k
-      → free_place k.holds < 64 → (is_neutral mark || is_own_first k o mark) ≡ true → Does heap fresh (stack_enter_steps e (local_of k) o mark) k (λ b r l. AtRest heap.shape l)
-  stack_enter_does fresh k e o mark v a calm goes untold place by = cases (is_neutral mark) refl by
+      → free_place k.holds < 64 → (is_neutral mark || is_own_first k o mark) ≡ true → Unbiased heap fresh k o → Does heap fresh (stack_enter_steps e (local_of k) o mark) k (λ b r l. AtRest heap.shape l)
+  stack_enter_does fresh k e o mark v a calm goes untold place by unbiased = cases (is_neutral mark) refl by
     where
       cases : (b : Bool) → is_neutral mark ≡ b → (b || is_own_first k o mark) ≡ true → Does heap fresh (stack_enter_at (read_mark mark) e (local_of k) o mark) k (λ b r l. AtRest heap.shape l)
       cases true neutral by =
@@ -161,7 +170,7 @@ module _ (heap : Heap) where
           let within = v.within in
           let reads : read_mark mark ≡ Some (Locked k.thread (first_place o k.holds)) =
           ap read_mark is ∙ read_mark-mark_of (Locked k.thread (first_place o k.holds)) (omega (arith, within, few), bottom.1) in
-          subst (λ z. Does heap fresh (stack_enter_at z e (local_of k) o mark) k (λ b r l. AtRest heap.shape l)) (sym reads) (stack_again_does fresh k e o a calm goes untold place holds)
+          subst (λ z. Does heap fresh (stack_enter_at z e (local_of k) o mark) k (λ b r l. AtRest heap.shape l)) (sym reads) (stack_again_does fresh k e o a calm goes untold place holds unbiased)
 
   stack_enter_finishes : (k : Known) (o mark : ℕ) → Stands heap k → AtRest heap.shape k → may_begin heap.shape heap.biasing k (StackEnter o mark) ≡ true
       → Finishes heap true (steps_of heap.shape (StackEnter o mark) (start_of heap.start k)) k
@@ -174,7 +183,7 @@ module _ (heap : Heap) where
       let a = logs_once k false m2.1 in
       closes heap true _ k (stack_enter_does true k (lone_purpose (StackEnter o mark)) o mark v
       (record { runs = a.runs; unasks = unasking heap.shape k rest a.runs; unchecks = refl; live = a.live; room = a.room; object = below o (length heap.shape.objects) m3.1; unwaiting = λ i h. absurd (cc h); enters = inl refl })
-      rest.calm (inr (none_is _ (or_false _ a.free))) rest.untold (below (free_place k.holds) 64 m1.1) m.1)
+      rest.calm (inr (none_is _ (or_false _ a.free))) rest.untold (below (free_place k.holds) 64 m1.1) m.1 (inl (not_true heap.biasing m3.0)))
 
   pub stack_enter_begins : (o mark : ℕ) → BeginsWell heap (StackEnter o mark)
   stack_enter_begins o mark = record { does = λ k v rest may. stack_enter_finishes k o mark v rest may }

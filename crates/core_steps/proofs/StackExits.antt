@@ -34,7 +34,7 @@ use Rattle.core_steps.specs.Logic.{Heap, Stands, Does}
 use Rattle.core_steps.specs.Sound.{Finishes, BeginsWell}
 use Rattle.core_steps.proofs.Trees.{answers, chooses, chooses_then, hitting, swapping}
 use Rattle.core_steps.proofs.LawRules.{home, away, looks, raises, leaves_rule, clears_rule, lets_go_rule}
-use Rattle.core_steps.proofs.Facts.{Untold, Unwaiting, Unentering, fits_here, out_here, ready_here}
+use Rattle.core_steps.proofs.Facts.{Untold, Unwaiting, Unentering, fits_here, out_here, ready_here, Unbiased}
 use Rattle.core_steps.proofs.Places.{top_here, few_here}
 use Rattle.core_steps.proofs.SeenSteps.{saw_newest, saw_older}
 use Rattle.core_steps.proofs.ExitFacts.{OnExit, covered, on_exit}
@@ -52,13 +52,6 @@ pub record Leaving (heap : Heap) (running requesting : Bool) (log : List Logged)
   pub object : o < length heap.shape.objects
   pub some : 1 ≤ hold_count o holds
   pub exits : e.unfinished ≡ Some (record { op = op.Exit; object = o })
-
--- the object's mark has no bias pattern: the heap has no biases, or the thread saw so in this call
-abbrev pub SawUnbiased : Known → ℕ → Type 0
-SawUnbiased k o = (u : ℕ) × (last_seen (name.Mark o) k.seen ≡ Some u) × (is_biased u ≡ false)
-
-abbrev pub Unbiased : Heap → Bool → Known → ℕ → Type 0
-Unbiased heap fresh k o = (heap.biasing ≡ false) ⊎ ((fresh ≡ false) × SawUnbiased k o)
 
 -- in this call the stamp was raised to that of the next entry
 abbrev pub RaisedStamp : Bool → Known → ℕ → Type 0

@@ -29,12 +29,13 @@ use Rattle.core_locks.proofs.LookOn.{may_look}
 use Rattle.core_locks.proofs.WaitOut.{fails}
 use Rattle.core_locks.proofs.WakeOrder.{Remain, all_remain, oldest_seen, no_other_seen, others_remain}
 use Rattle.core_locks.proofs.Wakes.{other}
+use Rattle.core_counts.specs.Steps.{SawUnbiased, SawNone}
 use Rattle.core_steps.specs.Logic.{Heap, Stands, Does}
 use Rattle.core_steps.proofs.Facts.{Untold, fits_here, limits_here, ready_here}
 use Rattle.core_steps.proofs.LawRules.{away, inside, looks, publishes}
 use Rattle.core_steps.proofs.Resting.{rests, live_carries, logged_carries}
 use Rattle.core_steps.proofs.SafepointLooks.{going}
-use Rattle.core_steps.proofs.SeenSteps.{saw_newest, saw_any}
+use Rattle.core_steps.proofs.SeenSteps.{saw_newest, saw_any, saw_older}
 use Rattle.core_steps.proofs.Tests.{is_of_kind}
 use Rattle.core_steps.proofs.Trees.{answers, follows, hitting}
 use Rattle.core_steps.proofs.WaitRules.{wakes_next_rule, notifies_rule, notifies_all_rule}
@@ -66,6 +67,7 @@ module _ (heap : Heap) (e : Purpose) (o : ℕ) where
     pub check : e.check ≡ k.checking
     pub untold : Untold k
     pub telling : IsTelling e.unfinished
+    pub unbiased : SawUnbiased k o
 
   pub telling_ready : (k : Known) → Telling k → Stands heap k → k.wait ≡ 0
   telling_ready k x v = ready_here heap k v x.runs (λ i h. x.telling.unwaiting i (sym x.mine ∙ h)) (λ i h. x.telling.unentering i (sym x.mine ∙ h)) x.untold x.live
@@ -105,6 +107,7 @@ module _ (heap : Heap) (e : Purpose) (o : ℕ) where
         check = refl;
         untold = x.untold;
         telling = x.telling;
+        unbiased = (x.unbiased.0, saw_older heap look word k (name.Mark o) j refl refl ∙ x.unbiased.1, x.unbiased.2);
       } in
       going heap (each_from (i + 1) n (λ t. ask (load e (name.Waiting t)))) (λ words. done (word ∷ words)) l _ (
       follows heap false _ l _ _ (looks_do n (i + 1) l y refl) (λ b words m a.
@@ -145,18 +148,18 @@ module _ (heap : Heap) (e : Purpose) (o : ℕ) where
   few k x v = let a = limits_here heap k v x.runs in let objects = a.objects in let object = x.object in omega (arith, objects, object)
 
   -- NOBODY is told
-  pub publishes_does : {A : Type 0} (answer : A) (told : Entry) (k : Known) → Telling k → k.stage ≡ Calm → MayTell heap.shape k told → IsOwnEntry k told → is_ending told ≡ false
+  pub publishes_does : {A : Type 0} (answer : A) (told : Entry) (k : Known) → Telling k → k.stage ≡ Calm → MayTell heap.shape k told → IsOwnEntry k told → SawNone k told → is_ending told ≡ false
       → Does heap false (publish_steps told e (local_of k) >>= (λ u. done answer)) k (λ b r l. AtRest heap.shape l)
-  publishes_does answer told k x calm tells own_entry unending =
+  publishes_does answer told k x calm tells own_entry none unending =
       hitting heap false _ _ k _ (λ n. refl)
-      (λ i. publishes heap k e told (λ v. record { runs = x.runs; calm = calm; ready = telling_ready k x v; tells = tells; room = x.room; own_entry = own_entry }))
+      (λ i. publishes heap k e told (λ v. (record { runs = x.runs; calm = calm; ready = telling_ready k x v; tells = tells; room = x.room; own_entry = own_entry }, none)))
       (λ n i was. answers heap false _ _ _ (rests heap.shape _ refl x.unasks x.unchecks (logged_carries k.log _ k.wait _ x.live unending x.untold)))
 
   -- NOTIFY
   first_does : (ps : List (ℕ × ℕ)) (k : Known) → Telling k → k.stage ≡ Calm → IsUnfinished e.unfinished op.Notify o → Remain heap.shape.threads k o ps
       → Does heap false (notify_first ps e (local_of k) o) k (λ b r l. AtRest heap.shape l)
   first_does [] k x calm notifies left =
-      publishes_does None (entry.Notify o None) k x calm (x.holds, x.object, nobody k left) (record { operation = inr (x.mine ∙ notifies); shot = tt }) refl
+      publishes_does None (entry.Notify o None) k x calm (x.holds, x.object, nobody k left) (record { operation = inr (x.mine ∙ notifies); shot = tt }) x.unbiased refl
   first_does (p ∷ ps) k x calm notifies left =
       hitting heap false _ _ k _ (λ n. refl) (λ i. notifies_rule heap k e o p.0 (λ v. record {
         wakes = may_wake k x p ps 0 (inl (calm, refl)) left v;
@@ -203,6 +206,7 @@ module _ (heap : Heap) (e : Purpose) (o : ℕ) where
         check = refl;
         untold = λ z. ap (λ y. says_notified y z) (wait_stays k x p (q ∷ ps) told before left was.stands) ∙ x.untold z;
         telling = x.telling;
+        unbiased = (x.unbiased.0, saw_older heap tell n k (name.Mark o) i refl refl ∙ x.unbiased.1, x.unbiased.2);
       })
       (inr refl) notifies
       (others_remain heap.shape.threads k l o (wait_of (Notified o)) p (q ∷ ps) (λ z. saw_any heap tell n k (name.Waiting z) i refl)
@@ -211,7 +215,7 @@ module _ (heap : Heap) (e : Purpose) (o : ℕ) where
   listed_does : (ps : List (ℕ × ℕ)) (k : Known) → Telling k → k.stage ≡ Calm → IsUnfinished e.unfinished op.NotifyAll o → Remain heap.shape.threads k o ps
       → Does heap false (notify_listed ps e (local_of k) o) k (λ b r l. AtRest heap.shape l)
   listed_does [] k x calm notifies left =
-      publishes_does 0 (entry.NotifyAll o 0) k x calm (x.holds, x.object, nobody k left, refl) (record { operation = inr (x.mine ∙ notifies); shot = tt }) refl
+      publishes_does 0 (entry.NotifyAll o 0) k x calm (x.holds, x.object, nobody k left, refl) (record { operation = inr (x.mine ∙ notifies); shot = tt }) x.unbiased refl
   listed_does (p ∷ ps) k x calm notifies left =
       going heap (notify_each (p ∷ ps) e o 0) (λ u. done (length (p ∷ ps))) k _ (
       follows heap false _ k _ _ (each_does ps p 0 k x (inl (calm, refl)) notifies left) (λ b r l rest. answers heap false _ l _ rest))

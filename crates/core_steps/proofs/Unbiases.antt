@@ -1,5 +1,5 @@
 -- The end of an object's bias, with which waiting, notifying and hashing begin: a look that finds none, an exchange, or a revocation.
-use Rattle.std.proofs.Common.{◌≡◌, ◌⊎◌, ℕ, ◌<◌, ◌==◌, ◌&&◌, not, eq-eqb, Bool, true, false, cond, [], length, Option, Some, None, refl, sym, ap, ◌∙◌, subst, inl, inr}
+use Rattle.std.proofs.Common.{◌≡◌, ◌⊎◌, ℕ, ◌<◌, ◌≤◌, ◌==◌, ◌&&◌, not, eq-eqb, Bool, true, false, cond, [], length, Option, Some, None, refl, sym, ap, ◌∙◌, subst, inl, inr}
 use Rattle.mark_word.specs.declared.mark.MarkForm.{MarkForm}
 use Rattle.mark_word.specs.declared.mark.MarkForm.TheVariants.{Inflating, Neutral, Anonymous, Biased, Locked, Inflated, Marked}
 use Rattle.mark_word.specs.Mark.{mark_of, read_mark}
@@ -18,7 +18,7 @@ use Rattle.core_world.specs.Trees.BiasSteps.{unbias_plan, bias_drop_at, bias_dro
 use Rattle.core_world.specs.Trees.BiasSteps as bias_steps
 use Rattle.core_world.specs.Words.Forms.{is_biased, is_biased_form, epoch_in, waits_on}
 use Rattle.core_world.specs.Threads.Known.{Known, local_of, last_seen, start_of}
-use Rattle.core_world.specs.Locks.{is_valid_bias}
+use Rattle.core_world.specs.Locks.{is_valid_bias, hold_count}
 use Rattle.core_world.specs.Trees.Operations.{and_then, goes_on_with, revocation_steps, revoked_steps, unbias_tried, unbias_steps}
 use Rattle.core_world.specs.Trees.Plans.{Purpose, load, done_with}
 use Rattle.core_world.specs.Clauses.Safepoints.{IsUnfinished, ends}
@@ -28,16 +28,18 @@ use Rattle.core_world.specs.Steps.{known_hit, known_miss, seen_before}
 use Rattle.core_world.specs.Trees.Todo.{Todo, done, ◌>>=◌}
 use Rattle.core_world.specs.Valid.{RevokesWithin}
 use Rattle.core_bias.specs.Biasing.{IsLoose}
+use Rattle.core_counts.specs.Steps.{SawUnbiased}
+use Rattle.core_locks.specs.Knowing.{HasHold}
 use Rattle.core_steps.specs.Logic.{Heap, Does}
 use Rattle.core_steps.proofs.AskedRevocations.{BeginsRevocation, revocation_does}
-use Rattle.core_steps.proofs.BiasFacts.{SawHeaders, headers_first, headers_more, look_prototype, unreached_here, biasing_here, IsPrototype, prototype_here, prototype_neutral, neutral_reads_so, loose_unepoched, stale_epoch, own_epoch}
+use Rattle.core_steps.proofs.BiasFacts.{SawHeaders, headers_first, headers_more, look_prototype, unreached_here, biasing_here, IsPrototype, prototype_here, prototype_neutral, neutral_reads_so, loose_unepoched, stale_epoch, own_epoch, free_bias}
 use Rattle.core_steps.proofs.BiasRules.{unbiases_rule}
 use Rattle.core_steps.proofs.LawRules.{looks}
 use Rattle.core_steps.proofs.Requests.{BeginsSafepoint, asking_saw}
 use Rattle.core_steps.proofs.Resting.{Carries, rests, live_carries}
 use Rattle.core_steps.proofs.Revocations.{Released, Revoked}
 use Rattle.core_steps.proofs.SeenSteps.{saw_newest, saw_older}
-use Rattle.core_steps.proofs.StackExits.{SawUnbiased, look_mark}
+use Rattle.core_steps.proofs.StackExits.{look_mark}
 use Rattle.core_steps.proofs.Tests.{Operates, asking_goes, free_runs, going_is, goes_on_or_begins}
 use Rattle.core_steps.proofs.Trees.{answers, binds, chooses, follows, hitting, swapping, once_idle}
 
@@ -67,6 +69,8 @@ module _ (heap : Heap) (e : Purpose) (b : Revocation) where
     pub check : e.check ≡ k.checking
     pub asked : k.requesting ≡ true → MayRevoke heap.shape k b.object
     pub unwaiting : operation ≡ op.Wait → waits_on k.wait b.object ≡ false
+    -- it wants the object's hash, or holds the object
+    pub why : IsUnfinished e.unfinished op.Hash b.object ⊎ HasHold k b.object
 
   module _ (operation : Op) (unfinished : e.unfinished ≡ Some (record { op = operation; object = b.object })) (allowed : RevokesWithin operation b.rebias) (none : b.rebias ≡ false)
       (object : b.object < length heap.shape.objects) (unchecks : e.check ≡ false) (k : Known) (may : BeginsUnbias operation k) (Q : Bool → Turn (Unit {0}) → Known → Type 0) (outs : Unbiases k Q) where
@@ -127,11 +131,21 @@ module _ (heap : Heap) (e : Purpose) (b : Revocation) where
       drop_does neutral loose to plain =
           let exchange = unbias_plan e o mark neutral in
           swapping heap false exchange mark neutral (λ n. done (Unbiased neutral)) (λ n. done (Raced mark n)) l R refl
-          (λ i. unbiases_rule heap l e o mark neutral (λ v. record {
-            prototype = prototype;
-            exchange = record { runs = x.runs; calm = x.calm; saw = saw_prototype; loose = loose; goes_on = sym x.mine };
-            to = to;
-          }))
+          (λ i. unbiases_rule heap l e o mark prototype neutral (λ v. (
+            record {
+              prototype = prototype;
+              exchange = record { runs = x.runs; calm = x.calm; saw = saw_prototype; loose = loose; goes_on = sym x.mine };
+              to = to;
+            },
+            record {
+              runs = x.runs;
+              calm = x.calm;
+              goes_on = inl (sym x.mine);
+              saw = free_bias heap.shape l o mark prototype saw_prototype loose;
+              unbiased = plain;
+              why = inr (elim may.why [ inl hash ↦ inl hash | inr held ↦ inr (subst (λ z. 1 ≤ hold_count o z.holds) (sym x.local) held) ]);
+            },
+          )))
           (λ n i was h.
           let m = known_hit heap.shape heap.start exchange n l in
           answers heap false (Unbiased neutral) m R (answers heap false (Done tt) m Q (outs.unbiased m (record {
@@ -255,8 +269,9 @@ module _ (heap : Heap) (e : Purpose) (b : Revocation) where
 -- a call of such an operation, by its own conditions
 pub starts_unbias : (heap : Heap) (e : Purpose) (b : Revocation) (a : Op) (k : Known) → e.unfinished ≡ Some (record { op = a; object = b.object }) → e.check ≡ false → AtRest heap.shape k
     → Operates k (goes_on_with a b.object k.unfinished) → ((i : ℕ) → IsUnfinished e.unfinished op.Enter i → ⊥) → (IsUnfinished e.unfinished op.Dump 0 → ⊥)
-    → (MayAsk heap.shape k (Some (record { op = a; object = b.object })) → MayRevoke heap.shape k b.object) → (a ≡ op.Wait → waits_on k.wait b.object ≡ false) → BeginsUnbias heap e b a k
-starts_unbias heap e b a k unfinished unchecks rest may unentering undumped revokes unwaiting = record {
+    → (MayAsk heap.shape k (Some (record { op = a; object = b.object })) → MayRevoke heap.shape k b.object) → (a ≡ op.Wait → waits_on k.wait b.object ≡ false)
+    → IsUnfinished e.unfinished op.Hash b.object ⊎ HasHold k b.object → BeginsUnbias heap e b a k
+starts_unbias heap e b a k unfinished unchecks rest may unentering undumped revokes unwaiting why = record {
   begins = record {
     number = refl;
     rest = rest;
@@ -274,6 +289,7 @@ starts_unbias heap e b a k unfinished unchecks rest may unentering undumped revo
   check = unchecks ∙ sym may.unchecking;
   asked = λ asks. revokes (subst (MayAsk heap.shape k) (goes asks) (rest.asks asks may.unchecking));
   unwaiting = unwaiting;
+  why = why;
 }
   where
     goes : k.requesting ≡ true → IsUnfinished k.unfinished a b.object

@@ -21,6 +21,7 @@ use Rattle.core_world.specs.Trees.WaitSteps.{monitor_wait_steps, monitor_resume_
 use Rattle.core_world.specs.declared.answer.Turn.{Turn}
 use Rattle.core_world.proofs.Readings.{no_told}
 use Rattle.core_locks.specs.Knowing.{GoesOn, IsOut, SawInflated}
+use Rattle.core_counts.specs.Steps.{SawUnbiased}
 use Rattle.core_steps.specs.Logic.{Heap, Stands, Does}
 use Rattle.core_steps.specs.Sound.{Finishes, BeginsWell}
 use Rattle.core_steps.proofs.Facts.{Unentering, fits_asking, fits_here, ready_outside}
@@ -30,7 +31,6 @@ use Rattle.core_steps.proofs.Resting.{rests, live_carries}
 use Rattle.core_steps.proofs.SafeCalls.{closes}
 use Rattle.core_steps.proofs.SafepointLooks.{going}
 use Rattle.core_steps.proofs.SeenSteps.{saw_older, first_any}
-use Rattle.core_steps.proofs.StackExits.{SawUnbiased}
 use Rattle.core_steps.proofs.Tests.{asking_goes, free_runs, going_is, both, below, some_named, Operates, operates, nothing_enters, goes_on_or_begins, is_of_kind}
 use Rattle.core_steps.proofs.Trees.{answers, binds, chooses, follows}
 use Rattle.core_steps.proofs.Unbiases.{unbias_does, starts_unbias}
@@ -177,7 +177,7 @@ module _ (heap : Heap) (k : Known) (o now : ℕ) (v : Stands heap k) (rest : AtR
         (out_to_wait heap k v fits o goes out rest.untold) unentering a.live in
         binds heap true (unbias_steps heap.shape e s (no_bias o now)) (λ turn. and_then turn (λ u. inflate_steps e k.kept o >>= (λ turn. and_then turn (lets_go heap e o (local_of k))))) k _ (
         unbias_does heap e (no_bias o now) op.Wait refl refl refl object refl k
-        (starts_unbias heap e (no_bias o now) op.Wait k refl refl rest a (λ i h. unentering_wait e.unfinished o i refl h) (undumped_wait e.unfinished o refl) (λ z. z.1) (λ waits. out)) _
+        (starts_unbias heap e (no_bias o now) op.Wait k refl refl rest a (λ i h. unentering_wait e.unfinished o i refl h) (undumped_wait e.unfinished o refl) (λ z. z.1) (λ waits. out) (inr (some_named (hold_count o k.holds) some))) _
         (record {
           unbiased = λ l x bare.
               subst (λ z. Does heap false (inflate_steps e k.kept o >>= (λ turn. and_then turn (lets_go heap e o z))) l (λ b r l. AtRest heap.shape l)) x.local

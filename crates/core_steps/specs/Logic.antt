@@ -6,8 +6,8 @@ use Rattle.core_world.specs.Words.Shape.{Shape}
 use Rattle.core_world.specs.Threads.Known.{Known}
 use Rattle.core_world.specs.Trees.Todo.{Todo, done, never, step}
 use Rattle.core_world.specs.Steps.{is_idle, known_after, world_after}
-use Rattle.core_world.specs.Valid.{IsValid, Valid}
 use Rattle.core_world.specs.World.{World}
+use Rattle.core_counts.specs.BiasLaw.{IsWhollyValid, WhollyValid}
 
 -- what no step changes
 pub record Heap : Type 0 where
@@ -18,18 +18,18 @@ pub record Heap : Type 0 where
 abbrev pub heap_of : World → Heap
 heap_of w = record { shape = w.shape; start = w.start; biasing = w.biasing }
 
--- a valid world of this heap in which the thread of this knowledge knows it
+-- a valid world of this heap, in which the law of biases holds, and in which the thread of this knowledge knows it
 pub record Stands (heap : Heap) (k : Known) : Type 0 where
   pub world : World
   pub objects : List PlainObject
   pub is_of : heap_of world ≡ heap
   pub knows : world.known k.thread ≡ k
   pub within : k.thread < heap.shape.threads
-  pub valid : IsValid world objects
+  pub valid : IsWhollyValid world objects
 
 -- the step leads from every such world to a valid one
 pub record Keeps (heap : Heap) (p : StepPlan) (k : Known) : Type 0 where
-  pub by : (v : Stands heap k) → Valid (world_after p k.thread v.world)
+  pub by : (v : Stands heap k) → WhollyValid (world_after p k.thread v.world)
 
 -- there was such a world, and the step found n
 pub record Was (heap : Heap) (p : StepPlan) (k : Known) (n : ℕ) : Type 0 where

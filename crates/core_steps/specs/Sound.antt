@@ -1,4 +1,4 @@
--- Sound worlds: valid, and what is left of each thread's call keeps them valid up to its end, at which the thread is at rest.
+-- Sound worlds: valid, the law of biases among the clauses, and what is left of each thread's call keeps them valid up to its end, at which the thread is at rest.
 use Rattle.std.specs.Prelude.{◌≡◌, ℕ, ◌<◌, Bool, true, false}
 use Rattle.core_world.specs.declared.task.Task.{Task}
 use Rattle.core_world.specs.Threads.AtRest.{AtRest}
@@ -6,8 +6,8 @@ use Rattle.core_world.specs.Trees.Calls.{steps_of, may_begin}
 use Rattle.core_world.specs.Threads.Known.{Known, start_of}
 use Rattle.core_world.specs.Steps.{rest_of_call}
 use Rattle.core_world.specs.Trees.Todo.{Todo}
-use Rattle.core_world.specs.Valid.{Valid}
 use Rattle.core_world.specs.World.{World}
+use Rattle.core_counts.specs.BiasLaw.{WhollyValid}
 use Rattle.core_steps.specs.Logic.{Heap, heap_of, Stands, Does}
 
 -- these steps of a call keep every valid world valid, and after the last of them the thread is at rest
@@ -19,7 +19,7 @@ pub record BeginsWell (heap : Heap) (task : Task) : Type 0 where
   pub does : (k : Known) → Stands heap k → AtRest heap.shape k → may_begin heap.shape heap.biasing k task ≡ true
       → Finishes heap true (steps_of heap.shape task (start_of heap.start k)) k
 
--- The world is valid. What is left of each thread's call does its steps up to its end at rest; where nothing is left, the thread is at rest.
+-- The world is valid, and the law of biases holds. What is left of each thread's call does its steps up to its end at rest; where nothing is left, the thread is at rest.
 pub record Sound (w : World) : Type 0 where
-  pub valid : Valid w
+  pub valid : WhollyValid w
   pub goes_on : (t : ℕ) → t < w.shape.threads → Finishes (heap_of w) false (rest_of_call w.shape (w.known t)) (w.known t)

@@ -8,8 +8,8 @@ ghost use Rattle.core_world.specs.Threads.Known.{Known};
 ghost use Rattle.core_world.specs.Opening.{opening};
 ghost use Rattle.core_world.specs.Words.Shape.{IsInLimits};
 ghost use Rattle.core_world.specs.Steps.{world_after, rest_of_call, is_idle};
-ghost use Rattle.core_world.specs.Valid.{Valid};
 ghost use Rattle.core_world.specs.World.{World};
+ghost use Rattle.core_counts.specs.BiasLaw.{WhollyValid};
 ghost use Rattle.core_steps.specs.Logic.{Heap, heap_of};
 ghost use Rattle.core_steps.specs.Reached.{Comes, comes};
 ghost use Rattle.core_steps.specs.Sound.{Sound};
@@ -30,7 +30,7 @@ pub fn next_steps_keep_worlds_sound()
 pub fn reached_worlds_are_valid()
     ensures opening { (heap : Heap) → IsInLimits heap.shape → Sound (opening heap.shape heap.start heap.biasing) }
     ensures sound { (heap : Heap) (w : World) → IsInLimits heap.shape → Comes heap w → Sound w }
-    ensures valid { (heap : Heap) (w : World) → IsInLimits heap.shape → Comes heap w → Valid w }
+    ensures valid { (heap : Heap) (w : World) → IsInLimits heap.shape → Comes heap w → WhollyValid w }
     ensures goes_on { (heap : Heap) (w : World) (t : ℕ) → IsInLimits heap.shape → Comes heap w → t < heap.shape.threads
         → comes (rest_of_call w.shape (w.known t)) ≡ true }
 {}

@@ -22,7 +22,7 @@ use Rattle.core_world.specs.Looking.{IsLook, IsMiss, MayLook}
 use Rattle.core_world.specs.Threads.Stages.{Revocation, revocation_in}
 use Rattle.core_world.specs.RevocationRules.{FoundAfter, words_after, writes_in}
 use Rattle.core_world.specs.Steps.{known_hit, known_miss, known_after, world_after, seen_at_safepoint_before, reached_after, halted_after}
-use Rattle.core_world.specs.Valid.{Fits, IsRevoking, IsValid, requester_known}
+use Rattle.core_world.specs.Valid.{Fits, IsRevoking, RevokesSince, IsValid, Valid, IsValidWith, ValidWith, requester_known}
 use Rattle.core_world.proofs.KnowledgeParts.{by_equal, with_known_here, with_known_else, each_with_known}
 use Rattle.core_world.proofs.Naming.{with_knowledge, with_knowledge_alone}
 use Rattle.core_world.proofs.NoWordChanges.{Glance, glance_seen, glance_safe, glance_fits, one_requester}
@@ -59,6 +59,17 @@ unwaited_fits w P v o none = empty (waits_at P o) refl
         let named = (v.waits.inflated o p.0 (inl listed)).1 in
         absurd (cc (named, none))
 
+-- a clause, and the world before the first store of a revocation under way meets it
+abbrev RevokesWith : (World → Type 0) → World → List PlainObject → Type 0
+RevokesWith F w P = (s : IsRevoking w P) × F s.before
+
+since_with : (F : World → Type 0) (w : World) (P : List PlainObject) (before : World) → RevokesSince w P before → F before → RevokesWith F w P
+since_with F w P before r kept = (r.0, subst F (sym r.1) kept)
+
+-- a step of no word from w, and what it makes of what thread t knows
+abbrev known_then : World → ℕ → StepPlan → Known
+known_then w t p = known_after w.shape w.start p (w.words p.at) (w.known t)
+
 module _ (w : World) (P : List PlainObject) (s : IsRevoking w P) where
   reached_now : (w.known s.requester).reached ≡ true
   reached_now = ap (λ (k : Known). k.reached) s.knows ∙ s.reached
@@ -78,11 +89,11 @@ module _ (w : World) (P : List PlainObject) (s : IsRevoking w P) where
           let asks = s.safe.requester s.requester ∙ (s.safe.safepoint s.requester reached_now).0 in
           absurd (cc (none, asks))
 
-  -- a step of the requester on no word
-  mine : (l : Known) (p : StepPlan) → Glance w P (w.known s.requester) l p → OnlySteps w.words (w.known s.requester) l → IsRevoking (with_knowledge s.requester l w) P
+  -- a step of the requester on no word leaves the world before the first store
+  mine : (l : Known) (p : StepPlan) → Glance w P (w.known s.requester) l p → OnlySteps w.words (w.known s.requester) l → RevokesSince (with_knowledge s.requester l w) P s.before
   mine l p g only =
       let here = with_known_here s.requester l w.known in
-      record {
+      (record {
         before = s.before;
         fits = s.fits;
         shape = s.shape;
@@ -115,15 +126,15 @@ module _ (w : World) (P : List PlainObject) (s : IsRevoking w P) where
         seen = glance_seen w P s.requester l p g s.seen;
         forms = s.forms;
         safe = glance_safe w P s.requester l p g s.safe;
-      }
+      }, refl)
 
-  -- a step of another thread, which looks at the safepoint word
+  -- a step of another thread, which looks at the safepoint word, is one from that world too
   others : (t : ℕ) (l : Known) (p : StepPlan) → t ≢ s.requester → t < s.before.shape.threads → (w.known t).shots ≡ l.shots → Glance w P (w.known t) l p → Glance s.before P (s.before.known t) l p
-      → IsRevoking (with_knowledge t l w) P
+      → RevokesSince (with_knowledge t l w) P (with_knowledge t l s.before)
   others t l p d within same g before =
       let kept = with_known_else t l w.known s.requester (λ e. d (sym e)) in
       let kept_before = with_known_else t l s.before.known s.requester (λ e. d (sym e)) in
-      record {
+      (record {
         before = with_knowledge t l s.before;
         fits = glance_fits s.before P t l p before within (ap (λ (k : Known). k.shots) (sym (s.others t d)) ∙ same) s.fits;
         shape = s.shape;
@@ -151,7 +162,7 @@ module _ (w : World) (P : List PlainObject) (s : IsRevoking w P) where
         seen = glance_seen w P t l p g s.seen;
         forms = s.forms;
         safe = glance_safe w P t l p g s.safe;
-      }
+      }, refl)
 
   -- what the requester has unfinished
   unfinished_now : (w.known s.requester).unfinished ≡ None → ⊥
@@ -234,47 +245,83 @@ module _ (w : World) (P : List PlainObject) (s : IsRevoking w P) where
       let word : s.before.words p.at ≡ w.words p.at = ap s.before.words e ∙ sym s.untouched ∙ ap w.words (sym e) in
       λ i. known_after (sym s.shape i) (sym s.start i) p (word i) (sym (s.others t d) i)
 
-  revoking_look : (t : ℕ) (p : StepPlan) → t < w.shape.threads → IsLook (w.known t) p → IsRevoking (with_knowledge t (known_after w.shape w.start p (w.words p.at) (w.known t)) w) P
-  revoking_look t p within look =
+  -- the clause that stays by a look stays of the world before the first store
+  revoking_look : (F : World → Type 0) (t : ℕ) (p : StepPlan) → t < w.shape.threads → IsLook (w.known t) p
+      → ((v : World) → IsLook (v.known t) p → F v → F (with_knowledge t (known_then v t p) v)) → F s.before → RevokesWith F (with_knowledge t (known_then w t p) w) P
+  revoking_look F t p within look stays kept =
       by_equal t s.requester
-      (λ e. subst (λ z. IsLook (w.known z) p → IsRevoking (with_knowledge z (known_after w.shape w.start p (w.words p.at) (w.known z)) w) P) (sym e)
-      (λ h. mine (known_after w.shape w.start p (w.words p.at) (w.known s.requester)) p (look_glance w P s.requester s.seen s.safe (nobody s.requester) p h) (look_only p h)) look)
+      (λ e. subst (λ z. IsLook (w.known z) p → RevokesWith F (with_knowledge z (known_then w z p) w) P) (sym e)
+      (λ h. since_with F _ P s.before
+          (mine (known_then w s.requester p) p (look_glance w P s.requester s.seen s.safe (nobody s.requester) p h) (look_only p h)) kept) look)
       (λ d.
-      let l = known_after w.shape w.start p (w.words p.at) (w.known t) in
+      let l = known_then w t p in
       let at = elsewhere t p.at d look.may in
       let look_before = subst (λ k. IsLook k p) (s.others t d) look in
       let before : Glance s.before P (s.before.known t) l p =
       subst (λ z. Glance s.before P (s.before.known t) z p) (same_before t p d at) (look_glance s.before P t s.fits.seen s.fits.safe (λ r. unwaited_fits s.before P s.fits) p look_before) in
-      others t l p d (subst (λ (z : Shape). t < z.threads) s.shape within) (look_shots w.shape w.start p (w.words p.at) (w.known t) look) (look_glance w P t s.seen s.safe (nobody t) p look) before)
+      since_with F _ P (with_knowledge t l s.before)
+          (others t l p d (subst (λ (z : Shape). t < z.threads) s.shape within) (look_shots w.shape w.start p (w.words p.at) (w.known t) look) (look_glance w P t s.seen s.safe (nobody t) p look) before)
+          (subst (λ z. F (with_knowledge t z s.before)) (same_before t p d at) (stays s.before look_before kept)))
 
-  revoking_miss : (t : ℕ) (p : StepPlan) → t < w.shape.threads → IsMiss (w.known t) p (w.words p.at) → IsRevoking (with_knowledge t (known_after w.shape w.start p (w.words p.at) (w.known t)) w) P
-  revoking_miss t p within miss =
+  revoking_miss : (F : World → Type 0) (t : ℕ) (p : StepPlan) → t < w.shape.threads → IsMiss (w.known t) p (w.words p.at)
+      → ((v : World) → hits p.act (v.words p.at) ≡ false → F v → F (with_knowledge t (known_then v t p) v)) → F s.before → RevokesWith F (with_knowledge t (known_then w t p) w) P
+  revoking_miss F t p within miss stays kept =
       by_equal t s.requester
-      (λ e. subst (λ z. IsMiss (w.known z) p (w.words p.at) → IsRevoking (with_knowledge z (known_after w.shape w.start p (w.words p.at) (w.known z)) w) P) (sym e)
-      (λ h. mine (known_after w.shape w.start p (w.words p.at) (w.known s.requester)) p (miss_glance w P s.requester s.seen s.safe (nobody s.requester) p h) (miss_only p h)) miss)
+      (λ e. subst (λ z. IsMiss (w.known z) p (w.words p.at) → RevokesWith F (with_knowledge z (known_then w z p) w) P) (sym e)
+      (λ h. since_with F _ P s.before
+          (mine (known_then w s.requester p) p (miss_glance w P s.requester s.seen s.safe (nobody s.requester) p h) (miss_only p h)) kept) miss)
       (λ d.
-      let l = known_after w.shape w.start p (w.words p.at) (w.known t) in
+      let l = known_then w t p in
       let at = elsewhere t p.at d miss.may in
       let word : w.words p.at ≡ s.before.words p.at = ap w.words at ∙ s.untouched ∙ ap s.before.words (sym at) in
       let miss_before : IsMiss (s.before.known t) p (s.before.words p.at) = record { missed = ap (hits p.act) (sym word) ∙ miss.missed; may = subst (λ k. MayLook k p.at) (s.others t d) miss.may } in
       let before : Glance s.before P (s.before.known t) l p =
       subst (λ z. Glance s.before P (s.before.known t) z p) (same_before t p d at) (miss_glance s.before P t s.fits.seen s.fits.safe (λ r. unwaited_fits s.before P s.fits) p miss_before) in
-      others t l p d (subst (λ (z : Shape). t < z.threads) s.shape within) (miss_shots w.shape w.start p (w.words p.at) (w.known t) miss) (miss_glance w P t s.seen s.safe (nobody t) p miss) before)
+      since_with F _ P (with_knowledge t l s.before)
+          (others t l p d (subst (λ (z : Shape). t < z.threads) s.shape within) (miss_shots w.shape w.start p (w.words p.at) (w.known t) miss) (miss_glance w P t s.seen s.safe (nobody t) p miss) before)
+          (subst (λ z. F (with_knowledge t z s.before)) (same_before t p d at) (stays s.before miss_before.missed kept)))
 
--- a load that logs nothing keeps the world valid, with the same plain objects
-pub look_valid : (w : World) (P : List PlainObject) (t : ℕ) (p : StepPlan) → t < w.shape.threads → IsLook (w.known t) p → IsValid w P → IsValid (world_after p t w) P
-look_valid w P t p within look valid =
-    let same = with_knowledge_alone p.at (word_after p.act (w.words p.at)) t (known_after w.shape w.start p (w.words p.at) (w.known t)) w (ap (λ a. word_after a (w.words p.at)) look.act) in
-    subst (λ x. IsValid x P) (sym same) (elim valid [
-      | inl v ↦ inl (glance_fits w P t (known_after w.shape w.start p (w.words p.at) (w.known t)) p (look_glance w P t v.seen v.safe (λ r. unwaited_fits w P v) p look) within (look_shots w.shape w.start p (w.words p.at) (w.known t) look) v)
-      | inr s ↦ inr (revoking_look w P s t p within look)
-    ])
+-- validity with one more clause is validity
+pub forgotten : (F : World → Type 0) (w : World) (P : List PlainObject) → IsValidWith F w P → IsValid w P
+forgotten F w P valid = elim valid [ inl a ↦ inl a.0 | inr a ↦ inr a.0 ]
 
--- so does an exchange that misses
-pub miss_valid : (w : World) (P : List PlainObject) (t : ℕ) (p : StepPlan) → t < w.shape.threads → IsMiss (w.known t) p (w.words p.at) → IsValid w P → IsValid (world_after p t w) P
-miss_valid w P t p within miss valid =
-    let same = with_knowledge_alone p.at (word_after p.act (w.words p.at)) t (known_after w.shape w.start p (w.words p.at) (w.known t)) w (missed_word p.act (w.words p.at) miss.missed) in
-    subst (λ x. IsValid x P) (sym same) (elim valid [
-      | inl v ↦ inl (glance_fits w P t (known_after w.shape w.start p (w.words p.at) (w.known t)) p (miss_glance w P t v.seen v.safe (λ r. unwaited_fits w P v) p miss) within (miss_shots w.shape w.start p (w.words p.at) (w.known t) miss) v)
-      | inr s ↦ inr (revoking_miss w P s t p within miss)
-    ])
+pub without_clause : (F : World → Type 0) (w : World) → ValidWith F w → Valid w
+without_clause F w v = record { objects = v.objects; is = forgotten F w v.objects v.is }
+
+module _ (F : World → Type 0) (w : World) (P : List PlainObject) (t : ℕ) (p : StepPlan) (within : t < w.shape.threads) where
+  -- a load that logs nothing keeps the world valid, with the same plain objects, and with each clause that stays by such a load
+  pub look_valid_with : IsLook (w.known t) p → ((v : World) → IsLook (v.known t) p → F v → F (world_after p t v)) → IsValidWith F w P → IsValidWith F (world_after p t w) P
+  look_valid_with look stays valid =
+      let alone : (v : World) → IsLook (v.known t) p → world_after p t v ≡ with_knowledge t (known_then v t p) v =
+      λ v a. with_knowledge_alone p.at (word_after p.act (v.words p.at)) t (known_then v t p) v (ap (λ b. word_after b (v.words p.at)) a.act) in
+      let moved : (v : World) → IsLook (v.known t) p → F v → F (with_knowledge t (known_then v t p) v) = λ v a f. subst F (alone v a) (stays v a f) in
+      subst (λ x. IsValidWith F x P) (sym (alone w look)) (elim valid [
+        | inl v ↦ inl (glance_fits w P t (known_then w t p) p (look_glance w P t v.0.seen v.0.safe (λ r. unwaited_fits w P v.0) p look) within (look_shots w.shape w.start p (w.words p.at) (w.known t) look) v.0, moved w look v.1)
+        | inr s ↦ inr (revoking_look w P s.0 F t p within look moved s.1)
+      ])
+
+  -- so does an exchange that misses
+  pub miss_valid_with : IsMiss (w.known t) p (w.words p.at) → ((v : World) → hits p.act (v.words p.at) ≡ false → F v → F (world_after p t v)) → IsValidWith F w P
+      → IsValidWith F (world_after p t w) P
+  miss_valid_with miss stays valid =
+      let alone : (v : World) → hits p.act (v.words p.at) ≡ false → world_after p t v ≡ with_knowledge t (known_then v t p) v =
+      λ v a. with_knowledge_alone p.at (word_after p.act (v.words p.at)) t (known_then v t p) v (missed_word p.act (v.words p.at) a) in
+      let moved : (v : World) → hits p.act (v.words p.at) ≡ false → F v → F (with_knowledge t (known_then v t p) v) = λ v a f. subst F (alone v a) (stays v a f) in
+      subst (λ x. IsValidWith F x P) (sym (alone w miss.missed)) (elim valid [
+        | inl v ↦ inl (glance_fits w P t (known_then w t p) p (miss_glance w P t v.0.seen v.0.safe (λ r. unwaited_fits w P v.0) p miss) within (miss_shots w.shape w.start p (w.words p.at) (w.known t) miss) v.0, moved w miss.missed v.1)
+        | inr s ↦ inr (revoking_miss w P s.0 F t p within miss moved s.1)
+      ])
+
+-- with no clause more
+module _ (w : World) (P : List PlainObject) (t : ℕ) (p : StepPlan) (within : t < w.shape.threads) where
+  abbrev no_more : World → Type 0
+  no_more v = Unit {0}
+
+  and_no_more : IsValid w P → IsValidWith no_more w P
+  and_no_more valid = elim valid [ inl v ↦ inl (v, tt) | inr s ↦ inr (s, tt) ]
+
+  pub look_valid : IsLook (w.known t) p → IsValid w P → IsValid (world_after p t w) P
+  look_valid look valid = forgotten no_more (world_after p t w) P (look_valid_with no_more w P t p within look (λ v a f. tt) (and_no_more valid))
+
+  pub miss_valid : IsMiss (w.known t) p (w.words p.at) → IsValid w P → IsValid (world_after p t w) P
+  miss_valid miss valid = forgotten no_more (world_after p t w) P (miss_valid_with no_more w P t p within miss (λ v a f. tt) (and_no_more valid))

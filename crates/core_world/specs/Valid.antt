@@ -136,6 +136,10 @@ pub record IsRevoking (w : World) (objects : List PlainObject) : Type 0 where
   pub forms : FormsFit w
   pub safe : SafepointFits w objects
 
+-- a bias is being revoked, and this was the world before the first store
+abbrev pub RevokesSince : World → List PlainObject → World → Type 0
+RevokesSince w objects before = (s : IsRevoking w objects) × (s.before ≡ before)
+
 -- the world is valid, and these are the plain objects after its logs
 abbrev pub IsValid : World → List PlainObject → Type 0
 IsValid w objects = Fits w objects ⊎ IsRevoking w objects
@@ -143,3 +147,11 @@ IsValid w objects = Fits w objects ⊎ IsRevoking w objects
 pub record Valid (w : World) : Type 0 where
   pub objects : List PlainObject
   pub is : IsValid w objects
+
+-- The same with one more clause, which holds of the world as it is, or, while a bias is revoked, of the world before the first store.
+abbrev pub IsValidWith : (World → Type 0) → World → List PlainObject → Type 0
+IsValidWith clause w objects = (Fits w objects × clause w) ⊎ ((s : IsRevoking w objects) × clause s.before)
+
+pub record ValidWith (clause : World → Type 0) (w : World) : Type 0 where
+  pub objects : List PlainObject
+  pub is : IsValidWith clause w objects
