@@ -104,6 +104,7 @@ module _ (w : World) (P : List PlainObject) (t : ℕ) (e : Purpose) (within : t 
         here = ap (λ ns. slice_index ns t) cut ∙ length_at (logs w) t ∙ ap (λ y. length y) log_is;
         logged = all_logged t (w.known t).log (w.known t).shots (w.known t).unfinished may.logged (v.shots.dumps t);
         dumps = may.dumps;
+        room = may.room;
       } in
       shots_go_on (λ u. each_with_known (λ u k. ((w.known u).unfinished ≡ k.unfinished) ⊎ ((w.known u).unfinished ≡ None)) t l w.known u (inl (sym may.goes_on)) (λ d. inl refl))
       (shots_taken t l w.known shot next refl v.shots)

@@ -74,13 +74,15 @@ looks_and_shot e s = do
   _ ← ask (keep_shot_plan e)
   done tt
 
--- Keeping a shot: its safepoint is reached, it is in the middle of nothing but a dump, for which it has kept none yet, and it has seen all.
+-- Keeping a shot: its safepoint is reached, it is in the middle of nothing but a dump, for which it has kept none yet, it has room for the shot, and it
+-- has seen all.
 pub record MayKeepShot (s : Shape) (k : Known) (e : Purpose) : Type 0 where
   pub reached : k.reached ≡ true
   pub calm : k.stage ≡ Calm
   pub dumps : IsUnfinished k.unfinished op.Dump 0
   pub goes_on : e.unfinished ≡ k.unfinished
   pub logged : length k.shots ≡ length (dumps_from 0 k.log)
+  pub room : length k.shots < 4
   pub saw : SawAll s k
 
 -- The shot is of the world as it is: it cuts each log at its end, and has the owner and the count of each plain object.

@@ -38,7 +38,7 @@ use Rattle.core_steps.proofs.BiasFacts.{SawHeaders, headers_first, headers_more,
 use Rattle.core_steps.proofs.BiasRules.{rebiases_rule, unbiases_rule}
 use Rattle.core_steps.proofs.Facts.{Untold, fits_here}
 use Rattle.core_steps.proofs.Inflations.{form_found}
-use Rattle.core_steps.proofs.LawRules.{home, away, looks}
+use Rattle.core_steps.proofs.LawRules.{home, away, looks, class_in}
 use Rattle.core_steps.proofs.Resting.{rests, live_carries}
 use Rattle.core_steps.proofs.SeenSteps.{saw_newest, saw_older}
 use Rattle.core_steps.proofs.StackEnters.{Taking, undumped_enter, hold_does}
@@ -119,7 +119,7 @@ module _ (heap : Heap) (o : ℕ) (e : Purpose) (enters : IsUnfinished e.unfinish
           let own = mark_of (Biased k.thread epoch 0) in
           let exchange = rebias_plan e k.thread o mark epoch in
           swapping heap false exchange mark own (λ n. took_steps e (local_of k) o BiasTaken) (λ n. done (Raced mark n)) k Q refl
-          (λ i. rebiases_rule heap k e o mark prototype epoch (λ v. (
+          (λ i. rebiases_rule heap k e o mark prototype epoch x.takes.object (λ v. (
             record {
               prototype = prototype;
               exchange = record { runs = x.takes.runs; calm = x.calm; saw = saw_prototype; loose = loose; goes_on = sym x.mine };
@@ -182,7 +182,7 @@ module _ (heap : Heap) (o : ℕ) (e : Purpose) (enters : IsUnfinished e.unfinish
           let loose = loose_unepoched (read_mark mark) (epoch_in prototype) biased none in
           let reads : read_mark prototype ≡ Some (Neutral 0 0) = ap read_mark (prototype_neutral prototype is none) ∙ neutral_reads_so in
           swapping heap false exchange mark prototype (λ n. done (Unbiased prototype)) (λ n. done (Raced mark n)) k Q refl
-          (λ i. unbiases_rule heap k e o mark prototype prototype (λ v. (
+          (λ i. unbiases_rule heap k e o mark prototype prototype x.takes.object (λ v. (
             record {
               prototype = prototype;
               exchange = record { runs = x.takes.runs; calm = x.calm; saw = saw_prototype; loose = loose; goes_on = sym x.mine };
@@ -218,14 +218,14 @@ module _ (heap : Heap) (o : ℕ) (e : Purpose) (enters : IsUnfinished e.unfinish
     bias_enter_does outs k a calm goes check untold place local same =
         let look = load e (name.Mark o) in
         let c = class_of heap.shape o in
-        hitting heap true look _ k Q (λ n. refl) (λ i. looks heap k look (look_mark heap k e a.runs calm check goes o)) (λ mark i was.
+        hitting heap true look _ k Q (λ n. refl) (λ i. looks heap k look (look_mark heap k e a.runs calm check goes o) (λ v. a.object)) (λ mark i was.
         let l = known_hit heap.shape heap.start look mark k in
         let headers : SawHeaders l = headers_first heap look mark k refl i a.unasks refl in
         chooses heap false (is_biased mark) _ _ l Q
         (λ yes.
         let biasing = biasing_here heap k was.stands a.runs o (ap is_biased was.found ∙ yes) in
         let ask_prototype = load e (name.Prototype c) in
-        hitting heap false ask_prototype _ l Q (λ n. refl) (λ j. looks heap l ask_prototype (look_prototype l e a.runs refl refl (inl refl) c)) (λ prototype j was1.
+        hitting heap false ask_prototype _ l Q (λ n. refl) (λ j. looks heap l ask_prototype (look_prototype l e a.runs refl refl (inl refl) c) (class_in heap l o a.object)) (λ prototype j was1.
         let m = known_hit heap.shape heap.start ask_prototype prototype l in
         let is : IsPrototype prototype = prototype_here heap l was1.stands a.runs c prototype biasing was1.found in
         by_does outs m mark prototype (record { takes = a; mine = refl; check = refl; calm = refl; untold = untold; place = place }) local same (headers_more heap ask_prototype prototype l refl j refl headers)
@@ -314,7 +314,7 @@ module _ (heap : Heap) (e : Purpose) (b : Revocation) (enters : IsUnfinished e.u
 
   pub bias_after_does : (took : Bool) → Released heap e b me k0 took k → Does heap false (bias_after_steps e (local_of k) o took) k Q
   bias_after_does true x =
-      hitting heap false (look true) _ k Q (λ n. refl) (λ i. looks heap k (look true) (looks_again true x)) (λ mark i was.
+      hitting heap false (look true) _ k Q (λ n. refl) (λ i. looks heap k (look true) (looks_again true x) (λ v. wants.object)) (λ mark i was.
       let v = x.mark.0 in
       let p = x.mark.1 in
       let bias : IsBiasTo k.thread (read_mark v) (epoch_in p) = x.mark.4 in
@@ -323,7 +323,7 @@ module _ (heap : Heap) (e : Purpose) (b : Revocation) (enters : IsUnfinished e.u
       own_does (read_mark mark) mark p x bias_now
       (mark, p, saw_newest heap (look true) mark k, saw_older heap (look true) mark k (name.Prototype (class_of heap.shape o)) i refl refl ∙ x.mark.3, bias_now))
   bias_after_does false x =
-      hitting heap false (look false) _ k Q (λ n. refl) (λ i. looks heap k (look false) (looks_again false x)) (λ mark i was.
+      hitting heap false (look false) _ k Q (λ n. refl) (λ i. looks heap k (look false) (looks_again false x) (λ v. wants.object)) (λ mark i was.
       let l = then_known false mark in
       let unbiased : is_biased mark ≡ false = ap is_biased (sym was.found) ∙ unbiased_here heap false k o was.stands x.runs (inr (refl, (x.mark.0, x.mark.2, x.mark.4))) in
       chooses heap false (is_biased mark) _ _ l Q (λ yes. absurd (cc (yes, unbiased))) (λ no.

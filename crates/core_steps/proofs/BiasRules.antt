@@ -1,5 +1,5 @@
 -- The laws of core_bias, with those of core_counts beside them, as rules of the logic.
-use Rattle.std.proofs.Common.{◌≡◌, ℕ, ◌<◌, Bool, true, false, Option, Some, None, refl, sym, ◌∙◌, subst, inl, inr}
+use Rattle.std.proofs.Common.{◌≡◌, ℕ, ◌<◌, Bool, true, false, length, Option, Some, None, refl, sym, ◌∙◌, subst, inl, inr}
 use Rattle.mark_word.specs.declared.mark.MarkForm.{MarkForm}
 use Rattle.mark_word.specs.declared.mark.MarkForm.TheVariants.{Biased}
 use Rattle.mark_word.specs.Mark.{read_mark}
@@ -13,6 +13,7 @@ use Rattle.core_world.specs.Words.Forms.{epoch_in, is_biased, is_biased_form}
 use Rattle.core_world.specs.Trees.Plans.{Purpose}
 use Rattle.core_world.specs.Trees.SafepointSteps.{release_plan}
 use Rattle.core_world.specs.Trees.RevocationSteps.{revoke_plan}
+use Rattle.core_world.specs.There.{IsIn}
 use Rattle.core_world.specs.Words.Shape.{class_of}
 use Rattle.core_world.specs.Threads.Stages.{Revocation, revocation_in}
 use Rattle.core_world.specs.Steps.{world_after}
@@ -42,25 +43,26 @@ took_biased t o c true f tells = cases (read_mark (f (Mark o))) tells
 
 module _ (heap : Heap) (k : Known) where
   -- EXCHANGES of a mark that is anonymous or stale: for the own bias
-  pub rebiases_rule : (e : Purpose) (o mark prototype epoch : ℕ) → (Stands heap k → MayRebias heap.shape k e o mark epoch × MayTakeBias heap.shape k e o mark prototype epoch)
+  pub rebiases_rule : (e : Purpose) (o mark prototype epoch : ℕ) → o < length heap.shape.objects → (Stands heap k → MayRebias heap.shape k e o mark epoch × MayTakeBias heap.shape k e o mark prototype epoch)
       → Keeps heap (rebias_plan e k.thread o mark epoch) k
-  rebiases_rule e o mark prototype epoch may =
+  rebiases_rule e o mark prototype epoch object may =
       keeps heap k (λ s y. MayRebias s y e o mark epoch × MayTakeBias s y e o mark prototype epoch) (λ t y. rebias_plan e t o mark epoch)
       (λ w P t within m valid. rebias_valid e o mark epoch w P t within m.0 valid)
-      (λ w P t within m v law. bias_taken w P t e o mark prototype epoch within m.1 v law) (λ t y h. refl) (λ s y a. a.1.runs) may
+      (λ w P t within m v law. bias_taken w P t e o mark prototype epoch within m.1 v law) (λ t y h. refl) (λ s y a. a.1.runs) (λ v. (object, tt)) may
 
   -- and for a mark without the bias pattern
-  pub unbiases_rule : (e : Purpose) (o mark prototype neutral : ℕ) → (Stands heap k → MayUnbias heap.shape k e o mark neutral × MayDropBias heap.shape k e o mark prototype neutral)
+  pub unbiases_rule : (e : Purpose) (o mark prototype neutral : ℕ) → o < length heap.shape.objects → (Stands heap k → MayUnbias heap.shape k e o mark neutral × MayDropBias heap.shape k e o mark prototype neutral)
       → Keeps heap (unbias_plan e o mark neutral) k
-  unbiases_rule e o mark prototype neutral may =
+  unbiases_rule e o mark prototype neutral object may =
       keeps heap k (λ s y. MayUnbias s y e o mark neutral × MayDropBias s y e o mark prototype neutral) (λ t y. unbias_plan e o mark neutral)
       (λ w P t within m valid. drop_valid e o mark neutral w P t within m.0 valid)
-      (λ w P t within m v law. bias_dropped w P t e o mark prototype neutral within m.1 v law) (λ t y h. refl) (λ s y a. a.1.runs) may
+      (λ w P t within m v law. bias_dropped w P t e o mark prototype neutral within m.1 v law) (λ t y h. refl) (λ s y a. a.1.runs) (λ v. (object, tt)) may
 
   -- A REVOCATION: its first store, with which the law holds of the world before
-  pub begins_revoking_rule : (e : Purpose) (b : Revocation) (verdict : Verdict) (reset : Bool) (at : Name) (word : ℕ) → (Stands heap k → MayBeginRevoking heap.shape k e k.thread b verdict reset at word)
+  pub begins_revoking_rule : (e : Purpose) (b : Revocation) (verdict : Verdict) (reset : Bool) (at : Name) (word : ℕ) → (Stands heap k → IsIn heap.shape at) → (Stands heap k → MayBeginRevoking heap.shape k e k.thread b verdict reset at word)
       → Keeps heap (revoke_plan e b (own.CountVerdict (class_of heap.shape b.object) verdict reset) at word) k
-  begins_revoking_rule e b verdict reset at word may = record {
+  begins_revoking_rule e b verdict reset at word there may = record {
+    there = λ v. (there v, tt);
     by = λ v.
         let a = calm_in_all heap k v (may v).reached (may v).calm in
         home heap k v (λ s y. MayBeginRevoking s y e k.thread b verdict reset at word
@@ -81,8 +83,9 @@ module _ (heap : Heap) (k : Known) where
   ]
 
   -- each other store, with which it goes on holding there
-  pub goes_on_revoking_rule : (e : Purpose) (b : Revocation) (at : Name) (word : ℕ) → (Stands heap k → MayGoOnRevoking heap.shape k e k.thread b at word) → Keeps heap (revoke_plan e b own.Same at word) k
-  goes_on_revoking_rule e b at word may = record {
+  pub goes_on_revoking_rule : (e : Purpose) (b : Revocation) (at : Name) (word : ℕ) → (Stands heap k → IsIn heap.shape at) → (Stands heap k → MayGoOnRevoking heap.shape k e k.thread b at word) → Keeps heap (revoke_plan e b own.Same at word) k
+  goes_on_revoking_rule e b at word there may = record {
+    there = λ v. (there v, tt);
     by = λ v. in_middle (λ v u. WhollyValid (world_after (revoke_plan e b own.Same at word) u v.world)) b
         (λ v s same law.
         let within = subst (λ u. u < v.world.shape.threads) (sym same) (inside heap k v) in
@@ -96,6 +99,7 @@ module _ (heap : Heap) (k : Known) where
       → (Stands heap k → MayEndRevoking heap.shape k e k.thread b) → ((v : Stands heap k) → TellsBias k.thread b.object (class_of heap.shape b.object) took v.world.words)
       → Keeps heap (release_plan e (stage_after took b.object) k.thread) k
   ends_revoking_rule e b took may tells = record {
+    there = λ v. (tt, tt);
     by = λ v. in_middle (λ v u. WhollyValid (world_after (release_plan e (stage_after took b.object) u) u v.world)) b
         (λ v s same law.
         let m = away heap k v (λ z y. MayEndRevoking z y e k.thread b) (may v) in

@@ -1,5 +1,5 @@
 -- A check whether the run is stuck: it looks at all threads at a safepoint, and halts or releases.
-use Rattle.std.proofs.Common.{◌≡◌, ◌⊎◌, ℕ, zero, suc, ◌+◌, ◌<◌, ◌&&◌, ◌==◌, eq-eqb, not, Bool, true, false, cond, List, [], ◌∷◌, Option, Some, None, refl, sym, ap, ◌∙◌, subst, inl, inr, arith, zero-add}
+use Rattle.std.proofs.Common.{◌≡◌, ◌⊎◌, ℕ, zero, suc, ◌+◌, ◌<◌, ◌&&◌, ◌==◌, eq-eqb, not, Bool, true, false, cond, List, [], ◌∷◌, Option, Some, None, refl, sym, ap, ◌∙◌, subst, inl, inr, arith, zero-add, length}
 use Rattle.mark_word.specs.declared.mark.MarkForm.TheVariants.{Inflated}
 use Rattle.mark_word.specs.declared.wait.WaitForm.{WaitForm}
 use Rattle.mark_word.specs.declared.wait.WaitForm.TheVariants as wait
@@ -21,13 +21,14 @@ use Rattle.core_world.specs.Clauses.Safepoints.{ends}
 use Rattle.core_world.specs.Trees.SafepointSteps.{reached_word, halted_word, safepoint_steps}
 use Rattle.core_world.specs.Steps.{known_hit}
 use Rattle.core_world.specs.Trees.Todo.{Todo, done, ask, each_from, ◌>>=◌}
-use Rattle.core_world.specs.Clauses.WordForms.{IsWait}
+use Rattle.core_world.specs.Clauses.WordForms.{IsWait, IsMark}
 use Rattle.core_world.proofs.OwnersShown.{inflated_form}
 use Rattle.core_locks.specs.SafepointLaws.{SeesEnded, SeesHeldUp}
+use Rattle.core_world.specs.Words.Shape.{monitor_count}
 use Rattle.core_steps.specs.Logic.{Heap, Does}
 use Rattle.core_steps.specs.Sound.{Finishes, BeginsWell}
 use Rattle.core_steps.proofs.LawRules.{releases, halts}
-use Rattle.core_steps.proofs.SafepointLooks.{Reaches, Seeing, seeing_all, forms_fit, is_as_seen, fits_reached, keeps_look, saw_there, still_seen, Facts, each_does, going}
+use Rattle.core_steps.proofs.SafepointLooks.{Reaches, Seeing, seeing_all, forms_fit, is_as_seen, fits_reached, keeps_look, saw_there, still_seen, Facts, each_does, going, found_formed}
 use Rattle.core_steps.proofs.Trees.{answers, chooses_then, follows, binds, hitting, finding}
 use Rattle.core_steps.proofs.Requests.{Stood, safepoint_does}
 use Rattle.core_steps.proofs.Resting.{Carries, carried, rests, rests_checking}
@@ -54,10 +55,10 @@ module _ (heap : Heap) (e : Purpose) (me : ℕ) (checks : e.check ≡ true) wher
 
   -- the monitor of an object that the thread enters, or was notified of
   monitor_does : (k0 k : Known) (u o word mark m : ℕ) → Reaches me k e → Seeing k0 k → last_seen (name.Waiting u) k.seen_at_safepoint ≡ Some word → (says_notified word o ≡ true) ⊎ (enters_on word o ≡ true)
-      → last_seen (name.Mark o) k.seen_at_safepoint ≡ Some mark → monitor_in mark ≡ Some m → Does heap false (look_at_monitor (Some (Inflated m)) e u) k (λ b a l. After k0 u a l)
-  monitor_does k0 k u o word mark m r s saw how saw_mark is =
+      → last_seen (name.Mark o) k.seen_at_safepoint ≡ Some mark → monitor_in mark ≡ Some m → m < monitor_count heap.shape → Does heap false (look_at_monitor (Some (Inflated m)) e u) k (λ b a l. After k0 u a l)
+  monitor_does k0 k u o word mark m r s saw how saw_mark is there =
       hitting heap false _ _ k _ (λ n. refl)
-      (λ i. keeps_look heap me e (name.Owner m) k r)
+      (λ i. keeps_look heap me e (name.Owner m) k r (λ v. there))
       (λ owner i was.
       let l = known_hit heap.shape heap.start (load e (name.Owner m)) owner k in
       let seeing : Seeing k l = still_seen heap me e (name.Owner m) k owner r.reached refl was in
@@ -72,9 +73,9 @@ module _ (heap : Heap) (e : Purpose) (me : ℕ) (checks : e.check ≡ true) wher
       cases owner l seeing saw_owner false shut = (o, word, seeing.saw (name.Waiting u) word saw, inr (how, (mark, m, owner, seeing.saw (name.Mark o) mark saw_mark, is, saw_owner, shut)))
 
   object_does : (k0 k : Known) (u o word : ℕ) → Reaches me k e → Seeing k0 k → last_seen (name.Waiting u) k.seen_at_safepoint ≡ Some word → (says_notified word o ≡ true) ⊎ (enters_on word o ≡ true)
-      → Does heap false (look_at_object e u o) k (λ b a l. After k0 u a l)
-  object_does k0 k u o word r s saw how =
-      hitting heap false _ _ k _ (λ n. refl) (λ i. keeps_look heap me e (name.Mark o) k r) (λ mark i was.
+      → o < length heap.shape.objects → Does heap false (look_at_object e u o) k (λ b a l. After k0 u a l)
+  object_does k0 k u o word r s saw how object =
+      hitting heap false _ _ k _ (λ n. refl) (λ i. keeps_look heap me e (name.Mark o) k r (λ v. object)) (λ mark i was.
       let l = known_hit heap.shape heap.start (load e (name.Mark o)) mark k in
       let seeing : Seeing k l = still_seen heap me e (name.Mark o) k mark r.reached refl was in
       let v = was.stands in
@@ -90,27 +91,25 @@ module _ (heap : Heap) (e : Purpose) (me : ℕ) (checks : e.check ≡ true) wher
       let is : monitor_in mark ≡ Some inflated.0 = ap monitor_in (sym was.found) ∙ inflated.1 in
       subst (λ f. Does heap false (look_at_monitor f e u) l (λ b a l. After k0 u a l)) (sym (inflated_form (read_mark mark) inflated.0 is))
       (monitor_does k0 l u o word mark inflated.0 (record { number = r.number; reached = r.reached; stopped = r.stopped; calm = refl; check = refl; mine = refl; live = r.live; carries = r.carries })
-      (seeing_all k0 k l s seeing) (seeing.saw (name.Waiting u) word saw) how (saw_there heap me e (name.Mark o) k mark refl) is))
+      (seeing_all k0 k l s seeing) (seeing.saw (name.Waiting u) word saw) how (saw_there heap me e (name.Mark o) k mark refl) is
+      (subst (IsMark heap.shape) (inflated_form (read_mark mark) inflated.0 is) (found_formed heap k (name.Mark o) mark refl was))))
 
   wait_does : (f : Option WaitForm) (k0 k : Known) (u word : ℕ) → read_wait word ≡ f → IsWait heap.shape f → Reaches me k e → Seeing k0 k → last_seen (name.Waiting u) k.seen_at_safepoint ≡ Some word
       → Does heap false (look_at_wait f e u) k (λ b a l. After k0 u a l)
   wait_does None k0 k u word reads form r s saw = absurd form
   wait_does (Some wait.Ready) k0 k u word reads form r s saw = answers heap false _ k _ (r, s, tt)
-  wait_does (Some (wait.Entering o)) k0 k u word reads form r s saw = object_does k0 k u o word r s saw (inr (ap (λ f. enters_form f o) reads ∙ eq-eqb o o refl))
+  wait_does (Some (wait.Entering o)) k0 k u word reads form r s saw = object_does k0 k u o word r s saw (inr (ap (λ f. enters_form f o) reads ∙ eq-eqb o o refl)) form
   wait_does (Some (wait.Waiting o x)) k0 k u word reads form r s saw = answers heap false _ k _ (r, s, (o, word, saw, inl (ap (λ f. waits_form f o) reads ∙ eq-eqb o o refl)))
-  wait_does (Some (wait.Notified o)) k0 k u word reads form r s saw = object_does k0 k u o word r s saw (inl (ap (λ f. notified_form f o) reads ∙ eq-eqb o o refl))
+  wait_does (Some (wait.Notified o)) k0 k u word reads form r s saw = object_does k0 k u o word r s saw (inl (ap (λ f. notified_form f o) reads ∙ eq-eqb o o refl)) form
   wait_does (Some wait.Ended) k0 k u word reads form r s saw = answers heap false _ k _ (r, s, (word, saw, ap ended_form reads))
 
   abbrev pub turn_of : ℕ → Todo (Option Bool)
   turn_of t = ask (load e (name.Waiting t)) >>= (λ word. look_at_wait (read_wait word) e t)
 
-  pub turn_does : (u : ℕ) (k : Known) → Reaches me k e → Does heap false (turn_of u) k (λ b a l. After k u a l)
-  turn_does u k r =
-      hitting heap false _ _ k _ (λ n. refl) (λ i. keeps_look heap me e (name.Waiting u) k r) (λ word i was.
-      let v = was.stands in
-      let form : IsWait heap.shape (read_wait word) =
-      subst (λ n. IsWait heap.shape (read_wait n)) was.found (subst (λ (z : Heap). IsWait z.shape (read_wait (v.world.words (name.Waiting u)))) v.is_of ((forms_fit heap k v).waits u)) in
-      wait_does (read_wait word) k _ u word refl form (record { number = r.number; reached = r.reached; stopped = r.stopped; calm = refl; check = refl; mine = refl; live = r.live; carries = r.carries })
+  pub turn_does : (u : ℕ) (k : Known) → u < heap.shape.threads → Reaches me k e → Does heap false (turn_of u) k (λ b a l. After k u a l)
+  turn_does u k thread r =
+      hitting heap false _ _ k _ (λ n. refl) (λ i. keeps_look heap me e (name.Waiting u) k r (λ v. thread)) (λ word i was.
+      wait_does (read_wait word) k _ u word refl (found_formed heap k (name.Waiting u) word refl was) (record { number = r.number; reached = r.reached; stopped = r.stopped; calm = refl; check = refl; mine = refl; live = r.live; carries = r.carries })
       (still_seen heap me e (name.Waiting u) k word r.reached refl was) (saw_there heap me e (name.Waiting u) k word refl))
 
   here_stuck : (i : ℕ) (a : Option Bool) (xs : List (Option Bool)) (l : Known) → Told i a l → none_goes_on (a ∷ xs) ≡ true → SeesEnded l i ⊎ SeesHeldUp l i
@@ -123,7 +122,7 @@ module _ (heap : Heap) (e : Purpose) (me : ℕ) (checks : e.check ≡ true) wher
   then_stuck (Some true) xs none = absurd (cc none)
   then_stuck (Some false) xs none = none
 
-  pub all_stuck : (i n : ℕ) (xs : List (Option Bool)) (l : Known) → Facts heap turn_of (λ k. Reaches me k e) Told told_more turn_does i n xs l → none_goes_on xs ≡ true → (t : ℕ) → t < n
+  pub all_stuck : (i n : ℕ) (xs : List (Option Bool)) (l : Known) → Facts heap turn_of (λ k. Reaches me k e) Told told_more heap.shape.threads turn_does i n xs l → none_goes_on xs ≡ true → (t : ℕ) → t < n
       → SeesEnded l (i + t) ⊎ SeesHeldUp l (i + t)
   all_stuck i zero xs l facts none t h = absurd (omega arith)
   all_stuck i (suc n) [] l facts none t h = absurd facts
@@ -167,7 +166,7 @@ module _ (heap : Heap) (e : Purpose) (me : ℕ) (checks : e.check ≡ true) wher
   standing_does k r =
       going heap (stands_still_steps e heap.shape) (λ still. check_ending still e me) k _ (
       going heap (each_from 0 heap.shape.threads turn_of) (λ xs. done (some_live xs && none_goes_on xs)) k _ (
-      follows heap false _ k _ _ (each_does heap turn_of (λ k. Reaches me k e) Told told_more turn_does 0 heap.shape.threads k r) (λ b xs l x.
+      follows heap false _ k _ _ (each_does heap turn_of (λ k. Reaches me k e) Told told_more heap.shape.threads turn_does 0 heap.shape.threads k (omega arith) r) (λ b xs l x.
       answers heap false (some_live xs && none_goes_on xs) l _ (
       subst (λ t. Does heap false (check_ending (some_live xs && none_goes_on xs) e t) l (λ b r l. AtRest heap.shape l)) x.0.number
       (ending_does (some_live xs && none_goes_on xs) l x.0 (λ yes t h. subst (λ z. SeesEnded l z ⊎ SeesHeldUp l z) (zero-add t) (all_stuck 0 heap.shape.threads xs l x.2 (both_hold (some_live xs) (none_goes_on xs) yes) t h)))))))

@@ -1,6 +1,7 @@
 -- A dump begins well: it looks at all objects and lengths at a safepoint, keeps its shot, releases the safepoint and logs its entry.
-use Rattle.std.proofs.Common.{◌≡◌, ℕ, zero, suc, ◌+◌, ◌<◌, ◌==◌, ◌||◌, ◌&&◌, ◌++◌, eq-eqb, Bool, true, false, cond, List, [], ◌∷◌, length, Option, Some, None, refl, sym, ap, ◌∙◌, subst, inl, inr, arith}
+use Rattle.std.proofs.Common.{◌≡◌, ℕ, zero, suc, ◌+◌, ◌<◌, ◌==◌, ◌||◌, ◌&&◌, ◌++◌, eq-eqb, Bool, true, false, cond, List, [], ◌∷◌, length, Option, Some, None, refl, sym, ap, ◌∙◌, subst, inl, inr, arith, ◌≤◌}
 use Rattle.std.proofs.lemmas.List.{length-append, length-map}
+use Rattle.std.proofs.lemmas.Bool.Decides.{nat_tests}
 use Rattle.mark_word.specs.declared.mark.MarkForm.{MarkForm}
 use Rattle.mark_word.specs.declared.mark.MarkForm.TheVariants.{Biased, Locked, Inflated}
 use Rattle.mark_word.specs.declared.owner.OwnerForm.{OwnerForm}
@@ -28,7 +29,7 @@ use Rattle.core_world.specs.Trees.Operations.{answer, and_then, goes_on_with, du
 use Rattle.core_world.specs.Trees.Plans.{Purpose, purpose, load, done_with}
 use Rattle.core_world.specs.Trees.SafepointSteps.{reached_word, released_word, safepoint_steps, release_safepoint, release_plan}
 use Rattle.core_world.specs.Clauses.Safepoints.{IsUnfinished, ends}
-use Rattle.core_world.specs.Words.Shape.{Shape, class_of}
+use Rattle.core_world.specs.Words.Shape.{Shape, class_of, IsInLimits}
 use Rattle.core_world.specs.Shots.{dumps_from}
 use Rattle.core_world.specs.Steps.{known_hit, shot_of, seen_at_safepoint_before}
 use Rattle.core_world.specs.Trees.Todo.{Todo, done, never, step, ask, all_from, ◌>>=◌}
@@ -37,59 +38,69 @@ use Rattle.core_locks.specs.ShotLaws.{SawAll, SawSteps, MayKeepShot, shot_looks}
 use Rattle.core_locks.proofs.Shoots.{keeps_shot}
 use Rattle.core_counts.proofs.QuietKinds as quiet
 use Rattle.core_locks.proofs.ShotTree.{looks_first, looks_see}
+use Rattle.core_locks.proofs.ValidShots.{valid_shots}
+use Rattle.core_world.specs.There.{IsIn}
+use Rattle.core_world.specs.Clauses.WordForms.{IsMark, IsOwner}
+use Rattle.core_world.specs.declared.plan.StepPlan.{StepPlan}
+use Rattle.core_steps.proofs.There.{IsFormed, class_there}
 use Rattle.core_steps.specs.Logic.{Heap, Stands, Does}
 use Rattle.core_steps.specs.Sound.{Finishes, BeginsWell}
 use Rattle.core_steps.proofs.Facts.{Untold, fits_here, ready_here}
-use Rattle.core_steps.proofs.LawRules.{home, keeps_calm, releases, publishes}
+use Rattle.core_steps.proofs.LawRules.{home, keeps_calm, releases, publishes, limits, valid_here}
 use Rattle.core_steps.proofs.Requests.{Asks, Stood, BeginsSafepoint, safepoint_does}
 use Rattle.core_steps.proofs.Resting.{Carries, logged_carries, rests}
 use Rattle.core_steps.proofs.SafeCalls.{closes, released_unasks}
-use Rattle.core_steps.proofs.SafepointLooks.{Reaches, Seeing, seeing_all, seeing_itself, keeps_look, saw_there, still_seen, going}
+use Rattle.core_steps.proofs.SafepointLooks.{Reaches, Seeing, seeing_all, seeing_itself, keeps_look, saw_there, still_seen, going, found_formed}
 use Rattle.core_steps.proofs.SafeWords.{reached_there, released_runs, few_threads}
 use Rattle.core_steps.proofs.Tests.{asking_goes, free_runs, Operates, operates, going_is, goes_on_or_begins, is_of_kind}
 use Rattle.core_steps.proofs.Trees.{answers, chooses, chooses_then, follows, binds, hitting, finding}
 
--- LOOKS. All steps of the tree are loads that log and keep nothing, whatever they find.
-abbrev Looks : {A : Type 0} → Purpose → Todo A → Type 0
-Looks e (done a) = Unit {0}
-Looks e never = ⊥
-Looks e (step p f) = ((at : Name) × (p ≡ load e at)) × ((n : ℕ) → Looks e (f n))
+-- LOOKS. All steps of the tree are loads of words of the heap that log and keep nothing, whatever words of the heap's forms they find.
+abbrev Looks : {A : Type 0} → Shape → Purpose → Todo A → Type 0
+Looks s e (done a) = Unit {0}
+Looks s e never = ⊥
+Looks s e (step p f) = ((at : Name) × IsIn s at × (p ≡ load e at)) × ((n : ℕ) → IsFormed s p.at n → Looks s e (f n))
 
-looks_bind : {A B : Type 0} (e : Purpose) (d : Todo A) (g : A → Todo B) → Looks e d → ((a : A) → Looks e (g a)) → Looks e (d >>= g)
-looks_bind e (done a) g h k = k a
-looks_bind e never g h k = h
-looks_bind e (step p f) g h k = (h.0, λ n. looks_bind e (f n) g (h.1 n) k)
+module _ (s : Shape) (e : Purpose) where
+  looks_bind : {A B : Type 0} (d : Todo A) (g : A → Todo B) → Looks s e d → ((a : A) → Looks s e (g a)) → Looks s e (d >>= g)
+  looks_bind (done a) g h k = k a
+  looks_bind never g h k = h
+  looks_bind (step p f) g h k = (h.0, λ n formed. looks_bind (f n) g (h.1 n formed) k)
 
-looks_each : (e : Purpose) (i n : ℕ) (f : ℕ → Todo (Unit {0})) → ((j : ℕ) → Looks e (f j)) → Looks e (all_from i n f)
-looks_each e i zero f h = tt
-looks_each e i (suc n) f h = looks_bind e (f i) (λ u. all_from (i + 1) n f) (h i) (λ u. looks_each e (i + 1) n f h)
+  looks_each : (i n : ℕ) (f : ℕ → Todo (Unit {0})) → ((j : ℕ) → j < i + n → Looks s e (f j)) → Looks s e (all_from i n f)
+  looks_each i zero f h = tt
+  looks_each i (suc n) f h = looks_bind (f i) (λ u. all_from (i + 1) n f) (h i (omega arith)) (λ u. looks_each (i + 1) n f (λ j less. h j (omega (arith, less))))
 
-module _ (e : Purpose) where
-  look_one : (at : Name) → Looks {A = Unit {0}} e (ask (load e at) >>= (λ n. done tt))
-  look_one at = ((at, refl), λ n. tt)
+  look_one : (at : Name) → IsIn s at → Looks {A = Unit {0}} s e (ask (load e at) >>= (λ n. done tt))
+  look_one at there = ((at, there, refl), λ n formed. tt)
 
-  look_holds : (t : ℕ) → Looks e (look_at_holds e t)
-  look_holds t = looks_each e 0 64 (λ p. ask (load e (name.Hold t p)) >>= (λ n. done tt)) (λ p. look_one (name.Hold t p))
+  look_holds : (t : ℕ) → t < s.threads → Looks s e (look_at_holds e t)
+  look_holds t thread = looks_each 0 64 (λ p. ask (load e (name.Hold t p)) >>= (λ n. done tt)) (λ p place. look_one (name.Hold t p) (thread, place))
 
-  look_owner : (f : Option OwnerForm) → Looks e (look_at_owner f e)
-  look_owner (Some (ByThread thread)) = look_holds thread
-  look_owner (Some (ByRecord thread place)) = look_holds thread
-  look_owner _ = tt
+  look_owner : (f : Option OwnerForm) → IsOwner s f → Looks s e (look_at_owner f e)
+  look_owner (Some (ByThread thread)) form = look_holds thread form
+  look_owner (Some (ByRecord thread place)) form = look_holds thread form
+  look_owner _ form = tt
 
-  look_valid : (b : Bool) (t : ℕ) → Looks e (cond b (look_at_holds e t) (done tt))
-  look_valid true t = look_holds t
-  look_valid false t = tt
+  look_valid : (b : Bool) (t : ℕ) → t < s.threads → Looks s e (cond b (look_at_holds e t) (done tt))
+  look_valid true t thread = look_holds t thread
+  look_valid false t thread = tt
 
-  look_named : (f : Option MarkForm) (s : Shape) (o : ℕ) → Looks e (look_behind f e s o)
-  look_named (Some (Biased thread epoch age)) s o = ((name.Prototype (class_of s o), refl), λ n. look_valid (has_epoch (epoch_in n) epoch) thread)
-  look_named (Some (Locked thread place)) s o = look_holds thread
-  look_named (Some (Inflated monitor)) s o = ((name.Owner monitor, refl), λ n. look_owner (read_owner n))
-  look_named _ s o = tt
+  module _ (limits : IsInLimits s) where
+    look_named : (f : Option MarkForm) (o : ℕ) → o < length s.objects → IsMark s f → Looks s e (look_behind f e s o)
+    look_named (Some (Biased thread epoch age)) o object form =
+        ((name.Prototype (class_of s o), class_there s o limits object, refl), λ n formed. look_valid (has_epoch (epoch_in n) epoch) thread form.0)
+    look_named (Some (Locked thread place)) o object form = look_holds thread form
+    look_named (Some (Inflated monitor)) o object form = ((name.Owner monitor, form, refl), λ n formed. look_owner (read_owner n) formed)
+    look_named _ o object form = tt
 
-  look_all : (s : Shape) → Looks e (shot_looks e s)
-  look_all s = looks_bind e (look_at_objects e s) (λ u. all_from 0 s.threads (λ t. ask (load e (name.Length t)) >>= (λ n. done tt)))
-      (looks_each e 0 (length s.objects) (λ o. ask (load e (name.Mark o)) >>= (λ mark. look_behind (read_mark mark) e s o)) (λ o. ((name.Mark o, refl), λ n. look_named (read_mark n) s o)))
-      (λ u. looks_each e 0 s.threads (λ t. ask (load e (name.Length t)) >>= (λ n. done tt)) (λ t. look_one (name.Length t)))
+    look_all : Looks s e (shot_looks e s)
+    look_all = looks_bind (look_at_objects e s) (λ u. all_from 0 s.threads (λ t. ask (load e (name.Length t)) >>= (λ n. done tt)))
+        (looks_each 0 (length s.objects) (λ o. ask (load e (name.Mark o)) >>= (λ mark. look_behind (read_mark mark) e s o))
+        (λ o less.
+        let object : o < length s.objects = omega (arith, less) in
+        ((name.Mark o, object, refl), λ n formed. look_named (read_mark n) o object formed)))
+        (λ u. looks_each 0 s.threads (λ t. ask (load e (name.Length t)) >>= (λ n. done tt)) (λ t less. look_one (name.Length t) (omega (arith, less))))
 
 -- a load at the reached safepoint forgets nothing
 stood_kept : (at : Name) (k : Known) → k.reached ≡ true → seen_at_safepoint_before at Load k ≡ k.seen_at_safepoint
@@ -107,7 +118,7 @@ unentering_dump u e o h = let a = ap (is_of_kind op.Dump) (sym e ∙ h) in cc a
 abbrev dump_errand : Purpose
 dump_errand = purpose Dump op.Dump 0
 
-module _ (heap : Heap) (me : ℕ) (here : Local) (shots : List DumpShot) (room : length here.log < log_limit) where
+module _ (heap : Heap) (me : ℕ) (here : Local) (shots : List DumpShot) (room : length here.log < log_limit) (few : length shots < 4) (limits : IsInLimits heap.shape) where
   -- the thread stands at its reached safepoint, and the parts of its knowledge that the tree takes are what they were when the call began
   record Dumps (k : Known) : Type 0 where
     reaches : Reaches me k dump_errand
@@ -135,17 +146,17 @@ module _ (heap : Heap) (me : ℕ) (here : Local) (shots : List DumpShot) (room :
       }
 
   -- the looks, each of which stays seen
-  looks_do : {A : Type 0} (d : Todo A) (k : Known) → Looks dump_errand d → Dumps k → Does heap false d k (λ b a l. Dumps l × Seeing k l × SawSteps d l (λ x. Unit {0}))
+  looks_do : {A : Type 0} (d : Todo A) (k : Known) → Looks heap.shape dump_errand d → Dumps k → Does heap false d k (λ b a l. Dumps l × Seeing k l × SawSteps d l (λ x. Unit {0}))
   looks_do (done a) k h s = answers heap false a k _ (s, seeing_itself k, tt)
   looks_do never k h s = absurd h
   looks_do {A} (step p f) k h s =
       let at = h.0.0 in
-      subst (λ z. Does heap false (step z f) k (λ b a l. Dumps l × Seeing k l × SawSteps (step z f) l (λ x. Unit {0}))) (sym h.0.1)
-      (hitting heap false (load dump_errand at) f k _ (λ n. refl) (λ i. keeps_look heap me dump_errand at k s.reaches) (λ n i was.
+      subst (λ z. Does heap false (step z f) k (λ b a l. Dumps l × Seeing k l × SawSteps (step z f) l (λ x. Unit {0}))) (sym h.0.2)
+      (hitting heap false (load dump_errand at) f k _ (λ n. refl) (λ i. keeps_look heap me dump_errand at k s.reaches (λ v. h.0.1)) (λ n i was.
       let l = known_hit heap.shape heap.start (load dump_errand at) n k in
       let kept = stood_kept at k s.reaches.reached in
       let seeing : Seeing k l = still_seen heap me dump_errand at k n s.reaches.reached kept was in
-      follows heap false (f n) l _ _ (looks_do (f n) l (h.1 n) (after_load at n k s)) (λ b a m x.
+      follows heap false (f n) l _ _ (looks_do (f n) l (h.1 n (subst (λ (z : StepPlan). IsFormed heap.shape z.at n) (sym h.0.2) (found_formed heap k at n refl was))) (after_load at n k s)) (λ b a m x.
       (x.0, seeing_all k l m seeing x.1, (n, x.1.saw at n (saw_there heap me dump_errand at k n kept), x.2)))))
 
   -- behind the shot: it has no entry yet
@@ -203,7 +214,8 @@ module _ (heap : Heap) (me : ℕ) (here : Local) (shots : List DumpShot) (room :
       let logged : length k.shots ≡ length (dumps_from 0 k.log) = r.carries.shots_logged refl in
       hitting heap false p _ k _ (λ n. refl)
       (λ i. keeps_calm heap k (λ s y. MayKeepShot s y dump_errand) (λ t y. keep_shot_plan dump_errand) (keeps_shot dump_errand) (quiet.keeps_shot dump_errand) (λ t y h. refl) r.reached r.calm
-      (λ v. record { reached = r.reached; calm = r.calm; dumps = sym r.mine; goes_on = r.mine; logged = logged; saw = saw })) (λ n i was.
+      (λ v. (tt, subst (λ z. length z < 4) (sym d.shots_are) few))
+      (λ v. record { reached = r.reached; calm = r.calm; dumps = sym r.mine; goes_on = r.mine; logged = logged; room = subst (λ z. length z < 4) (sym d.shots_are) few; saw = saw })) (λ n i was.
       let l = known_hit heap.shape heap.start p n k in
       answers heap false _ l _ (ending_does l (shot_of heap.shape k) (record {
         reached = or_true k.reached _ r.reached;
@@ -228,7 +240,7 @@ module _ (heap : Heap) (me : ℕ) (here : Local) (shots : List DumpShot) (room :
       subst (λ z. Does heap false (z >>= (λ u. released)) k (λ b r l. AtRest heap.shape l)) (sym (looks_first dump_errand heap.shape))
       (going heap (shot_looks dump_errand heap.shape >>= (λ u. shoot >>= (λ n. done tt))) (λ u. released) k _ (
       going heap (shot_looks dump_errand heap.shape) (λ u. shoot >>= (λ n. done tt)) k _ (
-      follows heap false (shot_looks dump_errand heap.shape) k _ _ (looks_do (shot_looks dump_errand heap.shape) k (look_all dump_errand heap.shape) d) (λ b u l x.
+      follows heap false (shot_looks dump_errand heap.shape) k _ _ (looks_do (shot_looks dump_errand heap.shape) k (look_all heap.shape dump_errand limits) d) (λ b u l x.
       shooting_does l x.0 (looks_see l dump_errand heap.shape _ x.2)))))
 
   then_dumped : (k0 : Known) → local_of k0 ≡ here → k0.shots ≡ shots → (b : Bool) (r : Turn (Unit {0})) (k : Known) → (b ≡ false) × Stood heap dump_errand me k0 r k
@@ -285,6 +297,12 @@ module _ (heap : Heap) where
       ]
       cases false stops h = rest.shots (going_is op.Dump 0 k.unfinished (asking_goes k.running k.requesting (goes_on_with op.Dump 0 k.unfinished) a.runs stops))
 
+  -- a thread takes at most 4 shots
+  fewer_than_four : (k : Known) → Stands heap k → (length k.shots == 4) ≡ false → length k.shots < 4
+  fewer_than_four k v other =
+      let most = home heap k v (λ s y. length y.shots ≤ 4) ((valid_shots v.world v.objects (valid_here heap k v)).few k.thread) in
+      grind (arith, nat_tests, most, other)
+
   dump_finishes : (k : Known) → Stands heap k → AtRest heap.shape k → may_begin heap.shape heap.biasing k Dump ≡ true → Finishes heap true (steps_of heap.shape Dump (start_of heap.start k)) k
   unfolding steps_of
   dump_finishes k v rest may =
@@ -293,11 +311,13 @@ module _ (heap : Heap) where
       let s = start_of heap.start k in
       closes heap true _ k (
       chooses heap true (length k.shots == 4) _ _ k _ (λ h. answers heap true _ k _ rest) (λ h.
+      let few = fewer_than_four k v h in
+      let bounds = limits heap k v in
       binds heap true (dump_going heap.shape dump_errand s) answer k _ (
       follows heap true _ k _ _ (
-      binds heap true (safepoint_steps dump_errand k.thread k.requesting) (dumped heap k.thread (local_of k) k.shots room) k _ (
+      binds heap true (safepoint_steps dump_errand k.thread k.requesting) (dumped heap k.thread (local_of k) k.shots room few bounds) k _ (
       follows heap true _ k _ _ (safepoint_does heap dump_errand k.thread k (λ l a since unreached. asks_dump k.thread l a) true (starts k v rest a)) (λ b r l x.
-      then_dumped heap k.thread (local_of k) k.shots room k refl refl b r l x)))
+      then_dumped heap k.thread (local_of k) k.shots room few bounds k refl refl b r l x)))
       (λ b r l x. answers heap b _ l _ x))))
 
   pub dump_begins : BeginsWell heap Dump

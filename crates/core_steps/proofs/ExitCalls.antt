@@ -62,7 +62,7 @@ module _ (heap : Heap) where
   biased_does k e o mark a calm mine untold saw biased raised =
       let exits = mine ∙ a.exits in
       hitting heap false _ _ k _ (λ n. refl)
-      (λ i. leaves_rule heap k e o (hold_count o k.holds) (top_place o k.holds) (λ v. record {
+      (λ i. leaves_rule heap k e o (hold_count o k.holds) (top_place o k.holds) (λ v. (top_here heap k v a.runs o a.some).1) (λ v. record {
         runs = a.runs;
         ready = ready_here heap k v a.runs (unwaiting_exit k o exits) (unentering_exit k o exits) untold a.live;
         object = a.object;
@@ -82,7 +82,7 @@ module _ (heap : Heap) where
       (λ b r l. Does heap b (then_stack k e o r) l (λ b r l. AtRest heap.shape l))
   mark_does fresh k e o a calm goes check untold stamped =
       let look = load e (name.Mark o) in
-      hitting heap fresh look _ k _ (λ n. refl) (λ i. looks heap k look (look_mark heap k e a.runs calm check goes o)) (λ mark i was.
+      hitting heap fresh look _ k _ (λ n. refl) (λ i. looks heap k look (look_mark heap k e a.runs calm check goes o) (λ v. a.object)) (λ mark i was.
       let l = known_hit heap.shape heap.start look mark k in
       chooses heap false (is_biased mark) (leave_steps e (local_of k) o >>= (λ u. done true)) (done false) l (λ b r l. Does heap b (then_stack k e o r) l (λ b r l. AtRest heap.shape l))
       (λ yes. biased_does l e o mark a refl refl untold (saw_newest heap look mark k) yes
@@ -96,7 +96,7 @@ module _ (heap : Heap) where
       binds heap true (bias_exit_steps e (local_of k) o) (then_stack k e o) k _ (
       chooses_then heap true (hold_count o k.holds == 1) _ _ (λ u. ask (load e (name.Mark o)) >>= (λ mark. cond (is_biased mark) (leave_steps e (local_of k) o >>= (λ u. done true)) (done false))) k _
       (λ one. hitting heap true (raise_stamp_plan e o (next_stamp (local_of k))) _ k _ (λ n. refl)
-      (λ i. raises heap k e o (λ v. record {
+      (λ i. raises heap k e o a.object (λ v. record {
         runs = a.runs;
         calm = calm;
         out = out_here heap k v a.runs none untold;

@@ -1,5 +1,5 @@
 -- Hash begins well.
-use Rattle.std.proofs.Common.{◌≡◌, ◌⊎◌, ℕ, ◌+◌, ◌<◌, ◌==◌, eq-eqb, eqb-true, Bool, true, false, cond, length, slice_index, Option, Some, None, refl, sym, ap, ◌∙◌, subst, inl, inr, arith}
+use Rattle.std.proofs.Common.{◌≡◌, ◌⊎◌, ℕ, ◌+◌, ◌<◌, ◌==◌, eq-eqb, eqb-true, Bool, true, false, cond, length, slice_index, Option, Some, None, refl, sym, ap, ◌∙◌, subst, inl, inr, arith, ◌≤◌}
 use Rattle.mark_word.specs.declared.mark.MarkForm.{MarkForm}
 use Rattle.mark_word.specs.declared.mark.MarkForm.TheVariants.{Inflating, Neutral, Anonymous, Biased, Locked, Inflated, Marked}
 use Rattle.mark_word.specs.Mark.{mark_of, read_mark}
@@ -34,6 +34,9 @@ use Rattle.core_locks.specs.HashLaws.{MayHash, HasRecord, IsItsNext}
 use Rattle.core_locks.specs.Knowing.{SawInflated}
 use Rattle.core_locks.proofs.HashPlaces.{record_is_first}
 use Rattle.core_counts.specs.Steps.{SawUnbiased}
+use Rattle.core_world.specs.Locks.{hold_count}
+use Rattle.core_locks.proofs.MarkHolds.{standing_names}
+use Rattle.core_steps.proofs.Places.{bottom_here}
 use Rattle.core_steps.specs.Logic.{Heap, Stands, Keeps, Does}
 use Rattle.core_steps.specs.Sound.{Finishes, BeginsWell}
 use Rattle.core_steps.proofs.Facts.{fits_here, ready_here}
@@ -176,6 +179,10 @@ module _ (heap : Heap) (e : Purpose) (o : ℕ) (here : Local) (draws : ℕ) (sta
       })
       (record { runs = x.runs; object = start.object; mine = x.mine; check = x.check }) x.calm none unseen (inr (refl, unbiased)) same)
 
+  -- its record of the object, with depth 1
+  abbrev OwnRecord : Known → Type 0
+  OwnRecord l = HasRecord l o (first_place o l.holds) × (first_place o l.holds < 64)
+
   -- BY THE RECORD of the thread, whose header may have the hash; else the object is inflated
   module _ (kept : Option ℕ) (k : Known) (x : Hashes k) (same : k.kept ≡ kept) (none : SawNone heap e o k) (unseen : Unseen heap e o k) (unbiased : SawUnbiased k o) where
     abbrev own_word : Name
@@ -197,16 +204,16 @@ module _ (heap : Heap) (e : Purpose) (o : ℕ) (here : Local) (draws : ℕ) (sta
         (unbiased.0, saw_older heap (find_hash_plan e own_word o) header k (name.Mark o) i refl refl ∙ unbiased.1, unbiased.2)
     unless_does header false some i = answers heap false (Done (hash_in header)) (look_after header) Rests (after_found own_word header k x some)
 
-    record_does : HasRecord k o (first_place o k.holds) → Does heap false (hash_displaced_steps e here o >>= (λ found. hash_unless found e kept draw o)) k Rests
+    record_does : OwnRecord k → Does heap false (hash_displaced_steps e here o >>= (λ found. hash_unless found e kept draw o)) k Rests
     record_does has =
         subst (λ z. Does heap false (hash_displaced_steps e z o >>= (λ found. hash_unless found e kept draw o)) k Rests) x.same
-        (hitting heap false (find_hash_plan e own_word o) _ k _ (λ n. refl) (λ i. finds_record_rule heap k e o (first_place o k.holds) (may_hash k x) has (inl (sym x.mine)))
+        (hitting heap false (find_hash_plan e own_word o) _ k _ (λ n. refl) (λ i. finds_record_rule heap k e o (first_place o k.holds) (may_hash k x) has.0 (λ v. has.1) (inl (sym x.mine)))
         (λ header i was. unless_does header (hash_in header == 0) refl i))
 
   -- BY THE FORM of the mark, which has no bias pattern; `found` is that of a mark that has a hash
   module _ (kept : Option ℕ) (l : Known) (mark : ℕ) (same : l.kept ≡ kept) (none : SawNone heap e o l) (unseen : Unseen heap e o l) (saw : last_seen (name.Mark o) l.seen ≡ Some mark) where
     form_does : (f : Option MarkForm) → (hash_form f ≡ 0 → Hashes l) → ((hash_form f == 0) ≡ false → AtRest heap.shape l) → read_mark mark ≡ f → IsMark heap.shape f → is_biased_form f ≡ false
-        → ((p : ℕ) → f ≡ Some (Locked l.thread p) → HasRecord l o (first_place o l.holds)) → Does heap false (hash_mark_steps f e here kept draw o mark) l Rests
+        → ((p : ℕ) → f ≡ Some (Locked l.thread p) → OwnRecord l) → Does heap false (hash_mark_steps f e here kept draw o mark) l Rests
     form_does None bare found reads form unbiased has = absurd form
     form_does (Some Inflating) bare found reads form unbiased has = answers heap false (Pending why.Inflating) l Rests (hash_rests l (bare refl))
     form_does (Some (Neutral hash age)) bare found reads form unbiased has =
@@ -229,10 +236,13 @@ module _ (heap : Heap) (e : Purpose) (o : ℕ) (here : Local) (draws : ℕ) (sta
 
   -- a mark that names a record of the thread names the first that has the object at depth 1
   first_here : (k : Known) (mark p : ℕ) (v : Stands heap k) → k.running ≡ true → k.stage ≡ Calm → v.world.words (name.Mark o) ≡ mark → read_mark mark ≡ Some (Locked k.thread p)
-      → slice_index k.holds (first_place o k.holds) ≡ hold_word o 1
+      → (slice_index k.holds (first_place o k.holds) ≡ hold_word o 1) × (first_place o k.holds < 64)
   first_here k mark p v runs calm found reads =
-      home heap k v (λ s y. slice_index y.holds (first_place o y.holds) ≡ hold_word o 1)
-      (record_is_first v.world v.objects k.thread o p (fits_here heap k v runs) (away heap k v (λ s y. y.stage ≡ Calm) calm) (ap read_mark found ∙ reads))
+      let fits = fits_here heap k v runs in
+      let first = record_is_first v.world v.objects k.thread o p fits (away heap k v (λ s y. y.stage ≡ Calm) calm) (ap read_mark found ∙ reads) in
+      bottom_here heap k v runs o
+      (home heap k v (λ s y. 1 ≤ hold_count o y.holds)
+      (standing_names v.world v.objects fits k.thread (first_place o (v.world.known k.thread).holds) o 1 (omega arith) first))
 
   header_does : (kept : Option ℕ) (k : Known) → Hashes k → k.kept ≡ kept → SawNone heap e o k → Unseen heap e o k → SawUnbiased k o → Does heap false (hash_header_steps e here kept draw o) k Rests
   header_does kept k x same none unseen bare =
@@ -244,7 +254,9 @@ module _ (heap : Heap) (e : Purpose) (o : ℕ) (here : Local) (draws : ℕ) (sta
       (λ m r saw. none m r (sym (saw_any heap look mark k (name.Recursions m) i refl) ∙ saw))
       (λ u p. subst (λ z. (z ≡ None) ⊎ (u ≡ k.thread)) (sym (saw_any heap look mark k (name.Displaced u p) i refl)) (unseen u p))
       (saw_newest heap look mark k) (read_mark mark) (after_none (name.Mark o) mark k x) (after_found (name.Mark o) mark k x) refl (form_found heap e o k mark was.stands x.runs was.found) unbiased
-      (λ p reads. record { hold = first_here k mark p was.stands x.runs x.calm was.found reads; unbiased = (mark, saw_newest heap look mark k, unbiased) }))
+      (λ p reads.
+      let first = first_here k mark p was.stands x.runs x.calm was.found reads in
+      (record { hold = first.0; unbiased = (mark, saw_newest heap look mark k, unbiased) }, first.1)))
 
 module _ (heap : Heap) where
   hash_finishes : (k : Known) (o now : ℕ) → AtRest heap.shape k → may_begin heap.shape heap.biasing k (Hash o now) ≡ true

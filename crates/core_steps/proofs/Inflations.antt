@@ -205,7 +205,7 @@ module _ (heap : Heap) (e : Purpose) (o : ℕ) where
       let small = read_mark-spells mark (Locked u p) reads in
       let owner_reads : read_owner (owner_of (ByRecord u p)) ≡ Some (ByRecord u p) = read_owner-owner_of (ByRecord u p) small.0 in
       swapping heap false out mark 0 _ (λ n. pending_for (why.Raced mark n)) k Q refl
-      (λ i. inflates_rule heap k e o mark u p (λ v. record { runs = x.runs; calm = calm; locked = reads; unseen = unseen u p; goes_on = inl (sym x.mine) }))
+      (λ i. inflates_rule heap k e o mark u p x.object (λ v. record { runs = x.runs; calm = calm; locked = reads; unseen = unseen u p; goes_on = inl (sym x.mine) }))
       (λ n i was h.
       let k1 = known_hit heap.shape heap.start out n k in
       hitting heap false look _ k1 Q (λ n. refl) (λ j. looks heap k1 look (record {
@@ -216,7 +216,7 @@ module _ (heap : Heap) (e : Purpose) (o : ℕ) where
         check = refl;
         after = inl refl;
         may = may_look k1 (name.Displaced u p) (inl x.runs) (λ a is. absurd (cc is));
-      })) (λ header j was1.
+      }) (λ v. (within, small.0.1))) (λ header j was1.
       let k2 = known_hit heap.shape heap.start look header k1 in
       binds heap false (prepare_steps e (Inflates o u p) o m header (owner_of (ByRecord u p))) (λ z. ask name_it >>= (λ n. done_with m)) k2 Q (
       prepare_does (Inflates o u p) m header (owner_of (ByRecord u p)) k2 _ (record { runs = x.runs; object = x.object; mine = refl; check = refl }) kept refl
@@ -296,7 +296,7 @@ module _ (heap : Heap) (e : Purpose) (o : ℕ) where
       → Does heap false (inflate_steps e kept o) k Q
   inflate_does kept k Q outs x calm none unseen unbiased same =
       let look = load e (name.Mark o) in
-      hitting heap false look _ k Q (λ n. refl) (λ i. looks heap k look (look_mark heap k e x.runs calm x.check (inl (sym x.mine)) o)) (λ mark i was.
+      hitting heap false look _ k Q (λ n. refl) (λ i. looks heap k look (look_mark heap k e x.runs calm x.check (inl (sym x.mine)) o) (λ v. x.object)) (λ mark i was.
       let l = known_hit heap.shape heap.start look mark k in
       at_does kept mark (read_mark mark) l Q (from_there k l Q (record { local = refl; running = refl; requesting = refl; saved = refl; draws = refl; mine = refl; check = refl }) outs)
       (record { runs = x.runs; object = x.object; mine = refl; check = refl }) refl

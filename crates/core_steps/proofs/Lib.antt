@@ -1,5 +1,6 @@
 pub mod Trees
 pub mod Wholes
+pub mod There
 pub mod NextSteps
 pub mod LawRules
 pub mod MonitorRules

@@ -108,7 +108,7 @@ module _ (heap : Heap) (e : Purpose) (o m : ℕ) where
         room = a.room;
       }))
       (λ n i was. hitting heap false _ _ _ _ (λ n. refl)
-      (λ j. clears_rule heap _ (record e { unfinished = None }) o p (λ v. record { runs = a.runs; stage = refl; hold = hold was.stands; last = one; goes_on = refl }))
+      (λ j. clears_rule heap _ (record e { unfinished = None }) o p (λ v. (top_here heap k was.stands a.runs o a.some).1) (λ v. record { runs = a.runs; stage = refl; hold = hold was.stands; last = one; goes_on = refl }))
       (λ n j was. answers heap false _ _ _ (rests heap.shape _ refl a.unasks a.unchecks (logged_carries k.log _ k.wait _ a.live refl x.untold))))
 
   -- another one: the recursions are lowered, and then the hold word is cleared, which logs Exit
@@ -122,7 +122,7 @@ module _ (heap : Heap) (e : Purpose) (o m : ℕ) where
       let y = after_recursions k x i (Behind o) (Store (r - 1)) n in
       let l = known_hit heap.shape heap.start lower n k in
       hitting heap false _ _ l _ (λ n. refl)
-      (λ j. leaves_rule heap l e o (hold_count o k.holds) p (λ v. record {
+      (λ j. leaves_rule heap l e o (hold_count o k.holds) p (λ v. (top_here heap l v a.runs o a.some).1) (λ v. record {
         runs = a.runs;
         ready = ready l y v;
         object = a.object;

@@ -12,6 +12,7 @@ use Rattle.core_world.specs.Trees.Todo.{Todo, done, never, step, head, after_ans
 use Rattle.core_world.specs.Trees.Calls.{steps_of, may_begin}
 use Rattle.core_world.specs.Steps.{rest_of_call, is_idle, left_of, with_answer, call_after, known_hit, known_miss, known_after, world_after}
 use Rattle.core_world.specs.Due.{steps_due, IsNext}
+use Rattle.core_world.specs.There.{IsThere}
 use Rattle.core_world.specs.Valid.{IsValid}
 use Rattle.core_world.specs.World.{World}
 use Rattle.core_world.proofs.KnowledgeParts.{by_equal, each_with_known}
@@ -139,3 +140,8 @@ stepping_sound w t p within begins sound next =
       goes_on = λ u h. each_with_known (λ u y. u < w.shape.threads → Finishes (heap_of w) false (rest_of_call w.shape y) y) t (known_after w.shape w.start p (w.words p.at) (w.known t)) w.known u
           (λ h. here.goes_on) (λ d h. sound.goes_on u h) h;
     }
+
+-- and the heap has its word, and a place for the shot that it takes
+pub stepping_there : (w : World) (t : ℕ) (p : StepPlan) → t < w.shape.threads → BeginsWell (heap_of w) p.task → Sound w
+    → IsNext w.shape w.start w.biasing (w.known t) p → IsThere w.shape (w.known t) p
+stepping_there w t p within begins sound next = (goes w t p within begins sound next).keeps.there (stands_here w t within sound.valid)

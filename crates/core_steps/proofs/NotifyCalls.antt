@@ -145,7 +145,7 @@ module _ (heap : Heap) (k : Known) (o now : ℕ) (rest : AtRest heap.shape k) wh
               telling = telling;
               unbiased = bare;
             } in
-            hitting heap false look _ l _ (λ n. refl) (λ i. looks heap l look (look_mark heap l e x.runs x.calm x.check (inl (sym x.mine)) o)) (λ mark i was.
+            hitting heap false look _ l _ (λ n. refl) (λ i. looks heap l look (look_mark heap l e x.runs x.calm x.check (inl (sym x.mine)) o) (λ v. object)) (λ mark i was.
             then_so (known_hit heap.shape heap.start look mark l) mark x.local (finds heap e o l tells x.calm bare mark was.stands was.found));
         pends = λ f l w x. answers heap f _ l _ x;
       }))

@@ -8,6 +8,7 @@ use Rattle.core_world.specs.Opening.{opening, first_known}
 use Rattle.core_world.specs.Words.Shape.{Shape, IsInLimits}
 use Rattle.core_world.specs.Steps.{rest_of_call, is_idle, world_after}
 use Rattle.core_world.specs.Trees.Todo.{Todo, done, never, step}
+use Rattle.core_world.specs.There.{IsThere}
 use Rattle.core_world.specs.World.{World}
 use Rattle.plain_monitor.specs.Objects.{new_objects}
 use Rattle.core_world.proofs.OpeningFits.{opening_fits}
@@ -17,7 +18,7 @@ use Rattle.core_counts.proofs.Opening.{opening_meets}
 use Rattle.core_steps.specs.Logic.{Heap, heap_of}
 use Rattle.core_steps.specs.Sound.{Finishes, Sound}
 use Rattle.core_steps.specs.Reached.{Comes, opens, moves, comes}
-use Rattle.core_steps.proofs.NextSteps.{stepping_sound, idle_rests}
+use Rattle.core_steps.proofs.NextSteps.{stepping_sound, stepping_there, idle_rests}
 use Rattle.core_steps.proofs.Resting.{rests}
 use Rattle.core_steps.proofs.Table.{calls_begin}
 
@@ -59,6 +60,20 @@ known_step_sound heap k p next w is_of knows within sound =
     (subst (λ (z : Heap). k.thread < z.shape.threads) (sym is_of) within)
     sound
     (subst (λ (z : Heap). IsNext z.shape z.start z.biasing (w.known k.thread) p) (sym is_of) (subst (λ y. IsNext heap.shape heap.start heap.biasing y p) (sym knows) next))
+
+-- and the step is on a word of the heap
+pub next_step_there : (w : World) (t : ℕ) (p : StepPlan) → t < w.shape.threads → Sound w → IsNext w.shape w.start w.biasing (w.known t) p → IsThere w.shape (w.known t) p
+next_step_there w t p within = stepping_there w t p within (calls_begin (heap_of w) p.task)
+
+pub known_step_there : (heap : Heap) (k : Known) (p : StepPlan) → IsNext heap.shape heap.start heap.biasing k p → (w : World) → heap_of w ≡ heap
+    → w.known k.thread ≡ k → k.thread < heap.shape.threads → Sound w → IsThere heap.shape k p
+known_step_there heap k p next w is_of knows within sound =
+    subst (λ (z : Heap). IsThere z.shape k p) is_of
+    (subst (λ y. IsThere w.shape y p) knows
+    (next_step_there w k.thread p
+    (subst (λ (z : Heap). k.thread < z.shape.threads) (sym is_of) within)
+    sound
+    (subst (λ (z : Heap). IsNext z.shape z.start z.biasing (w.known k.thread) p) (sym is_of) (subst (λ y. IsNext heap.shape heap.start heap.biasing y p) (sym knows) next))))
 
 -- REACHED WORLDS
 -- a sound world of this heap

@@ -91,7 +91,7 @@ module _ (heap : Heap) (e : Purpose) (me : ℕ) where
   module _ (k0 : Known) (asked : (k : Known) → Asks k → Since k0 k → (k0.reached ≡ false → k.reached ≡ false) → AtRest heap.shape k) where
     reached_does : (fresh : Bool) (k : Known) → Asks k → Since k0 k → (k0.reached ≡ false → k.reached ≡ false) → Does heap fresh (reached_steps e) k (λ b r l. (b ≡ false) × Stood k0 r l)
     reached_does fresh k a since unreached =
-        hitting heap fresh _ _ k _ (λ n. refl) (λ i. looks heap k (load e name.Safepoint) (look_safe k e a.calm a.check (inl a.mine))) (λ word i was.
+        hitting heap fresh _ _ k _ (λ n. refl) (λ i. looks heap k (load e name.Safepoint) (look_safe k e a.calm a.check (inl a.mine)) (λ v. tt)) (λ word i was.
         let l = known_hit heap.shape heap.start (load e name.Safepoint) word k in
         let now : Since k0 l = record {
           local = since.local;
@@ -123,7 +123,7 @@ module _ (heap : Heap) (e : Purpose) (me : ℕ) where
         let k = k0 in
         let unasks = unasking heap.shape k rest runs in
         hitting heap fresh _ _ k _ (λ n. refl) (λ i. looks heap k (load (record e { check = false }) name.Safepoint)
-        (look_safe k (record e { check = false }) rest.calm (sym (unchecking heap.shape k rest unasks)) goes)) (λ word i was.
+        (look_safe k (record e { check = false }) rest.calm (sym (unchecking heap.shape k rest unasks)) goes) (λ v. tt)) (λ word i was.
         let l = known_hit heap.shape heap.start (load (record e { check = false }) name.Safepoint) word k in
         let exchange = request_plan e k.thread word in
         chooses heap false (has_requester word) _ _ _ _ (λ h. answers heap false _ _ _ (refl, rests heap.shape _ refl unasks refl may.carries)) (λ free.

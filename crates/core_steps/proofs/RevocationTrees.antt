@@ -1,9 +1,11 @@
 -- The steps of a revocation behind its first store: each loads a word in its middle, or stores one of those that revocations store.
-use Rattle.std.proofs.Common.{◌≡◌, ◌⊎◌, ℕ, zero, suc, ◌+◌, ◌==◌, ◌++◌, Bool, true, false, cond, if◌then◌else◌, List, [], ◌∷◌, Option, Some, None, refl, sym, subst, inl, inr}
+use Rattle.std.proofs.Common.{◌≡◌, ◌⊎◌, ℕ, zero, suc, ◌+◌, ◌==◌, ◌++◌, Bool, true, false, cond, if◌then◌else◌, List, [], ◌∷◌, Option, Some, None, refl, sym, subst, inl, inr, ◌<◌, ◌≤◌, length, ap, arith}
 use Rattle.mark_word.specs.declared.mark.MarkForm.{MarkForm}
 use Rattle.mark_word.specs.declared.mark.MarkForm.TheVariants.{Neutral, Anonymous, Biased, Locked}
 use Rattle.mark_word.specs.Mark.{mark_of, read_mark}
 use Rattle.mark_word.specs.Hold.{read_hold}
+use Rattle.mark_word.specs.declared.hold.HoldForm.{HoldForm}
+use Rattle.mark_word.specs.declared.hold.HoldForm.TheVariants.{Empty, Holds}
 use Rattle.lock_policy.specs.declared.policy.Verdict.{Verdict}
 use Rattle.lock_policy.specs.declared.policy.Verdict.TheVariants.{Single, BulkRebias, BulkRevoke}
 use Rattle.lock_policy.specs.Policy.{decided}
@@ -19,7 +21,10 @@ use Rattle.core_world.specs.Trees.RevocationSteps.{revocation_stage, look, store
 use Rattle.core_world.specs.Words.Shape.{Shape, class_of}
 use Rattle.core_world.specs.Threads.Stages.{Revocation}
 use Rattle.core_world.specs.Trees.Todo.{Todo, done, never, step, ◌>>=◌, each_from, all_from}
+use Rattle.core_world.specs.Clauses.WordForms.{IsMark, IsHold}
+use Rattle.core_world.specs.There.{IsIn}
 use Rattle.core_bias.specs.Revoking.{Leads}
+use Rattle.core_steps.proofs.There.{IsFormed}
 
 -- the words that a revocation loads, and those that it stores
 abbrev pub IsLooked : Name → Type 0
@@ -37,139 +42,42 @@ IsStored (Mark o) = Unit {0}
 IsStored (Displaced t p) = Unit {0}
 IsStored _ = ⊥
 
-abbrev pub AreStored : List Write → Type 0
-AreStored [] = Unit {0}
-AreStored (x ∷ xs) = IsStored x.at × AreStored xs
+-- the heap has the words that they store
+abbrev pub AreStored : Shape → List Write → Type 0
+AreStored s [] = Unit {0}
+AreStored s (x ∷ xs) = IsStored x.at × IsIn s x.at × AreStored s xs
 
-both_stored : (xs ys : List Write) → AreStored xs → AreStored ys → AreStored (xs ++ ys)
-both_stored [] ys h k = k
-both_stored (x ∷ xs) ys h k = (h.0, both_stored xs ys h.1 k)
+both_stored : (s : Shape) (xs ys : List Write) → AreStored s xs → AreStored s ys → AreStored s (xs ++ ys)
+both_stored s [] ys h k = k
+both_stored s (x ∷ xs) ys h k = (h.0, h.1, both_stored s xs ys h.2 k)
 
-records_stored : (o t p : ℕ) (hs : List ℕ) → AreStored (record_writes o t p hs)
-records_stored o t p [] = tt
-records_stored o t p (h ∷ hs) = cases (names o h) (records_stored o t (p + 1) hs)
-  where
-    cases : (b : Bool) → AreStored (record_writes o t (p + 1) hs)
-        → AreStored ((if b then write (Displaced t p) (if h == hold_word o 1 then mark_of (Neutral 0 0) else 0) ∷ [] else []) ++ record_writes o t (p + 1) hs)
-    cases true k = (tt, k)
-    cases false k = k
+where_stored : (s : Shape) (at : Name) (word : Option ℕ) → IsStored at → IsIn s at → AreStored s (store_where at word)
+where_stored s at None h i = tt
+where_stored s at (Some word) h i = (h, i, tt)
 
-biased_stored : (o t : ℕ) (allowed : Bool) (hs : List ℕ) → AreStored (revoke_biased o t allowed hs)
-biased_stored o t allowed hs = cases (hold_count o hs == 0)
-  where
-    cases : (b : Bool)
-        → AreStored (if b then write (Mark o) (mark_of (if allowed then Anonymous 0 0 else Neutral 0 0)) ∷ [] else record_writes o t 0 hs ++ write (Mark o) (mark_of (Locked t (first_place o hs))) ∷ [])
-    cases true = (tt, tt)
-    cases false = both_stored (record_writes o t 0 hs) (write (Mark o) (mark_of (Locked t (first_place o hs))) ∷ []) (records_stored o t 0 hs) (tt, tt)
+raised_stored : (s : Shape) (epoch : Option ℕ) (c : ℕ) → c < s.classes → AreStored s (raised_form epoch c)
+raised_stored s None c h = tt
+raised_stored s (Some epoch) c h = (tt, h, tt)
 
-where_stored : (at : Name) (word : Option ℕ) → IsStored at → AreStored (store_where at word)
-where_stored at None h = tt
-where_stored at (Some word) h = (h, tt)
+module _ (s : Shape) (o t : ℕ) (object : o < length s.objects) (thread : t < s.threads) where
+  records_stored : (p : ℕ) (hs : List ℕ) → p + length hs ≤ 64 → AreStored s (record_writes o t p hs)
+  records_stored p [] few = tt
+  records_stored p (h ∷ hs) few = cases (names o h) (records_stored (p + 1) hs (omega (arith, few)))
+    where
+      cases : (b : Bool) → AreStored s (record_writes o t (p + 1) hs)
+          → AreStored s ((if b then write (Displaced t p) (if h == hold_word o 1 then mark_of (Neutral 0 0) else 0) ∷ [] else []) ++ record_writes o t (p + 1) hs)
+      cases true k = (tt, (thread, omega (arith, few)), k)
+      cases false k = k
 
-raised_stored : (epoch : Option ℕ) (c : ℕ) → AreStored (raised_form epoch c)
-raised_stored None c = tt
-raised_stored (Some epoch) c = (tt, tt)
+  biased_stored : (allowed : Bool) (hs : List ℕ) → length hs ≡ 64 → AreStored s (revoke_biased o t allowed hs)
+  biased_stored allowed hs many = cases (hold_count o hs == 0)
+    where
+      cases : (b : Bool)
+          → AreStored s (if b then write (Mark o) (mark_of (if allowed then Anonymous 0 0 else Neutral 0 0)) ∷ [] else record_writes o t 0 hs ++ write (Mark o) (mark_of (Locked t (first_place o hs))) ∷ [])
+      cases true = (tt, object, tt)
+      cases false = both_stored s (record_writes o t 0 hs) (write (Mark o) (mark_of (Locked t (first_place o hs))) ∷ []) (records_stored 0 hs (omega (arith, many))) (tt, object, tt)
 
-module _ (e : Purpose) (b : Revocation) where
-  -- a step in the middle
-  abbrev pub IsMiddle : StepPlan → Type 0
-  IsMiddle p =
-      ((at : Name) × IsLooked at × (p ≡ with_stage (revocation_stage b) (load e at)))
-      ⊎ ((at : Name) × (word : ℕ) × IsStored at × (p ≡ with_stage (revocation_stage b) (store e at word)))
-
-  -- all steps of the tree are, and it says nowhere that no valid world comes there
-  abbrev pub InMiddle : {A : Type 0} → Todo A → Type 0
-  InMiddle (done a) = Unit {0}
-  InMiddle never = ⊥
-  InMiddle (step p f) = IsMiddle p × ((n : ℕ) → InMiddle (f n))
-
-  pub middle_binds : {A B : Type 0} (d : Todo A) (g : A → Todo B) → InMiddle d → ((a : A) → InMiddle (g a)) → InMiddle (d >>= g)
-  middle_binds (done a) g h k = k a
-  middle_binds never g h k = absurd h
-  middle_binds (step p f) g h k = (h.0, λ n. middle_binds (f n) g (h.1 n) k)
-
-  middle_chooses : {A : Type 0} (c : Bool) (x y : Todo A) → InMiddle x → InMiddle y → InMiddle (cond c x y)
-  middle_chooses true x y h k = h
-  middle_chooses false x y h k = k
-
-  middle_all : (i n : ℕ) (f : ℕ → Todo (Unit {0})) → ((j : ℕ) → InMiddle (f j)) → InMiddle (all_from i n f)
-  middle_all i zero f h = tt
-  middle_all i (suc n) f h = middle_binds (f i) (λ u. all_from (i + 1) n f) (h i) (λ u. middle_all (i + 1) n f h)
-
-  middle_each : {A : Type 0} (i n : ℕ) (f : ℕ → Todo A) → ((j : ℕ) → InMiddle (f j)) → InMiddle (each_from i n f)
-  middle_each i zero f h = tt
-  middle_each i (suc n) f h =
-      middle_binds (f i) (λ first. each_from (i + 1) n f >>= (λ others. done (first ∷ others))) (h i) (λ first.
-      middle_binds (each_from (i + 1) n f) (λ others. done (first ∷ others)) (middle_each (i + 1) n f h) (λ others. tt))
-
-  middle_look : (at : Name) → IsLooked at → InMiddle (look e b at)
-  middle_look at h = (inl (at, h, refl), λ n. tt)
-
-  middle_stores : (xs : List Write) → AreStored xs → InMiddle (store_steps e b xs)
-  middle_stores [] h = tt
-  middle_stores (x ∷ xs) h = (inr (x.at, x.word, h.0, refl), λ n. middle_stores xs h.1)
-
-  -- THE PARTS of a revocation
-  middle_revoke_at : (f : Option MarkForm) (o : ℕ) (allowed : Bool) → InMiddle (revoke_at f e b o allowed)
-  middle_revoke_at (Some (Anonymous epoch age)) o true = tt
-  middle_revoke_at (Some (Anonymous epoch age)) o false = middle_stores (write (Mark o) (mark_of (Neutral 0 0)) ∷ []) (tt, tt)
-  middle_revoke_at (Some (Biased t epoch age)) o allowed =
-      middle_binds (each_from 0 64 (λ p. look e b (Hold t p))) (λ holds. store_steps e b (revoke_biased o t allowed holds)) (middle_each 0 64 (λ p. look e b (Hold t p)) (λ p. middle_look (Hold t p) tt))
-      (λ holds. middle_stores (revoke_biased o t allowed holds) (biased_stored o t allowed holds))
-  middle_revoke_at _ o allowed = tt
-
-  middle_revoke : (o : ℕ) (allowed : Bool) → InMiddle (revoke_steps e b o allowed)
-  middle_revoke o allowed =
-      middle_binds (look e b (Mark o)) (λ mark. revoke_at (read_mark mark) e b o allowed) (middle_look (Mark o) tt) (λ mark. middle_revoke_at (read_mark mark) o allowed)
-
-  middle_visit : (s : Shape) (c : ℕ) (visit : ℕ → ℕ → Todo (Unit {0})) (held : Option ℕ) → ((o mark : ℕ) → InMiddle (visit o mark)) → InMiddle (visit_held s c e b visit held)
-  middle_visit s c visit None h = tt
-  middle_visit s c visit (Some o) h =
-      middle_chooses (class_of s o == c) (look e b (Mark o) >>= (λ mark. cond (is_biased mark) (visit o mark) (done tt))) (done tt)
-      (middle_binds (look e b (Mark o)) (λ mark. cond (is_biased mark) (visit o mark) (done tt)) (middle_look (Mark o) tt)
-      (λ mark. middle_chooses (is_biased mark) (visit o mark) (done tt) (h o mark) tt))
-      tt
-
-  middle_walk : (s : Shape) (c : ℕ) (visit : ℕ → ℕ → Todo (Unit {0})) → ((o mark : ℕ) → InMiddle (visit o mark)) → InMiddle (walk_steps s c e b visit)
-  middle_walk s c visit h =
-      middle_all 0 s.threads (λ t. all_from 0 64 (λ p. look e b (Hold t p) >>= (λ hold. visit_held s c e b visit (object_held (read_hold hold)))))
-      (λ t. middle_all 0 64 (λ p. look e b (Hold t p) >>= (λ hold. visit_held s c e b visit (object_held (read_hold hold))))
-      (λ p. middle_binds (look e b (Hold t p)) (λ hold. visit_held s c e b visit (object_held (read_hold hold))) (middle_look (Hold t p) tt)
-      (λ hold. middle_visit s c visit (object_held (read_hold hold)) h)))
-
-  middle_take : (epoch : Option ℕ) (t : ℕ) → InMiddle (take_bias_steps e b epoch t)
-  middle_take epoch t = (
-    inl (Mark b.object, tt, refl),
-    λ mark. middle_binds (store_steps e b (store_where (Mark b.object) (biased_word (is_biased mark) epoch t))) _
-        (middle_stores (store_where (Mark b.object) (biased_word (is_biased mark) epoch t)) (where_stored (Mark b.object) (biased_word (is_biased mark) epoch t) tt)) (λ u. tt),
-  )
-
-  middle_rebias : (s : Shape) (t c : ℕ) (epoch : Option ℕ) → InMiddle (bulk_rebias_steps s t c e b epoch)
-  middle_rebias s t c epoch = (
-    inr (LastBulk c, b.now, tt, refl),
-    λ n. middle_binds (store_steps e b (raised_form epoch c)) _ (middle_stores (raised_form epoch c) (raised_stored epoch c)) (λ u.
-        middle_binds (walk_steps s c e b (λ o mark. store_steps e b (store_where (Mark o) (with_epoch (read_mark mark) (next_epoch epoch))))) _
-        (middle_walk s c _ (λ o mark. middle_stores (store_where (Mark o) (with_epoch (read_mark mark) (next_epoch epoch))) (where_stored (Mark o) (with_epoch (read_mark mark) (next_epoch epoch)) tt))) (λ u.
-        middle_binds (revoke_steps e b b.object b.rebias) (λ u. cond b.rebias (take_bias_steps e b (next_epoch epoch) t) (done false)) (middle_revoke b.object b.rebias)
-        (λ u. middle_chooses b.rebias (take_bias_steps e b (next_epoch epoch) t) (done false) (middle_take (next_epoch epoch) t) tt))),
-  )
-
-  middle_bulk : (s : Shape) (c : ℕ) → InMiddle (bulk_revoke_steps s c e b)
-  middle_bulk s c = (
-    inr (LastBulk c, b.now, tt, refl),
-    λ n. (
-      inr (Prototype c, mark_of (Neutral 0 0), tt, refl),
-      λ n. middle_binds (walk_steps s c e b (λ o mark. revoke_at (read_mark mark) e b o false)) (λ u. revoke_steps e b b.object false)
-          (middle_walk s c _ (λ o mark. middle_revoke_at (read_mark mark) o false)) (λ u. middle_revoke b.object false),
-    ),
-  )
-
-  pub middle_verdict : (s : Shape) (t c : ℕ) (epoch : Option ℕ) (v : Verdict) → InMiddle (verdict_steps s t c e b epoch v)
-  middle_verdict s t c epoch Single = middle_binds (revoke_steps e b b.object false) (λ u. done false) (middle_revoke b.object false) (λ u. tt)
-  middle_verdict s t c epoch BulkRebias = middle_rebias s t c epoch
-  middle_verdict s t c epoch BulkRevoke = middle_binds (bulk_revoke_steps s c e b) (λ u. done false) (middle_bulk s c) (λ u. tt)
-
--- NO NEW BIAS is taken where none is allowed: of all answers of the tree, whatever its steps find.
+-- OF ALL ANSWERS of a tree, whatever its steps find
 abbrev pub AllAnswers : {A : Type 0} → (A → Type 0) → Todo A → Type 0
 AllAnswers P (done a) = P a
 AllAnswers P never = Unit {0}
@@ -191,6 +99,128 @@ pub answers_left : {A : Type 0} (P : A → Type 0) (T U : Todo A) (ms : List Ste
 answers_left P T U [] path h = subst (AllAnswers P) path h
 answers_left P T U (m ∷ ms) path h = subst (AllAnswers P) (sym path.2) (answers_left P T (step m.plan path.0) ms path.1 h m.found)
 
+-- so many answers as turns
+each_many : {A : Type 0} (i n : ℕ) (f : ℕ → Todo A) → AllAnswers (λ xs. length xs ≡ n) (each_from i n f)
+each_many i zero f = refl
+each_many i (suc n) f =
+    answers_behind (λ xs. length xs ≡ suc n) (f i) _ (λ first.
+    answers_then (λ xs. length xs ≡ n) (λ xs. length xs ≡ suc n) (each_from (i + 1) n f) _ (each_many (i + 1) n f) (λ others many. ap suc many))
+
+-- IN THE MIDDLE each step is a load or a store of a word that the heap has, where the words that it finds have the forms that words of the heap have.
+module _ (s : Shape) (e : Purpose) (b : Revocation) where
+  abbrev pub IsMiddle : StepPlan → Type 0
+  IsMiddle p =
+      ((at : Name) × IsLooked at × IsIn s at × (p ≡ with_stage (revocation_stage b) (load e at)))
+      ⊎ ((at : Name) × (word : ℕ) × IsStored at × IsIn s at × (p ≡ with_stage (revocation_stage b) (store e at word)))
+
+  -- all steps of the tree are, and it says nowhere that no valid world comes there
+  abbrev pub InMiddle : {A : Type 0} → Todo A → Type 0
+  InMiddle (done a) = Unit {0}
+  InMiddle never = ⊥
+  InMiddle (step p f) = IsMiddle p × ((n : ℕ) → IsFormed s p.at n → InMiddle (f n))
+
+  pub middle_answers : {A B : Type 0} (P : A → Type 0) (d : Todo A) (g : A → Todo B) → InMiddle d → AllAnswers P d → ((a : A) → P a → InMiddle (g a)) → InMiddle (d >>= g)
+  middle_answers P (done a) g h all k = k a all
+  middle_answers P never g h all k = absurd h
+  middle_answers P (step p f) g h all k = (h.0, λ n formed. middle_answers P (f n) g (h.1 n formed) (all n) k)
+
+  pub middle_binds : {A B : Type 0} (d : Todo A) (g : A → Todo B) → InMiddle d → ((a : A) → InMiddle (g a)) → InMiddle (d >>= g)
+  middle_binds (done a) g h k = k a
+  middle_binds never g h k = absurd h
+  middle_binds (step p f) g h k = (h.0, λ n formed. middle_binds (f n) g (h.1 n formed) k)
+
+  middle_chooses : {A : Type 0} (c : Bool) (x y : Todo A) → InMiddle x → InMiddle y → InMiddle (cond c x y)
+  middle_chooses true x y h k = h
+  middle_chooses false x y h k = k
+
+  -- the turns of a loop
+  middle_all : (i n : ℕ) (f : ℕ → Todo (Unit {0})) → ((j : ℕ) → j < i + n → InMiddle (f j)) → InMiddle (all_from i n f)
+  middle_all i zero f h = tt
+  middle_all i (suc n) f h = middle_binds (f i) (λ u. all_from (i + 1) n f) (h i (omega arith)) (λ u. middle_all (i + 1) n f (λ j less. h j (omega (arith, less))))
+
+  middle_each : {A : Type 0} (i n : ℕ) (f : ℕ → Todo A) → ((j : ℕ) → j < i + n → InMiddle (f j)) → InMiddle (each_from i n f)
+  middle_each i zero f h = tt
+  middle_each i (suc n) f h =
+      middle_binds (f i) (λ first. each_from (i + 1) n f >>= (λ others. done (first ∷ others))) (h i (omega arith)) (λ first.
+      middle_binds (each_from (i + 1) n f) (λ others. done (first ∷ others)) (middle_each (i + 1) n f (λ j less. h j (omega (arith, less)))) (λ others. tt))
+
+  -- a load, and what is done by the word that it finds
+  middle_look : {A : Type 0} (at : Name) (g : ℕ → Todo A) → IsLooked at → IsIn s at → ((n : ℕ) → IsFormed s at n → InMiddle (g n)) → InMiddle (look e b at >>= g)
+  middle_look at g h i k = (inl (at, h, i, refl), k)
+
+  middle_stores : (xs : List Write) → AreStored s xs → InMiddle (store_steps e b xs)
+  middle_stores [] h = tt
+  middle_stores (x ∷ xs) h = (inr (x.at, x.word, h.0, h.1, refl), λ n formed. middle_stores xs h.2)
+
+  -- THE PARTS of a revocation
+  middle_revoke_at : (f : Option MarkForm) (o : ℕ) (allowed : Bool) → o < length s.objects → IsMark s f → InMiddle (revoke_at f e b o allowed)
+  middle_revoke_at (Some (Anonymous epoch age)) o true object form = tt
+  middle_revoke_at (Some (Anonymous epoch age)) o false object form = middle_stores (write (Mark o) (mark_of (Neutral 0 0)) ∷ []) (tt, object, tt)
+  middle_revoke_at (Some (Biased t epoch age)) o allowed object form =
+      middle_answers (λ hs. length hs ≡ 64) (each_from 0 64 (λ p. look e b (Hold t p))) (λ holds. store_steps e b (revoke_biased o t allowed holds))
+      (middle_each 0 64 (λ p. look e b (Hold t p)) (λ p less. (inl (Hold t p, tt, (form.0, less), refl), λ n formed. tt))) (each_many 0 64 (λ p. look e b (Hold t p)))
+      (λ holds many. middle_stores (revoke_biased o t allowed holds) (biased_stored s o t object form.0 allowed holds many))
+  middle_revoke_at _ o allowed object form = tt
+
+  middle_revoke : (o : ℕ) (allowed : Bool) → o < length s.objects → InMiddle (revoke_steps e b o allowed)
+  middle_revoke o allowed object =
+      middle_look (Mark o) (λ mark. revoke_at (read_mark mark) e b o allowed) tt object (λ mark formed. middle_revoke_at (read_mark mark) o allowed object formed)
+
+  -- what is done with a biased object that a record names
+  abbrev Visits : (ℕ → ℕ → Todo (Unit {0})) → Type 0
+  Visits visit = (o mark : ℕ) → o < length s.objects → IsMark s (read_mark mark) → InMiddle (visit o mark)
+
+  middle_visit : (c : ℕ) (visit : ℕ → ℕ → Todo (Unit {0})) (f : Option HoldForm) → IsHold s f → Visits visit → InMiddle (visit_held s c e b visit (object_held f))
+  middle_visit c visit None form h = absurd form
+  middle_visit c visit (Some Empty) form h = tt
+  middle_visit c visit (Some (Holds o d)) form h =
+      middle_chooses (class_of s o == c) (look e b (Mark o) >>= (λ mark. cond (is_biased mark) (visit o mark) (done tt))) (done tt)
+      (middle_look (Mark o) (λ mark. cond (is_biased mark) (visit o mark) (done tt)) tt form
+      (λ mark formed. middle_chooses (is_biased mark) (visit o mark) (done tt) (h o mark form formed) tt))
+      tt
+
+  middle_walk : (c : ℕ) (visit : ℕ → ℕ → Todo (Unit {0})) → Visits visit → InMiddle (walk_steps s c e b visit)
+  middle_walk c visit h =
+      middle_all 0 s.threads (λ t. all_from 0 64 (λ p. look e b (Hold t p) >>= (λ hold. visit_held s c e b visit (object_held (read_hold hold)))))
+      (λ t thread. middle_all 0 64 (λ p. look e b (Hold t p) >>= (λ hold. visit_held s c e b visit (object_held (read_hold hold))))
+      (λ p place. middle_look (Hold t p) (λ hold. visit_held s c e b visit (object_held (read_hold hold))) tt (omega (arith, thread), place)
+      (λ hold formed. middle_visit c visit (read_hold hold) formed h)))
+
+  module _ (object : b.object < length s.objects) (c : ℕ) (class : c < s.classes) where
+    middle_take : (epoch : Option ℕ) (t : ℕ) → InMiddle (take_bias_steps e b epoch t)
+    middle_take epoch t = (
+      inl (Mark b.object, tt, object, refl),
+      λ mark formed. middle_binds (store_steps e b (store_where (Mark b.object) (biased_word (is_biased mark) epoch t))) _
+          (middle_stores (store_where (Mark b.object) (biased_word (is_biased mark) epoch t)) (where_stored s (Mark b.object) (biased_word (is_biased mark) epoch t) tt object)) (λ u. tt),
+    )
+
+    middle_rebias : (t : ℕ) (epoch : Option ℕ) → InMiddle (bulk_rebias_steps s t c e b epoch)
+    middle_rebias t epoch = (
+      inr (LastBulk c, b.now, tt, class, refl),
+      λ n formed. middle_binds (store_steps e b (raised_form epoch c)) _ (middle_stores (raised_form epoch c) (raised_stored s epoch c class)) (λ u.
+          middle_binds (walk_steps s c e b (λ o mark. store_steps e b (store_where (Mark o) (with_epoch (read_mark mark) (next_epoch epoch))))) _
+          (middle_walk c _ (λ o mark visited form. middle_stores (store_where (Mark o) (with_epoch (read_mark mark) (next_epoch epoch)))
+          (where_stored s (Mark o) (with_epoch (read_mark mark) (next_epoch epoch)) tt visited))) (λ u.
+          middle_binds (revoke_steps e b b.object b.rebias) (λ u. cond b.rebias (take_bias_steps e b (next_epoch epoch) t) (done false)) (middle_revoke b.object b.rebias object)
+          (λ u. middle_chooses b.rebias (take_bias_steps e b (next_epoch epoch) t) (done false) (middle_take (next_epoch epoch) t) tt))),
+    )
+
+    middle_bulk : InMiddle (bulk_revoke_steps s c e b)
+    middle_bulk = (
+      inr (LastBulk c, b.now, tt, class, refl),
+      λ n formed. (
+        inr (Prototype c, mark_of (Neutral 0 0), tt, class, refl),
+        λ n formed. middle_binds (walk_steps s c e b (λ o mark. revoke_at (read_mark mark) e b o false)) (λ u. revoke_steps e b b.object false)
+            (middle_walk c _ (λ o mark visited form. middle_revoke_at (read_mark mark) o false visited form)) (λ u. middle_revoke b.object false object),
+      ),
+    )
+
+    pub middle_verdict : (t : ℕ) (epoch : Option ℕ) (v : Verdict) → InMiddle (verdict_steps s t c e b epoch v)
+    middle_verdict t epoch Single = middle_binds (revoke_steps e b b.object false) (λ u. done false) (middle_revoke b.object false object) (λ u. tt)
+    middle_verdict t epoch BulkRebias = middle_rebias t epoch
+    middle_verdict t epoch BulkRevoke = middle_binds (bulk_revoke_steps s c e b) (λ u. done false) middle_bulk (λ u. tt)
+
+-- NO NEW BIAS is taken where none is allowed.
 module _ (e : Purpose) (b : Revocation) (none : b.rebias ≡ false) where
   abbrev Untaken : Bool → Type 0
   Untaken took = took ≡ false

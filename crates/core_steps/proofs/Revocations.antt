@@ -22,6 +22,7 @@ use Rattle.core_world.specs.Trees.SafepointSteps.{reached_word, released_word, r
 use Rattle.core_world.specs.Clauses.SeenWords.{IsValidBias}
 use Rattle.core_world.specs.RevocationRules.{writes_in}
 use Rattle.core_world.specs.Trees.RevocationSteps.{revocation_stage, revoke_plan, verdict_steps, decided_steps, RevocationOutcome, revoke_at_safepoint_steps}
+use Rattle.core_world.specs.There.{IsIn}
 use Rattle.core_world.specs.Words.Shape.{class_of}
 use Rattle.core_world.specs.Threads.Stages.{Revocation, revocation_in}
 use Rattle.core_world.specs.Steps.{known_hit, seen_before, only_headers, is_header}
@@ -37,9 +38,10 @@ use Rattle.core_locks.specs.Knowing.{IsBiasTo}
 use Rattle.core_steps.specs.Logic.{Heap, Stands, Was, Does}
 use Rattle.core_steps.proofs.BiasFacts.{valid_is}
 use Rattle.core_steps.proofs.BiasRules.{begins_revoking_rule, goes_on_revoking_rule, ends_revoking_rule}
-use Rattle.core_steps.proofs.LawRules.{home, away, looks, valid_here}
+use Rattle.core_steps.proofs.LawRules.{home, away, looks, valid_here, class_in}
 use Rattle.core_steps.proofs.RevocationTrees.{IsLooked, IsStored, InMiddle, middle_binds, middle_verdict, answers_left, revocation_untaken}
-use Rattle.core_steps.proofs.SafepointLooks.{Reaches, is_as_seen, fits_reached, keeps_look}
+use Rattle.core_steps.proofs.SafepointLooks.{Reaches, found_formed, is_as_seen, fits_reached, keeps_look}
+use Rattle.core_steps.proofs.There.{IsFormed}
 use Rattle.core_steps.proofs.SafeWords.{reached_there, released_asks, released_runs, few_threads}
 use Rattle.core_steps.proofs.SeenSteps.{same_as_itself}
 use Rattle.core_steps.proofs.Trees.{answers, chooses_then, hitting, finding}
@@ -187,9 +189,9 @@ module _ (heap : Heap) (e : Purpose) (b : Revocation) (me : ℕ) where
           prototype = subst (HasSeen (name.Prototype c)) (sym a.seen_at_safepoint) (seen_more (name.Prototype c) m k.seen_at_safepoint x.prototype);
         }
 
-    by_look : (at : Name) (f : ℕ → Todo RevocationOutcome) (k : Known) (ms : List StepMade) → IsLooked at → Revokes k ms (step (looking at) f)
-        → ((n : ℕ) (l : Known) (ms : List StepMade) → Revokes l ms (f n) → Does heap false (f n) l Q) → Does heap false (step (looking at) f) k Q
-    by_look at f k ms h x go =
+    by_look : (at : Name) (f : ℕ → Todo RevocationOutcome) (k : Known) (ms : List StepMade) → IsLooked at → IsIn heap.shape at → Revokes k ms (step (looking at) f)
+        → ((n : ℕ) (l : Known) (ms : List StepMade) → IsFormed heap.shape at n → Revokes l ms (f n) → Does heap false (f n) l Q) → Does heap false (step (looking at) f) k Q
+    by_look at f k ms h there x go =
         hitting heap false (looking at) f k Q (λ n. refl)
         (λ i. looks heap k (looking at) (record {
           act = refl;
@@ -199,14 +201,14 @@ module _ (heap : Heap) (e : Purpose) (b : Revocation) (me : ℕ) where
           check = x.leaves.check;
           after = inl x.leaves.mine;
           may = may_look k at (inr (x.leaves.reached ∙ r.reached)) (looked_shared at h);
-        }))
-        (λ n i was. go n (then_known (looking at) n k) (record { plan = looking at; found = n } ∷ ms) (then_revokes (looking at) n f k (then_known (looking at) n k) ms x (look_adds at h n k) refl))
+        }) (λ v. there))
+        (λ n i was. go n (then_known (looking at) n k) (record { plan = looking at; found = n } ∷ ms) (found_formed heap k at n refl was) (then_revokes (looking at) n f k (then_known (looking at) n k) ms x (look_adds at h n k) refl))
 
-    by_store : (at : Name) (word : ℕ) (f : ℕ → Todo RevocationOutcome) (k : Known) (ms : List StepMade) → IsStored at → Revokes k ms (step (storing at word) f)
-        → ((n : ℕ) (l : Known) (ms : List StepMade) → Revokes l ms (f n) → Does heap false (f n) l Q) → Does heap false (step (storing at word) f) k Q
-    by_store at word f k ms h x go =
+    by_store : (at : Name) (word : ℕ) (f : ℕ → Todo RevocationOutcome) (k : Known) (ms : List StepMade) → IsStored at → IsIn heap.shape at → Revokes k ms (step (storing at word) f)
+        → ((n : ℕ) (l : Known) (ms : List StepMade) → IsFormed heap.shape at n → Revokes l ms (f n) → Does heap false (f n) l Q) → Does heap false (step (storing at word) f) k Q
+    by_store at word f k ms h there x go =
         hitting heap false (storing at word) f k Q (λ n. refl)
-        (λ i. goes_on_revoking_rule heap k e b at word (λ v. record {
+        (λ i. goes_on_revoking_rule heap k e b at word (λ v. there) (λ v. record {
           reached = x.leaves.reached ∙ r.reached;
           its_revocation = ap revocation_in x.stage;
           store = record {
@@ -216,18 +218,20 @@ module _ (heap : Heap) (e : Purpose) (b : Revocation) (me : ℕ) where
             check = x.leaves.check;
           };
         }))
-        (λ n i was. go n (then_known (storing at word) n k) (record { plan = storing at word; found = n } ∷ ms) (then_revokes (storing at word) n f k (then_known (storing at word) n k) ms x (store_adds at word h n k) refl))
+        (λ n i was. go n (then_known (storing at word) n k) (record { plan = storing at word; found = n } ∷ ms) (found_formed heap k at n refl was) (then_revokes (storing at word) n f k (then_known (storing at word) n k) ms x (store_adds at word h n k) refl))
 
-    middle_does : (d : Todo RevocationOutcome) (k : Known) (ms : List StepMade) → InMiddle e b d → Revokes k ms d → Does heap false d k Q
+    middle_does : (d : Todo RevocationOutcome) (k : Known) (ms : List StepMade) → InMiddle heap.shape e b d → Revokes k ms d → Does heap false d k Q
     middle_does (done a) k ms h x = answers heap false a k Q (refl, (ms, x))
     middle_does never k ms h x = absurd h
     middle_does (step p f) k ms h x = elim h.0 [
       | inl a ↦
-          subst (λ z. Does heap false (step z f) k Q) (sym a.2)
-          (by_look a.0 f k ms a.1 (subst (λ z. Revokes k ms (step z f)) a.2 x) (λ n l ms y. middle_does (f n) l ms (h.1 n) y))
-      | inr a ↦
           subst (λ z. Does heap false (step z f) k Q) (sym a.3)
-          (by_store a.0 a.1 f k ms a.2 (subst (λ z. Revokes k ms (step z f)) a.3 x) (λ n l ms y. middle_does (f n) l ms (h.1 n) y))
+          (by_look a.0 f k ms a.1 a.2 (subst (λ z. Revokes k ms (step z f)) a.3 x)
+          (λ n l ms formed y. middle_does (f n) l ms (h.1 n (subst (λ (z : StepPlan). IsFormed heap.shape z.at n) (sym a.3) formed)) y))
+      | inr a ↦
+          subst (λ z. Does heap false (step z f) k Q) (sym a.4)
+          (by_store a.0 a.1 f k ms a.2 a.3 (subst (λ z. Revokes k ms (step z f)) a.4 x)
+          (λ n l ms formed y. middle_does (f n) l ms (h.1 n (subst (λ (z : StepPlan). IsFormed heap.shape z.at n) (sym a.4) formed)) y))
     ]
 
     -- what the call that made the request saw of the object's mark is still there
@@ -309,7 +313,7 @@ module _ (heap : Heap) (e : Purpose) (b : Revocation) (me : ℕ) where
       decides : Does heap false (decided_steps heap.shape me c e b (epoch_in prototype) count last) k4 (λ f a l. (f ≡ false) × Made_all k0 r unwritten a l)
       decides =
           hitting heap false first_store rest_of k4 _ (λ n. refl)
-          (λ i. begins_revoking_rule heap k4 e b verdict (is_reset count last b.now) (name.Revocations c) word (λ v. record {
+          (λ i. begins_revoking_rule heap k4 e b verdict (is_reset count last b.now) (name.Revocations c) word (class_in heap k4 b.object object) (λ v. record {
             reached = r.reached;
             calm = refl;
             operation = operation;
@@ -326,7 +330,8 @@ module _ (heap : Heap) (e : Purpose) (b : Revocation) (me : ℕ) where
             };
           }))
           (λ n i was. middle_does k0 r unwritten (rest_of n) (then_known first_store n k4) (record { plan = first_store; found = n } ∷ looks_so_far)
-          (middle_binds e b (verdict_steps heap.shape me c e b (epoch_in prototype) verdict) (λ took. done (record { verdict = verdict; took = took })) (middle_verdict e b heap.shape me c (epoch_in prototype) verdict) (λ took. tt))
+          (middle_binds heap.shape e b (verdict_steps heap.shape me c e b (epoch_in prototype) verdict) (λ took. done (record { verdict = verdict; took = took }))
+          (middle_verdict heap.shape e b object c (class_in heap k4 b.object object was.stands) me (epoch_in prototype) verdict) (λ took. tt))
           (record {
             leaves = record { local = refl; running = refl; reached = refl; kept = refl; saved = refl; draws = refl; shots = refl; mine = refl; check = refl };
             stage = refl;
@@ -339,16 +344,16 @@ module _ (heap : Heap) (e : Purpose) (b : Revocation) (me : ℕ) where
     pub revoke_does : (k0 : Known) (r : Reaches me k0 e) (unwritten : writes_in k0.seen_at_safepoint ≡ []) → SawValidBias heap.shape k0 b.object → Does heap false T k0 (λ f a l. (f ≡ false) × Made_all k0 r unwritten a l)
     revoke_does k0 r unwritten saw =
         let R : Bool → RevocationOutcome → Known → Type 0 = λ f a l. (f ≡ false) × Made_all k0 r unwritten a l in
-        hitting heap false (load e (name.Mark b.object)) _ k0 R (λ n. refl) (λ i. keeps_look heap me e (name.Mark b.object) k0 r) (λ mark i0 was0.
+        hitting heap false (load e (name.Mark b.object)) _ k0 R (λ n. refl) (λ i. keeps_look heap me e (name.Mark b.object) k0 r (λ v. object)) (λ mark i0 was0.
         let k1 = then_known (load e (name.Mark b.object)) mark k0 in
         let r1 : Reaches me k1 e = record { number = r.number; reached = r.reached; stopped = r.stopped; calm = refl; check = refl; mine = refl; live = r.live; carries = r.carries } in
-        hitting heap false (load e (name.Prototype c)) _ k1 R (λ n. refl) (λ i. keeps_look heap me e (name.Prototype c) k1 r1) (λ prototype i1 was1.
+        hitting heap false (load e (name.Prototype c)) _ k1 R (λ n. refl) (λ i. keeps_look heap me e (name.Prototype c) k1 r1 (class_in heap k1 b.object object)) (λ prototype i1 was1.
         let k2 = then_known (load e (name.Prototype c)) prototype k1 in
         let r2 : Reaches me k2 e = record { number = r.number; reached = r.reached; stopped = r.stopped; calm = refl; check = refl; mine = refl; live = r.live; carries = r.carries } in
-        hitting heap false (load e (name.Revocations c)) _ k2 R (λ n. refl) (λ i. keeps_look heap me e (name.Revocations c) k2 r2) (λ count i2 was2.
+        hitting heap false (load e (name.Revocations c)) _ k2 R (λ n. refl) (λ i. keeps_look heap me e (name.Revocations c) k2 r2 (class_in heap k2 b.object object)) (λ count i2 was2.
         let k3 = then_known (load e (name.Revocations c)) count k2 in
         let r3 : Reaches me k3 e = record { number = r.number; reached = r.reached; stopped = r.stopped; calm = refl; check = refl; mine = refl; live = r.live; carries = r.carries } in
-        hitting heap false (load e (name.LastBulk c)) _ k3 R (λ n. refl) (λ i. keeps_look heap me e (name.LastBulk c) k3 r3) (λ last i3 was3.
+        hitting heap false (load e (name.LastBulk c)) _ k3 R (λ n. refl) (λ i. keeps_look heap me e (name.LastBulk c) k3 r3 (class_in heap k3 b.object object)) (λ last i3 was3.
         let there = still_valid k0 r unwritten was0.stands saw in
         let mark_is : mark ≡ saw.0 = sym was0.found ∙ there.0 in
         let prototype_is : prototype ≡ saw.1 =

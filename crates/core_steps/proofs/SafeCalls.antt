@@ -68,7 +68,7 @@ module _ (heap : Heap) where
   resume_does k e rest stopped unasks check goes =
       let carries : Carries k.log k.wait k.holds k.shots e.unfinished = subst (Carries k.log k.wait k.holds k.shots) (sym goes) (carried heap.shape k rest) in
       let unchecks = check ∙ unchecking heap.shape k rest unasks in
-      hitting heap true _ _ k _ (λ n. refl) (λ i. looks heap k _ (look_safe k e rest.calm check (inl goes))) (λ word i was.
+      hitting heap true _ _ k _ (λ n. refl) (λ i. looks heap k _ (look_safe k e rest.calm check (inl goes)) (λ v. tt)) (λ word i was.
       by_bar (bar word) _ _ _ (λ b a. rests heap.shape _ refl unasks unchecks carries) (λ free.
       let f = no_bar word free in
       swapping heap false _ word _ (λ n. done_with tt) (λ n. unless (bar n) (pending_for (why.Raced word n))) _ _ refl
@@ -95,7 +95,7 @@ module _ (heap : Heap) where
       let unasks = unasking heap.shape k rest runs in
       let unchecks = unchecking heap.shape k rest unasks in
       closes true (poll_steps e) k (
-      hitting heap true _ _ k _ (λ n. refl) (λ i. looks heap k _ (look_safe k e rest.calm refl (inl refl))) (λ word i was.
+      hitting heap true _ _ k _ (λ n. refl) (λ i. looks heap k _ (look_safe k e rest.calm refl (inl refl)) (λ v. tt)) (λ word i was.
       chooses heap false (has_requester word) _ _ _ _
       (λ h. answers heap false _ _ _ (rests heap.shape _ refl unasks unchecks (carried heap.shape k rest)))
       (λ h. answers heap false _ _ _ (rests heap.shape _ refl unasks unchecks (carried heap.shape k rest)))))
@@ -113,7 +113,7 @@ module _ (heap : Heap) where
       let unasks = unasking heap.shape k rest n.0 in
       let carries : Carries k.log k.wait k.holds k.shots None = subst (Carries k.log k.wait k.holds k.shots) nothing (carried heap.shape k rest) in
       closes true (request_steps e k.thread) k (
-      hitting heap true _ _ k _ (λ n. refl) (λ i. looks heap k _ (look_safe k e rest.calm (sym (not_true _ m.1)) (inr nothing))) (λ word i was.
+      hitting heap true _ _ k _ (λ n. refl) (λ i. looks heap k _ (look_safe k e rest.calm (sym (not_true _ m.1)) (inr nothing)) (λ v. tt)) (λ word i was.
       chooses heap false (has_requester word) _ _ _ _ (λ h. answers heap false _ _ _ (rests heap.shape _ refl unasks refl carries)) (λ free.
       swapping heap false _ word _ (λ n. done_with tt) (λ n. cond (has_requester n) (pending_for (why.Requested n)) (pending_for (why.Raced word n))) _ _ refl
       (λ i. requests heap _ e word (record { runs = n.0; calm = refl; ended = λ h. (rest.ended h).0; unasked = unsome _ free; goes_on = inl refl }))
@@ -134,7 +134,7 @@ module _ (heap : Heap) where
       let nothing = none_is _ n.1 in
       let carries : Carries k.log k.wait k.holds k.shots None = subst (Carries k.log k.wait k.holds k.shots) nothing (carried heap.shape k rest) in
       closes true (reached_steps (lone_purpose Reached)) k (
-      hitting heap true _ _ k _ (λ n. refl) (λ i. looks heap k _ (look_safe k (lone_purpose Reached) rest.calm (sym (not_true _ m.1)) (inr nothing))) (λ word i was.
+      hitting heap true _ _ k _ (λ n. refl) (λ i. looks heap k _ (look_safe k (lone_purpose Reached) rest.calm (sym (not_true _ m.1)) (inr nothing)) (λ v. tt)) (λ word i was.
       chooses heap false (is_still word) _ _ _ _
       (λ h. answers heap false _ _ _ (rests_asking heap.shape _ refl (rest.stopped n.0) refl refl carries))
       (λ h. answers heap false _ _ _ (rests_asking heap.shape _ refl (rest.stopped n.0) refl refl carries))))

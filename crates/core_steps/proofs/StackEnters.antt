@@ -115,7 +115,7 @@ module _ (heap : Heap) where
       let p = free_place k.holds in
       hitting heap fresh _ _ k _ (λ n. refl) (λ i. displaces_free k e mark a.runs calm goes place) (λ n i was.
       swapping heap false _ mark (mark_of (Locked k.thread p)) _ (λ n. pending_for (why.Raced mark n)) _ _ refl
-      (λ i. seizes_rule heap _ e o mark p (λ v. record {
+      (λ i. seizes_rule heap _ e o mark p a.object (λ v. record {
         runs = a.runs;
         calm = refl;
         free = let f = free_here heap _ v a.runs place in record { place = f.place; empty = f.empty };

@@ -127,7 +127,7 @@ module _ (heap : Heap) where
         room = a.room;
       }))
       (λ n i was h. hitting heap false _ _ _ _ (λ n. refl)
-      (λ j. clears_rule heap _ (record e { unfinished = None }) o p (λ v. record { runs = a.runs; stage = refl; hold = hold was.stands; last = one; goes_on = refl }))
+      (λ j. clears_rule heap _ (record e { unfinished = None }) o p (λ v. (top_here heap k was.stands a.runs o a.some).1) (λ v. record { runs = a.runs; stage = refl; hold = hold was.stands; last = one; goes_on = refl }))
       (λ n j was. answers heap false _ _ Q (outs.left _ (rests heap.shape _ refl a.unasks a.unchecks (logged_carries k.log _ k.wait _ a.live refl untold)))))
       (λ n i was h. answers heap false _ _ Q (outs.raced _ _ (exit_rests _ e o a calm (sym check ∙ a.unchecks) mine untold)))
 
@@ -198,7 +198,7 @@ module _ (heap : Heap) where
       let p = top_place o k.holds in
       let ld = load e (name.Displaced k.thread p) in
       let lm = load e (name.Mark o) in
-      hitting heap fresh _ _ k _ (λ n. refl) (λ i. looks heap k ld (look_at k e a.runs calm check goes k.thread p)) (λ header i0 was0.
+      hitting heap fresh _ _ k _ (λ n. refl) (λ i. looks heap k ld (look_at k e a.runs calm check goes k.thread p) (λ v. (v.within, (top_here heap k v a.runs o a.some).1))) (λ header i0 was0.
       let k1 = known_hit heap.shape heap.start ld header k in
       let saw : last_seen (name.Displaced k.thread p) k1.seen ≡ Some header = saw_newest heap ld header k in
       let still : Unbiased heap false k1 o = elim unbiased [
@@ -209,7 +209,7 @@ module _ (heap : Heap) where
       chooses heap false (header == 0) _ _ k1 _
       (λ is0. let zero_is : header ≡ 0 = eqb-true header 0 is0 in
       hitting heap false _ _ k1 _ (λ n. refl)
-      (λ i1. leaves_rule heap k1 e o (hold_count o k.holds) p (λ v. record {
+      (λ i1. leaves_rule heap k1 e o (hold_count o k.holds) p (λ v. (top_here heap k1 v a.runs o a.some).1) (λ v. record {
         runs = a.runs;
         ready = ready_here heap k1 v a.runs none (unentering_exit k1 o a.exits) untold a.live;
         object = a.object;
@@ -222,7 +222,7 @@ module _ (heap : Heap) where
       }))
       (λ n i1 was1. answers heap false _ _ Q (outs.left _ (rests heap.shape _ refl a.unasks a.unchecks (logged_carries k.log _ k.wait _ a.live refl untold)))))
       (λ not0. let nonzero : header ≢ 0 = λ e. absurd (cc (eq-eqb header 0 e, not0)) in
-      hitting heap false _ _ k1 _ (λ n. refl) (λ i1. looks heap k1 lm (look_mark k1 e a.runs refl refl (inl refl) o)) (λ mark i1 was1.
+      hitting heap false _ _ k1 _ (λ n. refl) (λ i1. looks heap k1 lm (look_mark k1 e a.runs refl refl (inl refl) o) (λ v. a.object)) (λ mark i1 was1.
       let k2 = known_hit heap.shape heap.start lm mark k1 in
       let found : OnExit k.thread p (hold_count o k.holds) (read_mark mark) =
       subst (λ m. OnExit k.thread p (hold_count o k.holds) (read_mark m)) was1.found
@@ -238,7 +238,7 @@ module _ (heap : Heap) where
       let raise = raise_stamp_plan e o (next_stamp (local_of k)) in
       chooses_then heap fresh (hold_count o k.holds == 1) _ _ (λ u. stack_exit_record e (local_of k) o) k _
       (λ one. hitting heap fresh raise _ k _ (λ n. refl)
-      (λ i. raises heap k e o (λ v. record {
+      (λ i. raises heap k e o a.object (λ v. record {
         runs = a.runs;
         calm = calm;
         out = out_here heap k v a.runs none untold;

@@ -89,11 +89,11 @@ module _ (heap : Heap) (e : Purpose) (o : ℕ) where
   look_waiting : (k : Known) → Telling k → k.stage ≡ Calm → (u : ℕ) → IsLook k (load e (name.Waiting u))
   look_waiting k x calm u = record { act = refl; note = refl; own = refl; stage = sym calm; check = x.check; after = inl (sym x.mine); may = may_look k (name.Waiting u) (inl x.runs) (λ m is. absurd (cc is)) }
 
-  looks_do : (n i : ℕ) (k : Known) → Telling k → k.stage ≡ Calm → Does heap false (each_from i n (λ t. ask (load e (name.Waiting t)))) k (λ b words l. Looked i n words k l)
-  looks_do zero i k x calm = answers heap false [] k _ (record { local = refl; tells = x; calm = calm; many = refl; saw = λ z h. absurd (omega (arith, h)); others = λ u h. refl })
-  looks_do (suc n) i k x calm =
+  looks_do : (n i : ℕ) (k : Known) → i + n ≤ heap.shape.threads → Telling k → k.stage ≡ Calm → Does heap false (each_from i n (λ t. ask (load e (name.Waiting t)))) k (λ b words l. Looked i n words k l)
+  looks_do zero i k many x calm = answers heap false [] k _ (record { local = refl; tells = x; calm = calm; many = refl; saw = λ z h. absurd (omega (arith, h)); others = λ u h. refl })
+  looks_do (suc n) i k many x calm =
       let look = load e (name.Waiting i) in
-      hitting heap false look _ k _ (λ n. refl) (λ j. looks heap k look (look_waiting k x calm i)) (λ word j was.
+      hitting heap false look _ k _ (λ n. refl) (λ j. looks heap k look (look_waiting k x calm i) (λ v. omega (arith, many))) (λ word j was.
       let l = known_hit heap.shape heap.start look word k in
       let y : Telling l = record {
         runs = x.runs;
@@ -110,7 +110,7 @@ module _ (heap : Heap) (e : Purpose) (o : ℕ) where
         unbiased = (x.unbiased.0, saw_older heap look word k (name.Mark o) j refl refl ∙ x.unbiased.1, x.unbiased.2);
       } in
       going heap (each_from (i + 1) n (λ t. ask (load e (name.Waiting t)))) (λ words. done (word ∷ words)) l _ (
-      follows heap false _ l _ _ (looks_do n (i + 1) l y refl) (λ b words m a.
+      follows heap false _ l _ _ (looks_do n (i + 1) l (omega (arith, many)) y refl) (λ b words m a.
       answers heap false (word ∷ words) m _ (record {
         local = a.local;
         tells = a.tells;
@@ -173,7 +173,7 @@ module _ (heap : Heap) (e : Purpose) (o : ℕ) where
       → Does heap false (monitor_notify_steps e (local_of k) heap.shape.threads o) k (λ b r l. AtRest heap.shape l)
   monitor_notify_does k x calm notifies =
       going heap (look_steps e heap.shape.threads) (λ words. notify_first (by_age (waiters o 0 words)) e (local_of k) o) k _ (
-      follows heap false _ k _ _ (looks_do heap.shape.threads 0 k x calm) (λ b words l a.
+      follows heap false _ k _ _ (looks_do heap.shape.threads 0 k (omega arith) x calm) (λ b words l a.
       subst (λ z. Does heap false (notify_first (by_age (waiters o 0 words)) e z o) l (λ b r l. AtRest heap.shape l)) a.local
       (first_does (by_age (waiters o 0 words)) l a.tells a.calm notifies (remain words k l a))))
 
@@ -224,6 +224,6 @@ module _ (heap : Heap) (e : Purpose) (o : ℕ) where
       → Does heap false (monitor_notify_all_steps e (local_of k) heap.shape.threads o) k (λ b r l. AtRest heap.shape l)
   monitor_notify_all_does k x calm notifies =
       going heap (look_steps e heap.shape.threads) (λ words. notify_listed (by_age (waiters o 0 words)) e (local_of k) o) k _ (
-      follows heap false _ k _ _ (looks_do heap.shape.threads 0 k x calm) (λ b words l a.
+      follows heap false _ k _ _ (looks_do heap.shape.threads 0 k (omega arith) x calm) (λ b words l a.
       subst (λ z. Does heap false (notify_listed (by_age (waiters o 0 words)) e z o) l (λ b r l. AtRest heap.shape l)) a.local
       (listed_does (by_age (waiters o 0 words)) l a.tells a.calm notifies (remain words k l a))))

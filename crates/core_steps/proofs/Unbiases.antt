@@ -34,7 +34,7 @@ use Rattle.core_steps.specs.Logic.{Heap, Does}
 use Rattle.core_steps.proofs.AskedRevocations.{BeginsRevocation, revocation_does}
 use Rattle.core_steps.proofs.BiasFacts.{SawHeaders, headers_first, headers_more, look_prototype, unreached_here, biasing_here, IsPrototype, prototype_here, prototype_neutral, neutral_reads_so, loose_unepoched, stale_epoch, own_epoch, free_bias}
 use Rattle.core_steps.proofs.BiasRules.{unbiases_rule}
-use Rattle.core_steps.proofs.LawRules.{looks}
+use Rattle.core_steps.proofs.LawRules.{looks, class_in}
 use Rattle.core_steps.proofs.Requests.{BeginsSafepoint, asking_saw}
 use Rattle.core_steps.proofs.Resting.{Carries, rests, live_carries}
 use Rattle.core_steps.proofs.Revocations.{Released, Revoked}
@@ -131,7 +131,7 @@ module _ (heap : Heap) (e : Purpose) (b : Revocation) where
       drop_does neutral loose to plain =
           let exchange = unbias_plan e o mark neutral in
           swapping heap false exchange mark neutral (λ n. done (Unbiased neutral)) (λ n. done (Raced mark n)) l R refl
-          (λ i. unbiases_rule heap l e o mark prototype neutral (λ v. (
+          (λ i. unbiases_rule heap l e o mark prototype neutral object (λ v. (
             record {
               prototype = prototype;
               exchange = record { runs = x.runs; calm = x.calm; saw = saw_prototype; loose = loose; goes_on = sym x.mine };
@@ -213,13 +213,13 @@ module _ (heap : Heap) (e : Purpose) (b : Revocation) where
         let runs = begins.0 in
         let look = load e (name.Mark o) in
         let ask_prototype = load e (name.Prototype c) in
-        hitting heap true look _ k R (λ n. refl) (λ i. looks heap k look (look_mark heap k e runs may.begins.rest.calm may.check begins.1 o)) (λ mark i was.
+        hitting heap true look _ k R (λ n. refl) (λ i. looks heap k look (look_mark heap k e runs may.begins.rest.calm may.check begins.1 o) (λ v. object)) (λ mark i was.
         let l = known_hit heap.shape heap.start look mark k in
         let headers : SawHeaders l = headers_first heap look mark k refl i free refl in
         chooses heap false (is_biased mark) _ _ l R
         (λ yes.
         let biasing = biasing_here heap k was.stands runs o (ap is_biased was.found ∙ yes) in
-        hitting heap false ask_prototype _ l R (λ n. refl) (λ j. looks heap l ask_prototype (look_prototype l e runs refl refl (inl refl) c)) (λ prototype j was1.
+        hitting heap false ask_prototype _ l R (λ n. refl) (λ j. looks heap l ask_prototype (look_prototype l e runs refl refl (inl refl) c) (class_in heap l o object)) (λ prototype j was1.
         let m = known_hit heap.shape heap.start ask_prototype prototype l in
         by_does m mark prototype (record {
           local = refl;

@@ -130,7 +130,7 @@ module _ (heap : Heap) (e : Purpose) (o : ℕ) where
   at_does (Some (wait.Notified i)) k word x calm waits saw none reads (inr says) =
       let look = load e (name.Mark o) in
       let told : says_notified word o ≡ true = ap (λ f. notified_form f o) reads ∙ says in
-      hitting heap false look _ k _ (λ n. refl) (λ i. looks heap k look (look_mark heap k e x.runs calm x.check (inl (sym x.mine)) o)) (λ mark j was.
+      hitting heap false look _ k _ (λ n. refl) (λ i. looks heap k look (look_mark heap k e x.runs calm x.check (inl (sym x.mine)) o) (λ v. x.object)) (λ mark j was.
       let l = known_hit heap.shape heap.start look mark k in
       let is = inflated_here heap k was.stands x.runs o word saw told mark was.found in
       subst (λ f. Does heap false (resume_mark_at f e k.thread k.saved o) l (λ b r l. AtRest heap.shape l)) (sym (inflated_form (read_mark mark) is.0 is.1))
@@ -146,7 +146,7 @@ module _ (heap : Heap) (e : Purpose) (o : ℕ) where
   monitor_resume_does fresh k x calm waits none =
       let look = load e (name.Waiting k.thread) in
       hitting heap fresh look _ k _ (λ n. refl)
-      (λ i. looks heap k look (record { act = refl; note = refl; own = refl; stage = sym calm; check = x.check; after = inl (sym x.mine); may = may_look k (name.Waiting k.thread) (inl x.runs) (λ m is. absurd (cc is)) }))
+      (λ i. looks heap k look (record { act = refl; note = refl; own = refl; stage = sym calm; check = x.check; after = inl (sym x.mine); may = may_look k (name.Waiting k.thread) (inl x.runs) (λ m is. absurd (cc is)) }) (λ v. v.within))
       (λ word i was.
       at_does (read_wait word) (known_hit heap.shape heap.start look word k) word
       (record { runs = x.runs; unasks = x.unasks; unchecks = x.unchecks; live = x.live; room = x.room; object = x.object; mine = refl; check = refl; waits = x.waits }) refl waits

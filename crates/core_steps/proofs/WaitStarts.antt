@@ -173,7 +173,7 @@ module _ (heap : Heap) (e : Purpose) (o m : ℕ) where
       let x1 = after_recursions k x i0 Load n0 own.Save in
       let owns1 : SawOwn k1 k1.thread m = saw_older heap save n0 k (name.Owner m) i0 refl refl ∙ owns in
       hitting heap false raise _ k1 _ (λ n. refl)
-      (λ i. raises heap k1 e o (λ v. record { runs = x.runs; calm = refl; out = ready_is_out k1 x.ready; holds = x.holds; goes_on = inl refl; letting = inl x.waits })) (λ n1 i1 was1.
+      (λ i. raises heap k1 e o x.object (λ v. record { runs = x.runs; calm = refl; out = ready_is_out k1 x.ready; holds = x.holds; goes_on = inl refl; letting = inl x.waits })) (λ n1 i1 was1.
       let k2 = known_hit heap.shape heap.start raise n1 k1 in
       let owns2 : SawOwn k2 k2.thread m = saw_older heap raise n1 k1 (name.Owner m) i1 refl refl ∙ owns1 in
       let inflated2 : SawInflated k2 o m = (x1.inflated.0, saw_older heap raise n1 k1 (name.Mark o) i1 refl refl ∙ x1.inflated.1, x1.inflated.2) in

@@ -2,6 +2,7 @@
 use Rattle.std.specs.Prelude.{◌≡◌, ℕ, ◌<◌, Bool, false, List}
 use Rattle.plain_monitor.specs.Objects.{PlainObject}
 use Rattle.core_world.specs.declared.plan.StepPlan.{StepPlan}
+use Rattle.core_world.specs.There.{IsThere}
 use Rattle.core_world.specs.Words.Shape.{Shape}
 use Rattle.core_world.specs.Threads.Known.{Known}
 use Rattle.core_world.specs.Trees.Todo.{Todo, done, never, step}
@@ -27,9 +28,10 @@ pub record Stands (heap : Heap) (k : Known) : Type 0 where
   pub within : k.thread < heap.shape.threads
   pub valid : IsWhollyValid world objects
 
--- the step leads from every such world to a valid one
+-- the step leads from every such world to a valid one, and is on a word of the heap
 pub record Keeps (heap : Heap) (p : StepPlan) (k : Known) : Type 0 where
   pub by : (v : Stands heap k) → WhollyValid (world_after p k.thread v.world)
+  pub there : Stands heap k → IsThere heap.shape k p
 
 -- there was such a world, and the step found n
 pub record Was (heap : Heap) (p : StepPlan) (k : Known) (n : ℕ) : Type 0 where

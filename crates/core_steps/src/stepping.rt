@@ -8,6 +8,7 @@ ghost use Rattle.core_world.specs.Threads.Known.{Known};
 ghost use Rattle.core_world.specs.Opening.{opening};
 ghost use Rattle.core_world.specs.Words.Shape.{IsInLimits};
 ghost use Rattle.core_world.specs.Steps.{world_after, rest_of_call, is_idle};
+ghost use Rattle.core_world.specs.There.{IsThere};
 ghost use Rattle.core_world.specs.World.{World};
 ghost use Rattle.core_counts.specs.BiasLaw.{WhollyValid};
 ghost use Rattle.core_steps.specs.Logic.{Heap, heap_of};
@@ -15,13 +16,17 @@ ghost use Rattle.core_steps.specs.Reached.{Comes, comes};
 ghost use Rattle.core_steps.specs.Sound.{Sound};
 
 /// In a sound world the next step of any thread leads to a sound world: in whatever call, whether it begins the call or goes on with it, and
-/// whatever the other threads are in the middle of. The step is a function of what its thread knows alone. In a sound world no thread
-/// stands where its call says that no valid world comes, and a thread whose call is over is at rest.
+/// whatever the other threads are in the middle of. The step is a function of what its thread knows alone. The heap has the word that it is
+/// on, and its thread a place for the shot that it takes. In a sound world no thread stands where its call says that no valid world comes, and a thread whose call is over is at rest.
 pub fn next_steps_keep_worlds_sound()
     ensures sound { (w : World) (t : ℕ) (p : StepPlan) → t < w.shape.threads → Sound w
         → IsNext w.shape w.start w.biasing (w.known t) p → Sound (world_after p t w) }
     ensures known { (heap : Heap) (k : Known) (p : StepPlan) → IsNext heap.shape heap.start heap.biasing k p
         → (w : World) → heap_of w ≡ heap → w.known k.thread ≡ k → k.thread < heap.shape.threads → Sound w → Sound (world_after p k.thread w) }
+    ensures there { (w : World) (t : ℕ) (p : StepPlan) → t < w.shape.threads → Sound w
+        → IsNext w.shape w.start w.biasing (w.known t) p → IsThere w.shape (w.known t) p }
+    ensures known_there { (heap : Heap) (k : Known) (p : StepPlan) → IsNext heap.shape heap.start heap.biasing k p
+        → (w : World) → heap_of w ≡ heap → w.known k.thread ≡ k → k.thread < heap.shape.threads → Sound w → IsThere heap.shape k p }
     ensures comes { (w : World) (t : ℕ) → Sound w → t < w.shape.threads → comes (rest_of_call w.shape (w.known t)) ≡ true }
     ensures rests { (w : World) (t : ℕ) → Sound w → t < w.shape.threads → is_idle w.shape (w.known t) ≡ true → AtRest w.shape (w.known t) }
 {}

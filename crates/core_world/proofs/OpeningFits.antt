@@ -305,6 +305,7 @@ module _ (s : Shape) (start : ℕ) (biasing : Bool) where
         right = λ t i a e. absurd (cc e);
         numbered = λ t i a e. absurd (cc e);
         dumps = λ t. inl refl;
+        few = λ t. omega arith;
         ordered = λ t u i j a b e. absurd (cc e);
       }
 

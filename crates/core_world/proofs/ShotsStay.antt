@@ -23,7 +23,7 @@ dumps_go_on t log shots u v (inr e) (inr a) = let d = a.1 in absurd (cc (d, e))
 pub shots_go_on : {shape : List (ℕ × ℕ)} {logs : List (List Logged)} {log : ℕ → List Logged} {shots : ℕ → List DumpShot} {u v : ℕ → Option Unfinished}
     → ((t : ℕ) → (u t ≡ v t) ⊎ (u t ≡ None)) → ShotsFit shape logs log shots u → ShotsFit shape logs log shots v
 shots_go_on {log = log} {shots = shots} {u = u} {v = v} goes_on h =
-    record { right = h.right; numbered = h.numbered; dumps = λ t. dumps_go_on t (log t) (shots t) (u t) (v t) (goes_on t) (h.dumps t); ordered = h.ordered }
+    record { right = h.right; numbered = h.numbered; dumps = λ t. dumps_go_on t (log t) (shots t) (u t) (v t) (goes_on t) (h.dumps t); few = h.few; ordered = h.ordered }
 
 -- fronts stay as they are where a log grows behind them
 cut_appended : (cut : List ℕ) (logs : List (List Logged)) (t : ℕ) (xs : List Logged) → length cut ≡ length logs → slice_index cut t ≤ length (log_of logs t)
@@ -120,6 +120,7 @@ shots_with shape logs t y l f within mine h =
       right = λ u i s e. right_with shape logs t y s within (h.right u i s e);
       numbered = h.numbered;
       dumps = λ u. each_with_known (λ u k. AreOfDumps u k.log (f u).shots k.unfinished) t l f u mine (λ d. h.dumps u);
+      few = h.few;
       ordered = h.ordered;
     }
 
@@ -138,6 +139,7 @@ pub record IsNext (shape : List (ℕ × ℕ)) (logs : List (List Logged)) (t : �
   pub here : slice_index shot.cut t ≡ length log
   pub logged : places_of t shots ≡ dumps_from 0 log
   pub dumps : IsUnfinished unfinished op.Dump 0
+  pub room : length shots < 4
 
 -- with it the shots fit: all others were made no later
 pub shots_taken : {shape : List (ℕ × ℕ)} {logs : List (List Logged)} {log : ℕ → List Logged} {unfinished : ℕ → Option Unfinished} (t : ℕ) (l : Known) (f : ℕ → Known) (shot : DumpShot)
@@ -148,6 +150,7 @@ shots_taken {shape = shape} {logs = logs} {log = log} {unfinished = unfinished} 
       right = λ u i s e. elim (old_or_new u i s e) [ inl b ↦ h.right u i s b | inr b ↦ subst (IsRightShot shape logs) (sym b.1) a.right ];
       numbered = λ u i s e. elim (old_or_new u i s e) [ inl b ↦ h.numbered u i s b | inr b ↦ ap (λ (z : DumpShot). z.number) b.1 ∙ a.number ∙ ap (λ n. n + 1) (sym b.0) ];
       dumps = λ u. each_with_known (λ u k. AreOfDumps u (log u) k.shots (unfinished u)) t l f u (inr (places, a.dumps)) (λ d. h.dumps u);
+      few = λ u. each_with_known (λ u k. length k.shots ≤ 4) t l f u (let b = many in let c = a.room in omega (arith, b, c)) (λ d. h.few u);
       ordered = λ u z i j b c e g. elim (old_or_new u i b e) [
         | inl p ↦ elim (old_or_new z j c g) [
           | inl q ↦ h.ordered u z i j b c p q

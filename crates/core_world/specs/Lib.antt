@@ -11,3 +11,4 @@ pub mod Trees
 pub mod Steps
 pub mod Due
 pub mod Looking
+pub mod There

@@ -63,5 +63,7 @@ pub record ShotsFit (shape : List (ℕ × ℕ)) (logs : List (List Logged)) (log
   pub right : (t i : ℕ) (s : DumpShot) → slice_get (shots t) i ≡ Some s → IsRightShot shape logs s
   pub numbered : (t i : ℕ) (s : DumpShot) → slice_get (shots t) i ≡ Some s → s.number ≡ i + 1
   pub dumps : (t : ℕ) → AreOfDumps t (log t) (shots t) (unfinished t)
+  -- a thread takes at most 4
+  pub few : (t : ℕ) → length (shots t) ≤ 4
   -- of any two shots of any threads, one was made no later than the other
   pub ordered : (t u i j : ℕ) (a b : DumpShot) → slice_get (shots t) i ≡ Some a → slice_get (shots u) j ≡ Some b → IsNoLater a b ⊎ IsNoLater b a

@@ -1,0 +1,86 @@
+-- The heap has the words that a thread names: of an object's class and slots, of a monitor that it keeps or saw, and of a thread that waits.
+use Rattle.std.proofs.Common.{◌≡◌, ℕ, suc, zero, ◌<◌, ◌≤◌, nat_lt, Bool, true, false, List, [], ◌∷◌, length, slice_index_or, Some, refl, sym, ap, ◌∙◌, subst, inl, inr, arith}
+use Rattle.std.specs.List.{AllByRecursion}
+use Rattle.std.proofs.lemmas.Bool.Decides.{nat_tests}
+use Rattle.mark_word.specs.declared.mark.MarkForm.TheVariants.{Inflated}
+use Rattle.mark_word.specs.Hold.{read_hold}
+use Rattle.mark_word.specs.Mark.{read_mark}
+use Rattle.mark_word.specs.Owner.{read_owner}
+use Rattle.mark_word.specs.Wait.{read_wait}
+use Rattle.mark_word.specs.declared.wait.WaitForm.TheVariants.{Ready}
+use Rattle.mark_word.proofs.ReadingWaits.{read_wait-wait_of}
+use Rattle.plain_monitor.specs.Objects.{PlainObject}
+use Rattle.core_world.specs.declared.name.Name.{Name}
+use Rattle.core_world.specs.declared.name.Name.TheVariants.{Mark, Hold, Waiting, Owner}
+use Rattle.core_world.specs.Clauses.WordForms.{IsMark, IsHold, IsWait, IsOwner}
+use Rattle.core_world.specs.Words.Forms.{monitor_in, waits_on, waits_form}
+use Rattle.core_world.specs.Words.Shape.{Shape, IsInLimits, class_of, slots_of, monitor_count}
+use Rattle.core_world.specs.Threads.Known.{Known}
+use Rattle.core_world.specs.Locks.{marks, inflated_to}
+use Rattle.core_world.specs.Valid.{Fits, FormsFit, IsValid}
+use Rattle.core_world.specs.World.{World}
+use Rattle.core_world.proofs.OwnersShown.{inflated_form}
+use Rattle.core_locks.specs.Knowing.{SawInflated}
+use Rattle.core_locks.proofs.Claims.{with_most}
+
+-- what the forms of words say of one that was found at this name
+abbrev pub IsFormed : Shape → Name → ℕ → Type 0
+IsFormed s (Mark o) n = IsMark s (read_mark n)
+IsFormed s (Hold t p) n = IsHold s (read_hold n)
+IsFormed s (Waiting t) n = IsWait s (read_wait n)
+IsFormed s (Owner m) n = IsOwner s (read_owner n)
+IsFormed s _ n = Unit {0}
+
+pub is_formed : (w : World) (n : Name) → FormsFit w → IsFormed w.shape n (w.words n)
+is_formed w (Mark o) f = f.marks o
+is_formed w (Hold t p) f = f.holds t p
+is_formed w (Waiting t) f = f.waits t
+is_formed w (Owner m) f = f.owners m
+is_formed w _ f = tt
+
+no_wait : (o : ℕ) → waits_on 0 o ≡ false
+no_wait o = ap (λ f. waits_form f o) (read_wait-wait_of Ready tt)
+
+of_each : (xs : List (ℕ × ℕ)) (n o : ℕ) → AllByRecursion (λ x. (x.0 < n) × (x.1 ≤ 16)) xs → o < length xs
+    → ((slice_index_or xs o (0, 0)).0 < n) × ((slice_index_or xs o (0, 0)).1 ≤ 16)
+of_each [] n o h l = absurd (omega (arith, l))
+of_each (x ∷ xs) n zero h l = h.0
+of_each (x ∷ xs) n (suc o) h l = of_each xs n o h.1 (omega (arith, l))
+
+pub class_there : (s : Shape) (o : ℕ) → IsInLimits s → o < length s.objects → class_of s o < s.classes
+class_there s o limits object = (of_each s.objects s.classes o limits.each object).0
+
+pub slot_there : (s : Shape) (o slot : ℕ) → IsInLimits s → o < length s.objects → slot < slots_of s o → slot < 16
+slot_there s o slot limits object within = let most = (of_each s.objects s.classes o limits.each object).1 in omega (arith, within, most)
+
+pub limits_there : (w : World) (P : List PlainObject) → IsValid w P → IsInLimits w.shape
+limits_there w P valid = elim valid [ inl v ↦ v.limits | inr s ↦ subst IsInLimits (sym s.shape) s.fits.limits ]
+
+module _ (w : World) (P : List PlainObject) (v : Fits w P) where
+  pub kept_there : (t m : ℕ) → (w.known t).kept ≡ Some m → m < monitor_count w.shape
+  kept_there t m kept =
+      let a = with_most w.shape.threads (λ u. (w.known u).kept) in
+      let b = with_most (length w.shape.objects) (inflated_to w) in
+      omega (arith, a, b, v.claims.holder t m kept, v.claims.counted)
+
+  -- a mark that names a monitor stays
+  pub inflated_there : (t o m : ℕ) → (w.known t).running ≡ true → SawInflated (w.known t) o m → m < monitor_count w.shape
+  inflated_there t o m runs saw =
+      let names : monitor_in (marks w o) ≡ Some m = ap monitor_in (v.seen.stays t (Mark o) saw.0 saw.1 (inl (runs, inr (inl (m, saw.2))))) ∙ saw.2 in
+      subst (IsMark w.shape) (inflated_form (read_mark (marks w o)) m names) (v.forms.marks o)
+
+  -- a thread that the heap lacks waits for nothing
+  pub waiter_there : (u o : ℕ) → waits_on (w.words (Waiting u)) o ≡ true → u < w.shape.threads
+  waiter_there u o waits = cases (nat_lt u w.shape.threads) refl
+    where
+      never_waits : w.shape.threads ≤ u → ⊥
+      never_waits absent =
+          let fresh = ap (λ (k : Known). k.wait) (v.absent u absent) in
+          elim (v.waits.stored u) [
+            | inl same ↦ let said = ap (λ n. waits_on n o) (same ∙ fresh) in let none = no_wait o in absurd (cc (said, none, waits))
+            | inr told ↦ let said = ap (λ n. waits_on n told.0) fresh in let none = no_wait told.0 in let its = told.1 in absurd (cc (said, none, its))
+          ]
+
+      cases : (b : Bool) → nat_lt u w.shape.threads ≡ b → u < w.shape.threads
+      cases true e = grind (arith, nat_tests, e)
+      cases false e = absurd (never_waits (grind (arith, nat_tests, e)))

@@ -1,0 +1,36 @@
+-- What a step asks of its heap and its thread besides: that the heap has the word, and that there is a place for the shot that it takes.
+use Rattle.std.specs.Prelude.{ℕ, ◌+◌, ◌<◌, length}
+use Rattle.core_world.specs.declared.name.Name.{Name}
+use Rattle.core_world.specs.declared.name.Name.TheVariants.{Safepoint, Prototype, Revocations, LastBulk, Mark, Stamp, Slot, Hold, Displaced, Waiting, Length, Owner, Recursions, Header, Object, Claim}
+use Rattle.core_world.specs.declared.plan.Own.{Own}
+use Rattle.core_world.specs.declared.plan.Own.TheVariants.{TakeShot}
+use Rattle.core_world.specs.declared.plan.StepPlan.{StepPlan}
+use Rattle.core_world.specs.Threads.Known.{Known}
+use Rattle.core_world.specs.Words.Shape.{Shape, monitor_count}
+
+-- the heap has such a word: each object has room for 16 slots, and each thread for 64 lock records
+abbrev pub IsIn : Shape → Name → Type 0
+IsIn s Safepoint = Unit {0}
+IsIn s (Prototype c) = c < s.classes
+IsIn s (Revocations c) = c < s.classes
+IsIn s (LastBulk c) = c < s.classes
+IsIn s (Mark o) = o < length s.objects
+IsIn s (Stamp o) = o < length s.objects
+IsIn s (Slot o i) = (o < length s.objects) × (i < 16)
+IsIn s (Hold t p) = (t < s.threads) × (p < 64)
+IsIn s (Displaced t p) = (t < s.threads) × (p < 64)
+IsIn s (Waiting t) = t < s.threads
+IsIn s (Length t) = t < s.threads
+IsIn s (Owner m) = m < monitor_count s
+IsIn s (Recursions m) = m < monitor_count s
+IsIn s (Header m) = m < monitor_count s
+IsIn s (Object m) = m < monitor_count s
+IsIn s Claim = Unit {0}
+
+-- there is a place for the shot: a thread takes at most 4
+abbrev pub HasPlace : Own → ℕ → Type 0
+HasPlace TakeShot taken = taken < 4
+HasPlace _ taken = Unit {0}
+
+abbrev pub IsThere : Shape → Known → StepPlan → Type 0
+IsThere s k p = IsIn s p.at × HasPlace p.own (length k.shots)
