@@ -1,4 +1,4 @@
--- Counts of verdicts that are wrong by one, bulk operations that the count doesn't tell, and a reset that isn't counted: the law of biases refuses them.
+-- The law of biases refuses counts of verdicts that are wrong by one, bulk operations that the count doesn't tell, and a reset that isn't counted.
 use Rattle.std.proofs.Common.{◌≡◌, ◌≢◌, ℕ, zero, suc, ◌+◌, ◌<◌, ◌≤◌, ◌==◌, eq-eqb, cond, Bool, true, false, List, refl, sym, ap, ◌∙◌, subst, arith}
 use Rattle.std.proofs.lemmas.Bool.Decides.{nat_tests}
 use Rattle.lock_policy.specs.declared.policy.Verdict.{Verdict}
@@ -53,7 +53,8 @@ record IsOneMore (n c t : ℕ) (v : Verdict) (f g : ℕ → ℕ → ClassCounts)
 all_more : (n c t : ℕ) (v : Verdict) (f g : ℕ → ℕ → ClassCounts) → IsOneMore n c t v f g → verdicts_on (summed n g c) ≡ verdicts_on (summed n f c) + 1
 all_more n c t v f g m =
     by_thread n c g
-    ∙ sum_more n t 1 (λ u. verdicts_on (f u c)) (λ u. verdicts_on (g u c)) m.within (ap verdicts_on m.mine ∙ verdict_more (f t c) v) (λ u d. ap verdicts_on (m.theirs u d))
+    ∙ sum_more n t 1 (λ u. verdicts_on (f u c)) (λ u. verdicts_on (g u c)) m.within
+    (ap verdicts_on m.mine ∙ verdict_more (f t c) v) (λ u d. ap verdicts_on (m.theirs u d))
     ∙ ap (λ k. k + 1) (sym (by_thread n c f))
 
 resets_same : (n c t : ℕ) (v : Verdict) (f g : ℕ → ℕ → ClassCounts) → IsOneMore n c t v f g → (summed n g c).reset ≡ (summed n f c).reset
@@ -161,7 +162,8 @@ module _ (w : World) (t c : ℕ) (within : t < w.shape.threads) (cs : List Count
       → BiasLawHolds w → BiasLawHolds (with_counts_of t cs w) → ⊥
   never_counted v none low e a b =
       let m = less v e in
-      not_both w.shape.threads c t (w.words (Revocations c)) v new old m (sym (resets_same w.shape.threads c t v new old m) ∙ none) low (b.count_fits c) (a.count_fits c)
+      let none_else = sym (resets_same w.shape.threads c t v new old m) ∙ none in
+      not_both w.shape.threads c t (w.words (Revocations c)) v new old m none_else low (b.count_fits c) (a.count_fits c)
 
 pub not_twice : (w : World) (t c : ℕ) (v : Verdict) → t < w.shape.threads → NothingReset w c → w.words (Revocations c) < 41
     → BiasLawHolds w → BiasLawHolds (with_counts_of t (with_verdict_counted (w.known t).counts c v false) w) → ⊥

@@ -42,7 +42,8 @@ ended_before (x ∷ es) e h some by = by_head (ends_bias x) refl some (λ g. end
         absurd (cc (a, b))
     by_head false q g rest = rest g
 
-module _ (w : World) (P : List PlainObject) (t o p : ℕ) (path : Path) (r : Purpose) (within : t < w.shape.threads) (may : MayLogEnter w.shape (w.known t) o p path) (v : Fits w P) where
+module _ (w : World) (P : List PlainObject) (t o p : ℕ) (path : Path) (r : Purpose) (within : t < w.shape.threads)
+    (may : MayLogEnter w.shape (w.known t) o p path) (v : Fits w P) where
   abbrev l : Known
   l = known_after w.shape w.start (logging_plan (entry.Enter o path) r (Stamp o) Load) (w.words (Stamp o)) (w.known t)
 

@@ -61,8 +61,9 @@ pub fn no_count_of_40_without_a_bulk_revoke()
 pub fn no_reset_that_is_not_counted()
     ensures { (w : World) (t c now : ℕ) → t < w.shape.threads → NothingReset w c
         → is_reset (w.words (Revocations c)) (w.words (LastBulk c)) now ≡ true → BiasLawHolds w
-        → BiasLawHolds (with_word_and_known (Revocations c) (decided (w.words (Revocations c)) (w.words (LastBulk c)) now).1
-        t (with_counts (with_verdict_counted (w.known t).counts c (decided (w.words (Revocations c)) (w.words (LastBulk c)) now).0 false) (w.known t)) w) → ⊥ }
+        → BiasLawHolds (with_word_and_known (Revocations c) (decided (w.words (Revocations c)) (w.words (LastBulk c)) now).1 t
+        (with_counts (with_verdict_counted (w.known t).counts c (decided (w.words (Revocations c)) (w.words (LastBulk c)) now).0 false)
+        (w.known t)) w) → ⊥ }
 {}
 
 /// A load of a stamp that logs an Enter by a bias, taken or own, of an object whose bias has ended by the logs: they have a Wait, a Notify
