@@ -21,3 +21,5 @@ pub mod QuietKinds
 pub mod LoggedKinds
 pub mod FinalMarks
 pub mod ObjectLeft
+pub mod RefusedCounts
+pub mod RefusedEnters

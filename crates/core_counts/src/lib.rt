@@ -4,6 +4,7 @@
 
 mod kinds;
 mod laws;
+mod refused;
 mod runs;
 mod steps;
 
@@ -17,6 +18,12 @@ pub use laws::{
     a_counted_verdict_fits, a_logged_entry_keeps_enters_and_marks,
     a_quiet_step_keeps_enters_and_marks, a_revocation_is_gentle,
     the_opening_world_meets_the_law_of_biases,
+};
+pub use refused::{
+    no_bulk_rebias_at_a_count_below_20, no_bulk_revoke_at_a_count_below_40,
+    no_count_of_20_without_a_bulk_rebias, no_count_of_40_without_a_bulk_revoke,
+    no_enter_by_a_bias_that_has_ended, no_reset_that_is_not_counted,
+    no_verdict_counted_twice_or_never,
 };
 pub use runs::the_law_of_biases_holds_of_runs;
 pub use steps::{
