@@ -7,4 +7,5 @@ pub mod Kept
 pub mod Ruled
 pub mod Openings
 pub mod Seen
+pub mod Stepping
 pub mod Fresh

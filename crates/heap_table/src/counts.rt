@@ -68,6 +68,7 @@ fn next_counts(counts: ClassCounts, verdict: Verdict, reset: bool) -> ClassCount
 }
 
 /// What it has counted behind a step that hit.
+#[inline(always)]
 pub fn count_next(counts: &mut Vec<ClassCounts>, own: &Own)
     ensures { (n : ℕ) (k : List CountedVerdict) → counts.old.items ≡ counts_shown 0 n k → counts.new.items ≡ counts_shown 0 n (counts_after own.now k) }
 {

@@ -36,6 +36,7 @@ impl Drawing {
 }
 
 /// Behind a step that hit.
+#[inline(always)]
 pub fn draw_next(drawing: &mut Drawing, note: &Note)
     requires { drawing.old.installed + 1 < 2 ^ 64 }
     ensures installed { drawing.new.installed ≡ draws_after note.now drawing.old.installed }

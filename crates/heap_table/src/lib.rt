@@ -5,16 +5,21 @@
 //! thread, and needs no law of its own. `HeapShape` says where each word lies, and `close` what is left at the end.
 #![tactic(auto)]
 
+mod acts;
 mod afters;
 mod begins;
 mod choice;
 mod counts;
 mod draws;
 mod ends;
+mod entries;
 mod heap;
+mod keeps;
 mod mirror;
 mod opening;
 mod pass;
+mod plans;
+mod purpose;
 mod reads;
 mod rule;
 mod setting;
@@ -28,5 +33,6 @@ pub use counts::ClassCounts;
 pub use ends::{Closed, close};
 pub use heap::Heap;
 pub use pass::Pass;
+pub use purpose::Purpose;
 pub use shape::{HeapShape, no_two_names_have_one_place, words_of_two_groups_lie_apart};
 pub use shots::{Cell, Shot};

@@ -5,7 +5,7 @@ ghost use Rattle.heap_table.specs.Drafts.{IsDrafted, HasPlace, IsLeft, taken_aft
 ghost use Rattle.heap_table.specs.Tallies.{counts_shown};
 
 use crate::afters::{
-    Stand, halted_next, kept_next, note_entry, published_next, saved_next, stand_next, store_hold,
+    Stand, halted_next, keep_next, note_entry, published_next, saved_next, stand_next, store_hold,
     unfinished_next, wait_next,
 };
 use crate::counts::{ClassCounts, NO_COUNTS, count_next};
@@ -43,6 +43,7 @@ pub struct Mirror {
 }
 
 // The shots behind a step that hit.
+#[inline(always)]
 fn shoot(shots: &mut Shots, own: &Own)
     requires { HasPlace own.now (length shots.old.taken.items) }
     ensures fixed { (shots.new.threads ≡ shots.old.threads) × (shots.new.objects ≡ shots.old.objects) }
@@ -117,6 +118,7 @@ impl Mirror {
     }
 
     /// Follows a step that found this word.
+    #[inline(always)]
     pub fn follow(&mut self, step: &StepPlan, found: u64)
         requires at { IsPlaced step.now.at }
         requires room { HasRoom step.now.note self.old.log.items self.old.limit }
@@ -131,7 +133,7 @@ impl Mirror {
         if effect.hit {
             note_entry(&mut self.log, &mut self.last, &step.note, found);
             self.stand = stand_next(step.at, &step.act, effect.word, self.thread, self.stand);
-            self.kept = kept_next(&step.own, found, self.kept);
+            keep_next(&mut self.kept, &step.own, found);
             self.saved = saved_next(&step.own, found, self.saved);
             store_hold(&mut self.holds, step.at, &step.act);
             self.wait = wait_next(step.at, &step.act, self.thread, self.wait);

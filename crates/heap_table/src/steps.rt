@@ -10,6 +10,7 @@ use crate::setting::Setting;
 use core_world::{Act, StepPlan};
 use std::marker::Brand;
 
+#[inline(always)]
 fn step_as<C: Chosen>(words: &Words, setting: &Setting, seat: &mut Place, plan: StepPlan) -> u64
     requires chosen { (C.heap ≡ heap_in setting.now) × (C.plan ≡ plan) }
     requires setting { (words.now.shared.key ≡ setting.now) × (words.now.shared.table_id.words ≡ word_count setting.now.shape) }
@@ -34,6 +35,7 @@ fn step_as<C: Chosen>(words: &Words, setting: &Setting, seat: &mut Place, plan: 
 }
 
 /// One atomic act on the word of the plan. It answers the word that it found.
+#[inline(always)]
 pub fn step(words: &Words, setting: &Setting, seat: &mut Place, plan: StepPlan) -> u64
     requires setting { (words.now.shared.key ≡ setting.now) × (words.now.shared.table_id.words ≡ word_count setting.now.shape) }
     requires seat { (seat.old.table_id ≡ words.now.shared.table_id) × (seat.old.me ≡ (only seat.old.me.0 ∷ [], [])) }
