@@ -7,5 +7,6 @@ pub mod Kept
 pub mod Ruled
 pub mod Openings
 pub mod Seen
+pub mod StepPlans
 pub mod Stepping
 pub mod Fresh

@@ -1,8 +1,9 @@
-//! Steps by what they do. Each is `Heap::step` with a plan of one form. At a call that names its word, only the act and what the step makes
-//! of the pass are left of it in the built code.
+//! Steps by what they do. Each is `Heap::step` with a plan of one form. At a call that names its word, only the act and
+//! what the step makes of the pass are left of it in the built code.
 ghost use Rattle.std.specs.Prelude.{◌≡◌};
 ghost use Rattle.mark_word.specs.Safe.{read_safe};
-ghost use Rattle.core_world.specs.Trees.Plans.{quiet_plan, with_stage, load_plan, load, store, swap};
+ghost use Rattle.core_world.specs.Trees.Plans.{quiet_plan, load_plan, load};
+ghost use Rattle.heap_table.specs.StepPlans.{store_plan, store_hold_plan, swap_plan};
 ghost use Rattle.heap_table.specs.Stepping.{CanStep, HasStepped};
 
 use crate::heap::Heap;
@@ -38,17 +39,24 @@ impl Heap {
     /// A store.
     #[inline(always)]
     pub fn store(&self, pass: &mut Pass, why: &Purpose, stage: Stage, at: Name, word: u64) -> u64
-        requires { CanStep self.now pass.old (with_stage stage (store why.now at word)) }
-        ensures { HasStepped self.now pass.old pass.new (with_stage stage (store why.now at word)) result }
+        requires { CanStep self.now pass.old (store_plan why.now stage at word) }
+        ensures { HasStepped self.now pass.old pass.new (store_plan why.now stage at word) result }
     {
         self.step(pass, quiet(why, stage, at, Act::Store { word }))
     }
 
     /// A store in the thread's own hold word of this place.
     #[inline(always)]
-    pub fn store_hold(&self, pass: &mut Pass, why: &Purpose, stage: Stage, place: u32, word: u64) -> u64
-        requires { CanStep self.now pass.old (with_stage stage (store why.now (Name.Hold pass.old.known.thread place) word)) }
-        ensures { HasStepped self.now pass.old pass.new (with_stage stage (store why.now (Name.Hold pass.old.known.thread place) word)) result }
+    pub fn store_hold(
+        &self,
+        pass: &mut Pass,
+        why: &Purpose,
+        stage: Stage,
+        place: u32,
+        word: u64,
+    ) -> u64
+        requires { CanStep self.now pass.old (store_hold_plan why.now stage pass.old.known.thread place word) }
+        ensures { HasStepped self.now pass.old pass.new (store_hold_plan why.now stage pass.old.known.thread place word) result }
     {
         let thread = pass.thread();
         self.store(pass, why, stage, Name::Hold { thread, place }, word)
@@ -65,8 +73,8 @@ impl Heap {
         expected: u64,
         word: u64,
     ) -> u64
-        requires { CanStep self.now pass.old (with_stage stage (swap why.now at expected word)) }
-        ensures { HasStepped self.now pass.old pass.new (with_stage stage (swap why.now at expected word)) result }
+        requires { CanStep self.now pass.old (swap_plan why.now stage at expected word) }
+        ensures { HasStepped self.now pass.old pass.new (swap_plan why.now stage at expected word) result }
     {
         self.step(pass, quiet(why, stage, at, Act::Swap { expected, word }))
     }

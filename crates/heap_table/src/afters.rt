@@ -226,9 +226,11 @@ pub fn store_hold(holds: &mut [u64; 64], at: Name, act: &Act)
 pub fn note_entry(log: &mut Vec<Logged>, last: &mut u64, note: &Note, found: u64)
     requires room { HasRoom note.now log.old.items (vec_capacity log.old) }
     requires stamp { StampFits note.now found last.old }
-    ensures log { last_stamp log.old.items ≡ last.old → (log.new.items ≡ log_after note.now found log.old.items) × (last_stamp log.new.items ≡ last.new) }
+    ensures log { last_stamp log.old.items ≡ last.old → (log.new.items ≡ log_after note.now found log.old.items)
+        × (last_stamp log.new.items ≡ last.new) }
     ensures room { vec_capacity log.new ≡ vec_capacity log.old }
-    ensures within { (limit : ℕ) → HasRoom note.now log.old.items limit → vec_len log.old ≤ limit → vec_len log.new ≤ limit }
+    ensures within { (limit : ℕ) → HasRoom note.now log.old.items limit → vec_len log.old ≤ limit
+        → vec_len log.new ≤ limit }
 {
     if let Some(entry) = entry_next(note, found) {
         let stamp = stamp_next(&entry, found, *last);

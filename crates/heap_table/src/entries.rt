@@ -1,8 +1,9 @@
 //! Steps that log.
 ghost use Rattle.core_world.specs.declared.plan.Note.{Note};
-ghost use Rattle.core_world.specs.Trees.Plans.{with_stage, logging_plan, load};
+ghost use Rattle.core_world.specs.Trees.Plans.{logging_plan};
 ghost use Rattle.core_world.specs.Trees.HashSteps.{find_hash_plan};
 ghost use Rattle.core_world.specs.Trees.Operations.{get_plan};
+ghost use Rattle.heap_table.specs.StepPlans.{log_store_plan, log_swap_plan, log_store_within_plan};
 ghost use Rattle.heap_table.specs.Stepping.{CanStep, HasStepped};
 
 use crate::heap::Heap;
@@ -34,8 +35,8 @@ impl Heap {
         word: u64,
         entry: Entry,
     ) -> u64
-        requires { CanStep self.now pass.old (with_stage stage (logging_plan entry why.now at (Act.Store word))) }
-        ensures { HasStepped self.now pass.old pass.new (with_stage stage (logging_plan entry why.now at (Act.Store word))) result }
+        requires { CanStep self.now pass.old (log_store_plan why.now stage at word entry) }
+        ensures { HasStepped self.now pass.old pass.new (log_store_plan why.now stage at word entry) result }
     {
         self.step(pass, logging(why, stage, at, Act::Store { word }, entry))
     }
@@ -52,8 +53,8 @@ impl Heap {
         word: u64,
         entry: Entry,
     ) -> u64
-        requires { CanStep self.now pass.old (with_stage stage (logging_plan entry why.now at (Act.Swap expected word))) }
-        ensures { HasStepped self.now pass.old pass.new (with_stage stage (logging_plan entry why.now at (Act.Swap expected word))) result }
+        requires { CanStep self.now pass.old (log_swap_plan why.now stage at expected word entry) }
+        ensures { HasStepped self.now pass.old pass.new (log_swap_plan why.now stage at expected word entry) result }
     {
         let act = Act::Swap { expected, word };
         self.step(pass, logging(why, stage, at, act, entry))
@@ -73,8 +74,8 @@ impl Heap {
         word: u64,
         entry: Entry,
     ) -> u64
-        requires { CanStep self.now pass.old (with_stage stage (record (logging_plan entry why.now at (Act.Store word)) { after = why.now.unfinished })) }
-        ensures { HasStepped self.now pass.old pass.new (with_stage stage (record (logging_plan entry why.now at (Act.Store word)) { after = why.now.unfinished })) result }
+        requires { CanStep self.now pass.old (log_store_within_plan why.now stage at word entry) }
+        ensures { HasStepped self.now pass.old pass.new (log_store_within_plan why.now stage at word entry) result }
     {
         let note = Note::Log { entry };
         self.step(pass, noting(why, stage, at, Act::Store { word }, note))

@@ -42,7 +42,9 @@ impl Model for Heap {
 
     ghost view = { λ h. record { table = h.words.shared.table_id; heap = heap_in h.setting } };
 
-    ghost invariant = { λ h. (h.words.shared.key ≡ h.setting) × (h.words.shared.table_id.words ≡ word_count h.setting.shape) × (h.words.shared.table_id.slots ≡ 0) × (h.spare.words ≡ word_count h.setting.shape) × (h.spare.threads ≡ h.setting.shape.threads) };
+    ghost invariant = { λ h. (h.words.shared.key ≡ h.setting)
+        × (h.words.shared.table_id.words ≡ word_count h.setting.shape) × (h.words.shared.table_id.slots ≡ 0)
+        × (h.spare.words ≡ word_count h.setting.shape) × (h.spare.threads ≡ h.setting.shape.threads) };
 }
 
 impl Heap {
@@ -67,11 +69,13 @@ impl Heap {
         self.setting.biasing
     }
 
-    /// One atomic act on the word of the plan, which is the next step of the pass's thread. It answers the word that it found. The log of the pass has
-    /// room where the step logs. A step that takes a shot has a place for it, and the pass's draft is that shot.
+    /// One atomic act on the word of the plan, which is the next step of the pass's thread. It answers the word that it
+    /// found. The log of the pass has room where the step logs. A step that takes a shot has a place for it, and the
+    /// pass's draft is that shot.
     ///
-    /// There was a sound world of this heap in which the thread knew what it did and the word stood there, and the step made a sound
-    /// world of it. The pass knows what the step makes of its knowledge, and what is left of the call comes to an end or to a next step.
+    /// There was a sound world of this heap in which the thread knew what it did and the word stood there, and the step
+    /// made a sound world of it. The pass knows what the step makes of its knowledge, and what is left of the call
+    /// comes to an end or to a next step.
     #[inline(always)]
     pub fn step(&self, pass: &mut Pass, plan: StepPlan) -> u64
         requires { CanStep self.now pass.old plan }

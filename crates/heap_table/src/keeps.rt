@@ -1,5 +1,6 @@
 //! Steps of which the thread keeps something for itself.
-ghost use Rattle.core_world.specs.Trees.Plans.{quiet_plan, with_stage, with_own, load, store, swap};
+ghost use Rattle.core_world.specs.Trees.Plans.{with_own, load, swap};
+ghost use Rattle.heap_table.specs.StepPlans.{store_plan};
 ghost use Rattle.core_world.specs.Trees.MonitorSteps.{claim_plan};
 ghost use Rattle.heap_table.specs.Stepping.{CanStep, HasStepped};
 
@@ -9,7 +10,8 @@ use crate::plans::keeping;
 use crate::purpose::Purpose;
 use core_world::{Act, Name, Own, Stage};
 
-/// Steps that log nothing, of which the thread keeps this for itself, where they hit. Each answers the word that it found.
+/// Steps that log nothing, of which the thread keeps this for itself, where they hit. Each answers the word that it
+/// found.
 impl Heap {
     /// A load.
     #[inline(always)]
@@ -31,8 +33,8 @@ impl Heap {
         at: Name,
         word: u64,
     ) -> u64
-        requires { CanStep self.now pass.old (with_own own (with_stage stage (store why.now at word))) }
-        ensures { HasStepped self.now pass.old pass.new (with_own own (with_stage stage (store why.now at word))) result }
+        requires { CanStep self.now pass.old (with_own own (store_plan why.now stage at word)) }
+        ensures { HasStepped self.now pass.old pass.new (with_own own (store_plan why.now stage at word)) result }
     {
         self.step(pass, keeping(why, stage, own, at, Act::Store { word }))
     }

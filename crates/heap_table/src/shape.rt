@@ -24,7 +24,11 @@ impl Model for HeapShape {
 
     ghost view = { λ s. record { threads = s.threads; classes = s.classes; objects = s.objects.items } };
 
-    ghost invariant = { λ s. IsInLimits (record { threads = s.threads; classes = s.classes; objects = s.objects.items }) };
+    ghost invariant = { λ s. IsInLimits (record {
+      threads = s.threads;
+      classes = s.classes;
+      objects = s.objects.items;
+    }) };
 }
 
 /// Places in the table. Each of these is the place of the word of that name.
@@ -254,7 +258,8 @@ fn objects_of(alloc: Global, slots: &[u32], classes: &[u32]) -> Result<Vec<(u32,
 }
 
 impl HeapShape {
-    /// The shape of so many threads, of classes whose objects have so many slots, and of an object of each of these classes.
+    /// The shape of so many threads, of classes whose objects have so many slots, and of an object of each of these
+    /// classes.
     pub fn of(
         alloc: Global,
         threads: u32,
@@ -322,8 +327,9 @@ pub fn no_two_names_have_one_place()
     ensures { (s : Shape) (m n : Name) → IsIn s m → IsIn s n → place_of s m ≡ place_of s n → m ≡ n }
 {}
 
-/// The words of two groups, which different threads may store, lie 8 words or more apart, and so in different lines of a cache of 64 bytes a
-/// line. A group is that of one class, object, thread or monitor, or has the words of the heap.
+/// The words of two groups, which different threads may store, lie 8 words or more apart, and so in different lines of
+/// a cache of 64 bytes a line. A group is that of one class, object, thread or monitor, or has the words of the heap.
 pub fn words_of_two_groups_lie_apart()
-    ensures { (s : Shape) (m n : Name) → IsIn s m → IsIn s n → (group m ≢ group n) ⊎ (first_index m ≢ first_index n) → (place_of s m + 8 ≤ place_of s n) ⊎ (place_of s n + 8 ≤ place_of s m) }
+    ensures { (s : Shape) (m n : Name) → IsIn s m → IsIn s n → (group m ≢ group n) ⊎ (first_index m ≢ first_index n)
+        → (place_of s m + 8 ≤ place_of s n) ⊎ (place_of s n + 8 ≤ place_of s m) }
 {}

@@ -15,7 +15,8 @@ use std::thread::{Threads, join};
 
 // A heap of two threads and two objects of a class with one slot, without biases.
 fn begin(alloc: Global) -> Result<(Heap, Pass, Pass), NoMemory>
-    ensures { IfOk result (λ r. IsFresh r.0 0 r.1 × IsFresh r.0 1 r.2 × (r.0.heap.shape ≡ shape_of 2 (1 ∷ []) (0 ∷ 0 ∷ []))) }
+    ensures { IfOk result (λ r. IsFresh r.0 0 r.1 × IsFresh r.0 1 r.2
+        × (r.0.heap.shape ≡ shape_of 2 (1 ∷ []) (0 ∷ 0 ∷ []))) }
 {
     let shape = HeapShape::of(alloc, 2, &[1], &[0, 0])?;
     let (heap, passes) = Heap::new(alloc, shape, 10, 7, false)?;
