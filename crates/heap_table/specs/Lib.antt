@@ -10,3 +10,4 @@ pub mod Seen
 pub mod StepPlans
 pub mod Stepping
 pub mod Fresh
+pub mod Walk

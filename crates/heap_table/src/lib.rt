@@ -29,6 +29,8 @@ mod shots;
 mod steps;
 #[cfg(test)]
 mod tests;
+#[cfg(test)]
+mod walks;
 
 pub use counts::ClassCounts;
 pub use ends::{Closed, close};
