@@ -10,3 +10,4 @@ pub mod Opens
 pub mod Legal
 pub mod Counting
 pub mod Resuming
+pub mod Walking

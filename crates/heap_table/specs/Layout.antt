@@ -12,8 +12,8 @@ shape_of threads slots classes = record { threads = threads; classes = length sl
 abbrev pub many : Shape → ℕ
 many s = length s.objects
 
--- The words lie in groups: one of the heap, of 16 words; one for each class, of 16 words; one for each object, of 32 words; one for each
--- thread, of 144 words; one for each monitor, of 16 words. Here the groups of each kind begin.
+-- The words lie in groups: one of the heap, of 16 words; one for each class, of 16 words; one for each object, of 32
+-- words; one for each thread, of 144 words; one for each monitor, of 16 words. Here the groups of each kind begin.
 abbrev pub classes_from : ℕ
 classes_from = 16
 
@@ -29,8 +29,9 @@ monitors_from s = threads_from s + 144 * s.threads
 abbrev pub word_count : Shape → ℕ
 word_count s = monitors_from s + 16 * (many s + s.threads)
 
--- A word's place. The words of one group are mostly stored by one thread at a time; those of two groups, and the words of the heap, and a thread's
--- waiting word and its other words, lie 8 words apart or more, and so in different lines of a cache.
+-- A word's place. The words of one group are mostly stored by one thread at a time; those of two groups, and the words
+-- of the heap, and a thread's waiting word and its other words, lie 8 words apart or more, and so in different lines of
+-- a cache.
 abbrev pub place_of : Shape → Name → ℕ
 place_of s Safepoint = 0
 place_of s Claim = 8

@@ -7,4 +7,7 @@ pub mod Kept
 pub mod Ruled
 pub mod Openings
 pub mod Seen
+pub mod StepPlans
+pub mod Stepping
 pub mod Fresh
+pub mod Walk

@@ -32,7 +32,8 @@ pub record MayStep (heap : Heap) (k : Known) (p : StepPlan) : Type 0 where
   pub next : IsNext heap.shape heap.start heap.biasing k p
   pub at : IsIn heap.shape p.at
 
--- There was a sound world of this heap in which the thread knew k and the found word stood there, and the step made a sound world of it.
+-- There was a sound world of this heap in which the thread knew k and the found word stood there, and the step made a
+-- sound world of it.
 pub record Stepped (heap : Heap) (k : Known) (p : StepPlan) (found : ℕ) : Type 0 where
   pub world : World
   pub is_of : heap_of world ≡ heap

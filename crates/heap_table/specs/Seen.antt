@@ -25,7 +25,8 @@ pub record PassSeen : Type 0 where
   pub classes : ℕ
   -- the first word of its generator
   pub first : ℕ
-  -- the shot that it is taking: it has room for the log lengths of so many threads, and for the cells of so many objects
+  -- the shot that it is taking: it has room for the log lengths of so many threads, and for the cells of so many
+  -- objects
   pub threads : ℕ
   pub objects : ℕ
   pub cut : List ℕ

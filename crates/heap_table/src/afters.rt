@@ -21,16 +21,19 @@ pub struct Stand {
     pub halted: bool,
 }
 
-pub fn kept_next(own: &Own, found: u64, kept: Option<u64>) -> Option<u64>
-    ensures { result ≡ kept_after own.now found kept }
+/// The monitor that it keeps.
+#[inline(always)]
+pub fn keep_next(kept: &mut Option<u64>, own: &Own, found: u64)
+    ensures { kept.new ≡ kept_after own.now found kept.old }
 {
     match *own {
-        Own::Claim => Some(found),
-        Own::Spend => None,
-        _ => kept,
+        Own::Claim => *kept = Some(found),
+        Own::Spend => *kept = None,
+        _ => {}
     }
 }
 
+#[inline(always)]
 pub fn saved_next(own: &Own, found: u64, saved: u64) -> u64
     ensures { result ≡ saved_after own.now found saved }
 {
@@ -40,6 +43,7 @@ pub fn saved_next(own: &Own, found: u64, saved: u64) -> u64
     }
 }
 
+#[inline(always)]
 pub fn entry_next(note: &Note, found: u64) -> Option<Entry>
     ensures { result ≡ entry_after note.now found }
 {
@@ -66,6 +70,7 @@ pub fn entry_next(note: &Note, found: u64) -> Option<Entry>
     }
 }
 
+#[inline(always)]
 pub fn unfinished_next(note: &Note, found: u64, after: Option<Unfinished>) -> Option<Unfinished>
     ensures { result ≡ unfinished_after note.now found after }
 {
@@ -80,6 +85,7 @@ pub fn unfinished_next(note: &Note, found: u64, after: Option<Unfinished>) -> Op
 }
 
 /// The stamp of an entry.
+#[inline(always)]
 pub fn stamp_next(entry: &Entry, found: u64, last: u64) -> u64
     requires { stamp_by entry.now found last < 18446744073709551616 }
     ensures { result ≡ stamp_by entry.now found last }
@@ -92,6 +98,7 @@ pub fn stamp_next(entry: &Entry, found: u64, last: u64) -> u64
 }
 
 /// What the thread knows of the safepoint word after it loaded this.
+#[inline(always)]
 fn looked_next(form: Option<SafeForm>, stand: Stand) -> Stand
     ensures { result ≡ looked form stand }
 {
@@ -106,6 +113,7 @@ fn looked_next(form: Option<SafeForm>, stand: Stand) -> Stand
     }
 }
 
+#[inline(always)]
 fn asks(form: &SafeForm, thread: u32) -> bool
     ensures { result ≡ is_thread form.now.requester thread }
 {
@@ -116,6 +124,7 @@ fn asks(form: &SafeForm, thread: u32) -> bool
 }
 
 /// What the thread knows of the safepoint word after it left this there.
+#[inline(always)]
 fn left_next(form: Option<SafeForm>, thread: u32, stand: Stand) -> Stand
     requires { thread < 16 }
     ensures { result ≡ left form thread stand }
@@ -140,6 +149,7 @@ fn left_next(form: Option<SafeForm>, thread: u32, stand: Stand) -> Stand
 }
 
 /// What the thread knows of the safepoint word after an act that hit left this word.
+#[inline(always)]
 pub fn stand_next(at: Name, act: &Act, word: u64, thread: u32, stand: Stand) -> Stand
     requires { thread < 16 }
     ensures { result ≡ stand_after at act.now word thread stand }
@@ -157,6 +167,7 @@ pub fn stand_next(at: Name, act: &Act, word: u64, thread: u32, stand: Stand) -> 
 }
 
 /// Whether the thread knows of the halt, after an exchange that found this word and missed.
+#[inline(always)]
 pub fn halted_next(at: Name, word: u64, halted: bool) -> bool
     ensures { (k : Known) → k.halted ≡ halted → result ≡ halted_after at word k }
 {
@@ -170,6 +181,7 @@ pub fn halted_next(at: Name, word: u64, halted: bool) -> bool
 }
 
 /// What it last stored in its waiting word.
+#[inline(always)]
 pub fn wait_next(at: Name, act: &Act, thread: u32, wait: u64) -> u64
     ensures { (k : Known) → k.thread ≡ thread → k.wait ≡ wait → result ≡ wait_after at act.now k }
 {
@@ -183,6 +195,7 @@ pub fn wait_next(at: Name, act: &Act, thread: u32, wait: u64) -> u64
 }
 
 /// What it last stored in its length word.
+#[inline(always)]
 pub fn published_next(at: Name, act: &Act, published: u64) -> u64
     ensures { (k : Known) → k.published ≡ published → result ≡ published_after at act.now k }
 {
@@ -196,6 +209,7 @@ pub fn published_next(at: Name, act: &Act, published: u64) -> u64
 }
 
 /// What it last stored in its hold words.
+#[inline(always)]
 pub fn store_hold(holds: &mut [u64; 64], at: Name, act: &Act)
     requires { IsPlaced at }
     ensures { (k : Known) → k.holds ≡ holds.old → holds.new ≡ holds_after at act.now k }
@@ -208,12 +222,15 @@ pub fn store_hold(holds: &mut [u64; 64], at: Name, act: &Act)
 }
 
 /// The log and its last stamp.
+#[inline(always)]
 pub fn note_entry(log: &mut Vec<Logged>, last: &mut u64, note: &Note, found: u64)
     requires room { HasRoom note.now log.old.items (vec_capacity log.old) }
     requires stamp { StampFits note.now found last.old }
-    ensures log { last_stamp log.old.items ≡ last.old → (log.new.items ≡ log_after note.now found log.old.items) × (last_stamp log.new.items ≡ last.new) }
+    ensures log { last_stamp log.old.items ≡ last.old → (log.new.items ≡ log_after note.now found log.old.items)
+        × (last_stamp log.new.items ≡ last.new) }
     ensures room { vec_capacity log.new ≡ vec_capacity log.old }
-    ensures within { (limit : ℕ) → HasRoom note.now log.old.items limit → vec_len log.old ≤ limit → vec_len log.new ≤ limit }
+    ensures within { (limit : ℕ) → HasRoom note.now log.old.items limit → vec_len log.old ≤ limit
+        → vec_len log.new ≤ limit }
 {
     if let Some(entry) = entry_next(note, found) {
         let stamp = stamp_next(&entry, found, *last);

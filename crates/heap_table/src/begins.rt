@@ -29,11 +29,17 @@ fn next_pass(
     thread: u32,
     limit: u32,
 ) -> Result<Pass, AllocError>
-    requires setting { IsInLimits setting.now.shape × (words.now.shared.key ≡ setting.now) × (words.now.shared.table_id.words ≡ word_count setting.now.shape) }
+    requires setting { IsInLimits setting.now.shape × (words.now.shared.key ≡ setting.now)
+        × (words.now.shared.table_id.words ≡ word_count setting.now.shape) }
     requires thread { thread < setting.now.shape.threads }
-    requires seat { (seat.old.table_id ≡ words.now.shared.table_id) × (seat.old.me ≡ (first_knowns thread (setting.now.shape.threads - thread), [])) }
-    ensures seat { IfOk result (λ _. (seat.new.table_id ≡ seat.old.table_id) × (seat.new.me ≡ (first_knowns (thread + 1) (setting.now.shape.threads - (thread + 1)), []))) }
-    ensures pass { IfOk result (λ p. p ≡ first_pass (record { table = words.now.shared.table_id; heap = heap_in setting.now }) limit thread) }
+    requires seat { (seat.old.table_id ≡ words.now.shared.table_id)
+        × (seat.old.me ≡ (first_knowns thread (setting.now.shape.threads - thread), [])) }
+    ensures seat { IfOk result (λ _. (seat.new.table_id ≡ seat.old.table_id)
+        × (seat.new.me ≡ (first_knowns (thread + 1) (setting.now.shape.threads - (thread + 1)), []))) }
+    ensures pass { IfOk result (λ p. p ≡ first_pass (record {
+      table = words.now.shared.table_id;
+      heap = heap_in setting.now;
+    }) limit thread) }
 {
     let first = setting.start.wrapping_add(thread);
     let shots = Shots::new(alloc, setting.shape.threads(), setting.shape.objects())?;
@@ -80,11 +86,11 @@ fn begin(alloc: Global, setting: Setting, limit: u32) -> Result<(Heap, Vec<Pass>
 }
 
 impl Heap {
-    /// A heap of this shape, with biases or without, whose hash generators start from `start`, and a pass for each thread, in order:
-    /// stopped, with nothing logged, held, requested, counted or unfinished, and with room for the entries that so much fuel
-    /// may log. Its words are made as those of the opening world; the contract says that this world is
-    /// sound, and that the passes know what its threads know. Nothing takes memory later. The fuel is at most 200,000. `NoMemory` where
-    /// memory is wanting.
+    /// A heap of this shape, with biases or without, whose hash generators start from `start`, and a pass for each
+    /// thread, in order: stopped, with nothing logged, held, requested, counted or unfinished, and with room for the
+    /// entries that so much fuel may log. Its words are made as those of the opening world; the contract says that this
+    /// world is sound, and that the passes know what its threads know. Nothing takes memory later. The fuel is at most
+    /// 200,000. `NoMemory` where memory is wanting.
     pub fn new(
         alloc: Global,
         shape: HeapShape,

@@ -62,14 +62,17 @@ fn with_reset(counts: ClassCounts, reset: bool) -> ClassCounts
 }
 
 fn next_counts(counts: ClassCounts, verdict: Verdict, reset: bool) -> ClassCounts
-    ensures { (k : known.ClassCounts) → counts ≡ capped_counts k → result ≡ capped_counts (with_reset (with_verdict k verdict) reset) }
+    ensures { (k : known.ClassCounts) → counts ≡ capped_counts k
+        → result ≡ capped_counts (with_reset (with_verdict k verdict) reset) }
 {
     with_reset(with_verdict(counts, verdict), reset)
 }
 
 /// What it has counted behind a step that hit.
+#[inline(always)]
 pub fn count_next(counts: &mut Vec<ClassCounts>, own: &Own)
-    ensures { (n : ℕ) (k : List CountedVerdict) → counts.old.items ≡ counts_shown 0 n k → counts.new.items ≡ counts_shown 0 n (counts_after own.now k) }
+    ensures { (n : ℕ) (k : List CountedVerdict) → counts.old.items ≡ counts_shown 0 n k
+        → counts.new.items ≡ counts_shown 0 n (counts_after own.now k) }
 {
     if let Own::CountVerdict {
         class,

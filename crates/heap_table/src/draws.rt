@@ -36,10 +36,12 @@ impl Drawing {
 }
 
 /// Behind a step that hit.
+#[inline(always)]
 pub fn draw_next(drawing: &mut Drawing, note: &Note)
     requires { drawing.old.installed + 1 < 2 ^ 64 }
     ensures installed { drawing.new.installed ≡ draws_after note.now drawing.old.installed }
-    ensures generator { (first : ℕ) → drawing.old.generator ≡ state_after first (drawing.old.installed + 1) → drawing.new.generator ≡ state_after first (drawing.new.installed + 1) }
+    ensures generator { (first : ℕ) → drawing.old.generator ≡ state_after first (drawing.old.installed + 1)
+        → drawing.new.generator ≡ state_after first (drawing.new.installed + 1) }
 {
     if let Note::Log {
         entry: Entry::Hash { drawn: Some(_), .. },

@@ -32,7 +32,13 @@ impl Model for Closed {
 
     ghost Value = { ClosedSeen };
 
-    ghost view = { λ c. record { heap = heap_in c.setting; words = c.words; logs = c.logs; shots = c.shots; counts = c.counts } };
+    ghost view = { λ c. record {
+      heap = heap_in c.setting;
+      words = c.words;
+      logs = c.logs;
+      shots = c.shots;
+      counts = c.counts;
+    } };
 }
 
 impl Closed {
@@ -83,10 +89,10 @@ impl Closed {
     }
 }
 
-/// The end of a heap: its words and what its passes logged and counted. The passes are all passes of this heap, in the order of their
-/// threads. None runs, and none has a request that stands, which isn't asked where one of them knows the halt. The words
-/// are those of a sound world in which each thread knows what its pass knows, and by its safepoint word no thread runs or asks. It takes
-/// no memory.
+/// The end of a heap: its words and what its passes logged and counted. The passes are all passes of this heap, in the
+/// order of their threads. None runs, and none has a request that stands, which isn't asked where one of them knows the
+/// halt. The words are those of a sound world in which each thread knows what its pass knows, and by its safepoint word
+/// no thread runs or asks. It takes no memory.
 pub fn close(heap: Heap, passes: List<Pass>) -> Closed
     requires passes { All (IsOf heap) passes }
     requires order { InOrder 0 (knowns passes) × (length passes ≡ heap.heap.shape.threads) }
@@ -98,7 +104,8 @@ pub fn close(heap: Heap, passes: List<Pass>) -> Closed
     ensures shots { result.shots ≡ shots_of passes }
     ensures counts { result.counts ≡ counts_of_all passes }
     ensures legal { LegalObjects heap.heap.shape.objects result.logs }
-    ensures still { (t : ℕ) → t < heap.heap.shape.threads → (runs_in (slice_index result.words 0) t ≡ false) × (asks_in (slice_index result.words 0) t ≡ false) }
+    ensures still { (t : ℕ) → t < heap.heap.shape.threads → (runs_in (slice_index result.words 0) t ≡ false)
+        × (asks_in (slice_index result.words 0) t ≡ false) }
 {
     let Heap {
         words,

@@ -1,13 +1,9 @@
 //! The heap, and its one step.
-ghost use Rattle.std.specs.Prelude.{◌≡◌, ◌≤◌, ◌<◌, [], length, vec_capacity, true};
-ghost use Rattle.core_world.specs.Due.{IsNext};
-ghost use Rattle.core_world.specs.Steps.{known_after, rest_of_call};
-ghost use Rattle.core_steps.specs.Reached.{comes};
-ghost use Rattle.heap_table.specs.Layout.{IsIn, word_count};
-ghost use Rattle.heap_table.specs.Drafts.{HasPlace, IsDrafted, IsLeft};
-ghost use Rattle.heap_table.specs.Kept.{HasRoom};
-ghost use Rattle.heap_table.specs.Ruled.{heap_in, Stepped};
-ghost use Rattle.heap_table.specs.Seen.{HeapSeen, IsOf};
+ghost use Rattle.std.specs.Prelude.{◌≡◌, ◌≤◌, [], vec_capacity};
+ghost use Rattle.heap_table.specs.Layout.{word_count};
+ghost use Rattle.heap_table.specs.Ruled.{heap_in};
+ghost use Rattle.heap_table.specs.Seen.{HeapSeen};
+ghost use Rattle.heap_table.specs.Stepping.{CanStep, HasStepped};
 
 use crate::counts::ClassCounts;
 use crate::pass::Pass;
@@ -46,7 +42,9 @@ impl Model for Heap {
 
     ghost view = { λ h. record { table = h.words.shared.table_id; heap = heap_in h.setting } };
 
-    ghost invariant = { λ h. (h.words.shared.key ≡ h.setting) × (h.words.shared.table_id.words ≡ word_count h.setting.shape) × (h.words.shared.table_id.slots ≡ 0) × (h.spare.words ≡ word_count h.setting.shape) × (h.spare.threads ≡ h.setting.shape.threads) };
+    ghost invariant = { λ h. (h.words.shared.key ≡ h.setting)
+        × (h.words.shared.table_id.words ≡ word_count h.setting.shape) × (h.words.shared.table_id.slots ≡ 0)
+        × (h.spare.words ≡ word_count h.setting.shape) × (h.spare.threads ≡ h.setting.shape.threads) };
 }
 
 impl Heap {
@@ -71,24 +69,17 @@ impl Heap {
         self.setting.biasing
     }
 
-    /// One atomic act on the word of the plan, which is the next step of the pass's thread. It answers the word that it found. The log of the pass has
-    /// room where the step logs. A step that takes a shot has a place for it, and the pass's draft is that shot.
+    /// One atomic act on the word of the plan, which is the next step of the pass's thread. It answers the word that it
+    /// found. The log of the pass has room where the step logs. A step that takes a shot has a place for it, and the
+    /// pass's draft is that shot.
     ///
-    /// There was a sound world of this heap in which the thread knew what it did and the word stood there, and the step made a sound
-    /// world of it. The pass knows what the step makes of its knowledge, and what is left of the call comes to an end or to a next step.
+    /// There was a sound world of this heap in which the thread knew what it did and the word stood there, and the step
+    /// made a sound world of it. The pass knows what the step makes of its knowledge, and what is left of the call
+    /// comes to an end or to a next step.
+    #[inline(always)]
     pub fn step(&self, pass: &mut Pass, plan: StepPlan) -> u64
-        requires heap { IsOf self.now pass.old }
-        requires next { IsNext self.now.heap.shape self.now.heap.start self.now.heap.biasing pass.old.known plan }
-        requires at { IsIn self.now.heap.shape plan.at }
-        requires room { HasRoom plan.note pass.old.known.log pass.old.limit }
-        requires place { HasPlace plan.own (length pass.old.known.shots) }
-        requires drafted { IsDrafted plan.own self.now.heap.shape pass.old.known pass.old.cut pass.old.cells }
-        ensures heap { IsOf self.now pass.new }
-        ensures draft { IsLeft plan.own pass.old.cut pass.old.cells pass.new.cut pass.new.cells }
-        ensures limit { pass.new.limit ≡ pass.old.limit }
-        ensures known { pass.new.known ≡ known_after self.now.heap.shape self.now.heap.start plan result pass.old.known }
-        ensures stepped { Stepped self.now.heap pass.old.known plan result }
-        ensures comes { comes (rest_of_call self.now.heap.shape pass.new.known) ≡ true }
+        requires { CanStep self.now pass.old plan }
+        ensures { HasStepped self.now pass.old pass.new plan result }
     {
         let found = step(&self.words, &self.setting, &mut pass.seat, plan);
         pass.mirror.follow(&plan, found);

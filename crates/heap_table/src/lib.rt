@@ -1,20 +1,26 @@
 //! The words of a heap in one table that threads share, and the one step that changes them.
 //!
-//! `Heap` has the words, over the kit's `atomic_table`, and each thread steps with its own `Pass`, which keeps at run time what the thread knows. The
-//! rule of the table is that it is a sound world of `core_steps`, and `Heap::step` keeps it by the law of all steps: a step is the next one of its
-//! thread, and needs no law of its own. `HeapShape` says where each word lies, and `close` what is left at the end.
+//! `Heap` has the words, over the kit's `atomic_table`, and each thread steps with its own `Pass`, which keeps at run
+//! time what the thread knows. The rule of the table is that it is a sound world of `core_steps`, and `Heap::step`
+//! keeps it by the law of all steps: a step is the next one of its thread, and needs no law of its own. `HeapShape`
+//! says where each word lies, and `close` what is left at the end.
 #![tactic(auto)]
 
+mod acts;
 mod afters;
 mod begins;
 mod choice;
 mod counts;
 mod draws;
 mod ends;
+mod entries;
 mod heap;
+mod keeps;
 mod mirror;
 mod opening;
 mod pass;
+mod plans;
+mod purpose;
 mod reads;
 mod rule;
 mod setting;
@@ -23,10 +29,13 @@ mod shots;
 mod steps;
 #[cfg(test)]
 mod tests;
+#[cfg(test)]
+mod walks;
 
 pub use counts::ClassCounts;
 pub use ends::{Closed, close};
 pub use heap::Heap;
 pub use pass::Pass;
+pub use purpose::Purpose;
 pub use shape::{HeapShape, no_two_names_have_one_place, words_of_two_groups_lie_apart};
 pub use shots::{Cell, Shot};

@@ -5,7 +5,7 @@ ghost use Rattle.heap_table.specs.Drafts.{IsDrafted, HasPlace, IsLeft, taken_aft
 ghost use Rattle.heap_table.specs.Tallies.{counts_shown};
 
 use crate::afters::{
-    Stand, halted_next, kept_next, note_entry, published_next, saved_next, stand_next, store_hold,
+    Stand, halted_next, keep_next, note_entry, published_next, saved_next, stand_next, store_hold,
     unfinished_next, wait_next,
 };
 use crate::counts::{ClassCounts, NO_COUNTS, count_next};
@@ -43,11 +43,14 @@ pub struct Mirror {
 }
 
 // The shots behind a step that hit.
+#[inline(always)]
 fn shoot(shots: &mut Shots, own: &Own)
     requires { HasPlace own.now (length shots.old.taken.items) }
     ensures fixed { (shots.new.threads ≡ shots.old.threads) × (shots.new.objects ≡ shots.old.objects) }
-    ensures taken { shots.new.taken.items ≡ taken_after own.now shots.old.taken.items shots.old.draft.cut.items (cells_shown shots.old.draft.cells.items) }
-    ensures draft { IsLeft own.now shots.old.draft.cut.items (cells_shown shots.old.draft.cells.items) shots.new.draft.cut.items (cells_shown shots.new.draft.cells.items) }
+    ensures taken { shots.new.taken.items
+        ≡ taken_after own.now shots.old.taken.items shots.old.draft.cut.items (cells_shown shots.old.draft.cells.items) }
+    ensures draft { IsLeft own.now shots.old.draft.cut.items (cells_shown shots.old.draft.cells.items)
+        shots.new.draft.cut.items (cells_shown shots.new.draft.cells.items) }
 {
     if let Own::TakeShot = *own {
         shots.take();
@@ -88,7 +91,8 @@ impl Mirror {
         requires thread { thread < 16 }
         requires shots { shots.taken.items ≡ [] }
         ensures follows { IfOk result (λ m. Follows m (first_known thread)) }
-        ensures fixed { IfOk result (λ m. (m.limit ≡ limit) × (m.classes ≡ classes) × (m.first ≡ first) × (m.shots ≡ shots)) }
+        ensures fixed { IfOk result (λ m. (m.limit ≡ limit) × (m.classes ≡ classes) × (m.first ≡ first)
+            × (m.shots ≡ shots)) }
     {
         Ok(Mirror {
             thread,
@@ -117,21 +121,27 @@ impl Mirror {
     }
 
     /// Follows a step that found this word.
+    #[inline(always)]
     pub fn follow(&mut self, step: &StepPlan, found: u64)
         requires at { IsPlaced step.now.at }
         requires room { HasRoom step.now.note self.old.log.items self.old.limit }
         requires shots { HasPlace step.now.own (length self.old.shots.taken.items) }
         requires draws { self.old.drawing.installed ≤ length self.old.log.items }
         requires stamp { hits step.now.act found ≡ true → StampFits step.now.note found self.old.last }
-        ensures follows { (s : Shape) (start : ℕ) (k : Known) → Follows self.old k → IsDrafted step.now.own s k self.old.shots.draft.cut.items (cells_shown self.old.shots.draft.cells.items) → Follows self.new (known_after s start step.now found k) }
-        ensures fixed { (self.new.limit ≡ self.old.limit) × (self.new.classes ≡ self.old.classes) × (self.new.first ≡ self.old.first) × (self.new.shots.threads ≡ self.old.shots.threads) × (self.new.shots.objects ≡ self.old.shots.objects) }
-        ensures draft { IsLeft step.now.own self.old.shots.draft.cut.items (cells_shown self.old.shots.draft.cells.items) self.new.shots.draft.cut.items (cells_shown self.new.shots.draft.cells.items) }
+        ensures follows { (s : Shape) (start : ℕ) (k : Known) → Follows self.old k
+            → IsDrafted step.now.own s k self.old.shots.draft.cut.items (cells_shown self.old.shots.draft.cells.items)
+            → Follows self.new (known_after s start step.now found k) }
+        ensures fixed { (self.new.limit ≡ self.old.limit) × (self.new.classes ≡ self.old.classes)
+            × (self.new.first ≡ self.old.first) × (self.new.shots.threads ≡ self.old.shots.threads)
+            × (self.new.shots.objects ≡ self.old.shots.objects) }
+        ensures draft { IsLeft step.now.own self.old.shots.draft.cut.items (cells_shown self.old.shots.draft.cells.items)
+            self.new.shots.draft.cut.items (cells_shown self.new.shots.draft.cells.items) }
     {
         let effect = apply(found, &step.act);
         if effect.hit {
             note_entry(&mut self.log, &mut self.last, &step.note, found);
             self.stand = stand_next(step.at, &step.act, effect.word, self.thread, self.stand);
-            self.kept = kept_next(&step.own, found, self.kept);
+            keep_next(&mut self.kept, &step.own, found);
             self.saved = saved_next(&step.own, found, self.saved);
             store_hold(&mut self.holds, step.at, &step.act);
             self.wait = wait_next(step.at, &step.act, self.thread, self.wait);

@@ -31,7 +31,17 @@ impl Model for Pass {
 
     ghost Value = { PassSeen };
 
-    ghost view = { λ p. record { table = p.seat.table_id; known = only p.seat.me.0; limit = p.mirror.limit; classes = p.mirror.classes; first = p.mirror.first; threads = p.mirror.shots.threads; objects = p.mirror.shots.objects; cut = p.mirror.shots.draft.cut.items; cells = cells_shown p.mirror.shots.draft.cells.items } };
+    ghost view = { λ p. record {
+      table = p.seat.table_id;
+      known = only p.seat.me.0;
+      limit = p.mirror.limit;
+      classes = p.mirror.classes;
+      first = p.mirror.first;
+      threads = p.mirror.shots.threads;
+      objects = p.mirror.shots.objects;
+      cut = p.mirror.shots.draft.cut.items;
+      cells = cells_shown p.mirror.shots.draft.cells.items;
+    } };
 
     ghost invariant = { λ p. (p.seat.me ≡ (only p.seat.me.0 ∷ [], [])) × Follows p.mirror ((only p.seat.me.0)) };
 }

@@ -24,12 +24,17 @@ impl Model for HeapShape {
 
     ghost view = { λ s. record { threads = s.threads; classes = s.classes; objects = s.objects.items } };
 
-    ghost invariant = { λ s. IsInLimits (record { threads = s.threads; classes = s.classes; objects = s.objects.items }) };
+    ghost invariant = { λ s. IsInLimits (record {
+      threads = s.threads;
+      classes = s.classes;
+      objects = s.objects.items;
+    }) };
 }
 
 /// Places in the table. Each of these is the place of the word of that name.
 impl HeapShape {
     /// The safepoint word.
+    #[inline(always)]
     pub fn safe_at(&self) -> usize
         ensures { result ≡ place_of self.now Name.Safepoint }
     {
@@ -37,6 +42,7 @@ impl HeapShape {
     }
 
     /// How many monitors have been claimed.
+    #[inline(always)]
     pub fn claim_at(&self) -> usize
         ensures { result ≡ place_of self.now Name.Claim }
     {
@@ -44,6 +50,7 @@ impl HeapShape {
     }
 
     /// The prototype of the class.
+    #[inline(always)]
     pub fn prototype_at(&self, class: u32) -> usize
         requires { class < self.now.classes }
         ensures { result ≡ place_of self.now (Name.Prototype class) }
@@ -52,6 +59,7 @@ impl HeapShape {
     }
 
     /// The count of revocations of the class.
+    #[inline(always)]
     pub fn count_at(&self, class: u32) -> usize
         requires { class < self.now.classes }
         ensures { result ≡ place_of self.now (Name.Revocations class) }
@@ -60,6 +68,7 @@ impl HeapShape {
     }
 
     /// The moment of the class's last bulk operation.
+    #[inline(always)]
     pub fn last_at(&self, class: u32) -> usize
         requires { class < self.now.classes }
         ensures { result ≡ place_of self.now (Name.LastBulk class) }
@@ -68,6 +77,7 @@ impl HeapShape {
     }
 
     /// The mark of the object.
+    #[inline(always)]
     pub fn mark_at(&self, object: u32) -> usize
         requires { object < many self.now }
         ensures { result ≡ place_of self.now (Name.Mark object) }
@@ -76,6 +86,7 @@ impl HeapShape {
     }
 
     /// The stamp of the object.
+    #[inline(always)]
     pub fn stamp_at(&self, object: u32) -> usize
         requires { object < many self.now }
         ensures { result ≡ place_of self.now (Name.Stamp object) }
@@ -84,6 +95,7 @@ impl HeapShape {
     }
 
     /// This slot of the object.
+    #[inline(always)]
     pub fn slot_at(&self, object: u32, slot: u32) -> usize
         requires { (object < many self.now) × (slot < 16) }
         ensures { result ≡ place_of self.now (Name.Slot object slot) }
@@ -92,6 +104,7 @@ impl HeapShape {
     }
 
     /// The thread's hold word of this place.
+    #[inline(always)]
     pub fn hold_at(&self, thread: u32, place: u32) -> usize
         requires { (thread < self.now.threads) × (place < 64) }
         ensures { result ≡ place_of self.now (Name.Hold thread place) }
@@ -100,6 +113,7 @@ impl HeapShape {
     }
 
     /// The displaced header of the thread's lock record of this place.
+    #[inline(always)]
     pub fn displaced_at(&self, thread: u32, place: u32) -> usize
         requires { (thread < self.now.threads) × (place < 64) }
         ensures { result ≡ place_of self.now (Name.Displaced thread place) }
@@ -108,6 +122,7 @@ impl HeapShape {
     }
 
     /// The thread's waiting word.
+    #[inline(always)]
     pub fn wait_at(&self, thread: u32) -> usize
         requires { thread < self.now.threads }
         ensures { result ≡ place_of self.now (Name.Waiting thread) }
@@ -116,6 +131,7 @@ impl HeapShape {
     }
 
     /// The thread's published length.
+    #[inline(always)]
     pub fn length_at(&self, thread: u32) -> usize
         requires { thread < self.now.threads }
         ensures { result ≡ place_of self.now (Name.Length thread) }
@@ -124,6 +140,7 @@ impl HeapShape {
     }
 
     /// The owner word of the monitor.
+    #[inline(always)]
     pub fn owner_at(&self, monitor: u32) -> usize
         requires { monitor < many self.now + self.now.threads }
         ensures { result ≡ place_of self.now (Name.Owner monitor) }
@@ -132,6 +149,7 @@ impl HeapShape {
     }
 
     /// The recursions of the monitor.
+    #[inline(always)]
     pub fn recursions_at(&self, monitor: u32) -> usize
         requires { monitor < many self.now + self.now.threads }
         ensures { result ≡ place_of self.now (Name.Recursions monitor) }
@@ -140,6 +158,7 @@ impl HeapShape {
     }
 
     /// The header that the monitor keeps.
+    #[inline(always)]
     pub fn header_at(&self, monitor: u32) -> usize
         requires { monitor < many self.now + self.now.threads }
         ensures { result ≡ place_of self.now (Name.Header monitor) }
@@ -148,6 +167,7 @@ impl HeapShape {
     }
 
     /// The object of the monitor.
+    #[inline(always)]
     pub fn object_at(&self, monitor: u32) -> usize
         requires { monitor < many self.now + self.now.threads }
         ensures { result ≡ place_of self.now (Name.Object monitor) }
@@ -156,6 +176,7 @@ impl HeapShape {
     }
 
     /// The word of this name.
+    #[inline(always)]
     pub fn place(&self, at: Name) -> usize
         requires { IsIn self.now at }
         ensures place { result ≡ place_of self.now at }
@@ -184,6 +205,7 @@ impl HeapShape {
 
 // Where the groups of words begin.
 impl HeapShape {
+    #[inline(always)]
     fn class_at(&self, class: u32) -> usize
         requires { class < self.now.classes }
         ensures place { result ≡ classes_from + 16 * class }
@@ -193,6 +215,7 @@ impl HeapShape {
         16 + 16 * class as usize
     }
 
+    #[inline(always)]
     fn group_at(&self, object: u32) -> usize
         requires { object < many self.now }
         ensures place { result ≡ objects_from self.now + 32 * object }
@@ -201,6 +224,7 @@ impl HeapShape {
         16 + 16 * self.classes as usize + 32 * object as usize
     }
 
+    #[inline(always)]
     fn thread_at(&self, thread: u32) -> usize
         requires { thread < self.now.threads }
         ensures place { result ≡ threads_from self.now + 144 * thread }
@@ -209,6 +233,7 @@ impl HeapShape {
         16 + 16 * self.classes as usize + 32 * self.objects.len() + 144 * thread as usize
     }
 
+    #[inline(always)]
     fn monitor_at(&self, monitor: u32) -> usize
         requires { monitor < many self.now + self.now.threads }
         ensures place { result ≡ monitors_from self.now + 16 * monitor }
@@ -233,7 +258,8 @@ fn objects_of(alloc: Global, slots: &[u32], classes: &[u32]) -> Result<Vec<(u32,
 }
 
 impl HeapShape {
-    /// The shape of so many threads, of classes whose objects have so many slots, and of an object of each of these classes.
+    /// The shape of so many threads, of classes whose objects have so many slots, and of an object of each of these
+    /// classes.
     pub fn of(
         alloc: Global,
         threads: u32,
@@ -301,8 +327,9 @@ pub fn no_two_names_have_one_place()
     ensures { (s : Shape) (m n : Name) → IsIn s m → IsIn s n → place_of s m ≡ place_of s n → m ≡ n }
 {}
 
-/// The words of two groups, which different threads may store, lie 8 words or more apart, and so in different lines of a cache of 64 bytes a
-/// line. A group is that of one class, object, thread or monitor, or has the words of the heap.
+/// The words of two groups, which different threads may store, lie 8 words or more apart, and so in different lines of
+/// a cache of 64 bytes a line. A group is that of one class, object, thread or monitor, or has the words of the heap.
 pub fn words_of_two_groups_lie_apart()
-    ensures { (s : Shape) (m n : Name) → IsIn s m → IsIn s n → (group m ≢ group n) ⊎ (first_index m ≢ first_index n) → (place_of s m + 8 ≤ place_of s n) ⊎ (place_of s n + 8 ≤ place_of s m) }
+    ensures { (s : Shape) (m n : Name) → IsIn s m → IsIn s n → (group m ≢ group n) ⊎ (first_index m ≢ first_index n)
+        → (place_of s m + 8 ≤ place_of s n) ⊎ (place_of s n + 8 ≤ place_of s m) }
 {}

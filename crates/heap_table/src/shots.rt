@@ -43,7 +43,8 @@ pub struct Draft {
 
 impl Draft {
     fn new(alloc: Global, threads: u32, objects: usize) -> Result<Draft, AllocError>
-        ensures { IfOk result (λ d. (d.threads ≡ threads) × (d.objects ≡ objects) × (d.cut.items ≡ []) × (d.cells.items ≡ [])) }
+        ensures { IfOk result (λ d. (d.threads ≡ threads) × (d.objects ≡ objects) × (d.cut.items ≡ [])
+            × (d.cells.items ≡ [])) }
     {
         Ok(Draft {
             threads,
@@ -68,7 +69,8 @@ pub struct Shots {
 }
 
 fn spares(alloc: Global, threads: u32, objects: usize) -> Result<Vec<Draft>, AllocError>
-    ensures spares { IfOk result (λ v. All (λ d. (d.threads ≡ threads) × (d.objects ≡ objects) × (d.cut.items ≡ []) × (d.cells.items ≡ [])) v.items) }
+    ensures spares { IfOk result (λ v. All (λ d. (d.threads ≡ threads) × (d.objects ≡ objects) × (d.cut.items ≡ [])
+        × (d.cells.items ≡ [])) v.items) }
     ensures count { IfOk result (λ v. vec_len v ≡ 4) }
 {
     let mut spare = Vec::with_capacity(alloc, 4)?;
@@ -81,7 +83,8 @@ fn spares(alloc: Global, threads: u32, objects: usize) -> Result<Vec<Draft>, All
 impl Shots {
     /// No shot.
     pub fn new(alloc: Global, threads: u32, objects: usize) -> Result<Shots, AllocError>
-        ensures { IfOk result (λ s. (s.threads ≡ threads) × (s.objects ≡ objects) × (s.taken.items ≡ []) × (s.draft.cut.items ≡ []) × (s.draft.cells.items ≡ [])) }
+        ensures { IfOk result (λ s. (s.threads ≡ threads) × (s.objects ≡ objects) × (s.taken.items ≡ [])
+            × (s.draft.cut.items ≡ []) × (s.draft.cells.items ≡ [])) }
     {
         let taken = Vec::with_capacity(alloc, 4)?;
         let draft = Draft::new(alloc, threads, objects)?;
@@ -99,7 +102,12 @@ impl Shots {
     pub fn take(&mut self)
         requires { length self.old.taken.items < 4 }
         ensures fixed { (self.new.threads ≡ self.old.threads) × (self.new.objects ≡ self.old.objects) }
-        ensures taken { self.new.taken.items ≡ self.old.taken.items ++ record { number = length self.old.taken.items + 1; cut = self.old.draft.cut.items; cells = cells_shown self.old.draft.cells.items } ∷ [] }
+        ensures taken { self.new.taken.items ≡ self.old.taken.items
+            ++ record {
+              number = length self.old.taken.items + 1;
+              cut = self.old.draft.cut.items;
+              cells = cells_shown self.old.draft.cells.items;
+            } ∷ [] }
     {
         let number = self.taken.len() as u32 + 1;
         if let Some(next) = self.spare.pop() {

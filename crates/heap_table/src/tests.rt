@@ -1,13 +1,12 @@
 //! Two threads that step on one heap.
 
 ghost use Rattle.std.specs.Prelude.{◌≡◌, ◌^◌, ◌<◌, [], ◌∷◌, IfOk, true, false, None};
-ghost use Rattle.core_world.specs.Trees.Plans.{quiet_plan};
 ghost use Rattle.heap_table.specs.Seen.{IsOf};
 ghost use Rattle.heap_table.specs.Layout.{shape_of};
 ghost use Rattle.heap_table.specs.Fresh.{IsFresh, IsStill};
 
-use crate::{Closed, Heap, HeapShape, Pass, close};
-use core_world::{Act, Name, Note, Own, Stage, StepPlan, Task};
+use crate::{Closed, Heap, HeapShape, Pass, Purpose, close};
+use core_world::{Name, Stage, Task};
 use plain_monitor::{List, NoMemory};
 use std::alloc::Global;
 use std::test::Fail;
@@ -15,7 +14,8 @@ use std::thread::{Threads, join};
 
 // A heap of two threads and two objects of a class with one slot, without biases.
 fn begin(alloc: Global) -> Result<(Heap, Pass, Pass), NoMemory>
-    ensures { IfOk result (λ r. IsFresh r.0 0 r.1 × IsFresh r.0 1 r.2 × (r.0.heap.shape ≡ shape_of 2 (1 ∷ []) (0 ∷ 0 ∷ []))) }
+    ensures { IfOk result (λ r. IsFresh r.0 0 r.1 × IsFresh r.0 1 r.2
+        × (r.0.heap.shape ≡ shape_of 2 (1 ∷ []) (0 ∷ 0 ∷ []))) }
 {
     let shape = HeapShape::of(alloc, 2, &[1], &[0, 0])?;
     let (heap, passes) = Heap::new(alloc, shape, 10, 7, false)?;
@@ -36,28 +36,17 @@ fn places(heap: &Heap) -> (usize, usize)
     (heap.shape().mark_at(1), heap.shape().slot_at(1, 0))
 }
 
-// A step on the safepoint word, of the resume of a thread that has nothing unfinished.
-fn resuming(act: Act) -> StepPlan
-    ensures { result ≡ quiet_plan (record { task = Task.Resume; unfinished = None; check = false }) Name.Safepoint act }
-{
-    StepPlan {
-        at: Name::Safepoint,
-        act,
-        note: Note::Quiet,
-        own: Own::Same,
-        task: Task::Resume,
-        after: None,
-        check: false,
-        stage: Stage::Calm,
-    }
-}
-
 // Loads the safepoint word, in a call of a resume.
 fn look(heap: &Heap, pass: &mut Pass) -> u64
     requires { IsFresh heap.now pass.old.known.thread pass.old }
     ensures still { IsStill heap.now pass.old.known.thread pass.new }
 {
-    heap.step(pass, resuming(Act::Load))
+    let why = Purpose {
+        task: Task::Resume,
+        unfinished: None,
+        check: false,
+    };
+    heap.look(pass, &why).0
 }
 
 // The safepoint word in which this thread alone runs.
@@ -73,10 +62,15 @@ fn try_first(heap: &Heap, pass: &mut Pass)
     requires { IsFresh heap.now pass.old.known.thread pass.old }
     ensures { IsOf heap.now pass.new }
 {
-    let found = heap.step(pass, resuming(Act::Load));
+    let why = Purpose {
+        task: Task::Resume,
+        unfinished: None,
+        check: false,
+    };
+    let found = heap.look(pass, &why).0;
     if found == 0 {
         let word = bit(pass.thread());
-        heap.step(pass, resuming(Act::Swap { expected: 0, word }));
+        heap.exchange(pass, &why, Stage::Calm, Name::Safepoint, 0, word);
     }
 }
 

@@ -1,5 +1,13 @@
+use Rattle.std.proofs.Common.{refl}
 use Rattle.heap_table.proofs.Resuming.{first_is}
 use Rattle.heap_table.proofs.tests.look.Goals as goal
 
-pub step-requires-clause-next : goal.step-requires-clause-next
-step-requires-clause-next c = first_is _ _ _ _ _ _ c.requires.knows c.resuming.ensures
+pub look-requires : goal.look-requires
+look-requires c = record {
+  heap = c.requires.is_of;
+  next = first_is _ _ _ _ _ _ c.requires.knows refl;
+  room = tt;
+  at = tt;
+  place = tt;
+  drafted = tt;
+}

@@ -1,17 +1,30 @@
-use Rattle.std.proofs.Common.{◌^◌, ap, ◌∙◌}
+use Rattle.std.proofs.Common.{◌^◌, refl, ap, ◌∙◌}
 use Rattle.core_world.specs.Threads.Known.{Known}
 use Rattle.core_steps.specs.Logic.{Heap}
 use Rattle.heap_table.proofs.Knows.{same_thread}
-use Rattle.heap_table.proofs.Resuming.{first_is, second_is}
+use Rattle.heap_table.proofs.Resuming.{first_is, second_is, resuming}
+use Rattle.core_world.specs.declared.act.Act.TheVariants.{Load}
 use Rattle.heap_table.proofs.tests.try_first.Goals as goal
 
-pub step-found-requires-clause-next : goal.step-found-requires-clause-next
-step-found-requires-clause-next c = first_is _ _ _ _ _ _ c.requires.knows c.resuming.ensures
+pub look-found-requires : goal.look-found-requires
+look-found-requires c = record {
+  heap = c.requires.is_of;
+  next = first_is _ _ _ _ _ _ c.requires.knows refl;
+  room = tt;
+  at = tt;
+  place = tt;
+  drafted = tt;
+}
 
-pub step-requires-clause-next : goal.step-requires-clause-next
-step-requires-clause-next c =
+pub exchange-requires : goal.exchange-requires
+exchange-requires c =
     let h : Heap = c.args.heap.now.heap in
-    let known = c.step-found.ensures.known in
-    let thread = c.thread.ensures.same ∙ ap (λ (k : Known). k.thread) known ∙ same_thread h.shape h.start c.resuming.result c.step-found.result c.args.pass.now.known in
-    second_is _ _ _ _ _ c.args.pass.now.known.thread _ _ _ _ c.requires.knows c.resuming.ensures c.if-found-eq0.true known c.resuming-then-found-eq0.ensures
-    (c.bit-word.ensures ∙ ap (λ n. 2 ^ n) thread)
+    let known = c.look-found.ensures.stepped.known in
+    let thread = c.thread.ensures.same ∙ ap (λ (k : Known). k.thread) known ∙ same_thread h.shape h.start (resuming Load) c.look-found.result.0 c.args.pass.now.known in record {
+      heap = c.look-found.ensures.stepped.heap;
+      next = second_is _ _ _ _ _ c.args.pass.now.known.thread _ _ _ _ c.requires.knows refl c.if-found-eq0.true known refl (c.bit-word.ensures ∙ ap (λ n. 2 ^ n) thread);
+      room = tt;
+      at = tt;
+      place = tt;
+      drafted = tt;
+    }

@@ -1,0 +1,99 @@
+//! Steps by what they do. Each is `Heap::step` with a plan of one form. At a call that names its word, only the act and
+//! what the step makes of the pass are left of it in the built code.
+ghost use Rattle.std.specs.Prelude.{◌≡◌};
+ghost use Rattle.mark_word.specs.Safe.{read_safe};
+ghost use Rattle.core_world.specs.Trees.Plans.{quiet_plan, load_plan, load};
+ghost use Rattle.heap_table.specs.StepPlans.{store_plan, store_hold_plan, swap_plan};
+ghost use Rattle.heap_table.specs.Stepping.{CanStep, HasStepped};
+
+use crate::heap::Heap;
+use crate::pass::Pass;
+use crate::plans::quiet;
+use crate::purpose::Purpose;
+use crate::reads::safe_of_word;
+use core_world::{Act, Name, Stage};
+use mark_word::SafeForm;
+
+/// Steps that log nothing. Each answers the word that it found.
+impl Heap {
+    /// A load.
+    #[inline(always)]
+    pub fn load(&self, pass: &mut Pass, why: &Purpose, stage: Stage, at: Name) -> u64
+        requires { CanStep self.now pass.old (load_plan why.now stage at) }
+        ensures { HasStepped self.now pass.old pass.new (load_plan why.now stage at) result }
+    {
+        self.step(pass, quiet(why, stage, at, Act::Load))
+    }
+
+    /// A load of the safepoint word. It answers what the word says, too.
+    #[inline(always)]
+    pub fn look(&self, pass: &mut Pass, why: &Purpose) -> (u64, Option<SafeForm>)
+        requires { CanStep self.now pass.old (load why.now Name.Safepoint) }
+        ensures stepped { HasStepped self.now pass.old pass.new (load why.now Name.Safepoint) result.0 }
+        ensures form { result.1 ≡ read_safe result.0 }
+    {
+        let found = self.load(pass, why, Stage::Calm, Name::Safepoint);
+        (found, safe_of_word(found))
+    }
+
+    /// A store.
+    #[inline(always)]
+    pub fn store(&self, pass: &mut Pass, why: &Purpose, stage: Stage, at: Name, word: u64) -> u64
+        requires { CanStep self.now pass.old (store_plan why.now stage at word) }
+        ensures { HasStepped self.now pass.old pass.new (store_plan why.now stage at word) result }
+    {
+        self.step(pass, quiet(why, stage, at, Act::Store { word }))
+    }
+
+    /// A store in the thread's own hold word of this place.
+    #[inline(always)]
+    pub fn store_hold(
+        &self,
+        pass: &mut Pass,
+        why: &Purpose,
+        stage: Stage,
+        place: u32,
+        word: u64,
+    ) -> u64
+        requires { CanStep self.now pass.old (store_hold_plan why.now stage pass.old.known.thread place word) }
+        ensures { HasStepped self.now pass.old pass.new (store_hold_plan why.now stage pass.old.known.thread place word) result }
+    {
+        let thread = pass.thread();
+        self.store(pass, why, stage, Name::Hold { thread, place }, word)
+    }
+
+    /// A compare-exchange: the word becomes `word` where it is `expected`.
+    #[inline(always)]
+    pub fn exchange(
+        &self,
+        pass: &mut Pass,
+        why: &Purpose,
+        stage: Stage,
+        at: Name,
+        expected: u64,
+        word: u64,
+    ) -> u64
+        requires { CanStep self.now pass.old (swap_plan why.now stage at expected word) }
+        ensures { HasStepped self.now pass.old pass.new (swap_plan why.now stage at expected word) result }
+    {
+        self.step(pass, quiet(why, stage, at, Act::Swap { expected, word }))
+    }
+
+    /// The word becomes `word` where it is smaller.
+    #[inline(always)]
+    pub fn raise(&self, pass: &mut Pass, why: &Purpose, at: Name, word: u64) -> u64
+        requires { CanStep self.now pass.old (quiet_plan why.now at (Act.Raise word)) }
+        ensures { HasStepped self.now pass.old pass.new (quiet_plan why.now at (Act.Raise word)) result }
+    {
+        self.step(pass, quiet(why, Stage::Calm, at, Act::Raise { word }))
+    }
+
+    /// Of the word only these bits are left.
+    #[inline(always)]
+    pub fn mask(&self, pass: &mut Pass, why: &Purpose, at: Name, bits: u64) -> u64
+        requires { CanStep self.now pass.old (quiet_plan why.now at (Act.Mask bits)) }
+        ensures { HasStepped self.now pass.old pass.new (quiet_plan why.now at (Act.Mask bits)) result }
+    {
+        self.step(pass, quiet(why, Stage::Calm, at, Act::Mask { bits }))
+    }
+}

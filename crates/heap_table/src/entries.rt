@@ -1,0 +1,104 @@
+//! Steps that log.
+ghost use Rattle.core_world.specs.declared.plan.Note.{Note};
+ghost use Rattle.core_world.specs.Trees.Plans.{logging_plan};
+ghost use Rattle.core_world.specs.Trees.HashSteps.{find_hash_plan};
+ghost use Rattle.core_world.specs.Trees.Operations.{get_plan};
+ghost use Rattle.heap_table.specs.StepPlans.{log_store_plan, log_swap_plan, log_store_within_plan};
+ghost use Rattle.heap_table.specs.Stepping.{CanStep, HasStepped};
+
+use crate::heap::Heap;
+use crate::pass::Pass;
+use crate::plans::{logging, noting};
+use crate::purpose::Purpose;
+use core_world::{Act, Name, Note, Stage};
+use plain_monitor::Entry;
+
+/// Steps that log an entry, where they hit, and end the operation with it. Each answers the word that it found.
+impl Heap {
+    /// A load.
+    #[inline(always)]
+    pub fn log_load(&self, pass: &mut Pass, why: &Purpose, at: Name, entry: Entry) -> u64
+        requires { CanStep self.now pass.old (logging_plan entry why.now at Act.Load) }
+        ensures { HasStepped self.now pass.old pass.new (logging_plan entry why.now at Act.Load) result }
+    {
+        self.step(pass, logging(why, Stage::Calm, at, Act::Load, entry))
+    }
+
+    /// A store.
+    #[inline(always)]
+    pub fn log_store(
+        &self,
+        pass: &mut Pass,
+        why: &Purpose,
+        stage: Stage,
+        at: Name,
+        word: u64,
+        entry: Entry,
+    ) -> u64
+        requires { CanStep self.now pass.old (log_store_plan why.now stage at word entry) }
+        ensures { HasStepped self.now pass.old pass.new (log_store_plan why.now stage at word entry) result }
+    {
+        self.step(pass, logging(why, stage, at, Act::Store { word }, entry))
+    }
+
+    /// A compare-exchange: the word becomes `word` where it is `expected`.
+    #[inline(always)]
+    pub fn log_exchange(
+        &self,
+        pass: &mut Pass,
+        why: &Purpose,
+        stage: Stage,
+        at: Name,
+        expected: u64,
+        word: u64,
+        entry: Entry,
+    ) -> u64
+        requires { CanStep self.now pass.old (log_swap_plan why.now stage at expected word entry) }
+        ensures { HasStepped self.now pass.old pass.new (log_swap_plan why.now stage at expected word entry) result }
+    {
+        let act = Act::Swap { expected, word };
+        self.step(pass, logging(why, stage, at, act, entry))
+    }
+}
+
+/// Steps that log and leave the operation unfinished. Each answers the word that it found.
+impl Heap {
+    /// A store that logs this entry.
+    #[inline(always)]
+    pub fn log_store_within(
+        &self,
+        pass: &mut Pass,
+        why: &Purpose,
+        stage: Stage,
+        at: Name,
+        word: u64,
+        entry: Entry,
+    ) -> u64
+        requires { CanStep self.now pass.old (log_store_within_plan why.now stage at word entry) }
+        ensures { HasStepped self.now pass.old pass.new (log_store_within_plan why.now stage at word entry) result }
+    {
+        let note = Note::Log { entry };
+        self.step(pass, noting(why, stage, at, Act::Store { word }, note))
+    }
+
+    /// A load that logs a Hash of the object, and ends the operation, where the word is neutral and has a hash.
+    #[inline(always)]
+    pub fn find_hash(&self, pass: &mut Pass, why: &Purpose, at: Name, object: u32) -> u64
+        requires { CanStep self.now pass.old (find_hash_plan why.now at object) }
+        ensures { HasStepped self.now pass.old pass.new (find_hash_plan why.now at object) result }
+    {
+        let note = Note::LogHash { object };
+        self.step(pass, noting(why, Stage::Calm, at, Act::Load, note))
+    }
+
+    /// A load of a slot that logs a Get with the value found.
+    #[inline(always)]
+    pub fn log_get(&self, pass: &mut Pass, why: &Purpose, object: u32, slot: u32) -> u64
+        requires { CanStep self.now pass.old (get_plan why.now object slot) }
+        ensures { HasStepped self.now pass.old pass.new (get_plan why.now object slot) result }
+    {
+        let at = Name::Slot { object, slot };
+        let note = Note::LogGet { object, slot };
+        self.step(pass, noting(why, Stage::Calm, at, Act::Load, note))
+    }
+}

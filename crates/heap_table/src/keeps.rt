@@ -1,0 +1,71 @@
+//! Steps of which the thread keeps something for itself.
+ghost use Rattle.core_world.specs.Trees.Plans.{with_own, load, swap};
+ghost use Rattle.heap_table.specs.StepPlans.{store_plan};
+ghost use Rattle.core_world.specs.Trees.MonitorSteps.{claim_plan};
+ghost use Rattle.heap_table.specs.Stepping.{CanStep, HasStepped};
+
+use crate::heap::Heap;
+use crate::pass::Pass;
+use crate::plans::keeping;
+use crate::purpose::Purpose;
+use core_world::{Act, Name, Own, Stage};
+
+/// Steps that log nothing, of which the thread keeps this for itself, where they hit. Each answers the word that it
+/// found.
+impl Heap {
+    /// A load.
+    #[inline(always)]
+    pub fn load_and_keep(&self, pass: &mut Pass, why: &Purpose, own: Own, at: Name) -> u64
+        requires { CanStep self.now pass.old (with_own own (load why.now at)) }
+        ensures { HasStepped self.now pass.old pass.new (with_own own (load why.now at)) result }
+    {
+        self.step(pass, keeping(why, Stage::Calm, own, at, Act::Load))
+    }
+
+    /// A store.
+    #[inline(always)]
+    pub fn store_and_keep(
+        &self,
+        pass: &mut Pass,
+        why: &Purpose,
+        stage: Stage,
+        own: Own,
+        at: Name,
+        word: u64,
+    ) -> u64
+        requires { CanStep self.now pass.old (with_own own (store_plan why.now stage at word)) }
+        ensures { HasStepped self.now pass.old pass.new (with_own own (store_plan why.now stage at word)) result }
+    {
+        self.step(pass, keeping(why, stage, own, at, Act::Store { word }))
+    }
+
+    /// A compare-exchange: the word becomes `word` where it is `expected`.
+    #[inline(always)]
+    pub fn exchange_and_keep(
+        &self,
+        pass: &mut Pass,
+        why: &Purpose,
+        own: Own,
+        at: Name,
+        expected: u64,
+        word: u64,
+    ) -> u64
+        requires { CanStep self.now pass.old (with_own own (swap why.now at expected word)) }
+        ensures { HasStepped self.now pass.old pass.new (with_own own (swap why.now at expected word)) result }
+    {
+        let act = Act::Swap { expected, word };
+        self.step(pass, keeping(why, Stage::Calm, own, at, act))
+    }
+
+    /// The count of claimed monitors rises by one, and the thread keeps the monitor whose number it was.
+    #[inline(always)]
+    pub fn claim(&self, pass: &mut Pass, why: &Purpose) -> u64
+        requires { CanStep self.now pass.old (claim_plan why.now) }
+        ensures { HasStepped self.now pass.old pass.new (claim_plan why.now) result }
+    {
+        self.step(
+            pass,
+            keeping(why, Stage::Calm, Own::Claim, Name::Claim, Act::Count),
+        )
+    }
+}
