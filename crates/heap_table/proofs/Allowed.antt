@@ -19,7 +19,8 @@ use Rattle.core_steps.specs.Sound.{Sound}
 use Rattle.core_steps.proofs.ReachedWorlds.{known_step_sound}
 use Rattle.core_world.specs.World.{with_known}
 use Rattle.core_world.proofs.Naming.{same_named}
-use Rattle.heap_table.specs.Layout.{IsIn, place_of, word_count}
+use Rattle.core_world.specs.There.{IsIn}
+use Rattle.heap_table.specs.Layout.{place_of, word_count}
 use Rattle.heap_table.specs.Ruled.{MayStep, Each, Differ, Shows, Rules, Ruled, heap_in, only, Told}
 use Rattle.heap_table.specs.declared.setting.Setting.{Setting}
 use Rattle.heap_table.proofs.Places.{within, apart}

@@ -1,6 +1,8 @@
 -- What a thread knows behind its step.
 use Rattle.std.proofs.Common.{◌≡◌, ℕ, ◌<◌, eq-eqb, ne_eqb, ◌≢◌, Bool, true, false, cond, refl, sym, ap, ◌∙◌, subst}
 use Rattle.core_world.specs.declared.plan.StepPlan.{StepPlan}
+use Rattle.core_world.specs.Due.{IsNext}
+use Rattle.core_world.specs.There.{IsThere}
 use Rattle.core_world.specs.Words.Acts.{hits}
 use Rattle.core_world.specs.Threads.Known.{Known}
 use Rattle.core_world.specs.Words.Shape.{Shape}
@@ -9,8 +11,8 @@ use Rattle.core_world.specs.Steps.{rest_of_call}
 use Rattle.core_world.specs.World.{World, with_known}
 use Rattle.core_steps.specs.Logic.{Heap, Was}
 use Rattle.core_steps.specs.Reached.{comes}
-use Rattle.core_steps.proofs.ReachedWorlds.{sound_comes}
-use Rattle.heap_table.specs.Ruled.{Stepped}
+use Rattle.core_steps.proofs.ReachedWorlds.{sound_comes, known_step_there}
+use Rattle.heap_table.specs.Ruled.{IsReal, Stepped}
 
 pub same_thread : (s : Shape) (start : ℕ) (p : StepPlan) (n : ℕ) (k : Known) → (known_after s start p n k).thread ≡ k.thread
 same_thread s start p n k = cases (hits p.act n)
@@ -34,6 +36,24 @@ goes_on heap k p n l was within is =
     let now : (world_after p k.thread w).known k.thread ≡ known_after heap.shape heap.start p n k = here ∙ λ i. known_after (was.is_of i).shape (was.is_of i).start p (was.was_there i) (was.knew i) in
     let a = sound_comes (world_after p k.thread w) k.thread was.sound_after (subst (λ (h : Heap). k.thread < h.shape.threads) (sym was.is_of) within) in
     (λ i. comes (rest_of_call (sym was.is_of i).shape ((is ∙ sym now) i))) ∙ a
+
+-- and its thread knows what the step makes of its knowledge
+pub real_after : (heap : Heap) (k : Known) (p : StepPlan) (n : ℕ) (l : Known) → Stepped heap k p n → l ≡ known_after heap.shape heap.start p n k → IsReal heap l
+real_after heap k p n l was is =
+    let w : World = was.world in
+    let now : (world_after p k.thread w).known k.thread ≡ known_after heap.shape heap.start p n k =
+    told_here k.thread (known_after w.shape w.start p (w.words p.at) (w.known k.thread)) w.known
+    ∙ λ i. known_after (was.is_of i).shape (was.is_of i).start p (was.was_there i) (was.knew i) in
+    subst (IsReal heap) (sym is) (record {
+      world = world_after p k.thread w;
+      is_of = was.is_of;
+      sound = was.sound_after;
+      knew = subst (λ t. (world_after p k.thread w).known t ≡ known_after heap.shape heap.start p n k) (sym (same_thread heap.shape heap.start p n k)) now;
+    })
+
+-- the heap has the word of the next step, and its thread a place for the shot that it takes
+pub is_there : (heap : Heap) (k : Known) (p : StepPlan) → IsNext heap.shape heap.start heap.biasing k p → k.thread < heap.shape.threads → IsReal heap k → IsThere heap.shape k p
+is_there heap k p next within real = known_step_there heap k p next real.world real.is_of real.knew within real.sound
 
 -- what a step tells, in the terms of the law of all steps: there was a valid world in which the thread knew this and the step found n
 pub was_of : (heap : Heap) (k : Known) (p : StepPlan) (n : ℕ) → Stepped heap k p n → k.thread < heap.shape.threads → Was heap p k n

@@ -14,7 +14,8 @@ use Rattle.core_world.specs.Words.Shape.{Shape, IsInLimits}
 use Rattle.core_world.specs.World.{World}
 use Rattle.core_steps.specs.Logic.{Heap}
 use Rattle.core_steps.proofs.ReachedWorlds.{opening_sound}
-use Rattle.heap_table.specs.Layout.{IsIn, place_of, word_count}
+use Rattle.core_world.specs.There.{IsIn}
+use Rattle.heap_table.specs.Layout.{place_of, word_count}
 use Rattle.core_world.specs.Threads.Known.{Known}
 use Rattle.heap_table.specs.Firsts.{first_knowns}
 use Rattle.heap_table.specs.Openings.{copies, spread, object_words, opening_groups}

@@ -5,7 +5,8 @@ use Rattle.core_world.specs.declared.name.Name.TheVariants.{Safepoint, Prototype
 use Rattle.core_world.specs.Words.Names.{kind_of, first_index, second_index, same_name}
 use Rattle.core_world.specs.Words.Shape.{Shape}
 use Rattle.core_world.proofs.Naming.{same_named}
-use Rattle.heap_table.specs.Layout.{IsIn, IsPlaced, group, many, place_of, word_count}
+use Rattle.core_world.specs.There.{IsIn}
+use Rattle.heap_table.specs.Layout.{IsPlaced, group, many, place_of, word_count}
 
 -- where it lies in its group
 abbrev pub offset : Name → ℕ

@@ -15,6 +15,8 @@ use Rattle.core_world.specs.Steps.{known_after, known_hit, known_miss, log_after
 use Rattle.core_world.specs.Valid.{Fits, IsValid}
 use Rattle.core_world.specs.World.{World, logs_from}
 use Rattle.heap_table.specs.Kept.{StampFits}
+use Rattle.core_world.proofs.LookWhileRevoking.{forgotten}
+use Rattle.core_counts.specs.BiasLaw.{BiasLawHolds}
 use Rattle.core_steps.specs.Logic.{Heap}
 use Rattle.heap_table.specs.Ruled.{Stepped}
 use Rattle.heap_table.proofs.Follow.{last_end}
@@ -57,8 +59,9 @@ pub stamp_fits : (b : Heap) (k : Known) (p : StepPlan) (n last : ℕ) → Steppe
 stamp_fits b k p n last was same hit =
     let w : World = was.world in
     let t : ℕ = k.thread in
-    let old = few w was.sound.valid.objects was.sound.valid.is t in
-    let new = few (world_after p t w) was.sound_after.valid.objects was.sound_after.valid.is t in
+    let old = few w was.sound.valid.objects (forgotten BiasLawHolds w was.sound.valid.objects was.sound.valid.is) t in
+    let after = was.sound_after.valid in
+    let new = few (world_after p t w) after.objects (forgotten BiasLawHolds (world_after p t w) after.objects after.is) t in
     let here : (world_after p t w).known t ≡ known_after w.shape w.start p (w.words p.at) (w.known t) = told_here t (known_after w.shape w.start p (w.words p.at) (w.known t)) w.known in
     let now : (world_after p t w).known t ≡ known_after w.shape w.start p n k = here ∙ λ i. known_after w.shape w.start p (was.was_there i) (was.knew i) in
     let log : ((world_after p t w).known t).log ≡ log_after p.note n k.log = ap (λ (x : Known). x.log) now ∙ log_hit w p n k hit in

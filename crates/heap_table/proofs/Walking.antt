@@ -18,9 +18,10 @@ use Rattle.core_world.specs.declared.plan.StepPlan.{StepPlan}
 use Rattle.core_world.specs.Steps.{known_after}
 use Rattle.core_world.specs.Threads.Known.{Known}
 use Rattle.core_steps.specs.Logic.{Heap}
-use Rattle.heap_table.specs.Drafts.{HasPlace, IsDrafted}
+use Rattle.core_world.specs.There.{HasPlace}
+use Rattle.heap_table.specs.Drafts.{IsDrafted}
 use Rattle.heap_table.specs.Kept.{HasRoom}
-use Rattle.heap_table.specs.Layout.{IsIn}
+use Rattle.core_world.specs.There.{IsIn}
 use Rattle.heap_table.specs.Seen.{HeapSeen, PassSeen}
 use Rattle.heap_table.specs.Stepping.{CanStep, HasStepped}
 use Rattle.heap_table.specs.Walk.{two, behind, resuming, resumed, entering, IsAt}
@@ -59,15 +60,13 @@ goes h p q steps plan n m a s e =
       limit = s.limit ∙ a.limit;
     }
 
--- it can make the step that is the next one, which takes no shot and whose word is one of the heap's
+-- it can make the step that is the next one, which takes no shot
 pub can : (h : HeapSeen) (p : PassSeen) (steps : List (StepPlan × ℕ)) (plan : StepPlan) → IsAt h steps p → IsNext two 7 false (behind steps) plan
-    → HasRoom plan.note (behind steps).log 86 → IsIn two plan.at → plan.own ≡ Same → CanStep h p plan
-can h p steps plan a next room at own =
+    → HasRoom plan.note (behind steps).log 86 → plan.own ≡ Same → CanStep h p plan
+can h p steps plan a next room own =
     record {
       heap = a.is_of;
       next = subst (λ (x : Heap × Known). IsNext x.0.shape x.0.start x.0.biasing x.1 plan) (λ i. (sym a.heap i, sym a.known i)) next;
       room = subst (λ (x : Known × ℕ). HasRoom plan.note x.0.log x.1) (λ i. (sym a.known i, sym a.limit i)) room;
-      at = subst (λ (x : Heap). IsIn x.shape plan.at) (sym a.heap) at;
-      place = subst (λ (o : Own). HasPlace o (length p.known.shots)) (sym own) tt;
       drafted = subst (λ (o : Own). IsDrafted o h.heap.shape p.known p.cut p.cells) (sym own) tt;
     }

@@ -11,11 +11,6 @@ abbrev pub IsDrafted : Own → Shape → Known → List ℕ → List (Option ℕ
 IsDrafted own.TakeShot s k cut cells = (cut ≡ cut_from 0 s.threads k) × (cells ≡ cells_from 0 s.objects s (seen_words k))
 IsDrafted _ s k cut cells = Unit {0}
 
--- there is a place for the shot: a thread takes at most 4
-abbrev pub HasPlace : Own → ℕ → Type 0
-HasPlace own.TakeShot taken = taken < 4
-HasPlace _ taken = Unit {0}
-
 -- what a step makes of the shots that were taken
 abbrev pub taken_after : Own → List DumpShot → List ℕ → List (Option ℕ × ℕ) → List DumpShot
 taken_after own.TakeShot taken cut cells = taken ++ record { number = length taken + 1; cut = cut; cells = cells } ∷ []

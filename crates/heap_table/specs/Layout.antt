@@ -69,25 +69,6 @@ group (Recursions m) = 4
 group (Header m) = 4
 group (Object m) = 4
 
--- the heap has such a word: each object has room for 16 slots, and each thread for 64 lock records
-abbrev pub IsIn : Shape → Name → Type 0
-IsIn s Safepoint = Unit {0}
-IsIn s (Prototype c) = c < s.classes
-IsIn s (Revocations c) = c < s.classes
-IsIn s (LastBulk c) = c < s.classes
-IsIn s (Mark o) = o < many s
-IsIn s (Stamp o) = o < many s
-IsIn s (Slot o i) = (o < many s) × (i < 16)
-IsIn s (Hold t p) = (t < s.threads) × (p < 64)
-IsIn s (Displaced t p) = (t < s.threads) × (p < 64)
-IsIn s (Waiting t) = t < s.threads
-IsIn s (Length t) = t < s.threads
-IsIn s (Owner m) = m < many s + s.threads
-IsIn s (Recursions m) = m < many s + s.threads
-IsIn s (Header m) = m < many s + s.threads
-IsIn s (Object m) = m < many s + s.threads
-IsIn s Claim = Unit {0}
-
 -- a hold word has one of the 64 places
 abbrev pub IsPlaced : Name → Type 0
 IsPlaced (Hold t p) = p < 64

@@ -20,7 +20,8 @@ use Rattle.core_world.specs.World.{World}
 use Rattle.core_steps.specs.Logic.{Heap, heap_of}
 use Rattle.core_steps.specs.Sound.{Sound}
 use Rattle.heap_table.specs.declared.setting.Setting.{Setting}
-use Rattle.heap_table.specs.Layout.{IsIn, place_of, word_count}
+use Rattle.core_world.specs.There.{IsIn}
+use Rattle.heap_table.specs.Layout.{place_of, word_count}
 
 -- what no step changes of the heap that a table is
 abbrev pub heap_in : Setting → Heap
@@ -31,6 +32,13 @@ pub record MayStep (heap : Heap) (k : Known) (p : StepPlan) : Type 0 where
   pub within : k.thread < heap.shape.threads
   pub next : IsNext heap.shape heap.start heap.biasing k p
   pub at : IsIn heap.shape p.at
+
+-- There was a sound world of this heap in which the thread knew k.
+pub record IsReal (heap : Heap) (k : Known) : Type 0 where
+  pub world : World
+  pub is_of : heap_of world ≡ heap
+  pub sound : Sound world
+  pub knew : world.known k.thread ≡ k
 
 -- There was a sound world of this heap in which the thread knew k and the found word stood there, and the step made a
 -- sound world of it.

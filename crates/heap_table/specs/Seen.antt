@@ -9,7 +9,9 @@ use Rattle.core_world.specs.World.{World}
 use Rattle.core_steps.specs.Logic.{Heap, heap_of}
 use Rattle.core_steps.specs.Sound.{Sound}
 use Rattle.heap_table.specs.declared.counts.ClassCounts.{ClassCounts}
-use Rattle.heap_table.specs.Layout.{IsIn, place_of}
+use Rattle.core_world.specs.There.{IsIn}
+use Rattle.heap_table.specs.Layout.{place_of}
+use Rattle.heap_table.specs.Ruled.{IsReal}
 use Rattle.heap_table.specs.Tallies.{counts_shown}
 
 pub record HeapSeen : Type 0 where
@@ -40,6 +42,8 @@ pub record IsOf (h : HeapSeen) (p : PassSeen) : Type 0 where
   pub first : p.first ≡ (h.heap.start + p.known.thread) % 2 ^ 32
   pub threads : p.threads ≡ h.heap.shape.threads
   pub objects : p.objects ≡ length h.heap.shape.objects
+  -- what its thread knows it knew in a sound world
+  pub real : IsReal h.heap p.known
 
 -- a thread's pass, as the heap begins: it is stopped, and has made no step
 abbrev pub first_pass : HeapSeen → ℕ → ℕ → PassSeen

@@ -1,11 +1,10 @@
 -- What each call that makes a step asks, and what it does.
-use Rattle.std.specs.Prelude.{◌≡◌, ℕ, length, true}
+use Rattle.std.specs.Prelude.{◌≡◌, ℕ, true}
 use Rattle.core_world.specs.declared.plan.StepPlan.{StepPlan}
 use Rattle.core_world.specs.Due.{IsNext}
 use Rattle.core_world.specs.Steps.{known_after, rest_of_call}
 use Rattle.core_steps.specs.Reached.{comes}
-use Rattle.heap_table.specs.Layout.{IsIn}
-use Rattle.heap_table.specs.Drafts.{HasPlace, IsDrafted, IsLeft}
+use Rattle.heap_table.specs.Drafts.{IsDrafted, IsLeft}
 use Rattle.heap_table.specs.Kept.{HasRoom}
 use Rattle.heap_table.specs.Ruled.{Stepped}
 use Rattle.heap_table.specs.Seen.{HeapSeen, PassSeen, IsOf}
@@ -18,9 +17,7 @@ pub record CanStep (h : HeapSeen) (p : PassSeen) (plan : StepPlan) : Type 0 wher
   pub next : IsNext h.heap.shape h.heap.start h.heap.biasing p.known plan
   -- its log has room, where the step logs
   pub room : HasRoom plan.note p.known.log p.limit
-  -- the heap has the word; and where the step takes a shot, there is a place for it, and the pass's draft is that shot
-  pub at : IsIn h.heap.shape plan.at
-  pub place : HasPlace plan.own (length p.known.shots)
+  -- where the step takes a shot, the pass's draft is that shot
   pub drafted : IsDrafted plan.own h.heap.shape p.known p.cut p.cells
 
 -- The pass was p, and is q behind this step, which found this word.

@@ -1,7 +1,8 @@
 //! What a pass keeps of its steps: at run time what its thread knows.
 ghost use Rattle.std.specs.Prelude.{◌≡◌, ◌+◌, ◌^◌, ◌<◌, ◌≤◌, ℕ, IfOk, [], length, true, vec_capacity, vec_len};
 ghost use Rattle.heap_table.specs.Cells.{cells_shown};
-ghost use Rattle.heap_table.specs.Drafts.{IsDrafted, HasPlace, IsLeft, taken_after};
+ghost use Rattle.core_world.specs.There.{HasPlace};
+ghost use Rattle.heap_table.specs.Drafts.{IsDrafted, IsLeft, taken_after};
 ghost use Rattle.heap_table.specs.Tallies.{counts_shown};
 
 use crate::afters::{

@@ -2,7 +2,8 @@
 ghost use Rattle.std.specs.Prelude.{◌≡◌, ◌≢◌, ◌⊎◌, ◌<◌, ◌≤◌, ◌+◌, ◌*◌, All, IfOk, length, map, slice_index};
 ghost use Rattle.core_world.specs.Words.Shape.{Shape, IsInLimits, class_of, slots_of};
 ghost use Rattle.core_world.specs.Words.Names.{first_index};
-ghost use Rattle.heap_table.specs.Layout.{IsIn, group, place_of, word_count, many, shape_of, classes_from, objects_from, threads_from, monitors_from};
+ghost use Rattle.core_world.specs.There.{IsIn};
+ghost use Rattle.heap_table.specs.Layout.{group, place_of, word_count, many, shape_of, classes_from, objects_from, threads_from, monitors_from};
 
 use core_world::Name;
 use plain_monitor::NoMemory;

@@ -7,7 +7,7 @@ use Rattle.heap_table.specs.Cells.{cells_shown}
 use Rattle.heap_table.specs.Drafts.{IsLeft}
 use Rattle.heap_table.specs.Ruled.{only, MayStep, Stepped}
 use Rattle.heap_table.specs.Seen.{HeapSeen, PassSeen}
-use Rattle.heap_table.proofs.Knows.{same_thread, goes_on}
+use Rattle.heap_table.proofs.Knows.{same_thread, goes_on, is_there, real_after}
 use Rattle.heap_table.proofs.Stamps.{stamp_fits}
 use Rattle.heap_table.proofs.heap.Heap.step.Goals as goal
 
@@ -16,7 +16,7 @@ step-found-requires-clause-may c =
     let b = ap (λ (h : HeapSeen). h.heap) c.self.view_is in
     let k = ap (λ (p : PassSeen). p.known) c.pass.view_is in
     let r = c.requires in
-    subst (λ (x : Heap × Known). MayStep x.0 x.1 c.args.plan) (λ i. (sym b i, sym k i)) (record { within = r.heap.within; next = r.next; at = r.at })
+    subst (λ (x : Heap × Known). MayStep x.0 x.1 c.args.plan) (λ i. (sym b i, sym k i)) (record { within = r.heap.within; next = r.next; at = (is_there _ _ _ r.next r.heap.within r.heap.real).0 })
 
 pub follow-requires-clause-stamp : goal.follow-requires-clause-stamp
 follow-requires-clause-stamp c = stamp_fits _ _ _ _ _ c.step-found.ensures.stepped c.pass.invariant.1.last
@@ -40,6 +40,7 @@ returns c =
         first = fixed.2 ∙ ap (λ (p : PassSeen). p.first) view ∙ c.requires.heap.first ∙ ap (λ (n : ℕ). (h.start + n) % 2 ^ 32) (sym t);
         threads = fixed.3 ∙ ap (λ (p : PassSeen). p.threads) view ∙ c.requires.heap.threads;
         objects = fixed.4 ∙ ap (λ (p : PassSeen). p.objects) view ∙ c.requires.heap.objects;
+        real = real_after h k c.args.plan c.step-found.result _ stepped known;
       };
       limit = fixed.0 ∙ ap (λ (p : PassSeen). p.limit) view;
       draft = subst (λ (p : PassSeen). IsLeft c.args.plan.own p.cut p.cells c.follow.new.self.shots.draft.cut.items (cells_shown c.follow.new.self.shots.draft.cells.items)) view c.follow.ensures.draft;
