@@ -15,6 +15,7 @@ use Rattle.core_world.specs.Due.{steps_due, IsNext}
 use Rattle.core_world.specs.There.{IsThere}
 use Rattle.core_world.specs.Valid.{IsValid}
 use Rattle.core_world.specs.World.{World}
+use Rattle.core_world.proofs.CallRests.{begun_rest, gone_rest}
 use Rattle.core_world.proofs.KnowledgeParts.{by_equal, each_with_known}
 use Rattle.core_world.proofs.LookWhileRevoking.{forgotten}
 use Rattle.core_counts.specs.BiasLaw.{BiasLawHolds, WhollyValid}
@@ -34,34 +35,6 @@ abbrev pub stands_here : (w : World) (t : ℕ) → t < w.shape.threads → Wholl
 stands_here w t within v =
     let same : (w.known t).thread ≡ t = number_is w v.objects t (forgotten BiasLawHolds w v.objects v.is) in
     record { world = w; objects = v.objects; is_of = refl; knows = ap w.known same; within = subst (λ u. u < w.shape.threads) (sym same) within; valid = v.is }
-
-module _ (s : Shape) (start : ℕ) (k : Known) (p : StepPlan) (n : ℕ) where
-  call_is : (known_after s start p n k).call ≡ call_after s start p n k
-  call_is = cases (hits p.act n)
-    where
-      cases : (b : Bool) → (cond b (known_hit s start p n k) (known_miss s start p n k)).call ≡ call_after s start p n k
-      cases true = refl
-      cases false = refl
-
-  rest_is : rest_of_call s (known_after s start p n k) ≡ left_of s (call_after s start p n k)
-  rest_is = ap (left_of s) call_is
-
-  begun_rest : is_idle s k ≡ true → rest_of_call s (known_after s start p n k) ≡ after_answer (steps_of s p.task (start_of start k)) n
-  begun_rest e =
-      let a : call_after s start p n k ≡ Some (record { task = p.task; start = start_of start k; answers = n ∷ [] }) =
-      ap (λ (b : Bool). cond b (Some (record { task = p.task; start = start_of start k; answers = n ∷ [] })) (with_answer n k.call)) e in
-      rest_is ∙ ap (left_of s) a
-
-  gone_rest : is_idle s k ≡ false → rest_of_call s (known_after s start p n k) ≡ after_answer (rest_of_call s k) n
-  unfolding is_idle
-  gone_rest e =
-      let a : call_after s start p n k ≡ with_answer n k.call =
-      ap (λ (b : Bool). cond b (Some (record { task = p.task; start = start_of start k; answers = n ∷ [] })) (with_answer n k.call)) e in
-      rest_is ∙ ap (left_of s) a ∙ cases k.call refl
-    where
-      cases : (c : Option CallUnderway) → k.call ≡ c → left_of s (with_answer n c) ≡ after_answer (left_of s c) n
-      cases None f = absurd (cc (e, ap (λ (z : Option CallUnderway). left_of s z) f))
-      cases (Some b) f = refl
 
 -- a tree's first step
 record First (heap : Heap) (p : StepPlan) (k : Known) (d : Todo (Unit {0})) : Type 0 where

@@ -18,3 +18,4 @@ pub mod ActsLook
 pub mod LookLaws
 pub mod LookWhileRevoking
 pub mod RefusedWorlds
+pub mod CallRests

@@ -1,11 +1,11 @@
 -- The next step of a thread, and runs of steps.
-use Rattle.std.specs.Prelude.{◌≡◌, ℕ, ◌&&◌, if◌then◌else◌, Bool, Some}
+use Rattle.std.specs.Prelude.{◌≡◌, ◌⊎◌, ℕ, ◌&&◌, if◌then◌else◌, Bool, true, Some}
 use Rattle.core_world.specs.declared.plan.StepPlan.{StepPlan}
 use Rattle.core_world.specs.declared.task.Task.{Task}
 use Rattle.core_world.specs.Words.Shape.{Shape}
 use Rattle.core_world.specs.Threads.Stages.{is_calm}
 use Rattle.core_world.specs.Threads.Known.{Known, start_of}
-use Rattle.core_world.specs.Trees.Todo.{Todo, done, never, step, head}
+use Rattle.core_world.specs.Trees.Todo.{Todo, done, never, step, ◌>>=◌, head}
 use Rattle.core_world.specs.Trees.Calls.{steps_of, may_begin}
 use Rattle.core_world.specs.Steps.{rest_of_call, is_idle, known_after}
 
@@ -17,6 +17,17 @@ steps_due s start biasing k t = if is_idle s k then (if is_calm k.stage && may_b
 -- its steps have found
 abbrev pub IsNext : Shape → ℕ → Bool → Known → StepPlan → Type 0
 IsNext s start biasing k p = head (steps_due s start biasing k p.task) ≡ Some p
+
+-- These steps, and then what their answer asks for, are those of a call of this task, which thread k may begin: it is in the middle of nothing.
+pub record Begins {A : Type 0} (s : Shape) (start : ℕ) (biasing : Bool) (k : Known) (t : Task) (d : Todo A) (after : A → Todo (Unit {0})) : Type 0 where
+  pub over : is_idle s k ≡ true
+  pub may : (is_calm k.stage && may_begin s biasing k t) ≡ true
+  pub is : steps_of s t (start_of start k) ≡ (d >>= after)
+
+-- THE STEPS THAT ARE DUE, of a part of a call as of the whole: they come next in the call that goes on, or they begin one.
+pub record IsDue {A : Type 0} (s : Shape) (start : ℕ) (biasing : Bool) (k : Known) (t : Task) (d : Todo A) : Type 0 where
+  pub after : A → Todo (Unit {0})
+  pub is : (rest_of_call s k ≡ (d >>= after)) ⊎ Begins s start biasing k t d after
 
 -- from k these steps lead to l, with the answer a
 abbrev pub Runs : {A : Type 0} → Shape → ℕ → Todo A → Known → Known → A → Type 0
