@@ -3,14 +3,12 @@ use Rattle.core_locks.proofs.Prelude.{◌≡◌, ◌≢◌, ℕ, ◌+◌, ◌==�
 
 -- who has the lock still has it with one hold word more
 pub holder_more : (f : Lock) (c e : ℕ → ℕ) (t : ℕ) → holder f c ≡ Some t → e t ≢ 0 → holder f e ≡ Some t
-holder_more Open c e t h d = absurd (cc h)
 holder_more (BiasedTo z) c e t h d = cases (c z == 0) h
   where
     cases : (b : Bool) → cond b None (Some z) ≡ Some t → cond (e z == 0) None (Some z) ≡ Some t
     cases true g = absurd (cc g)
     cases false g = let s : z ≡ t = same_Some _ _ g in ap (λ (b : Bool). cond b None (Some z)) (ap (λ y. e y == 0) s ∙ ne_eqb (e t) 0 d) ∙ g
-holder_more (OnRecord z q) c e t h d = h
-holder_more (OwnedBy z) c e t h d = h
+holder_more _ c e t h d = h
 
 -- an object whose mark has the bias pattern, and of which t has the lock, leans on t
 pub biased_leans : (f : Option MarkForm) (prototype : ℕ) (owners : ℕ → ℕ) (j : Option Inflation) (c : ℕ → ℕ) (t : ℕ) → is_biased_form f ≡ true
@@ -29,13 +27,4 @@ biased_leans _ prototype owners j c t e h = absurd (cc e)
 
 -- the depths up to n, and the next
 pub next_one : (e n : ℕ) → one_if (nat_lt e n) + one_if (n + 1 == e + 1) ≡ one_if (nat_lt e (n + 1))
-next_one e n = cases (nat_lt e n) (n + 1 == e + 1) (nat_lt e (n + 1)) refl refl refl
-  where
-    cases : (a b c : Bool) → nat_lt e n ≡ a → (n + 1 == e + 1) ≡ b → nat_lt e (n + 1) ≡ c → one_if a + one_if b ≡ one_if c
-    cases true true c p q r = absurd (grind (arith, nat_tests, p, q))
-    cases true false true p q r = refl
-    cases true false false p q r = absurd (grind (arith, nat_tests, p, r))
-    cases false true true p q r = refl
-    cases false true false p q r = absurd (grind (arith, nat_tests, q, r))
-    cases false false true p q r = absurd (grind (arith, nat_tests, p, q, r))
-    cases false false false p q r = refl
+next_one e n = grind (arith, nat_tests)

@@ -141,18 +141,3 @@ module _ (w : World) (P Q : List PlainObject) (t : ℕ) (y : Logged) (l : Known)
         omega (arith, ap bound (same i), bound_grows (w.words (Stamp i)) (monitor_of P i).owner),
         λ e. omega (arith, ap bound (same i ∙ owned i e), ap (λ (k : Known). last_stamp k.log) (with_known_here t l w.known), last_next),
       ))
-
-  -- the lengths fit afterwards, where the thread runs, has room, and published no more than its new log
-  pub lengths_next : (word published : ℕ → ℕ) (requesting : ℕ → Bool) (halted : Bool) → length (w.known t).log < log_limit → (with_known t l w.known t).running ≡ true
-      → ((u : ℕ) → word u ≡ published u) → ((u : ℕ) → published u ≤ length (with_known t l w.known u).log)
-      → ((u : ℕ) → u ≢ t → (w.known u).running ≡ false → requesting u ≡ false → halted ≡ false → published u ≡ length (w.known u).log)
-      → LengthsFit word published (λ u. (with_known t l w.known u).log) (λ u. (with_known t l w.known u).running) requesting halted
-  lengths_next word published requesting halted room runs stored most all =
-      record {
-        few = λ u. each_with_known (λ u k. length k.log ≤ log_limit) t l w.known u (omega (arith, length_next, room)) (λ d. v.lengths.few u);
-        stored = stored;
-        most = most;
-        all = λ u r q h. by_equal u t
-            (λ e. let runs_here : (with_known t l w.known u).running ≡ true = ap (λ z. (with_known t l w.known z).running) e ∙ runs in absurd (cc (runs_here, r)))
-            (λ d. let same = with_known_else t l w.known u d in all u d (ap (λ (k : Known). k.running) (sym same) ∙ r) q h ∙ ap (λ (k : Known). length k.log) (sym same));
-      }

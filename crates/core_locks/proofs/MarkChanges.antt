@@ -1,7 +1,6 @@
 -- The mark of one object changes: what stays of marks, locks and headers, which clauses read of marks only what stays, and that the other
 -- threads don't count on the mark that was there.
 use Rattle.core_locks.proofs.Prelude.{◌≡◌, ◌≢◌, ◌⊎◌, ℕ, ◌+◌, ◌||◌, eq-eqb, ne_eqb, Bool, true, false, cond, List, [], Option, Some, None, refl, sym, ap, ◌∙◌, subst, inl, inr, read_mark, Logged, Mark, Stage, is_biased, monitor_in, Inflation, inflation_in, bears, revocation_in, Known, World, with_word_and_known, with_known, Lock, BiasedTo, OwnedBy, lock, lock_form, header, header_form, marks, displaced_words, headers, owner_words, prototype_of, inflations, IsValidBias, RecursionsFit, GoesByMonitor, WaitsFit, BiasedAreFree, InflationsAreOne, MonitorsAreClaimed, ClassesFit, Unfinished, MonitorsAreNamed, by_equal, stays_back, Back, Spares}
-use Rattle.core_world.specs.Clauses.Claims.{count_with_monitor}
 use Rattle.core_locks.proofs.OwnSeen.{either}
 use Rattle.core_locks.proofs.MarkMeanings.{each_set, IsBare, bare_unnamed, bare_unbiased}
 
@@ -10,47 +9,18 @@ module _ (f g : ℕ → ℕ) (same : (i : ℕ) → monitor_in (f i) ≡ monitor_
   back : (i a : ℕ) → monitor_in (g i) ≡ Some a → monitor_in (f i) ≡ Some a
   back i a e = same i ∙ e
 
-  forth : (i a : ℕ) → monitor_in (f i) ≡ Some a → monitor_in (g i) ≡ Some a
-  forth i a e = sym (same i) ∙ e
+  named : ◌≡◌ {A = ℕ → Option ℕ} (λ i. monitor_in (f i)) (λ i. monitor_in (g i))
+  named = λ j. λ i. same i j
 
   pub monitors_by_marks : (object header : ℕ → ℕ) → MonitorsAreNamed (λ i. monitor_in (f i)) object header → MonitorsAreNamed (λ i. monitor_in (g i)) object header
-  monitors_by_marks object header h = record {
-    own = λ i a e. h.own i a (back i a e);
-    neutral = λ i a e. h.neutral i a (back i a e);
-    alone = λ i j a e d. h.alone i j a (back i a e) (back j a d);
-  }
+  monitors_by_marks object header = subst (λ n. MonitorsAreNamed n object header) named
 
   pub claims_by_marks : (threads objects claim : ℕ) (kept : ℕ → Option ℕ) → MonitorsAreClaimed threads objects claim (λ i. monitor_in (f i)) kept → MonitorsAreClaimed threads objects claim (λ i. monitor_in (g i)) kept
-  claims_by_marks threads objects claim kept h =
-      let named : ◌≡◌ {A = ℕ → Option ℕ} (λ i. monitor_in (f i)) (λ i. monitor_in (g i)) = λ j. λ i. same i j in
-      record {
-        holder = h.holder;
-        named = λ i a e. h.named i a (back i a e);
-        once = h.once;
-        apart = λ t i a e d. h.apart t i a e (back i a d);
-        all = λ a e. elim (h.all a e) [ inl b ↦ inl b | inr b ↦ inr (b.0, forth b.0 a b.1) ];
-        counted = subst (λ (n : ℕ → Option ℕ). claim ≡ count_with_monitor threads kept + count_with_monitor objects n) named h.counted;
-      }
+  claims_by_marks threads objects claim kept = subst (λ n. MonitorsAreClaimed threads objects claim n kept) named
 
   pub waits_by_marks : (wait own : ℕ → ℕ) (log : ℕ → List Logged) (stage : ℕ → Stage) (operation : ℕ → Option Unfinished) (running : ℕ → Bool) (waits called : ℕ → List (ℕ × ℕ))
       → WaitsFit (λ i. monitor_in (f i)) wait own log stage operation running waits called → WaitsFit (λ i. monitor_in (g i)) wait own log stage operation running waits called
-  waits_by_marks wait own log stage operation running waits called h = record {
-    waiting = h.waiting;
-    waiter = h.waiter;
-    notified = h.notified;
-    told = h.told;
-    telling = h.telling;
-    resuming = h.resuming;
-    leaving = h.leaving;
-    unfinished = h.unfinished;
-    stored = h.stored;
-    entering = λ t i e. let a = h.entering t i e in (a.0, (a.1.0, forth i a.1.0 a.1.1));
-    done = h.done;
-    stopped = h.stopped;
-    stamped = h.stamped;
-    sorted = h.sorted;
-    inflated = λ i t e. let a = h.inflated i t e in (a.0, forth i a.0 a.1);
-  }
+  waits_by_marks wait own log stage operation running waits called = subst (λ n. WaitsFit n wait own log stage operation running waits called) named
 
   -- the locks may change too, but for those of inflated objects; and nobody comes to have one through a monitor
   pub recursions_by_marks : (recursions : ℕ → ℕ) (lock next : ℕ → Lock) (holds : ℕ → List ℕ) (stage : ℕ → Stage) (saved : ℕ → ℕ) (displaced : ℕ → ℕ → ℕ) (waits called : ℕ → List (ℕ × ℕ))

@@ -120,16 +120,7 @@ plain_by (Resumes o) e = absurd (cc e)
 plain_by (Waits o) e = absurd (cc e)
 plain_by (Notifies o n) e = absurd (cc e)
 plain_by (Revokes o rebias now) e = absurd (cc e)
-plain_by Calm e = record { calls = refl; its_revocation = refl; resumes = λ o c. cc c; waits = λ o c. cc c }
-plain_by (Seizes o p) e = record { calls = refl; its_revocation = refl; resumes = λ o c. cc c; waits = λ o c. cc c }
-plain_by (Grabs o) e = record { calls = refl; its_revocation = refl; resumes = λ o c. cc c; waits = λ o c. cc c }
-plain_by (Takes o) e = record { calls = refl; its_revocation = refl; resumes = λ o c. cc c; waits = λ o c. cc c }
-plain_by (Enters o p path) e = record { calls = refl; its_revocation = refl; resumes = λ o c. cc c; waits = λ o c. cc c }
-plain_by (Exits o p) e = record { calls = refl; its_revocation = refl; resumes = λ o c. cc c; waits = λ o c. cc c }
-plain_by (TakesOver o) e = record { calls = refl; its_revocation = refl; resumes = λ o c. cc c; waits = λ o c. cc c }
-plain_by (Ahead o) e = record { calls = refl; its_revocation = refl; resumes = λ o c. cc c; waits = λ o c. cc c }
-plain_by (Behind o) e = record { calls = refl; its_revocation = refl; resumes = λ o c. cc c; waits = λ o c. cc c }
-plain_by (Inflates o t p) e = record { calls = refl; its_revocation = refl; resumes = λ o c. cc c; waits = λ o c. cc c }
+plain_by _ e = record { calls = refl; its_revocation = refl; resumes = λ o c. cc c; waits = λ o c. cc c }
 
 -- a fact of a word and of what a thread knows, at the number that changed and at the others
 pub each_written : (Q : ℕ → ℕ → Known → Type 0) (t v : ℕ) (k : Known) (f : ℕ → ℕ) (g : ℕ → Known) (u : ℕ) → Q t v k → (u ≢ t → Q u (f u) (g u)) → Q u (cond (u == t) v (f u)) (with_known t k g u)

@@ -7,8 +7,8 @@ use Rattle.core_locks.proofs.Clauses.{turned_parts, seen, forms, quiet, waits, h
 use Rattle.core_locks.proofs.Steps.{turning, IsStep, next, seen_next, quiet_next, quiet_step, stage_back, waits_turn, holds_stand}
 use Rattle.core_locks.proofs.OwnSeen.{back_by, left_with, hit_world}
 use Rattle.core_locks.proofs.MonitorSeen.{stays_nearly, monitor_seen, others_by, uncounted_named}
-use Rattle.core_locks.proofs.LockTurns.{records_turn, owners_taken, owner_turned}
-use Rattle.core_locks.proofs.OwnerTurns.{owned_locks, lock_now, lock_back, lock_forth, again_zero}
+use Rattle.core_locks.proofs.LockTurns.{records_turn, owners_taken}
+use Rattle.core_locks.proofs.OwnerTurns.{owned_locks, lock_now, lock_back, lock_forth, again_zero, owner_turned}
 use Rattle.core_locks.proofs.SwapLaws.{swap_valid, found_by_mark}
 
 -- a thread that comes to bear o alone counts besides on the owner and the recursions of its monitor
