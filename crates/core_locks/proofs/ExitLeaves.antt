@@ -3,7 +3,7 @@
 use Rattle.core_locks.proofs.Prelude.{◌≡◌, ◌≢◌, ℕ, zero, suc, ◌+◌, ◌<◌, ◌≤◌, ◌^◌, ◌==◌, ◌&&◌, nat_lt, eq-eqb, Bool, true, false, List, [], ◌∷◌, Option, Some, None, refl, sym, ap, ◌∙◌, subst, arith, inl, inr, nat_tests, read_hold, Holds, Empty, HoldForm, read_hold-spells, PlainObject, Mark, Hold, Displaced, Stage, Calm, Behind, hold_word, is_deeper, monitor_in, deeper_form, inflation_in, recursions_ahead, recursions_behind, one_if, last_seen, World, OwnedBy, lock, marks, displaced_words, hold_count, depth_count, recursion_count, monitor_of, owner_at, count_where, Fits, same_number, SawInflated, SawOwn, MayLeave, ◌⊎◌, ne_eqb, by_equal, Lock, BiasedTo, is_biased}
 use Rattle.core_locks.specs.Knowing.{SawBiased}
 use Rattle.core_locks.specs.LockLaws.{HasRaised}
-use Rattle.core_locks.proofs.HoldClears.{and_false}
+use Rattle.std.proofs.Math.Bool.{and-false}
 use Rattle.core_locks.proofs.HoldCounts.{hold_in_form}
 use Rattle.core_locks.proofs.WaitOut.{ready_is_out, even_holder_owns}
 use Rattle.core_locks.proofs.HoldWays.{saw_thread_owns}
@@ -140,7 +140,7 @@ module _ (w : World) (P : List PlainObject) (t o d p : ℕ) (within : t < w.shap
   leaves_counted i has = elim may.before [
     | inl c ↦
         let word = own_displaced w P t p 0 v may.runs c.2 in
-        ap (λ n. one_if (((o == i) && nat_lt 1 d) && (n == 3))) word ∙ ap one_if (and_false ((o == i) && nat_lt 1 d)) ∙ sym (ap (λ s. recursions_behind s i) c.0)
+        ap (λ n. one_if (((o == i) && nat_lt 1 d) && (n == 3))) word ∙ ap one_if (and-false ((o == i) && nat_lt 1 d)) ∙ sym (ap (λ s. recursions_behind s i) c.0)
     | inr c ↦ elim c [
       | inl f ↦
           let word = behind_three f.1.0 f.1.1 f.0 f.1.2 f.1.3 f.1.4 f.1.5 in

@@ -1,5 +1,5 @@
 -- A thread clears its last hold word of an object after the step that logged its Exit.
-use Rattle.core_locks.proofs.Prelude.{◌≡◌, ◌≢◌, ◌⊎◌, ℕ, ◌+◌, ◌<◌, ◌^◌, ◌==◌, ◌&&◌, ◌||◌, eq-eqb, ne_eqb, Bool, true, false, List, slice_index, Some, refl, sym, ap, ◌∙◌, subst, arith, inl, inr, is_thread, PlainObject, Hold, Stage, Calm, Seizes, Grabs, Resumes, Exits, Waits, TakesOver, inflation_in, bears, hold_words_ahead, recursions_ahead, recursions_behind, one_if, with_word, Known, World, with_known, OnRecord, OwnedBy, lock, displaced_words, who, holder, hold_count, recursion_count, holds_by_monitor, monitor_of, owner_at, Stays, Purpose, store, world_after, known_hit, Fits, by_equal, each_with_known, with_known_here, header_stays, fits_running, MayClear, KeepsValid, clear_plan}
+use Rattle.core_locks.proofs.Prelude.{◌≡◌, ◌≢◌, ◌⊎◌, ℕ, ◌+◌, ◌<◌, ◌^◌, ◌==◌, ◌&&◌, ◌||◌, eq-eqb, ne_eqb, Bool, true, false, List, slice_index, Some, refl, sym, ap, ◌∙◌, subst, arith, inl, inr, is_thread, PlainObject, Hold, Stage, Calm, Seizes, Grabs, Resumes, Exits, Waits, TakesOver, inflation_in, bears, hold_words_ahead, recursions_ahead, recursions_behind, one_if, with_word, Known, World, with_known, OnRecord, OwnedBy, lock, displaced_words, who, holder, hold_count, recursion_count, holds_by_monitor, monitor_of, owner_at, Stays, Purpose, store, world_after, known_hit, Fits, by_equal, each_with_known, with_known_here, header_stays, fits_running, MayClear, KeepsValid, clear_plan, with_known_else, IsHold, hold_zero, BiasedTo, hold_word}
 use Rattle.std.proofs.Math.Bool.{and-false}
 use Rattle.std.proofs.lemmas.List.{length-set}
 use Rattle.core_locks.proofs.HoldCounts.{hold_in_form}

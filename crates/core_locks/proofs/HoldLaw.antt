@@ -1,11 +1,12 @@
 -- A thread stores a new hold word of an object in an empty place.
-use Rattle.core_locks.proofs.Prelude.{◌≡◌, ◌≢◌, ◌⊎◌, ℕ, ◌+◌, ◌<◌, ◌≤◌, ◌==◌, ◌&&◌, ◌||◌, nat_lt, eq-eqb, ne_eqb, Bool, true, false, List, slice_index, slice_set, Some, None, refl, sym, ap, ◌∙◌, arith, inl, inr, or-true, nat_tests, is_thread, is_listed, PlainObject, Path, Hold, StepPlan, Calm, Seizes, Grabs, Enters, Resumes, Exits, Waits, Ahead, hold_word, is_biased, is_neutral, hash_in, inflation_in, bears, hold_words_ahead, recursions_ahead, recursions_behind, one_if, with_word, Known, World, with_known, BiasedTo, OnRecord, OwnedBy, lock, marks, displaced_words, owner_words, prototype_of, inflations, who, holder, hold_count, recursion_count, owner_at, hash_at, waits_at, notified_at, Stays, GoesByMonitor, Purpose, world_after, known_hit, Fits, by_equal, each_with_known, header_stays, thread_is, fits_running, KeepsValid, MayHold, hold_plan, Option, MarkForm, Anonymous, Biased, Takes, cond, subst, with_known_here, monitor_in, monitor_form, is_biased_form}
+use Rattle.core_locks.proofs.Prelude.{◌≡◌, ◌≢◌, ◌⊎◌, ℕ, ◌+◌, ◌<◌, ◌≤◌, ◌==◌, ◌&&◌, ◌||◌, nat_lt, eq-eqb, ne_eqb, Bool, true, false, List, slice_index, slice_set, Some, None, refl, sym, ap, ◌∙◌, arith, inl, inr, or-true, nat_tests, is_thread, is_listed, PlainObject, Path, Hold, StepPlan, Calm, Seizes, Grabs, Enters, Resumes, Exits, Waits, Ahead, hold_word, is_biased, is_neutral, hash_in, inflation_in, bears, hold_words_ahead, recursions_ahead, recursions_behind, one_if, with_word, Known, World, with_known, BiasedTo, OnRecord, OwnedBy, lock, marks, displaced_words, owner_words, prototype_of, inflations, who, holder, hold_count, recursion_count, owner_at, hash_at, waits_at, notified_at, Stays, GoesByMonitor, Purpose, world_after, known_hit, Fits, by_equal, each_with_known, header_stays, thread_is, fits_running, KeepsValid, MayHold, hold_plan, Option, MarkForm, Anonymous, Biased, Takes, cond, subst, with_known_here, monitor_in, monitor_form, is_biased_form, IsHold, read_hold, read_hold-hold_of, Holds}
 use Rattle.mark_word.specs.Mark.{read_mark}
 use Rattle.core_locks.proofs.WaitOut.{out_unwaiting, out_uncalled}
-use Rattle.core_locks.proofs.HoldCounts.{index_set, again_put, length_set}
-use Rattle.core_locks.proofs.HoldClears.{and_false}
+use Rattle.std.proofs.lemmas.List.{get_or-set_same, length-set}
+use Rattle.std.proofs.Math.Bool.{and-false}
+use Rattle.core_locks.proofs.HoldCounts.{again_put}
 use Rattle.core_locks.proofs.HoldPuts.{biased_leans}
-use Rattle.core_locks.proofs.HoldSets.{IsPut, hold_back, hold_forth, named_new, times_new, word_new, word_form, word_else, holder_told}
+use Rattle.core_locks.proofs.HoldSets.{IsPut, hold_back, hold_forth, named_new, times_new, word_own, word_held, word_else, holder_told}
 use Rattle.core_locks.proofs.HoldWays.{Way, BySeizing, ByHolding, Leaned, ByGrabbing, ByRaising, ByLeaning, at_stage, way_bears, way_of}
 use Rattle.core_locks.proofs.Clauses.{kept_parts, parts_stand, seen, forms, holds, owners, biases, records, recursions, hashes, AllHold}
 use Rattle.core_locks.proofs.Steps.{holding, IsPlain, plain_by, IsStep, next, step_fits, seen_next, plain_step, stage_back, calls_stay, inflates_stay}
@@ -65,12 +66,12 @@ module _ (w : World) (P : List PlainObject) (t : ℕ) (e : Purpose) (o d p : ℕ
   counted_before : (i : ℕ) → lock w i ≡ OwnedBy t → Way w P t o p → one_if (((o == i) && nat_lt 1 d) && (displaced_words w t p == 3)) ≡ recursions_ahead (w.known t).stage i
   counted_before i g (BySeizing a) =
       let shallow : nat_lt 1 d ≡ false = (let n = first_depth a.none in grind (arith, nat_tests)) in
-      ap (λ (b : Bool). one_if (((o == i) && b) && (displaced_words w t p == 3))) shallow ∙ ap (λ (b : Bool). one_if (b && (displaced_words w t p == 3))) (and_false (o == i)) ∙ sym (ap (λ s. recursions_ahead s i) a.stage)
+      ap (λ (b : Bool). one_if (((o == i) && b) && (displaced_words w t p == 3))) shallow ∙ ap (λ (b : Bool). one_if (b && (displaced_words w t p == 3))) (and-false (o == i)) ∙ sym (ap (λ s. recursions_ahead s i) a.stage)
   counted_before i g (ByHolding a) =
-      ap (λ n. one_if (((o == i) && nat_lt 1 d) && (n == 3))) a.zero ∙ ap one_if (and_false ((o == i) && nat_lt 1 d)) ∙ sym (ap (λ s. recursions_ahead s i) a.stage)
+      ap (λ n. one_if (((o == i) && nat_lt 1 d) && (n == 3))) a.zero ∙ ap one_if (and-false ((o == i) && nat_lt 1 d)) ∙ sym (ap (λ s. recursions_ahead s i) a.stage)
   counted_before i g (ByGrabbing a) =
       let shallow : nat_lt 1 d ≡ false = (let n = first_depth a.none in grind (arith, nat_tests)) in
-      ap (λ (b : Bool). one_if (((o == i) && b) && (displaced_words w t p == 3))) shallow ∙ ap (λ (b : Bool). one_if (b && (displaced_words w t p == 3))) (and_false (o == i)) ∙ sym (ap (λ s. recursions_ahead s i) a.stage)
+      ap (λ (b : Bool). one_if (((o == i) && b) && (displaced_words w t p == 3))) shallow ∙ ap (λ (b : Bool). one_if (b && (displaced_words w t p == 3))) (and-false (o == i)) ∙ sym (ap (λ s. recursions_ahead s i) a.stage)
   counted_before i g (ByLeaning a) =
       by_equal o i
       (λ s. let same : BiasedTo t ≡ OwnedBy t = sym a.leans ∙ ap (lock w) s ∙ g in absurd (cc same))
@@ -148,7 +149,7 @@ module _ (w : World) (P : List PlainObject) (t : ℕ) (e : Purpose) (o d p : ℕ
       let same : Seizes i q ≡ Seizes o p = sym h ∙ a.stage in
       let object : i ≡ o = cc same in
       let place : q ≡ p = cc same in
-      ap (slice_index new) place ∙ index_set old p (hold_word o d) put.within ∙ (λ j. hold_word (sym object j) (first_depth a.none j))
+      ap (slice_index new) place ∙ get_or-set_same old p (hold_word o d) 0 put.within ∙ (λ j. hold_word (sym object j) (first_depth a.none j))
   seized_first i q h (ByHolding a) = absurd (cc (h, a.stage))
   seized_first i q h (ByGrabbing a) = absurd (cc (h, a.stage))
   seized_first i q h (ByRaising a) = absurd (cc (h, a.stage))
@@ -219,6 +220,9 @@ module _ (w : World) (P : List PlainObject) (t : ℕ) (e : Purpose) (o d p : ℕ
       biased_unnamed (Some (Biased thread epoch age)) e = refl
       biased_unnamed _ e = absurd (cc e)
 
+  word_form : IsHold w.shape (read_hold (hold_word o d))
+  word_form = subst (IsHold w.shape) (sym (read_hold-hold_of (Holds o d) (put.few, put.some, put.small))) may.object
+
   uncounted : (u s : ℕ) → u ≢ t → Stays w (w.known u) (owner_at P) u (Hold t p) s → w.words (Hold t p) ≡ s → ⊥
   uncounted u s d stays is = elim stays [ inl a ↦ d (sym a.1) | inr a ↦ a.2 ]
 
@@ -230,10 +234,10 @@ module _ (w : World) (P : List PlainObject) (t : ℕ) (e : Purpose) (o d p : ℕ
 
   all_after : AllHold (kept_parts w x P)
   all_after seen = seen_next step x.words P (own_seen w P t plan (search (may.runs, inflates, held, uncounted)) v)
-  all_after forms = search (word_form old o d p put w.words t w.shape may.object v.forms.holds, v.forms)
-  all_after holds = holds_told t l w.known hold_words_ahead (λ u q. word_else w.words t p (hold_word o d) u q) (record {
-    stored = word_new old o d p put w.words t (v.holds.stored t);
-    places = length_set old p (hold_word o d) ∙ v.holds.places t;
+  all_after forms = search (word_held w.words t p (hold_word o d) w.shape word_form v.forms.holds, v.forms)
+  all_after holds = holds_told t l w.known hold_words_ahead (word_else w.words t p (hold_word o d)) (λ u i d. refl) (record {
+    stored = word_own w.words t p (hold_word o d) old put.within (v.holds.stored t);
+    places = length-set old p (hold_word o d) ∙ v.holds.places t;
     number = λ i. let before = at_stage (λ s. hold_words_ahead s i ≡ 0) w P t o p way refl refl refl refl refl in omega (arith, named_new old o d p put i, v.holds.number t i, before);
     each = times_new old o d p put may.depth (v.holds.each t);
   }) v.holds

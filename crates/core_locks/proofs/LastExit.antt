@@ -2,19 +2,14 @@
 use Rattle.core_locks.proofs.Prelude.{◌≡◌, ◌≢◌, ◌⊎◌, ℕ, ◌+◌, ◌<◌, ◌≤◌, ◌||◌, eq-eqb, ne_eqb, Bool, true, false, cond, List, [], ◌∷◌, ◌++◌, length, Some, None, refl, sym, ap, ◌∙◌, subst, arith, inl, inr, nat_le, nat_tests, same_Some, PlainMonitor, is_thread, owns, exit, PlainObject, take_entry, Logged, Exit, Stamp, Hold, Waiting, Recursions, Calm, Resumes, Exits, Waits, TakesOver, monitor_in, bears, hold_words_ahead, recursions_ahead, recursions_behind, notification_in, revocation_in, one_if, Known, last_seen, local_of, World, with_known, logs_from, Lock, Open, OnRecord, OwnedBy, lock, marks, displaced_words, who, holder, hold_count, recursion_count, holds_by_monitor, monitor_of, owner_at, hash_at, waits_at, notified_at, HoldsFitLogs, RecordsRest, RecursionsFit, GoesByMonitor, next_stamp, Fits, WaitsFit, StoppedAreQuiet, bound_stamp, StampsFit, LocksArePlain, log_limit, DrawsFit, Shape, by_equal, each_with_known, thread_is, unlisted_count, IsOwnEntry}
 use Rattle.core_locks.proofs.Logging.{IsLogging, bound_grows, stamps_next}
 use Rattle.core_locks.proofs.Updates.{monitor_here, monitor_else}
-use Rattle.core_locks.proofs.WaitOut.{holder_owns, out_unlisted, ready_is_out}
-use Rattle.core_locks.proofs.ExitEntries.{exit_entry, object_with, objects_where, exit_taken, exit_logging}
+use Rattle.core_locks.proofs.WaitOut.{no_other, holder_owns, out_unlisted, ready_is_out}
+use Rattle.core_locks.proofs.ExitEntries.{exit_entry, object_with, objects_where, exit_taken, exit_logging, owner_here, owner_else, owner_before, owner_fails}
 use Rattle.core_locks.proofs.Clauses.{Clause, quiet, holds, owners, records, waits, stamps}
 use Rattle.core_locks.proofs.Drawing.{draws_still}
 use Rattle.core_locks.proofs.LockTurns.{records_turn}
 use Rattle.core_locks.proofs.LoggedSteps.{Grown, logged_step}
 use Rattle.core_locks.proofs.Steps.{stage_part, Fields, IsStep, IsPlain, plain_by, quiet_next, stage_back, waits_move}
 use Rattle.core_locks.proofs.Tells.{waits_logged}
-
--- a test that holds with neither, holds with none
-pub none_or : (a b : Bool) → false ≡ (a || b) → (a ≡ false) × (b ≡ false)
-none_or true b e = absurd (cc e)
-none_or false b e = (refl, sym e)
 
 -- the plain monitor has no owner
 abbrev pub freed : List PlainObject → ℕ → PlainMonitor
@@ -96,17 +91,12 @@ module _ {w : World} {t : ℕ} {l : Known} {fields : Fields} (step : IsStep w t 
   unresumed : (i : ℕ) → (w.known t).stage ≡ Resumes i → ⊥
   unresumed i e = cc (sym may.calm ∙ e)
 
-  owner_here : (u : ℕ) → owner_at Q o u ≡ false
-  owner_here u = ap (λ a. owns a u) (monitor_here P o z inside)
-
-  owner_else : (i u : ℕ) → i ≢ o → owner_at Q i u ≡ owner_at P i u
-  owner_else i u d = ap (λ a. owns a u) (monitor_else P o i z d)
+  -- its owner goes, and each other object has the owner that it had
+  none_owns : (u : ℕ) → is_thread (freed P o).owner u ≡ true → owner_at P o u ≡ true
+  none_owns u f = absurd (cc f)
 
   pub owner_back : (i u : ℕ) → owner_at Q i u ≡ true → (i ≢ o) × (owner_at P i u ≡ true)
-  owner_back i u f = by_equal i o (λ q. absurd (cc (owner_here u, ap (λ j. owner_at Q j u) (sym q) ∙ f))) (λ d. (d, sym (owner_else i u d) ∙ f))
-
-  owner_fails : (i u : ℕ) → owner_at P i u ≡ false → owner_at Q i u ≡ false
-  owner_fails i u f = by_equal i o (λ q. ap (λ j. owner_at Q j u) q ∙ owner_here u) (λ d. owner_else i u d ∙ f)
+  owner_back i u f = by_equal i o (λ q. absurd (cc (owner_here P o (freed P o) inside none_owns u, ap (λ j. owner_at Q j u) (sym q) ∙ f))) (λ d. (d, owner_before P o (freed P o) inside none_owns i u f))
 
   pub stamp_word : w.words (Stamp o) ≡ s
   stamp_word = v.seen.stays t (Stamp o) s may.stamped (inl (may.runs, owned.0))
@@ -117,7 +107,7 @@ module _ {w : World} {t : ℕ} {l : Known} {fields : Fields} (step : IsStep w t 
   -- THE LOCK was the thread's, so nobody else owns the object or bears it
   module _ (holder_is : who w o ≡ Some t) where
     none_else : (u : ℕ) → u ≢ t → (owner_at P o u ≡ false) × (bears (w.known u).stage o ≡ false)
-    none_else u d = none_or (owner_at P o u) (bears (w.known u).stage o) (sym (ap (λ a. is_thread a u) holder_is ∙ ne_eqb t u (λ q. d (sym q))) ∙ v.owners.same o u)
+    none_else u d = no_other w P o u v (ap (λ a. is_thread a u) holder_is ∙ ne_eqb t u (λ q. d (sym q)))
 
     -- the thread stands at the object no more, and has one hold word besides those of its log
     stands_here : holds_by_monitor (freed P o) t ≡ 0
@@ -201,18 +191,18 @@ module _ {w : World} {t : ℕ} {l : Known} {fields : Fields} (step : IsStep w t 
       last_step owners = record {
         same = λ i u. elim (now i) [
           | inl b ↦
-              let none : (owner_at Q i u || bears (with_known t l w.known u).stage i) ≡ false = ap (λ j. owner_at Q j u || bears (with_known t l w.known u).stage j) b.0 ∙ (λ j. owner_here u j || bears_none u j) in
+              let none : (owner_at Q i u || bears (with_known t l w.known u).stage i) ≡ false = ap (λ j. owner_at Q j u || bears (with_known t l w.known u).stage j) b.0 ∙ (λ j. owner_here P o (freed P o) inside none_owns u j || bears_none u j) in
               ap (λ f. is_thread (holder f (λ k. hold_count i (w.known k).holds)) u) b.1 ∙ sym none
-          | inr b ↦ ap (λ f. is_thread (holder f (λ k. hold_count i (w.known k).holds)) u) b.1 ∙ v.owners.same i u ∙ (λ j. sym (owner_else i u b.0) j || sym (stage_part step (λ f. bears f i) (ap (λ f. bears f i) a.stage ∙ sym (ap (λ f. bears f i) may.calm)) u) j)
+          | inr b ↦ ap (λ f. is_thread (holder f (λ k. hold_count i (w.known k).holds)) u) b.1 ∙ v.owners.same i u ∙ (λ j. sym (owner_else P o (freed P o) inside none_owns i u b.0) j || sym (stage_part step (λ f. bears f i) (ap (λ f. bears f i) a.stage ∙ sym (ap (λ f. bears f i) may.calm)) u) j)
         ];
-        let_go = λ i u f. owner_fails i u (v.owners.let_go i u (stage_back step (Waits i) u (λ g. cc (sym a.stage ∙ g)) f).1);
+        let_go = λ i u f. owner_fails P o (freed P o) inside none_owns i u (v.owners.let_go i u (stage_back step (Waits i) u (λ g. cc (sym a.stage ∙ g)) f).1);
         left = λ i u q f. each_with_known (λ u k. k.stage ≡ Exits i q → owner_at Q i u ≡ false) t l w.known u
-            (λ g. let both : Exits o p ≡ Exits i q = sym a.stage ∙ g in let here : o ≡ i = cc both in ap (λ j. owner_at Q j t) (sym here) ∙ owner_here t) (λ n g. owner_fails i u (v.owners.left i u q g)) f;
+            (λ g. let both : Exits o p ≡ Exits i q = sym a.stage ∙ g in let here : o ≡ i = cc both in ap (λ j. owner_at Q j t) (sym here) ∙ owner_here P o (freed P o) inside none_owns t) (λ n g. owner_fails P o (freed P o) inside none_owns i u (v.owners.left i u q g)) f;
         calls = λ i u. each_with_known (λ u k. notification_in k.stage ≡ Some i → owner_at Q i u ≡ true) t l w.known u
             (λ g. let none = ap notification_in a.stage in absurd (cc (none, g)))
             (λ n g.
             let b = v.owners.calls i u g in
-            by_equal i o (λ q. let other = none_else u n in absurd (cc (other.0, ap (λ j. owner_at P j u) (sym q) ∙ b))) (λ d. owner_else i u d ∙ b));
+            by_equal i o (λ q. let other = none_else u n in absurd (cc (other.0, ap (λ j. owner_at P j u) (sym q) ∙ b))) (λ d. owner_else P o (freed P o) inside none_owns i u d ∙ b));
       }
       last_step records = records_turn step v locks o Open now (λ u q c. cc c) (λ u h. same_Some _ _ (sym h ∙ holder_is)) (λ i q c. cc (sym may.calm ∙ c)) (λ i q c. cc (sym a.stage ∙ c)) (λ i c. absurd (cc (sym a.stage ∙ c)))
       last_step waits = waits_move step (subst IsPlain (sym may.calm) (plain_by Calm refl)) (subst IsPlain (sym a.stage) (plain_by (Exits o p) refl)) (waits_logged w P t l v may.runs may.ready unresumed)

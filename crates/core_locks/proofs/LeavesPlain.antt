@@ -3,7 +3,7 @@ use Rattle.core_locks.proofs.Prelude.{◌≡◌, ◌≢◌, ◌⊎◌, ℕ, ◌+
 use Rattle.plain_monitor.specs.declared.entry.Entry.TheVariants as entry
 use Rattle.core_locks.proofs.Logging.{IsLogging}
 use Rattle.core_locks.proofs.Updates.{takes, monitor_here, monitor_else}
-use Rattle.core_locks.proofs.WaitOut.{out_unlisted}
+use Rattle.core_locks.proofs.WaitOut.{no_other, out_unlisted}
 use Rattle.core_locks.proofs.LeavesLists.{listed_forth, listed_last, listed_back, count_last, count_else}
 use Rattle.core_locks.proofs.LeavesStates.{IsLeaving}
 
@@ -21,10 +21,6 @@ left_objects P o t = slice_set P o (left_object (object_of P o) t)
 -- the entry as it is logged
 abbrev pub wait_entry : Known → ℕ → Logged
 wait_entry k o = record { stamp = last_stamp k.log + 1; entry = entry.Wait o }
-
-neither : (a b : Bool) → (a || b) ≡ false → (a ≡ false) × (b ≡ false)
-neither true b h = absurd (cc h)
-neither false b h = (refl, h)
 
 module _ {w : World} {P : List PlainObject} {o m t : ℕ} (v : Fits w P) (s : IsLeaving w P o m t) where
   pub owner_before : (monitor_of P o).owner ≡ Some t
@@ -86,7 +82,7 @@ module _ {w : World} {P : List PlainObject} {o m t : ℕ} (v : Fits w P) (s : Is
 
   -- no other thread owns o or is taking it
   pub others_out : (u : ℕ) → u ≢ t → (owner_at P o u ≡ false) × (bears (w.known u).stage o ≡ false)
-  others_out u d = neither (owner_at P o u) (bears (w.known u).stage o) (sym (v.owners.same o u) ∙ ap (λ a. is_thread a u) holder_is ∙ ne_eqb t u (λ e. d (sym e)))
+  others_out u d = no_other w P o u v (ap (λ a. is_thread a u) holder_is ∙ ne_eqb t u (λ e. d (sym e)))
 
   -- nobody's number of plain holds changes: the thread's count goes from the owner's to that of one who waits
   pub stands_next : (i u : ℕ) → ((i ≡ o) × (u ≡ t) × (holds_by_monitor (monitor_of (left_objects P o t) i) u ≡ (monitor_of P o).count)) ⊎ (holds_by_monitor (monitor_of (left_objects P o t) i) u ≡ holds_by_monitor (monitor_of P i) u)

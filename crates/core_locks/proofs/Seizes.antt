@@ -3,16 +3,12 @@ use Rattle.core_locks.proofs.Prelude.{◌≡◌, ◌≢◌, ◌⊎◌, ℕ, zero
 use Rattle.core_locks.proofs.MarkMeanings.{forms_marked, IsBare, bare_unnamed, neutral_bare, neutral_some, neutral_lock, neutral_header, locked_read, locked_bare, locked_some, locked_lock, locked_header}
 use Rattle.core_locks.proofs.MarkChanges.{names_same, bias_back, bias_forth, bias_before, zero_back, zero_forth, lock_at, header_same, mark_back, mark_spares, recursions_by_marks, biases_by_marks, classes_by_marks, inflating_by_marks}
 use Rattle.core_locks.proofs.LockTurns.{owners_taken}
+use Rattle.core_locks.proofs.WaitOut.{no_other}
 use Rattle.core_locks.proofs.MarkHolds.{standing_names}
 use Rattle.core_locks.proofs.Clauses.{turned_parts, parts_turn, seen, forms, holds, owners, biases, records, inflating, recursions, hashes, classes, AllHold}
 use Rattle.core_locks.proofs.Steps.{IsAside, calm_aside, recursions_stand, stage_back, stage_forth, holds_stand, none_reached, turning, IsPlain, plain_by, IsStep, next, next_is, step_fits, seen_next, plain_step, inflates_stay}
 
 -- the exchange
-
--- nobody has or takes a lock that is nobody's
-pub neither : (a b : Bool) → false ≡ (a || b) → (a ≡ false) × (b ≡ false)
-neither true b e = absurd (cc e)
-neither false b e = (refl, sym e)
 
 pub same_place : (a b c d : ℕ) → OnRecord a b ≡ OnRecord c d → (a ≡ c) × (b ≡ d)
 same_place a b c d e = (cc e, cc e)
@@ -111,7 +107,7 @@ module _ (w : World) (P : List PlainObject) (t : ℕ) (e : Purpose) (o mark p : 
       (locked_header m t p (displaced_words w) (headers w) (inflations w o) spelled ∙ ap Some stored ∙ sym (neutral_header (marks w o) (displaced_words w) (headers w) (inflations w o) was_neutral))
 
   nobody : (u : ℕ) → (owner_at P o u ≡ false) × (bears (w.known u).stage o ≡ false)
-  nobody u = neither (owner_at P o u) (bears (w.known u).stage o) (ap (λ f. is_thread (holder f (λ z. hold_count o (w.known z).holds)) u) (sym was_open) ∙ v.owners.same o u)
+  nobody u = no_other w P o u v (ap (λ f. is_thread (holder f (λ z. hold_count o (w.known z).holds)) u) was_open)
 
   -- WHAT WAS SEEN
   spares : Spares (Mark o) m t l w (owner_at P) (owner_at P) (waits_at P) (waits_at P)

@@ -1,10 +1,19 @@
 -- A thread whose waiting word says neither that it waits nor that it was notified stands at no object's lists, so who holds an object owns it.
-use Rattle.core_locks.proofs.Prelude.{◌≡◌, ℕ, ◌≤◌, Bool, true, false, cond, List, refl, ap, ◌∙◌, arith, inl, inr, is_listed, PlainObject, Waiting, Calm, Resumes, waits_on, says_notified, hold_words_ahead, Known, World, hold_count, holds_by_monitor, monitor_of, owner_at, waits_at, notified_at, Fits, no_wait, no_told, unlisted_count, IsOut}
+use Rattle.core_locks.proofs.Prelude.{◌≡◌, ℕ, ◌≤◌, Bool, true, false, cond, List, refl, ap, ◌∙◌, arith, inl, inr, is_listed, PlainObject, Waiting, Calm, Resumes, waits_on, says_notified, hold_words_ahead, Known, World, hold_count, holds_by_monitor, monitor_of, owner_at, waits_at, notified_at, Fits, no_wait, no_told, unlisted_count, IsOut, is_thread, who, bears, sym, ◌||◌}
 
 -- a test that can't hold fails
 pub fails : (b : Bool) → (b ≡ true → ⊥) → b ≡ false
 fails true h = absurd (h refl)
 fails false h = refl
+
+-- a test that holds with neither, holds with none
+pub neither : (a b : Bool) → false ≡ (a || b) → (a ≡ false) × (b ≡ false)
+neither true b e = absurd (cc e)
+neither false b e = (refl, sym e)
+
+-- who hasn't the lock of an object doesn't own it, nor bear it
+pub no_other : (w : World) (P : List PlainObject) (o u : ℕ) → Fits w P → is_thread (who w o) u ≡ false → (owner_at P o u ≡ false) × (bears (w.known u).stage o ≡ false)
+no_other w P o u v h = neither (owner_at P o u) (bears (w.known u).stage o) (sym h ∙ v.owners.same o u)
 
 -- a thread whose waiting word says that it is ready is out
 pub ready_is_out : (k : Known) → k.wait ≡ 0 → IsOut k
