@@ -1,25 +1,7 @@
 -- How many hold words pass a test where one is stored in an empty place, and where one is cleared.
 use Rattle.core_locks.proofs.Prelude.{◌≡◌, ◌≢◌, ℕ, zero, suc, ◌+◌, ◌<◌, ◌≤◌, ◌^◌, ◌==◌, ◌&&◌, nat_lt, eq-eqb, ne_eqb, Bool, true, false, List, [], ◌∷◌, length, slice_index, slice_set, Option, Some, None, refl, sym, ap, ◌∙◌, subst, arith, add-zero, zero-add, nat_tests, read_hold, Holds, Empty, HoldForm, read_hold-spells, read_hold-hold_of, hold_word, is_deeper, names, deeper_form, names_form, one_if, hold_count, depth_count, recursion_count, count_where, Shape, IsHold, hold_some, deeper_none, names_none}
 
--- LISTS OF WORDS. What a place has after a store, and how the number of those that pass a test changes.
-pub length_set : (hs : List ℕ) (p x : ℕ) → length (slice_set hs p x) ≡ length hs
-length_set [] p x = refl
-length_set (y ∷ hs) zero x = refl
-length_set (y ∷ hs) (suc p) x = ap suc (length_set hs p x)
-
-pub index_set : (hs : List ℕ) (p x : ℕ) → p < length hs → slice_index (slice_set hs p x) p ≡ x
-index_set [] p x h = absurd (omega arith)
-index_set (y ∷ hs) zero x h = refl
-index_set (y ∷ hs) (suc p) x h = index_set hs p x (omega arith)
-
-pub index_set_other : (hs : List ℕ) (p q x : ℕ) → q ≢ p → slice_index (slice_set hs p x) q ≡ slice_index hs q
-index_set_other [] p q x d = refl
-index_set_other (y ∷ hs) zero zero x d = absurd (d refl)
-index_set_other (y ∷ hs) zero (suc q) x d = refl
-index_set_other (y ∷ hs) (suc p) zero x d = refl
-index_set_other (y ∷ hs) (suc p) (suc q) x d = index_set_other hs p q x (λ e. d (ap suc e))
-
--- past the end stands nothing
+-- LISTS OF WORDS. Where a word stands, and how the number of those that pass a test changes.
 pub index_past : (hs : List ℕ) (p : ℕ) → slice_index hs p ≢ 0 → p < length hs
 index_past [] p h = absurd (h refl)
 index_past (y ∷ hs) zero h = omega arith

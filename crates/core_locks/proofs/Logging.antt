@@ -1,5 +1,6 @@
 -- What follows where a thread logs an entry that the plain objects take: the logs, their order, the stamps and the lengths.
 use Rattle.core_locks.proofs.Prelude.{◌≡◌, ◌≢◌, ℕ, zero, suc, ◌+◌, ◌<◌, ◌≤◌, ◌||◌, Bool, true, false, List, [], ◌∷◌, ◌++◌, length, slice_set, Option, Some, None, refl, sym, ap, ◌∙◌, subst, arith, slice_get, option_and_then, option_map, AllByRecursion, PlainObject, take_entry, take_at, take_named, Logged, last_stamp, objects_after, LegalObjects, log_of, appended, Entry, order, all_weaker, order_appended, last_more, bound_to, IsBounded, Stamp, Known, World, with_known, logs, logs_from, monitor_of, is_taking, Fits, last_entry, ends, is_ending, bound_stamp, StampsFit, entries, LengthsFit, log_limit, by_equal, each_with_known, with_known_here, with_known_else, logs_length, log_at, logs_grow, IsOwnEntry}
+use Rattle.std.proofs.lemmas.List.{length-append, length-set}
 use Rattle.plain_monitor.specs.Objects.{named}
 use Rattle.plain_monitor.proofs.Orders.{all_insert}
 use Rattle.plain_history.specs.Appending.{MayAppend}
@@ -13,8 +14,7 @@ ends_more [] l e = ap (λ b. b || false) e
 ends_more (m ∷ log) l e = ap (λ b. is_ending m.entry || b) (ends_more log l e)
 
 pub length_more : (log : List Logged) (l : Logged) → length (log ++ l ∷ []) ≡ length log + 1
-length_more [] l = refl
-length_more (m ∷ log) l = let a = length_more log l in omega (arith, a)
+length_more log l = length-append log (l ∷ [])
 
 pub last_entry_more : (log : List Logged) (l : Logged) → last_entry (log ++ l ∷ []) ≡ Some l
 last_entry_more [] l = refl
@@ -26,18 +26,13 @@ entries_more [] t l h = absurd (omega arith)
 entries_more (log ∷ all) zero l h = let a = length_more log l in omega (arith, a)
 entries_more (log ∷ all) (suc t) l h = let a = entries_more all t l (omega arith) in omega (arith, a)
 
-set_length : (P : List PlainObject) (o : ℕ) (y : PlainObject) → length (slice_set P o y) ≡ length P
-set_length [] o y = refl
-set_length (z ∷ P) zero y = refl
-set_length (z ∷ P) (suc o) y = ap suc (set_length P o y)
-
 -- as many objects take an entry as there are afterwards
 pub taken_length : (P Q : List PlainObject) (t : ℕ) (e : Entry) → take_entry P t e ≡ Some Q → length Q ≡ length P
 taken_length P Q t e h = by_name (named e) h
   where
     by_object : (o : ℕ) (a : Option PlainObject) → option_map (λ y. slice_set P o y) a ≡ Some Q → length Q ≡ length P
     by_object o None g = absurd (cc g)
-    by_object o (Some y) g = let same : slice_set P o y ≡ Q = cc g in ap (λ R. length R) (sym same) ∙ set_length P o y
+    by_object o (Some y) g = let same : slice_set P o y ≡ Q = cc g in ap (λ R. length R) (sym same) ∙ length-set P o y
 
     by_get : (o : ℕ) (a : Option PlainObject) → option_and_then (λ x. option_map (λ y. slice_set P o y) (take_at x t e)) a ≡ Some Q → length Q ≡ length P
     by_get o None g = absurd (cc g)

@@ -103,6 +103,5 @@ module _ (f : SafeForm) (t : ℕ) (range : IsSafeInRange f) (within : t < 32) wh
     where
       word_small : (r : Option ℕ) (h : Bool) → IfSome r (λ thread. thread < 32) → f.running + requester_of r * 2 ^ 32 + halt_of h * 2 ^ 40 < 2 ^ 64
       word_small None true k = omega (arith, range.0)
-      word_small None false k = omega (arith, range.0)
       word_small (Some u) true k = omega (arith, range.0)
-      word_small (Some u) false k = omega (arith, range.0)
+      word_small _ _ k = omega (arith, range.0)

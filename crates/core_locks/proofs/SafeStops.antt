@@ -12,12 +12,8 @@ waits_unended : (n o : ℕ) → waits_on n o ≡ true → says_ended n ≡ true 
 waits_unended n o waits ended = by_form (read_wait n) waits ended
   where
     by_form : (a : Option WaitForm) → waits_form a o ≡ true → ended_form a ≡ true → ⊥
-    by_form None x y = absurd (cc x)
-    by_form (Some wait.Ready) x y = absurd (cc x)
-    by_form (Some (wait.Entering i)) x y = absurd (cc x)
     by_form (Some (wait.Waiting i s)) x y = absurd (cc y)
-    by_form (Some (wait.Notified i)) x y = absurd (cc x)
-    by_form (Some wait.Ended) x y = absurd (cc x)
+    by_form _ x y = absurd (cc x)
 
 -- the waiting word says Ended where its thread stored that
 ended_stands : (w : World) (P : List PlainObject) (t : ℕ) → Fits w P → says_ended (w.known t).wait ≡ true → says_ended (w.words (Waiting t)) ≡ true

@@ -1,6 +1,9 @@
 -- A thread that holds an object loads or stores one of its slots, and so logs a Get or a Put.
-use Rattle.core_locks.proofs.Prelude.{◌≡◌, ◌≢◌, ◌⊎◌, ℕ, zero, suc, ◌+◌, ◌<◌, ◌&&◌, nat_lt, eq-eqb, true, false, cond, List, [], ◌∷◌, ◌++◌, length, slice_set, Option, Some, None, refl, sym, ap, ◌∙◌, subst, arith, inl, inr, slice_get, nat_tests, Decides-int_eq, same_Some, only_if, PlainObject, take_at, same_value, has_value, Logged, last_stamp, Get, Put, Value, read_value, word_of, Slot, StepPlan, Stage, Calm, word_after, with_word, same_name, Known, StepMade, World, with_word_and_known, object_of, owner_at, Stays, Purpose, known_hit, seen_before, draws_after, log_after, kept_by_note, Fits, SeenFit, Store, Load, drawn_by, SlotsFit, IsHere, Unfinished, Act, Log, LogGet, value_found, by_equal, fits_running, with_word_there, frame2, with_word_same, Logs, MayTouch, MayPut, IsOwnEntry, LogsFound, LogsValid, get_plan, put_plan, MayGet, get_entry}
+use Rattle.core_locks.proofs.Prelude.{◌≡◌, ◌≢◌, ◌⊎◌, ℕ, zero, suc, ◌+◌, ◌<◌, ◌&&◌, nat_lt, eq-eqb, true, false, cond, List, [], ◌∷◌, ◌++◌, length, slice_set, Option, Some, None, refl, sym, ap, ◌∙◌, subst, arith, inl, inr, slice_get, nat_tests, Decides-int_eq, same_Some, only_if, PlainObject, take_at, same_value, has_value, Logged, last_stamp, Get, Put, Value, read_value, word_of, Slot, StepPlan, Stage, Calm, word_after, with_word, same_name, Known, StepMade, World, with_word_and_known, object_of, owner_at, Stays, Purpose, known_hit, seen_before, draws_after, log_after, kept_by_note, Fits, SeenFit, Store, Load, drawn_by, SlotsFit, IsHere, Unfinished, Act, Log, LogGet, value_found, by_equal, fits_running, with_word_there, frame2, with_word_same, Logs, MayTouch, MayPut, IsOwnEntry, LogsFound, LogsValid, get_plan, put_plan, MayGet, get_entry, slice_index_or}
 use Rattle.plain_monitor.specs.declared.entry.Value.TheVariants.{Nil, Int, Ref}
+use Rattle.std.proofs.lemmas.List.{length-set, get_or-set_same}
+use Rattle.std.proofs.lemmas.Option.{slice_get-get_or, slice_get_within, get_or_from_slice_get}
+use Rattle.plain_monitor.proofs.Lists.{get_set_other}
 use Rattle.plain_monitor.proofs.ValuesRead.{read_value-word_of}
 use Rattle.core_world.specs.declared.plan.Note.{Note}
 use Rattle.core_world.specs.declared.plan.Own.TheVariants.{Same}
@@ -15,22 +18,16 @@ use Rattle.core_locks.proofs.Updates.{object_here, object_else, slots_stay}
 
 -- a slot below their number has a value
 slot_there : (xs : List Value) (i : ℕ) → i < length xs → (v : Value) × (slice_get xs i ≡ Some v)
-slot_there [] i h = absurd (omega arith)
-slot_there (x ∷ xs) zero h = (x, refl)
-slot_there (x ∷ xs) (suc i) h = slot_there xs i (omega arith)
+slot_there xs i h = (slice_index_or xs i Nil, slice_get-get_or xs i Nil h)
 
 -- the slots after one has got another value
 slot_here : (xs : List Value) (i : ℕ) (v u : Value) → slice_get (slice_set xs i v) i ≡ Some u → v ≡ u
-slot_here [] i v u h = absurd (cc h)
-slot_here (x ∷ xs) zero v u h = same_Some v u h
-slot_here (x ∷ xs) (suc i) v u h = slot_here xs i v u h
+slot_here xs i v u h =
+    let within : i < length xs = omega (arith, slice_get_within (slice_set xs i v) i u h, length-set xs i v) in
+    sym (get_or-set_same xs i v Nil within) ∙ get_or_from_slice_get (slice_set xs i v) i u Nil h
 
 slot_else : (xs : List Value) (i j : ℕ) (v : Value) → j ≢ i → slice_get (slice_set xs i v) j ≡ slice_get xs j
-slot_else [] i j v d = refl
-slot_else (x ∷ xs) zero zero v d = absurd (d refl)
-slot_else (x ∷ xs) zero (suc j) v d = refl
-slot_else (x ∷ xs) (suc i) zero v d = refl
-slot_else (x ∷ xs) (suc i) (suc j) v d = slot_else xs i j v (λ e. d (ap suc e))
+slot_else xs i j v d = get_set_other xs i j v (λ e. d (sym e))
 
 same_value_self : (v : Value) → same_value v v ≡ true
 same_value_self Nil = refl

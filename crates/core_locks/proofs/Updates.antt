@@ -1,27 +1,18 @@
 -- The plain objects when one of them changes.
 use Rattle.core_locks.proofs.Prelude.{◌≡◌, ◌≢◌, ℕ, zero, suc, ◌<◌, List, [], ◌∷◌, length, slice_set, Some, refl, sym, ap, ◌∙◌, arith, slice_get, PlainObject, take_entry, take_at, take_named, Entry, Value, object_of, monitor_of, hash_at, waits_at, notified_at, or_zero, by_equal}
-use Rattle.plain_monitor.specs.Objects.{named}
+use Rattle.std.proofs.lemmas.List.{get_or-set_same, get_or-set_other}
+use Rattle.std.proofs.lemmas.Option.{slice_get-get_or}
+use Rattle.plain_monitor.specs.Objects.{named, new_object}
 
 pub object_here : (P : List PlainObject) (o : ℕ) (z : PlainObject) → o < length P → object_of (slice_set P o z) o ≡ z
-object_here [] o z h = absurd (omega arith)
-object_here (x ∷ P) zero z h = refl
-object_here (x ∷ P) (suc o) z h = object_here P o z (omega arith)
+object_here P o z h = get_or-set_same P o z (new_object 0) h
 
 pub object_else : (P : List PlainObject) (o i : ℕ) (z : PlainObject) → i ≢ o → object_of (slice_set P o z) i ≡ object_of P i
-object_else [] o i z d = refl
-object_else (x ∷ P) zero zero z d = absurd (d refl)
-object_else (x ∷ P) zero (suc i) z d = refl
-object_else (x ∷ P) (suc o) zero z d = refl
-object_else (x ∷ P) (suc o) (suc i) z d = object_else P o i z (λ e. d (ap suc e))
-
-got : (P : List PlainObject) (o : ℕ) → o < length P → slice_get P o ≡ Some (object_of P o)
-got [] o h = absurd (omega arith)
-got (x ∷ P) zero h = refl
-got (x ∷ P) (suc o) h = got P o (omega arith)
+object_else P o i z d = get_or-set_other P o i z (new_object 0) d
 
 -- objects take an entry that names o where o takes it
 pub takes : (P : List PlainObject) (o t : ℕ) (e : Entry) (z : PlainObject) → o < length P → named e ≡ Some o → take_at (object_of P o) t e ≡ Some z → take_entry P t e ≡ Some (slice_set P o z)
-takes P o t e z within n h = ap (take_named P t e) n ∙ rw (got P o within, h) refl
+takes P o t e z within n h = ap (take_named P t e) n ∙ rw (slice_get-get_or P o (new_object 0) within, h) refl
 
 -- a part of each object that the change leaves
 pub part_stays : {A : Type 0} (f : PlainObject → A) (P : List PlainObject) (o : ℕ) (z : PlainObject) → o < length P → f z ≡ f (object_of P o) → (i : ℕ) → f (object_of P i) ≡ f (object_of (slice_set P o z) i)
