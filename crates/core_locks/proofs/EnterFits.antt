@@ -7,7 +7,7 @@ use Rattle.core_locks.proofs.Drawing.{draws_still, draws_counted, bound_undrawn}
 use Rattle.core_locks.proofs.ByThread.{RecordsOf, records_by, records_at}
 use Rattle.core_locks.proofs.Logging.{IsLogging, last_next, bound_grows, stamps_next}
 use Rattle.core_locks.proofs.LoggedSteps.{logged_step}
-use Rattle.core_locks.proofs.Updates.{takes, hashes_stay, slots_stay, waits_stay, part_stays, monitor_here, monitor_else}
+use Rattle.core_locks.proofs.Updates.{takes, hashes_stay, slots_stay, waits_stay, part_stays, each_object}
 use Rattle.core_locks.proofs.WaitOut.{fails, out_word, ready_is_out}
 use Rattle.core_locks.proofs.OwnSeen.{back_by}
 use Rattle.core_locks.proofs.EnterTakes.{IsTaking, at_taking, ready_unwaiting, owner_or_taker}
@@ -48,20 +48,13 @@ module _ (w : World) (P : List PlainObject) (t o : ℕ) (e : Entry) (r : Purpose
   step : IsStep w t l noting
   step = record { within = a.within; mine = refl; others = λ k. refl }
 
+  -- a fact of each object afterwards
+  at : (F : ℕ → PlainObject → Type 0) → F o z → ((i : ℕ) → i ≢ o → F i (object_of P i)) → (i : ℕ) → F i (object_of Q i)
+  at F = each_object F P o z inside
+
   -- the owners afterwards
-  owner_here : (u : ℕ) → owner_at Q o u ≡ (t == u)
-  owner_here u = ap (λ q. owns q u) (monitor_here P o z inside) ∙ ap (λ b. is_thread b u) a.owner
-
-  owner_else : (i u : ℕ) → i ≢ o → owner_at Q i u ≡ owner_at P i u
-  owner_else i u d = ap (λ q. owns q u) (monitor_else P o i z d)
-
   owner_other : (i u : ℕ) → u ≢ t → owner_at Q i u ≡ owner_at P i u
-  owner_other i u d = by_equal i o
-      (λ s. ap (λ j. owner_at Q j u) s ∙ owner_here u ∙ ne_eqb t u (λ q. d (sym q)) ∙ sym (alone u d).1 ∙ ap (λ j. owner_at P j u) (sym s))
-      (λ n. owner_else i u n)
-
-  owner_now : (monitor_of Q o).owner ≡ Some t
-  owner_now = ap (λ (q : PlainMonitor). q.owner) (monitor_here P o z inside) ∙ a.owner
+  owner_other i u d = at (λ i y. owns y.monitor u ≡ owner_at P i u) (ap (λ b. is_thread b u) a.owner ∙ ne_eqb t u (λ q. d (sym q)) ∙ sym (alone u d).1) (λ i n. refl) i
 
   -- those who wait and were notified afterwards
   unwaiting : (i : ℕ) → is_listed (waits_at P i) t ≡ false
@@ -70,16 +63,8 @@ module _ (w : World) (P : List PlainObject) (t o : ℕ) (e : Entry) (r : Purpose
   waits_same : (i : ℕ) → waits_at P i ≡ waits_at Q i
   waits_same = part_stays (λ y. y.monitor.waits) P o z inside a.waits
 
-  called_here : notified_at Q o ≡ m.called
-  called_here = ap (λ (q : PlainMonitor). q.called) (monitor_here P o z inside)
-
-  called_else : (i : ℕ) → i ≢ o → notified_at Q i ≡ notified_at P i
-  called_else i d = ap (λ (q : PlainMonitor). q.called) (monitor_else P o i z d)
-
   called_other : (i u : ℕ) → u ≢ t → is_listed (notified_at Q i) u ≡ is_listed (notified_at P i) u
-  called_other i u d = by_equal i o
-      (λ s. ap (λ j. is_listed (notified_at Q j) u) s ∙ ap (λ ps. is_listed ps u) called_here ∙ (a.others u d).0 ∙ ap (λ j. is_listed (notified_at P j) u) (sym s))
-      (λ n. ap (λ ps. is_listed ps u) (called_else i n))
+  called_other i u d = at (λ i y. is_listed y.monitor.called u ≡ is_listed (notified_at P i) u) (a.others u d).0 (λ i n. refl) i
 
   uncalled_before : (i : ℕ) → i ≢ o → is_listed (notified_at P i) t ≡ false
   uncalled_before i d =
@@ -92,9 +77,7 @@ module _ (w : World) (P : List PlainObject) (t o : ℕ) (e : Entry) (r : Purpose
 
   -- the thread itself is called nowhere any more
   uncalled : (i : ℕ) → is_listed (notified_at Q i) t ≡ false
-  uncalled i = by_equal i o
-      (λ s. ap (λ j. is_listed (notified_at Q j) t) s ∙ ap (λ ps. is_listed ps t) called_here ∙ a.uncalled)
-      (λ n. ap (λ ps. is_listed ps t) (called_else i n) ∙ uncalled_before i n)
+  uncalled = at (λ i y. is_listed y.monitor.called t ≡ false) a.uncalled uncalled_before
 
   called_back : (i u : ℕ) → is_listed (notified_at Q i) u ≡ true → (u ≢ t) × (is_listed (notified_at P i) u ≡ true)
   called_back i u h = by_equal u t
@@ -102,9 +85,7 @@ module _ (w : World) (P : List PlainObject) (t o : ℕ) (e : Entry) (r : Purpose
       (λ d. (d, sym (called_other i u d) ∙ h))
 
   called_none : (i : ℕ) → notified_at P i ≡ [] → notified_at Q i ≡ []
-  called_none i h = by_equal i o
-      (λ s. ap (notified_at Q) s ∙ called_here ∙ a.nobody (ap (notified_at P) (sym s) ∙ h))
-      (λ n. called_else i n ∙ h)
+  called_none = at (λ i y. notified_at P i ≡ [] → y.monitor.called ≡ []) a.nobody (λ i d h. h)
 
   -- the locks are as before, and who has each
   inflates : inflation_in Calm ≡ inflation_in (w.known t).stage
@@ -118,15 +99,12 @@ module _ (w : World) (P : List PlainObject) (t o : ℕ) (e : Entry) (r : Purpose
       (λ d. v.owners.same i u ∙ ap (λ c. c || bears (w.known u).stage i) (sym (owner_other i u d)))
     where
       mine : (i : ℕ) → is_thread (who w i) t ≡ owner_at Q i t
-      mine i = by_equal i o
-          (λ s. ap (λ j. is_thread (who w j) t) s ∙ ap (λ q. is_thread q t) (who_bears w P o t v borne) ∙ sym (owner_here t) ∙ ap (λ j. owner_at Q j t) (sym s))
-          (λ n. v.owners.same i t ∙ ap (λ b. owner_at P i t || b) (unborne i n) ∙ or-false (owner_at P i t) ∙ sym (owner_else i t n))
+      mine = at (λ i y. is_thread (who w i) t ≡ owns y.monitor t) (ap (λ q. is_thread q t) (who_bears w P o t v borne ∙ sym a.owner))
+          (λ i n. v.owners.same i t ∙ ap (λ b. owner_at P i t || b) (unborne i n) ∙ or-false (owner_at P i t))
 
   -- how often each holds
   standing_other : (i u : ℕ) → u ≢ t → holds_by_monitor (monitor_of Q i) u ≡ holds_by_monitor (monitor_of P i) u
-  standing_other i u d = by_equal i o
-      (λ s. ap (λ j. holds_by_monitor (monitor_of Q j) u) s ∙ ap (λ q. holds_by_monitor q u) (monitor_here P o z inside) ∙ here ∙ ap (λ j. holds_by_monitor (monitor_of P j) u) (sym s))
-      (λ n. ap (λ q. holds_by_monitor q u) (monitor_else P o i z n))
+  standing_other i u d = at (λ i y. holds_by_monitor y.monitor u ≡ holds_by_monitor (monitor_of P i) u) here (λ i n. refl) i
     where
       here : holds_by_monitor m u ≡ holds_by_monitor (monitor_of P o) u
       here =
@@ -137,12 +115,9 @@ module _ (w : World) (P : List PlainObject) (t o : ℕ) (e : Entry) (r : Purpose
           omega (arith, now, before, waits, called)
 
   number_mine : (i : ℕ) → holds_by_monitor (monitor_of Q i) t ≡ holds_by_monitor (monitor_of P i) t + hold_words_ahead (w.known t).stage i
-  number_mine i = by_equal i o
-      (λ s. ap (λ j. holds_by_monitor (monitor_of Q j) t) s ∙ ap (λ q. holds_by_monitor q t) (monitor_here P o z inside) ∙ a.number ∙ ap (λ j. holds_by_monitor (monitor_of P j) t + hold_words_ahead (w.known t).stage j) (sym s))
-      (λ n.
-      let b = ap (λ q. holds_by_monitor q t) (monitor_else P o i z n) in
-      let c : hold_words_ahead (w.known t).stage i ≡ 0 = at_taking (λ s. hold_words_ahead s i ≡ 0) (w.known t).stage o a.stage (λ p path. ap (λ q. cond q 1 0) (ne_eqb o i (λ s. n (sym s)))) refl in
-      omega (arith, b, c))
+  number_mine = at (λ i y. holds_by_monitor y.monitor t ≡ holds_by_monitor (monitor_of P i) t + hold_words_ahead (w.known t).stage i) a.number (λ i n.
+      let none : hold_words_ahead (w.known t).stage i ≡ 0 = at_taking (λ s. hold_words_ahead s i ≡ 0) (w.known t).stage o a.stage (λ p path. ap (λ q. cond q 1 0) (ne_eqb o i (λ s. n (sym s)))) refl in
+      omega (arith, none))
 
   -- what the others have seen stays, and the thread begins anew
   seen_law : SeenFit x Q
@@ -204,16 +179,11 @@ module _ (w : World) (P : List PlainObject) (t o : ℕ) (e : Entry) (r : Purpose
   -- the bound of each object is no smaller than it was, and that of o is the new stamp
   bounds : (i : ℕ) → (bound_stamp (λ u. (w.known u).log) (w.words (Stamp i)) (monitor_of P i).owner ≤ bound_stamp (λ u. (x.known u).log) (w.words (Stamp i)) (monitor_of Q i).owner)
       × (bound_to e ≡ Some i → y.stamp ≤ bound_stamp (λ u. (x.known u).log) (w.words (Stamp i)) (monitor_of Q i).owner)
-  bounds i = by_equal i o
-      (λ s.
-      let now : bound_stamp (λ u. (x.known u).log) (w.words (Stamp i)) (monitor_of Q i).owner ≡ y.stamp =
-      ap (λ j. bound_stamp (λ u. (x.known u).log) (w.words (Stamp j)) (monitor_of Q j).owner) s
-      ∙ ap (bound_stamp (λ u. (x.known u).log) (w.words (Stamp o))) (owner_now) ∙ ap (λ (k : Known). last_stamp k.log) (with_known_here t l w.known) ∙ last_next w P Q t y l v logs_it in
-      let before = ap (λ j. bound_stamp (λ u. (w.known u).log) (w.words (Stamp j)) (monitor_of P j).owner) s in
-      (omega (arith, now, before, above_bound), λ h. omega (arith, now)))
-      (λ d.
-      let now = ap (λ (q : PlainMonitor). bound_stamp (λ u. (x.known u).log) (w.words (Stamp i)) q.owner) (monitor_else P o i z d) in
-      (omega (arith, now, bound_grows w P Q t y l v logs_it (w.words (Stamp i)) (monitor_of P i).owner), λ h. absurd (d (same_Some _ _ (sym h ∙ a.tied)))))
+  bounds = at (λ i b. (bound_stamp (λ u. (w.known u).log) (w.words (Stamp i)) (monitor_of P i).owner ≤ bound_stamp (λ u. (x.known u).log) (w.words (Stamp i)) b.monitor.owner)
+      × (bound_to e ≡ Some i → y.stamp ≤ bound_stamp (λ u. (x.known u).log) (w.words (Stamp i)) b.monitor.owner))
+      (let now = ap (bound_stamp (λ u. (x.known u).log) (w.words (Stamp o))) a.owner ∙ ap (λ (k : Known). last_stamp k.log) (with_known_here t l w.known) ∙ last_next w P Q t y l v logs_it in
+      (omega (arith, now, above_bound), λ h. omega (arith, now)))
+      (λ i d. (bound_grows w P Q t y l v logs_it (w.words (Stamp i)) (monitor_of P i).owner, λ h. absurd (d (same_Some _ _ (sym h ∙ a.tied)))))
 
   stamps_law : StampsFit (logs x) (λ u. (x.known u).log) (λ i. w.words (Stamp i)) (λ i. (monitor_of Q i).owner) (λ u. (x.known u).unfinished)
   stamps_law = stamps_next w P Q t y l v logs_it stamp_small bounds

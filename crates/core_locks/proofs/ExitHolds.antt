@@ -10,7 +10,7 @@ use Rattle.core_locks.proofs.HoldPuts.{holder_more}
 use Rattle.core_locks.proofs.HoldSets.{word_own, word_else, word_held, holder_told}
 use Rattle.core_locks.proofs.WaitOut.{no_other}
 use Rattle.core_locks.proofs.Logging.{IsLogging, stamps_owned}
-use Rattle.core_locks.proofs.Updates.{monitor_here, monitor_else, part_stays}
+use Rattle.core_locks.proofs.Updates.{each_object, part_stays}
 use Rattle.core_locks.proofs.ExitEntries.{exit_entry, object_with, objects_where, exit_taken, exit_logging, exit_parts, exit_are, owner_here, owner_else, owner_before, owner_fails}
 use Rattle.core_locks.proofs.Clauses.{parts_of, seen, forms, quiet, holds, owners, biases, records, recursions, hashes, waits, stamps, AllHold}
 use Rattle.core_locks.proofs.EvenSteps.{IsEven, even_by, extra_stays, bears_stay, held_even}
@@ -170,14 +170,9 @@ module _ (w : World) (P : List PlainObject) (t : ℕ) (e : Purpose) (o d p : ℕ
       unborne u = each_with_known (λ u k. bears k.stage o ≡ false) t l w.known u refl (λ n. (none_else u n).1)
 
   number_now : (i : ℕ) → hold_count i (slice_set old p 0) ≡ holds_by_monitor (monitor_of Q i) t + 0
-  number_now i = by_equal i o
-      (λ s.
-      let now = ap (λ j. holds_by_monitor (monitor_of Q j) t) s ∙ ap (λ f. holds_by_monitor f t) (monitor_here P o z inside) in
-      let had = ap (λ j. holds_by_monitor (monitor_of P j) t) s in
-      omega (arith, v.holds.number t i, before.alone i, now, had, named_less old o d p full i, ap one_if (eq-eqb o i (sym s)), is.here))
-      (λ n.
-      let now = ap (λ f. holds_by_monitor f t) (monitor_else P o i z n) in
-      omega (arith, v.holds.number t i, before.alone i, now, named_less old o d p full i, ap one_if (ne_eqb o i (λ q. n (sym q)))))
+  number_now = each_object (λ i y. hold_count i (slice_set old p 0) ≡ holds_by_monitor y.monitor t + 0) P o z inside
+      (omega (arith, v.holds.number t o, before.alone o, named_less old o d p full o, ap one_if (eq-eqb o o refl), is.here))
+      (λ i n. omega (arith, v.holds.number t i, before.alone i, named_less old o d p full i, ap one_if (ne_eqb o i (λ q. n (sym q)))))
 
   -- nobody else counts on its hold words, and each owner owned its object before
   uncounted : (u s : ℕ) → u ≢ t → Stays w (w.known u) (owner_at P) u (Hold t p) s → w.words (Hold t p) ≡ s → ⊥

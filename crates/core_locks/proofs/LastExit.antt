@@ -1,7 +1,7 @@
 -- A thread logs its last Exit from an object: nobody owns that object afterwards. How it lets go of the lock is left open.
-use Rattle.core_locks.proofs.Prelude.{◌≡◌, ◌≢◌, ◌⊎◌, ℕ, ◌+◌, ◌<◌, ◌≤◌, ◌||◌, eq-eqb, ne_eqb, Bool, true, false, cond, List, [], ◌∷◌, ◌++◌, length, Some, None, refl, sym, ap, ◌∙◌, subst, arith, inl, inr, nat_le, nat_tests, same_Some, PlainMonitor, is_thread, owns, exit, PlainObject, take_entry, Logged, Exit, Stamp, Hold, Waiting, Recursions, Calm, Resumes, Exits, Waits, TakesOver, monitor_in, bears, hold_words_ahead, recursions_ahead, recursions_behind, notification_in, revocation_in, one_if, Known, last_seen, local_of, World, with_known, logs_from, Lock, Open, OnRecord, OwnedBy, lock, marks, displaced_words, who, holder, hold_count, recursion_count, holds_by_monitor, monitor_of, owner_at, hash_at, waits_at, notified_at, HoldsFitLogs, RecordsRest, RecursionsFit, GoesByMonitor, next_stamp, Fits, WaitsFit, StoppedAreQuiet, bound_stamp, StampsFit, LocksArePlain, log_limit, DrawsFit, Shape, by_equal, each_with_known, thread_is, unlisted_count, IsOwnEntry}
+use Rattle.core_locks.proofs.Prelude.{◌≡◌, ◌≢◌, ◌⊎◌, ℕ, ◌+◌, ◌<◌, ◌≤◌, ◌||◌, eq-eqb, ne_eqb, Bool, true, false, cond, List, [], ◌∷◌, ◌++◌, length, Some, None, refl, sym, ap, ◌∙◌, subst, arith, inl, inr, nat_le, nat_tests, same_Some, PlainMonitor, is_thread, owns, exit, PlainObject, take_entry, Logged, Exit, Stamp, Hold, Waiting, Recursions, Calm, Resumes, Exits, Waits, TakesOver, monitor_in, bears, hold_words_ahead, recursions_ahead, recursions_behind, notification_in, revocation_in, one_if, Known, last_seen, local_of, World, with_known, logs_from, Lock, Open, OnRecord, OwnedBy, lock, marks, displaced_words, who, holder, hold_count, recursion_count, holds_by_monitor, monitor_of, owner_at, hash_at, waits_at, notified_at, HoldsFitLogs, RecordsRest, RecursionsFit, GoesByMonitor, next_stamp, Fits, WaitsFit, StoppedAreQuiet, bound_stamp, StampsFit, LocksArePlain, log_limit, DrawsFit, Shape, by_equal, each_with_known, thread_is, unlisted_count, IsOwnEntry, bound_to}
 use Rattle.core_locks.proofs.Logging.{IsLogging, bound_grows, stamps_next}
-use Rattle.core_locks.proofs.Updates.{monitor_here, monitor_else}
+use Rattle.core_locks.proofs.Updates.{each_object, part_stays}
 use Rattle.core_locks.proofs.WaitOut.{no_other, holder_owns, out_unlisted, ready_is_out}
 use Rattle.core_locks.proofs.ExitEntries.{exit_entry, object_with, objects_where, exit_taken, exit_logging, owner_here, owner_else, owner_before, owner_fails}
 use Rattle.core_locks.proofs.Clauses.{Clause, quiet, holds, owners, records, waits, stamps}
@@ -23,17 +23,11 @@ freed_stamps w P t o l v inside owner logging high =
     let Q = objects_where P o (freed P o) in
     let z = object_with P o (freed P o) in
     let y = exit_entry (w.known t) o in
-    stamps_next w P Q t y l v logging (omega (arith, v.stamps.logged t)) (λ i.
-    by_equal i o
-    (λ q.
-    let before = ap (λ j. bound_stamp (λ u. (w.known u).log) (w.words (Stamp j)) (monitor_of P j).owner) q ∙ ap (bound_stamp (λ u. (w.known u).log) (w.words (Stamp o))) owner in
-    let now = ap (λ j. bound_stamp (λ u. (with_known t l w.known u).log) (w.words (Stamp j)) (monitor_of Q j).owner) q
-    ∙ ap (λ (f : PlainMonitor). bound_stamp (λ u. (with_known t l w.known u).log) (w.words (Stamp o)) f.owner) (monitor_here P o z inside) in
-    (omega (arith, before, now, high), λ b. omega (arith, now, high)))
-    (λ d.
-    let now = ap (λ (f : PlainMonitor). bound_stamp (λ u. (with_known t l w.known u).log) (w.words (Stamp i)) f.owner) (monitor_else P o i z d) in
-    let grows = bound_grows w P Q t y l v logging (w.words (Stamp i)) (monitor_of P i).owner in
-    (omega (arith, now, grows), λ b. absurd (d (sym (same_Some o i b))))))
+    stamps_next w P Q t y l v logging (omega (arith, v.stamps.logged t))
+    (each_object (λ i b. (bound_stamp (λ u. (w.known u).log) (w.words (Stamp i)) (monitor_of P i).owner ≤ bound_stamp (λ u. (with_known t l w.known u).log) (w.words (Stamp i)) b.monitor.owner)
+    × (bound_to (Exit o) ≡ Some i → y.stamp ≤ bound_stamp (λ u. (with_known t l w.known u).log) (w.words (Stamp i)) b.monitor.owner)) P o z inside
+    (let before = ap (bound_stamp (λ u. (w.known u).log) (w.words (Stamp o))) owner in (omega (arith, before, high), λ b. high))
+    (λ i d. (bound_grows w P Q t y l v logging (w.words (Stamp i)) (monitor_of P i).owner, λ b. absurd (d (sym (same_Some o i b))))))
 
 -- the thread's last hold goes, after the stamp was raised
 pub record MayExit (s : Shape) (k : Known) (o stamp : ℕ) : Type 0 where
@@ -120,23 +114,12 @@ module _ {w : World} {t : ℕ} {l : Known} {fields : Fields} (step : IsStep w t 
 
     pub number_now : (u i : ℕ) → hold_count i (w.known u).holds ≡ holds_by_monitor (monitor_of Q i) u + hold_words_ahead (with_known t l w.known u).stage i
     number_now u i = each_with_known (λ u k. hold_count i (w.known u).holds ≡ holds_by_monitor (monitor_of Q i) u + hold_words_ahead k.stage i) t l w.known u
-        (by_equal i o
-        (λ q.
-        let now = ap (λ j. holds_by_monitor (monitor_of Q j) t) q ∙ ap (λ f. holds_by_monitor f t) (monitor_here P o z inside) in
-        let one = ap (λ f. hold_words_ahead f i) a.stage ∙ ap one_if (eq-eqb o i (sym q)) in
-        let last = ap (λ j. hold_count j (w.known t).holds) q ∙ may.last in
-        omega (arith, now, one, last, stands_here))
-        (λ d.
-        let now = ap (λ f. holds_by_monitor f t) (monitor_else P o i z d) in
+        (each_object (λ i y. hold_count i (w.known t).holds ≡ holds_by_monitor y.monitor t + hold_words_ahead l.stage i) P o z inside
+        (let one = ap (λ f. hold_words_ahead f o) a.stage ∙ ap one_if (eq-eqb o o refl) in omega (arith, one, may.last, stands_here))
+        (λ i d.
         let none = ap (λ f. hold_words_ahead f i) a.stage ∙ ap one_if (ne_eqb o i (λ q. d (sym q))) in
-        let calm = ap (λ f. hold_words_ahead f i) may.calm in
-        omega (arith, v.holds.number t i, now, none, calm)))
-        (λ n. by_equal i o
-        (λ q.
-        let now = ap (λ j. holds_by_monitor (monitor_of Q j) u) q ∙ ap (λ f. holds_by_monitor f u) (monitor_here P o z inside) in
-        let before = ap (λ j. holds_by_monitor (monitor_of P j) u) q in
-        omega (arith, v.holds.number u i, now, before, stands_else u n))
-        (λ d. let now = ap (λ f. holds_by_monitor f u) (monitor_else P o i z d) in omega (arith, v.holds.number u i, now)))
+        omega (arith, v.holds.number t i, none, ap (λ f. hold_words_ahead f i) may.calm)) i)
+        (λ n. v.holds.number u i ∙ ap (λ k. k + hold_words_ahead (w.known u).stage i) (part_stays (λ y. holds_by_monitor y.monitor u) P o z inside (stands_else u n) i))
 
     -- THE CLAUSES, where the lock is open afterwards, and the other locks stay
     module _ (locks : ℕ → Lock) (now : (i : ℕ) → ((i ≡ o) × (locks i ≡ Open)) ⊎ ((i ≢ o) × (locks i ≡ lock w i))) where
