@@ -1,5 +1,6 @@
 -- What the threads have seen stays when a running thread makes a step on a word on which no other counts, with the same marks and plain objects.
 use Rattle.core_locks.proofs.Prelude.{◌≡◌, ◌≢◌, ℕ, ◌||◌, Bool, true, false, List, [], ◌∷◌, Option, Some, None, refl, sym, ap, ◌∙◌, inl, inr, PlainObject, Mark, Waiting, StepPlan, is_biased, monitor_in, waits_on, inflation_in, bears, revocation_in, word_after, same_name, its_monitor, Known, World, with_word_and_known, marks, prototype_of, owner_at, waits_at, Stays, IsKeptOrNamed, SeenStays, known_hit, seen_before, Fits, SeenFit, seen_is_part, stays_back, Back, Spares, seen_moves, counts_more}
+use Rattle.std.proofs.Math.Bool.{or-true}
 use Rattle.std.specs.Prelude.{IfSome}
 use Rattle.core_locks.proofs.Steps.{none_reached}
 
@@ -31,9 +32,7 @@ pub record OnOwn (w : World) (P : List PlainObject) (t : ℕ) (p : StepPlan) : T
 -- one of two tests, where the first implies another
 pub either : (a b c : Bool) → (a ≡ true → c ≡ true) → (a || b) ≡ true → (c || b) ≡ true
 either true b c f e = ap (λ d. d || b) (f refl)
-either false true false f e = refl
-either false true true f e = refl
-either false false c f e = absurd (cc e)
+either false b c f e = ap (λ d. c || d) e ∙ or-true c
 
 -- WHAT COUNTS BEFORE, where marks and prototypes are as they were, and who owns an object afterwards owned it
 pub back_by : (w x : World) (k y : Known) (owner next : ℕ → ℕ → Bool) (u : ℕ) → marks x ≡ marks w → prototype_of x ≡ prototype_of w → (y.running ≡ true → k.running ≡ true) → y.requesting ≡ k.requesting

@@ -1,15 +1,8 @@
 -- The shots stay right where a thread logs an entry of its own.
-use Rattle.core_locks.proofs.Prelude.{◌≡◌, ◌⊎◌, ℕ, ◌<◌, false, List, [], ◌∷◌, ◌++◌, length, Option, Some, refl, sym, ap, ◌∙◌, subst, arith, inl, inr, PlainObject, Logged, Known, World, with_known, logs, Fits}
-use Rattle.plain_monitor.specs.declared.entry.Entry.{Entry}
-use Rattle.plain_monitor.specs.declared.entry.Entry.TheVariants.{Enter, Exit, Wait, Resume, Notify, NotifyAll, Hash, Dump}
+use Rattle.core_locks.proofs.Prelude.{◌≡◌, ◌⊎◌, ℕ, ◌<◌, false, List, [], ◌∷◌, ◌++◌, length, Option, Some, refl, sym, ap, ◌∙◌, subst, arith, inl, inr, PlainObject, Logged, Known, World, with_known, logs, Fits, Entry, Enter, Exit, Wait, Resume, Notify, NotifyAll, Hash, Dump, Unfinished, goes_on_with, IsUnfinished, logs_from, logs_length}
 use Rattle.core_world.specs.declared.task.Op.{Op}
 use Rattle.core_world.specs.declared.task.Op.TheVariants as op
-use Rattle.core_world.specs.declared.task.Unfinished.{Unfinished}
-use Rattle.core_world.specs.Trees.Operations.{goes_on_with}
-use Rattle.core_world.specs.Clauses.Safepoints.{IsUnfinished}
 use Rattle.core_world.specs.Shots.{AreOfDumps, ShotsFit}
-use Rattle.core_world.specs.World.{logs_from}
-use Rattle.core_world.proofs.KnowledgeParts.{logs_length}
 use Rattle.core_world.proofs.ShotsStay.{IsDump, IsNoDump, dump_or_not, dumps_dump, dumps_other, shots_with}
 use Rattle.core_locks.specs.Knowing.{IsOfLastShot, operation_of}
 use Rattle.core_locks.proofs.Logging.{IsLogging, logs_are}
