@@ -1,7 +1,7 @@
 -- A thread whose new hold word stands loads the object's stamp, and so logs its Enter.
 use Rattle.core_locks.proofs.Prelude.{◌≡◌, ◌⊎◌, ℕ, ◌+◌, ◌<◌, ◌&&◌, not, true, false, cond, List, slice_set, Option, Some, None, refl, ap, ◌∙◌, arith, inl, inr, is_none, PlainMonitor, is_thread, is_listed, only_if, is_outside, enter, PlainObject, with_monitor, Enter, Path, Stamp, Recursions, Resumes, monitor_in, bears, hold_words_ahead, recursions_ahead, recursions_behind, one_if, World, OwnedBy, lock, marks, displaced_words, recursion_count, holds_by_monitor, object_of, monitor_of, owner_at, waits_at, notified_at, Purpose, logging_plan, Fits, lets_go, Load, same_number, sound, unlisted_count, unowned_count, fits_running, Logs, MayLogEnter, LogsValid, log_enter_plan}
 use Rattle.core_locks.proofs.WaitOut.{out_unlisted, out_standing, ready_is_out}
-use Rattle.core_locks.proofs.EnterTakes.{IsTaking, owner_or_taker}
+use Rattle.core_locks.proofs.EnterTakes.{IsTaking, IsTakingAt, owner_or_taker}
 use Rattle.core_locks.proofs.EnterFits.{taken, taking_fits}
 
 module _ (w : World) (P : List PlainObject) (t o p : ℕ) (path : Path) (within : t < w.shape.threads) (may : MayLogEnter w.shape (w.known t) o p path) (v : Fits w P) where
@@ -58,26 +58,11 @@ module _ (w : World) (P : List PlainObject) (t o p : ℕ) (path : Path) (within 
       omega (arith, before, ap (λ s. recursions_behind s o) may.stage, ap (λ s. recursions_ahead s o) may.stage)
 
   pub is_taking : IsTaking w P t o (Enter o path) m
-  is_taking = record {
-    within = within;
-    object = may.object;
-    runs = may.runs;
-    stage = inl (p, path, may.stage);
-    ready = may.ready;
-    room = may.room;
-    own_entry = may.own_entry;
-    even = λ h. elim may.own_entry.operation [ inl none ↦ ap (λ u. lets_go u o) none | inr enters ↦ ap (λ u. lets_go u o) enters ];
-    taking = refl;
-    tied = refl;
-    takes = ap (with_monitor (object_of P o)) enters;
-    owner = refl;
-    number = number;
-    waits = refl;
-    uncalled = unlisted.1;
-    others = λ u d. (refl, refl);
-    nobody = λ h. h;
-    recursions = recursions;
-  }
+  is_taking =
+      let even : (monitor_of P o).owner ≡ Some t → lets_go (w.known t).unfinished o ≡ false =
+      λ h. elim may.own_entry.operation [ inl none ↦ ap (λ u. lets_go u o) none | inr works ↦ ap (λ u. lets_go u o) works ] in
+      let stage : IsTakingAt (w.known t).stage o = inl (p, path, may.stage) in
+      search (within, stage, ap (with_monitor (object_of P o)) enters, even, number, unlisted, recursions, may)
 
   pub enter_logs : (e : Purpose) → Logs w P t (logging_plan (Enter o path) e (Stamp o) Load) (Enter o path)
   enter_logs e = record {

@@ -68,18 +68,6 @@ module _ (w : World) (P : List PlainObject) (t : ℕ) (e : Purpose) (o m stamp :
 
   pub leaving : IsLeaving w P o m t
   leaving =
-      record {
-        within = within;
-        object = omega (arith, v.sized, may.object);
-        runs = may.runs;
-        calm = may.calm;
-        out = out;
-        owner = owns.0;
-        count = owns.1;
-        inflated = mark_is;
-        thread_owns = thread_owns;
-        saved = saved;
-        raised = omega (arith, stamp_is, may.high);
-        waits = sym may.goes_on ∙ may.waits;
-        room = may.room;
-      }
+      let object : o < length P = omega (arith, v.sized, may.object) in
+      let raised : last_stamp (w.known t).log + 1 ≤ w.words (Stamp o) = omega (arith, stamp_is, may.high) in
+      search (within, object, out, owns, mark_is, thread_owns, saved, raised, sym may.goes_on ∙ may.waits, may)

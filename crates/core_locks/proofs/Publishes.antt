@@ -69,7 +69,7 @@ entry_quiet w P t v free (NotifyAll o n) h =
 entry_quiet w P t v free _ h = absurd h
 
 may_free : (s : Shape) (k : Known) (y : Entry) → MayPublish s k y → IsFreeToTell k
-may_free s k y may = record { runs = may.runs; calm = may.calm; ready = may.ready; room = may.room }
+may_free s k y may = search may
 
 module _ (w : World) (P : List PlainObject) (t : ℕ) (e : Purpose) (y : Entry) (within : t < w.shape.threads) (free : IsFreeToTell (w.known t)) (own : IsOwnEntry (w.known t) y) (v : Fits w P) (b : IsQuiet P t y) where
   -- the step, at the stage at which the thread stands

@@ -1,7 +1,7 @@
 -- A thread that was notified and has the object's monitor again loads the object's stamp, and so logs its Resume.
-use Rattle.core_locks.proofs.Prelude.{◌≡◌, ℕ, ◌+◌, ◌<◌, ◌||◌, true, false, cond, List, slice_set, Some, None, refl, sym, ap, ◌∙◌, arith, inl, inr, is_none, or-true, same_Some, read_owner, owner_of, ByThread, read_owner-owner_of, PlainMonitor, is_thread, is_listed, count_of, only_if, without, resume, resumed, PlainObject, with_monitor, Resume, Mark, Stamp, Owner, Recursions, monitor_in, bears, hold_words_ahead, World, OwnedBy, lock, marks, displaced_words, owner_words, recursion_count, holds_by_monitor, object_of, monitor_of, owner_at, waits_at, notified_at, or_zero, IsOwnMonitor, Purpose, logging_plan, Fits, Load, same_number, sound, unlisted_count, outside_standing, listed_count, owner_standing, fits_running, Logs, MayLogResume, LogsValid, log_resume_plan}
+use Rattle.core_locks.proofs.Prelude.{◌≡◌, ℕ, ◌+◌, ◌<◌, ◌||◌, true, false, cond, List, slice_set, Some, None, refl, sym, ap, ◌∙◌, arith, inl, inr, is_none, or-true, same_Some, read_owner, owner_of, ByThread, read_owner-owner_of, PlainMonitor, is_thread, is_listed, count_of, only_if, without, resume, resumed, PlainObject, with_monitor, Resume, Mark, Stamp, Owner, Recursions, monitor_in, bears, hold_words_ahead, World, OwnedBy, lock, marks, displaced_words, owner_words, recursion_count, holds_by_monitor, object_of, monitor_of, owner_at, waits_at, notified_at, or_zero, IsOwnMonitor, Purpose, logging_plan, Fits, Load, same_number, sound, unlisted_count, outside_standing, listed_count, owner_standing, fits_running, Logs, MayLogResume, LogsValid, log_resume_plan, lets_go, IsOwnEntry, []}
 use Rattle.core_locks.proofs.WaitOut.{fails}
-use Rattle.core_locks.proofs.EnterTakes.{IsTaking, ready_unwaiting, owner_or_taker}
+use Rattle.core_locks.proofs.EnterTakes.{IsTaking, IsTakingAt, ready_unwaiting, owner_or_taker}
 use Rattle.core_locks.proofs.EnterFits.{taken, taking_fits}
 use Rattle.plain_history.proofs.Without.{listed_has_count, without_unlisted, without_others}
 
@@ -73,26 +73,12 @@ module _ (w : World) (P : List PlainObject) (t o m : ℕ) (within : t < w.shape.
       ap (λ c. w.words (Recursions c)) same ∙ v.seen.stays t (Recursions m) (w.known t).saved may.recursions (inl (may.runs, inr own)) ∙ v.recursions.waiting o t (inr called)
 
   pub is_taking : IsTaking w P t o (Resume o) after
-  is_taking = record {
-    within = within;
-    object = may.object;
-    runs = may.runs;
-    stage = inr may.stage;
-    ready = may.ready;
-    room = may.room;
-    own_entry = record { operation = inr (v.waits.unfinished t o (inr called)); shot = tt };
-    even = λ h. absurd (cc (unowned, h));
-    taking = refl;
-    tied = refl;
-    takes = ap (with_monitor (object_of P o)) resumes;
-    owner = refl;
-    number = number;
-    waits = refl;
-    uncalled = without_unlisted (notified_at P o) t;
-    others = λ u d. without_others (notified_at P o) t u d;
-    nobody = λ h. ap (λ ps. without ps t) h;
-    recursions = recursions;
-  }
+  is_taking =
+      let even : (monitor_of P o).owner ≡ Some t → lets_go (w.known t).unfinished o ≡ false = λ h. absurd (cc (unowned, h)) in
+      let stage : IsTakingAt (w.known t).stage o = inr may.stage in
+      let own_entry : IsOwnEntry (w.known t) (Resume o) = record { operation = inr (v.waits.unfinished t o (inr called)); shot = tt } in
+      let nobody : notified_at P o ≡ [] → without (notified_at P o) t ≡ [] = λ h. ap (λ ps. without ps t) h in
+      search (within, stage, ap (with_monitor (object_of P o)) resumes, even, own_entry, number, without_unlisted (notified_at P o) t, without_others (notified_at P o) t, nobody, recursions, may)
 
   pub resume_logs : (e : Purpose) → Logs w P t (logging_plan (Resume o) e (Stamp o) Load) (Resume o)
   resume_logs e = record {

@@ -50,7 +50,7 @@ record LogsTouch (w : World) (P : List PlainObject) (t o slot : ℕ) (act : Act)
 
 module _ (w : World) (P : List PlainObject) (t : ℕ) (e : Purpose) (o slot : ℕ) (within : t < w.shape.threads) (may : MayTouch w.shape (w.known t) o slot) (v : Fits w P) where
   free : IsFreeToTell (w.known t)
-  free = record { runs = may.runs; calm = may.calm; ready = may.ready; room = may.room }
+  free = search may
 
   own : owner_at P o t ≡ true
   own = owns_held w P t v free o may.holds
