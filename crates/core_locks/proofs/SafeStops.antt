@@ -63,12 +63,6 @@ module _ (w : World) (P : List PlainObject) (t : ℕ) (e : Purpose) (within : t 
             may.runs (r ∙ without_mine f t spells.0 bits runs) v.seen;
       }
 
-  stop_valid : MayStop (w.known t) e → IsValid w P → IsValid (world_after (stop_plan e t) t w) P
-  stop_valid may valid =
-      let v = fits_running w P t may.runs valid in
-      let s = safe_form w P v in
-      inl (changed_fits w P t e (Mask (all_but t)) s.0 (without s.0 t) within (stop_changes v s.0 s.1 may) v)
-
   -- a stopped thread sets its bit in a word with no requester and no halt
   resume_changes : (v : Fits w P) (f : SafeForm) (word : ℕ) → read_safe (w.words Safepoint) ≡ Some f → MayResume (w.known t) e word → w.words Safepoint ≡ word
       → Changes w P t e (Swap word (running_too (read_safe word) t)) f (including f t)
@@ -110,20 +104,19 @@ module _ (w : World) (P : List PlainObject) (t : ℕ) (e : Purpose) (within : t 
       anew true r asks unasked = absurd (unasked_unreached w P t v.safe unasked r)
       anew false r asks unasked = ap (λ b. cond b (seen_before w.shape (w.known t)) []) may.stopped
 
-  -- an exchange that misses
-  missing_valid : (word new : ℕ) → (w.words Safepoint == word) ≡ false → IsValid w P → IsValid (world_after (swap e Safepoint word new) t w) P
-  missing_valid word new h valid = miss_valid w P t (swap e Safepoint word new) within (record { missed = h; may = may_look_safe (w.known t) }) valid
-
-  resume_valid : (word : ℕ) → MayResume (w.known t) e word → IsValid w P → IsValid (world_after (resume_plan e t word) t w) P
-  resume_valid word may valid = cases (w.words Safepoint == word) refl
+  -- an exchange of the safepoint word, which changes it so where it finds this word, and where it misses is a look
+  by_word : (word new : ℕ) (g : SafeForm → SafeForm) → (w.words Safepoint ≡ word → Fits w P)
+      → ((v : Fits w P) (f : SafeForm) → read_safe (w.words Safepoint) ≡ Some f → w.words Safepoint ≡ word → Changes w P t e (Swap word new) f (g f))
+      → IsValid w P → IsValid (world_after (swap e Safepoint word new) t w) P
+  by_word word new g fits changes valid = cases (w.words Safepoint == word) refl
     where
-      cases : (b : Bool) → (w.words Safepoint == word) ≡ b → IsValid (world_after (resume_plan e t word) t w) P
+      cases : (b : Bool) → (w.words Safepoint == word) ≡ b → IsValid (world_after (swap e Safepoint word new) t w) P
       cases true h =
           let found = eqb-true (w.words Safepoint) word h in
-          let v = fits_unasked w P (ap requester_in found ∙ may.unasked) valid in
+          let v = fits found in
           let s = safe_form w P v in
-          inl (changed_fits w P t e (Swap word (running_too (read_safe word) t)) s.0 (including s.0 t) within (resume_changes v s.0 word s.1 may found) v)
-      cases false h = missing_valid word (running_too (read_safe word) t) h valid
+          inl (changed_fits w P t e (Swap word new) s.0 (g s.0) within (changes v s.0 s.1 found) v)
+      cases false h = miss_valid w P t (swap e Safepoint word new) within (record { missed = h; may = may_look_safe (w.known t) }) valid
 
   -- the state with t's request, and t not running
   abbrev requested : SafeForm → SafeForm
@@ -169,24 +162,19 @@ module _ (w : World) (P : List PlainObject) (t : ℕ) (e : Purpose) (within : t 
       goes_on_seen true r asks = absurd (running_unreached w P t t v.safe may.runs r)
       goes_on_seen false r asks = ap (λ b. cond b (seen_before w.shape (w.known t)) []) may.runs
 
-  request_valid : (word : ℕ) → MayRequest (w.known t) e word → IsValid w P → IsValid (world_after (request_plan e t word) t w) P
-  request_valid word may valid =
-      let v = fits_running w P t may.runs valid in
-      let s = safe_form w P v in
-      cases v s.0 s.1 (w.words Safepoint == word) refl
-    where
-      cases : Fits w P → (f : SafeForm) → read_safe (w.words Safepoint) ≡ Some f → (b : Bool) → (w.words Safepoint == word) ≡ b
-          → IsValid (world_after (request_plan e t word) t w) P
-      cases v f reads true h =
-          inl (changed_fits w P t e (Swap word (requested_by (read_safe word) t)) f (requested f) within (request_changes v f word reads may (eqb-true (w.words Safepoint) word h)) v)
-      cases v f reads false h = missing_valid word (requested_by (read_safe word) t) h valid
-
 -- THE LAWS
 pub stopping_valid : (e : Purpose) → KeepsValid (λ w t. MayStop (w.known t) e) (λ w t. stop_plan e t)
-stopping_valid e w P t within may valid = stop_valid w P t e within may valid
+stopping_valid e w P t within may valid =
+    let v = fits_running w P t may.runs valid in
+    let s = safe_form w P v in
+    inl (changed_fits w P t e (Mask (all_but t)) s.0 (without s.0 t) within (stop_changes w P t e within v s.0 s.1 may) v)
 
 pub resuming_valid : (e : Purpose) (word : ℕ) → KeepsValid (λ w t. MayResume (w.known t) e word) (λ w t. resume_plan e t word)
-resuming_valid e word w P t within may valid = resume_valid w P t e within word may valid
+resuming_valid e word w P t within may valid =
+    by_word w P t e within word (running_too (read_safe word) t) (λ f. including f t) (λ found. fits_unasked w P (ap requester_in found ∙ may.unasked) valid)
+    (λ v f reads. resume_changes w P t e within v f word reads may) valid
 
 pub requesting_valid : (e : Purpose) (word : ℕ) → KeepsValid (λ w t. MayRequest (w.known t) e word) (λ w t. request_plan e t word)
-requesting_valid e word w P t within may valid = request_valid w P t e within word may valid
+requesting_valid e word w P t within may valid =
+    by_word w P t e within word (requested_by (read_safe word) t) (requested w P t e within) (λ found. fits_running w P t may.runs valid)
+    (λ v f reads. request_changes w P t e within v f word reads may) valid
