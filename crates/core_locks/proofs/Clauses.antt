@@ -39,32 +39,8 @@ parts_of w objects = record {
 }
 
 pub data Clause : Type 0 where
-  limits : Clause
-  legal : Clause
-  taken : Clause
-  sized : Clause
-  numbered : Clause
-  absent : Clause
-  seen : Clause
-  forms : Clause
-  safe : Clause
-  quiet : Clause
-  holds : Clause
-  owners : Clause
-  biases : Clause
-  records : Clause
-  inflating : Clause
-  monitors : Clause
-  recursions : Clause
-  hashes : Clause
-  draws : Clause
-  slots : Clause
-  waits : Clause
-  stamps : Clause
-  lengths : Clause
-  claims : Clause
-  classes : Clause
-  shots : Clause
+  limits legal taken sized numbered absent seen forms safe quiet holds owners biases : Clause
+  records inflating monitors recursions hashes draws slots waits stamps lengths claims classes shots : Clause
 
 -- what a clause says of these parts
 abbrev pub Holds : Parts → Clause → Type 0
@@ -114,11 +90,34 @@ clauses w objects v limits = v.limits
 clauses w objects v _ = search v
 
 pub fits : (w : World) (objects : List PlainObject) → AllHold (parts_of w objects) → Fits w objects
-fits w objects h =
-    search (
-      h limits, h legal, h taken, h sized, h numbered, h absent, h seen, h forms, h safe, h quiet, h holds, h owners, h biases, h records, h inflating, h monitors,
-      h recursions, h hashes, h draws, h slots, h waits, h stamps, h lengths, h claims, h classes, h shots
-    )
+fits w objects h = record {
+  limits = h limits;
+  legal = h legal;
+  taken = h taken;
+  sized = h sized;
+  numbered = h numbered;
+  absent = h absent;
+  seen = h seen;
+  forms = h forms;
+  safe = h safe;
+  quiet = h quiet;
+  holds = h holds;
+  owners = h owners;
+  biases = h biases;
+  records = h records;
+  inflating = h inflating;
+  monitors = h monitors;
+  recursions = h recursions;
+  hashes = h hashes;
+  draws = h draws;
+  slots = h slots;
+  waits = h waits;
+  stamps = h stamps;
+  lengths = h lengths;
+  claims = h claims;
+  classes = h classes;
+  shots = h shots;
+}
 
 -- the parts of a world x in which each lock and header is as it was in w
 abbrev pub kept_locks : World → Parts → Parts
