@@ -25,17 +25,8 @@ module _ (w : World) (P : List PlainObject) (t o p : ℕ) (path : Path) (within 
   enters : enter (monitor_of P o) t ≡ Some m
   enters = elim (owner_is (monitor_of P o).owner refl) [
     | inl h ↦
-        let other : owner_at P o t ≡ false = ap (λ b. is_thread b t) h in
-        let outside : is_outside (monitor_of P o) t ≡ true = λ i. not (unlisted.0 i) && not (unlisted.1 i) in
-        let first : 1 ≡ (monitor_of P o).count + 1 = let none = free_count h in omega (arith, none) in
-        ap (λ b. cond b (Some (record (monitor_of P o) { count = (monitor_of P o).count + 1 })) (only_if (is_none (monitor_of P o).owner && is_outside (monitor_of P o) t) (record (monitor_of P o) { owner = Some t; count = 1 }))) other
-        ∙ ap (λ b. only_if (is_none b && is_outside (monitor_of P o) t) (record (monitor_of P o) { owner = Some t; count = 1 })) h
-        ∙ ap (λ b. only_if b (record (monitor_of P o) { owner = Some t; count = 1 })) outside
-        ∙ ap (λ n. Some (record (monitor_of P o) { owner = Some t; count = n })) first
-    | inr h ↦
-        let own : owner_at P o t ≡ true = ap (λ b. is_thread b t) h ∙ same_number t in
-        ap (λ b. cond b (Some (record (monitor_of P o) { count = (monitor_of P o).count + 1 })) (only_if (is_none (monitor_of P o).owner && is_outside (monitor_of P o) t) (record (monitor_of P o) { owner = Some t; count = 1 }))) own
-        ∙ ap (λ b. Some (record (monitor_of P o) { owner = b; count = (monitor_of P o).count + 1 })) h
+        let none = free_count h in rw (h, unlisted.0, unlisted.1, none) refl
+    | inr h ↦ rw (h, same_number t) refl
   ]
 
   -- it holds once more by the plain monitor, and has no hold word besides those any more

@@ -1,6 +1,6 @@
 -- The Exit that a step logs, as the plain objects take it from their owner, and what the thread has seen of its own displaced words.
 use Rattle.core_locks.proofs.Prelude.{◌≡◌, ℕ, ◌+◌, ◌<◌, ◌==◌, true, List, [], ◌∷◌, ◌++◌, length, slice_set, Some, refl, sym, ap, ◌∙◌, arith, inl, same_Some, PlainMonitor, exit, PlainObject, take_entry, with_monitor, Logged, last_stamp, Exit, Name, Stamp, Displaced, inflation_in, Known, last_seen, World, logs, Lock, lock, header, inflations, object_of, monitor_of, hash_at, waits_at, notified_at, inflated_to, Fits, bound_stamp, inflations_stay, IsOwnEntry, is_thread, owner_at, owns, by_equal, false, ◌≢◌}
-use Rattle.core_locks.proofs.Logging.{IsLogging}
+use Rattle.core_locks.proofs.Logging.{IsLogging, next_logging}
 use Rattle.core_locks.proofs.Clauses.{Parts, parts_of}
 use Rattle.core_locks.proofs.Steps.{Fields, IsStep, next, stepped, logs_next}
 use Rattle.core_locks.proofs.Updates.{monitor_here, monitor_else, takes, hashes_stay, slots_stay, waits_stay, called_stay}
@@ -40,19 +40,7 @@ module _ (P : List PlainObject) (o : ℕ) (m : PlainMonitor) (inside : o < lengt
 -- the stamp of the owner's entry is above its last one, which bounds the entries on the object
 pub exit_logging : (w : World) (P Q : List PlainObject) (t o : ℕ) (l : Known) → t < w.shape.threads → (monitor_of P o).owner ≡ Some t → take_entry P t (Exit o) ≡ Some Q
     → l.log ≡ (w.known t).log ++ exit_entry (w.known t) o ∷ [] → IsOwnEntry (w.known t) (Exit o) → IsLogging w P Q t (exit_entry (w.known t) o) l
-exit_logging w P Q t o l within owner taken grows own = record {
-  within = within;
-  grows = grows;
-  taken = taken;
-  own = own;
-  up = omega arith;
-  above = λ i b.
-      let s : o ≡ i = same_Some o i b in
-      let last = ap (bound_stamp (λ u. (w.known u).log) (w.words (Stamp o))) owner in
-      let bound = ap (λ j. bound_stamp (λ u. (w.known u).log) (w.words (Stamp j)) (monitor_of P j).owner) (sym s) ∙ last in
-      omega (arith, bound);
-  follows = λ k. refl;
-}
+exit_logging w P Q t o l within owner taken grows own = next_logging within grows taken own refl (λ i b. ap (λ j. (monitor_of P j).owner) (sym (same_Some o i b)) ∙ owner)
 
 -- a displaced word of its own is as a running thread last saw it
 pub own_displaced : (w : World) (P : List PlainObject) (t p h : ℕ) → Fits w P → (w.known t).running ≡ true → last_seen (Displaced (w.known t).thread p) (w.known t).seen ≡ Some h

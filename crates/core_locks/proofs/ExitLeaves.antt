@@ -38,11 +38,6 @@ counted_met : (b : Bool) → 1 ≤ one_if b → b ≡ true
 counted_met true h = refl
 counted_met false h = absurd (omega arith)
 
--- the thread that a lock leans on
-leaner : Lock → ℕ
-leaner (BiasedTo u) = u
-leaner _ = 0
-
 module _ (w : World) (P : List PlainObject) (t o d p : ℕ) (within : t < w.shape.threads) (may : MayLeave w.shape (w.known t) o d p) (v : Fits w P) where
   by_stage : (F : Stage → Type 0) → F Calm → F (Behind o) → F (w.known t).stage
   by_stage F a b = elim may.before [ inl c ↦ subst F (sym c.0) a | inr c ↦ elim c [ inl f ↦ subst F (sym f.0) b | inr f ↦ subst F (sym f.0) a ] ]
@@ -112,7 +107,6 @@ module _ (w : World) (P : List PlainObject) (t o d p : ℕ) (within : t < w.shap
 
   -- the third way: the mark has the bias pattern still, and nobody holds such an object but the thread of its valid bias
   leans : SawBiased (w.known t) o → lock w o ≡ BiasedTo t
-  unfolding leaner
   leans saw = by_lock (lock w o) refl
     where
       still : is_biased (marks w o) ≡ true
@@ -122,7 +116,7 @@ module _ (w : World) (P : List PlainObject) (t o d p : ℕ) (within : t < w.shap
       unless n = let none = v.biases.unheld o t still n in let deepest = may.deepest in let some = leaves_some in absurd (omega (arith, none, deepest, some))
 
       by_lock : (f : Lock) → lock w o ≡ f → lock w o ≡ BiasedTo t
-      by_lock (BiasedTo u) e = by_equal u t (λ s. e ∙ ap BiasedTo s) (λ n. absurd (unless (λ g. n (ap leaner (sym e ∙ g)))))
+      by_lock (BiasedTo u) e = by_equal u t (λ s. e ∙ ap BiasedTo s) (λ n. absurd (unless (λ g. n (cc (e, g)))))
       by_lock _ e = absurd (unless (λ g. cc (e, g)))
 
   -- there are several holds, or the object leans on the thread

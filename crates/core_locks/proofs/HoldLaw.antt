@@ -62,16 +62,19 @@ module _ (w : World) (P : List PlainObject) (t : ℕ) (e : Purpose) (o d p : ℕ
   further_depth : 1 ≤ hold_count o old → 2 ≤ d
   further_depth more = omega (arith, may.depth, more)
 
+  -- recursions count no record of depth 1
+  first_uncounted : (i : ℕ) → hold_count o old ≡ 0 → one_if (((o == i) && nat_lt 1 d) && (displaced_words w t p == 3)) ≡ 0
+  first_uncounted i none =
+      let shallow : nat_lt 1 d ≡ false = (let n = first_depth none in grind (arith, nat_tests)) in
+      ap (λ (b : Bool). one_if (((o == i) && b) && (displaced_words w t p == 3))) shallow
+      ∙ ap (λ (b : Bool). one_if (b && (displaced_words w t p == 3))) (and-false (o == i))
+
   -- the new record is one that recursions count exactly where the word was raised before
   counted_before : (i : ℕ) → lock w i ≡ OwnedBy t → Way w P t o p → one_if (((o == i) && nat_lt 1 d) && (displaced_words w t p == 3)) ≡ recursions_ahead (w.known t).stage i
-  counted_before i g (BySeizing a) =
-      let shallow : nat_lt 1 d ≡ false = (let n = first_depth a.none in grind (arith, nat_tests)) in
-      ap (λ (b : Bool). one_if (((o == i) && b) && (displaced_words w t p == 3))) shallow ∙ ap (λ (b : Bool). one_if (b && (displaced_words w t p == 3))) (and-false (o == i)) ∙ sym (ap (λ s. recursions_ahead s i) a.stage)
+  counted_before i g (BySeizing a) = first_uncounted i a.none ∙ sym (ap (λ s. recursions_ahead s i) a.stage)
   counted_before i g (ByHolding a) =
       ap (λ n. one_if (((o == i) && nat_lt 1 d) && (n == 3))) a.zero ∙ ap one_if (and-false ((o == i) && nat_lt 1 d)) ∙ sym (ap (λ s. recursions_ahead s i) a.stage)
-  counted_before i g (ByGrabbing a) =
-      let shallow : nat_lt 1 d ≡ false = (let n = first_depth a.none in grind (arith, nat_tests)) in
-      ap (λ (b : Bool). one_if (((o == i) && b) && (displaced_words w t p == 3))) shallow ∙ ap (λ (b : Bool). one_if (b && (displaced_words w t p == 3))) (and-false (o == i)) ∙ sym (ap (λ s. recursions_ahead s i) a.stage)
+  counted_before i g (ByGrabbing a) = first_uncounted i a.none ∙ sym (ap (λ s. recursions_ahead s i) a.stage)
   counted_before i g (ByLeaning a) =
       by_equal o i
       (λ s. let same : BiasedTo t ≡ OwnedBy t = sym a.leans ∙ ap (lock w) s ∙ g in absurd (cc same))

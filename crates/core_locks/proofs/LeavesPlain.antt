@@ -1,7 +1,7 @@
 -- The plain objects take the Wait: the thread owns the object no more, and stands last among those who wait.
 use Rattle.core_locks.proofs.Prelude.{◌≡◌, ◌≢◌, ◌⊎◌, ℕ, ◌+◌, ◌||◌, ne_eqb, Bool, true, false, cond, List, [], ◌∷◌, ◌++◌, slice_set, Some, None, refl, sym, ap, ◌∙◌, arith, inl, inr, same_Some, PlainMonitor, is_thread, is_listed, owns, only_if, PlainObject, take_entry, with_monitor, Logged, last_stamp, Stamp, bears, Known, World, who, holder, hold_count, holds_by_monitor, object_of, monitor_of, owner_at, waits_at, notified_at, or_zero, Fits, bound_stamp, by_equal, thread_is, unlisted_count, subst}
 use Rattle.plain_monitor.specs.declared.entry.Entry.TheVariants as entry
-use Rattle.core_locks.proofs.Logging.{IsLogging}
+use Rattle.core_locks.proofs.Logging.{IsLogging, next_logging}
 use Rattle.core_locks.proofs.Updates.{takes, monitor_here, each_object}
 use Rattle.core_locks.proofs.WaitOut.{no_other, out_unlisted}
 use Rattle.core_locks.proofs.LeavesLists.{listed_forth, listed_last, listed_back, count_last, count_else}
@@ -85,16 +85,4 @@ module _ {w : World} {P : List PlainObject} {o m t : ℕ} (v : Fits w P) (s : Is
   -- what the entry is above, and why it may be logged
   pub is_logging : (l : Known) → l.log ≡ (w.known t).log ++ wait_entry (w.known t) o ∷ [] → IsLogging w P (left_objects P o t) t (wait_entry (w.known t) o) l
   is_logging l grows =
-      record {
-        within = s.within;
-        grows = grows;
-        taken = taken;
-        own = record { operation = inr s.waits; shot = tt };
-        up = omega arith;
-        above = λ i e.
-            let same : o ≡ i = same_Some o i e in
-            let bound : bound_stamp (λ u. (w.known u).log) (w.words (Stamp i)) (monitor_of P i).owner ≡ last_stamp (w.known t).log =
-            ap (λ j. bound_stamp (λ u. (w.known u).log) (w.words (Stamp j)) (monitor_of P j).owner) (sym same) ∙ ap (bound_stamp (λ u. (w.known u).log) (w.words (Stamp o))) owner_before in
-            omega (arith, bound);
-        follows = λ k. refl;
-      }
+      next_logging s.within grows taken (record { operation = inr s.waits; shot = tt }) refl (λ i e. ap (λ j. (monitor_of P j).owner) (sym (same_Some o i e)) ∙ owner_before)

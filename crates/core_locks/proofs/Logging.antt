@@ -1,5 +1,5 @@
 -- What follows where a thread logs an entry that the plain objects take: the logs, their order, the stamps and the lengths.
-use Rattle.core_locks.proofs.Prelude.{◌≡◌, ◌≢◌, ℕ, zero, suc, ◌+◌, ◌<◌, ◌≤◌, ◌||◌, Bool, true, false, List, [], ◌∷◌, ◌++◌, length, slice_set, Option, Some, None, refl, sym, ap, ◌∙◌, subst, arith, slice_get, option_and_then, option_map, AllByRecursion, PlainObject, take_entry, take_at, take_named, Logged, last_stamp, objects_after, LegalObjects, log_of, appended, Entry, order, all_weaker, order_appended, last_more, bound_to, IsBounded, Stamp, Known, World, with_known, logs, logs_from, monitor_of, is_taking, Fits, last_entry, ends, is_ending, bound_stamp, StampsFit, entries, LengthsFit, log_limit, by_equal, each_with_known, with_known_here, with_known_else, logs_length, log_at, logs_grow, IsOwnEntry}
+use Rattle.core_locks.proofs.Prelude.{◌≡◌, ◌≢◌, ℕ, zero, suc, ◌+◌, ◌<◌, ◌≤◌, ◌||◌, Bool, true, false, List, [], ◌∷◌, ◌++◌, length, slice_set, Option, Some, None, refl, sym, ap, ◌∙◌, subst, arith, slice_get, option_and_then, option_map, AllByRecursion, PlainObject, take_entry, take_at, take_named, Logged, last_stamp, objects_after, LegalObjects, log_of, appended, Entry, order, all_weaker, order_appended, last_more, bound_to, IsBounded, Stamp, Known, World, with_known, logs, logs_from, monitor_of, is_taking, Fits, last_entry, ends, is_ending, bound_stamp, StampsFit, entries, LengthsFit, log_limit, by_equal, each_with_known, with_known_here, with_known_else, logs_length, log_at, logs_grow, IsOwnEntry, same_Some, taken_at}
 use Rattle.std.proofs.lemmas.List.{length-append, length-set}
 use Rattle.plain_monitor.specs.Objects.{named}
 use Rattle.plain_monitor.proofs.Orders.{all_insert}
@@ -30,17 +30,9 @@ entries_more (log ∷ all) (suc t) l h = let a = entries_more all t l (omega ari
 pub taken_length : (P Q : List PlainObject) (t : ℕ) (e : Entry) → take_entry P t e ≡ Some Q → length Q ≡ length P
 taken_length P Q t e h = by_name (named e) h
   where
-    by_object : (o : ℕ) (a : Option PlainObject) → option_map (λ y. slice_set P o y) a ≡ Some Q → length Q ≡ length P
-    by_object o None g = absurd (cc g)
-    by_object o (Some y) g = let same : slice_set P o y ≡ Q = cc g in ap (λ R. length R) (sym same) ∙ length-set P o y
-
-    by_get : (o : ℕ) (a : Option PlainObject) → option_and_then (λ x. option_map (λ y. slice_set P o y) (take_at x t e)) a ≡ Some Q → length Q ≡ length P
-    by_get o None g = absurd (cc g)
-    by_get o (Some x) g = by_object o (take_at x t e) g
-
     by_name : (a : Option ℕ) → take_named P t e a ≡ Some Q → length Q ≡ length P
-    by_name None g = let same : P ≡ Q = cc g in ap (λ R. length R) (sym same)
-    by_name (Some o) g = by_get o (slice_get P o) g
+    by_name None g = ap (λ R. length R) (sym (same_Some P Q g))
+    by_name (Some o) g = let a = taken_at P Q t e o g in ap (λ R. length R) a.is ∙ length-set P o a.y
 
 -- Thread t, which knew what it knew in w, logs y and then knows l; the plain objects P take the entry and become Q. The stamp is above t's last,
 -- and where the entry is bound to an object, above that object's bound. The entry is that of its own operation.
@@ -52,6 +44,19 @@ pub record IsLogging (w : World) (P Q : List PlainObject) (t : ℕ) (y : Logged)
   pub own : IsOwnEntry (w.known t) y.entry
   pub above : (o : ℕ) → bound_to y.entry ≡ Some o → bound_stamp (λ u. (w.known u).log) (w.words (Stamp o)) (monitor_of P o).owner < y.stamp
   pub follows : is_taking y.entry ≡ false → y.stamp ≡ last_stamp (w.known t).log + 1
+
+-- so it is with the thread's next stamp, and an entry that is bound to no object but one that the thread owns: its last stamp is the bound there
+pub next_logging : {w : World} {P Q : List PlainObject} {t : ℕ} {y : Logged} {l : Known} → t < w.shape.threads → l.log ≡ (w.known t).log ++ y ∷ [] → take_entry P t y.entry ≡ Some Q
+    → IsOwnEntry (w.known t) y.entry → y.stamp ≡ last_stamp (w.known t).log + 1 → ((o : ℕ) → bound_to y.entry ≡ Some o → (monitor_of P o).owner ≡ Some t) → IsLogging w P Q t y l
+next_logging {w} within grows taken own stamp owned = record {
+  within = within;
+  grows = grows;
+  taken = taken;
+  own = own;
+  up = omega (arith, stamp);
+  above = λ o e. let b = ap (bound_stamp (λ u. (w.known u).log) (w.words (Stamp o))) (owned o e) in omega (arith, b, stamp);
+  follows = λ k. stamp;
+}
 
 module _ (w : World) (P Q : List PlainObject) (t : ℕ) (y : Logged) (l : Known) (v : Fits w P) (a : IsLogging w P Q t y l) where
   -- the logs afterwards

@@ -1,5 +1,5 @@
 -- What the threads have seen stays when a running thread makes a step on a word on which no other counts, with the same marks and plain objects.
-use Rattle.core_locks.proofs.Prelude.{◌≡◌, ◌≢◌, ℕ, ◌||◌, Bool, true, false, List, [], ◌∷◌, Option, Some, None, refl, sym, ap, ◌∙◌, inl, inr, PlainObject, Mark, Waiting, StepPlan, is_biased, monitor_in, waits_on, inflation_in, bears, revocation_in, word_after, same_name, its_monitor, Known, World, with_word_and_known, marks, prototype_of, owner_at, waits_at, Stays, IsKeptOrNamed, SeenStays, known_hit, seen_before, Fits, SeenFit, seen_is_part, stays_back, Back, Spares, seen_moves, counts_more}
+use Rattle.core_locks.proofs.Prelude.{◌≡◌, ◌≢◌, ℕ, ◌||◌, Bool, true, false, List, [], ◌∷◌, Option, Some, None, refl, sym, ap, ◌∙◌, inl, inr, PlainObject, Mark, Waiting, StepPlan, is_biased, monitor_in, waits_on, inflation_in, bears, revocation_in, word_after, same_name, its_monitor, Known, World, with_word_and_known, marks, prototype_of, owner_at, waits_at, Stays, IsKeptOrNamed, SeenStays, known_hit, seen_before, Fits, SeenFit, seen_is_part, stays_back, Back, Spares, seen_moves, counts_more, hits, world_after, known_miss, subst, cond}
 use Rattle.std.proofs.Math.Bool.{or-true}
 use Rattle.std.specs.Prelude.{IfSome}
 use Rattle.core_locks.proofs.Steps.{none_reached}
@@ -10,6 +10,12 @@ left_with w t plan = known_hit w.shape w.start plan (w.words plan.at) (w.known t
 
 abbrev pub hit_world : World → ℕ → StepPlan → World
 hit_world w t plan = with_word_and_known plan.at (word_after plan.act (w.words plan.at)) t (left_with w t plan) w
+
+-- every clause holds after a step that hits, where it holds in that world
+pub hit_moved : (w : World) (P : List PlainObject) (t : ℕ) (p : StepPlan) → hits p.act (w.words p.at) ≡ true → Fits (hit_world w t p) P → Fits (world_after p t w) P
+hit_moved w P t p h =
+    let missed = known_miss w.shape w.start p (w.words p.at) (w.known t) in
+    subst (λ b. Fits (with_word_and_known p.at (word_after p.act (w.words p.at)) t (cond b (left_with w t p) missed) w) P) (sym h)
 
 pub record OnOwn (w : World) (P : List PlainObject) (t : ℕ) (p : StepPlan) : Type 0 where
   pub runs : (w.known t).running ≡ true

@@ -31,18 +31,14 @@ quiet_owner P t o y m within own bound names untaking same taken =
 
 -- a notify where nobody waits
 notify_taken : (x : PlainObject) (t o : ℕ) → owns x.monitor t ≡ true → x.monitor.waits ≡ [] → take_at x t (Notify o None) ≡ Some x
-notify_taken x t o own none =
-    ap (with_monitor x) (ap (λ b. if b then calls x.monitor x.monitor.waits None else None) own ∙ ap (λ ps. calls x.monitor ps None) none)
+notify_taken x t o own none = rw (own, none) refl
 
 -- and a notify of all
 abbrev all_called : PlainMonitor → PlainMonitor
 all_called m = record m { waits = []; called = m.called ++ m.waits }
 
 notify_all_taken : (x : PlainObject) (t o n : ℕ) → owns x.monitor t ≡ true → x.monitor.waits ≡ [] → n ≡ 0 → take_at x t (NotifyAll o n) ≡ Some (record x { monitor = all_called x.monitor })
-notify_all_taken x t o n own none few =
-    ap (λ b. with_monitor x (only_if (b && (length x.monitor.waits == n)) (all_called x.monitor))) own
-    ∙ ap (λ ps. with_monitor x (only_if (length ps == n) (all_called x.monitor))) none
-    ∙ ap (λ k. with_monitor x (only_if (0 == k) (all_called x.monitor))) few
+notify_all_taken x t o n own none few = rw (own, none, few) refl
 
 nobody_called : (m : PlainMonitor) → m.waits ≡ [] → all_called m ≡ m
 nobody_called m none =

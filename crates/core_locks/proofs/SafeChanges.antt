@@ -1,8 +1,7 @@
 -- A step that changes the safepoint word keeps every clause, by the state that the word spelled and the one that it spells then.
 use Rattle.core_locks.proofs.Prelude.{◌≡◌, ◌≢◌, ℕ, ◌<◌, ◌&&◌, ◌||◌, Bool, true, false, List, ◌∷◌, length, Some, None, refl, sym, ap, ◌∙◌, subst, inl, inr, IfSome, SafeForm, safe_of, read_safe, IsSafeInRange, read_safe-safe_of, is_thread, PlainObject, Safepoint, Waiting, Calm, says_ended, is_halted, asks_in, runs_form, runs_in, requester_form, requester_in, halted_form, word_after, hits, Known, StepMade, World, with_word_and_known, with_known, monitor_of, owner_at, waits_at, Purpose, quiet_plan, world_after, known_hit, seen_before, kept_by_act, reached_after, runs_after, asks_after, Fits, SeenFit, ends, IsStuck, IsSafepoint, Act, each_with_known, part_moves, stays_back, Spares, seen_moves, Counts, GoesOn}
-use Rattle.core_locks.proofs.SafeFacts.{hit_moved}
 use Rattle.core_locks.proofs.Clauses.{kept_parts, parts_stand, absent, seen, forms, safe, quiet as calmly, waits, stamps, shots, lengths, AllHold, clauses}
-use Rattle.core_locks.proofs.OwnSeen.{back_by}
+use Rattle.core_locks.proofs.OwnSeen.{back_by, hit_moved}
 use Rattle.core_locks.proofs.Steps.{asking, IsStep, next, step_fits, seen_next, absent_next, waits_go_on, stamps_go_on, dumps_go_on}
 
 -- a halt by thread t: nobody runs, and the threads are stuck
@@ -166,5 +165,5 @@ module _ (w : World) (P : List PlainObject) (t : ℕ) (e : Purpose) (act : Act) 
 
   pub changed_fits : Fits (world_after (quiet_plan e Safepoint act) t w) P
   changed_fits =
-      hit_moved w P t e act c.hit (subst (λ n. Fits (with_word_and_known Safepoint n t l w) P) (sym c.left)
+      hit_moved w P t (quiet_plan e Safepoint act) c.hit (subst (λ n. Fits (with_word_and_known Safepoint n t l w) P) (sym c.left)
       (step_fits step x.words P (kept_parts w z P) (parts_stand w z P refl (λ u. refl) (λ u. refl) refl refl refl (λ e. refl)) all_after))

@@ -85,10 +85,3 @@ reached_reads w P t v reached =
 -- so is the word then
 pub reached_found : (w : World) (P : List PlainObject) (t : ℕ) → Fits w P → (w.known t).reached ≡ true → w.words Safepoint ≡ safe_of (reached_form t)
 reached_found w P t v reached = (read_safe-spells (w.words Safepoint) (reached_form t) (reached_reads w P t v reached)).1
-
--- the world after a step that hits
-pub hit_moved : (w : World) (P : List PlainObject) (t : ℕ) (e : Purpose) (act : Act) → hits act (w.words Safepoint) ≡ true
-    → Fits (with_word_and_known Safepoint (word_after act (w.words Safepoint)) t (known_hit w.shape w.start (quiet_plan e Safepoint act) (w.words Safepoint) (w.known t)) w) P → Fits (world_after (quiet_plan e Safepoint act) t w) P
-hit_moved w P t e act h v =
-    let p = quiet_plan e Safepoint act in
-    subst (λ b. Fits (with_word_and_known Safepoint (word_after act (w.words Safepoint)) t (cond b (known_hit w.shape w.start p (w.words Safepoint) (w.known t)) (known_miss w.shape w.start p (w.words Safepoint) (w.known t))) w) P) (sym h) v

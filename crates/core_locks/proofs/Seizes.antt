@@ -3,6 +3,7 @@ use Rattle.core_locks.proofs.Prelude.{◌≡◌, ◌≢◌, ◌⊎◌, ℕ, zero
 use Rattle.core_locks.proofs.MarkMeanings.{forms_marked, IsBare, bare_unnamed, neutral_bare, neutral_some, neutral_lock, neutral_header, locked_read, locked_bare, locked_some, locked_lock, locked_header}
 use Rattle.core_locks.proofs.MarkChanges.{names_same, bias_back, bias_forth, bias_before, zero_back, zero_forth, lock_at, header_same, mark_back, mark_spares, recursions_by_marks, biases_by_marks, classes_by_marks, inflating_by_marks}
 use Rattle.core_locks.proofs.LockTurns.{owners_taken}
+use Rattle.core_locks.proofs.OwnSeen.{hit_moved}
 use Rattle.core_locks.proofs.WaitOut.{no_other}
 use Rattle.core_locks.proofs.MarkHolds.{standing_names}
 use Rattle.core_locks.proofs.Clauses.{turned_parts, parts_turn, seen, forms, holds, owners, biases, records, inflating, recursions, hashes, classes, AllHold}
@@ -202,11 +203,7 @@ pub seizes : (e : Purpose) (o mark p : ℕ) → KeepsValid (λ w t. MaySeize (w.
 seizes e o mark p w P t within may valid = by_test (w.words (Mark o) == mark) refl
   where
     by_test : (b : Bool) → (w.words (Mark o) == mark) ≡ b → IsValid (world_after (seize_plan e t o mark p) t w) P
-    by_test true hit =
-        let plan = seize_plan e t o mark p in
-        let hits_so : known_hit w.shape w.start plan (w.words (Mark o)) (w.known t) ≡ known_after w.shape w.start plan (w.words (Mark o)) (w.known t) =
-        ap (λ (b : Bool). cond b (known_hit w.shape w.start plan (w.words (Mark o)) (w.known t)) (known_miss w.shape w.start plan (w.words (Mark o)) (w.known t))) (sym hit) in
-        inl (subst (λ k. Fits (with_word_and_known (Mark o) (word_after plan.act (w.words (Mark o))) t k w) P) hits_so (seized_fits w P t e o mark p within may hit (fits_running w P t may.runs valid)))
+    by_test true hit = inl (hit_moved w P t (seize_plan e t o mark p) hit (seized_fits w P t e o mark p within may hit (fits_running w P t may.runs valid)))
     by_test false missed =
         miss_valid w P t (seize_plan e t o mark p) within
         (record {

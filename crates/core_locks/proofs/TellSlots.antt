@@ -3,7 +3,7 @@ use Rattle.core_locks.proofs.Prelude.{◌≡◌, ℕ, zero, suc, ◌<◌, Bool, 
 use Rattle.std.proofs.lemmas.List.{length-set, length-replicate}
 use Rattle.std.proofs.lemmas.Option.{slice_get_within, get_or_from_slice_get}
 use Rattle.plain_monitor.specs.Objects.{named, new_object}
-use Rattle.core_locks.proofs.Updates.{object_here, object_else}
+use Rattle.core_locks.proofs.Updates.{part_stays}
 
 -- an option that is made where the test holds
 pub made_by : {A : Type 0} (b : Bool) (x y : A) → only_if b x ≡ Some y → x ≡ y
@@ -41,9 +41,7 @@ entry_slots P Q t e h i = by_name (named e) h
         let a = taken_at P Q t e o g in
         let b = got_object P o a.x a.was in
         let step : length a.y.slots ≡ length (object_of P o).slots = at_slots a.x a.y t e a.step ∙ ap (λ (z : PlainObject). length z.slots) (sym b.1) in
-        ap (λ R. length (object_of R i).slots) a.is ∙ by_equal i o
-        (λ s. ap (λ j. length (object_of (slice_set P o a.y) j).slots) s ∙ ap (λ (z : PlainObject). length z.slots) (object_here P o a.y b.0) ∙ step ∙ ap (λ j. length (object_of P j).slots) (sym s))
-        (λ d. ap (λ (z : PlainObject). length z.slots) (object_else P o i a.y d))
+        ap (λ R. length (object_of R i).slots) a.is ∙ sym (part_stays (λ y. length y.slots) P o a.y b.0 step i)
 
 -- the next lemma, by what the first entry makes of the objects
 all_slots_after : (P Q : List PlainObject) (x : ℕ × Logged) (xs : List (ℕ × Logged)) (i : ℕ) (a : Option (List PlainObject)) → take_entry P x.0 x.1.entry ≡ a

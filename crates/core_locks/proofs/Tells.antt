@@ -3,7 +3,7 @@ use Rattle.core_locks.proofs.Prelude.{◌≡◌, ◌⊎◌, ℕ, ◌+◌, ◌<�
 use Rattle.plain_monitor.specs.declared.entry.Entry.TheVariants as entry
 use Rattle.core_world.specs.declared.task.Op.TheVariants as op
 use Rattle.core_locks.proofs.Clauses.{Parts, parts_of, Clause, waits, stamps, slots}
-use Rattle.core_locks.proofs.Logging.{IsLogging, stamps_owned}
+use Rattle.core_locks.proofs.Logging.{IsLogging, next_logging, stamps_owned}
 use Rattle.core_locks.proofs.LoggedSteps.{Grown, logged_step}
 use Rattle.core_locks.proofs.Steps.{Fields, IsStep, next, logs_next}
 use Rattle.core_locks.proofs.TellTaken.{IsFreeToTell, IsTaken}
@@ -58,15 +58,7 @@ pub tells_so : {w : World} {P Q : List PlainObject} {t : ℕ} {y : Logged} {l : 
     → y.stamp ≡ last_stamp (w.known t).log + 1 → IsTaken P Q t y.entry → IsOwnEntry (w.known t) y.entry → IsTelling w P Q t y l
 tells_so {w} {P} {Q} {t} {y} {l} v within free grows stamp entry own = record {
   free = free;
-  logs = record {
-    within = within;
-    grows = grows;
-    taken = entry.taken;
-    own = own;
-    up = omega (arith, stamp);
-    above = λ o e. let b = ap (bound_stamp (λ u. (w.known u).log) (w.words (Stamp o))) (thread_is (monitor_of P o).owner t (entry.owned o e)) in omega (arith, b, stamp);
-    follows = λ k. stamp;
-  };
+  logs = next_logging within grows entry.taken own stamp (λ o e. thread_is (monitor_of P o).owner t (entry.owned o e));
   owned = entry.owned;
   stamp = stamp;
   monitors = entry.monitors;
