@@ -1,5 +1,5 @@
 -- A running thread that is taking an object logs its Enter or its Resume: every clause holds afterwards.
-use Rattle.core_locks.proofs.Prelude.{◌≡◌, ◌⊎◌, ℕ, ◌+◌, ◌<◌, ◌≤◌, max, true, false, cond, List, length, slice_set, Some, refl, sym, ap, ◌∙◌, subst, arith, inl, inr, same_Some, PlainMonitor, is_listed, PlainObject, take_entry, Logged, last_stamp, Entry, Wait, bound_to, bound_is_named, Stamp, Waiting, Recursions, Seizes, Resumes, Waits, Notifies, monitor_in, waits_on, says_notified, stamp_in, enters_on, says_ended, recursions_ahead, recursions_behind, notification_in, Known, World, logs, OwnedBy, lock, marks, displaced_words, recursion_count, object_of, monitor_of, owner_at, waits_at, notified_at, or_zero, SeenStays, RecursionsFit, GoesByMonitor, Purpose, logging_plan, world_after, known_after, stamp_by, Fits, SeenFit, WaitsFit, last_entry, ends, IsUnfinished, bound_stamp, StampsFit, lets_go, entries, Load, by_equal, each_with_known, with_known_here, with_known_else, header_stays, no_entering, no_ended, with_word_same, IsOut, StepMade, ◌≢◌, ◌==◌, ◌||◌, ne_eqb, Bool, [], ◌∷◌, Option, None, or-false, is_thread, count_of, owns, Calm, Exits, TakesOver, inflation_in, bears, hold_words_ahead, who, hold_count, holds_by_monitor, seen_before, same_number, outside_standing, who_bears, taken_alone, stays_back, seen_moves, counts_anew}
+use Rattle.core_locks.proofs.Prelude.{◌≡◌, ◌⊎◌, ℕ, ◌+◌, ◌<◌, ◌≤◌, max, true, false, cond, List, length, slice_set, Some, refl, sym, ap, ◌∙◌, subst, arith, inl, inr, same_Some, PlainMonitor, is_listed, PlainObject, take_entry, Logged, last_stamp, Entry, Wait, bound_to, bound_is_named, Stamp, Waiting, Recursions, Seizes, Resumes, Waits, Notifies, monitor_in, waits_on, says_notified, stamp_in, enters_on, says_ended, recursions_ahead, recursions_behind, notification_in, Known, World, logs, OwnedBy, lock, marks, displaced_words, recursion_count, object_of, monitor_of, owner_at, waits_at, notified_at, or_zero, SeenStays, RecursionsFit, GoesByMonitor, Purpose, logging_plan, world_after, known_after, stamp_by, Fits, SeenFit, WaitsFit, last_entry, ends, IsUnfinished, bound_stamp, StampsFit, lets_go, entries, Load, by_equal, each_with_known, with_known_here, with_known_else, header_stays, no_entering, no_ended, with_word_same, IsOut, StepMade, ◌≢◌, ◌==◌, ◌||◌, ne_eqb, Bool, [], ◌∷◌, Option, None, or-false, is_thread, count_of, owns, Calm, Exits, TakesOver, inflation_in, bears, hold_words_ahead, who, hold_count, holds_by_monitor, seen_before, same_number, outside_standing, who_bears, taken_alone, stays_back, seen_moves, counts_anew, Logs}
 use Rattle.core_world.specs.declared.task.Op.TheVariants as op
 use Rattle.core_locks.proofs.Clauses.{parts_of, kept_locks, kept_objects, locks_stand, seen, quiet, holds, owners, biases, records, recursions, waits, stamps, AllHold}
 use Rattle.core_locks.proofs.Steps.{noting, IsStep, next, stepped, step_fits, quiet_next, logs_next, seen_next, none_reached, stage_back, stage_part, inflates_stay}
@@ -9,7 +9,7 @@ use Rattle.core_locks.proofs.Logging.{IsLogging, last_next, bound_grows, stamps_
 use Rattle.core_locks.proofs.LoggedSteps.{logged_step}
 use Rattle.core_locks.proofs.Updates.{takes, hashes_stay, slots_stay, waits_stay, part_stays, each_object}
 use Rattle.core_locks.proofs.WaitOut.{fails, out_word, ready_is_out}
-use Rattle.core_locks.proofs.OwnSeen.{back_by}
+use Rattle.core_locks.proofs.OwnSeen.{other_back}
 use Rattle.core_locks.proofs.EnterTakes.{IsTaking, at_taking, ready_unwaiting, owner_or_taker}
 
 module _ (w : World) (P : List PlainObject) (t o : ℕ) (e : Entry) (r : Purpose) (m : PlainMonitor) (a : IsTaking w P t o e m) (v : Fits w P) where
@@ -126,8 +126,7 @@ module _ (w : World) (P : List PlainObject) (t o : ℕ) (e : Entry) (r : Purpose
       (ap (λ (b : Bool). let step : StepMade = record { plan = logging_plan e r (Stamp o) Load; found = w.words (Stamp o) } in step ∷ cond b [] (seen_before w.shape (w.known t))) a.taking)
       (counts_anew (Stamp o) (w.words (Stamp o)) t l w (owner_at Q) (waits_at Q) (λ i h. absurd (cc h)) (λ b g h. absurd (cc h)))
       (record {
-        before = λ u n s d h g. stays_back w x (w.known u) (w.known u) (owner_at P) (owner_at Q) u
-            (back_by w x (w.known u) (w.known u) (owner_at P) (owner_at Q) u refl refl (λ h. h) refl refl (λ h. h) refl (λ i h. sym (owner_other i u d) ∙ h) (λ i b m h. h)) n s g;
+        before = λ u n s d h g. other_back w x (w.known u) (owner_at P) (owner_at Q) u refl refl (λ i h. sym (owner_other i u d) ∙ h) n s g;
         owned = λ u i d h. sym (owner_other i u d) ∙ h;
         word = λ u s d h g. g;
         bias = λ i h. h;
@@ -314,3 +313,6 @@ module _ (w : World) (P : List PlainObject) (t o : ℕ) (e : Entry) (r : Purpose
 
   pub taking_fits : Fits x Q
   taking_fits = subst (λ f. Fits (stepped w t l f) Q) (sym (with_word_same (Stamp o) (w.words (Stamp o)) w.words refl)) (step_fits step w.words Q (kept_objects (stepped w t l w.words) P (kept_locks w (parts_of n Q))) parts all_after)
+
+  pub taking_logs : Logs w P t (logging_plan e r (Stamp o) Load) e
+  taking_logs = record { now = Q; taken = taken; valid = inl taking_fits }

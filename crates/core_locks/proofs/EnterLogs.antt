@@ -2,7 +2,7 @@
 use Rattle.core_locks.proofs.Prelude.{◌≡◌, ◌⊎◌, ℕ, ◌+◌, ◌<◌, ◌&&◌, not, true, false, cond, List, slice_set, Option, Some, None, refl, ap, ◌∙◌, arith, inl, inr, is_none, PlainMonitor, is_thread, is_listed, only_if, is_outside, enter, PlainObject, with_monitor, Enter, Path, Stamp, Recursions, Resumes, monitor_in, bears, hold_words_ahead, recursions_ahead, recursions_behind, one_if, World, OwnedBy, lock, marks, displaced_words, recursion_count, holds_by_monitor, object_of, monitor_of, owner_at, waits_at, notified_at, Purpose, logging_plan, Fits, lets_go, Load, same_number, sound, unlisted_count, unowned_count, fits_running, Logs, MayLogEnter, LogsValid, log_enter_plan}
 use Rattle.core_locks.proofs.WaitOut.{out_unlisted, out_standing, ready_is_out}
 use Rattle.core_locks.proofs.EnterTakes.{IsTaking, IsTakingAt, owner_or_taker}
-use Rattle.core_locks.proofs.EnterFits.{taken, taking_fits}
+use Rattle.core_locks.proofs.EnterFits.{taking_logs}
 
 module _ (w : World) (P : List PlainObject) (t o p : ℕ) (path : Path) (within : t < w.shape.threads) (may : MayLogEnter w.shape (w.known t) o p path) (v : Fits w P) where
   -- the plain monitor afterwards
@@ -55,12 +55,5 @@ module _ (w : World) (P : List PlainObject) (t o p : ℕ) (path : Path) (within 
       let stage : IsTakingAt (w.known t).stage o = inl (p, path, may.stage) in
       search (within, stage, ap (with_monitor (object_of P o)) enters, even, number, unlisted, recursions, may)
 
-  pub enter_logs : (e : Purpose) → Logs w P t (logging_plan (Enter o path) e (Stamp o) Load) (Enter o path)
-  enter_logs e = record {
-    now = slice_set P o (record (object_of P o) { monitor = m });
-    taken = taken w P t o (Enter o path) e m is_taking v;
-    valid = inl (taking_fits w P t o (Enter o path) e m is_taking v);
-  }
-
 pub logging_an_enter : (e : Purpose) (o p : ℕ) (path : Path) → LogsValid (λ w t. MayLogEnter w.shape (w.known t) o p path) (λ w t. log_enter_plan e o path) (Enter o path)
-logging_an_enter e o p path w P t within may valid = enter_logs w P t o p path within may (fits_running w P t may.runs valid) e
+logging_an_enter e o p path w P t within may valid = let v = fits_running w P t may.runs valid in taking_logs w P t o (Enter o path) e (m w P t o p path within may v) (is_taking w P t o p path within may v) v

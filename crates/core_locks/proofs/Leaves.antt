@@ -11,7 +11,7 @@ use Rattle.core_locks.proofs.LeavesStamps.{next_fits, waiter_bounded}
 use Rattle.core_locks.proofs.LeavesStates.{IsLeaving, leaving, waiting_word}
 use Rattle.core_locks.proofs.LoggedSteps.{logged_step}
 use Rattle.core_locks.proofs.Logging.{IsLogging, last_entry_more, bound_grows, stamps_next}
-use Rattle.core_locks.proofs.OwnSeen.{back_by}
+use Rattle.core_locks.proofs.OwnSeen.{back_by, other_back}
 use Rattle.core_locks.proofs.Steps.{stage_part, departing, IsStep, next, stepped, none_reached, each_written, step_fits, holds_next, quiet_next, logs_next, stage_back, stage_forth, inflates_stay}
 use Rattle.core_locks.proofs.Updates.{hashes_stay, slots_stay, called_stay}
 use Rattle.core_locks.proofs.WaitOut.{out_waits}
@@ -97,9 +97,6 @@ module _ (w : World) (P : List PlainObject) (t o m : ℕ) (e : Purpose) (goes_on
   owns_else : (u i : ℕ) → u ≢ t → owner_at P i u ≡ true → i ≢ o
   owns_else u i d e same = let none = (others_out v s u d).0 in absurd (cc (none, ap (λ j. owner_at P j u) (sym same) ∙ e))
 
-  back_other : (u : ℕ) → Back w x (w.known u) (w.known u) (owner_at P) (owner_at Q) u
-  back_other u = back_by w x (w.known u) (w.known u) (owner_at P) (owner_at Q) u refl refl (λ h. h) refl refl (λ h. h) refl (λ i h. (owner_back v s i u h).1) (λ i a g h. h)
-
   -- the thread itself bears o now, which it owned before
   back_own : Back w x (w.known t) l (owner_at P) (owner_at Q) t
   back_own = back_by w x (w.known t) l (owner_at P) (owner_at Q) t refl refl (λ h. h) refl (sym (ap inflation_in s.calm)) (λ h. v.quiet.none_revokes t) refl (λ i h. (owner_back v s i t h).1)
@@ -112,7 +109,7 @@ module _ (w : World) (P : List PlainObject) (t o m : ℕ) (e : Purpose) (goes_on
   spares : Spares (Waiting t) word t l w (owner_at P) (owner_at Q) (waits_at P) (waits_at Q)
   spares =
       record {
-        before = λ u n y d e g. stays_back w x (w.known u) (w.known u) (owner_at P) (owner_at Q) u (back_other u) n y g;
+        before = λ u n y d e g. other_back w x (w.known u) (owner_at P) (owner_at Q) u refl refl (λ i h. (owner_back v s i u h).1) n y g;
         owned = λ u i d e. (owner_back v s i u e).1;
         word = word_spared;
         bias = λ i e. e;

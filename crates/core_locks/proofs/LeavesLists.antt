@@ -1,5 +1,6 @@
 -- A list of waiters with one more at its end.
 use Rattle.core_locks.proofs.Prelude.{◌≡◌, ◌≢◌, ◌⊎◌, ℕ, zero, suc, ◌<◌, ◌==◌, ◌&&◌, ◌||◌, nat_lt, ne_eqb, Bool, true, false, cond, List, [], ◌∷◌, ◌++◌, Some, None, refl, sym, ap, ◌∙◌, arith, inl, inr, eqb-true, or-true, nat_tests, AllByRecursion, is_listed, count_of, all_push, waits_on, says_notified, stamp_in, StandByStamps, AreNotified, StandsBefore, same_number, frame2, or-false, subst}
+use Rattle.core_locks.proofs.WaitOut.{neither}
 use Rattle.std.proofs.Math.Bool.{or_assoc}
 use Rattle.std.proofs.lemmas.Bool.{or_cases}
 
@@ -20,12 +21,7 @@ listed_back ps t c u h = elim (or_cases (is_listed ps u) (t == u) (sym (listed_m
 -- the new one keeps its count
 pub count_last : (ps : List (ℕ × ℕ)) (t c : ℕ) → is_listed ps t ≡ false → count_of (ps ++ (t, c) ∷ []) t ≡ Some c
 count_last [] t c h = ap (λ (b : Bool). cond b (Some c) None) (same_number t)
-count_last (p ∷ ps) t c h = at_head (p.0 == t) h (count_last ps t c)
-  where
-    at_head : (b : Bool) → (b || is_listed ps t) ≡ false → (is_listed ps t ≡ false → count_of (ps ++ (t, c) ∷ []) t ≡ Some c)
-        → cond b (Some p.1) (count_of (ps ++ (t, c) ∷ []) t) ≡ Some c
-    at_head true h ih = absurd (cc h)
-    at_head false h ih = ih h
+count_last (p ∷ ps) t c h = let a = neither (p.0 == t) (is_listed ps t) (sym h) in rw a.0 (count_last ps t c a.1)
 
 -- and every other one the count that it had
 pub count_else : (ps : List (ℕ × ℕ)) (t c u : ℕ) → u ≢ t → count_of (ps ++ (t, c) ∷ []) u ≡ count_of ps u

@@ -1,5 +1,5 @@
 -- What the threads have seen stays when a running thread makes a step on a word on which no other counts, with the same marks and plain objects.
-use Rattle.core_locks.proofs.Prelude.{◌≡◌, ◌≢◌, ℕ, ◌||◌, Bool, true, false, List, [], ◌∷◌, Option, Some, None, refl, sym, ap, ◌∙◌, inl, inr, PlainObject, Mark, Waiting, StepPlan, is_biased, monitor_in, waits_on, inflation_in, bears, revocation_in, word_after, same_name, its_monitor, Known, World, with_word_and_known, marks, prototype_of, owner_at, waits_at, Stays, IsKeptOrNamed, SeenStays, known_hit, seen_before, Fits, SeenFit, seen_is_part, stays_back, Back, Spares, seen_moves, counts_more, hits, world_after, known_miss, subst, cond}
+use Rattle.core_locks.proofs.Prelude.{◌≡◌, ◌≢◌, ℕ, ◌||◌, Bool, true, false, List, [], ◌∷◌, Option, Some, None, refl, sym, ap, ◌∙◌, inl, inr, PlainObject, Mark, Waiting, StepPlan, is_biased, monitor_in, waits_on, inflation_in, bears, revocation_in, word_after, same_name, its_monitor, Known, World, with_word_and_known, marks, prototype_of, owner_at, waits_at, Stays, IsKeptOrNamed, SeenStays, known_hit, seen_before, Fits, SeenFit, seen_is_part, stays_back, Back, Spares, seen_moves, counts_more, hits, world_after, known_miss, subst, cond, Name}
 use Rattle.std.proofs.Math.Bool.{or-true}
 use Rattle.std.specs.Prelude.{IfSome}
 use Rattle.core_locks.proofs.Steps.{none_reached}
@@ -56,6 +56,12 @@ back_by w x k y owner next u mark prototype run ask inflates none_revokes kept f
   held = λ o m g h. held o m ((λ i. monitor_in (sym mark i o)) ∙ g) (either (next o u) (bears y.stage o) (owner o u) (fewer o) h);
 }
 
+-- so another thread, which knows what it knew, counted before on what it may count on
+pub other_back : (w x : World) (k : Known) (owner next : ℕ → ℕ → Bool) (u : ℕ) → marks x ≡ marks w → prototype_of x ≡ prototype_of w → ((o : ℕ) → next o u ≡ true → owner o u ≡ true)
+    → (n : Name) (s : ℕ) → Stays x k next u n s → Stays w k owner u n s
+other_back w x k owner next u mark prototype fewer =
+    stays_back w x k k owner next u (back_by w x k k owner next u mark prototype (λ h. h) refl refl (λ h. h) refl fewer (λ o m g h. h))
+
 -- who owns an object afterwards owned it before, and those who wait on each object on which somebody did are now `waiters`
 module _ (w : World) (P : List PlainObject) (t : ℕ) (p : StepPlan) (a : OnOwn w P t p) (next : ℕ → ℕ → Bool) (fewer : (o u : ℕ) → next o u ≡ true → owner_at P o u ≡ true) (waiters : ℕ → List (ℕ × ℕ))
     (no_more : (o : ℕ) → waits_at P o ≡ [] → waiters o ≡ []) (v : Fits w P) where
@@ -71,12 +77,9 @@ module _ (w : World) (P : List PlainObject) (t : ℕ) (p : StepPlan) (a : OnOwn 
   mine : Back w x (w.known t) l (owner_at P) next t
   mine = back_by w x (w.known t) l (owner_at P) next t a.marks a.prototypes (λ h. a.runs) a.requesting a.inflates (λ h. v.quiet.none_revokes t) a.kept (λ o. fewer o t) a.held
 
-  others : (u : ℕ) → Back w x (w.known u) (w.known u) (owner_at P) next u
-  others u = back_by w x (w.known u) (w.known u) (owner_at P) next u a.marks a.prototypes (λ h. h) refl refl (λ h. h) refl (λ o. fewer o u) (λ o m g h. h)
-
   spares : Spares p.at (word_after p.act n) t l w (owner_at P) next (waits_at P) waiters
   spares = record {
-    before = λ u m s d g. stays_back w x (w.known u) (w.known u) (owner_at P) next u (others u) m s;
+    before = λ u m s d g. other_back w x (w.known u) (owner_at P) next u a.marks a.prototypes (λ o. fewer o u) m s;
     owned = λ u o d. fewer o u;
     word = λ u s d h g. absurd (a.uncounted u s d h g);
     bias = λ o h. (λ i. is_biased (a.marks i o)) ∙ h;

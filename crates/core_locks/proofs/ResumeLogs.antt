@@ -2,7 +2,7 @@
 use Rattle.core_locks.proofs.Prelude.{◌≡◌, ℕ, ◌+◌, ◌<◌, ◌||◌, true, false, cond, List, slice_set, Some, None, refl, sym, ap, ◌∙◌, arith, inl, inr, is_none, or-true, same_Some, read_owner, owner_of, ByThread, read_owner-owner_of, PlainMonitor, is_thread, is_listed, count_of, only_if, without, resume, resumed, PlainObject, with_monitor, Resume, Mark, Stamp, Owner, Recursions, monitor_in, bears, hold_words_ahead, World, OwnedBy, lock, marks, displaced_words, owner_words, recursion_count, holds_by_monitor, object_of, monitor_of, owner_at, waits_at, notified_at, or_zero, IsOwnMonitor, Purpose, logging_plan, Fits, Load, same_number, sound, unlisted_count, outside_standing, listed_count, owner_standing, fits_running, Logs, MayLogResume, LogsValid, log_resume_plan, lets_go, IsOwnEntry, []}
 use Rattle.core_locks.proofs.WaitOut.{fails}
 use Rattle.core_locks.proofs.EnterTakes.{IsTaking, IsTakingAt, ready_unwaiting, owner_or_taker}
-use Rattle.core_locks.proofs.EnterFits.{taken, taking_fits}
+use Rattle.core_locks.proofs.EnterFits.{taking_logs}
 use Rattle.plain_history.proofs.Without.{listed_has_count, without_unlisted, without_others}
 
 module _ (w : World) (P : List PlainObject) (t o m : ℕ) (within : t < w.shape.threads) (may : MayLogResume w.shape (w.known t) o m) (v : Fits w P) where
@@ -80,12 +80,5 @@ module _ (w : World) (P : List PlainObject) (t o m : ℕ) (within : t < w.shape.
       let nobody : notified_at P o ≡ [] → without (notified_at P o) t ≡ [] = λ h. ap (λ ps. without ps t) h in
       search (within, stage, ap (with_monitor (object_of P o)) resumes, even, own_entry, number, without_unlisted (notified_at P o) t, without_others (notified_at P o) t, nobody, recursions, may)
 
-  pub resume_logs : (e : Purpose) → Logs w P t (logging_plan (Resume o) e (Stamp o) Load) (Resume o)
-  resume_logs e = record {
-    now = slice_set P o (record (object_of P o) { monitor = after });
-    taken = taken w P t o (Resume o) e after is_taking v;
-    valid = inl (taking_fits w P t o (Resume o) e after is_taking v);
-  }
-
 pub logging_a_resume : (e : Purpose) (o m : ℕ) → LogsValid (λ w t. MayLogResume w.shape (w.known t) o m) (λ w t. log_resume_plan e o) (Resume o)
-logging_a_resume e o m w P t within may valid = resume_logs w P t o m within may (fits_running w P t may.runs valid) e
+logging_a_resume e o m w P t within may valid = let v = fits_running w P t may.runs valid in taking_logs w P t o (Resume o) e (after w P t o m within may v) (is_taking w P t o m within may v) v

@@ -1,7 +1,7 @@
 -- A step that changes the safepoint word keeps every clause, by the state that the word spelled and the one that it spells then.
 use Rattle.core_locks.proofs.Prelude.{◌≡◌, ◌≢◌, ℕ, ◌<◌, ◌&&◌, ◌||◌, Bool, true, false, List, ◌∷◌, length, Some, None, refl, sym, ap, ◌∙◌, subst, inl, inr, IfSome, SafeForm, safe_of, read_safe, IsSafeInRange, read_safe-safe_of, is_thread, PlainObject, Safepoint, Waiting, Calm, says_ended, is_halted, asks_in, runs_form, runs_in, requester_form, requester_in, halted_form, word_after, hits, Known, StepMade, World, with_word_and_known, with_known, monitor_of, owner_at, waits_at, Purpose, quiet_plan, world_after, known_hit, seen_before, kept_by_act, reached_after, runs_after, asks_after, Fits, SeenFit, ends, IsStuck, IsSafepoint, Act, each_with_known, part_moves, stays_back, Spares, seen_moves, Counts, GoesOn}
 use Rattle.core_locks.proofs.Clauses.{kept_parts, parts_stand, absent, seen, forms, safe, quiet as calmly, waits, stamps, shots, lengths, AllHold, clauses}
-use Rattle.core_locks.proofs.OwnSeen.{back_by, hit_moved}
+use Rattle.core_locks.proofs.OwnSeen.{other_back, hit_moved}
 use Rattle.core_locks.proofs.Steps.{asking, IsStep, next, step_fits, seen_next, absent_next, waits_go_on, stamps_go_on, dumps_go_on}
 
 -- a halt by thread t: nobody runs, and the threads are stuck
@@ -108,7 +108,7 @@ module _ (w : World) (P : List PlainObject) (t : ℕ) (e : Purpose) (act : Act) 
   -- the others count on what they counted on, which is never the safepoint word
   spares : Spares Safepoint (safe_of g) t l w (owner_at P) (owner_at P) (waits_at P) (waits_at P)
   spares = record {
-    before = λ u n s d seen. stays_back w x (w.known u) (w.known u) (owner_at P) (owner_at P) u (back_by w x (w.known u) (w.known u) (owner_at P) (owner_at P) u refl refl (λ h. h) refl refl (λ h. h) refl (λ o h. h) (λ o m g h. h)) n s;
+    before = λ u n s d seen. other_back w x (w.known u) (owner_at P) (owner_at P) u refl refl (λ i h. h) n s;
     owned = λ u o d h. h;
     word = λ u s d st was. elim st [ inl a ↦ absurd a.1 | inr a ↦ absurd a.2 ];
     bias = λ o h. h;

@@ -114,18 +114,12 @@ module _ (w : World) (P : List PlainObject) (t : ℕ) (e : Purpose) (o slot : �
       let Q : List PlainObject = slice_set P o (object_of P o) in
       let entry = owner_taken P t o (Get o slot found) (object_of P o) there own refl refl refl refl get_taken in
       let same : w.words ≡ with_word (Slot o slot) (w.words (Slot o slot)) w.words = sym (with_word_same (Slot o slot) (w.words (Slot o slot)) w.words refl) in
+      let slots = frame2 (SlotsFit w.shape) (λ i. λ n j. same i (Slot n j)) (slots_stay P o (object_of P o) there refl) v.slots in
+      let own_entry : IsOwnEntry (w.known t) (Get o slot found) = record { operation = inl may.nothing; shot = tt } in
       record {
         now = Q;
         taken = entry.taken;
-        valid = inl (touches Load (LogGet o slot) e.unfinished (record { stamp = last_stamp (w.known t).log + 1; entry = Get o slot found }) (object_of P o) (record {
-          log = refl;
-          stamp = refl;
-          counts = λ seen. refl;
-          still = refl;
-          entry = entry;
-          own = record { operation = inl may.nothing; shot = tt };
-          slots = frame2 (SlotsFit w.shape) (λ i. λ n j. same i (Slot n j)) (slots_stay P o (object_of P o) there refl) v.slots;
-        }));
+        valid = inl (touches Load (LogGet o slot) e.unfinished (record { stamp = last_stamp (w.known t).log + 1; entry = Get o slot found }) (object_of P o) (search (entry, own_entry, slots)));
       }
 
   -- the object with another value in the slot
@@ -164,18 +158,12 @@ module _ (w : World) (P : List PlainObject) (t : ℕ) (e : Purpose) (o slot : �
   puts : (value : Value) → MayPut w.shape (w.known t) o slot value → Logs w P t (put_plan e o slot value) (Put o slot value)
   puts value put =
       let entry = owner_taken P t o (Put o slot value) (filled value) there own refl refl refl refl (put_taken value) in
+      let own_entry : IsOwnEntry (w.known t) (Put o slot value) = record { operation = inl may.nothing; shot = tt } in
       record {
         now = slice_set P o (filled value);
         taken = entry.taken;
-        valid = inl (touches (Store (word_of value)) (Log (Put o slot value)) None (record { stamp = last_stamp (w.known t).log + 1; entry = Put o slot value }) (filled value) (record {
-          log = refl;
-          stamp = refl;
-          counts = λ seen. refl;
-          still = refl;
-          entry = entry;
-          own = record { operation = inl may.nothing; shot = tt };
-          slots = put_slots value put;
-        }));
+        valid = inl (touches (Store (word_of value)) (Log (Put o slot value)) None (record { stamp = last_stamp (w.known t).log + 1; entry = Put o slot value }) (filled value)
+            (search (entry, own_entry, put_slots value put)));
       }
 
 -- THE LAWS
