@@ -129,7 +129,7 @@ module _ (w : World) (P : List PlainObject) (t : ℕ) (e : Purpose) (o d p : ℕ
   now : IsEven l.stage
   now = even_by Calm refl
 
-  pub step : IsStep w t l leaving
+  step : IsStep w t l leaving
   step = record { within = within; mine = refl; others = λ k. refl }
 
   pub inside : o < length P
@@ -141,7 +141,7 @@ module _ (w : World) (P : List PlainObject) (t : ℕ) (e : Purpose) (o d p : ℕ
   had : who w o ≡ Some t
   had = holder_is w P t o d p within may v
 
-  pub leaving_taken : take_entry P t (Exit o) ≡ Some Q
+  leaving_taken : take_entry P t (Exit o) ≡ Some Q
   leaving_taken = exit_taken P o t less inside is.exits
 
   pub logging_it : IsLogging w P Q t y l
@@ -229,50 +229,43 @@ module _ (w : World) (P : List PlainObject) (t : ℕ) (e : Purpose) (o d p : ℕ
     all_after stamps = stamped
     all_after c = logged_step step logging_it may.runs may.room (draws_still w P Q t y l v logging_it (omega arith) refl) v c
 
-    pub leaving_fits : Fits x Q
+    leaving_fits : Fits x Q
     leaving_fits =
         let inflates = inflates_stay step (sym (leaves_inflates w P t o d p within may v)) in
         let inflation : inflations n ≡ inflations w = inflations_stay w.shape.threads _ _ (λ j. λ u. inflates u j) in
         step_fits step x.words Q (exit_parts w (stepped w t l x.words) P (lock w) (parts_of n Q))
         (exit_are step x.words P o less inside is.waits is.called (lock w) inflates refl (lock_stays n w refl refl refl inflation) (header_stays n w refl refl refl inflation)) all_after
 
+    pub leaving_logs : Logs w P t plan (Exit o)
+    leaving_logs = record { now = Q; taken = leaving_taken; valid = inl leaving_fits }
+
 -- THE LAW
 module _ (w : World) (P : List PlainObject) (t : ℕ) (e : Purpose) (o d p : ℕ) (within : t < w.shape.threads) (may : MayLeave w.shape (w.known t) o d p) (v : Fits w P) where
   -- of several holds
-  leaves_held : 2 ≤ d → Logs w P t (logging_plan (Exit o) e (Hold t p) (Store 0)) (Exit o)
+  leaves_held : 2 ≤ d → Logs w P t (leave_plan e t o p) (Exit o)
   leaves_held deep =
       let less = less_held w P t o d p within may v in
       let is = lessens_held w P t o d p within may v deep in
-      let it = logging_it w P t e o d p within may v less is in
-      let owned = owner_is w P t o d p within may v in
-      let l = known_hit w.shape w.start (logging_plan (Exit o) e (Hold t p) (Store 0)) (w.words (Hold t p)) (w.known t) in
-      let inside_is = inside w P t e o d p within may v less is in
-      let same : (i : ℕ) → (monitor_of (objects_where P o less) i).owner ≡ (monitor_of P i).owner = λ i. sym (part_stays (λ y. y.monitor.owner) P o (object_with P o less) inside_is refl i) in
-      let stamps = stamps_owned w P (objects_where P o less) t (exit_entry (w.known t) o) l v it refl same
-      (λ i b. ap (λ j. (monitor_of P j).owner) (sym (same_Some o i b)) ∙ owned) in
-      record { now = _; taken = leaving_taken w P t e o d p within may v less is; valid = inl (leaving_fits w P t e o d p within may v less is stamps) }
+      let same : (i : ℕ) → (monitor_of (objects_where P o less) i).owner ≡ (monitor_of P i).owner =
+      λ i. sym (part_stays (λ y. y.monitor.owner) P o (object_with P o less) (inside w P t e o d p within may v less is) refl i) in
+      leaving_logs w P t e o d p within may v less is
+      (stamps_owned w P _ t (exit_entry (w.known t) o) _ v (logging_it w P t e o d p within may v less is) refl same
+      (λ i b. ap (λ j. (monitor_of P j).owner) (sym (same_Some o i b)) ∙ owner_is w P t o d p within may v))
 
   -- the last hold, under a bias
-  leaves_last : d ≡ 1 → lock w o ≡ BiasedTo t → HasRaised (w.known t) o → Logs w P t (logging_plan (Exit o) e (Hold t p) (Store 0)) (Exit o)
+  leaves_last : d ≡ 1 → lock w o ≡ BiasedTo t → HasRaised (w.known t) o → Logs w P t (leave_plan e t o p) (Exit o)
   leaves_last last leans raised =
-      let less = freed P o in
       let is = lessens_last w P t o d p within may v last leans in
-      let it = logging_it w P t e o d p within may v less is in
       let owned = owner_is w P t o d p within may v in
-      let l = known_hit w.shape w.start (logging_plan (Exit o) e (Hold t p) (Store 0)) (w.words (Hold t p)) (w.known t) in
       let word : w.words (Stamp o) ≡ raised.0 = v.seen.stays t (Stamp o) raised.0 raised.1 (inl (may.runs, ap (λ a. is_thread a t) owned ∙ eq-eqb t t refl)) in
-      let stamps = freed_stamps w P t o l v (inside w P t e o d p within may v less is) owned it (subst (λ n. next_stamp (local_of (w.known t)) ≤ n) (sym word) raised.2) in
-      record { now = _; taken = leaving_taken w P t e o d p within may v less is; valid = inl (leaving_fits w P t e o d p within may v less is stamps) }
+      leaving_logs w P t e o d p within may v (freed P o) is
+      (freed_stamps w P t o _ v (inside w P t e o d p within may v (freed P o) is) owned (logging_it w P t e o d p within may v (freed P o) is) (omega (arith, word, raised.2)))
 
 pub exits_by_a_hold_word : (e : Purpose) (o d p : ℕ) → LogsValid (λ w t. MayLeave w.shape (w.known t) o d p) (λ w t. leave_plan e t o p) (Exit o)
 exits_by_a_hold_word e o d p w P t within may valid =
     let v = fits_running w P t may.runs valid in
     elim (leaves_deep w P t o d p within may v) [
       | inl deep ↦ leaves_held w P t e o d p within may v deep
-      | inr c ↦ by_depth v c.0 c.1 (d == 1) refl
+      | inr c ↦ by_equal d 1 (λ last. leaves_last w P t e o d p within may v last c.0 (c.1 last))
+          (λ more. leaves_held w P t e o d p within may v (omega (arith, leaves_some w P t o d p within may v, more)))
     ]
-  where
-    by_depth : Fits w P → lock w o ≡ BiasedTo t → (d ≡ 1 → HasRaised (w.known t) o) → (b : Bool) → (d == 1) ≡ b → Logs w P t (leave_plan e t o p) (Exit o)
-    by_depth v leans raised true h = let last : d ≡ 1 = eqb-true d 1 h in leaves_last w P t e o d p within may v last leans (raised last)
-    by_depth v leans raised false h =
-        leaves_held w P t e o d p within may v (let some = leaves_some w P t o d p within may v in let no : d ≢ 1 = λ s. absurd (cc (eq-eqb d 1 s, h)) in omega (arith, some, no))
