@@ -1,6 +1,6 @@
 -- What holds where a thread may leave by clearing a hold word: it is the plain owner, has several holds or a bias, and the recursions count its
 -- records, but for the one that it clears.
-use Rattle.core_locks.proofs.Prelude.{◌≡◌, ◌≢◌, ℕ, zero, suc, ◌+◌, ◌<◌, ◌≤◌, ◌^◌, ◌==◌, ◌&&◌, nat_lt, eq-eqb, Bool, true, false, List, [], ◌∷◌, Option, Some, None, refl, sym, ap, ◌∙◌, subst, arith, inl, inr, nat_tests, read_hold, Holds, Empty, HoldForm, read_hold-spells, PlainObject, Mark, Hold, Displaced, Stage, Calm, Behind, hold_word, is_deeper, monitor_in, deeper_form, inflation_in, recursions_ahead, recursions_behind, one_if, last_seen, World, OwnedBy, lock, marks, displaced_words, hold_count, depth_count, recursion_count, monitor_of, owner_at, count_where, Fits, same_number, SawInflated, SawOwn, MayLeave, ◌⊎◌, ne_eqb, by_equal, Lock, BiasedTo, is_biased}
+use Rattle.core_locks.proofs.Prelude.{◌≡◌, ◌≢◌, ℕ, zero, suc, ◌+◌, ◌<◌, ◌≤◌, ◌^◌, ◌==◌, ◌&&◌, nat_lt, eq-eqb, Bool, true, false, List, [], ◌∷◌, Option, Some, None, refl, sym, ap, ◌∙◌, subst, arith, inl, inr, nat_tests, read_hold, Holds, Empty, HoldForm, read_hold-spells, PlainObject, Mark, Hold, Displaced, Stage, Calm, Behind, hold_word, is_deeper, monitor_in, deeper_form, inflation_in, recursions_ahead, recursions_behind, one_if, last_seen, World, OwnedBy, lock, marks, displaced_words, hold_count, depth_count, recursion_count, monitor_of, owner_at, count_where, Fits, same_number, SawInflated, SawOwn, MayLeave, ◌⊎◌, ne_eqb, by_equal, Lock, BiasedTo, is_biased, ◌-◌}
 use Rattle.core_locks.specs.Knowing.{SawBiased}
 use Rattle.core_locks.specs.LockLaws.{HasRaised}
 use Rattle.std.proofs.Math.Bool.{and-false}
@@ -78,32 +78,25 @@ module _ (w : World) (P : List PlainObject) (t o d p : ℕ) (within : t < w.shap
         omega (arith, owned, one, leaves_ahead o)
 
     behind_deep : 2 ≤ d
-    behind_deep = let a = counted_deep o (displaced_words w t) 0 0 (w.known t).holds behind_again in by_depth a.0 a.1 a.2 a.3
-      where
-        by_depth : (e : ℕ) → 2 ≤ e → e ≤ 64 → 1 ≤ depth_count o e (w.known t).holds → 2 ≤ d
-        by_depth zero a b c = absurd (omega arith)
-        by_depth (suc e) a b c =
-            let same : suc e ≡ e + 1 = omega arith in
-            let each = v.holds.each t o e (omega arith) in
-            let stands = subst (λ n. 1 ≤ depth_count o n (w.known t).holds) same c in
-            let below : nat_lt e (hold_count o (w.known t).holds) ≡ true = counted_met _ (omega (arith, each, stands)) in
-            let deepest = may.deepest in
-            let more : e < hold_count o (w.known t).holds = grind (arith, nat_tests, below) in
-            omega (arith, more, deepest)
+    behind_deep =
+        let a = counted_deep o (displaced_words w t) 0 0 (w.known t).holds behind_again in
+        let deep = a.1 in
+        let high = a.2 in
+        let same : a.0 ≡ (a.0 - 1) + 1 = omega (arith, deep) in
+        let stands = subst (λ n. 1 ≤ depth_count o n (w.known t).holds) same a.3 in
+        let below : nat_lt (a.0 - 1) (hold_count o (w.known t).holds) ≡ true = counted_met _ (omega (arith, v.holds.each t o (a.0 - 1) (omega (arith, deep, high)), stands)) in
+        let more : a.0 - 1 < hold_count o (w.known t).holds = grind (arith, nat_tests, below) in
+        omega (arith, more, deep, may.deepest)
 
     -- so its record was made through the monitor
     behind_three : w.words (Displaced t p) ≡ 3
-    behind_three = by_depth d refl behind_deep
-      where
-        by_depth : (e : ℕ) → d ≡ e → 2 ≤ e → w.words (Displaced t p) ≡ 3
-        by_depth zero s a = absurd (omega arith)
-        by_depth (suc zero) s a = absurd (omega arith)
-        by_depth (suc (suc e)) s a =
-            let same : d ≡ e + 2 = omega (arith, s) in
-            elim (v.recursions.others o t p e (inl thread_owns) (may.hold ∙ ap (hold_word o) same) (omega (arith, s, may.small))) [
-              | inl z ↦ absurd (some (sym (own_displaced w P t p h v may.runs seen) ∙ z))
-              | inr z ↦ z
-            ]
+    behind_three =
+        let deep = behind_deep in
+        let same : d ≡ (d - 2) + 2 = omega (arith, deep) in
+        elim (v.recursions.others o t p (d - 2) (inl thread_owns) (may.hold ∙ ap (hold_word o) same) (omega (arith, may.small))) [
+          | inl z ↦ absurd (some (sym (own_displaced w P t p h v may.runs seen) ∙ z))
+          | inr z ↦ z
+        ]
 
   -- the third way: the mark has the bias pattern still, and nobody holds such an object but the thread of its valid bias
   leans : SawBiased (w.known t) o → lock w o ≡ BiasedTo t

@@ -43,30 +43,17 @@ module _ (f g : ℕ → ℕ) (same : (i : ℕ) → monitor_in (f i) ≡ monitor_
 -- a mark with the bias pattern had it before, and its object leans to the same thread as before
 pub biases_by_marks : (f g : ℕ → ℕ) (lock next : ℕ → Lock) (holds : ℕ → List ℕ) (hash : ℕ → ℕ) (waits called : ℕ → List (ℕ × ℕ)) → ((i : ℕ) → is_biased (g i) ≡ true → is_biased (f i) ≡ true)
     → ((i t : ℕ) → lock i ≡ BiasedTo t → is_biased (g i) ≡ true → next i ≡ BiasedTo t) → BiasedAreFree f lock holds hash waits called → BiasedAreFree g next holds hash waits called
-biases_by_marks f g lock next holds hash waits called back leans h = record {
-  hashless = λ i e. h.hashless i (back i e);
-  nobody = λ i e. h.nobody i (back i e);
-  unheld = λ i t e d. h.unheld i t (back i e) (λ k. d (leans i t k e));
-}
+biases_by_marks f g lock next holds hash waits called back leans h = search (back, leans, h.hashless, h.nobody, h.unheld)
 
 -- without biasing no mark gets a bias pattern
 pub classes_by_marks : (biasing : Bool) (prototype count last f g rebiased revoked : ℕ → ℕ) → ((i : ℕ) → is_biased (f i) ≡ false → is_biased (g i) ≡ false)
     → ClassesFit biasing prototype count last f rebiased revoked → ClassesFit biasing prototype count last g rebiased revoked
-classes_by_marks biasing prototype count last f g rebiased revoked forth h = record {
-  plain = h.plain;
-  unbiased = λ b i. forth i (h.unbiased b i);
-  few = h.few;
-  prototypes = h.prototypes;
-}
+classes_by_marks biasing prototype count last f g rebiased revoked forth h = search (forth, h.unbiased, h)
 
 -- the same marks are 0
 pub inflating_by_marks : (f g : ℕ → ℕ) (inflates inflation : ℕ → Option Inflation) → ((i : ℕ) → g i ≡ 0 → f i ≡ 0) → ((i : ℕ) → f i ≡ 0 → g i ≡ 0)
     → InflationsAreOne f inflates inflation → InflationsAreOne g inflates inflation
-inflating_by_marks f g inflates inflation back forth h = record {
-  some = λ i e. h.some i (back i e);
-  zero = λ t i e. forth i.object (h.zero t i e);
-  one = h.one;
-}
+inflating_by_marks f g inflates inflation back forth h = search (back, forth, h.some, h.zero, h)
 
 -- THE MARK m IS WRITTEN AT o by a step of thread t, which knows l then.
 module _ (w : World) (o m t : ℕ) (l : Known) where

@@ -34,8 +34,7 @@ pub record Changes (w : World) (P : List PlainObject) (t : ℕ) (e : Purpose) (a
   pub others_run : (u : ℕ) → u ≢ t → runs_form (Some g) u ≡ runs_form (Some f) u
   pub others_ask : (u : ℕ) → u ≢ t → is_thread g.requester u ≡ is_thread f.requester u
   -- no safepoint is reached any more
-  pub others_unreached : (u : ℕ) → u ≢ t → (w.known u).reached ≡ true → ⊥
-  pub unreached : (w.known t).reached ≡ true → is_thread g.requester t ≡ true → ⊥
+  pub unreached : (u : ℕ) → (w.known u).reached ≡ true → (u ≡ t → is_thread g.requester t ≡ true) → ⊥
   pub halts : g.halted ≡ true → (known_then w t e act).running ≡ runs_form (Some g) t → Halts w P t (safe_of g) (known_then w t e act)
   pub published : runs_form (Some g) t ≡ false → is_thread g.requester t ≡ false → g.halted ≡ false → (w.known t).published ≡ length (w.known t).log
   pub ended : ends (w.known t).log ≡ true → runs_form (Some g) t ≡ false → says_ended (w.words (Waiting t)) ≡ true
@@ -96,8 +95,8 @@ module _ (w : World) (P : List PlainObject) (t : ℕ) (e : Purpose) (act : Act) 
 
   unreached : (u : ℕ) → (with_known t l w.known u).reached ≡ true → ⊥
   unreached u = each_with_known (λ u y. y.reached ≡ true → ⊥) t l w.known u
-      (λ r. let a = both_true (w.known t).reached (asks_in (word_after act (w.words Safepoint)) (w.known t).thread) (sym c.reaches ∙ r) in c.unreached a.0 (sym asks_same ∙ a.1))
-      (λ d r. c.others_unreached u d r)
+      (λ r. let a = both_true (w.known t).reached (asks_in (word_after act (w.words Safepoint)) (w.known t).thread) (sym c.reaches ∙ r) in c.unreached t a.0 (λ s. sym asks_same ∙ a.1))
+      (λ d r. c.unreached u r (λ s. absurd (d s)))
 
   step : IsStep w t l asking
   step = record { within = within; mine = λ i. record l { stage = sym c.calm i }; others = λ k. refl }

@@ -38,6 +38,10 @@ module _ (w : World) (P : List PlainObject) (t : ℕ) (e : Purpose) (within : t 
   others_unasking : (u : ℕ) → u ≢ t → is_thread None u ≡ is_thread (Some t) u
   others_unasking u d = sym (ne_eqb t u (λ s. d (sym s)))
 
+  -- no other safepoint was reached, and the thread asks no more
+  reached_no_more : (u : ℕ) → (w.known u).reached ≡ true → (u ≡ t → false ≡ true) → ⊥
+  reached_no_more u r a = by_equal u t (λ s. cc (a s)) (λ d. one_reached w P t u v.safe reached d r)
+
   -- whether the word that it stores has its request
   abbrev asks_after : ℕ → Bool
   asks_after word = asks_in (word_after (Swap (reached_word t) word) (w.words Safepoint)) (w.known t).thread
@@ -66,8 +70,7 @@ module _ (w : World) (P : List PlainObject) (t : ℕ) (e : Purpose) (within : t 
         here = tt;
         others_run = λ u d. ap (λ n. n == 1) (bit_at-pow_other t u d) ∙ sym (nobody_ran u);
         others_ask = others_unasking;
-        others_unreached = λ u d r. one_reached w P t u v.safe reached d r;
-        unreached = λ r a. absurd (cc a);
+        unreached = reached_no_more;
         halts = λ h r. absurd (cc h);
         published = λ r a h. absurd (cc (r, runs));
         ended = λ a r. absurd (cc (r, runs));
@@ -91,8 +94,7 @@ module _ (w : World) (P : List PlainObject) (t : ℕ) (e : Purpose) (within : t 
     here = tt;
     others_run = λ u d. refl;
     others_ask = others_unasking;
-    others_unreached = λ u d r. one_reached w P t u v.safe reached d r;
-    unreached = λ r a. absurd (cc a);
+    unreached = reached_no_more;
     halts = λ h r. record {
       unasked = ap requester_form (read_safe-safe_of halted_form (omega arith, tt));
       stopped = r ∙ nobody_ran t;

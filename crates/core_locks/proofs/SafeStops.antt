@@ -52,8 +52,7 @@ module _ (w : World) (P : List PlainObject) (t : ℕ) (e : Purpose) (within : t 
         here = here_by v f reads;
         others_run = λ u d. without_other f t spells.0 bits u runs d;
         others_ask = λ u d. refl;
-        others_unreached = λ u d r. running_unreached w P t u v.safe may.runs r;
-        unreached = λ r a. running_unreached w P t t v.safe may.runs r;
+        unreached = λ u r a. running_unreached w P t u v.safe may.runs r;
         halts = λ h r. let not_halted = unhalted_by v f reads may.runs in absurd (cc (h, not_halted));
         published = λ r a h. may.published;
         ended = λ a r. ended_stands w P t v (may.ended a);
@@ -89,8 +88,7 @@ module _ (w : World) (P : List PlainObject) (t : ℕ) (e : Purpose) (within : t 
         here = here_by v f reads;
         others_run = λ u d. including_other f t spells.0 bits u stopped d;
         others_ask = λ u d. refl;
-        others_unreached = λ u d r. unasked_unreached w P u v.safe unasked r;
-        unreached = λ r a. unasked_unreached w P t v.safe unasked r;
+        unreached = λ u r a. unasked_unreached w P u v.safe unasked r;
         halts = λ h r. absurd (cc (h, not_halted));
         published = λ r a h. absurd (cc (r, runs));
         ended = λ a r. absurd (cc (r, runs));
@@ -146,8 +144,7 @@ module _ (w : World) (P : List PlainObject) (t : ℕ) (e : Purpose) (within : t 
         here = within;
         others_run = λ u d. without_other f t spells.0 bits u runs d;
         others_ask = λ u d. ne_eqb t u (λ s. d (sym s)) ∙ ap (λ a. is_thread a u) (sym none);
-        others_unreached = λ u d r. running_unreached w P t u v.safe may.runs r;
-        unreached = λ r a. running_unreached w P t t v.safe may.runs r;
+        unreached = λ u r a. running_unreached w P t u v.safe may.runs r;
         halts = λ h r. let not_halted = unhalted_by v f reads may.runs in absurd (cc (h, not_halted));
         published = λ r a h. let asks = same_number t in absurd (cc (a, asks));
         ended = λ a r. ended_stands w P t v (may.ended a);
