@@ -28,28 +28,37 @@ records_by at = record { first = λ o u. (at u).first o; header = λ o u. (at u)
 pub records_at : {lock : ℕ → Lock} {holds : ℕ → List ℕ} {stage : ℕ → Stage} {displaced : ℕ → ℕ → ℕ} → RecordsRest lock holds stage displaced → (u : ℕ) → RecordsOf lock u (holds u) (stage u) (displaced u)
 records_at h u = record { first = λ o. h.first o u; header = λ o. h.header o u; others = λ o. h.others o u; seized = λ o. h.seized o u; grabbed = λ o. h.grabbed o u }
 
-pub recursions_at : {mark recursions : ℕ → ℕ} {lock : ℕ → Lock} {holds : ℕ → List ℕ} {stage : ℕ → Stage} {saved : ℕ → ℕ} {displaced : ℕ → ℕ → ℕ} {waits called : ℕ → List (ℕ × ℕ)}
-    → RecursionsFit mark recursions lock holds stage saved displaced waits called → (u : ℕ) → RecursionsOf mark recursions lock u (holds u) (stage u) (saved u) (displaced u) waits called
-recursions_at h u = record { first = λ o. h.first o u; others = λ o. h.others o u; owned = λ o m. h.owned o m u; waiting = λ o. h.waiting o u; thread_owns = λ o. h.thread_owns o u }
+pub recursions_at : {mark recursions : ℕ → ℕ} {lock : ℕ → Lock} {holds : ℕ → List ℕ} {stage : ℕ → Stage} {saved : ℕ → ℕ} {displaced : ℕ → ℕ → ℕ}
+    {waits called : ℕ → List (ℕ × ℕ)} → RecursionsFit mark recursions lock holds stage saved displaced waits called → (u : ℕ)
+    → RecursionsOf mark recursions lock u (holds u) (stage u) (saved u) (displaced u) waits called
+recursions_at h u =
+    record { first = λ o. h.first o u; others = λ o. h.others o u; owned = λ o m. h.owned o m u; waiting = λ o. h.waiting o u; thread_owns = λ o. h.thread_owns o u }
 
 module _ (t : ℕ) (l : Known) (f : ℕ → Known) where
   -- the others may come to stand otherwise by another reckoning of the same number
-  pub holds_told : (more : Stage → ℕ → ℕ) {hold next stands now : ℕ → ℕ → ℕ} → ((u p : ℕ) → u ≢ t → next u p ≡ hold u p) → ((u o : ℕ) → u ≢ t → now o u ≡ stands o u) → HoldsOf (next t) l.holds (more l.stage) (λ o. now o t)
-      → HoldsFitLogs hold (λ u. (f u).holds) (λ u. more (f u).stage) stands → HoldsFitLogs next (λ u. (with_known t l f u).holds) (λ u. more (with_known t l f u).stage) now
+  pub holds_told : (more : Stage → ℕ → ℕ) {hold next stands now : ℕ → ℕ → ℕ} → ((u p : ℕ) → u ≢ t → next u p ≡ hold u p)
+      → ((u o : ℕ) → u ≢ t → now o u ≡ stands o u) → HoldsOf (next t) l.holds (more l.stage) (λ o. now o t)
+      → HoldsFitLogs hold (λ u. (f u).holds) (λ u. more (f u).stage) stands
+      → HoldsFitLogs next (λ u. (with_known t l f u).holds) (λ u. more (with_known t l f u).stage) now
   holds_told more {hold} {next} {stands} {now} else kept mine h =
       let at : (u : ℕ) → HoldsOf (next u) (with_known t l f u).holds (more (with_known t l f u).stage) (λ o. now o u) =
       λ u. each_with_known (λ u y. HoldsOf (next u) y.holds (more y.stage) (λ o. now o u)) t l f u mine
-      (λ d. record { stored = λ p. else u p d ∙ h.stored u p; places = h.places u; number = λ o. h.number u o ∙ ap (λ n. n + more (f u).stage o) (sym (kept u o d)); each = h.each u }) in
+      (λ d.
+      let number : (o : ℕ) → hold_count o (f u).holds ≡ now o u + more (f u).stage o = λ o. h.number u o ∙ ap (λ n. n + more (f u).stage o)
+          (sym (kept u o d)) in
+      record { stored = λ p. else u p d ∙ h.stored u p; places = h.places u; number = number; each = h.each u }) in
       record { stored = λ u. (at u).stored; places = λ u. (at u).places; number = λ u. (at u).number; each = λ u. (at u).each }
 
   pub records_told : {lock : ℕ → Lock} {displaced : ℕ → ℕ → ℕ} → RecordsOf lock t l.holds l.stage (displaced t) → RecordsRest lock (λ u. (f u).holds) (λ u. (f u).stage) displaced
       → RecordsRest lock (λ u. (with_known t l f u).holds) (λ u. (with_known t l f u).stage) displaced
-  records_told {lock} {displaced} mine h = records_by (λ u. each_with_known (λ u y. RecordsOf lock u y.holds y.stage (displaced u)) t l f u mine (λ d. records_at h u))
+  records_told {lock} {displaced} mine h = records_by (λ u. each_with_known (λ u y. RecordsOf lock u y.holds y.stage (displaced u)) t l f u mine
+      (λ d. records_at h u))
 
   pub recursions_told : {mark recursions : ℕ → ℕ} {lock : ℕ → Lock} {saved : ℕ → ℕ} {displaced : ℕ → ℕ → ℕ} {waits called : ℕ → List (ℕ × ℕ)}
       → RecursionsOf mark recursions lock t l.holds l.stage (saved t) (displaced t) waits called → RecursionsFit mark recursions lock (λ u. (f u).holds) (λ u. (f u).stage) saved displaced waits called
       → RecursionsFit mark recursions lock (λ u. (with_known t l f u).holds) (λ u. (with_known t l f u).stage) saved displaced waits called
   recursions_told {mark} {recursions} {lock} {saved} {displaced} {waits} {called} mine h =
       let at : (u : ℕ) → RecursionsOf mark recursions lock u (with_known t l f u).holds (with_known t l f u).stage (saved u) (displaced u) waits called =
-      λ u. each_with_known (λ u y. RecursionsOf mark recursions lock u y.holds y.stage (saved u) (displaced u) waits called) t l f u mine (λ d. recursions_at h u) in
+      λ u. each_with_known (λ u y. RecursionsOf mark recursions lock u y.holds y.stage (saved u) (displaced u) waits called) t l f u mine
+          (λ d. recursions_at h u) in
       record { first = λ o u. (at u).first o; others = λ o u. (at u).others o; owned = λ o m u. (at u).owned o m; waiting = λ o u. (at u).waiting o; thread_owns = λ o u. (at u).thread_owns o; on_record = h.on_record; free = h.free }

@@ -1,11 +1,11 @@
 -- A running thread that is taking an object logs its Enter or its Resume: every clause holds afterwards.
-use Rattle.core_locks.proofs.Prelude.{◌≡◌, ◌⊎◌, ℕ, ◌+◌, ◌<◌, ◌≤◌, max, true, false, cond, List, length, slice_set, Some, refl, sym, ap, ◌∙◌, subst, arith, inl, inr, same_Some, PlainMonitor, is_listed, PlainObject, take_entry, Logged, last_stamp, Entry, Wait, bound_to, bound_is_named, Stamp, Waiting, Recursions, Seizes, Resumes, Waits, Notifies, monitor_in, waits_on, says_notified, stamp_in, enters_on, says_ended, recursions_ahead, recursions_behind, notification_in, Known, World, logs, OwnedBy, lock, marks, displaced_words, recursion_count, object_of, monitor_of, owner_at, waits_at, notified_at, or_zero, SeenStays, RecursionsFit, GoesByMonitor, Purpose, logging_plan, world_after, known_after, stamp_by, Fits, SeenFit, WaitsFit, last_entry, ends, IsUnfinished, bound_stamp, StampsFit, lets_go, entries, Load, by_equal, each_with_known, with_known_here, with_known_else, header_stays, no_entering, no_ended, with_word_same, IsOut, StepMade, ◌≢◌, ◌==◌, ◌||◌, ne_eqb, Bool, [], ◌∷◌, Option, None, or-false, is_thread, count_of, owns, Calm, Exits, TakesOver, inflation_in, bears, hold_words_ahead, who, hold_count, holds_by_monitor, seen_before, same_number, outside_standing, who_bears, taken_alone, stays_back, seen_moves, counts_anew, Logs}
+use Rattle.core_locks.proofs.Prelude.{◌≡◌, ◌⊎◌, ℕ, ◌+◌, ◌<◌, ◌≤◌, max, true, false, cond, List, length, slice_set, Some, refl, sym, ap, ◌∙◌, subst, arith, inl, inr, same_Some, PlainMonitor, is_listed, PlainObject, take_entry, Logged, last_stamp, Entry, Wait, bound_to, bound_is_named, Stamp, Waiting, Recursions, Seizes, Resumes, Waits, Notifies, monitor_in, waits_on, says_notified, stamp_in, enters_on, says_ended, recursions_ahead, recursions_behind, notification_in, Known, World, logs, OwnedBy, lock, marks, displaced_words, recursion_count, object_of, monitor_of, owner_at, waits_at, notified_at, or_zero, SeenStays, RecursionsFit, GoesByMonitor, Purpose, logging_plan, world_after, known_after, stamp_by, Fits, SeenFit, WaitsFit, last_entry, ends, IsUnfinished, bound_stamp, StampsFit, lets_go, entries, Load, by_equal, each_with_known, with_known_here, with_known_else, header_stays, no_entering, no_ended, with_word_same, IsOut, StepMade, ◌≢◌, ◌==◌, ◌||◌, ne_eqb, Bool, [], ◌∷◌, Option, None, or-false, is_thread, count_of, owns, Calm, Exits, TakesOver, inflation_in, bears, hold_words_ahead, who, hold_count, holds_by_monitor, seen_before, same_number, outside_standing, who_bears, taken_alone, stays_back, seen_moves, counts_anew, Logs, one_if}
 use Rattle.core_world.specs.declared.task.Op.TheVariants as op
 use Rattle.core_locks.proofs.Clauses.{parts_of, kept_locks, kept_objects, locks_stand, seen, quiet, holds, owners, biases, records, recursions, waits, stamps, AllHold}
 use Rattle.core_locks.proofs.Steps.{noting, IsStep, next, stepped, step_fits, quiet_next, logs_next, seen_next, none_reached, stage_back, stage_part, inflates_stay}
 use Rattle.core_locks.proofs.Drawing.{draws_still, draws_counted, bound_undrawn}
 use Rattle.core_locks.proofs.ByThread.{RecordsOf, records_by, records_at}
-use Rattle.core_locks.proofs.Logging.{IsLogging, last_next, bound_grows, stamps_next}
+use Rattle.core_locks.proofs.Logging.{Covers, IsLogging, last_next, bound_grows, stamps_next}
 use Rattle.core_locks.proofs.LoggedSteps.{logged_step}
 use Rattle.core_locks.proofs.Updates.{takes, hashes_stay, slots_stay, waits_stay, part_stays, each_object}
 use Rattle.core_locks.proofs.WaitOut.{fails, out_word, ready_is_out}
@@ -54,7 +54,8 @@ module _ (w : World) (P : List PlainObject) (t o : ℕ) (e : Entry) (r : Purpose
 
   -- the owners afterwards
   owner_other : (i u : ℕ) → u ≢ t → owner_at Q i u ≡ owner_at P i u
-  owner_other i u d = at (λ i y. owns y.monitor u ≡ owner_at P i u) (ap (λ b. is_thread b u) a.owner ∙ ne_eqb t u (λ q. d (sym q)) ∙ sym (alone u d).1) (λ i n. refl) i
+  owner_other i u d = at (λ i y. owns y.monitor u ≡ owner_at P i u) (ap (λ b. is_thread b u) a.owner ∙ ne_eqb t u (λ q. d (sym q)) ∙ sym (alone u d).1)
+      (λ i n. refl) i
 
   -- those who wait and were notified afterwards
   unwaiting : (i : ℕ) → is_listed (waits_at P i) t ≡ false
@@ -116,7 +117,7 @@ module _ (w : World) (P : List PlainObject) (t o : ℕ) (e : Entry) (r : Purpose
 
   number_mine : (i : ℕ) → holds_by_monitor (monitor_of Q i) t ≡ holds_by_monitor (monitor_of P i) t + hold_words_ahead (w.known t).stage i
   number_mine = at (λ i y. holds_by_monitor y.monitor t ≡ holds_by_monitor (monitor_of P i) t + hold_words_ahead (w.known t).stage i) a.number (λ i n.
-      let none : hold_words_ahead (w.known t).stage i ≡ 0 = at_taking (λ s. hold_words_ahead s i ≡ 0) (w.known t).stage o a.stage (λ p path. ap (λ q. cond q 1 0) (ne_eqb o i (λ s. n (sym s)))) refl in
+      let none = at_taking (λ s. hold_words_ahead s i ≡ 0) (w.known t).stage o a.stage (λ p path. ap one_if (ne_eqb o i (λ s. n (sym s)))) refl in
       omega (arith, none))
 
   -- what the others have seen stays, and the thread begins anew
@@ -176,11 +177,10 @@ module _ (w : World) (P : List PlainObject) (t o : ℕ) (e : Entry) (r : Purpose
       omega (arith, few, stamp_is, v.stamps.logged t)
 
   -- the bound of each object is no smaller than it was, and that of o is the new stamp
-  bounds : (i : ℕ) → (bound_stamp (λ u. (w.known u).log) (w.words (Stamp i)) (monitor_of P i).owner ≤ bound_stamp (λ u. (x.known u).log) (w.words (Stamp i)) (monitor_of Q i).owner)
-      × (bound_to e ≡ Some i → y.stamp ≤ bound_stamp (λ u. (x.known u).log) (w.words (Stamp i)) (monitor_of Q i).owner)
-  bounds = at (λ i b. (bound_stamp (λ u. (w.known u).log) (w.words (Stamp i)) (monitor_of P i).owner ≤ bound_stamp (λ u. (x.known u).log) (w.words (Stamp i)) b.monitor.owner)
-      × (bound_to e ≡ Some i → y.stamp ≤ bound_stamp (λ u. (x.known u).log) (w.words (Stamp i)) b.monitor.owner))
-      (let now = ap (bound_stamp (λ u. (x.known u).log) (w.words (Stamp o))) a.owner ∙ ap (λ (k : Known). last_stamp k.log) (with_known_here t l w.known) ∙ last_next w P Q t y l v logs_it in
+  bounds : (i : ℕ) → Covers w P t y l i (monitor_of Q i).owner
+  bounds = at (λ i b. Covers w P t y l i b.monitor.owner)
+      (let own = ap (λ (k : Known). last_stamp k.log) (with_known_here t l w.known) ∙ last_next w P Q t y l v logs_it in
+      let now = ap (bound_stamp (λ u. (x.known u).log) (w.words (Stamp o))) a.owner ∙ own in
       (omega (arith, now, above_bound), λ h. omega (arith, now)))
       (λ i d. (bound_grows w P Q t y l v logs_it (w.words (Stamp i)) (monitor_of P i).owner, λ h. absurd (d (same_Some _ _ (sym h ∙ a.tied)))))
 

@@ -56,4 +56,6 @@ module _ (w : World) (P : List PlainObject) (t o p : ℕ) (path : Path) (within 
       search (within, stage, ap (with_monitor (object_of P o)) enters, even, number, unlisted, recursions, may)
 
 pub logging_an_enter : (e : Purpose) (o p : ℕ) (path : Path) → LogsValid (λ w t. MayLogEnter w.shape (w.known t) o p path) (λ w t. log_enter_plan e o path) (Enter o path)
-logging_an_enter e o p path w P t within may valid = let v = fits_running w P t may.runs valid in taking_logs w P t o (Enter o path) e (m w P t o p path within may v) (is_taking w P t o p path within may v) v
+logging_an_enter e o p path w P t within may valid =
+    let v = fits_running w P t may.runs valid in
+    taking_logs w P t o (Enter o path) e (m w P t o p path within may v) (is_taking w P t o p path within may v) v

@@ -40,7 +40,8 @@ module _ (P : List PlainObject) (o : ℕ) (m : PlainMonitor) (inside : o < lengt
 -- the stamp of the owner's entry is above its last one, which bounds the entries on the object
 pub exit_logging : (w : World) (P Q : List PlainObject) (t o : ℕ) (l : Known) → t < w.shape.threads → (monitor_of P o).owner ≡ Some t → take_entry P t (Exit o) ≡ Some Q
     → l.log ≡ (w.known t).log ++ exit_entry (w.known t) o ∷ [] → IsOwnEntry (w.known t) (Exit o) → IsLogging w P Q t (exit_entry (w.known t) o) l
-exit_logging w P Q t o l within owner taken grows own = next_logging within grows taken own refl (λ i b. ap (λ j. (monitor_of P j).owner) (sym (same_Some o i b)) ∙ owner)
+exit_logging w P Q t o l within owner taken grows own = next_logging within grows taken own refl
+    (λ i b. ap (λ j. (monitor_of P j).owner) (sym (same_Some o i b)) ∙ owner)
 
 -- a displaced word of its own is as a running thread last saw it
 pub own_displaced : (w : World) (P : List PlainObject) (t p h : ℕ) → Fits w P → (w.known t).running ≡ true → last_seen (Displaced (w.known t).thread p) (w.known t).seen ≡ Some h

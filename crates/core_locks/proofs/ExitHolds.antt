@@ -153,18 +153,21 @@ module _ (w : World) (P : List PlainObject) (t : ℕ) (e : Purpose) (o d p : ℕ
 
   -- WHO HAS THE LOCK of another object has it still
   who_else : (i : ℕ) → i ≢ o → holder (lock w i) (λ u. hold_count i (x.known u).holds) ≡ who w i
-  who_else i n = holder_told (lock w i) i t l w.known (inl (let other = ap one_if (ne_eqb o i (λ q. n (sym q))) in omega (arith, named_less old o d p full i, other)))
+  who_else i n = holder_told (lock w i) i t l w.known
+      (inl (let other = ap one_if (ne_eqb o i (λ q. n (sym q))) in omega (arith, named_less old o d p full i, other)))
 
   who_here : holder (lock w o) (λ u. hold_count o (x.known u).holds) ≡ less.owner
   who_here = is.owner (λ u. hold_count o (x.known u).holds)
-      (let now = ap (λ (k : Known). hold_count o k.holds) (with_known_here t l w.known) in let one = ap one_if (eq-eqb o o refl) in omega (arith, named_less old o d p full o, now, one))
+      (omega (arith, named_less old o d p full o, ap (λ (k : Known). hold_count o k.holds) (with_known_here t l w.known), ap one_if (eq-eqb o o refl)))
 
   owners_same : (i u : ℕ) → is_thread (holder (lock w i) (λ u. hold_count i (x.known u).holds)) u ≡ (owner_at Q i u || bears (x.known u).stage i)
   owners_same i u =
       by_equal i o
       (λ s. subst (λ j. is_thread (holder (lock w j) (λ u. hold_count j (x.known u).holds)) u ≡ (owner_at Q j u || bears (x.known u).stage j)) (sym s)
-      (ap (λ a. is_thread a u) who_here ∙ sym (owner_here P o less inside is.fewer u) ∙ sym (or-false (owner_at Q o u)) ∙ ap (λ (b : Bool). owner_at Q o u || b) (sym (unborne u))))
-      (λ n. ap (λ a. is_thread a u) (who_else i n) ∙ v.owners.same i u ∙ (λ j. sym (owner_else P o less inside is.fewer i u n) j || sym (bears_stay step before now u i) j))
+      (ap (λ a. is_thread a u) who_here ∙ sym (owner_here P o less inside is.fewer u) ∙ sym (or-false (owner_at Q o u))
+          ∙ ap (λ (b : Bool). owner_at Q o u || b) (sym (unborne u))))
+      (λ n. ap (λ a. is_thread a u) (who_else i n) ∙ v.owners.same i u
+          ∙ (λ j. sym (owner_else P o less inside is.fewer i u n) j || sym (bears_stay step before now u i) j))
     where
       unborne : (u : ℕ) → bears (x.known u).stage o ≡ false
       unborne u = each_with_known (λ u k. bears k.stage o ≡ false) t l w.known u refl (λ n. (none_else u n).1)
@@ -194,7 +197,8 @@ module _ (w : World) (P : List PlainObject) (t : ℕ) (e : Purpose) (o d p : ℕ
     all_after seen = holds_next step (λ y. SeenStays y (owner_at Q) (waits_at P)) x.words seen_law
     all_after forms = search (word_held w.words t p 0 w.shape (subst (IsHold w.shape) (sym hold_zero) tt) v.forms.holds, v.forms)
     all_after quiet = quiet_next step P refl may.runs v
-    all_after holds = holds_told t l w.known hold_words_ahead (word_else w.words t p 0) (λ u i d. sym (part_stays (λ y. holds_by_monitor y.monitor u) P o z inside (is.else u d) i)) (record {
+    all_after holds = holds_told t l w.known hold_words_ahead (word_else w.words t p 0)
+        (λ u i d. sym (part_stays (λ y. holds_by_monitor y.monitor u) P o z inside (is.else u d) i)) (record {
       stored = word_own w.words t p 0 old (clears.inside old o d p full) (v.holds.stored t);
       places = length-set old p 0 ∙ v.holds.places t;
       number = number_now;
@@ -208,7 +212,7 @@ module _ (w : World) (P : List PlainObject) (t : ℕ) (e : Purpose) (o d p : ℕ
           (λ f. absurd (cc f))
           (λ n f.
           let yes = v.owners.calls i u f in
-          by_equal i o (λ s. let no = ap (λ j. owner_at P j u) s ∙ (none_else u n).0 in absurd (cc (yes, no))) (λ g. owner_else P o less inside is.fewer i u g ∙ yes));
+          by_equal i o (λ s. absurd (cc (yes, ap (λ j. owner_at P j u) s ∙ (none_else u n).0))) (λ g. owner_else P o less inside is.fewer i u g ∙ yes));
     }
     all_after biases = record {
       hashless = v.biases.hashless;
@@ -216,12 +220,15 @@ module _ (w : World) (P : List PlainObject) (t : ℕ) (e : Purpose) (o d p : ℕ
       unheld = λ i u h. each_with_known (λ u y. (lock w i ≡ BiasedTo u → ⊥) → hold_count i y.holds ≡ 0) t l w.known u
           (λ n. omega (arith, named_less old o d p full i, v.biases.unheld i t h n)) (λ d. v.biases.unheld i u h);
     }
-    all_after records = records_told t l w.known (records_less old o d p full before.seizes (λ one rests. is.rests t p rests one) (records_at v.records t)) v.records
-    all_after recursions = recursions_told t l w.known (recursions_less old o d p full before.plain (leaves_ahead w P t o d p within may v) (leaves_counted w P t o d p within may v)
+    all_after records = records_told t l w.known
+        (records_less old o d p full before.seizes (λ one rests. is.rests t p rests one) (records_at v.records t)) v.records
+    all_after recursions = recursions_told t l w.known
+        (recursions_less old o d p full before.plain (leaves_ahead w P t o d p within may v) (leaves_counted w P t o d p within may v)
         (λ i h. absurd (unlisted w P t l v may.runs may.ready before.plain.resumes i h)) (recursions_at v.recursions t)) v.recursions
     all_after hashes = record {
       stands = v.hashes.stands;
-      records = λ i u q h. v.hashes.records i u q (each_with_known (λ u y. slice_index y.holds q ≡ hold_word i 1 → slice_index (w.known u).holds q ≡ hold_word i 1) t l w.known u
+      records = λ i u q h. v.hashes.records i u q
+          (each_with_known (λ u y. slice_index y.holds q ≡ hold_word i 1 → slice_index (w.known u).holds q ≡ hold_word i 1) t l w.known u
           (cleared_back old o d p full q i 1) (λ d g. g) h);
       on_record = v.hashes.on_record;
     }
@@ -259,7 +266,8 @@ module _ (w : World) (P : List PlainObject) (t : ℕ) (e : Purpose) (o d p : ℕ
       let owned = owner_is w P t o d p within may v in
       let word : w.words (Stamp o) ≡ raised.0 = v.seen.stays t (Stamp o) raised.0 raised.1 (inl (may.runs, ap (λ a. is_thread a t) owned ∙ eq-eqb t t refl)) in
       leaving_logs w P t e o d p within may v (freed P o) is
-      (freed_stamps w P t o _ v (inside w P t e o d p within may v (freed P o) is) owned (logging_it w P t e o d p within may v (freed P o) is) (omega (arith, word, raised.2)))
+      (freed_stamps w P t o _ v (inside w P t e o d p within may v (freed P o) is) owned (logging_it w P t e o d p within may v (freed P o) is)
+          (omega (arith, word, raised.2)))
 
 pub exits_by_a_hold_word : (e : Purpose) (o d p : ℕ) → LogsValid (λ w t. MayLeave w.shape (w.known t) o d p) (λ w t. leave_plan e t o p) (Exit o)
 exits_by_a_hold_word e o d p w P t within may valid =

@@ -84,7 +84,8 @@ module _ (w : World) (P : List PlainObject) (t o d p : ℕ) (within : t < w.shap
         let high = a.2 in
         let same : a.0 ≡ (a.0 - 1) + 1 = omega (arith, deep) in
         let stands = subst (λ n. 1 ≤ depth_count o n (w.known t).holds) same a.3 in
-        let below : nat_lt (a.0 - 1) (hold_count o (w.known t).holds) ≡ true = counted_met _ (omega (arith, v.holds.each t o (a.0 - 1) (omega (arith, deep, high)), stands)) in
+        let below : nat_lt (a.0 - 1) (hold_count o (w.known t).holds) ≡ true = counted_met _
+            (omega (arith, v.holds.each t o (a.0 - 1) (omega (arith, deep, high)), stands)) in
         let more : a.0 - 1 < hold_count o (w.known t).holds = grind (arith, nat_tests, below) in
         omega (arith, more, deep, may.deepest)
 
@@ -127,7 +128,8 @@ module _ (w : World) (P : List PlainObject) (t o d p : ℕ) (within : t < w.shap
   leaves_counted i has = elim may.before [
     | inl c ↦
         let word = own_displaced w P t p 0 v may.runs c.2 in
-        ap (λ n. one_if (((o == i) && nat_lt 1 d) && (n == 3))) word ∙ ap one_if (and-false ((o == i) && nat_lt 1 d)) ∙ sym (ap (λ s. recursions_behind s i) c.0)
+        ap (λ n. one_if (((o == i) && nat_lt 1 d) && (n == 3))) word ∙ ap one_if (and-false ((o == i) && nat_lt 1 d))
+            ∙ sym (ap (λ s. recursions_behind s i) c.0)
     | inr c ↦ elim c [
       | inl f ↦
           let word = behind_three f.1.0 f.1.1 f.0 f.1.2 f.1.3 f.1.4 f.1.5 in

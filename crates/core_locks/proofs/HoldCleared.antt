@@ -43,9 +43,11 @@ module _ (w : World) (P : List PlainObject) (t : ℕ) (e : Purpose) (o p : ℕ) 
       by_equal i o
       (λ s.
       let some : hold_count i old ≢ 0 = λ z. let same = ap (λ j. hold_count j old) s in omega (arith, may.last, same, z) in
-      holder_less (lock w i) (λ z. hold_count i (w.known z).holds) (λ z. hold_count i (with_known t l w.known z).holds) t some (λ h. not_holder (sym (ap (who w) s) ∙ h))
+      holder_less (lock w i) (λ z. hold_count i (w.known z).holds) (λ z. hold_count i (with_known t l w.known z).holds) t some
+          (λ h. not_holder (sym (ap (who w) s) ∙ h))
       (λ z d. ap (λ (k : Known). hold_count i k.holds) (with_known_else t l w.known z d)))
-      (λ n. holder_told (lock w i) i t l w.known (inl (let other = ap one_if (ne_eqb o i (λ q. n (sym q))) in omega (arith, named_less old o 1 p full i, other))))
+      (λ n. holder_told (lock w i) i t l w.known
+          (inl (let other = ap one_if (ne_eqb o i (λ q. n (sym q))) in omega (arith, named_less old o 1 p full i, other))))
 
   -- an exit bears nothing, and is neither ahead nor behind
   same_part : {A : Type 0} (part : Stage → A) → part Calm ≡ part (Exits o p) → (u : ℕ) → part (with_known t l w.known u).stage ≡ part (w.known u).stage
@@ -87,14 +89,17 @@ module _ (w : World) (P : List PlainObject) (t : ℕ) (e : Purpose) (o p : ℕ) 
     unheld = λ i u h. each_with_known (λ u y. (lock w i ≡ BiasedTo u → ⊥) → hold_count i y.holds ≡ 0) t l w.known u
         (λ n. omega (arith, named_less old o 1 p full i, v.biases.unheld i t h n)) (λ d. v.biases.unheld i u h);
   }
-  all_after records = records_told t l w.known (records_less old o 1 p full (λ i q c. cc (sym may.stage ∙ c)) (λ _ rests. not_holder (ap (λ f. holder f (λ z. hold_count o (w.known z).holds)) rests))
+  all_after records = records_told t l w.known
+      (records_less old o 1 p full (λ i q c. cc (sym may.stage ∙ c)) (λ _ rests. not_holder (ap (λ f. holder f (λ z. hold_count o (w.known z).holds)) rests))
       (records_at v.records t)) v.records
   all_after recursions = recursions_told t l w.known (recursions_less old o 1 p full plain_before (λ i. ap (λ s. recursions_ahead s i) may.stage)
       (λ i g. uncounted_record i ∙ sym (ap (λ s. recursions_behind s i) may.stage))
-      (λ i h. omega (arith, v.recursions.waiting i t h, again_less old o 1 p full i (displaced_words w t), uncounted_record i)) (recursions_at v.recursions t)) v.recursions
+      (λ i h. omega (arith, v.recursions.waiting i t h, again_less old o 1 p full i (displaced_words w t), uncounted_record i))
+          (recursions_at v.recursions t)) v.recursions
   all_after hashes = record {
     stands = v.hashes.stands;
-    records = λ i u q h. v.hashes.records i u q (each_with_known (λ u y. slice_index y.holds q ≡ hold_word i 1 → slice_index (w.known u).holds q ≡ hold_word i 1) t l w.known u
+    records = λ i u q h. v.hashes.records i u q
+        (each_with_known (λ u y. slice_index y.holds q ≡ hold_word i 1 → slice_index (w.known u).holds q ≡ hold_word i 1) t l w.known u
         (cleared_back old o 1 p full q i 1) (λ d g. g) h);
     on_record = v.hashes.on_record;
   }

@@ -53,7 +53,8 @@ module _ (old : List ℕ) (o d p : ℕ) (is : IsFull old o d p) where
       → (i e : ℕ) → e < 64 → depth_count i (e + 1) new ≡ one_if (nat_lt e (hold_count i new))
   times_less deep was i e h = go (o == i) refl (times_clear old p o d is.few is.some is.small is.full i e h) (named_less i)
     where
-      go : (b : Bool) → (o == i) ≡ b → depth_count i (e + 1) new + one_if (b && (d == e + 1)) ≡ depth_count i (e + 1) old → hold_count i new + one_if b ≡ hold_count i old
+      go : (b : Bool) → (o == i) ≡ b → depth_count i (e + 1) new + one_if (b && (d == e + 1)) ≡ depth_count i (e + 1) old
+          → hold_count i new + one_if b ≡ hold_count i old
           → depth_count i (e + 1) new ≡ one_if (nat_lt e (hold_count i new))
       go true q a c =
           let whole : d ≡ hold_count i new + 1 = sym deep ∙ ap (λ j. hold_count j old) (eqb-true o i q) ∙ sym c in
@@ -78,8 +79,10 @@ module _ (old : List ℕ) (o d p : ℕ) (is : IsFull old o d p) where
   }
 
   -- where the thread has the lock through the monitor, it stood behind exactly where recursions counted its record
-  pub recursions_less : {mark recursions : ℕ → ℕ} {lock : ℕ → Lock} {t : ℕ} {stage : Stage} {saved : ℕ} {displaced : ℕ → ℕ} {waits called : ℕ → List (ℕ × ℕ)} → IsPlain stage
-      → ((i : ℕ) → recursions_ahead stage i ≡ 0) → ((i : ℕ) → lock i ≡ OwnedBy t → one_if (((o == i) && nat_lt 1 d) && (displaced p == 3)) ≡ recursions_behind stage i)
+  pub recursions_less : {mark recursions : ℕ → ℕ} {lock : ℕ → Lock} {t : ℕ} {stage : Stage} {saved : ℕ} {displaced : ℕ → ℕ} {waits called : ℕ → List (ℕ × ℕ)}
+      → IsPlain stage
+      → ((i : ℕ) → recursions_ahead stage i ≡ 0)
+      → ((i : ℕ) → lock i ≡ OwnedBy t → one_if (((o == i) && nat_lt 1 d) && (displaced p == 3)) ≡ recursions_behind stage i)
       → ((i : ℕ) → (is_listed (waits i) t ≡ true) ⊎ (is_listed (called i) t ≡ true) → saved ≡ recursion_count i displaced new)
       → RecursionsOf mark recursions lock t old stage saved displaced waits called → RecursionsOf mark recursions lock t new Calm saved displaced waits called
   recursions_less {displaced = displaced} plain ahead counted waiting h = record {

@@ -21,7 +21,8 @@ module _ (old : List ℕ) (o d p : ℕ) (is : IsPut old o d p) where
   pub hold_back : (q i e : ℕ) → e ≤ 64 → slice_index new q ≡ hold_word i e → ((q ≡ p) × (o ≡ i) × (d ≡ e)) ⊎ (slice_index old q ≡ hold_word i e)
   hold_back q i e h g =
       by_equal q p
-      (λ s. let r = hold_tells o d i e is.small h (sym (get_or-set_same old p (hold_word o d) 0 is.within) ∙ ap (slice_index new) (sym s) ∙ g) in inl (s, r.0, r.1))
+      (λ s. let r = hold_tells o d i e is.small h
+          (sym (get_or-set_same old p (hold_word o d) 0 is.within) ∙ ap (slice_index new) (sym s) ∙ g) in inl (s, r.0, r.1))
       (λ s. inr (sym (get_or-set_other old p q (hold_word o d) 0 s) ∙ g))
 
   -- and each that stood before stands afterwards
@@ -47,16 +48,19 @@ module _ (old : List ℕ) (o d p : ℕ) (is : IsPut old o d p) where
 -- THE WORDS, where thread t has stored the word v at its place p: they are what it stored last, those of the others are as they were, and each
 -- spells a hold of an object of the heap.
 module _ (f : Name → ℕ) (t p v : ℕ) where
-  pub word_own : (old : List ℕ) → p < length old → ((q : ℕ) → f (Hold t q) ≡ slice_index old q) → (q : ℕ) → with_word (Hold t p) v f (Hold t q) ≡ slice_index (slice_set old p v) q
+  pub word_own : (old : List ℕ) → p < length old → ((q : ℕ) → f (Hold t q) ≡ slice_index old q) → (q : ℕ)
+      → with_word (Hold t p) v f (Hold t q) ≡ slice_index (slice_set old p v) q
   word_own old within was q =
       by_equal q p
-      (λ s. ap (λ (b : Bool). cond b v (f (Hold t q))) ((λ j. eq-eqb q p s j && eq-eqb t t refl j)) ∙ sym (ap (slice_index (slice_set old p v)) s ∙ get_or-set_same old p v 0 within))
+      (λ s. ap (λ (b : Bool). cond b v (f (Hold t q))) ((λ j. eq-eqb q p s j && eq-eqb t t refl j))
+          ∙ sym (ap (slice_index (slice_set old p v)) s ∙ get_or-set_same old p v 0 within))
       (λ s. ap (λ (b : Bool). cond (b && (t == t)) v (f (Hold t q))) (ne_eqb q p s) ∙ was q ∙ sym (get_or-set_other old p q v 0 s))
 
   pub word_else : (u q : ℕ) → u ≢ t → with_word (Hold t p) v f (Hold u q) ≡ f (Hold u q)
   word_else u q d = ap (λ (b : Bool). cond b v (f (Hold u q))) (ap (λ (b : Bool). (q == p) && b) (ne_eqb u t d) ∙ and-false (q == p))
 
-  pub word_held : (s : Shape) → IsHold s (read_hold v) → ((u q : ℕ) → IsHold s (read_hold (f (Hold u q)))) → (u q : ℕ) → IsHold s (read_hold (with_word (Hold t p) v f (Hold u q)))
+  pub word_held : (s : Shape) → IsHold s (read_hold v) → ((u q : ℕ) → IsHold s (read_hold (f (Hold u q)))) → (u q : ℕ)
+      → IsHold s (read_hold (with_word (Hold t p) v f (Hold u q)))
   word_held s here was u q = cases ((q == p) && (u == t))
     where
       cases : (b : Bool) → IsHold s (read_hold (cond b v (f (Hold u q))))

@@ -10,7 +10,7 @@ use Rattle.core_locks.proofs.LeavesPlain.{left_objects, left_object, left_monito
 use Rattle.core_locks.proofs.LeavesStamps.{next_fits, waiter_bounded}
 use Rattle.core_locks.proofs.LeavesStates.{IsLeaving, leaving, waiting_word}
 use Rattle.core_locks.proofs.LoggedSteps.{logged_step}
-use Rattle.core_locks.proofs.Logging.{IsLogging, last_entry_more, bound_grows, stamps_next}
+use Rattle.core_locks.proofs.Logging.{Covers, IsLogging, last_entry_more, bound_grows, stamps_next}
 use Rattle.core_locks.proofs.OwnSeen.{back_by, other_back}
 use Rattle.core_locks.proofs.Steps.{stage_part, departing, IsStep, next, stepped, none_reached, each_written, step_fits, holds_next, quiet_next, logs_next, stage_back, stage_forth, inflates_stay}
 use Rattle.core_locks.proofs.Updates.{hashes_stay, slots_stay, called_stay}
@@ -184,7 +184,8 @@ module _ (w : World) (P : List PlainObject) (t o m : ℕ) (e : Purpose) (goes_on
 
   -- who has the lock is now told by what the thread bears
   shown_same : (i u : ℕ) → is_thread (who w i) u ≡ (owner_at Q i u || bears (x.known u).stage i)
-  shown_same i u = at_object v s (λ i y. is_thread (who w i) u ≡ (owns y.monitor u || bears (x.known u).stage i)) (ap (λ f. is_thread f u) (holder_is v s) ∙ sym here)
+  shown_same i u = at_object v s (λ i y. is_thread (who w i) u ≡ (owns y.monitor u || bears (x.known u).stage i))
+      (ap (λ f. is_thread f u) (holder_is v s) ∙ sym here)
       (λ i d. v.owners.same i u ∙ ap (λ b. owner_at P i u || b) (sym (bears_else i u d))) i
     where
       here : bears (x.known u).stage o ≡ (t == u)
@@ -197,14 +198,13 @@ module _ (w : World) (P : List PlainObject) (t o m : ℕ) (e : Purpose) (goes_on
   -- the records of the thread go by the monitor before and after
   goes_back : (i u : ℕ) → GoesByMonitor (lock w i) (waits_at Q i) (notified_at P i) u → GoesByMonitor (lock w i) (waits_at P i) (notified_at P i) u
   goes_back i u (inl e) = inl e
-  goes_back i u (inr (inl e)) = each_waiter v s (λ i u. GoesByMonitor (lock w i) (waits_at P i) (notified_at P i) u) (inl s.thread_owns) (λ i u a. inr (inl a)) i u e
+  goes_back i u (inr (inl e)) = each_waiter v s (λ i u. GoesByMonitor (lock w i) (waits_at P i) (notified_at P i) u) (inl s.thread_owns)
+      (λ i u a. inr (inl a)) i u e
   goes_back i u (inr (inr e)) = inr (inr e)
 
   -- THE STAMPS. No bound falls, and that of o, which is its raised stamp word now, covers the entry.
-  bounds_law : (i : ℕ) → (bound_stamp (λ u. (w.known u).log) (w.words (Stamp i)) (monitor_of P i).owner ≤ bound_stamp (λ u. (x.known u).log) (w.words (Stamp i)) (monitor_of Q i).owner)
-      × (bound_to (entry.Wait o) ≡ Some i → last_stamp (w.known t).log + 1 ≤ bound_stamp (λ u. (x.known u).log) (w.words (Stamp i)) (monitor_of Q i).owner)
-  bounds_law = at_object v s (λ i y. (bound_stamp (λ u. (w.known u).log) (w.words (Stamp i)) (monitor_of P i).owner ≤ bound_stamp (λ u. (x.known u).log) (w.words (Stamp i)) y.monitor.owner)
-      × (bound_to (entry.Wait o) ≡ Some i → last_stamp (w.known t).log + 1 ≤ bound_stamp (λ u. (x.known u).log) (w.words (Stamp i)) y.monitor.owner))
+  bounds_law : (i : ℕ) → Covers w P t (wait_entry (w.known t) o) l i (monitor_of Q i).owner
+  bounds_law = at_object v s (λ i y. Covers w P t (wait_entry (w.known t) o) l i y.monitor.owner)
       (let was = ap (bound_stamp (λ u. (w.known u).log) (w.words (Stamp o))) (owner_before v s) in (omega (arith, was, s.raised), λ e. s.raised))
       (λ i d. (bound_grows w P Q t (wait_entry (w.known t) o) l v logs_it (w.words (Stamp i)) (monitor_of P i).owner, λ e. absurd (d (sym (same_Some o i e)))))
 
@@ -258,7 +258,10 @@ module _ (w : World) (P : List PlainObject) (t o m : ℕ) (e : Purpose) (goes_on
   }
   all_after biases = record {
     hashless = v.biases.hashless;
-    nobody = λ i e. let b = v.biases.nobody i e in (at_object v s (λ i y. is_biased (marks w i) ≡ true → waits_at P i ≡ [] → y.monitor.waits ≡ []) (λ e. absurd (cc (inflated_bias, e))) (λ i d e f. f) i e b.0, b.1);
+    nobody = λ i e.
+        let b = v.biases.nobody i e in
+        (at_object v s (λ i y. is_biased (marks w i) ≡ true → waits_at P i ≡ [] → y.monitor.waits ≡ []) (λ e. absurd (cc (inflated_bias, e)))
+            (λ i d e f. f) i e b.0, b.1);
     unheld = v.biases.unheld;
   }
   all_after records = record {
@@ -281,7 +284,8 @@ module _ (w : World) (P : List PlainObject) (t o m : ℕ) (e : Purpose) (goes_on
         let was = v.recursions.owned i a u e g (λ f. c (stage_forth step (Waits i) u (λ g. cc (sym s.calm ∙ g)) f)) (λ f. d (stage_forth step (Resumes i) u (λ c. cc (sym s.calm ∙ c)) f)) in
         omega (arith, less, more, was);
     waiting = λ i u e. elim e [
-      | inl a ↦ each_waiter v s (λ j z. (w.known z).saved ≡ recursion_count j (displaced_words w z) (w.known z).holds) s.saved (λ j z b. v.recursions.waiting j z (inl b)) i u a
+      | inl a ↦ each_waiter v s (λ j z. (w.known z).saved ≡ recursion_count j (displaced_words w z) (w.known z).holds) s.saved
+          (λ j z b. v.recursions.waiting j z (inl b)) i u a
       | inr a ↦ v.recursions.waiting i u (inr a)
     ];
     on_record = v.recursions.on_record;
@@ -290,7 +294,8 @@ module _ (w : World) (P : List PlainObject) (t o m : ℕ) (e : Purpose) (goes_on
   }
   all_after waits = record {
     waiting = λ u i. each_waiter v s
-        (λ i u. (waits_on (x.words (Waiting u)) i ≡ true) ⊎ ((says_notified (x.words (Waiting u)) i ≡ true) × ((z : ℕ) × (notification_in (x.known z).stage ≡ Some i)))) (inl says_here)
+        (λ i u. (waits_on (x.words (Waiting u)) i ≡ true) ⊎
+            ((says_notified (x.words (Waiting u)) i ≡ true) × ((z : ℕ) × (notification_in (x.known z).stage ≡ Some i)))) (inl says_here)
         (λ i u a.
         let same = same_word u (waiter_other u i a) in
         elim (v.waits.waiting u i a) [
@@ -315,10 +320,12 @@ module _ (w : World) (P : List PlainObject) (t o m : ℕ) (e : Purpose) (goes_on
         ]);
     telling = λ u i n e.
         let was = stage_back step (Notifies i n) u (λ c. cc c) e in
-        at_object v s (λ i y. AreNotified (λ y. w.words (Waiting y)) i n (waits_at P i) → notification_in (w.known u).stage ≡ Some i → AreNotified (λ y. x.words (Waiting y)) i n y.monitor.waits)
+        let f : ℕ → ℕ = λ y. w.words (Waiting y) in
+        let g : ℕ → ℕ = λ y. x.words (Waiting y) in
+        at_object v s (λ i y. AreNotified f i n (waits_at P i) → notification_in (w.known u).stage ≡ Some i → AreNotified g i n y.monitor.waits)
         (λ told calls. let none = (others_out v s u was.0).0 in absurd (cc (none, v.owners.calls o u calls)))
-        (λ i d told calls. told_same (λ y. w.words (Waiting y)) (λ y. x.words (Waiting y)) i n (waits_at P i) (λ y k. same_word y (waiter_other y i k)) told) i
-        (v.waits.telling u i n was.1) (ap notification_in was.1);
+        (λ i d told calls. told_same f g i n (waits_at P i) (λ y k. same_word y (waiter_other y i k)) told) i (v.waits.telling u i n was.1)
+            (ap notification_in was.1);
     resuming = λ u i e. v.waits.resuming u i (stage_back step (Resumes i) u (λ c. cc c) e).1;
     leaving = λ u i. each_with_known (λ u k. k.stage ≡ Waits i → is_listed (waits_at Q i) u ≡ true) t l w.known u
         (λ e. ap (λ j. is_listed (waits_at Q j) t) (sym (same_object o i e)) ∙ waits_here v s) (λ d e. waits_still v s i u (v.waits.leaving u i e));

@@ -35,7 +35,8 @@ listed_tail : (p : ℕ × ℕ) (ps : List (ℕ × ℕ)) (u : ℕ) → is_listed 
 listed_tail p ps u h = ap (λ b. (p.0 == u) || b) h ∙ or-true (p.0 == u)
 
 -- one stands before the others where every word that says that its thread waits said so before
-before_where : (f g : ℕ → ℕ) (o : ℕ) (p : ℕ × ℕ) (qs : List (ℕ × ℕ)) → (waits_on (g p.0) o ≡ true → f p.0 ≡ g p.0) → ((u : ℕ) → is_listed qs u ≡ true → waits_on (g u) o ≡ true → f u ≡ g u)
+before_where : (f g : ℕ → ℕ) (o : ℕ) (p : ℕ × ℕ) (qs : List (ℕ × ℕ)) → (waits_on (g p.0) o ≡ true → f p.0 ≡ g p.0)
+    → ((u : ℕ) → is_listed qs u ≡ true → waits_on (g u) o ≡ true → f u ≡ g u)
     → AllByRecursion (StandsBefore f o p) qs → AllByRecursion (StandsBefore g o p) qs
 before_where f g o p [] e h a = tt
 before_where f g o p (q ∷ qs) e h a =
@@ -47,7 +48,8 @@ before_where f g o p (q ∷ qs) e h a =
     (one, before_where f g o p qs e (λ u k. h u (listed_tail q qs u k)) a.1)
 
 -- so all that wait stand by their stamps
-pub stand_where : (f g : ℕ → ℕ) (o : ℕ) (ps : List (ℕ × ℕ)) → ((u : ℕ) → is_listed ps u ≡ true → waits_on (g u) o ≡ true → f u ≡ g u) → StandByStamps f o ps → StandByStamps g o ps
+pub stand_where : (f g : ℕ → ℕ) (o : ℕ) (ps : List (ℕ × ℕ)) → ((u : ℕ) → is_listed ps u ≡ true → waits_on (g u) o ≡ true → f u ≡ g u) → StandByStamps f o ps
+    → StandByStamps g o ps
 stand_where f g o [] h a = tt
 stand_where f g o (p ∷ ps) h a =
     (before_where f g o p ps (h p.0 (listed_head p ps)) (λ u k. h u (listed_tail p ps u k)) a.0, stand_where f g o ps (λ u k. h u (listed_tail p ps u k)) a.1)

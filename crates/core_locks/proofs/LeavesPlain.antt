@@ -36,7 +36,8 @@ module _ {w : World} {P : List PlainObject} {o m t : ℕ} (v : Fits w P) (s : Is
       (ap (λ b. with_monitor (object_of P o) (only_if b (left_monitor (monitor_of P o) t))) s.owner)
 
   -- a fact of each object afterwards
-  pub at_object : (F : ℕ → PlainObject → Type 0) → F o (left_object (object_of P o) t) → ((i : ℕ) → i ≢ o → F i (object_of P i)) → (i : ℕ) → F i (object_of (left_objects P o t) i)
+  pub at_object : (F : ℕ → PlainObject → Type 0) → F o (left_object (object_of P o) t) → ((i : ℕ) → i ≢ o → F i (object_of P i)) → (i : ℕ)
+      → F i (object_of (left_objects P o t) i)
   at_object F = each_object F P o (left_object (object_of P o) t) s.object
 
   -- o has no owner, and every other object the one that it had
@@ -47,12 +48,14 @@ module _ {w : World} {P : List PlainObject} {o m t : ℕ} (v : Fits w P) (s : Is
   owner_fails i u e = at_object (λ i y. (i ≢ o → owner_at P i u ≡ false) → owns y.monitor u ≡ false) (λ g. refl) (λ i d g. g d) i e
 
   -- the new one waits on o, and who else waits did so before
-  pub each_waiter : (F : ℕ → ℕ → Type 0) → F o t → ((i u : ℕ) → is_listed (waits_at P i) u ≡ true → F i u) → (i u : ℕ) → is_listed (waits_at (left_objects P o t) i) u ≡ true → F i u
+  pub each_waiter : (F : ℕ → ℕ → Type 0) → F o t → ((i u : ℕ) → is_listed (waits_at P i) u ≡ true → F i u) → (i u : ℕ)
+      → is_listed (waits_at (left_objects P o t) i) u ≡ true → F i u
   each_waiter F here before i u = at_object (λ i y. is_listed y.monitor.waits u ≡ true → F i u)
       (λ e. elim (listed_back (waits_at P o) t (monitor_of P o).count u e) [ inl b ↦ before o u b | inr b ↦ subst (F o) (sym b) here ]) (λ i d. before i u) i
 
   pub waits_still : (i u : ℕ) → is_listed (waits_at P i) u ≡ true → is_listed (waits_at (left_objects P o t) i) u ≡ true
-  waits_still i u = at_object (λ i y. is_listed (waits_at P i) u ≡ true → is_listed y.monitor.waits u ≡ true) (listed_forth (waits_at P o) t (monitor_of P o).count u) (λ i d e. e) i
+  waits_still i u = at_object (λ i y. is_listed (waits_at P i) u ≡ true → is_listed y.monitor.waits u ≡ true)
+      (listed_forth (waits_at P o) t (monitor_of P o).count u) (λ i d e. e) i
 
   pub waits_here : is_listed (waits_at (left_objects P o t) o) t ≡ true
   waits_here = ap (λ m. is_listed m.waits t) (monitor_here P o (left_object (object_of P o) t) s.object) ∙ listed_last (waits_at P o) t (monitor_of P o).count
@@ -67,7 +70,8 @@ module _ {w : World} {P : List PlainObject} {o m t : ℕ} (v : Fits w P) (s : Is
   -- nobody's number of plain holds changes: the thread's count goes from the owner's to that of one who waits
   pub stands_next : (i u : ℕ) → ((i ≡ o) × (u ≡ t) × (holds_by_monitor (monitor_of (left_objects P o t) i) u ≡ (monitor_of P o).count)) ⊎ (holds_by_monitor (monitor_of (left_objects P o t) i) u ≡ holds_by_monitor (monitor_of P i) u)
   stands_next i u = at_object
-      (λ i y. ((i ≡ o) × (u ≡ t) × (holds_by_monitor y.monitor u ≡ (monitor_of P o).count)) ⊎ (holds_by_monitor y.monitor u ≡ holds_by_monitor (monitor_of P i) u))
+      (λ i y. ((i ≡ o) × (u ≡ t) × (holds_by_monitor y.monitor u ≡ (monitor_of P o).count)) ⊎
+          (holds_by_monitor y.monitor u ≡ holds_by_monitor (monitor_of P i) u))
       (by_equal u t (λ e. inl (refl, e, ap (holds_by_monitor (left_monitor (monitor_of P o) t)) e ∙ own)) (λ d. inr (other d))) (λ i d. inr refl) i
     where
       own : holds_by_monitor (left_monitor (monitor_of P o) t) t ≡ (monitor_of P o).count
@@ -85,4 +89,5 @@ module _ {w : World} {P : List PlainObject} {o m t : ℕ} (v : Fits w P) (s : Is
   -- what the entry is above, and why it may be logged
   pub is_logging : (l : Known) → l.log ≡ (w.known t).log ++ wait_entry (w.known t) o ∷ [] → IsLogging w P (left_objects P o t) t (wait_entry (w.known t) o) l
   is_logging l grows =
-      next_logging s.within grows taken (record { operation = inr s.waits; shot = tt }) refl (λ i e. ap (λ j. (monitor_of P j).owner) (sym (same_Some o i e)) ∙ owner_before)
+      next_logging s.within grows taken (record { operation = inr s.waits; shot = tt }) refl
+          (λ i e. ap (λ j. (monitor_of P j).owner) (sym (same_Some o i e)) ∙ owner_before)

@@ -45,9 +45,18 @@ pub record IsLogging (w : World) (P Q : List PlainObject) (t : ℕ) (y : Logged)
   pub above : (o : ℕ) → bound_to y.entry ≡ Some o → bound_stamp (λ u. (w.known u).log) (w.words (Stamp o)) (monitor_of P o).owner < y.stamp
   pub follows : is_taking y.entry ≡ false → y.stamp ≡ last_stamp (w.known t).log + 1
 
--- so it is with the thread's next stamp, and an entry that is bound to no object but one that the thread owns: its last stamp is the bound there
-pub next_logging : {w : World} {P Q : List PlainObject} {t : ℕ} {y : Logged} {l : Known} → t < w.shape.threads → l.log ≡ (w.known t).log ++ y ∷ [] → take_entry P t y.entry ≡ Some Q
-    → IsOwnEntry (w.known t) y.entry → y.stamp ≡ last_stamp (w.known t).log + 1 → ((o : ℕ) → bound_to y.entry ≡ Some o → (monitor_of P o).owner ≡ Some t) → IsLogging w P Q t y l
+-- the bound of the stamps on i, by an owner, is no smaller than it was, and covers the entry y where that is bound to i
+abbrev pub Covers : World → List PlainObject → ℕ → Logged → Known → ℕ → Option ℕ → Type 0
+Covers w P t y l i owner =
+    (bound_stamp (λ u. (w.known u).log) (w.words (Stamp i)) (monitor_of P i).owner ≤ bound_stamp (λ u. (with_known t l w.known u).log)
+        (w.words (Stamp i)) owner)
+    × (bound_to y.entry ≡ Some i → y.stamp ≤ bound_stamp (λ u. (with_known t l w.known u).log) (w.words (Stamp i)) owner)
+
+-- a thread may log an entry with its next stamp that is bound to no object but one that it owns: its last stamp is the bound there
+pub next_logging : {w : World} {P Q : List PlainObject} {t : ℕ} {y : Logged} {l : Known} → t < w.shape.threads → l.log ≡ (w.known t).log ++ y ∷ []
+    → take_entry P t y.entry ≡ Some Q
+    → IsOwnEntry (w.known t) y.entry → y.stamp ≡ last_stamp (w.known t).log + 1 → ((o : ℕ) → bound_to y.entry ≡ Some o → (monitor_of P o).owner ≡ Some t)
+    → IsLogging w P Q t y l
 next_logging {w} within grows taken own stamp owned = record {
   within = within;
   grows = grows;
@@ -109,12 +118,11 @@ module _ (w : World) (P Q : List PlainObject) (t : ℕ) (y : Logged) (l : Known)
       (subst (AllByRecursion B) (sym (order_appended (logs w) t y v.legal.rises many up_again))
       (all_insert B (t, y) (order (logs w)) new (all_weaker (λ x. bound_to x.1.entry ≡ Some i → x.1.stamp ≤ s) B (λ x f q. let g = f q in omega (arith, above, g)) (order (logs w)) bounded)))
 
-  -- The stamps fit afterwards, where the stamp words are the same: the new stamp is at most one more than the number of entries, and each
-  -- object's bound is no smaller, and covers the entry where that is bound to it.
-  pub stamps_next : y.stamp ≤ entries (logs w) + 1
-      → ((i : ℕ) → (bound_stamp (λ u. (w.known u).log) (w.words (Stamp i)) (monitor_of P i).owner ≤ bound_stamp (λ u. (with_known t l w.known u).log) (w.words (Stamp i)) (monitor_of Q i).owner)
-      × (bound_to y.entry ≡ Some i → y.stamp ≤ bound_stamp (λ u. (with_known t l w.known u).log) (w.words (Stamp i)) (monitor_of Q i).owner))
-      → StampsFit (logs_from 0 w.shape.threads (with_known t l w.known)) (λ u. (with_known t l w.known u).log) (λ o. w.words (Stamp o)) (λ o. (monitor_of Q o).owner) (λ u. (with_known t l w.known u).unfinished)
+  -- The stamps fit afterwards, where the stamp words are the same, and the new stamp is at most one more than the number of entries.
+  pub stamps_next : y.stamp ≤ entries (logs w) + 1 → ((i : ℕ) → Covers w P t y l i (monitor_of Q i).owner)
+      → StampsFit (logs_from 0 w.shape.threads (with_known t l w.known)) (λ u. (with_known t l w.known u).log) (λ o. w.words (Stamp o)) (λ o.
+      (monitor_of Q o).owner)
+      (λ u. (with_known t l w.known u).unfinished)
   stamps_next small bounds =
       record {
         logged = λ u. each_with_known (λ u k. last_stamp k.log ≤ entries (logs_from 0 w.shape.threads (with_known t l w.known))) t l w.known u

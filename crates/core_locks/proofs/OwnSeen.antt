@@ -12,7 +12,8 @@ abbrev pub hit_world : World → ℕ → StepPlan → World
 hit_world w t plan = with_word_and_known plan.at (word_after plan.act (w.words plan.at)) t (left_with w t plan) w
 
 -- every clause holds after a step that hits, where it holds in that world
-pub hit_moved : (w : World) (P : List PlainObject) (t : ℕ) (p : StepPlan) → hits p.act (w.words p.at) ≡ true → Fits (hit_world w t p) P → Fits (world_after p t w) P
+pub hit_moved : (w : World) (P : List PlainObject) (t : ℕ) (p : StepPlan) → hits p.act (w.words p.at) ≡ true → Fits (hit_world w t p) P
+    → Fits (world_after p t w) P
 hit_moved w P t p h =
     let missed = known_miss w.shape w.start p (w.words p.at) (w.known t) in
     subst (λ b. Fits (with_word_and_known p.at (word_after p.act (w.words p.at)) t (cond b (left_with w t p) missed) w) P) (sym h)
@@ -57,7 +58,8 @@ back_by w x k y owner next u mark prototype run ask inflates none_revokes kept f
 }
 
 -- so another thread, which knows what it knew, counted before on what it may count on
-pub other_back : (w x : World) (k : Known) (owner next : ℕ → ℕ → Bool) (u : ℕ) → marks x ≡ marks w → prototype_of x ≡ prototype_of w → ((o : ℕ) → next o u ≡ true → owner o u ≡ true)
+pub other_back : (w x : World) (k : Known) (owner next : ℕ → ℕ → Bool) (u : ℕ) → marks x ≡ marks w → prototype_of x ≡ prototype_of w
+    → ((o : ℕ) → next o u ≡ true → owner o u ≡ true)
     → (n : Name) (s : ℕ) → Stays x k next u n s → Stays w k owner u n s
 other_back w x k owner next u mark prototype fewer =
     stays_back w x k k owner next u (back_by w x k k owner next u mark prototype (λ h. h) refl refl (λ h. h) refl fewer (λ o m g h. h))

@@ -78,7 +78,11 @@ module _ (w : World) (P : List PlainObject) (t o m : ℕ) (within : t < w.shape.
       let stage : IsTakingAt (w.known t).stage o = inr may.stage in
       let own_entry : IsOwnEntry (w.known t) (Resume o) = record { operation = inr (v.waits.unfinished t o (inr called)); shot = tt } in
       let nobody : notified_at P o ≡ [] → without (notified_at P o) t ≡ [] = λ h. ap (λ ps. without ps t) h in
-      search (within, stage, ap (with_monitor (object_of P o)) resumes, even, own_entry, number, without_unlisted (notified_at P o) t, without_others (notified_at P o) t, nobody, recursions, may)
+      let takes = ap (with_monitor (object_of P o)) resumes in
+      let gone = without_unlisted (notified_at P o) t in
+      search (within, stage, takes, even, own_entry, number, gone, without_others (notified_at P o) t, nobody, recursions, may)
 
 pub logging_a_resume : (e : Purpose) (o m : ℕ) → LogsValid (λ w t. MayLogResume w.shape (w.known t) o m) (λ w t. log_resume_plan e o) (Resume o)
-logging_a_resume e o m w P t within may valid = let v = fits_running w P t may.runs valid in taking_logs w P t o (Resume o) e (after w P t o m within may v) (is_taking w P t o m within may v) v
+logging_a_resume e o m w P t within may valid =
+    let v = fits_running w P t may.runs valid in
+    taking_logs w P t o (Resume o) e (after w P t o m within may v) (is_taking w P t o m within may v) v

@@ -95,7 +95,8 @@ module _ (w : World) (P : List PlainObject) (t : ℕ) (e : Purpose) (act : Act) 
 
   unreached : (u : ℕ) → (with_known t l w.known u).reached ≡ true → ⊥
   unreached u = each_with_known (λ u y. y.reached ≡ true → ⊥) t l w.known u
-      (λ r. let a = both_true (w.known t).reached (asks_in (word_after act (w.words Safepoint)) (w.known t).thread) (sym c.reaches ∙ r) in c.unreached t a.0 (λ s. sym asks_same ∙ a.1))
+      (λ r. let a = both_true (w.known t).reached (asks_in (word_after act (w.words Safepoint)) (w.known t).thread) (sym c.reaches ∙ r) in c.unreached t a.0
+          (λ s. sym asks_same ∙ a.1))
       (λ d r. c.unreached u r (λ s. absurd (d s)))
 
   step : IsStep w t l asking

@@ -23,7 +23,8 @@ module _ (w : World) (P : List PlainObject) (t : ℕ) (v : Fits w P) (reached : 
   plain_owner : (o z : ℕ) → who w o ≡ Some z → owner_at P o z ≡ true
   plain_owner o z e =
       let none = ap (λ s. bears s o) (safepoint_calm w P t z v reached) in
-      elim (or_cases (owner_at P o z) (bears (w.known z).stage o) (sym (v.owners.same o z) ∙ ap (λ a. is_thread a z) e ∙ same_number z)) [ inl a ↦ a | inr b ↦ absurd (cc (b, none)) ]
+      elim (or_cases (owner_at P o z) (bears (w.known z).stage o) (sym (v.owners.same o z) ∙ ap (λ a. is_thread a z) e ∙ same_number z))
+          [ inl a ↦ a | inr b ↦ absurd (cc (b, none)) ]
 
   -- another thread is the owner of an object whose owner word names it
   other_owns : (o u mark m owner : ℕ) → last_seen (Mark o) (w.known t).seen_at_safepoint ≡ Some mark → monitor_in mark ≡ Some m → last_seen (Owner m) (w.known t).seen_at_safepoint ≡ Some owner

@@ -10,7 +10,8 @@ pub made_by : {A : Type 0} (b : Bool) (x y : A) → only_if b x ≡ Some y → x
 made_by true x y h = same_Some x y h
 made_by false x y h = absurd (cc h)
 
-mapped_slots : {A : Type 0} (f : A → PlainObject) (n : ℕ) (y : PlainObject) (m : Option A) → ((a : A) → length (f a).slots ≡ n) → option_map f m ≡ Some y → length y.slots ≡ n
+mapped_slots : {A : Type 0} (f : A → PlainObject) (n : ℕ) (y : PlainObject) (m : Option A) → ((a : A) → length (f a).slots ≡ n) → option_map f m ≡ Some y
+    → length y.slots ≡ n
 mapped_slots f n y None same h = absurd (cc h)
 mapped_slots f n y (Some a) same h = ap (λ (z : PlainObject). length z.slots) (sym (same_Some _ y h)) ∙ same a
 

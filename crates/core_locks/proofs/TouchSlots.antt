@@ -119,7 +119,8 @@ module _ (w : World) (P : List PlainObject) (t : â„•) (e : Purpose) (o slot : â„
       record {
         now = Q;
         taken = entry.taken;
-        valid = inl (touches Load (LogGet o slot) e.unfinished (record { stamp = last_stamp (w.known t).log + 1; entry = Get o slot found }) (object_of P o) (search (entry, own_entry, slots)));
+        valid = inl (touches Load (LogGet o slot) e.unfinished (record { stamp = last_stamp (w.known t).log + 1; entry = Get o slot found }) (object_of P o)
+            (search (entry, own_entry, slots)));
       }
 
   -- the object with another value in the slot
@@ -162,7 +163,8 @@ module _ (w : World) (P : List PlainObject) (t : â„•) (e : Purpose) (o slot : â„
       record {
         now = slice_set P o (filled value);
         taken = entry.taken;
-        valid = inl (touches (Store (word_of value)) (Log (Put o slot value)) None (record { stamp = last_stamp (w.known t).log + 1; entry = Put o slot value }) (filled value)
+        valid = inl (touches (Store (word_of value)) (Log (Put o slot value)) None
+            (record { stamp = last_stamp (w.known t).log + 1; entry = Put o slot value }) (filled value)
             (search (entry, own_entry, put_slots value put)));
       }
 

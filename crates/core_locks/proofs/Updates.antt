@@ -15,7 +15,8 @@ pub takes : (P : List PlainObject) (o t : ℕ) (e : Entry) (z : PlainObject) →
 takes P o t e z within n h = ap (take_named P t e) n ∙ rw (slice_get-get_or P o (new_object 0) within, h) refl
 
 -- a fact of each object afterwards
-pub each_object : (F : ℕ → PlainObject → Type 0) (P : List PlainObject) (o : ℕ) (z : PlainObject) → o < length P → F o z → ((i : ℕ) → i ≢ o → F i (object_of P i))
+pub each_object : (F : ℕ → PlainObject → Type 0) (P : List PlainObject) (o : ℕ) (z : PlainObject) → o < length P → F o z
+    → ((i : ℕ) → i ≢ o → F i (object_of P i))
     → (i : ℕ) → F i (object_of (slice_set P o z) i)
 each_object F P o z within here else_ i =
     by_equal i o

@@ -12,7 +12,8 @@ neither true b e = absurd (cc e)
 neither false b e = (refl, sym e)
 
 -- who hasn't the lock of an object doesn't own it, nor bear it
-pub no_other : (w : World) (P : List PlainObject) (o u : ℕ) → Fits w P → is_thread (who w o) u ≡ false → (owner_at P o u ≡ false) × (bears (w.known u).stage o ≡ false)
+pub no_other : (w : World) (P : List PlainObject) (o u : ℕ) → Fits w P → is_thread (who w o) u ≡ false
+    → (owner_at P o u ≡ false) × (bears (w.known u).stage o ≡ false)
 no_other w P o u v h = neither (owner_at P o u) (bears (w.known u).stage o) (sym h ∙ v.owners.same o u)
 
 -- a thread whose waiting word says that it is ready is out
