@@ -45,7 +45,7 @@ module _ (t : ℕ) (l : Known) (f : ℕ → Known) where
       λ u. each_with_known (λ u y. HoldsOf (next u) y.holds (more y.stage) (λ o. now o u)) t l f u mine
       (λ d.
       let number : (o : ℕ) → hold_count o (f u).holds ≡ now o u + more (f u).stage o = λ o. h.number u o ∙ ap (λ n. n + more (f u).stage o)
-          (sym (kept u o d)) in
+      (sym (kept u o d)) in
       record { stored = λ p. else u p d ∙ h.stored u p; places = h.places u; number = number; each = h.each u }) in
       record { stored = λ u. (at u).stored; places = λ u. (at u).places; number = λ u. (at u).number; each = λ u. (at u).each }
 
@@ -60,5 +60,5 @@ module _ (t : ℕ) (l : Known) (f : ℕ → Known) where
   recursions_told {mark} {recursions} {lock} {saved} {displaced} {waits} {called} mine h =
       let at : (u : ℕ) → RecursionsOf mark recursions lock u (with_known t l f u).holds (with_known t l f u).stage (saved u) (displaced u) waits called =
       λ u. each_with_known (λ u y. RecursionsOf mark recursions lock u y.holds y.stage (saved u) (displaced u) waits called) t l f u mine
-          (λ d. recursions_at h u) in
+      (λ d. recursions_at h u) in
       record { first = λ o u. (at u).first o; others = λ o u. (at u).others o; owned = λ o m u. (at u).owned o m; waiting = λ o u. (at u).waiting o; thread_owns = λ o u. (at u).thread_owns o; on_record = h.on_record; free = h.free }

@@ -1,5 +1,5 @@
 -- A thread whose new hold word stands loads the object's stamp, and so logs its Enter.
-use Rattle.core_locks.proofs.Prelude.{◌≡◌, ◌⊎◌, ℕ, ◌+◌, ◌<◌, ◌&&◌, not, true, false, cond, List, slice_set, Option, Some, None, refl, ap, ◌∙◌, arith, inl, inr, is_none, PlainMonitor, is_thread, is_listed, only_if, is_outside, enter, PlainObject, with_monitor, Enter, Path, Stamp, Recursions, Resumes, monitor_in, bears, hold_words_ahead, recursions_ahead, recursions_behind, one_if, World, OwnedBy, lock, marks, displaced_words, recursion_count, holds_by_monitor, object_of, monitor_of, owner_at, waits_at, notified_at, Purpose, logging_plan, Fits, lets_go, Load, same_number, sound, unlisted_count, unowned_count, fits_running, Logs, MayLogEnter, LogsValid, log_enter_plan}
+use Rattle.core_locks.proofs.Prelude.{◌≡◌, ◌⊎◌, ℕ, ◌+◌, ◌<◌, false, cond, List, Option, Some, None, refl, ap, ◌∙◌, arith, inl, inr, PlainMonitor, is_thread, is_listed, enter, PlainObject, with_monitor, Enter, Path, Recursions, Resumes, monitor_in, bears, hold_words_ahead, recursions_ahead, recursions_behind, one_if, World, OwnedBy, lock, marks, displaced_words, recursion_count, holds_by_monitor, object_of, monitor_of, waits_at, notified_at, Purpose, Fits, lets_go, same_number, sound, unlisted_count, unowned_count, fits_running, MayLogEnter, LogsValid, log_enter_plan}
 use Rattle.core_locks.proofs.WaitOut.{out_unlisted, out_standing, ready_is_out}
 use Rattle.core_locks.proofs.EnterTakes.{IsTaking, IsTakingAt, owner_or_taker}
 use Rattle.core_locks.proofs.EnterFits.{taking_logs}

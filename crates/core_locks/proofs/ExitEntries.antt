@@ -1,5 +1,5 @@
 -- The Exit that a step logs, as the plain objects take it from their owner, and what the thread has seen of its own displaced words.
-use Rattle.core_locks.proofs.Prelude.{◌≡◌, ℕ, ◌+◌, ◌<◌, ◌==◌, true, List, [], ◌∷◌, ◌++◌, length, slice_set, Some, refl, sym, ap, ◌∙◌, arith, inl, same_Some, PlainMonitor, exit, PlainObject, take_entry, with_monitor, Logged, last_stamp, Exit, Name, Stamp, Displaced, inflation_in, Known, last_seen, World, logs, Lock, lock, header, inflations, object_of, monitor_of, hash_at, waits_at, notified_at, inflated_to, Fits, bound_stamp, inflations_stay, IsOwnEntry, is_thread, owner_at, owns, by_equal, false, ◌≢◌}
+use Rattle.core_locks.proofs.Prelude.{◌≡◌, ℕ, ◌+◌, ◌<◌, ◌==◌, true, List, [], ◌∷◌, ◌++◌, length, slice_set, Some, refl, sym, ap, ◌∙◌, inl, same_Some, PlainMonitor, exit, PlainObject, take_entry, with_monitor, Logged, last_stamp, Exit, Name, Displaced, inflation_in, Known, last_seen, World, logs, Lock, lock, header, inflations, object_of, monitor_of, hash_at, waits_at, notified_at, inflated_to, Fits, inflations_stay, IsOwnEntry, is_thread, owner_at, owns, by_equal, false, ◌≢◌}
 use Rattle.core_locks.proofs.Logging.{IsLogging, next_logging}
 use Rattle.core_locks.proofs.Clauses.{Parts, parts_of}
 use Rattle.core_locks.proofs.Steps.{Fields, IsStep, next, stepped, logs_next}

@@ -1,5 +1,5 @@
 -- A thread clears the deepest of its hold words of an object, and so logs Exit.
-use Rattle.core_locks.proofs.Prelude.{◌≡◌, ◌≢◌, ◌⊎◌, ℕ, ◌+◌, ◌<◌, ◌≤◌, ◌^◌, ◌==◌, ◌||◌, eq-eqb, ne_eqb, Bool, true, false, cond, List, length, slice_index, slice_set, Some, None, refl, sym, ap, ◌∙◌, subst, arith, inl, inr, ◌-◌, nat_le, nat_tests, same_Some, PlainMonitor, is_thread, is_listed, exit, PlainObject, take_entry, Logged, Exit, Hold, Recursions, StepPlan, Calm, Seizes, Grabs, Resumes, Exits, Waits, TakesOver, hold_word, inflation_in, bears, hold_words_ahead, recursions_ahead, recursions_behind, one_if, Known, World, with_word_and_known, Lock, Open, BiasedTo, OnRecord, OwnedBy, lock, marks, displaced_words, inflations, who, holder, hold_count, recursion_count, holds_by_monitor, monitor_of, owner_at, waits_at, notified_at, Stays, SeenStays, RecordsRest, RecursionsFit, Purpose, logging_plan, known_hit, Fits, Store, by_equal, each_with_known, with_known_here, header_stays, inflations_stay, lock_stays, thread_is, fits_running, Logs, MayLeave, or-false, StampsFit, logs_from, Stamp, next_stamp, local_of, notification_in, eqb-true, with_known, LogsValid, leave_plan, IsHold, hold_zero}
+use Rattle.core_locks.proofs.Prelude.{◌≡◌, ◌≢◌, ℕ, ◌+◌, ◌<◌, ◌≤◌, ◌||◌, eq-eqb, ne_eqb, Bool, true, false, cond, List, length, slice_index, slice_set, Some, None, refl, sym, ap, ◌∙◌, subst, arith, inl, inr, ◌-◌, nat_le, nat_tests, same_Some, PlainMonitor, is_thread, exit, PlainObject, take_entry, Logged, Exit, Hold, StepPlan, Calm, Exits, Waits, hold_word, inflation_in, bears, hold_words_ahead, one_if, Known, World, with_word_and_known, BiasedTo, OnRecord, lock, inflations, who, holder, hold_count, holds_by_monitor, monitor_of, owner_at, waits_at, Stays, SeenStays, Purpose, logging_plan, known_hit, Fits, Store, by_equal, each_with_known, with_known_here, header_stays, inflations_stay, lock_stays, thread_is, fits_running, Logs, MayLeave, or-false, StampsFit, logs_from, Stamp, notification_in, with_known, LogsValid, leave_plan, IsHold, hold_zero}
 use Rattle.core_locks.specs.LockLaws.{HasRaised}
 use Rattle.core_locks.proofs.Drawing.{draws_still}
 use Rattle.std.proofs.lemmas.List.{length-set}
@@ -13,11 +13,11 @@ use Rattle.core_locks.proofs.Logging.{IsLogging, stamps_owned}
 use Rattle.core_locks.proofs.Updates.{each_object, part_stays}
 use Rattle.core_locks.proofs.ExitEntries.{exit_entry, object_with, objects_where, exit_taken, exit_logging, exit_parts, exit_are, owner_here, owner_else, owner_before, owner_fails}
 use Rattle.core_locks.proofs.Clauses.{parts_of, seen, forms, quiet, holds, owners, biases, records, recursions, hashes, waits, stamps, AllHold}
-use Rattle.core_locks.proofs.EvenSteps.{IsEven, even_by, extra_stays, bears_stay, held_even}
+use Rattle.core_locks.proofs.EvenSteps.{IsEven, even_by, bears_stay, held_even}
 use Rattle.core_locks.proofs.LoggedSteps.{logged_step}
 use Rattle.core_locks.proofs.LastExit.{freed, freed_stamps}
 use Rattle.core_locks.proofs.OwnSeen.{seen_as}
-use Rattle.core_locks.proofs.Steps.{leaving, IsStep, next, stepped, step_fits, holds_next, quiet_next, stage_back, stage_forth, inflates_stay, waits_move}
+use Rattle.core_locks.proofs.Steps.{leaving, IsStep, next, stepped, step_fits, holds_next, quiet_next, stage_back, inflates_stay, waits_move}
 use Rattle.core_locks.proofs.Tells.{unlisted, waits_logged}
 use Rattle.core_locks.proofs.ExitLeaves.{leaves_even, leaves_inflates, leaves_ahead, leaves_few, leaves_some, leaves_owned, leaves_deep, leaves_counted}
 
@@ -165,9 +165,9 @@ module _ (w : World) (P : List PlainObject) (t : ℕ) (e : Purpose) (o d p : ℕ
       by_equal i o
       (λ s. subst (λ j. is_thread (holder (lock w j) (λ u. hold_count j (x.known u).holds)) u ≡ (owner_at Q j u || bears (x.known u).stage j)) (sym s)
       (ap (λ a. is_thread a u) who_here ∙ sym (owner_here P o less inside is.fewer u) ∙ sym (or-false (owner_at Q o u))
-          ∙ ap (λ (b : Bool). owner_at Q o u || b) (sym (unborne u))))
+      ∙ ap (λ (b : Bool). owner_at Q o u || b) (sym (unborne u))))
       (λ n. ap (λ a. is_thread a u) (who_else i n) ∙ v.owners.same i u
-          ∙ (λ j. sym (owner_else P o less inside is.fewer i u n) j || sym (bears_stay step before now u i) j))
+      ∙ (λ j. sym (owner_else P o less inside is.fewer i u n) j || sym (bears_stay step before now u i) j))
     where
       unborne : (u : ℕ) → bears (x.known u).stage o ≡ false
       unborne u = each_with_known (λ u k. bears k.stage o ≡ false) t l w.known u refl (λ n. (none_else u n).1)
@@ -199,11 +199,11 @@ module _ (w : World) (P : List PlainObject) (t : ℕ) (e : Purpose) (o d p : ℕ
     all_after quiet = quiet_next step P refl may.runs v
     all_after holds = holds_told t l w.known hold_words_ahead (word_else w.words t p 0)
         (λ u i d. sym (part_stays (λ y. holds_by_monitor y.monitor u) P o z inside (is.else u d) i)) (record {
-      stored = word_own w.words t p 0 old (clears.inside old o d p full) (v.holds.stored t);
-      places = length-set old p 0 ∙ v.holds.places t;
-      number = number_now;
-      each = times_less old o d p full may.deepest (v.holds.each t);
-    }) v.holds
+          stored = word_own w.words t p 0 old (clears.inside old o d p full) (v.holds.stored t);
+          places = length-set old p 0 ∙ v.holds.places t;
+          number = number_now;
+          each = times_less old o d p full may.deepest (v.holds.each t);
+        }) v.holds
     all_after owners = record {
       same = owners_same;
       let_go = λ i u f. owner_fails P o less inside is.fewer i u (v.owners.let_go i u (stage_back step (Waits i) u (λ g. cc g) f).1);
@@ -267,7 +267,7 @@ module _ (w : World) (P : List PlainObject) (t : ℕ) (e : Purpose) (o d p : ℕ
       let word : w.words (Stamp o) ≡ raised.0 = v.seen.stays t (Stamp o) raised.0 raised.1 (inl (may.runs, ap (λ a. is_thread a t) owned ∙ eq-eqb t t refl)) in
       leaving_logs w P t e o d p within may v (freed P o) is
       (freed_stamps w P t o _ v (inside w P t e o d p within may v (freed P o) is) owned (logging_it w P t e o d p within may v (freed P o) is)
-          (omega (arith, word, raised.2)))
+      (omega (arith, word, raised.2)))
 
 pub exits_by_a_hold_word : (e : Purpose) (o d p : ℕ) → LogsValid (λ w t. MayLeave w.shape (w.known t) o d p) (λ w t. leave_plan e t o p) (Exit o)
 exits_by_a_hold_word e o d p w P t within may valid =

@@ -1,6 +1,6 @@
 -- What holds where a thread may leave by clearing a hold word: it is the plain owner, has several holds or a bias, and the recursions count its
 -- records, but for the one that it clears.
-use Rattle.core_locks.proofs.Prelude.{◌≡◌, ◌≢◌, ℕ, zero, suc, ◌+◌, ◌<◌, ◌≤◌, ◌^◌, ◌==◌, ◌&&◌, nat_lt, eq-eqb, Bool, true, false, List, [], ◌∷◌, Option, Some, None, refl, sym, ap, ◌∙◌, subst, arith, inl, inr, nat_tests, read_hold, Holds, Empty, HoldForm, read_hold-spells, PlainObject, Mark, Hold, Displaced, Stage, Calm, Behind, hold_word, is_deeper, monitor_in, deeper_form, inflation_in, recursions_ahead, recursions_behind, one_if, last_seen, World, OwnedBy, lock, marks, displaced_words, hold_count, depth_count, recursion_count, monitor_of, owner_at, count_where, Fits, same_number, SawInflated, SawOwn, MayLeave, ◌⊎◌, ne_eqb, by_equal, Lock, BiasedTo, is_biased, ◌-◌}
+use Rattle.core_locks.proofs.Prelude.{◌≡◌, ◌≢◌, ℕ, ◌+◌, ◌<◌, ◌≤◌, ◌^◌, ◌==◌, ◌&&◌, nat_lt, eq-eqb, Bool, true, false, List, [], ◌∷◌, Option, Some, None, refl, sym, ap, ◌∙◌, subst, arith, inl, inr, nat_tests, read_hold, Holds, Empty, HoldForm, read_hold-spells, PlainObject, Mark, Hold, Displaced, Stage, Calm, Behind, hold_word, is_deeper, monitor_in, deeper_form, inflation_in, recursions_ahead, recursions_behind, one_if, last_seen, World, OwnedBy, lock, marks, displaced_words, hold_count, depth_count, recursion_count, monitor_of, owner_at, count_where, Fits, same_number, SawInflated, SawOwn, MayLeave, ◌⊎◌, ne_eqb, by_equal, Lock, BiasedTo, is_biased, ◌-◌}
 use Rattle.core_locks.specs.Knowing.{SawBiased}
 use Rattle.core_locks.specs.LockLaws.{HasRaised}
 use Rattle.std.proofs.Math.Bool.{and-false}
@@ -85,7 +85,7 @@ module _ (w : World) (P : List PlainObject) (t o d p : ℕ) (within : t < w.shap
         let same : a.0 ≡ (a.0 - 1) + 1 = omega (arith, deep) in
         let stands = subst (λ n. 1 ≤ depth_count o n (w.known t).holds) same a.3 in
         let below : nat_lt (a.0 - 1) (hold_count o (w.known t).holds) ≡ true = counted_met _
-            (omega (arith, v.holds.each t o (a.0 - 1) (omega (arith, deep, high)), stands)) in
+        (omega (arith, v.holds.each t o (a.0 - 1) (omega (arith, deep, high)), stands)) in
         let more : a.0 - 1 < hold_count o (w.known t).holds = grind (arith, nat_tests, below) in
         omega (arith, more, deep, may.deepest)
 
@@ -129,7 +129,7 @@ module _ (w : World) (P : List PlainObject) (t o d p : ℕ) (within : t < w.shap
     | inl c ↦
         let word = own_displaced w P t p 0 v may.runs c.2 in
         ap (λ n. one_if (((o == i) && nat_lt 1 d) && (n == 3))) word ∙ ap one_if (and-false ((o == i) && nat_lt 1 d))
-            ∙ sym (ap (λ s. recursions_behind s i) c.0)
+        ∙ sym (ap (λ s. recursions_behind s i) c.0)
     | inr c ↦ elim c [
       | inl f ↦
           let word = behind_three f.1.0 f.1.1 f.0 f.1.2 f.1.3 f.1.4 f.1.5 in

@@ -1,5 +1,5 @@
 -- A thread clears its last hold word of an object after the step that logged its Exit.
-use Rattle.core_locks.proofs.Prelude.{◌≡◌, ◌≢◌, ◌⊎◌, ℕ, ◌+◌, ◌<◌, ◌^◌, ◌==◌, ◌&&◌, ◌||◌, eq-eqb, ne_eqb, Bool, true, false, List, slice_index, Some, refl, sym, ap, ◌∙◌, subst, arith, inl, inr, is_thread, PlainObject, Hold, Stage, Calm, Seizes, Grabs, Resumes, Exits, Waits, TakesOver, inflation_in, bears, hold_words_ahead, recursions_ahead, recursions_behind, one_if, with_word, Known, World, with_known, OnRecord, OwnedBy, lock, displaced_words, who, holder, hold_count, recursion_count, holds_by_monitor, monitor_of, owner_at, Stays, Purpose, store, world_after, known_hit, Fits, by_equal, each_with_known, with_known_here, header_stays, fits_running, MayClear, KeepsValid, clear_plan, with_known_else, IsHold, hold_zero, BiasedTo, hold_word}
+use Rattle.core_locks.proofs.Prelude.{◌≡◌, ◌≢◌, ℕ, ◌<◌, ◌==◌, ◌&&◌, ◌||◌, eq-eqb, ne_eqb, Bool, true, false, List, slice_index, Some, refl, sym, ap, ◌∙◌, subst, arith, inl, inr, is_thread, PlainObject, Hold, Stage, Calm, Exits, Waits, inflation_in, bears, hold_words_ahead, recursions_ahead, recursions_behind, one_if, with_word, Known, World, with_known, lock, displaced_words, who, holder, hold_count, owner_at, Stays, Purpose, store, world_after, known_hit, Fits, by_equal, each_with_known, header_stays, fits_running, MayClear, KeepsValid, clear_plan, with_known_else, IsHold, hold_zero, BiasedTo, hold_word}
 use Rattle.std.proofs.Math.Bool.{and-false}
 use Rattle.std.proofs.lemmas.List.{length-set}
 use Rattle.core_locks.proofs.HoldCounts.{hold_in_form}
@@ -7,7 +7,7 @@ use Rattle.core_locks.proofs.HoldClears.{holder_less, IsFull, inside, cleared_ba
 use Rattle.core_locks.proofs.HoldSets.{word_own, word_else, word_held, holder_told}
 use Rattle.core_locks.proofs.ByThread.{holds_told, records_told, records_at, recursions_told, recursions_at}
 use Rattle.core_locks.proofs.Clauses.{kept_parts, parts_stand, seen, forms, holds, owners, biases, records, recursions, hashes, AllHold}
-use Rattle.core_locks.proofs.Steps.{stage_part, stage_back, stage_forth, holding, IsPlain, plain_by, IsStep, next, step_fits, seen_next, plain_step, calls_stay, inflates_stay}
+use Rattle.core_locks.proofs.Steps.{stage_part, stage_back, holding, IsPlain, plain_by, IsStep, next, step_fits, seen_next, plain_step, calls_stay, inflates_stay}
 use Rattle.core_locks.proofs.OwnSeen.{own_seen}
 
 module _ (w : World) (P : List PlainObject) (t : ℕ) (e : Purpose) (o p : ℕ) (within : t < w.shape.threads) (may : MayClear (w.known t) e o p) (v : Fits w P) where
@@ -44,10 +44,10 @@ module _ (w : World) (P : List PlainObject) (t : ℕ) (e : Purpose) (o p : ℕ) 
       (λ s.
       let some : hold_count i old ≢ 0 = λ z. let same = ap (λ j. hold_count j old) s in omega (arith, may.last, same, z) in
       holder_less (lock w i) (λ z. hold_count i (w.known z).holds) (λ z. hold_count i (with_known t l w.known z).holds) t some
-          (λ h. not_holder (sym (ap (who w) s) ∙ h))
+      (λ h. not_holder (sym (ap (who w) s) ∙ h))
       (λ z d. ap (λ (k : Known). hold_count i k.holds) (with_known_else t l w.known z d)))
       (λ n. holder_told (lock w i) i t l w.known
-          (inl (let other = ap one_if (ne_eqb o i (λ q. n (sym q))) in omega (arith, named_less old o 1 p full i, other))))
+      (inl (let other = ap one_if (ne_eqb o i (λ q. n (sym q))) in omega (arith, named_less old o 1 p full i, other))))
 
   -- an exit bears nothing, and is neither ahead nor behind
   same_part : {A : Type 0} (part : Stage → A) → part Calm ≡ part (Exits o p) → (u : ℕ) → part (with_known t l w.known u).stage ≡ part (w.known u).stage
@@ -95,7 +95,7 @@ module _ (w : World) (P : List PlainObject) (t : ℕ) (e : Purpose) (o p : ℕ) 
   all_after recursions = recursions_told t l w.known (recursions_less old o 1 p full plain_before (λ i. ap (λ s. recursions_ahead s i) may.stage)
       (λ i g. uncounted_record i ∙ sym (ap (λ s. recursions_behind s i) may.stage))
       (λ i h. omega (arith, v.recursions.waiting i t h, again_less old o 1 p full i (displaced_words w t), uncounted_record i))
-          (recursions_at v.recursions t)) v.recursions
+      (recursions_at v.recursions t)) v.recursions
   all_after hashes = record {
     stands = v.hashes.stands;
     records = λ i u q h. v.hashes.records i u q

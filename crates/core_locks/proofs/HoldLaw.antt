@@ -74,7 +74,7 @@ module _ (w : World) (P : List PlainObject) (t : ℕ) (e : Purpose) (o d p : ℕ
   counted_before i g (BySeizing a) = first_uncounted i a.none ∙ sym (ap (λ s. recursions_ahead s i) a.stage)
   counted_before i g (ByHolding a) =
       ap (λ n. one_if (((o == i) && nat_lt 1 d) && (n == 3))) a.zero ∙ ap one_if (and-false ((o == i) && nat_lt 1 d))
-          ∙ sym (ap (λ s. recursions_ahead s i) a.stage)
+      ∙ sym (ap (λ s. recursions_ahead s i) a.stage)
   counted_before i g (ByGrabbing a) = first_uncounted i a.none ∙ sym (ap (λ s. recursions_ahead s i) a.stage)
   counted_before i g (ByLeaning a) =
       by_equal o i

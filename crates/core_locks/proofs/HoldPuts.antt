@@ -1,5 +1,5 @@
 -- What the threads' hold words are once thread t has stored that of o at depth d in its empty place p.
-use Rattle.core_locks.proofs.Prelude.{◌≡◌, ◌≢◌, ℕ, ◌+◌, ◌==◌, nat_lt, ne_eqb, Bool, true, false, cond, Option, Some, None, refl, ap, ◌∙◌, arith, nat_tests, same_Some, MarkForm, Biased, Anonymous, is_biased_form, epoch_in, Inflation, one_if, Lock, Open, BiasedTo, OnRecord, OwnedBy, lock_form, holder, has_epoch}
+use Rattle.core_locks.proofs.Prelude.{◌≡◌, ◌≢◌, ℕ, ◌+◌, ◌==◌, nat_lt, ne_eqb, Bool, true, false, cond, Option, Some, None, ap, ◌∙◌, arith, nat_tests, same_Some, MarkForm, Biased, Anonymous, is_biased_form, epoch_in, Inflation, one_if, Lock, Open, BiasedTo, lock_form, holder, has_epoch}
 
 -- who has the lock still has it with one hold word more
 pub holder_more : (f : Lock) (c e : ℕ → ℕ) (t : ℕ) → holder f c ≡ Some t → e t ≢ 0 → holder f e ≡ Some t

@@ -1,5 +1,5 @@
 -- The hold words of a thread once it has stored one in its place p: that of o at depth d in an empty place, or none.
-use Rattle.core_locks.proofs.Prelude.{◌≡◌, ◌≢◌, ◌⊎◌, ℕ, ◌+◌, ◌<◌, ◌≤◌, ◌^◌, ◌==◌, ◌&&◌, nat_lt, eq-eqb, ne_eqb, Bool, true, false, cond, List, length, slice_index, slice_set, Some, refl, sym, ap, ◌∙◌, subst, arith, inl, inr, nat_tests, read_hold, Holds, read_hold-hold_of, Name, Hold, hold_word, one_if, with_word, Known, with_known, Lock, holder, hold_count, depth_count, Shape, IsHold, by_equal, each_with_known, with_known_here, hold_some}
+use Rattle.core_locks.proofs.Prelude.{◌≡◌, ◌≢◌, ◌⊎◌, ℕ, ◌+◌, ◌<◌, ◌≤◌, ◌^◌, ◌==◌, ◌&&◌, nat_lt, eq-eqb, ne_eqb, Bool, true, false, cond, List, length, slice_index, slice_set, Some, refl, sym, ap, ◌∙◌, arith, inl, inr, nat_tests, read_hold, Name, Hold, hold_word, one_if, with_word, Known, with_known, Lock, holder, hold_count, depth_count, Shape, IsHold, by_equal, each_with_known, with_known_here, hold_some}
 use Rattle.std.proofs.lemmas.List.{get_or-set_same, get_or-set_other}
 use Rattle.std.proofs.Math.Bool.{and-false}
 use Rattle.core_locks.proofs.HoldCounts.{named_put, times_put, hold_tells}
@@ -22,7 +22,7 @@ module _ (old : List ℕ) (o d p : ℕ) (is : IsPut old o d p) where
   hold_back q i e h g =
       by_equal q p
       (λ s. let r = hold_tells o d i e is.small h
-          (sym (get_or-set_same old p (hold_word o d) 0 is.within) ∙ ap (slice_index new) (sym s) ∙ g) in inl (s, r.0, r.1))
+      (sym (get_or-set_same old p (hold_word o d) 0 is.within) ∙ ap (slice_index new) (sym s) ∙ g) in inl (s, r.0, r.1))
       (λ s. inr (sym (get_or-set_other old p q (hold_word o d) 0 s) ∙ g))
 
   -- and each that stood before stands afterwards
@@ -53,7 +53,7 @@ module _ (f : Name → ℕ) (t p v : ℕ) where
   word_own old within was q =
       by_equal q p
       (λ s. ap (λ (b : Bool). cond b v (f (Hold t q))) ((λ j. eq-eqb q p s j && eq-eqb t t refl j))
-          ∙ sym (ap (slice_index (slice_set old p v)) s ∙ get_or-set_same old p v 0 within))
+      ∙ sym (ap (slice_index (slice_set old p v)) s ∙ get_or-set_same old p v 0 within))
       (λ s. ap (λ (b : Bool). cond (b && (t == t)) v (f (Hold t q))) (ne_eqb q p s) ∙ was q ∙ sym (get_or-set_other old p q v 0 s))
 
   pub word_else : (u q : ℕ) → u ≢ t → with_word (Hold t p) v f (Hold u q) ≡ f (Hold u q)

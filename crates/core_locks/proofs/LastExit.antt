@@ -1,5 +1,5 @@
 -- A thread logs its last Exit from an object: nobody owns that object afterwards. How it lets go of the lock is left open.
-use Rattle.core_locks.proofs.Prelude.{◌≡◌, ◌≢◌, ◌⊎◌, ℕ, ◌+◌, ◌<◌, ◌≤◌, ◌||◌, eq-eqb, ne_eqb, Bool, true, false, cond, List, [], ◌∷◌, ◌++◌, length, Some, None, refl, sym, ap, ◌∙◌, subst, arith, inl, inr, nat_le, nat_tests, same_Some, PlainMonitor, is_thread, owns, exit, PlainObject, take_entry, Logged, Exit, Stamp, Hold, Waiting, Recursions, Calm, Resumes, Exits, Waits, TakesOver, monitor_in, bears, hold_words_ahead, recursions_ahead, recursions_behind, notification_in, revocation_in, one_if, Known, last_seen, local_of, World, with_known, logs_from, Lock, Open, OnRecord, OwnedBy, lock, marks, displaced_words, who, holder, hold_count, recursion_count, holds_by_monitor, monitor_of, owner_at, hash_at, waits_at, notified_at, HoldsFitLogs, RecordsRest, RecursionsFit, GoesByMonitor, next_stamp, Fits, WaitsFit, StoppedAreQuiet, bound_stamp, StampsFit, LocksArePlain, log_limit, DrawsFit, Shape, by_equal, each_with_known, thread_is, unlisted_count, IsOwnEntry, bound_to}
+use Rattle.core_locks.proofs.Prelude.{◌≡◌, ◌≢◌, ◌⊎◌, ℕ, ◌+◌, ◌<◌, ◌≤◌, ◌||◌, eq-eqb, ne_eqb, true, false, cond, List, [], ◌∷◌, ◌++◌, length, Some, None, refl, sym, ap, ◌∙◌, subst, arith, inl, inr, nat_le, nat_tests, same_Some, PlainMonitor, is_thread, exit, PlainObject, take_entry, Logged, Exit, Stamp, Hold, Waiting, Recursions, Calm, Resumes, Exits, Waits, TakesOver, monitor_in, bears, hold_words_ahead, recursions_ahead, recursions_behind, notification_in, revocation_in, one_if, Known, last_seen, local_of, World, with_known, logs_from, Lock, Open, OnRecord, OwnedBy, lock, marks, displaced_words, who, holder, hold_count, recursion_count, holds_by_monitor, monitor_of, owner_at, hash_at, waits_at, notified_at, HoldsFitLogs, RecordsRest, RecursionsFit, GoesByMonitor, next_stamp, Fits, WaitsFit, StoppedAreQuiet, bound_stamp, StampsFit, LocksArePlain, log_limit, DrawsFit, Shape, by_equal, each_with_known, thread_is, unlisted_count, IsOwnEntry}
 use Rattle.core_locks.proofs.Logging.{Covers, IsLogging, bound_grows, stamps_next}
 use Rattle.core_locks.proofs.Updates.{each_object, part_stays}
 use Rattle.core_locks.proofs.WaitOut.{no_other, holder_owns, out_unlisted, ready_is_out}
@@ -125,7 +125,7 @@ module _ {w : World} {t : ℕ} {l : Known} {fields : Fields} (step : IsStep w t 
         let none = ap (λ f. hold_words_ahead f i) a.stage ∙ ap one_if (ne_eqb o i (λ q. d (sym q))) in
         omega (arith, v.holds.number t i, none, ap (λ f. hold_words_ahead f i) may.calm)) i)
         (λ n. v.holds.number u i ∙ ap (λ k. k + hold_words_ahead (w.known u).stage i)
-            (part_stays (λ y. holds_by_monitor y.monitor u) P o z inside (stands_else u n) i))
+        (part_stays (λ y. holds_by_monitor y.monitor u) P o z inside (stands_else u n) i))
 
     -- THE CLAUSES, where the lock is open afterwards, and the other locks stay
     module _ (locks : ℕ → Lock) (now : (i : ℕ) → ((i ≡ o) × (locks i ≡ Open)) ⊎ ((i ≢ o) × (locks i ≡ lock w i))) where

@@ -1,12 +1,12 @@
 -- A thread that holds an object may log its Wait there: the world stays valid, and the plain objects take the entry.
-use Rattle.core_locks.proofs.Prelude.{◌≡◌, ◌≢◌, ◌⊎◌, ℕ, ◌+◌, ◌<◌, ◌≤◌, ◌^◌, ◌==◌, ◌||◌, ne_eqb, true, false, cond, List, [], Some, refl, sym, ap, ◌∙◌, subst, arith, inl, inr, eqb-true, same_Some, read_mark, wait_of, read_wait, read_wait-wait_of, PlainMonitor, is_thread, is_listed, PlainObject, Logged, last_stamp, bound_to, Mark, Stamp, Waiting, StepPlan, Stage, Calm, Seizes, Grabs, Resumes, Exits, Waits, TakesOver, Notifies, is_biased, monitor_in, waits_on, says_notified, stamp_in, enters_on, says_ended, is_biased_form, waits_form, ended_form, notified_form, enters_form, stamp_form, inflation_in, bears, hold_words_ahead, recursions_ahead, recursions_behind, notification_in, Known, local_of, World, with_word_and_known, logs, OwnedBy, lock, marks, displaced_words, who, hold_count, recursion_count, object_of, monitor_of, owner_at, hash_at, waits_at, notified_at, Stays, GoesByMonitor, Purpose, next_stamp, known_hit, seen_before, Fits, SeenFit, last_entry, StandByStamps, AreNotified, ends, IsUnfinished, bound_stamp, IsWait, by_equal, each_with_known, header_stays, same_number, fits_running, inflated_form, seen_is_part, stays_back, Back, Spares, seen_moves, Counts, MayWait, LogsValid, log_wait_plan, owns}
+use Rattle.core_locks.proofs.Prelude.{◌≡◌, ◌≢◌, ◌⊎◌, ℕ, ◌+◌, ◌<◌, ◌^◌, ◌==◌, ◌||◌, ne_eqb, true, false, cond, List, [], Some, refl, sym, ap, ◌∙◌, subst, arith, inl, inr, eqb-true, same_Some, read_mark, wait_of, read_wait, read_wait-wait_of, is_thread, is_listed, PlainObject, Logged, last_stamp, Mark, Stamp, Waiting, StepPlan, Stage, Calm, Seizes, Grabs, Resumes, Exits, Waits, TakesOver, Notifies, is_biased, monitor_in, waits_on, says_notified, stamp_in, enters_on, says_ended, is_biased_form, waits_form, ended_form, notified_form, enters_form, stamp_form, inflation_in, bears, hold_words_ahead, recursions_ahead, recursions_behind, notification_in, Known, local_of, World, with_word_and_known, logs, lock, marks, displaced_words, who, hold_count, recursion_count, object_of, monitor_of, owner_at, hash_at, waits_at, notified_at, Stays, GoesByMonitor, Purpose, next_stamp, known_hit, seen_before, Fits, SeenFit, last_entry, StandByStamps, AreNotified, ends, IsUnfinished, bound_stamp, IsWait, by_equal, each_with_known, header_stays, same_number, fits_running, inflated_form, seen_is_part, stays_back, Back, Spares, seen_moves, Counts, MayWait, LogsValid, log_wait_plan, owns}
 use Rattle.mark_word.specs.declared.wait.WaitForm.TheVariants as wait
 use Rattle.plain_monitor.specs.declared.entry.Entry.TheVariants as entry
 use Rattle.core_world.specs.declared.task.Op.TheVariants as op
 use Rattle.core_locks.proofs.Clauses.{Parts, parts_of, kept_locks, locks_stand, seen, forms, quiet, holds, owners, biases, records, recursions, waits, stamps, AllHold}
 use Rattle.core_locks.proofs.Drawing.{draws_still}
 use Rattle.core_locks.proofs.LeavesLists.{stand_same, stand_last, told_same}
-use Rattle.core_locks.proofs.LeavesPlain.{left_objects, left_object, left_monitor, wait_entry, taken, at_object, each_waiter, owner_back, owner_fails, owner_before, unlisted, waits_still, waits_here, holder_is, others_out, stands_next, is_logging}
+use Rattle.core_locks.proofs.LeavesPlain.{left_objects, left_object, wait_entry, taken, at_object, each_waiter, owner_back, owner_fails, owner_before, unlisted, waits_still, waits_here, holder_is, others_out, stands_next, is_logging}
 use Rattle.core_locks.proofs.LeavesStamps.{next_fits, waiter_bounded}
 use Rattle.core_locks.proofs.LeavesStates.{IsLeaving, leaving, waiting_word}
 use Rattle.core_locks.proofs.LoggedSteps.{logged_step}
@@ -259,9 +259,11 @@ module _ (w : World) (P : List PlainObject) (t o m : ℕ) (e : Purpose) (goes_on
   all_after biases = record {
     hashless = v.biases.hashless;
     nobody = λ i e.
-        let b = v.biases.nobody i e in
-        (at_object v s (λ i y. is_biased (marks w i) ≡ true → waits_at P i ≡ [] → y.monitor.waits ≡ []) (λ e. absurd (cc (inflated_bias, e)))
-            (λ i d e f. f) i e b.0, b.1);
+        let b = v.biases.nobody i e in (
+          at_object v s (λ i y. is_biased (marks w i) ≡ true → waits_at P i ≡ [] → y.monitor.waits ≡ []) (λ e. absurd (cc (inflated_bias, e)))
+              (λ i d e f. f) i e b.0,
+          b.1,
+        );
     unheld = v.biases.unheld;
   }
   all_after records = record {
@@ -295,7 +297,7 @@ module _ (w : World) (P : List PlainObject) (t o m : ℕ) (e : Purpose) (goes_on
   all_after waits = record {
     waiting = λ u i. each_waiter v s
         (λ i u. (waits_on (x.words (Waiting u)) i ≡ true) ⊎
-            ((says_notified (x.words (Waiting u)) i ≡ true) × ((z : ℕ) × (notification_in (x.known z).stage ≡ Some i)))) (inl says_here)
+        ((says_notified (x.words (Waiting u)) i ≡ true) × ((z : ℕ) × (notification_in (x.known z).stage ≡ Some i)))) (inl says_here)
         (λ i u a.
         let same = same_word u (waiter_other u i a) in
         elim (v.waits.waiting u i a) [
@@ -325,7 +327,7 @@ module _ (w : World) (P : List PlainObject) (t o m : ℕ) (e : Purpose) (goes_on
         at_object v s (λ i y. AreNotified f i n (waits_at P i) → notification_in (w.known u).stage ≡ Some i → AreNotified g i n y.monitor.waits)
         (λ told calls. let none = (others_out v s u was.0).0 in absurd (cc (none, v.owners.calls o u calls)))
         (λ i d told calls. told_same f g i n (waits_at P i) (λ y k. same_word y (waiter_other y i k)) told) i (v.waits.telling u i n was.1)
-            (ap notification_in was.1);
+        (ap notification_in was.1);
     resuming = λ u i e. v.waits.resuming u i (stage_back step (Resumes i) u (λ c. cc c) e).1;
     leaving = λ u i. each_with_known (λ u k. k.stage ≡ Waits i → is_listed (waits_at Q i) u ≡ true) t l w.known u
         (λ e. ap (λ j. is_listed (waits_at Q j) t) (sym (same_object o i e)) ∙ waits_here v s) (λ d e. waits_still v s i u (v.waits.leaving u i e));

@@ -1,5 +1,5 @@
 -- A list of waiters with one more at its end.
-use Rattle.core_locks.proofs.Prelude.{◌≡◌, ◌≢◌, ◌⊎◌, ℕ, zero, suc, ◌<◌, ◌==◌, ◌&&◌, ◌||◌, nat_lt, ne_eqb, Bool, true, false, cond, List, [], ◌∷◌, ◌++◌, Some, None, refl, sym, ap, ◌∙◌, arith, inl, inr, eqb-true, or-true, nat_tests, AllByRecursion, is_listed, count_of, all_push, waits_on, says_notified, stamp_in, StandByStamps, AreNotified, StandsBefore, same_number, frame2, or-false, subst}
+use Rattle.core_locks.proofs.Prelude.{◌≡◌, ◌≢◌, ◌⊎◌, ℕ, zero, suc, ◌<◌, ◌==◌, ◌&&◌, ◌||◌, nat_lt, ne_eqb, Bool, true, false, cond, List, [], ◌∷◌, ◌++◌, Some, None, sym, ap, ◌∙◌, arith, inl, inr, eqb-true, or-true, nat_tests, AllByRecursion, is_listed, count_of, all_push, waits_on, says_notified, stamp_in, StandByStamps, AreNotified, StandsBefore, same_number, or-false, subst}
 use Rattle.core_locks.proofs.WaitOut.{neither}
 use Rattle.std.proofs.Math.Bool.{or_assoc}
 use Rattle.std.proofs.lemmas.Bool.{or_cases}

@@ -1,5 +1,5 @@
 -- The plain objects take the Wait: the thread owns the object no more, and stands last among those who wait.
-use Rattle.core_locks.proofs.Prelude.{◌≡◌, ◌≢◌, ◌⊎◌, ℕ, ◌+◌, ◌||◌, ne_eqb, Bool, true, false, cond, List, [], ◌∷◌, ◌++◌, slice_set, Some, None, refl, sym, ap, ◌∙◌, arith, inl, inr, same_Some, PlainMonitor, is_thread, is_listed, owns, only_if, PlainObject, take_entry, with_monitor, Logged, last_stamp, Stamp, bears, Known, World, who, holder, hold_count, holds_by_monitor, object_of, monitor_of, owner_at, waits_at, notified_at, or_zero, Fits, bound_stamp, by_equal, thread_is, unlisted_count, subst}
+use Rattle.core_locks.proofs.Prelude.{◌≡◌, ◌≢◌, ◌⊎◌, ℕ, ◌+◌, ne_eqb, true, false, cond, List, [], ◌∷◌, ◌++◌, slice_set, Some, None, refl, sym, ap, ◌∙◌, arith, inl, inr, same_Some, PlainMonitor, is_thread, is_listed, owns, only_if, PlainObject, take_entry, with_monitor, Logged, last_stamp, bears, Known, World, who, holder, hold_count, holds_by_monitor, object_of, monitor_of, owner_at, waits_at, notified_at, or_zero, Fits, by_equal, thread_is, unlisted_count, subst}
 use Rattle.plain_monitor.specs.declared.entry.Entry.TheVariants as entry
 use Rattle.core_locks.proofs.Logging.{IsLogging, next_logging}
 use Rattle.core_locks.proofs.Updates.{takes, monitor_here, each_object}
@@ -71,7 +71,7 @@ module _ {w : World} {P : List PlainObject} {o m t : ℕ} (v : Fits w P) (s : Is
   pub stands_next : (i u : ℕ) → ((i ≡ o) × (u ≡ t) × (holds_by_monitor (monitor_of (left_objects P o t) i) u ≡ (monitor_of P o).count)) ⊎ (holds_by_monitor (monitor_of (left_objects P o t) i) u ≡ holds_by_monitor (monitor_of P i) u)
   stands_next i u = at_object
       (λ i y. ((i ≡ o) × (u ≡ t) × (holds_by_monitor y.monitor u ≡ (monitor_of P o).count)) ⊎
-          (holds_by_monitor y.monitor u ≡ holds_by_monitor (monitor_of P i) u))
+      (holds_by_monitor y.monitor u ≡ holds_by_monitor (monitor_of P i) u))
       (by_equal u t (λ e. inl (refl, e, ap (holds_by_monitor (left_monitor (monitor_of P o) t)) e ∙ own)) (λ d. inr (other d))) (λ i d. inr refl) i
     where
       own : holds_by_monitor (left_monitor (monitor_of P o) t) t ≡ (monitor_of P o).count
@@ -90,4 +90,4 @@ module _ {w : World} {P : List PlainObject} {o m t : ℕ} (v : Fits w P) (s : Is
   pub is_logging : (l : Known) → l.log ≡ (w.known t).log ++ wait_entry (w.known t) o ∷ [] → IsLogging w P (left_objects P o t) t (wait_entry (w.known t) o) l
   is_logging l grows =
       next_logging s.within grows taken (record { operation = inr s.waits; shot = tt }) refl
-          (λ i e. ap (λ j. (monitor_of P j).owner) (sym (same_Some o i e)) ∙ owner_before)
+      (λ i e. ap (λ j. (monitor_of P j).owner) (sym (same_Some o i e)) ∙ owner_before)

@@ -1,5 +1,5 @@
 -- What follows where a thread logs an entry that the plain objects take: the logs, their order, the stamps and the lengths.
-use Rattle.core_locks.proofs.Prelude.{◌≡◌, ◌≢◌, ℕ, zero, suc, ◌+◌, ◌<◌, ◌≤◌, ◌||◌, Bool, true, false, List, [], ◌∷◌, ◌++◌, length, slice_set, Option, Some, None, refl, sym, ap, ◌∙◌, subst, arith, slice_get, option_and_then, option_map, AllByRecursion, PlainObject, take_entry, take_at, take_named, Logged, last_stamp, objects_after, LegalObjects, log_of, appended, Entry, order, all_weaker, order_appended, last_more, bound_to, IsBounded, Stamp, Known, World, with_known, logs, logs_from, monitor_of, is_taking, Fits, last_entry, ends, is_ending, bound_stamp, StampsFit, entries, LengthsFit, log_limit, by_equal, each_with_known, with_known_here, with_known_else, logs_length, log_at, logs_grow, IsOwnEntry, same_Some, taken_at}
+use Rattle.core_locks.proofs.Prelude.{◌≡◌, ℕ, zero, suc, ◌+◌, ◌<◌, ◌≤◌, ◌||◌, false, List, [], ◌∷◌, ◌++◌, length, Option, Some, None, refl, sym, ap, ◌∙◌, subst, arith, AllByRecursion, PlainObject, take_entry, take_named, Logged, last_stamp, objects_after, LegalObjects, log_of, appended, Entry, order, all_weaker, order_appended, last_more, bound_to, IsBounded, Stamp, Known, World, with_known, logs, logs_from, monitor_of, is_taking, Fits, last_entry, ends, is_ending, bound_stamp, StampsFit, entries, each_with_known, with_known_here, logs_length, log_at, logs_grow, IsOwnEntry, same_Some, taken_at}
 use Rattle.std.proofs.lemmas.List.{length-append, length-set}
 use Rattle.plain_monitor.specs.Objects.{named}
 use Rattle.plain_monitor.proofs.Orders.{all_insert}
@@ -49,7 +49,7 @@ pub record IsLogging (w : World) (P Q : List PlainObject) (t : ℕ) (y : Logged)
 abbrev pub Covers : World → List PlainObject → ℕ → Logged → Known → ℕ → Option ℕ → Type 0
 Covers w P t y l i owner =
     (bound_stamp (λ u. (w.known u).log) (w.words (Stamp i)) (monitor_of P i).owner ≤ bound_stamp (λ u. (with_known t l w.known u).log)
-        (w.words (Stamp i)) owner)
+    (w.words (Stamp i)) owner)
     × (bound_to y.entry ≡ Some i → y.stamp ≤ bound_stamp (λ u. (with_known t l w.known u).log) (w.words (Stamp i)) owner)
 
 -- a thread may log an entry with its next stamp that is bound to no object but one that it owns: its last stamp is the bound there

@@ -1,5 +1,5 @@
 -- What stands in hold words, and numbers of words that pass two tests which agree.
-use Rattle.core_locks.proofs.Prelude.{◌≡◌, ℕ, suc, ◌+◌, ◌≤◌, eq-eqb, Bool, true, List, [], ◌∷◌, slice_index, Option, Some, None, refl, sym, ap, ◌∙◌, subst, arith, add-zero, read_hold, hold_of, Holds, Empty, HoldForm, read_hold-spells, PlainObject, hold_word, names, names_form, one_if, World, hold_count, count_where, Fits, Shape, IsHold, hold_some, one_named, Hold}
+use Rattle.core_locks.proofs.Prelude.{◌≡◌, ℕ, suc, ◌+◌, ◌≤◌, eq-eqb, Bool, List, [], ◌∷◌, slice_index, refl, ap, ◌∙◌, subst, arith, add-zero, PlainObject, hold_word, names, one_if, World, hold_count, count_where, Fits, one_named, Hold}
 use Rattle.core_locks.proofs.HoldCounts.{hold_in_form, names_is}
 
 -- the tests agree on these words

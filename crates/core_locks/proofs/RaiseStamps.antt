@@ -1,5 +1,5 @@
 -- A thread raises the stamp of an object that it is about to let go of.
-use Rattle.core_locks.proofs.Prelude.{◌≡◌, ◌≢◌, ℕ, ◌+◌, ◌<◌, ◌≤◌, max, eq-eqb, ne_eqb, Bool, true, false, cond, List, Some, refl, sym, ap, ◌∙◌, subst, arith, inl, inr, same_Some, cases_lt, owns, PlainObject, IsBounded, Stamp, StepPlan, hold_words_ahead, Known, local_of, World, logs, monitor_of, owner_at, Stays, Purpose, with_stage, raise_stamp_plan, next_stamp, world_after, known_hit, Fits, bound_stamp, lets_go, entries, IsAboutToLetGo, IsStampOf, by_equal, with_known_here, thread_is, fits_running, stamp_goes_on, KeepsValid, MayRaise}
+use Rattle.core_locks.proofs.Prelude.{◌≡◌, ◌≢◌, ℕ, ◌+◌, ◌<◌, ◌≤◌, max, true, false, List, Some, refl, sym, ap, ◌∙◌, subst, arith, inl, inr, same_Some, cases_lt, owns, PlainObject, IsBounded, Stamp, StepPlan, hold_words_ahead, Known, local_of, World, logs, monitor_of, owner_at, Stays, Purpose, with_stage, raise_stamp_plan, next_stamp, world_after, known_hit, Fits, bound_stamp, lets_go, entries, IsAboutToLetGo, IsStampOf, with_known_here, thread_is, fits_running, stamp_goes_on, KeepsValid, MayRaise}
 use Rattle.core_locks.proofs.MarkMeanings.{each_set}
 use Rattle.core_locks.proofs.StampsLogged.{about_lets, held_is}
 use Rattle.core_locks.proofs.WaitOut.{holder_owns}

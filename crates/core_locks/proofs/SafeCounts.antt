@@ -1,5 +1,5 @@
 -- What a thread goes on to count on after its step on the safepoint word.
-use Rattle.core_locks.proofs.Prelude.{◌≡◌, ℕ, Bool, true, false, List, [], ap, ◌∙◌, inl, inr, PlainObject, Name, Safepoint, Prototype, Mark, Stamp, Slot, Hold, Displaced, Waiting, Length, Owner, Recursions, Header, Object, Claim, Revocations, LastBulk, is_biased, monitor_in, waits_on, Known, StepMade, World, owner_at, waits_at, StaysWhileRunning, StaysWhileAsking, only_headers, is_header, Fits, SeenFit, IsOfMonitor, headers_are_part, Counts, IsPart, counts_anew, unwaited_fits}
+use Rattle.core_locks.proofs.Prelude.{◌≡◌, ℕ, Bool, true, false, List, [], ap, ◌∙◌, inl, inr, PlainObject, Name, Safepoint, Prototype, Mark, Waiting, Revocations, LastBulk, is_biased, monitor_in, waits_on, Known, StepMade, World, owner_at, waits_at, StaysWhileRunning, StaysWhileAsking, only_headers, is_header, Fits, SeenFit, IsOfMonitor, headers_are_part, Counts, IsPart, counts_anew, unwaited_fits}
 
 module _ (w : World) (P : List PlainObject) (t word : ℕ) (l : Known) where
   -- the safepoint word is of no monitor

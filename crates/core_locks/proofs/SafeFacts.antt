@@ -1,5 +1,5 @@
 -- What the safepoint word and the threads' requests say in a valid world.
-use Rattle.core_locks.proofs.Prelude.{◌≡◌, ◌≢◌, ℕ, ◌<◌, Bool, true, false, cond, List, Option, Some, None, refl, sym, ap, ◌∙◌, subst, arith, inl, inr, SafeForm, safe_of, read_safe, read_safe-spells, is_thread, PlainObject, Safepoint, Calm, is_halted, runs_form, requester_form, requester_in, halted_form, revocation_in, word_after, hits, Known, World, with_word_and_known, Purpose, quiet_plan, world_after, known_hit, known_miss, Fits, IsValid, SafepointFits, IsRevoking, Shape, IsSafepoint, Act, thread_is}
+use Rattle.core_locks.proofs.Prelude.{◌≡◌, ◌≢◌, ℕ, ◌<◌, true, false, List, Option, Some, None, refl, sym, ap, ◌∙◌, arith, inl, inr, SafeForm, safe_of, read_safe, read_safe-spells, is_thread, PlainObject, Safepoint, Calm, is_halted, runs_form, requester_form, requester_in, halted_form, revocation_in, Known, World, Fits, IsValid, SafepointFits, IsRevoking, Shape, IsSafepoint, thread_is}
 use Rattle.core_world.proofs.NoWordChanges.{one_requester}
 use Rattle.core_locks.proofs.SafeBits.{no_bits}
 use Rattle.core_locks.proofs.WaitOut.{fails}

@@ -1,5 +1,5 @@
 -- A step of one thread, field by field: what its thread knows afterwards is what it knew, but for the fields that the step names.
-use Rattle.core_locks.proofs.Prelude.{◌≡◌, ◌≢◌, ◌⊎◌, ℕ, ◌+◌, ◌<◌, ◌≤◌, ◌==◌, eq-eqb, ne_eqb, Bool, true, false, cond, List, length, Option, Some, None, refl, sym, ap, ◌∙◌, subst, arith, inl, inr, is_listed, PlainObject, Logged, Name, Safepoint, Stamp, Waiting, Length, Stage, Calm, Seizes, Grabs, Enters, Resumes, Exits, Waits, TakesOver, Ahead, Behind, Inflates, Notifies, Revokes, Takes, monitor_in, enters_on, is_halted, inflation_in, notification_in, revocation_in, Known, World, with_known, logs, marks, monitor_of, waits_at, notified_at, Fits, SeenFit, WaitsFit, ends, IsUnfinished, StoppedAreQuiet, SafepointIsKnown, StampsFit, lets_go, LengthsFit, log_limit, first_known, Unfinished, by_equal, each_with_known, with_known_else, stamp_goes_on, ShotsFit, Hold, hold_words_ahead, hold_count, holds_by_monitor, HoldsFitLogs, recursions_ahead, recursions_behind, Lock, OwnedBy, recursion_count, RecursionsFit}
+use Rattle.core_locks.proofs.Prelude.{◌≡◌, ◌≢◌, ◌⊎◌, ℕ, ◌+◌, ◌<◌, ◌≤◌, ◌==◌, eq-eqb, ne_eqb, Bool, true, false, cond, List, length, Option, Some, None, refl, sym, ap, ◌∙◌, subst, arith, inl, inr, is_listed, PlainObject, Logged, Name, Safepoint, Stamp, Waiting, Length, Stage, Calm, Resumes, Waits, TakesOver, Notifies, Revokes, monitor_in, enters_on, is_halted, inflation_in, notification_in, revocation_in, Known, World, with_known, logs, marks, monitor_of, waits_at, notified_at, Fits, SeenFit, WaitsFit, ends, IsUnfinished, StoppedAreQuiet, SafepointIsKnown, StampsFit, lets_go, LengthsFit, log_limit, first_known, Unfinished, by_equal, each_with_known, with_known_else, stamp_goes_on, ShotsFit, Hold, hold_words_ahead, hold_count, holds_by_monitor, HoldsFitLogs, recursions_ahead, recursions_behind, Lock, OwnedBy, recursion_count, RecursionsFit}
 use Rattle.core_world.specs.declared.task.Op.TheVariants as op
 use Rattle.core_world.proofs.ShotsStay.{shots_go_on}
 use Rattle.core_locks.proofs.Clauses.{Parts, parts_of, Clause, absent, safe, quiet, waits, stamps, shots, Holds, AllHold, clauses, fits}

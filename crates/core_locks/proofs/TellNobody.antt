@@ -1,5 +1,5 @@
 -- Nobody waits on an object where its owner saw that nobody does.
-use Rattle.core_locks.proofs.Prelude.{◌≡◌, ℕ, ◌<◌, ◌≤◌, ◌||◌, nat_lt, eq-eqb, Bool, true, false, List, [], ◌∷◌, Some, None, refl, ap, ◌∙◌, arith, inl, inr, nat_tests, is_listed, PlainObject, Calm, notification_in, Known, World, hold_count, monitor_of, owner_at, waits_at, Fits, sound, waiter_stands, SawNobody, cases_lt}
+use Rattle.core_locks.proofs.Prelude.{◌≡◌, ℕ, ◌<◌, ◌||◌, eq-eqb, true, List, [], ◌∷◌, Some, None, refl, ap, ◌∙◌, arith, inl, inr, is_listed, PlainObject, Calm, notification_in, Known, World, hold_count, monitor_of, owner_at, waits_at, Fits, sound, waiter_stands, SawNobody, cases_lt}
 use Rattle.core_world.proofs.Counting.{named_none}
 use Rattle.core_locks.proofs.TellTaken.{one_owner}
 

@@ -1,5 +1,5 @@
 -- After every legal history each object has the slots of its shape.
-use Rattle.core_locks.proofs.Prelude.{◌≡◌, ℕ, zero, suc, ◌<◌, Bool, true, false, List, [], ◌∷◌, length, slice_set, Option, Some, None, refl, sym, ap, ◌∙◌, arith, slice_get, option_and_then, replicate, slice_index_or, same_Some, PlainMonitor, only_if, PlainObject, take_entry, take_at, with_monitor, take_named, new_objects, with_hash, Logged, take_all, Entry, Exit, Get, Notify, NotifyAll, Hash, Enter, Put, Wait, Resume, Print, Dump, Trap, Spent, Done, Value, order, taken_at, World, logs, object_of, Fits, slots_of, by_equal, option_map}
+use Rattle.core_locks.proofs.Prelude.{◌≡◌, ℕ, zero, suc, ◌<◌, Bool, true, false, List, [], ◌∷◌, length, Option, Some, None, refl, sym, ap, ◌∙◌, slice_get, option_and_then, slice_index_or, same_Some, only_if, PlainObject, take_entry, take_at, take_named, new_objects, Logged, take_all, Entry, Get, Put, Print, Dump, Trap, Spent, Done, order, taken_at, World, logs, object_of, Fits, slots_of, option_map}
 use Rattle.std.proofs.lemmas.List.{length-set, length-replicate}
 use Rattle.std.proofs.lemmas.Option.{slice_get_within, get_or_from_slice_get}
 use Rattle.plain_monitor.specs.Objects.{named, new_object}

@@ -1,5 +1,5 @@
 -- A calm thread whose waiting word is Ready logs an entry and stands where it stood: the clauses that this touches, whatever the step's word is.
-use Rattle.core_locks.proofs.Prelude.{◌≡◌, ◌⊎◌, ℕ, ◌+◌, ◌<◌, true, false, List, [], ◌∷◌, ◌++◌, Some, sym, ap, ◌∙◌, arith, inl, inr, is_listed, owns, PlainObject, Logged, last_stamp, bound_to, Name, Stamp, Waiting, Resumes, monitor_in, waits_on, stamp_in, enters_on, says_ended, Known, World, with_known, logs_from, marks, holds_by_monitor, object_of, monitor_of, owner_at, hash_at, waits_at, notified_at, Fits, WaitsFit, last_entry, ends, IsUnfinished, bound_stamp, StampsFit, DrawsFit, SlotsFit, each_with_known, no_entering, no_ended, thread_is, IsOwnEntry}
+use Rattle.core_locks.proofs.Prelude.{◌≡◌, ◌⊎◌, ℕ, ◌+◌, ◌<◌, true, false, List, [], ◌∷◌, ◌++◌, Some, sym, ap, ◌∙◌, inl, inr, is_listed, owns, PlainObject, Logged, last_stamp, bound_to, Name, Stamp, Waiting, Resumes, monitor_in, waits_on, stamp_in, enters_on, says_ended, Known, World, with_known, logs_from, marks, holds_by_monitor, object_of, monitor_of, owner_at, hash_at, waits_at, notified_at, Fits, WaitsFit, last_entry, ends, IsUnfinished, StampsFit, DrawsFit, SlotsFit, each_with_known, no_entering, no_ended, thread_is, IsOwnEntry}
 use Rattle.plain_monitor.specs.declared.entry.Entry.TheVariants as entry
 use Rattle.core_world.specs.declared.task.Op.TheVariants as op
 use Rattle.core_locks.proofs.Clauses.{Parts, parts_of, Clause, waits, stamps, slots}

@@ -1,5 +1,5 @@
 -- A running thread that waits nowhere stores another word in its own waiting word.
-use Rattle.core_locks.proofs.Prelude.{◌≡◌, ◌≢◌, ◌⊎◌, ℕ, ◌<◌, ◌==◌, ◌&&◌, ◌||◌, nat_lt, eq-eqb, Bool, true, false, cond, List, [], ◌∷◌, Some, refl, sym, ap, ◌∙◌, subst, inl, inr, AllByRecursion, wait_of, read_wait, Notified, is_listed, PlainObject, Waiting, StepPlan, Resumes, monitor_in, waits_on, says_notified, stamp_in, enters_on, says_ended, notification_in, Known, World, marks, owner_at, waits_at, notified_at, Stays, Purpose, with_stage, store, world_after, known_hit, Fits, last_entry, StandByStamps, StandsBefore, ends, IsUnfinished, IsWait, GoesOn}
+use Rattle.core_locks.proofs.Prelude.{◌≡◌, ◌≢◌, ◌⊎◌, ℕ, ◌<◌, ◌==◌, eq-eqb, Bool, true, false, cond, List, Some, refl, sym, ap, ◌∙◌, inl, inr, wait_of, read_wait, Notified, is_listed, PlainObject, Waiting, StepPlan, Resumes, monitor_in, waits_on, says_notified, stamp_in, enters_on, says_ended, notification_in, Known, World, marks, owner_at, waits_at, notified_at, Stays, Purpose, with_stage, store, world_after, known_hit, Fits, last_entry, StandByStamps, ends, IsUnfinished, IsWait, GoesOn}
 use Rattle.plain_monitor.specs.declared.entry.Entry.TheVariants as entry
 use Rattle.core_world.specs.declared.task.Op.TheVariants as op
 use Rattle.core_locks.proofs.LeavesLists.{stand_where, told_same}
