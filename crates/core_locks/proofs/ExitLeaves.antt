@@ -3,7 +3,7 @@
 use Rattle.core_locks.proofs.Prelude.{◌≡◌, ◌≢◌, ℕ, ◌+◌, ◌<◌, ◌≤◌, ◌^◌, ◌==◌, ◌&&◌, nat_lt, eq-eqb, Bool, true, false, List, [], ◌∷◌, Option, Some, None, refl, sym, ap, ◌∙◌, subst, arith, inl, inr, nat_tests, read_hold, Holds, Empty, HoldForm, read_hold-spells, PlainObject, Mark, Hold, Displaced, Stage, Calm, Behind, hold_word, is_deeper, monitor_in, deeper_form, inflation_in, recursions_ahead, recursions_behind, one_if, last_seen, World, OwnedBy, lock, marks, displaced_words, hold_count, depth_count, recursion_count, monitor_of, owner_at, count_where, Fits, same_number, SawInflated, SawOwn, MayLeave, ◌⊎◌, ne_eqb, by_equal, Lock, BiasedTo, is_biased, ◌-◌}
 use Rattle.core_locks.specs.Knowing.{SawBiased}
 use Rattle.core_locks.specs.LockLaws.{HasRaised}
-use Rattle.std.proofs.Math.Bool.{and-false}
+use Rattle.std.proofs.Math.Bool.{and-false, and-true}
 use Rattle.core_locks.proofs.HoldCounts.{hold_in_form}
 use Rattle.core_locks.proofs.WaitOut.{ready_is_out, even_holder_owns}
 use Rattle.core_locks.proofs.HoldWays.{saw_thread_owns}
@@ -135,14 +135,10 @@ module _ (w : World) (P : List PlainObject) (t o d p : ℕ) (within : t < w.shap
           let word = behind_three f.1.0 f.1.1 f.0 f.1.2 f.1.3 f.1.4 f.1.5 in
           let deep = behind_deep f.1.0 f.1.1 f.0 f.1.2 f.1.3 f.1.4 f.1.5 in
           let more : nat_lt 1 d ≡ true = grind (arith, nat_tests, deep) in
-          ap (λ n. one_if (((o == i) && nat_lt 1 d) && (n == 3))) word ∙ ap (λ b. one_if (((o == i) && b) && true)) more ∙ ap one_if (and_true (o == i)) ∙ sym (ap (λ s. recursions_behind s i) f.0)
+          ap (λ n. one_if (((o == i) && nat_lt 1 d) && (n == 3))) word ∙ ap (λ b. one_if (((o == i) && b) && true)) more ∙ ap one_if (and-true ((o == i) && true) ∙ and-true (o == i)) ∙ sym (ap (λ s. recursions_behind s i) f.0)
       | inr f ↦
           by_equal o i
           (λ s. let same : BiasedTo t ≡ OwnedBy t = sym (leans f.1) ∙ ap (lock w) s ∙ has in absurd (cc same))
           (λ n. ap (λ (b : Bool). one_if ((b && nat_lt 1 d) && (displaced_words w t p == 3))) (ne_eqb o i n) ∙ sym (ap (λ s. recursions_behind s i) f.0))
     ]
   ]
-    where
-      and_true : (b : Bool) → ((b && true) && true) ≡ b
-      and_true true = refl
-      and_true false = refl

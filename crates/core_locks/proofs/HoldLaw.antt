@@ -3,7 +3,7 @@ use Rattle.core_locks.proofs.Prelude.{◌≡◌, ◌≢◌, ◌⊎◌, ℕ, ◌+
 use Rattle.mark_word.specs.Mark.{read_mark}
 use Rattle.core_locks.proofs.WaitOut.{out_unwaiting, out_uncalled}
 use Rattle.std.proofs.lemmas.List.{get_or-set_same, length-set}
-use Rattle.std.proofs.Math.Bool.{and-false}
+use Rattle.std.proofs.Math.Bool.{and-false, and-true}
 use Rattle.core_locks.proofs.HoldCounts.{again_put}
 use Rattle.core_locks.proofs.HoldPuts.{biased_leans}
 use Rattle.core_locks.proofs.HoldSets.{IsPut, hold_back, hold_forth, named_new, times_new, word_own, word_held, word_else, holder_told}
@@ -44,16 +44,13 @@ module _ (w : World) (P : List PlainObject) (t : ℕ) (e : Purpose) (o d p : ℕ
   holder_is : (owner_at P o t || bears (w.known t).stage o) ≡ true → who w o ≡ Some t
   holder_is h = thread_is (who w o) t (v.owners.same o t ∙ h)
 
-  not_resumes : (i : ℕ) → (w.known t).stage ≡ Resumes i → ⊥
-  not_resumes i = at_stage (λ s. s ≡ Resumes i → ⊥) w P t o p way (λ c. cc c) (λ c. cc c) (λ c. cc c) (λ c. cc c) (λ c. cc c)
-
-  not_waits : (i : ℕ) → (w.known t).stage ≡ Waits i → ⊥
-  not_waits i = at_stage (λ s. s ≡ Waits i → ⊥) w P t o p way (λ c. cc c) (λ c. cc c) (λ c. cc c) (λ c. cc c) (λ c. cc c)
+  plain_before : IsPlain (w.known t).stage
+  plain_before = at_stage IsPlain w P t o p way (plain_by (Seizes o p) refl) (plain_by Calm refl) (plain_by (Grabs o) refl) (plain_by (Ahead o) refl) (plain_by (Takes o) refl)
 
   -- the thread stands on no list
   unlisted : (i : ℕ) → (is_listed (waits_at P i) t ≡ true) ⊎ (is_listed (notified_at P i) t ≡ true) → ⊥
   unlisted i (inl a) = let none = out_unwaiting w P t v may.out i in absurd (cc (none, a))
-  unlisted i (inr a) = let none = out_uncalled w P t v may.out i (not_resumes i) in absurd (cc (none, a))
+  unlisted i (inr a) = let none = out_uncalled w P t v may.out i (plain_before.resumes i) in absurd (cc (none, a))
 
   -- a first hold has depth 1, and a further one a depth above
   first_depth : hold_count o old ≡ 0 → d ≡ 1
@@ -82,11 +79,7 @@ module _ (w : World) (P : List PlainObject) (t : ℕ) (e : Purpose) (o d p : ℕ
       (λ n. ap (λ (b : Bool). one_if ((b && nat_lt 1 d) && (displaced_words w t p == 3))) (ne_eqb o i n) ∙ (elim a.stage [ inl b ↦ sym (ap (λ s. recursions_ahead s i) b) | inr b ↦ sym (ap (λ s. recursions_ahead s i) b) ]))
   counted_before i g (ByRaising a) =
       let deep : nat_lt 1 d ≡ true = (let n = further_depth a.some in grind (arith, nat_tests)) in
-      ap (λ n. one_if (((o == i) && nat_lt 1 d) && (n == 3))) a.three ∙ ap (λ (b : Bool). one_if (((o == i) && b) && true)) deep ∙ ap one_if (and_true (o == i)) ∙ sym (ap (λ s. recursions_ahead s i) a.stage)
-    where
-      and_true : (b : Bool) → ((b && true) && true) ≡ b
-      and_true true = refl
-      and_true false = refl
+      ap (λ n. one_if (((o == i) && nat_lt 1 d) && (n == 3))) a.three ∙ ap (λ (b : Bool). one_if (((o == i) && b) && true)) deep ∙ ap one_if (and-true ((o == i) && true) ∙ and-true (o == i)) ∙ sym (ap (λ s. recursions_ahead s i) a.stage)
 
   -- so with its record the thread is ahead no more, where it has the lock through the monitor
   again_new : (i : ℕ) → lock w i ≡ OwnedBy t → recursion_count i (displaced_words w t) new ≡ recursion_count i (displaced_words w t) old + recursions_ahead (w.known t).stage i
@@ -203,9 +196,6 @@ module _ (w : World) (P : List PlainObject) (t : ℕ) (e : Purpose) (o d p : ℕ
   inflates : inflation_in (Enters o p path) ≡ inflation_in (w.known t).stage
   inflates = at_stage (λ s. None ≡ inflation_in s) w P t o p way refl refl refl refl refl
 
-  plain_before : IsPlain (w.known t).stage
-  plain_before = at_stage IsPlain w P t o p way (plain_by (Seizes o p) refl) (plain_by Calm refl) (plain_by (Grabs o) refl) (plain_by (Ahead o) refl) (plain_by (Takes o) refl)
-
   plain_now : IsPlain (Enters o p path)
   plain_now = plain_by (Enters o p path) refl
 
@@ -268,7 +258,7 @@ module _ (w : World) (P : List PlainObject) (t : ℕ) (e : Purpose) (o d p : ℕ
     others = λ i q k g h small. elim (hold_back old o d p put q i (k + 2) (omega (arith, small)) h) [ inl a ↦ goes_other i q k a.0 a.1 a.2 g way | inr a ↦ v.recursions.others i t q k g a small ];
     owned = λ i m g h a b.
         let behind_none = at_stage (λ s. recursions_behind s i ≡ 0) w P t o p way refl refl refl refl refl in
-        omega (arith, v.recursions.owned i m t g h (not_waits i) (not_resumes i), again_new i h, behind_none);
+        omega (arith, v.recursions.owned i m t g h (plain_before.waits i) (plain_before.resumes i), again_new i h, behind_none);
     waiting = λ i h. absurd (unlisted i h);
     thread_owns = λ i h. absurd (cc h);
   }) v.recursions

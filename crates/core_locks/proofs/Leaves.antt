@@ -67,15 +67,6 @@ module _ (w : World) (P : List PlainObject) (t o m : ℕ) (e : Purpose) (goes_on
   word_waits : (i : ℕ) → waits_on word i ≡ (o == i)
   word_waits i = ap (λ f. waits_form f i) word_read
 
-  word_untold : (i : ℕ) → says_notified word i ≡ false
-  word_untold i = ap (λ f. notified_form f i) word_read
-
-  word_unentering : (i : ℕ) → enters_on word i ≡ false
-  word_unentering i = ap (λ f. enters_form f i) word_read
-
-  word_unended : says_ended word ≡ false
-  word_unended = ap ended_form word_read
-
   word_stamp : stamp_in word ≡ last_stamp (w.known t).log + 1
   word_stamp = ap stamp_form word_read
 
@@ -315,7 +306,7 @@ module _ (w : World) (P : List PlainObject) (t o m : ℕ) (e : Purpose) (goes_on
         ];
     told = λ u i. at
         (λ u n k. says_notified n i ≡ true → (is_listed (notified_at P i) u ≡ true) ⊎ ((is_listed (waits_at Q i) u ≡ true) × ((z : ℕ) × (notification_in (x.known z).stage ≡ Some i)))) u
-        (λ e. let none = word_untold i in absurd (cc (none, e)))
+        (λ e. absurd (cc (ap (λ f. notified_form f i) word_read, e)))
         (λ d e. elim (v.waits.told u i e) [
           | inl a ↦ inl a
           | inr a ↦ inr (waits_still v s i u a.0, calls_on i a.1)
@@ -337,10 +328,10 @@ module _ (w : World) (P : List PlainObject) (t o m : ℕ) (e : Purpose) (goes_on
     ];
     stored = λ u. at (λ u n k. (n ≡ k.wait) ⊎ ((i : ℕ) × (waits_on k.wait i ≡ true) × (n ≡ wait_of (wait.Notified i)))) u (inl (sym said)) (λ d. v.waits.stored u);
     entering = λ u i. at (λ u n k. enters_on n i ≡ true → IsUnfinished k.unfinished op.Enter i × ((a : ℕ) × (monitor_in (marks w i) ≡ Some a))) u
-        (λ e. let none = word_unentering i in absurd (cc (none, e)))
+        (λ e. absurd (cc (ap (λ f. enters_form f i) word_read, e)))
         (λ d e. v.waits.entering u i e);
     done = λ u. at (λ u n k. says_ended n ≡ true → ends k.log ≡ true) u
-        (λ e. let none = word_unended in absurd (cc (none, e)))
+        (λ e. absurd (cc (ap ended_form word_read, e)))
         (λ d e. v.waits.done u e);
     stopped = λ u. at (λ u n k. ends k.log ≡ true → (w.known u).running ≡ false → says_ended n ≡ true) u (λ e r. absurd (cc (r, s.runs))) (λ d e r. v.waits.stopped u e r);
     stamped = λ u i. at (λ u n k. waits_on n i ≡ true → last_entry k.log ≡ Some (record { stamp = stamp_in n; entry = entry.Wait i })) u

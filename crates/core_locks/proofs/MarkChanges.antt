@@ -112,17 +112,7 @@ module _ (w : World) (o m t : ℕ) (l : Known) where
   pub mark_back : (k y : Known) (owner next : ℕ → ℕ → Bool) (u : ℕ) → ((i a : ℕ) → monitor_in (marks x i) ≡ Some a → monitor_in (marks w i) ≡ Some a)
       → y.running ≡ k.running → y.requesting ≡ k.requesting → inflation_in y.stage ≡ inflation_in k.stage → (revocation_in y.stage ≡ None → revocation_in k.stage ≡ None) → y.kept ≡ k.kept → ((i : ℕ) → next i u ≡ true → owner i u ≡ true)
       → ((i a : ℕ) → monitor_in (marks x i) ≡ Some a → (next i u || bears y.stage i) ≡ true → (owner i u || bears k.stage i) ≡ true) → Back w x k y owner next u
-  mark_back k y owner next u names run ask inflates none_revokes kept owned held = record {
-    run = λ e. sym run ∙ e;
-    ask = λ e. sym ask ∙ e;
-    not_revoking = none_revokes;
-    inflates = λ i e. sym inflates ∙ e;
-    kept = λ a e. sym kept ∙ e;
-    prototype = λ i. refl;
-    monitor = names;
-    owned = owned;
-    held = held;
-  }
+  mark_back k y owner next u names run ask inflates none_revokes kept owned held = search (sym run, sym ask, sym inflates, sym kept, none_revokes, names, owned, held)
 
   -- No other thread counts on the old mark: it names no monitor, has no bias pattern and isn't 0. The new one may be 0.
   pub mark_spares : (owner next : ℕ → ℕ → Bool) (waiters next_waiters : ℕ → List (ℕ × ℕ)) → IsBare (marks w o) → marks w o ≢ 0 → IsBare m
