@@ -1,5 +1,5 @@
 -- The clauses that speak of each thread by itself: what the thread that moved shows of itself, and the others keep, holds of all.
-use Rattle.core_locks.proofs.Prelude.{◌≡◌, ◌≢◌, ◌⊎◌, ℕ, ◌+◌, ◌<◌, ◌≤◌, nat_lt, true, List, length, slice_index, Some, sym, ap, ◌∙◌, is_listed, Stage, Seizes, Grabs, Resumes, Waits, TakesOver, hold_word, is_neutral, monitor_in, recursions_ahead, recursions_behind, one_if, Known, with_known, Lock, OnRecord, OwnedBy, hold_count, depth_count, recursion_count, HoldsFitLogs, RecordsRest, RecursionsFit, GoesByMonitor, each_with_known}
+use Rattle.core_locks.proofs.Prelude.{◌≡◌, ◌≢◌, ◌⊎◌, ℕ, ◌+◌, ◌<◌, ◌≤◌, nat_lt, true, List, length, slice_index, Some, sym, ap, ◌∙◌, is_listed, Stage, Seizes, Grabs, Resumes, Waits, TakesOver, hold_word, is_neutral, monitor_in, recursions_ahead, recursions_behind, one_if, Known, with_known, Lock, OnRecord, OwnedBy, hold_count, depth_count, recursion_count, HoldsFitLogs, RecordsRest, RecursionsFit, GoesByMonitor, each_with_known, is_biased, Option, BiasedTo, false, BiasedAreFree, hash_in, HashesFit}
 
 pub record HoldsOf (hold : ℕ → ℕ) (holds : List ℕ) (more stands : ℕ → ℕ) : Type 0 where
   pub stored : (p : ℕ) → hold p ≡ slice_index holds p
@@ -62,3 +62,24 @@ module _ (t : ℕ) (l : Known) (f : ℕ → Known) where
       λ u. each_with_known (λ u y. RecursionsOf mark recursions lock u y.holds y.stage (saved u) (displaced u) waits called) t l f u mine
       (λ d. recursions_at h u) in
       record { first = λ o u. (at u).first o; others = λ o u. (at u).others o; owned = λ o m u. (at u).owned o m; waiting = λ o u. (at u).waiting o; thread_owns = λ o u. (at u).thread_owns o; on_record = h.on_record; free = h.free }
+
+  pub biases_told : {mark : ℕ → ℕ} {lock : ℕ → Lock} {hash : ℕ → ℕ} {waits called : ℕ → List (ℕ × ℕ)}
+      → ((o : ℕ) → is_biased (mark o) ≡ true → (lock o ≡ BiasedTo t → ⊥) → hold_count o l.holds ≡ 0) → BiasedAreFree mark lock (λ u. (f u).holds) hash waits called
+      → BiasedAreFree mark lock (λ u. (with_known t l f u).holds) hash waits called
+  biases_told {lock = lock} mine h =
+      record {
+        hashless = h.hashless;
+        nobody = h.nobody;
+        unheld = λ o u b. each_with_known (λ u y. (lock o ≡ BiasedTo u → ⊥) → hold_count o y.holds ≡ 0) t l f u (mine o b) (λ d. h.unheld o u b);
+      }
+
+  pub hashes_told : {mark : ℕ → ℕ} {lock : ℕ → Lock} {header : ℕ → Option ℕ} {displaced : ℕ → ℕ → ℕ} {hash : ℕ → ℕ}
+      → ((o p : ℕ) → slice_index l.holds p ≡ hold_word o 1 → is_biased (mark o) ≡ false → is_neutral (displaced t p) ≡ true → (hash_in (displaced t p) ≡ 0) ⊎ (hash_in (displaced t p) ≡ hash o))
+      → HashesFit mark lock header (λ u. (f u).holds) displaced hash → HashesFit mark lock header (λ u. (with_known t l f u).holds) displaced hash
+  hashes_told {mark} {displaced = displaced} {hash = hash} mine h =
+      record {
+        stands = h.stands;
+        records = λ o u p. each_with_known (λ u y. slice_index y.holds p ≡ hold_word o 1 → is_biased (mark o) ≡ false → is_neutral (displaced u p) ≡ true
+            → (hash_in (displaced u p) ≡ 0) ⊎ (hash_in (displaced u p) ≡ hash o)) t l f u (mine o p) (λ d. h.records o u p);
+        on_record = h.on_record;
+      }

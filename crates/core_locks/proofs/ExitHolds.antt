@@ -3,7 +3,7 @@ use Rattle.core_locks.proofs.Prelude.{◌≡◌, ◌≢◌, ℕ, ◌+◌, ◌<�
 use Rattle.core_locks.specs.LockLaws.{HasRaised}
 use Rattle.core_locks.proofs.Drawing.{draws_still}
 use Rattle.std.proofs.lemmas.List.{length-set}
-use Rattle.core_locks.proofs.ByThread.{holds_told, records_told, records_at, recursions_told, recursions_at}
+use Rattle.core_locks.proofs.ByThread.{biases_told, hashes_told, holds_told, records_told, records_at, recursions_told, recursions_at}
 use Rattle.core_locks.proofs.HoldClears as clears
 use Rattle.core_locks.proofs.HoldClears.{IsFull, cleared_back, named_less, times_less, records_less, recursions_less}
 use Rattle.core_locks.proofs.HoldPuts.{holder_more}
@@ -214,24 +214,13 @@ module _ (w : World) (P : List PlainObject) (t : ℕ) (e : Purpose) (o d p : ℕ
           let yes = v.owners.calls i u f in
           by_equal i o (λ s. absurd (cc (yes, ap (λ j. owner_at P j u) s ∙ (none_else u n).0))) (λ g. owner_else P o less inside is.fewer i u g ∙ yes));
     }
-    all_after biases = record {
-      hashless = v.biases.hashless;
-      nobody = v.biases.nobody;
-      unheld = λ i u h. each_with_known (λ u y. (lock w i ≡ BiasedTo u → ⊥) → hold_count i y.holds ≡ 0) t l w.known u
-          (λ n. omega (arith, named_less old o d p full i, v.biases.unheld i t h n)) (λ d. v.biases.unheld i u h);
-    }
+    all_after biases = biases_told t l w.known (λ i b n. omega (arith, named_less old o d p full i, v.biases.unheld i t b n)) v.biases
     all_after records = records_told t l w.known
         (records_less old o d p full before.seizes (λ one rests. is.rests t p rests one) (records_at v.records t)) v.records
     all_after recursions = recursions_told t l w.known
         (recursions_less old o d p full before.plain (leaves_ahead w P t o d p within may v) (leaves_counted w P t o d p within may v)
         (λ i h. absurd (unlisted w P t l v may.runs may.ready before.plain.resumes i h)) (recursions_at v.recursions t)) v.recursions
-    all_after hashes = record {
-      stands = v.hashes.stands;
-      records = λ i u q h. v.hashes.records i u q
-          (each_with_known (λ u y. slice_index y.holds q ≡ hold_word i 1 → slice_index (w.known u).holds q ≡ hold_word i 1) t l w.known u
-          (cleared_back old o d p full q i 1) (λ d g. g) h);
-      on_record = v.hashes.on_record;
-    }
+    all_after hashes = hashes_told t l w.known (λ i q h. v.hashes.records i t q (cleared_back old o d p full q i 1 h)) v.hashes
     all_after waits = waits_move step before.plain now.plain (waits_logged w P t l v may.runs may.ready before.plain.resumes)
     all_after stamps = stamped
     all_after c = logged_step step logging_it may.runs may.room (draws_still w P Q t y l v logging_it (omega arith) refl) v c

@@ -5,7 +5,7 @@ use Rattle.std.proofs.lemmas.List.{length-set}
 use Rattle.core_locks.proofs.HoldCounts.{hold_in_form}
 use Rattle.core_locks.proofs.HoldClears.{holder_less, IsFull, inside, cleared_back, named_less, again_less, times_less, records_less, recursions_less}
 use Rattle.core_locks.proofs.HoldSets.{word_own, word_else, word_held, holder_told}
-use Rattle.core_locks.proofs.ByThread.{holds_told, records_told, records_at, recursions_told, recursions_at}
+use Rattle.core_locks.proofs.ByThread.{biases_told, hashes_told, holds_told, records_told, records_at, recursions_told, recursions_at}
 use Rattle.core_locks.proofs.Clauses.{kept_parts, parts_stand, seen, forms, holds, owners, biases, records, recursions, hashes, AllHold}
 use Rattle.core_locks.proofs.Steps.{stage_part, stage_back, holding, IsPlain, plain_by, IsStep, next, step_fits, seen_next, plain_step, calls_stay, inflates_stay}
 use Rattle.core_locks.proofs.OwnSeen.{own_seen}
@@ -83,12 +83,7 @@ module _ (w : World) (P : List PlainObject) (t : ℕ) (e : Purpose) (o p : ℕ) 
     left = λ i u q h. v.owners.left i u q (stage_back step (Exits i q) u (λ c. cc c) h).1;
     calls = λ i u h. v.owners.calls i u (sym (calls_stay step plain_before plain_now u) ∙ h);
   }
-  all_after biases = record {
-    hashless = v.biases.hashless;
-    nobody = v.biases.nobody;
-    unheld = λ i u h. each_with_known (λ u y. (lock w i ≡ BiasedTo u → ⊥) → hold_count i y.holds ≡ 0) t l w.known u
-        (λ n. omega (arith, named_less old o 1 p full i, v.biases.unheld i t h n)) (λ d. v.biases.unheld i u h);
-  }
+  all_after biases = biases_told t l w.known (λ i b n. omega (arith, named_less old o 1 p full i, v.biases.unheld i t b n)) v.biases
   all_after records = records_told t l w.known
       (records_less old o 1 p full (λ i q c. cc (sym may.stage ∙ c)) (λ _ rests. not_holder (ap (λ f. holder f (λ z. hold_count o (w.known z).holds)) rests))
       (records_at v.records t)) v.records
@@ -96,13 +91,7 @@ module _ (w : World) (P : List PlainObject) (t : ℕ) (e : Purpose) (o p : ℕ) 
       (λ i g. uncounted_record i ∙ sym (ap (λ s. recursions_behind s i) may.stage))
       (λ i h. omega (arith, v.recursions.waiting i t h, again_less old o 1 p full i (displaced_words w t), uncounted_record i))
       (recursions_at v.recursions t)) v.recursions
-  all_after hashes = record {
-    stands = v.hashes.stands;
-    records = λ i u q h. v.hashes.records i u q
-        (each_with_known (λ u y. slice_index y.holds q ≡ hold_word i 1 → slice_index (w.known u).holds q ≡ hold_word i 1) t l w.known u
-        (cleared_back old o 1 p full q i 1) (λ d g. g) h);
-    on_record = v.hashes.on_record;
-  }
+  all_after hashes = hashes_told t l w.known (λ i q h. v.hashes.records i t q (cleared_back old o 1 p full q i 1 h)) v.hashes
   all_after c = plain_step step P (inl may.goes_on) plain_before plain_now may.runs v c
 
   cleared_fits : Fits (world_after (store e (Hold t p) 0) t w) P

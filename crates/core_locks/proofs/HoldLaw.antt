@@ -10,7 +10,7 @@ use Rattle.core_locks.proofs.HoldSets.{IsPut, hold_back, hold_forth, named_new, 
 use Rattle.core_locks.proofs.HoldWays.{Way, BySeizing, ByHolding, Leaned, ByGrabbing, ByRaising, ByLeaning, at_stage, way_bears, way_of}
 use Rattle.core_locks.proofs.Clauses.{kept_parts, parts_stand, seen, forms, holds, owners, biases, records, recursions, hashes, AllHold}
 use Rattle.core_locks.proofs.Steps.{holding, IsPlain, plain_by, IsStep, next, step_fits, seen_next, plain_step, stage_back, calls_stay, inflates_stay}
-use Rattle.core_locks.proofs.ByThread.{holds_told, records_told, recursions_told}
+use Rattle.core_locks.proofs.ByThread.{biases_told, hashes_told, holds_told, records_told, recursions_told}
 use Rattle.core_locks.proofs.OwnSeen.{own_seen}
 
 -- the displaced word 3 is no header
@@ -241,11 +241,7 @@ module _ (w : World) (P : List PlainObject) (t : ℕ) (e : Purpose) (o d p : ℕ
     left = λ i u q h. v.owners.left i u q (stage_back step (Exits i q) u (λ c. cc c) h).1;
     calls = λ i u h. v.owners.calls i u (sym (calls_stay step plain_before plain_now u) ∙ h);
   }
-  all_after biases = record {
-    hashless = v.biases.hashless;
-    nobody = v.biases.nobody;
-    unheld = λ i u h. each_with_known (λ u y. (lock w i ≡ BiasedTo u → ⊥) → hold_count i y.holds ≡ 0) t l w.known u (unheld_law i h) (λ d. v.biases.unheld i u h);
-  }
+  all_after biases = biases_told t l w.known unheld_law v.biases
   all_after records = records_told t l w.known (record {
     first = λ i q h. inl (elim (v.records.first i t q h) [ inl a ↦ hold_forth old o d p put q i 1 a | inr a ↦ seized_first i q a way ]);
     header = λ i. v.records.header i t;
@@ -262,14 +258,8 @@ module _ (w : World) (P : List PlainObject) (t : ℕ) (e : Purpose) (o d p : ℕ
     waiting = λ i h. absurd (unlisted i h);
     thread_owns = λ i h. absurd (cc h);
   }) v.recursions
-  all_after hashes = record {
-    stands = v.hashes.stands;
-    records = λ i u. each_with_known (λ u y. (q : ℕ) → slice_index y.holds q ≡ hold_word i 1 → is_biased (marks w i) ≡ false → is_neutral (displaced_words w u q) ≡ true
-        → (hash_in (displaced_words w u q) ≡ 0) ⊎ (hash_in (displaced_words w u q) ≡ hash_at P i)) t l w.known u
-        (λ q h b n. elim (hold_back old o d p put q i 1 (omega arith) h) [ inl a ↦ new_header i q a.0 a.1 a.2 b n way | inr a ↦ v.hashes.records i t q a b n ])
-        (λ d. v.hashes.records i u);
-    on_record = v.hashes.on_record;
-  }
+  all_after hashes = hashes_told t l w.known
+      (λ i q h b n. elim (hold_back old o d p put q i 1 (omega arith) h) [ inl a ↦ new_header i q a.0 a.1 a.2 b n way | inr a ↦ v.hashes.records i t q a b n ]) v.hashes
   all_after c = plain_step step P may.goes_on plain_before plain_now may.runs v c
 
   stored_fits : Fits (world_after plan t w) P

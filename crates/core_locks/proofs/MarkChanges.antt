@@ -87,25 +87,18 @@ module _ (w : World) (o m t : ℕ) (l : Known) where
 
   -- the locks and headers, where the same objects are in the middle of an inflation
   module _ (inflation : inflations w ≡ inflations x) where
-    pub lock_here : lock x o ≡ lock_form (read_mark m) (prototype_of w o) (owner_words w) (inflations w o)
-    lock_here = λ j. lock_form (read_mark (mark_here j)) (prototype_of w o) (owner_words w) (sym inflation j o)
-
     pub lock_else : (i : ℕ) → i ≢ o → lock x i ≡ lock w i
     lock_else i d = λ j. lock_form (read_mark (mark_else i d j)) (prototype_of w i) (owner_words w) (sym inflation j i)
 
-    pub header_here : header x o ≡ header_form (read_mark m) m (displaced_words w) (headers w) (inflations w o)
-    header_here = λ j. header_form (read_mark (mark_here j)) (mark_here j) (displaced_words w) (headers w) (sym inflation j o)
-
-    pub header_else : (i : ℕ) → i ≢ o → header x i ≡ header w i
-    header_else i d = λ j. header_form (read_mark (mark_else i d j)) (mark_else i d j) (displaced_words w) (headers w) (sym inflation j i)
-
     -- the lock of the object is this one now, and each other lock is as before
     pub lock_at : (f : Lock) → lock_form (read_mark m) (prototype_of w o) (owner_words w) (inflations w o) ≡ f → (i : ℕ) → ((i ≡ o) × (lock x i ≡ f)) ⊎ ((i ≢ o) × (lock x i ≡ lock w i))
-    lock_at f e i = by_equal i o (λ a. inl (a, ap (lock x) a ∙ lock_here ∙ e)) (λ d. inr (d, lock_else i d))
+    lock_at f e i = by_equal i o (λ a. inl (a, ap (lock x) a ∙ (λ j. lock_form (read_mark (mark_here j)) (prototype_of w o) (owner_words w) (sym inflation j o)) ∙ e)) (λ d. inr (d, lock_else i d))
 
     -- all headers stay, where the new mark means the header that the old one meant
     pub header_same : header_form (read_mark m) m (displaced_words w) (headers w) (inflations w o) ≡ header w o → header w ≡ header x
-    header_same e = λ j. λ i. sym (by_equal i o (λ a. ap (header x) a ∙ header_here ∙ e ∙ ap (header w) (sym a)) (λ d. header_else i d)) j
+    header_same e = λ j. λ i. sym (by_equal i o
+        (λ a. ap (header x) a ∙ (λ j. header_form (read_mark (mark_here j)) (mark_here j) (displaced_words w) (headers w) (sym inflation j o)) ∙ e ∙ ap (header w) (sym a))
+        (λ d. λ j. header_form (read_mark (mark_else i d j)) (mark_else i d j) (displaced_words w) (headers w) (sym inflation j i))) j
 
   -- what thread u, which knew k and knows y, may count on after the step it could count on before; so it is with the thread that makes
   -- the step and with the others

@@ -21,9 +21,9 @@ pub record Changes (w : World) (P : List PlainObject) (t : ℕ) (e : Purpose) (a
   pub hit : hits act (w.words Safepoint) ≡ true
   pub left : word_after act (w.words Safepoint) ≡ safe_of g
   -- an act that changes the word tells its thread what the word says of it
-  pub runs : runs_after Safepoint act (word_after act (w.words Safepoint)) (w.known t) ≡ runs_in (word_after act (w.words Safepoint)) (w.known t).thread
-  pub asks : asks_after Safepoint act (word_after act (w.words Safepoint)) (w.known t) ≡ asks_in (word_after act (w.words Safepoint)) (w.known t).thread
-  pub reaches : reached_after Safepoint act (word_after act (w.words Safepoint)) (w.known t) ≡ ((w.known t).reached && asks_in (word_after act (w.words Safepoint)) (w.known t).thread)
+  pub told : (runs_after Safepoint act (word_after act (w.words Safepoint)) (w.known t) ≡ runs_in (word_after act (w.words Safepoint)) (w.known t).thread)
+      × (asks_after Safepoint act (word_after act (w.words Safepoint)) (w.known t) ≡ asks_in (word_after act (w.words Safepoint)) (w.known t).thread)
+      × (reached_after Safepoint act (word_after act (w.words Safepoint)) (w.known t) ≡ ((w.known t).reached && asks_in (word_after act (w.words Safepoint)) (w.known t).thread))
   pub calm : (w.known t).stage ≡ Calm
   pub goes_on : GoesOn (w.known t) e
   pub was : read_safe (w.words Safepoint) ≡ Some f
@@ -71,7 +71,7 @@ module _ (w : World) (P : List PlainObject) (t : ℕ) (e : Purpose) (act : Act) 
       let word = c.left in
       let thread = v.numbered t in
       let same : runs_in (word_after act (w.words Safepoint)) (w.known t).thread ≡ runs_in (safe_of g) t = λ i. runs_in (word i) (thread i) in
-      c.runs ∙ same ∙ runs_now t
+      c.told.0 ∙ same ∙ runs_now t
 
   asks_same : asks_in (word_after act (w.words Safepoint)) (w.known t).thread ≡ is_thread g.requester t
   asks_same =
@@ -81,7 +81,7 @@ module _ (w : World) (P : List PlainObject) (t : ℕ) (e : Purpose) (act : Act) 
       same ∙ asks_now t
 
   asks_known : l.requesting ≡ is_thread g.requester t
-  asks_known = c.asks ∙ asks_same
+  asks_known = c.told.1 ∙ asks_same
 
   unhalted_before : is_halted (w.words Safepoint) ≡ false
   unhalted_before = ap halted_form c.was ∙ c.unhalted
@@ -95,7 +95,7 @@ module _ (w : World) (P : List PlainObject) (t : ℕ) (e : Purpose) (act : Act) 
 
   unreached : (u : ℕ) → (with_known t l w.known u).reached ≡ true → ⊥
   unreached u = each_with_known (λ u y. y.reached ≡ true → ⊥) t l w.known u
-      (λ r. let a = both_true (w.known t).reached (asks_in (word_after act (w.words Safepoint)) (w.known t).thread) (sym c.reaches ∙ r) in c.unreached t a.0
+      (λ r. let a = both_true (w.known t).reached (asks_in (word_after act (w.words Safepoint)) (w.known t).thread) (sym c.told.2 ∙ r) in c.unreached t a.0
       (λ s. sym asks_same ∙ a.1))
       (λ d r. c.unreached u r (λ s. absurd (d s)))
 

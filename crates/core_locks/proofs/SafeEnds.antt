@@ -59,9 +59,7 @@ module _ (w : World) (P : List PlainObject) (t : ℕ) (e : Purpose) (within : t 
       record {
         hit = found;
         left = left (released_word t);
-        runs = refl;
-        asks = refl;
-        reaches = refl;
+        told = (refl, refl, refl);
         calm = may.calm;
         goes_on = inl may.goes_on;
         was = reached_reads w P t v reached;
@@ -83,9 +81,7 @@ module _ (w : World) (P : List PlainObject) (t : ℕ) (e : Purpose) (within : t 
   halt_changes may = record {
     hit = found;
     left = left halted_word;
-    runs = refl;
-    asks = refl;
-    reaches = refl;
+    told = (refl, refl, refl);
     calm = may.calm;
     goes_on = inl may.goes_on;
     was = reached_reads w P t v reached;

@@ -41,9 +41,7 @@ module _ (w : World) (P : List PlainObject) (t : ℕ) (e : Purpose) (within : t 
       record {
         hit = refl;
         left = ap (λ n. bit_and n (all_but t)) spells.1 ∙ masked f t spells.0 bits runs;
-        runs = refl;
-        asks = refl;
-        reaches = refl;
+        told = (refl, refl, refl);
         calm = may.calm;
         goes_on = inl may.goes_on;
         was = reads;
@@ -77,9 +75,7 @@ module _ (w : World) (P : List PlainObject) (t : ℕ) (e : Purpose) (within : t 
       record {
         hit = test;
         left = ap (λ b. cond b (running_too (read_safe word) t) (w.words Safepoint)) test ∙ new;
-        runs = refl;
-        asks = refl;
-        reaches = refl;
+        told = (refl, refl, refl);
         calm = v.quiet.quiet t may.stopped;
         goes_on = inl may.goes_on;
         was = reads;
@@ -133,9 +129,7 @@ module _ (w : World) (P : List PlainObject) (t : ℕ) (e : Purpose) (within : t 
       record {
         hit = test;
         left = ap (λ b. cond b (requested_by (read_safe word) t) (w.words Safepoint)) test ∙ new;
-        runs = refl;
-        asks = refl;
-        reaches = refl;
+        told = (refl, refl, refl);
         calm = may.calm;
         goes_on = may.goes_on;
         was = reads;

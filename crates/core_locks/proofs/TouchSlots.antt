@@ -16,18 +16,11 @@ use Rattle.core_locks.proofs.OwnSeen.{own_seen}
 use Rattle.core_locks.proofs.Steps.{telling, IsStep, step_fits, seen_next}
 use Rattle.core_locks.proofs.Updates.{object_here, object_else, slots_stay}
 
--- a slot below their number has a value
-slot_there : (xs : List Value) (i : ℕ) → i < length xs → (v : Value) × (slice_get xs i ≡ Some v)
-slot_there xs i h = (slice_index_or xs i Nil, slice_get-get_or xs i Nil h)
-
 -- the slots after one has got another value
 slot_here : (xs : List Value) (i : ℕ) (v u : Value) → slice_get (slice_set xs i v) i ≡ Some u → v ≡ u
 slot_here xs i v u h =
     let within : i < length xs = omega (arith, slice_get_within (slice_set xs i v) i u h, length-set xs i v) in
     sym (get_or-set_same xs i v Nil within) ∙ get_or_from_slice_get (slice_set xs i v) i u Nil h
-
-slot_else : (xs : List Value) (i j : ℕ) (v : Value) → j ≢ i → slice_get (slice_set xs i v) j ≡ slice_get xs j
-slot_else xs i j v d = get_set_other xs i j v (λ e. d (sym e))
 
 same_value_self : (v : Value) → same_value v v ≡ true
 same_value_self Nil = refl
@@ -104,9 +97,10 @@ module _ (w : World) (P : List PlainObject) (t : ℕ) (e : Purpose) (o slot : �
   -- an object from which its owner gets a value stays as it is
   get_taken : take_at (object_of P o) t (Get o slot found) ≡ Some (object_of P o)
   get_taken =
-      let a = slot_there (object_of P o).slots slot slot_within in
-      let is : found ≡ a.0 = ap value_found (v.slots.value o slot a.0 a.1) in
-      let has : has_value (slice_get (object_of P o).slots slot) found ≡ true = ap (λ c. has_value c found) a.1 ∙ ap (same_value a.0) is ∙ same_value_self a.0 in
+      let a : Value = slice_index_or (object_of P o).slots slot Nil in
+      let there : slice_get (object_of P o).slots slot ≡ Some a = slice_get-get_or (object_of P o).slots slot Nil slot_within in
+      let is : found ≡ a = ap value_found (v.slots.value o slot a there) in
+      let has : has_value (slice_get (object_of P o).slots slot) found ≡ true = ap (λ c. has_value c found) there ∙ ap (same_value a) is ∙ same_value_self a in
       ap (λ b. only_if (b && has_value (slice_get (object_of P o).slots slot) found) (object_of P o)) own ∙ ap (λ b. only_if b (object_of P o)) has
 
   gets : Logs w P t (get_plan e o slot) (Get o slot found)
@@ -142,7 +136,7 @@ module _ (w : World) (P : List PlainObject) (t : ℕ) (e : Purpose) (o slot : �
       sym (ap (λ (z : PlainObject). slice_get z.slots j) (ap (object_of (slice_set P o (filled value))) same ∙ object_here P o (filled value) there)) ∙ h in
       by_equal j slot
       (λ s. inl (ap (λ n. Slot n j) same ∙ ap (λ n. Slot o n) s, slot_here (object_of P o).slots slot value x (ap (slice_get (slice_set (object_of P o).slots slot value)) (sym s) ∙ set)))
-      (λ d. inr (grind (arith, nat_tests), ap (λ n. slice_get (object_of P n).slots j) same ∙ sym (slot_else (object_of P o).slots slot j value d) ∙ set)))
+      (λ d. inr (grind (arith, nat_tests), ap (λ n. slice_get (object_of P n).slots j) same ∙ sym (get_set_other (object_of P o).slots slot j value (λ e. d (sym e))) ∙ set)))
       (λ d. inr (grind (arith, nat_tests), sym (ap (λ (z : PlainObject). slice_get z.slots j) (object_else P o i (filled value) d)) ∙ h))
 
   put_slots : (value : Value) → MayPut w.shape (w.known t) o slot value → SlotsFit w.shape (λ i j. with_word (Slot o slot) (word_of value) w.words (Slot i j)) (λ i. (object_of (slice_set P o (filled value)) i).slots)
