@@ -30,9 +30,6 @@ even_by (Inflates i t p) e = record { plain = plain_by (Inflates i t p) refl; un
 even_by _ e = absurd (cc e)
 
 module _ {w : World} {t : ℕ} {l : Known} {fields : Fields} (s : IsStep w t l fields) (before : IsEven (w.known t).stage) (now : IsEven l.stage) where
-  pub extra_stays : (u o : ℕ) → hold_words_ahead (with_known t l w.known u).stage o ≡ hold_words_ahead (w.known u).stage o
-  extra_stays u o = stage_part s (λ f. hold_words_ahead f o) (now.alone o ∙ sym (before.alone o)) u
-
   pub bears_stay : (u o : ℕ) → bears (with_known t l w.known u).stage o ≡ bears (w.known u).stage o
   bears_stay u o = stage_part s (λ f. bears f o) (now.unborne o ∙ sym (before.unborne o)) u
 

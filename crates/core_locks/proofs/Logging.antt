@@ -69,9 +69,6 @@ next_logging {w} within grows taken own stamp owned = record {
 
 module _ (w : World) (P Q : List PlainObject) (t : ℕ) (y : Logged) (l : Known) (v : Fits w P) (a : IsLogging w P Q t y l) where
   -- the logs afterwards
-  abbrev next : List (List Logged)
-  next = logs_from 0 w.shape.threads (with_known t l w.known)
-
   pub logs_are : logs_from 0 w.shape.threads (with_known t l w.known) ≡ appended (logs w) t y
   logs_are = logs_grow w.shape.threads t y l w.known a.within a.grows
 

@@ -59,14 +59,7 @@ module _ (w : World) (P : List PlainObject) (t o m : ℕ) (within : t < w.shape.
   own : IsOwnMonitor w (w.known t) (owner_at P) t m
   own = (o, mark, ap (λ b. owner_at P o t || b) borne ∙ or-true (owner_at P o t))
 
-  -- so the owner word still says so
-  thread_owns : read_owner (owner_words w m) ≡ Some (ByThread t)
-  thread_owns =
-      let word : w.words (Owner m) ≡ owner_of (ByThread t) = v.seen.stays t (Owner m) (owner_of (ByThread (w.known t).thread)) may.owner (inl (may.runs, inr own)) ∙ ap (λ u. owner_of (ByThread u)) (v.numbered t) in
-      let few : t < 32 = let b = v.limits.threads in omega (arith, within, b) in
-      ap read_owner word ∙ read_owner-owner_of (ByThread t) few
-
-  -- and the recursions are still what it saved: how many of its records were made through the monitor
+  -- the recursions are still what it saved: how many of its records were made through the monitor
   recursions : (b : ℕ) → monitor_in (marks w o) ≡ Some b → lock w o ≡ OwnedBy t → w.words (Recursions b) ≡ recursion_count o (displaced_words w t) (w.known t).holds
   recursions b h g =
       let same : b ≡ m = same_Some _ _ (sym h ∙ mark) in

@@ -65,9 +65,6 @@ tells_so {w} {P} {Q} {t} {y} {l} v within free grows stamp entry own = record {
 }
 
 module _ {w : World} {P Q : List PlainObject} {t : ℕ} {y : Logged} {l : Known} {fields : Fields} (s : IsStep w t l fields) (a : IsTelling w P Q t y l) where
-  abbrev next_logs : List (List Logged)
-  next_logs = logs_from 0 w.shape.threads (with_known t l w.known)
-
   -- the parts afterwards, in terms of P where they are the same
   abbrev pub told_parts : (Name → ℕ) → Parts
   told_parts f = record (parts_of (next w t l fields f) Q) {
