@@ -79,9 +79,6 @@ module _ (w : World) (P : List PlainObject) (t : ℕ) (e : Purpose) (p d : ℕ) 
         unrested i.object i.thread i.place rests b.2.0 b.2.1
   ]
 
-  seen_law : SeenFit x P
-  seen_law = own_seen w P t plan (search (may.runs, uncounted)) v
-
   step : IsStep w t l quietly
   step = record { within = within; mine = refl; others = λ k. refl }
 
@@ -89,7 +86,7 @@ module _ (w : World) (P : List PlainObject) (t : ℕ) (e : Purpose) (p d : ℕ) 
   z = next w t l quietly x.words
 
   all_after : AllHold (kept_parts w z P)
-  all_after seen = seen_next step x.words P seen_law
+  all_after seen = seen_next step x.words P (own_seen w P t plan (search (may.runs, uncounted)) v)
   all_after records = record {
     first = v.records.first;
     header = λ o u q r. ap is_neutral (rest_word o u q r) ∙ v.records.header o u q r;

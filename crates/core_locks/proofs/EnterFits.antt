@@ -184,9 +184,6 @@ module _ (w : World) (P : List PlainObject) (t o : ℕ) (e : Entry) (r : Purpose
       (omega (arith, now, above_bound), λ h. omega (arith, now)))
       (λ i d. (bound_grows w P Q t y l v logs_it (w.words (Stamp i)) (monitor_of P i).owner, λ h. absurd (d (same_Some _ _ (sym h ∙ a.tied)))))
 
-  stamps_law : StampsFit (logs x) (λ u. (x.known u).log) (λ i. w.words (Stamp i)) (λ i. (monitor_of Q i).owner) (λ u. (x.known u).unfinished)
-  stamps_law = stamps_next w P Q t y l v logs_it stamp_small bounds
-
   goes_back : (i u : ℕ) → GoesByMonitor (lock w i) (waits_at P i) (notified_at Q i) u → GoesByMonitor (lock w i) (waits_at P i) (notified_at P i) u
   goes_back i u (inl h) = inl h
   goes_back i u (inr (inl h)) = inr (inl h)
@@ -203,62 +200,6 @@ module _ (w : World) (P : List PlainObject) (t o : ℕ) (e : Entry) (r : Purpose
       let back = at_taking (λ s. recursions_behind s i ≡ 0) (w.known t).stage o a.stage (λ p path. refl) refl in
       let forth = at_taking (λ s. recursions_ahead s i ≡ 0) (w.known t).stage o a.stage (λ p path. refl) refl in
       omega (arith, before, back, forth))
-
-  recursions_law : RecursionsFit (marks w) (λ b. w.words (Recursions b)) (lock w) (λ u. (w.known u).holds) (λ u. (x.known u).stage) (λ u. (w.known u).saved) (displaced_words w) (waits_at P) (notified_at Q)
-  recursions_law = record {
-    first = λ i u p h. v.recursions.first i u p (goes_back i u h);
-    others = λ i u p d h. v.recursions.others i u p d (goes_back i u h);
-    owned = λ i b u h. each_with_known (λ u y. lock w i ≡ OwnedBy u → (y.stage ≡ Waits i → ⊥) → (y.stage ≡ Resumes i → ⊥)
-        → w.words (Recursions b) + recursions_behind y.stage i ≡ recursion_count i (displaced_words w u) (w.known u).holds + recursions_ahead y.stage i) t l w.known u
-        (λ g c d. omega (arith, recursions_mine i b h g)) (λ d. v.recursions.owned i b u h);
-    waiting = λ i u h. v.recursions.waiting i u (listed_back i u h);
-    on_record = v.recursions.on_record;
-    free = v.recursions.free;
-    thread_owns = λ i u h. v.recursions.thread_owns i u (stage_back step (TakesOver i) u (λ c. cc c) h).1;
-  }
-    where
-      listed_back : (i u : ℕ) → (is_listed (waits_at P i) u ≡ true) ⊎ (is_listed (notified_at Q i) u ≡ true) → (is_listed (waits_at P i) u ≡ true) ⊎ (is_listed (notified_at P i) u ≡ true)
-      listed_back i u (inl h) = inl h
-      listed_back i u (inr h) = inr (called_back i u h).1
-
-  -- THE WAITS. The thread stands at no object's lists afterwards.
-  waits_law : WaitsFit (λ o. monitor_in (marks w o)) (λ u. w.words (Waiting u)) (λ u. (w.known u).wait) (λ u. (x.known u).log) (λ u. (x.known u).stage) (λ u. (x.known u).unfinished) (λ u. (w.known u).running) (waits_at P) (notified_at Q)
-  waits_law = record {
-    waiting = λ u i h. elim (v.waits.waiting u i h) [ inl b ↦ inl b | inr b ↦ inr (b.0, (b.1.0, stage_part step notification_in calls b.1.0 ∙ b.1.1)) ];
-    waiter = v.waits.waiter;
-    notified = λ u i h. let b = called_back i u h in elim (v.waits.notified u i b.1) [
-      | inl c ↦ inl c
-      | inr c ↦ inr (c.0, ap (λ (k : Known). k.stage) (with_known_else t l w.known u b.0) ∙ c.1)
-    ];
-    told = λ u i h. by_equal u t
-        (λ s. absurd (cc (ap (λ j. says_notified (w.words (Waiting j)) i) (sym s) ∙ h, ap (λ n. says_notified n i) (out_word w P t v out) ∙ (out i).1)))
-        (λ d. elim (v.waits.told u i h) [
-          | inl b ↦ inl (called_other i u d ∙ b)
-          | inr b ↦ inr (b.0, (b.1.0, stage_part step notification_in calls b.1.0 ∙ b.1.1))
-        ]);
-    telling = λ u i n h. v.waits.telling u i n (stage_back step (Notifies i n) u (λ c. cc c) h).1;
-    resuming = λ u i h.
-        let b = stage_back step (Resumes i) u (λ c. cc c) h in
-        called_other i u b.0 ∙ v.waits.resuming u i b.1;
-    leaving = λ u i h. v.waits.leaving u i (stage_back step (Waits i) u (λ c. cc c) h).1;
-    unfinished = λ u i h. each_with_known (λ u k. (is_listed (waits_at P i) u ≡ true) ⊎ (is_listed (notified_at Q i) u ≡ true) → IsUnfinished k.unfinished op.Wait i) t l w.known u
-        (λ g. elim g [ inl b ↦ absurd (cc (unwaiting i, b)) | inr b ↦ absurd ((called_back i t b).0 refl) ])
-        (λ d g. v.waits.unfinished u i (elim g [ inl b ↦ inl b | inr b ↦ inr (called_back i u b).1 ])) h;
-    stored = v.waits.stored;
-    entering = λ u i h. each_with_known (λ u k. enters_on (w.words (Waiting u)) i ≡ true → IsUnfinished k.unfinished op.Enter i × ((b : ℕ) × (monitor_in (marks w i) ≡ Some b))) t l w.known u
-        (λ g. absurd (cc (ap (λ n. enters_on n i) (sym word_ready) ∙ g, no_entering i))) (λ d. v.waits.entering u i) h;
-    done = λ u h. each_with_known (λ u k. says_ended (w.words (Waiting u)) ≡ true → ends k.log ≡ true) t l w.known u
-        (λ g. absurd (cc (ap says_ended (sym word_ready) ∙ g, no_ended))) (λ d. v.waits.done u) h;
-    stopped = λ u. each_with_known (λ u k. ends k.log ≡ true → (w.known u).running ≡ false → says_ended (w.words (Waiting u)) ≡ true) t l w.known u
-        (λ g h. absurd (cc (h, a.runs))) (λ d. v.waits.stopped u);
-    stamped = λ u i h. each_with_known (λ u k. waits_on (w.words (Waiting u)) i ≡ true → last_entry k.log ≡ Some (record { stamp = stamp_in (w.words (Waiting u)); entry = Wait i })) t l w.known u
-        (λ g. absurd (cc (g, ap (λ n. waits_on n i) (out_word w P t v out) ∙ (out i).0))) (λ d. v.waits.stamped u i) h;
-    sorted = v.waits.sorted;
-    inflated = λ i u h. v.waits.inflated i u (elim h [ inl b ↦ inl b | inr b ↦ inr (called_back i u b).1 ]);
-  }
-    where
-      out : IsOut (w.known t)
-      out = ready_is_out (w.known t) a.ready
 
   abbrev n : World
   n = next w t l noting w.words
@@ -306,9 +247,59 @@ module _ (w : World) (P : List PlainObject) (t o : ℕ) (e : Entry) (r : Purpose
     seized = λ i p h. absurd (cc h);
     grabbed = λ i h. absurd (cc h);
   }) (λ d. records_at v.records u))
-  all_after recursions = recursions_law
-  all_after waits = waits_law
-  all_after stamps = stamps_law
+  all_after recursions = record {
+    first = λ i u p h. v.recursions.first i u p (goes_back i u h);
+    others = λ i u p d h. v.recursions.others i u p d (goes_back i u h);
+    owned = λ i b u h. each_with_known (λ u y. lock w i ≡ OwnedBy u → (y.stage ≡ Waits i → ⊥) → (y.stage ≡ Resumes i → ⊥)
+        → w.words (Recursions b) + recursions_behind y.stage i ≡ recursion_count i (displaced_words w u) (w.known u).holds + recursions_ahead y.stage i) t l w.known u
+        (λ g c d. omega (arith, recursions_mine i b h g)) (λ d. v.recursions.owned i b u h);
+    waiting = λ i u h. v.recursions.waiting i u (listed_back i u h);
+    on_record = v.recursions.on_record;
+    free = v.recursions.free;
+    thread_owns = λ i u h. v.recursions.thread_owns i u (stage_back step (TakesOver i) u (λ c. cc c) h).1;
+  }
+    where
+      listed_back : (i u : ℕ) → (is_listed (waits_at P i) u ≡ true) ⊎ (is_listed (notified_at Q i) u ≡ true) → (is_listed (waits_at P i) u ≡ true) ⊎ (is_listed (notified_at P i) u ≡ true)
+      listed_back i u (inl h) = inl h
+      listed_back i u (inr h) = inr (called_back i u h).1
+  -- THE WAITS. The thread stands at no object's lists afterwards.
+  all_after waits = record {
+    waiting = λ u i h. elim (v.waits.waiting u i h) [ inl b ↦ inl b | inr b ↦ inr (b.0, (b.1.0, stage_part step notification_in calls b.1.0 ∙ b.1.1)) ];
+    waiter = v.waits.waiter;
+    notified = λ u i h. let b = called_back i u h in elim (v.waits.notified u i b.1) [
+      | inl c ↦ inl c
+      | inr c ↦ inr (c.0, ap (λ (k : Known). k.stage) (with_known_else t l w.known u b.0) ∙ c.1)
+    ];
+    told = λ u i h. by_equal u t
+        (λ s. absurd (cc (ap (λ j. says_notified (w.words (Waiting j)) i) (sym s) ∙ h, ap (λ n. says_notified n i) (out_word w P t v out) ∙ (out i).1)))
+        (λ d. elim (v.waits.told u i h) [
+          | inl b ↦ inl (called_other i u d ∙ b)
+          | inr b ↦ inr (b.0, (b.1.0, stage_part step notification_in calls b.1.0 ∙ b.1.1))
+        ]);
+    telling = λ u i n h. v.waits.telling u i n (stage_back step (Notifies i n) u (λ c. cc c) h).1;
+    resuming = λ u i h.
+        let b = stage_back step (Resumes i) u (λ c. cc c) h in
+        called_other i u b.0 ∙ v.waits.resuming u i b.1;
+    leaving = λ u i h. v.waits.leaving u i (stage_back step (Waits i) u (λ c. cc c) h).1;
+    unfinished = λ u i h. each_with_known (λ u k. (is_listed (waits_at P i) u ≡ true) ⊎ (is_listed (notified_at Q i) u ≡ true) → IsUnfinished k.unfinished op.Wait i) t l w.known u
+        (λ g. elim g [ inl b ↦ absurd (cc (unwaiting i, b)) | inr b ↦ absurd ((called_back i t b).0 refl) ])
+        (λ d g. v.waits.unfinished u i (elim g [ inl b ↦ inl b | inr b ↦ inr (called_back i u b).1 ])) h;
+    stored = v.waits.stored;
+    entering = λ u i h. each_with_known (λ u k. enters_on (w.words (Waiting u)) i ≡ true → IsUnfinished k.unfinished op.Enter i × ((b : ℕ) × (monitor_in (marks w i) ≡ Some b))) t l w.known u
+        (λ g. absurd (cc (ap (λ n. enters_on n i) (sym word_ready) ∙ g, no_entering i))) (λ d. v.waits.entering u i) h;
+    done = λ u h. each_with_known (λ u k. says_ended (w.words (Waiting u)) ≡ true → ends k.log ≡ true) t l w.known u
+        (λ g. absurd (cc (ap says_ended (sym word_ready) ∙ g, no_ended))) (λ d. v.waits.done u) h;
+    stopped = λ u. each_with_known (λ u k. ends k.log ≡ true → (w.known u).running ≡ false → says_ended (w.words (Waiting u)) ≡ true) t l w.known u
+        (λ g h. absurd (cc (h, a.runs))) (λ d. v.waits.stopped u);
+    stamped = λ u i h. each_with_known (λ u k. waits_on (w.words (Waiting u)) i ≡ true → last_entry k.log ≡ Some (record { stamp = stamp_in (w.words (Waiting u)); entry = Wait i })) t l w.known u
+        (λ g. absurd (cc (g, ap (λ n. waits_on n i) (out_word w P t v out) ∙ (out i).0))) (λ d. v.waits.stamped u i) h;
+    sorted = v.waits.sorted;
+    inflated = λ i u h. v.waits.inflated i u (elim h [ inl b ↦ inl b | inr b ↦ inr (called_back i u b).1 ]);
+  }
+    where
+      out : IsOut (w.known t)
+      out = ready_is_out (w.known t) a.ready
+  all_after stamps = stamps_next w P Q t y l v logs_it stamp_small bounds
   all_after c = logged_step step logs_it a.runs a.room (draws_still w P Q t y l v logs_it (draws_counted e (w.known t).draws) (bound_undrawn e o a.tied)) v c
 
   pub taking_fits : Fits x Q

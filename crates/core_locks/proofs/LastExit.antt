@@ -100,9 +100,6 @@ module _ {w : World} {t : ℕ} {l : Known} {fields : Fields} (step : IsStep w t 
   pub stamp_word : w.words (Stamp o) ≡ s
   stamp_word = v.seen.stays t (Stamp o) s may.stamped (inl (may.runs, owned.0))
 
-  pub stamps_law : StampsFit (logs_from 0 w.shape.threads (with_known t l w.known)) (λ u. (with_known t l w.known u).log) (λ i. w.words (Stamp i)) (λ i. (monitor_of Q i).owner) (λ u. (with_known t l w.known u).unfinished)
-  stamps_law = freed_stamps w P t o l v inside owner_is logging_it (subst (λ n. next_stamp (local_of (w.known t)) ≤ n) (sym stamp_word) may.high)
-
   -- THE LOCK was the thread's, so nobody else owns the object or bears it
   module _ (holder_is : who w o ≡ Some t) where
     none_else : (u : ℕ) → u ≢ t → (owner_at P o u ≡ false) × (bears (w.known u).stage o ≡ false)
@@ -199,5 +196,5 @@ module _ {w : World} {t : ℕ} {l : Known} {fields : Fields} (step : IsStep w t 
       }
       last_step records = records_turn step v locks o Open now (λ u q c. cc c) (λ u h. same_Some _ _ (sym h ∙ holder_is)) (λ i q c. cc (sym may.calm ∙ c)) (λ i q c. cc (sym a.stage ∙ c)) (λ i c. absurd (cc (sym a.stage ∙ c)))
       last_step waits = waits_move step (subst IsPlain (sym may.calm) (plain_by Calm refl)) (subst IsPlain (sym a.stage) (plain_by (Exits o p) refl)) (waits_logged w P t l v may.runs may.ready unresumed)
-      last_step stamps = stamps_law
+      last_step stamps = freed_stamps w P t o l v inside owner_is logging_it (omega (arith, stamp_word, may.high))
       last_step c = logged_step step logging_it may.runs may.room drawn v c

@@ -86,9 +86,6 @@ module _ (w : World) (P : List PlainObject) (t : ℕ) (e : Purpose) (y : Entry) 
   uncounted u s d (inl a) is = a.1
   uncounted u s d (inr a) is = a.2
 
-  seen_law : SeenFit x P
-  seen_law = let kept = ap (λ c. record { plan = plan; found = w.words (Length t) } ∷ cond c [] (seen_before w.shape (w.known t))) b.untaking in own_seen w P t plan (search (free.runs, kept, uncounted)) v
-
   step : IsStep w t l announcing
   step = record { within = within; mine = refl; others = λ k. refl }
 
@@ -102,7 +99,9 @@ module _ (w : World) (P : List PlainObject) (t : ℕ) (e : Purpose) (y : Entry) 
   drawn = draws_still w P b.now t told_entry l v tells.logs (draws_counted y (w.known t).draws) b.entry.undrawn
 
   all_after : AllHold (still_parts step tells x.words)
-  all_after seen = seen_next step x.words P seen_law
+  all_after seen =
+      let kept = ap (λ c. record { plan = plan; found = w.words (Length t) } ∷ cond c [] (seen_before w.shape (w.known t))) b.untaking in
+      seen_next step x.words P (own_seen w P t plan (search (free.runs, kept, uncounted)) v)
   -- each length word is as its thread published it
   all_after lengths = record {
     few = (lengths_next step P (length_more (w.known t).log told_entry) free.room free.runs v).few;

@@ -108,12 +108,11 @@ module _ (w : World) (P : List PlainObject) (t : ℕ) (e : Purpose) (within : t 
   pub released_fits : MayRelease (w.known t) e → Fits (world_after (release_plan e Calm t) t w) P
   released_fits may = changed_fits w P t e (Swap (reached_word t) (released_word t)) (reached_form t) (released_form t) within (release_changes may) v
 
-  halted_fits : MayHalt w.shape.threads (w.known t) e → Fits (world_after (halt_plan e t) t w) P
-  halted_fits may = changed_fits w P t e (Swap (reached_word t) halted_word) (reached_form t) halted_form within (halt_changes may) v
-
 -- THE LAWS
 pub releasing_valid : (e : Purpose) → KeepsValid (λ w t. MayRelease (w.known t) e) (λ w t. release_plan e Calm t)
 releasing_valid e w P t within may valid = inl (released_fits w P t e within (fits_calm w P t may.reached may.calm valid) may.reached may)
 
 pub halting_valid : (e : Purpose) → KeepsValid (λ w t. MayHalt w.shape.threads (w.known t) e) (λ w t. halt_plan e t)
-halting_valid e w P t within may valid = inl (halted_fits w P t e within (fits_calm w P t may.reached may.calm valid) may.reached may)
+halting_valid e w P t within may valid =
+    let v = fits_calm w P t may.reached may.calm valid in
+    inl (changed_fits w P t e (Swap (reached_word t) halted_word) (reached_form t) halted_form within (halt_changes w P t e within v may.reached may) v)

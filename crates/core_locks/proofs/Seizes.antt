@@ -14,9 +14,6 @@ use Rattle.core_locks.proofs.Steps.{IsAside, calm_aside, recursions_stand, stage
 pub same_place : (a b c d : ℕ) → OnRecord a b ≡ OnRecord c d → (a ≡ c) × (b ≡ d)
 same_place a b c d e = (cc e, cc e)
 
-same_seizing : (a b c d : ℕ) → Seizes a b ≡ Seizes c d → (a ≡ c) × (b ≡ d)
-same_seizing a b c d e = (cc e, cc e)
-
 module _ (w : World) (P : List PlainObject) (t : ℕ) (e : Purpose) (o mark p : ℕ) (within : t < w.shape.threads) (may : MaySeize (w.known t) e o mark p) (hit : (w.words (Mark o) == mark) ≡ true) (v : Fits w P) where
   abbrev plan : StepPlan
   plan = seize_plan e t o mark p
@@ -169,10 +166,11 @@ module _ (w : World) (P : List PlainObject) (t : ℕ) (e : Purpose) (o mark p : 
     ];
     seized = λ i u q. each_with_known (λ u y. y.stage ≡ Seizes i q → (lock x i ≡ OnRecord u q) × (slice_index (w.known u).holds q ≡ 0) × (q < 64) × (hold_count i (w.known u).holds ≡ 0)) t l w.known u
         (λ s.
-        let r = same_seizing o p i q s in
+        let object : o ≡ i = cc s in
+        let place : p ≡ q = cc s in
         let lock_is : lock x o ≡ OnRecord t p = elim (lock_now o) [ inl a ↦ a.1 | inr a ↦ absurd (a.0 refl) ] in
         let at : (lock x o ≡ OnRecord t p) × (slice_index (w.known t).holds p ≡ 0) × (p < 64) × (hold_count o (w.known t).holds ≡ 0) = (lock_is, may.free.empty, may.free.place, unheld) in
-        subst (λ (z : ℕ × ℕ). (lock x z.0 ≡ OnRecord t z.1) × (slice_index (w.known t).holds z.1 ≡ 0) × (z.1 < 64) × (hold_count z.0 (w.known t).holds ≡ 0)) (λ j. (r.0 j, r.1 j)) at)
+        subst (λ (z : ℕ × ℕ). (lock x z.0 ≡ OnRecord t z.1) × (slice_index (w.known t).holds z.1 ≡ 0) × (z.1 < 64) × (hold_count z.0 (w.known t).holds ≡ 0)) (λ j. (object j, place j)) at)
         (λ d s. let b = v.records.seized i u q s in (lock_forth i (OnRecord u q) b.0 (λ c. cc c), b.1, b.2, b.3));
     grabbed = λ i u s. let b = v.records.grabbed i u (stage_back step (Grabs i) u (λ c. cc c) s).1 in (lock_forth i (OwnedBy u) b.0 (λ c. cc c), b.1);
   }

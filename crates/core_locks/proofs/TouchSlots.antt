@@ -73,9 +73,6 @@ module _ (w : World) (P : List PlainObject) (t : ℕ) (e : Purpose) (o slot : �
     abbrev Q : List PlainObject
     Q = slice_set P o z
 
-    seen_law : SeenFit x P
-    seen_law = let kept = ap (λ (ms : List StepMade). record { plan = plan; found = w.words (Slot o slot) } ∷ ms) (a.counts (seen_before w.shape (w.known t))) in own_seen w P t plan (search (free.runs, kept, uncounted)) v
-
     step : IsStep w t l telling
     step = record { within = within; mine = refl; others = λ k. refl }
 
@@ -83,7 +80,9 @@ module _ (w : World) (P : List PlainObject) (t : ℕ) (e : Purpose) (o slot : �
     tells = tells_so v within free a.log a.stamp a.entry a.own
 
     all_after : AllHold (still_parts step tells x.words)
-    all_after seen = seen_next step x.words P seen_law
+    all_after seen =
+        let kept = ap (λ (ms : List StepMade). record { plan = plan; found = w.words (Slot o slot) } ∷ ms) (a.counts (seen_before w.shape (w.known t))) in
+        seen_next step x.words P (own_seen w P t plan (search (free.runs, kept, uncounted)) v)
     all_after c = told_step step tells v a.slots (draws_still w P Q t y l v tells.logs (let n = ap drawn_by a.entry.undrawn in omega (arith, n, a.still)) a.entry.undrawn) c
 
     touches : Fits (with_word_and_known (Slot o slot) (word_after act (w.words (Slot o slot))) t (known_hit w.shape w.start (touch e o slot act note last Calm) (w.words (Slot o slot)) (w.known t)) w) Q
