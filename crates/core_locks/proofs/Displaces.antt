@@ -47,7 +47,7 @@ module _ (w : World) (P : List PlainObject) (t : ℕ) (e : Purpose) (p d : ℕ) 
   rest_word o u q r = elim (word_at u q) [ inl a ↦ absurd (unrested o u q r a.0 a.1) | inr a ↦ a ]
 
   header_at : (o : ℕ) → header_form (read_mark (marks w o)) (marks w o) (displaced_words x) (headers w) (inflations w o) ≡ header w o
-  header_at o = sym (header_where_it_rests (read_mark (marks w o)) (marks w o) (prototype_of w o) (owner_words w) (headers w) (displaced_words w) (displaced_words x) (inflations w o) (λ u q r. sym (rest_word o u q r)))
+  header_at o = header_where_it_rests (read_mark (marks w o)) (marks w o) (prototype_of w o) (owner_words w) (headers w) _ _ (inflations w o) (rest_word o)
 
   -- the records that were made through the monitor are as many: the free place isn't one
   again_same : (o u : ℕ) → recursion_count o (displaced_words x u) (w.known u).holds ≡ recursion_count o (displaced_words w u) (w.known u).holds

@@ -64,9 +64,6 @@ entry_quiet w P t v free (NotifyAll o n) h =
     (nobody_called (monitor_of P o) none) (notify_all_taken (object_of P o) t o n own none h.3)
 entry_quiet w P t v free _ h = absurd h
 
-may_free : (s : Shape) (k : Known) (y : Entry) → MayPublish s k y → IsFreeToTell k
-may_free s k y may = search may
-
 module _ (w : World) (P : List PlainObject) (t : ℕ) (e : Purpose) (y : Entry) (within : t < w.shape.threads) (free : IsFreeToTell (w.known t)) (own : IsOwnEntry (w.known t) y) (v : Fits w P) (b : IsQuiet P t y) where
   -- the step, at the stage at which the thread stands
   abbrev plan : StepPlan
@@ -121,5 +118,5 @@ module _ (w : World) (P : List PlainObject) (t : ℕ) (e : Purpose) (y : Entry) 
 pub publish_law : (e : Purpose) (y : Entry) → LogsValid (λ w t. MayPublish w.shape (w.known t) y) (λ w t. publish_plan e t y (length (w.known t).log + 1)) y
 publish_law e y w P t within may is =
     let v = fits_running w P t may.runs is in
-    let free = may_free w.shape (w.known t) y may in
+    let free : IsFreeToTell (w.known t) = search may in
     publishes w P t e y within free may.own_entry v (entry_quiet w P t v free y may.tells)

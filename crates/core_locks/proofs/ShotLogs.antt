@@ -7,21 +7,13 @@ use Rattle.core_world.proofs.ShotsStay.{IsDump, IsNoDump, dump_or_not, dumps_dum
 use Rattle.core_locks.specs.Knowing.{IsOfLastShot, operation_of}
 use Rattle.core_locks.proofs.Logging.{IsLogging, logs_are}
 
--- what is unfinished is no dump where it is another operation
-other_operation : (u : Option Unfinished) (a : Op) (o : ℕ) → goes_on_with op.Dump 0 (Some (record { op = a; object = o })) ≡ false → IsUnfinished u a o → IsUnfinished u op.Dump 0 → ⊥
-other_operation u a o other e d = let f = ap (goes_on_with op.Dump 0) e in let g = ap (goes_on_with op.Dump 0) d in absurd (cc (other, f, g))
+-- an entry that is no dump is no dump's own
+undumped : (e : Entry) → IsNoDump e → goes_on_with op.Dump 0 (operation_of e) ≡ false
+undumped (Dump number) n = let e = ap (λ z. length z) (n 0 []) in absurd (omega (arith, e))
+undumped _ n = refl
 
--- nor where an entry that is no dump is its own
 no_dump : (u : Option Unfinished) (e : Entry) → IsNoDump e → u ≡ operation_of e → IsUnfinished u op.Dump 0 → ⊥
-no_dump u (Enter o path) n h d = other_operation u op.Enter o refl h d
-no_dump u (Exit o) n h d = other_operation u op.Exit o refl h d
-no_dump u (Wait o) n h d = other_operation u op.Wait o refl h d
-no_dump u (Resume o) n h d = other_operation u op.Wait o refl h d
-no_dump u (Notify o woken) n h d = other_operation u op.Notify o refl h d
-no_dump u (NotifyAll o woken) n h d = other_operation u op.NotifyAll o refl h d
-no_dump u (Hash o value drawn) n h d = other_operation u op.Hash o refl h d
-no_dump u (Dump number) n h d = let e = ap (λ z. length z) (n 0 []) in absurd (omega (arith, e))
-no_dump u _ n h d = absurd (cc (h, d))
+no_dump u e n h d = let f = ap (goes_on_with op.Dump 0) h ∙ undumped e n in let g = ap (goes_on_with op.Dump 0) d in absurd (cc (f, g))
 
 module _ (w : World) (P Q : List PlainObject) (t : ℕ) (y : Logged) (l : Known) (v : Fits w P) (a : IsLogging w P Q t y l) where
   mine : AreOfDumps t l.log (w.known t).shots l.unfinished
