@@ -99,21 +99,13 @@ way_of w P t e o d p within may v = cases may.before
   where
     cases : Precedes w.shape (w.known t) o p → Way w P t o p
     cases (inl a) = let s = v.records.seized o t p a in BySeizing (record { stage = a; rests = s.0; none = s.3 })
-    cases (inr (inl a)) = ByHolding (record {
-      stage = a.0;
-      owner = (even_holder_owns w P t v may.out o (λ r. absurd (cc (r, a.0))) (ap (λ s. hold_words_ahead s o) a.0) a.1).0;
-      some = a.1;
-      zero = saw_displaced w P t o may.runs v p 0 a.2;
-    })
+    cases (inr (inl a)) =
+        let owner = (even_holder_owns w P t v may.out o (λ r. absurd (cc (r, a.0))) (ap (λ s. hold_words_ahead s o) a.0) a.1).0 in
+        ByHolding (search (a, owner, saw_displaced w P t o may.runs v p 0 a.2))
     cases (inr (inr (inl a))) = let s = v.records.grabbed o t a.0 in ByGrabbing (record { stage = a.0; thread_owns = s.0; none = s.1; three = saw_displaced w P t o may.runs v p 3 a.1 })
     cases (inr (inr (inr (inr a)))) = let is = saw_leaning w P t o may.runs v a.1 in ByLeaning (record { stage = a.0; leans = is.0; biased = is.1 })
     cases (inr (inr (inr (inl a)))) =
         let owner = (even_holder_owns w P t v may.out o (λ r. absurd (cc (r, a.0))) (ap (λ s. hold_words_ahead s o) a.0) a.1).0 in
         let saw = a.3 in
-        ByRaising (record {
-          stage = a.0;
-          thread_owns = saw_thread_owns w P t o may.runs v saw.0 (omega (arith, within, v.limits.threads)) owner saw.1 saw.2;
-          owner = owner;
-          some = a.1;
-          three = saw_displaced w P t o may.runs v p 3 a.2;
-        })
+        let thread_owns = saw_thread_owns w P t o may.runs v saw.0 (omega (arith, within, v.limits.threads)) owner saw.1 saw.2 in
+        ByRaising (search (a, thread_owns, owner, saw_displaced w P t o may.runs v p 3 a.2))

@@ -45,17 +45,12 @@ either false b c f e = ap (λ d. c || d) e ∙ or-true c
 pub back_by : (w x : World) (k y : Known) (owner next : ℕ → ℕ → Bool) (u : ℕ) → marks x ≡ marks w → prototype_of x ≡ prototype_of w → (y.running ≡ true → k.running ≡ true) → y.requesting ≡ k.requesting
     → inflation_in y.stage ≡ inflation_in k.stage → (revocation_in y.stage ≡ None → revocation_in k.stage ≡ None) → y.kept ≡ k.kept → ((o : ℕ) → next o u ≡ true → owner o u ≡ true)
     → ((o a : ℕ) → monitor_in (marks w o) ≡ Some a → (owner o u || bears y.stage o) ≡ true → (owner o u || bears k.stage o) ≡ true) → Back w x k y owner next u
-back_by w x k y owner next u mark prototype run ask inflates none_revokes kept fewer held = record {
-  run = run;
-  ask = λ h. sym ask ∙ h;
-  not_revoking = none_revokes;
-  inflates = λ i h. sym inflates ∙ h;
-  kept = λ m h. sym kept ∙ h;
-  prototype = λ o. λ i. prototype i o;
-  monitor = λ o m h. (λ i. monitor_in (sym mark i o)) ∙ h;
-  owned = fewer;
-  held = λ o m g h. held o m ((λ i. monitor_in (sym mark i o)) ∙ g) (either (next o u) (bears y.stage o) (owner o u) (fewer o) h);
-}
+back_by w x k y owner next u mark prototype run ask inflates none_revokes kept fewer held =
+    let prototypes : (o : ℕ) → prototype_of x o ≡ prototype_of w o = λ o. λ i. prototype i o in
+    let monitor : (o m : ℕ) → monitor_in (marks x o) ≡ Some m → monitor_in (marks w o) ≡ Some m = λ o m h. (λ i. monitor_in (sym mark i o)) ∙ h in
+    let before : (o m : ℕ) → monitor_in (marks x o) ≡ Some m → (next o u || bears y.stage o) ≡ true → (owner o u || bears k.stage o) ≡ true =
+    λ o m g h. held o m (monitor o m g) (either (next o u) (bears y.stage o) (owner o u) (fewer o) h) in
+    search (run, sym ask, none_revokes, sym inflates, sym kept, prototypes, monitor, fewer, before)
 
 -- so another thread, which knows what it knew, counted before on what it may count on
 pub other_back : (w x : World) (k : Known) (owner next : ℕ → ℕ → Bool) (u : ℕ) → marks x ≡ marks w → prototype_of x ≡ prototype_of w

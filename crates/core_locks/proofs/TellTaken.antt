@@ -42,10 +42,5 @@ unbound_taken P t e taken unbound undrawn = record { undrawn = undrawn; taken = 
 pub owner_taken : (P : List PlainObject) (t o : ℕ) (e : Entry) (z : PlainObject) → o < length P → owner_at P o t ≡ true → bound_to e ≡ Some o → plain.named e ≡ Some o
     → z.monitor ≡ monitor_of P o → z.hash ≡ (object_of P o).hash → take_at (object_of P o) t e ≡ Some z → IsTaken P (slice_set P o z) t e
 owner_taken P t o e z within own bound names monitor hash taken =
-    record {
-      undrawn = bound_undrawn e o bound;
-      taken = takes P o t e z within names taken;
-      owned = λ i b. ap (λ j. owner_at P j t) (same_Some i o (sym b ∙ bound)) ∙ own;
-      monitors = monitors_stay P o z within monitor;
-      hashes = hashes_stay P o z within hash;
-    }
+    let owned : (i : ℕ) → bound_to e ≡ Some i → owner_at P i t ≡ true = λ i b. ap (λ j. owner_at P j t) (same_Some i o (sym b ∙ bound)) ∙ own in
+    search (bound_undrawn e o bound, takes P o t e z within names taken, owned, monitors_stay P o z within monitor, hashes_stay P o z within hash)

@@ -56,13 +56,9 @@ pub record IsTelling (w : World) (P Q : List PlainObject) (t : ℕ) (y : Logged)
 -- so does one that is free to log the entry, with the next stamp
 pub tells_so : {w : World} {P Q : List PlainObject} {t : ℕ} {y : Logged} {l : Known} → Fits w P → t < w.shape.threads → IsFreeToTell (w.known t) → l.log ≡ (w.known t).log ++ y ∷ []
     → y.stamp ≡ last_stamp (w.known t).log + 1 → IsTaken P Q t y.entry → IsOwnEntry (w.known t) y.entry → IsTelling w P Q t y l
-tells_so {w} {P} {Q} {t} {y} {l} v within free grows stamp entry own = record {
-  free = free;
-  logs = next_logging within grows entry.taken own stamp (λ o e. thread_is (monitor_of P o).owner t (entry.owned o e));
-  owned = entry.owned;
-  stamp = stamp;
-  monitors = entry.monitors;
-}
+tells_so {w} {P} {Q} {t} {y} {l} v within free grows stamp entry own =
+    let logs : IsLogging w P Q t y l = next_logging within grows entry.taken own stamp (λ o e. thread_is (monitor_of P o).owner t (entry.owned o e)) in
+    search (free, logs, entry.owned, stamp, entry)
 
 module _ {w : World} {P Q : List PlainObject} {t : ℕ} {y : Logged} {l : Known} {fields : Fields} (s : IsStep w t l fields) (a : IsTelling w P Q t y l) where
   -- the parts afterwards, in terms of P where they are the same
