@@ -111,9 +111,7 @@ module _ (w : World) (P : List PlainObject) (t o : ℕ) (e : Entry) (r : Purpose
       here =
           let now = outside_standing m u (ap (λ b. is_thread b u) a.owner ∙ ne_eqb t u (λ q. d (sym q))) in
           let before = outside_standing (monitor_of P o) u (alone u d).1 in
-          let waits = ap (λ ps. or_zero (count_of ps u)) a.waits in
-          let called = ap or_zero (a.others u d).1 in
-          omega (arith, now, before, waits, called)
+          omega (arith, now, before, ap (λ ps. or_zero (count_of ps u)) a.waits, ap or_zero (a.others u d).1)
 
   number_mine : (i : ℕ) → holds_by_monitor (monitor_of Q i) t ≡ holds_by_monitor (monitor_of P i) t + hold_words_ahead (w.known t).stage i
   number_mine = at (λ i y. holds_by_monitor y.monitor t ≡ holds_by_monitor (monitor_of P i) t + hold_words_ahead (w.known t).stage i) a.number (λ i n.

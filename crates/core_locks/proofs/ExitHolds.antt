@@ -44,6 +44,9 @@ module _ (w : World) (P : List PlainObject) (t o d p : ℕ) (within : t < w.shap
   pub owner_is : m.owner ≡ Some t
   owner_is = thread_is m.owner t owned.0
 
+  unowned : (u : ℕ) → u ≢ t → owner_at P o u ≡ false
+  unowned u n = ap (λ a. is_thread a u) owner_is ∙ ne_eqb t u (λ q. n (sym q))
+
   count_is : m.count ≡ d
   count_is = sym owned.1 ∙ may.deepest
 
@@ -63,14 +66,8 @@ module _ (w : World) (P : List PlainObject) (t o d p : ℕ) (within : t < w.shap
     waits = refl;
     called = refl;
     here =
-        let a = ap (λ b. cond b (m.count - 1) 0) owned.0 in
-        let b = ap (λ b. cond b m.count 0) owned.0 in
-        omega (arith, a, b, count_is, deep);
-    else = λ u n.
-        let none : owner_at P o u ≡ false = ap (λ a. is_thread a u) owner_is ∙ ne_eqb t u (λ q. n (sym q)) in
-        let a = ap (λ b. cond b (m.count - 1) 0) none in
-        let b = ap (λ b. cond b m.count 0) none in
-        omega (arith, a, b);
+        omega (arith, ap (λ b. cond b (m.count - 1) 0) owned.0, ap (λ b. cond b m.count 0) owned.0, count_is, deep);
+    else = λ u n. omega (arith, ap (λ b. cond b (m.count - 1) 0) (unowned u n), ap (λ b. cond b m.count 0) (unowned u n));
     fewer = λ u h. h;
     owner = λ f h. holder_more (lock w o) _ f t holder_is (λ z. omega (arith, h, z, may.deepest, deep)) ∙ sym owner_is;
     rests = λ u q h s. omega (arith, s, deep);
@@ -86,10 +83,7 @@ module _ (w : World) (P : List PlainObject) (t o d p : ℕ) (within : t < w.shap
     waits = refl;
     called = refl;
     here = let b = ap (λ b. cond b m.count 0) owned.0 in omega (arith, b, count_is, last);
-    else = λ u n.
-        let none : owner_at P o u ≡ false = ap (λ a. is_thread a u) owner_is ∙ ne_eqb t u (λ q. n (sym q)) in
-        let b = ap (λ b. cond b m.count 0) none in
-        omega (arith, b);
+    else = λ u n. omega (arith, ap (λ b. cond b m.count 0) (unowned u n));
     fewer = λ u h. absurd (cc h);
     owner = λ f h. ap (λ z. holder z f) leans ∙ ap (λ (b : Bool). cond b None (Some t)) (eq-eqb (f t) 0 (omega (arith, h, may.deepest, last)));
     rests = λ u q h s. absurd (cc (leans, h));

@@ -77,14 +77,12 @@ module _ {w : World} {P : List PlainObject} {o m t : ℕ} (v : Fits w P) (s : Is
       own : holds_by_monitor (left_monitor (monitor_of P o) t) t ≡ (monitor_of P o).count
       own =
           let waits = ap or_zero (count_last (waits_at P o) t (monitor_of P o).count (unlisted o).0) in
-          let called = unlisted_count (notified_at P o) t (unlisted o).1 in
-          omega (arith, waits, called)
+          omega (arith, waits, unlisted_count (notified_at P o) t (unlisted o).1)
 
       other : u ≢ t → holds_by_monitor (left_monitor (monitor_of P o) t) u ≡ holds_by_monitor (monitor_of P o) u
       other d =
           let waits = ap or_zero (count_else (waits_at P o) t (monitor_of P o).count u d) in
-          let owner = ap (λ b. cond b (monitor_of P o).count 0) (others_out u d).0 in
-          omega (arith, waits, owner)
+          omega (arith, waits, ap (λ b. cond b (monitor_of P o).count 0) (others_out u d).0)
 
   -- what the entry is above, and why it may be logged
   pub is_logging : (l : Known) → l.log ≡ (w.known t).log ++ wait_entry (w.known t) o ∷ [] → IsLogging w P (left_objects P o t) t (wait_entry (w.known t) o) l

@@ -62,9 +62,7 @@ module _ (w : World) (P : List PlainObject) (t : ℕ) (e : Purpose) (o m stamp :
   saved : (w.known t).saved ≡ recursion_count o (displaced_words w t) (w.known t).holds
   saved =
       let a = v.recursions.owned o m t mark_is thread_owns (λ s. absurd (cc (s, may.calm))) (λ s. absurd (cc (s, may.calm))) in
-      let none_behind = ap (λ s. recursions_behind s o) may.calm in
-      let none_ahead = ap (λ s. recursions_ahead s o) may.calm in
-      omega (arith, a, none_behind, none_ahead, recursions_are)
+      omega (arith, a, ap (λ s. recursions_behind s o) may.calm, ap (λ s. recursions_ahead s o) may.calm, recursions_are)
 
   pub leaving : IsLeaving w P o m t
   leaving =

@@ -52,12 +52,7 @@ module _ (w : World) (P : List PlainObject) (t : ℕ) (e : Purpose) (o : ℕ) (w
   about_to : IsAboutToLetGo e.unfinished (w.known t).log o
   about_to = elim may.letting [
     | inl waits ↦ inl waits
-    | inr exits ↦
-        let number = v.holds.number t o in
-        let calm = ap (λ s. hold_words_ahead s o) may.calm in
-        let held = held_is w P t within v o in
-        let one = exits.1 in
-        inr (exits.0, omega (arith, number, calm, held, one))
+    | inr exits ↦ inr (exits.0, omega (arith, v.holds.number t o, ap (λ s. hold_words_ahead s o) may.calm, held_is w P t within v o, exits.1))
   ]
 
   stays : (i : ℕ) → IsStampOf (λ u. (w.known u).log) (monitor_of P i).owner (λ u. (x.known u).unfinished) i (w.words (Stamp i))

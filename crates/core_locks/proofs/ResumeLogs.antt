@@ -47,10 +47,8 @@ module _ (w : World) (P : List PlainObject) (t o m : ℕ) (within : t < w.shape.
   number =
       let waits = unlisted_count (waits_at P o) t unwaiting in
       let gone = unlisted_count (without (notified_at P o) t) t (without_unlisted (notified_at P o) t) in
-      let now = ap (λ b. cond b n 0) (same_number t) in
       let before = outside_standing (monitor_of P o) t not_owner in
-      let kept = ap or_zero count in
-      omega (arith, waits, gone, now, before, kept, ap (λ s. hold_words_ahead s o) may.stage)
+      omega (arith, waits, gone, ap (λ b. cond b n 0) (same_number t), before, ap or_zero count, ap (λ s. hold_words_ahead s o) may.stage)
 
   -- the mark names the monitor that the thread saw, which is its own
   mark : monitor_in (marks w o) ≡ Some m

@@ -67,18 +67,10 @@ module _ (w : World) (P : List PlainObject) (t : ℕ) (e : Purpose) (act : Act) 
 
   -- what the thread knows is what the word says of it
   runs_known : l.running ≡ runs_form (Some g) t
-  runs_known =
-      let word = c.left in
-      let thread = v.numbered t in
-      let same : runs_in (word_after act (w.words Safepoint)) (w.known t).thread ≡ runs_in (safe_of g) t = λ i. runs_in (word i) (thread i) in
-      c.told.0 ∙ same ∙ runs_now t
+  runs_known = c.told.0 ∙ (λ i. runs_in (c.left i) (v.numbered t i)) ∙ runs_now t
 
   asks_same : asks_in (word_after act (w.words Safepoint)) (w.known t).thread ≡ is_thread g.requester t
-  asks_same =
-      let word = c.left in
-      let thread = v.numbered t in
-      let same : asks_in (word_after act (w.words Safepoint)) (w.known t).thread ≡ asks_in (safe_of g) t = λ i. asks_in (word i) (thread i) in
-      same ∙ asks_now t
+  asks_same = (λ i. asks_in (c.left i) (v.numbered t i)) ∙ asks_now t
 
   asks_known : l.requesting ≡ is_thread g.requester t
   asks_known = c.told.1 ∙ asks_same

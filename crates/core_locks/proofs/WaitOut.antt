@@ -57,9 +57,7 @@ out_unlisted w P t v out d o = (out_unwaiting w P t v out o, out_uncalled w P t 
 pub out_standing : (w : World) (P : List PlainObject) (t : ℕ) → Fits w P → IsOut (w.known t) → (o : ℕ) → ((w.known t).stage ≡ Resumes o → ⊥)
     → holds_by_monitor (monitor_of P o) t ≡ cond (owner_at P o t) (monitor_of P o).count 0
 out_standing w P t v out o d =
-    let a = unlisted_count (waits_at P o) t (out_unwaiting w P t v out o) in
-    let b = unlisted_count (notified_at P o) t (out_uncalled w P t v out o d) in
-    omega (arith, a, b)
+    omega (arith, unlisted_count (waits_at P o) t (out_unwaiting w P t v out o), unlisted_count (notified_at P o) t (out_uncalled w P t v out o d))
 
 -- a thread that is out, and has a hold word for an object, is its plain owner, and has as many as the plain count, at each stage but those at
 -- which it has one that its log doesn't say or resumes
