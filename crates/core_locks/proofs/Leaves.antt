@@ -6,7 +6,7 @@ use Rattle.core_world.specs.declared.task.Op.TheVariants as op
 use Rattle.core_locks.proofs.Clauses.{Parts, parts_of, kept_locks, locks_stand, seen, forms, quiet, holds, owners, biases, records, recursions, waits, stamps, AllHold}
 use Rattle.core_locks.proofs.Drawing.{draws_still}
 use Rattle.core_locks.proofs.LeavesLists.{stand_same, stand_last, told_same}
-use Rattle.core_locks.proofs.LeavesPlain.{left_objects, left_object, wait_entry, taken, at_object, each_waiter, owner_back, owner_fails, owner_before, unlisted, waits_still, waits_here, holder_is, others_out, stands_next, is_logging}
+use Rattle.core_locks.proofs.LeavesPlain.{left_objects, left_object, wait_entry, taken, at_object, each_waiter, owner_back, owner_fails, owner_before, unlisted, waits_still, waits_here, holder_is, others_out, stands_same, is_logging}
 use Rattle.core_locks.proofs.LeavesStamps.{next_fits, waiter_bounded}
 use Rattle.core_locks.proofs.LeavesStates.{IsLeaving, leaving, waiting_word}
 use Rattle.core_locks.proofs.LoggedSteps.{logged_step}
@@ -158,8 +158,7 @@ module _ (w : World) (P : List PlainObject) (t o m : ℕ) (e : Purpose) (goes_on
   older u e =
       let old = waiter_bounded w P u o v e in
       let bound = ap (bound_stamp (λ z. (w.known z).log) (w.words (Stamp o))) (owner_before v s) in
-      let new = ap stamp_in said_here ∙ word_stamp in
-      omega (arith, old, bound, new)
+      omega (arith, old, bound, ap stamp_in said_here ∙ word_stamp)
 
   waits_sorted : (i : ℕ) → StandByStamps (λ u. x.words (Waiting u)) i (waits_at Q i)
   waits_sorted i =
@@ -223,16 +222,7 @@ module _ (w : World) (P : List PlainObject) (t o m : ℕ) (e : Purpose) (goes_on
   all_after holds = record {
     stored = v.holds.stored;
     places = v.holds.places;
-    number = λ u i.
-        let more = same_part (λ f. hold_words_ahead f i) refl u in
-        elim (stands_next v s i u) [
-          | inl a ↦
-              let all = ap (λ z. hold_count i (w.known z).holds) a.1 ∙ ap (λ j. hold_count j (w.known t).holds) a.0 ∙ s.count in
-              let none = ap (λ z. hold_words_ahead (w.known z).stage i) a.1 ∙ ap (λ f. hold_words_ahead f i) s.calm in
-              let count = a.2 in
-              omega (arith, all, none, more, count)
-          | inr a ↦ omega (arith, v.holds.number u i, more, a)
-        ];
+    number = λ u i. omega (arith, v.holds.number u i, same_part (λ f. hold_words_ahead f i) refl u, stands_same v s i u);
     each = v.holds.each;
   }
   all_after owners = record {
@@ -272,10 +262,8 @@ module _ (w : World) (P : List PlainObject) (t o m : ℕ) (e : Purpose) (goes_on
     first = λ i u p e. v.recursions.first i u p (goes_back i u e);
     others = λ i u p d e. v.recursions.others i u p d (goes_back i u e);
     owned = λ i a u e g c d.
-        let less = same_part (λ f. recursions_behind f i) refl u in
-        let more = same_part (λ f. recursions_ahead f i) refl u in
         let was = v.recursions.owned i a u e g (λ f. c (stage_forth step (Waits i) u (λ g. cc (sym s.calm ∙ g)) f)) (λ f. d (stage_forth step (Resumes i) u (λ c. cc (sym s.calm ∙ c)) f)) in
-        omega (arith, less, more, was);
+        omega (arith, same_part (λ f. recursions_behind f i) refl u, same_part (λ f. recursions_ahead f i) refl u, was);
     waiting = λ i u e. elim e [
       | inl a ↦ each_waiter v s (λ j z. (w.known z).saved ≡ recursion_count j (displaced_words w z) (w.known z).holds) s.saved
           (λ j z b. v.recursions.waiting j z (inl b)) i u a

@@ -2,7 +2,7 @@
 use Rattle.core_locks.proofs.Prelude.{◌≡◌, ◌≢◌, ◌⊎◌, ℕ, ◌+◌, ne_eqb, true, false, cond, List, [], ◌∷◌, ◌++◌, slice_set, Some, None, refl, sym, ap, ◌∙◌, arith, inl, inr, same_Some, PlainMonitor, is_thread, is_listed, owns, only_if, PlainObject, take_entry, with_monitor, Logged, last_stamp, bears, Known, World, who, holder, hold_count, holds_by_monitor, object_of, monitor_of, owner_at, waits_at, notified_at, or_zero, Fits, by_equal, thread_is, unlisted_count, subst}
 use Rattle.plain_monitor.specs.declared.entry.Entry.TheVariants as entry
 use Rattle.core_locks.proofs.Logging.{IsLogging, next_logging}
-use Rattle.core_locks.proofs.Updates.{takes, monitor_here, each_object}
+use Rattle.core_locks.proofs.Updates.{takes, monitor_here, each_object, part_stays}
 use Rattle.core_locks.proofs.WaitOut.{no_other, out_unlisted}
 use Rattle.core_locks.proofs.LeavesLists.{listed_forth, listed_last, listed_back, count_last, count_else}
 use Rattle.core_locks.proofs.LeavesStates.{IsLeaving}
@@ -68,16 +68,15 @@ module _ {w : World} {P : List PlainObject} {o m t : ℕ} (v : Fits w P) (s : Is
   others_out u d = no_other w P o u v (ap (λ a. is_thread a u) holder_is ∙ ne_eqb t u (λ e. d (sym e)))
 
   -- nobody's number of plain holds changes: the thread's count goes from the owner's to that of one who waits
-  pub stands_next : (i u : ℕ) → ((i ≡ o) × (u ≡ t) × (holds_by_monitor (monitor_of (left_objects P o t) i) u ≡ (monitor_of P o).count)) ⊎ (holds_by_monitor (monitor_of (left_objects P o t) i) u ≡ holds_by_monitor (monitor_of P i) u)
-  stands_next i u = at_object
-      (λ i y. ((i ≡ o) × (u ≡ t) × (holds_by_monitor y.monitor u ≡ (monitor_of P o).count)) ⊎
-      (holds_by_monitor y.monitor u ≡ holds_by_monitor (monitor_of P i) u))
-      (by_equal u t (λ e. inl (refl, e, ap (holds_by_monitor (left_monitor (monitor_of P o) t)) e ∙ own)) (λ d. inr (other d))) (λ i d. inr refl) i
+  pub stands_same : (i u : ℕ) → holds_by_monitor (monitor_of P i) u ≡ holds_by_monitor (monitor_of (left_objects P o t) i) u
+  stands_same i u = part_stays (λ y. holds_by_monitor y.monitor u) P o (left_object (object_of P o) t) s.object (by_equal u t own other) i
     where
-      own : holds_by_monitor (left_monitor (monitor_of P o) t) t ≡ (monitor_of P o).count
-      own =
+      own : u ≡ t → holds_by_monitor (left_monitor (monitor_of P o) t) u ≡ holds_by_monitor (monitor_of P o) u
+      own e =
           let waits = ap or_zero (count_last (waits_at P o) t (monitor_of P o).count (unlisted o).0) in
-          omega (arith, waits, unlisted_count (notified_at P o) t (unlisted o).1)
+          let none = unlisted_count (waits_at P o) t (unlisted o).0 in
+          let owner = ap (λ b. cond b (monitor_of P o).count 0) s.owner in
+          subst (λ z. holds_by_monitor (left_monitor (monitor_of P o) t) z ≡ holds_by_monitor (monitor_of P o) z) (sym e) (omega (arith, waits, none, owner))
 
       other : u ≢ t → holds_by_monitor (left_monitor (monitor_of P o) t) u ≡ holds_by_monitor (monitor_of P o) u
       other d =

@@ -28,8 +28,7 @@ module _ (n t : ℕ) (small : n < 2 ^ 64) (within : t < 64) where
   cleared_bit : bit_at n t ≡ 1 → bit_at (n - 2 ^ t) t ≡ 0
   cleared_bit e =
       let mask = bit_at_not w64 (2 ^ t) t (pow_below t 64 within) within in
-      let one = bit_at-pow_same t in
-      ap (λ m. bit_at m t) (cleared_is e) ∙ omega (arith, bit_at_and n (all_but t) t, mask, one)
+      ap (λ m. bit_at m t) (cleared_is e) ∙ omega (arith, bit_at_and n (all_but t) t, mask, bit_at-pow_same t)
 
   -- a number that lacks the bit, with the bit set
   set_is : bit_at n t ≡ 0 → n + 2 ^ t ≡ bit_or n (2 ^ t)
