@@ -1,10 +1,10 @@
 -- A thread exchanges a neutral mark for its place, where it has stored that mark as the displaced word.
-use Rattle.core_locks.proofs.Prelude.{◌≡◌, ◌≢◌, ◌⊎◌, ℕ, zero, suc, ◌<◌, ◌≤◌, ◌==◌, ◌||◌, ne_eqb, Bool, true, false, cond, List, slice_index, Option, Some, refl, sym, ap, ◌∙◌, subst, arith, inl, inr, eqb-true, read_mark, mark_of, Locked, is_thread, is_listed, owns, PlainObject, Mark, Displaced, StepPlan, Calm, Seizes, Grabs, hold_word, is_neutral, hash_in, monitor_in, Inflation, inflation_in, bears, hold_words_ahead, word_after, Known, last_seen, World, with_word_and_known, with_known, Lock, Open, BiasedTo, OnRecord, OwnedBy, lock, header, marks, displaced_words, headers, owner_words, prototype_of, inflations, holder, hold_count, holds_by_monitor, monitor_of, owner_at, hash_at, waits_at, notified_at, Purpose, world_after, known_hit, seen_before, Fits, IsValid, SeenFit, Swap, IsMark, each_with_known, with_known_here, part_moves, inflations_stay, holds_by_monitor_is, fits_running, seen_is_part, Spares, seen_moves, counts_more, miss_valid, unwaited_fits, MaySeize, KeepsValid, seize_plan}
+use Rattle.core_locks.proofs.Prelude.{◌≡◌, ◌≢◌, ◌⊎◌, ℕ, zero, suc, ◌<◌, ◌≤◌, ◌==◌, ◌||◌, ne_eqb, Bool, true, false, cond, List, slice_index, Option, Some, refl, sym, ap, ◌∙◌, subst, arith, inl, inr, eqb-true, read_mark, mark_of, Locked, is_thread, is_listed, owns, PlainObject, Mark, Displaced, StepPlan, Calm, Seizes, Grabs, hold_word, is_neutral, hash_in, monitor_in, Inflation, inflation_in, bears, hold_words_ahead, word_after, Known, last_seen, World, with_word_and_known, with_known, Lock, Open, BiasedTo, OnRecord, OwnedBy, lock, header, marks, displaced_words, headers, owner_words, prototype_of, inflations, holder, hold_count, holds_by_monitor, monitor_of, owner_at, hash_at, waits_at, notified_at, Purpose, world_after, known_hit, seen_before, Fits, IsValid, SeenFit, Swap, IsMark, each_with_known, with_known_here, part_moves, inflations_stay, holds_by_monitor_is, fits_running, seen_is_part, Spares, seen_moves, counts_more, miss_valid, unwaited_fits, MaySeize, KeepsValid, seize_plan, unlisted_count}
 use Rattle.core_locks.proofs.MarkMeanings.{forms_marked, IsBare, bare_unnamed, neutral_bare, neutral_some, neutral_lock, neutral_header, locked_read, locked_bare, locked_some, locked_lock, locked_header}
 use Rattle.core_locks.proofs.MarkChanges.{names_same, bias_back, bias_forth, bias_before, zero_back, zero_forth, lock_at, header_same, mark_back, mark_spares, recursions_by_marks, biases_by_marks, classes_by_marks, inflating_by_marks}
 use Rattle.core_locks.proofs.LockTurns.{owners_taken}
 use Rattle.core_locks.proofs.OwnSeen.{hit_moved}
-use Rattle.core_locks.proofs.WaitOut.{no_other}
+use Rattle.core_locks.proofs.WaitOut.{fails, no_other}
 use Rattle.core_locks.proofs.MarkHolds.{standing_names}
 use Rattle.core_locks.proofs.Clauses.{turned_parts, parts_turn, seen, forms, holds, owners, biases, records, inflating, recursions, hashes, classes, AllHold}
 use Rattle.core_locks.proofs.Steps.{IsAside, calm_aside, recursions_stand, stage_back, stage_forth, holds_stand, none_reached, turning, IsPlain, plain_by, IsStep, next, next_is, step_fits, seen_next, plain_step, inflates_stay}
@@ -67,24 +67,17 @@ module _ (w : World) (P : List PlainObject) (t : ℕ) (e : Purpose) (o mark p : 
   was_open = neutral_lock (marks w o) (prototype_of w o) (owner_words w) (inflations w o) was_neutral
 
   -- nobody had it, so the thread has no hold word of the object
+  nobody : (u : ℕ) → (owner_at P o u ≡ false) × (bears (w.known u).stage o ≡ false)
+  nobody u = no_other w P o u v (ap (λ f. is_thread (holder f (λ z. hold_count o (w.known z).holds)) u) was_open)
+
   unheld : hold_count o (w.known t).holds ≡ 0
-  unheld = by_standing (holds_by_monitor (monitor_of P o) t) refl
-    where
-      unowned : owner_at P o t ≡ true → ⊥
-      unowned owns =
-          let nobody = ap (λ f. is_thread (holder f (λ u. hold_count o (w.known u).holds)) t) was_open in
-          let somebody = v.owners.same o t ∙ ap (λ b. b || bears (w.known t).stage o) owns in
-          absurd (cc (nobody, somebody))
-
-      unlisted : (is_listed (waits_at P o) t ≡ true) ⊎ (is_listed (notified_at P o) t ≡ true) → ⊥
-      unlisted h = let named = v.waits.inflated o t h in bare_unnamed (marks w o) named.0 old named.1
-
-      by_standing : (n : ℕ) → holds_by_monitor (monitor_of P o) t ≡ n → hold_count o (w.known t).holds ≡ 0
-      by_standing zero none = omega (arith, v.holds.number t o, none, ap (λ s. hold_words_ahead s o) may.calm)
-      by_standing (suc n) some = absurd (elim (holds_by_monitor_is (monitor_of P o) t (omega (arith, some))) [
-        | inl a ↦ unowned a
-        | inr a ↦ unlisted a
-      ])
+  unheld =
+      let unlisted : (is_listed (waits_at P o) t ≡ true) ⊎ (is_listed (notified_at P o) t ≡ true) → ⊥ =
+      λ h. let named = v.waits.inflated o t h in bare_unnamed (marks w o) named.0 old named.1 in
+      let waits = unlisted_count (waits_at P o) t (fails _ (λ h. unlisted (inl h))) in
+      let called = unlisted_count (notified_at P o) t (fails _ (λ h. unlisted (inr h))) in
+      let owner = ap (λ b. cond b (monitor_of P o).count 0) (nobody t).0 in
+      omega (arith, v.holds.number t o, ap (λ s. hold_words_ahead s o) may.calm, owner, waits, called)
 
   lock_now : (i : ℕ) → ((i ≡ o) × (lock x i ≡ OnRecord t p)) ⊎ ((i ≢ o) × (lock x i ≡ lock w i))
   lock_now = lock_at w o m t l inflation (OnRecord t p) (locked_lock m t p (prototype_of w o) (owner_words w) (inflations w o) spelled)
@@ -103,9 +96,6 @@ module _ (w : World) (P : List PlainObject) (t : ℕ) (e : Purpose) (o mark p : 
   header_is =
       header_same w o m t l inflation
       (locked_header m t p (displaced_words w) (headers w) (inflations w o) spelled ∙ ap Some stored ∙ sym (neutral_header (marks w o) (displaced_words w) (headers w) (inflations w o) was_neutral))
-
-  nobody : (u : ℕ) → (owner_at P o u ≡ false) × (bears (w.known u).stage o ≡ false)
-  nobody u = no_other w P o u v (ap (λ f. is_thread (holder f (λ z. hold_count o (w.known z).holds)) u) was_open)
 
   -- WHAT WAS SEEN
   spares : Spares (Mark o) m t l w (owner_at P) (owner_at P) (waits_at P) (waits_at P)
