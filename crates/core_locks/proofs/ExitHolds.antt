@@ -6,8 +6,7 @@ use Rattle.std.proofs.lemmas.List.{length-set}
 use Rattle.core_locks.proofs.ByThread.{biases_told, hashes_told, holds_told, records_told, records_at, recursions_told, recursions_at}
 use Rattle.core_locks.proofs.HoldClears as clears
 use Rattle.core_locks.proofs.HoldClears.{IsFull, cleared_back, named_less, times_less, records_less, recursions_less}
-use Rattle.core_locks.proofs.HoldPuts.{holder_more}
-use Rattle.core_locks.proofs.HoldSets.{word_own, word_else, word_held, holder_told}
+use Rattle.core_locks.proofs.HoldSets.{holder_more, word_own, word_else, word_held, holder_told}
 use Rattle.core_locks.proofs.WaitOut.{no_other}
 use Rattle.core_locks.proofs.Logging.{IsLogging, stamps_owned}
 use Rattle.core_locks.proofs.Updates.{each_object, part_stays}

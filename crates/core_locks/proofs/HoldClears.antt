@@ -3,7 +3,7 @@ use Rattle.core_locks.proofs.Prelude.{◌≡◌, ◌≢◌, ◌⊎◌, ℕ, ◌+
 use Rattle.std.proofs.lemmas.List.{get_or-set_same, get_or-set_other}
 use Rattle.core_locks.proofs.ByThread.{RecordsOf, RecursionsOf}
 use Rattle.core_locks.proofs.HoldCounts.{index_past, named_clear, times_clear, again_clear, hold_tells}
-use Rattle.core_locks.proofs.HoldPuts.{next_one}
+use Rattle.core_locks.proofs.HoldSets.{next_one}
 use Rattle.core_locks.proofs.Steps.{IsPlain}
 
 -- who has the lock still has it where another has a hold word less

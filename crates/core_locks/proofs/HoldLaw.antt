@@ -5,8 +5,7 @@ use Rattle.core_locks.proofs.WaitOut.{out_unwaiting, out_uncalled}
 use Rattle.std.proofs.lemmas.List.{get_or-set_same, length-set}
 use Rattle.std.proofs.Math.Bool.{and-false, and-true}
 use Rattle.core_locks.proofs.HoldCounts.{again_put}
-use Rattle.core_locks.proofs.HoldPuts.{biased_leans}
-use Rattle.core_locks.proofs.HoldSets.{IsPut, hold_back, hold_forth, named_new, times_new, word_own, word_held, word_else, holder_told}
+use Rattle.core_locks.proofs.HoldSets.{biased_leans, IsPut, hold_back, hold_forth, named_new, times_new, word_own, word_held, word_else, holder_told}
 use Rattle.core_locks.proofs.HoldWays.{Way, BySeizing, ByHolding, Leaned, ByGrabbing, ByRaising, ByLeaning, at_stage, way_bears, way_of}
 use Rattle.core_locks.proofs.Clauses.{kept_parts, parts_stand, seen, forms, holds, owners, biases, records, recursions, hashes, AllHold}
 use Rattle.core_locks.proofs.Steps.{holding, IsPlain, plain_by, IsStep, next, step_fits, seen_next, plain_step, stage_back, calls_stay, inflates_stay}

@@ -1,9 +1,36 @@
 -- The hold words of a thread once it has stored one in its place p: that of o at depth d in an empty place, or none.
-use Rattle.core_locks.proofs.Prelude.{◌≡◌, ◌≢◌, ◌⊎◌, ℕ, ◌+◌, ◌<◌, ◌≤◌, ◌^◌, ◌==◌, ◌&&◌, nat_lt, eq-eqb, ne_eqb, Bool, true, false, cond, List, length, slice_index, slice_set, Some, refl, sym, ap, ◌∙◌, arith, inl, inr, nat_tests, read_hold, Name, Hold, hold_word, one_if, with_word, Known, with_known, Lock, holder, hold_count, depth_count, Shape, IsHold, by_equal, each_with_known, with_known_here, hold_some}
+use Rattle.core_locks.proofs.Prelude.{◌≡◌, ◌≢◌, ◌⊎◌, ℕ, ◌+◌, ◌<◌, ◌≤◌, ◌^◌, ◌==◌, ◌&&◌, nat_lt, eq-eqb, ne_eqb, Bool, true, false, cond, List, length, slice_index, slice_set, Some, refl, sym, ap, ◌∙◌, arith, inl, inr, nat_tests, read_hold, Name, Hold, hold_word, one_if, with_word, Known, with_known, Lock, holder, hold_count, depth_count, Shape, IsHold, by_equal, each_with_known, with_known_here, hold_some, Option, None, same_Some, MarkForm, Biased, Anonymous, is_biased_form, epoch_in, Inflation, Open, BiasedTo, lock_form, has_epoch}
 use Rattle.std.proofs.lemmas.List.{get_or-set_same, get_or-set_other}
 use Rattle.std.proofs.Math.Bool.{and-false}
 use Rattle.core_locks.proofs.HoldCounts.{named_put, times_put, hold_tells}
-use Rattle.core_locks.proofs.HoldPuts.{holder_more, next_one}
+
+-- who has the lock still has it with one hold word more
+pub holder_more : (f : Lock) (c e : ℕ → ℕ) (t : ℕ) → holder f c ≡ Some t → e t ≢ 0 → holder f e ≡ Some t
+holder_more (BiasedTo z) c e t h d = cases (c z == 0) h
+  where
+    cases : (b : Bool) → cond b None (Some z) ≡ Some t → cond (e z == 0) None (Some z) ≡ Some t
+    cases true g = absurd (cc g)
+    cases false g = let s : z ≡ t = same_Some _ _ g in ap (λ (b : Bool). cond b None (Some z)) (ap (λ y. e y == 0) s ∙ ne_eqb (e t) 0 d) ∙ g
+holder_more _ c e t h d = h
+
+-- an object whose mark has the bias pattern, and of which t has the lock, leans on t
+pub biased_leans : (f : Option MarkForm) (prototype : ℕ) (owners : ℕ → ℕ) (j : Option Inflation) (c : ℕ → ℕ) (t : ℕ) → is_biased_form f ≡ true
+    → holder (lock_form f prototype owners j) c ≡ Some t → lock_form f prototype owners j ≡ BiasedTo t
+biased_leans (Some (Anonymous epoch age)) prototype owners j c t e h = absurd (cc h)
+biased_leans (Some (Biased z epoch age)) prototype owners j c t e h = cases (has_epoch (epoch_in prototype) epoch) h
+  where
+    inner : (b : Bool) → cond b None (Some z) ≡ Some t → BiasedTo z ≡ BiasedTo t
+    inner true g = absurd (cc g)
+    inner false g = ap BiasedTo (same_Some _ _ g)
+
+    cases : (b : Bool) → holder (cond b (BiasedTo z) Open) c ≡ Some t → cond b (BiasedTo z) Open ≡ BiasedTo t
+    cases true g = inner (c z == 0) g
+    cases false g = absurd (cc g)
+biased_leans _ prototype owners j c t e h = absurd (cc e)
+
+-- the depths up to n, and the next
+pub next_one : (e n : ℕ) → one_if (nat_lt e n) + one_if (n + 1 == e + 1) ≡ one_if (nat_lt e (n + 1))
+next_one e n = grind (arith, nat_tests)
 
 -- the place is empty, and the object and the depth can be spelled
 pub record IsPut (old : List ℕ) (o d p : ℕ) : Type 0 where

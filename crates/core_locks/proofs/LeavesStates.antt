@@ -11,9 +11,8 @@ pub record IsLeaving (w : World) (P : List PlainObject) (o m t : ℕ) : Type 0 w
   pub runs : (w.known t).running ≡ true
   pub calm : (w.known t).stage ≡ Calm
   pub out : IsOut (w.known t)
-  -- it is the plain owner, with as many holds as it has hold words
+  -- it is the plain owner
   pub owner : owner_at P o t ≡ true
-  pub count : hold_count o (w.known t).holds ≡ (monitor_of P o).count
   -- and has the lock through the monitor, whose recursions it has saved
   pub inflated : monitor_in (marks w o) ≡ Some m
   pub thread_owns : lock w o ≡ OwnedBy t
