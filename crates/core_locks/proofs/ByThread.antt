@@ -32,7 +32,8 @@ pub recursions_at : {mark recursions : ℕ → ℕ} {lock : ℕ → Lock} {holds
     {waits called : ℕ → List (ℕ × ℕ)} → RecursionsFit mark recursions lock holds stage saved displaced waits called → (u : ℕ)
     → RecursionsOf mark recursions lock u (holds u) (stage u) (saved u) (displaced u) waits called
 recursions_at h u =
-    record { first = λ o. h.first o u; others = λ o. h.others o u; owned = λ o m. h.owned o m u; waiting = λ o. h.waiting o u; thread_owns = λ o. h.thread_owns o u }
+    let owned = λ (o m : ℕ). h.owned o m u in
+    record { first = λ o. h.first o u; others = λ o. h.others o u; owned = owned; waiting = λ o. h.waiting o u; thread_owns = λ o. h.thread_owns o u }
 
 module _ (t : ℕ) (l : Known) (f : ℕ → Known) where
   -- the others may come to stand otherwise by another reckoning of the same number
@@ -64,7 +65,8 @@ module _ (t : ℕ) (l : Known) (f : ℕ → Known) where
       record { first = λ o u. (at u).first o; others = λ o u. (at u).others o; owned = λ o m u. (at u).owned o m; waiting = λ o u. (at u).waiting o; thread_owns = λ o u. (at u).thread_owns o; on_record = h.on_record; free = h.free }
 
   pub biases_told : {mark : ℕ → ℕ} {lock : ℕ → Lock} {hash : ℕ → ℕ} {waits called : ℕ → List (ℕ × ℕ)}
-      → ((o : ℕ) → is_biased (mark o) ≡ true → (lock o ≡ BiasedTo t → ⊥) → hold_count o l.holds ≡ 0) → BiasedAreFree mark lock (λ u. (f u).holds) hash waits called
+      → ((o : ℕ) → is_biased (mark o) ≡ true → (lock o ≡ BiasedTo t → ⊥) → hold_count o l.holds ≡ 0)
+      → BiasedAreFree mark lock (λ u. (f u).holds) hash waits called
       → BiasedAreFree mark lock (λ u. (with_known t l f u).holds) hash waits called
   biases_told {lock = lock} mine h =
       record {
@@ -74,7 +76,8 @@ module _ (t : ℕ) (l : Known) (f : ℕ → Known) where
       }
 
   pub hashes_told : {mark : ℕ → ℕ} {lock : ℕ → Lock} {header : ℕ → Option ℕ} {displaced : ℕ → ℕ → ℕ} {hash : ℕ → ℕ}
-      → ((o p : ℕ) → slice_index l.holds p ≡ hold_word o 1 → is_biased (mark o) ≡ false → is_neutral (displaced t p) ≡ true → (hash_in (displaced t p) ≡ 0) ⊎ (hash_in (displaced t p) ≡ hash o))
+      → ((o p : ℕ) → slice_index l.holds p ≡ hold_word o 1 → is_biased (mark o) ≡ false → is_neutral (displaced t p) ≡ true
+      → (hash_in (displaced t p) ≡ 0) ⊎ (hash_in (displaced t p) ≡ hash o))
       → HashesFit mark lock header (λ u. (f u).holds) displaced hash → HashesFit mark lock header (λ u. (with_known t l f u).holds) displaced hash
   hashes_told {mark} {displaced = displaced} {hash = hash} mine h =
       record {

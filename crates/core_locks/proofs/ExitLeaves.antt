@@ -135,7 +135,8 @@ module _ (w : World) (P : List PlainObject) (t o d p : ℕ) (within : t < w.shap
           let word = behind_three f.1.0 f.1.1 f.0 f.1.2 f.1.3 f.1.4 f.1.5 in
           let deep = behind_deep f.1.0 f.1.1 f.0 f.1.2 f.1.3 f.1.4 f.1.5 in
           let more : nat_lt 1 d ≡ true = grind (arith, nat_tests, deep) in
-          ap (λ n. one_if (((o == i) && nat_lt 1 d) && (n == 3))) word ∙ ap (λ b. one_if (((o == i) && b) && true)) more ∙ ap one_if (and-true ((o == i) && true) ∙ and-true (o == i)) ∙ sym (ap (λ s. recursions_behind s i) f.0)
+          ap (λ n. one_if (((o == i) && nat_lt 1 d) && (n == 3))) word ∙ ap (λ b. one_if (((o == i) && b) && true)) more
+          ∙ ap one_if (and-true ((o == i) && true) ∙ and-true (o == i)) ∙ sym (ap (λ s. recursions_behind s i) f.0)
       | inr f ↦
           by_equal o i
           (λ s. let same : BiasedTo t ≡ OwnedBy t = sym (leans f.1) ∙ ap (lock w) s ∙ has in absurd (cc same))

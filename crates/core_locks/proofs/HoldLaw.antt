@@ -78,7 +78,8 @@ module _ (w : World) (P : List PlainObject) (t : ℕ) (e : Purpose) (o d p : ℕ
       (λ n. ap (λ (b : Bool). one_if ((b && nat_lt 1 d) && (displaced_words w t p == 3))) (ne_eqb o i n) ∙ (elim a.stage [ inl b ↦ sym (ap (λ s. recursions_ahead s i) b) | inr b ↦ sym (ap (λ s. recursions_ahead s i) b) ]))
   counted_before i g (ByRaising a) =
       let deep : nat_lt 1 d ≡ true = (let n = further_depth a.some in grind (arith, nat_tests)) in
-      ap (λ n. one_if (((o == i) && nat_lt 1 d) && (n == 3))) a.three ∙ ap (λ (b : Bool). one_if (((o == i) && b) && true)) deep ∙ ap one_if (and-true ((o == i) && true) ∙ and-true (o == i)) ∙ sym (ap (λ s. recursions_ahead s i) a.stage)
+      ap (λ n. one_if (((o == i) && nat_lt 1 d) && (n == 3))) a.three ∙ ap (λ (b : Bool). one_if (((o == i) && b) && true)) deep
+      ∙ ap one_if (and-true ((o == i) && true) ∙ and-true (o == i)) ∙ sym (ap (λ s. recursions_ahead s i) a.stage)
 
   -- so with its record the thread is ahead no more, where it has the lock through the monitor
   again_new : (i : ℕ) → lock w i ≡ OwnedBy t → recursion_count i (displaced_words w t) new ≡ recursion_count i (displaced_words w t) old + recursions_ahead (w.known t).stage i
@@ -258,7 +259,8 @@ module _ (w : World) (P : List PlainObject) (t : ℕ) (e : Purpose) (o d p : ℕ
     thread_owns = λ i h. absurd (cc h);
   }) v.recursions
   all_after hashes = hashes_told t l w.known
-      (λ i q h b n. elim (hold_back old o d p put q i 1 (omega arith) h) [ inl a ↦ new_header i q a.0 a.1 a.2 b n way | inr a ↦ v.hashes.records i t q a b n ]) v.hashes
+      (λ i q h b n. elim (hold_back old o d p put q i 1 (omega arith) h)
+          [ inl a ↦ new_header i q a.0 a.1 a.2 b n way | inr a ↦ v.hashes.records i t q a b n ]) v.hashes
   all_after c = plain_step step P may.goes_on plain_before plain_now may.runs v c
 
   stored_fits : Fits (world_after plan t w) P

@@ -92,12 +92,15 @@ module _ (w : World) (o m t : ℕ) (l : Known) where
 
     -- the lock of the object is this one now, and each other lock is as before
     pub lock_at : (f : Lock) → lock_form (read_mark m) (prototype_of w o) (owner_words w) (inflations w o) ≡ f → (i : ℕ) → ((i ≡ o) × (lock x i ≡ f)) ⊎ ((i ≢ o) × (lock x i ≡ lock w i))
-    lock_at f e i = by_equal i o (λ a. inl (a, ap (lock x) a ∙ (λ j. lock_form (read_mark (mark_here j)) (prototype_of w o) (owner_words w) (sym inflation j o)) ∙ e)) (λ d. inr (d, lock_else i d))
+    lock_at f e i = by_equal i o
+        (λ a. inl (a, ap (lock x) a ∙ (λ j. lock_form (read_mark (mark_here j)) (prototype_of w o) (owner_words w) (sym inflation j o)) ∙ e))
+        (λ d. inr (d, lock_else i d))
 
     -- all headers stay, where the new mark means the header that the old one meant
     pub header_same : header_form (read_mark m) m (displaced_words w) (headers w) (inflations w o) ≡ header w o → header w ≡ header x
     header_same e = λ j. λ i. sym (by_equal i o
-        (λ a. ap (header x) a ∙ (λ j. header_form (read_mark (mark_here j)) (mark_here j) (displaced_words w) (headers w) (sym inflation j o)) ∙ e ∙ ap (header w) (sym a))
+        (λ a. ap (header x) a ∙ (λ j. header_form (read_mark (mark_here j)) (mark_here j) (displaced_words w) (headers w) (sym inflation j o)) ∙ e
+            ∙ ap (header w) (sym a))
         (λ d. λ j. header_form (read_mark (mark_else i d j)) (mark_else i d j) (displaced_words w) (headers w) (sym inflation j i))) j
 
   -- what thread u, which knew k and knows y, may count on after the step it could count on before; so it is with the thread that makes
@@ -105,7 +108,8 @@ module _ (w : World) (o m t : ℕ) (l : Known) where
   pub mark_back : (k y : Known) (owner next : ℕ → ℕ → Bool) (u : ℕ) → ((i a : ℕ) → monitor_in (marks x i) ≡ Some a → monitor_in (marks w i) ≡ Some a)
       → y.running ≡ k.running → y.requesting ≡ k.requesting → inflation_in y.stage ≡ inflation_in k.stage → (revocation_in y.stage ≡ None → revocation_in k.stage ≡ None) → y.kept ≡ k.kept → ((i : ℕ) → next i u ≡ true → owner i u ≡ true)
       → ((i a : ℕ) → monitor_in (marks x i) ≡ Some a → (next i u || bears y.stage i) ≡ true → (owner i u || bears k.stage i) ≡ true) → Back w x k y owner next u
-  mark_back k y owner next u names run ask inflates none_revokes kept owned held = search (sym run, sym ask, sym inflates, sym kept, none_revokes, names, owned, held)
+  mark_back k y owner next u names run ask inflates none_revokes kept owned held =
+      search (sym run, sym ask, sym inflates, sym kept, none_revokes, names, owned, held)
 
   -- No other thread counts on the old mark: it names no monitor, has no bias pattern and isn't 0. The new one may be 0.
   pub mark_spares : (owner next : ℕ → ℕ → Bool) (waiters next_waiters : ℕ → List (ℕ × ℕ)) → IsBare (marks w o) → marks w o ≢ 0 → IsBare m

@@ -23,7 +23,8 @@ pub record Changes (w : World) (P : List PlainObject) (t : ℕ) (e : Purpose) (a
   -- an act that changes the word tells its thread what the word says of it
   pub told : (runs_after Safepoint act (word_after act (w.words Safepoint)) (w.known t) ≡ runs_in (word_after act (w.words Safepoint)) (w.known t).thread)
       × (asks_after Safepoint act (word_after act (w.words Safepoint)) (w.known t) ≡ asks_in (word_after act (w.words Safepoint)) (w.known t).thread)
-      × (reached_after Safepoint act (word_after act (w.words Safepoint)) (w.known t) ≡ ((w.known t).reached && asks_in (word_after act (w.words Safepoint)) (w.known t).thread))
+      × (reached_after Safepoint act (word_after act (w.words Safepoint)) (w.known t)
+      ≡ ((w.known t).reached && asks_in (word_after act (w.words Safepoint)) (w.known t).thread))
   pub calm : (w.known t).stage ≡ Calm
   pub goes_on : GoesOn (w.known t) e
   pub was : read_safe (w.words Safepoint) ≡ Some f

@@ -160,7 +160,8 @@ module _ (w : World) (P : List PlainObject) (t : ℕ) (e : Purpose) (o mark p : 
         let place : p ≡ q = cc s in
         let lock_is : lock x o ≡ OnRecord t p = elim (lock_now o) [ inl a ↦ a.1 | inr a ↦ absurd (a.0 refl) ] in
         let at : (lock x o ≡ OnRecord t p) × (slice_index (w.known t).holds p ≡ 0) × (p < 64) × (hold_count o (w.known t).holds ≡ 0) = (lock_is, may.free.empty, may.free.place, unheld) in
-        subst (λ (z : ℕ × ℕ). (lock x z.0 ≡ OnRecord t z.1) × (slice_index (w.known t).holds z.1 ≡ 0) × (z.1 < 64) × (hold_count z.0 (w.known t).holds ≡ 0)) (λ j. (object j, place j)) at)
+        subst (λ (z : ℕ × ℕ). (lock x z.0 ≡ OnRecord t z.1) × (slice_index (w.known t).holds z.1 ≡ 0) × (z.1 < 64) × (hold_count z.0 (w.known t).holds ≡ 0))
+        (λ j. (object j, place j)) at)
         (λ d s. let b = v.records.seized i u q s in (lock_forth i (OnRecord u q) b.0 (λ c. cc c), b.1, b.2, b.3));
     grabbed = λ i u s. let b = v.records.grabbed i u (stage_back step (Grabs i) u (λ c. cc c) s).1 in (lock_forth i (OwnedBy u) b.0 (λ c. cc c), b.1);
   }
