@@ -15,7 +15,7 @@ use Rattle.core_locks.proofs.Clauses.{parts_of, seen, forms, quiet, holds, owner
 use Rattle.core_locks.proofs.EvenSteps.{IsEven, even_by, bears_stay, held_even}
 use Rattle.core_locks.proofs.LoggedSteps.{logged_step}
 use Rattle.core_locks.proofs.LastExit.{freed, freed_stamps}
-use Rattle.core_locks.proofs.OwnSeen.{seen_as}
+use Rattle.core_locks.proofs.OwnSeen.{hold_uncounted, seen_as}
 use Rattle.core_locks.proofs.Steps.{leaving, IsStep, next, stepped, step_fits, holds_next, quiet_next, stage_back, inflates_stay, waits_move}
 use Rattle.core_locks.proofs.Tells.{unlisted, waits_logged}
 use Rattle.core_locks.proofs.ExitLeaves.{leaves_even, leaves_inflates, leaves_ahead, leaves_few, leaves_some, leaves_owned, leaves_deep, leaves_counted}
@@ -170,16 +170,11 @@ module _ (w : World) (P : List PlainObject) (t : ℕ) (e : Purpose) (o d p : ℕ
       (omega (arith, v.holds.number t o, before.alone o, named_less old o d p full o, ap one_if (eq-eqb o o refl), is.here))
       (λ i n. omega (arith, v.holds.number t i, before.alone i, named_less old o d p full i, ap one_if (ne_eqb o i (λ q. n (sym q)))))
 
-  -- nobody else counts on its hold words, and each owner owned its object before
-  uncounted : (u s : ℕ) → u ≢ t → Stays w (w.known u) (owner_at P) u (Hold t p) s → w.words (Hold t p) ≡ s → ⊥
-  uncounted u s n (inl a) is = n (sym a.1)
-  uncounted u s n (inr a) is = a.2
-
   seen_law : SeenStays x (owner_at Q) (waits_at P)
   seen_law =
       let inflates : inflation_in l.stage ≡ inflation_in (w.known t).stage = sym (leaves_inflates w P t o d p within may v) in
       let held : (i : ℕ) → (owner_at P i t || bears l.stage i) ≡ true → (owner_at P i t || bears (w.known t).stage i) ≡ true = λ i. held_even step before now (owner_at P) i 0 in
-      seen_as w P t plan (search (may.runs, inflates, held, uncounted)) (owner_at Q) (owner_before P o less inside is.fewer) (waits_at P) (λ i a. a) v
+      seen_as w P t plan (search (may.runs, inflates, held, hold_uncounted w P t p)) (owner_at Q) (owner_before P o less inside is.fewer) (waits_at P) (λ i a. a) v
 
   -- THE CLAUSES, where those stamps fit
   module _ (stamped : StampsFit (logs_from 0 w.shape.threads (with_known t l w.known)) (λ u. (with_known t l w.known u).log) (λ i. w.words (Stamp i)) (λ i. (monitor_of (objects_where P o less) i).owner) (λ u. (with_known t l w.known u).unfinished)) where

@@ -8,7 +8,7 @@ use Rattle.core_locks.proofs.HoldSets.{word_own, word_else, word_held, holder_to
 use Rattle.core_locks.proofs.ByThread.{biases_told, hashes_told, holds_told, records_told, records_at, recursions_told, recursions_at}
 use Rattle.core_locks.proofs.Clauses.{kept_parts, parts_stand, seen, forms, holds, owners, biases, records, recursions, hashes, AllHold}
 use Rattle.core_locks.proofs.Steps.{stage_part, stage_back, holding, IsPlain, plain_by, IsStep, next, step_fits, seen_next, plain_step, calls_stay, inflates_stay}
-use Rattle.core_locks.proofs.OwnSeen.{own_seen}
+use Rattle.core_locks.proofs.OwnSeen.{hold_uncounted, own_seen}
 
 module _ (w : World) (P : List PlainObject) (t : ℕ) (e : Purpose) (o p : ℕ) (within : t < w.shape.threads) (may : MayClear (w.known t) e o p) (v : Fits w P) where
   abbrev l : Known
@@ -62,14 +62,11 @@ module _ (w : World) (P : List PlainObject) (t : ℕ) (e : Purpose) (o p : ℕ) 
   held : (i : ℕ) → (owner_at P i t || bears (Calm) i) ≡ true → (owner_at P i t || bears (w.known t).stage i) ≡ true
   held i h = ap (λ (b : Bool). owner_at P i t || b) (ap (λ s. bears s i) may.stage) ∙ h
 
-  uncounted : (u s : ℕ) → u ≢ t → Stays w (w.known u) (owner_at P) u (Hold t p) s → w.words (Hold t p) ≡ s → ⊥
-  uncounted u s d stays is = elim stays [ inl a ↦ d (sym a.1) | inr a ↦ a.2 ]
-
   abbrev x : World
   x = next w t l holding (with_word (Hold t p) 0 w.words)
 
   all_after : AllHold (kept_parts w x P)
-  all_after seen = seen_next step x.words P (own_seen w P t (store e (Hold t p) 0) (search (may.runs, sym (ap inflation_in may.stage), held, uncounted)) v)
+  all_after seen = seen_next step x.words P (own_seen w P t (store e (Hold t p) 0) (search (may.runs, sym (ap inflation_in may.stage), held, hold_uncounted w P t p)) v)
   all_after forms = search (word_held w.words t p 0 w.shape (subst (IsHold w.shape) (sym hold_zero) tt) v.forms.holds, v.forms)
   all_after holds = holds_told t l w.known hold_words_ahead (word_else w.words t p 0) (λ u i d. refl) (record {
     stored = word_own w.words t p 0 old (inside old o 1 p full) (v.holds.stored t);

@@ -10,7 +10,7 @@ use Rattle.core_locks.proofs.HoldWays.{Way, BySeizing, ByHolding, Leaned, ByGrab
 use Rattle.core_locks.proofs.Clauses.{kept_parts, parts_stand, seen, forms, holds, owners, biases, records, recursions, hashes, AllHold}
 use Rattle.core_locks.proofs.Steps.{holding, IsPlain, plain_by, IsStep, next, step_fits, seen_next, plain_step, stage_back, calls_stay, inflates_stay}
 use Rattle.core_locks.proofs.ByThread.{biases_told, hashes_told, holds_told, records_told, recursions_told}
-use Rattle.core_locks.proofs.OwnSeen.{own_seen}
+use Rattle.core_locks.proofs.OwnSeen.{hold_uncounted, own_seen}
 
 -- the displaced word 3 is no header
 three_unneutral : is_neutral 3 ≡ false
@@ -217,9 +217,6 @@ module _ (w : World) (P : List PlainObject) (t : ℕ) (e : Purpose) (o d p : ℕ
   word_form : IsHold w.shape (read_hold (hold_word o d))
   word_form = subst (IsHold w.shape) (sym (read_hold-hold_of (Holds o d) (put.few, put.some, put.small))) may.object
 
-  uncounted : (u s : ℕ) → u ≢ t → Stays w (w.known u) (owner_at P) u (Hold t p) s → w.words (Hold t p) ≡ s → ⊥
-  uncounted u s d stays is = elim stays [ inl a ↦ d (sym a.1) | inr a ↦ a.2 ]
-
   step : IsStep w t l holding
   step = record { within = within; mine = refl; others = λ k. refl }
 
@@ -227,7 +224,7 @@ module _ (w : World) (P : List PlainObject) (t : ℕ) (e : Purpose) (o d p : ℕ
   x = next w t l holding (with_word (Hold t p) (hold_word o d) w.words)
 
   all_after : AllHold (kept_parts w x P)
-  all_after seen = seen_next step x.words P (own_seen w P t plan (search (may.runs, inflates, held, uncounted)) v)
+  all_after seen = seen_next step x.words P (own_seen w P t plan (search (may.runs, inflates, held, hold_uncounted w P t p)) v)
   all_after forms = search (word_held w.words t p (hold_word o d) w.shape word_form v.forms.holds, v.forms)
   all_after holds = holds_told t l w.known hold_words_ahead (word_else w.words t p (hold_word o d)) (λ u i d. refl) (record {
     stored = word_own w.words t p (hold_word o d) old put.within (v.holds.stored t);

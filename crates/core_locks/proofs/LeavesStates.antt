@@ -2,6 +2,7 @@
 use Rattle.core_locks.proofs.Prelude.{◌≡◌, ℕ, ◌+◌, ◌<◌, ◌≤◌, ◌||◌, true, List, length, Some, sym, ap, ◌∙◌, arith, inl, inr, read_mark, read_owner, owner_of, wait_of, ByThread, read_owner-owner_of, PlainObject, last_stamp, Mark, Stamp, Owner, Recursions, Calm, monitor_in, bears, recursions_ahead, recursions_behind, Known, World, OwnedBy, lock, lock_form, marks, displaced_words, owner_words, prototype_of, inflations, hold_count, recursion_count, monitor_of, owner_at, owner_lock, IsOwnMonitor, Purpose, Fits, IsUnfinished, log_limit, inflated_form, IsOut, MayWait}
 use Rattle.mark_word.specs.declared.wait.WaitForm.TheVariants as wait
 use Rattle.core_world.specs.declared.task.Op.TheVariants as op
+use Rattle.core_locks.proofs.HoldWays.{saw_thread_owns}
 use Rattle.core_locks.proofs.WaitOut.{holder_owns, ready_is_out}
 
 -- Thread t holds o, whose monitor is m, and is ready to wait there.
@@ -37,14 +38,9 @@ module _ (w : World) (P : List PlainObject) (t : ℕ) (e : Purpose) (o m stamp :
   mark_is : monitor_in (marks w o) ≡ Some m
   mark_is = let a = may.inflated in ap monitor_in (v.seen.stays t (Mark o) a.0 a.1 (inl (may.runs, inr (inl (m, a.2))))) ∙ a.2
 
-  -- the owner word and the recursions, since it is the monitor of an object that the thread owns
+  -- the recursions, since it is the monitor of an object that the thread owns
   own : IsOwnMonitor w (w.known t) (owner_at P) t m
   own = (o, mark_is, ap (λ b. b || bears (w.known t).stage o) owns.0)
-
-  owner_is : read_owner (owner_words w m) ≡ Some (ByThread t)
-  owner_is =
-      let small : t < 32 = let a = v.limits.threads in omega (arith, a, within) in
-      ap read_owner (v.seen.stays t (Owner m) _ may.owner (inl (may.runs, inr own)) ∙ ap (λ u. owner_of (ByThread u)) (v.numbered t)) ∙ read_owner-owner_of (ByThread t) small
 
   recursions_are : w.words (Recursions m) ≡ (w.known t).saved
   recursions_are = v.seen.stays t (Recursions m) (w.known t).saved may.recursions (inl (may.runs, inr own))
@@ -54,9 +50,7 @@ module _ (w : World) (P : List PlainObject) (t : ℕ) (e : Purpose) (o m stamp :
   stamp_is = v.seen.stays t (Stamp o) stamp may.stamped (inl (may.runs, owns.0))
 
   thread_owns : lock w o ≡ OwnedBy t
-  thread_owns =
-      ap (λ f. lock_form f (prototype_of w o) (owner_words w) (inflations w o)) (inflated_form (read_mark (marks w o)) m mark_is)
-      ∙ ap owner_lock owner_is
+  thread_owns = saw_thread_owns w P t o may.runs v m (omega (arith, within, v.limits.threads)) owns.0 may.inflated may.owner
 
   saved : (w.known t).saved ≡ recursion_count o (displaced_words w t) (w.known t).holds
   saved =

@@ -1,5 +1,5 @@
 -- What the threads have seen stays when a running thread makes a step on a word on which no other counts, with the same marks and plain objects.
-use Rattle.core_locks.proofs.Prelude.{◌≡◌, ◌≢◌, ℕ, ◌||◌, Bool, true, false, List, [], ◌∷◌, Option, Some, None, refl, sym, ap, ◌∙◌, inl, inr, PlainObject, Mark, Waiting, StepPlan, is_biased, monitor_in, waits_on, inflation_in, bears, revocation_in, word_after, same_name, its_monitor, Known, World, with_word_and_known, marks, prototype_of, owner_at, waits_at, Stays, IsKeptOrNamed, SeenStays, known_hit, seen_before, Fits, SeenFit, seen_is_part, stays_back, Back, Spares, seen_moves, counts_more, hits, world_after, known_miss, subst, cond, Name}
+use Rattle.core_locks.proofs.Prelude.{◌≡◌, ◌≢◌, ℕ, ◌||◌, Bool, true, false, List, [], ◌∷◌, Option, Some, None, refl, sym, ap, ◌∙◌, inl, inr, PlainObject, Mark, Waiting, StepPlan, is_biased, monitor_in, waits_on, inflation_in, bears, revocation_in, word_after, same_name, its_monitor, Known, World, with_word_and_known, marks, prototype_of, owner_at, waits_at, Stays, IsKeptOrNamed, SeenStays, known_hit, seen_before, Fits, SeenFit, seen_is_part, stays_back, Back, Spares, seen_moves, counts_more, hits, world_after, known_miss, subst, cond, Name, Length, Hold}
 use Rattle.std.proofs.Math.Bool.{or-true}
 use Rattle.std.specs.Prelude.{IfSome}
 use Rattle.core_locks.proofs.Steps.{none_reached}
@@ -35,6 +35,13 @@ pub record OnOwn (w : World) (P : List PlainObject) (t : ℕ) (p : StepPlan) : T
   pub waits : (u o : ℕ) → waits_on (w.words (Waiting u)) o ≡ false → waits_on ((hit_world w t p).words (Waiting u)) o ≡ false
   -- no other thread counts on the word as it is
   pub uncounted : (u s : ℕ) → u ≢ t → Stays w (w.known u) (owner_at P) u p.at s → w.words p.at ≡ s → ⊥
+
+-- nobody counts on a length, and no other thread on a hold word
+pub length_uncounted : (w : World) (P : List PlainObject) (t u s : ℕ) → u ≢ t → Stays w (w.known u) (owner_at P) u (Length t) s → w.words (Length t) ≡ s → ⊥
+length_uncounted w P t u s d stays is = elim stays [ inl a ↦ a.1 | inr a ↦ a.2 ]
+
+pub hold_uncounted : (w : World) (P : List PlainObject) (t p u s : ℕ) → u ≢ t → Stays w (w.known u) (owner_at P) u (Hold t p) s → w.words (Hold t p) ≡ s → ⊥
+hold_uncounted w P t p u s d stays is = elim stays [ inl a ↦ d (sym a.1) | inr a ↦ a.2 ]
 
 -- one of two tests, where the first implies another
 pub either : (a b c : Bool) → (a ≡ true → c ≡ true) → (a || b) ≡ true → (c || b) ≡ true

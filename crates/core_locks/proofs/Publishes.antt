@@ -6,7 +6,7 @@ use Rattle.core_locks.proofs.TellNobody.{nobody_waits}
 use Rattle.core_locks.proofs.TellTaken.{IsFreeToTell, IsTaken, owns_held, object_there, unbound_taken, owner_taken}
 use Rattle.core_locks.proofs.Tells.{IsTelling, tells_so, still_parts, still_are, told_step}
 use Rattle.core_locks.proofs.Clauses.{seen, lengths, AllHold}
-use Rattle.core_locks.proofs.OwnSeen.{own_seen}
+use Rattle.core_locks.proofs.OwnSeen.{length_uncounted, own_seen}
 use Rattle.core_locks.proofs.Steps.{announcing, IsStep, next, each_written, step_fits, seen_next, lengths_next}
 use Rattle.core_locks.proofs.Drawing.{draws_counted, draws_still}
 use Rattle.core_locks.proofs.Updates.{slots_stay}
@@ -78,11 +78,6 @@ module _ (w : World) (P : List PlainObject) (t : ℕ) (e : Purpose) (y : Entry) 
   abbrev x : World
   x = world_after plan t w
 
-  -- nobody counts on a length
-  uncounted : (u s : ℕ) → u ≢ t → Stays w (w.known u) (owner_at P) u (Length t) s → w.words (Length t) ≡ s → ⊥
-  uncounted u s d (inl a) is = a.1
-  uncounted u s d (inr a) is = a.2
-
   step : IsStep w t l announcing
   step = record { within = within; mine = refl; others = λ k. refl }
 
@@ -98,7 +93,7 @@ module _ (w : World) (P : List PlainObject) (t : ℕ) (e : Purpose) (y : Entry) 
   all_after : AllHold (still_parts step tells x.words)
   all_after seen =
       let kept = ap (λ c. record { plan = plan; found = w.words (Length t) } ∷ cond c [] (seen_before w.shape (w.known t))) b.untaking in
-      seen_next step x.words P (own_seen w P t plan (search (free.runs, kept, uncounted)) v)
+      seen_next step x.words P (own_seen w P t plan (search (free.runs, kept, length_uncounted w P t)) v)
   -- each length word is as its thread published it
   all_after lengths = record {
     few = (lengths_next step P (length_more (w.known t).log told_entry) free.room free.runs v).few;
