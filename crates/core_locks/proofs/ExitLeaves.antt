@@ -6,7 +6,7 @@ use Rattle.core_locks.specs.LockLaws.{HasRaised}
 use Rattle.std.proofs.Math.Bool.{and-false, and-true}
 use Rattle.core_locks.proofs.HoldCounts.{hold_in_form}
 use Rattle.core_locks.proofs.WaitOut.{ready_is_out, even_holder_owns}
-use Rattle.core_locks.proofs.HoldWays.{saw_thread_owns}
+use Rattle.core_locks.proofs.HoldWays.{saw_inflated, saw_thread_owns}
 use Rattle.core_locks.proofs.ExitEntries.{own_displaced}
 use Rattle.core_locks.proofs.EvenSteps.{IsEven, even_by}
 
@@ -64,16 +64,13 @@ module _ (w : World) (P : List PlainObject) (t o d p : ℕ) (within : t < w.shap
   -- the second way, in which the thread has lowered the recursions
   module _ (m h : ℕ) (stage : (w.known t).stage ≡ Behind o) (inflated : SawInflated (w.known t) o m) (own : SawOwn (w.known t) (w.known t).thread m)
       (seen : last_seen (Displaced (w.known t).thread p) (w.known t).seen ≡ Some h) (some : h ≢ 0) where
-    mark_names : monitor_in (marks w o) ≡ Some m
-    mark_names = ap monitor_in (v.seen.stays t (Mark o) inflated.0 inflated.1 (inl (may.runs, inr (inl (m, inflated.2))))) ∙ inflated.2
-
     thread_owns : lock w o ≡ OwnedBy t
     thread_owns = saw_thread_owns w P t o may.runs v m (omega (arith, within, v.limits.threads)) leaves_owned.0 inflated own
 
     -- the recursions and this hold are the records that were made through the monitor, so there is a deeper one
     behind_again : 1 ≤ recursion_count o (displaced_words w t) (w.known t).holds
     behind_again =
-        let owned = v.recursions.owned o m t mark_names thread_owns (leaves_even.plain.waits o) (leaves_even.plain.resumes o) in
+        let owned = v.recursions.owned o m t (saw_inflated w P t o may.runs v m inflated) thread_owns (leaves_even.plain.waits o) (leaves_even.plain.resumes o) in
         let one : recursions_behind (w.known t).stage o ≡ 1 = ap (λ s. recursions_behind s o) stage ∙ ap one_if (same_number o) in
         omega (arith, owned, one, leaves_ahead o)
 

@@ -66,7 +66,8 @@ module _ (w : World) (P : List PlainObject) (t : ℕ) (e : Purpose) (o p : ℕ) 
   x = next w t l holding (with_word (Hold t p) 0 w.words)
 
   all_after : AllHold (kept_parts w x P)
-  all_after seen = seen_next step x.words P (own_seen w P t (store e (Hold t p) 0) (search (may.runs, sym (ap inflation_in may.stage), held, hold_uncounted w P t p)) v)
+  all_after seen = let inflates = sym (ap inflation_in may.stage) in
+      seen_next step x.words P (own_seen w P t (store e (Hold t p) 0) (search (may.runs, inflates, held, hold_uncounted w P t p)) v)
   all_after forms = search (word_held w.words t p 0 w.shape (subst (IsHold w.shape) (sym hold_zero) tt) v.forms.holds, v.forms)
   all_after holds = holds_told t l w.known hold_words_ahead (word_else w.words t p 0) (λ u i d. refl) (record {
     stored = word_own w.words t p 0 old (inside old o 1 p full) (v.holds.stored t);

@@ -257,7 +257,7 @@ module _ (w : World) (P : List PlainObject) (t : ℕ) (e : Purpose) (o d p : ℕ
   }) v.recursions
   all_after hashes = hashes_told t l w.known
       (λ i q h b n. elim (hold_back old o d p put q i 1 (omega arith) h)
-          [ inl a ↦ new_header i q a.0 a.1 a.2 b n way | inr a ↦ v.hashes.records i t q a b n ]) v.hashes
+      [ inl a ↦ new_header i q a.0 a.1 a.2 b n way | inr a ↦ v.hashes.records i t q a b n ]) v.hashes
   all_after c = plain_step step P may.goes_on plain_before plain_now may.runs v c
 
   stored_fits : Fits (world_after plan t w) P

@@ -70,11 +70,14 @@ module _ (w : World) (P : List PlainObject) (t o : ℕ) (runs : (w.known t).runn
   pub saw_displaced : (p n : ℕ) → last_seen (Displaced (w.known t).thread p) (w.known t).seen ≡ Some n → displaced_words w t p ≡ n
   saw_displaced p n saw = v.seen.stays t (Displaced t p) n (subst (λ z. last_seen (Displaced z p) (w.known t).seen ≡ Some n) (v.numbered t) saw) (inl (runs, inl refl))
 
+  -- a mark that it saw inflated in this call names the monitor still
+  pub saw_inflated : (m : ℕ) → SawInflated (w.known t) o m → monitor_in (marks w o) ≡ Some m
+  saw_inflated m saw = ap monitor_in (v.seen.stays t (Mark o) saw.0 saw.1 (inl (runs, inr (inl (m, saw.2))))) ∙ saw.2
+
   -- an owner who saw in this call that it is the owner by the monitor is so
   pub saw_thread_owns : (m : ℕ) → t < 32 → owner_at P o t ≡ true → SawInflated (w.known t) o m → SawOwn (w.known t) (w.known t).thread m → lock w o ≡ OwnedBy t
   saw_thread_owns m small owner mark own =
-      let mark_now : marks w o ≡ mark.0 = v.seen.stays t (Mark o) mark.0 mark.1 (inl (runs, inr (inl (m, mark.2)))) in
-      let names : monitor_in (marks w o) ≡ Some m = ap monitor_in mark_now ∙ mark.2 in
+      let names : monitor_in (marks w o) ≡ Some m = saw_inflated m mark in
       let form : read_mark (marks w o) ≡ Some (Inflated m) = inflated_form (read_mark (marks w o)) m names in
       let saw : last_seen (Owner m) (w.known t).seen ≡ Some (owner_of (ByThread t)) = own ∙ ap (λ z. Some (owner_of (ByThread z))) (v.numbered t) in
       let owner_now : owner_words w m ≡ owner_of (ByThread t) =

@@ -2,7 +2,7 @@
 use Rattle.core_locks.proofs.Prelude.{◌≡◌, ℕ, ◌+◌, ◌<◌, ◌≤◌, ◌||◌, true, List, length, Some, sym, ap, ◌∙◌, arith, inl, inr, read_mark, read_owner, owner_of, wait_of, ByThread, read_owner-owner_of, PlainObject, last_stamp, Mark, Stamp, Owner, Recursions, Calm, monitor_in, bears, recursions_ahead, recursions_behind, Known, World, OwnedBy, lock, lock_form, marks, displaced_words, owner_words, prototype_of, inflations, hold_count, recursion_count, monitor_of, owner_at, owner_lock, IsOwnMonitor, Purpose, Fits, IsUnfinished, log_limit, inflated_form, IsOut, MayWait}
 use Rattle.mark_word.specs.declared.wait.WaitForm.TheVariants as wait
 use Rattle.core_world.specs.declared.task.Op.TheVariants as op
-use Rattle.core_locks.proofs.HoldWays.{saw_thread_owns}
+use Rattle.core_locks.proofs.HoldWays.{saw_inflated, saw_thread_owns}
 use Rattle.core_locks.proofs.WaitOut.{holder_owns, ready_is_out}
 
 -- Thread t holds o, whose monitor is m, and is ready to wait there.
@@ -36,7 +36,7 @@ module _ (w : World) (P : List PlainObject) (t : ℕ) (e : Purpose) (o m stamp :
 
   -- the words are as it saw them in this call: the mark, since it is inflated
   mark_is : monitor_in (marks w o) ≡ Some m
-  mark_is = let a = may.inflated in ap monitor_in (v.seen.stays t (Mark o) a.0 a.1 (inl (may.runs, inr (inl (m, a.2))))) ∙ a.2
+  mark_is = saw_inflated w P t o may.runs v m may.inflated
 
   -- the recursions, since it is the monitor of an object that the thread owns
   own : IsOwnMonitor w (w.known t) (owner_at P) t m
@@ -44,10 +44,6 @@ module _ (w : World) (P : List PlainObject) (t : ℕ) (e : Purpose) (o m stamp :
 
   recursions_are : w.words (Recursions m) ≡ (w.known t).saved
   recursions_are = v.seen.stays t (Recursions m) (w.known t).saved may.recursions (inl (may.runs, inr own))
-
-  -- and the stamp, since the thread owns the object
-  stamp_is : w.words (Stamp o) ≡ stamp
-  stamp_is = v.seen.stays t (Stamp o) stamp may.stamped (inl (may.runs, owns.0))
 
   thread_owns : lock w o ≡ OwnedBy t
   thread_owns = saw_thread_owns w P t o may.runs v m (omega (arith, within, v.limits.threads)) owns.0 may.inflated may.owner
@@ -60,5 +56,6 @@ module _ (w : World) (P : List PlainObject) (t : ℕ) (e : Purpose) (o m stamp :
   pub leaving : IsLeaving w P o m t
   leaving =
       let object : o < length P = omega (arith, v.sized, may.object) in
-      let raised : last_stamp (w.known t).log + 1 ≤ w.words (Stamp o) = omega (arith, stamp_is, may.high) in
+      let word : w.words (Stamp o) ≡ stamp = v.seen.stays t (Stamp o) stamp may.stamped (inl (may.runs, owns.0)) in
+      let raised : last_stamp (w.known t).log + 1 ≤ w.words (Stamp o) = omega (arith, word, may.high) in
       search (within, object, out, owns, mark_is, thread_owns, saved, raised, sym may.goes_on ∙ may.waits, may)

@@ -100,7 +100,7 @@ module _ (w : World) (o m t : ℕ) (l : Known) where
     pub header_same : header_form (read_mark m) m (displaced_words w) (headers w) (inflations w o) ≡ header w o → header w ≡ header x
     header_same e = λ j. λ i. sym (by_equal i o
         (λ a. ap (header x) a ∙ (λ j. header_form (read_mark (mark_here j)) (mark_here j) (displaced_words w) (headers w) (sym inflation j o)) ∙ e
-            ∙ ap (header w) (sym a))
+        ∙ ap (header w) (sym a))
         (λ d. λ j. header_form (read_mark (mark_else i d j)) (mark_else i d j) (displaced_words w) (headers w) (sym inflation j i))) j
 
   -- what thread u, which knew k and knows y, may count on after the step it could count on before; so it is with the thread that makes

@@ -50,15 +50,11 @@ module _ (w : World) (P : List PlainObject) (t : ℕ) (v : Fits w P) (reached : 
     ),
   )
 
-  -- one that has ended by what was seen has ended
-  has_ended : (u : ℕ) → SeesEnded (w.known t) u → ends (w.known u).log ≡ true
-  has_ended u a = v.waits.done u (ap says_ended (stands (Waiting u) a.0 a.1) ∙ a.2)
-
   pub stuck : {e : Purpose} → t < w.shape.threads → MayHalt w.shape.threads (w.known t) e → IsStuck w.shape.threads (λ u. ends (w.known u).log) (λ u. (w.known u).unfinished) (monitor_of P)
   stuck within may = (
     (t, within, may.live),
     λ u few live. elim (may.stuck u few) [
-      | inl a ↦ let ended = has_ended u a in absurd (cc (ended, live))
+      | inl a ↦ absurd (cc (v.waits.done u (ap says_ended (stands (Waiting u) a.0 a.1) ∙ a.2), live))
       | inr a ↦ held_up u a
     ],
   )

@@ -12,10 +12,9 @@ pub record IsFreeToTell (k : Known) : Type 0 where
   pub ready : k.wait ≡ 0
   pub room : length k.log < log_limit
 
-module _ (w : World) (P : List PlainObject) (t : ℕ) (v : Fits w P) (free : IsFreeToTell (w.known t)) where
-  -- it owns each object that it holds
-  pub owns_held : (o : ℕ) → HasHold (w.known t) o → owner_at P o t ≡ true
-  owns_held o holds = (holder_owns w P t v (ready_is_out (w.known t) free.ready) o free.calm holds).0
+-- it owns each object that it holds
+pub owns_held : (w : World) (P : List PlainObject) (t : ℕ) → Fits w P → IsFreeToTell (w.known t) → (o : ℕ) → HasHold (w.known t) o → owner_at P o t ≡ true
+owns_held w P t v free o holds = (holder_owns w P t v (ready_is_out (w.known t) free.ready) o free.calm holds).0
 
 -- an object has one owner
 pub one_owner : (P : List PlainObject) (o t u : ℕ) → owner_at P o t ≡ true → owner_at P o u ≡ true → u ≡ t
