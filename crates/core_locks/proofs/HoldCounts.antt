@@ -26,6 +26,14 @@ changed test hs p x before now within was is =
     let has = ap (λ n. one_if (test n x)) (zero-add p) ∙ ap one_if is in
     omega (arith, r, had, has)
 
+raised : (test : ℕ → ℕ → Bool) (hs : List ℕ) (p x : ℕ) (now : Bool) → p < length hs → test p (slice_index hs p) ≡ false → test p x ≡ now
+    → count_where test 0 (slice_set hs p x) ≡ count_where test 0 hs + one_if now
+raised test hs p x now within was is = omega (arith, changed test hs p x false now within was is)
+
+lowered : (test : ℕ → ℕ → Bool) (hs : List ℕ) (p x : ℕ) (before : Bool) → p < length hs → test p (slice_index hs p) ≡ before → test p x ≡ false
+    → count_where test 0 (slice_set hs p x) + one_if before ≡ count_where test 0 hs
+lowered test hs p x before within was is = omega (arith, changed test hs p x before false within was is)
+
 -- HOLD WORDS. One at a depth from 1 to 64 names its object alone.
 pub names_is : (i o d : ℕ) → o < 2 ^ 15 → 1 ≤ d → d ≤ 64 → names i (hold_word o d) ≡ (o == i)
 names_is i o d few some small = ap (λ f. names_form f i) (read_hold-hold_of (Holds o d) (few, some, small))
@@ -63,26 +71,16 @@ hold_in_form s o d n small e form = cases (read_hold n) refl form
 -- STORING. The hold word of o at depth d is stored in an empty place.
 module _ (hs : List ℕ) (p o d : ℕ) (within : p < length hs) (few : o < 2 ^ 15) (some : 1 ≤ d) (small : d ≤ 64) (empty : slice_index hs p ≡ 0) where
   pub named_put : (i : ℕ) → hold_count i (slice_set hs p (hold_word o d)) ≡ hold_count i hs + one_if (o == i)
-  named_put i = omega (
-    arith,
-    changed (λ q h. names i h) hs p (hold_word o d) false (o == i) within (ap (names i) empty ∙ names_none i)
-        (names_is i o d few some small),
-  )
+  named_put i = raised (λ q h. names i h) hs p (hold_word o d) (o == i) within (ap (names i) empty ∙ names_none i) (names_is i o d few some small)
 
   pub times_put : (i e : ℕ) → e < 64 → depth_count i (e + 1) (slice_set hs p (hold_word o d)) ≡ depth_count i (e + 1) hs + one_if ((o == i) && (d == e + 1))
-  times_put i e g = omega (
-    arith,
-    changed (λ q h. h == hold_word i (e + 1)) hs p (hold_word o d) false ((o == i) && (d == e + 1)) within
-        (ne_eqb _ _ (λ z. hold_some i (e + 1) (sym z ∙ empty))) (same_hold i e o d small g),
-  )
+  times_put i e g = raised (λ q h. h == hold_word i (e + 1)) hs p (hold_word o d) ((o == i) && (d == e + 1)) within
+      (ne_eqb _ _ (λ z. hold_some i (e + 1) (sym z ∙ empty))) (same_hold i e o d small g)
 
   pub again_put : (i : ℕ) (f : ℕ → ℕ) → recursion_count i f (slice_set hs p (hold_word o d)) ≡ recursion_count i f hs + one_if (((o == i) && nat_lt 1 d) && (f p == 3))
-  again_put i f = omega (
-    arith,
-    changed (λ q h. is_deeper i h && (f q == 3)) hs p (hold_word o d) false (((o == i) && nat_lt 1 d) && (f p == 3)) within
-        (ap (λ n. is_deeper i n && (f p == 3)) empty ∙ ap (λ (b : Bool). b && (f p == 3)) (deeper_none i))
-        (ap (λ (b : Bool). b && (f p == 3)) (deeper_is i o d few some small)),
-  )
+  again_put i f = raised (λ q h. is_deeper i h && (f q == 3)) hs p (hold_word o d) (((o == i) && nat_lt 1 d) && (f p == 3)) within
+      (ap (λ n. is_deeper i n && (f p == 3)) empty ∙ ap (λ (b : Bool). b && (f p == 3)) (deeper_none i))
+      (ap (λ (b : Bool). b && (f p == 3)) (deeper_is i o d few some small))
 
 -- CLEARING. The hold word of o at depth d is cleared.
 module _ (hs : List ℕ) (p o d : ℕ) (few : o < 2 ^ 15) (some : 1 ≤ d) (small : d ≤ 64) (full : slice_index hs p ≡ hold_word o d) where
@@ -90,19 +88,13 @@ module _ (hs : List ℕ) (p o d : ℕ) (few : o < 2 ^ 15) (some : 1 ≤ d) (smal
   inside = index_past hs p (λ z. hold_some o d (sym full ∙ z))
 
   pub named_clear : (i : ℕ) → hold_count i (slice_set hs p 0) + one_if (o == i) ≡ hold_count i hs
-  named_clear i = omega (arith, changed (λ q h. names i h) hs p 0 (o == i) false inside (ap (names i) full ∙ names_is i o d few some small) (names_none i))
+  named_clear i = lowered (λ q h. names i h) hs p 0 (o == i) inside (ap (names i) full ∙ names_is i o d few some small) (names_none i)
 
   pub times_clear : (i e : ℕ) → e < 64 → depth_count i (e + 1) (slice_set hs p 0) + one_if ((o == i) && (d == e + 1)) ≡ depth_count i (e + 1) hs
-  times_clear i e g = omega (
-    arith,
-    changed (λ q h. h == hold_word i (e + 1)) hs p 0 ((o == i) && (d == e + 1)) false inside
-        (ap (λ n. n == hold_word i (e + 1)) full ∙ same_hold i e o d small g) (ne_eqb _ _ (λ z. hold_some i (e + 1) (sym z))),
-  )
+  times_clear i e g = lowered (λ q h. h == hold_word i (e + 1)) hs p 0 ((o == i) && (d == e + 1)) inside
+      (ap (λ n. n == hold_word i (e + 1)) full ∙ same_hold i e o d small g) (ne_eqb _ _ (λ z. hold_some i (e + 1) (sym z)))
 
   pub again_clear : (i : ℕ) (f : ℕ → ℕ) → recursion_count i f (slice_set hs p 0) + one_if (((o == i) && nat_lt 1 d) && (f p == 3)) ≡ recursion_count i f hs
-  again_clear i f = omega (
-    arith,
-    changed (λ q h. is_deeper i h && (f q == 3)) hs p 0 (((o == i) && nat_lt 1 d) && (f p == 3)) false inside
-        (ap (λ n. is_deeper i n && (f p == 3)) full ∙ ap (λ (b : Bool). b && (f p == 3)) (deeper_is i o d few some small))
-        (ap (λ (b : Bool). b && (f p == 3)) (deeper_none i)),
-  )
+  again_clear i f = lowered (λ q h. is_deeper i h && (f q == 3)) hs p 0 (((o == i) && nat_lt 1 d) && (f p == 3)) inside
+      (ap (λ n. is_deeper i n && (f p == 3)) full ∙ ap (λ (b : Bool). b && (f p == 3)) (deeper_is i o d few some small))
+      (ap (λ (b : Bool). b && (f p == 3)) (deeper_none i))

@@ -135,11 +135,9 @@ module _ (w : World) (P : List PlainObject) (t : ℕ) (e : Purpose) (o slot : �
       sym (ap (λ (z : PlainObject). slice_get z.slots j) (ap (object_of (slice_set P o (filled value))) same ∙ object_here P o (filled value) there)) ∙ h in
       by_equal j slot
       (λ s. inl (ap (λ n. Slot n j) same ∙ ap (λ n. Slot o n) s, slot_here (object_of P o).slots slot value x (ap (slice_get (slice_set (object_of P o).slots slot value)) (sym s) ∙ set)))
-      (λ d. inr (
-        grind (arith, nat_tests),
-        ap (λ n. slice_get (object_of P n).slots j) same
-            ∙ sym (get_set_other (object_of P o).slots slot j value (λ e. d (sym e))) ∙ set,
-      )))
+      (λ d.
+      let stays = sym (get_set_other (object_of P o).slots slot j value (λ e. d (sym e))) in
+      inr (grind (arith, nat_tests), ap (λ n. slice_get (object_of P n).slots j) same ∙ stays ∙ set)))
       (λ d. inr (grind (arith, nat_tests), sym (ap (λ (z : PlainObject). slice_get z.slots j) (object_else P o i (filled value) d)) ∙ h))
 
   put_slots : (value : Value) → MayPut w.shape (w.known t) o slot value → SlotsFit w.shape (λ i j. with_word (Slot o slot) (word_of value) w.words (Slot i j)) (λ i. (object_of (slice_set P o (filled value)) i).slots)
