@@ -300,8 +300,7 @@ module _ (w : World) (P : List PlainObject) (t o : ℕ) (e : Entry) (r : Purpose
   all_after stamps = stamps_next w P Q t y l v logs_it stamp_small bounds
   all_after c = logged_step step logs_it a.runs a.room (draws_still w P Q t y l v logs_it (draws_counted e (w.known t).draws) (bound_undrawn e o a.tied)) v c
 
-  pub taking_fits : Fits x Q
-  taking_fits = subst (λ f. Fits (stepped w t l f) Q) (sym (with_word_same (Stamp o) (w.words (Stamp o)) w.words refl)) (step_fits step w.words Q (kept_objects (stepped w t l w.words) P (kept_locks w (parts_of n Q))) parts all_after)
-
   pub taking_logs : Logs w P t (logging_plan e r (Stamp o) Load) e
-  taking_logs = record { now = Q; taken = taken; valid = inl taking_fits }
+  taking_logs =
+      let fits = step_fits step w.words Q (kept_objects (stepped w t l w.words) P (kept_locks w (parts_of n Q))) parts all_after in
+      record { now = Q; taken = taken; valid = inl (subst (λ f. Fits (stepped w t l f) Q) (sym (with_word_same (Stamp o) (w.words (Stamp o)) w.words refl)) fits) }

@@ -174,7 +174,8 @@ module _ (w : World) (P : List PlainObject) (t : ℕ) (e : Purpose) (o d p : ℕ
   seen_law =
       let inflates : inflation_in l.stage ≡ inflation_in (w.known t).stage = sym (leaves_inflates w P t o d p within may v) in
       let held : (i : ℕ) → (owner_at P i t || bears l.stage i) ≡ true → (owner_at P i t || bears (w.known t).stage i) ≡ true = λ i. held_even step before now (owner_at P) i 0 in
-      seen_as w P t plan (search (may.runs, inflates, held, hold_uncounted w P t p)) (owner_at Q) (owner_before P o less inside is.fewer) (waits_at P) (λ i a. a) v
+      seen_as w P t plan (search (may.runs, inflates, held, hold_uncounted w P t p)) (owner_at Q) (owner_before P o less inside is.fewer)
+      (waits_at P) (λ i a. a) v
 
   -- THE CLAUSES, where those stamps fit
   module _ (stamped : StampsFit (logs_from 0 w.shape.threads (with_known t l w.known)) (λ u. (with_known t l w.known u).log) (λ i. w.words (Stamp i)) (λ i. (monitor_of (objects_where P o less) i).owner) (λ u. (with_known t l w.known u).unfinished)) where

@@ -70,7 +70,8 @@ module _ (w : World) (P : List PlainObject) (t o d p : ℕ) (within : t < w.shap
     -- the recursions and this hold are the records that were made through the monitor, so there is a deeper one
     behind_again : 1 ≤ recursion_count o (displaced_words w t) (w.known t).holds
     behind_again =
-        let owned = v.recursions.owned o m t (saw_inflated w P t o may.runs v m inflated) thread_owns (leaves_even.plain.waits o) (leaves_even.plain.resumes o) in
+        let names = saw_inflated w P t o may.runs v m inflated in
+        let owned = v.recursions.owned o m t names thread_owns (leaves_even.plain.waits o) (leaves_even.plain.resumes o) in
         let one : recursions_behind (w.known t).stage o ≡ 1 = ap (λ s. recursions_behind s o) stage ∙ ap one_if (same_number o) in
         omega (arith, owned, one, leaves_ahead o)
 

@@ -104,11 +104,14 @@ module _ (w : World) (P : List PlainObject) (t : ℕ) (e : Purpose) (y : Entry) 
   }
   all_after c = told_step step tells v (subst (SlotsFit w.shape (λ i j. w.words (Slot i j))) b.slots v.slots) drawn c
 
-  published : Fits x b.now
-  published = step_fits step x.words b.now (still_parts step tells x.words) (still_are step tells b.entry.hashes x.words) all_after
-
   publishes : Logs w P t (publish_plan e t y (length (w.known t).log + 1)) y
-  publishes = record { now = b.now; taken = b.entry.taken; valid = inl (subst (λ stage. Fits (world_after (with_stage stage (publish_plan e t y (length (w.known t).log + 1))) t w) b.now) free.calm published) }
+  publishes =
+      let fits = step_fits step x.words b.now (still_parts step tells x.words) (still_are step tells b.entry.hashes x.words) all_after in
+      record {
+        now = b.now;
+        taken = b.entry.taken;
+        valid = inl (subst (λ stage. Fits (world_after (with_stage stage (publish_plan e t y (length (w.known t).log + 1))) t w) b.now) free.calm fits);
+      }
 
 pub publish_law : (e : Purpose) (y : Entry) → LogsValid (λ w t. MayPublish w.shape (w.known t) y) (λ w t. publish_plan e t y (length (w.known t).log + 1)) y
 publish_law e y w P t within may is =
