@@ -7,7 +7,7 @@ use Rattle.core_locks.proofs.HoldClears.{holder_less, IsFull, inside, cleared_ba
 use Rattle.core_locks.proofs.HoldSets.{word_own, word_else, word_held, holder_told}
 use Rattle.core_locks.proofs.ByThread.{biases_told, hashes_told, holds_told, records_told, records_at, recursions_told, recursions_at}
 use Rattle.core_locks.proofs.Clauses.{kept_parts, parts_stand, seen, forms, holds, owners, biases, records, recursions, hashes, AllHold}
-use Rattle.core_locks.proofs.Steps.{stage_part, stage_back, holding, IsPlain, plain_by, IsStep, next, step_fits, seen_next, plain_step, calls_stay, inflates_stay}
+use Rattle.core_locks.proofs.Steps.{owners_move, stage_part, stage_back, holding, IsPlain, plain_by, IsStep, next, step_fits, seen_next, plain_step, calls_stay, inflates_stay}
 use Rattle.core_locks.proofs.OwnSeen.{hold_uncounted, own_seen}
 
 module _ (w : World) (P : List PlainObject) (t : ℕ) (e : Purpose) (o p : ℕ) (within : t < w.shape.threads) (may : MayClear (w.known t) e o p) (v : Fits w P) where
@@ -49,10 +49,6 @@ module _ (w : World) (P : List PlainObject) (t : ℕ) (e : Purpose) (o p : ℕ) 
       (λ n. holder_told (lock w i) i t l w.known
       (inl (let other = ap one_if (ne_eqb o i (λ q. n (sym q))) in omega (arith, named_less old o 1 p full i, other))))
 
-  -- an exit bears nothing, and is neither ahead nor behind
-  same_part : {A : Type 0} (part : Stage → A) → part Calm ≡ part (Exits o p) → (u : ℕ) → part (with_known t l w.known u).stage ≡ part (w.known u).stage
-  same_part part same = stage_part step part (same ∙ sym (ap part may.stage))
-
   plain_before : IsPlain (w.known t).stage
   plain_before = subst IsPlain (sym may.stage) (plain_by (Exits o p) refl)
 
@@ -75,12 +71,9 @@ module _ (w : World) (P : List PlainObject) (t : ℕ) (e : Purpose) (o p : ℕ) 
     number = λ i. omega (arith, named_less old o 1 p full i, v.holds.number t i, ap (λ s. hold_words_ahead s i) may.stage);
     each = times_less old o 1 p full may.last (v.holds.each t);
   }) v.holds
-  all_after owners = record {
-    same = λ i u. ap (λ f. is_thread f u) (holder_same i) ∙ v.owners.same i u ∙ ap (λ (b : Bool). owner_at P i u || b) (sym (same_part (λ s. bears s i) refl u));
-    let_go = λ i u h. v.owners.let_go i u (stage_back step (Waits i) u (λ c. cc c) h).1;
-    left = λ i u q h. v.owners.left i u q (stage_back step (Exits i q) u (λ c. cc c) h).1;
-    calls = λ i u h. v.owners.calls i u (sym (calls_stay step plain_before plain_now u) ∙ h);
-  }
+  all_after owners = owners_move step (λ i c. cc c) (λ i q c. cc c) (λ i c. absurd (cc c)) (λ i u.
+      let same = stage_part step (λ s. bears s i) (sym (ap (λ s. bears s i) may.stage)) u in
+      ap (λ f. is_thread f u) (holder_same i) ∙ v.owners.same i u ∙ ap (λ (b : Bool). owner_at P i u || b) (sym same)) v
   all_after biases = biases_told t l w.known (λ i b n. omega (arith, named_less old o 1 p full i, v.biases.unheld i t b n)) v.biases
   all_after records = records_told t l w.known
       (records_less old o 1 p full (λ i q c. cc (sym may.stage ∙ c)) (λ _ rests. not_holder (ap (λ f. holder f (λ z. hold_count o (w.known z).holds)) rests))

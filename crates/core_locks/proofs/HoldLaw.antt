@@ -8,7 +8,7 @@ use Rattle.core_locks.proofs.HoldCounts.{again_put}
 use Rattle.core_locks.proofs.HoldSets.{biased_leans, IsPut, hold_back, hold_forth, named_new, times_new, word_own, word_held, word_else, holder_told}
 use Rattle.core_locks.proofs.HoldWays.{Way, BySeizing, ByHolding, Leaned, ByGrabbing, ByRaising, ByLeaning, at_stage, way_bears, way_of}
 use Rattle.core_locks.proofs.Clauses.{kept_parts, parts_stand, seen, forms, holds, owners, biases, records, recursions, hashes, AllHold}
-use Rattle.core_locks.proofs.Steps.{holding, IsPlain, plain_by, IsStep, next, step_fits, seen_next, plain_step, stage_back, calls_stay, inflates_stay}
+use Rattle.core_locks.proofs.Steps.{owners_move, holding, IsPlain, plain_by, IsStep, next, step_fits, seen_next, plain_step, stage_back, calls_stay, inflates_stay}
 use Rattle.core_locks.proofs.ByThread.{biases_told, hashes_told, holds_told, records_told, recursions_told}
 use Rattle.core_locks.proofs.OwnSeen.{hold_uncounted, own_seen}
 
@@ -232,12 +232,7 @@ module _ (w : World) (P : List PlainObject) (t : ℕ) (e : Purpose) (o d p : ℕ
     number = λ i. let before = at_stage (λ s. hold_words_ahead s i ≡ 0) w P t o p way refl refl refl refl refl in omega (arith, named_new old o d p put i, v.holds.number t i, before);
     each = times_new old o d p put may.depth (v.holds.each t);
   }) v.holds
-  all_after owners = record {
-    same = owners_same;
-    let_go = λ i u h. v.owners.let_go i u (stage_back step (Waits i) u (λ c. cc c) h).1;
-    left = λ i u q h. v.owners.left i u q (stage_back step (Exits i q) u (λ c. cc c) h).1;
-    calls = λ i u h. v.owners.calls i u (sym (calls_stay step plain_before plain_now u) ∙ h);
-  }
+  all_after owners = owners_move step (λ i c. cc c) (λ i q c. cc c) (λ i c. absurd (cc c)) owners_same v
   all_after biases = biases_told t l w.known unheld_law v.biases
   all_after records = records_told t l w.known (record {
     first = λ i q h. inl (elim (v.records.first i t q h) [ inl a ↦ hold_forth old o d p put q i 1 a | inr a ↦ seized_first i q a way ]);

@@ -1,5 +1,5 @@
 -- A thread publishes its length with one entry more, and so logs that entry.
-use Rattle.core_locks.proofs.Prelude.{◌≡◌, ◌≢◌, ℕ, ◌+◌, ◌<◌, ◌≤◌, max, true, false, cond, List, [], ◌∷◌, ◌++◌, length, slice_set, Some, None, refl, sym, ap, ◌∙◌, subst, arith, inl, inr, append-nil, PlainMonitor, owns, PlainObject, take_entry, take_at, Logged, last_stamp, Entry, Notify, NotifyAll, Print, Dump, Trap, Spent, Done, Value, bound_to, Safepoint, Slot, Length, StepPlan, names, is_halted, Known, World, with_known, logs_from, object_of, monitor_of, owner_at, hash_at, Stays, Purpose, with_stage, publish_plan, world_after, known_hit, seen_before, stamp_by, is_taking, Fits, SeenFit, DrawsFit, draw_in, SlotsFit, Shape, each_with_known, fits_running, Logs, LogsValid, MayPublish, MayTell, IsOwnEntry}
+use Rattle.core_locks.proofs.Prelude.{◌≡◌, ◌≢◌, ℕ, ◌+◌, ◌<◌, ◌≤◌, max, true, false, cond, List, [], ◌∷◌, ◌++◌, length, slice_set, Some, None, refl, sym, ap, ◌∙◌, subst, arith, inl, inr, append-nil, PlainMonitor, owns, PlainObject, take_entry, take_at, Logged, last_stamp, Entry, Notify, NotifyAll, Print, Dump, Trap, Spent, Done, Value, bound_to, Safepoint, Slot, Length, StepPlan, names, is_halted, Known, World, with_known, logs_from, object_of, monitor_of, owner_at, hash_at, Stays, Purpose, with_stage, publish_plan, world_after, known_hit, seen_before, stamp_by, is_taking, Fits, SeenFit, DrawsFit, draw_in, SlotsFit, Shape, each_with_known, fits_running, Logs, LogsValid, MayPublish, MayTell, IsOwnEntry, Stage}
 use Rattle.plain_monitor.specs.Objects as plain
 use Rattle.core_locks.proofs.Logging.{length_more}
 use Rattle.core_locks.proofs.TellNobody.{nobody_waits}
@@ -107,11 +107,8 @@ module _ (w : World) (P : List PlainObject) (t : ℕ) (e : Purpose) (y : Entry) 
   publishes : Logs w P t (publish_plan e t y (length (w.known t).log + 1)) y
   publishes =
       let fits = step_fits step x.words b.now (still_parts step tells x.words) (still_are step tells b.entry.hashes x.words) all_after in
-      record {
-        now = b.now;
-        taken = b.entry.taken;
-        valid = inl (subst (λ stage. Fits (world_after (with_stage stage (publish_plan e t y (length (w.known t).log + 1))) t w) b.now) free.calm fits);
-      }
+      let moved : Stage → World = λ stage. world_after (with_stage stage (publish_plan e t y (length (w.known t).log + 1))) t w in
+      record { now = b.now; taken = b.entry.taken; valid = inl (subst (λ stage. Fits (moved stage) b.now) free.calm fits) }
 
 pub publish_law : (e : Purpose) (y : Entry) → LogsValid (λ w t. MayPublish w.shape (w.known t) y) (λ w t. publish_plan e t y (length (w.known t).log + 1)) y
 publish_law e y w P t within may is =
