@@ -1,5 +1,5 @@
 -- A thread stores a displaced word at a free place of its own.
-use Rattle.core_locks.proofs.Prelude.{◌≡◌, ◌≢◌, ◌⊎◌, ℕ, ◌+◌, ◌<◌, ◌==◌, ◌&&◌, ne_eqb, Bool, false, cond, List, slice_index, Option, Some, refl, sym, ap, ◌∙◌, arith, inl, inr, MarkForm, read_mark, Locked, Inflating, PlainObject, Displaced, StepPlan, Seizes, hold_word, is_neutral, is_deeper, hash_in, Inflation, inflation_in, recursions_ahead, Known, World, with_word_and_known, OnRecord, record_lock, lock, lock_form, header, header_form, marks, displaced_words, headers, owner_words, prototype_of, inflations, recursion_count, owner_at, Stays, Purpose, known_hit, Fits, SeenFit, by_equal, mark_zero, hold_some, deeper_none, fits_running, KeepsValid, MayDisplace, displace_plan}
+use Rattle.core_locks.proofs.Prelude.{◌≡◌, ◌≢◌, ◌⊎◌, ℕ, ◌+◌, ◌<◌, ◌==◌, ◌&&◌, ne_eqb, Bool, false, cond, List, slice_index, Option, Some, refl, sym, ap, ◌∙◌, arith, inl, inr, MarkForm, read_mark, Locked, Inflating, PlainObject, Displaced, StepPlan, Seizes, hold_word, is_neutral, is_deeper, hash_in, Inflation, inflation_in, recursions_ahead, Known, World, with_word_and_known, OnRecord, record_lock, lock, lock_form, header, header_form, marks, displaced_words, headers, owner_words, prototype_of, inflations, recursion_count, owner_at, Stays, Purpose, known_hit, Fits, by_equal, mark_zero, hold_some, deeper_none, fits_running, KeepsValid, MayDisplace, displace_plan}
 use Rattle.std.proofs.Math.Bool.{and-false}
 use Rattle.core_locks.proofs.MarkHolds.{number_same}
 use Rattle.core_locks.proofs.Clauses.{kept_parts, parts_stand, seen, records, recursions, hashes, AllHold}

@@ -1,5 +1,5 @@
 -- A running thread that is taking an object logs its Enter or its Resume: every clause holds afterwards.
-use Rattle.core_locks.proofs.Prelude.{◌≡◌, ◌⊎◌, ℕ, ◌+◌, ◌<◌, ◌≤◌, max, true, false, cond, List, length, slice_set, Some, refl, sym, ap, ◌∙◌, subst, arith, inl, inr, same_Some, PlainMonitor, is_listed, PlainObject, take_entry, Logged, last_stamp, Entry, Wait, bound_is_named, Stamp, Waiting, Recursions, Seizes, Resumes, Waits, Notifies, monitor_in, waits_on, says_notified, stamp_in, enters_on, says_ended, recursions_ahead, recursions_behind, notification_in, Known, World, logs, OwnedBy, lock, marks, displaced_words, recursion_count, object_of, monitor_of, owner_at, waits_at, notified_at, or_zero, SeenStays, RecursionsFit, GoesByMonitor, Purpose, logging_plan, world_after, known_after, stamp_by, Fits, SeenFit, WaitsFit, last_entry, ends, IsUnfinished, bound_stamp, StampsFit, lets_go, entries, Load, by_equal, each_with_known, with_known_here, with_known_else, header_stays, no_entering, no_ended, with_word_same, IsOut, StepMade, ◌≢◌, ◌||◌, ne_eqb, Bool, [], ◌∷◌, Option, None, or-false, is_thread, count_of, owns, Calm, Exits, TakesOver, inflation_in, bears, hold_words_ahead, who, hold_count, holds_by_monitor, seen_before, same_number, outside_standing, who_bears, taken_alone, seen_moves, counts_anew, Logs, one_if}
+use Rattle.core_locks.proofs.Prelude.{◌≡◌, ◌⊎◌, ℕ, ◌+◌, ◌<◌, ◌≤◌, max, true, false, cond, List, length, slice_set, Some, refl, sym, ap, ◌∙◌, subst, arith, inl, inr, same_Some, PlainMonitor, is_listed, PlainObject, take_entry, Logged, last_stamp, Entry, Wait, bound_is_named, Stamp, Waiting, Recursions, Seizes, Resumes, Waits, Notifies, monitor_in, waits_on, says_notified, stamp_in, enters_on, says_ended, recursions_ahead, recursions_behind, notification_in, Known, World, logs, OwnedBy, lock, marks, displaced_words, recursion_count, object_of, monitor_of, owner_at, waits_at, notified_at, or_zero, SeenStays, GoesByMonitor, Purpose, logging_plan, world_after, known_after, stamp_by, Fits, SeenFit, last_entry, ends, IsUnfinished, bound_stamp, lets_go, entries, Load, by_equal, each_with_known, with_known_here, with_known_else, header_stays, no_entering, no_ended, with_word_same, IsOut, StepMade, ◌≢◌, ◌||◌, ne_eqb, Bool, [], ◌∷◌, Option, None, or-false, is_thread, count_of, owns, Calm, Exits, TakesOver, inflation_in, bears, hold_words_ahead, who, hold_count, holds_by_monitor, seen_before, same_number, outside_standing, who_bears, taken_alone, seen_moves, counts_anew, Logs, one_if}
 use Rattle.core_world.specs.declared.task.Op.TheVariants as op
 use Rattle.core_locks.proofs.Clauses.{parts_of, kept_locks, kept_objects, locks_stand, seen, quiet, holds, owners, biases, records, recursions, waits, stamps, AllHold}
 use Rattle.core_locks.proofs.Steps.{noting, IsStep, next, stepped, step_fits, quiet_next, logs_next, seen_next, none_reached, stage_back, stage_part, inflates_stay}
@@ -303,4 +303,5 @@ module _ (w : World) (P : List PlainObject) (t o : ℕ) (e : Entry) (r : Purpose
   pub taking_logs : Logs w P t (logging_plan e r (Stamp o) Load) e
   taking_logs =
       let fits = step_fits step w.words Q (kept_objects (stepped w t l w.words) P (kept_locks w (parts_of n Q))) parts all_after in
-      record { now = Q; taken = taken; valid = inl (subst (λ f. Fits (stepped w t l f) Q) (sym (with_word_same (Stamp o) (w.words (Stamp o)) w.words refl)) fits) }
+      let same = with_word_same (Stamp o) (w.words (Stamp o)) w.words refl in
+      record { now = Q; taken = taken; valid = inl (subst (λ f. Fits (stepped w t l f) Q) (sym same) fits) }

@@ -1,7 +1,7 @@
 -- A step of a thread that stands, before and after, where it has the locks that its log says, with as many hold words; the locks and hold words stay.
-use Rattle.core_locks.proofs.Prelude.{◌≡◌, ℕ, ◌||◌, Bool, true, false, List, refl, sym, ap, ◌∙◌, inl, inr, PlainObject, Hold, Stage, Calm, Seizes, Grabs, Exits, Waits, TakesOver, Ahead, Behind, Inflates, bears, hold_words_ahead, Known, World, with_known, lock, displaced_words, who, holds_by_monitor, monitor_of, owner_at, HoldsFitLogs, RecordsRest, Fits, LocksArePlain, Takes}
+use Rattle.core_locks.proofs.Prelude.{◌≡◌, ℕ, ◌||◌, Bool, true, false, List, refl, sym, ap, ◌∙◌, inl, inr, PlainObject, Hold, Stage, Calm, Seizes, Grabs, Exits, TakesOver, Ahead, Behind, Inflates, bears, hold_words_ahead, Known, World, with_known, lock, displaced_words, who, holds_by_monitor, monitor_of, owner_at, HoldsFitLogs, RecordsRest, Fits, LocksArePlain, Takes}
 use Rattle.core_locks.proofs.Clauses.{Clause, holds, owners, records}
-use Rattle.core_locks.proofs.Steps.{owners_move, stage_part, holds_stand, Fields, IsStep, GoesOnTo, IsPlain, plain_by, Plain, plain_step, stage_back, stage_forth, calls_stay}
+use Rattle.core_locks.proofs.Steps.{owners_move, stage_part, holds_stand, Fields, IsStep, GoesOnTo, IsPlain, plain_by, Plain, plain_step, stage_back, stage_forth}
 
 pub record IsEven (s : Stage) : Type 0 where
   pub plain : IsPlain s

@@ -1,5 +1,5 @@
 -- A thread clears the deepest of its hold words of an object, and so logs Exit.
-use Rattle.core_locks.proofs.Prelude.{◌≡◌, ◌≢◌, ℕ, ◌+◌, ◌<◌, ◌≤◌, ◌||◌, eq-eqb, ne_eqb, Bool, true, false, cond, List, length, slice_index, slice_set, Some, None, refl, sym, ap, ◌∙◌, subst, arith, inl, inr, ◌-◌, nat_le, nat_tests, same_Some, PlainMonitor, is_thread, exit, PlainObject, take_entry, Logged, Exit, Hold, StepPlan, Calm, Exits, Waits, hold_word, inflation_in, bears, hold_words_ahead, one_if, Known, World, with_word_and_known, BiasedTo, OnRecord, lock, inflations, who, holder, hold_count, holds_by_monitor, monitor_of, owner_at, waits_at, Stays, SeenStays, Purpose, logging_plan, known_hit, Fits, Store, by_equal, each_with_known, with_known_here, header_stays, inflations_stay, lock_stays, thread_is, fits_running, Logs, MayLeave, or-false, StampsFit, logs_from, Stamp, notification_in, with_known, LogsValid, leave_plan, IsHold, hold_zero}
+use Rattle.core_locks.proofs.Prelude.{◌≡◌, ◌≢◌, ℕ, ◌+◌, ◌<◌, ◌≤◌, ◌||◌, eq-eqb, ne_eqb, Bool, true, false, cond, List, length, slice_set, Some, None, refl, sym, ap, ◌∙◌, subst, arith, inl, inr, ◌-◌, nat_le, nat_tests, same_Some, PlainMonitor, is_thread, exit, PlainObject, take_entry, Logged, Exit, Hold, StepPlan, Calm, Exits, Waits, inflation_in, bears, hold_words_ahead, one_if, Known, World, with_word_and_known, BiasedTo, OnRecord, lock, inflations, who, holder, hold_count, holds_by_monitor, monitor_of, owner_at, waits_at, SeenStays, Purpose, logging_plan, known_hit, Fits, Store, by_equal, each_with_known, with_known_here, header_stays, inflations_stay, lock_stays, thread_is, fits_running, Logs, MayLeave, or-false, StampsFit, logs_from, Stamp, notification_in, with_known, LogsValid, leave_plan, IsHold, hold_zero}
 use Rattle.core_locks.specs.LockLaws.{HasRaised}
 use Rattle.core_locks.proofs.Drawing.{draws_still}
 use Rattle.std.proofs.lemmas.List.{length-set}

@@ -1,6 +1,6 @@
 -- What holds where a thread may leave by clearing a hold word: it is the plain owner, has several holds or a bias, and the recursions count its
 -- records, but for the one that it clears.
-use Rattle.core_locks.proofs.Prelude.{◌≡◌, ◌≢◌, ℕ, ◌+◌, ◌<◌, ◌≤◌, ◌^◌, ◌==◌, ◌&&◌, nat_lt, eq-eqb, Bool, true, false, List, [], ◌∷◌, Option, Some, None, refl, sym, ap, ◌∙◌, subst, arith, inl, inr, nat_tests, read_hold, Holds, Empty, HoldForm, read_hold-spells, PlainObject, Mark, Hold, Displaced, Stage, Calm, Behind, hold_word, is_deeper, monitor_in, deeper_form, inflation_in, recursions_ahead, recursions_behind, one_if, last_seen, World, OwnedBy, lock, marks, displaced_words, hold_count, depth_count, recursion_count, monitor_of, owner_at, count_where, Fits, same_number, SawInflated, SawOwn, MayLeave, ◌⊎◌, ne_eqb, by_equal, Lock, BiasedTo, is_biased, ◌-◌}
+use Rattle.core_locks.proofs.Prelude.{◌≡◌, ◌≢◌, ℕ, ◌+◌, ◌<◌, ◌≤◌, ◌^◌, ◌==◌, ◌&&◌, nat_lt, eq-eqb, Bool, true, false, List, [], ◌∷◌, Option, Some, None, refl, sym, ap, ◌∙◌, subst, arith, inl, inr, nat_tests, read_hold, Holds, Empty, HoldForm, read_hold-spells, PlainObject, Mark, Hold, Displaced, Stage, Calm, Behind, hold_word, is_deeper, deeper_form, inflation_in, recursions_ahead, recursions_behind, one_if, last_seen, World, OwnedBy, lock, marks, displaced_words, hold_count, depth_count, recursion_count, monitor_of, owner_at, count_where, Fits, same_number, SawInflated, SawOwn, MayLeave, ◌⊎◌, ne_eqb, by_equal, Lock, BiasedTo, is_biased, ◌-◌}
 use Rattle.core_locks.specs.Knowing.{SawBiased}
 use Rattle.core_locks.specs.LockLaws.{HasRaised}
 use Rattle.std.proofs.Math.Bool.{and-false, and-true}

@@ -1,5 +1,5 @@
 -- A thread clears its last hold word of an object after the step that logged its Exit.
-use Rattle.core_locks.proofs.Prelude.{◌≡◌, ◌≢◌, ℕ, ◌<◌, ◌==◌, ◌&&◌, ◌||◌, eq-eqb, ne_eqb, Bool, true, false, List, slice_index, Some, refl, sym, ap, ◌∙◌, subst, arith, inl, inr, is_thread, PlainObject, Hold, Stage, Calm, Exits, Waits, inflation_in, bears, hold_words_ahead, recursions_ahead, recursions_behind, one_if, with_word, Known, World, with_known, lock, displaced_words, who, holder, hold_count, owner_at, Stays, Purpose, store, world_after, known_hit, Fits, by_equal, each_with_known, header_stays, fits_running, MayClear, KeepsValid, clear_plan, with_known_else, IsHold, hold_zero, BiasedTo, hold_word}
+use Rattle.core_locks.proofs.Prelude.{◌≡◌, ◌≢◌, ℕ, ◌<◌, ◌==◌, ◌&&◌, ◌||◌, eq-eqb, ne_eqb, Bool, true, false, List, Some, refl, sym, ap, ◌∙◌, subst, arith, inl, is_thread, PlainObject, Hold, Calm, Exits, inflation_in, bears, hold_words_ahead, recursions_ahead, recursions_behind, one_if, with_word, Known, World, with_known, lock, displaced_words, who, holder, hold_count, owner_at, Purpose, store, world_after, known_hit, Fits, by_equal, header_stays, fits_running, MayClear, KeepsValid, clear_plan, with_known_else, IsHold, hold_zero}
 use Rattle.std.proofs.Math.Bool.{and-false}
 use Rattle.std.proofs.lemmas.List.{length-set}
 use Rattle.core_locks.proofs.HoldCounts.{hold_in_form}
@@ -7,7 +7,7 @@ use Rattle.core_locks.proofs.HoldClears.{holder_less, IsFull, inside, cleared_ba
 use Rattle.core_locks.proofs.HoldSets.{word_own, word_else, word_held, holder_told}
 use Rattle.core_locks.proofs.ByThread.{biases_told, hashes_told, holds_told, records_told, records_at, recursions_told, recursions_at}
 use Rattle.core_locks.proofs.Clauses.{kept_parts, parts_stand, seen, forms, holds, owners, biases, records, recursions, hashes, AllHold}
-use Rattle.core_locks.proofs.Steps.{owners_move, stage_part, stage_back, holding, IsPlain, plain_by, IsStep, next, step_fits, seen_next, plain_step, calls_stay, inflates_stay}
+use Rattle.core_locks.proofs.Steps.{owners_move, stage_part, holding, IsPlain, plain_by, IsStep, next, step_fits, seen_next, plain_step, inflates_stay}
 use Rattle.core_locks.proofs.OwnSeen.{hold_uncounted, own_seen}
 
 module _ (w : World) (P : List PlainObject) (t : ℕ) (e : Purpose) (o p : ℕ) (within : t < w.shape.threads) (may : MayClear (w.known t) e o p) (v : Fits w P) where

@@ -1,5 +1,5 @@
 -- A thread stores a new hold word of an object in an empty place.
-use Rattle.core_locks.proofs.Prelude.{◌≡◌, ◌≢◌, ◌⊎◌, ℕ, ◌+◌, ◌<◌, ◌≤◌, ◌==◌, ◌&&◌, ◌||◌, nat_lt, eq-eqb, ne_eqb, Bool, true, false, List, slice_index, slice_set, Some, None, refl, sym, ap, ◌∙◌, arith, inl, inr, or-true, nat_tests, is_thread, is_listed, PlainObject, Path, Hold, StepPlan, Calm, Seizes, Grabs, Enters, Resumes, Exits, Waits, Ahead, hold_word, is_biased, is_neutral, hash_in, inflation_in, bears, hold_words_ahead, recursions_ahead, recursions_behind, one_if, with_word, Known, World, with_known, BiasedTo, OnRecord, OwnedBy, lock, marks, displaced_words, owner_words, prototype_of, inflations, who, holder, hold_count, recursion_count, owner_at, hash_at, waits_at, notified_at, Stays, GoesByMonitor, Purpose, world_after, known_hit, Fits, by_equal, each_with_known, header_stays, thread_is, fits_running, KeepsValid, MayHold, hold_plan, Option, MarkForm, Anonymous, Biased, Takes, cond, subst, with_known_here, monitor_in, monitor_form, is_biased_form, IsHold, read_hold, read_hold-hold_of, Holds}
+use Rattle.core_locks.proofs.Prelude.{◌≡◌, ◌≢◌, ◌⊎◌, ℕ, ◌+◌, ◌<◌, ◌≤◌, ◌==◌, ◌&&◌, ◌||◌, nat_lt, eq-eqb, ne_eqb, Bool, true, false, List, slice_index, slice_set, Some, None, refl, sym, ap, ◌∙◌, arith, inl, inr, or-true, nat_tests, is_thread, is_listed, PlainObject, Path, Hold, StepPlan, Calm, Seizes, Grabs, Enters, Ahead, hold_word, is_biased, is_neutral, hash_in, inflation_in, bears, hold_words_ahead, recursions_ahead, recursions_behind, one_if, with_word, Known, World, with_known, BiasedTo, OnRecord, OwnedBy, lock, marks, displaced_words, owner_words, prototype_of, inflations, who, holder, hold_count, recursion_count, owner_at, hash_at, waits_at, notified_at, GoesByMonitor, Purpose, world_after, known_hit, Fits, by_equal, each_with_known, header_stays, thread_is, fits_running, KeepsValid, MayHold, hold_plan, Option, MarkForm, Anonymous, Biased, Takes, cond, subst, with_known_here, monitor_in, monitor_form, is_biased_form, IsHold, read_hold, read_hold-hold_of, Holds}
 use Rattle.mark_word.specs.Mark.{read_mark}
 use Rattle.core_locks.proofs.WaitOut.{out_unwaiting, out_uncalled}
 use Rattle.std.proofs.lemmas.List.{get_or-set_same, length-set}
@@ -8,7 +8,7 @@ use Rattle.core_locks.proofs.HoldCounts.{again_put}
 use Rattle.core_locks.proofs.HoldSets.{biased_leans, IsPut, hold_back, hold_forth, named_new, times_new, word_own, word_held, word_else, holder_told}
 use Rattle.core_locks.proofs.HoldWays.{Way, BySeizing, ByHolding, Leaned, ByGrabbing, ByRaising, ByLeaning, at_stage, way_bears, way_of}
 use Rattle.core_locks.proofs.Clauses.{kept_parts, parts_stand, seen, forms, holds, owners, biases, records, recursions, hashes, AllHold}
-use Rattle.core_locks.proofs.Steps.{owners_move, holding, IsPlain, plain_by, IsStep, next, step_fits, seen_next, plain_step, stage_back, calls_stay, inflates_stay}
+use Rattle.core_locks.proofs.Steps.{owners_move, holding, IsPlain, plain_by, IsStep, next, step_fits, seen_next, plain_step, inflates_stay}
 use Rattle.core_locks.proofs.ByThread.{biases_told, hashes_told, holds_told, records_told, recursions_told}
 use Rattle.core_locks.proofs.OwnSeen.{hold_uncounted, own_seen}
 

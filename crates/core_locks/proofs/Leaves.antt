@@ -1,5 +1,5 @@
 -- A thread that holds an object may log its Wait there: the world stays valid, and the plain objects take the entry.
-use Rattle.core_locks.proofs.Prelude.{◌≡◌, ◌≢◌, ◌⊎◌, ℕ, ◌+◌, ◌<◌, ◌^◌, ◌==◌, ◌||◌, ne_eqb, true, false, cond, List, [], Some, refl, sym, ap, ◌∙◌, subst, arith, inl, inr, eqb-true, same_Some, read_mark, wait_of, read_wait, read_wait-wait_of, is_thread, is_listed, PlainObject, Logged, last_stamp, Mark, Stamp, Waiting, StepPlan, Stage, Calm, Seizes, Grabs, Resumes, Exits, Waits, TakesOver, Notifies, is_biased, monitor_in, waits_on, says_notified, stamp_in, enters_on, says_ended, is_biased_form, waits_form, ended_form, notified_form, enters_form, stamp_form, inflation_in, bears, hold_words_ahead, recursions_ahead, recursions_behind, notification_in, Known, local_of, World, with_word_and_known, logs, lock, marks, displaced_words, who, hold_count, recursion_count, object_of, monitor_of, owner_at, hash_at, waits_at, notified_at, Stays, GoesByMonitor, Purpose, next_stamp, known_hit, seen_before, Fits, SeenFit, last_entry, StandByStamps, AreNotified, ends, IsUnfinished, bound_stamp, IsWait, by_equal, each_with_known, header_stays, same_number, fits_running, inflated_form, seen_is_part, stays_back, Back, Spares, seen_moves, Counts, MayWait, LogsValid, log_wait_plan, owns}
+use Rattle.core_locks.proofs.Prelude.{◌≡◌, ◌≢◌, ◌⊎◌, ℕ, ◌+◌, ◌<◌, ◌^◌, ◌==◌, ◌||◌, ne_eqb, true, false, cond, List, [], Some, refl, sym, ap, ◌∙◌, subst, arith, inl, inr, eqb-true, same_Some, read_mark, wait_of, read_wait, read_wait-wait_of, is_thread, is_listed, PlainObject, Logged, last_stamp, Mark, Stamp, Waiting, StepPlan, Stage, Calm, Seizes, Grabs, Resumes, Exits, Waits, TakesOver, Notifies, is_biased, monitor_in, waits_on, says_notified, stamp_in, enters_on, says_ended, is_biased_form, waits_form, ended_form, notified_form, enters_form, stamp_form, inflation_in, bears, hold_words_ahead, recursions_ahead, recursions_behind, notification_in, Known, local_of, World, with_word_and_known, logs, lock, marks, displaced_words, who, recursion_count, object_of, monitor_of, owner_at, hash_at, waits_at, notified_at, Stays, GoesByMonitor, Purpose, next_stamp, known_hit, seen_before, Fits, SeenFit, last_entry, StandByStamps, AreNotified, ends, IsUnfinished, bound_stamp, IsWait, by_equal, each_with_known, header_stays, same_number, fits_running, inflated_form, seen_is_part, stays_back, Back, Spares, seen_moves, Counts, MayWait, LogsValid, log_wait_plan, owns}
 use Rattle.mark_word.specs.declared.wait.WaitForm.TheVariants as wait
 use Rattle.plain_monitor.specs.declared.entry.Entry.TheVariants as entry
 use Rattle.core_world.specs.declared.task.Op.TheVariants as op

@@ -1,5 +1,5 @@
 -- What is so of the world where a thread may log its Wait, by what it knows, and what it knows afterwards.
-use Rattle.core_locks.proofs.Prelude.{◌≡◌, ℕ, ◌+◌, ◌<◌, ◌≤◌, ◌||◌, true, List, length, Some, sym, ap, ◌∙◌, arith, inl, inr, read_mark, read_owner, owner_of, wait_of, ByThread, read_owner-owner_of, PlainObject, last_stamp, Mark, Stamp, Owner, Recursions, Calm, monitor_in, bears, recursions_ahead, recursions_behind, Known, World, OwnedBy, lock, lock_form, marks, displaced_words, owner_words, prototype_of, inflations, hold_count, recursion_count, monitor_of, owner_at, owner_lock, IsOwnMonitor, Purpose, Fits, IsUnfinished, log_limit, inflated_form, IsOut, MayWait}
+use Rattle.core_locks.proofs.Prelude.{◌≡◌, ℕ, ◌+◌, ◌<◌, ◌≤◌, ◌||◌, true, List, length, Some, sym, ap, ◌∙◌, arith, inl, inr, wait_of, PlainObject, last_stamp, Stamp, Recursions, Calm, monitor_in, bears, recursions_ahead, recursions_behind, Known, World, OwnedBy, lock, marks, displaced_words, hold_count, recursion_count, monitor_of, owner_at, IsOwnMonitor, Purpose, Fits, IsUnfinished, log_limit, IsOut, MayWait}
 use Rattle.mark_word.specs.declared.wait.WaitForm.TheVariants as wait
 use Rattle.core_world.specs.declared.task.Op.TheVariants as op
 use Rattle.core_locks.proofs.HoldWays.{saw_inflated, saw_thread_owns}

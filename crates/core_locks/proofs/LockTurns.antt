@@ -1,5 +1,5 @@
 -- One lock becomes B by a step of the thread that had it, or of one that takes it where nobody did; the other locks stay.
-use Rattle.core_locks.proofs.Prelude.{◌≡◌, ◌≢◌, ◌⊎◌, ℕ, ◌==◌, ◌||◌, eq-eqb, ne_eqb, Bool, true, false, List, Some, None, refl, sym, ap, ◌∙◌, subst, inl, inr, is_thread, PlainObject, Calm, Seizes, Grabs, Exits, Waits, bears, notification_in, Known, World, with_known, Lock, OnRecord, OwnedBy, lock, displaced_words, who, holder, hold_count, owner_at, RecordsRest, Fits, LocksArePlain, each_with_known}
+use Rattle.core_locks.proofs.Prelude.{◌≡◌, ◌≢◌, ◌⊎◌, ℕ, ◌==◌, ◌||◌, eq-eqb, ne_eqb, Bool, false, List, Some, None, refl, sym, ap, ◌∙◌, subst, inl, inr, is_thread, PlainObject, Calm, Seizes, Grabs, Exits, Waits, bears, notification_in, Known, World, with_known, Lock, OnRecord, OwnedBy, lock, displaced_words, who, holder, hold_count, owner_at, RecordsRest, Fits, LocksArePlain, each_with_known}
 use Rattle.core_locks.proofs.Steps.{owners_move, Fields, IsStep, stage_back, stage_forth}
 
 module _ {w : World} {t : ℕ} {l : Known} {fields : Fields} {P : List PlainObject} (step : IsStep w t l fields) (v : Fits w P) (locks : ℕ → Lock) (o : ℕ) (B : Lock)
@@ -9,12 +9,12 @@ module _ {w : World} {t : ℕ} {l : Known} {fields : Fields} {P : List PlainObje
       → notification_in l.stage ≡ None → ((i : ℕ) → l.stage ≡ Waits i → ⊥) → ((i q : ℕ) → l.stage ≡ Exits i q → ⊥)
       → LocksArePlain (λ i. holder (locks i) (λ k. hold_count i (w.known k).holds)) (λ u. (with_known t l w.known u).stage) (owner_at P)
   owners_taken calm nobody has bearing calls waits exits = owners_move step waits exits (λ i c. absurd (cc (calls, c))) (λ i u. elim (now i) [
-      | inl a ↦ subst (λ j. is_thread (holder (locks j) (λ k. hold_count j (w.known k).holds)) u ≡ (owner_at P j u || bears (with_known t l w.known u).stage j)) (sym a.0) (here u (ap locks (sym a.0) ∙ a.1))
-      | inr a ↦
-          ap (λ f. is_thread (holder f (λ k. hold_count i (w.known k).holds)) u) a.1
-          ∙ each_with_known (λ u y. is_thread (who w i) u ≡ (owner_at P i u || bears y.stage i)) t l w.known u
-          (v.owners.same i t ∙ ap (λ (b : Bool). owner_at P i t || b) (ap (λ f. bears f i) calm ∙ sym (bearing i ∙ ne_eqb o i (λ q. a.0 (sym q))))) (λ d. v.owners.same i u)
-    ]) v
+    | inl a ↦ subst (λ j. is_thread (holder (locks j) (λ k. hold_count j (w.known k).holds)) u ≡ (owner_at P j u || bears (with_known t l w.known u).stage j)) (sym a.0) (here u (ap locks (sym a.0) ∙ a.1))
+    | inr a ↦
+        ap (λ f. is_thread (holder f (λ k. hold_count i (w.known k).holds)) u) a.1
+        ∙ each_with_known (λ u y. is_thread (who w i) u ≡ (owner_at P i u || bears y.stage i)) t l w.known u
+        (v.owners.same i t ∙ ap (λ (b : Bool). owner_at P i t || b) (ap (λ f. bears f i) calm ∙ sym (bearing i ∙ ne_eqb o i (λ q. a.0 (sym q))))) (λ d. v.owners.same i u)
+  ]) v
     where
       here : (u : ℕ) → locks o ≡ B → is_thread (holder (locks o) (λ k. hold_count o (w.known k).holds)) u ≡ (owner_at P o u || bears (with_known t l w.known u).stage o)
       here u is =

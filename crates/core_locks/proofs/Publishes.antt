@@ -1,5 +1,5 @@
 -- A thread publishes its length with one entry more, and so logs that entry.
-use Rattle.core_locks.proofs.Prelude.{◌≡◌, ◌≢◌, ℕ, ◌+◌, ◌<◌, ◌≤◌, max, true, false, cond, List, [], ◌∷◌, ◌++◌, length, slice_set, Some, None, refl, sym, ap, ◌∙◌, subst, arith, inl, inr, append-nil, PlainMonitor, owns, PlainObject, take_entry, take_at, Logged, last_stamp, Entry, Notify, NotifyAll, Print, Dump, Trap, Spent, Done, Value, bound_to, Safepoint, Slot, Length, StepPlan, names, is_halted, Known, World, with_known, logs_from, object_of, monitor_of, owner_at, hash_at, Stays, Purpose, with_stage, publish_plan, world_after, known_hit, seen_before, stamp_by, is_taking, Fits, SeenFit, DrawsFit, draw_in, SlotsFit, Shape, each_with_known, fits_running, Logs, LogsValid, MayPublish, MayTell, IsOwnEntry, Stage}
+use Rattle.core_locks.proofs.Prelude.{◌≡◌, ℕ, ◌+◌, ◌<◌, ◌≤◌, max, true, false, cond, List, [], ◌∷◌, ◌++◌, length, slice_set, Some, None, refl, sym, ap, ◌∙◌, subst, arith, inl, append-nil, PlainMonitor, owns, PlainObject, take_entry, take_at, Logged, last_stamp, Entry, Notify, NotifyAll, Print, Dump, Trap, Spent, Done, Value, bound_to, Safepoint, Slot, Length, StepPlan, names, is_halted, Known, World, with_known, logs_from, object_of, monitor_of, owner_at, hash_at, Purpose, with_stage, publish_plan, world_after, known_hit, seen_before, stamp_by, is_taking, Fits, DrawsFit, draw_in, SlotsFit, each_with_known, fits_running, Logs, LogsValid, MayPublish, MayTell, IsOwnEntry, Stage}
 use Rattle.plain_monitor.specs.Objects as plain
 use Rattle.core_locks.proofs.Logging.{length_more}
 use Rattle.core_locks.proofs.TellNobody.{nobody_waits}

@@ -1,5 +1,5 @@
 -- A running thread in the middle of nothing publishes its whole log, and logs nothing.
-use Rattle.core_locks.proofs.Prelude.{◌≡◌, ◌≢◌, ℕ, ◌<◌, ◌≤◌, true, false, List, length, refl, subst, arith, inl, inr, PlainObject, Safepoint, Length, StepPlan, is_halted, Known, World, owner_at, Stays, Purpose, with_stage, publish_log_plan, world_after, known_hit, Fits, each_with_known, fits_running, KeepsValid, MayPublishLog}
+use Rattle.core_locks.proofs.Prelude.{◌≡◌, ℕ, ◌<◌, ◌≤◌, true, false, List, length, refl, subst, arith, inl, PlainObject, Safepoint, Length, StepPlan, is_halted, Known, World, Purpose, with_stage, publish_log_plan, world_after, known_hit, Fits, each_with_known, fits_running, KeepsValid, MayPublishLog}
 use Rattle.core_locks.proofs.Clauses.{kept_parts, parts_stand, seen, lengths, AllHold}
 use Rattle.core_locks.proofs.OwnSeen.{length_uncounted, own_seen}
 use Rattle.core_locks.proofs.Steps.{publishing, IsStep, next, each_written, step_fits, seen_next, quiet_step}

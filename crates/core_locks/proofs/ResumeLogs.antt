@@ -1,5 +1,5 @@
 -- A thread that was notified and has the object's monitor again loads the object's stamp, and so logs its Resume.
-use Rattle.core_locks.proofs.Prelude.{◌≡◌, ℕ, ◌+◌, ◌<◌, ◌||◌, true, false, cond, List, Some, None, refl, sym, ap, ◌∙◌, arith, inl, inr, is_none, or-true, same_Some, read_owner, owner_of, ByThread, read_owner-owner_of, PlainMonitor, is_thread, is_listed, count_of, only_if, without, resume, resumed, PlainObject, with_monitor, Resume, Mark, Owner, Recursions, monitor_in, bears, hold_words_ahead, World, OwnedBy, lock, marks, displaced_words, owner_words, recursion_count, holds_by_monitor, object_of, monitor_of, owner_at, waits_at, notified_at, or_zero, IsOwnMonitor, Purpose, Fits, same_number, sound, unlisted_count, outside_standing, listed_count, owner_standing, fits_running, MayLogResume, LogsValid, log_resume_plan, lets_go, IsOwnEntry, []}
+use Rattle.core_locks.proofs.Prelude.{◌≡◌, ℕ, ◌+◌, ◌<◌, ◌||◌, true, false, cond, List, Some, None, refl, sym, ap, ◌∙◌, arith, inl, inr, is_none, or-true, same_Some, PlainMonitor, is_thread, is_listed, count_of, only_if, without, resume, resumed, PlainObject, with_monitor, Resume, Recursions, monitor_in, bears, hold_words_ahead, World, OwnedBy, lock, marks, displaced_words, recursion_count, holds_by_monitor, object_of, monitor_of, owner_at, waits_at, notified_at, or_zero, IsOwnMonitor, Purpose, Fits, same_number, sound, unlisted_count, outside_standing, listed_count, owner_standing, fits_running, MayLogResume, LogsValid, log_resume_plan, lets_go, IsOwnEntry, []}
 use Rattle.core_locks.proofs.HoldWays.{saw_inflated}
 use Rattle.core_locks.proofs.WaitOut.{fails}
 use Rattle.core_locks.proofs.EnterTakes.{IsTaking, IsTakingAt, ready_unwaiting, owner_or_taker}

@@ -1,5 +1,5 @@
 -- By what the thread whose safepoint is reached has seen since, the threads are stuck.
-use Rattle.core_locks.proofs.Prelude.{◌≡◌, ◌≢◌, ℕ, ◌<◌, eq-eqb, true, false, List, Option, Some, None, refl, sym, ap, ◌∙◌, subst, inl, inr, read_mark, read_owner, Inflated, ByThread, Free, ByRecord, OwnerForm, is_thread, owns, PlainObject, Name, Mark, Waiting, Owner, monitor_in, waits_on, says_notified, enters_on, says_ended, bears, notification_in, last_seen, World, lock, marks, who, holder, hold_count, monitor_of, owner_at, owner_lock, Fits, ends, IsStuck, IsHeldUp, Shape, IsOwner, same_number, inflated_form, lock_by_form, safepoint_calm, MayHalt, SeesHeldUp, SeesEnded, Purpose}
+use Rattle.core_locks.proofs.Prelude.{◌≡◌, ◌≢◌, ℕ, ◌<◌, eq-eqb, true, false, List, Option, Some, None, refl, sym, ap, ◌∙◌, subst, inl, inr, read_mark, read_owner, Inflated, ByThread, Free, ByRecord, OwnerForm, is_thread, owns, PlainObject, Name, Mark, Waiting, Owner, monitor_in, waits_on, says_notified, enters_on, says_ended, bears, notification_in, last_seen, World, lock, marks, who, holder, hold_count, monitor_of, owner_at, owner_lock, Fits, ends, IsStuck, IsHeldUp, Shape, IsOwner, same_number, inflated_form, lock_by_form, safepoint_calm, MayHalt, SeesHeldUp, Purpose}
 use Rattle.std.proofs.lemmas.Bool.{or_cases}
 use Rattle.core_world.specs.Trees.LookSteps.{is_open_to}
 

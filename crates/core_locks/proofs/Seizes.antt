@@ -1,5 +1,5 @@
 -- A thread exchanges a neutral mark for its place, where it has stored that mark as the displaced word.
-use Rattle.core_locks.proofs.Prelude.{◌≡◌, ◌≢◌, ◌⊎◌, ℕ, zero, suc, ◌<◌, ◌≤◌, ◌==◌, ◌||◌, ne_eqb, Bool, true, false, cond, List, slice_index, Option, Some, refl, sym, ap, ◌∙◌, subst, arith, inl, inr, eqb-true, read_mark, mark_of, Locked, is_thread, is_listed, owns, PlainObject, Mark, Displaced, StepPlan, Calm, Seizes, Grabs, hold_word, is_neutral, hash_in, monitor_in, Inflation, inflation_in, bears, hold_words_ahead, word_after, Known, last_seen, World, with_word_and_known, with_known, Lock, Open, BiasedTo, OnRecord, OwnedBy, lock, header, marks, displaced_words, headers, owner_words, prototype_of, inflations, holder, hold_count, holds_by_monitor, monitor_of, owner_at, hash_at, waits_at, notified_at, Purpose, world_after, known_hit, seen_before, Fits, IsValid, SeenFit, Swap, IsMark, each_with_known, with_known_here, part_moves, inflations_stay, holds_by_monitor_is, fits_running, seen_is_part, Spares, seen_moves, counts_more, miss_valid, unwaited_fits, MaySeize, KeepsValid, seize_plan, unlisted_count}
+use Rattle.core_locks.proofs.Prelude.{◌≡◌, ◌≢◌, ◌⊎◌, ℕ, ◌<◌, ◌≤◌, ◌==◌, ◌||◌, ne_eqb, Bool, true, false, cond, List, slice_index, Option, Some, refl, sym, ap, ◌∙◌, subst, arith, inl, inr, eqb-true, read_mark, mark_of, Locked, is_thread, is_listed, PlainObject, Mark, Displaced, StepPlan, Calm, Seizes, Grabs, hold_word, is_neutral, hash_in, monitor_in, Inflation, inflation_in, bears, hold_words_ahead, word_after, Known, last_seen, World, with_word_and_known, with_known, Lock, Open, BiasedTo, OnRecord, OwnedBy, lock, header, marks, displaced_words, headers, owner_words, prototype_of, inflations, holder, hold_count, monitor_of, owner_at, hash_at, waits_at, notified_at, Purpose, world_after, known_hit, seen_before, Fits, IsValid, SeenFit, Swap, IsMark, each_with_known, with_known_here, part_moves, inflations_stay, fits_running, seen_is_part, Spares, seen_moves, counts_more, miss_valid, unwaited_fits, MaySeize, KeepsValid, seize_plan, unlisted_count}
 use Rattle.core_locks.proofs.MarkMeanings.{forms_marked, IsBare, bare_unnamed, neutral_bare, neutral_some, neutral_lock, neutral_header, locked_read, locked_bare, locked_some, locked_lock, locked_header}
 use Rattle.core_locks.proofs.MarkChanges.{names_same, bias_back, bias_forth, bias_before, zero_back, zero_forth, lock_at, header_same, mark_back, mark_spares, recursions_by_marks, biases_by_marks, classes_by_marks, inflating_by_marks}
 use Rattle.core_locks.proofs.LockTurns.{owners_taken}

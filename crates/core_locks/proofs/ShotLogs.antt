@@ -1,6 +1,5 @@
 -- The shots stay right where a thread logs an entry of its own.
-use Rattle.core_locks.proofs.Prelude.{◌≡◌, ◌⊎◌, ℕ, ◌<◌, false, List, [], ◌∷◌, ◌++◌, length, Option, Some, refl, sym, ap, ◌∙◌, subst, arith, inl, inr, PlainObject, Logged, Known, World, with_known, logs, Fits, Entry, Enter, Exit, Wait, Resume, Notify, NotifyAll, Hash, Dump, Unfinished, goes_on_with, IsUnfinished, logs_from, logs_length}
-use Rattle.core_world.specs.declared.task.Op.{Op}
+use Rattle.core_locks.proofs.Prelude.{◌≡◌, ◌⊎◌, ℕ, ◌<◌, false, List, [], ◌∷◌, ◌++◌, length, Option, refl, sym, ap, ◌∙◌, subst, arith, inl, inr, PlainObject, Logged, Known, World, with_known, logs, Fits, Entry, Dump, Unfinished, goes_on_with, IsUnfinished, logs_from, logs_length}
 use Rattle.core_world.specs.declared.task.Op.TheVariants as op
 use Rattle.core_world.specs.Shots.{AreOfDumps, ShotsFit}
 use Rattle.core_world.proofs.ShotsStay.{IsDump, IsNoDump, dump_or_not, dumps_dump, dumps_other, shots_with}

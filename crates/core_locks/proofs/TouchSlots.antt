@@ -1,5 +1,5 @@
 -- A thread that holds an object loads or stores one of its slots, and so logs a Get or a Put.
-use Rattle.core_locks.proofs.Prelude.{◌≡◌, ◌≢◌, ◌⊎◌, ℕ, ◌+◌, ◌<◌, ◌&&◌, nat_lt, eq-eqb, true, false, cond, List, [], ◌∷◌, ◌++◌, length, slice_set, Option, Some, None, refl, sym, ap, ◌∙◌, subst, arith, inl, inr, slice_get, nat_tests, Decides-int_eq, only_if, PlainObject, take_at, same_value, has_value, Logged, last_stamp, Get, Put, Value, read_value, word_of, Slot, StepPlan, Stage, Calm, word_after, with_word, same_name, Known, StepMade, World, with_word_and_known, object_of, owner_at, Stays, Purpose, known_hit, seen_before, draws_after, log_after, kept_by_note, Fits, SeenFit, Store, Load, drawn_by, SlotsFit, IsHere, Unfinished, Act, Log, LogGet, value_found, by_equal, fits_running, with_word_there, frame2, with_word_same, Logs, MayTouch, MayPut, IsOwnEntry, LogsFound, LogsValid, get_plan, put_plan, MayGet, get_entry, slice_index_or}
+use Rattle.core_locks.proofs.Prelude.{◌≡◌, ◌≢◌, ◌⊎◌, ℕ, ◌+◌, ◌<◌, ◌&&◌, nat_lt, eq-eqb, true, false, cond, List, [], ◌∷◌, ◌++◌, length, slice_set, Option, Some, None, refl, sym, ap, ◌∙◌, subst, arith, inl, inr, slice_get, nat_tests, Decides-int_eq, only_if, PlainObject, take_at, same_value, has_value, Logged, last_stamp, Get, Put, Value, read_value, word_of, Slot, StepPlan, Stage, Calm, word_after, with_word, same_name, Known, StepMade, World, with_word_and_known, object_of, owner_at, Stays, Purpose, known_hit, seen_before, draws_after, log_after, kept_by_note, Fits, Store, Load, drawn_by, SlotsFit, IsHere, Unfinished, Act, Log, LogGet, value_found, by_equal, fits_running, with_word_there, frame2, with_word_same, Logs, MayTouch, MayPut, IsOwnEntry, LogsFound, LogsValid, get_plan, put_plan, MayGet, get_entry, slice_index_or}
 use Rattle.plain_monitor.specs.declared.entry.Value.TheVariants.{Nil, Int, Ref}
 use Rattle.std.proofs.lemmas.List.{length-set, get_or-set_same}
 use Rattle.std.proofs.lemmas.Option.{slice_get-get_or, slice_get_within, get_or_from_slice_get}

@@ -1,5 +1,5 @@
 -- What a thread says in its own waiting word: that it is ready, that it enters an object, and that it has ended.
-use Rattle.core_locks.proofs.Prelude.{◌≡◌, ◌⊎◌, ℕ, ◌<◌, true, false, List, Option, Some, refl, sym, ap, ◌∙◌, subst, arith, inl, inr, eqb-true, same_Some, wait_of, read_wait, Ready, Entering, Ended, read_wait-wait_of, is_listed, PlainObject, Path, Mark, Waiting, Calm, Enters, Resumes, monitor_in, waits_form, ended_form, notified_form, enters_form, World, marks, monitor_of, waits_at, notified_at, Purpose, with_stage, store, world_after, Fits, IsUnfinished, Unfinished, IsWait, no_entering, no_ended, no_wait, no_told, wait_zero, sound, listed_count, waiter_unnotified, fits_running, IsOut, MayBeReady, MayStand, MayEnd, KeepsValid, store_ended_plan, store_entering_plan, store_ready_plan}
+use Rattle.core_locks.proofs.Prelude.{◌≡◌, ◌⊎◌, ℕ, ◌<◌, true, false, List, Option, Some, refl, sym, ap, ◌∙◌, subst, arith, inl, inr, eqb-true, same_Some, wait_of, read_wait, Ready, Entering, Ended, read_wait-wait_of, is_listed, PlainObject, Path, Waiting, Calm, Enters, Resumes, monitor_in, waits_form, ended_form, notified_form, enters_form, World, marks, monitor_of, waits_at, notified_at, Purpose, with_stage, store, world_after, Fits, IsUnfinished, Unfinished, IsWait, no_entering, no_ended, no_wait, no_told, wait_zero, sound, listed_count, waiter_unnotified, fits_running, IsOut, MayBeReady, MayStand, MayEnd, KeepsValid, store_ended_plan, store_entering_plan, store_ready_plan}
 use Rattle.core_world.specs.declared.task.Op.{Op}
 use Rattle.core_world.specs.declared.task.Op.TheVariants as op
 use Rattle.core_locks.proofs.HoldWays.{saw_inflated}
