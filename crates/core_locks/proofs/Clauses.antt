@@ -39,32 +39,8 @@ parts_of w objects = record {
 }
 
 pub data Clause : Type 0 where
-  limits : Clause
-  legal : Clause
-  taken : Clause
-  sized : Clause
-  numbered : Clause
-  absent : Clause
-  seen : Clause
-  forms : Clause
-  safe : Clause
-  quiet : Clause
-  holds : Clause
-  owners : Clause
-  biases : Clause
-  records : Clause
-  inflating : Clause
-  monitors : Clause
-  recursions : Clause
-  hashes : Clause
-  draws : Clause
-  slots : Clause
-  waits : Clause
-  stamps : Clause
-  lengths : Clause
-  claims : Clause
-  classes : Clause
-  shots : Clause
+  limits legal taken sized numbered absent seen forms safe quiet holds owners biases : Clause
+  records inflating monitors recursions hashes draws slots waits stamps lengths claims classes shots : Clause
 
 -- what a clause says of these parts
 abbrev pub Holds : Parts → Clause → Type 0
@@ -111,31 +87,7 @@ AllHold p = (c : Clause) → Holds p c
 
 pub clauses : (w : World) (objects : List PlainObject) → Fits w objects → AllHold (parts_of w objects)
 clauses w objects v limits = v.limits
-clauses w objects v legal = v.legal
-clauses w objects v taken = v.taken
-clauses w objects v sized = v.sized
-clauses w objects v numbered = v.numbered
-clauses w objects v absent = v.absent
-clauses w objects v seen = v.seen
-clauses w objects v forms = v.forms
-clauses w objects v safe = v.safe
-clauses w objects v quiet = v.quiet
-clauses w objects v holds = v.holds
-clauses w objects v owners = v.owners
-clauses w objects v biases = v.biases
-clauses w objects v records = v.records
-clauses w objects v inflating = v.inflating
-clauses w objects v monitors = v.monitors
-clauses w objects v recursions = v.recursions
-clauses w objects v hashes = v.hashes
-clauses w objects v draws = v.draws
-clauses w objects v slots = v.slots
-clauses w objects v waits = v.waits
-clauses w objects v stamps = v.stamps
-clauses w objects v lengths = v.lengths
-clauses w objects v claims = v.claims
-clauses w objects v classes = v.classes
-clauses w objects v shots = v.shots
+clauses w objects v _ = search v
 
 pub fits : (w : World) (objects : List PlainObject) → AllHold (parts_of w objects) → Fits w objects
 fits w objects h = record {

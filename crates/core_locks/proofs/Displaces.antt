@@ -1,5 +1,6 @@
 -- A thread stores a displaced word at a free place of its own.
-use Rattle.core_locks.proofs.Prelude.{◌≡◌, ◌≢◌, ◌⊎◌, ℕ, ◌+◌, ◌<◌, ◌==◌, ◌&&◌, ne_eqb, Bool, true, false, cond, List, slice_index, Option, Some, None, refl, sym, ap, ◌∙◌, arith, inl, inr, MarkForm, read_mark, Locked, Neutral, Inflated, Inflating, PlainObject, Displaced, StepPlan, Seizes, hold_word, is_neutral, is_deeper, hash_in, Inflation, inflation_in, recursions_ahead, Known, World, with_word_and_known, OnRecord, record_lock, lock, lock_form, header, header_form, marks, displaced_words, headers, owner_words, prototype_of, inflations, recursion_count, owner_at, Stays, Purpose, known_hit, Fits, SeenFit, by_equal, mark_zero, hold_some, deeper_none, fits_running, KeepsValid, MayDisplace, displace_plan}
+use Rattle.core_locks.proofs.Prelude.{◌≡◌, ◌≢◌, ◌⊎◌, ℕ, ◌+◌, ◌<◌, ◌==◌, ◌&&◌, ne_eqb, Bool, false, cond, List, slice_index, Option, Some, refl, sym, ap, ◌∙◌, arith, inl, inr, MarkForm, read_mark, Locked, Inflating, PlainObject, Displaced, StepPlan, Seizes, hold_word, is_neutral, is_deeper, hash_in, Inflation, inflation_in, recursions_ahead, Known, World, with_word_and_known, OnRecord, record_lock, lock, lock_form, header, header_form, marks, displaced_words, headers, owner_words, prototype_of, inflations, recursion_count, owner_at, Stays, Purpose, known_hit, Fits, by_equal, mark_zero, hold_some, deeper_none, fits_running, KeepsValid, MayDisplace, displace_plan}
+use Rattle.std.proofs.Math.Bool.{and-false}
 use Rattle.core_locks.proofs.MarkHolds.{number_same}
 use Rattle.core_locks.proofs.Clauses.{kept_parts, parts_stand, seen, records, recursions, hashes, AllHold}
 use Rattle.core_locks.proofs.Steps.{quietly, IsStep, next, step_fits, seen_next, quiet_step}
@@ -8,16 +9,9 @@ use Rattle.core_locks.proofs.OwnSeen.{own_seen}
 -- the header of an object stands where its lock rests, or in no displaced word
 header_where_it_rests : (f : Option MarkForm) (mark prototype : ℕ) (owners headers : ℕ → ℕ) (a b : ℕ → ℕ → ℕ) (inflation : Option Inflation)
     → ((u q : ℕ) → lock_form f prototype owners inflation ≡ OnRecord u q → a u q ≡ b u q) → header_form f mark a headers inflation ≡ header_form f mark b headers inflation
-header_where_it_rests (Some Inflating) mark prototype owners headers a b None h = refl
 header_where_it_rests (Some Inflating) mark prototype owners headers a b (Some i) h = ap Some (h i.thread i.place refl)
-header_where_it_rests (Some (Neutral hash age)) mark prototype owners headers a b inflation h = refl
 header_where_it_rests (Some (Locked u q)) mark prototype owners headers a b inflation h = ap Some (h u q refl)
-header_where_it_rests (Some (Inflated m)) mark prototype owners headers a b inflation h = refl
 header_where_it_rests _ mark prototype owners headers a b inflation h = refl
-
-and_false : (b : Bool) → (b && false) ≡ false
-and_false true = refl
-and_false false = refl
 
 module _ (w : World) (P : List PlainObject) (t : ℕ) (e : Purpose) (p d : ℕ) (within : t < w.shape.threads) (may : MayDisplace (w.known t) e p) (v : Fits w P) where
   abbrev plan : StepPlan
@@ -41,7 +35,7 @@ module _ (w : World) (P : List PlainObject) (t : ℕ) (e : Purpose) (p d : ℕ) 
   word_at u q =
       by_equal u t
       (λ a. by_equal q p (λ b. inl (a, b)) (λ b. inr (ap (λ (c : Bool). cond (c && (u == t)) d (displaced_words w u q)) (ne_eqb q p b))))
-      (λ a. inr (ap (λ (c : Bool). cond c d (displaced_words w u q)) (ap (λ (c : Bool). (q == p) && c) (ne_eqb u t a) ∙ and_false (q == p))))
+      (λ a. inr (ap (λ (c : Bool). cond c d (displaced_words w u q)) (ap (λ (c : Bool). (q == p) && c) (ne_eqb u t a) ∙ and-false (q == p))))
 
   record_word : (u q o c : ℕ) → slice_index (w.known u).holds q ≡ hold_word o c → displaced_words x u q ≡ displaced_words w u q
   record_word u q o c h = elim (word_at u q) [
@@ -53,7 +47,7 @@ module _ (w : World) (P : List PlainObject) (t : ℕ) (e : Purpose) (p d : ℕ) 
   rest_word o u q r = elim (word_at u q) [ inl a ↦ absurd (unrested o u q r a.0 a.1) | inr a ↦ a ]
 
   header_at : (o : ℕ) → header_form (read_mark (marks w o)) (marks w o) (displaced_words x) (headers w) (inflations w o) ≡ header w o
-  header_at o = sym (header_where_it_rests (read_mark (marks w o)) (marks w o) (prototype_of w o) (owner_words w) (headers w) (displaced_words w) (displaced_words x) (inflations w o) (λ u q r. sym (rest_word o u q r)))
+  header_at o = header_where_it_rests (read_mark (marks w o)) (marks w o) (prototype_of w o) (owner_words w) (headers w) _ _ (inflations w o) (rest_word o)
 
   -- the records that were made through the monitor are as many: the free place isn't one
   again_same : (o u : ℕ) → recursion_count o (displaced_words x u) (w.known u).holds ≡ recursion_count o (displaced_words w u) (w.known u).holds
@@ -85,9 +79,6 @@ module _ (w : World) (P : List PlainObject) (t : ℕ) (e : Purpose) (p d : ℕ) 
         unrested i.object i.thread i.place rests b.2.0 b.2.1
   ]
 
-  seen_law : SeenFit x P
-  seen_law = own_seen w P t plan (search (may.runs, uncounted)) v
-
   step : IsStep w t l quietly
   step = record { within = within; mine = refl; others = λ k. refl }
 
@@ -95,7 +86,7 @@ module _ (w : World) (P : List PlainObject) (t : ℕ) (e : Purpose) (p d : ℕ) 
   z = next w t l quietly x.words
 
   all_after : AllHold (kept_parts w z P)
-  all_after seen = seen_next step x.words P seen_law
+  all_after seen = seen_next step x.words P (own_seen w P t plan (search (may.runs, uncounted)) v)
   all_after records = record {
     first = v.records.first;
     header = λ o u q r. ap is_neutral (rest_word o u q r) ∙ v.records.header o u q r;

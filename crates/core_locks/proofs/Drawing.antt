@@ -50,9 +50,7 @@ module _ (w : World) (P Q : List PlainObject) (t : ℕ) (y : Logged) (l : Known)
     one = λ o.
         let many : t < length (logs w) = (let b = logs_length 0 w.shape.threads w.known in omega (arith, b, a.within)) in
         let b = ap (all_draws o) (logs_are w P Q t y l v a) ∙ all_more o t (logs w) y many in
-        let c = v.draws.one o in
-        let d = one o in
-        omega (arith, b, c, d);
+        omega (arith, b, v.draws.one o, one o);
   }
 
   -- or none

@@ -1,15 +1,15 @@
 -- A running thread that is taking an object logs its Enter or its Resume: every clause holds afterwards.
-use Rattle.core_locks.proofs.Prelude.{◌≡◌, ◌⊎◌, ℕ, ◌+◌, ◌<◌, ◌≤◌, max, true, false, cond, List, length, slice_set, Some, refl, sym, ap, ◌∙◌, subst, arith, inl, inr, same_Some, PlainMonitor, is_listed, PlainObject, take_entry, Logged, last_stamp, Entry, Wait, bound_to, bound_is_named, Stamp, Waiting, Recursions, Seizes, Resumes, Waits, Notifies, monitor_in, waits_on, says_notified, stamp_in, enters_on, says_ended, recursions_ahead, recursions_behind, notification_in, Known, World, logs, OwnedBy, lock, marks, displaced_words, recursion_count, object_of, monitor_of, owner_at, waits_at, notified_at, or_zero, SeenStays, RecursionsFit, GoesByMonitor, Purpose, logging_plan, world_after, known_after, stamp_by, Fits, SeenFit, WaitsFit, last_entry, ends, IsUnfinished, bound_stamp, StampsFit, lets_go, entries, Load, by_equal, each_with_known, with_known_here, with_known_else, header_stays, no_entering, no_ended, with_word_same, IsOut, StepMade, ◌≢◌, ◌==◌, ◌||◌, ne_eqb, Bool, [], ◌∷◌, Option, None, or-false, is_thread, count_of, owns, Calm, Exits, TakesOver, inflation_in, bears, hold_words_ahead, who, hold_count, holds_by_monitor, seen_before, same_number, outside_standing, who_bears, taken_alone, stays_back, seen_moves, counts_anew}
+use Rattle.core_locks.proofs.Prelude.{◌≡◌, ◌⊎◌, ℕ, ◌+◌, ◌<◌, ◌≤◌, max, true, false, cond, List, length, slice_set, Some, refl, sym, ap, ◌∙◌, subst, arith, inl, inr, same_Some, PlainMonitor, is_listed, PlainObject, take_entry, Logged, last_stamp, Entry, Wait, bound_is_named, Stamp, Waiting, Recursions, Seizes, Resumes, Waits, Notifies, monitor_in, waits_on, says_notified, stamp_in, enters_on, says_ended, recursions_ahead, recursions_behind, notification_in, Known, World, logs, OwnedBy, lock, marks, displaced_words, recursion_count, object_of, monitor_of, owner_at, waits_at, notified_at, or_zero, SeenStays, GoesByMonitor, Purpose, logging_plan, world_after, known_after, stamp_by, Fits, SeenFit, last_entry, ends, IsUnfinished, bound_stamp, lets_go, entries, Load, by_equal, each_with_known, with_known_here, with_known_else, header_stays, no_entering, no_ended, with_word_same, IsOut, StepMade, ◌≢◌, ◌||◌, ne_eqb, Bool, [], ◌∷◌, Option, None, or-false, is_thread, count_of, owns, Calm, Exits, TakesOver, inflation_in, bears, hold_words_ahead, who, hold_count, holds_by_monitor, seen_before, same_number, outside_standing, who_bears, taken_alone, seen_moves, counts_anew, Logs, one_if}
 use Rattle.core_world.specs.declared.task.Op.TheVariants as op
 use Rattle.core_locks.proofs.Clauses.{parts_of, kept_locks, kept_objects, locks_stand, seen, quiet, holds, owners, biases, records, recursions, waits, stamps, AllHold}
 use Rattle.core_locks.proofs.Steps.{noting, IsStep, next, stepped, step_fits, quiet_next, logs_next, seen_next, none_reached, stage_back, stage_part, inflates_stay}
 use Rattle.core_locks.proofs.Drawing.{draws_still, draws_counted, bound_undrawn}
 use Rattle.core_locks.proofs.ByThread.{RecordsOf, records_by, records_at}
-use Rattle.core_locks.proofs.Logging.{IsLogging, last_next, bound_grows, stamps_next}
+use Rattle.core_locks.proofs.Logging.{Covers, IsLogging, last_next, bound_grows, stamps_next}
 use Rattle.core_locks.proofs.LoggedSteps.{logged_step}
-use Rattle.core_locks.proofs.Updates.{takes, hashes_stay, slots_stay, waits_stay, part_stays, monitor_here, monitor_else}
+use Rattle.core_locks.proofs.Updates.{takes, hashes_stay, slots_stay, waits_stay, part_stays, each_object}
 use Rattle.core_locks.proofs.WaitOut.{fails, out_word, ready_is_out}
-use Rattle.core_locks.proofs.OwnSeen.{back_by}
+use Rattle.core_locks.proofs.OwnSeen.{other_back}
 use Rattle.core_locks.proofs.EnterTakes.{IsTaking, at_taking, ready_unwaiting, owner_or_taker}
 
 module _ (w : World) (P : List PlainObject) (t o : ℕ) (e : Entry) (r : Purpose) (m : PlainMonitor) (a : IsTaking w P t o e m) (v : Fits w P) where
@@ -48,20 +48,14 @@ module _ (w : World) (P : List PlainObject) (t o : ℕ) (e : Entry) (r : Purpose
   step : IsStep w t l noting
   step = record { within = a.within; mine = refl; others = λ k. refl }
 
+  -- a fact of each object afterwards
+  at : (F : ℕ → PlainObject → Type 0) → F o z → ((i : ℕ) → i ≢ o → F i (object_of P i)) → (i : ℕ) → F i (object_of Q i)
+  at F = each_object F P o z inside
+
   -- the owners afterwards
-  owner_here : (u : ℕ) → owner_at Q o u ≡ (t == u)
-  owner_here u = ap (λ q. owns q u) (monitor_here P o z inside) ∙ ap (λ b. is_thread b u) a.owner
-
-  owner_else : (i u : ℕ) → i ≢ o → owner_at Q i u ≡ owner_at P i u
-  owner_else i u d = ap (λ q. owns q u) (monitor_else P o i z d)
-
   owner_other : (i u : ℕ) → u ≢ t → owner_at Q i u ≡ owner_at P i u
-  owner_other i u d = by_equal i o
-      (λ s. ap (λ j. owner_at Q j u) s ∙ owner_here u ∙ ne_eqb t u (λ q. d (sym q)) ∙ sym (alone u d).1 ∙ ap (λ j. owner_at P j u) (sym s))
-      (λ n. owner_else i u n)
-
-  owner_now : (monitor_of Q o).owner ≡ Some t
-  owner_now = ap (λ (q : PlainMonitor). q.owner) (monitor_here P o z inside) ∙ a.owner
+  owner_other i u d = at (λ i y. owns y.monitor u ≡ owner_at P i u) (ap (λ b. is_thread b u) a.owner ∙ ne_eqb t u (λ q. d (sym q)) ∙ sym (alone u d).1)
+      (λ i n. refl) i
 
   -- those who wait and were notified afterwards
   unwaiting : (i : ℕ) → is_listed (waits_at P i) t ≡ false
@@ -70,16 +64,8 @@ module _ (w : World) (P : List PlainObject) (t o : ℕ) (e : Entry) (r : Purpose
   waits_same : (i : ℕ) → waits_at P i ≡ waits_at Q i
   waits_same = part_stays (λ y. y.monitor.waits) P o z inside a.waits
 
-  called_here : notified_at Q o ≡ m.called
-  called_here = ap (λ (q : PlainMonitor). q.called) (monitor_here P o z inside)
-
-  called_else : (i : ℕ) → i ≢ o → notified_at Q i ≡ notified_at P i
-  called_else i d = ap (λ (q : PlainMonitor). q.called) (monitor_else P o i z d)
-
   called_other : (i u : ℕ) → u ≢ t → is_listed (notified_at Q i) u ≡ is_listed (notified_at P i) u
-  called_other i u d = by_equal i o
-      (λ s. ap (λ j. is_listed (notified_at Q j) u) s ∙ ap (λ ps. is_listed ps u) called_here ∙ (a.others u d).0 ∙ ap (λ j. is_listed (notified_at P j) u) (sym s))
-      (λ n. ap (λ ps. is_listed ps u) (called_else i n))
+  called_other i u d = at (λ i y. is_listed y.monitor.called u ≡ is_listed (notified_at P i) u) (a.others u d).0 (λ i n. refl) i
 
   uncalled_before : (i : ℕ) → i ≢ o → is_listed (notified_at P i) t ≡ false
   uncalled_before i d =
@@ -92,9 +78,7 @@ module _ (w : World) (P : List PlainObject) (t o : ℕ) (e : Entry) (r : Purpose
 
   -- the thread itself is called nowhere any more
   uncalled : (i : ℕ) → is_listed (notified_at Q i) t ≡ false
-  uncalled i = by_equal i o
-      (λ s. ap (λ j. is_listed (notified_at Q j) t) s ∙ ap (λ ps. is_listed ps t) called_here ∙ a.uncalled)
-      (λ n. ap (λ ps. is_listed ps t) (called_else i n) ∙ uncalled_before i n)
+  uncalled = at (λ i y. is_listed y.monitor.called t ≡ false) a.uncalled uncalled_before
 
   called_back : (i u : ℕ) → is_listed (notified_at Q i) u ≡ true → (u ≢ t) × (is_listed (notified_at P i) u ≡ true)
   called_back i u h = by_equal u t
@@ -102,9 +86,7 @@ module _ (w : World) (P : List PlainObject) (t o : ℕ) (e : Entry) (r : Purpose
       (λ d. (d, sym (called_other i u d) ∙ h))
 
   called_none : (i : ℕ) → notified_at P i ≡ [] → notified_at Q i ≡ []
-  called_none i h = by_equal i o
-      (λ s. ap (notified_at Q) s ∙ called_here ∙ a.nobody (ap (notified_at P) (sym s) ∙ h))
-      (λ n. called_else i n ∙ h)
+  called_none = at (λ i y. notified_at P i ≡ [] → y.monitor.called ≡ []) a.nobody (λ i d h. h)
 
   -- the locks are as before, and who has each
   inflates : inflation_in Calm ≡ inflation_in (w.known t).stage
@@ -118,31 +100,23 @@ module _ (w : World) (P : List PlainObject) (t o : ℕ) (e : Entry) (r : Purpose
       (λ d. v.owners.same i u ∙ ap (λ c. c || bears (w.known u).stage i) (sym (owner_other i u d)))
     where
       mine : (i : ℕ) → is_thread (who w i) t ≡ owner_at Q i t
-      mine i = by_equal i o
-          (λ s. ap (λ j. is_thread (who w j) t) s ∙ ap (λ q. is_thread q t) (who_bears w P o t v borne) ∙ sym (owner_here t) ∙ ap (λ j. owner_at Q j t) (sym s))
-          (λ n. v.owners.same i t ∙ ap (λ b. owner_at P i t || b) (unborne i n) ∙ or-false (owner_at P i t) ∙ sym (owner_else i t n))
+      mine = at (λ i y. is_thread (who w i) t ≡ owns y.monitor t) (ap (λ q. is_thread q t) (who_bears w P o t v borne ∙ sym a.owner))
+          (λ i n. v.owners.same i t ∙ ap (λ b. owner_at P i t || b) (unborne i n) ∙ or-false (owner_at P i t))
 
   -- how often each holds
   standing_other : (i u : ℕ) → u ≢ t → holds_by_monitor (monitor_of Q i) u ≡ holds_by_monitor (monitor_of P i) u
-  standing_other i u d = by_equal i o
-      (λ s. ap (λ j. holds_by_monitor (monitor_of Q j) u) s ∙ ap (λ q. holds_by_monitor q u) (monitor_here P o z inside) ∙ here ∙ ap (λ j. holds_by_monitor (monitor_of P j) u) (sym s))
-      (λ n. ap (λ q. holds_by_monitor q u) (monitor_else P o i z n))
+  standing_other i u d = at (λ i y. holds_by_monitor y.monitor u ≡ holds_by_monitor (monitor_of P i) u) here (λ i n. refl) i
     where
       here : holds_by_monitor m u ≡ holds_by_monitor (monitor_of P o) u
       here =
           let now = outside_standing m u (ap (λ b. is_thread b u) a.owner ∙ ne_eqb t u (λ q. d (sym q))) in
           let before = outside_standing (monitor_of P o) u (alone u d).1 in
-          let waits = ap (λ ps. or_zero (count_of ps u)) a.waits in
-          let called = ap or_zero (a.others u d).1 in
-          omega (arith, now, before, waits, called)
+          omega (arith, now, before, ap (λ ps. or_zero (count_of ps u)) a.waits, ap or_zero (a.others u d).1)
 
   number_mine : (i : ℕ) → holds_by_monitor (monitor_of Q i) t ≡ holds_by_monitor (monitor_of P i) t + hold_words_ahead (w.known t).stage i
-  number_mine i = by_equal i o
-      (λ s. ap (λ j. holds_by_monitor (monitor_of Q j) t) s ∙ ap (λ q. holds_by_monitor q t) (monitor_here P o z inside) ∙ a.number ∙ ap (λ j. holds_by_monitor (monitor_of P j) t + hold_words_ahead (w.known t).stage j) (sym s))
-      (λ n.
-      let b = ap (λ q. holds_by_monitor q t) (monitor_else P o i z n) in
-      let c : hold_words_ahead (w.known t).stage i ≡ 0 = at_taking (λ s. hold_words_ahead s i ≡ 0) (w.known t).stage o a.stage (λ p path. ap (λ q. cond q 1 0) (ne_eqb o i (λ s. n (sym s)))) refl in
-      omega (arith, b, c))
+  number_mine = at (λ i y. holds_by_monitor y.monitor t ≡ holds_by_monitor (monitor_of P i) t + hold_words_ahead (w.known t).stage i) a.number (λ i n.
+      let none = at_taking (λ s. hold_words_ahead s i ≡ 0) (w.known t).stage o a.stage (λ p path. ap one_if (ne_eqb o i (λ s. n (sym s)))) refl in
+      omega (arith, none))
 
   -- what the others have seen stays, and the thread begins anew
   seen_law : SeenFit x Q
@@ -151,8 +125,7 @@ module _ (w : World) (P : List PlainObject) (t o : ℕ) (e : Entry) (r : Purpose
       (ap (λ (b : Bool). let step : StepMade = record { plan = logging_plan e r (Stamp o) Load; found = w.words (Stamp o) } in step ∷ cond b [] (seen_before w.shape (w.known t))) a.taking)
       (counts_anew (Stamp o) (w.words (Stamp o)) t l w (owner_at Q) (waits_at Q) (λ i h. absurd (cc h)) (λ b g h. absurd (cc h)))
       (record {
-        before = λ u n s d h g. stays_back w x (w.known u) (w.known u) (owner_at P) (owner_at Q) u
-            (back_by w x (w.known u) (w.known u) (owner_at P) (owner_at Q) u refl refl (λ h. h) refl refl (λ h. h) refl (λ i h. sym (owner_other i u d) ∙ h) (λ i b m h. h)) n s g;
+        before = λ u n s d h g. other_back w x (w.known u) (owner_at P) (owner_at Q) u refl refl (λ i h. sym (owner_other i u d) ∙ h) n s g;
         owned = λ u i d h. sym (owner_other i u d) ∙ h;
         word = λ u s d h g. g;
         bias = λ i h. h;
@@ -202,21 +175,12 @@ module _ (w : World) (P : List PlainObject) (t o : ℕ) (e : Entry) (r : Purpose
       omega (arith, few, stamp_is, v.stamps.logged t)
 
   -- the bound of each object is no smaller than it was, and that of o is the new stamp
-  bounds : (i : ℕ) → (bound_stamp (λ u. (w.known u).log) (w.words (Stamp i)) (monitor_of P i).owner ≤ bound_stamp (λ u. (x.known u).log) (w.words (Stamp i)) (monitor_of Q i).owner)
-      × (bound_to e ≡ Some i → y.stamp ≤ bound_stamp (λ u. (x.known u).log) (w.words (Stamp i)) (monitor_of Q i).owner)
-  bounds i = by_equal i o
-      (λ s.
-      let now : bound_stamp (λ u. (x.known u).log) (w.words (Stamp i)) (monitor_of Q i).owner ≡ y.stamp =
-      ap (λ j. bound_stamp (λ u. (x.known u).log) (w.words (Stamp j)) (monitor_of Q j).owner) s
-      ∙ ap (bound_stamp (λ u. (x.known u).log) (w.words (Stamp o))) (owner_now) ∙ ap (λ (k : Known). last_stamp k.log) (with_known_here t l w.known) ∙ last_next w P Q t y l v logs_it in
-      let before = ap (λ j. bound_stamp (λ u. (w.known u).log) (w.words (Stamp j)) (monitor_of P j).owner) s in
-      (omega (arith, now, before, above_bound), λ h. omega (arith, now)))
-      (λ d.
-      let now = ap (λ (q : PlainMonitor). bound_stamp (λ u. (x.known u).log) (w.words (Stamp i)) q.owner) (monitor_else P o i z d) in
-      (omega (arith, now, bound_grows w P Q t y l v logs_it (w.words (Stamp i)) (monitor_of P i).owner), λ h. absurd (d (same_Some _ _ (sym h ∙ a.tied)))))
-
-  stamps_law : StampsFit (logs x) (λ u. (x.known u).log) (λ i. w.words (Stamp i)) (λ i. (monitor_of Q i).owner) (λ u. (x.known u).unfinished)
-  stamps_law = stamps_next w P Q t y l v logs_it stamp_small bounds
+  bounds : (i : ℕ) → Covers w P t y l i (monitor_of Q i).owner
+  bounds = at (λ i b. Covers w P t y l i b.monitor.owner)
+      (let own = ap (λ (k : Known). last_stamp k.log) (with_known_here t l w.known) ∙ last_next w P Q t y l v logs_it in
+      let now = ap (bound_stamp (λ u. (x.known u).log) (w.words (Stamp o))) a.owner ∙ own in
+      (omega (arith, now, above_bound), λ h. omega (arith, now)))
+      (λ i d. (bound_grows w P Q t y l v logs_it (w.words (Stamp i)) (monitor_of P i).owner, λ h. absurd (d (same_Some _ _ (sym h ∙ a.tied)))))
 
   goes_back : (i u : ℕ) → GoesByMonitor (lock w i) (waits_at P i) (notified_at Q i) u → GoesByMonitor (lock w i) (waits_at P i) (notified_at P i) u
   goes_back i u (inl h) = inl h
@@ -234,62 +198,6 @@ module _ (w : World) (P : List PlainObject) (t o : ℕ) (e : Entry) (r : Purpose
       let back = at_taking (λ s. recursions_behind s i ≡ 0) (w.known t).stage o a.stage (λ p path. refl) refl in
       let forth = at_taking (λ s. recursions_ahead s i ≡ 0) (w.known t).stage o a.stage (λ p path. refl) refl in
       omega (arith, before, back, forth))
-
-  recursions_law : RecursionsFit (marks w) (λ b. w.words (Recursions b)) (lock w) (λ u. (w.known u).holds) (λ u. (x.known u).stage) (λ u. (w.known u).saved) (displaced_words w) (waits_at P) (notified_at Q)
-  recursions_law = record {
-    first = λ i u p h. v.recursions.first i u p (goes_back i u h);
-    others = λ i u p d h. v.recursions.others i u p d (goes_back i u h);
-    owned = λ i b u h. each_with_known (λ u y. lock w i ≡ OwnedBy u → (y.stage ≡ Waits i → ⊥) → (y.stage ≡ Resumes i → ⊥)
-        → w.words (Recursions b) + recursions_behind y.stage i ≡ recursion_count i (displaced_words w u) (w.known u).holds + recursions_ahead y.stage i) t l w.known u
-        (λ g c d. omega (arith, recursions_mine i b h g)) (λ d. v.recursions.owned i b u h);
-    waiting = λ i u h. v.recursions.waiting i u (listed_back i u h);
-    on_record = v.recursions.on_record;
-    free = v.recursions.free;
-    thread_owns = λ i u h. v.recursions.thread_owns i u (stage_back step (TakesOver i) u (λ c. cc c) h).1;
-  }
-    where
-      listed_back : (i u : ℕ) → (is_listed (waits_at P i) u ≡ true) ⊎ (is_listed (notified_at Q i) u ≡ true) → (is_listed (waits_at P i) u ≡ true) ⊎ (is_listed (notified_at P i) u ≡ true)
-      listed_back i u (inl h) = inl h
-      listed_back i u (inr h) = inr (called_back i u h).1
-
-  -- THE WAITS. The thread stands at no object's lists afterwards.
-  waits_law : WaitsFit (λ o. monitor_in (marks w o)) (λ u. w.words (Waiting u)) (λ u. (w.known u).wait) (λ u. (x.known u).log) (λ u. (x.known u).stage) (λ u. (x.known u).unfinished) (λ u. (w.known u).running) (waits_at P) (notified_at Q)
-  waits_law = record {
-    waiting = λ u i h. elim (v.waits.waiting u i h) [ inl b ↦ inl b | inr b ↦ inr (b.0, (b.1.0, stage_part step notification_in calls b.1.0 ∙ b.1.1)) ];
-    waiter = v.waits.waiter;
-    notified = λ u i h. let b = called_back i u h in elim (v.waits.notified u i b.1) [
-      | inl c ↦ inl c
-      | inr c ↦ inr (c.0, ap (λ (k : Known). k.stage) (with_known_else t l w.known u b.0) ∙ c.1)
-    ];
-    told = λ u i h. by_equal u t
-        (λ s. absurd (cc (ap (λ j. says_notified (w.words (Waiting j)) i) (sym s) ∙ h, ap (λ n. says_notified n i) (out_word w P t v out) ∙ (out i).1)))
-        (λ d. elim (v.waits.told u i h) [
-          | inl b ↦ inl (called_other i u d ∙ b)
-          | inr b ↦ inr (b.0, (b.1.0, stage_part step notification_in calls b.1.0 ∙ b.1.1))
-        ]);
-    telling = λ u i n h. v.waits.telling u i n (stage_back step (Notifies i n) u (λ c. cc c) h).1;
-    resuming = λ u i h.
-        let b = stage_back step (Resumes i) u (λ c. cc c) h in
-        called_other i u b.0 ∙ v.waits.resuming u i b.1;
-    leaving = λ u i h. v.waits.leaving u i (stage_back step (Waits i) u (λ c. cc c) h).1;
-    unfinished = λ u i h. each_with_known (λ u k. (is_listed (waits_at P i) u ≡ true) ⊎ (is_listed (notified_at Q i) u ≡ true) → IsUnfinished k.unfinished op.Wait i) t l w.known u
-        (λ g. elim g [ inl b ↦ absurd (cc (unwaiting i, b)) | inr b ↦ absurd ((called_back i t b).0 refl) ])
-        (λ d g. v.waits.unfinished u i (elim g [ inl b ↦ inl b | inr b ↦ inr (called_back i u b).1 ])) h;
-    stored = v.waits.stored;
-    entering = λ u i h. each_with_known (λ u k. enters_on (w.words (Waiting u)) i ≡ true → IsUnfinished k.unfinished op.Enter i × ((b : ℕ) × (monitor_in (marks w i) ≡ Some b))) t l w.known u
-        (λ g. absurd (cc (ap (λ n. enters_on n i) (sym word_ready) ∙ g, no_entering i))) (λ d. v.waits.entering u i) h;
-    done = λ u h. each_with_known (λ u k. says_ended (w.words (Waiting u)) ≡ true → ends k.log ≡ true) t l w.known u
-        (λ g. absurd (cc (ap says_ended (sym word_ready) ∙ g, no_ended))) (λ d. v.waits.done u) h;
-    stopped = λ u. each_with_known (λ u k. ends k.log ≡ true → (w.known u).running ≡ false → says_ended (w.words (Waiting u)) ≡ true) t l w.known u
-        (λ g h. absurd (cc (h, a.runs))) (λ d. v.waits.stopped u);
-    stamped = λ u i h. each_with_known (λ u k. waits_on (w.words (Waiting u)) i ≡ true → last_entry k.log ≡ Some (record { stamp = stamp_in (w.words (Waiting u)); entry = Wait i })) t l w.known u
-        (λ g. absurd (cc (g, ap (λ n. waits_on n i) (out_word w P t v out) ∙ (out i).0))) (λ d. v.waits.stamped u i) h;
-    sorted = v.waits.sorted;
-    inflated = λ i u h. v.waits.inflated i u (elim h [ inl b ↦ inl b | inr b ↦ inr (called_back i u b).1 ]);
-  }
-    where
-      out : IsOut (w.known t)
-      out = ready_is_out (w.known t) a.ready
 
   abbrev n : World
   n = next w t l noting w.words
@@ -337,10 +245,63 @@ module _ (w : World) (P : List PlainObject) (t o : ℕ) (e : Entry) (r : Purpose
     seized = λ i p h. absurd (cc h);
     grabbed = λ i h. absurd (cc h);
   }) (λ d. records_at v.records u))
-  all_after recursions = recursions_law
-  all_after waits = waits_law
-  all_after stamps = stamps_law
+  all_after recursions = record {
+    first = λ i u p h. v.recursions.first i u p (goes_back i u h);
+    others = λ i u p d h. v.recursions.others i u p d (goes_back i u h);
+    owned = λ i b u h. each_with_known (λ u y. lock w i ≡ OwnedBy u → (y.stage ≡ Waits i → ⊥) → (y.stage ≡ Resumes i → ⊥)
+        → w.words (Recursions b) + recursions_behind y.stage i ≡ recursion_count i (displaced_words w u) (w.known u).holds + recursions_ahead y.stage i) t l w.known u
+        (λ g c d. omega (arith, recursions_mine i b h g)) (λ d. v.recursions.owned i b u h);
+    waiting = λ i u h. v.recursions.waiting i u (listed_back i u h);
+    on_record = v.recursions.on_record;
+    free = v.recursions.free;
+    thread_owns = λ i u h. v.recursions.thread_owns i u (stage_back step (TakesOver i) u (λ c. cc c) h).1;
+  }
+    where
+      listed_back : (i u : ℕ) → (is_listed (waits_at P i) u ≡ true) ⊎ (is_listed (notified_at Q i) u ≡ true) → (is_listed (waits_at P i) u ≡ true) ⊎ (is_listed (notified_at P i) u ≡ true)
+      listed_back i u (inl h) = inl h
+      listed_back i u (inr h) = inr (called_back i u h).1
+  -- THE WAITS. The thread stands at no object's lists afterwards.
+  all_after waits = record {
+    waiting = λ u i h. elim (v.waits.waiting u i h) [ inl b ↦ inl b | inr b ↦ inr (b.0, (b.1.0, stage_part step notification_in calls b.1.0 ∙ b.1.1)) ];
+    waiter = v.waits.waiter;
+    notified = λ u i h. let b = called_back i u h in elim (v.waits.notified u i b.1) [
+      | inl c ↦ inl c
+      | inr c ↦ inr (c.0, ap (λ (k : Known). k.stage) (with_known_else t l w.known u b.0) ∙ c.1)
+    ];
+    told = λ u i h. by_equal u t
+        (λ s. absurd (cc (ap (λ j. says_notified (w.words (Waiting j)) i) (sym s) ∙ h, ap (λ n. says_notified n i) (out_word w P t v out) ∙ (out i).1)))
+        (λ d. elim (v.waits.told u i h) [
+          | inl b ↦ inl (called_other i u d ∙ b)
+          | inr b ↦ inr (b.0, (b.1.0, stage_part step notification_in calls b.1.0 ∙ b.1.1))
+        ]);
+    telling = λ u i n h. v.waits.telling u i n (stage_back step (Notifies i n) u (λ c. cc c) h).1;
+    resuming = λ u i h.
+        let b = stage_back step (Resumes i) u (λ c. cc c) h in
+        called_other i u b.0 ∙ v.waits.resuming u i b.1;
+    leaving = λ u i h. v.waits.leaving u i (stage_back step (Waits i) u (λ c. cc c) h).1;
+    unfinished = λ u i h. each_with_known (λ u k. (is_listed (waits_at P i) u ≡ true) ⊎ (is_listed (notified_at Q i) u ≡ true) → IsUnfinished k.unfinished op.Wait i) t l w.known u
+        (λ g. elim g [ inl b ↦ absurd (cc (unwaiting i, b)) | inr b ↦ absurd ((called_back i t b).0 refl) ])
+        (λ d g. v.waits.unfinished u i (elim g [ inl b ↦ inl b | inr b ↦ inr (called_back i u b).1 ])) h;
+    stored = v.waits.stored;
+    entering = λ u i h. each_with_known (λ u k. enters_on (w.words (Waiting u)) i ≡ true → IsUnfinished k.unfinished op.Enter i × ((b : ℕ) × (monitor_in (marks w i) ≡ Some b))) t l w.known u
+        (λ g. absurd (cc (ap (λ n. enters_on n i) (sym word_ready) ∙ g, no_entering i))) (λ d. v.waits.entering u i) h;
+    done = λ u h. each_with_known (λ u k. says_ended (w.words (Waiting u)) ≡ true → ends k.log ≡ true) t l w.known u
+        (λ g. absurd (cc (ap says_ended (sym word_ready) ∙ g, no_ended))) (λ d. v.waits.done u) h;
+    stopped = λ u. each_with_known (λ u k. ends k.log ≡ true → (w.known u).running ≡ false → says_ended (w.words (Waiting u)) ≡ true) t l w.known u
+        (λ g h. absurd (cc (h, a.runs))) (λ d. v.waits.stopped u);
+    stamped = λ u i h. each_with_known (λ u k. waits_on (w.words (Waiting u)) i ≡ true → last_entry k.log ≡ Some (record { stamp = stamp_in (w.words (Waiting u)); entry = Wait i })) t l w.known u
+        (λ g. absurd (cc (g, ap (λ n. waits_on n i) (out_word w P t v out) ∙ (out i).0))) (λ d. v.waits.stamped u i) h;
+    sorted = v.waits.sorted;
+    inflated = λ i u h. v.waits.inflated i u (elim h [ inl b ↦ inl b | inr b ↦ inr (called_back i u b).1 ]);
+  }
+    where
+      out : IsOut (w.known t)
+      out = ready_is_out (w.known t) a.ready
+  all_after stamps = stamps_next w P Q t y l v logs_it stamp_small bounds
   all_after c = logged_step step logs_it a.runs a.room (draws_still w P Q t y l v logs_it (draws_counted e (w.known t).draws) (bound_undrawn e o a.tied)) v c
 
-  pub taking_fits : Fits x Q
-  taking_fits = subst (λ f. Fits (stepped w t l f) Q) (sym (with_word_same (Stamp o) (w.words (Stamp o)) w.words refl)) (step_fits step w.words Q (kept_objects (stepped w t l w.words) P (kept_locks w (parts_of n Q))) parts all_after)
+  pub taking_logs : Logs w P t (logging_plan e r (Stamp o) Load) e
+  taking_logs =
+      let fits = step_fits step w.words Q (kept_objects (stepped w t l w.words) P (kept_locks w (parts_of n Q))) parts all_after in
+      let same = with_word_same (Stamp o) (w.words (Stamp o)) w.words refl in
+      record { now = Q; taken = taken; valid = inl (subst (λ f. Fits (stepped w t l f) Q) (sym same) fits) }

@@ -1,8 +1,8 @@
 -- A thread whose new hold word stands loads the object's stamp, and so logs its Enter.
-use Rattle.core_locks.proofs.Prelude.{◌≡◌, ◌⊎◌, ℕ, ◌+◌, ◌<◌, ◌&&◌, not, true, false, cond, List, slice_set, Option, Some, None, refl, ap, ◌∙◌, arith, inl, inr, is_none, PlainMonitor, is_thread, is_listed, only_if, is_outside, enter, PlainObject, with_monitor, Enter, Path, Stamp, Recursions, Resumes, monitor_in, bears, hold_words_ahead, recursions_ahead, recursions_behind, one_if, World, OwnedBy, lock, marks, displaced_words, recursion_count, holds_by_monitor, object_of, monitor_of, owner_at, waits_at, notified_at, Purpose, logging_plan, Fits, lets_go, Load, same_number, sound, unlisted_count, unowned_count, fits_running, Logs, MayLogEnter, LogsValid, log_enter_plan}
+use Rattle.core_locks.proofs.Prelude.{◌≡◌, ◌⊎◌, ℕ, ◌+◌, ◌<◌, false, cond, List, Option, Some, None, refl, ap, ◌∙◌, arith, inl, inr, PlainMonitor, is_thread, is_listed, enter, PlainObject, with_monitor, Enter, Path, Recursions, Resumes, monitor_in, bears, hold_words_ahead, recursions_ahead, recursions_behind, one_if, World, OwnedBy, lock, marks, displaced_words, recursion_count, holds_by_monitor, object_of, monitor_of, waits_at, notified_at, Purpose, Fits, lets_go, same_number, sound, unlisted_count, unowned_count, fits_running, MayLogEnter, LogsValid, log_enter_plan}
 use Rattle.core_locks.proofs.WaitOut.{out_unlisted, out_standing, ready_is_out}
-use Rattle.core_locks.proofs.EnterTakes.{IsTaking, owner_or_taker}
-use Rattle.core_locks.proofs.EnterFits.{taken, taking_fits}
+use Rattle.core_locks.proofs.EnterTakes.{IsTaking, IsTakingAt, owner_or_taker}
+use Rattle.core_locks.proofs.EnterFits.{taking_logs}
 
 module _ (w : World) (P : List PlainObject) (t o p : ℕ) (path : Path) (within : t < w.shape.threads) (may : MayLogEnter w.shape (w.known t) o p path) (v : Fits w P) where
   -- the plain monitor afterwards
@@ -25,17 +25,8 @@ module _ (w : World) (P : List PlainObject) (t o p : ℕ) (path : Path) (within 
   enters : enter (monitor_of P o) t ≡ Some m
   enters = elim (owner_is (monitor_of P o).owner refl) [
     | inl h ↦
-        let other : owner_at P o t ≡ false = ap (λ b. is_thread b t) h in
-        let outside : is_outside (monitor_of P o) t ≡ true = λ i. not (unlisted.0 i) && not (unlisted.1 i) in
-        let first : 1 ≡ (monitor_of P o).count + 1 = let none = free_count h in omega (arith, none) in
-        ap (λ b. cond b (Some (record (monitor_of P o) { count = (monitor_of P o).count + 1 })) (only_if (is_none (monitor_of P o).owner && is_outside (monitor_of P o) t) (record (monitor_of P o) { owner = Some t; count = 1 }))) other
-        ∙ ap (λ b. only_if (is_none b && is_outside (monitor_of P o) t) (record (monitor_of P o) { owner = Some t; count = 1 })) h
-        ∙ ap (λ b. only_if b (record (monitor_of P o) { owner = Some t; count = 1 })) outside
-        ∙ ap (λ n. Some (record (monitor_of P o) { owner = Some t; count = n })) first
-    | inr h ↦
-        let own : owner_at P o t ≡ true = ap (λ b. is_thread b t) h ∙ same_number t in
-        ap (λ b. cond b (Some (record (monitor_of P o) { count = (monitor_of P o).count + 1 })) (only_if (is_none (monitor_of P o).owner && is_outside (monitor_of P o) t) (record (monitor_of P o) { owner = Some t; count = 1 }))) own
-        ∙ ap (λ b. Some (record (monitor_of P o) { owner = b; count = (monitor_of P o).count + 1 })) h
+        let none = free_count h in rw (h, unlisted.0, unlisted.1, none) refl
+    | inr h ↦ rw (h, same_number t) refl
   ]
 
   -- it holds once more by the plain monitor, and has no hold word besides those any more
@@ -58,33 +49,13 @@ module _ (w : World) (P : List PlainObject) (t o p : ℕ) (path : Path) (within 
       omega (arith, before, ap (λ s. recursions_behind s o) may.stage, ap (λ s. recursions_ahead s o) may.stage)
 
   pub is_taking : IsTaking w P t o (Enter o path) m
-  is_taking = record {
-    within = within;
-    object = may.object;
-    runs = may.runs;
-    stage = inl (p, path, may.stage);
-    ready = may.ready;
-    room = may.room;
-    own_entry = may.own_entry;
-    even = λ h. elim may.own_entry.operation [ inl none ↦ ap (λ u. lets_go u o) none | inr enters ↦ ap (λ u. lets_go u o) enters ];
-    taking = refl;
-    tied = refl;
-    takes = ap (with_monitor (object_of P o)) enters;
-    owner = refl;
-    number = number;
-    waits = refl;
-    uncalled = unlisted.1;
-    others = λ u d. (refl, refl);
-    nobody = λ h. h;
-    recursions = recursions;
-  }
-
-  pub enter_logs : (e : Purpose) → Logs w P t (logging_plan (Enter o path) e (Stamp o) Load) (Enter o path)
-  enter_logs e = record {
-    now = slice_set P o (record (object_of P o) { monitor = m });
-    taken = taken w P t o (Enter o path) e m is_taking v;
-    valid = inl (taking_fits w P t o (Enter o path) e m is_taking v);
-  }
+  is_taking =
+      let even : (monitor_of P o).owner ≡ Some t → lets_go (w.known t).unfinished o ≡ false =
+      λ h. elim may.own_entry.operation [ inl none ↦ ap (λ u. lets_go u o) none | inr works ↦ ap (λ u. lets_go u o) works ] in
+      let stage : IsTakingAt (w.known t).stage o = inl (p, path, may.stage) in
+      search (within, stage, ap (with_monitor (object_of P o)) enters, even, number, unlisted, recursions, may)
 
 pub logging_an_enter : (e : Purpose) (o p : ℕ) (path : Path) → LogsValid (λ w t. MayLogEnter w.shape (w.known t) o p path) (λ w t. log_enter_plan e o path) (Enter o path)
-logging_an_enter e o p path w P t within may valid = enter_logs w P t o p path within may (fits_running w P t may.runs valid) e
+logging_an_enter e o p path w P t within may valid =
+    let v = fits_running w P t may.runs valid in
+    taking_logs w P t o (Enter o path) e (m w P t o p path within may v) (is_taking w P t o p path within may v) v

@@ -1,8 +1,7 @@
 -- A step of a thread that stands, before and after, where it has the locks that its log says, with as many hold words; the locks and hold words stay.
-use Rattle.core_locks.proofs.Prelude.{◌≡◌, ℕ, ◌||◌, Bool, true, false, List, refl, sym, ap, ◌∙◌, inl, inr, PlainObject, Hold, Stage, Calm, Seizes, Grabs, Exits, Waits, TakesOver, Ahead, Behind, Inflates, bears, hold_words_ahead, Known, World, with_known, lock, displaced_words, who, holds_by_monitor, monitor_of, owner_at, HoldsFitLogs, RecordsRest, Fits, LocksArePlain}
-use Rattle.core_world.specs.declared.stage.Stage.TheVariants.{Takes}
+use Rattle.core_locks.proofs.Prelude.{◌≡◌, ℕ, ◌||◌, Bool, true, false, List, refl, sym, ap, ◌∙◌, inl, inr, PlainObject, Hold, Stage, Calm, Seizes, Grabs, Exits, TakesOver, Ahead, Behind, Inflates, bears, hold_words_ahead, Known, World, with_known, lock, displaced_words, who, holds_by_monitor, monitor_of, owner_at, HoldsFitLogs, RecordsRest, Fits, LocksArePlain, Takes}
 use Rattle.core_locks.proofs.Clauses.{Clause, holds, owners, records}
-use Rattle.core_locks.proofs.Steps.{stage_part, holds_stand, Fields, IsStep, GoesOnTo, IsPlain, plain_by, Plain, plain_step, stage_back, stage_forth, calls_stay}
+use Rattle.core_locks.proofs.Steps.{owners_move, stage_part, holds_stand, Fields, IsStep, GoesOnTo, IsPlain, plain_by, Plain, plain_step, stage_back, stage_forth}
 
 pub record IsEven (s : Stage) : Type 0 where
   pub plain : IsPlain s
@@ -31,9 +30,6 @@ even_by (Inflates i t p) e = record { plain = plain_by (Inflates i t p) refl; un
 even_by _ e = absurd (cc e)
 
 module _ {w : World} {t : ℕ} {l : Known} {fields : Fields} (s : IsStep w t l fields) (before : IsEven (w.known t).stage) (now : IsEven l.stage) where
-  pub extra_stays : (u o : ℕ) → hold_words_ahead (with_known t l w.known u).stage o ≡ hold_words_ahead (w.known u).stage o
-  extra_stays u o = stage_part s (λ f. hold_words_ahead f o) (now.alone o ∙ sym (before.alone o)) u
-
   pub bears_stay : (u o : ℕ) → bears (with_known t l w.known u).stage o ≡ bears (w.known u).stage o
   bears_stay u o = stage_part s (λ f. bears f o) (now.unborne o ∙ sym (before.unborne o)) u
 
@@ -53,12 +49,8 @@ module _ {w : World} {t : ℕ} {l : Known} {fields : Fields} (s : IsStep w t l f
 
     pub even_step : (w.known t).running ≡ true → Fits w P → (c : Clause) → Even c
     even_step runs h holds = holds_stand s P (λ o. now.alone o ∙ sym (before.alone o)) h
-    even_step runs h owners = record {
-      same = λ o u. h.owners.same o u ∙ ap (λ (b : Bool). owner_at P o u || b) (sym (bears_stay u o));
-      let_go = λ o u e. h.owners.let_go o u (even_back (Waits o) u (now.plain.waits o) e);
-      left = λ o u p e. h.owners.left o u p (even_back (Exits o p) u (now.exits o p) e);
-      calls = λ o u e. h.owners.calls o u (sym (calls_stay s before.plain now.plain u) ∙ e);
-    }
+    even_step runs h owners = owners_move s now.plain.waits now.exits (λ o c. absurd (cc (c, now.plain.calls)))
+        (λ o u. h.owners.same o u ∙ ap (λ (b : Bool). owner_at P o u || b) (sym (bears_stay u o))) h
     even_step runs h records = record {
       first = λ o u p r. elim (h.records.first o u p r) [ inl a ↦ inl a | inr a ↦ inr (stage_forth s (Seizes o p) u (before.seizes o p) a) ];
       header = h.records.header;

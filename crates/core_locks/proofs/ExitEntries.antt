@@ -1,9 +1,10 @@
 -- The Exit that a step logs, as the plain objects take it from their owner, and what the thread has seen of its own displaced words.
-use Rattle.core_locks.proofs.Prelude.{◌≡◌, ℕ, ◌+◌, ◌<◌, ◌==◌, true, List, [], ◌∷◌, ◌++◌, length, slice_set, Some, refl, sym, ap, ◌∙◌, arith, inl, same_Some, PlainMonitor, exit, PlainObject, take_entry, with_monitor, Logged, last_stamp, Exit, Name, Stamp, Displaced, inflation_in, Known, last_seen, World, logs, Lock, lock, header, inflations, object_of, monitor_of, hash_at, waits_at, notified_at, inflated_to, Fits, bound_stamp, inflations_stay, IsOwnEntry}
-use Rattle.core_locks.proofs.Logging.{IsLogging}
+use Rattle.core_locks.proofs.Prelude.{◌≡◌, ℕ, ◌+◌, ◌<◌, ◌==◌, true, List, [], ◌∷◌, ◌++◌, length, slice_set, Some, refl, sym, ap, ◌∙◌, inl, same_Some, PlainMonitor, exit, PlainObject, take_entry, with_monitor, Logged, last_stamp, Exit, Name, Displaced, inflation_in, Known, last_seen, World, logs, Lock, lock, header, inflations, object_of, monitor_of, hash_at, waits_at, notified_at, inflated_to, Fits, inflations_stay, IsOwnEntry, is_thread, owner_at, owns, by_equal, false, ◌≢◌}
+use Rattle.core_locks.proofs.Logging.{IsLogging, next_logging}
 use Rattle.core_locks.proofs.Clauses.{Parts, parts_of}
 use Rattle.core_locks.proofs.Steps.{Fields, IsStep, next, stepped, logs_next}
-use Rattle.core_locks.proofs.Updates.{takes, hashes_stay, slots_stay, waits_stay, called_stay}
+use Rattle.core_locks.proofs.Updates.{monitor_here, monitor_else, takes, hashes_stay, slots_stay, waits_stay, called_stay}
+use Rattle.core_locks.proofs.WaitOut.{fails}
 
 abbrev pub exit_entry : Known → ℕ → Logged
 exit_entry k o = record { stamp = last_stamp k.log + 1; entry = Exit o }
@@ -19,22 +20,28 @@ objects_where P o monitor = slice_set P o (object_with P o monitor)
 pub exit_taken : (P : List PlainObject) (o t : ℕ) (monitor : PlainMonitor) → o < length P → exit (monitor_of P o) t ≡ Some monitor → take_entry P t (Exit o) ≡ Some (objects_where P o monitor)
 exit_taken P o t monitor inside exits = takes P o t (Exit o) (object_with P o monitor) inside refl (ap (with_monitor (object_of P o)) exits)
 
+-- THE OWNERS then, where who owns o afterwards owned it
+module _ (P : List PlainObject) (o : ℕ) (m : PlainMonitor) (inside : o < length P) (fewer : (u : ℕ) → is_thread m.owner u ≡ true → owner_at P o u ≡ true) where
+  pub owner_here : (u : ℕ) → owner_at (objects_where P o m) o u ≡ is_thread m.owner u
+  owner_here u = ap (λ a. owns a u) (monitor_here P o (object_with P o m) inside)
+
+  pub owner_else : (i u : ℕ) → i ≢ o → owner_at (objects_where P o m) i u ≡ owner_at P i u
+  owner_else i u d = ap (λ a. owns a u) (monitor_else P o i (object_with P o m) d)
+
+  pub owner_before : (i u : ℕ) → owner_at (objects_where P o m) i u ≡ true → owner_at P i u ≡ true
+  owner_before i u h =
+      by_equal i o
+      (λ s. ap (λ j. owner_at P j u) s ∙ fewer u (sym (owner_here u) ∙ ap (λ j. owner_at (objects_where P o m) j u) (sym s) ∙ h))
+      (λ n. sym (owner_else i u n) ∙ h)
+
+  pub owner_fails : (i u : ℕ) → owner_at P i u ≡ false → owner_at (objects_where P o m) i u ≡ false
+  owner_fails i u h = fails _ (λ g. cc (owner_before i u g, h))
+
 -- the stamp of the owner's entry is above its last one, which bounds the entries on the object
 pub exit_logging : (w : World) (P Q : List PlainObject) (t o : ℕ) (l : Known) → t < w.shape.threads → (monitor_of P o).owner ≡ Some t → take_entry P t (Exit o) ≡ Some Q
     → l.log ≡ (w.known t).log ++ exit_entry (w.known t) o ∷ [] → IsOwnEntry (w.known t) (Exit o) → IsLogging w P Q t (exit_entry (w.known t) o) l
-exit_logging w P Q t o l within owner taken grows own = record {
-  within = within;
-  grows = grows;
-  taken = taken;
-  own = own;
-  up = omega arith;
-  above = λ i b.
-      let s : o ≡ i = same_Some o i b in
-      let last = ap (bound_stamp (λ u. (w.known u).log) (w.words (Stamp o))) owner in
-      let bound = ap (λ j. bound_stamp (λ u. (w.known u).log) (w.words (Stamp j)) (monitor_of P j).owner) (sym s) ∙ last in
-      omega (arith, bound);
-  follows = λ k. refl;
-}
+exit_logging w P Q t o l within owner taken grows own = next_logging within grows taken own refl
+    (λ i b. ap (λ j. (monitor_of P j).owner) (sym (same_Some o i b)) ∙ owner)
 
 -- a displaced word of its own is as a running thread last saw it
 pub own_displaced : (w : World) (P : List PlainObject) (t p h : ℕ) → Fits w P → (w.known t).running ≡ true → last_seen (Displaced (w.known t).thread p) (w.known t).seen ≡ Some h

@@ -1,30 +1,24 @@
 -- A thread clears the deepest of its hold words of an object, and so logs Exit.
-use Rattle.core_locks.proofs.Prelude.{◌≡◌, ◌≢◌, ◌⊎◌, ℕ, ◌+◌, ◌<◌, ◌≤◌, ◌^◌, ◌==◌, ◌||◌, eq-eqb, ne_eqb, Bool, true, false, cond, List, length, slice_index, slice_set, Some, None, refl, sym, ap, ◌∙◌, subst, arith, inl, inr, ◌-◌, nat_le, nat_tests, same_Some, PlainMonitor, is_thread, is_listed, exit, PlainObject, take_entry, Logged, Exit, Hold, Recursions, StepPlan, Calm, Seizes, Grabs, Resumes, Exits, Waits, TakesOver, hold_word, inflation_in, bears, hold_words_ahead, recursions_ahead, recursions_behind, one_if, Known, World, with_word_and_known, Lock, Open, BiasedTo, OnRecord, OwnedBy, lock, marks, displaced_words, inflations, who, holder, hold_count, recursion_count, holds_by_monitor, monitor_of, owner_at, waits_at, notified_at, Stays, SeenStays, RecordsRest, RecursionsFit, Purpose, logging_plan, known_hit, Fits, Store, by_equal, each_with_known, with_known_here, header_stays, inflations_stay, lock_stays, thread_is, fits_running, Logs, MayLeave, or-false, StampsFit, logs_from, Stamp, next_stamp, local_of, notification_in, eqb-true, with_known, LogsValid, leave_plan}
+use Rattle.core_locks.proofs.Prelude.{◌≡◌, ◌≢◌, ℕ, ◌+◌, ◌<◌, ◌≤◌, ◌||◌, eq-eqb, ne_eqb, Bool, true, false, cond, List, length, slice_set, Some, None, refl, sym, ap, ◌∙◌, subst, arith, inl, inr, ◌-◌, nat_le, nat_tests, same_Some, PlainMonitor, is_thread, exit, PlainObject, take_entry, Logged, Exit, Hold, StepPlan, Calm, Exits, Waits, inflation_in, bears, hold_words_ahead, one_if, Known, World, with_word_and_known, BiasedTo, OnRecord, lock, inflations, who, holder, hold_count, holds_by_monitor, monitor_of, owner_at, waits_at, SeenStays, Purpose, logging_plan, known_hit, Fits, Store, by_equal, each_with_known, with_known_here, header_stays, inflations_stay, lock_stays, thread_is, fits_running, Logs, MayLeave, or-false, StampsFit, logs_from, Stamp, notification_in, with_known, LogsValid, leave_plan, IsHold, hold_zero}
 use Rattle.core_locks.specs.LockLaws.{HasRaised}
 use Rattle.core_locks.proofs.Drawing.{draws_still}
-use Rattle.core_locks.proofs.HoldClears.{cleared_at, cleared_back, cleared_forth, cleared_named, cleared_again, cleared_each_at, cleared_stored, cleared_places, cleared_form}
+use Rattle.std.proofs.lemmas.List.{length-set}
+use Rattle.core_locks.proofs.ByThread.{biases_told, hashes_told, holds_told, records_told, records_at, recursions_told, recursions_at}
+use Rattle.core_locks.proofs.HoldClears as clears
+use Rattle.core_locks.proofs.HoldClears.{IsFull, cleared_back, named_less, times_less, records_less, recursions_less}
+use Rattle.core_locks.proofs.HoldSets.{holder_more, word_own, word_else, word_held, holder_told}
+use Rattle.core_locks.proofs.WaitOut.{no_other}
 use Rattle.core_locks.proofs.Logging.{IsLogging, stamps_owned}
-use Rattle.core_locks.proofs.Updates.{monitor_here, monitor_else}
-use Rattle.core_locks.proofs.ExitEntries.{exit_entry, object_with, objects_where, exit_taken, exit_logging, exit_parts, exit_are}
+use Rattle.core_locks.proofs.Updates.{each_object, part_stays}
+use Rattle.core_locks.proofs.ExitEntries.{exit_entry, object_with, objects_where, exit_taken, exit_logging, exit_parts, exit_are, owner_here, owner_else, owner_before, owner_fails}
 use Rattle.core_locks.proofs.Clauses.{parts_of, seen, forms, quiet, holds, owners, biases, records, recursions, hashes, waits, stamps, AllHold}
-use Rattle.core_locks.proofs.EvenSteps.{IsEven, even_by, extra_stays, bears_stay, held_even}
+use Rattle.core_locks.proofs.EvenSteps.{IsEven, even_by, bears_stay, held_even}
 use Rattle.core_locks.proofs.LoggedSteps.{logged_step}
-use Rattle.core_locks.proofs.LastExit.{freed, freed_stamps, none_or}
-use Rattle.core_locks.proofs.OwnSeen.{seen_as}
-use Rattle.core_locks.proofs.Steps.{leaving, IsStep, next, stepped, step_fits, holds_next, quiet_next, stage_back, stage_forth, inflates_stay, waits_move}
+use Rattle.core_locks.proofs.LastExit.{freed, freed_stamps}
+use Rattle.core_locks.proofs.OwnSeen.{hold_uncounted, seen_as}
+use Rattle.core_locks.proofs.Steps.{leaving, IsStep, next, stepped, step_fits, holds_next, quiet_next, stage_back, inflates_stay, waits_move}
 use Rattle.core_locks.proofs.Tells.{unlisted, waits_logged}
 use Rattle.core_locks.proofs.ExitLeaves.{leaves_even, leaves_inflates, leaves_ahead, leaves_few, leaves_some, leaves_owned, leaves_deep, leaves_counted}
-
--- who has the lock still has it with other numbers of hold words, if its own is not 0
-holder_keeps : (f : Lock) (c e : ℕ → ℕ) (t : ℕ) → holder f c ≡ Some t → e t ≢ 0 → holder f e ≡ Some t
-holder_keeps Open c e t h some = h
-holder_keeps (BiasedTo z) c e t h some = by_count (c z == 0) h
-  where
-    by_count : (b : Bool) → cond b None (Some z) ≡ Some t → cond (e z == 0) None (Some z) ≡ Some t
-    by_count true g = absurd (cc g)
-    by_count false g = ap (λ u. cond (e u == 0) None (Some u)) (same_Some z t g) ∙ ap (λ b. cond b None (Some t)) (ne_eqb (e t) 0 some)
-holder_keeps (OnRecord z q) c e t h some = h
-holder_keeps (OwnedBy z) c e t h some = h
 
 -- THE PLAIN MONITOR takes the Exit and becomes `less`: its owner has one hold less, or it has no owner.
 pub record Lessens (w : World) (P : List PlainObject) (t o d : ℕ) (less : PlainMonitor) : Type 0 where
@@ -49,6 +43,9 @@ module _ (w : World) (P : List PlainObject) (t o d p : ℕ) (within : t < w.shap
   pub owner_is : m.owner ≡ Some t
   owner_is = thread_is m.owner t owned.0
 
+  unowned : (u : ℕ) → u ≢ t → owner_at P o u ≡ false
+  unowned u n = ap (λ a. is_thread a u) owner_is ∙ ne_eqb t u (λ q. n (sym q))
+
   count_is : m.count ≡ d
   count_is = sym owned.1 ∙ may.deepest
 
@@ -68,16 +65,10 @@ module _ (w : World) (P : List PlainObject) (t o d p : ℕ) (within : t < w.shap
     waits = refl;
     called = refl;
     here =
-        let a = ap (λ b. cond b (m.count - 1) 0) owned.0 in
-        let b = ap (λ b. cond b m.count 0) owned.0 in
-        omega (arith, a, b, count_is, deep);
-    else = λ u n.
-        let none : owner_at P o u ≡ false = ap (λ a. is_thread a u) owner_is ∙ ne_eqb t u (λ q. n (sym q)) in
-        let a = ap (λ b. cond b (m.count - 1) 0) none in
-        let b = ap (λ b. cond b m.count 0) none in
-        omega (arith, a, b);
+        omega (arith, ap (λ b. cond b (m.count - 1) 0) owned.0, ap (λ b. cond b m.count 0) owned.0, count_is, deep);
+    else = λ u n. omega (arith, ap (λ b. cond b (m.count - 1) 0) (unowned u n), ap (λ b. cond b m.count 0) (unowned u n));
     fewer = λ u h. h;
-    owner = λ f h. holder_keeps (lock w o) _ f t holder_is (λ z. omega (arith, h, z, may.deepest, deep)) ∙ sym owner_is;
+    owner = λ f h. holder_more (lock w o) _ f t holder_is (λ z. omega (arith, h, z, may.deepest, deep)) ∙ sym owner_is;
     rests = λ u q h s. omega (arith, s, deep);
   }
 
@@ -91,10 +82,7 @@ module _ (w : World) (P : List PlainObject) (t o d p : ℕ) (within : t < w.shap
     waits = refl;
     called = refl;
     here = let b = ap (λ b. cond b m.count 0) owned.0 in omega (arith, b, count_is, last);
-    else = λ u n.
-        let none : owner_at P o u ≡ false = ap (λ a. is_thread a u) owner_is ∙ ne_eqb t u (λ q. n (sym q)) in
-        let b = ap (λ b. cond b m.count 0) none in
-        omega (arith, b);
+    else = λ u n. omega (arith, ap (λ b. cond b m.count 0) (unowned u n));
     fewer = λ u h. absurd (cc h);
     owner = λ f h. ap (λ z. holder z f) leans ∙ ap (λ (b : Bool). cond b None (Some t)) (eq-eqb (f t) 0 (omega (arith, h, may.deepest, last)));
     rests = λ u q h s. absurd (cc (leans, h));
@@ -120,11 +108,12 @@ module _ (w : World) (P : List PlainObject) (t : ℕ) (e : Purpose) (o d p : ℕ
   abbrev Q : List PlainObject
   Q = objects_where P o less
 
-  few : o < 2 ^ 15
-  few = leaves_few w P t o d p within may v
+  abbrev old : List ℕ
+  old = (w.known t).holds
 
-  some : 1 ≤ d
-  some = leaves_some w P t o d p within may v
+  -- the hold word that it clears is that of o at depth d
+  full : IsFull old o d p
+  full = record { few = leaves_few w P t o d p within may v; some = leaves_some w P t o d p within may v; small = may.small; full = may.hold }
 
   -- its stage is even before and afterwards
   before : IsEven (w.known t).stage
@@ -133,7 +122,7 @@ module _ (w : World) (P : List PlainObject) (t : ℕ) (e : Purpose) (o d p : ℕ
   now : IsEven l.stage
   now = even_by Calm refl
 
-  pub step : IsStep w t l leaving
+  step : IsStep w t l leaving
   step = record { within = within; mine = refl; others = λ k. refl }
 
   pub inside : o < length P
@@ -145,150 +134,48 @@ module _ (w : World) (P : List PlainObject) (t : ℕ) (e : Purpose) (o d p : ℕ
   had : who w o ≡ Some t
   had = holder_is w P t o d p within may v
 
-  pub leaving_taken : take_entry P t (Exit o) ≡ Some Q
+  leaving_taken : take_entry P t (Exit o) ≡ Some Q
   leaving_taken = exit_taken P o t less inside is.exits
 
   pub logging_it : IsLogging w P Q t y l
   logging_it = exit_logging w P Q t o l within owns leaving_taken refl may.own_entry
 
-  -- the plain owners are as before, but for that of o
-  owner_here : (u : ℕ) → owner_at Q o u ≡ is_thread less.owner u
-  owner_here u = ap (λ (f : PlainMonitor). is_thread f.owner u) (monitor_here P o z inside)
-
-  owner_else : (i u : ℕ) → i ≢ o → owner_at Q i u ≡ owner_at P i u
-  owner_else i u n = ap (λ (f : PlainMonitor). is_thread f.owner u) (monitor_else P o i z n)
-
-  owner_back : (i u : ℕ) → owner_at Q i u ≡ true → owner_at P i u ≡ true
-  owner_back i u h =
-      by_equal i o
-      (λ s. ap (λ j. owner_at P j u) s ∙ is.fewer u (sym (owner_here u) ∙ ap (λ j. owner_at Q j u) (sym s) ∙ h))
-      (λ n. sym (owner_else i u n) ∙ h)
-
-  owner_fails : (i u : ℕ) → owner_at P i u ≡ false → owner_at Q i u ≡ false
-  owner_fails i u h = cases (owner_at Q i u) refl
-    where
-      cases : (b : Bool) → owner_at Q i u ≡ b → owner_at Q i u ≡ false
-      cases true g = let yes = owner_back i u g in absurd (cc (yes, h))
-      cases false g = g
-
   -- nobody else owned o or bore it
   none_else : (u : ℕ) → u ≢ t → (owner_at P o u ≡ false) × (bears (w.known u).stage o ≡ false)
-  none_else u n = none_or (owner_at P o u) (bears (w.known u).stage o) (sym (ap (λ a. is_thread a u) had ∙ ne_eqb t u (λ q. n (sym q))) ∙ v.owners.same o u)
-
-  named_at : (u i : ℕ) → ((u ≡ t) × (hold_count i (x.known u).holds + one_if (o == i) ≡ hold_count i (w.known u).holds)) ⊎ ((u ≢ t) × (hold_count i (x.known u).holds ≡ hold_count i (w.known u).holds))
-  named_at = cleared_named w t l o d p few some may.small may.hold refl
-
-  back : (u q i f : ℕ) → slice_index (x.known u).holds q ≡ hold_word i f → slice_index (w.known u).holds q ≡ hold_word i f
-  back = cleared_back w t l o d p few some may.small may.hold refl
-
-  holds_else : (u : ℕ) → u ≢ t → (w.known u).holds ≡ (x.known u).holds
-  holds_else u n = elim (cleared_at w t l o d p few some may.small may.hold refl u) [ inl a ↦ absurd (n a.0) | inr a ↦ sym a.1 ]
+  none_else u n = no_other w P o u v (ap (λ a. is_thread a u) had ∙ ne_eqb t u (λ q. n (sym q)))
 
   -- WHO HAS THE LOCK of another object has it still
   who_else : (i : ℕ) → i ≢ o → holder (lock w i) (λ u. hold_count i (x.known u).holds) ≡ who w i
-  who_else i n =
-      let same : (u : ℕ) → hold_count i (x.known u).holds ≡ hold_count i (w.known u).holds = λ u. elim (named_at u i) [
-        | inl a ↦ let b = ap one_if (ne_eqb o i (λ q. n (sym q))) in omega (arith, a.1, b)
-        | inr a ↦ a.1
-      ] in
-      λ j. holder (lock w i) (λ u. same u j)
+  who_else i n = holder_told (lock w i) i t l w.known
+      (inl (let other = ap one_if (ne_eqb o i (λ q. n (sym q))) in omega (arith, named_less old o d p full i, other)))
 
   who_here : holder (lock w o) (λ u. hold_count o (x.known u).holds) ≡ less.owner
-  who_here = is.owner (λ u. hold_count o (x.known u).holds) (elim (named_at t o) [
-    | inl a ↦ (let b = ap one_if (eq-eqb o o refl) in omega (arith, a.1, b))
-    | inr a ↦ absurd (a.0 refl)
-  ])
+  who_here = is.owner (λ u. hold_count o (x.known u).holds)
+      (omega (arith, named_less old o d p full o, ap (λ (k : Known). hold_count o k.holds) (with_known_here t l w.known), ap one_if (eq-eqb o o refl)))
 
   owners_same : (i u : ℕ) → is_thread (holder (lock w i) (λ u. hold_count i (x.known u).holds)) u ≡ (owner_at Q i u || bears (x.known u).stage i)
   owners_same i u =
       by_equal i o
       (λ s. subst (λ j. is_thread (holder (lock w j) (λ u. hold_count j (x.known u).holds)) u ≡ (owner_at Q j u || bears (x.known u).stage j)) (sym s)
-      (ap (λ a. is_thread a u) who_here ∙ sym (owner_here u) ∙ sym (or-false (owner_at Q o u)) ∙ ap (λ (b : Bool). owner_at Q o u || b) (sym (unborne u))))
-      (λ n. ap (λ a. is_thread a u) (who_else i n) ∙ v.owners.same i u ∙ (λ j. sym (owner_else i u n) j || sym (bears_stay step before now u i) j))
+      (ap (λ a. is_thread a u) who_here ∙ sym (owner_here P o less inside is.fewer u) ∙ sym (or-false (owner_at Q o u))
+      ∙ ap (λ (b : Bool). owner_at Q o u || b) (sym (unborne u))))
+      (λ n. ap (λ a. is_thread a u) (who_else i n) ∙ v.owners.same i u
+      ∙ (λ j. sym (owner_else P o less inside is.fewer i u n) j || sym (bears_stay step before now u i) j))
     where
       unborne : (u : ℕ) → bears (x.known u).stage o ≡ false
       unborne u = each_with_known (λ u k. bears k.stage o ≡ false) t l w.known u refl (λ n. (none_else u n).1)
 
-  number_at : (u i : ℕ) → hold_count i (x.known u).holds ≡ holds_by_monitor (monitor_of Q i) u + hold_words_ahead (x.known u).stage i
-  number_at u i =
-      let was = v.holds.number u i in
-      let more = extra_stays step before now u i in
-      by_equal i o
-      (λ s.
-      let now = ap (λ j. holds_by_monitor (monitor_of Q j) u) s ∙ ap (λ f. holds_by_monitor f u) (monitor_here P o z inside) in
-      let before = ap (λ j. holds_by_monitor (monitor_of P j) u) s in
-      elim (named_at u i) [
-        | inl a ↦
-            let one = ap one_if (eq-eqb o i (sym s)) in
-            let mine = ap (holds_by_monitor less) a.0 in
-            let mine_before = ap (holds_by_monitor (monitor_of P o)) a.0 in
-            omega (arith, was, more, now, before, a.1, one, mine, mine_before, is.here)
-        | inr a ↦ omega (arith, was, more, now, before, a.1, is.else u a.0)
-      ])
-      (λ n.
-      let now = ap (λ f. holds_by_monitor f u) (monitor_else P o i z n) in
-      let none = ap one_if (ne_eqb o i (λ q. n (sym q))) in
-      elim (named_at u i) [ inl a ↦ omega (arith, was, more, now, none, a.1) | inr a ↦ omega (arith, was, more, now, a.1) ])
-
-  -- the recursions count the records that are left, where the thread has the lock through the monitor
-  again_here : (i : ℕ) → lock w i ≡ OwnedBy t → recursion_count i (displaced_words w t) (slice_set (w.known t).holds p 0) + recursions_behind (w.known t).stage i ≡ recursion_count i (displaced_words w t) (w.known t).holds
-  again_here i has = elim (cleared_again w t l o d p few some may.small may.hold refl (displaced_words w) t i) [
-    | inl a ↦
-        let here = ap (λ (k : Known). recursion_count i (displaced_words w t) k.holds) (with_known_here t l w.known) in
-        omega (arith, here, a.1, leaves_counted w P t o d p within may v i has)
-    | inr a ↦ absurd (a.0 refl)
-  ]
-
-  -- nobody else counts on its hold words, and each owner owned its object before
-  uncounted : (u s : ℕ) → u ≢ t → Stays w (w.known u) (owner_at P) u (Hold t p) s → w.words (Hold t p) ≡ s → ⊥
-  uncounted u s n (inl a) is = n (sym a.1)
-  uncounted u s n (inr a) is = a.2
+  number_now : (i : ℕ) → hold_count i (slice_set old p 0) ≡ holds_by_monitor (monitor_of Q i) t + 0
+  number_now = each_object (λ i y. hold_count i (slice_set old p 0) ≡ holds_by_monitor y.monitor t + 0) P o z inside
+      (omega (arith, v.holds.number t o, before.alone o, named_less old o d p full o, ap one_if (eq-eqb o o refl), is.here))
+      (λ i n. omega (arith, v.holds.number t i, before.alone i, named_less old o d p full i, ap one_if (ne_eqb o i (λ q. n (sym q)))))
 
   seen_law : SeenStays x (owner_at Q) (waits_at P)
   seen_law =
       let inflates : inflation_in l.stage ≡ inflation_in (w.known t).stage = sym (leaves_inflates w P t o d p within may v) in
       let held : (i : ℕ) → (owner_at P i t || bears l.stage i) ≡ true → (owner_at P i t || bears (w.known t).stage i) ≡ true = λ i. held_even step before now (owner_at P) i 0 in
-      seen_as w P t plan (search (may.runs, inflates, held, uncounted)) (owner_at Q) owner_back (waits_at P) (λ i a. a) v
-
-  records_next : RecordsRest (lock w) (λ u. (x.known u).holds) (λ u. (x.known u).stage) (displaced_words w)
-  records_next =
-      record {
-        first = λ i u q f. elim (v.records.first i u q f) [
-          | inl a ↦ elim (cleared_forth w t l o d p few some may.small may.hold refl u q i 1 (omega arith) a) [
-            | inl b ↦ absurd (is.rests u q (ap (lock w) b.2 ∙ f) b.3)
-            | inr b ↦ inl b
-          ]
-          | inr a ↦ inr (stage_forth step (Seizes i q) u (before.seizes i q) a)
-        ];
-        header = v.records.header;
-        others = λ i u q r f g h k n. v.records.others i u q r f g (back u r i f h) k n;
-        seized = λ i u q f.
-            let a = stage_back step (Seizes i q) u (λ g. cc g) f in
-            subst (λ hs. (lock w i ≡ OnRecord u q) × (slice_index hs q ≡ 0) × (q < 64) × (hold_count i hs ≡ 0)) (holds_else u a.0) (v.records.seized i u q a.1);
-        grabbed = λ i u f.
-            let a = stage_back step (Grabs i) u (λ g. cc g) f in
-            subst (λ hs. (lock w i ≡ OwnedBy u) × (hold_count i hs ≡ 0)) (holds_else u a.0) (v.records.grabbed i u a.1);
-      }
-
-  recursions_next : RecursionsFit (marks w) (λ a. w.words (Recursions a)) (lock w) (λ u. (x.known u).holds) (λ u. (x.known u).stage) (λ u. (w.known u).saved) (displaced_words w) (waits_at P) (notified_at P)
-  recursions_next =
-      record {
-        first = λ i u q g h. v.recursions.first i u q g (back u q i 1 h);
-        others = λ i u q f g h. v.recursions.others i u q f g (back u q i (f + 2) h);
-        owned = λ i a u names thread_owns. each_with_known (λ u k. lock w i ≡ OwnedBy u → (k.stage ≡ Waits i → ⊥) → (k.stage ≡ Resumes i → ⊥)
-            → w.words (Recursions a) + recursions_behind k.stage i ≡ recursion_count i (displaced_words w u) k.holds + recursions_ahead k.stage i) t l w.known u
-            (λ g b c.
-            let was = v.recursions.owned i a t names g (before.plain.waits i) (before.plain.resumes i) in
-            omega (arith, was, again_here i g, leaves_ahead w P t o d p within may v i))
-            (λ n g. v.recursions.owned i a u names g) thread_owns;
-        waiting = λ i u. each_with_known (λ u k. (is_listed (waits_at P i) u ≡ true) ⊎ (is_listed (notified_at P i) u ≡ true) → (w.known u).saved ≡ recursion_count i (displaced_words w u) k.holds) t l w.known u
-            (λ h. absurd (unlisted w P t l v may.runs may.ready before.plain.resumes i h)) (λ n. v.recursions.waiting i u);
-        on_record = v.recursions.on_record;
-        free = v.recursions.free;
-        thread_owns = λ i u f.
-            let a = stage_back step (TakesOver i) u (λ g. cc g) f in
-            subst (λ hs. recursion_count i (displaced_words w u) hs ≡ 0) (holds_else u a.0) (v.recursions.thread_owns i u a.1);
-      }
+      seen_as w P t plan (search (may.runs, inflates, held, hold_uncounted w P t p)) (owner_at Q) (owner_before P o less inside is.fewer)
+      (waits_at P) (λ i a. a) v
 
   -- THE CLAUSES, where those stamps fit
   module _ (stamped : StampsFit (logs_from 0 w.shape.threads (with_known t l w.known)) (λ u. (with_known t l w.known u).log) (λ i. w.words (Stamp i)) (λ i. (monitor_of (objects_where P o less) i).owner) (λ u. (with_known t l w.known u).unfinished)) where
@@ -297,83 +184,74 @@ module _ (w : World) (P : List PlainObject) (t : ℕ) (e : Purpose) (o d p : ℕ
 
     all_after : AllHold (exit_parts w (stepped w t l x.words) P (lock w) (parts_of n Q))
     all_after seen = holds_next step (λ y. SeenStays y (owner_at Q) (waits_at P)) x.words seen_law
-    all_after forms = let holds = cleared_form w t l o d p few some may.small may.hold refl w.shape v.forms.holds in search (holds, v.forms)
+    all_after forms = search (word_held w.words t p 0 w.shape (subst (IsHold w.shape) (sym hold_zero) tt) v.forms.holds, v.forms)
     all_after quiet = quiet_next step P refl may.runs v
-    all_after holds = record {
-      stored = cleared_stored w t l o d p few some may.small may.hold refl v.holds.stored;
-      places = cleared_places w t l o d p few some may.small may.hold refl v.holds.places;
-      number = number_at;
-      each = cleared_each_at w t l o d p few some may.small may.hold refl may.deepest v.holds.each;
-    }
+    all_after holds = holds_told t l w.known hold_words_ahead (word_else w.words t p 0)
+        (λ u i d. sym (part_stays (λ y. holds_by_monitor y.monitor u) P o z inside (is.else u d) i)) (record {
+          stored = word_own w.words t p 0 old (clears.inside old o d p full) (v.holds.stored t);
+          places = length-set old p 0 ∙ v.holds.places t;
+          number = number_now;
+          each = times_less old o d p full may.deepest (v.holds.each t);
+        }) v.holds
     all_after owners = record {
       same = owners_same;
-      let_go = λ i u f. owner_fails i u (v.owners.let_go i u (stage_back step (Waits i) u (λ g. cc g) f).1);
-      left = λ i u q f. owner_fails i u (v.owners.left i u q (stage_back step (Exits i q) u (λ g. cc g) f).1);
+      let_go = λ i u f. owner_fails P o less inside is.fewer i u (v.owners.let_go i u (stage_back step (Waits i) u (λ g. cc g) f).1);
+      left = λ i u q f. owner_fails P o less inside is.fewer i u (v.owners.left i u q (stage_back step (Exits i q) u (λ g. cc g) f).1);
       calls = λ i u. each_with_known (λ u k. notification_in k.stage ≡ Some i → owner_at Q i u ≡ true) t l w.known u
           (λ f. absurd (cc f))
           (λ n f.
           let yes = v.owners.calls i u f in
-          by_equal i o (λ s. let no = ap (λ j. owner_at P j u) s ∙ (none_else u n).0 in absurd (cc (yes, no))) (λ g. owner_else i u g ∙ yes));
+          by_equal i o (λ s. absurd (cc (yes, ap (λ j. owner_at P j u) s ∙ (none_else u n).0))) (λ g. owner_else P o less inside is.fewer i u g ∙ yes));
     }
-    all_after biases = record {
-      hashless = v.biases.hashless;
-      nobody = v.biases.nobody;
-      unheld = λ i u g n. let b = v.biases.unheld i u g n in elim (named_at u i) [ inl a ↦ omega (arith, a.1, b) | inr a ↦ a.1 ∙ b ];
-    }
-    all_after records = records_next
-    all_after recursions = recursions_next
-    all_after hashes = record { stands = v.hashes.stands; records = λ i u q f. v.hashes.records i u q (back u q i 1 f); on_record = v.hashes.on_record }
+    all_after biases = biases_told t l w.known (λ i b n. omega (arith, named_less old o d p full i, v.biases.unheld i t b n)) v.biases
+    all_after records = records_told t l w.known
+        (records_less old o d p full before.seizes (λ one rests. is.rests t p rests one) (records_at v.records t)) v.records
+    all_after recursions = recursions_told t l w.known
+        (recursions_less old o d p full before.plain (leaves_ahead w P t o d p within may v) (leaves_counted w P t o d p within may v)
+        (λ i h. absurd (unlisted w P t l v may.runs may.ready before.plain.resumes i h)) (recursions_at v.recursions t)) v.recursions
+    all_after hashes = hashes_told t l w.known (λ i q h. v.hashes.records i t q (cleared_back old o d p full q i 1 h)) v.hashes
     all_after waits = waits_move step before.plain now.plain (waits_logged w P t l v may.runs may.ready before.plain.resumes)
     all_after stamps = stamped
     all_after c = logged_step step logging_it may.runs may.room (draws_still w P Q t y l v logging_it (omega arith) refl) v c
 
-    pub leaving_fits : Fits x Q
+    leaving_fits : Fits x Q
     leaving_fits =
         let inflates = inflates_stay step (sym (leaves_inflates w P t o d p within may v)) in
         let inflation : inflations n ≡ inflations w = inflations_stay w.shape.threads _ _ (λ j. λ u. inflates u j) in
         step_fits step x.words Q (exit_parts w (stepped w t l x.words) P (lock w) (parts_of n Q))
         (exit_are step x.words P o less inside is.waits is.called (lock w) inflates refl (lock_stays n w refl refl refl inflation) (header_stays n w refl refl refl inflation)) all_after
 
+    pub leaving_logs : Logs w P t plan (Exit o)
+    leaving_logs = record { now = Q; taken = leaving_taken; valid = inl leaving_fits }
+
 -- THE LAW
 module _ (w : World) (P : List PlainObject) (t : ℕ) (e : Purpose) (o d p : ℕ) (within : t < w.shape.threads) (may : MayLeave w.shape (w.known t) o d p) (v : Fits w P) where
   -- of several holds
-  leaves_held : 2 ≤ d → Logs w P t (logging_plan (Exit o) e (Hold t p) (Store 0)) (Exit o)
+  leaves_held : 2 ≤ d → Logs w P t (leave_plan e t o p) (Exit o)
   leaves_held deep =
       let less = less_held w P t o d p within may v in
       let is = lessens_held w P t o d p within may v deep in
-      let it = logging_it w P t e o d p within may v less is in
-      let owned = owner_is w P t o d p within may v in
-      let l = known_hit w.shape w.start (logging_plan (Exit o) e (Hold t p) (Store 0)) (w.words (Hold t p)) (w.known t) in
-      let inside_is = inside w P t e o d p within may v less is in
       let same : (i : ℕ) → (monitor_of (objects_where P o less) i).owner ≡ (monitor_of P i).owner =
-      λ i. by_equal i o
-      (λ s. ap (λ (j : ℕ). (monitor_of (objects_where P o less) j).owner) s ∙ ap (λ (f : PlainMonitor). f.owner) (monitor_here P o (object_with P o less) inside_is) ∙ ap (λ (j : ℕ). (monitor_of P j).owner) (sym s))
-      (λ n. ap (λ (f : PlainMonitor). f.owner) (monitor_else P o i (object_with P o less) n)) in
-      let stamps = stamps_owned w P (objects_where P o less) t (exit_entry (w.known t) o) l v it refl same
-      (λ i b. ap (λ j. (monitor_of P j).owner) (sym (same_Some o i b)) ∙ owned) in
-      record { now = _; taken = leaving_taken w P t e o d p within may v less is; valid = inl (leaving_fits w P t e o d p within may v less is stamps) }
+      λ i. sym (part_stays (λ y. y.monitor.owner) P o (object_with P o less) (inside w P t e o d p within may v less is) refl i) in
+      leaving_logs w P t e o d p within may v less is
+      (stamps_owned w P _ t (exit_entry (w.known t) o) _ v (logging_it w P t e o d p within may v less is) refl same
+      (λ i b. ap (λ j. (monitor_of P j).owner) (sym (same_Some o i b)) ∙ owner_is w P t o d p within may v))
 
   -- the last hold, under a bias
-  leaves_last : d ≡ 1 → lock w o ≡ BiasedTo t → HasRaised (w.known t) o → Logs w P t (logging_plan (Exit o) e (Hold t p) (Store 0)) (Exit o)
+  leaves_last : d ≡ 1 → lock w o ≡ BiasedTo t → HasRaised (w.known t) o → Logs w P t (leave_plan e t o p) (Exit o)
   leaves_last last leans raised =
-      let less = freed P o in
       let is = lessens_last w P t o d p within may v last leans in
-      let it = logging_it w P t e o d p within may v less is in
       let owned = owner_is w P t o d p within may v in
-      let l = known_hit w.shape w.start (logging_plan (Exit o) e (Hold t p) (Store 0)) (w.words (Hold t p)) (w.known t) in
       let word : w.words (Stamp o) ≡ raised.0 = v.seen.stays t (Stamp o) raised.0 raised.1 (inl (may.runs, ap (λ a. is_thread a t) owned ∙ eq-eqb t t refl)) in
-      let stamps = freed_stamps w P t o l v (inside w P t e o d p within may v less is) owned it (subst (λ n. next_stamp (local_of (w.known t)) ≤ n) (sym word) raised.2) in
-      record { now = _; taken = leaving_taken w P t e o d p within may v less is; valid = inl (leaving_fits w P t e o d p within may v less is stamps) }
+      leaving_logs w P t e o d p within may v (freed P o) is
+      (freed_stamps w P t o _ v (inside w P t e o d p within may v (freed P o) is) owned (logging_it w P t e o d p within may v (freed P o) is)
+      (omega (arith, word, raised.2)))
 
 pub exits_by_a_hold_word : (e : Purpose) (o d p : ℕ) → LogsValid (λ w t. MayLeave w.shape (w.known t) o d p) (λ w t. leave_plan e t o p) (Exit o)
 exits_by_a_hold_word e o d p w P t within may valid =
     let v = fits_running w P t may.runs valid in
     elim (leaves_deep w P t o d p within may v) [
       | inl deep ↦ leaves_held w P t e o d p within may v deep
-      | inr c ↦ by_depth v c.0 c.1 (d == 1) refl
+      | inr c ↦ by_equal d 1 (λ last. leaves_last w P t e o d p within may v last c.0 (c.1 last))
+          (λ more. leaves_held w P t e o d p within may v (omega (arith, leaves_some w P t o d p within may v, more)))
     ]
-  where
-    by_depth : Fits w P → lock w o ≡ BiasedTo t → (d ≡ 1 → HasRaised (w.known t) o) → (b : Bool) → (d == 1) ≡ b → Logs w P t (leave_plan e t o p) (Exit o)
-    by_depth v leans raised true h = let last : d ≡ 1 = eqb-true d 1 h in leaves_last w P t e o d p within may v last leans (raised last)
-    by_depth v leans raised false h =
-        leaves_held w P t e o d p within may v (let some = leaves_some w P t o d p within may v in let no : d ≢ 1 = λ s. absurd (cc (eq-eqb d 1 s, h)) in omega (arith, some, no))

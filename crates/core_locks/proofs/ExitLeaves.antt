@@ -1,12 +1,12 @@
 -- What holds where a thread may leave by clearing a hold word: it is the plain owner, has several holds or a bias, and the recursions count its
 -- records, but for the one that it clears.
-use Rattle.core_locks.proofs.Prelude.{◌≡◌, ◌≢◌, ℕ, zero, suc, ◌+◌, ◌<◌, ◌≤◌, ◌^◌, ◌==◌, ◌&&◌, nat_lt, eq-eqb, Bool, true, false, List, [], ◌∷◌, Option, Some, None, refl, sym, ap, ◌∙◌, subst, arith, inl, inr, nat_tests, read_hold, Holds, Empty, HoldForm, read_hold-spells, PlainObject, Mark, Hold, Displaced, Stage, Calm, Behind, hold_word, is_deeper, monitor_in, deeper_form, inflation_in, recursions_ahead, recursions_behind, one_if, last_seen, World, OwnedBy, lock, marks, displaced_words, hold_count, depth_count, recursion_count, monitor_of, owner_at, count_where, Fits, same_number, SawInflated, SawOwn, MayLeave, ◌⊎◌, ne_eqb, by_equal, Lock, BiasedTo, is_biased}
+use Rattle.core_locks.proofs.Prelude.{◌≡◌, ◌≢◌, ℕ, ◌+◌, ◌<◌, ◌≤◌, ◌^◌, ◌==◌, ◌&&◌, nat_lt, eq-eqb, Bool, true, false, List, [], ◌∷◌, Option, Some, None, refl, sym, ap, ◌∙◌, subst, arith, inl, inr, nat_tests, read_hold, Holds, Empty, HoldForm, read_hold-spells, PlainObject, Mark, Hold, Displaced, Stage, Calm, Behind, hold_word, is_deeper, deeper_form, inflation_in, recursions_ahead, recursions_behind, one_if, last_seen, World, OwnedBy, lock, marks, displaced_words, hold_count, depth_count, recursion_count, monitor_of, owner_at, count_where, Fits, same_number, SawInflated, SawOwn, MayLeave, ◌⊎◌, ne_eqb, by_equal, Lock, BiasedTo, is_biased, ◌-◌}
 use Rattle.core_locks.specs.Knowing.{SawBiased}
 use Rattle.core_locks.specs.LockLaws.{HasRaised}
-use Rattle.core_locks.proofs.HoldClears.{and_false}
+use Rattle.std.proofs.Math.Bool.{and-false, and-true}
 use Rattle.core_locks.proofs.HoldCounts.{hold_in_form}
 use Rattle.core_locks.proofs.WaitOut.{ready_is_out, even_holder_owns}
-use Rattle.core_locks.proofs.HoldWays.{saw_thread_owns}
+use Rattle.core_locks.proofs.HoldWays.{saw_inflated, saw_thread_owns}
 use Rattle.core_locks.proofs.ExitEntries.{own_displaced}
 use Rattle.core_locks.proofs.EvenSteps.{IsEven, even_by}
 
@@ -38,11 +38,6 @@ counted_met : (b : Bool) → 1 ≤ one_if b → b ≡ true
 counted_met true h = refl
 counted_met false h = absurd (omega arith)
 
--- the thread that a lock leans on
-leaner : Lock → ℕ
-leaner (BiasedTo u) = u
-leaner _ = 0
-
 module _ (w : World) (P : List PlainObject) (t o d p : ℕ) (within : t < w.shape.threads) (may : MayLeave w.shape (w.known t) o d p) (v : Fits w P) where
   by_stage : (F : Stage → Type 0) → F Calm → F (Behind o) → F (w.known t).stage
   by_stage F a b = elim may.before [ inl c ↦ subst F (sym c.0) a | inr c ↦ elim c [ inl f ↦ subst F (sym f.0) b | inr f ↦ subst F (sym f.0) a ] ]
@@ -69,50 +64,41 @@ module _ (w : World) (P : List PlainObject) (t o d p : ℕ) (within : t < w.shap
   -- the second way, in which the thread has lowered the recursions
   module _ (m h : ℕ) (stage : (w.known t).stage ≡ Behind o) (inflated : SawInflated (w.known t) o m) (own : SawOwn (w.known t) (w.known t).thread m)
       (seen : last_seen (Displaced (w.known t).thread p) (w.known t).seen ≡ Some h) (some : h ≢ 0) where
-    mark_names : monitor_in (marks w o) ≡ Some m
-    mark_names = ap monitor_in (v.seen.stays t (Mark o) inflated.0 inflated.1 (inl (may.runs, inr (inl (m, inflated.2))))) ∙ inflated.2
-
     thread_owns : lock w o ≡ OwnedBy t
     thread_owns = saw_thread_owns w P t o may.runs v m (omega (arith, within, v.limits.threads)) leaves_owned.0 inflated own
 
     -- the recursions and this hold are the records that were made through the monitor, so there is a deeper one
     behind_again : 1 ≤ recursion_count o (displaced_words w t) (w.known t).holds
     behind_again =
-        let owned = v.recursions.owned o m t mark_names thread_owns (leaves_even.plain.waits o) (leaves_even.plain.resumes o) in
+        let names = saw_inflated w P t o may.runs v m inflated in
+        let owned = v.recursions.owned o m t names thread_owns (leaves_even.plain.waits o) (leaves_even.plain.resumes o) in
         let one : recursions_behind (w.known t).stage o ≡ 1 = ap (λ s. recursions_behind s o) stage ∙ ap one_if (same_number o) in
         omega (arith, owned, one, leaves_ahead o)
 
     behind_deep : 2 ≤ d
-    behind_deep = let a = counted_deep o (displaced_words w t) 0 0 (w.known t).holds behind_again in by_depth a.0 a.1 a.2 a.3
-      where
-        by_depth : (e : ℕ) → 2 ≤ e → e ≤ 64 → 1 ≤ depth_count o e (w.known t).holds → 2 ≤ d
-        by_depth zero a b c = absurd (omega arith)
-        by_depth (suc e) a b c =
-            let same : suc e ≡ e + 1 = omega arith in
-            let each = v.holds.each t o e (omega arith) in
-            let stands = subst (λ n. 1 ≤ depth_count o n (w.known t).holds) same c in
-            let below : nat_lt e (hold_count o (w.known t).holds) ≡ true = counted_met _ (omega (arith, each, stands)) in
-            let deepest = may.deepest in
-            let more : e < hold_count o (w.known t).holds = grind (arith, nat_tests, below) in
-            omega (arith, more, deepest)
+    behind_deep =
+        let a = counted_deep o (displaced_words w t) 0 0 (w.known t).holds behind_again in
+        let deep = a.1 in
+        let high = a.2 in
+        let same : a.0 ≡ (a.0 - 1) + 1 = omega (arith, deep) in
+        let stands = subst (λ n. 1 ≤ depth_count o n (w.known t).holds) same a.3 in
+        let below : nat_lt (a.0 - 1) (hold_count o (w.known t).holds) ≡ true = counted_met _
+        (omega (arith, v.holds.each t o (a.0 - 1) (omega (arith, deep, high)), stands)) in
+        let more : a.0 - 1 < hold_count o (w.known t).holds = grind (arith, nat_tests, below) in
+        omega (arith, more, deep, may.deepest)
 
     -- so its record was made through the monitor
     behind_three : w.words (Displaced t p) ≡ 3
-    behind_three = by_depth d refl behind_deep
-      where
-        by_depth : (e : ℕ) → d ≡ e → 2 ≤ e → w.words (Displaced t p) ≡ 3
-        by_depth zero s a = absurd (omega arith)
-        by_depth (suc zero) s a = absurd (omega arith)
-        by_depth (suc (suc e)) s a =
-            let same : d ≡ e + 2 = omega (arith, s) in
-            elim (v.recursions.others o t p e (inl thread_owns) (may.hold ∙ ap (hold_word o) same) (omega (arith, s, may.small))) [
-              | inl z ↦ absurd (some (sym (own_displaced w P t p h v may.runs seen) ∙ z))
-              | inr z ↦ z
-            ]
+    behind_three =
+        let deep = behind_deep in
+        let same : d ≡ (d - 2) + 2 = omega (arith, deep) in
+        elim (v.recursions.others o t p (d - 2) (inl thread_owns) (may.hold ∙ ap (hold_word o) same) (omega (arith, may.small))) [
+          | inl z ↦ absurd (some (sym (own_displaced w P t p h v may.runs seen) ∙ z))
+          | inr z ↦ z
+        ]
 
   -- the third way: the mark has the bias pattern still, and nobody holds such an object but the thread of its valid bias
   leans : SawBiased (w.known t) o → lock w o ≡ BiasedTo t
-  unfolding leaner
   leans saw = by_lock (lock w o) refl
     where
       still : is_biased (marks w o) ≡ true
@@ -122,7 +108,7 @@ module _ (w : World) (P : List PlainObject) (t o d p : ℕ) (within : t < w.shap
       unless n = let none = v.biases.unheld o t still n in let deepest = may.deepest in let some = leaves_some in absurd (omega (arith, none, deepest, some))
 
       by_lock : (f : Lock) → lock w o ≡ f → lock w o ≡ BiasedTo t
-      by_lock (BiasedTo u) e = by_equal u t (λ s. e ∙ ap BiasedTo s) (λ n. absurd (unless (λ g. n (ap leaner (sym e ∙ g)))))
+      by_lock (BiasedTo u) e = by_equal u t (λ s. e ∙ ap BiasedTo s) (λ n. absurd (unless (λ g. n (cc (e, g)))))
       by_lock _ e = absurd (unless (λ g. cc (e, g)))
 
   -- there are several holds, or the object leans on the thread
@@ -140,20 +126,18 @@ module _ (w : World) (P : List PlainObject) (t o d p : ℕ) (within : t < w.shap
   leaves_counted i has = elim may.before [
     | inl c ↦
         let word = own_displaced w P t p 0 v may.runs c.2 in
-        ap (λ n. one_if (((o == i) && nat_lt 1 d) && (n == 3))) word ∙ ap one_if (and_false ((o == i) && nat_lt 1 d)) ∙ sym (ap (λ s. recursions_behind s i) c.0)
+        ap (λ n. one_if (((o == i) && nat_lt 1 d) && (n == 3))) word ∙ ap one_if (and-false ((o == i) && nat_lt 1 d))
+        ∙ sym (ap (λ s. recursions_behind s i) c.0)
     | inr c ↦ elim c [
       | inl f ↦
           let word = behind_three f.1.0 f.1.1 f.0 f.1.2 f.1.3 f.1.4 f.1.5 in
           let deep = behind_deep f.1.0 f.1.1 f.0 f.1.2 f.1.3 f.1.4 f.1.5 in
           let more : nat_lt 1 d ≡ true = grind (arith, nat_tests, deep) in
-          ap (λ n. one_if (((o == i) && nat_lt 1 d) && (n == 3))) word ∙ ap (λ b. one_if (((o == i) && b) && true)) more ∙ ap one_if (and_true (o == i)) ∙ sym (ap (λ s. recursions_behind s i) f.0)
+          ap (λ n. one_if (((o == i) && nat_lt 1 d) && (n == 3))) word ∙ ap (λ b. one_if (((o == i) && b) && true)) more
+          ∙ ap one_if (and-true ((o == i) && true) ∙ and-true (o == i)) ∙ sym (ap (λ s. recursions_behind s i) f.0)
       | inr f ↦
           by_equal o i
           (λ s. let same : BiasedTo t ≡ OwnedBy t = sym (leans f.1) ∙ ap (lock w) s ∙ has in absurd (cc same))
           (λ n. ap (λ (b : Bool). one_if ((b && nat_lt 1 d) && (displaced_words w t p == 3))) (ne_eqb o i n) ∙ sym (ap (λ s. recursions_behind s i) f.0))
     ]
   ]
-    where
-      and_true : (b : Bool) → ((b && true) && true) ≡ b
-      and_true true = refl
-      and_true false = refl

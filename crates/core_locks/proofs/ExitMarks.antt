@@ -99,9 +99,6 @@ module _ (w : World) (P : List PlainObject) (t : ℕ) (e : Purpose) (o h s p : �
       mine : (i : ℕ) → (owner_at Q i t || bears l.stage i) ≡ true → (owner_at P i t || bears (w.known t).stage i) ≡ true
       mine i g = ap (λ f. owner_at P i t || bears f i) may.calm ∙ either (owner_at Q i t) false (owner_at P i t) (λ a. (owner_gone i t a).1) g
 
-  back : (i u q : ℕ) → lock x i ≡ OnRecord u q → lock w i ≡ OnRecord u q
-  back i u q f = (was_locked step P o p s may_exit exit_it v holder_is (lock x) lock_now i (OnRecord u q) f (λ g. cc g)).1
-
   abbrev n : World
   n = next w t l noting x.words
 
@@ -116,7 +113,7 @@ module _ (w : World) (P : List PlainObject) (t : ℕ) (e : Purpose) (o h s p : �
   all_after hashes = record {
     stands = v.hashes.stands;
     records = λ i u q f b. v.hashes.records i u q f (bias_before w o h t l old.unbiased i b);
-    on_record = λ i u q f. v.hashes.on_record i u q (back i u q f);
+    on_record = λ i u q f. v.hashes.on_record i u q (was_locked step P o p s may_exit exit_it v holder_is (lock x) lock_now i (OnRecord u q) f (λ g. cc g)).1;
   }
   all_after classes = classes_by_marks w.biasing (λ c. w.words (Prototype c)) (λ c. w.words (Revocations c)) (λ c. w.words (LastBulk c)) (marks w) (marks x) (bulk_rebiases w.shape.threads (λ u. (w.known u).counts)) (bulk_revokes w.shape.threads (λ u. (w.known u).counts))
       (bias_forth w o h t l new.unbiased) v.classes

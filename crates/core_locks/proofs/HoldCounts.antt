@@ -1,25 +1,7 @@
 -- How many hold words pass a test where one is stored in an empty place, and where one is cleared.
 use Rattle.core_locks.proofs.Prelude.{◌≡◌, ◌≢◌, ℕ, zero, suc, ◌+◌, ◌<◌, ◌≤◌, ◌^◌, ◌==◌, ◌&&◌, nat_lt, eq-eqb, ne_eqb, Bool, true, false, List, [], ◌∷◌, length, slice_index, slice_set, Option, Some, None, refl, sym, ap, ◌∙◌, subst, arith, add-zero, zero-add, nat_tests, read_hold, Holds, Empty, HoldForm, read_hold-spells, read_hold-hold_of, hold_word, is_deeper, names, deeper_form, names_form, one_if, hold_count, depth_count, recursion_count, count_where, Shape, IsHold, hold_some, deeper_none, names_none}
 
--- LISTS OF WORDS. What a place has after a store, and how the number of those that pass a test changes.
-pub length_set : (hs : List ℕ) (p x : ℕ) → length (slice_set hs p x) ≡ length hs
-length_set [] p x = refl
-length_set (y ∷ hs) zero x = refl
-length_set (y ∷ hs) (suc p) x = ap suc (length_set hs p x)
-
-pub index_set : (hs : List ℕ) (p x : ℕ) → p < length hs → slice_index (slice_set hs p x) p ≡ x
-index_set [] p x h = absurd (omega arith)
-index_set (y ∷ hs) zero x h = refl
-index_set (y ∷ hs) (suc p) x h = index_set hs p x (omega arith)
-
-pub index_set_other : (hs : List ℕ) (p q x : ℕ) → q ≢ p → slice_index (slice_set hs p x) q ≡ slice_index hs q
-index_set_other [] p q x d = refl
-index_set_other (y ∷ hs) zero zero x d = absurd (d refl)
-index_set_other (y ∷ hs) zero (suc q) x d = refl
-index_set_other (y ∷ hs) (suc p) zero x d = refl
-index_set_other (y ∷ hs) (suc p) (suc q) x d = index_set_other hs p q x (λ e. d (ap suc e))
-
--- past the end stands nothing
+-- LISTS OF WORDS. Where a word stands, and how the number of those that pass a test changes.
 pub index_past : (hs : List ℕ) (p : ℕ) → slice_index hs p ≢ 0 → p < length hs
 index_past [] p h = absurd (h refl)
 index_past (y ∷ hs) zero h = omega arith
@@ -34,6 +16,23 @@ number_set test i (y ∷ hs) (suc p) x h =
     let e : i + 1 + p ≡ i + suc p = omega arith in
     let r' = subst (λ k. count_where test (i + 1) (slice_set hs p x) + one_if (test k (slice_index hs p)) ≡ count_where test (i + 1) hs + one_if (test k x)) e r in
     omega (arith, r')
+
+-- by what the test says of the word that stood there, and of the one that stands there now
+changed : (test : ℕ → ℕ → Bool) (hs : List ℕ) (p x : ℕ) (before now : Bool) → p < length hs → test p (slice_index hs p) ≡ before → test p x ≡ now
+    → count_where test 0 (slice_set hs p x) + one_if before ≡ count_where test 0 hs + one_if now
+changed test hs p x before now within was is =
+    let r = number_set test 0 hs p x within in
+    let had = ap (λ n. one_if (test n (slice_index hs p))) (zero-add p) ∙ ap one_if was in
+    let has = ap (λ n. one_if (test n x)) (zero-add p) ∙ ap one_if is in
+    omega (arith, r, had, has)
+
+raised : (test : ℕ → ℕ → Bool) (hs : List ℕ) (p x : ℕ) (now : Bool) → p < length hs → test p (slice_index hs p) ≡ false → test p x ≡ now
+    → count_where test 0 (slice_set hs p x) ≡ count_where test 0 hs + one_if now
+raised test hs p x now within was is = omega (arith, changed test hs p x false now within was is)
+
+lowered : (test : ℕ → ℕ → Bool) (hs : List ℕ) (p x : ℕ) (before : Bool) → p < length hs → test p (slice_index hs p) ≡ before → test p x ≡ false
+    → count_where test 0 (slice_set hs p x) + one_if before ≡ count_where test 0 hs
+lowered test hs p x before within was is = omega (arith, changed test hs p x before false within was is)
 
 -- HOLD WORDS. One at a depth from 1 to 64 names its object alone.
 pub names_is : (i o d : ℕ) → o < 2 ^ 15 → 1 ≤ d → d ≤ 64 → names i (hold_word o d) ≡ (o == i)
@@ -71,44 +70,31 @@ hold_in_form s o d n small e form = cases (read_hold n) refl form
 
 -- STORING. The hold word of o at depth d is stored in an empty place.
 module _ (hs : List ℕ) (p o d : ℕ) (within : p < length hs) (few : o < 2 ^ 15) (some : 1 ≤ d) (small : d ≤ 64) (empty : slice_index hs p ≡ 0) where
-  put : (test : ℕ → ℕ → Bool) → test p 0 ≡ false → count_where test 0 (slice_set hs p (hold_word o d)) ≡ count_where test 0 hs + one_if (test p (hold_word o d))
-  put test none =
-      let r = number_set test 0 hs p (hold_word o d) within in
-      let e : one_if (test (0 + p) (slice_index hs p)) ≡ 0 = ap (λ n. one_if (test n (slice_index hs p))) (zero-add p) ∙ ap (λ n. one_if (test p n)) empty ∙ ap one_if none in
-      let f : one_if (test (0 + p) (hold_word o d)) ≡ one_if (test p (hold_word o d)) = ap (λ n. one_if (test n (hold_word o d))) (zero-add p) in
-      omega (arith, r, e, f)
-
   pub named_put : (i : ℕ) → hold_count i (slice_set hs p (hold_word o d)) ≡ hold_count i hs + one_if (o == i)
-  named_put i = put (λ q h. names i h) (names_none i) ∙ ap (λ b. hold_count i hs + one_if b) (names_is i o d few some small)
+  named_put i = raised (λ q h. names i h) hs p (hold_word o d) (o == i) within (ap (names i) empty ∙ names_none i) (names_is i o d few some small)
 
   pub times_put : (i e : ℕ) → e < 64 → depth_count i (e + 1) (slice_set hs p (hold_word o d)) ≡ depth_count i (e + 1) hs + one_if ((o == i) && (d == e + 1))
-  times_put i e g =
-      put (λ q h. h == hold_word i (e + 1)) (ne_eqb 0 (hold_word i (e + 1)) (λ z. hold_some i (e + 1) (sym z)))
-      ∙ ap (λ b. depth_count i (e + 1) hs + one_if b) (same_hold i e o d small g)
+  times_put i e g = raised (λ q h. h == hold_word i (e + 1)) hs p (hold_word o d) ((o == i) && (d == e + 1)) within
+      (ne_eqb _ _ (λ z. hold_some i (e + 1) (sym z ∙ empty))) (same_hold i e o d small g)
 
   pub again_put : (i : ℕ) (f : ℕ → ℕ) → recursion_count i f (slice_set hs p (hold_word o d)) ≡ recursion_count i f hs + one_if (((o == i) && nat_lt 1 d) && (f p == 3))
-  again_put i f =
-      put (λ q h. is_deeper i h && (f q == 3)) (ap (λ (b : Bool). b && (f p == 3)) (deeper_none i))
-      ∙ ap (λ (b : Bool). recursion_count i f hs + one_if (b && (f p == 3))) (deeper_is i o d few some small)
+  again_put i f = raised (λ q h. is_deeper i h && (f q == 3)) hs p (hold_word o d) (((o == i) && nat_lt 1 d) && (f p == 3)) within
+      (ap (λ n. is_deeper i n && (f p == 3)) empty ∙ ap (λ (b : Bool). b && (f p == 3)) (deeper_none i))
+      (ap (λ (b : Bool). b && (f p == 3)) (deeper_is i o d few some small))
 
 -- CLEARING. The hold word of o at depth d is cleared.
 module _ (hs : List ℕ) (p o d : ℕ) (few : o < 2 ^ 15) (some : 1 ≤ d) (small : d ≤ 64) (full : slice_index hs p ≡ hold_word o d) where
-  clear : (test : ℕ → ℕ → Bool) → test p 0 ≡ false → count_where test 0 (slice_set hs p 0) + one_if (test p (hold_word o d)) ≡ count_where test 0 hs
-  clear test none =
-      let r = number_set test 0 hs p 0 (index_past hs p (λ z. hold_some o d (sym full ∙ z))) in
-      let e : one_if (test (0 + p) 0) ≡ 0 = ap (λ n. one_if (test n 0)) (zero-add p) ∙ ap one_if none in
-      let f : one_if (test (0 + p) (slice_index hs p)) ≡ one_if (test p (hold_word o d)) = ap (λ n. one_if (test n (slice_index hs p))) (zero-add p) ∙ ap (λ n. one_if (test p n)) full in
-      omega (arith, r, e, f)
+  inside : p < length hs
+  inside = index_past hs p (λ z. hold_some o d (sym full ∙ z))
 
   pub named_clear : (i : ℕ) → hold_count i (slice_set hs p 0) + one_if (o == i) ≡ hold_count i hs
-  named_clear i = ap (λ b. hold_count i (slice_set hs p 0) + one_if b) (sym (names_is i o d few some small)) ∙ clear (λ q h. names i h) (names_none i)
+  named_clear i = lowered (λ q h. names i h) hs p 0 (o == i) inside (ap (names i) full ∙ names_is i o d few some small) (names_none i)
 
   pub times_clear : (i e : ℕ) → e < 64 → depth_count i (e + 1) (slice_set hs p 0) + one_if ((o == i) && (d == e + 1)) ≡ depth_count i (e + 1) hs
-  times_clear i e g =
-      ap (λ b. depth_count i (e + 1) (slice_set hs p 0) + one_if b) (sym (same_hold i e o d small g))
-      ∙ clear (λ q h. h == hold_word i (e + 1)) (ne_eqb 0 (hold_word i (e + 1)) (λ z. hold_some i (e + 1) (sym z)))
+  times_clear i e g = lowered (λ q h. h == hold_word i (e + 1)) hs p 0 ((o == i) && (d == e + 1)) inside
+      (ap (λ n. n == hold_word i (e + 1)) full ∙ same_hold i e o d small g) (ne_eqb _ _ (λ z. hold_some i (e + 1) (sym z)))
 
   pub again_clear : (i : ℕ) (f : ℕ → ℕ) → recursion_count i f (slice_set hs p 0) + one_if (((o == i) && nat_lt 1 d) && (f p == 3)) ≡ recursion_count i f hs
-  again_clear i f =
-      ap (λ (b : Bool). recursion_count i f (slice_set hs p 0) + one_if (b && (f p == 3))) (sym (deeper_is i o d few some small))
-      ∙ clear (λ q h. is_deeper i h && (f q == 3)) (ap (λ (b : Bool). b && (f p == 3)) (deeper_none i))
+  again_clear i f = lowered (λ q h. is_deeper i h && (f q == 3)) hs p 0 (((o == i) && nat_lt 1 d) && (f p == 3)) inside
+      (ap (λ n. is_deeper i n && (f p == 3)) full ∙ ap (λ (b : Bool). b && (f p == 3)) (deeper_is i o d few some small))
+      (ap (λ (b : Bool). b && (f p == 3)) (deeper_none i))

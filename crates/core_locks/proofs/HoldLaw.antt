@@ -1,16 +1,16 @@
 -- A thread stores a new hold word of an object in an empty place.
-use Rattle.core_locks.proofs.Prelude.{◌≡◌, ◌≢◌, ◌⊎◌, ℕ, ◌+◌, ◌<◌, ◌≤◌, ◌==◌, ◌&&◌, ◌||◌, nat_lt, eq-eqb, ne_eqb, Bool, true, false, List, slice_index, slice_set, Some, None, refl, sym, ap, ◌∙◌, arith, inl, inr, or-true, nat_tests, is_thread, is_listed, PlainObject, Path, Hold, StepPlan, Calm, Seizes, Grabs, Enters, Resumes, Exits, Waits, Ahead, hold_word, is_biased, is_neutral, hash_in, inflation_in, bears, hold_words_ahead, recursions_ahead, recursions_behind, one_if, with_word, Known, World, with_known, BiasedTo, OnRecord, OwnedBy, lock, marks, displaced_words, owner_words, prototype_of, inflations, who, holder, hold_count, recursion_count, owner_at, hash_at, waits_at, notified_at, Stays, GoesByMonitor, Purpose, world_after, known_hit, Fits, by_equal, each_with_known, header_stays, thread_is, fits_running, KeepsValid, MayHold, hold_plan, Option, MarkForm, Anonymous, Biased, Takes, cond, subst, with_known_here, monitor_in, monitor_form, is_biased_form}
+use Rattle.core_locks.proofs.Prelude.{◌≡◌, ◌≢◌, ◌⊎◌, ℕ, ◌+◌, ◌<◌, ◌≤◌, ◌==◌, ◌&&◌, ◌||◌, nat_lt, eq-eqb, ne_eqb, Bool, true, false, List, slice_index, slice_set, Some, None, refl, sym, ap, ◌∙◌, arith, inl, inr, or-true, nat_tests, is_thread, is_listed, PlainObject, Path, Hold, StepPlan, Calm, Seizes, Grabs, Enters, Ahead, hold_word, is_biased, is_neutral, hash_in, inflation_in, bears, hold_words_ahead, recursions_ahead, recursions_behind, one_if, with_word, Known, World, with_known, BiasedTo, OnRecord, OwnedBy, lock, marks, displaced_words, owner_words, prototype_of, inflations, who, holder, hold_count, recursion_count, owner_at, hash_at, waits_at, notified_at, GoesByMonitor, Purpose, world_after, known_hit, Fits, by_equal, each_with_known, header_stays, thread_is, fits_running, KeepsValid, MayHold, hold_plan, Option, MarkForm, Anonymous, Biased, Takes, cond, subst, with_known_here, monitor_in, monitor_form, is_biased_form, IsHold, read_hold, read_hold-hold_of, Holds}
 use Rattle.mark_word.specs.Mark.{read_mark}
 use Rattle.core_locks.proofs.WaitOut.{out_unwaiting, out_uncalled}
-use Rattle.core_locks.proofs.HoldCounts.{index_set, again_put, length_set}
-use Rattle.core_locks.proofs.HoldClears.{and_false}
-use Rattle.core_locks.proofs.HoldPuts.{biased_leans}
-use Rattle.core_locks.proofs.HoldSets.{IsPut, hold_back, hold_forth, named_new, times_new, word_new, word_form, word_else, holder_told}
+use Rattle.std.proofs.lemmas.List.{get_or-set_same, length-set}
+use Rattle.std.proofs.Math.Bool.{and-false, and-true}
+use Rattle.core_locks.proofs.HoldCounts.{again_put}
+use Rattle.core_locks.proofs.HoldSets.{biased_leans, IsPut, hold_back, hold_forth, named_new, times_new, word_own, word_held, word_else, holder_told}
 use Rattle.core_locks.proofs.HoldWays.{Way, BySeizing, ByHolding, Leaned, ByGrabbing, ByRaising, ByLeaning, at_stage, way_bears, way_of}
 use Rattle.core_locks.proofs.Clauses.{kept_parts, parts_stand, seen, forms, holds, owners, biases, records, recursions, hashes, AllHold}
-use Rattle.core_locks.proofs.Steps.{holding, IsPlain, plain_by, IsStep, next, step_fits, seen_next, plain_step, stage_back, calls_stay, inflates_stay}
-use Rattle.core_locks.proofs.ByThread.{holds_told, records_told, recursions_told}
-use Rattle.core_locks.proofs.OwnSeen.{own_seen}
+use Rattle.core_locks.proofs.Steps.{owners_move, holding, IsPlain, plain_by, IsStep, next, step_fits, seen_next, plain_step, inflates_stay}
+use Rattle.core_locks.proofs.ByThread.{biases_told, hashes_told, holds_told, records_told, recursions_told}
+use Rattle.core_locks.proofs.OwnSeen.{hold_uncounted, own_seen}
 
 -- the displaced word 3 is no header
 three_unneutral : is_neutral 3 ≡ false
@@ -43,16 +43,13 @@ module _ (w : World) (P : List PlainObject) (t : ℕ) (e : Purpose) (o d p : ℕ
   holder_is : (owner_at P o t || bears (w.known t).stage o) ≡ true → who w o ≡ Some t
   holder_is h = thread_is (who w o) t (v.owners.same o t ∙ h)
 
-  not_resumes : (i : ℕ) → (w.known t).stage ≡ Resumes i → ⊥
-  not_resumes i = at_stage (λ s. s ≡ Resumes i → ⊥) w P t o p way (λ c. cc c) (λ c. cc c) (λ c. cc c) (λ c. cc c) (λ c. cc c)
-
-  not_waits : (i : ℕ) → (w.known t).stage ≡ Waits i → ⊥
-  not_waits i = at_stage (λ s. s ≡ Waits i → ⊥) w P t o p way (λ c. cc c) (λ c. cc c) (λ c. cc c) (λ c. cc c) (λ c. cc c)
+  plain_before : IsPlain (w.known t).stage
+  plain_before = at_stage IsPlain w P t o p way (plain_by (Seizes o p) refl) (plain_by Calm refl) (plain_by (Grabs o) refl) (plain_by (Ahead o) refl) (plain_by (Takes o) refl)
 
   -- the thread stands on no list
   unlisted : (i : ℕ) → (is_listed (waits_at P i) t ≡ true) ⊎ (is_listed (notified_at P i) t ≡ true) → ⊥
   unlisted i (inl a) = let none = out_unwaiting w P t v may.out i in absurd (cc (none, a))
-  unlisted i (inr a) = let none = out_uncalled w P t v may.out i (not_resumes i) in absurd (cc (none, a))
+  unlisted i (inr a) = let none = out_uncalled w P t v may.out i (plain_before.resumes i) in absurd (cc (none, a))
 
   -- a first hold has depth 1, and a further one a depth above
   first_depth : hold_count o old ≡ 0 → d ≡ 1
@@ -61,27 +58,28 @@ module _ (w : World) (P : List PlainObject) (t : ℕ) (e : Purpose) (o d p : ℕ
   further_depth : 1 ≤ hold_count o old → 2 ≤ d
   further_depth more = omega (arith, may.depth, more)
 
+  -- recursions count no record of depth 1
+  first_uncounted : (i : ℕ) → hold_count o old ≡ 0 → one_if (((o == i) && nat_lt 1 d) && (displaced_words w t p == 3)) ≡ 0
+  first_uncounted i none =
+      let shallow : nat_lt 1 d ≡ false = (let n = first_depth none in grind (arith, nat_tests)) in
+      ap (λ (b : Bool). one_if (((o == i) && b) && (displaced_words w t p == 3))) shallow
+      ∙ ap (λ (b : Bool). one_if (b && (displaced_words w t p == 3))) (and-false (o == i))
+
   -- the new record is one that recursions count exactly where the word was raised before
   counted_before : (i : ℕ) → lock w i ≡ OwnedBy t → Way w P t o p → one_if (((o == i) && nat_lt 1 d) && (displaced_words w t p == 3)) ≡ recursions_ahead (w.known t).stage i
-  counted_before i g (BySeizing a) =
-      let shallow : nat_lt 1 d ≡ false = (let n = first_depth a.none in grind (arith, nat_tests)) in
-      ap (λ (b : Bool). one_if (((o == i) && b) && (displaced_words w t p == 3))) shallow ∙ ap (λ (b : Bool). one_if (b && (displaced_words w t p == 3))) (and_false (o == i)) ∙ sym (ap (λ s. recursions_ahead s i) a.stage)
+  counted_before i g (BySeizing a) = first_uncounted i a.none ∙ sym (ap (λ s. recursions_ahead s i) a.stage)
   counted_before i g (ByHolding a) =
-      ap (λ n. one_if (((o == i) && nat_lt 1 d) && (n == 3))) a.zero ∙ ap one_if (and_false ((o == i) && nat_lt 1 d)) ∙ sym (ap (λ s. recursions_ahead s i) a.stage)
-  counted_before i g (ByGrabbing a) =
-      let shallow : nat_lt 1 d ≡ false = (let n = first_depth a.none in grind (arith, nat_tests)) in
-      ap (λ (b : Bool). one_if (((o == i) && b) && (displaced_words w t p == 3))) shallow ∙ ap (λ (b : Bool). one_if (b && (displaced_words w t p == 3))) (and_false (o == i)) ∙ sym (ap (λ s. recursions_ahead s i) a.stage)
+      ap (λ n. one_if (((o == i) && nat_lt 1 d) && (n == 3))) a.zero ∙ ap one_if (and-false ((o == i) && nat_lt 1 d))
+      ∙ sym (ap (λ s. recursions_ahead s i) a.stage)
+  counted_before i g (ByGrabbing a) = first_uncounted i a.none ∙ sym (ap (λ s. recursions_ahead s i) a.stage)
   counted_before i g (ByLeaning a) =
       by_equal o i
       (λ s. let same : BiasedTo t ≡ OwnedBy t = sym a.leans ∙ ap (lock w) s ∙ g in absurd (cc same))
       (λ n. ap (λ (b : Bool). one_if ((b && nat_lt 1 d) && (displaced_words w t p == 3))) (ne_eqb o i n) ∙ (elim a.stage [ inl b ↦ sym (ap (λ s. recursions_ahead s i) b) | inr b ↦ sym (ap (λ s. recursions_ahead s i) b) ]))
   counted_before i g (ByRaising a) =
       let deep : nat_lt 1 d ≡ true = (let n = further_depth a.some in grind (arith, nat_tests)) in
-      ap (λ n. one_if (((o == i) && nat_lt 1 d) && (n == 3))) a.three ∙ ap (λ (b : Bool). one_if (((o == i) && b) && true)) deep ∙ ap one_if (and_true (o == i)) ∙ sym (ap (λ s. recursions_ahead s i) a.stage)
-    where
-      and_true : (b : Bool) → ((b && true) && true) ≡ b
-      and_true true = refl
-      and_true false = refl
+      ap (λ n. one_if (((o == i) && nat_lt 1 d) && (n == 3))) a.three ∙ ap (λ (b : Bool). one_if (((o == i) && b) && true)) deep
+      ∙ ap one_if (and-true ((o == i) && true) ∙ and-true (o == i)) ∙ sym (ap (λ s. recursions_ahead s i) a.stage)
 
   -- so with its record the thread is ahead no more, where it has the lock through the monitor
   again_new : (i : ℕ) → lock w i ≡ OwnedBy t → recursion_count i (displaced_words w t) new ≡ recursion_count i (displaced_words w t) old + recursions_ahead (w.known t).stage i
@@ -148,7 +146,7 @@ module _ (w : World) (P : List PlainObject) (t : ℕ) (e : Purpose) (o d p : ℕ
       let same : Seizes i q ≡ Seizes o p = sym h ∙ a.stage in
       let object : i ≡ o = cc same in
       let place : q ≡ p = cc same in
-      ap (slice_index new) place ∙ index_set old p (hold_word o d) put.within ∙ (λ j. hold_word (sym object j) (first_depth a.none j))
+      ap (slice_index new) place ∙ get_or-set_same old p (hold_word o d) 0 put.within ∙ (λ j. hold_word (sym object j) (first_depth a.none j))
   seized_first i q h (ByHolding a) = absurd (cc (h, a.stage))
   seized_first i q h (ByGrabbing a) = absurd (cc (h, a.stage))
   seized_first i q h (ByRaising a) = absurd (cc (h, a.stage))
@@ -198,9 +196,6 @@ module _ (w : World) (P : List PlainObject) (t : ℕ) (e : Purpose) (o d p : ℕ
   inflates : inflation_in (Enters o p path) ≡ inflation_in (w.known t).stage
   inflates = at_stage (λ s. None ≡ inflation_in s) w P t o p way refl refl refl refl refl
 
-  plain_before : IsPlain (w.known t).stage
-  plain_before = at_stage IsPlain w P t o p way (plain_by (Seizes o p) refl) (plain_by Calm refl) (plain_by (Grabs o) refl) (plain_by (Ahead o) refl) (plain_by (Takes o) refl)
-
   plain_now : IsPlain (Enters o p path)
   plain_now = plain_by (Enters o p path) refl
 
@@ -219,8 +214,8 @@ module _ (w : World) (P : List PlainObject) (t : ℕ) (e : Purpose) (o d p : ℕ
       biased_unnamed (Some (Biased thread epoch age)) e = refl
       biased_unnamed _ e = absurd (cc e)
 
-  uncounted : (u s : ℕ) → u ≢ t → Stays w (w.known u) (owner_at P) u (Hold t p) s → w.words (Hold t p) ≡ s → ⊥
-  uncounted u s d stays is = elim stays [ inl a ↦ d (sym a.1) | inr a ↦ a.2 ]
+  word_form : IsHold w.shape (read_hold (hold_word o d))
+  word_form = subst (IsHold w.shape) (sym (read_hold-hold_of (Holds o d) (put.few, put.some, put.small))) may.object
 
   step : IsStep w t l holding
   step = record { within = within; mine = refl; others = λ k. refl }
@@ -229,25 +224,16 @@ module _ (w : World) (P : List PlainObject) (t : ℕ) (e : Purpose) (o d p : ℕ
   x = next w t l holding (with_word (Hold t p) (hold_word o d) w.words)
 
   all_after : AllHold (kept_parts w x P)
-  all_after seen = seen_next step x.words P (own_seen w P t plan (search (may.runs, inflates, held, uncounted)) v)
-  all_after forms = search (word_form old o d p put w.words t w.shape may.object v.forms.holds, v.forms)
-  all_after holds = holds_told t l w.known hold_words_ahead (λ u q. word_else w.words t p (hold_word o d) u q) (record {
-    stored = word_new old o d p put w.words t (v.holds.stored t);
-    places = length_set old p (hold_word o d) ∙ v.holds.places t;
+  all_after seen = seen_next step x.words P (own_seen w P t plan (search (may.runs, inflates, held, hold_uncounted w P t p)) v)
+  all_after forms = search (word_held w.words t p (hold_word o d) w.shape word_form v.forms.holds, v.forms)
+  all_after holds = holds_told t l w.known hold_words_ahead (word_else w.words t p (hold_word o d)) (λ u i d. refl) (record {
+    stored = word_own w.words t p (hold_word o d) old put.within (v.holds.stored t);
+    places = length-set old p (hold_word o d) ∙ v.holds.places t;
     number = λ i. let before = at_stage (λ s. hold_words_ahead s i ≡ 0) w P t o p way refl refl refl refl refl in omega (arith, named_new old o d p put i, v.holds.number t i, before);
     each = times_new old o d p put may.depth (v.holds.each t);
   }) v.holds
-  all_after owners = record {
-    same = owners_same;
-    let_go = λ i u h. v.owners.let_go i u (stage_back step (Waits i) u (λ c. cc c) h).1;
-    left = λ i u q h. v.owners.left i u q (stage_back step (Exits i q) u (λ c. cc c) h).1;
-    calls = λ i u h. v.owners.calls i u (sym (calls_stay step plain_before plain_now u) ∙ h);
-  }
-  all_after biases = record {
-    hashless = v.biases.hashless;
-    nobody = v.biases.nobody;
-    unheld = λ i u h. each_with_known (λ u y. (lock w i ≡ BiasedTo u → ⊥) → hold_count i y.holds ≡ 0) t l w.known u (unheld_law i h) (λ d. v.biases.unheld i u h);
-  }
+  all_after owners = owners_move step (λ i c. cc c) (λ i q c. cc c) (λ i c. absurd (cc c)) owners_same v
+  all_after biases = biases_told t l w.known unheld_law v.biases
   all_after records = records_told t l w.known (record {
     first = λ i q h. inl (elim (v.records.first i t q h) [ inl a ↦ hold_forth old o d p put q i 1 a | inr a ↦ seized_first i q a way ]);
     header = λ i. v.records.header i t;
@@ -260,18 +246,13 @@ module _ (w : World) (P : List PlainObject) (t : ℕ) (e : Purpose) (o d p : ℕ
     others = λ i q k g h small. elim (hold_back old o d p put q i (k + 2) (omega (arith, small)) h) [ inl a ↦ goes_other i q k a.0 a.1 a.2 g way | inr a ↦ v.recursions.others i t q k g a small ];
     owned = λ i m g h a b.
         let behind_none = at_stage (λ s. recursions_behind s i ≡ 0) w P t o p way refl refl refl refl refl in
-        omega (arith, v.recursions.owned i m t g h (not_waits i) (not_resumes i), again_new i h, behind_none);
+        omega (arith, v.recursions.owned i m t g h (plain_before.waits i) (plain_before.resumes i), again_new i h, behind_none);
     waiting = λ i h. absurd (unlisted i h);
     thread_owns = λ i h. absurd (cc h);
   }) v.recursions
-  all_after hashes = record {
-    stands = v.hashes.stands;
-    records = λ i u. each_with_known (λ u y. (q : ℕ) → slice_index y.holds q ≡ hold_word i 1 → is_biased (marks w i) ≡ false → is_neutral (displaced_words w u q) ≡ true
-        → (hash_in (displaced_words w u q) ≡ 0) ⊎ (hash_in (displaced_words w u q) ≡ hash_at P i)) t l w.known u
-        (λ q h b n. elim (hold_back old o d p put q i 1 (omega arith) h) [ inl a ↦ new_header i q a.0 a.1 a.2 b n way | inr a ↦ v.hashes.records i t q a b n ])
-        (λ d. v.hashes.records i u);
-    on_record = v.hashes.on_record;
-  }
+  all_after hashes = hashes_told t l w.known
+      (λ i q h b n. elim (hold_back old o d p put q i 1 (omega arith) h)
+      [ inl a ↦ new_header i q a.0 a.1 a.2 b n way | inr a ↦ v.hashes.records i t q a b n ]) v.hashes
   all_after c = plain_step step P may.goes_on plain_before plain_now may.runs v c
 
   stored_fits : Fits (world_after plan t w) P

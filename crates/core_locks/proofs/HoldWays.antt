@@ -70,11 +70,14 @@ module _ (w : World) (P : List PlainObject) (t o : ℕ) (runs : (w.known t).runn
   pub saw_displaced : (p n : ℕ) → last_seen (Displaced (w.known t).thread p) (w.known t).seen ≡ Some n → displaced_words w t p ≡ n
   saw_displaced p n saw = v.seen.stays t (Displaced t p) n (subst (λ z. last_seen (Displaced z p) (w.known t).seen ≡ Some n) (v.numbered t) saw) (inl (runs, inl refl))
 
+  -- a mark that it saw inflated in this call names the monitor still
+  pub saw_inflated : (m : ℕ) → SawInflated (w.known t) o m → monitor_in (marks w o) ≡ Some m
+  saw_inflated m saw = ap monitor_in (v.seen.stays t (Mark o) saw.0 saw.1 (inl (runs, inr (inl (m, saw.2))))) ∙ saw.2
+
   -- an owner who saw in this call that it is the owner by the monitor is so
   pub saw_thread_owns : (m : ℕ) → t < 32 → owner_at P o t ≡ true → SawInflated (w.known t) o m → SawOwn (w.known t) (w.known t).thread m → lock w o ≡ OwnedBy t
   saw_thread_owns m small owner mark own =
-      let mark_now : marks w o ≡ mark.0 = v.seen.stays t (Mark o) mark.0 mark.1 (inl (runs, inr (inl (m, mark.2)))) in
-      let names : monitor_in (marks w o) ≡ Some m = ap monitor_in mark_now ∙ mark.2 in
+      let names : monitor_in (marks w o) ≡ Some m = saw_inflated m mark in
       let form : read_mark (marks w o) ≡ Some (Inflated m) = inflated_form (read_mark (marks w o)) m names in
       let saw : last_seen (Owner m) (w.known t).seen ≡ Some (owner_of (ByThread t)) = own ∙ ap (λ z. Some (owner_of (ByThread z))) (v.numbered t) in
       let owner_now : owner_words w m ≡ owner_of (ByThread t) =
@@ -99,21 +102,13 @@ way_of w P t e o d p within may v = cases may.before
   where
     cases : Precedes w.shape (w.known t) o p → Way w P t o p
     cases (inl a) = let s = v.records.seized o t p a in BySeizing (record { stage = a; rests = s.0; none = s.3 })
-    cases (inr (inl a)) = ByHolding (record {
-      stage = a.0;
-      owner = (even_holder_owns w P t v may.out o (λ r. absurd (cc (r, a.0))) (ap (λ s. hold_words_ahead s o) a.0) a.1).0;
-      some = a.1;
-      zero = saw_displaced w P t o may.runs v p 0 a.2;
-    })
+    cases (inr (inl a)) =
+        let owner = (even_holder_owns w P t v may.out o (λ r. absurd (cc (r, a.0))) (ap (λ s. hold_words_ahead s o) a.0) a.1).0 in
+        ByHolding (search (a, owner, saw_displaced w P t o may.runs v p 0 a.2))
     cases (inr (inr (inl a))) = let s = v.records.grabbed o t a.0 in ByGrabbing (record { stage = a.0; thread_owns = s.0; none = s.1; three = saw_displaced w P t o may.runs v p 3 a.1 })
     cases (inr (inr (inr (inr a)))) = let is = saw_leaning w P t o may.runs v a.1 in ByLeaning (record { stage = a.0; leans = is.0; biased = is.1 })
     cases (inr (inr (inr (inl a)))) =
         let owner = (even_holder_owns w P t v may.out o (λ r. absurd (cc (r, a.0))) (ap (λ s. hold_words_ahead s o) a.0) a.1).0 in
         let saw = a.3 in
-        ByRaising (record {
-          stage = a.0;
-          thread_owns = saw_thread_owns w P t o may.runs v saw.0 (omega (arith, within, v.limits.threads)) owner saw.1 saw.2;
-          owner = owner;
-          some = a.1;
-          three = saw_displaced w P t o may.runs v p 3 a.2;
-        })
+        let thread_owns = saw_thread_owns w P t o may.runs v saw.0 (omega (arith, within, v.limits.threads)) owner saw.1 saw.2 in
+        ByRaising (search (a, thread_owns, owner, saw_displaced w P t o may.runs v p 3 a.2))

@@ -1,6 +1,5 @@
 -- A thread exchanges a mark that names a lock record for 0: it is in the middle of the inflation of the object's lock from then on.
-use Rattle.core_locks.proofs.Prelude.{◌≡◌, ◌≢◌, ◌⊎◌, ℕ, ◌<◌, ◌==◌, ◌||◌, eq-eqb, Bool, true, false, cond, List, Some, None, refl, sym, ap, ◌∙◌, subst, inl, inr, eqb-true, same_Some, read_mark, Locked, PlainObject, Name, Mark, Displaced, StepPlan, Calm, Inflates, is_biased, monitor_in, is_biased_form, monitor_form, Inflation, inflation_in, bears, revocation_in, word_after, same_name, Known, last_seen, World, with_known, record_lock, lock, lock_form, header, header_form, marks, displaced_words, headers, owner_words, prototype_of, inflations, owner_at, inflated_to, is_for, record_header, Stays, Purpose, Fits, Swap, InflationsAreOne, IsMark, by_equal, each_with_known, with_known_here, mark_zero, fits_running, stays_back, unwaited_fits, KeepsValid, MayInflate}
-use Rattle.core_world.specs.Trees.MonitorSteps.{inflate_plan}
+use Rattle.core_locks.proofs.Prelude.{◌≡◌, ◌≢◌, ◌⊎◌, ℕ, ◌<◌, ◌==◌, ◌||◌, eq-eqb, Bool, true, false, cond, List, Some, None, refl, sym, ap, ◌∙◌, subst, inl, inr, eqb-true, same_Some, read_mark, Locked, PlainObject, Name, Mark, Displaced, StepPlan, Calm, Inflates, is_biased, monitor_in, is_biased_form, monitor_form, Inflation, inflation_in, bears, revocation_in, word_after, same_name, Known, last_seen, World, with_known, record_lock, lock, lock_form, header, header_form, marks, displaced_words, headers, owner_words, prototype_of, inflations, owner_at, inflated_to, is_for, record_header, Stays, Purpose, Fits, Swap, InflationsAreOne, IsMark, by_equal, each_with_known, with_known_here, mark_zero, fits_running, stays_back, unwaited_fits, KeepsValid, MayInflate, inflate_plan}
 use Rattle.core_locks.proofs.Clauses.{parts_with, parts_are, seen, forms, biases, inflating, recursions, hashes, classes, AllHold}
 use Rattle.core_locks.proofs.EvenSteps.{IsEven, even_by, even_step}
 use Rattle.core_locks.proofs.InflationOf.{inflation_else, is_other, inflation_here}

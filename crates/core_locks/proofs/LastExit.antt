@@ -1,20 +1,15 @@
 -- A thread logs its last Exit from an object: nobody owns that object afterwards. How it lets go of the lock is left open.
-use Rattle.core_locks.proofs.Prelude.{◌≡◌, ◌≢◌, ◌⊎◌, ℕ, ◌+◌, ◌<◌, ◌≤◌, ◌||◌, eq-eqb, ne_eqb, Bool, true, false, cond, List, [], ◌∷◌, ◌++◌, length, Some, None, refl, sym, ap, ◌∙◌, subst, arith, inl, inr, nat_le, nat_tests, same_Some, PlainMonitor, is_thread, owns, exit, PlainObject, take_entry, Logged, Exit, Stamp, Hold, Waiting, Recursions, Calm, Resumes, Exits, Waits, TakesOver, monitor_in, bears, hold_words_ahead, recursions_ahead, recursions_behind, notification_in, revocation_in, one_if, Known, last_seen, local_of, World, with_known, logs_from, Lock, Open, OnRecord, OwnedBy, lock, marks, displaced_words, who, holder, hold_count, recursion_count, holds_by_monitor, monitor_of, owner_at, hash_at, waits_at, notified_at, HoldsFitLogs, RecordsRest, RecursionsFit, GoesByMonitor, next_stamp, Fits, WaitsFit, StoppedAreQuiet, bound_stamp, StampsFit, LocksArePlain, log_limit, DrawsFit, Shape, by_equal, each_with_known, thread_is, unlisted_count, IsOwnEntry}
-use Rattle.core_locks.proofs.Logging.{IsLogging, bound_grows, stamps_next}
-use Rattle.core_locks.proofs.Updates.{monitor_here, monitor_else}
-use Rattle.core_locks.proofs.WaitOut.{holder_owns, out_unlisted, ready_is_out}
-use Rattle.core_locks.proofs.ExitEntries.{exit_entry, object_with, objects_where, exit_taken, exit_logging}
+use Rattle.core_locks.proofs.Prelude.{◌≡◌, ◌≢◌, ◌⊎◌, ℕ, ◌+◌, ◌<◌, ◌≤◌, ◌||◌, eq-eqb, ne_eqb, true, false, cond, List, [], ◌∷◌, ◌++◌, length, Some, None, refl, sym, ap, ◌∙◌, subst, arith, inl, inr, nat_le, nat_tests, same_Some, PlainMonitor, is_thread, exit, PlainObject, take_entry, Logged, Exit, Stamp, Hold, Waiting, Recursions, Calm, Resumes, Exits, Waits, TakesOver, monitor_in, bears, hold_words_ahead, recursions_ahead, recursions_behind, notification_in, revocation_in, one_if, Known, last_seen, local_of, World, with_known, logs_from, Lock, Open, OnRecord, OwnedBy, lock, marks, displaced_words, who, holder, hold_count, recursion_count, holds_by_monitor, monitor_of, owner_at, hash_at, waits_at, notified_at, HoldsFitLogs, RecordsRest, RecursionsFit, GoesByMonitor, next_stamp, Fits, WaitsFit, StoppedAreQuiet, bound_stamp, StampsFit, LocksArePlain, log_limit, DrawsFit, Shape, by_equal, each_with_known, thread_is, unlisted_count, IsOwnEntry}
+use Rattle.core_locks.proofs.Logging.{Covers, IsLogging, bound_grows, stamps_next}
+use Rattle.core_locks.proofs.Updates.{each_object, part_stays}
+use Rattle.core_locks.proofs.WaitOut.{no_other, holder_owns, out_unlisted, ready_is_out}
+use Rattle.core_locks.proofs.ExitEntries.{exit_entry, object_with, objects_where, exit_taken, exit_logging, owner_here, owner_else, owner_fails}
 use Rattle.core_locks.proofs.Clauses.{Clause, quiet, holds, owners, records, waits, stamps}
 use Rattle.core_locks.proofs.Drawing.{draws_still}
 use Rattle.core_locks.proofs.LockTurns.{records_turn}
 use Rattle.core_locks.proofs.LoggedSteps.{Grown, logged_step}
 use Rattle.core_locks.proofs.Steps.{stage_part, Fields, IsStep, IsPlain, plain_by, quiet_next, stage_back, waits_move}
 use Rattle.core_locks.proofs.Tells.{waits_logged}
-
--- a test that holds with neither, holds with none
-pub none_or : (a b : Bool) → false ≡ (a || b) → (a ≡ false) × (b ≡ false)
-none_or true b e = absurd (cc e)
-none_or false b e = (refl, sym e)
 
 -- the plain monitor has no owner
 abbrev pub freed : List PlainObject → ℕ → PlainMonitor
@@ -28,17 +23,10 @@ freed_stamps w P t o l v inside owner logging high =
     let Q = objects_where P o (freed P o) in
     let z = object_with P o (freed P o) in
     let y = exit_entry (w.known t) o in
-    stamps_next w P Q t y l v logging (omega (arith, v.stamps.logged t)) (λ i.
-    by_equal i o
-    (λ q.
-    let before = ap (λ j. bound_stamp (λ u. (w.known u).log) (w.words (Stamp j)) (monitor_of P j).owner) q ∙ ap (bound_stamp (λ u. (w.known u).log) (w.words (Stamp o))) owner in
-    let now = ap (λ j. bound_stamp (λ u. (with_known t l w.known u).log) (w.words (Stamp j)) (monitor_of Q j).owner) q
-    ∙ ap (λ (f : PlainMonitor). bound_stamp (λ u. (with_known t l w.known u).log) (w.words (Stamp o)) f.owner) (monitor_here P o z inside) in
-    (omega (arith, before, now, high), λ b. omega (arith, now, high)))
-    (λ d.
-    let now = ap (λ (f : PlainMonitor). bound_stamp (λ u. (with_known t l w.known u).log) (w.words (Stamp i)) f.owner) (monitor_else P o i z d) in
-    let grows = bound_grows w P Q t y l v logging (w.words (Stamp i)) (monitor_of P i).owner in
-    (omega (arith, now, grows), λ b. absurd (d (sym (same_Some o i b))))))
+    stamps_next w P Q t y l v logging (omega (arith, v.stamps.logged t))
+    (each_object (λ i b. Covers w P t y l i b.monitor.owner) P o z inside
+    (let before = ap (bound_stamp (λ u. (w.known u).log) (w.words (Stamp o))) owner in (omega (arith, before, high), λ b. high))
+    (λ i d. (bound_grows w P Q t y l v logging (w.words (Stamp i)) (monitor_of P i).owner, λ b. absurd (d (sym (same_Some o i b))))))
 
 -- the thread's last hold goes, after the stamp was raised
 pub record MayExit (s : Shape) (k : Known) (o stamp : ℕ) : Type 0 where
@@ -96,28 +84,26 @@ module _ {w : World} {t : ℕ} {l : Known} {fields : Fields} (step : IsStep w t 
   unresumed : (i : ℕ) → (w.known t).stage ≡ Resumes i → ⊥
   unresumed i e = cc (sym may.calm ∙ e)
 
-  owner_here : (u : ℕ) → owner_at Q o u ≡ false
-  owner_here u = ap (λ a. owns a u) (monitor_here P o z inside)
+  -- its owner goes, and each other object has the owner that it had
+  none_owns : (u : ℕ) → is_thread (freed P o).owner u ≡ true → owner_at P o u ≡ true
+  none_owns u f = absurd (cc f)
 
-  owner_else : (i u : ℕ) → i ≢ o → owner_at Q i u ≡ owner_at P i u
-  owner_else i u d = ap (λ a. owns a u) (monitor_else P o i z d)
+  owner_gone : (u : ℕ) → owner_at Q o u ≡ false
+  owner_gone = owner_here P o (freed P o) inside none_owns
+
+  owner_stays : (i u : ℕ) → i ≢ o → owner_at Q i u ≡ owner_at P i u
+  owner_stays = owner_else P o (freed P o) inside none_owns
 
   pub owner_back : (i u : ℕ) → owner_at Q i u ≡ true → (i ≢ o) × (owner_at P i u ≡ true)
-  owner_back i u f = by_equal i o (λ q. absurd (cc (owner_here u, ap (λ j. owner_at Q j u) (sym q) ∙ f))) (λ d. (d, sym (owner_else i u d) ∙ f))
-
-  owner_fails : (i u : ℕ) → owner_at P i u ≡ false → owner_at Q i u ≡ false
-  owner_fails i u f = by_equal i o (λ q. ap (λ j. owner_at Q j u) q ∙ owner_here u) (λ d. owner_else i u d ∙ f)
+  owner_back i u f = by_equal i o (λ q. absurd (cc (owner_gone u, ap (λ j. owner_at Q j u) (sym q) ∙ f))) (λ d. (d, sym (owner_stays i u d) ∙ f))
 
   pub stamp_word : w.words (Stamp o) ≡ s
   stamp_word = v.seen.stays t (Stamp o) s may.stamped (inl (may.runs, owned.0))
 
-  pub stamps_law : StampsFit (logs_from 0 w.shape.threads (with_known t l w.known)) (λ u. (with_known t l w.known u).log) (λ i. w.words (Stamp i)) (λ i. (monitor_of Q i).owner) (λ u. (with_known t l w.known u).unfinished)
-  stamps_law = freed_stamps w P t o l v inside owner_is logging_it (subst (λ n. next_stamp (local_of (w.known t)) ≤ n) (sym stamp_word) may.high)
-
   -- THE LOCK was the thread's, so nobody else owns the object or bears it
   module _ (holder_is : who w o ≡ Some t) where
     none_else : (u : ℕ) → u ≢ t → (owner_at P o u ≡ false) × (bears (w.known u).stage o ≡ false)
-    none_else u d = none_or (owner_at P o u) (bears (w.known u).stage o) (sym (ap (λ a. is_thread a u) holder_is ∙ ne_eqb t u (λ q. d (sym q))) ∙ v.owners.same o u)
+    none_else u d = no_other w P o u v (ap (λ a. is_thread a u) holder_is ∙ ne_eqb t u (λ q. d (sym q)))
 
     -- the thread stands at the object no more, and has one hold word besides those of its log
     stands_here : holds_by_monitor (freed P o) t ≡ 0
@@ -130,23 +116,13 @@ module _ {w : World} {t : ℕ} {l : Known} {fields : Fields} (step : IsStep w t 
 
     pub number_now : (u i : ℕ) → hold_count i (w.known u).holds ≡ holds_by_monitor (monitor_of Q i) u + hold_words_ahead (with_known t l w.known u).stage i
     number_now u i = each_with_known (λ u k. hold_count i (w.known u).holds ≡ holds_by_monitor (monitor_of Q i) u + hold_words_ahead k.stage i) t l w.known u
-        (by_equal i o
-        (λ q.
-        let now = ap (λ j. holds_by_monitor (monitor_of Q j) t) q ∙ ap (λ f. holds_by_monitor f t) (monitor_here P o z inside) in
-        let one = ap (λ f. hold_words_ahead f i) a.stage ∙ ap one_if (eq-eqb o i (sym q)) in
-        let last = ap (λ j. hold_count j (w.known t).holds) q ∙ may.last in
-        omega (arith, now, one, last, stands_here))
-        (λ d.
-        let now = ap (λ f. holds_by_monitor f t) (monitor_else P o i z d) in
+        (each_object (λ i y. hold_count i (w.known t).holds ≡ holds_by_monitor y.monitor t + hold_words_ahead l.stage i) P o z inside
+        (let one = ap (λ f. hold_words_ahead f o) a.stage ∙ ap one_if (eq-eqb o o refl) in omega (arith, one, may.last, stands_here))
+        (λ i d.
         let none = ap (λ f. hold_words_ahead f i) a.stage ∙ ap one_if (ne_eqb o i (λ q. d (sym q))) in
-        let calm = ap (λ f. hold_words_ahead f i) may.calm in
-        omega (arith, v.holds.number t i, now, none, calm)))
-        (λ n. by_equal i o
-        (λ q.
-        let now = ap (λ j. holds_by_monitor (monitor_of Q j) u) q ∙ ap (λ f. holds_by_monitor f u) (monitor_here P o z inside) in
-        let before = ap (λ j. holds_by_monitor (monitor_of P j) u) q in
-        omega (arith, v.holds.number u i, now, before, stands_else u n))
-        (λ d. let now = ap (λ f. holds_by_monitor f u) (monitor_else P o i z d) in omega (arith, v.holds.number u i, now)))
+        omega (arith, v.holds.number t i, none, ap (λ f. hold_words_ahead f i) may.calm)) i)
+        (λ n. v.holds.number u i ∙ ap (λ k. k + hold_words_ahead (w.known u).stage i)
+        (part_stays (λ y. holds_by_monitor y.monitor u) P o z inside (stands_else u n) i))
 
     -- THE CLAUSES, where the lock is open afterwards, and the other locks stay
     module _ (locks : ℕ → Lock) (now : (i : ℕ) → ((i ≡ o) × (locks i ≡ Open)) ⊎ ((i ≢ o) × (locks i ≡ lock w i))) where
@@ -201,20 +177,24 @@ module _ {w : World} {t : ℕ} {l : Known} {fields : Fields} (step : IsStep w t 
       last_step owners = record {
         same = λ i u. elim (now i) [
           | inl b ↦
-              let none : (owner_at Q i u || bears (with_known t l w.known u).stage i) ≡ false = ap (λ j. owner_at Q j u || bears (with_known t l w.known u).stage j) b.0 ∙ (λ j. owner_here u j || bears_none u j) in
+              let none : (owner_at Q i u || bears (with_known t l w.known u).stage i) ≡ false =
+              ap (λ j. owner_at Q j u || bears (with_known t l w.known u).stage j) b.0 ∙ (λ j. owner_gone u j || bears_none u j) in
               ap (λ f. is_thread (holder f (λ k. hold_count i (w.known k).holds)) u) b.1 ∙ sym none
-          | inr b ↦ ap (λ f. is_thread (holder f (λ k. hold_count i (w.known k).holds)) u) b.1 ∙ v.owners.same i u ∙ (λ j. sym (owner_else i u b.0) j || sym (stage_part step (λ f. bears f i) (ap (λ f. bears f i) a.stage ∙ sym (ap (λ f. bears f i) may.calm)) u) j)
+          | inr b ↦
+              let same = stage_part step (λ f. bears f i) (ap (λ f. bears f i) a.stage ∙ sym (ap (λ f. bears f i) may.calm)) u in
+              ap (λ f. is_thread (holder f (λ k. hold_count i (w.known k).holds)) u) b.1 ∙ v.owners.same i u ∙ (λ j. sym (owner_stays i u b.0) j || sym same j)
         ];
-        let_go = λ i u f. owner_fails i u (v.owners.let_go i u (stage_back step (Waits i) u (λ g. cc (sym a.stage ∙ g)) f).1);
+        let_go = λ i u f. owner_fails P o (freed P o) inside none_owns i u (v.owners.let_go i u (stage_back step (Waits i) u (λ g. cc (sym a.stage ∙ g)) f).1);
         left = λ i u q f. each_with_known (λ u k. k.stage ≡ Exits i q → owner_at Q i u ≡ false) t l w.known u
-            (λ g. let both : Exits o p ≡ Exits i q = sym a.stage ∙ g in let here : o ≡ i = cc both in ap (λ j. owner_at Q j t) (sym here) ∙ owner_here t) (λ n g. owner_fails i u (v.owners.left i u q g)) f;
+            (λ g. let here : o ≡ i = cc (sym a.stage ∙ g) in ap (λ j. owner_at Q j t) (sym here) ∙ owner_gone t)
+            (λ n g. owner_fails P o (freed P o) inside none_owns i u (v.owners.left i u q g)) f;
         calls = λ i u. each_with_known (λ u k. notification_in k.stage ≡ Some i → owner_at Q i u ≡ true) t l w.known u
             (λ g. let none = ap notification_in a.stage in absurd (cc (none, g)))
             (λ n g.
             let b = v.owners.calls i u g in
-            by_equal i o (λ q. let other = none_else u n in absurd (cc (other.0, ap (λ j. owner_at P j u) (sym q) ∙ b))) (λ d. owner_else i u d ∙ b));
+            by_equal i o (λ q. let other = none_else u n in absurd (cc (other.0, ap (λ j. owner_at P j u) (sym q) ∙ b))) (λ d. owner_stays i u d ∙ b));
       }
       last_step records = records_turn step v locks o Open now (λ u q c. cc c) (λ u h. same_Some _ _ (sym h ∙ holder_is)) (λ i q c. cc (sym may.calm ∙ c)) (λ i q c. cc (sym a.stage ∙ c)) (λ i c. absurd (cc (sym a.stage ∙ c)))
       last_step waits = waits_move step (subst IsPlain (sym may.calm) (plain_by Calm refl)) (subst IsPlain (sym a.stage) (plain_by (Exits o p) refl)) (waits_logged w P t l v may.runs may.ready unresumed)
-      last_step stamps = stamps_law
+      last_step stamps = freed_stamps w P t o l v inside owner_is logging_it (omega (arith, stamp_word, may.high))
       last_step c = logged_step step logging_it may.runs may.room drawn v c

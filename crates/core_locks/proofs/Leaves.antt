@@ -1,17 +1,17 @@
 -- A thread that holds an object may log its Wait there: the world stays valid, and the plain objects take the entry.
-use Rattle.core_locks.proofs.Prelude.{◌≡◌, ◌≢◌, ◌⊎◌, ℕ, ◌+◌, ◌<◌, ◌≤◌, ◌^◌, ◌==◌, ◌||◌, ne_eqb, true, false, cond, List, [], Some, refl, sym, ap, ◌∙◌, subst, arith, inl, inr, eqb-true, same_Some, read_mark, wait_of, read_wait, read_wait-wait_of, PlainMonitor, is_thread, is_listed, PlainObject, Logged, last_stamp, bound_to, Mark, Stamp, Waiting, StepPlan, Stage, Calm, Seizes, Grabs, Resumes, Exits, Waits, TakesOver, Notifies, is_biased, monitor_in, waits_on, says_notified, stamp_in, enters_on, says_ended, is_biased_form, waits_form, ended_form, notified_form, enters_form, stamp_form, inflation_in, bears, hold_words_ahead, recursions_ahead, recursions_behind, notification_in, Known, local_of, World, with_word_and_known, logs, OwnedBy, lock, marks, displaced_words, who, hold_count, recursion_count, object_of, monitor_of, owner_at, hash_at, waits_at, notified_at, Stays, GoesByMonitor, Purpose, next_stamp, known_hit, seen_before, Fits, SeenFit, last_entry, StandByStamps, AreNotified, ends, IsUnfinished, bound_stamp, IsWait, by_equal, each_with_known, header_stays, same_number, fits_running, inflated_form, seen_is_part, stays_back, Back, Spares, seen_moves, Counts, MayWait, LogsValid, log_wait_plan}
+use Rattle.core_locks.proofs.Prelude.{◌≡◌, ◌≢◌, ◌⊎◌, ℕ, ◌+◌, ◌<◌, ◌^◌, ◌==◌, ◌||◌, ne_eqb, true, false, cond, List, [], Some, refl, sym, ap, ◌∙◌, subst, arith, inl, inr, eqb-true, same_Some, read_mark, wait_of, read_wait, read_wait-wait_of, is_thread, is_listed, PlainObject, Logged, last_stamp, Mark, Stamp, Waiting, StepPlan, Stage, Calm, Seizes, Grabs, Resumes, Exits, Waits, TakesOver, Notifies, is_biased, monitor_in, waits_on, says_notified, stamp_in, enters_on, says_ended, is_biased_form, waits_form, ended_form, notified_form, enters_form, stamp_form, inflation_in, bears, hold_words_ahead, recursions_ahead, recursions_behind, notification_in, Known, local_of, World, with_word_and_known, logs, lock, marks, displaced_words, who, recursion_count, object_of, monitor_of, owner_at, hash_at, waits_at, notified_at, Stays, GoesByMonitor, Purpose, next_stamp, known_hit, seen_before, Fits, SeenFit, last_entry, StandByStamps, AreNotified, ends, IsUnfinished, bound_stamp, IsWait, by_equal, each_with_known, header_stays, same_number, fits_running, inflated_form, seen_is_part, stays_back, Back, Spares, seen_moves, Counts, MayWait, LogsValid, log_wait_plan, owns}
 use Rattle.mark_word.specs.declared.wait.WaitForm.TheVariants as wait
 use Rattle.plain_monitor.specs.declared.entry.Entry.TheVariants as entry
 use Rattle.core_world.specs.declared.task.Op.TheVariants as op
 use Rattle.core_locks.proofs.Clauses.{Parts, parts_of, kept_locks, locks_stand, seen, forms, quiet, holds, owners, biases, records, recursions, waits, stamps, AllHold}
 use Rattle.core_locks.proofs.Drawing.{draws_still}
 use Rattle.core_locks.proofs.LeavesLists.{stand_same, stand_last, told_same}
-use Rattle.core_locks.proofs.LeavesPlain.{left_objects, left_object, left_monitor, wait_entry, taken, monitor_at, owner_at_next, owner_back, owner_before, unlisted, waits_next, waits_still, waits_here, holder_is, others_out, stands_next, is_logging}
+use Rattle.core_locks.proofs.LeavesPlain.{left_objects, left_object, wait_entry, taken, at_object, each_waiter, owner_back, owner_fails, owner_before, unlisted, waits_still, waits_here, holder_is, others_out, stands_same, is_logging}
 use Rattle.core_locks.proofs.LeavesStamps.{next_fits, waiter_bounded}
 use Rattle.core_locks.proofs.LeavesStates.{IsLeaving, leaving, waiting_word}
 use Rattle.core_locks.proofs.LoggedSteps.{logged_step}
-use Rattle.core_locks.proofs.Logging.{IsLogging, last_entry_more, bound_grows, stamps_next}
-use Rattle.core_locks.proofs.OwnSeen.{back_by}
+use Rattle.core_locks.proofs.Logging.{Covers, IsLogging, last_entry_more, bound_grows, stamps_next}
+use Rattle.core_locks.proofs.OwnSeen.{back_by, other_back}
 use Rattle.core_locks.proofs.Steps.{stage_part, departing, IsStep, next, stepped, none_reached, each_written, step_fits, holds_next, quiet_next, logs_next, stage_back, stage_forth, inflates_stay}
 use Rattle.core_locks.proofs.Updates.{hashes_stay, slots_stay, called_stay}
 use Rattle.core_locks.proofs.WaitOut.{out_waits}
@@ -67,15 +67,6 @@ module _ (w : World) (P : List PlainObject) (t o m : ℕ) (e : Purpose) (goes_on
   word_waits : (i : ℕ) → waits_on word i ≡ (o == i)
   word_waits i = ap (λ f. waits_form f i) word_read
 
-  word_untold : (i : ℕ) → says_notified word i ≡ false
-  word_untold i = ap (λ f. notified_form f i) word_read
-
-  word_unentering : (i : ℕ) → enters_on word i ≡ false
-  word_unentering i = ap (λ f. enters_form f i) word_read
-
-  word_unended : says_ended word ≡ false
-  word_unended = ap ended_form word_read
-
   word_stamp : stamp_in word ≡ last_stamp (w.known t).log + 1
   word_stamp = ap stamp_form word_read
 
@@ -87,10 +78,7 @@ module _ (w : World) (P : List PlainObject) (t o m : ℕ) (e : Purpose) (goes_on
 
   -- WHAT WAS SEEN. Another object's waiters are as they were.
   waiters_else : (i : ℕ) → i ≢ o → waits_at P i ≡ [] → waits_at Q i ≡ []
-  waiters_else i d e = elim (monitor_at v s i) [
-    | inl a ↦ absurd (d a.0)
-    | inr a ↦ ap (λ (z : PlainMonitor). z.waits) a.1 ∙ e
-  ]
+  waiters_else = at_object v s (λ i y. i ≢ o → waits_at P i ≡ [] → y.monitor.waits ≡ []) (λ d. absurd (d refl)) (λ i n d e. e)
 
   -- no word came to say that its thread waits on another object
   unwaiting_else : (u i : ℕ) → i ≢ o → waits_on (w.words (Waiting u)) i ≡ false → waits_on (x.words (Waiting u)) i ≡ false
@@ -99,9 +87,6 @@ module _ (w : World) (P : List PlainObject) (t o m : ℕ) (e : Purpose) (goes_on
   -- another thread that owns an object owns another one than o
   owns_else : (u i : ℕ) → u ≢ t → owner_at P i u ≡ true → i ≢ o
   owns_else u i d e same = let none = (others_out v s u d).0 in absurd (cc (none, ap (λ j. owner_at P j u) (sym same) ∙ e))
-
-  back_other : (u : ℕ) → Back w x (w.known u) (w.known u) (owner_at P) (owner_at Q) u
-  back_other u = back_by w x (w.known u) (w.known u) (owner_at P) (owner_at Q) u refl refl (λ h. h) refl refl (λ h. h) refl (λ i h. (owner_back v s i u h).1) (λ i a g h. h)
 
   -- the thread itself bears o now, which it owned before
   back_own : Back w x (w.known t) l (owner_at P) (owner_at Q) t
@@ -115,7 +100,7 @@ module _ (w : World) (P : List PlainObject) (t o m : ℕ) (e : Purpose) (goes_on
   spares : Spares (Waiting t) word t l w (owner_at P) (owner_at Q) (waits_at P) (waits_at Q)
   spares =
       record {
-        before = λ u n y d e g. stays_back w x (w.known u) (w.known u) (owner_at P) (owner_at Q) u (back_other u) n y g;
+        before = λ u n y d e g. other_back w x (w.known u) (owner_at P) (owner_at Q) u refl refl (λ i h. (owner_back v s i u h).1) n y g;
         owned = λ u i d e. (owner_back v s i u e).1;
         word = word_spared;
         bias = λ i e. e;
@@ -173,19 +158,15 @@ module _ (w : World) (P : List PlainObject) (t o m : ℕ) (e : Purpose) (goes_on
   older u e =
       let old = waiter_bounded w P u o v e in
       let bound = ap (bound_stamp (λ z. (w.known z).log) (w.words (Stamp o))) (owner_before v s) in
-      let new = ap stamp_in said_here ∙ word_stamp in
-      omega (arith, old, bound, new)
+      omega (arith, old, bound, ap stamp_in said_here ∙ word_stamp)
 
   waits_sorted : (i : ℕ) → StandByStamps (λ u. x.words (Waiting u)) i (waits_at Q i)
   waits_sorted i =
       let f : ℕ → ℕ = λ u. w.words (Waiting u) in
       let g : ℕ → ℕ = λ u. x.words (Waiting u) in
-      elim (monitor_at v s i) [
-        | inl a ↦
-            let here = stand_last f g o t (monitor_of P o).count (waits_at P o) (λ u e. same_word u (waiter_other u o e)) (λ u e. older u) (v.waits.sorted o) in
-            subst (λ (z : PlainMonitor). StandByStamps g i z.waits) (sym a.1) (subst (λ j. StandByStamps g j (left_monitor (monitor_of P o) t).waits) (sym a.0) here)
-        | inr a ↦ subst (λ (z : PlainMonitor). StandByStamps g i z.waits) (sym a.1) (stand_same f g i (waits_at P i) (λ u e. same_word u (waiter_other u i e)) (v.waits.sorted i))
-      ]
+      at_object v s (λ i y. StandByStamps g i y.monitor.waits)
+      (stand_last f g o t (monitor_of P o).count (waits_at P o) (λ u e. same_word u (waiter_other u o e)) (λ u e. older u) (v.waits.sorted o))
+      (λ i d. stand_same f g i (waits_at P i) (λ u e. same_word u (waiter_other u i e)) (v.waits.sorted i)) i
 
   -- THE LOCKS. The thread bears o now, and of every other object as much as before.
   bears_else : (i u : ℕ) → i ≢ o → bears (x.known u).stage i ≡ bears (w.known u).stage i
@@ -193,11 +174,9 @@ module _ (w : World) (P : List PlainObject) (t o m : ℕ) (e : Purpose) (goes_on
 
   -- who has the lock is now told by what the thread bears
   shown_same : (i u : ℕ) → is_thread (who w i) u ≡ (owner_at Q i u || bears (x.known u).stage i)
-  shown_same i u = elim (owner_at_next v s i u) [
-    | inl a ↦ ap (λ j. is_thread (who w j) u) a.0 ∙ ap (λ f. is_thread f u) (holder_is v s)
-        ∙ sym (ap (λ b. b || bears (x.known u).stage i) a.1 ∙ ap (bears (x.known u).stage) a.0 ∙ here)
-    | inr a ↦ v.owners.same i u ∙ (λ j. sym a.1 j || sym (bears_else i u a.0) j)
-  ]
+  shown_same i u = at_object v s (λ i y. is_thread (who w i) u ≡ (owns y.monitor u || bears (x.known u).stage i))
+      (ap (λ f. is_thread f u) (holder_is v s) ∙ sym here)
+      (λ i d. v.owners.same i u ∙ ap (λ b. owner_at P i u || b) (sym (bears_else i u d))) i
     where
       here : bears (x.known u).stage o ≡ (t == u)
       here = each_with_known (λ u k. bears k.stage o ≡ (t == u)) t l w.known u (same_number o ∙ sym (same_number t)) (λ d. (others_out v s u d).1 ∙ sym (ne_eqb t u (λ e. d (sym e))))
@@ -209,28 +188,15 @@ module _ (w : World) (P : List PlainObject) (t o m : ℕ) (e : Purpose) (goes_on
   -- the records of the thread go by the monitor before and after
   goes_back : (i u : ℕ) → GoesByMonitor (lock w i) (waits_at Q i) (notified_at P i) u → GoesByMonitor (lock w i) (waits_at P i) (notified_at P i) u
   goes_back i u (inl e) = inl e
-  goes_back i u (inr (inl e)) = elim (waits_next v s i u e) [
-    | inl a ↦ inl (ap (lock w) a.0 ∙ s.thread_owns ∙ ap (λ z. OwnedBy z) (sym a.1))
-    | inr a ↦ inr (inl a)
-  ]
+  goes_back i u (inr (inl e)) = each_waiter v s (λ i u. GoesByMonitor (lock w i) (waits_at P i) (notified_at P i) u) (inl s.thread_owns)
+      (λ i u a. inr (inl a)) i u e
   goes_back i u (inr (inr e)) = inr (inr e)
 
   -- THE STAMPS. No bound falls, and that of o, which is its raised stamp word now, covers the entry.
-  bounds_law : (i : ℕ) → (bound_stamp (λ u. (w.known u).log) (w.words (Stamp i)) (monitor_of P i).owner ≤ bound_stamp (λ u. (x.known u).log) (w.words (Stamp i)) (monitor_of Q i).owner)
-      × (bound_to (entry.Wait o) ≡ Some i → last_stamp (w.known t).log + 1 ≤ bound_stamp (λ u. (x.known u).log) (w.words (Stamp i)) (monitor_of Q i).owner)
-  bounds_law i = elim (monitor_at v s i) [
-    | inl a ↦
-        let now : bound_stamp (λ u. (x.known u).log) (w.words (Stamp i)) (monitor_of Q i).owner ≡ w.words (Stamp o) =
-        ap (λ z. bound_stamp (λ u. (x.known u).log) (w.words (Stamp i)) z.owner) a.1 ∙ ap (λ j. w.words (Stamp j)) a.0 in
-        let was : bound_stamp (λ u. (w.known u).log) (w.words (Stamp i)) (monitor_of P i).owner ≡ last_stamp (w.known t).log =
-        ap (λ j. bound_stamp (λ u. (w.known u).log) (w.words (Stamp i)) (monitor_of P j).owner) a.0
-        ∙ ap (bound_stamp (λ u. (w.known u).log) (w.words (Stamp i))) (owner_before v s) in
-        (omega (arith, now, was, s.raised), λ e. omega (arith, now, s.raised))
-    | inr a ↦ (
-      (let now = ap (λ z. bound_stamp (λ u. (x.known u).log) (w.words (Stamp i)) z.owner) a.1 in omega (arith, now, bound_grows w P Q t (wait_entry (w.known t) o) l v logs_it (w.words (Stamp i)) (monitor_of P i).owner)),
-      (λ e. absurd (a.0 (sym (same_Some o i e)))),
-    )
-  ]
+  bounds_law : (i : ℕ) → Covers w P t (wait_entry (w.known t) o) l i (monitor_of Q i).owner
+  bounds_law = at_object v s (λ i y. Covers w P t (wait_entry (w.known t) o) l i y.monitor.owner)
+      (let was = ap (bound_stamp (λ u. (w.known u).log) (w.words (Stamp o))) (owner_before v s) in (omega (arith, was, s.raised), λ e. s.raised))
+      (λ i d. (bound_grows w P Q t (wait_entry (w.known t) o) l v logs_it (w.words (Stamp i)) (monitor_of P i).owner, λ e. absurd (d (sym (same_Some o i e)))))
 
   abbrev n : World
   n = next w t l departing x.words
@@ -256,44 +222,29 @@ module _ (w : World) (P : List PlainObject) (t o m : ℕ) (e : Purpose) (goes_on
   all_after holds = record {
     stored = v.holds.stored;
     places = v.holds.places;
-    number = λ u i.
-        let more = same_part (λ f. hold_words_ahead f i) refl u in
-        elim (stands_next v s i u) [
-          | inl a ↦
-              let all = ap (λ z. hold_count i (w.known z).holds) a.1 ∙ ap (λ j. hold_count j (w.known t).holds) a.0 ∙ s.count in
-              let none = ap (λ z. hold_words_ahead (w.known z).stage i) a.1 ∙ ap (λ f. hold_words_ahead f i) s.calm in
-              let count = a.2 in
-              omega (arith, all, none, more, count)
-          | inr a ↦ omega (arith, v.holds.number u i, more, a)
-        ];
+    number = λ u i. omega (arith, v.holds.number u i, same_part (λ f. hold_words_ahead f i) refl u, stands_same v s i u);
     each = v.holds.each;
   }
   all_after owners = record {
     same = shown_same;
-    let_go = λ i u e. elim (owner_at_next v s i u) [
-      | inl a ↦ a.1
-      | inr a ↦ a.1 ∙ v.owners.let_go i u (stage_back step (Waits i) u (λ c. a.0 (sym (same_object o i c))) e).1
-    ];
-    left = λ i u p e. elim (owner_at_next v s i u) [
-      | inl a ↦ a.1
-      | inr a ↦ a.1 ∙ v.owners.left i u p (stage_back step (Exits i p) u (λ c. cc c) e).1
-    ];
+    let_go = λ i u e. owner_fails v s i u (λ d. v.owners.let_go i u (stage_back step (Waits i) u (λ c. d (sym (same_object o i c))) e).1);
+    left = λ i u p e. owner_fails v s i u (λ d. v.owners.left i u p (stage_back step (Exits i p) u (λ c. cc c) e).1);
     calls = λ i u e.
         let was : notification_in (w.known u).stage ≡ Some i = sym (same_part notification_in refl u) ∙ e in
-        let owner = v.owners.calls i u was in
-        elim (owner_at_next v s i u) [
-          | inl a ↦ by_equal u t
-              (λ q. let none = ap (λ z. notification_in (w.known z).stage) q ∙ ap notification_in s.calm in absurd (cc (none, was)))
-              (λ d. let none = (others_out v s u d).0 in absurd (cc (none, ap (λ j. owner_at P j u) (sym a.0) ∙ owner)))
-          | inr a ↦ a.1 ∙ owner
-        ];
+        at_object v s (λ i y. owner_at P i u ≡ true → notification_in (w.known u).stage ≡ Some i → owns y.monitor u ≡ true)
+        (λ owner was. absurd (by_equal u t
+        (λ q. cc (was, ap (λ z. notification_in (w.known z).stage) q ∙ ap notification_in s.calm))
+        (λ d. cc ((others_out v s u d).0, owner))))
+        (λ i d owner was. owner) i (v.owners.calls i u was) was;
   }
   all_after biases = record {
     hashless = v.biases.hashless;
-    nobody = λ i e. elim (monitor_at v s i) [
-      | inl a ↦ absurd (cc (inflated_bias, ap (λ j. is_biased (marks w j)) (sym a.0) ∙ e))
-      | inr a ↦ let b = v.biases.nobody i e in (ap (λ (z : PlainMonitor). z.waits) a.1 ∙ b.0, b.1)
-    ];
+    nobody = λ i e.
+        let b = v.biases.nobody i e in (
+          at_object v s (λ i y. is_biased (marks w i) ≡ true → waits_at P i ≡ [] → y.monitor.waits ≡ []) (λ e. absurd (cc (inflated_bias, e)))
+              (λ i d e f. f) i e b.0,
+          b.1,
+        );
     unheld = v.biases.unheld;
   }
   all_after records = record {
@@ -311,17 +262,11 @@ module _ (w : World) (P : List PlainObject) (t o m : ℕ) (e : Purpose) (goes_on
     first = λ i u p e. v.recursions.first i u p (goes_back i u e);
     others = λ i u p d e. v.recursions.others i u p d (goes_back i u e);
     owned = λ i a u e g c d.
-        let less = same_part (λ f. recursions_behind f i) refl u in
-        let more = same_part (λ f. recursions_ahead f i) refl u in
         let was = v.recursions.owned i a u e g (λ f. c (stage_forth step (Waits i) u (λ g. cc (sym s.calm ∙ g)) f)) (λ f. d (stage_forth step (Resumes i) u (λ c. cc (sym s.calm ∙ c)) f)) in
-        omega (arith, less, more, was);
+        omega (arith, same_part (λ f. recursions_behind f i) refl u, same_part (λ f. recursions_ahead f i) refl u, was);
     waiting = λ i u e. elim e [
-      | inl a ↦ elim (waits_next v s i u a) [
-        | inl b ↦
-            let at : ℕ → ℕ → Type 0 = λ j z. (w.known z).saved ≡ recursion_count j (displaced_words w z) (w.known z).holds in
-            subst (at i) (sym b.1) (subst (λ j. at j t) (sym b.0) s.saved)
-        | inr b ↦ v.recursions.waiting i u (inl b)
-      ]
+      | inl a ↦ each_waiter v s (λ j z. (w.known z).saved ≡ recursion_count j (displaced_words w z) (w.known z).holds) s.saved
+          (λ j z b. v.recursions.waiting j z (inl b)) i u a
       | inr a ↦ v.recursions.waiting i u (inr a)
     ];
     on_record = v.recursions.on_record;
@@ -329,15 +274,15 @@ module _ (w : World) (P : List PlainObject) (t o m : ℕ) (e : Purpose) (goes_on
     thread_owns = λ i u f. v.recursions.thread_owns i u (stage_back step (TakesOver i) u (λ g. cc g) f).1;
   }
   all_after waits = record {
-    waiting = λ u i e. elim (waits_next v s i u e) [
-      | inl a ↦ inl (ap (λ j. waits_on (x.words (Waiting u)) j) a.0 ∙ ap (λ z. waits_on (x.words (Waiting z)) o) a.1 ∙ says_here)
-      | inr a ↦
-          let same = same_word u (waiter_other u i a) in
-          elim (v.waits.waiting u i a) [
-            | inl b ↦ inl (ap (λ n. waits_on n i) same ∙ b)
-            | inr b ↦ inr (ap (λ n. says_notified n i) same ∙ b.0, calls_on i b.1)
-          ]
-    ];
+    waiting = λ u i. each_waiter v s
+        (λ i u. (waits_on (x.words (Waiting u)) i ≡ true) ⊎
+        ((says_notified (x.words (Waiting u)) i ≡ true) × ((z : ℕ) × (notification_in (x.known z).stage ≡ Some i)))) (inl says_here)
+        (λ i u a.
+        let same = same_word u (waiter_other u i a) in
+        elim (v.waits.waiting u i a) [
+          | inl b ↦ inl (ap (λ n. waits_on n i) same ∙ b)
+          | inr b ↦ inr (ap (λ n. says_notified n i) same ∙ b.0, calls_on i b.1)
+        ]) i u;
     waiter = λ u i. at (λ u n k. waits_on n i ≡ true → is_listed (waits_at Q i) u ≡ true) u
         (λ e. ap (λ j. is_listed (waits_at Q j) t) (word_here i e) ∙ waits_here v s)
         (λ d e. waits_still v s i u (v.waits.waiter u i e));
@@ -349,38 +294,32 @@ module _ (w : World) (P : List PlainObject) (t o m : ℕ) (e : Purpose) (goes_on
         ];
     told = λ u i. at
         (λ u n k. says_notified n i ≡ true → (is_listed (notified_at P i) u ≡ true) ⊎ ((is_listed (waits_at Q i) u ≡ true) × ((z : ℕ) × (notification_in (x.known z).stage ≡ Some i)))) u
-        (λ e. let none = word_untold i in absurd (cc (none, e)))
+        (λ e. absurd (cc (ap (λ f. notified_form f i) word_read, e)))
         (λ d e. elim (v.waits.told u i e) [
           | inl a ↦ inl a
           | inr a ↦ inr (waits_still v s i u a.0, calls_on i a.1)
         ]);
     telling = λ u i n e.
         let was = stage_back step (Notifies i n) u (λ c. cc c) e in
-        elim (monitor_at v s i) [
-          | inl a ↦
-              let none = (others_out v s u was.0).0 in
-              let owner = v.owners.calls i u (ap notification_in was.1) in
-              absurd (cc (none, ap (λ j. owner_at P j u) (sym a.0) ∙ owner))
-          | inr a ↦
-              subst (λ (z : PlainMonitor). AreNotified (λ y. x.words (Waiting y)) i n z.waits) (sym a.1)
-              (told_same (λ y. w.words (Waiting y)) (λ y. x.words (Waiting y)) i n (waits_at P i) (λ y k. same_word y (waiter_other y i k)) (v.waits.telling u i n was.1))
-        ];
+        let f : ℕ → ℕ = λ y. w.words (Waiting y) in
+        let g : ℕ → ℕ = λ y. x.words (Waiting y) in
+        at_object v s (λ i y. AreNotified f i n (waits_at P i) → notification_in (w.known u).stage ≡ Some i → AreNotified g i n y.monitor.waits)
+        (λ told calls. let none = (others_out v s u was.0).0 in absurd (cc (none, v.owners.calls o u calls)))
+        (λ i d told calls. told_same f g i n (waits_at P i) (λ y k. same_word y (waiter_other y i k)) told) i (v.waits.telling u i n was.1)
+        (ap notification_in was.1);
     resuming = λ u i e. v.waits.resuming u i (stage_back step (Resumes i) u (λ c. cc c) e).1;
     leaving = λ u i. each_with_known (λ u k. k.stage ≡ Waits i → is_listed (waits_at Q i) u ≡ true) t l w.known u
         (λ e. ap (λ j. is_listed (waits_at Q j) t) (sym (same_object o i e)) ∙ waits_here v s) (λ d e. waits_still v s i u (v.waits.leaving u i e));
     unfinished = λ u i e. unfinished_is u ∙ elim e [
-      | inl a ↦ elim (waits_next v s i u a) [
-        | inl b ↦ subst (λ z. IsUnfinished (w.known z).unfinished op.Wait i) (sym b.1) (subst (IsUnfinished (w.known t).unfinished op.Wait) (sym b.0) s.waits)
-        | inr b ↦ v.waits.unfinished u i (inl b)
-      ]
+      | inl a ↦ each_waiter v s (λ i z. IsUnfinished (w.known z).unfinished op.Wait i) s.waits (λ i z b. v.waits.unfinished z i (inl b)) i u a
       | inr a ↦ v.waits.unfinished u i (inr a)
     ];
     stored = λ u. at (λ u n k. (n ≡ k.wait) ⊎ ((i : ℕ) × (waits_on k.wait i ≡ true) × (n ≡ wait_of (wait.Notified i)))) u (inl (sym said)) (λ d. v.waits.stored u);
     entering = λ u i. at (λ u n k. enters_on n i ≡ true → IsUnfinished k.unfinished op.Enter i × ((a : ℕ) × (monitor_in (marks w i) ≡ Some a))) u
-        (λ e. let none = word_unentering i in absurd (cc (none, e)))
+        (λ e. absurd (cc (ap (λ f. enters_form f i) word_read, e)))
         (λ d e. v.waits.entering u i e);
     done = λ u. at (λ u n k. says_ended n ≡ true → ends k.log ≡ true) u
-        (λ e. let none = word_unended in absurd (cc (none, e)))
+        (λ e. absurd (cc (ap ended_form word_read, e)))
         (λ d e. v.waits.done u e);
     stopped = λ u. at (λ u n k. ends k.log ≡ true → (w.known u).running ≡ false → says_ended n ≡ true) u (λ e r. absurd (cc (r, s.runs))) (λ d e r. v.waits.stopped u e r);
     stamped = λ u i. at (λ u n k. waits_on n i ≡ true → last_entry k.log ≡ Some (record { stamp = stamp_in n; entry = entry.Wait i })) u
@@ -392,10 +331,7 @@ module _ (w : World) (P : List PlainObject) (t o m : ℕ) (e : Purpose) (goes_on
         (λ d e. v.waits.stamped u i e);
     sorted = waits_sorted;
     inflated = λ i u e. elim e [
-      | inl a ↦ elim (waits_next v s i u a) [
-        | inl b ↦ (m, ap (λ j. monitor_in (marks w j)) b.0 ∙ s.inflated)
-        | inr b ↦ v.waits.inflated i u (inl b)
-      ]
+      | inl a ↦ each_waiter v s (λ i u. (k : ℕ) × (monitor_in (marks w i) ≡ Some k)) (m, s.inflated) (λ i u b. v.waits.inflated i u (inl b)) i u a
       | inr a ↦ v.waits.inflated i u (inr a)
     ];
   }

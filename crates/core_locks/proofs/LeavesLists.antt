@@ -1,44 +1,27 @@
 -- A list of waiters with one more at its end.
-use Rattle.core_locks.proofs.Prelude.{◌≡◌, ◌≢◌, ◌⊎◌, ℕ, zero, suc, ◌<◌, ◌==◌, ◌&&◌, ◌||◌, nat_lt, ne_eqb, Bool, true, false, cond, List, [], ◌∷◌, ◌++◌, Some, None, refl, sym, ap, ◌∙◌, arith, inl, inr, eqb-true, or-true, nat_tests, AllByRecursion, is_listed, count_of, all_push, waits_on, says_notified, stamp_in, StandByStamps, AreNotified, StandsBefore, same_number, frame2}
+use Rattle.core_locks.proofs.Prelude.{◌≡◌, ◌≢◌, ◌⊎◌, ℕ, zero, suc, ◌<◌, ◌==◌, ◌&&◌, ◌||◌, nat_lt, ne_eqb, Bool, true, false, cond, List, [], ◌∷◌, ◌++◌, Some, None, sym, ap, ◌∙◌, arith, inl, inr, eqb-true, or-true, nat_tests, AllByRecursion, is_listed, count_of, all_push, waits_on, says_notified, stamp_in, StandByStamps, AreNotified, StandsBefore, same_number, or-false, subst}
+use Rattle.core_locks.proofs.WaitOut.{neither}
+use Rattle.std.proofs.Math.Bool.{or_assoc}
+use Rattle.std.proofs.lemmas.Bool.{or_cases}
 
--- who was listed is
+-- those who were listed are, and the new one, and nobody else
+listed_more : (ps : List (ℕ × ℕ)) (t c u : ℕ) → is_listed (ps ++ (t, c) ∷ []) u ≡ (is_listed ps u || (t == u))
+listed_more [] t c u = or-false (t == u)
+listed_more (p ∷ ps) t c u = ap (λ b. (p.0 == u) || b) (listed_more ps t c u) ∙ sym (or_assoc (p.0 == u) (is_listed ps u) (t == u))
+
 pub listed_forth : (ps : List (ℕ × ℕ)) (t c u : ℕ) → is_listed ps u ≡ true → is_listed (ps ++ (t, c) ∷ []) u ≡ true
-listed_forth [] t c u h = absurd (cc h)
-listed_forth (p ∷ ps) t c u h = at_head (p.0 == u) h (listed_forth ps t c u)
-  where
-    at_head : (b : Bool) → (b || is_listed ps u) ≡ true → (is_listed ps u ≡ true → is_listed (ps ++ (t, c) ∷ []) u ≡ true)
-        → (b || is_listed (ps ++ (t, c) ∷ []) u) ≡ true
-    at_head true h ih = refl
-    at_head false h ih = ih h
+listed_forth ps t c u h = listed_more ps t c u ∙ ap (λ b. b || (t == u)) h
 
--- so is the new one
 pub listed_last : (ps : List (ℕ × ℕ)) (t c : ℕ) → is_listed (ps ++ (t, c) ∷ []) t ≡ true
-listed_last [] t c = ap (λ (b : Bool). b || false) (same_number t)
-listed_last (p ∷ ps) t c = ap (λ b. (p.0 == t) || b) (listed_last ps t c) ∙ or-true (p.0 == t)
+listed_last ps t c = listed_more ps t c t ∙ ap (λ b. is_listed ps t || b) (same_number t) ∙ or-true (is_listed ps t)
 
--- and nobody else
 pub listed_back : (ps : List (ℕ × ℕ)) (t c u : ℕ) → is_listed (ps ++ (t, c) ∷ []) u ≡ true → (is_listed ps u ≡ true) ⊎ (u ≡ t)
-listed_back [] t c u h = at_last (t == u) refl h
-  where
-    at_last : (b : Bool) → (t == u) ≡ b → (b || false) ≡ true → (is_listed [] u ≡ true) ⊎ (u ≡ t)
-    at_last true e h = inr (sym (eqb-true t u e))
-    at_last false e h = absurd (cc h)
-listed_back (p ∷ ps) t c u h = at_head (p.0 == u) h (listed_back ps t c u)
-  where
-    at_head : (b : Bool) → (b || is_listed (ps ++ (t, c) ∷ []) u) ≡ true → (is_listed (ps ++ (t, c) ∷ []) u ≡ true → (is_listed ps u ≡ true) ⊎ (u ≡ t))
-        → ((b || is_listed ps u) ≡ true) ⊎ (u ≡ t)
-    at_head true h ih = inl refl
-    at_head false h ih = ih h
+listed_back ps t c u h = elim (or_cases (is_listed ps u) (t == u) (sym (listed_more ps t c u) ∙ h)) [ inl a ↦ inl a | inr a ↦ inr (sym (eqb-true t u a)) ]
 
 -- the new one keeps its count
 pub count_last : (ps : List (ℕ × ℕ)) (t c : ℕ) → is_listed ps t ≡ false → count_of (ps ++ (t, c) ∷ []) t ≡ Some c
 count_last [] t c h = ap (λ (b : Bool). cond b (Some c) None) (same_number t)
-count_last (p ∷ ps) t c h = at_head (p.0 == t) h (count_last ps t c)
-  where
-    at_head : (b : Bool) → (b || is_listed ps t) ≡ false → (is_listed ps t ≡ false → count_of (ps ++ (t, c) ∷ []) t ≡ Some c)
-        → cond b (Some p.1) (count_of (ps ++ (t, c) ∷ []) t) ≡ Some c
-    at_head true h ih = absurd (cc h)
-    at_head false h ih = ih h
+count_last (p ∷ ps) t c h = let a = neither (p.0 == t) (is_listed ps t) (sym h) in rw a.0 (count_last ps t c a.1)
 
 -- and every other one the count that it had
 pub count_else : (ps : List (ℕ × ℕ)) (t c u : ℕ) → u ≢ t → count_of (ps ++ (t, c) ∷ []) u ≡ count_of ps u
@@ -51,22 +34,31 @@ listed_head p ps = ap (λ b. b || is_listed ps p.0) (same_number p.0)
 listed_tail : (p : ℕ × ℕ) (ps : List (ℕ × ℕ)) (u : ℕ) → is_listed ps u ≡ true → is_listed (p ∷ ps) u ≡ true
 listed_tail p ps u h = ap (λ b. (p.0 == u) || b) h ∙ or-true (p.0 == u)
 
--- one stands before the others by words that are the same
-before_same : (f g : ℕ → ℕ) (o : ℕ) (p : ℕ × ℕ) (qs : List (ℕ × ℕ)) → g p.0 ≡ f p.0 → ((u : ℕ) → is_listed qs u ≡ true → g u ≡ f u)
+-- one stands before the others where every word that says that its thread waits said so before
+before_where : (f g : ℕ → ℕ) (o : ℕ) (p : ℕ × ℕ) (qs : List (ℕ × ℕ)) → (waits_on (g p.0) o ≡ true → f p.0 ≡ g p.0)
+    → ((u : ℕ) → is_listed qs u ≡ true → waits_on (g u) o ≡ true → f u ≡ g u)
     → AllByRecursion (StandsBefore f o p) qs → AllByRecursion (StandsBefore g o p) qs
-before_same f g o p [] e h a = tt
-before_same f g o p (q ∷ qs) e h a =
-    let Z : ℕ → ℕ → Type 0 = λ m n.
-    waits_on m o ≡ true → waits_on n o ≡ true → (nat_lt (stamp_in m) (stamp_in n) || ((stamp_in m == stamp_in n) && nat_lt p.0 q.0)) ≡ true in
-    (frame2 Z (sym e) (sym (h q.0 (listed_head q qs))) a.0, before_same f g o p qs e (λ u k. h u (listed_tail q qs u k)) a.1)
+before_where f g o p [] e h a = tt
+before_where f g o p (q ∷ qs) e h a =
+    let one : StandsBefore g o p q = λ x y.
+    let here = e x in
+    let there = h q.0 (listed_head q qs) y in
+    subst (λ (z : ℕ × ℕ). (nat_lt (stamp_in z.0) (stamp_in z.1) || ((stamp_in z.0 == stamp_in z.1) && nat_lt p.0 q.0)) ≡ true) (λ i. (here i, there i))
+    (a.0 (ap (λ z. waits_on z o) here ∙ x) (ap (λ z. waits_on z o) there ∙ y)) in
+    (one, before_where f g o p qs e (λ u k. h u (listed_tail q qs u k)) a.1)
 
--- those who wait stand by their stamps where their words are the same
+-- so all that wait stand by their stamps
+pub stand_where : (f g : ℕ → ℕ) (o : ℕ) (ps : List (ℕ × ℕ)) → ((u : ℕ) → is_listed ps u ≡ true → waits_on (g u) o ≡ true → f u ≡ g u) → StandByStamps f o ps
+    → StandByStamps g o ps
+stand_where f g o [] h a = tt
+stand_where f g o (p ∷ ps) h a =
+    (before_where f g o p ps (h p.0 (listed_head p ps)) (λ u k. h u (listed_tail p ps u k)) a.0, stand_where f g o ps (λ u k. h u (listed_tail p ps u k)) a.1)
+
+-- where their words are the same
 pub stand_same : (f g : ℕ → ℕ) (o : ℕ) (ps : List (ℕ × ℕ)) → ((u : ℕ) → is_listed ps u ≡ true → g u ≡ f u) → StandByStamps f o ps → StandByStamps g o ps
-stand_same f g o [] h a = tt
-stand_same f g o (p ∷ ps) h a =
-    (before_same f g o p ps (h p.0 (listed_head p ps)) (λ u k. h u (listed_tail p ps u k)) a.0, stand_same f g o ps (λ u k. h u (listed_tail p ps u k)) a.1)
+stand_same f g o ps h = stand_where f g o ps (λ u k x. sym (h u k))
 
--- so are those told who were
+-- those who were told still are
 pub told_same : (f g : ℕ → ℕ) (o n : ℕ) (ps : List (ℕ × ℕ)) → ((u : ℕ) → is_listed ps u ≡ true → g u ≡ f u) → AreNotified f o n ps → AreNotified g o n ps
 told_same f g o n [] h a = a
 told_same f g o zero (p ∷ ps) h a = (ap (λ x. waits_on x o) (h p.0 (listed_head p ps)) ∙ a.0, told_same f g o zero ps (λ u k. h u (listed_tail p ps u k)) a.1)
@@ -80,7 +72,7 @@ stand_last f g o t c (p ∷ ps) h below a =
     let e = h p.0 (listed_head p ps) in
     let last : StandsBefore g o p (t, c) = λ x y.
     less (stamp_in (g p.0)) (stamp_in (g t)) p.0 t (let b = below p.0 (listed_head p ps) (ap (λ n. waits_on n o) (sym e) ∙ x) in omega (arith, b, ap stamp_in e)) in (
-      all_push (StandsBefore g o p) ps (t, c) (before_same f g o p ps e (λ u k. h u (listed_tail p ps u k)) a.0) last,
+      all_push (StandsBefore g o p) ps (t, c) (before_where f g o p ps (λ x. sym e) (λ u k x. sym (h u (listed_tail p ps u k))) a.0) last,
       stand_last f g o t c ps (λ u k. h u (listed_tail p ps u k)) (λ u k. below u (listed_tail p ps u k)) a.1,
     )
   where

@@ -9,11 +9,7 @@ entries_few u (suc n) f h = let a = h u in let b = entries_few (u + 1) n f h in 
 
 -- a stamp that is one more than a last one fits into a waiting word
 pub next_fits : (w : World) (P : List PlainObject) (t : ℕ) → Fits w P → last_stamp (w.known t).log + 1 < 2 ^ 46
-next_fits w P t v =
-    let a = v.stamps.logged t in
-    let b = entries_few 0 w.shape.threads w.known v.lengths.few in
-    let c = v.limits.threads in
-    omega (arith, a, b, c)
+next_fits w P t v = omega (arith, v.stamps.logged t, entries_few 0 w.shape.threads w.known v.lengths.few, v.limits.threads)
 
 -- what holds of all entries holds of a thread's own
 all_of_thread : (Z : Logged → Type 0) (u : ℕ) (xs : List (ℕ × Logged)) → AllByRecursion (λ x. Z x.1) xs → AllByRecursion Z (of_thread u xs)

@@ -1,7 +1,8 @@
 -- What is so of the world where a thread may log its Wait, by what it knows, and what it knows afterwards.
-use Rattle.core_locks.proofs.Prelude.{◌≡◌, ℕ, ◌+◌, ◌<◌, ◌≤◌, ◌||◌, true, List, length, Some, sym, ap, ◌∙◌, arith, inl, inr, read_mark, read_owner, owner_of, wait_of, ByThread, read_owner-owner_of, PlainObject, last_stamp, Mark, Stamp, Owner, Recursions, Calm, monitor_in, bears, recursions_ahead, recursions_behind, Known, World, OwnedBy, lock, lock_form, marks, displaced_words, owner_words, prototype_of, inflations, hold_count, recursion_count, monitor_of, owner_at, owner_lock, IsOwnMonitor, Purpose, Fits, IsUnfinished, log_limit, inflated_form, IsOut, MayWait}
+use Rattle.core_locks.proofs.Prelude.{◌≡◌, ℕ, ◌+◌, ◌<◌, ◌≤◌, ◌||◌, true, List, length, Some, sym, ap, ◌∙◌, arith, inl, inr, wait_of, PlainObject, last_stamp, Stamp, Recursions, Calm, monitor_in, bears, recursions_ahead, recursions_behind, Known, World, OwnedBy, lock, marks, displaced_words, hold_count, recursion_count, monitor_of, owner_at, IsOwnMonitor, Purpose, Fits, IsUnfinished, log_limit, IsOut, MayWait}
 use Rattle.mark_word.specs.declared.wait.WaitForm.TheVariants as wait
 use Rattle.core_world.specs.declared.task.Op.TheVariants as op
+use Rattle.core_locks.proofs.HoldWays.{saw_inflated, saw_thread_owns}
 use Rattle.core_locks.proofs.WaitOut.{holder_owns, ready_is_out}
 
 -- Thread t holds o, whose monitor is m, and is ready to wait there.
@@ -11,9 +12,8 @@ pub record IsLeaving (w : World) (P : List PlainObject) (o m t : ℕ) : Type 0 w
   pub runs : (w.known t).running ≡ true
   pub calm : (w.known t).stage ≡ Calm
   pub out : IsOut (w.known t)
-  -- it is the plain owner, with as many holds as it has hold words
+  -- it is the plain owner
   pub owner : owner_at P o t ≡ true
-  pub count : hold_count o (w.known t).holds ≡ (monitor_of P o).count
   -- and has the lock through the monitor, whose recursions it has saved
   pub inflated : monitor_in (marks w o) ≡ Some m
   pub thread_owns : lock w o ≡ OwnedBy t
@@ -36,50 +36,26 @@ module _ (w : World) (P : List PlainObject) (t : ℕ) (e : Purpose) (o m stamp :
 
   -- the words are as it saw them in this call: the mark, since it is inflated
   mark_is : monitor_in (marks w o) ≡ Some m
-  mark_is = let a = may.inflated in ap monitor_in (v.seen.stays t (Mark o) a.0 a.1 (inl (may.runs, inr (inl (m, a.2))))) ∙ a.2
+  mark_is = saw_inflated w P t o may.runs v m may.inflated
 
-  -- the owner word and the recursions, since it is the monitor of an object that the thread owns
+  -- the recursions, since it is the monitor of an object that the thread owns
   own : IsOwnMonitor w (w.known t) (owner_at P) t m
   own = (o, mark_is, ap (λ b. b || bears (w.known t).stage o) owns.0)
-
-  owner_is : read_owner (owner_words w m) ≡ Some (ByThread t)
-  owner_is =
-      let small : t < 32 = let a = v.limits.threads in omega (arith, a, within) in
-      ap read_owner (v.seen.stays t (Owner m) _ may.owner (inl (may.runs, inr own)) ∙ ap (λ u. owner_of (ByThread u)) (v.numbered t)) ∙ read_owner-owner_of (ByThread t) small
 
   recursions_are : w.words (Recursions m) ≡ (w.known t).saved
   recursions_are = v.seen.stays t (Recursions m) (w.known t).saved may.recursions (inl (may.runs, inr own))
 
-  -- and the stamp, since the thread owns the object
-  stamp_is : w.words (Stamp o) ≡ stamp
-  stamp_is = v.seen.stays t (Stamp o) stamp may.stamped (inl (may.runs, owns.0))
-
   thread_owns : lock w o ≡ OwnedBy t
-  thread_owns =
-      ap (λ f. lock_form f (prototype_of w o) (owner_words w) (inflations w o)) (inflated_form (read_mark (marks w o)) m mark_is)
-      ∙ ap owner_lock owner_is
+  thread_owns = saw_thread_owns w P t o may.runs v m (omega (arith, within, v.limits.threads)) owns.0 may.inflated may.owner
 
   saved : (w.known t).saved ≡ recursion_count o (displaced_words w t) (w.known t).holds
   saved =
       let a = v.recursions.owned o m t mark_is thread_owns (λ s. absurd (cc (s, may.calm))) (λ s. absurd (cc (s, may.calm))) in
-      let none_behind = ap (λ s. recursions_behind s o) may.calm in
-      let none_ahead = ap (λ s. recursions_ahead s o) may.calm in
-      omega (arith, a, none_behind, none_ahead, recursions_are)
+      omega (arith, a, ap (λ s. recursions_behind s o) may.calm, ap (λ s. recursions_ahead s o) may.calm, recursions_are)
 
   pub leaving : IsLeaving w P o m t
   leaving =
-      record {
-        within = within;
-        object = omega (arith, v.sized, may.object);
-        runs = may.runs;
-        calm = may.calm;
-        out = out;
-        owner = owns.0;
-        count = owns.1;
-        inflated = mark_is;
-        thread_owns = thread_owns;
-        saved = saved;
-        raised = omega (arith, stamp_is, may.high);
-        waits = sym may.goes_on ∙ may.waits;
-        room = may.room;
-      }
+      let object : o < length P = omega (arith, v.sized, may.object) in
+      let word : w.words (Stamp o) ≡ stamp = v.seen.stays t (Stamp o) stamp may.stamped (inl (may.runs, owns.0)) in
+      let raised : last_stamp (w.known t).log + 1 ≤ w.words (Stamp o) = omega (arith, word, may.high) in
+      search (within, object, out, owns, mark_is, thread_owns, saved, raised, sym may.goes_on ∙ may.waits, may)

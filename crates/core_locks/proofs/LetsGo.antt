@@ -6,8 +6,8 @@ use Rattle.core_locks.proofs.Steps.{stage_part, turning, IsStep, next, seen_next
 use Rattle.core_locks.proofs.OwnSeen.{own_seen, left_with, hit_world}
 use Rattle.core_locks.proofs.MonitorSeen.{uncounted_named}
 use Rattle.core_locks.proofs.InWait.{IsInWait, held_it, mark_names as its_mark, thread_owns as has_it, known as finds, other_thread as alone, count_fits}
-use Rattle.core_locks.proofs.LockTurns.{records_turn, owner_turned}
-use Rattle.core_locks.proofs.OwnerTurns.{owned_locks, lock_now, lock_back, lock_forth}
+use Rattle.core_locks.proofs.LockTurns.{records_turn}
+use Rattle.core_locks.proofs.OwnerTurns.{owned_locks, lock_now, lock_back, lock_forth, owner_turned}
 
 module _ (w : World) (P : List PlainObject) (t : ℕ) (e : Purpose) (o m : ℕ) (within : t < w.shape.threads) (may : MayDrop (w.known t) e o m) (v : Fits w P) where
   at_wait : IsInWait (w.known t) e o m (Waits o)

@@ -30,7 +30,6 @@ pub mod ResumeLogs
 pub mod TakenStamps
 pub mod HoldCounts
 pub mod HoldClears
-pub mod HoldPuts
 pub mod HoldWays
 pub mod HoldCleared
 pub mod LeavesStamps

@@ -1,8 +1,6 @@
 -- One lock becomes B by a step of the thread that had it, or of one that takes it where nobody did; the other locks stay.
-use Rattle.core_locks.proofs.Prelude.{◌≡◌, ◌≢◌, ◌⊎◌, ℕ, ◌==◌, ◌||◌, eq-eqb, ne_eqb, Bool, true, false, List, Some, None, refl, sym, ap, ◌∙◌, subst, inl, inr, is_thread, PlainObject, Owner, Calm, Seizes, Grabs, Exits, Waits, inflation_in, bears, notification_in, with_word, Known, World, with_known, Lock, OnRecord, OwnedBy, lock, displaced_words, who, holder, hold_count, owner_at, RecordsRest, Fits, LocksArePlain, each_with_known}
-use Rattle.core_locks.proofs.Clauses.{AllHold, turned_parts, parts_turn}
-use Rattle.core_locks.proofs.OwnerTurns.{owned_locks, locks_turn, heads_turn}
-use Rattle.core_locks.proofs.Steps.{Fields, turning, IsStep, next, stepped, step_fits, stage_back, stage_forth, inflates_stay}
+use Rattle.core_locks.proofs.Prelude.{◌≡◌, ◌≢◌, ◌⊎◌, ℕ, ◌==◌, ◌||◌, eq-eqb, ne_eqb, Bool, false, List, Some, None, refl, sym, ap, ◌∙◌, subst, inl, inr, is_thread, PlainObject, Calm, Seizes, Grabs, Exits, Waits, bears, notification_in, Known, World, with_known, Lock, OnRecord, OwnedBy, lock, displaced_words, who, holder, hold_count, owner_at, RecordsRest, Fits, LocksArePlain, each_with_known}
+use Rattle.core_locks.proofs.Steps.{owners_move, Fields, IsStep, stage_back, stage_forth}
 
 module _ {w : World} {t : ℕ} {l : Known} {fields : Fields} {P : List PlainObject} (step : IsStep w t l fields) (v : Fits w P) (locks : ℕ → Lock) (o : ℕ) (B : Lock)
     (now : (i : ℕ) → ((i ≡ o) × (locks i ≡ B)) ⊎ ((i ≢ o) × (locks i ≡ lock w i))) where
@@ -10,18 +8,13 @@ module _ {w : World} {t : ℕ} {l : Known} {fields : Fields} {P : List PlainObje
   pub owners_taken : (w.known t).stage ≡ Calm → ((u : ℕ) → (owner_at P o u ≡ false) × (bears (w.known u).stage o ≡ false)) → holder B (λ k. hold_count o (w.known k).holds) ≡ Some t → ((i : ℕ) → bears l.stage i ≡ (o == i))
       → notification_in l.stage ≡ None → ((i : ℕ) → l.stage ≡ Waits i → ⊥) → ((i q : ℕ) → l.stage ≡ Exits i q → ⊥)
       → LocksArePlain (λ i. holder (locks i) (λ k. hold_count i (w.known k).holds)) (λ u. (with_known t l w.known u).stage) (owner_at P)
-  owners_taken calm nobody has bearing calls waits exits = record {
-    same = λ i u. elim (now i) [
-      | inl a ↦ subst (λ j. is_thread (holder (locks j) (λ k. hold_count j (w.known k).holds)) u ≡ (owner_at P j u || bears (with_known t l w.known u).stage j)) (sym a.0) (here u (ap locks (sym a.0) ∙ a.1))
-      | inr a ↦
-          ap (λ f. is_thread (holder f (λ k. hold_count i (w.known k).holds)) u) a.1
-          ∙ each_with_known (λ u y. is_thread (who w i) u ≡ (owner_at P i u || bears y.stage i)) t l w.known u
-          (v.owners.same i t ∙ ap (λ (b : Bool). owner_at P i t || b) (ap (λ f. bears f i) calm ∙ sym (bearing i ∙ ne_eqb o i (λ q. a.0 (sym q))))) (λ d. v.owners.same i u)
-    ];
-    let_go = λ i u f. v.owners.let_go i u (stage_back step (Waits i) u (waits i) f).1;
-    left = λ i u q f. v.owners.left i u q (stage_back step (Exits i q) u (exits i q) f).1;
-    calls = λ i u. each_with_known (λ u y. notification_in y.stage ≡ Some i → owner_at P i u ≡ true) t l w.known u (λ c. absurd (cc (calls, c))) (λ d. v.owners.calls i u);
-  }
+  owners_taken calm nobody has bearing calls waits exits = owners_move step waits exits (λ i c. absurd (cc (calls, c))) (λ i u. elim (now i) [
+    | inl a ↦ subst (λ j. is_thread (holder (locks j) (λ k. hold_count j (w.known k).holds)) u ≡ (owner_at P j u || bears (with_known t l w.known u).stage j)) (sym a.0) (here u (ap locks (sym a.0) ∙ a.1))
+    | inr a ↦
+        ap (λ f. is_thread (holder f (λ k. hold_count i (w.known k).holds)) u) a.1
+        ∙ each_with_known (λ u y. is_thread (who w i) u ≡ (owner_at P i u || bears y.stage i)) t l w.known u
+        (v.owners.same i t ∙ ap (λ (b : Bool). owner_at P i t || b) (ap (λ f. bears f i) calm ∙ sym (bearing i ∙ ne_eqb o i (λ q. a.0 (sym q))))) (λ d. v.owners.same i u)
+  ]) v
     where
       here : (u : ℕ) → locks o ≡ B → is_thread (holder (locks o) (λ k. hold_count o (w.known k).holds)) u ≡ (owner_at P o u || bears (with_known t l w.known u).stage o)
       here u is =
@@ -53,12 +46,3 @@ module _ {w : World} {t : ℕ} {l : Known} {fields : Fields} {P : List PlainObje
       grabbed = λ i u. each_with_known (λ u y. y.stage ≡ Grabs i → (locks i ≡ OwnedBy u) × (hold_count i (w.known u).holds ≡ 0)) t l w.known u (grabs i)
           (λ d f. let b = v.records.grabbed i u f in (lock_keeps i u (OwnedBy u) b.0 refl d, b.1));
     }
-
--- so it is where the owner word of a monitor changes
-module _ {w : World} {t : ℕ} {l : Known} (P : List PlainObject) (step : IsStep w t l turning) (m word : ℕ) (same : inflation_in l.stage ≡ inflation_in (w.known t).stage) where
-  pub owner_turned : AllHold (turned_parts w (next w t l turning (with_word (Owner m) word w.words)) P (owned_locks w m word)) → Fits (stepped w t l (with_word (Owner m) word w.words)) P
-  owner_turned =
-      let z : World = next w t l turning (with_word (Owner m) word w.words) in
-      let stay = inflates_stay step same in
-      step_fits step (with_word (Owner m) word w.words) P (turned_parts w z P (owned_locks w m word))
-      (parts_turn w z P (owned_locks w m word) refl (λ u. refl) stay (locks_turn w t turning m word l stay) (heads_turn w t turning m word l stay) refl)

@@ -1,5 +1,6 @@
 -- What follows where a thread logs an entry that the plain objects take: the logs, their order, the stamps and the lengths.
-use Rattle.core_locks.proofs.Prelude.{◌≡◌, ◌≢◌, ℕ, zero, suc, ◌+◌, ◌<◌, ◌≤◌, ◌||◌, Bool, true, false, List, [], ◌∷◌, ◌++◌, length, slice_set, Option, Some, None, refl, sym, ap, ◌∙◌, subst, arith, slice_get, option_and_then, option_map, AllByRecursion, PlainObject, take_entry, take_at, take_named, Logged, last_stamp, objects_after, LegalObjects, log_of, appended, Entry, order, all_weaker, order_appended, last_more, bound_to, IsBounded, Stamp, Known, World, with_known, logs, logs_from, monitor_of, is_taking, Fits, last_entry, ends, is_ending, bound_stamp, StampsFit, entries, LengthsFit, log_limit, by_equal, each_with_known, with_known_here, with_known_else, logs_length, log_at, logs_grow, IsOwnEntry}
+use Rattle.core_locks.proofs.Prelude.{◌≡◌, ℕ, zero, suc, ◌+◌, ◌<◌, ◌≤◌, ◌||◌, false, List, [], ◌∷◌, ◌++◌, length, Option, Some, None, refl, sym, ap, ◌∙◌, subst, arith, AllByRecursion, PlainObject, take_entry, take_named, Logged, last_stamp, objects_after, LegalObjects, log_of, appended, Entry, order, all_weaker, order_appended, last_more, bound_to, IsBounded, Stamp, Known, World, with_known, logs, logs_from, monitor_of, is_taking, Fits, last_entry, ends, is_ending, bound_stamp, StampsFit, entries, each_with_known, with_known_here, logs_length, log_at, logs_grow, IsOwnEntry, same_Some, taken_at}
+use Rattle.std.proofs.lemmas.List.{length-append, length-set}
 use Rattle.plain_monitor.specs.Objects.{named}
 use Rattle.plain_monitor.proofs.Orders.{all_insert}
 use Rattle.plain_history.specs.Appending.{MayAppend}
@@ -13,8 +14,7 @@ ends_more [] l e = ap (λ b. b || false) e
 ends_more (m ∷ log) l e = ap (λ b. is_ending m.entry || b) (ends_more log l e)
 
 pub length_more : (log : List Logged) (l : Logged) → length (log ++ l ∷ []) ≡ length log + 1
-length_more [] l = refl
-length_more (m ∷ log) l = let a = length_more log l in omega (arith, a)
+length_more log l = length-append log (l ∷ [])
 
 pub last_entry_more : (log : List Logged) (l : Logged) → last_entry (log ++ l ∷ []) ≡ Some l
 last_entry_more [] l = refl
@@ -26,26 +26,13 @@ entries_more [] t l h = absurd (omega arith)
 entries_more (log ∷ all) zero l h = let a = length_more log l in omega (arith, a)
 entries_more (log ∷ all) (suc t) l h = let a = entries_more all t l (omega arith) in omega (arith, a)
 
-set_length : (P : List PlainObject) (o : ℕ) (y : PlainObject) → length (slice_set P o y) ≡ length P
-set_length [] o y = refl
-set_length (z ∷ P) zero y = refl
-set_length (z ∷ P) (suc o) y = ap suc (set_length P o y)
-
 -- as many objects take an entry as there are afterwards
 pub taken_length : (P Q : List PlainObject) (t : ℕ) (e : Entry) → take_entry P t e ≡ Some Q → length Q ≡ length P
 taken_length P Q t e h = by_name (named e) h
   where
-    by_object : (o : ℕ) (a : Option PlainObject) → option_map (λ y. slice_set P o y) a ≡ Some Q → length Q ≡ length P
-    by_object o None g = absurd (cc g)
-    by_object o (Some y) g = let same : slice_set P o y ≡ Q = cc g in ap (λ R. length R) (sym same) ∙ set_length P o y
-
-    by_get : (o : ℕ) (a : Option PlainObject) → option_and_then (λ x. option_map (λ y. slice_set P o y) (take_at x t e)) a ≡ Some Q → length Q ≡ length P
-    by_get o None g = absurd (cc g)
-    by_get o (Some x) g = by_object o (take_at x t e) g
-
     by_name : (a : Option ℕ) → take_named P t e a ≡ Some Q → length Q ≡ length P
-    by_name None g = let same : P ≡ Q = cc g in ap (λ R. length R) (sym same)
-    by_name (Some o) g = by_get o (slice_get P o) g
+    by_name None g = ap (λ R. length R) (sym (same_Some P Q g))
+    by_name (Some o) g = let a = taken_at P Q t e o g in ap (λ R. length R) a.is ∙ length-set P o a.y
 
 -- Thread t, which knew what it knew in w, logs y and then knows l; the plain objects P take the entry and become Q. The stamp is above t's last,
 -- and where the entry is bound to an object, above that object's bound. The entry is that of its own operation.
@@ -58,11 +45,30 @@ pub record IsLogging (w : World) (P Q : List PlainObject) (t : ℕ) (y : Logged)
   pub above : (o : ℕ) → bound_to y.entry ≡ Some o → bound_stamp (λ u. (w.known u).log) (w.words (Stamp o)) (monitor_of P o).owner < y.stamp
   pub follows : is_taking y.entry ≡ false → y.stamp ≡ last_stamp (w.known t).log + 1
 
+-- the bound of the stamps on i, by an owner, is no smaller than it was, and covers the entry y where that is bound to i
+abbrev pub Covers : World → List PlainObject → ℕ → Logged → Known → ℕ → Option ℕ → Type 0
+Covers w P t y l i owner =
+    (bound_stamp (λ u. (w.known u).log) (w.words (Stamp i)) (monitor_of P i).owner ≤ bound_stamp (λ u. (with_known t l w.known u).log)
+    (w.words (Stamp i)) owner)
+    × (bound_to y.entry ≡ Some i → y.stamp ≤ bound_stamp (λ u. (with_known t l w.known u).log) (w.words (Stamp i)) owner)
+
+-- a thread may log an entry with its next stamp that is bound to no object but one that it owns: its last stamp is the bound there
+pub next_logging : {w : World} {P Q : List PlainObject} {t : ℕ} {y : Logged} {l : Known} → t < w.shape.threads → l.log ≡ (w.known t).log ++ y ∷ []
+    → take_entry P t y.entry ≡ Some Q
+    → IsOwnEntry (w.known t) y.entry → y.stamp ≡ last_stamp (w.known t).log + 1 → ((o : ℕ) → bound_to y.entry ≡ Some o → (monitor_of P o).owner ≡ Some t)
+    → IsLogging w P Q t y l
+next_logging {w} within grows taken own stamp owned = record {
+  within = within;
+  grows = grows;
+  taken = taken;
+  own = own;
+  up = omega (arith, stamp);
+  above = λ o e. let b = ap (bound_stamp (λ u. (w.known u).log) (w.words (Stamp o))) (owned o e) in omega (arith, b, stamp);
+  follows = λ k. stamp;
+}
+
 module _ (w : World) (P Q : List PlainObject) (t : ℕ) (y : Logged) (l : Known) (v : Fits w P) (a : IsLogging w P Q t y l) where
   -- the logs afterwards
-  abbrev next : List (List Logged)
-  next = logs_from 0 w.shape.threads (with_known t l w.known)
-
   pub logs_are : logs_from 0 w.shape.threads (with_known t l w.known) ≡ appended (logs w) t y
   logs_are = logs_grow w.shape.threads t y l w.known a.within a.grows
 
@@ -109,12 +115,11 @@ module _ (w : World) (P Q : List PlainObject) (t : ℕ) (y : Logged) (l : Known)
       (subst (AllByRecursion B) (sym (order_appended (logs w) t y v.legal.rises many up_again))
       (all_insert B (t, y) (order (logs w)) new (all_weaker (λ x. bound_to x.1.entry ≡ Some i → x.1.stamp ≤ s) B (λ x f q. let g = f q in omega (arith, above, g)) (order (logs w)) bounded)))
 
-  -- The stamps fit afterwards, where the stamp words are the same: the new stamp is at most one more than the number of entries, and each
-  -- object's bound is no smaller, and covers the entry where that is bound to it.
-  pub stamps_next : y.stamp ≤ entries (logs w) + 1
-      → ((i : ℕ) → (bound_stamp (λ u. (w.known u).log) (w.words (Stamp i)) (monitor_of P i).owner ≤ bound_stamp (λ u. (with_known t l w.known u).log) (w.words (Stamp i)) (monitor_of Q i).owner)
-      × (bound_to y.entry ≡ Some i → y.stamp ≤ bound_stamp (λ u. (with_known t l w.known u).log) (w.words (Stamp i)) (monitor_of Q i).owner))
-      → StampsFit (logs_from 0 w.shape.threads (with_known t l w.known)) (λ u. (with_known t l w.known u).log) (λ o. w.words (Stamp o)) (λ o. (monitor_of Q o).owner) (λ u. (with_known t l w.known u).unfinished)
+  -- The stamps fit afterwards, where the stamp words are the same, and the new stamp is at most one more than the number of entries.
+  pub stamps_next : y.stamp ≤ entries (logs w) + 1 → ((i : ℕ) → Covers w P t y l i (monitor_of Q i).owner)
+      → StampsFit (logs_from 0 w.shape.threads (with_known t l w.known)) (λ u. (with_known t l w.known u).log) (λ o. w.words (Stamp o)) (λ o.
+      (monitor_of Q o).owner)
+      (λ u. (with_known t l w.known u).unfinished)
   stamps_next small bounds =
       record {
         logged = λ u. each_with_known (λ u k. last_stamp k.log ≤ entries (logs_from 0 w.shape.threads (with_known t l w.known))) t l w.known u
@@ -141,18 +146,3 @@ module _ (w : World) (P Q : List PlainObject) (t : ℕ) (y : Logged) (l : Known)
         omega (arith, ap bound (same i), bound_grows (w.words (Stamp i)) (monitor_of P i).owner),
         λ e. omega (arith, ap bound (same i ∙ owned i e), ap (λ (k : Known). last_stamp k.log) (with_known_here t l w.known), last_next),
       ))
-
-  -- the lengths fit afterwards, where the thread runs, has room, and published no more than its new log
-  pub lengths_next : (word published : ℕ → ℕ) (requesting : ℕ → Bool) (halted : Bool) → length (w.known t).log < log_limit → (with_known t l w.known t).running ≡ true
-      → ((u : ℕ) → word u ≡ published u) → ((u : ℕ) → published u ≤ length (with_known t l w.known u).log)
-      → ((u : ℕ) → u ≢ t → (w.known u).running ≡ false → requesting u ≡ false → halted ≡ false → published u ≡ length (w.known u).log)
-      → LengthsFit word published (λ u. (with_known t l w.known u).log) (λ u. (with_known t l w.known u).running) requesting halted
-  lengths_next word published requesting halted room runs stored most all =
-      record {
-        few = λ u. each_with_known (λ u k. length k.log ≤ log_limit) t l w.known u (omega (arith, length_next, room)) (λ d. v.lengths.few u);
-        stored = stored;
-        most = most;
-        all = λ u r q h. by_equal u t
-            (λ e. let runs_here : (with_known t l w.known u).running ≡ true = ap (λ z. (with_known t l w.known z).running) e ∙ runs in absurd (cc (runs_here, r)))
-            (λ d. let same = with_known_else t l w.known u d in all u d (ap (λ (k : Known). k.running) (sym same) ∙ r) q h ∙ ap (λ (k : Known). length k.log) (sym same));
-      }

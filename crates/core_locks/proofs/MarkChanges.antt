@@ -1,7 +1,6 @@
 -- The mark of one object changes: what stays of marks, locks and headers, which clauses read of marks only what stays, and that the other
 -- threads don't count on the mark that was there.
-use Rattle.core_locks.proofs.Prelude.{◌≡◌, ◌≢◌, ◌⊎◌, ℕ, ◌+◌, ◌||◌, eq-eqb, ne_eqb, Bool, true, false, cond, List, [], Option, Some, None, refl, sym, ap, ◌∙◌, subst, inl, inr, read_mark, Logged, Mark, Stage, is_biased, monitor_in, Inflation, inflation_in, bears, revocation_in, Known, World, with_word_and_known, with_known, Lock, BiasedTo, OwnedBy, lock, lock_form, header, header_form, marks, displaced_words, headers, owner_words, prototype_of, inflations, IsValidBias, RecursionsFit, GoesByMonitor, WaitsFit, BiasedAreFree, InflationsAreOne, MonitorsAreClaimed, ClassesFit, Unfinished, MonitorsAreNamed, by_equal, stays_back, Back, Spares}
-use Rattle.core_world.specs.Clauses.Claims.{count_with_monitor}
+use Rattle.core_locks.proofs.Prelude.{◌≡◌, ◌≢◌, ◌⊎◌, ℕ, ◌||◌, eq-eqb, ne_eqb, Bool, true, false, cond, List, [], Option, Some, None, refl, sym, ap, ◌∙◌, subst, inl, inr, read_mark, Logged, Mark, Stage, is_biased, monitor_in, Inflation, inflation_in, bears, revocation_in, Known, World, with_word_and_known, with_known, Lock, BiasedTo, OwnedBy, lock, lock_form, header, header_form, marks, displaced_words, headers, owner_words, prototype_of, inflations, IsValidBias, RecursionsFit, GoesByMonitor, WaitsFit, BiasedAreFree, InflationsAreOne, MonitorsAreClaimed, ClassesFit, Unfinished, MonitorsAreNamed, by_equal, stays_back, Back, Spares}
 use Rattle.core_locks.proofs.OwnSeen.{either}
 use Rattle.core_locks.proofs.MarkMeanings.{each_set, IsBare, bare_unnamed, bare_unbiased}
 
@@ -10,47 +9,18 @@ module _ (f g : ℕ → ℕ) (same : (i : ℕ) → monitor_in (f i) ≡ monitor_
   back : (i a : ℕ) → monitor_in (g i) ≡ Some a → monitor_in (f i) ≡ Some a
   back i a e = same i ∙ e
 
-  forth : (i a : ℕ) → monitor_in (f i) ≡ Some a → monitor_in (g i) ≡ Some a
-  forth i a e = sym (same i) ∙ e
+  named : ◌≡◌ {A = ℕ → Option ℕ} (λ i. monitor_in (f i)) (λ i. monitor_in (g i))
+  named = λ j. λ i. same i j
 
   pub monitors_by_marks : (object header : ℕ → ℕ) → MonitorsAreNamed (λ i. monitor_in (f i)) object header → MonitorsAreNamed (λ i. monitor_in (g i)) object header
-  monitors_by_marks object header h = record {
-    own = λ i a e. h.own i a (back i a e);
-    neutral = λ i a e. h.neutral i a (back i a e);
-    alone = λ i j a e d. h.alone i j a (back i a e) (back j a d);
-  }
+  monitors_by_marks object header = subst (λ n. MonitorsAreNamed n object header) named
 
   pub claims_by_marks : (threads objects claim : ℕ) (kept : ℕ → Option ℕ) → MonitorsAreClaimed threads objects claim (λ i. monitor_in (f i)) kept → MonitorsAreClaimed threads objects claim (λ i. monitor_in (g i)) kept
-  claims_by_marks threads objects claim kept h =
-      let named : ◌≡◌ {A = ℕ → Option ℕ} (λ i. monitor_in (f i)) (λ i. monitor_in (g i)) = λ j. λ i. same i j in
-      record {
-        holder = h.holder;
-        named = λ i a e. h.named i a (back i a e);
-        once = h.once;
-        apart = λ t i a e d. h.apart t i a e (back i a d);
-        all = λ a e. elim (h.all a e) [ inl b ↦ inl b | inr b ↦ inr (b.0, forth b.0 a b.1) ];
-        counted = subst (λ (n : ℕ → Option ℕ). claim ≡ count_with_monitor threads kept + count_with_monitor objects n) named h.counted;
-      }
+  claims_by_marks threads objects claim kept = subst (λ n. MonitorsAreClaimed threads objects claim n kept) named
 
   pub waits_by_marks : (wait own : ℕ → ℕ) (log : ℕ → List Logged) (stage : ℕ → Stage) (operation : ℕ → Option Unfinished) (running : ℕ → Bool) (waits called : ℕ → List (ℕ × ℕ))
       → WaitsFit (λ i. monitor_in (f i)) wait own log stage operation running waits called → WaitsFit (λ i. monitor_in (g i)) wait own log stage operation running waits called
-  waits_by_marks wait own log stage operation running waits called h = record {
-    waiting = h.waiting;
-    waiter = h.waiter;
-    notified = h.notified;
-    told = h.told;
-    telling = h.telling;
-    resuming = h.resuming;
-    leaving = h.leaving;
-    unfinished = h.unfinished;
-    stored = h.stored;
-    entering = λ t i e. let a = h.entering t i e in (a.0, (a.1.0, forth i a.1.0 a.1.1));
-    done = h.done;
-    stopped = h.stopped;
-    stamped = h.stamped;
-    sorted = h.sorted;
-    inflated = λ i t e. let a = h.inflated i t e in (a.0, forth i a.0 a.1);
-  }
+  waits_by_marks wait own log stage operation running waits called = subst (λ n. WaitsFit n wait own log stage operation running waits called) named
 
   -- the locks may change too, but for those of inflated objects; and nobody comes to have one through a monitor
   pub recursions_by_marks : (recursions : ℕ → ℕ) (lock next : ℕ → Lock) (holds : ℕ → List ℕ) (stage : ℕ → Stage) (saved : ℕ → ℕ) (displaced : ℕ → ℕ → ℕ) (waits called : ℕ → List (ℕ × ℕ))
@@ -73,30 +43,17 @@ module _ (f g : ℕ → ℕ) (same : (i : ℕ) → monitor_in (f i) ≡ monitor_
 -- a mark with the bias pattern had it before, and its object leans to the same thread as before
 pub biases_by_marks : (f g : ℕ → ℕ) (lock next : ℕ → Lock) (holds : ℕ → List ℕ) (hash : ℕ → ℕ) (waits called : ℕ → List (ℕ × ℕ)) → ((i : ℕ) → is_biased (g i) ≡ true → is_biased (f i) ≡ true)
     → ((i t : ℕ) → lock i ≡ BiasedTo t → is_biased (g i) ≡ true → next i ≡ BiasedTo t) → BiasedAreFree f lock holds hash waits called → BiasedAreFree g next holds hash waits called
-biases_by_marks f g lock next holds hash waits called back leans h = record {
-  hashless = λ i e. h.hashless i (back i e);
-  nobody = λ i e. h.nobody i (back i e);
-  unheld = λ i t e d. h.unheld i t (back i e) (λ k. d (leans i t k e));
-}
+biases_by_marks f g lock next holds hash waits called back leans h = search (back, leans, h.hashless, h.nobody, h.unheld)
 
 -- without biasing no mark gets a bias pattern
 pub classes_by_marks : (biasing : Bool) (prototype count last f g rebiased revoked : ℕ → ℕ) → ((i : ℕ) → is_biased (f i) ≡ false → is_biased (g i) ≡ false)
     → ClassesFit biasing prototype count last f rebiased revoked → ClassesFit biasing prototype count last g rebiased revoked
-classes_by_marks biasing prototype count last f g rebiased revoked forth h = record {
-  plain = h.plain;
-  unbiased = λ b i. forth i (h.unbiased b i);
-  few = h.few;
-  prototypes = h.prototypes;
-}
+classes_by_marks biasing prototype count last f g rebiased revoked forth h = search (forth, h.unbiased, h)
 
 -- the same marks are 0
 pub inflating_by_marks : (f g : ℕ → ℕ) (inflates inflation : ℕ → Option Inflation) → ((i : ℕ) → g i ≡ 0 → f i ≡ 0) → ((i : ℕ) → f i ≡ 0 → g i ≡ 0)
     → InflationsAreOne f inflates inflation → InflationsAreOne g inflates inflation
-inflating_by_marks f g inflates inflation back forth h = record {
-  some = λ i e. h.some i (back i e);
-  zero = λ t i e. forth i.object (h.zero t i e);
-  one = h.one;
-}
+inflating_by_marks f g inflates inflation back forth h = search (back, forth, h.some, h.zero, h)
 
 -- THE MARK m IS WRITTEN AT o by a step of thread t, which knows l then.
 module _ (w : World) (o m t : ℕ) (l : Known) where
@@ -130,42 +87,29 @@ module _ (w : World) (o m t : ℕ) (l : Known) where
 
   -- the locks and headers, where the same objects are in the middle of an inflation
   module _ (inflation : inflations w ≡ inflations x) where
-    pub lock_here : lock x o ≡ lock_form (read_mark m) (prototype_of w o) (owner_words w) (inflations w o)
-    lock_here = λ j. lock_form (read_mark (mark_here j)) (prototype_of w o) (owner_words w) (sym inflation j o)
-
     pub lock_else : (i : ℕ) → i ≢ o → lock x i ≡ lock w i
     lock_else i d = λ j. lock_form (read_mark (mark_else i d j)) (prototype_of w i) (owner_words w) (sym inflation j i)
 
-    pub header_here : header x o ≡ header_form (read_mark m) m (displaced_words w) (headers w) (inflations w o)
-    header_here = λ j. header_form (read_mark (mark_here j)) (mark_here j) (displaced_words w) (headers w) (sym inflation j o)
-
-    pub header_else : (i : ℕ) → i ≢ o → header x i ≡ header w i
-    header_else i d = λ j. header_form (read_mark (mark_else i d j)) (mark_else i d j) (displaced_words w) (headers w) (sym inflation j i)
-
     -- the lock of the object is this one now, and each other lock is as before
     pub lock_at : (f : Lock) → lock_form (read_mark m) (prototype_of w o) (owner_words w) (inflations w o) ≡ f → (i : ℕ) → ((i ≡ o) × (lock x i ≡ f)) ⊎ ((i ≢ o) × (lock x i ≡ lock w i))
-    lock_at f e i = by_equal i o (λ a. inl (a, ap (lock x) a ∙ lock_here ∙ e)) (λ d. inr (d, lock_else i d))
+    lock_at f e i = by_equal i o
+        (λ a. inl (a, ap (lock x) a ∙ (λ j. lock_form (read_mark (mark_here j)) (prototype_of w o) (owner_words w) (sym inflation j o)) ∙ e))
+        (λ d. inr (d, lock_else i d))
 
     -- all headers stay, where the new mark means the header that the old one meant
     pub header_same : header_form (read_mark m) m (displaced_words w) (headers w) (inflations w o) ≡ header w o → header w ≡ header x
-    header_same e = λ j. λ i. sym (by_equal i o (λ a. ap (header x) a ∙ header_here ∙ e ∙ ap (header w) (sym a)) (λ d. header_else i d)) j
+    header_same e = λ j. λ i. sym (by_equal i o
+        (λ a. ap (header x) a ∙ (λ j. header_form (read_mark (mark_here j)) (mark_here j) (displaced_words w) (headers w) (sym inflation j o)) ∙ e
+        ∙ ap (header w) (sym a))
+        (λ d. λ j. header_form (read_mark (mark_else i d j)) (mark_else i d j) (displaced_words w) (headers w) (sym inflation j i))) j
 
   -- what thread u, which knew k and knows y, may count on after the step it could count on before; so it is with the thread that makes
   -- the step and with the others
   pub mark_back : (k y : Known) (owner next : ℕ → ℕ → Bool) (u : ℕ) → ((i a : ℕ) → monitor_in (marks x i) ≡ Some a → monitor_in (marks w i) ≡ Some a)
       → y.running ≡ k.running → y.requesting ≡ k.requesting → inflation_in y.stage ≡ inflation_in k.stage → (revocation_in y.stage ≡ None → revocation_in k.stage ≡ None) → y.kept ≡ k.kept → ((i : ℕ) → next i u ≡ true → owner i u ≡ true)
       → ((i a : ℕ) → monitor_in (marks x i) ≡ Some a → (next i u || bears y.stage i) ≡ true → (owner i u || bears k.stage i) ≡ true) → Back w x k y owner next u
-  mark_back k y owner next u names run ask inflates none_revokes kept owned held = record {
-    run = λ e. sym run ∙ e;
-    ask = λ e. sym ask ∙ e;
-    not_revoking = none_revokes;
-    inflates = λ i e. sym inflates ∙ e;
-    kept = λ a e. sym kept ∙ e;
-    prototype = λ i. refl;
-    monitor = names;
-    owned = owned;
-    held = held;
-  }
+  mark_back k y owner next u names run ask inflates none_revokes kept owned held =
+      search (sym run, sym ask, sym inflates, sym kept, none_revokes, names, owned, held)
 
   -- No other thread counts on the old mark: it names no monitor, has no bias pattern and isn't 0. The new one may be 0.
   pub mark_spares : (owner next : ℕ → ℕ → Bool) (waiters next_waiters : ℕ → List (ℕ × ℕ)) → IsBare (marks w o) → marks w o ≢ 0 → IsBare m

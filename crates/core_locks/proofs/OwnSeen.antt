@@ -1,5 +1,6 @@
 -- What the threads have seen stays when a running thread makes a step on a word on which no other counts, with the same marks and plain objects.
-use Rattle.core_locks.proofs.Prelude.{◌≡◌, ◌≢◌, ℕ, ◌||◌, Bool, true, false, List, [], ◌∷◌, Option, Some, None, refl, sym, ap, ◌∙◌, inl, inr, PlainObject, Mark, Waiting, StepPlan, is_biased, monitor_in, waits_on, inflation_in, bears, revocation_in, word_after, same_name, its_monitor, Known, World, with_word_and_known, marks, prototype_of, owner_at, waits_at, Stays, IsKeptOrNamed, SeenStays, known_hit, seen_before, Fits, SeenFit, seen_is_part, stays_back, Back, Spares, seen_moves, counts_more}
+use Rattle.core_locks.proofs.Prelude.{◌≡◌, ◌≢◌, ℕ, ◌||◌, Bool, true, false, List, [], ◌∷◌, Option, Some, None, refl, sym, ap, ◌∙◌, inl, inr, PlainObject, Mark, Waiting, StepPlan, is_biased, monitor_in, waits_on, inflation_in, bears, revocation_in, word_after, same_name, its_monitor, Known, World, with_word_and_known, marks, prototype_of, owner_at, waits_at, Stays, IsKeptOrNamed, SeenStays, known_hit, seen_before, Fits, SeenFit, seen_is_part, stays_back, Back, Spares, seen_moves, counts_more, hits, world_after, known_miss, subst, cond, Name, Length, Hold}
+use Rattle.std.proofs.Math.Bool.{or-true}
 use Rattle.std.specs.Prelude.{IfSome}
 use Rattle.core_locks.proofs.Steps.{none_reached}
 
@@ -9,6 +10,13 @@ left_with w t plan = known_hit w.shape w.start plan (w.words plan.at) (w.known t
 
 abbrev pub hit_world : World → ℕ → StepPlan → World
 hit_world w t plan = with_word_and_known plan.at (word_after plan.act (w.words plan.at)) t (left_with w t plan) w
+
+-- every clause holds after a step that hits, where it holds in that world
+pub hit_moved : (w : World) (P : List PlainObject) (t : ℕ) (p : StepPlan) → hits p.act (w.words p.at) ≡ true → Fits (hit_world w t p) P
+    → Fits (world_after p t w) P
+hit_moved w P t p h =
+    let missed = known_miss w.shape w.start p (w.words p.at) (w.known t) in
+    subst (λ b. Fits (with_word_and_known p.at (word_after p.act (w.words p.at)) t (cond b (left_with w t p) missed) w) P) (sym h)
 
 pub record OnOwn (w : World) (P : List PlainObject) (t : ℕ) (p : StepPlan) : Type 0 where
   pub runs : (w.known t).running ≡ true
@@ -28,28 +36,35 @@ pub record OnOwn (w : World) (P : List PlainObject) (t : ℕ) (p : StepPlan) : T
   -- no other thread counts on the word as it is
   pub uncounted : (u s : ℕ) → u ≢ t → Stays w (w.known u) (owner_at P) u p.at s → w.words p.at ≡ s → ⊥
 
+-- nobody counts on a length, and no other thread on a hold word
+pub length_uncounted : (w : World) (P : List PlainObject) (t u s : ℕ) → u ≢ t → Stays w (w.known u) (owner_at P) u (Length t) s → w.words (Length t) ≡ s → ⊥
+length_uncounted w P t u s d stays is = elim stays [ inl a ↦ a.1 | inr a ↦ a.2 ]
+
+pub hold_uncounted : (w : World) (P : List PlainObject) (t p u s : ℕ) → u ≢ t → Stays w (w.known u) (owner_at P) u (Hold t p) s → w.words (Hold t p) ≡ s → ⊥
+hold_uncounted w P t p u s d stays is = elim stays [ inl a ↦ d (sym a.1) | inr a ↦ a.2 ]
+
 -- one of two tests, where the first implies another
 pub either : (a b c : Bool) → (a ≡ true → c ≡ true) → (a || b) ≡ true → (c || b) ≡ true
 either true b c f e = ap (λ d. d || b) (f refl)
-either false true false f e = refl
-either false true true f e = refl
-either false false c f e = absurd (cc e)
+either false b c f e = ap (λ d. c || d) e ∙ or-true c
 
 -- WHAT COUNTS BEFORE, where marks and prototypes are as they were, and who owns an object afterwards owned it
 pub back_by : (w x : World) (k y : Known) (owner next : ℕ → ℕ → Bool) (u : ℕ) → marks x ≡ marks w → prototype_of x ≡ prototype_of w → (y.running ≡ true → k.running ≡ true) → y.requesting ≡ k.requesting
     → inflation_in y.stage ≡ inflation_in k.stage → (revocation_in y.stage ≡ None → revocation_in k.stage ≡ None) → y.kept ≡ k.kept → ((o : ℕ) → next o u ≡ true → owner o u ≡ true)
     → ((o a : ℕ) → monitor_in (marks w o) ≡ Some a → (owner o u || bears y.stage o) ≡ true → (owner o u || bears k.stage o) ≡ true) → Back w x k y owner next u
-back_by w x k y owner next u mark prototype run ask inflates none_revokes kept fewer held = record {
-  run = run;
-  ask = λ h. sym ask ∙ h;
-  not_revoking = none_revokes;
-  inflates = λ i h. sym inflates ∙ h;
-  kept = λ m h. sym kept ∙ h;
-  prototype = λ o. λ i. prototype i o;
-  monitor = λ o m h. (λ i. monitor_in (sym mark i o)) ∙ h;
-  owned = fewer;
-  held = λ o m g h. held o m ((λ i. monitor_in (sym mark i o)) ∙ g) (either (next o u) (bears y.stage o) (owner o u) (fewer o) h);
-}
+back_by w x k y owner next u mark prototype run ask inflates none_revokes kept fewer held =
+    let prototypes : (o : ℕ) → prototype_of x o ≡ prototype_of w o = λ o. λ i. prototype i o in
+    let monitor : (o m : ℕ) → monitor_in (marks x o) ≡ Some m → monitor_in (marks w o) ≡ Some m = λ o m h. (λ i. monitor_in (sym mark i o)) ∙ h in
+    let before : (o m : ℕ) → monitor_in (marks x o) ≡ Some m → (next o u || bears y.stage o) ≡ true → (owner o u || bears k.stage o) ≡ true =
+    λ o m g h. held o m (monitor o m g) (either (next o u) (bears y.stage o) (owner o u) (fewer o) h) in
+    search (run, sym ask, none_revokes, sym inflates, sym kept, prototypes, monitor, fewer, before)
+
+-- so another thread, which knows what it knew, counted before on what it may count on
+pub other_back : (w x : World) (k : Known) (owner next : ℕ → ℕ → Bool) (u : ℕ) → marks x ≡ marks w → prototype_of x ≡ prototype_of w
+    → ((o : ℕ) → next o u ≡ true → owner o u ≡ true)
+    → (n : Name) (s : ℕ) → Stays x k next u n s → Stays w k owner u n s
+other_back w x k owner next u mark prototype fewer =
+    stays_back w x k k owner next u (back_by w x k k owner next u mark prototype (λ h. h) refl refl (λ h. h) refl fewer (λ o m g h. h))
 
 -- who owns an object afterwards owned it before, and those who wait on each object on which somebody did are now `waiters`
 module _ (w : World) (P : List PlainObject) (t : ℕ) (p : StepPlan) (a : OnOwn w P t p) (next : ℕ → ℕ → Bool) (fewer : (o u : ℕ) → next o u ≡ true → owner_at P o u ≡ true) (waiters : ℕ → List (ℕ × ℕ))
@@ -66,12 +81,9 @@ module _ (w : World) (P : List PlainObject) (t : ℕ) (p : StepPlan) (a : OnOwn 
   mine : Back w x (w.known t) l (owner_at P) next t
   mine = back_by w x (w.known t) l (owner_at P) next t a.marks a.prototypes (λ h. a.runs) a.requesting a.inflates (λ h. v.quiet.none_revokes t) a.kept (λ o. fewer o t) a.held
 
-  others : (u : ℕ) → Back w x (w.known u) (w.known u) (owner_at P) next u
-  others u = back_by w x (w.known u) (w.known u) (owner_at P) next u a.marks a.prototypes (λ h. h) refl refl (λ h. h) refl (λ o. fewer o u) (λ o m g h. h)
-
   spares : Spares p.at (word_after p.act n) t l w (owner_at P) next (waits_at P) waiters
   spares = record {
-    before = λ u m s d g. stays_back w x (w.known u) (w.known u) (owner_at P) next u (others u) m s;
+    before = λ u m s d g. other_back w x (w.known u) (owner_at P) next u a.marks a.prototypes (λ o. fewer o u) m s;
     owned = λ u o d. fewer o u;
     word = λ u s d h g. absurd (a.uncounted u s d h g);
     bias = λ o h. (λ i. is_biased (a.marks i o)) ∙ h;

@@ -3,7 +3,8 @@ use Rattle.core_locks.proofs.Prelude.{◌≡◌, ◌≢◌, ◌⊎◌, ℕ, zero
 use Rattle.core_locks.proofs.HoldCounts.{hold_tells}
 use Rattle.core_locks.proofs.MarkHolds.{number_same}
 use Rattle.core_locks.proofs.Prepares.{lock_unnamed}
-use Rattle.core_locks.proofs.Steps.{Fields, next}
+use Rattle.core_locks.proofs.Clauses.{AllHold, turned_parts, parts_turn}
+use Rattle.core_locks.proofs.Steps.{Fields, turning, IsStep, next, stepped, step_fits, inflates_stay}
 
 -- LISTS. A word stands at one place, where its number is at most 1.
 stands_once : (c : ℕ) (hs : List ℕ) (i p : ℕ) → c ≢ 0 → slice_index hs p ≡ c → 1 ≤ count_where (λ k h. h == c) i hs
@@ -103,3 +104,12 @@ module _ (w : World) (t : ℕ) (fields : Fields) (m word : ℕ) (l : Known) (sam
 
   pub heads_turn : header (next w t l fields (with_word (Owner m) word w.words)) ≡ header w
   heads_turn = λ j. λ i. header_form (read_mark (marks w i)) (marks w i) (displaced_words w) (headers w) (inflation j i)
+
+-- so every clause holds after the step where it holds with these locks
+module _ {w : World} {t : ℕ} {l : Known} (P : List PlainObject) (step : IsStep w t l turning) (m word : ℕ) (same : inflation_in l.stage ≡ inflation_in (w.known t).stage) where
+  pub owner_turned : AllHold (turned_parts w (next w t l turning (with_word (Owner m) word w.words)) P (owned_locks w m word)) → Fits (stepped w t l (with_word (Owner m) word w.words)) P
+  owner_turned =
+      let z : World = next w t l turning (with_word (Owner m) word w.words) in
+      let stay = inflates_stay step same in
+      step_fits step (with_word (Owner m) word w.words) P (turned_parts w z P (owned_locks w m word))
+      (parts_turn w z P (owned_locks w m word) refl (λ u. refl) stay (locks_turn w t turning m word l stay) (heads_turn w t turning m word l stay) refl)

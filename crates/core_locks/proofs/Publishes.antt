@@ -1,12 +1,12 @@
 -- A thread publishes its length with one entry more, and so logs that entry.
-use Rattle.core_locks.proofs.Prelude.{◌≡◌, ◌≢◌, ℕ, ◌+◌, ◌<◌, ◌≤◌, ◌==◌, ◌&&◌, max, true, false, cond, List, [], ◌∷◌, ◌++◌, length, slice_set, Some, None, refl, sym, ap, ◌∙◌, subst, arith, inl, inr, if◌then◌else◌, append-nil, PlainMonitor, owns, only_if, calls, PlainObject, take_entry, take_at, with_monitor, Logged, last_stamp, Entry, Notify, NotifyAll, Print, Dump, Trap, Spent, Done, Value, bound_to, Safepoint, Slot, Length, StepPlan, names, is_halted, Known, World, with_known, logs_from, object_of, monitor_of, owner_at, hash_at, Stays, Purpose, with_stage, publish_plan, world_after, known_hit, seen_before, stamp_by, is_taking, Fits, SeenFit, DrawsFit, draw_in, SlotsFit, Shape, each_with_known, fits_running, Logs, LogsValid, MayPublish, MayTell, IsOwnEntry}
+use Rattle.core_locks.proofs.Prelude.{◌≡◌, ℕ, ◌+◌, ◌<◌, ◌≤◌, max, true, false, cond, List, [], ◌∷◌, ◌++◌, length, slice_set, Some, None, refl, sym, ap, ◌∙◌, subst, arith, inl, append-nil, PlainMonitor, owns, PlainObject, take_entry, take_at, Logged, last_stamp, Entry, Notify, NotifyAll, Print, Dump, Trap, Spent, Done, Value, bound_to, Safepoint, Slot, Length, StepPlan, names, is_halted, Known, World, with_known, logs_from, object_of, monitor_of, owner_at, hash_at, Purpose, with_stage, publish_plan, world_after, known_hit, seen_before, stamp_by, is_taking, Fits, DrawsFit, draw_in, SlotsFit, each_with_known, fits_running, Logs, LogsValid, MayPublish, MayTell, IsOwnEntry, Stage}
 use Rattle.plain_monitor.specs.Objects as plain
 use Rattle.core_locks.proofs.Logging.{length_more}
 use Rattle.core_locks.proofs.TellNobody.{nobody_waits}
 use Rattle.core_locks.proofs.TellTaken.{IsFreeToTell, IsTaken, owns_held, object_there, unbound_taken, owner_taken}
 use Rattle.core_locks.proofs.Tells.{IsTelling, tells_so, still_parts, still_are, told_step}
 use Rattle.core_locks.proofs.Clauses.{seen, lengths, AllHold}
-use Rattle.core_locks.proofs.OwnSeen.{own_seen}
+use Rattle.core_locks.proofs.OwnSeen.{length_uncounted, own_seen}
 use Rattle.core_locks.proofs.Steps.{announcing, IsStep, next, each_written, step_fits, seen_next, lengths_next}
 use Rattle.core_locks.proofs.Drawing.{draws_counted, draws_still}
 use Rattle.core_locks.proofs.Updates.{slots_stay}
@@ -31,18 +31,14 @@ quiet_owner P t o y m within own bound names untaking same taken =
 
 -- a notify where nobody waits
 notify_taken : (x : PlainObject) (t o : ℕ) → owns x.monitor t ≡ true → x.monitor.waits ≡ [] → take_at x t (Notify o None) ≡ Some x
-notify_taken x t o own none =
-    ap (with_monitor x) (ap (λ b. if b then calls x.monitor x.monitor.waits None else None) own ∙ ap (λ ps. calls x.monitor ps None) none)
+notify_taken x t o own none = rw (own, none) refl
 
 -- and a notify of all
 abbrev all_called : PlainMonitor → PlainMonitor
 all_called m = record m { waits = []; called = m.called ++ m.waits }
 
 notify_all_taken : (x : PlainObject) (t o n : ℕ) → owns x.monitor t ≡ true → x.monitor.waits ≡ [] → n ≡ 0 → take_at x t (NotifyAll o n) ≡ Some (record x { monitor = all_called x.monitor })
-notify_all_taken x t o n own none few =
-    ap (λ b. with_monitor x (only_if (b && (length x.monitor.waits == n)) (all_called x.monitor))) own
-    ∙ ap (λ ps. with_monitor x (only_if (length ps == n) (all_called x.monitor))) none
-    ∙ ap (λ k. with_monitor x (only_if (0 == k) (all_called x.monitor))) few
+notify_all_taken x t o n own none few = rw (own, none, few) refl
 
 nobody_called : (m : PlainMonitor) → m.waits ≡ [] → all_called m ≡ m
 nobody_called m none =
@@ -68,9 +64,6 @@ entry_quiet w P t v free (NotifyAll o n) h =
     (nobody_called (monitor_of P o) none) (notify_all_taken (object_of P o) t o n own none h.3)
 entry_quiet w P t v free _ h = absurd h
 
-may_free : (s : Shape) (k : Known) (y : Entry) → MayPublish s k y → IsFreeToTell k
-may_free s k y may = record { runs = may.runs; calm = may.calm; ready = may.ready; room = may.room }
-
 module _ (w : World) (P : List PlainObject) (t : ℕ) (e : Purpose) (y : Entry) (within : t < w.shape.threads) (free : IsFreeToTell (w.known t)) (own : IsOwnEntry (w.known t) y) (v : Fits w P) (b : IsQuiet P t y) where
   -- the step, at the stage at which the thread stands
   abbrev plan : StepPlan
@@ -85,14 +78,6 @@ module _ (w : World) (P : List PlainObject) (t : ℕ) (e : Purpose) (y : Entry) 
   abbrev x : World
   x = world_after plan t w
 
-  -- nobody counts on a length
-  uncounted : (u s : ℕ) → u ≢ t → Stays w (w.known u) (owner_at P) u (Length t) s → w.words (Length t) ≡ s → ⊥
-  uncounted u s d (inl a) is = a.1
-  uncounted u s d (inr a) is = a.2
-
-  seen_law : SeenFit x P
-  seen_law = let kept = ap (λ c. record { plan = plan; found = w.words (Length t) } ∷ cond c [] (seen_before w.shape (w.known t))) b.untaking in own_seen w P t plan (search (free.runs, kept, uncounted)) v
-
   step : IsStep w t l announcing
   step = record { within = within; mine = refl; others = λ k. refl }
 
@@ -106,7 +91,9 @@ module _ (w : World) (P : List PlainObject) (t : ℕ) (e : Purpose) (y : Entry) 
   drawn = draws_still w P b.now t told_entry l v tells.logs (draws_counted y (w.known t).draws) b.entry.undrawn
 
   all_after : AllHold (still_parts step tells x.words)
-  all_after seen = seen_next step x.words P seen_law
+  all_after seen =
+      let kept = ap (λ c. record { plan = plan; found = w.words (Length t) } ∷ cond c [] (seen_before w.shape (w.known t))) b.untaking in
+      seen_next step x.words P (own_seen w P t plan (search (free.runs, kept, length_uncounted w P t)) v)
   -- each length word is as its thread published it
   all_after lengths = record {
     few = (lengths_next step P (length_more (w.known t).log told_entry) free.room free.runs v).few;
@@ -117,14 +104,14 @@ module _ (w : World) (P : List PlainObject) (t : ℕ) (e : Purpose) (y : Entry) 
   }
   all_after c = told_step step tells v (subst (SlotsFit w.shape (λ i j. w.words (Slot i j))) b.slots v.slots) drawn c
 
-  published : Fits x b.now
-  published = step_fits step x.words b.now (still_parts step tells x.words) (still_are step tells b.entry.hashes x.words) all_after
-
   publishes : Logs w P t (publish_plan e t y (length (w.known t).log + 1)) y
-  publishes = record { now = b.now; taken = b.entry.taken; valid = inl (subst (λ stage. Fits (world_after (with_stage stage (publish_plan e t y (length (w.known t).log + 1))) t w) b.now) free.calm published) }
+  publishes =
+      let fits = step_fits step x.words b.now (still_parts step tells x.words) (still_are step tells b.entry.hashes x.words) all_after in
+      let moved : Stage → World = λ stage. world_after (with_stage stage (publish_plan e t y (length (w.known t).log + 1))) t w in
+      record { now = b.now; taken = b.entry.taken; valid = inl (subst (λ stage. Fits (moved stage) b.now) free.calm fits) }
 
 pub publish_law : (e : Purpose) (y : Entry) → LogsValid (λ w t. MayPublish w.shape (w.known t) y) (λ w t. publish_plan e t y (length (w.known t).log + 1)) y
 publish_law e y w P t within may is =
     let v = fits_running w P t may.runs is in
-    let free = may_free w.shape (w.known t) y may in
+    let free : IsFreeToTell (w.known t) = search may in
     publishes w P t e y within free may.own_entry v (entry_quiet w P t v free y may.tells)

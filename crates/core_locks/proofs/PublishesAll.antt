@@ -1,7 +1,7 @@
 -- A running thread in the middle of nothing publishes its whole log, and logs nothing.
-use Rattle.core_locks.proofs.Prelude.{◌≡◌, ◌≢◌, ℕ, ◌<◌, ◌≤◌, true, false, List, length, refl, subst, arith, inl, inr, PlainObject, Safepoint, Length, StepPlan, is_halted, Known, World, owner_at, Stays, Purpose, with_stage, publish_log_plan, world_after, known_hit, Fits, each_with_known, fits_running, KeepsValid, MayPublishLog}
+use Rattle.core_locks.proofs.Prelude.{◌≡◌, ℕ, ◌<◌, ◌≤◌, true, false, List, length, refl, subst, arith, inl, PlainObject, Safepoint, Length, StepPlan, is_halted, Known, World, Purpose, with_stage, publish_log_plan, world_after, known_hit, Fits, each_with_known, fits_running, KeepsValid, MayPublishLog}
 use Rattle.core_locks.proofs.Clauses.{kept_parts, parts_stand, seen, lengths, AllHold}
-use Rattle.core_locks.proofs.OwnSeen.{own_seen}
+use Rattle.core_locks.proofs.OwnSeen.{length_uncounted, own_seen}
 use Rattle.core_locks.proofs.Steps.{publishing, IsStep, next, each_written, step_fits, seen_next, quiet_step}
 
 module _ (w : World) (P : List PlainObject) (t : ℕ) (e : Purpose) (within : t < w.shape.threads) (runs : (w.known t).running ≡ true) (goes_on : e.unfinished ≡ (w.known t).unfinished) (v : Fits w P) where
@@ -14,11 +14,6 @@ module _ (w : World) (P : List PlainObject) (t : ℕ) (e : Purpose) (within : t 
   abbrev x : World
   x = world_after plan t w
 
-  -- nobody counts on a length
-  uncounted : (u s : ℕ) → u ≢ t → Stays w (w.known u) (owner_at P) u (Length t) s → w.words (Length t) ≡ s → ⊥
-  uncounted u s d (inl a) is = a.1
-  uncounted u s d (inr a) is = a.2
-
   step : IsStep w t l publishing
   step = record { within = within; mine = refl; others = λ k. refl }
 
@@ -26,7 +21,7 @@ module _ (w : World) (P : List PlainObject) (t : ℕ) (e : Purpose) (within : t 
   z = next w t l publishing x.words
 
   all_after : AllHold (kept_parts w z P)
-  all_after seen = seen_next step x.words P (own_seen w P t plan (search (runs, uncounted)) v)
+  all_after seen = seen_next step x.words P (own_seen w P t plan (search (runs, length_uncounted w P t)) v)
   -- the word is what the thread now stored, which is all of its log
   all_after lengths = record {
     few = v.lengths.few;

@@ -1,5 +1,6 @@
 -- A thread raises the stamp of an object that it is about to let go of.
-use Rattle.core_locks.proofs.Prelude.{◌≡◌, ◌≢◌, ℕ, ◌+◌, ◌<◌, ◌≤◌, max, eq-eqb, ne_eqb, Bool, true, false, cond, List, Some, refl, sym, ap, ◌∙◌, subst, arith, inl, inr, same_Some, cases_lt, owns, PlainObject, IsBounded, Stamp, StepPlan, hold_words_ahead, Known, local_of, World, logs, monitor_of, owner_at, Stays, Purpose, with_stage, raise_stamp_plan, next_stamp, world_after, known_hit, Fits, bound_stamp, lets_go, entries, IsAboutToLetGo, IsStampOf, by_equal, with_known_here, thread_is, fits_running, stamp_goes_on, KeepsValid, MayRaise}
+use Rattle.core_locks.proofs.Prelude.{◌≡◌, ◌≢◌, ℕ, ◌+◌, ◌<◌, ◌≤◌, max, true, false, List, Some, refl, sym, ap, ◌∙◌, subst, arith, inl, inr, same_Some, cases_lt, owns, PlainObject, IsBounded, Stamp, StepPlan, hold_words_ahead, Known, local_of, World, logs, monitor_of, owner_at, Stays, Purpose, with_stage, raise_stamp_plan, next_stamp, world_after, known_hit, Fits, bound_stamp, lets_go, entries, IsAboutToLetGo, IsStampOf, with_known_here, thread_is, fits_running, stamp_goes_on, KeepsValid, MayRaise}
+use Rattle.core_locks.proofs.MarkMeanings.{each_set}
 use Rattle.core_locks.proofs.StampsLogged.{about_lets, held_is}
 use Rattle.core_locks.proofs.WaitOut.{holder_owns}
 use Rattle.core_locks.proofs.Clauses.{kept_parts, parts_stand, seen, stamps, AllHold}
@@ -45,20 +46,13 @@ module _ (w : World) (P : List PlainObject) (t : ℕ) (e : Purpose) (o : ℕ) (w
 
   -- a fact of the stamp that is raised, and of the others
   at : (Q : ℕ → ℕ → Type 0) (i : ℕ) → Q o (max n s) → Q i (w.words (Stamp i)) → Q i (x.words (Stamp i))
-  at Q i here other = by_equal i o
-      (λ e. subst (λ j. Q j (x.words (Stamp j))) (sym e) (subst (λ (b : Bool). Q o (cond b (max n s) n)) (sym (eq-eqb o o refl)) here))
-      (λ d. subst (λ (b : Bool). Q i (cond b (max n s) (w.words (Stamp i)))) (sym (ne_eqb i o d)) other)
+  at Q i here other = each_set Q o (max n s) (λ i. w.words (Stamp i)) i here (λ d. other)
 
   -- the thread is about to let go, by its log
   about_to : IsAboutToLetGo e.unfinished (w.known t).log o
   about_to = elim may.letting [
     | inl waits ↦ inl waits
-    | inr exits ↦
-        let number = v.holds.number t o in
-        let calm = ap (λ s. hold_words_ahead s o) may.calm in
-        let held = held_is w P t within v o in
-        let one = exits.1 in
-        inr (exits.0, omega (arith, number, calm, held, one))
+    | inr exits ↦ inr (exits.0, omega (arith, v.holds.number t o, ap (λ s. hold_words_ahead s o) may.calm, held_is w P t within v o, exits.1))
   ]
 
   stays : (i : ℕ) → IsStampOf (λ u. (w.known u).log) (monitor_of P i).owner (λ u. (x.known u).unfinished) i (w.words (Stamp i))

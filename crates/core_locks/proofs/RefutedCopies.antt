@@ -1,9 +1,6 @@
 -- A displaced word that a running thread has seen, and may copy, is no other word meanwhile: where that thread inflates the lock that rests on the
 -- record, and where the record is its own.
-use Rattle.core_locks.proofs.Prelude.{◌≡◌, ◌≢◌, ◌⊎◌, ℕ, true, Some, refl, sym, ap, ◌∙◌, subst, inl, inr, Displaced, StepPlan, Inflates, inflation_in, Known, World, word_after, last_seen, world_after, Valid, with_known_else, with_word_there}
-use Rattle.core_world.specs.Clauses.SeenWords.{InMiddleOf}
-use Rattle.core_world.specs.Steps.{known_after}
-use Rattle.core_world.specs.Valid.{SeenFit}
+use Rattle.core_locks.proofs.Prelude.{◌≡◌, ◌≢◌, ◌⊎◌, ℕ, true, Some, refl, sym, ap, ◌∙◌, subst, inl, inr, Displaced, StepPlan, Inflates, inflation_in, Known, World, word_after, last_seen, world_after, Valid, with_known_else, with_word_there, InMiddleOf, known_after, SeenFit}
 
 module _ (w : World) (u r p t copied : ℕ) (plan : StepPlan) (other : u ≢ t) (runs : (w.known u).running ≡ true) (seen : last_seen (Displaced r p) (w.known u).seen ≡ Some copied) (at : plan.at ≡ Displaced r p)
     (differs : word_after plan.act (w.words plan.at) ≢ copied) (valid : Valid (world_after plan t w)) where

@@ -1,22 +1,5 @@
 -- No running thread exchanges a neutral mark for a place where it hasn't stored that mark as the displaced word.
-use Rattle.std.proofs.Common.{◌≡◌, ◌≢◌, ◌<◌, ℕ, true, List, refl, sym, ap, ◌∙◌, arith}
-use Rattle.std.proofs.lemmas.Option.{same_Some}
-use Rattle.mark_word.specs.declared.mark.MarkForm.TheVariants.{Neutral, Locked}
-use Rattle.mark_word.specs.Mark.{mark_of, read_mark}
-use Rattle.mark_word.proofs.ReadingMarks.{read_mark-spells}
-use Rattle.plain_monitor.specs.Objects.{PlainObject}
-use Rattle.plain_monitor.specs.History.{objects_after}
-use Rattle.core_world.specs.declared.name.Name.TheVariants.{Mark, Displaced}
-use Rattle.core_world.specs.declared.plan.StepPlan.{StepPlan}
-use Rattle.core_world.specs.declared.stage.Stage.TheVariants.{Seizes}
-use Rattle.core_world.specs.Words.Forms.{is_neutral, hash_in, hash_form}
-use Rattle.core_world.specs.World.{World}
-use Rattle.core_world.specs.Locks.{OnRecord, lock, marks, displaced_words, headers, inflations, hash_at}
-use Rattle.core_world.specs.Trees.Plans.{Purpose, with_stage, swap}
-use Rattle.core_world.specs.Steps.{world_after}
-use Rattle.core_world.specs.Valid.{Fits, Valid}
-use Rattle.core_world.proofs.KnowledgeParts.{with_known_here, logs_stay}
-use Rattle.core_world.proofs.OwnersShown.{running_fits, with_word_there, lock_by_form}
+use Rattle.core_locks.proofs.Prelude.{◌≡◌, ◌≢◌, ◌<◌, ℕ, true, List, refl, sym, ap, ◌∙◌, arith, same_Some, Neutral, Locked, mark_of, read_mark, read_mark-spells, PlainObject, objects_after, Mark, Displaced, StepPlan, Seizes, is_neutral, hash_in, hash_form, World, OnRecord, lock, marks, displaced_words, headers, inflations, hash_at, Purpose, with_stage, swap, world_after, Fits, Valid, with_known_here, logs_stay, running_fits, with_word_there, lock_by_form}
 use Rattle.core_locks.proofs.MarkMeanings.{neutral_is, neutral_header, locked_read, locked_header}
 use Rattle.core_locks.proofs.RefutedSteps.{knows, hit, swap_hits, hit_fits}
 

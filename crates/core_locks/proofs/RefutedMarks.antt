@@ -2,12 +2,12 @@
 use Rattle.core_locks.proofs.Prelude.{◌≡◌, ◌≢◌, ℕ, ◌||◌, Bool, true, false, List, Option, Some, None, refl, sym, ap, ◌∙◌, subst, inl, inr, read_mark, is_thread, PlainObject, Name, Mark, Owner, Header, StepPlan, Stage, Calm, Seizes, Inflates, is_neutral, is_biased, hash_in, monitor_in, Inflation, inflation_in, bears, Known, World, with_word_and_known, Open, OnRecord, lock, header, header_form, marks, displaced_words, headers, owner_words, prototype_of, inflations, who, holder, hold_count, owner_at, hash_at, Purpose, with_stage, store, swap, world_after, Fits, by_equal, with_known_here, with_known_else, each_with_known, same_Some, mark_zero, thread_is, arith, MarkForm, Inflating, Neutral, Anonymous, Biased, Locked, Inflated, Marked, OwnerForm, Free, ByThread, ByRecord, mark_of, read_owner, owner_of, read_mark-spells, monitor_form, is_biased_form, owner_lock, lock_form, with_own, Valid, IsMark, IsOwner, running_fits, lock_by_form, with_word_there, same_number}
 use Rattle.mark_word.proofs.ReadingOwners.{read_owner-spells}
 use Rattle.core_world.specs.declared.plan.Own.TheVariants.{Spend}
+use Rattle.core_locks.proofs.WaitOut.{neither}
 use Rattle.core_locks.proofs.MarkChanges.{mark_else}
 use Rattle.core_locks.proofs.MarkMeanings.{neutral_lock, neutral_header, locked_word}
 use Rattle.core_locks.proofs.RefutedInflations.{inflated_form_of, header_is_neutral, same_header, inflated_mark, inflating_lock, same_record}
 use Rattle.core_locks.proofs.RefutedSilent.{same_objects, others_have, holder_stays}
 use Rattle.core_locks.proofs.RefutedSteps.{knows, swap_hits, hit_fits}
-use Rattle.core_locks.proofs.Seizes.{neither}
 
 -- what a thread knows of its holds, and where it stands, that is calm now
 holds_stay : (w : World) (t : ℕ) (l : Known) (u : ℕ) → l.holds ≡ (w.known t).holds → ((with_word_and_known (Mark 0) 0 t l w).known u).holds ≡ (w.known u).holds

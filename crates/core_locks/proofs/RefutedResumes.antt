@@ -1,7 +1,6 @@
 -- A thread is on the list of those who were notified until it logs its own Resume: others' entries leave it there. So a Resume isn't taken from a
 -- thread that nobody called, wherever in the order its stamp puts it.
-use Rattle.core_locks.proofs.Prelude.{◌≡◌, ◌≢◌, ℕ, ◌+◌, ◌-◌, ◌<◌, ◌==◌, ◌&&◌, ◌||◌, nat_le, nat_lt, Bool, true, false, if◌then◌else◌, List, [], ◌∷◌, ◌++◌, length, slice_get, slice_set, Option, Some, None, is_none, refl, sym, ap, ◌∙◌, arith, inl, inr, same_Some, max, Entry, Enter, Exit, Get, Put, Wait, Resume, Notify, NotifyAll, Hash, Logged, owns, is_listed, count_of, only_if, calls, without, resumed, PlainObject, take_at, take_entry, take_named, with_monitor, hashed, taken_at, last_stamp, log_of, objects_after, Stamp, Waiting, StepPlan, Resumes, World, logs, notified_at, says_notified, Purpose, logging_plan, Load, world_after, Valid, by_equal, logs_length, log_at, logs_grow, running_fits}
-use Rattle.plain_monitor.specs.Monitor.{PlainMonitor, enter, exit, is_outside}
+use Rattle.core_locks.proofs.Prelude.{◌≡◌, ◌≢◌, ℕ, ◌+◌, ◌-◌, ◌<◌, ◌==◌, ◌&&◌, ◌||◌, nat_le, nat_lt, Bool, true, false, if◌then◌else◌, List, [], ◌∷◌, ◌++◌, length, slice_get, slice_set, Option, Some, None, is_none, refl, sym, ap, ◌∙◌, arith, inl, inr, same_Some, max, Entry, Enter, Exit, Get, Put, Wait, Resume, Notify, NotifyAll, Hash, Logged, owns, is_listed, count_of, only_if, calls, without, resumed, PlainObject, take_at, take_entry, take_named, with_monitor, hashed, taken_at, last_stamp, log_of, objects_after, Stamp, Waiting, StepPlan, Resumes, World, logs, notified_at, says_notified, Purpose, logging_plan, Load, world_after, Valid, by_equal, logs_length, log_at, logs_grow, running_fits, PlainMonitor, enter, exit, is_outside}
 use Rattle.plain_monitor.specs.Objects.{named, has_value}
 use Rattle.plain_history.proofs.Swaps.{elsewhere, hash_taken}
 use Rattle.plain_history.proofs.Without.{without_others}

@@ -1,11 +1,7 @@
 -- A shot that shows a thread as an owner without its enter, or that differs from its own cut of the logs, is right over no logs.
-use Rattle.core_locks.proofs.Prelude.{◌≡◌, ◌≢◌, ℕ, zero, suc, ◌+◌, ◌<◌, Bool, true, false, cond, List, [], ◌∷◌, ◌++◌, length, slice_index, Option, Some, None, refl, sym, ap, ◌∙◌, subst, arith, same_Some, eq-eqb, is_thread, PlainObject, Logged, Name, Safepoint, World, logs, world_after, known_hit, monitor_of, Purpose, one_if}
+use Rattle.core_locks.proofs.Prelude.{◌≡◌, ◌≢◌, ℕ, zero, suc, ◌+◌, ◌<◌, Bool, true, false, cond, List, [], ◌∷◌, ◌++◌, length, slice_index, Option, Some, None, refl, sym, ap, ◌∙◌, subst, arith, same_Some, eq-eqb, is_thread, PlainObject, Logged, Name, Safepoint, World, logs, world_after, known_hit, monitor_of, Purpose, one_if, AllByRecursion, LegalObjects, objects_after, log_of, Entry, Enter, Exit, Shape, Valid, logs_stay, log_at, keep_shot_plan}
 use Rattle.std.proofs.Common.{slice_get, take}
 use Rattle.std.specs.Prelude.{MatchOption}
-use Rattle.std.specs.List.{AllByRecursion}
-use Rattle.plain_monitor.specs.History.{LegalObjects, objects_after, log_of}
-use Rattle.plain_monitor.specs.declared.entry.Entry.{Entry}
-use Rattle.plain_monitor.specs.declared.entry.Entry.TheVariants.{Enter, Exit}
 use Rattle.plain_monitor.specs.Objects.{new_object}
 use Rattle.plain_monitor.proofs.Lists.{all_or}
 use Rattle.plain_history.specs.HeldByLog.{held_by, held_after, nothing_held}
@@ -14,12 +10,8 @@ use Rattle.plain_history.proofs.HeldByLog.{holds_by_log}
 use Rattle.plain_history.proofs.SoundHistories.{history_sound}
 use Rattle.plain_history.proofs.SoundSteps.{free_sound}
 use Rattle.core_world.specs.Threads.Known.{DumpShot}
-use Rattle.core_world.specs.Words.Shape.{Shape}
 use Rattle.core_world.specs.Shots.{IsRightShot, cell_in, cells_of, cut_logs}
 use Rattle.core_world.specs.Steps.{shot_of, owner_and_count_in, cells_from, seen_words}
-use Rattle.core_world.specs.Valid.{Valid}
-use Rattle.core_world.proofs.KnowledgeParts.{logs_stay, log_at}
-use Rattle.core_world.specs.Trees.LookSteps.{keep_shot_plan}
 use Rattle.core_locks.specs.ShotLaws.{enters}
 use Rattle.core_locks.proofs.Shoots.{shot_kept}
 use Rattle.core_locks.proofs.ValidShots.{valid_shots}

@@ -1,8 +1,9 @@
 -- A thread that was notified and has the object's monitor again loads the object's stamp, and so logs its Resume.
-use Rattle.core_locks.proofs.Prelude.{◌≡◌, ℕ, ◌+◌, ◌<◌, ◌||◌, true, false, cond, List, slice_set, Some, None, refl, sym, ap, ◌∙◌, arith, inl, inr, is_none, or-true, same_Some, read_owner, owner_of, ByThread, read_owner-owner_of, PlainMonitor, is_thread, is_listed, count_of, only_if, without, resume, resumed, PlainObject, with_monitor, Resume, Mark, Stamp, Owner, Recursions, monitor_in, bears, hold_words_ahead, World, OwnedBy, lock, marks, displaced_words, owner_words, recursion_count, holds_by_monitor, object_of, monitor_of, owner_at, waits_at, notified_at, or_zero, IsOwnMonitor, Purpose, logging_plan, Fits, Load, same_number, sound, unlisted_count, outside_standing, listed_count, owner_standing, fits_running, Logs, MayLogResume, LogsValid, log_resume_plan}
+use Rattle.core_locks.proofs.Prelude.{◌≡◌, ℕ, ◌+◌, ◌<◌, ◌||◌, true, false, cond, List, Some, None, refl, sym, ap, ◌∙◌, arith, inl, inr, is_none, or-true, same_Some, PlainMonitor, is_thread, is_listed, count_of, only_if, without, resume, resumed, PlainObject, with_monitor, Resume, Recursions, monitor_in, bears, hold_words_ahead, World, OwnedBy, lock, marks, displaced_words, recursion_count, holds_by_monitor, object_of, monitor_of, owner_at, waits_at, notified_at, or_zero, IsOwnMonitor, Purpose, Fits, same_number, sound, unlisted_count, outside_standing, listed_count, owner_standing, fits_running, MayLogResume, LogsValid, log_resume_plan, lets_go, IsOwnEntry, []}
+use Rattle.core_locks.proofs.HoldWays.{saw_inflated}
 use Rattle.core_locks.proofs.WaitOut.{fails}
-use Rattle.core_locks.proofs.EnterTakes.{IsTaking, ready_unwaiting, owner_or_taker}
-use Rattle.core_locks.proofs.EnterFits.{taken, taking_fits}
+use Rattle.core_locks.proofs.EnterTakes.{IsTaking, IsTakingAt, ready_unwaiting, owner_or_taker}
+use Rattle.core_locks.proofs.EnterFits.{taking_logs}
 use Rattle.plain_history.proofs.Without.{listed_has_count, without_unlisted, without_others}
 
 module _ (w : World) (P : List PlainObject) (t o m : ℕ) (within : t < w.shape.threads) (may : MayLogResume w.shape (w.known t) o m) (v : Fits w P) where
@@ -47,59 +48,33 @@ module _ (w : World) (P : List PlainObject) (t o m : ℕ) (within : t < w.shape.
   number =
       let waits = unlisted_count (waits_at P o) t unwaiting in
       let gone = unlisted_count (without (notified_at P o) t) t (without_unlisted (notified_at P o) t) in
-      let now = ap (λ b. cond b n 0) (same_number t) in
       let before = outside_standing (monitor_of P o) t not_owner in
-      let kept = ap or_zero count in
-      omega (arith, waits, gone, now, before, kept, ap (λ s. hold_words_ahead s o) may.stage)
+      omega (arith, waits, gone, ap (λ b. cond b n 0) (same_number t), before, ap or_zero count, ap (λ s. hold_words_ahead s o) may.stage)
 
   -- the mark names the monitor that the thread saw, which is its own
   mark : monitor_in (marks w o) ≡ Some m
-  mark = ap monitor_in (v.seen.stays t (Mark o) may.inflated.0 may.inflated.1 (inl (may.runs, inr (inl (m, may.inflated.2))))) ∙ may.inflated.2
+  mark = saw_inflated w P t o may.runs v m may.inflated
 
   own : IsOwnMonitor w (w.known t) (owner_at P) t m
   own = (o, mark, ap (λ b. owner_at P o t || b) borne ∙ or-true (owner_at P o t))
 
-  -- so the owner word still says so
-  thread_owns : read_owner (owner_words w m) ≡ Some (ByThread t)
-  thread_owns =
-      let word : w.words (Owner m) ≡ owner_of (ByThread t) = v.seen.stays t (Owner m) (owner_of (ByThread (w.known t).thread)) may.owner (inl (may.runs, inr own)) ∙ ap (λ u. owner_of (ByThread u)) (v.numbered t) in
-      let few : t < 32 = let b = v.limits.threads in omega (arith, within, b) in
-      ap read_owner word ∙ read_owner-owner_of (ByThread t) few
-
-  -- and the recursions are still what it saved: how many of its records were made through the monitor
+  -- the recursions are still what it saved: how many of its records were made through the monitor
   recursions : (b : ℕ) → monitor_in (marks w o) ≡ Some b → lock w o ≡ OwnedBy t → w.words (Recursions b) ≡ recursion_count o (displaced_words w t) (w.known t).holds
   recursions b h g =
       let same : b ≡ m = same_Some _ _ (sym h ∙ mark) in
       ap (λ c. w.words (Recursions c)) same ∙ v.seen.stays t (Recursions m) (w.known t).saved may.recursions (inl (may.runs, inr own)) ∙ v.recursions.waiting o t (inr called)
 
   pub is_taking : IsTaking w P t o (Resume o) after
-  is_taking = record {
-    within = within;
-    object = may.object;
-    runs = may.runs;
-    stage = inr may.stage;
-    ready = may.ready;
-    room = may.room;
-    own_entry = record { operation = inr (v.waits.unfinished t o (inr called)); shot = tt };
-    even = λ h. absurd (cc (unowned, h));
-    taking = refl;
-    tied = refl;
-    takes = ap (with_monitor (object_of P o)) resumes;
-    owner = refl;
-    number = number;
-    waits = refl;
-    uncalled = without_unlisted (notified_at P o) t;
-    others = λ u d. without_others (notified_at P o) t u d;
-    nobody = λ h. ap (λ ps. without ps t) h;
-    recursions = recursions;
-  }
-
-  pub resume_logs : (e : Purpose) → Logs w P t (logging_plan (Resume o) e (Stamp o) Load) (Resume o)
-  resume_logs e = record {
-    now = slice_set P o (record (object_of P o) { monitor = after });
-    taken = taken w P t o (Resume o) e after is_taking v;
-    valid = inl (taking_fits w P t o (Resume o) e after is_taking v);
-  }
+  is_taking =
+      let even : (monitor_of P o).owner ≡ Some t → lets_go (w.known t).unfinished o ≡ false = λ h. absurd (cc (unowned, h)) in
+      let stage : IsTakingAt (w.known t).stage o = inr may.stage in
+      let own_entry : IsOwnEntry (w.known t) (Resume o) = record { operation = inr (v.waits.unfinished t o (inr called)); shot = tt } in
+      let nobody : notified_at P o ≡ [] → without (notified_at P o) t ≡ [] = λ h. ap (λ ps. without ps t) h in
+      let takes = ap (with_monitor (object_of P o)) resumes in
+      let gone = without_unlisted (notified_at P o) t in
+      search (within, stage, takes, even, own_entry, number, gone, without_others (notified_at P o) t, nobody, recursions, may)
 
 pub logging_a_resume : (e : Purpose) (o m : ℕ) → LogsValid (λ w t. MayLogResume w.shape (w.known t) o m) (λ w t. log_resume_plan e o) (Resume o)
-logging_a_resume e o m w P t within may valid = resume_logs w P t o m within may (fits_running w P t may.runs valid) e
+logging_a_resume e o m w P t within may valid =
+    let v = fits_running w P t may.runs valid in
+    taking_logs w P t o (Resume o) e (after w P t o m within may v) (is_taking w P t o m within may v) v

@@ -1,5 +1,5 @@
 -- The safepoint word with one thread's bit set or cleared.
-use Rattle.core_locks.proofs.Prelude.{◌≡◌, ◌≢◌, ℕ, ◌+◌, ◌<◌, ◌≤◌, ◌^◌, ◌==◌, nat_lt, Bool, true, false, Option, Some, None, refl, sym, ap, ◌∙◌, subst, arith, eqb-true, ◌-◌, IfSome, bit_and, ◌*◌, nat_tests, pow_below, and_comm, and-not, or_disjoint, or_lt, bit_at-zero, bit_at-pow_same, bit_at-pow_other, bit_at-lt, bit_at_above, bit_at_and, bit_at_or, bit_at_not, bit_at_cat_low, and_pow, same_from_bits_below, SafeForm, safe_of, IsSafeInRange, requester_of, halt_of, runs_form, all_but}
+use Rattle.core_locks.proofs.Prelude.{◌≡◌, ◌≢◌, ℕ, ◌+◌, ◌<◌, ◌^◌, ◌==◌, Bool, true, false, Option, Some, None, sym, ap, ◌∙◌, subst, arith, eqb-true, ◌-◌, IfSome, bit_and, ◌*◌, nat_tests, pow_below, and_comm, and-not, or_disjoint, or_lt, bit_at-zero, bit_at-pow_same, bit_at-pow_other, bit_at-lt, bit_at_above, bit_at_and, bit_at_or, bit_at_not, bit_at_cat_low, and_pow, same_from_bits_below, SafeForm, safe_of, IsSafeInRange, requester_of, halt_of, runs_form, all_but, cases_lt, inl, inr}
 use Rattle.std.specs.Int.{bit_at}
 use Rattle.std.specs.Int.RustNames.{bit_or}
 use mir.Syntax.{w64}
@@ -18,24 +18,17 @@ module _ (n t : ℕ) (small : n < 2 ^ 64) (within : t < 64) where
 
   -- its other bits stay
   cleared_other : (i : ℕ) → bit_at n t ≡ 1 → i ≢ t → bit_at (n - 2 ^ t) i ≡ bit_at n i
-  cleared_other i e d = by_size (nat_lt i 64) refl
-    where
-      by_size : (b : Bool) → nat_lt i 64 ≡ b → bit_at (n - 2 ^ t) i ≡ bit_at n i
-      by_size true h =
-          let low : i < 64 = grind (arith, nat_tests, h) in
-          let mask = bit_at_not w64 (2 ^ t) i (pow_below t 64 within) low in
-          let none = bit_at-pow_other t i d in
-          let bit = bit_at-lt n i in
-          ap (λ m. bit_at m i) (cleared_is e) ∙ omega (arith, bit_at_and n (all_but t) i, mask, none, bit)
-      by_size false h =
-          let high : 64 ≤ i = grind (arith, nat_tests, h) in
-          bit_at_above (n - 2 ^ t) 64 i (omega arith) high ∙ sym (bit_at_above n 64 i small high)
+  cleared_other i e d = elim (cases_lt i 64) [
+    | inl low ↦
+        let mask = bit_at_not w64 (2 ^ t) i (pow_below t 64 within) low in
+        ap (λ m. bit_at m i) (cleared_is e) ∙ omega (arith, bit_at_and n (all_but t) i, mask, bit_at-pow_other t i d, bit_at-lt n i)
+    | inr high ↦ bit_at_above (n - 2 ^ t) 64 i (omega arith) high ∙ sym (bit_at_above n 64 i small high)
+  ]
 
   cleared_bit : bit_at n t ≡ 1 → bit_at (n - 2 ^ t) t ≡ 0
   cleared_bit e =
       let mask = bit_at_not w64 (2 ^ t) t (pow_below t 64 within) within in
-      let one = bit_at-pow_same t in
-      ap (λ m. bit_at m t) (cleared_is e) ∙ omega (arith, bit_at_and n (all_but t) t, mask, one)
+      ap (λ m. bit_at m t) (cleared_is e) ∙ omega (arith, bit_at_and n (all_but t) t, mask, bit_at-pow_same t)
 
   -- a number that lacks the bit, with the bit set
   set_is : bit_at n t ≡ 0 → n + 2 ^ t ≡ bit_or n (2 ^ t)
@@ -103,6 +96,5 @@ module _ (f : SafeForm) (t : ℕ) (range : IsSafeInRange f) (within : t < 32) wh
     where
       word_small : (r : Option ℕ) (h : Bool) → IfSome r (λ thread. thread < 32) → f.running + requester_of r * 2 ^ 32 + halt_of h * 2 ^ 40 < 2 ^ 64
       word_small None true k = omega (arith, range.0)
-      word_small None false k = omega (arith, range.0)
       word_small (Some u) true k = omega (arith, range.0)
-      word_small (Some u) false k = omega (arith, range.0)
+      word_small _ _ k = omega (arith, range.0)

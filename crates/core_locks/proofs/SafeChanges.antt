@@ -1,8 +1,7 @@
 -- A step that changes the safepoint word keeps every clause, by the state that the word spelled and the one that it spells then.
-use Rattle.core_locks.proofs.Prelude.{◌≡◌, ◌≢◌, ℕ, ◌<◌, ◌&&◌, ◌||◌, Bool, true, false, List, ◌∷◌, length, Some, None, refl, sym, ap, ◌∙◌, subst, inl, inr, IfSome, SafeForm, safe_of, read_safe, IsSafeInRange, read_safe-safe_of, is_thread, PlainObject, Safepoint, Waiting, Calm, says_ended, is_halted, asks_in, runs_form, runs_in, requester_form, requester_in, halted_form, word_after, hits, Known, StepMade, World, with_word_and_known, with_known, monitor_of, owner_at, waits_at, Purpose, quiet_plan, world_after, known_hit, seen_before, kept_by_act, reached_after, runs_after, asks_after, Fits, SeenFit, ends, IsStuck, IsSafepoint, Act, each_with_known, part_moves, stays_back, Spares, seen_moves, Counts, GoesOn}
-use Rattle.core_locks.proofs.SafeFacts.{hit_moved}
+use Rattle.core_locks.proofs.Prelude.{◌≡◌, ◌≢◌, ℕ, ◌<◌, ◌&&◌, ◌||◌, Bool, true, false, List, ◌∷◌, length, Some, None, refl, sym, ap, ◌∙◌, subst, inl, inr, IfSome, SafeForm, safe_of, read_safe, IsSafeInRange, read_safe-safe_of, is_thread, PlainObject, Safepoint, Waiting, Calm, says_ended, is_halted, asks_in, runs_form, runs_in, requester_form, requester_in, halted_form, word_after, hits, Known, StepMade, World, with_word_and_known, with_known, monitor_of, owner_at, waits_at, Purpose, quiet_plan, world_after, known_hit, seen_before, kept_by_act, reached_after, runs_after, asks_after, Fits, SeenFit, ends, IsStuck, IsSafepoint, Act, each_with_known, part_moves, Spares, seen_moves, Counts, GoesOn}
 use Rattle.core_locks.proofs.Clauses.{kept_parts, parts_stand, absent, seen, forms, safe, quiet as calmly, waits, stamps, shots, lengths, AllHold, clauses}
-use Rattle.core_locks.proofs.OwnSeen.{back_by}
+use Rattle.core_locks.proofs.OwnSeen.{other_back, hit_moved}
 use Rattle.core_locks.proofs.Steps.{asking, IsStep, next, step_fits, seen_next, absent_next, waits_go_on, stamps_go_on, dumps_go_on}
 
 -- a halt by thread t: nobody runs, and the threads are stuck
@@ -22,9 +21,10 @@ pub record Changes (w : World) (P : List PlainObject) (t : ℕ) (e : Purpose) (a
   pub hit : hits act (w.words Safepoint) ≡ true
   pub left : word_after act (w.words Safepoint) ≡ safe_of g
   -- an act that changes the word tells its thread what the word says of it
-  pub runs : runs_after Safepoint act (word_after act (w.words Safepoint)) (w.known t) ≡ runs_in (word_after act (w.words Safepoint)) (w.known t).thread
-  pub asks : asks_after Safepoint act (word_after act (w.words Safepoint)) (w.known t) ≡ asks_in (word_after act (w.words Safepoint)) (w.known t).thread
-  pub reaches : reached_after Safepoint act (word_after act (w.words Safepoint)) (w.known t) ≡ ((w.known t).reached && asks_in (word_after act (w.words Safepoint)) (w.known t).thread)
+  pub told : (runs_after Safepoint act (word_after act (w.words Safepoint)) (w.known t) ≡ runs_in (word_after act (w.words Safepoint)) (w.known t).thread)
+      × (asks_after Safepoint act (word_after act (w.words Safepoint)) (w.known t) ≡ asks_in (word_after act (w.words Safepoint)) (w.known t).thread)
+      × (reached_after Safepoint act (word_after act (w.words Safepoint)) (w.known t)
+      ≡ ((w.known t).reached && asks_in (word_after act (w.words Safepoint)) (w.known t).thread))
   pub calm : (w.known t).stage ≡ Calm
   pub goes_on : GoesOn (w.known t) e
   pub was : read_safe (w.words Safepoint) ≡ Some f
@@ -35,8 +35,7 @@ pub record Changes (w : World) (P : List PlainObject) (t : ℕ) (e : Purpose) (a
   pub others_run : (u : ℕ) → u ≢ t → runs_form (Some g) u ≡ runs_form (Some f) u
   pub others_ask : (u : ℕ) → u ≢ t → is_thread g.requester u ≡ is_thread f.requester u
   -- no safepoint is reached any more
-  pub others_unreached : (u : ℕ) → u ≢ t → (w.known u).reached ≡ true → ⊥
-  pub unreached : (w.known t).reached ≡ true → is_thread g.requester t ≡ true → ⊥
+  pub unreached : (u : ℕ) → (w.known u).reached ≡ true → (u ≡ t → is_thread g.requester t ≡ true) → ⊥
   pub halts : g.halted ≡ true → (known_then w t e act).running ≡ runs_form (Some g) t → Halts w P t (safe_of g) (known_then w t e act)
   pub published : runs_form (Some g) t ≡ false → is_thread g.requester t ≡ false → g.halted ≡ false → (w.known t).published ≡ length (w.known t).log
   pub ended : ends (w.known t).log ≡ true → runs_form (Some g) t ≡ false → says_ended (w.words (Waiting t)) ≡ true
@@ -69,21 +68,13 @@ module _ (w : World) (P : List PlainObject) (t : ℕ) (e : Purpose) (act : Act) 
 
   -- what the thread knows is what the word says of it
   runs_known : l.running ≡ runs_form (Some g) t
-  runs_known =
-      let word = c.left in
-      let thread = v.numbered t in
-      let same : runs_in (word_after act (w.words Safepoint)) (w.known t).thread ≡ runs_in (safe_of g) t = λ i. runs_in (word i) (thread i) in
-      c.runs ∙ same ∙ runs_now t
+  runs_known = c.told.0 ∙ (λ i. runs_in (c.left i) (v.numbered t i)) ∙ runs_now t
 
   asks_same : asks_in (word_after act (w.words Safepoint)) (w.known t).thread ≡ is_thread g.requester t
-  asks_same =
-      let word = c.left in
-      let thread = v.numbered t in
-      let same : asks_in (word_after act (w.words Safepoint)) (w.known t).thread ≡ asks_in (safe_of g) t = λ i. asks_in (word i) (thread i) in
-      same ∙ asks_now t
+  asks_same = (λ i. asks_in (c.left i) (v.numbered t i)) ∙ asks_now t
 
   asks_known : l.requesting ≡ is_thread g.requester t
-  asks_known = c.asks ∙ asks_same
+  asks_known = c.told.1 ∙ asks_same
 
   unhalted_before : is_halted (w.words Safepoint) ≡ false
   unhalted_before = ap halted_form c.was ∙ c.unhalted
@@ -97,8 +88,9 @@ module _ (w : World) (P : List PlainObject) (t : ℕ) (e : Purpose) (act : Act) 
 
   unreached : (u : ℕ) → (with_known t l w.known u).reached ≡ true → ⊥
   unreached u = each_with_known (λ u y. y.reached ≡ true → ⊥) t l w.known u
-      (λ r. let a = both_true (w.known t).reached (asks_in (word_after act (w.words Safepoint)) (w.known t).thread) (sym c.reaches ∙ r) in c.unreached a.0 (sym asks_same ∙ a.1))
-      (λ d r. c.others_unreached u d r)
+      (λ r. let a = both_true (w.known t).reached (asks_in (word_after act (w.words Safepoint)) (w.known t).thread) (sym c.told.2 ∙ r) in c.unreached t a.0
+      (λ s. sym asks_same ∙ a.1))
+      (λ d r. c.unreached u r (λ s. absurd (d s)))
 
   step : IsStep w t l asking
   step = record { within = within; mine = λ i. record l { stage = sym c.calm i }; others = λ k. refl }
@@ -109,7 +101,7 @@ module _ (w : World) (P : List PlainObject) (t : ℕ) (e : Purpose) (act : Act) 
   -- the others count on what they counted on, which is never the safepoint word
   spares : Spares Safepoint (safe_of g) t l w (owner_at P) (owner_at P) (waits_at P) (waits_at P)
   spares = record {
-    before = λ u n s d seen. stays_back w x (w.known u) (w.known u) (owner_at P) (owner_at P) u (back_by w x (w.known u) (w.known u) (owner_at P) (owner_at P) u refl refl (λ h. h) refl refl (λ h. h) refl (λ o h. h) (λ o m g h. h)) n s;
+    before = λ u n s d seen. other_back w x (w.known u) (owner_at P) (owner_at P) u refl refl (λ i h. h) n s;
     owned = λ u o d h. h;
     word = λ u s d st was. elim st [ inl a ↦ absurd a.1 | inr a ↦ absurd a.2 ];
     bias = λ o h. h;
@@ -166,5 +158,5 @@ module _ (w : World) (P : List PlainObject) (t : ℕ) (e : Purpose) (act : Act) 
 
   pub changed_fits : Fits (world_after (quiet_plan e Safepoint act) t w) P
   changed_fits =
-      hit_moved w P t e act c.hit (subst (λ n. Fits (with_word_and_known Safepoint n t l w) P) (sym c.left)
+      hit_moved w P t (quiet_plan e Safepoint act) c.hit (subst (λ n. Fits (with_word_and_known Safepoint n t l w) P) (sym c.left)
       (step_fits step x.words P (kept_parts w z P) (parts_stand w z P refl (λ u. refl) (λ u. refl) refl refl refl (λ e. refl)) all_after))

@@ -1,5 +1,5 @@
 -- What a thread goes on to count on after its step on the safepoint word.
-use Rattle.core_locks.proofs.Prelude.{◌≡◌, ℕ, Bool, true, false, List, [], ap, ◌∙◌, inl, inr, PlainObject, Name, Safepoint, Prototype, Mark, Stamp, Slot, Hold, Displaced, Waiting, Length, Owner, Recursions, Header, Object, Claim, Revocations, LastBulk, is_biased, monitor_in, waits_on, Known, StepMade, World, owner_at, waits_at, StaysWhileRunning, StaysWhileAsking, only_headers, is_header, Fits, SeenFit, IsOfMonitor, headers_are_part, Counts, IsPart, counts_anew, unwaited_fits}
+use Rattle.core_locks.proofs.Prelude.{◌≡◌, ℕ, Bool, true, false, List, [], ap, ◌∙◌, inl, inr, PlainObject, Name, Safepoint, Prototype, Mark, Waiting, Revocations, LastBulk, is_biased, monitor_in, waits_on, Known, StepMade, World, owner_at, waits_at, StaysWhileRunning, StaysWhileAsking, only_headers, is_header, Fits, SeenFit, IsOfMonitor, headers_are_part, Counts, IsPart, counts_anew, unwaited_fits}
 
 module _ (w : World) (P : List PlainObject) (t word : ℕ) (l : Known) where
   -- the safepoint word is of no monitor
@@ -12,18 +12,7 @@ module _ (w : World) (P : List PlainObject) (t word : ℕ) (l : Known) where
   asking_runs owner (Revocations c) s h = tt
   asking_runs owner (LastBulk c) s h = tt
   asking_runs owner (Mark o) s h = inl h
-  asking_runs owner Safepoint s h = absurd h
-  asking_runs owner (Stamp o) s h = absurd h
-  asking_runs owner (Slot o i) s h = absurd h
-  asking_runs owner (Hold u p) s h = absurd h
-  asking_runs owner (Displaced u p) s h = absurd h
-  asking_runs owner (Waiting u) s h = absurd h
-  asking_runs owner (Length u) s h = absurd h
-  asking_runs owner (Owner m) s h = absurd h
-  asking_runs owner (Recursions m) s h = absurd h
-  asking_runs owner (Header m) s h = absurd h
-  asking_runs owner (Object m) s h = absurd h
-  asking_runs owner Claim s h = absurd h
+  asking_runs owner _ s h = absurd h
 
   -- a thread that ran, and runs no more: what it counts on, since its request stands, it could count on while it ran
   pub counts_stopped : (old : List StepMade) → IsPart old (w.known t).seen → (w.known t).running ≡ true → l.running ≡ false → SeenFit w P → Counts Safepoint word t l w (owner_at P) (waits_at P) old

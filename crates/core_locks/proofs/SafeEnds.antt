@@ -38,6 +38,10 @@ module _ (w : World) (P : List PlainObject) (t : ℕ) (e : Purpose) (within : t 
   others_unasking : (u : ℕ) → u ≢ t → is_thread None u ≡ is_thread (Some t) u
   others_unasking u d = sym (ne_eqb t u (λ s. d (sym s)))
 
+  -- no other safepoint was reached, and the thread asks no more
+  reached_no_more : (u : ℕ) → (w.known u).reached ≡ true → (u ≡ t → false ≡ true) → ⊥
+  reached_no_more u r a = by_equal u t (λ s. cc (a s)) (λ d. one_reached w P t u v.safe reached d r)
+
   -- whether the word that it stores has its request
   abbrev asks_after : ℕ → Bool
   asks_after word = asks_in (word_after (Swap (reached_word t) word) (w.words Safepoint)) (w.known t).thread
@@ -55,9 +59,7 @@ module _ (w : World) (P : List PlainObject) (t : ℕ) (e : Purpose) (within : t 
       record {
         hit = found;
         left = left (released_word t);
-        runs = refl;
-        asks = refl;
-        reaches = refl;
+        told = (refl, refl, refl);
         calm = may.calm;
         goes_on = inl may.goes_on;
         was = reached_reads w P t v reached;
@@ -66,8 +68,7 @@ module _ (w : World) (P : List PlainObject) (t : ℕ) (e : Purpose) (within : t 
         here = tt;
         others_run = λ u d. ap (λ n. n == 1) (bit_at-pow_other t u d) ∙ sym (nobody_ran u);
         others_ask = others_unasking;
-        others_unreached = λ u d r. one_reached w P t u v.safe reached d r;
-        unreached = λ r a. absurd (cc a);
+        unreached = reached_no_more;
         halts = λ h r. absurd (cc h);
         published = λ r a h. absurd (cc (r, runs));
         ended = λ a r. absurd (cc (r, runs));
@@ -80,9 +81,7 @@ module _ (w : World) (P : List PlainObject) (t : ℕ) (e : Purpose) (within : t 
   halt_changes may = record {
     hit = found;
     left = left halted_word;
-    runs = refl;
-    asks = refl;
-    reaches = refl;
+    told = (refl, refl, refl);
     calm = may.calm;
     goes_on = inl may.goes_on;
     was = reached_reads w P t v reached;
@@ -91,8 +90,7 @@ module _ (w : World) (P : List PlainObject) (t : ℕ) (e : Purpose) (within : t 
     here = tt;
     others_run = λ u d. refl;
     others_ask = others_unasking;
-    others_unreached = λ u d r. one_reached w P t u v.safe reached d r;
-    unreached = λ r a. absurd (cc a);
+    unreached = reached_no_more;
     halts = λ h r. record {
       unasked = ap requester_form (read_safe-safe_of halted_form (omega arith, tt));
       stopped = r ∙ nobody_ran t;
@@ -110,12 +108,11 @@ module _ (w : World) (P : List PlainObject) (t : ℕ) (e : Purpose) (within : t 
   pub released_fits : MayRelease (w.known t) e → Fits (world_after (release_plan e Calm t) t w) P
   released_fits may = changed_fits w P t e (Swap (reached_word t) (released_word t)) (reached_form t) (released_form t) within (release_changes may) v
 
-  halted_fits : MayHalt w.shape.threads (w.known t) e → Fits (world_after (halt_plan e t) t w) P
-  halted_fits may = changed_fits w P t e (Swap (reached_word t) halted_word) (reached_form t) halted_form within (halt_changes may) v
-
 -- THE LAWS
 pub releasing_valid : (e : Purpose) → KeepsValid (λ w t. MayRelease (w.known t) e) (λ w t. release_plan e Calm t)
 releasing_valid e w P t within may valid = inl (released_fits w P t e within (fits_calm w P t may.reached may.calm valid) may.reached may)
 
 pub halting_valid : (e : Purpose) → KeepsValid (λ w t. MayHalt w.shape.threads (w.known t) e) (λ w t. halt_plan e t)
-halting_valid e w P t within may valid = inl (halted_fits w P t e within (fits_calm w P t may.reached may.calm valid) may.reached may)
+halting_valid e w P t within may valid =
+    let v = fits_calm w P t may.reached may.calm valid in
+    inl (changed_fits w P t e (Swap (reached_word t) halted_word) (reached_form t) halted_form within (halt_changes w P t e within v may.reached may) v)

@@ -1,7 +1,8 @@
 -- What the safepoint word and the threads' requests say in a valid world.
-use Rattle.core_locks.proofs.Prelude.{◌≡◌, ◌≢◌, ℕ, ◌<◌, Bool, true, false, cond, List, Option, Some, None, refl, sym, ap, ◌∙◌, subst, arith, inl, inr, SafeForm, safe_of, read_safe, read_safe-spells, is_thread, PlainObject, Safepoint, Calm, is_halted, runs_form, requester_form, requester_in, halted_form, revocation_in, word_after, hits, Known, World, with_word_and_known, Purpose, quiet_plan, world_after, known_hit, known_miss, Fits, IsValid, SafepointFits, IsRevoking, Shape, IsSafepoint, Act, thread_is}
+use Rattle.core_locks.proofs.Prelude.{◌≡◌, ◌≢◌, ℕ, ◌<◌, true, false, List, Option, Some, None, refl, sym, ap, ◌∙◌, arith, inl, inr, SafeForm, safe_of, read_safe, read_safe-spells, is_thread, PlainObject, Safepoint, Calm, is_halted, runs_form, requester_form, requester_in, halted_form, revocation_in, Known, World, Fits, IsValid, SafepointFits, IsRevoking, Shape, IsSafepoint, thread_is}
 use Rattle.core_world.proofs.NoWordChanges.{one_requester}
 use Rattle.core_locks.proofs.SafeBits.{no_bits}
+use Rattle.core_locks.proofs.WaitOut.{fails}
 
 -- while a bias is being revoked, its thread's safepoint is reached, and its request stands
 revoking_reached : (w : World) (P : List PlainObject) (s : IsRevoking w P) → (w.known s.requester).reached ≡ true
@@ -45,21 +46,10 @@ few_bits w P t v within = let few = v.limits.threads in omega (arith, few, withi
 
 -- nothing is halted while a thread runs, or a request stands
 pub running_unhalted : (w : World) (P : List PlainObject) (t : ℕ) → SafepointFits w P → (w.known t).running ≡ true → is_halted (w.words Safepoint) ≡ false
-running_unhalted w P t safe runs = cases (is_halted (w.words Safepoint)) refl
-  where
-    cases : (b : Bool) → is_halted (w.words Safepoint) ≡ b → is_halted (w.words Safepoint) ≡ false
-    cases true e = let stopped = (safe.still e).1 t in absurd (cc (stopped, runs))
-    cases false e = e
+running_unhalted w P t safe runs = fails _ (λ e. let stopped = (safe.still e).1 t in cc (stopped, runs))
 
 pub asking_unhalted : (w : World) (P : List PlainObject) (t : ℕ) → SafepointFits w P → (w.known t).requesting ≡ true → is_halted (w.words Safepoint) ≡ false
-asking_unhalted w P t safe asks = cases (is_halted (w.words Safepoint)) refl
-  where
-    cases : (b : Bool) → is_halted (w.words Safepoint) ≡ b → is_halted (w.words Safepoint) ≡ false
-    cases true e =
-        let none = ap (λ a. is_thread a t) (safe.still e).0 in
-        let some = safe.requester t ∙ asks in
-        absurd (cc (none, some))
-    cases false e = e
+asking_unhalted w P t safe asks = fails _ (λ e. let none = ap (λ a. is_thread a t) (safe.still e).0 in cc (none, safe.requester t ∙ asks))
 
 -- no safepoint is reached while a thread runs, or where the word has no requester
 pub running_unreached : (w : World) (P : List PlainObject) (t u : ℕ) → SafepointFits w P → (w.known t).running ≡ true → (w.known u).reached ≡ true → ⊥
@@ -95,10 +85,3 @@ reached_reads w P t v reached =
 -- so is the word then
 pub reached_found : (w : World) (P : List PlainObject) (t : ℕ) → Fits w P → (w.known t).reached ≡ true → w.words Safepoint ≡ safe_of (reached_form t)
 reached_found w P t v reached = (read_safe-spells (w.words Safepoint) (reached_form t) (reached_reads w P t v reached)).1
-
--- the world after a step that hits
-pub hit_moved : (w : World) (P : List PlainObject) (t : ℕ) (e : Purpose) (act : Act) → hits act (w.words Safepoint) ≡ true
-    → Fits (with_word_and_known Safepoint (word_after act (w.words Safepoint)) t (known_hit w.shape w.start (quiet_plan e Safepoint act) (w.words Safepoint) (w.known t)) w) P → Fits (world_after (quiet_plan e Safepoint act) t w) P
-hit_moved w P t e act h v =
-    let p = quiet_plan e Safepoint act in
-    subst (λ b. Fits (with_word_and_known Safepoint (word_after act (w.words Safepoint)) t (cond b (known_hit w.shape w.start p (w.words Safepoint) (w.known t)) (known_miss w.shape w.start p (w.words Safepoint) (w.known t))) w) P) (sym h) v

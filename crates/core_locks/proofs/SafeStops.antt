@@ -12,12 +12,8 @@ waits_unended : (n o : ℕ) → waits_on n o ≡ true → says_ended n ≡ true 
 waits_unended n o waits ended = by_form (read_wait n) waits ended
   where
     by_form : (a : Option WaitForm) → waits_form a o ≡ true → ended_form a ≡ true → ⊥
-    by_form None x y = absurd (cc x)
-    by_form (Some wait.Ready) x y = absurd (cc x)
-    by_form (Some (wait.Entering i)) x y = absurd (cc x)
     by_form (Some (wait.Waiting i s)) x y = absurd (cc y)
-    by_form (Some (wait.Notified i)) x y = absurd (cc x)
-    by_form (Some wait.Ended) x y = absurd (cc x)
+    by_form _ x y = absurd (cc x)
 
 -- the waiting word says Ended where its thread stored that
 ended_stands : (w : World) (P : List PlainObject) (t : ℕ) → Fits w P → says_ended (w.known t).wait ≡ true → says_ended (w.words (Waiting t)) ≡ true
@@ -45,9 +41,7 @@ module _ (w : World) (P : List PlainObject) (t : ℕ) (e : Purpose) (within : t 
       record {
         hit = refl;
         left = ap (λ n. bit_and n (all_but t)) spells.1 ∙ masked f t spells.0 bits runs;
-        runs = refl;
-        asks = refl;
-        reaches = refl;
+        told = (refl, refl, refl);
         calm = may.calm;
         goes_on = inl may.goes_on;
         was = reads;
@@ -56,8 +50,7 @@ module _ (w : World) (P : List PlainObject) (t : ℕ) (e : Purpose) (within : t 
         here = here_by v f reads;
         others_run = λ u d. without_other f t spells.0 bits u runs d;
         others_ask = λ u d. refl;
-        others_unreached = λ u d r. running_unreached w P t u v.safe may.runs r;
-        unreached = λ r a. running_unreached w P t t v.safe may.runs r;
+        unreached = λ u r a. running_unreached w P t u v.safe may.runs r;
         halts = λ h r. let not_halted = unhalted_by v f reads may.runs in absurd (cc (h, not_halted));
         published = λ r a h. may.published;
         ended = λ a r. ended_stands w P t v (may.ended a);
@@ -66,12 +59,6 @@ module _ (w : World) (P : List PlainObject) (t : ℕ) (e : Purpose) (within : t 
         counts = λ r. counts_stopped w P t (safe_of (without f t)) (known_then w t e (Mask (all_but t))) (seen_before w.shape (w.known t)) (seen_is_part w.shape (w.known t))
             may.runs (r ∙ without_mine f t spells.0 bits runs) v.seen;
       }
-
-  stop_valid : MayStop (w.known t) e → IsValid w P → IsValid (world_after (stop_plan e t) t w) P
-  stop_valid may valid =
-      let v = fits_running w P t may.runs valid in
-      let s = safe_form w P v in
-      inl (changed_fits w P t e (Mask (all_but t)) s.0 (without s.0 t) within (stop_changes v s.0 s.1 may) v)
 
   -- a stopped thread sets its bit in a word with no requester and no halt
   resume_changes : (v : Fits w P) (f : SafeForm) (word : ℕ) → read_safe (w.words Safepoint) ≡ Some f → MayResume (w.known t) e word → w.words Safepoint ≡ word
@@ -88,9 +75,7 @@ module _ (w : World) (P : List PlainObject) (t : ℕ) (e : Purpose) (within : t 
       record {
         hit = test;
         left = ap (λ b. cond b (running_too (read_safe word) t) (w.words Safepoint)) test ∙ new;
-        runs = refl;
-        asks = refl;
-        reaches = refl;
+        told = (refl, refl, refl);
         calm = v.quiet.quiet t may.stopped;
         goes_on = inl may.goes_on;
         was = reads;
@@ -99,8 +84,7 @@ module _ (w : World) (P : List PlainObject) (t : ℕ) (e : Purpose) (within : t 
         here = here_by v f reads;
         others_run = λ u d. including_other f t spells.0 bits u stopped d;
         others_ask = λ u d. refl;
-        others_unreached = λ u d r. unasked_unreached w P u v.safe unasked r;
-        unreached = λ r a. unasked_unreached w P t v.safe unasked r;
+        unreached = λ u r a. unasked_unreached w P u v.safe unasked r;
         halts = λ h r. absurd (cc (h, not_halted));
         published = λ r a h. absurd (cc (r, runs));
         ended = λ a r. absurd (cc (r, runs));
@@ -114,20 +98,19 @@ module _ (w : World) (P : List PlainObject) (t : ℕ) (e : Purpose) (within : t 
       anew true r asks unasked = absurd (unasked_unreached w P t v.safe unasked r)
       anew false r asks unasked = ap (λ b. cond b (seen_before w.shape (w.known t)) []) may.stopped
 
-  -- an exchange that misses
-  missing_valid : (word new : ℕ) → (w.words Safepoint == word) ≡ false → IsValid w P → IsValid (world_after (swap e Safepoint word new) t w) P
-  missing_valid word new h valid = miss_valid w P t (swap e Safepoint word new) within (record { missed = h; may = may_look_safe (w.known t) }) valid
-
-  resume_valid : (word : ℕ) → MayResume (w.known t) e word → IsValid w P → IsValid (world_after (resume_plan e t word) t w) P
-  resume_valid word may valid = cases (w.words Safepoint == word) refl
+  -- an exchange of the safepoint word, which changes it so where it finds this word, and where it misses is a look
+  by_word : (word new : ℕ) (g : SafeForm → SafeForm) → (w.words Safepoint ≡ word → Fits w P)
+      → ((v : Fits w P) (f : SafeForm) → read_safe (w.words Safepoint) ≡ Some f → w.words Safepoint ≡ word → Changes w P t e (Swap word new) f (g f))
+      → IsValid w P → IsValid (world_after (swap e Safepoint word new) t w) P
+  by_word word new g fits changes valid = cases (w.words Safepoint == word) refl
     where
-      cases : (b : Bool) → (w.words Safepoint == word) ≡ b → IsValid (world_after (resume_plan e t word) t w) P
+      cases : (b : Bool) → (w.words Safepoint == word) ≡ b → IsValid (world_after (swap e Safepoint word new) t w) P
       cases true h =
           let found = eqb-true (w.words Safepoint) word h in
-          let v = fits_unasked w P (ap requester_in found ∙ may.unasked) valid in
+          let v = fits found in
           let s = safe_form w P v in
-          inl (changed_fits w P t e (Swap word (running_too (read_safe word) t)) s.0 (including s.0 t) within (resume_changes v s.0 word s.1 may found) v)
-      cases false h = missing_valid word (running_too (read_safe word) t) h valid
+          inl (changed_fits w P t e (Swap word new) s.0 (g s.0) within (changes v s.0 s.1 found) v)
+      cases false h = miss_valid w P t (swap e Safepoint word new) within (record { missed = h; may = may_look_safe (w.known t) }) valid
 
   -- the state with t's request, and t not running
   abbrev requested : SafeForm → SafeForm
@@ -146,9 +129,7 @@ module _ (w : World) (P : List PlainObject) (t : ℕ) (e : Purpose) (within : t 
       record {
         hit = test;
         left = ap (λ b. cond b (requested_by (read_safe word) t) (w.words Safepoint)) test ∙ new;
-        runs = refl;
-        asks = refl;
-        reaches = refl;
+        told = (refl, refl, refl);
         calm = may.calm;
         goes_on = may.goes_on;
         was = reads;
@@ -157,8 +138,7 @@ module _ (w : World) (P : List PlainObject) (t : ℕ) (e : Purpose) (within : t 
         here = within;
         others_run = λ u d. without_other f t spells.0 bits u runs d;
         others_ask = λ u d. ne_eqb t u (λ s. d (sym s)) ∙ ap (λ a. is_thread a u) (sym none);
-        others_unreached = λ u d r. running_unreached w P t u v.safe may.runs r;
-        unreached = λ r a. running_unreached w P t t v.safe may.runs r;
+        unreached = λ u r a. running_unreached w P t u v.safe may.runs r;
         halts = λ h r. let not_halted = unhalted_by v f reads may.runs in absurd (cc (h, not_halted));
         published = λ r a h. let asks = same_number t in absurd (cc (a, asks));
         ended = λ a r. ended_stands w P t v (may.ended a);
@@ -173,24 +153,19 @@ module _ (w : World) (P : List PlainObject) (t : ℕ) (e : Purpose) (within : t 
       goes_on_seen true r asks = absurd (running_unreached w P t t v.safe may.runs r)
       goes_on_seen false r asks = ap (λ b. cond b (seen_before w.shape (w.known t)) []) may.runs
 
-  request_valid : (word : ℕ) → MayRequest (w.known t) e word → IsValid w P → IsValid (world_after (request_plan e t word) t w) P
-  request_valid word may valid =
-      let v = fits_running w P t may.runs valid in
-      let s = safe_form w P v in
-      cases v s.0 s.1 (w.words Safepoint == word) refl
-    where
-      cases : Fits w P → (f : SafeForm) → read_safe (w.words Safepoint) ≡ Some f → (b : Bool) → (w.words Safepoint == word) ≡ b
-          → IsValid (world_after (request_plan e t word) t w) P
-      cases v f reads true h =
-          inl (changed_fits w P t e (Swap word (requested_by (read_safe word) t)) f (requested f) within (request_changes v f word reads may (eqb-true (w.words Safepoint) word h)) v)
-      cases v f reads false h = missing_valid word (requested_by (read_safe word) t) h valid
-
 -- THE LAWS
 pub stopping_valid : (e : Purpose) → KeepsValid (λ w t. MayStop (w.known t) e) (λ w t. stop_plan e t)
-stopping_valid e w P t within may valid = stop_valid w P t e within may valid
+stopping_valid e w P t within may valid =
+    let v = fits_running w P t may.runs valid in
+    let s = safe_form w P v in
+    inl (changed_fits w P t e (Mask (all_but t)) s.0 (without s.0 t) within (stop_changes w P t e within v s.0 s.1 may) v)
 
 pub resuming_valid : (e : Purpose) (word : ℕ) → KeepsValid (λ w t. MayResume (w.known t) e word) (λ w t. resume_plan e t word)
-resuming_valid e word w P t within may valid = resume_valid w P t e within word may valid
+resuming_valid e word w P t within may valid =
+    by_word w P t e within word (running_too (read_safe word) t) (λ f. including f t) (λ found. fits_unasked w P (ap requester_in found ∙ may.unasked) valid)
+    (λ v f reads. resume_changes w P t e within v f word reads may) valid
 
 pub requesting_valid : (e : Purpose) (word : ℕ) → KeepsValid (λ w t. MayRequest (w.known t) e word) (λ w t. request_plan e t word)
-requesting_valid e word w P t within may valid = request_valid w P t e within word may valid
+requesting_valid e word w P t within may valid =
+    by_word w P t e within word (requested_by (read_safe word) t) (requested w P t e within) (λ found. fits_running w P t may.runs valid)
+    (λ v f reads. request_changes w P t e within v f word reads may) valid

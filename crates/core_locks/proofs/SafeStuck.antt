@@ -1,5 +1,6 @@
 -- By what the thread whose safepoint is reached has seen since, the threads are stuck.
-use Rattle.core_locks.proofs.Prelude.{◌≡◌, ◌≢◌, ℕ, ◌<◌, ◌||◌, eq-eqb, Bool, true, false, List, Option, Some, None, refl, sym, ap, ◌∙◌, subst, inl, inr, read_mark, read_owner, Inflated, ByThread, Free, ByRecord, OwnerForm, is_thread, owns, PlainObject, Name, Mark, Waiting, Owner, monitor_in, waits_on, says_notified, enters_on, says_ended, bears, notification_in, last_seen, World, lock, marks, who, holder, hold_count, monitor_of, owner_at, owner_lock, Fits, ends, IsStuck, IsHeldUp, Shape, IsOwner, same_number, inflated_form, lock_by_form, safepoint_calm, MayHalt, SeesHeldUp, SeesEnded, Purpose}
+use Rattle.core_locks.proofs.Prelude.{◌≡◌, ◌≢◌, ℕ, ◌<◌, eq-eqb, true, false, List, Option, Some, None, refl, sym, ap, ◌∙◌, subst, inl, inr, read_mark, read_owner, Inflated, ByThread, Free, ByRecord, OwnerForm, is_thread, owns, PlainObject, Name, Mark, Waiting, Owner, monitor_in, waits_on, says_notified, enters_on, says_ended, bears, notification_in, last_seen, World, lock, marks, who, holder, hold_count, monitor_of, owner_at, owner_lock, Fits, ends, IsStuck, IsHeldUp, Shape, IsOwner, same_number, inflated_form, lock_by_form, safepoint_calm, MayHalt, SeesHeldUp, Purpose}
+use Rattle.std.proofs.lemmas.Bool.{or_cases}
 use Rattle.core_world.specs.Trees.LookSteps.{is_open_to}
 
 -- a lock that isn't open to a thread is another's
@@ -20,11 +21,10 @@ module _ (w : World) (P : List PlainObject) (t : ℕ) (v : Fits w P) (reached : 
 
   -- who has the lock is the plain owner
   plain_owner : (o z : ℕ) → who w o ≡ Some z → owner_at P o z ≡ true
-  plain_owner o z e = by_test (owner_at P o z) (sym (v.owners.same o z) ∙ ap (λ a. is_thread a z) e ∙ same_number z)
-    where
-      by_test : (b : Bool) → (b || bears (w.known z).stage o) ≡ true → b ≡ true
-      by_test true h = refl
-      by_test false h = let none = ap (λ s. bears s o) (safepoint_calm w P t z v reached) in absurd (cc (h, none))
+  plain_owner o z e =
+      let none = ap (λ s. bears s o) (safepoint_calm w P t z v reached) in
+      elim (or_cases (owner_at P o z) (bears (w.known z).stage o) (sym (v.owners.same o z) ∙ ap (λ a. is_thread a z) e ∙ same_number z))
+      [ inl a ↦ a | inr b ↦ absurd (cc (b, none)) ]
 
   -- another thread is the owner of an object whose owner word names it
   other_owns : (o u mark m owner : ℕ) → last_seen (Mark o) (w.known t).seen_at_safepoint ≡ Some mark → monitor_in mark ≡ Some m → last_seen (Owner m) (w.known t).seen_at_safepoint ≡ Some owner
@@ -50,15 +50,11 @@ module _ (w : World) (P : List PlainObject) (t : ℕ) (v : Fits w P) (reached : 
     ),
   )
 
-  -- one that has ended by what was seen has ended
-  has_ended : (u : ℕ) → SeesEnded (w.known t) u → ends (w.known u).log ≡ true
-  has_ended u a = v.waits.done u (ap says_ended (stands (Waiting u) a.0 a.1) ∙ a.2)
-
   pub stuck : {e : Purpose} → t < w.shape.threads → MayHalt w.shape.threads (w.known t) e → IsStuck w.shape.threads (λ u. ends (w.known u).log) (λ u. (w.known u).unfinished) (monitor_of P)
   stuck within may = (
     (t, within, may.live),
     λ u few live. elim (may.stuck u few) [
-      | inl a ↦ let ended = has_ended u a in absurd (cc (ended, live))
+      | inl a ↦ absurd (cc (v.waits.done u (ap says_ended (stands (Waiting u) a.0 a.1) ∙ a.2), live))
       | inr a ↦ held_up u a
     ],
   )

@@ -1,24 +1,18 @@
 -- A thread exchanges a neutral mark for its place, where it has stored that mark as the displaced word.
-use Rattle.core_locks.proofs.Prelude.{◌≡◌, ◌≢◌, ◌⊎◌, ℕ, zero, suc, ◌<◌, ◌≤◌, ◌==◌, ◌||◌, ne_eqb, Bool, true, false, cond, List, slice_index, Option, Some, refl, sym, ap, ◌∙◌, subst, arith, inl, inr, eqb-true, read_mark, mark_of, Locked, is_thread, is_listed, owns, PlainObject, Mark, Displaced, StepPlan, Calm, Seizes, Grabs, hold_word, is_neutral, hash_in, monitor_in, Inflation, inflation_in, bears, hold_words_ahead, word_after, Known, last_seen, World, with_word_and_known, with_known, Lock, Open, BiasedTo, OnRecord, OwnedBy, lock, header, marks, displaced_words, headers, owner_words, prototype_of, inflations, holder, hold_count, holds_by_monitor, monitor_of, owner_at, hash_at, waits_at, notified_at, Purpose, world_after, known_hit, seen_before, known_after, known_miss, Fits, IsValid, SeenFit, Swap, IsMark, each_with_known, with_known_here, part_moves, inflations_stay, holds_by_monitor_is, fits_running, seen_is_part, Spares, seen_moves, counts_more, miss_valid, unwaited_fits, MaySeize, KeepsValid, seize_plan}
+use Rattle.core_locks.proofs.Prelude.{◌≡◌, ◌≢◌, ◌⊎◌, ℕ, ◌<◌, ◌≤◌, ◌==◌, ◌||◌, ne_eqb, Bool, true, false, cond, List, slice_index, Option, Some, refl, sym, ap, ◌∙◌, subst, arith, inl, inr, eqb-true, read_mark, mark_of, Locked, is_thread, is_listed, PlainObject, Mark, Displaced, StepPlan, Calm, Seizes, Grabs, hold_word, is_neutral, hash_in, monitor_in, Inflation, inflation_in, bears, hold_words_ahead, word_after, Known, last_seen, World, with_word_and_known, with_known, Lock, Open, BiasedTo, OnRecord, OwnedBy, lock, header, marks, displaced_words, headers, owner_words, prototype_of, inflations, holder, hold_count, monitor_of, owner_at, hash_at, waits_at, notified_at, Purpose, world_after, known_hit, seen_before, Fits, IsValid, SeenFit, Swap, IsMark, each_with_known, with_known_here, part_moves, inflations_stay, fits_running, seen_is_part, Spares, seen_moves, counts_more, miss_valid, unwaited_fits, MaySeize, KeepsValid, seize_plan, unlisted_count}
 use Rattle.core_locks.proofs.MarkMeanings.{forms_marked, IsBare, bare_unnamed, neutral_bare, neutral_some, neutral_lock, neutral_header, locked_read, locked_bare, locked_some, locked_lock, locked_header}
 use Rattle.core_locks.proofs.MarkChanges.{names_same, bias_back, bias_forth, bias_before, zero_back, zero_forth, lock_at, header_same, mark_back, mark_spares, recursions_by_marks, biases_by_marks, classes_by_marks, inflating_by_marks}
 use Rattle.core_locks.proofs.LockTurns.{owners_taken}
+use Rattle.core_locks.proofs.OwnSeen.{hit_moved}
+use Rattle.core_locks.proofs.WaitOut.{fails, no_other}
 use Rattle.core_locks.proofs.MarkHolds.{standing_names}
 use Rattle.core_locks.proofs.Clauses.{turned_parts, parts_turn, seen, forms, holds, owners, biases, records, inflating, recursions, hashes, classes, AllHold}
 use Rattle.core_locks.proofs.Steps.{IsAside, calm_aside, recursions_stand, stage_back, stage_forth, holds_stand, none_reached, turning, IsPlain, plain_by, IsStep, next, next_is, step_fits, seen_next, plain_step, inflates_stay}
 
 -- the exchange
 
--- nobody has or takes a lock that is nobody's
-pub neither : (a b : Bool) → false ≡ (a || b) → (a ≡ false) × (b ≡ false)
-neither true b e = absurd (cc e)
-neither false b e = (refl, sym e)
-
 pub same_place : (a b c d : ℕ) → OnRecord a b ≡ OnRecord c d → (a ≡ c) × (b ≡ d)
 same_place a b c d e = (cc e, cc e)
-
-same_seizing : (a b c d : ℕ) → Seizes a b ≡ Seizes c d → (a ≡ c) × (b ≡ d)
-same_seizing a b c d e = (cc e, cc e)
 
 module _ (w : World) (P : List PlainObject) (t : ℕ) (e : Purpose) (o mark p : ℕ) (within : t < w.shape.threads) (may : MaySeize (w.known t) e o mark p) (hit : (w.words (Mark o) == mark) ≡ true) (v : Fits w P) where
   abbrev plan : StepPlan
@@ -73,24 +67,17 @@ module _ (w : World) (P : List PlainObject) (t : ℕ) (e : Purpose) (o mark p : 
   was_open = neutral_lock (marks w o) (prototype_of w o) (owner_words w) (inflations w o) was_neutral
 
   -- nobody had it, so the thread has no hold word of the object
+  nobody : (u : ℕ) → (owner_at P o u ≡ false) × (bears (w.known u).stage o ≡ false)
+  nobody u = no_other w P o u v (ap (λ f. is_thread (holder f (λ z. hold_count o (w.known z).holds)) u) was_open)
+
   unheld : hold_count o (w.known t).holds ≡ 0
-  unheld = by_standing (holds_by_monitor (monitor_of P o) t) refl
-    where
-      unowned : owner_at P o t ≡ true → ⊥
-      unowned owns =
-          let nobody = ap (λ f. is_thread (holder f (λ u. hold_count o (w.known u).holds)) t) was_open in
-          let somebody = v.owners.same o t ∙ ap (λ b. b || bears (w.known t).stage o) owns in
-          absurd (cc (nobody, somebody))
-
-      unlisted : (is_listed (waits_at P o) t ≡ true) ⊎ (is_listed (notified_at P o) t ≡ true) → ⊥
-      unlisted h = let named = v.waits.inflated o t h in bare_unnamed (marks w o) named.0 old named.1
-
-      by_standing : (n : ℕ) → holds_by_monitor (monitor_of P o) t ≡ n → hold_count o (w.known t).holds ≡ 0
-      by_standing zero none = omega (arith, v.holds.number t o, none, ap (λ s. hold_words_ahead s o) may.calm)
-      by_standing (suc n) some = absurd (elim (holds_by_monitor_is (monitor_of P o) t (omega (arith, some))) [
-        | inl a ↦ unowned a
-        | inr a ↦ unlisted a
-      ])
+  unheld =
+      let unlisted : (is_listed (waits_at P o) t ≡ true) ⊎ (is_listed (notified_at P o) t ≡ true) → ⊥ =
+      λ h. let named = v.waits.inflated o t h in bare_unnamed (marks w o) named.0 old named.1 in
+      let waits = unlisted_count (waits_at P o) t (fails _ (λ h. unlisted (inl h))) in
+      let called = unlisted_count (notified_at P o) t (fails _ (λ h. unlisted (inr h))) in
+      let owner = ap (λ b. cond b (monitor_of P o).count 0) (nobody t).0 in
+      omega (arith, v.holds.number t o, ap (λ s. hold_words_ahead s o) may.calm, owner, waits, called)
 
   lock_now : (i : ℕ) → ((i ≡ o) × (lock x i ≡ OnRecord t p)) ⊎ ((i ≢ o) × (lock x i ≡ lock w i))
   lock_now = lock_at w o m t l inflation (OnRecord t p) (locked_lock m t p (prototype_of w o) (owner_words w) (inflations w o) spelled)
@@ -109,9 +96,6 @@ module _ (w : World) (P : List PlainObject) (t : ℕ) (e : Purpose) (o mark p : 
   header_is =
       header_same w o m t l inflation
       (locked_header m t p (displaced_words w) (headers w) (inflations w o) spelled ∙ ap Some stored ∙ sym (neutral_header (marks w o) (displaced_words w) (headers w) (inflations w o) was_neutral))
-
-  nobody : (u : ℕ) → (owner_at P o u ≡ false) × (bears (w.known u).stage o ≡ false)
-  nobody u = neither (owner_at P o u) (bears (w.known u).stage o) (ap (λ f. is_thread (holder f (λ z. hold_count o (w.known z).holds)) u) (sym was_open) ∙ v.owners.same o u)
 
   -- WHAT WAS SEEN
   spares : Spares (Mark o) m t l w (owner_at P) (owner_at P) (waits_at P) (waits_at P)
@@ -172,10 +156,12 @@ module _ (w : World) (P : List PlainObject) (t : ℕ) (e : Purpose) (o mark p : 
     ];
     seized = λ i u q. each_with_known (λ u y. y.stage ≡ Seizes i q → (lock x i ≡ OnRecord u q) × (slice_index (w.known u).holds q ≡ 0) × (q < 64) × (hold_count i (w.known u).holds ≡ 0)) t l w.known u
         (λ s.
-        let r = same_seizing o p i q s in
+        let object : o ≡ i = cc s in
+        let place : p ≡ q = cc s in
         let lock_is : lock x o ≡ OnRecord t p = elim (lock_now o) [ inl a ↦ a.1 | inr a ↦ absurd (a.0 refl) ] in
         let at : (lock x o ≡ OnRecord t p) × (slice_index (w.known t).holds p ≡ 0) × (p < 64) × (hold_count o (w.known t).holds ≡ 0) = (lock_is, may.free.empty, may.free.place, unheld) in
-        subst (λ (z : ℕ × ℕ). (lock x z.0 ≡ OnRecord t z.1) × (slice_index (w.known t).holds z.1 ≡ 0) × (z.1 < 64) × (hold_count z.0 (w.known t).holds ≡ 0)) (λ j. (r.0 j, r.1 j)) at)
+        subst (λ (z : ℕ × ℕ). (lock x z.0 ≡ OnRecord t z.1) × (slice_index (w.known t).holds z.1 ≡ 0) × (z.1 < 64) × (hold_count z.0 (w.known t).holds ≡ 0))
+        (λ j. (object j, place j)) at)
         (λ d s. let b = v.records.seized i u q s in (lock_forth i (OnRecord u q) b.0 (λ c. cc c), b.1, b.2, b.3));
     grabbed = λ i u s. let b = v.records.grabbed i u (stage_back step (Grabs i) u (λ c. cc c) s).1 in (lock_forth i (OwnedBy u) b.0 (λ c. cc c), b.1);
   }
@@ -206,11 +192,7 @@ pub seizes : (e : Purpose) (o mark p : ℕ) → KeepsValid (λ w t. MaySeize (w.
 seizes e o mark p w P t within may valid = by_test (w.words (Mark o) == mark) refl
   where
     by_test : (b : Bool) → (w.words (Mark o) == mark) ≡ b → IsValid (world_after (seize_plan e t o mark p) t w) P
-    by_test true hit =
-        let plan = seize_plan e t o mark p in
-        let hits_so : known_hit w.shape w.start plan (w.words (Mark o)) (w.known t) ≡ known_after w.shape w.start plan (w.words (Mark o)) (w.known t) =
-        ap (λ (b : Bool). cond b (known_hit w.shape w.start plan (w.words (Mark o)) (w.known t)) (known_miss w.shape w.start plan (w.words (Mark o)) (w.known t))) (sym hit) in
-        inl (subst (λ k. Fits (with_word_and_known (Mark o) (word_after plan.act (w.words (Mark o))) t k w) P) hits_so (seized_fits w P t e o mark p within may hit (fits_running w P t may.runs valid)))
+    by_test true hit = inl (hit_moved w P t (seize_plan e t o mark p) hit (seized_fits w P t e o mark p within may hit (fits_running w P t may.runs valid)))
     by_test false missed =
         miss_valid w P t (seize_plan e t o mark p) within
         (record {

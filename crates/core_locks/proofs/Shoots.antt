@@ -1,18 +1,12 @@
 -- A dump keeps its shot.
-use Rattle.core_locks.proofs.Prelude.{◌≡◌, ℕ, ◌<◌, ◌⊎◌, ◌||◌, Bool, true, false, cond, List, [], ◌∷◌, ◌++◌, length, slice_index, None, refl, sym, ap, ◌∙◌, subst, arith, inl, PlainObject, Safepoint, StepPlan, is_halted, Known, last_seen, World, with_known, logs, Purpose, world_after, known_hit, seen_before, Fits, IsValid, each_with_known, with_known_here}
+use Rattle.core_locks.proofs.Prelude.{◌≡◌, ℕ, ◌<◌, ◌⊎◌, ◌||◌, Bool, true, false, cond, List, [], ◌∷◌, ◌++◌, length, slice_index, None, refl, sym, ap, ◌∙◌, subst, arith, inl, PlainObject, Safepoint, StepPlan, is_halted, Known, last_seen, World, with_known, logs, Purpose, world_after, known_hit, seen_before, Fits, IsValid, each_with_known, with_known_here, LegalObjects, objects_after, log_of, seen_is_part, with_knowledge, with_knowledge_alone, log_at, KeepsValid, keep_shot_plan}
 use Rattle.std.proofs.lemmas.List.{length-map}
-use Rattle.plain_monitor.specs.History.{LegalObjects, objects_after, log_of}
 use Rattle.core_world.specs.Threads.Known.{DumpShot}
 use Rattle.core_world.specs.Clauses.SeenWords.{AreTheSteps}
 use Rattle.core_world.specs.Shots.{cut_logs, IsRightShot, ShotsFit}
 use Rattle.core_world.specs.Steps.{shot_of}
-use Rattle.core_world.proofs.ActsLook.{seen_is_part}
 use Rattle.core_world.proofs.NoWordChanges.{Glance, glance_seen, glance_safe}
-use Rattle.core_world.proofs.Naming.{with_knowledge, with_knowledge_alone}
-use Rattle.core_world.proofs.KnowledgeParts.{log_at}
 use Rattle.core_world.proofs.ShotsStay.{IsNext, all_logged, shots_go_on, shots_taken}
-use Rattle.core_locks.specs.Knowing.{KeepsValid}
-use Rattle.core_world.specs.Trees.LookSteps.{keep_shot_plan}
 use Rattle.core_locks.specs.ShotLaws.{MayKeepShot, IsShotOf}
 use Rattle.core_locks.proofs.NotingNew.{with_new_knowledge_fits}
 use Rattle.core_locks.proofs.SafeFacts.{fits_calm}

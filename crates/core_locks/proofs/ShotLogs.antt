@@ -1,34 +1,18 @@
 -- The shots stay right where a thread logs an entry of its own.
-use Rattle.core_locks.proofs.Prelude.{◌≡◌, ◌⊎◌, ℕ, ◌<◌, false, List, [], ◌∷◌, ◌++◌, length, Option, Some, refl, sym, ap, ◌∙◌, subst, arith, inl, inr, PlainObject, Logged, Known, World, with_known, logs, Fits}
-use Rattle.plain_monitor.specs.declared.entry.Entry.{Entry}
-use Rattle.plain_monitor.specs.declared.entry.Entry.TheVariants.{Enter, Exit, Wait, Resume, Notify, NotifyAll, Hash, Dump}
-use Rattle.core_world.specs.declared.task.Op.{Op}
+use Rattle.core_locks.proofs.Prelude.{◌≡◌, ◌⊎◌, ℕ, ◌<◌, false, List, [], ◌∷◌, ◌++◌, length, Option, refl, sym, ap, ◌∙◌, subst, arith, inl, inr, PlainObject, Logged, Known, World, with_known, logs, Fits, Entry, Dump, Unfinished, goes_on_with, IsUnfinished, logs_from, logs_length}
 use Rattle.core_world.specs.declared.task.Op.TheVariants as op
-use Rattle.core_world.specs.declared.task.Unfinished.{Unfinished}
-use Rattle.core_world.specs.Trees.Operations.{goes_on_with}
-use Rattle.core_world.specs.Clauses.Safepoints.{IsUnfinished}
 use Rattle.core_world.specs.Shots.{AreOfDumps, ShotsFit}
-use Rattle.core_world.specs.World.{logs_from}
-use Rattle.core_world.proofs.KnowledgeParts.{logs_length}
 use Rattle.core_world.proofs.ShotsStay.{IsDump, IsNoDump, dump_or_not, dumps_dump, dumps_other, shots_with}
 use Rattle.core_locks.specs.Knowing.{IsOfLastShot, operation_of}
 use Rattle.core_locks.proofs.Logging.{IsLogging, logs_are}
 
--- what is unfinished is no dump where it is another operation
-other_operation : (u : Option Unfinished) (a : Op) (o : ℕ) → goes_on_with op.Dump 0 (Some (record { op = a; object = o })) ≡ false → IsUnfinished u a o → IsUnfinished u op.Dump 0 → ⊥
-other_operation u a o other e d = let f = ap (goes_on_with op.Dump 0) e in let g = ap (goes_on_with op.Dump 0) d in absurd (cc (other, f, g))
+-- an entry that is no dump is no dump's own
+undumped : (e : Entry) → IsNoDump e → goes_on_with op.Dump 0 (operation_of e) ≡ false
+undumped (Dump number) n = let e = ap (λ z. length z) (n 0 []) in absurd (omega (arith, e))
+undumped _ n = refl
 
--- nor where an entry that is no dump is its own
 no_dump : (u : Option Unfinished) (e : Entry) → IsNoDump e → u ≡ operation_of e → IsUnfinished u op.Dump 0 → ⊥
-no_dump u (Enter o path) n h d = other_operation u op.Enter o refl h d
-no_dump u (Exit o) n h d = other_operation u op.Exit o refl h d
-no_dump u (Wait o) n h d = other_operation u op.Wait o refl h d
-no_dump u (Resume o) n h d = other_operation u op.Wait o refl h d
-no_dump u (Notify o woken) n h d = other_operation u op.Notify o refl h d
-no_dump u (NotifyAll o woken) n h d = other_operation u op.NotifyAll o refl h d
-no_dump u (Hash o value drawn) n h d = other_operation u op.Hash o refl h d
-no_dump u (Dump number) n h d = let e = ap (λ z. length z) (n 0 []) in absurd (omega (arith, e))
-no_dump u _ n h d = absurd (cc (h, d))
+no_dump u e n h d = let f = ap (goes_on_with op.Dump 0) h ∙ undumped e n in let g = ap (goes_on_with op.Dump 0) d in absurd (cc (f, g))
 
 module _ (w : World) (P Q : List PlainObject) (t : ℕ) (y : Logged) (l : Known) (v : Fits w P) (a : IsLogging w P Q t y l) where
   mine : AreOfDumps t l.log (w.known t).shots l.unfinished

@@ -1,13 +1,7 @@
 -- The looks of a dump see all that its shot is made of.
-use Rattle.core_locks.proofs.Prelude.{◌≡◌, ℕ, zero, suc, ◌+◌, ◌<◌, ◌≤◌, Bool, cond, length, Option, Some, refl, sym, subst, arith, MarkForm, read_mark, Safepoint, Mark, Hold, Length, Known, Purpose, load, by_equal}
-use Rattle.mark_word.specs.declared.mark.MarkForm.TheVariants.{Biased, Locked, Inflated}
-use Rattle.mark_word.specs.declared.owner.OwnerForm.{OwnerForm}
-use Rattle.mark_word.specs.declared.owner.OwnerForm.TheVariants.{ByThread, ByRecord}
-use Rattle.mark_word.specs.Owner.{read_owner}
+use Rattle.core_locks.proofs.Prelude.{◌≡◌, ℕ, zero, suc, ◌+◌, ◌<◌, ◌≤◌, Bool, cond, length, Option, Some, refl, sym, subst, arith, MarkForm, read_mark, Safepoint, Mark, Hold, Length, Known, Purpose, load, by_equal, Biased, Locked, Inflated, OwnerForm, ByThread, ByRecord, read_owner, with_own, Shape}
 use Rattle.core_world.specs.declared.plan.Own.TheVariants as own
 use Rattle.core_world.specs.Trees.LookSteps.{look_at_holds, look_at_owner, look_behind, look_at_objects, take_shot_steps}
-use Rattle.core_world.specs.Trees.Plans.{with_own}
-use Rattle.core_world.specs.Words.Shape.{Shape}
 use Rattle.core_world.specs.Trees.Todo.{Todo, done, never, step, ◌>>=◌, ask, all_from}
 use Rattle.core_locks.specs.ShotLaws.{SawHolds, SawByOwner, SawBehind, SawAll, SawSteps, shot_looks, looks_and_shot}
 

@@ -1,13 +1,7 @@
 -- What a thread has seen at its reached safepoint is what is there, and so the cells that it makes of that are the plain owners and counts.
-use Rattle.core_locks.proofs.Prelude.{◌≡◌, ℕ, zero, suc, ◌+◌, ◌<◌, ◌==◌, Bool, true, false, cond, List, [], ◌∷◌, length, slice_index, Option, Some, None, refl, sym, ap, ◌∙◌, subst, arith, MarkForm, read_mark, PlainObject, Name, Prototype, Mark, Hold, Owner, Inflation, inflation_in, last_seen, World, Lock, Open, BiasedTo, OnRecord, OwnedBy, lock_form, marks, owner_words, prototype_of, inflations, holder, hold_count, monitor_of, Fits}
-use Rattle.mark_word.specs.declared.mark.MarkForm.TheVariants.{Biased, Locked, Inflated}
-use Rattle.mark_word.specs.declared.owner.OwnerForm.{OwnerForm}
-use Rattle.mark_word.specs.declared.owner.OwnerForm.TheVariants.{ByThread, ByRecord}
-use Rattle.mark_word.specs.Owner.{read_owner}
-use Rattle.core_world.specs.Words.Forms.{epoch_in}
+use Rattle.core_locks.proofs.Prelude.{◌≡◌, ℕ, zero, suc, ◌+◌, ◌<◌, ◌==◌, Bool, true, false, cond, List, [], ◌∷◌, length, slice_index, Option, Some, None, refl, sym, ap, ◌∙◌, subst, arith, MarkForm, read_mark, PlainObject, Name, Prototype, Mark, Hold, Owner, Inflation, inflation_in, last_seen, World, Lock, Open, BiasedTo, OnRecord, OwnedBy, lock_form, marks, owner_words, prototype_of, inflations, holder, hold_count, monitor_of, Fits, Biased, Locked, Inflated, OwnerForm, ByThread, ByRecord, read_owner, epoch_in, class_of}
 use Rattle.core_world.specs.Locks.{is_for, inflation_of, owner_lock, has_epoch, owner_and_count_by, or_zero}
 use Rattle.core_world.specs.RevocationRules.{holds_in, words_from}
-use Rattle.core_world.specs.Words.Shape.{class_of}
 use Rattle.core_world.specs.Shots.{cell_in, cells_of}
 use Rattle.core_world.specs.Steps.{seen_words, owner_and_count_in, cells_from}
 use Rattle.core_world.proofs.OwnersShown.{safepoint_calm, at_safepoint_shown}

@@ -1,5 +1,5 @@
 -- A step of one thread, field by field: what its thread knows afterwards is what it knew, but for the fields that the step names.
-use Rattle.core_locks.proofs.Prelude.{◌≡◌, ◌≢◌, ◌⊎◌, ℕ, ◌+◌, ◌<◌, ◌≤◌, ◌==◌, eq-eqb, ne_eqb, Bool, true, false, cond, List, length, Option, Some, None, refl, sym, ap, ◌∙◌, subst, arith, inl, inr, is_listed, PlainObject, Logged, Name, Safepoint, Stamp, Waiting, Length, Stage, Calm, Seizes, Grabs, Enters, Resumes, Exits, Waits, TakesOver, Ahead, Behind, Inflates, Notifies, Revokes, Takes, monitor_in, enters_on, is_halted, inflation_in, notification_in, revocation_in, Known, World, with_known, logs, marks, monitor_of, waits_at, notified_at, Fits, SeenFit, WaitsFit, ends, IsUnfinished, StoppedAreQuiet, SafepointIsKnown, StampsFit, lets_go, LengthsFit, log_limit, first_known, Unfinished, by_equal, each_with_known, with_known_else, stamp_goes_on, ShotsFit, Hold, hold_words_ahead, hold_count, holds_by_monitor, HoldsFitLogs, recursions_ahead, recursions_behind, Lock, OwnedBy, recursion_count, RecursionsFit}
+use Rattle.core_locks.proofs.Prelude.{◌≡◌, ◌≢◌, ◌⊎◌, ℕ, ◌+◌, ◌<◌, ◌≤◌, ◌==◌, eq-eqb, ne_eqb, Bool, true, false, cond, List, length, Option, Some, None, refl, sym, ap, ◌∙◌, subst, arith, inl, inr, is_listed, PlainObject, Logged, Name, Safepoint, Stamp, Waiting, Length, Stage, Calm, Resumes, Waits, TakesOver, Notifies, Revokes, monitor_in, enters_on, is_halted, inflation_in, notification_in, revocation_in, Known, World, with_known, logs, marks, monitor_of, waits_at, notified_at, Fits, SeenFit, WaitsFit, ends, IsUnfinished, StoppedAreQuiet, SafepointIsKnown, StampsFit, lets_go, LengthsFit, log_limit, first_known, Unfinished, by_equal, each_with_known, with_known_else, stamp_goes_on, ShotsFit, Hold, hold_words_ahead, hold_count, holds_by_monitor, HoldsFitLogs, recursions_ahead, recursions_behind, Lock, OwnedBy, recursion_count, RecursionsFit, Exits, is_thread, owner_at, ◌||◌, bears, LocksArePlain}
 use Rattle.core_world.specs.declared.task.Op.TheVariants as op
 use Rattle.core_world.proofs.ShotsStay.{shots_go_on}
 use Rattle.core_locks.proofs.Clauses.{Parts, parts_of, Clause, absent, safe, quiet, waits, stamps, shots, Holds, AllHold, clauses, fits}
@@ -120,16 +120,7 @@ plain_by (Resumes o) e = absurd (cc e)
 plain_by (Waits o) e = absurd (cc e)
 plain_by (Notifies o n) e = absurd (cc e)
 plain_by (Revokes o rebias now) e = absurd (cc e)
-plain_by Calm e = record { calls = refl; its_revocation = refl; resumes = λ o c. cc c; waits = λ o c. cc c }
-plain_by (Seizes o p) e = record { calls = refl; its_revocation = refl; resumes = λ o c. cc c; waits = λ o c. cc c }
-plain_by (Grabs o) e = record { calls = refl; its_revocation = refl; resumes = λ o c. cc c; waits = λ o c. cc c }
-plain_by (Takes o) e = record { calls = refl; its_revocation = refl; resumes = λ o c. cc c; waits = λ o c. cc c }
-plain_by (Enters o p path) e = record { calls = refl; its_revocation = refl; resumes = λ o c. cc c; waits = λ o c. cc c }
-plain_by (Exits o p) e = record { calls = refl; its_revocation = refl; resumes = λ o c. cc c; waits = λ o c. cc c }
-plain_by (TakesOver o) e = record { calls = refl; its_revocation = refl; resumes = λ o c. cc c; waits = λ o c. cc c }
-plain_by (Ahead o) e = record { calls = refl; its_revocation = refl; resumes = λ o c. cc c; waits = λ o c. cc c }
-plain_by (Behind o) e = record { calls = refl; its_revocation = refl; resumes = λ o c. cc c; waits = λ o c. cc c }
-plain_by (Inflates o t p) e = record { calls = refl; its_revocation = refl; resumes = λ o c. cc c; waits = λ o c. cc c }
+plain_by _ e = record { calls = refl; its_revocation = refl; resumes = λ o c. cc c; waits = λ o c. cc c }
 
 -- a fact of a word and of what a thread knows, at the number that changed and at the others
 pub each_written : (Q : ℕ → ℕ → Known → Type 0) (t v : ℕ) (k : Known) (f : ℕ → ℕ) (g : ℕ → Known) (u : ℕ) → Q t v k → (u ≢ t → Q u (f u) (g u)) → Q u (cond (u == t) v (f u)) (with_known t k g u)
@@ -213,6 +204,19 @@ module _ {w : World} {t : ℕ} {l : Known} {fields : Fields} (s : IsStep w t l f
 
   pub inflates_stay : inflation_in l.stage ≡ inflation_in (w.known t).stage → (u : ℕ) → inflation_in (with_known t l w.known u).stage ≡ inflation_in (w.known u).stage
   inflates_stay = stage_part inflation_in
+
+  -- each object has the owner that it had, where the thread comes to let go of none, and tells no waiters that it didn't tell before
+  pub owners_move : {P : List PlainObject} {who : ℕ → Option ℕ} → ((i : ℕ) → l.stage ≡ Waits i → ⊥) → ((i q : ℕ) → l.stage ≡ Exits i q → ⊥)
+      → ((i : ℕ) → notification_in l.stage ≡ Some i → notification_in (w.known t).stage ≡ Some i)
+      → ((i u : ℕ) → is_thread (who i) u ≡ (owner_at P i u || bears (with_known t l w.known u).stage i)) → Fits w P
+      → LocksArePlain who (λ u. (with_known t l w.known u).stage) (owner_at P)
+  owners_move {P} unwaiting unleaving telling has v = record {
+    same = has;
+    let_go = λ i u f. v.owners.let_go i u (stage_back (Waits i) u (unwaiting i) f).1;
+    left = λ i u q f. v.owners.left i u q (stage_back (Exits i q) u (unleaving i q) f).1;
+    calls = λ i u. each_with_known (λ u y. notification_in y.stage ≡ Some i → owner_at P i u ≡ true) t l w.known u (λ c. v.owners.calls i t (telling i c))
+        (λ d. v.owners.calls i u);
+  }
 
   -- What waits says the same, where the thread is in the middle of no notify afterwards that it wasn't in before, resumes no more, and stands on
   -- the list that its stage tells of.

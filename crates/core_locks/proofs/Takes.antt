@@ -1,14 +1,14 @@
 -- A thread exchanges the free owner word of a monitor for itself, to enter or at the end of a wait.
 use Rattle.core_locks.proofs.Prelude.{◌≡◌, ◌≢◌, ◌⊎◌, ℕ, ◌+◌, ◌<◌, ◌≤◌, ◌==◌, ◌||◌, eq-eqb, ne_eqb, Bool, true, false, cond, List, slice_index, Some, None, refl, sym, ap, ◌∙◌, subst, arith, inl, inr, eqb-true, same_Some, read_mark, read_owner, owner_of, ByThread, Free, read_owner-owner_of, is_thread, is_listed, PlainObject, Name, Mark, Owner, Recursions, StepPlan, Stage, Calm, Seizes, Grabs, Resumes, Exits, Waits, TakesOver, Notifies, hold_word, monitor_in, inflation_in, bears, hold_words_ahead, recursions_ahead, recursions_behind, notification_in, revocation_in, same_name, Known, last_seen, World, with_known, Lock, Open, BiasedTo, OnRecord, OwnedBy, lock, lock_form, marks, displaced_words, owner_words, prototype_of, inflations, who, holder, hold_count, recursion_count, owner_at, waits_at, notified_at, owner_lock, Stays, GoesByMonitor, Purpose, with_stage, swap, world_after, Fits, IsValid, IsOwner, HasFound, by_equal, each_with_known, owner_zero, fits_running, inflated_form, stays_back, GoesOn, SawInflated}
+use Rattle.core_locks.proofs.WaitOut.{neither}
 use Rattle.core_locks.proofs.MarkHolds.{standing_names}
 use Rattle.core_locks.proofs.MarkMeanings.{forms_owned}
-use Rattle.core_locks.proofs.Seizes.{neither}
 use Rattle.core_locks.proofs.Clauses.{turned_parts, seen, forms, quiet, waits, holds, owners, biases, records, recursions, hashes, AllHold}
 use Rattle.core_locks.proofs.Steps.{turning, IsStep, next, seen_next, quiet_next, quiet_step, stage_back, waits_turn, holds_stand}
 use Rattle.core_locks.proofs.OwnSeen.{back_by, left_with, hit_world}
 use Rattle.core_locks.proofs.MonitorSeen.{stays_nearly, monitor_seen, others_by, uncounted_named}
-use Rattle.core_locks.proofs.LockTurns.{records_turn, owners_taken, owner_turned}
-use Rattle.core_locks.proofs.OwnerTurns.{owned_locks, lock_now, lock_back, lock_forth, again_zero}
+use Rattle.core_locks.proofs.LockTurns.{records_turn, owners_taken}
+use Rattle.core_locks.proofs.OwnerTurns.{owned_locks, lock_now, lock_back, lock_forth, again_zero, owner_turned}
 use Rattle.core_locks.proofs.SwapLaws.{swap_valid, found_by_mark}
 
 -- a thread that comes to bear o alone counts besides on the owner and the recursions of its monitor

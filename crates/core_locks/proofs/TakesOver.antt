@@ -7,8 +7,8 @@ use Rattle.core_locks.proofs.Steps.{turning, IsStep, next, seen_next}
 use Rattle.core_locks.proofs.EvenSteps.{IsEven, even_by, even_step, held_even}
 use Rattle.core_locks.proofs.OwnSeen.{own_seen, left_with, hit_world}
 use Rattle.core_locks.proofs.MonitorSeen.{uncounted_named}
-use Rattle.core_locks.proofs.LockTurns.{records_turn, owner_turned}
-use Rattle.core_locks.proofs.OwnerTurns.{owned_locks, lock_now, lock_back, lock_forth, rest_place, rest_deeper, rest_again}
+use Rattle.core_locks.proofs.LockTurns.{records_turn}
+use Rattle.core_locks.proofs.OwnerTurns.{owned_locks, lock_now, lock_back, lock_forth, rest_place, rest_deeper, rest_again, owner_turned}
 
 module _ (w : World) (P : List PlainObject) (t : ℕ) (e : Purpose) (o m p : ℕ) (within : t < w.shape.threads) (may : MayTakeOver (w.known t) e o m p) (v : Fits w P) where
   abbrev plan : StepPlan

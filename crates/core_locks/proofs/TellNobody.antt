@@ -1,5 +1,5 @@
 -- Nobody waits on an object where its owner saw that nobody does.
-use Rattle.core_locks.proofs.Prelude.{◌≡◌, ℕ, ◌<◌, ◌≤◌, ◌||◌, nat_lt, eq-eqb, Bool, true, false, List, [], ◌∷◌, Some, None, refl, ap, ◌∙◌, arith, inl, inr, nat_tests, is_listed, PlainObject, Calm, notification_in, Known, World, hold_count, monitor_of, owner_at, waits_at, Fits, sound, waiter_stands, SawNobody}
+use Rattle.core_locks.proofs.Prelude.{◌≡◌, ℕ, ◌<◌, ◌||◌, eq-eqb, true, List, [], ◌∷◌, Some, None, refl, ap, ◌∙◌, arith, inl, inr, is_listed, PlainObject, Calm, notification_in, Known, World, hold_count, monitor_of, owner_at, waits_at, Fits, sound, waiter_stands, SawNobody, cases_lt}
 use Rattle.core_world.proofs.Counting.{named_none}
 use Rattle.core_locks.proofs.TellTaken.{one_owner}
 
@@ -10,14 +10,12 @@ unlisted_empty (p ∷ ps) h = absurd (h p.0 (ap (λ b. b || is_listed ps p.0) (e
 
 -- a thread that waits is one of the heap's, since the others have no holds
 pub waiter_below : (w : World) (P : List PlainObject) (o u : ℕ) → Fits w P → is_listed (waits_at P o) u ≡ true → u < w.shape.threads
-waiter_below w P o u v listed = cases (nat_lt u w.shape.threads) refl
-  where
-    cases : (b : Bool) → nat_lt u w.shape.threads ≡ b → u < w.shape.threads
-    cases true e = grind (arith, nat_tests)
-    cases false e =
-        let past : w.shape.threads ≤ u = grind (arith, nat_tests) in
-        let none : hold_count o (w.known u).holds ≡ 0 = ap (λ (k : Known). hold_count o k.holds) (v.absent u past) ∙ named_none o 64 in
-        absurd (omega (arith, none, v.holds.number u o, waiter_stands (monitor_of P o) u (sound w P v o) listed))
+waiter_below w P o u v listed = elim (cases_lt u w.shape.threads) [
+  | inl below ↦ below
+  | inr past ↦
+      let none : hold_count o (w.known u).holds ≡ 0 = ap (λ (k : Known). hold_count o k.holds) (v.absent u past) ∙ named_none o 64 in
+      absurd (omega (arith, none, v.holds.number u o, waiter_stands (monitor_of P o) u (sound w P v o) listed))
+]
 
 module _ (w : World) (P : List PlainObject) (t o : ℕ) (v : Fits w P) (runs : (w.known t).running ≡ true) (calm : (w.known t).stage ≡ Calm) (own : owner_at P o t ≡ true) where
   -- only the owner tells all waiters, and the thread is calm

@@ -1,51 +1,37 @@
 -- After every legal history each object has the slots of its shape.
-use Rattle.core_locks.proofs.Prelude.{◌≡◌, ℕ, zero, suc, ◌<◌, Bool, true, false, List, [], ◌∷◌, length, slice_set, Option, Some, None, refl, sym, ap, ◌∙◌, arith, slice_get, option_and_then, replicate, slice_index_or, same_Some, PlainMonitor, only_if, PlainObject, take_entry, take_at, with_monitor, take_named, new_objects, with_hash, Logged, take_all, Entry, Exit, Get, Notify, NotifyAll, Hash, Enter, Put, Wait, Resume, Print, Dump, Trap, Spent, Done, Value, order, taken_at, World, logs, object_of, Fits, slots_of, by_equal}
-use Rattle.plain_monitor.specs.Objects.{named}
-use Rattle.core_locks.proofs.Updates.{object_here, object_else}
+use Rattle.core_locks.proofs.Prelude.{◌≡◌, ℕ, zero, suc, ◌<◌, Bool, true, false, List, [], ◌∷◌, length, Option, Some, None, refl, sym, ap, ◌∙◌, slice_get, option_and_then, slice_index_or, same_Some, only_if, PlainObject, take_entry, take_at, take_named, new_objects, Logged, take_all, Entry, Get, Put, Print, Dump, Trap, Spent, Done, order, taken_at, World, logs, object_of, Fits, slots_of, option_map}
+use Rattle.std.proofs.lemmas.List.{length-set, length-replicate}
+use Rattle.std.proofs.lemmas.Option.{slice_get_within, get_or_from_slice_get}
+use Rattle.plain_monitor.specs.Objects.{named, new_object}
+use Rattle.core_locks.proofs.Updates.{part_stays}
 
 -- an option that is made where the test holds
 pub made_by : {A : Type 0} (b : Bool) (x y : A) → only_if b x ≡ Some y → x ≡ y
 made_by true x y h = same_Some x y h
 made_by false x y h = absurd (cc h)
 
-monitor_slots : (x y : PlainObject) (m : Option PlainMonitor) → with_monitor x m ≡ Some y → length y.slots ≡ length x.slots
-monitor_slots x y None h = absurd (cc h)
-monitor_slots x y (Some m) h = ap (λ (z : PlainObject). length z.slots) (sym (same_Some _ y h))
-
-hash_slots : (x y : PlainObject) (m : Option (Option ℕ)) → with_hash x m ≡ Some y → length y.slots ≡ length x.slots
-hash_slots x y None h = absurd (cc h)
-hash_slots x y (Some m) h = ap (λ (z : PlainObject). length z.slots) (sym (same_Some _ y h))
+mapped_slots : {A : Type 0} (f : A → PlainObject) (n : ℕ) (y : PlainObject) (m : Option A) → ((a : A) → length (f a).slots ≡ n) → option_map f m ≡ Some y
+    → length y.slots ≡ n
+mapped_slots f n y None same h = absurd (cc h)
+mapped_slots f n y (Some a) same h = ap (λ (z : PlainObject). length z.slots) (sym (same_Some _ y h)) ∙ same a
 
 same_slots : (x y : PlainObject) → Some x ≡ Some y → length y.slots ≡ length x.slots
 same_slots x y h = ap (λ (z : PlainObject). length z.slots) (sym (same_Some x y h))
 
-set_slots : (xs : List Value) (i : ℕ) (v : Value) → length (slice_set xs i v) ≡ length xs
-set_slots [] i v = refl
-set_slots (x ∷ xs) zero v = refl
-set_slots (x ∷ xs) (suc i) v = ap suc (set_slots xs i v)
-
 -- an object keeps the number of its slots
 at_slots : (x y : PlainObject) (t : ℕ) (e : Entry) → take_at x t e ≡ Some y → length y.slots ≡ length x.slots
-at_slots x y t (Enter o path) h = monitor_slots x y _ h
-at_slots x y t (Exit o) h = monitor_slots x y _ h
-at_slots x y t (Wait o) h = monitor_slots x y _ h
-at_slots x y t (Resume o) h = monitor_slots x y _ h
-at_slots x y t (Notify o woken) h = monitor_slots x y _ h
-at_slots x y t (NotifyAll o woken) h = monitor_slots x y _ h
 at_slots x y t (Get o slot value) h = ap (λ (z : PlainObject). length z.slots) (sym (made_by _ x y h))
-at_slots x y t (Put o slot value) h = ap (λ (z : PlainObject). length z.slots) (sym (made_by _ _ y h)) ∙ set_slots x.slots slot value
-at_slots x y t (Hash o value drawn) h = hash_slots x y _ h
+at_slots x y t (Put o slot value) h = ap (λ (z : PlainObject). length z.slots) (sym (made_by _ _ y h)) ∙ length-set x.slots slot value
 at_slots x y t (Print value) h = same_slots x y h
 at_slots x y t (Dump number) h = same_slots x y h
 at_slots x y t (Trap fault index) h = same_slots x y h
 at_slots x y t Spent h = same_slots x y h
 at_slots x y t Done h = same_slots x y h
+at_slots x y t _ h = mapped_slots _ _ y _ (λ a. refl) h
 
 -- the object at a number
 pub got_object : (P : List PlainObject) (o : ℕ) (x : PlainObject) → slice_get P o ≡ Some x → (o < length P) × (object_of P o ≡ x)
-got_object [] o x h = absurd (cc h)
-got_object (z ∷ P) zero x h = (omega arith, same_Some z x h)
-got_object (z ∷ P) (suc o) x h = let a = got_object P o x h in (omega (arith, a.0), a.1)
+got_object P o x h = (slice_get_within P o x h, get_or_from_slice_get P o x (new_object 0) h)
 
 entry_slots : (P Q : List PlainObject) (t : ℕ) (e : Entry) → take_entry P t e ≡ Some Q → (i : ℕ) → length (object_of Q i).slots ≡ length (object_of P i).slots
 entry_slots P Q t e h i = by_name (named e) h
@@ -56,9 +42,7 @@ entry_slots P Q t e h i = by_name (named e) h
         let a = taken_at P Q t e o g in
         let b = got_object P o a.x a.was in
         let step : length a.y.slots ≡ length (object_of P o).slots = at_slots a.x a.y t e a.step ∙ ap (λ (z : PlainObject). length z.slots) (sym b.1) in
-        ap (λ R. length (object_of R i).slots) a.is ∙ by_equal i o
-        (λ s. ap (λ j. length (object_of (slice_set P o a.y) j).slots) s ∙ ap (λ (z : PlainObject). length z.slots) (object_here P o a.y b.0) ∙ step ∙ ap (λ j. length (object_of P j).slots) (sym s))
-        (λ d. ap (λ (z : PlainObject). length z.slots) (object_else P o i a.y d))
+        ap (λ R. length (object_of R i).slots) a.is ∙ sym (part_stays (λ y. length y.slots) P o a.y b.0 step i)
 
 -- the next lemma, by what the first entry makes of the objects
 all_slots_after : (P Q : List PlainObject) (x : ℕ × Logged) (xs : List (ℕ × Logged)) (i : ℕ) (a : Option (List PlainObject)) → take_entry P x.0 x.1.entry ≡ a
@@ -71,13 +55,9 @@ all_slots : (P Q : List PlainObject) (xs : List (ℕ × Logged)) → take_all P 
 all_slots P Q [] h i = ap (λ R. length (object_of R i).slots) (sym (same_Some P Q h))
 all_slots P Q (x ∷ xs) h i = all_slots_after P Q x xs i (take_entry P x.0 x.1.entry) refl (λ R g. all_slots R Q xs g i) h
 
-replicate_length : (n : ℕ) (v : Value) → length (replicate n v) ≡ n
-replicate_length zero v = refl
-replicate_length (suc n) v = ap suc (replicate_length n v)
-
 new_slots : (shape : List (ℕ × ℕ)) (o : ℕ) → length (object_of (new_objects shape) o).slots ≡ (slice_index_or shape o (0, 0)).1
 new_slots [] o = refl
-new_slots (x ∷ shape) zero = replicate_length x.1 _
+new_slots (x ∷ shape) zero = length-replicate x.1 _
 new_slots (x ∷ shape) (suc o) = new_slots shape o
 
 -- in a world where every clause holds, each object has the slots of its shape

@@ -12,10 +12,9 @@ pub record IsFreeToTell (k : Known) : Type 0 where
   pub ready : k.wait ≡ 0
   pub room : length k.log < log_limit
 
-module _ (w : World) (P : List PlainObject) (t : ℕ) (v : Fits w P) (free : IsFreeToTell (w.known t)) where
-  -- it owns each object that it holds
-  pub owns_held : (o : ℕ) → HasHold (w.known t) o → owner_at P o t ≡ true
-  owns_held o holds = (holder_owns w P t v (ready_is_out (w.known t) free.ready) o free.calm holds).0
+-- it owns each object that it holds
+pub owns_held : (w : World) (P : List PlainObject) (t : ℕ) → Fits w P → IsFreeToTell (w.known t) → (o : ℕ) → HasHold (w.known t) o → owner_at P o t ≡ true
+owns_held w P t v free o holds = (holder_owns w P t v (ready_is_out (w.known t) free.ready) o free.calm holds).0
 
 -- an object has one owner
 pub one_owner : (P : List PlainObject) (o t u : ℕ) → owner_at P o t ≡ true → owner_at P o u ≡ true → u ≡ t
@@ -42,10 +41,5 @@ unbound_taken P t e taken unbound undrawn = record { undrawn = undrawn; taken = 
 pub owner_taken : (P : List PlainObject) (t o : ℕ) (e : Entry) (z : PlainObject) → o < length P → owner_at P o t ≡ true → bound_to e ≡ Some o → plain.named e ≡ Some o
     → z.monitor ≡ monitor_of P o → z.hash ≡ (object_of P o).hash → take_at (object_of P o) t e ≡ Some z → IsTaken P (slice_set P o z) t e
 owner_taken P t o e z within own bound names monitor hash taken =
-    record {
-      undrawn = bound_undrawn e o bound;
-      taken = takes P o t e z within names taken;
-      owned = λ i b. ap (λ j. owner_at P j t) (same_Some i o (sym b ∙ bound)) ∙ own;
-      monitors = monitors_stay P o z within monitor;
-      hashes = hashes_stay P o z within hash;
-    }
+    let owned : (i : ℕ) → bound_to e ≡ Some i → owner_at P i t ≡ true = λ i b. ap (λ j. owner_at P j t) (same_Some i o (sym b ∙ bound)) ∙ own in
+    search (bound_undrawn e o bound, takes P o t e z within names taken, owned, monitors_stay P o z within monitor, hashes_stay P o z within hash)

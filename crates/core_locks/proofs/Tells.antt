@@ -1,9 +1,9 @@
 -- A calm thread whose waiting word is Ready logs an entry and stands where it stood: the clauses that this touches, whatever the step's word is.
-use Rattle.core_locks.proofs.Prelude.{◌≡◌, ◌⊎◌, ℕ, ◌+◌, ◌<◌, true, false, List, [], ◌∷◌, ◌++◌, Some, sym, ap, ◌∙◌, arith, inl, inr, is_listed, owns, PlainObject, Logged, last_stamp, bound_to, Name, Stamp, Waiting, Resumes, monitor_in, waits_on, stamp_in, enters_on, says_ended, Known, World, with_known, logs_from, marks, holds_by_monitor, object_of, monitor_of, owner_at, hash_at, waits_at, notified_at, Fits, WaitsFit, last_entry, ends, IsUnfinished, bound_stamp, StampsFit, DrawsFit, SlotsFit, each_with_known, no_entering, no_ended, thread_is, IsOwnEntry}
+use Rattle.core_locks.proofs.Prelude.{◌≡◌, ◌⊎◌, ℕ, ◌+◌, ◌<◌, true, false, List, [], ◌∷◌, ◌++◌, Some, sym, ap, ◌∙◌, inl, inr, is_listed, owns, PlainObject, Logged, last_stamp, bound_to, Name, Stamp, Waiting, Resumes, monitor_in, waits_on, stamp_in, enters_on, says_ended, Known, World, with_known, logs_from, marks, holds_by_monitor, object_of, monitor_of, owner_at, hash_at, waits_at, notified_at, Fits, WaitsFit, last_entry, ends, IsUnfinished, StampsFit, DrawsFit, SlotsFit, each_with_known, no_entering, no_ended, thread_is, IsOwnEntry}
 use Rattle.plain_monitor.specs.declared.entry.Entry.TheVariants as entry
 use Rattle.core_world.specs.declared.task.Op.TheVariants as op
 use Rattle.core_locks.proofs.Clauses.{Parts, parts_of, Clause, waits, stamps, slots}
-use Rattle.core_locks.proofs.Logging.{IsLogging, stamps_owned}
+use Rattle.core_locks.proofs.Logging.{IsLogging, next_logging, stamps_owned}
 use Rattle.core_locks.proofs.LoggedSteps.{Grown, logged_step}
 use Rattle.core_locks.proofs.Steps.{Fields, IsStep, next, logs_next}
 use Rattle.core_locks.proofs.TellTaken.{IsFreeToTell, IsTaken}
@@ -56,26 +56,11 @@ pub record IsTelling (w : World) (P Q : List PlainObject) (t : ℕ) (y : Logged)
 -- so does one that is free to log the entry, with the next stamp
 pub tells_so : {w : World} {P Q : List PlainObject} {t : ℕ} {y : Logged} {l : Known} → Fits w P → t < w.shape.threads → IsFreeToTell (w.known t) → l.log ≡ (w.known t).log ++ y ∷ []
     → y.stamp ≡ last_stamp (w.known t).log + 1 → IsTaken P Q t y.entry → IsOwnEntry (w.known t) y.entry → IsTelling w P Q t y l
-tells_so {w} {P} {Q} {t} {y} {l} v within free grows stamp entry own = record {
-  free = free;
-  logs = record {
-    within = within;
-    grows = grows;
-    taken = entry.taken;
-    own = own;
-    up = omega (arith, stamp);
-    above = λ o e. let b = ap (bound_stamp (λ u. (w.known u).log) (w.words (Stamp o))) (thread_is (monitor_of P o).owner t (entry.owned o e)) in omega (arith, b, stamp);
-    follows = λ k. stamp;
-  };
-  owned = entry.owned;
-  stamp = stamp;
-  monitors = entry.monitors;
-}
+tells_so {w} {P} {Q} {t} {y} {l} v within free grows stamp entry own =
+    let logs : IsLogging w P Q t y l = next_logging within grows entry.taken own stamp (λ o e. thread_is (monitor_of P o).owner t (entry.owned o e)) in
+    search (free, logs, entry.owned, stamp, entry)
 
 module _ {w : World} {P Q : List PlainObject} {t : ℕ} {y : Logged} {l : Known} {fields : Fields} (s : IsStep w t l fields) (a : IsTelling w P Q t y l) where
-  abbrev next_logs : List (List Logged)
-  next_logs = logs_from 0 w.shape.threads (with_known t l w.known)
-
   -- the parts afterwards, in terms of P where they are the same
   abbrev pub told_parts : (Name → ℕ) → Parts
   told_parts f = record (parts_of (next w t l fields f) Q) {

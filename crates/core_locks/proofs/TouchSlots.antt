@@ -1,6 +1,9 @@
 -- A thread that holds an object loads or stores one of its slots, and so logs a Get or a Put.
-use Rattle.core_locks.proofs.Prelude.{◌≡◌, ◌≢◌, ◌⊎◌, ℕ, zero, suc, ◌+◌, ◌<◌, ◌&&◌, nat_lt, eq-eqb, true, false, cond, List, [], ◌∷◌, ◌++◌, length, slice_set, Option, Some, None, refl, sym, ap, ◌∙◌, subst, arith, inl, inr, slice_get, nat_tests, Decides-int_eq, same_Some, only_if, PlainObject, take_at, same_value, has_value, Logged, last_stamp, Get, Put, Value, read_value, word_of, Slot, StepPlan, Stage, Calm, word_after, with_word, same_name, Known, StepMade, World, with_word_and_known, object_of, owner_at, Stays, Purpose, known_hit, seen_before, draws_after, log_after, kept_by_note, Fits, SeenFit, Store, Load, drawn_by, SlotsFit, IsHere, Unfinished, Act, Log, LogGet, value_found, by_equal, fits_running, with_word_there, frame2, with_word_same, Logs, MayTouch, MayPut, IsOwnEntry, LogsFound, LogsValid, get_plan, put_plan, MayGet, get_entry}
+use Rattle.core_locks.proofs.Prelude.{◌≡◌, ◌≢◌, ◌⊎◌, ℕ, ◌+◌, ◌<◌, ◌&&◌, nat_lt, eq-eqb, true, false, cond, List, [], ◌∷◌, ◌++◌, length, slice_set, Option, Some, None, refl, sym, ap, ◌∙◌, subst, arith, inl, inr, slice_get, nat_tests, Decides-int_eq, only_if, PlainObject, take_at, same_value, has_value, Logged, last_stamp, Get, Put, Value, read_value, word_of, Slot, StepPlan, Stage, Calm, word_after, with_word, same_name, Known, StepMade, World, with_word_and_known, object_of, owner_at, Stays, Purpose, known_hit, seen_before, draws_after, log_after, kept_by_note, Fits, Store, Load, drawn_by, SlotsFit, IsHere, Unfinished, Act, Log, LogGet, value_found, by_equal, fits_running, with_word_there, frame2, with_word_same, Logs, MayTouch, MayPut, IsOwnEntry, LogsFound, LogsValid, get_plan, put_plan, MayGet, get_entry, slice_index_or}
 use Rattle.plain_monitor.specs.declared.entry.Value.TheVariants.{Nil, Int, Ref}
+use Rattle.std.proofs.lemmas.List.{length-set, get_or-set_same}
+use Rattle.std.proofs.lemmas.Option.{slice_get-get_or, slice_get_within, get_or_from_slice_get}
+use Rattle.plain_monitor.proofs.Lists.{get_set_other}
 use Rattle.plain_monitor.proofs.ValuesRead.{read_value-word_of}
 use Rattle.core_world.specs.declared.plan.Note.{Note}
 use Rattle.core_world.specs.declared.plan.Own.TheVariants.{Same}
@@ -13,24 +16,11 @@ use Rattle.core_locks.proofs.OwnSeen.{own_seen}
 use Rattle.core_locks.proofs.Steps.{telling, IsStep, step_fits, seen_next}
 use Rattle.core_locks.proofs.Updates.{object_here, object_else, slots_stay}
 
--- a slot below their number has a value
-slot_there : (xs : List Value) (i : ℕ) → i < length xs → (v : Value) × (slice_get xs i ≡ Some v)
-slot_there [] i h = absurd (omega arith)
-slot_there (x ∷ xs) zero h = (x, refl)
-slot_there (x ∷ xs) (suc i) h = slot_there xs i (omega arith)
-
 -- the slots after one has got another value
 slot_here : (xs : List Value) (i : ℕ) (v u : Value) → slice_get (slice_set xs i v) i ≡ Some u → v ≡ u
-slot_here [] i v u h = absurd (cc h)
-slot_here (x ∷ xs) zero v u h = same_Some v u h
-slot_here (x ∷ xs) (suc i) v u h = slot_here xs i v u h
-
-slot_else : (xs : List Value) (i j : ℕ) (v : Value) → j ≢ i → slice_get (slice_set xs i v) j ≡ slice_get xs j
-slot_else [] i j v d = refl
-slot_else (x ∷ xs) zero zero v d = absurd (d refl)
-slot_else (x ∷ xs) zero (suc j) v d = refl
-slot_else (x ∷ xs) (suc i) zero v d = refl
-slot_else (x ∷ xs) (suc i) (suc j) v d = slot_else xs i j v (λ e. d (ap suc e))
+slot_here xs i v u h =
+    let within : i < length xs = omega (arith, slice_get_within (slice_set xs i v) i u h, length-set xs i v) in
+    sym (get_or-set_same xs i v Nil within) ∙ get_or_from_slice_get (slice_set xs i v) i u Nil h
 
 same_value_self : (v : Value) → same_value v v ≡ true
 same_value_self Nil = refl
@@ -53,7 +43,7 @@ record LogsTouch (w : World) (P : List PlainObject) (t o slot : ℕ) (act : Act)
 
 module _ (w : World) (P : List PlainObject) (t : ℕ) (e : Purpose) (o slot : ℕ) (within : t < w.shape.threads) (may : MayTouch w.shape (w.known t) o slot) (v : Fits w P) where
   free : IsFreeToTell (w.known t)
-  free = record { runs = may.runs; calm = may.calm; ready = may.ready; room = may.room }
+  free = search may
 
   own : owner_at P o t ≡ true
   own = owns_held w P t v free o may.holds
@@ -83,9 +73,6 @@ module _ (w : World) (P : List PlainObject) (t : ℕ) (e : Purpose) (o slot : �
     abbrev Q : List PlainObject
     Q = slice_set P o z
 
-    seen_law : SeenFit x P
-    seen_law = let kept = ap (λ (ms : List StepMade). record { plan = plan; found = w.words (Slot o slot) } ∷ ms) (a.counts (seen_before w.shape (w.known t))) in own_seen w P t plan (search (free.runs, kept, uncounted)) v
-
     step : IsStep w t l telling
     step = record { within = within; mine = refl; others = λ k. refl }
 
@@ -93,7 +80,9 @@ module _ (w : World) (P : List PlainObject) (t : ℕ) (e : Purpose) (o slot : �
     tells = tells_so v within free a.log a.stamp a.entry a.own
 
     all_after : AllHold (still_parts step tells x.words)
-    all_after seen = seen_next step x.words P seen_law
+    all_after seen =
+        let kept = ap (λ (ms : List StepMade). record { plan = plan; found = w.words (Slot o slot) } ∷ ms) (a.counts (seen_before w.shape (w.known t))) in
+        seen_next step x.words P (own_seen w P t plan (search (free.runs, kept, uncounted)) v)
     all_after c = told_step step tells v a.slots (draws_still w P Q t y l v tells.logs (let n = ap drawn_by a.entry.undrawn in omega (arith, n, a.still)) a.entry.undrawn) c
 
     touches : Fits (with_word_and_known (Slot o slot) (word_after act (w.words (Slot o slot))) t (known_hit w.shape w.start (touch e o slot act note last Calm) (w.words (Slot o slot)) (w.known t)) w) Q
@@ -107,9 +96,10 @@ module _ (w : World) (P : List PlainObject) (t : ℕ) (e : Purpose) (o slot : �
   -- an object from which its owner gets a value stays as it is
   get_taken : take_at (object_of P o) t (Get o slot found) ≡ Some (object_of P o)
   get_taken =
-      let a = slot_there (object_of P o).slots slot slot_within in
-      let is : found ≡ a.0 = ap value_found (v.slots.value o slot a.0 a.1) in
-      let has : has_value (slice_get (object_of P o).slots slot) found ≡ true = ap (λ c. has_value c found) a.1 ∙ ap (same_value a.0) is ∙ same_value_self a.0 in
+      let a : Value = slice_index_or (object_of P o).slots slot Nil in
+      let there : slice_get (object_of P o).slots slot ≡ Some a = slice_get-get_or (object_of P o).slots slot Nil slot_within in
+      let is : found ≡ a = ap value_found (v.slots.value o slot a there) in
+      let has : has_value (slice_get (object_of P o).slots slot) found ≡ true = ap (λ c. has_value c found) there ∙ ap (same_value a) is ∙ same_value_self a in
       ap (λ b. only_if (b && has_value (slice_get (object_of P o).slots slot) found) (object_of P o)) own ∙ ap (λ b. only_if b (object_of P o)) has
 
   gets : Logs w P t (get_plan e o slot) (Get o slot found)
@@ -117,18 +107,13 @@ module _ (w : World) (P : List PlainObject) (t : ℕ) (e : Purpose) (o slot : �
       let Q : List PlainObject = slice_set P o (object_of P o) in
       let entry = owner_taken P t o (Get o slot found) (object_of P o) there own refl refl refl refl get_taken in
       let same : w.words ≡ with_word (Slot o slot) (w.words (Slot o slot)) w.words = sym (with_word_same (Slot o slot) (w.words (Slot o slot)) w.words refl) in
+      let slots = frame2 (SlotsFit w.shape) (λ i. λ n j. same i (Slot n j)) (slots_stay P o (object_of P o) there refl) v.slots in
+      let own_entry : IsOwnEntry (w.known t) (Get o slot found) = record { operation = inl may.nothing; shot = tt } in
       record {
         now = Q;
         taken = entry.taken;
-        valid = inl (touches Load (LogGet o slot) e.unfinished (record { stamp = last_stamp (w.known t).log + 1; entry = Get o slot found }) (object_of P o) (record {
-          log = refl;
-          stamp = refl;
-          counts = λ seen. refl;
-          still = refl;
-          entry = entry;
-          own = record { operation = inl may.nothing; shot = tt };
-          slots = frame2 (SlotsFit w.shape) (λ i. λ n j. same i (Slot n j)) (slots_stay P o (object_of P o) there refl) v.slots;
-        }));
+        valid = inl (touches Load (LogGet o slot) e.unfinished (record { stamp = last_stamp (w.known t).log + 1; entry = Get o slot found }) (object_of P o)
+            (search (entry, own_entry, slots)));
       }
 
   -- the object with another value in the slot
@@ -150,7 +135,9 @@ module _ (w : World) (P : List PlainObject) (t : ℕ) (e : Purpose) (o slot : �
       sym (ap (λ (z : PlainObject). slice_get z.slots j) (ap (object_of (slice_set P o (filled value))) same ∙ object_here P o (filled value) there)) ∙ h in
       by_equal j slot
       (λ s. inl (ap (λ n. Slot n j) same ∙ ap (λ n. Slot o n) s, slot_here (object_of P o).slots slot value x (ap (slice_get (slice_set (object_of P o).slots slot value)) (sym s) ∙ set)))
-      (λ d. inr (grind (arith, nat_tests), ap (λ n. slice_get (object_of P n).slots j) same ∙ sym (slot_else (object_of P o).slots slot j value d) ∙ set)))
+      (λ d.
+      let stays = sym (get_set_other (object_of P o).slots slot j value (λ e. d (sym e))) in
+      inr (grind (arith, nat_tests), ap (λ n. slice_get (object_of P n).slots j) same ∙ stays ∙ set)))
       (λ d. inr (grind (arith, nat_tests), sym (ap (λ (z : PlainObject). slice_get z.slots j) (object_else P o i (filled value) d)) ∙ h))
 
   put_slots : (value : Value) → MayPut w.shape (w.known t) o slot value → SlotsFit w.shape (λ i j. with_word (Slot o slot) (word_of value) w.words (Slot i j)) (λ i. (object_of (slice_set P o (filled value)) i).slots)
@@ -167,18 +154,13 @@ module _ (w : World) (P : List PlainObject) (t : ℕ) (e : Purpose) (o slot : �
   puts : (value : Value) → MayPut w.shape (w.known t) o slot value → Logs w P t (put_plan e o slot value) (Put o slot value)
   puts value put =
       let entry = owner_taken P t o (Put o slot value) (filled value) there own refl refl refl refl (put_taken value) in
+      let own_entry : IsOwnEntry (w.known t) (Put o slot value) = record { operation = inl may.nothing; shot = tt } in
       record {
         now = slice_set P o (filled value);
         taken = entry.taken;
-        valid = inl (touches (Store (word_of value)) (Log (Put o slot value)) None (record { stamp = last_stamp (w.known t).log + 1; entry = Put o slot value }) (filled value) (record {
-          log = refl;
-          stamp = refl;
-          counts = λ seen. refl;
-          still = refl;
-          entry = entry;
-          own = record { operation = inl may.nothing; shot = tt };
-          slots = put_slots value put;
-        }));
+        valid = inl (touches (Store (word_of value)) (Log (Put o slot value)) None
+            (record { stamp = last_stamp (w.known t).log + 1; entry = Put o slot value }) (filled value)
+            (search (entry, own_entry, put_slots value put)));
       }
 
 -- THE LAWS

@@ -1,8 +1,6 @@
 -- The shots fit in every valid world, also while a bias is being revoked: the requester's revocation keeps none and logs nothing.
-use Rattle.core_locks.proofs.Prelude.{◌≡◌, ℕ, List, refl, sym, ap, ◌∙◌, inl, inr, PlainObject, Known, World, logs, IsValid, by_equal}
-use Rattle.core_world.specs.Shots.{ShotsFit}
+use Rattle.core_locks.proofs.Prelude.{◌≡◌, ℕ, List, refl, sym, ap, ◌∙◌, inl, inr, PlainObject, Known, World, logs, IsValid, by_equal, ShotsFit, frame5}
 use Rattle.core_world.specs.Valid.{IsRevoking, requester_known}
-use Rattle.core_world.proofs.Frames.{frame5}
 use Rattle.core_locks.proofs.DrawnLogs.{revoking_logs}
 
 module _ (w : World) (P : List PlainObject) (s : IsRevoking w P) where

@@ -1,7 +1,8 @@
 -- What a thread says in its own waiting word: that it is ready, that it enters an object, and that it has ended.
-use Rattle.core_locks.proofs.Prelude.{◌≡◌, ◌⊎◌, ℕ, ◌<◌, true, false, List, Option, Some, refl, sym, ap, ◌∙◌, subst, arith, inl, inr, eqb-true, same_Some, wait_of, read_wait, Ready, Entering, Ended, read_wait-wait_of, is_listed, PlainObject, Path, Mark, Waiting, Calm, Enters, Resumes, monitor_in, waits_form, ended_form, notified_form, enters_form, World, marks, monitor_of, waits_at, notified_at, Purpose, with_stage, store, world_after, Fits, IsUnfinished, Unfinished, IsWait, no_entering, no_ended, no_wait, no_told, wait_zero, sound, listed_count, waiter_unnotified, fits_running, IsOut, MayBeReady, MayStand, MayEnd, KeepsValid, store_ended_plan, store_entering_plan, store_ready_plan}
+use Rattle.core_locks.proofs.Prelude.{◌≡◌, ◌⊎◌, ℕ, ◌<◌, true, false, List, Option, Some, refl, sym, ap, ◌∙◌, subst, arith, inl, inr, eqb-true, same_Some, wait_of, read_wait, Ready, Entering, Ended, read_wait-wait_of, is_listed, PlainObject, Path, Waiting, Calm, Enters, Resumes, monitor_in, waits_form, ended_form, notified_form, enters_form, World, marks, monitor_of, waits_at, notified_at, Purpose, with_stage, store, world_after, Fits, IsUnfinished, Unfinished, IsWait, no_entering, no_ended, no_wait, no_told, wait_zero, sound, listed_count, waiter_unnotified, fits_running, IsOut, MayBeReady, MayStand, MayEnd, KeepsValid, store_ended_plan, store_entering_plan, store_ready_plan}
 use Rattle.core_world.specs.declared.task.Op.{Op}
 use Rattle.core_world.specs.declared.task.Op.TheVariants as op
+use Rattle.core_locks.proofs.HoldWays.{saw_inflated}
 use Rattle.core_locks.proofs.WaitOut.{fails, out_unlisted}
 use Rattle.core_locks.proofs.WaitStores.{MaySay, said_fits}
 
@@ -65,10 +66,6 @@ module _ (w : World) (P : List PlainObject) (t : ℕ) (e : Purpose) (o m : ℕ) 
   outside : (i : ℕ) → (is_listed (waits_at P i) t ≡ false) × (is_listed (notified_at P i) t ≡ false)
   outside = out_unlisted w P t v may.out (λ i stage. absurd (cc (stage, may.calm)))
 
-  -- the object that was seen inflated is so still
-  inflated : monitor_in (marks w o) ≡ Some m
-  inflated = let saw = may.inflated in ap monitor_in (v.seen.stays t (Mark o) saw.0 saw.1 (inl (may.runs, inr (inl (m, saw.2))))) ∙ saw.2
-
   -- where the thread says that it enters the object
   enters : MaySay w P t e (wait_of (Entering o))
   enters = record {
@@ -81,7 +78,8 @@ module _ (w : World) (P : List PlainObject) (t : ℕ) (e : Purpose) (o m : ℕ) 
     untold = λ i. ap (λ f. notified_form f i) read;
     entering = λ i h.
         let same : o ≡ i = eqb-true o i (sym (ap (λ f. enters_form f i) read) ∙ h) in
-        subst (λ j. IsUnfinished e.unfinished op.Enter j × ((m : ℕ) × (monitor_in (marks w j) ≡ Some m))) same (may.enters, (m, inflated));
+        subst (λ j. IsUnfinished e.unfinished op.Enter j × ((m : ℕ) × (monitor_in (marks w j) ≡ Some m))) same
+        (may.enters, (m, saw_inflated w P t o may.runs v m may.inflated));
     ended = λ h. let not = ap ended_form read in absurd (cc (not, h));
   }
 

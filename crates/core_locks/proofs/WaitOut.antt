@@ -1,10 +1,20 @@
 -- A thread whose waiting word says neither that it waits nor that it was notified stands at no object's lists, so who holds an object owns it.
-use Rattle.core_locks.proofs.Prelude.{◌≡◌, ℕ, ◌≤◌, Bool, true, false, cond, List, refl, ap, ◌∙◌, arith, inl, inr, is_listed, PlainObject, Waiting, Calm, Resumes, waits_on, says_notified, hold_words_ahead, Known, World, hold_count, holds_by_monitor, monitor_of, owner_at, waits_at, notified_at, Fits, no_wait, no_told, unlisted_count, IsOut}
+use Rattle.core_locks.proofs.Prelude.{◌≡◌, ℕ, ◌≤◌, Bool, true, false, cond, List, refl, ap, ◌∙◌, arith, inl, inr, is_listed, PlainObject, Waiting, Calm, Resumes, waits_on, says_notified, hold_words_ahead, Known, World, hold_count, holds_by_monitor, monitor_of, owner_at, waits_at, notified_at, Fits, no_wait, no_told, unlisted_count, IsOut, is_thread, who, bears, sym, ◌||◌}
 
 -- a test that can't hold fails
 pub fails : (b : Bool) → (b ≡ true → ⊥) → b ≡ false
 fails true h = absurd (h refl)
 fails false h = refl
+
+-- a test that holds with neither, holds with none
+pub neither : (a b : Bool) → false ≡ (a || b) → (a ≡ false) × (b ≡ false)
+neither true b e = absurd (cc e)
+neither false b e = (refl, sym e)
+
+-- who hasn't the lock of an object doesn't own it, nor bear it
+pub no_other : (w : World) (P : List PlainObject) (o u : ℕ) → Fits w P → is_thread (who w o) u ≡ false
+    → (owner_at P o u ≡ false) × (bears (w.known u).stage o ≡ false)
+no_other w P o u v h = neither (owner_at P o u) (bears (w.known u).stage o) (sym h ∙ v.owners.same o u)
 
 -- a thread whose waiting word says that it is ready is out
 pub ready_is_out : (k : Known) → k.wait ≡ 0 → IsOut k
@@ -47,9 +57,7 @@ out_unlisted w P t v out d o = (out_unwaiting w P t v out o, out_uncalled w P t 
 pub out_standing : (w : World) (P : List PlainObject) (t : ℕ) → Fits w P → IsOut (w.known t) → (o : ℕ) → ((w.known t).stage ≡ Resumes o → ⊥)
     → holds_by_monitor (monitor_of P o) t ≡ cond (owner_at P o t) (monitor_of P o).count 0
 out_standing w P t v out o d =
-    let a = unlisted_count (waits_at P o) t (out_unwaiting w P t v out o) in
-    let b = unlisted_count (notified_at P o) t (out_uncalled w P t v out o d) in
-    omega (arith, a, b)
+    omega (arith, unlisted_count (waits_at P o) t (out_unwaiting w P t v out o), unlisted_count (notified_at P o) t (out_uncalled w P t v out o d))
 
 -- a thread that is out, and has a hold word for an object, is its plain owner, and has as many as the plain count, at each stage but those at
 -- which it has one that its log doesn't say or resumes

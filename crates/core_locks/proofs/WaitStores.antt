@@ -1,8 +1,8 @@
 -- A running thread that waits nowhere stores another word in its own waiting word.
-use Rattle.core_locks.proofs.Prelude.{◌≡◌, ◌≢◌, ◌⊎◌, ℕ, ◌<◌, ◌==◌, ◌&&◌, ◌||◌, nat_lt, eq-eqb, Bool, true, false, cond, List, [], ◌∷◌, Some, refl, sym, ap, ◌∙◌, subst, inl, inr, AllByRecursion, wait_of, read_wait, Notified, is_listed, PlainObject, Waiting, StepPlan, Resumes, monitor_in, waits_on, says_notified, stamp_in, enters_on, says_ended, notification_in, Known, World, marks, owner_at, waits_at, notified_at, Stays, Purpose, with_stage, store, world_after, known_hit, Fits, last_entry, StandByStamps, StandsBefore, ends, IsUnfinished, IsWait, GoesOn}
+use Rattle.core_locks.proofs.Prelude.{◌≡◌, ◌≢◌, ◌⊎◌, ℕ, ◌<◌, ◌==◌, eq-eqb, Bool, true, false, cond, List, Some, refl, sym, ap, ◌∙◌, inl, inr, wait_of, read_wait, Notified, is_listed, PlainObject, Waiting, StepPlan, Resumes, monitor_in, waits_on, says_notified, stamp_in, enters_on, says_ended, notification_in, Known, World, marks, owner_at, waits_at, notified_at, Stays, Purpose, with_stage, store, world_after, known_hit, Fits, last_entry, StandByStamps, ends, IsUnfinished, IsWait, GoesOn}
 use Rattle.plain_monitor.specs.declared.entry.Entry.TheVariants as entry
 use Rattle.core_world.specs.declared.task.Op.TheVariants as op
-use Rattle.core_locks.proofs.LeavesLists.{told_same}
+use Rattle.core_locks.proofs.LeavesLists.{stand_where, told_same}
 use Rattle.core_locks.proofs.Clauses.{kept_parts, parts_stand, seen, forms, waits, AllHold}
 use Rattle.core_locks.proofs.OwnSeen.{own_seen}
 use Rattle.core_locks.proofs.Steps.{saying, IsStep, next, each_written, step_fits, seen_next, quiet_step, waits_go_on}
@@ -22,19 +22,7 @@ pub record MaySay (w : World) (P : List PlainObject) (t : ℕ) (e : Purpose) (wo
 
 -- those who wait stand by their stamps where every word that says so afterwards said it before
 pub sorted_stays : (f g : ℕ → ℕ) (o : ℕ) → ((u : ℕ) → waits_on (g u) o ≡ true → f u ≡ g u) → (ps : List (ℕ × ℕ)) → StandByStamps f o ps → StandByStamps g o ps
-sorted_stays f g o same [] h = h
-sorted_stays f g o same (p ∷ ps) h = (each ps h.0, sorted_stays f g o same ps h.1)
-  where
-    one : (q : ℕ × ℕ) → StandsBefore f o p q → StandsBefore g o p q
-    one q before a b =
-        let here = same p.0 a in
-        let there = same q.0 b in
-        subst (λ (z : ℕ × ℕ). (nat_lt (stamp_in z.0) (stamp_in z.1) || ((stamp_in z.0 == stamp_in z.1) && nat_lt p.0 q.0)) ≡ true) (λ i. (here i, there i))
-        (before (ap (λ z. waits_on z o) here ∙ a) (ap (λ z. waits_on z o) there ∙ b))
-
-    each : (qs : List (ℕ × ℕ)) → AllByRecursion (StandsBefore f o p) qs → AllByRecursion (StandsBefore g o p) qs
-    each [] h = h
-    each (q ∷ qs) h = (one q h.0, each qs h.1)
+sorted_stays f g o same ps = stand_where f g o ps (λ u k. same u)
 
 module _ (w : World) (P : List PlainObject) (t : ℕ) (e : Purpose) (word : ℕ) (within : t < w.shape.threads) (may : MaySay w P t e word) (v : Fits w P) where
   -- the step, at the stage at which the thread stands
