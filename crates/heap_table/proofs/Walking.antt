@@ -1,16 +1,17 @@
 -- Each step of the walk is the next one.
-use Rattle.std.proofs.Common.{◌≡◌, ℕ, false, List, [], ◌∷◌, length, refl, sym, ◌∙◌, subst}
+use Rattle.std.proofs.Common.{◌≡◌, ℕ, false, List, [], ◌∷◌, length, refl, sym, ap, None, ◌∙◌, subst}
 use Rattle.mark_word.specs.Safe.{read_safe}
 use Rattle.mark_word.specs.Mark.{read_mark}
 use Rattle.mark_word.specs.Hold.{read_hold}
 use Rattle.mark_word.specs.Wait.{read_wait}
 use Rattle.plain_monitor.specs.declared.entry.Path.TheVariants.{StackFirst}
-use Rattle.core_world.specs.declared.name.Name.TheVariants.{Safepoint}
+use Rattle.core_world.specs.declared.name.Name.TheVariants.{Safepoint, Mark, Displaced}
 use Rattle.core_world.specs.declared.stage.Stage.TheVariants.{Calm}
 use Rattle.core_world.specs.Due.{steps_due, IsNext}
 use Rattle.core_world.specs.Steps.{is_idle}
 use Rattle.core_world.specs.Trees.Calls.{steps_of}
-use Rattle.core_world.specs.Trees.LockSteps.{displace_plan, seize_plan, hold_plan, log_enter_plan}
+use Rattle.core_world.specs.Trees.LockSteps.{displace_plan, seize_plan, hold_plan, log_enter_plan, raise_stamp_plan, let_go_plan, clear_plan}
+use Rattle.core_world.specs.Trees.SafepointSteps.{publish_log_plan, stop_plan}
 use Rattle.core_world.specs.Trees.Plans.{load, swap}
 use Rattle.core_world.specs.declared.plan.Own.{Own}
 use Rattle.core_world.specs.declared.plan.Own.TheVariants.{Same}
@@ -24,7 +25,8 @@ use Rattle.heap_table.specs.Kept.{HasRoom}
 use Rattle.core_world.specs.There.{IsIn}
 use Rattle.heap_table.specs.Seen.{HeapSeen, PassSeen}
 use Rattle.heap_table.specs.Stepping.{CanStep, HasStepped}
-use Rattle.heap_table.specs.Walk.{two, behind, resuming, resumed, entering, IsAt}
+use Rattle.heap_table.specs.Walk.{two, behind, resuming, resumed, entering, entered, leaving, read, left, stopping, stopped, IsAt}
+use Rattle.heap_table.specs.Fresh.{IsStill}
 
 pub resume_one : IsNext two 7 false (behind []) (load resuming Safepoint)
 unfolding steps_due is_idle steps_of
@@ -49,6 +51,44 @@ enter_three = refl
 pub enter_four : IsNext two 7 false (behind ((hold_plan entering 0 1 1 0 StackFirst, 0) ∷ (seize_plan entering 0 1 1 0, 1) ∷ (displace_plan entering Calm 0 0 1, 0) ∷ resumed)) (log_enter_plan entering 1 StackFirst)
 unfolding steps_due is_idle steps_of read_safe read_mark read_hold read_wait
 enter_four = refl
+
+pub leave_one : IsNext two 7 false (behind entered) (raise_stamp_plan leaving 1 2)
+unfolding steps_due is_idle steps_of read_safe read_mark read_hold read_wait
+leave_one = refl
+
+pub leave_two : IsNext two 7 false (behind ((raise_stamp_plan leaving 1 2, 0) ∷ entered)) (load leaving (Displaced 0 0))
+unfolding steps_due is_idle steps_of read_safe read_mark read_hold read_wait
+leave_two = refl
+
+pub leave_three : IsNext two 7 false (behind ((load leaving (Displaced 0 0), 1) ∷ (raise_stamp_plan leaving 1 2, 0) ∷ entered)) (load leaving (Mark 1))
+unfolding steps_due is_idle steps_of read_safe read_mark read_hold read_wait
+leave_three = refl
+
+pub leave_four : IsNext two 7 false (behind read) (let_go_plan leaving 1 4096 1 0)
+unfolding steps_due is_idle steps_of read_safe read_mark read_hold read_wait
+leave_four = refl
+
+pub leave_five : IsNext two 7 false (behind ((let_go_plan leaving 1 4096 1 0, 4096) ∷ read)) (clear_plan (record leaving { unfinished = None }) 0 0)
+unfolding steps_due is_idle steps_of read_safe read_mark read_hold read_wait
+leave_five = refl
+
+pub stop_one : IsNext two 7 false (behind left) (publish_log_plan stopping 0 2)
+unfolding steps_due is_idle steps_of read_safe read_mark read_hold read_wait
+stop_one = refl
+
+pub stop_two : IsNext two 7 false (behind ((publish_log_plan stopping 0 2, 0) ∷ left)) (stop_plan stopping 0)
+unfolding steps_due is_idle steps_of read_safe read_mark read_hold read_wait
+stop_two = refl
+
+pub is_still : (h : HeapSeen) (p : PassSeen) → IsAt h stopped p → IsStill h 0 p
+unfolding steps_due is_idle steps_of read_safe read_mark read_hold read_wait
+is_still h p a =
+    record {
+      is_of = a.is_of;
+      thread = ap (λ (k : Known). k.thread) a.known;
+      stopped = ap (λ (k : Known). k.running) a.known;
+      quiet = ap (λ (k : Known). k.requesting) a.known;
+    }
 
 -- the pass is behind one step more
 pub goes : (h : HeapSeen) (p q : PassSeen) (steps : List (StepPlan × ℕ)) (plan : StepPlan) (n m : ℕ) → IsAt h steps p → HasStepped h p q plan n → n ≡ m → IsAt h ((plan, m) ∷ steps) q
