@@ -45,10 +45,14 @@ collect f t (k ∷ ks) order each =
     let here : k.log ≡ (f t).log = sym (ap (λ (x : Known). x.log) (each 0 k refl)) ∙ ap (λ (u : ℕ). (f u).log) order.0 in
     λ i. here i ∷ collect f (t + 1) ks order.1 (λ j x e. each (suc j) x e) i
 
+last_logs : (b : Heap) (words : List ℕ) (ks : List Known) (last : LastWorld b words ks) → InOrder 0 ks → length ks ≡ b.shape.threads → map (λ (k : Known). k.log) ks ≡ logs last.world
+last_logs b words ks last order all =
+    collect last.world.known 0 ks order last.knows ∙ ap (λ (n : ℕ). logs_from 0 n last.world.known) (all ∙ ap (λ (h : Heap). h.shape.threads) (sym last.is_of))
+
 legal_at_last : (b : Heap) (words : List ℕ) (ks : List Known) → LastWorld b words ks → InOrder 0 ks → length ks ≡ b.shape.threads → LegalObjects b.shape.objects (map (λ (k : Known). k.log) ks)
 legal_at_last b words ks last order all =
     let w : World = last.world in
-    let same : map (λ (k : Known). k.log) ks ≡ logs_from 0 w.shape.threads w.known = collect w.known 0 ks order last.knows ∙ ap (λ (n : ℕ). logs_from 0 n w.known) (all ∙ ap (λ (h : Heap). h.shape.threads) (sym last.is_of)) in
+    let same = last_logs b words ks last order all in
     subst (λ (x : List (ℕ × ℕ) × List (List Logged)). LegalObjects x.0 x.1) (λ i. ((last.is_of i).shape.objects, sym same i)) (legal_of w (without_clause BiasLawHolds w last.sound.valid))
 
 -- in a valid world the safepoint word is what the threads know of themselves, whether or not a bias is being revoked
@@ -75,17 +79,17 @@ logs_same : (ps : List PassSeen) → map (λ (k : Known). k.log) (knowns ps) ≡
 logs_same [] = refl
 logs_same (p ∷ ps) = ap (λ (l : List (List Logged)). p.known.log ∷ l) (logs_same ps)
 
-knowns_long : (ps : List PassSeen) → length (knowns ps) ≡ length ps
+pub knowns_long : (ps : List PassSeen) → length (knowns ps) ≡ length ps
 knowns_long [] = refl
 knowns_long (p ∷ ps) = let h = knowns_long ps in omega (arith, h)
 
 module _ (b : Heap) (words : List ℕ) (ps : List PassSeen) (last : LastWorld b words (knowns ps)) (order : InOrder 0 (knowns ps)) (all : length ps ≡ b.shape.threads) where
-  here : (P : Known → Type 0) → All (λ (p : PassSeen). P p.known) ps → (t : ℕ) → t < b.shape.threads → P (last.world.known t)
+  pub here : (P : Known → Type 0) → All (λ (p : PassSeen). P p.known) ps → (t : ℕ) → t < b.shape.threads → P (last.world.known t)
   here P each t h =
       let e : 0 + t ≡ t = omega arith in
       subst (λ u. P (last.world.known u)) e (each_knows P last.world.known 0 ps order last.knows each t (omega (arith, h, all)))
 
-  asks : (t : ℕ) → t < b.shape.threads → All (λ (p : PassSeen). p.known.requesting ≡ false) ps ⊎ Any (λ (p : PassSeen). p.known.halted ≡ true) ps
+  pub asks : (t : ℕ) → t < b.shape.threads → All (λ (p : PassSeen). p.known.requesting ≡ false) ps ⊎ Any (λ (p : PassSeen). p.known.halted ≡ true) ps
       → asks_in (last.world.words Safepoint) t ≡ false
   asks t h quiet =
       let safe = safe_fits last.world (without_clause BiasLawHolds last.world last.sound.valid) in
@@ -104,6 +108,9 @@ module _ (b : Heap) (words : List ℕ) (ps : List PassSeen) (last : LastWorld b 
       let safe = safe_fits last.world (without_clause BiasLawHolds last.world last.sound.valid) in
       let word : slice_index words 0 ≡ last.world.words Safepoint = last.words_are Safepoint tt in
       (ap (λ n. runs_in n t) word ∙ safe.bits t ∙ here (λ k. k.running ≡ false) stopped t h, ap (λ n. asks_in n t) word ∙ asks t h quiet)
+
+  pub logs_of_last : logs last.world ≡ logs_of ps
+  logs_of_last = sym (last_logs b words (knowns ps) last order (knowns_long ps ∙ all)) ∙ logs_same ps
 
   -- the logs of the passes, in the order of their threads, are legal
   pub logs_legal_at_last : LegalObjects b.shape.objects (logs_of ps)

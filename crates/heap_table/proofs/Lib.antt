@@ -11,3 +11,5 @@ pub mod Legal
 pub mod Counting
 pub mod Resuming
 pub mod Walking
+pub mod Parts
+pub mod BiasesAtEnd

@@ -11,3 +11,5 @@ pub mod StepPlans
 pub mod Stepping
 pub mod Fresh
 pub mod Walk
+pub mod Parts
+pub mod BiasesAtEnd

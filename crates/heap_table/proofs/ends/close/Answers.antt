@@ -9,6 +9,8 @@ use Rattle.heap_table.specs.Layout.{word_count}
 use Rattle.heap_table.specs.Ruled.{heap_in}
 use Rattle.heap_table.specs.Seen.{HeapSeen, PassSeen, IsOf, AllOf, LastWorld, knowns, logs_of}
 use Rattle.heap_table.proofs.AtLast.{copies, final_as, all_yielded, all_of}
+use Rattle.heap_table.specs.BiasesAtEnd.{BiasesAtEnd}
+use Rattle.heap_table.proofs.BiasesAtEnd.{biases_ended, biases_stuck}
 use Rattle.heap_table.proofs.Legal.{logs_legal_at_last, still_at_last}
 use Rattle.heap_table.proofs.Seats.{comes, joins}
 use Rattle.heap_table.proofs.ends.close.Goals as goal
@@ -73,3 +75,13 @@ returns-clause-legal c =
 
 pub returns-clause-still : goal.returns-clause-still
 returns-clause-still c = still_at_last c.args.heap.heap _ c.args.passes (returns-clause-world c) c.requires.order.0 c.requires.order.1 c.requires.stopped c.requires.quiet
+
+pub returns-clause-biases : goal.returns-clause-biases
+returns-clause-biases c = λ nothing.
+    subst (λ (l : List (List Logged)). BiasesAtEnd 0 c.args.heap.heap c.of-2.result l (knowns c.args.passes)) (sym (returns-clause-logs c))
+    (biases_ended c.args.heap.heap _ c.args.passes (returns-clause-world c) c.requires.order.0 c.requires.order.1 c.requires.quiet nothing)
+
+pub returns-clause-biases_stuck : goal.returns-clause-biases_stuck
+returns-clause-biases_stuck c = λ nothing.
+    subst (λ (l : List (List Logged)). BiasesAtEnd 1 c.args.heap.heap c.of-2.result l (knowns c.args.passes)) (sym (returns-clause-logs c))
+    (biases_stuck c.args.heap.heap _ c.args.passes (returns-clause-world c) c.requires.order.0 c.requires.order.1 c.requires.quiet nothing)

@@ -7,7 +7,5 @@ look-requires c = record {
   heap = c.requires.is_of;
   next = first_is _ _ _ _ _ _ c.requires.knows refl;
   room = tt;
-  at = tt;
-  place = tt;
   drafted = tt;
 }

@@ -11,8 +11,6 @@ look-found-requires c = record {
   heap = c.requires.is_of;
   next = first_is _ _ _ _ _ _ c.requires.knows refl;
   room = tt;
-  at = tt;
-  place = tt;
   drafted = tt;
 }
 
@@ -24,7 +22,5 @@ exchange-requires c =
       heap = c.look-found.ensures.stepped.heap;
       next = second_is _ _ _ _ _ c.args.pass.now.known.thread _ _ _ _ c.requires.knows refl c.if-found-eq0.true known refl (c.bit-word.ensures ∙ ap (λ n. 2 ^ n) thread);
       room = tt;
-      at = tt;
-      place = tt;
       drafted = tt;
     }

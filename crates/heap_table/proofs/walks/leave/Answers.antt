@@ -4,25 +4,25 @@ use Rattle.heap_table.proofs.Walking.{goes, can, leave_one, leave_two, leave_thr
 use Rattle.heap_table.proofs.walks.leave.Goals as goal
 
 pub raise-stamp-requires : goal.raise-stamp-requires
-raise-stamp-requires c = can _ _ _ _ c.requires leave_one tt (omega arith) refl
+raise-stamp-requires c = can _ _ _ _ c.requires leave_one tt refl
 
 pub load-header-requires : goal.load-header-requires
 load-header-requires c =
     let one = goes _ _ _ _ _ _ 0 c.requires c.raise-stamp.ensures c.if-stamp-ne0.false in
-    can _ _ _ _ one leave_two tt (omega arith, omega arith) refl
+    can _ _ _ _ one leave_two tt refl
 
 pub load-mark-requires : goal.load-mark-requires
 load-mark-requires c =
     let one = goes _ _ _ _ _ _ 0 c.requires c.raise-stamp.ensures c.if-stamp-ne0.false in
     let two = goes _ _ _ _ _ _ 1 one c.load-header.ensures c.if-header-ne1.false in
-    can _ _ _ _ two leave_three tt (omega arith) refl
+    can _ _ _ _ two leave_three tt refl
 
 pub log_exchange-found-requires : goal.log_exchange-found-requires
 log_exchange-found-requires c =
     let one = goes _ _ _ _ _ _ 0 c.requires c.raise-stamp.ensures c.if-stamp-ne0.false in
     let two = goes _ _ _ _ _ _ 1 one c.load-header.ensures c.if-header-ne1.false in
     let three = goes _ _ _ _ _ _ 4096 two c.load-mark.ensures c.if-mark-ne4096.false in
-    can _ _ _ _ three leave_four (omega arith) (omega arith) refl
+    can _ _ _ _ three leave_four (omega arith) refl
 
 pub store-hold-requires : goal.store-hold-requires
 store-hold-requires c =
@@ -30,7 +30,7 @@ store-hold-requires c =
     let two = goes _ _ _ _ _ _ 1 one c.load-header.ensures c.if-header-ne1.false in
     let three = goes _ _ _ _ _ _ 4096 two c.load-mark.ensures c.if-mark-ne4096.false in
     let four = goes _ _ _ _ _ _ 4096 three c.log_exchange-found.ensures c.if-found-ne4096.false in
-    can _ _ _ _ four leave_five tt (omega arith, omega arith) refl
+    can _ _ _ _ four leave_five tt refl
 
 pub returns : goal.returns
 returns c = λ e.

@@ -1,0 +1,100 @@
+-- The law of biases of the last world is one of its logs, of what its passes counted, and of its words.
+use Rattle.std.proofs.Common.{◌≡◌, ◌⊎◌, ℕ, zero, suc, ◌+◌, ◌<◌, ◌≤◌, true, false, List, [], ◌∷◌, length, map, Some, None, refl, sym, ap, ◌∙◌, subst, arith, inl, inr, All, Any}
+use Rattle.std.specs.Prelude.{slice_index, slice_get}
+use Rattle.std.proofs.lemmas.Bool.{cases_lt}
+use Rattle.plain_monitor.specs.declared.entry.Logged.{Logged}
+use Rattle.plain_monitor.specs.Objects.{PlainObject}
+use Rattle.core_world.specs.declared.name.Name.TheVariants.{Safepoint, Revocations}
+use Rattle.core_world.specs.declared.task.Op.TheVariants as op
+use Rattle.core_world.specs.Clauses.Safepoints.{IsUnfinished}
+use Rattle.core_world.specs.Opening.{first_known}
+use Rattle.core_world.specs.Threads.Counts.{CountedVerdict}
+use Rattle.core_world.specs.Threads.Known.{Known}
+use Rattle.core_world.specs.Valid.{Fits, IsRevoking}
+use Rattle.core_world.specs.Words.Forms.{asks_in}
+use Rattle.core_world.specs.Words.Shape.{Shape, class_of}
+use Rattle.core_world.specs.World.{World, logs}
+use Rattle.core_steps.specs.Logic.{Heap}
+use Rattle.core_steps.proofs.Wholes.{All as Whole, all_unless}
+use Rattle.core_counts.specs.OfARun.{BiasesOfRun, VerdictsAtMost}
+use Rattle.core_counts.proofs.RunEnds.{run_ends, run_fits, verdicts_at_most, verdicts_with_one_more}
+use Rattle.heap_table.specs.BiasesAtEnd.{BiasesAtEnd, counted_by}
+use Rattle.heap_table.specs.Seen.{PassSeen, LastWorld, InOrder, knowns, logs_of}
+use Rattle.heap_table.proofs.Legal.{here, asks, logs_of_last, knowns_long}
+
+-- what the passes counted is what the threads counted
+counted_here : (f : ℕ → Known) (t : ℕ) (ks : List Known) → InOrder t ks → ((i : ℕ) (k : Known) → slice_get ks i ≡ Some k → f k.thread ≡ k)
+    → ((u : ℕ) → t + length ks ≤ u → (f u).counts ≡ []) → (i : ℕ) → (f (t + i)).counts ≡ counted_by ks i
+counted_here f t [] order each none i = none (t + i) (omega arith)
+counted_here f t (k ∷ ks) order each none zero =
+    let e : t ≡ t + 0 = omega arith in
+    ap (λ u. (f u).counts) (sym e ∙ sym order.0) ∙ ap (λ (x : Known). x.counts) (each 0 k refl)
+counted_here f t (k ∷ ks) order each none (suc i) =
+    let e : t + suc i ≡ t + 1 + i = omega arith in
+    ap (λ u. (f u).counts) e ∙ counted_here f (t + 1) ks order.1 (λ j x g. each (suc j) x g) (λ u h. none u (omega (arith, h))) i
+
+module _ (b : Heap) (words : List ℕ) (ps : List PassSeen) (last : LastWorld b words (knowns ps)) (order : InOrder 0 (knowns ps)) (all : length ps ≡ b.shape.threads)
+    (quiet : All (λ (p : PassSeen). p.known.requesting ≡ false) ps ⊎ Any (λ (p : PassSeen). p.known.halted ≡ true) ps) where
+  abbrev w : World
+  w = last.world
+
+  threads_are : w.shape.threads ≡ b.shape.threads
+  threads_are = ap (λ (h : Heap). h.shape.threads) last.is_of
+
+  -- nobody asks, and so no bias is being revoked
+  unrevoking : (P : List PlainObject) → IsRevoking w P → ⊥
+  unrevoking P s =
+      let asks_now = s.safe.requester s.requester ∙ (s.safe.safepoint s.requester (ap (λ (k : Known). k.reached) s.knows ∙ s.reached)).0 in
+      elim (cases_lt s.requester b.shape.threads) [
+        | inl within ↦ let none = asks b words ps last order all s.requester within quiet in absurd (cc (asks_now, none))
+        | inr far ↦
+            let absent = s.fits.absent s.requester (subst (λ n. n ≤ s.requester) (sym threads_are ∙ ap (λ (z : Shape). z.threads) s.shape) far) in
+            let unreached = ap (λ (k : Known). k.reached) absent in
+            let reached = s.reached in
+            absurd (cc (reached, unreached))
+      ]
+
+  whole : Whole w last.sound.valid.objects
+  whole = all_unless w last.sound.valid.objects (unrevoking last.sound.valid.objects) last.sound.valid.is
+
+  -- what holds of what each pass knows, and of a thread that the heap lacks, holds of what each thread knows
+  each_thread : (P : Known → Type 0) → All (λ (p : PassSeen). P p.known) ps → ((t : ℕ) → P (first_known t)) → (t : ℕ) → P (w.known t)
+  each_thread P each none t = elim (cases_lt t b.shape.threads) [
+    | inl within ↦ here b words ps last order all P each t within
+    | inr far ↦ subst P (sym (whole.fits.absent t (subst (λ n. n ≤ t) (sym threads_are) far))) (none t)
+  ]
+
+  counted : (λ t. (w.known t).counts) ≡ counted_by (knowns ps)
+  counted = λ i t. counted_at t i
+    where
+      counted_at : (t : ℕ) → (w.known t).counts ≡ counted_by (knowns ps) t
+      counted_at t =
+          let e : 0 + t ≡ t = omega arith in
+          subst (λ u. (w.known u).counts ≡ counted_by (knowns ps) t) e
+          (counted_here w.known 0 (knowns ps) order last.knows (λ u far. ap (λ (k : Known). k.counts)
+          (whole.fits.absent u (let many = knowns_long ps in omega (arith, far, many, all, threads_are)))) t)
+
+  at_end : (more : ℕ) → BiasesOfRun w.biasing w.shape.threads (class_of w.shape) (logs w) (λ c. w.words (Revocations c)) (λ t. (w.known t).counts)
+      → VerdictsAtMost more w.shape.threads w.shape.classes (logs w) (λ t. (w.known t).counts) → BiasesAtEnd more b words (logs_of ps) (knowns ps)
+  at_end more biases verdicts =
+      let logs_are : logs w ≡ logs_of ps = logs_of_last b words ps last order all in
+      record {
+        count = λ c. w.words (Revocations c);
+        words_are = λ c h. last.words_are (Revocations c) h;
+        biases = subst (λ (x : Heap × List (List Logged) × (ℕ → List CountedVerdict)). BiasesOfRun x.0.biasing x.0.shape.threads (class_of x.0.shape) x.1 (λ c. w.words (Revocations c)) x.2)
+            (λ i. (last.is_of i, logs_are i, counted i)) biases;
+        verdicts = subst (λ (x : Heap × List (List Logged) × (ℕ → List CountedVerdict)). VerdictsAtMost more x.0.shape.threads x.0.shape.classes x.1 x.2)
+            (λ i. (last.is_of i, logs_are i, counted i)) verdicts;
+      }
+
+  -- where nothing is unfinished
+  pub biases_ended : All (λ (p : PassSeen). p.known.unfinished ≡ None) ps → BiasesAtEnd 0 b words (logs_of ps) (knowns ps)
+  biases_ended nothing =
+      let none = each_thread (λ k. k.unfinished ≡ None) nothing (λ t. refl) in
+      at_end 0 (run_ends w last.sound.valid.objects whole.fits whole.biases none) (verdicts_at_most w last.sound.valid.objects whole.fits whole.biases none)
+
+  -- and where no Hash is
+  pub biases_stuck : All (λ (p : PassSeen). (o : ℕ) → IsUnfinished p.known.unfinished op.Hash o → ⊥) ps → BiasesAtEnd 1 b words (logs_of ps) (knowns ps)
+  biases_stuck nothing =
+      let none = each_thread (λ k. (o : ℕ) → IsUnfinished k.unfinished op.Hash o → ⊥) nothing (λ t o h. cc h) in
+      at_end 1 (run_fits w last.sound.valid.objects whole.fits whole.biases none) (verdicts_with_one_more w last.sound.valid.objects whole.fits whole.biases)

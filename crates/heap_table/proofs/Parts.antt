@@ -1,0 +1,93 @@
+-- The steps of a part of a call, one after the other: each can be made where it is due, and then the rest is due.
+use Rattle.std.proofs.Common.{◌≡◌, ℕ, Bool, true, false, refl, sym, ap, ◌∙◌, subst}
+use Rattle.core_world.specs.declared.plan.Own.{Own}
+use Rattle.core_world.specs.declared.plan.Own.TheVariants as own
+use Rattle.core_world.specs.declared.plan.StepPlan.{StepPlan}
+use Rattle.core_world.specs.declared.task.Task.{Task}
+use Rattle.core_world.specs.Due.{IsDue, Runs, Ran}
+use Rattle.core_world.specs.Steps.{known_after, rest_of_call}
+use Rattle.core_world.specs.Threads.Known.{Known}
+use Rattle.core_world.specs.Trees.Todo.{Todo, done, never, step, ◌>>=◌}
+use Rattle.core_world.specs.Words.Shape.{Shape}
+use Rattle.core_world.proofs.CallRests.{next_due, then_due, part_due, ran_due}
+use Rattle.core_steps.specs.Reached.{comes}
+use Rattle.heap_table.specs.Drafts.{IsDrafted, IsLeft}
+use Rattle.heap_table.specs.Kept.{HasRoom}
+use Rattle.heap_table.specs.Parts.{IsDueOn, HasRun, is_shot}
+use Rattle.heap_table.specs.Seen.{HeapSeen, PassSeen, IsOf}
+use Rattle.heap_table.specs.Stepping.{CanStep, HasStepped}
+
+undrafted : (o : Own) (s : Shape) (k : Known) (p : PassSeen) → is_shot o ≡ false → IsDrafted o s k p.cut p.cells
+undrafted own.TakeShot s k p e = absurd (cc e)
+undrafted own.Same s k p e = tt
+undrafted own.Claim s k p e = tt
+undrafted own.Spend s k p e = tt
+undrafted own.Save s k p e = tt
+undrafted (own.CountVerdict c v r) s k p e = tt
+
+draft_stays : (o : Own) (p q : PassSeen) → is_shot o ≡ false → IsLeft o p.cut p.cells q.cut q.cells → (q.cut ≡ p.cut) × (q.cells ≡ p.cells)
+draft_stays own.TakeShot p q e h = absurd (cc e)
+draft_stays own.Same p q e h = h
+draft_stays own.Claim p q e h = h
+draft_stays own.Spend p q e h = h
+draft_stays own.Save p q e h = h
+draft_stays (own.CountVerdict c v r) p q e h = h
+
+module _ {A : Type 0} (h : HeapSeen) (p : PassSeen) (t : Task) (plan : StepPlan) (f : ℕ → Todo A) (due : IsDueOn h p t (step plan f)) (task : plan.task ≡ t) where
+  -- the step can be made
+  pub can : IsOf h p → HasRoom plan.note p.known.log p.limit → is_shot plan.own ≡ false → CanStep h p plan
+  can is_of room shotless = record {
+    heap = is_of;
+    next = next_due h.heap.shape h.heap.start h.heap.biasing p.known t plan f due task;
+    room = room;
+    drafted = undrafted plan.own h.heap.shape p.known p shotless;
+  }
+
+  -- and then the rest is due
+  pub rest_due : (q : PassSeen) (n : ℕ) → HasStepped h p q plan n → IsDueOn h q t (f n)
+  rest_due q n s = subst (λ k. IsDue h.heap.shape h.heap.start h.heap.biasing k t (f n)) (sym s.known) (then_due h.heap.shape h.heap.start h.heap.biasing p.known t plan f due task n)
+
+-- behind such a step the run goes on
+pub stepped : {A : Type 0} (h : HeapSeen) (p q r : PassSeen) (plan : StepPlan) (f : ℕ → Todo A) (n : ℕ) (a : A) → HasStepped h p q plan n → is_shot plan.own ≡ false
+    → HasRun h (f n) q r a → HasRun h (step plan f) p r a
+stepped h p q r plan f n a s shotless run =
+    let draft = draft_stays plan.own p q shotless s.draft in
+    record {
+      heap = run.heap;
+      limit = run.limit ∙ s.limit;
+      cut = run.cut ∙ draft.0;
+      cells = run.cells ∙ draft.1;
+      ran = record { by = (n, subst (λ k. Runs h.heap.shape h.heap.start (f n) k r.known a) s.known run.ran.by) };
+    }
+
+-- its end
+pub ends : {A : Type 0} (h : HeapSeen) (p : PassSeen) (a : A) → IsOf h p → HasRun h (done a) p p a
+ends h p a is_of = record { heap = is_of; limit = refl; cut = refl; cells = refl; ran = record { by = (refl, refl) } }
+
+-- one part behind the other
+runs_on : {A B : Type 0} (s : Shape) (start : ℕ) (d : Todo A) (g : A → Todo B) (k l m : Known) (a : A) (b : B) → Runs s start d k l a → Runs s start (g a) l m b → Runs s start (d >>= g) k m b
+runs_on s start (done c) g k l m a b one two = subst (λ y. Runs s start (g c) y m b) one.0 (subst (λ z. Runs s start (g z) l m b) one.1 two)
+runs_on s start never g k l m a b one two = absurd one
+runs_on s start (step p f) g k l m a b one two = (one.0, runs_on s start (f one.0) g (known_after s start p one.0 k) l m a b one.1 two)
+
+pub in_turn : {A B : Type 0} (h : HeapSeen) (p q r : PassSeen) (d : Todo A) (g : A → Todo B) (a : A) (b : B) → HasRun h d p q a → HasRun h (g a) q r b → HasRun h (d >>= g) p r b
+in_turn h p q r d g a b one two = record {
+  heap = two.heap;
+  limit = two.limit ∙ one.limit;
+  cut = two.cut ∙ one.cut;
+  cells = two.cells ∙ one.cells;
+  ran = record { by = runs_on h.heap.shape h.heap.start d g p.known q.known r.known a b one.ran.by two.ran.by };
+}
+
+-- and then what comes behind it is due, where it has a step
+pub part_then : {A B : Type 0} (h : HeapSeen) (p q : PassSeen) (t : Task) (plan : StepPlan) (f : ℕ → Todo A) (g : A → Todo B) (a : A) → IsDueOn h p t (step plan f >>= g) → plan.task ≡ t
+    → HasRun h (step plan f) p q a → IsDueOn h q t (g a)
+part_then h p q t plan f g a due task run = ran_due h.heap.shape h.heap.start h.heap.biasing p.known q.known t plan f g a due task run.ran.by
+
+-- no call comes to where its steps say that no valid world comes
+pub not_never : {A : Type 0} (h : HeapSeen) (p q : PassSeen) (t : Task) (plan : StepPlan) (n : ℕ) (d : Todo A) → HasStepped h p q plan n → (after : A → Todo (Unit {0}))
+    → rest_of_call h.heap.shape q.known ≡ (d >>= after) → d ≡ never → ⊥
+not_never h p q t plan n d s after left e =
+    let stuck : comes (rest_of_call h.heap.shape q.known) ≡ false = ap comes left ∙ ap (λ z. comes (z >>= after)) e in
+    let goes = s.comes in
+    absurd (cc (stuck, goes))

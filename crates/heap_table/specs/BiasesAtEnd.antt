@@ -1,0 +1,23 @@
+-- What the law of biases says of a heap at its end, over its logs, the verdicts that its passes counted, and its words.
+use Rattle.std.specs.Prelude.{◌≡◌, ℕ, zero, suc, ◌<◌, List, [], ◌∷◌, slice_index}
+use Rattle.plain_monitor.specs.declared.entry.Logged.{Logged}
+use Rattle.core_world.specs.declared.name.Name.TheVariants.{Revocations}
+use Rattle.core_world.specs.Threads.Counts.{CountedVerdict}
+use Rattle.core_world.specs.Threads.Known.{Known}
+use Rattle.core_world.specs.Words.Shape.{class_of}
+use Rattle.core_steps.specs.Logic.{Heap}
+use Rattle.core_counts.specs.OfARun.{BiasesOfRun, VerdictsAtMost}
+use Rattle.heap_table.specs.Layout.{place_of}
+
+-- the verdicts that the t-th of these threads counted
+abbrev pub counted_by : List Known → ℕ → List CountedVerdict
+counted_by [] t = []
+counted_by (k ∷ ks) zero = k.counts
+counted_by (k ∷ ks) (suc t) = counted_by ks t
+
+-- Each thread has counted at most `more` verdicts beyond its entries. The counts of revocations are the words of the classes.
+pub record BiasesAtEnd (more : ℕ) (heap : Heap) (words : List ℕ) (logs : List (List Logged)) (ks : List Known) : Type 0 where
+  pub count : ℕ → ℕ
+  pub words_are : (c : ℕ) → c < heap.shape.classes → slice_index words (place_of heap.shape (Revocations c)) ≡ count c
+  pub biases : BiasesOfRun heap.biasing heap.shape.threads (class_of heap.shape) logs count (counted_by ks)
+  pub verdicts : VerdictsAtMost more heap.shape.threads heap.shape.classes logs (counted_by ks)
