@@ -50,3 +50,9 @@ all_yielded xs (y ∷ ys) zs e n = absurd (omega arith)
 pub all_of : (h : HeapSeen) (ps : List PassSeen) → All (IsOf h) ps → AllOf h ps
 all_of h [] f = tt
 all_of h (p ∷ ps) f = ((f 0 p (omega arith)).table, all_of h ps (λ k d lt. f (suc k) d (omega arith)))
+
+-- what holds of both of two holds of each
+pub both : {X : Type 0} (P : X → Type 0) (p q : X) → P p → P q → All P (p ∷ q ∷ [])
+both P p q h k zero d lt = h
+both P p q h k (suc zero) d lt = k
+both P p q h k (suc (suc i)) d lt = absurd (omega (arith, lt))

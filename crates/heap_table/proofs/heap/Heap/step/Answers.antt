@@ -1,13 +1,15 @@
-use Rattle.std.proofs.Common.{◌≡◌, ◌+◌, ◌%◌, ◌^◌, ◌<◌, ℕ, List, ap, sym, ◌∙◌, subst}
+use Rattle.std.proofs.Common.{◌≡◌, ◌+◌, ◌%◌, ◌^◌, ◌<◌, ℕ, List, length, ap, sym, ◌∙◌, subst}
 use Rattle.atomic_table.specs.Table.{Me}
 use Rattle.core_world.specs.Threads.Known.{Known}
 use Rattle.core_world.specs.Steps.{known_after}
+use Rattle.core_world.specs.There.{HasPlace}
 use Rattle.core_steps.specs.Logic.{Heap}
 use Rattle.heap_table.specs.Cells.{cells_shown}
 use Rattle.heap_table.specs.Drafts.{IsLeft}
 use Rattle.heap_table.specs.Ruled.{only, MayStep, Stepped}
 use Rattle.heap_table.specs.Seen.{HeapSeen, PassSeen}
 use Rattle.heap_table.proofs.Knows.{same_thread, goes_on, is_there, real_after}
+use Rattle.heap_table.proofs.Places.{placed}
 use Rattle.heap_table.proofs.Stamps.{stamp_fits}
 use Rattle.heap_table.proofs.heap.Heap.step.Goals as goal
 
@@ -17,6 +19,15 @@ step-found-requires-clause-may c =
     let k = ap (λ (p : PassSeen). p.known) c.pass.view_is in
     let r = c.requires in
     subst (λ (x : Heap × Known). MayStep x.0 x.1 c.args.plan) (λ i. (sym b i, sym k i)) (record { within = r.heap.within; next = r.next; at = (is_there _ _ _ r.next r.heap.within r.heap.real).0 })
+
+pub follow-requires-clause-at : goal.follow-requires-clause-at
+follow-requires-clause-at c = let r = c.requires in placed _ _ (is_there _ _ _ r.next r.heap.within r.heap.real).0
+
+pub follow-requires-clause-shots : goal.follow-requires-clause-shots
+follow-requires-clause-shots c =
+    let r = c.requires in
+    let knew = ap (λ (p : PassSeen). p.known) c.pass.view_is in
+    subst (λ xs. HasPlace c.args.plan.own (length xs)) (ap (λ (k : Known). k.shots) (sym knew) ∙ c.pass.invariant.1.shots) (is_there _ _ _ r.next r.heap.within r.heap.real).1
 
 pub follow-requires-clause-stamp : goal.follow-requires-clause-stamp
 follow-requires-clause-stamp c = stamp_fits _ _ _ _ _ c.step-found.ensures.stepped c.pass.invariant.1.last
