@@ -212,37 +212,40 @@ module _ (w : World) (P : List PlainObject) (r : ℕ) (b : Revocation) (g : Goin
       → (let c = class_of g.before.shape b.object in
       l.counts ≡ with_verdict_counted (g.before.known r).counts c (decided (g.before.words (Revocations c)) (g.before.words (LastBulk c)) b.now).0 (is_reset (g.before.words (Revocations c)) (g.before.words (LastBulk c)) b.now))
       → RevokesSince x P g.before
-  store_revokes rest writes counts = (record {
-    before = g.before;
-    fits = g.fits;
-    shape = g.shape;
-    start = g.start;
-    biasing = g.biasing;
-    requester = r;
-    reached = g.reached;
-    revocation = b;
-    its_revocation = ap (λ (k : Known). revocation_in k.stage) here ∙ ap revocation_in leaves.stage;
-    operation = g.operation;
-    unfinished = g.unfinished;
-    allowed = g.allowed;
-    object = g.object;
-    biased = g.biased;
-    rest = rest;
-    writes = ap (λ (k : Known). writes_in k.seen_at_safepoint ++ rest) here ∙ ap (λ z. z ++ rest) stood_now ∙ append_assoc (writes_in (w.known r).seen_at_safepoint) (write at word ∷ []) rest ∙ writes;
-    begun = λ h. some (writes_in (w.known r).seen_at_safepoint) (write at word) (sym stood_now ∙ sym (ap (λ (k : Known). writes_in k.seen_at_safepoint) here) ∙ h);
-    words = ap (λ f. with_word at word f) g.words ∙ sym (stored_append (writes_in (w.known r).seen_at_safepoint) (write at word ∷ []) g.before.words)
-        ∙ sym (ap (λ z. words_after z g.before.words) (ap (λ (k : Known). writes_in k.seen_at_safepoint) here ∙ stood_now));
-    found = subst (λ (k : Known). FoundAfter g.before.words k.seen_at_safepoint) (sym here) (subst (FoundAfter g.before.words) (sym leaves.seen_at_safepoint) (ap (λ (f : Name → ℕ). f at) g.words, g.found));
-    untouched = sym (kept_word Safepoint refl) ∙ g.untouched;
-    knows =
-        let was : l ≡ apart (g.before.known r) l = leaves.is ∙ ap (λ k. apart k l) g.knows in
-        let counted_so : apart (g.before.known r) l ≡ requester_known g.before r b l = ap (λ z. record (apart (g.before.known r) l) { counts = z }) counts in
-        here ∙ was ∙ counted_so ∙ ap (requester_known g.before r b) (sym here);
-    others = λ u d. with_known_else r l w.known u d ∙ g.others u d;
-    seen = seen_law;
-    forms = forms_law;
-    safe = safe_law;
-  }, refl)
+  store_revokes rest writes counts = (
+    record {
+      before = g.before;
+      fits = g.fits;
+      shape = g.shape;
+      start = g.start;
+      biasing = g.biasing;
+      requester = r;
+      reached = g.reached;
+      revocation = b;
+      its_revocation = ap (λ (k : Known). revocation_in k.stage) here ∙ ap revocation_in leaves.stage;
+      operation = g.operation;
+      unfinished = g.unfinished;
+      allowed = g.allowed;
+      object = g.object;
+      biased = g.biased;
+      rest = rest;
+      writes = ap (λ (k : Known). writes_in k.seen_at_safepoint ++ rest) here ∙ ap (λ z. z ++ rest) stood_now ∙ append_assoc (writes_in (w.known r).seen_at_safepoint) (write at word ∷ []) rest ∙ writes;
+      begun = λ h. some (writes_in (w.known r).seen_at_safepoint) (write at word) (sym stood_now ∙ sym (ap (λ (k : Known). writes_in k.seen_at_safepoint) here) ∙ h);
+      words = ap (λ f. with_word at word f) g.words ∙ sym (stored_append (writes_in (w.known r).seen_at_safepoint) (write at word ∷ []) g.before.words)
+          ∙ sym (ap (λ z. words_after z g.before.words) (ap (λ (k : Known). writes_in k.seen_at_safepoint) here ∙ stood_now));
+      found = subst (λ (k : Known). FoundAfter g.before.words k.seen_at_safepoint) (sym here) (subst (FoundAfter g.before.words) (sym leaves.seen_at_safepoint) (ap (λ (f : Name → ℕ). f at) g.words, g.found));
+      untouched = sym (kept_word Safepoint refl) ∙ g.untouched;
+      knows =
+          let was : l ≡ apart (g.before.known r) l = leaves.is ∙ ap (λ k. apart k l) g.knows in
+          let counted_so : apart (g.before.known r) l ≡ requester_known g.before r b l = ap (λ z. record (apart (g.before.known r) l) { counts = z }) counts in
+          here ∙ was ∙ counted_so ∙ ap (requester_known g.before r b) (sym here);
+      others = λ u d. with_known_else r l w.known u d ∙ g.others u d;
+      seen = seen_law;
+      forms = forms_law;
+      safe = safe_law;
+    },
+    refl,
+  )
 
 -- WHAT SUCH A STORE LEAVES, where the thread keeps nothing of it but a count
 module _ (s : Shape) (start : ℕ) (e : Purpose) (b : Revocation) (o : Own) (at : Name) (word n : ℕ) (k : Known) (its_revocation : is_revocation_word at ≡ true)

@@ -115,4 +115,4 @@ pub goes_on_valid : (e : Purpose) (b : Revocation) (at : Name) (word : ℕ) → 
 goes_on_valid e b at word w P t within may =
     by_requester w P t b may.reached may.its_revocation (λ u. IsValid (world_after (revoke_plan e b own.Same at word) u w) P) (λ s it.
     inr (goes_on_revokes e b at word w P s (subst (λ u. u < w.shape.threads) (sym it) within)
-        (subst (λ u. MayGoOnRevoking w.shape (w.known u) e u b at word) (sym it) may)).0)
+    (subst (λ u. MayGoOnRevoking w.shape (w.known u) e u b at word) (sym it) may)).0)

@@ -1,5 +1,5 @@
 -- The laws of core_bias, with those of core_counts beside them, as rules of the logic.
-use Rattle.std.proofs.Common.{◌≡◌, ℕ, ◌<◌, Bool, true, false, length, Option, Some, None, refl, sym, ◌∙◌, subst, inl, inr}
+use Rattle.std.proofs.Common.{◌≡◌, ℕ, ◌<◌, Bool, true, false, length, Option, Some, refl, sym, ◌∙◌, subst, inl, inr}
 use Rattle.mark_word.specs.declared.mark.MarkForm.{MarkForm}
 use Rattle.mark_word.specs.declared.mark.MarkForm.TheVariants.{Biased}
 use Rattle.mark_word.specs.Mark.{read_mark}
@@ -23,7 +23,7 @@ use Rattle.core_bias.specs.Biasing.{MayRebias, MayUnbias}
 use Rattle.core_bias.specs.Revoking.{MayBeginRevoking, MayGoOnRevoking, MayEndRevoking, TellsBias}
 use Rattle.core_bias.proofs.Rebiases.{rebias_valid, drop_valid}
 use Rattle.core_bias.proofs.Wholes.{all_made, begin_revokes, goes_on_revokes, release_fits}
-use Rattle.core_counts.specs.BiasLaw.{BiasLawHolds, IsWhollyValid, WhollyValid}
+use Rattle.core_counts.specs.BiasLaw.{BiasLawHolds, WhollyValid}
 use Rattle.core_counts.specs.Steps.{MayTakeBias, MayDropBias}
 use Rattle.core_counts.proofs.BiasTakes.{bias_taken}
 use Rattle.core_counts.proofs.BiasDrops.{bias_dropped}
@@ -43,7 +43,8 @@ took_biased t o c true f tells = cases (read_mark (f (Mark o))) tells
 
 module _ (heap : Heap) (k : Known) where
   -- EXCHANGES of a mark that is anonymous or stale: for the own bias
-  pub rebiases_rule : (e : Purpose) (o mark prototype epoch : ℕ) → o < length heap.shape.objects → (Stands heap k → MayRebias heap.shape k e o mark epoch × MayTakeBias heap.shape k e o mark prototype epoch)
+  pub rebiases_rule : (e : Purpose) (o mark prototype epoch : ℕ) → o < length heap.shape.objects
+      → (Stands heap k → MayRebias heap.shape k e o mark epoch × MayTakeBias heap.shape k e o mark prototype epoch)
       → Keeps heap (rebias_plan e k.thread o mark epoch) k
   rebiases_rule e o mark prototype epoch object may =
       keeps heap k (λ s y. MayRebias s y e o mark epoch × MayTakeBias s y e o mark prototype epoch) (λ t y. rebias_plan e t o mark epoch)
@@ -51,7 +52,8 @@ module _ (heap : Heap) (k : Known) where
       (λ w P t within m v law. bias_taken w P t e o mark prototype epoch within m.1 v law) (λ t y h. refl) (λ s y a. a.1.runs) (λ v. (object, tt)) may
 
   -- and for a mark without the bias pattern
-  pub unbiases_rule : (e : Purpose) (o mark prototype neutral : ℕ) → o < length heap.shape.objects → (Stands heap k → MayUnbias heap.shape k e o mark neutral × MayDropBias heap.shape k e o mark prototype neutral)
+  pub unbiases_rule : (e : Purpose) (o mark prototype neutral : ℕ) → o < length heap.shape.objects
+      → (Stands heap k → MayUnbias heap.shape k e o mark neutral × MayDropBias heap.shape k e o mark prototype neutral)
       → Keeps heap (unbias_plan e o mark neutral) k
   unbiases_rule e o mark prototype neutral object may =
       keeps heap k (λ s y. MayUnbias s y e o mark neutral × MayDropBias s y e o mark prototype neutral) (λ t y. unbias_plan e o mark neutral)
@@ -59,7 +61,8 @@ module _ (heap : Heap) (k : Known) where
       (λ w P t within m v law. bias_dropped w P t e o mark prototype neutral within m.1 v law) (λ t y h. refl) (λ s y a. a.1.runs) (λ v. (object, tt)) may
 
   -- A REVOCATION: its first store, with which the law holds of the world before
-  pub begins_revoking_rule : (e : Purpose) (b : Revocation) (verdict : Verdict) (reset : Bool) (at : Name) (word : ℕ) → (Stands heap k → IsIn heap.shape at) → (Stands heap k → MayBeginRevoking heap.shape k e k.thread b verdict reset at word)
+  pub begins_revoking_rule : (e : Purpose) (b : Revocation) (verdict : Verdict) (reset : Bool) (at : Name) (word : ℕ)
+      → (Stands heap k → IsIn heap.shape at) → (Stands heap k → MayBeginRevoking heap.shape k e k.thread b verdict reset at word)
       → Keeps heap (revoke_plan e b (own.CountVerdict (class_of heap.shape b.object) verdict reset) at word) k
   begins_revoking_rule e b verdict reset at word there may = record {
     there = λ v. (there v, tt);
@@ -73,7 +76,8 @@ module _ (heap : Heap) (k : Known) where
   }
 
   -- what the thread whose safepoint is reached does in the middle of a revocation, by the world and its own revocation there
-  in_middle : (F : (v : Stands heap k) → ℕ → Type 0) (b : Revocation) → ((v : Stands heap k) (s : IsRevoking v.world v.objects) → s.requester ≡ k.thread → BiasLawHolds s.before → F v s.requester)
+  in_middle : (F : (v : Stands heap k) → ℕ → Type 0) (b : Revocation)
+      → ((v : Stands heap k) (s : IsRevoking v.world v.objects) → s.requester ≡ k.thread → BiasLawHolds s.before → F v s.requester)
       → (v : Stands heap k) → k.reached ≡ true → revocation_in k.stage ≡ Some b → F v k.thread
   in_middle F b law v reached its = elim v.valid [
     | inl a ↦ let none = a.0.quiet.none_revokes k.thread in let some = away heap k v (λ s y. revocation_in y.stage ≡ Some b) its in absurd (cc (none, some))
@@ -83,20 +87,24 @@ module _ (heap : Heap) (k : Known) where
   ]
 
   -- each other store, with which it goes on holding there
-  pub goes_on_revoking_rule : (e : Purpose) (b : Revocation) (at : Name) (word : ℕ) → (Stands heap k → IsIn heap.shape at) → (Stands heap k → MayGoOnRevoking heap.shape k e k.thread b at word) → Keeps heap (revoke_plan e b own.Same at word) k
+  pub goes_on_revoking_rule : (e : Purpose) (b : Revocation) (at : Name) (word : ℕ) → (Stands heap k → IsIn heap.shape at)
+      → (Stands heap k → MayGoOnRevoking heap.shape k e k.thread b at word) → Keeps heap (revoke_plan e b own.Same at word) k
   goes_on_revoking_rule e b at word there may = record {
     there = λ v. (there v, tt);
     by = λ v. in_middle (λ v u. WhollyValid (world_after (revoke_plan e b own.Same at word) u v.world)) b
         (λ v s same law.
         let within = subst (λ u. u < v.world.shape.threads) (sym same) (inside heap k v) in
-        let mine = subst (λ u. MayGoOnRevoking v.world.shape (v.world.known u) e u b at word) (sym same) (away heap k v (λ z y. MayGoOnRevoking z y e k.thread b at word) (may v)) in
+        let mine =
+        subst (λ u. MayGoOnRevoking v.world.shape (v.world.known u) e u b at word) (sym same)
+        (away heap k v (λ z y. MayGoOnRevoking z y e k.thread b at word) (may v)) in
         let r = goes_on_revokes e b at word v.world v.objects s within mine in
         record { objects = v.objects; is = inr (r.0, subst BiasLawHolds (sym r.1) law) }) v (may v).reached (may v).its_revocation;
   }
 
   -- and the release, which counts as a whole: whether a bias was taken, the object's words tell then
   pub ends_revoking_rule : (e : Purpose) (b : Revocation) (took : Bool)
-      → (Stands heap k → MayEndRevoking heap.shape k e k.thread b) → ((v : Stands heap k) → TellsBias k.thread b.object (class_of heap.shape b.object) took v.world.words)
+      → (Stands heap k → MayEndRevoking heap.shape k e k.thread b)
+      → ((v : Stands heap k) → TellsBias k.thread b.object (class_of heap.shape b.object) took v.world.words)
       → Keeps heap (release_plan e (stage_after took b.object) k.thread) k
   ends_revoking_rule e b took may tells = record {
     there = λ v. (tt, tt);

@@ -189,20 +189,23 @@ module _ (heap : Heap) (me : ℕ) (here : Local) (shots : List DumpShot) (room :
       let unasks : l.requesting ≡ false = released_unasks heap k n was.stands found in
       chooses_then heap false (n == reached_word k.thread) _ _ (λ u. publish_steps (entry.Dump (length shots + 1)) dump_errand (local_of k) >>= (λ u. done_with (length shots + 1))) l _
       (λ yes. hitting heap false _ _ l _ (λ n. refl)
-      (λ i. publishes heap l dump_errand (entry.Dump (length shots + 1)) (λ v. (record {
-        runs = runs;
-        calm = refl;
-        ready = ready_here heap l v runs (unwaiting_dump l.unfinished refl) (unentering_dump l.unfinished refl) r.untold r.live;
-        tells = tt;
-        room = subst (λ z. length z.log < log_limit) (sym r.same) room;
-        own_entry = record {
-          operation = inr refl;
-          shot =
-              let all : length k.shots ≡ length shots + 1 = ap (λ z. length z) r.shots_are ∙ length-append shots (shot ∷ []) in
-              let dumps : length (dumps_from 0 k.log) ≡ length shots = ap (λ z. length (dumps_from 0 z.log)) r.same ∙ sym r.logged in
-              (sym all, all ∙ ap (λ z. z + 1) (sym dumps));
-        };
-      }, tt)))
+      (λ i. publishes heap l dump_errand (entry.Dump (length shots + 1)) (λ v. (
+        record {
+          runs = runs;
+          calm = refl;
+          ready = ready_here heap l v runs (unwaiting_dump l.unfinished refl) (unentering_dump l.unfinished refl) r.untold r.live;
+          tells = tt;
+          room = subst (λ z. length z.log < log_limit) (sym r.same) room;
+          own_entry = record {
+            operation = inr refl;
+            shot =
+                let all : length k.shots ≡ length shots + 1 = ap (λ z. length z) r.shots_are ∙ length-append shots (shot ∷ []) in
+                let dumps : length (dumps_from 0 k.log) ≡ length shots = ap (λ z. length (dumps_from 0 z.log)) r.same ∙ sym r.logged in
+                (sym all, all ∙ ap (λ z. z + 1) (sym dumps));
+          };
+        },
+        tt,
+      )))
       (λ n i was. answers heap false _ _ _ (rests heap.shape _ refl unasks refl (logged_carries k.log _ k.wait _ r.live refl r.untold))))
       (λ no. absurd (cc (hit, no)))))
 

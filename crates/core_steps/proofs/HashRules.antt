@@ -28,7 +28,8 @@ module _ (heap : Heap) (k : Known) where
       → LogsFound (λ w t. May w.shape (w.known t) × HasHash w (at t)) (λ w t. find_hash_plan e (at t) o) (hash_entry o)
       → KeepsValid (λ w t. May w.shape (w.known t) × HasNoHash w (at t)) (λ w t. find_hash_plan e (at t) o)
       → KeepsBiases (λ w t. May w.shape (w.known t)) (λ w t. find_hash_plan e (at t) o)
-      → (Stands heap k → k.running ≡ true) → (Stands heap k → IsIn heap.shape (at k.thread)) → (Stands heap k → May heap.shape k) → Keeps heap (find_hash_plan e (at k.thread) o) k
+      → (Stands heap k → k.running ≡ true) → (Stands heap k → IsIn heap.shape (at k.thread)) → (Stands heap k → May heap.shape k)
+      → Keeps heap (find_hash_plan e (at k.thread) o) k
   finding_rule May e at o found none biases runs there may = record {
     there = λ v. (there v, tt);
     by = λ v.
@@ -47,7 +48,8 @@ module _ (heap : Heap) (k : Known) where
       → LogsValid (λ w t. May w t × (w.words at ≡ header)) (λ w t. draw_plan e draw at o header) (Hash o draw.value (Some draw.number))
       → KeepsValid (λ w t. May w t × (w.words at ≢ header)) (λ w t. draw_plan e draw at o header)
       → KeepsBiases May (λ w t. draw_plan e draw at o header)
-      → (Stands heap k → k.running ≡ true) → (Stands heap k → IsIn heap.shape at) → ((v : Stands heap k) → May v.world k.thread) → Keeps heap (draw_plan e draw at o header) k
+      → (Stands heap k → k.running ≡ true) → (Stands heap k → IsIn heap.shape at) → ((v : Stands heap k) → May v.world k.thread)
+      → Keeps heap (draw_plan e draw at o header) k
   drawing_rule May e draw at o header hit miss biases runs there may = record {
     there = λ v. (there v, tt);
     by = λ v.
@@ -66,26 +68,38 @@ module _ (heap : Heap) (k : Known) where
 
   -- the mark, the record of the thread at depth 1, the header of the monitor
   pub finds_mark_rule : (e : Purpose) (o : ℕ) → (Stands heap k → MayHash heap.shape k o) → GoesOn k e → Keeps heap (find_hash_plan e (name.Mark o) o) k
-  finds_mark_rule e o may goes = finding_rule (λ s y. MayFind s y e o) e (λ t. name.Mark o) o (finds_in_mark e o) (looks_in_mark e o) (logged.finds_mark e o) (λ v. (may v).runs) (λ v. (may v).object) (λ v. record { hashes = may v; goes_on = goes })
+  finds_mark_rule e o may goes =
+      finding_rule (λ s y. MayFind s y e o) e (λ t. name.Mark o) o (finds_in_mark e o) (looks_in_mark e o) (logged.finds_mark e o) (λ v. (may v).runs)
+      (λ v. (may v).object) (λ v. record { hashes = may v; goes_on = goes })
 
-  pub finds_record_rule : (e : Purpose) (o p : ℕ) → (Stands heap k → MayHash heap.shape k o) → HasRecord k o p → (Stands heap k → p < 64) → GoesOn k e → Keeps heap (find_hash_plan e (name.Displaced k.thread p) o) k
-  finds_record_rule e o p may has place goes = finding_rule (λ s y. MayFindInRecord s y e o p) e (λ t. name.Displaced t p) o (finds_in_record e o p) (looks_in_record e o p) (logged.finds_record e o p) (λ v. (may v).runs) (λ v. (v.within, place v))
+  pub finds_record_rule : (e : Purpose) (o p : ℕ) → (Stands heap k → MayHash heap.shape k o) → HasRecord k o p → (Stands heap k → p < 64) → GoesOn k e
+      → Keeps heap (find_hash_plan e (name.Displaced k.thread p) o) k
+  finds_record_rule e o p may has place goes =
+      finding_rule (λ s y. MayFindInRecord s y e o p) e (λ t. name.Displaced t p) o (finds_in_record e o p) (looks_in_record e o p)
+      (logged.finds_record e o p) (λ v. (may v).runs) (λ v. (v.within, place v))
       (λ v. record { finds = record { hashes = may v; goes_on = goes }; has = has })
 
-  pub finds_header_rule : (e : Purpose) (o m : ℕ) → (Stands heap k → MayHash heap.shape k o) → SawInflated k o m → GoesOn k e → Keeps heap (find_hash_plan e (name.Header m) o) k
-  finds_header_rule e o m may saw goes = finding_rule (λ s y. MayFindInMonitor s y e o m) e (λ t. name.Header m) o (finds_in_header e o m) (looks_in_header e o m) (logged.finds_header e o m) (λ v. (may v).runs) (λ v. monitor_in_heap heap k o m (may v).runs saw v)
+  pub finds_header_rule : (e : Purpose) (o m : ℕ) → (Stands heap k → MayHash heap.shape k o) → SawInflated k o m → GoesOn k e
+      → Keeps heap (find_hash_plan e (name.Header m) o) k
+  finds_header_rule e o m may saw goes =
+      finding_rule (λ s y. MayFindInMonitor s y e o m) e (λ t. name.Header m) o (finds_in_header e o m) (looks_in_header e o m)
+      (logged.finds_header e o m) (λ v. (may v).runs) (λ v. monitor_in_heap heap k o m (may v).runs saw v)
       (λ v. record { finds = record { hashes = may v; goes_on = goes }; inflated = saw })
 
   -- the draw, into the mark or into the header
-  pub draws_mark_rule : (e : Purpose) (draw : NextDraw) (o mark : ℕ) → (Stands heap k → MayHash heap.shape k o) → IsHashless mark → IsItsNext heap.start k draw → Keeps heap (draw_plan e draw (name.Mark o) o mark) k
+  pub draws_mark_rule : (e : Purpose) (draw : NextDraw) (o mark : ℕ) → (Stands heap k → MayHash heap.shape k o) → IsHashless mark
+      → IsItsNext heap.start k draw → Keeps heap (draw_plan e draw (name.Mark o) o mark) k
   draws_mark_rule e draw o mark may bare next = drawing_rule
-      (λ w t. MayDrawInMark w.start w.shape (w.known t) draw o mark) e draw (name.Mark o) o mark (draws_mark e draw o mark) (draw_misses_mark e draw o mark) (logged.draws_mark_kind e draw o mark) (λ v. (may v).runs) (λ v. (may v).object)
+      (λ w t. MayDrawInMark w.start w.shape (w.known t) draw o mark) e draw (name.Mark o) o mark (draws_mark e draw o mark)
+      (draw_misses_mark e draw o mark) (logged.draws_mark_kind e draw o mark) (λ v. (may v).runs) (λ v. (may v).object)
       (λ v. record { draws = record { hashes = away heap k v (λ s y. MayHash s y o) (may v); next = next_there v draw next }; hashless = bare })
 
-  pub draws_header_rule : (e : Purpose) (draw : NextDraw) (o m header : ℕ) → (Stands heap k → MayHash heap.shape k o) → SawInflated k o m → hash_in header ≡ 0 → IsItsNext heap.start k draw
+  pub draws_header_rule : (e : Purpose) (draw : NextDraw) (o m header : ℕ) → (Stands heap k → MayHash heap.shape k o) → SawInflated k o m
+      → hash_in header ≡ 0 → IsItsNext heap.start k draw
       → Keeps heap (draw_plan e draw (name.Header m) o header) k
   draws_header_rule e draw o m header may saw bare next = drawing_rule
-      (λ w t. MayDrawInMonitor w.start w.shape (w.known t) draw o m header) e draw (name.Header m) o header (draws_header e draw o m header) (draw_misses_header e draw o m header) (logged.draws_header_kind e draw o m header) (λ v. (may v).runs)
+      (λ w t. MayDrawInMonitor w.start w.shape (w.known t) draw o m header) e draw (name.Header m) o header (draws_header e draw o m header)
+      (draw_misses_header e draw o m header) (logged.draws_header_kind e draw o m header) (λ v. (may v).runs)
       (λ v. monitor_in_heap heap k o m (may v).runs saw v)
       (λ v. record {
         draws = record { hashes = away heap k v (λ s y. MayHash s y o) (may v); next = next_there v draw next };

@@ -139,14 +139,17 @@ module _ (heap : Heap) where
       let m = both (list_all (λ h. h == 0) k.holds) (may_act k) may in
       let a = acts k m.1 in
       let e = lone_purpose (Finish how) in
-      hitting heap true _ _ k _ (λ n. refl) (λ i. publishes heap k e (ending_entry how) (λ v. (record {
-        runs = a.runs;
-        calm = rest.calm;
-        ready = ready_acts k rest a v;
-        tells = tells_ending k how;
-        own_entry = record { operation = inl a.nothing; shot = ending_shot k how };
-        room = let r = a.room in omega arith;
-      }, unbiasing_none k how))) (λ n i was.
+      hitting heap true _ _ k _ (λ n. refl) (λ i. publishes heap k e (ending_entry how) (λ v. (
+        record {
+          runs = a.runs;
+          calm = rest.calm;
+          ready = ready_acts k rest a v;
+          tells = tells_ending k how;
+          own_entry = record { operation = inl a.nothing; shot = ending_shot k how };
+          room = let r = a.room in omega arith;
+        },
+        unbiasing_none k how,
+      ))) (λ n i was.
       hitting heap false _ _ _ _ (λ n. refl) (λ i. says_ended_rule heap _ e (λ v. record {
         runs = a.runs;
         calm = refl;

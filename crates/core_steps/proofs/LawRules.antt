@@ -94,7 +94,8 @@ module _ (heap : Heap) (k : Known) where
   -- and so it is at its reached safepoint, in the middle of nothing
   pub calm_in_all : (v : Stands heap k) → k.reached ≡ true → k.stage ≡ Calm → All v.world v.objects
   calm_in_all v reached calm =
-      all_unless v.world v.objects (λ s. not_calm v.world v.objects s k.thread (away v (λ z y. y.reached ≡ true) reached) (away v (λ z y. y.stage ≡ Calm) calm)) v.valid
+      all_unless v.world v.objects
+      (λ s. not_calm v.world v.objects s k.thread (away v (λ z y. y.reached ≡ true) reached) (away v (λ z y. y.stage ≡ Calm) calm)) v.valid
 
   -- whether the step revokes nothing, by its stage: that is another one, or where the thread stood
   abbrev pub Unrevoking : (ℕ → Known → StepPlan) → Type 0
@@ -104,7 +105,8 @@ module _ (heap : Heap) (k : Known) where
   -- clause holds. Its premise may use that there is such a world.
   pub keeps_in_all : (May : Shape → Known → Type 0) (plan : ℕ → Known → StepPlan) → KeepsValid (λ w t. May w.shape (w.known t)) (λ w t. plan t (w.known t))
       → KeepsBiases (λ w t. May w.shape (w.known t)) (λ w t. plan t (w.known t)) → Unrevoking plan
-      → ((v : Stands heap k) → All v.world v.objects) → (Stands heap k → IsThere heap.shape k (plan k.thread k)) → (Stands heap k → May heap.shape k) → Keeps heap (plan k.thread k) k
+      → ((v : Stands heap k) → All v.world v.objects) → (Stands heap k → IsThere heap.shape k (plan k.thread k)) → (Stands heap k → May heap.shape k)
+      → Keeps heap (plan k.thread k) k
   keeps_in_all May plan law biases unrevoking all there may = record {
     there = there;
     by = λ v.
@@ -125,7 +127,8 @@ module _ (heap : Heap) (k : Known) where
   pub enters_in_log_with : (May : Shape → Known → Type 0) (More : Known → Type 0) (plan : ℕ → Known → StepPlan) (entry : ℕ → Entry)
       → LogsFound (λ w t. May w.shape (w.known t)) (λ w t. plan t (w.known t)) entry
       → KeepsBiases (λ w t. May w.shape (w.known t) × More (w.known t)) (λ w t. plan t (w.known t)) → Unrevoking plan
-      → ((s : Shape) (y : Known) → May s y → y.running ≡ true) → (Stands heap k → IsThere heap.shape k (plan k.thread k)) → (Stands heap k → May heap.shape k × More k)
+      → ((s : Shape) (y : Known) → May s y → y.running ≡ true) → (Stands heap k → IsThere heap.shape k (plan k.thread k))
+      → (Stands heap k → May heap.shape k × More k)
       → Keeps heap (plan k.thread k) k
   enters_in_log_with May More plan entry law biases unrevoking runs there may = record {
     there = there;
@@ -138,12 +141,14 @@ module _ (heap : Heap) (k : Known) where
         (biases v.world v.objects k.thread (inside v) m a.fits a.biases)) (may v);
   }
 
-  pub enters_in_log : (May : Shape → Known → Type 0) (plan : ℕ → Known → StepPlan) (entry : ℕ → Entry) → LogsFound (λ w t. May w.shape (w.known t)) (λ w t. plan t (w.known t)) entry
+  pub enters_in_log : (May : Shape → Known → Type 0) (plan : ℕ → Known → StepPlan) (entry : ℕ → Entry)
+      → LogsFound (λ w t. May w.shape (w.known t)) (λ w t. plan t (w.known t)) entry
       → KeepsBiases (λ w t. May w.shape (w.known t)) (λ w t. plan t (w.known t)) → Unrevoking plan
       → ((s : Shape) (y : Known) → May s y → y.running ≡ true) → (Stands heap k → IsThere heap.shape k (plan k.thread k)) → (Stands heap k → May heap.shape k)
       → Keeps heap (plan k.thread k) k
   enters_in_log May plan entry law biases unrevoking runs there may =
-      enters_in_log_with May (λ y. Unit {0}) plan entry law (λ w P t within m v biased. biases w P t within m.0 v biased) unrevoking runs there (λ v. (may v, tt))
+      enters_in_log_with May (λ y. Unit {0}) plan entry law (λ w P t within m v biased. biases w P t within m.0 v biased) unrevoking runs there
+      (λ v. (may v, tt))
 
   -- LOADS
   pub looks : (p : StepPlan) → IsLook k p → (Stands heap k → IsIn heap.shape p.at) → Keeps heap p k
@@ -151,13 +156,17 @@ module _ (heap : Heap) (k : Known) where
     there = λ v. (there v, subst (λ o. HasPlace o (length k.shots)) (sym look.own) tt);
     by = λ v. record {
       objects = v.objects;
-      is = look_valid_with BiasLawHolds v.world v.objects k.thread p (inside v) (away v (λ s y. IsLook y p) look) (λ w a law. quiet.looks w k.thread p a law) v.valid;
+      is =
+          look_valid_with BiasLawHolds v.world v.objects k.thread p (inside v) (away v (λ s y. IsLook y p) look)
+          (λ w a law. quiet.looks w k.thread p a law) v.valid;
     };
   }
 
   -- THE SAFEPOINT WORD
   pub stops : (e : Purpose) → MayStop k e → Keeps heap (stop_plan e k.thread) k
-  stops e may = keeps (λ s y. MayStop y e) (λ t y. stop_plan e t) (stopping_valid e) (quiet.stops e) (λ t y h. refl) (λ s y a. a.runs) (λ v. (tt, tt)) (λ v. may)
+  stops e may =
+      keeps (λ s y. MayStop y e) (λ t y. stop_plan e t) (stopping_valid e) (quiet.stops e) (λ t y h. refl) (λ s y a. a.runs) (λ v. (tt, tt))
+      (λ v. may)
 
   pub resumes : (e : Purpose) (word : ℕ) → MayResume k e word → Keeps heap (resume_plan e k.thread word) k
   resumes e word may = record {
@@ -174,62 +183,94 @@ module _ (heap : Heap) (k : Known) where
         record {
           objects = v.objects;
           is = miss_valid_with BiasLawHolds v.world v.objects k.thread (resume_plan e k.thread word) (inside v)
-              (record { missed = missed; may = may_look_safe (v.world.known k.thread) }) (λ w missed law. missed_keeps w k.thread (resume_plan e k.thread word) law missed) v.valid;
+              (record { missed = missed; may = may_look_safe (v.world.known k.thread) })
+              (λ w missed law. missed_keeps w k.thread (resume_plan e k.thread word) law missed) v.valid;
         });
   }
 
   pub requests : (e : Purpose) (word : ℕ) → MayRequest k e word → Keeps heap (request_plan e k.thread word) k
-  requests e word may = keeps (λ s y. MayRequest y e word) (λ t y. request_plan e t word) (requesting_valid e word) (quiet.requests e word) (λ t y h. refl) (λ s y a. a.runs) (λ v. (tt, tt)) (λ v. may)
+  requests e word may =
+      keeps (λ s y. MayRequest y e word) (λ t y. request_plan e t word) (requesting_valid e word) (quiet.requests e word) (λ t y h. refl)
+      (λ s y a. a.runs) (λ v. (tt, tt)) (λ v. may)
 
   -- at its reached safepoint, in the middle of nothing
   pub keeps_calm : (May : Shape → Known → Type 0) (plan : ℕ → Known → StepPlan) → KeepsValid (λ w t. May w.shape (w.known t)) (λ w t. plan t (w.known t))
       → KeepsBiases (λ w t. May w.shape (w.known t)) (λ w t. plan t (w.known t)) → Unrevoking plan
-      → k.reached ≡ true → k.stage ≡ Calm → (Stands heap k → IsThere heap.shape k (plan k.thread k)) → (Stands heap k → May heap.shape k) → Keeps heap (plan k.thread k) k
+      → k.reached ≡ true → k.stage ≡ Calm → (Stands heap k → IsThere heap.shape k (plan k.thread k)) → (Stands heap k → May heap.shape k)
+      → Keeps heap (plan k.thread k) k
   keeps_calm May plan law biases unrevoking reached calm there may =
       keeps_in_all May plan law biases unrevoking (λ v. calm_in_all v reached calm) there may
 
   pub releases : (e : Purpose) → MayRelease k e → Keeps heap (release_plan e Calm k.thread) k
-  releases e may = keeps_calm (λ s y. MayRelease y e) (λ t y. release_plan e Calm t) (releasing_valid e) (quiet.releases e) (λ t y h. refl) may.reached may.calm (λ v. (tt, tt)) (λ v. may)
+  releases e may =
+      keeps_calm (λ s y. MayRelease y e) (λ t y. release_plan e Calm t) (releasing_valid e) (quiet.releases e) (λ t y h. refl) may.reached may.calm
+      (λ v. (tt, tt)) (λ v. may)
 
   pub halts : (e : Purpose) → MayHalt heap.shape.threads k e → Keeps heap (halt_plan e k.thread) k
-  halts e may = keeps_calm (λ s y. MayHalt s.threads y e) (λ t y. halt_plan e t) (halting_valid e) (quiet.halts e) (λ t y h. refl) may.reached may.calm (λ v. (tt, tt)) (λ v. may)
+  halts e may =
+      keeps_calm (λ s y. MayHalt s.threads y e) (λ t y. halt_plan e t) (halting_valid e) (quiet.halts e) (λ t y h. refl) may.reached may.calm
+      (λ v. (tt, tt)) (λ v. may)
 
   -- THE JOURNAL
   pub publishes_all : (e : Purpose) → MayPublishLog k e → Keeps heap (publish_log_plan e k.thread (length k.log)) k
-  publishes_all e may = keeps (λ s y. MayPublishLog y e) (λ t y. publish_log_plan e t (length y.log)) (publish_all_law e) (quiet.publishes_all e) (λ t y h. refl) (λ s y a. a.runs) (λ v. (v.within, tt)) (λ v. may)
+  publishes_all e may =
+      keeps (λ s y. MayPublishLog y e) (λ t y. publish_log_plan e t (length y.log)) (publish_all_law e) (quiet.publishes_all e) (λ t y h. refl)
+      (λ s y a. a.runs) (λ v. (v.within, tt)) (λ v. may)
 
   pub gets : (e : Purpose) (o slot : ℕ) → (Stands heap k → MayGet heap.shape k e o slot) → Keeps heap (get_plan e o slot) k
-  gets e o slot may = enters_in_log (λ s y. MayGet s y e o slot) (λ t y. get_plan e o slot) (get_entry o slot) (get_law e o slot) (logged.gets e o slot) (λ t y h. refl) (λ s y a. a.touches.runs) (λ v. let a = (may v).touches in ((a.object, slot_there heap.shape o slot (limits v) a.object a.within), tt)) may
+  gets e o slot may =
+      enters_in_log (λ s y. MayGet s y e o slot) (λ t y. get_plan e o slot) (get_entry o slot) (get_law e o slot) (logged.gets e o slot)
+      (λ t y h. refl) (λ s y a. a.touches.runs)
+      (λ v. let a = (may v).touches in ((a.object, slot_there heap.shape o slot (limits v) a.object a.within), tt)) may
 
   pub puts : (e : Purpose) (o slot : ℕ) (value : Value) → (Stands heap k → MayPut heap.shape k o slot value) → Keeps heap (put_plan e o slot value) k
-  puts e o slot value may = enters_in_log (λ s y. MayPut s y o slot value) (λ t y. put_plan e o slot value) (λ n. Put o slot value) (put_law e o slot value) (logged.puts e o slot value) (λ t y h. refl) (λ s y a. a.touches.runs) (λ v. let a = (may v).touches in ((a.object, slot_there heap.shape o slot (limits v) a.object a.within), tt)) may
+  puts e o slot value may =
+      enters_in_log (λ s y. MayPut s y o slot value) (λ t y. put_plan e o slot value) (λ n. Put o slot value) (put_law e o slot value)
+      (logged.puts e o slot value) (λ t y h. refl) (λ s y a. a.touches.runs)
+      (λ v. let a = (may v).touches in ((a.object, slot_there heap.shape o slot (limits v) a.object a.within), tt)) may
 
   -- a notify that wakes nobody has seen that the object has no bias
-  pub publishes : (e : Purpose) (entry : Entry) → (Stands heap k → MayPublish heap.shape k entry × SawNone k entry) → Keeps heap (publish_plan e k.thread entry (length k.log + 1)) k
-  publishes e entry may = enters_in_log_with (λ s y. MayPublish s y entry) (λ y. SawNone y entry) (λ t y. publish_plan e t entry (length y.log + 1)) (λ n. entry)
+  pub publishes : (e : Purpose) (entry : Entry) → (Stands heap k → MayPublish heap.shape k entry × SawNone k entry)
+      → Keeps heap (publish_plan e k.thread entry (length k.log + 1)) k
+  publishes e entry may =
+      enters_in_log_with (λ s y. MayPublish s y entry) (λ y. SawNone y entry) (λ t y. publish_plan e t entry (length y.log + 1)) (λ n. entry)
       (publish_law e entry) (logged.publishes e entry) (λ t y h. refl) (λ s y a. a.runs) (λ v. (v.within, tt)) may
 
-  pub raises : (e : Purpose) (o : ℕ) → o < length heap.shape.objects → (Stands heap k → MayRaise k e o) → Keeps heap (raise_stamp_plan e o (next_stamp (local_of k))) k
-  raises e o object may = keeps (λ s y. MayRaise y e o) (λ t y. raise_stamp_plan e o (next_stamp (local_of y))) (raising_valid e o) (quiet.raises_stamp e o) (λ t y h. refl) (λ s y a. a.runs) (λ v. (object, tt)) may
+  pub raises : (e : Purpose) (o : ℕ) → o < length heap.shape.objects → (Stands heap k → MayRaise k e o)
+      → Keeps heap (raise_stamp_plan e o (next_stamp (local_of k))) k
+  raises e o object may =
+      keeps (λ s y. MayRaise y e o) (λ t y. raise_stamp_plan e o (next_stamp (local_of y))) (raising_valid e o) (quiet.raises_stamp e o)
+      (λ t y h. refl) (λ s y a. a.runs) (λ v. (object, tt)) may
 
   pub logs_enter : (e : Purpose) (o p : ℕ) (path : Path) → (Stands heap k → MayLogEnter heap.shape k o p path) → Keeps heap (log_enter_plan e o path) k
   logs_enter e o p path may = enters_in_log (λ s y. MayLogEnter s y o p path) (λ t y. log_enter_plan e o path) (λ n. Enter o path) (logging_an_enter e o p path)
       (λ w P t within m v law. enter_logged w P t o p path e within m v law) (λ t y h. refl) (λ s y a. a.runs) (λ v. ((may v).object, tt)) may
 
   pub readies : (e : Purpose) → (Stands heap k → MayBeReady k e) → Keeps heap (store_ready_plan e k.stage k.thread) k
-  readies e may = keeps (λ s y. MayBeReady y e) (λ t y. store_ready_plan e y.stage t) (ready_valid e) (quiet.says_ready e) (λ t y h. h) (λ s y a. a.runs) (λ v. (v.within, tt)) may
+  readies e may =
+      keeps (λ s y. MayBeReady y e) (λ t y. store_ready_plan e y.stage t) (ready_valid e) (quiet.says_ready e) (λ t y h. h) (λ s y a. a.runs)
+      (λ v. (v.within, tt)) may
 
   pub says_ended_rule : (e : Purpose) → (Stands heap k → MayEnd k e) → Keeps heap (store_ended_plan e k.thread) k
-  says_ended_rule e may = keeps (λ s y. MayEnd y e) (λ t y. store_ended_plan e t) (ended_valid e) (quiet.says_ended e) (λ t y h. refl) (λ s y a. a.runs) (λ v. (v.within, tt)) may
+  says_ended_rule e may =
+      keeps (λ s y. MayEnd y e) (λ t y. store_ended_plan e t) (ended_valid e) (quiet.says_ended e) (λ t y h. refl) (λ s y a. a.runs)
+      (λ v. (v.within, tt)) may
 
   -- LOCK RECORDS
   pub displaces_rule : (e : Purpose) (p d : ℕ) → (Stands heap k → MayDisplace k e p) → Keeps heap (displace_plan e k.stage k.thread p d) k
-  displaces_rule e p d may = keeps (λ s y. MayDisplace y e p) (λ t y. displace_plan e y.stage t p d) (displaces e p d) (quiet.displaces e p d) (λ t y h. h) (λ s y a. a.runs) (λ v. ((v.within, (may v).free.place), tt)) may
+  displaces_rule e p d may =
+      keeps (λ s y. MayDisplace y e p) (λ t y. displace_plan e y.stage t p d) (displaces e p d) (quiet.displaces e p d) (λ t y h. h) (λ s y a. a.runs)
+      (λ v. ((v.within, (may v).free.place), tt)) may
 
-  pub seizes_rule : (e : Purpose) (o mark p : ℕ) → o < length heap.shape.objects → (Stands heap k → MaySeize k e o mark p) → Keeps heap (seize_plan e k.thread o mark p) k
-  seizes_rule e o mark p object may = keeps (λ s y. MaySeize y e o mark p) (λ t y. seize_plan e t o mark p) (seizes e o mark p) (quiet.seizes e o mark p) (λ t y h. refl) (λ s y a. a.runs) (λ v. (object, tt)) may
+  pub seizes_rule : (e : Purpose) (o mark p : ℕ) → o < length heap.shape.objects → (Stands heap k → MaySeize k e o mark p)
+      → Keeps heap (seize_plan e k.thread o mark p) k
+  seizes_rule e o mark p object may =
+      keeps (λ s y. MaySeize y e o mark p) (λ t y. seize_plan e t o mark p) (seizes e o mark p) (quiet.seizes e o mark p) (λ t y h. refl)
+      (λ s y a. a.runs) (λ v. (object, tt)) may
 
-  pub holds_rule : (e : Purpose) (o d p : ℕ) (path : Path) → (Stands heap k → MayHold heap.shape k e o d p × WentBefore heap.biasing heap.shape k o p path) → Keeps heap (hold_plan e k.thread o d p path) k
+  pub holds_rule : (e : Purpose) (o d p : ℕ) (path : Path)
+      → (Stands heap k → MayHold heap.shape k e o d p × WentBefore heap.biasing heap.shape k o p path)
+      → Keeps heap (hold_plan e k.thread o d p path) k
   holds_rule e o d p path may = record {
     there = λ v. ((v.within, (may v).0.free.place), tt);
     by = λ v.
@@ -243,14 +284,20 @@ module _ (heap : Heap) (k : Known) where
         (hold_stored v.world v.objects k.thread e o d p path (inside v) (record { runs = m.0.runs; goes_on = m.0.goes_on; before = before }) a.fits a.biases)) (may v);
   }
 
-  pub leaves_rule : (e : Purpose) (o d p : ℕ) → (Stands heap k → p < 64) → (Stands heap k → MayLeave heap.shape k o d p) → Keeps heap (leave_plan e k.thread o p) k
-  leaves_rule e o d p place may = enters_in_log (λ s y. MayLeave s y o d p) (λ t y. leave_plan e t o p) (λ n. Exit o) (exits_by_a_hold_word e o d p) (logged.exits_by_hold e o d p) (λ t y h. refl) (λ s y a. a.runs) (λ v. ((v.within, place v), tt)) may
+  pub leaves_rule : (e : Purpose) (o d p : ℕ) → (Stands heap k → p < 64) → (Stands heap k → MayLeave heap.shape k o d p)
+      → Keeps heap (leave_plan e k.thread o p) k
+  leaves_rule e o d p place may =
+      enters_in_log (λ s y. MayLeave s y o d p) (λ t y. leave_plan e t o p) (λ n. Exit o) (exits_by_a_hold_word e o d p)
+      (logged.exits_by_hold e o d p) (λ t y h. refl) (λ s y a. a.runs) (λ v. ((v.within, place v), tt)) may
 
   pub clears_rule : (e : Purpose) (o p : ℕ) → (Stands heap k → p < 64) → (Stands heap k → MayClear k e o p) → Keeps heap (clear_plan e k.thread p) k
-  clears_rule e o p place may = keeps (λ s y. MayClear y e o p) (λ t y. clear_plan e t p) (cleared_valid e o p) (quiet.clears e o p) (λ t y h. refl) (λ s y a. a.runs) (λ v. ((v.within, place v), tt)) may
+  clears_rule e o p place may =
+      keeps (λ s y. MayClear y e o p) (λ t y. clear_plan e t p) (cleared_valid e o p) (quiet.clears e o p) (λ t y h. refl) (λ s y a. a.runs)
+      (λ v. ((v.within, place v), tt)) may
 
   -- whether the exchange hits or misses
-  pub lets_go_rule : (e : Purpose) (o header stamp p : ℕ) → (Stands heap k → MayLetGo heap.shape k o header stamp p) → Keeps heap (let_go_plan e o (mark_of (Locked k.thread p)) header p) k
+  pub lets_go_rule : (e : Purpose) (o header stamp p : ℕ) → (Stands heap k → MayLetGo heap.shape k o header stamp p)
+      → Keeps heap (let_go_plan e o (mark_of (Locked k.thread p)) header p) k
   lets_go_rule e o header stamp p may = record {
     there = λ v. ((may v).object, tt);
     by = λ v.

@@ -1,16 +1,14 @@
 -- The next step of a thread keeps a sound world sound.
-use Rattle.std.proofs.Common.{◌≡◌, ℕ, ◌<◌, ◌&&◌, Bool, true, false, cond, List, [], ◌∷◌, Option, Some, None, refl, sym, ap, ◌∙◌, subst, inl, inr}
+use Rattle.std.proofs.Common.{◌≡◌, ℕ, ◌<◌, ◌&&◌, Bool, true, false, cond, List, Some, refl, sym, ap, ◌∙◌, subst, inl, inr}
 use Rattle.std.proofs.lemmas.Option.{same_Some}
 use Rattle.plain_monitor.specs.Objects.{PlainObject}
 use Rattle.core_world.specs.declared.plan.StepPlan.{StepPlan}
-use Rattle.core_world.specs.Words.Acts.{hits}
 use Rattle.core_world.specs.Threads.AtRest.{AtRest}
-use Rattle.core_world.specs.Words.Shape.{Shape}
 use Rattle.core_world.specs.Threads.Stages.{is_calm}
-use Rattle.core_world.specs.Threads.Known.{Known, CallUnderway, start_of}
+use Rattle.core_world.specs.Threads.Known.{Known, start_of}
 use Rattle.core_world.specs.Trees.Todo.{Todo, done, never, step, head, after_answer, is_over}
 use Rattle.core_world.specs.Trees.Calls.{steps_of, may_begin}
-use Rattle.core_world.specs.Steps.{rest_of_call, is_idle, left_of, with_answer, call_after, known_hit, known_miss, known_after, world_after}
+use Rattle.core_world.specs.Steps.{rest_of_call, is_idle, known_after, world_after}
 use Rattle.core_world.specs.Due.{steps_due, IsNext}
 use Rattle.core_world.specs.There.{IsThere}
 use Rattle.core_world.specs.Valid.{IsValid}

@@ -75,7 +75,9 @@ module _ (s : Shape) (o t : ℕ) (object : o < length s.objects) (thread : t < s
       cases : (b : Bool)
           → AreStored s (if b then write (Mark o) (mark_of (if allowed then Anonymous 0 0 else Neutral 0 0)) ∷ [] else record_writes o t 0 hs ++ write (Mark o) (mark_of (Locked t (first_place o hs))) ∷ [])
       cases true = (tt, object, tt)
-      cases false = both_stored s (record_writes o t 0 hs) (write (Mark o) (mark_of (Locked t (first_place o hs))) ∷ []) (records_stored 0 hs (omega (arith, many))) (tt, object, tt)
+      cases false =
+          both_stored s (record_writes o t 0 hs) (write (Mark o) (mark_of (Locked t (first_place o hs))) ∷ [])
+          (records_stored 0 hs (omega (arith, many))) (tt, object, tt)
 
 -- OF ALL ANSWERS of a tree, whatever its steps find
 abbrev pub AllAnswers : {A : Type 0} → (A → Type 0) → Todo A → Type 0
@@ -89,7 +91,8 @@ answers_behind P (done a) g h = h a
 answers_behind P never g h = tt
 answers_behind P (step p f) g h = λ n. answers_behind P (f n) g h
 
-answers_then : {A B : Type 0} (P : A → Type 0) (R : B → Type 0) (d : Todo A) (g : A → Todo B) → AllAnswers P d → ((a : A) → P a → AllAnswers R (g a)) → AllAnswers R (d >>= g)
+answers_then : {A B : Type 0} (P : A → Type 0) (R : B → Type 0) (d : Todo A) (g : A → Todo B) → AllAnswers P d → ((a : A) → P a → AllAnswers R (g a))
+    → AllAnswers R (d >>= g)
 answers_then P R (done a) g h k = k a h
 answers_then P R never g h k = tt
 answers_then P R (step p f) g h k = λ n. answers_then P R (f n) g (h n) k
@@ -119,7 +122,8 @@ module _ (s : Shape) (e : Purpose) (b : Revocation) where
   InMiddle never = ⊥
   InMiddle (step p f) = IsMiddle p × ((n : ℕ) → IsFormed s p.at n → InMiddle (f n))
 
-  pub middle_answers : {A B : Type 0} (P : A → Type 0) (d : Todo A) (g : A → Todo B) → InMiddle d → AllAnswers P d → ((a : A) → P a → InMiddle (g a)) → InMiddle (d >>= g)
+  pub middle_answers : {A B : Type 0} (P : A → Type 0) (d : Todo A) (g : A → Todo B) → InMiddle d → AllAnswers P d → ((a : A) → P a → InMiddle (g a))
+      → InMiddle (d >>= g)
   middle_answers P (done a) g h all k = k a all
   middle_answers P never g h all k = absurd h
   middle_answers P (step p f) g h all k = (h.0, λ n formed. middle_answers P (f n) g (h.1 n formed) (all n) k)
@@ -145,7 +149,8 @@ module _ (s : Shape) (e : Purpose) (b : Revocation) where
       middle_binds (each_from (i + 1) n f) (λ others. done (first ∷ others)) (middle_each (i + 1) n f (λ j less. h j (omega (arith, less)))) (λ others. tt))
 
   -- a load, and what is done by the word that it finds
-  middle_look : {A : Type 0} (at : Name) (g : ℕ → Todo A) → IsLooked at → IsIn s at → ((n : ℕ) → IsFormed s at n → InMiddle (g n)) → InMiddle (look e b at >>= g)
+  middle_look : {A : Type 0} (at : Name) (g : ℕ → Todo A) → IsLooked at → IsIn s at → ((n : ℕ) → IsFormed s at n → InMiddle (g n))
+      → InMiddle (look e b at >>= g)
   middle_look at g h i k = (inl (at, h, i, refl), k)
 
   middle_stores : (xs : List Write) → AreStored s xs → InMiddle (store_steps e b xs)
@@ -158,19 +163,22 @@ module _ (s : Shape) (e : Purpose) (b : Revocation) where
   middle_revoke_at (Some (Anonymous epoch age)) o false object form = middle_stores (write (Mark o) (mark_of (Neutral 0 0)) ∷ []) (tt, object, tt)
   middle_revoke_at (Some (Biased t epoch age)) o allowed object form =
       middle_answers (λ hs. length hs ≡ 64) (each_from 0 64 (λ p. look e b (Hold t p))) (λ holds. store_steps e b (revoke_biased o t allowed holds))
-      (middle_each 0 64 (λ p. look e b (Hold t p)) (λ p less. (inl (Hold t p, tt, (form.0, less), refl), λ n formed. tt))) (each_many 0 64 (λ p. look e b (Hold t p)))
+      (middle_each 0 64 (λ p. look e b (Hold t p)) (λ p less. (inl (Hold t p, tt, (form.0, less), refl), λ n formed. tt)))
+      (each_many 0 64 (λ p. look e b (Hold t p)))
       (λ holds many. middle_stores (revoke_biased o t allowed holds) (biased_stored s o t object form.0 allowed holds many))
   middle_revoke_at _ o allowed object form = tt
 
   middle_revoke : (o : ℕ) (allowed : Bool) → o < length s.objects → InMiddle (revoke_steps e b o allowed)
   middle_revoke o allowed object =
-      middle_look (Mark o) (λ mark. revoke_at (read_mark mark) e b o allowed) tt object (λ mark formed. middle_revoke_at (read_mark mark) o allowed object formed)
+      middle_look (Mark o) (λ mark. revoke_at (read_mark mark) e b o allowed) tt object
+      (λ mark formed. middle_revoke_at (read_mark mark) o allowed object formed)
 
   -- what is done with a biased object that a record names
   abbrev Visits : (ℕ → ℕ → Todo (Unit {0})) → Type 0
   Visits visit = (o mark : ℕ) → o < length s.objects → IsMark s (read_mark mark) → InMiddle (visit o mark)
 
-  middle_visit : (c : ℕ) (visit : ℕ → ℕ → Todo (Unit {0})) (f : Option HoldForm) → IsHold s f → Visits visit → InMiddle (visit_held s c e b visit (object_held f))
+  middle_visit : (c : ℕ) (visit : ℕ → ℕ → Todo (Unit {0})) (f : Option HoldForm) → IsHold s f → Visits visit
+      → InMiddle (visit_held s c e b visit (object_held f))
   middle_visit c visit None form h = absurd form
   middle_visit c visit (Some Empty) form h = tt
   middle_visit c visit (Some (Holds o d)) form h =
@@ -201,7 +209,8 @@ module _ (s : Shape) (e : Purpose) (b : Revocation) where
           middle_binds (walk_steps s c e b (λ o mark. store_steps e b (store_where (Mark o) (with_epoch (read_mark mark) (next_epoch epoch))))) _
           (middle_walk c _ (λ o mark visited form. middle_stores (store_where (Mark o) (with_epoch (read_mark mark) (next_epoch epoch)))
           (where_stored s (Mark o) (with_epoch (read_mark mark) (next_epoch epoch)) tt visited))) (λ u.
-          middle_binds (revoke_steps e b b.object b.rebias) (λ u. cond b.rebias (take_bias_steps e b (next_epoch epoch) t) (done false)) (middle_revoke b.object b.rebias object)
+          middle_binds (revoke_steps e b b.object b.rebias) (λ u. cond b.rebias (take_bias_steps e b (next_epoch epoch) t) (done false))
+          (middle_revoke b.object b.rebias object)
           (λ u. middle_chooses b.rebias (take_bias_steps e b (next_epoch epoch) t) (done false) (middle_take (next_epoch epoch) t) tt))),
     )
 
@@ -243,6 +252,8 @@ module _ (e : Purpose) (b : Revocation) (none : b.rebias ≡ false) where
       by_test : (z : Bool) (mark prototype count last : ℕ)
           → AllAnswers (λ (a : RevocationOutcome). a.took ≡ false) (cond z (decided_steps s t (class_of s b.object) e b (epoch_in prototype) count last) never)
       by_test true mark prototype count last = λ n.
-          answers_then Untaken (λ (a : RevocationOutcome). a.took ≡ false) (verdict_steps s t (class_of s b.object) e b (epoch_in prototype) (decided count last b.now).0)
-          (λ took. done (record { verdict = (decided count last b.now).0; took = took })) (verdict_untaken s t (class_of s b.object) (epoch_in prototype) (decided count last b.now).0) (λ took h. h)
+          answers_then Untaken (λ (a : RevocationOutcome). a.took ≡ false)
+          (verdict_steps s t (class_of s b.object) e b (epoch_in prototype) (decided count last b.now).0)
+          (λ took. done (record { verdict = (decided count last b.now).0; took = took }))
+          (verdict_untaken s t (class_of s b.object) (epoch_in prototype) (decided count last b.now).0) (λ took h. h)
       by_test false mark prototype count last = tt

@@ -62,11 +62,13 @@ headers_stay : (n : Name) → is_header n ≡ true → (ms : List StepMade) → 
 headers_stay n h [] = refl
 headers_stay n h (m ∷ ms) = by_header (is_header m.plan.at) refl (headers_stay n h ms)
   where
-    unless : is_header m.plan.at ≡ false → (b : Bool) → same_name n m.plan.at ≡ b → last_seen n (only_headers ms) ≡ last_seen n ms → last_seen n (only_headers ms) ≡ cond b (Some (left_by m)) (last_seen n ms)
+    unless : is_header m.plan.at ≡ false → (b : Bool) → same_name n m.plan.at ≡ b → last_seen n (only_headers ms) ≡ last_seen n ms
+        → last_seen n (only_headers ms) ≡ cond b (Some (left_by m)) (last_seen n ms)
     unless g true e rest = let same = ap is_header (same_named n m.plan.at e) in absurd (cc (same, h, g))
     unless g false e rest = rest
 
-    by_header : (b : Bool) → is_header m.plan.at ≡ b → last_seen n (only_headers ms) ≡ last_seen n ms → last_seen n (cond b (m ∷ only_headers ms) (only_headers ms)) ≡ last_seen n (m ∷ ms)
+    by_header : (b : Bool) → is_header m.plan.at ≡ b → last_seen n (only_headers ms) ≡ last_seen n ms
+        → last_seen n (cond b (m ∷ only_headers ms) (only_headers ms)) ≡ last_seen n (m ∷ ms)
     by_header true g rest = ap (λ z. cond (same_name n m.plan.at) (Some (left_by m)) z) rest
     by_header false g rest = unless g (same_name n m.plan.at) refl rest
 
@@ -177,7 +179,8 @@ module _ (heap : Heap) (e : Purpose) (b : Revocation) (me : ℕ) where
     abbrev Q : Bool → RevocationOutcome → Known → Type 0
     Q f a l = (f ≡ false) × Made_all a l
 
-    then_revokes : (p : StepPlan) (n : ℕ) (f : ℕ → Todo RevocationOutcome) (k l : Known) (ms : List StepMade) → Revokes k ms (step p f) → Adds p n k l → p.stage ≡ revocation_stage b → Revokes l (record { plan = p; found = n } ∷ ms) (f n)
+    then_revokes : (p : StepPlan) (n : ℕ) (f : ℕ → Todo RevocationOutcome) (k l : Known) (ms : List StepMade) → Revokes k ms (step p f) → Adds p n k l
+        → p.stage ≡ revocation_stage b → Revokes l (record { plan = p; found = n } ∷ ms) (f n)
     then_revokes p n f k l ms x a at =
         let m : StepMade = record { plan = p; found = n } in
         record {
@@ -189,8 +192,10 @@ module _ (heap : Heap) (e : Purpose) (b : Revocation) (me : ℕ) where
           prototype = subst (HasSeen (name.Prototype c)) (sym a.seen_at_safepoint) (seen_more (name.Prototype c) m k.seen_at_safepoint x.prototype);
         }
 
-    by_look : (at : Name) (f : ℕ → Todo RevocationOutcome) (k : Known) (ms : List StepMade) → IsLooked at → IsIn heap.shape at → Revokes k ms (step (looking at) f)
-        → ((n : ℕ) (l : Known) (ms : List StepMade) → IsFormed heap.shape at n → Revokes l ms (f n) → Does heap false (f n) l Q) → Does heap false (step (looking at) f) k Q
+    by_look : (at : Name) (f : ℕ → Todo RevocationOutcome) (k : Known) (ms : List StepMade) → IsLooked at → IsIn heap.shape at
+        → Revokes k ms (step (looking at) f)
+        → ((n : ℕ) (l : Known) (ms : List StepMade) → IsFormed heap.shape at n → Revokes l ms (f n) → Does heap false (f n) l Q)
+        → Does heap false (step (looking at) f) k Q
     by_look at f k ms h there x go =
         hitting heap false (looking at) f k Q (λ n. refl)
         (λ i. looks heap k (looking at) (record {
@@ -204,8 +209,10 @@ module _ (heap : Heap) (e : Purpose) (b : Revocation) (me : ℕ) where
         }) (λ v. there))
         (λ n i was. go n (then_known (looking at) n k) (record { plan = looking at; found = n } ∷ ms) (found_formed heap k at n refl was) (then_revokes (looking at) n f k (then_known (looking at) n k) ms x (look_adds at h n k) refl))
 
-    by_store : (at : Name) (word : ℕ) (f : ℕ → Todo RevocationOutcome) (k : Known) (ms : List StepMade) → IsStored at → IsIn heap.shape at → Revokes k ms (step (storing at word) f)
-        → ((n : ℕ) (l : Known) (ms : List StepMade) → IsFormed heap.shape at n → Revokes l ms (f n) → Does heap false (f n) l Q) → Does heap false (step (storing at word) f) k Q
+    by_store : (at : Name) (word : ℕ) (f : ℕ → Todo RevocationOutcome) (k : Known) (ms : List StepMade) → IsStored at → IsIn heap.shape at
+        → Revokes k ms (step (storing at word) f)
+        → ((n : ℕ) (l : Known) (ms : List StepMade) → IsFormed heap.shape at n → Revokes l ms (f n) → Does heap false (f n) l Q)
+        → Does heap false (step (storing at word) f) k Q
     by_store at word f k ms h there x go =
         hitting heap false (storing at word) f k Q (λ n. refl)
         (λ i. goes_on_revoking_rule heap k e b at word (λ v. there) (λ v. record {
@@ -235,7 +242,8 @@ module _ (heap : Heap) (e : Purpose) (b : Revocation) (me : ℕ) where
     ]
 
     -- what the call that made the request saw of the object's mark is still there
-    still_valid : (v : Stands heap k0) (saw : SawValidBias heap.shape k0 b.object) → (v.world.words (name.Mark b.object) ≡ saw.0) × (v.world.words (name.Prototype c) ≡ saw.1)
+    still_valid : (v : Stands heap k0) (saw : SawValidBias heap.shape k0 b.object)
+        → (v.world.words (name.Mark b.object) ≡ saw.0) × (v.world.words (name.Prototype c) ≡ saw.1)
     still_valid v saw =
         let fits = fits_reached heap k0 v r.reached r.calm in
         let asks = (fits.safe.safepoint k0.thread (away heap k0 v (λ s y. y.reached ≡ true) r.reached)).0 in
@@ -244,12 +252,14 @@ module _ (heap : Heap) (e : Purpose) (b : Revocation) (me : ℕ) where
         (away heap k0 v (λ s y. last_seen (name.Prototype (class_of s b.object)) y.seen ≡ Some saw.1) saw.3) (inr (asks, none_revokes, tt)) in
         let valid : IsValidBias (read_mark saw.0) (v.world.words (name.Prototype (class_of v.world.shape b.object))) =
         subst (IsValidBias (read_mark saw.0)) (sym prototype) (valid_is (read_mark saw.0) saw.1 saw.4) in (
-          fits.seen.stays k0.thread (name.Mark b.object) saw.0 (away heap k0 v (λ s y. last_seen (name.Mark b.object) y.seen ≡ Some saw.0) saw.2) (inr (asks, none_revokes, valid)),
+          fits.seen.stays k0.thread (name.Mark b.object) saw.0 (away heap k0 v (λ s y. last_seen (name.Mark b.object) y.seen ≡ Some saw.0) saw.2)
+              (inr (asks, none_revokes, valid)),
           home heap k0 v (λ s y. v.world.words (name.Prototype (class_of s b.object)) ≡ saw.1) prototype,
         )
 
   -- a prototype that was seen in the calls of the request
-  still_prototype : (k : Known) (v : Stands heap k) (p : ℕ) → k.reached ≡ true → k.stage ≡ Calm → last_seen (name.Prototype c) k.seen ≡ Some p → v.world.words (name.Prototype c) ≡ p
+  still_prototype : (k : Known) (v : Stands heap k) (p : ℕ) → k.reached ≡ true → k.stage ≡ Calm → last_seen (name.Prototype c) k.seen ≡ Some p
+      → v.world.words (name.Prototype c) ≡ p
   still_prototype k v p reached calm saw =
       let fits = fits_reached heap k v reached calm in
       let asks = (fits.safe.safepoint k.thread (away heap k v (λ s y. y.reached ≡ true) reached)).0 in
@@ -258,8 +268,10 @@ module _ (heap : Heap) (e : Purpose) (b : Revocation) (me : ℕ) where
       (fits.seen.stays k.thread (name.Prototype (class_of v.world.shape b.object)) p (away heap k v (λ s y. last_seen (name.Prototype (class_of s b.object)) y.seen ≡ Some p) saw) (inr (asks, none_revokes, tt)))
 
   -- THE STEPS of a revocation for this operation, by a thread that saw a valid bias when it asked
-  module _ (operation : Op) (unfinished : e.unfinished ≡ Some (record { op = operation; object = b.object })) (allowed : RevokesWithin operation b.rebias) (object : b.object < length heap.shape.objects) where
-    module _ (k0 : Known) (r : Reaches me k0 e) (unwritten : writes_in k0.seen_at_safepoint ≡ []) (mark prototype count last : ℕ) (valid : is_valid_bias (read_mark mark) prototype ≡ true) where
+  module _ (operation : Op) (unfinished : e.unfinished ≡ Some (record { op = operation; object = b.object }))
+      (allowed : RevokesWithin operation b.rebias) (object : b.object < length heap.shape.objects) where
+    module _ (k0 : Known) (r : Reaches me k0 e) (unwritten : writes_in k0.seen_at_safepoint ≡ []) (mark prototype count last : ℕ)
+        (valid : is_valid_bias (read_mark mark) prototype ≡ true) where
       abbrev looks_so_far : List StepMade
       looks_so_far =
           record { plan = load e (name.LastBulk c); found = last } ∷ record { plan = load e (name.Revocations c); found = count } ∷ record { plan = load e (name.Prototype c); found = prototype }
@@ -324,7 +336,9 @@ module _ (heap : Heap) (e : Purpose) (b : Revocation) (me : ℕ) where
             biased = (mark, prototype, saw_mark, saw_prototype, valid);
             decides = (count, last, saw_count, saw_last, refl, refl);
             store = record {
-              next = subst (λ t. IsNextStore heap.shape t b k4.seen_at_safepoint (name.Revocations c) word) (sym r.number) (steps_next heap.shape me e b looks_so_far k0.seen_at_safepoint unwritten first_store rest_of word path refl);
+              next =
+                  subst (λ t. IsNextStore heap.shape t b k4.seen_at_safepoint (name.Revocations c) word) (sym r.number)
+                  (steps_next heap.shape me e b looks_so_far k0.seen_at_safepoint unwritten first_store rest_of word path refl);
               goes_on = refl;
               check = refl;
             };
@@ -341,7 +355,8 @@ module _ (heap : Heap) (e : Purpose) (b : Revocation) (me : ℕ) where
             prototype = (prototype, saw_prototype);
           }))
 
-    pub revoke_does : (k0 : Known) (r : Reaches me k0 e) (unwritten : writes_in k0.seen_at_safepoint ≡ []) → SawValidBias heap.shape k0 b.object → Does heap false T k0 (λ f a l. (f ≡ false) × Made_all k0 r unwritten a l)
+    pub revoke_does : (k0 : Known) (r : Reaches me k0 e) (unwritten : writes_in k0.seen_at_safepoint ≡ []) → SawValidBias heap.shape k0 b.object
+        → Does heap false T k0 (λ f a l. (f ≡ false) × Made_all k0 r unwritten a l)
     revoke_does k0 r unwritten saw =
         let R : Bool → RevocationOutcome → Known → Type 0 = λ f a l. (f ≡ false) × Made_all k0 r unwritten a l in
         hitting heap false (load e (name.Mark b.object)) _ k0 R (λ n. refl) (λ i. keeps_look heap me e (name.Mark b.object) k0 r (λ v. object)) (λ mark i0 was0.
@@ -357,7 +372,8 @@ module _ (heap : Heap) (e : Purpose) (b : Revocation) (me : ℕ) where
         let there = still_valid k0 r unwritten was0.stands saw in
         let mark_is : mark ≡ saw.0 = sym was0.found ∙ there.0 in
         let prototype_is : prototype ≡ saw.1 =
-        sym was1.found ∙ still_prototype k1 was1.stands saw.1 r.reached refl (ap (λ (z : Bool). last_seen (name.Prototype c) (cond (z && not k0.requesting) [] k0.seen)) i0 ∙ saw.3) in
+        sym was1.found ∙ still_prototype k1 was1.stands saw.1 r.reached refl
+        (ap (λ (z : Bool). last_seen (name.Prototype c) (cond (z && not k0.requesting) [] k0.seen)) i0 ∙ saw.3) in
         let valid : is_valid_bias (read_mark mark) prototype ≡ true = (λ j. is_valid_bias (read_mark (mark_is j)) (prototype_is j)) ∙ saw.4 in
         subst (λ (z : Bool). Does heap false (cond z (decided_steps heap.shape me c e b (epoch_in prototype) count last) never) (then_known (load e (name.LastBulk c)) last k3) R) (sym valid)
         (decides k0 r unwritten mark prototype count last valid)))))
@@ -367,8 +383,10 @@ module _ (heap : Heap) (e : Purpose) (b : Revocation) (me : ℕ) where
   Tells t true v p = IsBiasTo t (read_mark v) (epoch_in p)
   Tells t false v p = is_biased v ≡ false
 
-  tells_of : (t : ℕ) (took : Bool) (f : Name → ℕ) (v p : ℕ) → f (name.Mark b.object) ≡ v → f (name.Prototype c) ≡ p → TellsBias t b.object c took f → Tells t took v p
-  tells_of t true f v p mark prototype h = subst (λ z. IsBiasTo t (read_mark z) (epoch_in p)) mark (subst (λ z. IsBiasTo t (read_mark (f (name.Mark b.object))) (epoch_in z)) prototype h)
+  tells_of : (t : ℕ) (took : Bool) (f : Name → ℕ) (v p : ℕ) → f (name.Mark b.object) ≡ v → f (name.Prototype c) ≡ p → TellsBias t b.object c took f
+      → Tells t took v p
+  tells_of t true f v p mark prototype h =
+      subst (λ z. IsBiasTo t (read_mark z) (epoch_in p)) mark (subst (λ z. IsBiasTo t (read_mark (f (name.Mark b.object))) (epoch_in z)) prototype h)
   tells_of t false f v p mark prototype h = subst (λ z. is_biased z ≡ false) mark h
 
   -- behind it the thread runs, and has seen in its call the object's mark and its class's prototype alone, besides such words of others
@@ -393,7 +411,8 @@ module _ (heap : Heap) (e : Purpose) (b : Revocation) (me : ℕ) where
   Revoked k (Pending why) l = AtRest heap.shape l
 
   -- before it, what the steps answer is whether the object's words have the bias pattern
-  told_there : (k0 : Known) (r : Reaches me k0 e) (unwritten : writes_in k0.seen_at_safepoint ≡ []) (k : Known) (a : RevocationOutcome) → Made_all k0 r unwritten a k → (v : Stands heap k)
+  told_there : (k0 : Known) (r : Reaches me k0 e) (unwritten : writes_in k0.seen_at_safepoint ≡ []) (k : Known) (a : RevocationOutcome)
+      → Made_all k0 r unwritten a k → (v : Stands heap k)
       → TellsBias k.thread b.object c a.took v.world.words
   told_there k0 r unwritten k a all v =
       let x = all.1 in
@@ -404,7 +423,8 @@ module _ (heap : Heap) (e : Purpose) (b : Revocation) (me : ℕ) where
       (away heap k v (λ s y. y.seen_at_safepoint ≡ all.0 ++ k0.seen_at_safepoint) x.seen_at_safepoint) unwritten
       (away heap k v (λ s y. Leads (revoke_at_safepoint_steps s k.thread e b) all.0 (done a)) (subst (λ t. Leads (revoke_at_safepoint_steps heap.shape t e b) all.0 (done a)) (sym number) x.path)) (valid_here heap k v))
 
-  pub release_does : (k0 : Known) (r : Reaches me k0 e) (unwritten : writes_in k0.seen_at_safepoint ≡ []) (k : Known) (a : RevocationOutcome) → Made_all k0 r unwritten a k
+  pub release_does : (k0 : Known) (r : Reaches me k0 e) (unwritten : writes_in k0.seen_at_safepoint ≡ []) (k : Known) (a : RevocationOutcome)
+      → Made_all k0 r unwritten a k
       → Does heap false (release_to (stage_after a.took b.object) e me >>= (λ u. done_with a.took)) k (λ f turn l. (f ≡ false) × Revoked k0 turn l)
   release_does k0 r unwritten k a all =
       let x = all.1 in
@@ -428,7 +448,8 @@ module _ (heap : Heap) (e : Purpose) (b : Revocation) (me : ℕ) where
       (λ yes. answers heap false (Done a.took) l R (refl, released k0 r unwritten k a all n was hit))
       (λ no. absurd (cc (hit, no)))))
     where
-      released : (k0 : Known) (r : Reaches me k0 e) (unwritten : writes_in k0.seen_at_safepoint ≡ []) (k : Known) (a : RevocationOutcome) → Made_all k0 r unwritten a k → (n : ℕ)
+      released : (k0 : Known) (r : Reaches me k0 e) (unwritten : writes_in k0.seen_at_safepoint ≡ []) (k : Known) (a : RevocationOutcome)
+          → Made_all k0 r unwritten a k → (n : ℕ)
           → Was heap (release_plan (record e { check = false }) (stage_after a.took b.object) k.thread) k n → (n == reached_word k.thread) ≡ true
           → Released k0 a.took (then_known (release_plan (record e { check = false }) (stage_after a.took b.object) k.thread) n k)
       released k0 r unwritten k a all n was hit =
@@ -441,7 +462,8 @@ module _ (heap : Heap) (e : Purpose) (b : Revocation) (me : ℕ) where
           let unasks : asks_in left k.thread ≡ false = ap (λ (z : Bool). asks_in (cond z (released_word k.thread) n) k.thread) hit ∙ released_asks k.thread few in
           let call : List StepMade = cond k.running (seen_before heap.shape k) [] in
           let kept : cond (k.reached && not (asks_in left k.thread)) (only_headers k.seen_at_safepoint) call ≡ only_headers k.seen_at_safepoint =
-          ap (λ (z : Bool). cond (z && not (asks_in left k.thread)) (only_headers k.seen_at_safepoint) call) reached ∙ ap (λ (z : Bool). cond (not z) (only_headers k.seen_at_safepoint) call) unasks in
+          ap (λ (z : Bool). cond (z && not (asks_in left k.thread)) (only_headers k.seen_at_safepoint) call) reached ∙ ap
+          (λ (z : Bool). cond (not z) (only_headers k.seen_at_safepoint) call) unasks in
           let told = told_there k0 r unwritten k a all v in
           record {
             local = x.leaves.local;

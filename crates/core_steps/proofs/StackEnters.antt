@@ -89,16 +89,19 @@ module _ (heap : Heap) where
   hold_does k e o path a mine untold place before =
       let none : Unwaiting k = λ i h. a.unwaiting i (sym mine ∙ h) in
       hitting heap false _ _ k _ (λ n. refl)
-      (λ i. holds_rule heap k e o (hold_count o k.holds + 1) (free_place k.holds) path (λ v. (record {
-        runs = a.runs;
-        out = out_here heap k v a.runs none untold;
-        free = free_here heap k v a.runs place;
-        depth = refl;
-        small = room_here heap k v a.runs o place;
-        object = a.object;
-        before = before.0;
-        goes_on = inl (sym mine);
-      }, before.1)))
+      (λ i. holds_rule heap k e o (hold_count o k.holds + 1) (free_place k.holds) path (λ v. (
+        record {
+          runs = a.runs;
+          out = out_here heap k v a.runs none untold;
+          free = free_here heap k v a.runs place;
+          depth = refl;
+          small = room_here heap k v a.runs o place;
+          object = a.object;
+          before = before.0;
+          goes_on = inl (sym mine);
+        },
+        before.1,
+      )))
       (λ n i was. entered_does _ e o path (local_of k) a
       refl refl untold refl refl)
 
@@ -134,11 +137,17 @@ module _ (heap : Heap) where
       let p = free_place k.holds in
       hitting heap fresh _ _ k _ (λ n. refl) (λ i. displaces_free k e 0 a.runs calm goes place) (λ n i was.
       binds heap false (hold_steps e (local_of k) o StackAgain) done_with _ _ (
-      follows heap false _ _ _ _ (hold_does _ e o StackAgain a refl untold place
-      (inr (inl (refl, holds, saw_newest heap (displace_plan e Calm k.thread p 0) n k)), (refl, holds, elim unbiased [
-        | inl plain ↦ inl plain
-        | inr saw ↦ inr (saw.1.0, saw_older heap (displace_plan e Calm k.thread p 0) n k (name.Mark o) (i ∙ saw.0) refl refl ∙ saw.1.1, saw.1.2)
-      ])))
+      follows heap false _ _ _ _ (hold_does _ e o StackAgain a refl untold place (
+        inr (inl (refl, holds, saw_newest heap (displace_plan e Calm k.thread p 0) n k)),
+        (
+          refl,
+          holds,
+          elim unbiased [
+            | inl plain ↦ inl plain
+            | inr saw ↦ inr (saw.1.0, saw_older heap (displace_plan e Calm k.thread p 0) n k (name.Mark o) (i ∙ saw.0) refl refl ∙ saw.1.1, saw.1.2)
+          ],
+        ),
+      ))
       (λ b r l h. answers heap b _ l _ h)))
 
   neutral_reads : (f : Option MarkForm) → is_neutral_form f ≡ true → (hash age : ℕ) × (f ≡ Some (Neutral hash age))

@@ -1,7 +1,6 @@
 -- When every clause holds and the law of biases with them, and how a step that ends no revocation keeps both.
-use Rattle.std.proofs.Common.{◌≡◌, ℕ, ◌<◌, Bool, true, false, cond, List, None, sym, ap, ◌∙◌, inl, inr}
+use Rattle.std.proofs.Common.{◌≡◌, ℕ, Bool, true, false, cond, List, None, ap, ◌∙◌, inl, inr}
 use Rattle.plain_monitor.specs.Objects.{PlainObject}
-use Rattle.mark_word.specs.Mark.{mark_of}
 use Rattle.core_world.specs.declared.name.Name.TheVariants.{Safepoint}
 use Rattle.core_world.specs.declared.plan.StepPlan.{StepPlan}
 use Rattle.core_world.specs.declared.stage.Stage.TheVariants.{Calm}
@@ -10,7 +9,7 @@ use Rattle.core_world.specs.Words.Forms.{requester_in}
 use Rattle.core_world.specs.Threads.Known.{Known}
 use Rattle.core_world.specs.Threads.Stages.{revocation_in}
 use Rattle.core_world.specs.Steps.{known_after, known_hit, known_miss, world_after}
-use Rattle.core_world.specs.Valid.{Fits, IsRevoking, IsValid, IsValidWith}
+use Rattle.core_world.specs.Valid.{Fits, IsRevoking, IsValid}
 use Rattle.core_world.specs.World.{World}
 use Rattle.plain_monitor.specs.Monitor.{is_thread}
 use Rattle.core_world.proofs.KnowledgeParts.{each_with_known}
@@ -54,11 +53,13 @@ pub all_unless : (w : World) (P : List PlainObject) → (IsRevoking w P → ⊥)
 all_unless w P none valid = elim valid [ inl a ↦ record { fits = a.0; biases = a.1 } | inr a ↦ absurd (none a.0) ]
 
 -- A STEP from there after which its thread revokes nothing leads to where all clauses hold, if it leads to a valid world and keeps the law.
-module _ (w : World) (P : List PlainObject) (t : ℕ) (p : StepPlan) (a : All w P) (unrevoking : revocation_in (w.known t).stage ≡ None → revocation_in p.stage ≡ None) where
+module _ (w : World) (P : List PlainObject) (t : ℕ) (p : StepPlan) (a : All w P)
+    (unrevoking : revocation_in (w.known t).stage ≡ None → revocation_in p.stage ≡ None) where
   stage_after : revocation_in (known_after w.shape w.start p (w.words p.at) (w.known t)).stage ≡ None
   stage_after = cases (hits p.act (w.words p.at))
     where
-      cases : (b : Bool) → revocation_in (cond b (known_hit w.shape w.start p (w.words p.at) (w.known t)) (known_miss w.shape w.start p (w.words p.at) (w.known t))).stage ≡ None
+      cases : (b : Bool)
+          → revocation_in (cond b (known_hit w.shape w.start p (w.words p.at) (w.known t)) (known_miss w.shape w.start p (w.words p.at) (w.known t))).stage ≡ None
       cases true = unrevoking (a.fits.quiet.none_revokes t)
       cases false = a.fits.quiet.none_revokes t
 

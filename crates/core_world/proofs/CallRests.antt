@@ -1,7 +1,6 @@
 -- What is left of a call behind a step, and behind a run of its steps.
-use Rattle.std.proofs.Common.{◌≡◌, ◌⊎◌, ℕ, ◌&&◌, Bool, true, false, cond, List, [], ◌∷◌, Option, Some, None, refl, sym, ap, ◌∙◌, subst, inl, inr}
+use Rattle.std.proofs.Common.{◌≡◌, ℕ, ◌&&◌, Bool, true, false, cond, [], ◌∷◌, Option, Some, None, refl, sym, ap, ◌∙◌, inl, inr}
 use Rattle.core_world.specs.declared.plan.StepPlan.{StepPlan}
-use Rattle.core_world.specs.declared.stage.Stage.{Stage}
 use Rattle.core_world.specs.declared.task.Task.{Task}
 use Rattle.core_world.specs.Words.Acts.{hits}
 use Rattle.core_world.specs.Words.Shape.{Shape}
@@ -10,7 +9,7 @@ use Rattle.core_world.specs.Threads.Known.{Known, CallUnderway, start_of}
 use Rattle.core_world.specs.Trees.Todo.{Todo, done, never, step, ◌>>=◌, head, after_answer, is_over}
 use Rattle.core_world.specs.Trees.Calls.{steps_of, may_begin}
 use Rattle.core_world.specs.Steps.{rest_of_call, is_idle, left_of, with_answer, call_after, known_hit, known_miss, known_after}
-use Rattle.core_world.specs.Due.{steps_due, IsNext, Begins, IsDue, Runs}
+use Rattle.core_world.specs.Due.{steps_due, IsNext, IsDue, Runs}
 
 module _ (s : Shape) (start : ℕ) (k : Known) (p : StepPlan) (n : ℕ) where
   call_is : (known_after s start p n k).call ≡ call_after s start p n k

@@ -92,77 +92,81 @@ module _ (w : World) (P : List PlainObject) (s : IsRevoking w P) where
   -- a step of the requester on no word leaves the world before the first store
   mine : (l : Known) (p : StepPlan) → Glance w P (w.known s.requester) l p → OnlySteps w.words (w.known s.requester) l → RevokesSince (with_knowledge s.requester l w) P s.before
   mine l p g only =
-      let here = with_known_here s.requester l w.known in
-      (record {
-        before = s.before;
-        fits = s.fits;
-        shape = s.shape;
-        start = s.start;
-        biasing = s.biasing;
-        requester = s.requester;
-        reached = s.reached;
-        revocation = s.revocation;
-        its_revocation = ap (λ k. revocation_in k.stage) here ∙ ap revocation_in (sym g.same.stage) ∙ s.its_revocation;
-        operation = s.operation;
-        unfinished = s.unfinished;
-        allowed = s.allowed;
-        object = s.object;
-        biased = s.biased;
-        rest = s.rest;
-        writes = ap (λ (k : Known). writes_in k.seen_at_safepoint ++ s.rest) here ∙ ap (λ z. z ++ s.rest) only.writes ∙ s.writes;
-        begun = λ e. s.begun (sym only.writes ∙ ap (λ (k : Known). writes_in k.seen_at_safepoint) (sym here) ∙ e);
-        words = s.words ∙ ap (λ z. words_after z s.before.words) (sym only.writes ∙ ap (λ (k : Known). writes_in k.seen_at_safepoint) (sym here));
-        found = subst (λ (k : Known). FoundAfter s.before.words k.seen_at_safepoint) (sym here) (only.found s.before.words s.words s.found);
-        untouched = s.untouched;
-        knows =
-            let known = requester_known s.before s.requester s.revocation in
-            let was : record (w.known s.requester) { seen = l.seen; seen_at_safepoint = l.seen_at_safepoint; steps = l.steps; call = l.call }
-            ≡ record (known (w.known s.requester)) { seen = l.seen; seen_at_safepoint = l.seen_at_safepoint; steps = l.steps; call = l.call } =
-            ap (λ (k : Known). record k { seen = l.seen; seen_at_safepoint = l.seen_at_safepoint; steps = l.steps; call = l.call }) s.knows in
-            let stage : record (known (w.known s.requester)) { seen = l.seen; seen_at_safepoint = l.seen_at_safepoint; steps = l.steps; call = l.call } ≡ known l =
-            ap (λ z. record (known (w.known s.requester)) { stage = z; seen = l.seen; seen_at_safepoint = l.seen_at_safepoint; steps = l.steps; call = l.call }) g.same.stage in
-            here ∙ only.is ∙ was ∙ stage ∙ ap known (sym here);
-        others = λ u d. with_known_else s.requester l w.known u d ∙ s.others u d;
-        seen = glance_seen w P s.requester l p g s.seen;
-        forms = s.forms;
-        safe = glance_safe w P s.requester l p g s.safe;
-      }, refl)
+      let here = with_known_here s.requester l w.known in (
+        record {
+          before = s.before;
+          fits = s.fits;
+          shape = s.shape;
+          start = s.start;
+          biasing = s.biasing;
+          requester = s.requester;
+          reached = s.reached;
+          revocation = s.revocation;
+          its_revocation = ap (λ k. revocation_in k.stage) here ∙ ap revocation_in (sym g.same.stage) ∙ s.its_revocation;
+          operation = s.operation;
+          unfinished = s.unfinished;
+          allowed = s.allowed;
+          object = s.object;
+          biased = s.biased;
+          rest = s.rest;
+          writes = ap (λ (k : Known). writes_in k.seen_at_safepoint ++ s.rest) here ∙ ap (λ z. z ++ s.rest) only.writes ∙ s.writes;
+          begun = λ e. s.begun (sym only.writes ∙ ap (λ (k : Known). writes_in k.seen_at_safepoint) (sym here) ∙ e);
+          words = s.words ∙ ap (λ z. words_after z s.before.words) (sym only.writes ∙ ap (λ (k : Known). writes_in k.seen_at_safepoint) (sym here));
+          found = subst (λ (k : Known). FoundAfter s.before.words k.seen_at_safepoint) (sym here) (only.found s.before.words s.words s.found);
+          untouched = s.untouched;
+          knows =
+              let known = requester_known s.before s.requester s.revocation in
+              let was : record (w.known s.requester) { seen = l.seen; seen_at_safepoint = l.seen_at_safepoint; steps = l.steps; call = l.call }
+              ≡ record (known (w.known s.requester)) { seen = l.seen; seen_at_safepoint = l.seen_at_safepoint; steps = l.steps; call = l.call } =
+              ap (λ (k : Known). record k { seen = l.seen; seen_at_safepoint = l.seen_at_safepoint; steps = l.steps; call = l.call }) s.knows in
+              let stage : record (known (w.known s.requester)) { seen = l.seen; seen_at_safepoint = l.seen_at_safepoint; steps = l.steps; call = l.call } ≡ known l =
+              ap (λ z. record (known (w.known s.requester)) { stage = z; seen = l.seen; seen_at_safepoint = l.seen_at_safepoint; steps = l.steps; call = l.call }) g.same.stage in
+              here ∙ only.is ∙ was ∙ stage ∙ ap known (sym here);
+          others = λ u d. with_known_else s.requester l w.known u d ∙ s.others u d;
+          seen = glance_seen w P s.requester l p g s.seen;
+          forms = s.forms;
+          safe = glance_safe w P s.requester l p g s.safe;
+        },
+        refl,
+      )
 
   -- a step of another thread, which looks at the safepoint word, is one from that world too
   others : (t : ℕ) (l : Known) (p : StepPlan) → t ≢ s.requester → t < s.before.shape.threads → (w.known t).shots ≡ l.shots → Glance w P (w.known t) l p → Glance s.before P (s.before.known t) l p
       → RevokesSince (with_knowledge t l w) P (with_knowledge t l s.before)
   others t l p d within same g before =
       let kept = with_known_else t l w.known s.requester (λ e. d (sym e)) in
-      let kept_before = with_known_else t l s.before.known s.requester (λ e. d (sym e)) in
-      (record {
-        before = with_knowledge t l s.before;
-        fits = glance_fits s.before P t l p before within (ap (λ (k : Known). k.shots) (sym (s.others t d)) ∙ same) s.fits;
-        shape = s.shape;
-        start = s.start;
-        biasing = s.biasing;
-        requester = s.requester;
-        reached = ap (λ (k : Known). k.reached) kept_before ∙ s.reached;
-        revocation = s.revocation;
-        its_revocation = ap (λ (k : Known). revocation_in k.stage) kept ∙ s.its_revocation;
-        operation = s.operation;
-        unfinished = ap (λ (k : Known). k.unfinished) kept_before ∙ s.unfinished;
-        allowed = s.allowed;
-        object = s.object;
-        biased = s.biased;
-        rest = s.rest;
-        writes = ap (λ (k : Known). writes_in k.seen_at_safepoint ++ s.rest) kept ∙ s.writes;
-        begun = λ e. s.begun (ap (λ (k : Known). writes_in k.seen_at_safepoint) (sym kept) ∙ e);
-        words = s.words ∙ ap (λ (k : Known). words_after (writes_in k.seen_at_safepoint) s.before.words) (sym kept);
-        found = subst (λ (k : Known). FoundAfter s.before.words k.seen_at_safepoint) (sym kept) s.found;
-        untouched = s.untouched;
-        knows = kept ∙ s.knows
-            ∙ ap (λ (k : Known). requester_known_with s.before.shape s.before.words s.revocation k (w.known s.requester)) (sym kept_before)
-            ∙ ap (λ (k : Known). requester_known (with_knowledge t l s.before) s.requester s.revocation k) (sym kept);
-        others = λ u e. each_with_known (λ u y. y ≡ with_known t l s.before.known u) t l w.known u (sym (with_known_here t l s.before.known)) (λ c. s.others u e ∙ sym (with_known_else t l s.before.known u c));
-        seen = glance_seen w P t l p g s.seen;
-        forms = s.forms;
-        safe = glance_safe w P t l p g s.safe;
-      }, refl)
+      let kept_before = with_known_else t l s.before.known s.requester (λ e. d (sym e)) in (
+        record {
+          before = with_knowledge t l s.before;
+          fits = glance_fits s.before P t l p before within (ap (λ (k : Known). k.shots) (sym (s.others t d)) ∙ same) s.fits;
+          shape = s.shape;
+          start = s.start;
+          biasing = s.biasing;
+          requester = s.requester;
+          reached = ap (λ (k : Known). k.reached) kept_before ∙ s.reached;
+          revocation = s.revocation;
+          its_revocation = ap (λ (k : Known). revocation_in k.stage) kept ∙ s.its_revocation;
+          operation = s.operation;
+          unfinished = ap (λ (k : Known). k.unfinished) kept_before ∙ s.unfinished;
+          allowed = s.allowed;
+          object = s.object;
+          biased = s.biased;
+          rest = s.rest;
+          writes = ap (λ (k : Known). writes_in k.seen_at_safepoint ++ s.rest) kept ∙ s.writes;
+          begun = λ e. s.begun (ap (λ (k : Known). writes_in k.seen_at_safepoint) (sym kept) ∙ e);
+          words = s.words ∙ ap (λ (k : Known). words_after (writes_in k.seen_at_safepoint) s.before.words) (sym kept);
+          found = subst (λ (k : Known). FoundAfter s.before.words k.seen_at_safepoint) (sym kept) s.found;
+          untouched = s.untouched;
+          knows = kept ∙ s.knows
+              ∙ ap (λ (k : Known). requester_known_with s.before.shape s.before.words s.revocation k (w.known s.requester)) (sym kept_before)
+              ∙ ap (λ (k : Known). requester_known (with_knowledge t l s.before) s.requester s.revocation k) (sym kept);
+          others = λ u e. each_with_known (λ u y. y ≡ with_known t l s.before.known u) t l w.known u (sym (with_known_here t l s.before.known)) (λ c. s.others u e ∙ sym (with_known_else t l s.before.known u c));
+          seen = glance_seen w P t l p g s.seen;
+          forms = s.forms;
+          safe = glance_safe w P t l p g s.safe;
+        },
+        refl,
+      )
 
   -- what the requester has unfinished
   unfinished_now : (w.known s.requester).unfinished ≡ None → ⊥
@@ -252,7 +256,7 @@ module _ (w : World) (P : List PlainObject) (s : IsRevoking w P) where
       by_equal t s.requester
       (λ e. subst (λ z. IsLook (w.known z) p → RevokesWith F (with_knowledge z (known_then w z p) w) P) (sym e)
       (λ h. since_with F _ P s.before
-          (mine (known_then w s.requester p) p (look_glance w P s.requester s.seen s.safe (nobody s.requester) p h) (look_only p h)) kept) look)
+      (mine (known_then w s.requester p) p (look_glance w P s.requester s.seen s.safe (nobody s.requester) p h) (look_only p h)) kept) look)
       (λ d.
       let l = known_then w t p in
       let at = elsewhere t p.at d look.may in
@@ -260,8 +264,8 @@ module _ (w : World) (P : List PlainObject) (s : IsRevoking w P) where
       let before : Glance s.before P (s.before.known t) l p =
       subst (λ z. Glance s.before P (s.before.known t) z p) (same_before t p d at) (look_glance s.before P t s.fits.seen s.fits.safe (λ r. unwaited_fits s.before P s.fits) p look_before) in
       since_with F _ P (with_knowledge t l s.before)
-          (others t l p d (subst (λ (z : Shape). t < z.threads) s.shape within) (look_shots w.shape w.start p (w.words p.at) (w.known t) look) (look_glance w P t s.seen s.safe (nobody t) p look) before)
-          (subst (λ z. F (with_knowledge t z s.before)) (same_before t p d at) (stays s.before look_before kept)))
+      (others t l p d (subst (λ (z : Shape). t < z.threads) s.shape within) (look_shots w.shape w.start p (w.words p.at) (w.known t) look) (look_glance w P t s.seen s.safe (nobody t) p look) before)
+      (subst (λ z. F (with_knowledge t z s.before)) (same_before t p d at) (stays s.before look_before kept)))
 
   revoking_miss : (F : World → Type 0) (t : ℕ) (p : StepPlan) → t < w.shape.threads → IsMiss (w.known t) p (w.words p.at)
       → ((v : World) → hits p.act (v.words p.at) ≡ false → F v → F (with_knowledge t (known_then v t p) v)) → F s.before → RevokesWith F (with_knowledge t (known_then w t p) w) P
@@ -269,7 +273,7 @@ module _ (w : World) (P : List PlainObject) (s : IsRevoking w P) where
       by_equal t s.requester
       (λ e. subst (λ z. IsMiss (w.known z) p (w.words p.at) → RevokesWith F (with_knowledge z (known_then w z p) w) P) (sym e)
       (λ h. since_with F _ P s.before
-          (mine (known_then w s.requester p) p (miss_glance w P s.requester s.seen s.safe (nobody s.requester) p h) (miss_only p h)) kept) miss)
+      (mine (known_then w s.requester p) p (miss_glance w P s.requester s.seen s.safe (nobody s.requester) p h) (miss_only p h)) kept) miss)
       (λ d.
       let l = known_then w t p in
       let at = elsewhere t p.at d miss.may in
@@ -278,8 +282,8 @@ module _ (w : World) (P : List PlainObject) (s : IsRevoking w P) where
       let before : Glance s.before P (s.before.known t) l p =
       subst (λ z. Glance s.before P (s.before.known t) z p) (same_before t p d at) (miss_glance s.before P t s.fits.seen s.fits.safe (λ r. unwaited_fits s.before P s.fits) p miss_before) in
       since_with F _ P (with_knowledge t l s.before)
-          (others t l p d (subst (λ (z : Shape). t < z.threads) s.shape within) (miss_shots w.shape w.start p (w.words p.at) (w.known t) miss) (miss_glance w P t s.seen s.safe (nobody t) p miss) before)
-          (subst (λ z. F (with_knowledge t z s.before)) (same_before t p d at) (stays s.before miss_before.missed kept)))
+      (others t l p d (subst (λ (z : Shape). t < z.threads) s.shape within) (miss_shots w.shape w.start p (w.words p.at) (w.known t) miss) (miss_glance w P t s.seen s.safe (nobody t) p miss) before)
+      (subst (λ z. F (with_knowledge t z s.before)) (same_before t p d at) (stays s.before miss_before.missed kept)))
 
 -- validity with one more clause is validity
 pub forgotten : (F : World → Type 0) (w : World) (P : List PlainObject) → IsValidWith F w P → IsValid w P

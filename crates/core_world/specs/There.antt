@@ -1,5 +1,5 @@
 -- What a step asks of its heap and its thread besides: that the heap has the word, and that there is a place for the shot that it takes.
-use Rattle.std.specs.Prelude.{ℕ, ◌+◌, ◌<◌, length}
+use Rattle.std.specs.Prelude.{ℕ, ◌<◌, length}
 use Rattle.core_world.specs.declared.name.Name.{Name}
 use Rattle.core_world.specs.declared.name.Name.TheVariants.{Safepoint, Prototype, Revocations, LastBulk, Mark, Stamp, Slot, Hold, Displaced, Waiting, Length, Owner, Recursions, Header, Object, Claim}
 use Rattle.core_world.specs.declared.plan.Own.{Own}

@@ -1,15 +1,15 @@
 -- The steps of a part of a call, one after the other: each can be made where it is due, and then the rest is due.
-use Rattle.std.proofs.Common.{◌≡◌, ℕ, Bool, true, false, refl, sym, ap, ◌∙◌, subst}
+use Rattle.std.proofs.Common.{◌≡◌, ℕ, false, refl, sym, ap, ◌∙◌, subst}
 use Rattle.core_world.specs.declared.plan.Own.{Own}
 use Rattle.core_world.specs.declared.plan.Own.TheVariants as own
 use Rattle.core_world.specs.declared.plan.StepPlan.{StepPlan}
 use Rattle.core_world.specs.declared.task.Task.{Task}
-use Rattle.core_world.specs.Due.{IsDue, Runs, Ran}
+use Rattle.core_world.specs.Due.{IsDue, Runs}
 use Rattle.core_world.specs.Steps.{known_after, rest_of_call}
 use Rattle.core_world.specs.Threads.Known.{Known}
 use Rattle.core_world.specs.Trees.Todo.{Todo, done, never, step, ◌>>=◌}
 use Rattle.core_world.specs.Words.Shape.{Shape}
-use Rattle.core_world.proofs.CallRests.{next_due, then_due, part_due, ran_due}
+use Rattle.core_world.proofs.CallRests.{next_due, then_due, ran_due}
 use Rattle.core_steps.specs.Reached.{comes}
 use Rattle.heap_table.specs.Drafts.{IsDrafted, IsLeft}
 use Rattle.heap_table.specs.Kept.{HasRoom}

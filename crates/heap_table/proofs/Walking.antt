@@ -1,5 +1,5 @@
 -- Each step of the walk is the next one.
-use Rattle.std.proofs.Common.{◌≡◌, ℕ, false, List, [], ◌∷◌, length, refl, sym, ap, None, ◌∙◌, subst}
+use Rattle.std.proofs.Common.{◌≡◌, ℕ, false, List, [], ◌∷◌, refl, sym, ap, None, ◌∙◌, subst}
 use Rattle.mark_word.specs.Safe.{read_safe}
 use Rattle.mark_word.specs.Mark.{read_mark}
 use Rattle.mark_word.specs.Hold.{read_hold}
@@ -19,10 +19,8 @@ use Rattle.core_world.specs.declared.plan.StepPlan.{StepPlan}
 use Rattle.core_world.specs.Steps.{known_after}
 use Rattle.core_world.specs.Threads.Known.{Known}
 use Rattle.core_steps.specs.Logic.{Heap}
-use Rattle.core_world.specs.There.{HasPlace}
 use Rattle.heap_table.specs.Drafts.{IsDrafted}
 use Rattle.heap_table.specs.Kept.{HasRoom}
-use Rattle.core_world.specs.There.{IsIn}
 use Rattle.heap_table.specs.Seen.{HeapSeen, PassSeen}
 use Rattle.heap_table.specs.Stepping.{CanStep, HasStepped}
 use Rattle.heap_table.specs.Walk.{two, behind, resuming, resumed, entering, entered, leaving, read, left, stopping, stopped, IsAt}

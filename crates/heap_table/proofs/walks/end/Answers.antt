@@ -1,5 +1,5 @@
-use Rattle.std.proofs.Common.{◌≡◌, List, [], ◌∷◌, false, All, ap, sym, ◌∙◌, subst, inl, rules}
-use Rattle.heap_table.specs.Seen.{PassSeen, IsOf}
+use Rattle.std.proofs.Common.{◌≡◌, [], ◌∷◌, false, All, sym, subst, inl, rules}
+use Rattle.heap_table.specs.Seen.{IsOf}
 use Rattle.heap_table.proofs.AtLast.{both}
 use Rattle.heap_table.proofs.walks.end.Goals as goal
 

@@ -1,5 +1,4 @@
-use Rattle.std.proofs.Common.{◌≡◌, ◌<◌, refl, arith}
-use Rattle.heap_table.specs.Walk.{IsAt}
+use Rattle.std.proofs.Common.{refl, arith}
 use Rattle.heap_table.proofs.Walking.{goes, can, leave_one, leave_two, leave_three, leave_four, leave_five}
 use Rattle.heap_table.proofs.walks.leave.Goals as goal
 

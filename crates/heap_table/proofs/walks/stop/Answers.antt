@@ -1,5 +1,4 @@
-use Rattle.std.proofs.Common.{◌≡◌, ◌<◌, refl, arith}
-use Rattle.heap_table.specs.Walk.{IsAt}
+use Rattle.std.proofs.Common.{refl}
 use Rattle.heap_table.proofs.Walking.{goes, can, stop_one, stop_two}
 use Rattle.heap_table.proofs.walks.stop.Goals as goal
 

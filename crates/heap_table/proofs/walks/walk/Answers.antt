@@ -1,4 +1,3 @@
-use Rattle.std.proofs.Common.{◌≡◌}
 use Rattle.heap_table.proofs.Walking.{is_still}
 use Rattle.heap_table.proofs.walks.walk.Goals as goal
 
