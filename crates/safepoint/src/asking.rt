@@ -11,6 +11,7 @@ use heap_table::{Heap, Pass, Purpose};
 use mark_word::SafeForm;
 
 // The purpose of a step behind which no check is unfinished.
+#[inline]
 fn unchecked(why: &Purpose) -> Purpose
     ensures { result ≡ record why.now { check = false } }
 {

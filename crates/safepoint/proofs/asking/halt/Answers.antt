@@ -4,15 +4,15 @@ use Rattle.core_world.specs.declared.plan.StepPlan.{StepPlan}
 use Rattle.core_world.specs.declared.stage.Stage.TheVariants.{Calm}
 use Rattle.core_world.specs.Trees.SafepointSteps.{reached_word, halted_word, halt_plan}
 use Rattle.core_world.specs.Trees.Todo.{done, never}
-use Rattle.heap_table.specs.StepPlans.{swap_plan}
 use Rattle.heap_table.specs.Stepping.{CanStep, HasStepped}
 use Rattle.heap_table.proofs.Parts.{can, last_step, passes}
+use Rattle.safepoint.proofs.Swaps.{same_swap}
 use Rattle.safepoint.proofs.asking.halt.Goals as goal
 
 pub exchange-requires : goal.exchange-requires
 exchange-requires c =
     let expected = c.reached_word-expected.ensures ∙ ap reached_word c.thread.ensures.same in
-    let plan = λ i. swap_plan (c.unchecked.ensures i) Calm Safepoint (expected i) (c.halted_word-word.ensures i) in
+    let plan = same_swap Calm Safepoint c.unchecked.ensures expected c.halted_word-word.ensures in
     subst (λ (x : StepPlan). CanStep c.args.heap.now c.args.pass.now x) (sym plan) (can _ _ _ _ _ c.requires.due refl c.requires.heap tt refl)
 
 pub returns : goal.returns
@@ -24,7 +24,7 @@ returns c =
     let t = p.known.thread in
     let found = c.exchange.result in
     let expected = c.reached_word-expected.ensures ∙ ap reached_word c.thread.ensures.same in
-    let plan = λ i. swap_plan (c.unchecked.ensures i) Calm Safepoint (expected i) (c.halted_word-word.ensures i) in
+    let plan = same_swap Calm Safepoint c.unchecked.ensures expected c.halted_word-word.ensures in
     let made = subst (λ (x : StepPlan). HasStepped h p q x found) plan c.exchange.ensures in
     let halts = halt_plan (record e { check = false }) t in
     let hit = passes h p q e.task halts (λ n. n == reached_word t) (λ n. done tt) found c.requires.due refl made in
