@@ -1,5 +1,5 @@
 -- What the forms of words say of them.
-use Rattle.std.proofs.Common.{◌≡◌, ℕ, ◌+◌, ◌<◌, ◌^◌, Bool, true, false, is_some, Option, Some, None, IfSome, refl, sym, ap, ◌∙◌, arith}
+use Rattle.std.proofs.Common.{◌≡◌, ℕ, ◌+◌, ◌<◌, ◌^◌, Bool, true, false, is_some, Option, Some, None, IfSome, sym, ap, ◌∙◌, arith}
 use Rattle.std.proofs.lemmas.Nat.{pow_below}
 use Rattle.mark_word.specs.declared.safe.SafeForm.{SafeForm}
 use Rattle.mark_word.specs.Safe.{IsSafeInRange, read_safe, safe_of, requester_of, halt_of}

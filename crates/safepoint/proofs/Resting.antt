@@ -1,14 +1,12 @@
 -- A call by a thread that rests is due from its beginning, and behind it the thread rests.
-use Rattle.std.proofs.Common.{◌≡◌, ◌⊎◌, ℕ, ◌==◌, ◌&&◌, cond, Bool, true, false, Option, Some, None, Result, Ok, Err, IfOk, refl, sym, ap, ◌∙◌, subst, inl, inr}
+use Rattle.std.proofs.Common.{◌≡◌, ℕ, ◌==◌, ◌&&◌, cond, Bool, true, false, Option, Some, None, Result, Ok, Err, IfOk, refl, sym, ap, ◌∙◌, subst, inr}
 use Rattle.core_world.specs.declared.answer.Turn.{Turn}
 use Rattle.core_world.specs.declared.answer.Why.{Why}
 use Rattle.core_world.specs.declared.answer.Why.TheVariants.{Raced, Requested, Stopping}
 use Rattle.core_world.specs.declared.plan.StepPlan.{StepPlan}
-use Rattle.core_world.specs.declared.stage.Stage.{Stage}
 use Rattle.core_world.specs.declared.stage.Stage.TheVariants.{Calm}
 use Rattle.core_world.specs.declared.task.Task.{Task}
-use Rattle.core_world.specs.Due.{Begins, IsDue, Runs}
-use Rattle.core_world.specs.Opening.{first_known}
+use Rattle.core_world.specs.Due.{Begins, Runs}
 use Rattle.core_world.specs.Steps.{known_after, known_hit, known_miss, is_idle}
 use Rattle.core_world.specs.Threads.Known.{Known, Local, start_of}
 use Rattle.core_world.specs.Threads.Stages.{is_calm}
@@ -48,7 +46,7 @@ calm_stays s start never k l a h run calm = absurd run
 calm_stays s start (step p f) k l a h run calm = calm_stays s start (f run.0) (known_after s start p run.0 k) l a (h.1 run.0) run.1 (calm_after s start p run.0 k h.0 calm)
 
 module _ {A : Type 0} (h : HeapSeen) (p : PassSeen) (t : Task) (d : Todo A) (rests : Rests h p) (may : may_begin h.heap.shape h.heap.biasing p.known t ≡ true)
-  (is : steps_of h.heap.shape t (start_of h.heap.start p.known) ≡ (d >>= end)) where
+    (is : steps_of h.heap.shape t (start_of h.heap.start p.known) ≡ (d >>= end)) where
   begins : Begins h.heap.shape h.heap.start h.heap.biasing p.known t d end
   begins = record { over = rests.over; may = λ i. rests.calm i && may i; is = is }
 
@@ -56,13 +54,13 @@ module _ {A : Type 0} (h : HeapSeen) (p : PassSeen) (t : Task) (d : Todo A) (res
   begun_due = record { after = end; is = inr begins }
 
 module _ {A : Type 0} (h : HeapSeen) (p : PassSeen) (t : Task) (plan : StepPlan) (f : ℕ → Todo A) (rests : Rests h p) (may : may_begin h.heap.shape h.heap.biasing p.known t ≡ true)
-  (is : steps_of h.heap.shape t (start_of h.heap.start p.known) ≡ (step plan f >>= end)) where
+    (is : steps_of h.heap.shape t (start_of h.heap.start p.known) ≡ (step plan f >>= end)) where
   pub rests_after : (q : PassSeen) (a : A) → plan.task ≡ t → Calmly (step plan f) → HasRun h (step plan f) p q a → Rests h q
   rests_after q a task calm run =
       record {
         is_of = run.heap;
         over =
-        ran_over h.heap.shape h.heap.start h.heap.biasing p.known q.known t plan f a (record { after = end; is = inr (begins h p t (step plan f) rests may is) }) task run.ran.by refl;
+            ran_over h.heap.shape h.heap.start h.heap.biasing p.known q.known t plan f a (record { after = end; is = inr (begins h p t (step plan f) rests may is) }) task run.ran.by refl;
         calm = calm_stays h.heap.shape h.heap.start (step plan f) p.known q.known a calm run.ran.by rests.calm;
       }
 
@@ -92,9 +90,14 @@ module _ (e : Purpose) where
   resume_calm k = (refl, λ word. by_bar (bar word) (resume_swap_steps e k word) (refl, λ found. by_test (found == word) (done_with tt) (unless (bar found) (pending_for (Raced word found))) tt (by_bar (bar found) (pending_for (Raced word found)) tt)))
 
   pub request_calm : (t : ℕ) → Calmly (request_steps e t)
-  request_calm t = (refl, λ word. by_test (has_requester word) (pending_for (Requested word)) (request_swap_steps e t word) tt
-      (refl, λ found. by_test (found == word) (done_with tt) (cond (has_requester found) (pending_for (Requested found)) (pending_for (Raced word found))) tt
-        (by_test (has_requester found) (pending_for (Requested found)) (pending_for (Raced word found)) tt tt)))
+  request_calm t = (
+    refl,
+    λ word. by_test (has_requester word) (pending_for (Requested word)) (request_swap_steps e t word) tt (
+      refl,
+      λ found. by_test (found == word) (done_with tt) (cond (has_requester found) (pending_for (Requested found)) (pending_for (Raced word found))) tt
+          (by_test (has_requester found) (pending_for (Requested found)) (pending_for (Raced word found)) tt tt),
+    ),
+  )
 
 -- nothing is left behind a release
 pub release_ends : (e : Purpose) (t : ℕ) → release_safepoint e t ≡ (release_safepoint e t >>= end)
@@ -106,7 +109,7 @@ release_ends e t = λ i. step (release_plan (record e { check = false }) Calm t)
 
 -- THE CALLS. What is due of a call with this purpose, by its code's purpose; and that the thread rests behind it.
 module _ {A : Type 0} (h : HeapSeen) (p : PassSeen) (rests : Rests h p) (w e : Purpose) (d : Purpose → Todo A) (same : w ≡ e) (may : may_begin h.heap.shape h.heap.biasing p.known e.task ≡ true)
-  (is : steps_of h.heap.shape e.task (start_of h.heap.start p.known) ≡ (d e >>= end)) where
+    (is : steps_of h.heap.shape e.task (start_of h.heap.start p.known) ≡ (d e >>= end)) where
   pub due_as : IsDueOn h p w.task (d w)
   due_as = subst (λ (x : Purpose). IsDueOn h p x.task (d x)) (sym same) (begun_due h p e.task (d e) rests may is)
 

@@ -1,6 +1,5 @@
 -- What is left of a resume, and of a request, behind the load.
-use Rattle.std.proofs.Common.{◌≡◌, ℕ, Bool, true, false, cond, Option, Some, None, refl, sym, ap, ◌∙◌}
-use Rattle.core_world.specs.declared.answer.Turn.{Turn}
+use Rattle.std.proofs.Common.{◌≡◌, ℕ, Bool, false, cond, Option, None, sym, ap, ◌∙◌}
 use Rattle.core_world.specs.declared.answer.Why.{Why}
 use Rattle.core_world.specs.declared.answer.Why.TheVariants.{Requested}
 use Rattle.core_world.specs.declared.name.Name.TheVariants.{Safepoint}
@@ -8,7 +7,6 @@ use Rattle.core_world.specs.Steps.{known_after}
 use Rattle.core_world.specs.Threads.Known.{Known, local_of}
 use Rattle.core_world.specs.Trees.Plans.{Purpose, load, pending_for}
 use Rattle.core_world.specs.Trees.SafepointSteps.{bar, has_requester, unless, resume_swap_steps, request_swap_steps}
-use Rattle.core_world.specs.Trees.Todo.{Todo}
 use Rattle.core_world.specs.Words.Shape.{Shape}
 
 module _ (s : Shape) (start : ℕ) (e loads : Purpose) (k l : Known) (n : ℕ) (known : l ≡ known_after s start (load loads Safepoint) n k) where

@@ -5,7 +5,9 @@ ghost use Rattle.core_world.specs.Trees.SafepointSteps.{request_steps, request_s
 ghost use Rattle.heap_table.specs.Parts.{IsDueOn, HasRun};
 ghost use Rattle.heap_table.specs.Seen.{IsOf};
 
-use crate::words::{form_of, halted_word, has_requester, is_still, reached_word, released_word, requested_by};
+use crate::words::{
+    form_of, halted_word, has_requester, is_still, reached_word, released_word, requested_by,
+};
 use core_world::{Name, Stage, Turn, Why};
 use heap_table::{Heap, Pass, Purpose};
 use mark_word::SafeForm;
@@ -90,7 +92,14 @@ pub fn release_to(heap: &Heap, pass: &mut Pass, why: &Purpose, stage: Stage)
     let thread = pass.thread();
     let expected = reached_word(thread);
     let word = released_word(thread);
-    heap.exchange(pass, &unchecked(why), stage, Name::Safepoint, expected, word);
+    heap.exchange(
+        pass,
+        &unchecked(why),
+        stage,
+        Name::Safepoint,
+        expected,
+        word,
+    );
 }
 
 /// Ends the thread's safepoint, and leaves the thread in the middle of nothing.
@@ -112,5 +121,12 @@ pub fn halt(heap: &Heap, pass: &mut Pass, why: &Purpose)
 {
     let expected = reached_word(pass.thread());
     let word = halted_word();
-    heap.exchange(pass, &unchecked(why), Stage::Calm, Name::Safepoint, expected, word);
+    heap.exchange(
+        pass,
+        &unchecked(why),
+        Stage::Calm,
+        Name::Safepoint,
+        expected,
+        word,
+    );
 }

@@ -1,8 +1,8 @@
-use Rattle.std.proofs.Common.{◌≡◌, ℕ, ◌==◌, Bool, false, cond, refl, sym, ap, ◌∙◌, subst}
+use Rattle.std.proofs.Common.{◌==◌, Bool, false, cond, refl, sym, ap, ◌∙◌, subst}
 use Rattle.core_world.specs.declared.name.Name.TheVariants.{Safepoint}
 use Rattle.core_world.specs.declared.plan.StepPlan.{StepPlan}
 use Rattle.core_world.specs.declared.stage.Stage.TheVariants.{Calm}
-use Rattle.core_world.specs.Trees.SafepointSteps.{reached_word, halted_word, halt_plan}
+use Rattle.core_world.specs.Trees.SafepointSteps.{reached_word, halt_plan}
 use Rattle.core_world.specs.Trees.Todo.{done, never}
 use Rattle.heap_table.specs.Stepping.{CanStep, HasStepped}
 use Rattle.heap_table.proofs.Parts.{can, last_step, passes}

@@ -1,4 +1,4 @@
-use Rattle.std.proofs.Common.{◌≡◌, ℕ, ◌==◌, ne_eqb, Bool, true, false, cond, Option, Some, None, refl, sym, ap, ◌∙◌, subst}
+use Rattle.std.proofs.Common.{◌≡◌, ℕ, ◌==◌, ne_eqb, Bool, false, cond, Option, None, refl, sym, ap, ◌∙◌, subst}
 use Rattle.mark_word.specs.Safe.{read_safe}
 use Rattle.core_world.specs.declared.answer.Why.{Why}
 use Rattle.core_world.specs.declared.answer.Why.TheVariants.{Raced}
@@ -13,7 +13,7 @@ pub exchange-found-requires : goal.exchange-found-requires
 exchange-found-requires c =
     let e = c.args.why.now in
     let left : c.running_too-left.result ≡ running_too (read_safe c.args.word) c.args.pass.now.known.thread =
-        c.running_too-left.ensures ∙ λ i. running_too (c.requires.form i) (c.thread.ensures.same i) in
+    c.running_too-left.ensures ∙ λ i. running_too (c.requires.form i) (c.thread.ensures.same i) in
     subst (λ (w : ℕ). CanStep c.args.heap.now c.args.pass.now (swap e Safepoint c.args.word w)) (sym left) (can _ _ _ _ _ c.requires.due refl c.requires.heap tt refl)
 
 pub returns-in-None : goal.returns-in-None
@@ -24,7 +24,7 @@ returns-in-None c =
     let word = c.args.word in
     let found = c.exchange-found.result in
     let left : c.running_too-left.result ≡ running_too (read_safe word) p.known.thread =
-        c.running_too-left.ensures ∙ λ i. running_too (c.requires.form i) (c.thread.ensures.same i) in
+    c.running_too-left.ensures ∙ λ i. running_too (c.requires.form i) (c.thread.ensures.same i) in
     let made = subst (λ (w : ℕ). HasStepped h p c.exchange-found.new.pass (swap e Safepoint word w) found) left c.exchange-found.ensures in
     let missed : (found == word) ≡ false = ne_eqb found word c.if-found-word.false in
     let free : bar found ≡ None = sym c.bar.ensures ∙ c.in-None.is in
