@@ -66,8 +66,8 @@ pub ends : {A : Type 0} (h : HeapSeen) (p : PassSeen) (a : A) → IsOf h p → H
 ends h p a is_of = record { heap = is_of; limit = refl; cut = refl; cells = refl; ran = record { by = (refl, refl) } }
 
 -- where nothing is left behind a step, it was the last one
-pub last_step : {A : Type 0} (h : HeapSeen) (p q : PassSeen) (plan : StepPlan) (f : ℕ → Todo A) (n : ℕ) (a : A) → HasStepped h p q plan n → is_shot plan.own ≡ false → f n ≡ done a
-    → HasRun h (step plan f) p q a
+pub last_step : {A : Type 0} (h : HeapSeen) (p q : PassSeen) (plan : StepPlan) (f : ℕ → Todo A) (n : ℕ) (a : A) → HasStepped h p q plan n
+    → is_shot plan.own ≡ false → f n ≡ done a → HasRun h (step plan f) p q a
 last_step h p q plan f n a s shotless e = stepped h p q q plan f n a s shotless (subst (λ d. HasRun h d q q a) (sym e) (ends h q a s.heap))
 
 -- one part behind the other
@@ -99,7 +99,8 @@ not_never h p q t plan n d s after left e =
     absurd (cc (stuck, goes))
 
 -- nor where the steps that are due behind a step say so
-module _ {A : Type 0} (h : HeapSeen) (p : PassSeen) (t : Task) (plan : StepPlan) (f : ℕ → Todo A) (due : IsDueOn h p t (step plan f)) (task : plan.task ≡ t) (n : ℕ) where
+module _ {A : Type 0} (h : HeapSeen) (p : PassSeen) (t : Task) (plan : StepPlan) (f : ℕ → Todo A) (due : IsDueOn h p t (step plan f))
+    (task : plan.task ≡ t) (n : ℕ) where
   going : rest_of_call h.heap.shape p.known ≡ step plan (λ m. f m >>= due.after) → is_idle h.heap.shape p.known ≡ false
   unfolding is_idle
   going left = ap is_over left
@@ -116,8 +117,8 @@ module _ {A : Type 0} (h : HeapSeen) (p : PassSeen) (t : Task) (plan : StepPlan)
   never_left q s e = not_never h p q t plan n (f n) s due.after (ap (rest_of_call h.heap.shape) s.known ∙ left_behind) e
 
 -- so a step whose word has to pass a test finds one that does
-pub passes : {A : Type 0} (h : HeapSeen) (p q : PassSeen) (t : Task) (plan : StepPlan) (test : ℕ → Bool) (d : ℕ → Todo A) (n : ℕ) → IsDueOn h p t (step plan (λ m. cond (test m) (d m) never))
-    → plan.task ≡ t → HasStepped h p q plan n → test n ≡ true
+pub passes : {A : Type 0} (h : HeapSeen) (p q : PassSeen) (t : Task) (plan : StepPlan) (test : ℕ → Bool) (d : ℕ → Todo A) (n : ℕ)
+    → IsDueOn h p t (step plan (λ m. cond (test m) (d m) never)) → plan.task ≡ t → HasStepped h p q plan n → test n ≡ true
 passes h p q t plan test d n due task s = cases (test n) refl
   where
     cases : (b : Bool) → test n ≡ b → test n ≡ true

@@ -1,8 +1,8 @@
-use Rattle.std.proofs.Common.{Bool, cond, refl, ap}
+use Rattle.std.proofs.Common.{refl}
 use Rattle.core_world.specs.declared.answer.Why.TheVariants.{Requested}
 use Rattle.core_world.specs.Trees.Plans.{done_with, pending_for}
 use Rattle.heap_table.proofs.Parts.{can, last_step}
-use Rattle.safepoint.proofs.Forms.{asks}
+use Rattle.safepoint.proofs.Forms.{asks, picks}
 use Rattle.safepoint.proofs.running.poll.Goals as goal
 
 pub look-word-requires : goal.look-word-requires
@@ -12,10 +12,10 @@ pub returns-then-has_requester : goal.returns-then-has_requester
 returns-then-has_requester c =
     let word = c.look-word.result.0 in
     let requested = asks word _ c.look-word.ensures.form _ _ c.has_requester.ensures c.if-has_requester.true in
-    last_step _ _ _ _ _ word _ c.look-word.ensures.stepped refl (ap (λ (b : Bool). cond b (pending_for (Requested word)) (done_with tt)) requested)
+    last_step _ _ _ _ _ word _ c.look-word.ensures.stepped refl (picks (pending_for (Requested word)) (done_with tt) requested)
 
 pub returns-else-has_requester : goal.returns-else-has_requester
 returns-else-has_requester c =
     let word = c.look-word.result.0 in
     let requested = asks word _ c.look-word.ensures.form _ _ c.has_requester.ensures c.if-has_requester.false in
-    last_step _ _ _ _ _ word _ c.look-word.ensures.stepped refl (ap (λ (b : Bool). cond b (pending_for (Requested word)) (done_with tt)) requested)
+    last_step _ _ _ _ _ word _ c.look-word.ensures.stepped refl (picks (pending_for (Requested word)) (done_with tt) requested)

@@ -7,11 +7,12 @@ use Rattle.safepoint.proofs.tests.poll.Goals as goal
 pub poll-requires-clause-due : goal.poll-requires-clause-due
 unfolding steps_of
 poll-requires-clause-due c =
-    let k = c.args.pass.now.known in
-    due_as _ _ c.requires _ _ poll_steps c.aside-why.ensures (sym c.running.ensures ∙ c.if-running.true) refl
+    let may = sym c.running.ensures ∙ c.if-running.true in
+    due_as _ _ c.requires _ _ poll_steps c.aside-why.ensures may refl
 
 pub returns-then-running : goal.returns-then-running
 unfolding steps_of
 returns-then-running c =
-    let k = c.args.pass.now.known in
-    rests_as _ _ c.requires _ _ poll_steps c.aside-why.ensures (sym c.running.ensures ∙ c.if-running.true) refl _ _ refl _ _ refl poll_calm c.poll.ensures
+    let may = sym c.running.ensures ∙ c.if-running.true in
+    rests_as _ _ c.requires _ _ poll_steps c.aside-why.ensures may refl
+    _ _ refl _ _ refl poll_calm c.poll.ensures

@@ -7,11 +7,12 @@ use Rattle.safepoint.proofs.tests.reached.Goals as goal
 pub reached-requires-clause-due : goal.reached-requires-clause-due
 unfolding steps_of
 reached-requires-clause-due c =
-    let k = c.args.pass.now.known in
-    due_as _ _ c.requires _ _ reached_steps c.alone.ensures (free_too _ _ _ (sym c.requesting.ensures ∙ c.if-requesting.true) (sym c.is_free.ensures ∙ c.if-is_free.true)) refl
+    let may = free_too _ _ _ (sym c.requesting.ensures ∙ c.if-requesting.true) (sym c.is_free.ensures ∙ c.if-is_free.true) in
+    due_as _ _ c.requires _ _ reached_steps c.alone.ensures may refl
 
 pub returns-then-is_free : goal.returns-then-is_free
 unfolding steps_of
 returns-then-is_free c =
-    let k = c.args.pass.now.known in
-    rests_as _ _ c.requires _ _ reached_steps c.alone.ensures (free_too _ _ _ (sym c.requesting.ensures ∙ c.if-requesting.true) (sym c.is_free.ensures ∙ c.if-is_free.true)) refl _ _ refl _ _ refl reached_calm c.reached.ensures
+    let may = free_too _ _ _ (sym c.requesting.ensures ∙ c.if-requesting.true) (sym c.is_free.ensures ∙ c.if-is_free.true) in
+    rests_as _ _ c.requires _ _ reached_steps c.alone.ensures may refl
+    _ _ refl _ _ refl reached_calm c.reached.ensures

@@ -10,10 +10,13 @@ pub stop-requires-clause-due : goal.stop-requires-clause-due
 unfolding steps_of
 stop-requires-clause-due c =
     let k = c.args.pass.now.known in
-    due_as _ _ c.requires _ _ (λ (x : Purpose). stop_steps x (local_of k)) c.aside-why.ensures (sym c.running.ensures ∙ c.if-running.true) refl
+    let may = sym c.running.ensures ∙ c.if-running.true in
+    due_as _ _ c.requires _ _ (λ (x : Purpose). stop_steps x (local_of k)) c.aside-why.ensures may refl
 
 pub returns-then-running : goal.returns-then-running
 unfolding steps_of
 returns-then-running c =
     let k = c.args.pass.now.known in
-    rests_as _ _ c.requires _ _ (λ (x : Purpose). stop_steps x (local_of k)) c.aside-why.ensures (sym c.running.ensures ∙ c.if-running.true) refl _ _ refl _ _ refl (λ x. stop_calm x (local_of k)) c.stop.ensures
+    let may = sym c.running.ensures ∙ c.if-running.true in
+    rests_as _ _ c.requires _ _ (λ (x : Purpose). stop_steps x (local_of k)) c.aside-why.ensures may refl
+    _ _ refl _ _ refl (λ x. stop_calm x (local_of k)) c.stop.ensures
