@@ -1,15 +1,16 @@
 -- The steps of a part of a call, one after the other: each can be made where it is due, and then the rest is due.
-use Rattle.std.proofs.Common.{◌≡◌, ℕ, false, refl, sym, ap, ◌∙◌, subst}
+use Rattle.std.proofs.Common.{◌≡◌, ℕ, Bool, true, false, cond, inl, inr, refl, sym, ap, ◌∙◌, subst}
 use Rattle.core_world.specs.declared.plan.Own.{Own}
 use Rattle.core_world.specs.declared.plan.Own.TheVariants as own
 use Rattle.core_world.specs.declared.plan.StepPlan.{StepPlan}
 use Rattle.core_world.specs.declared.task.Task.{Task}
 use Rattle.core_world.specs.Due.{IsDue, Runs}
-use Rattle.core_world.specs.Steps.{known_after, rest_of_call}
-use Rattle.core_world.specs.Threads.Known.{Known}
-use Rattle.core_world.specs.Trees.Todo.{Todo, done, never, step, ◌>>=◌}
+use Rattle.core_world.specs.Steps.{known_after, rest_of_call, is_idle}
+use Rattle.core_world.specs.Threads.Known.{Known, start_of}
+use Rattle.core_world.specs.Trees.Calls.{steps_of}
+use Rattle.core_world.specs.Trees.Todo.{Todo, done, never, step, ◌>>=◌, after_answer, is_over}
 use Rattle.core_world.specs.Words.Shape.{Shape}
-use Rattle.core_world.proofs.CallRests.{next_due, then_due, ran_due}
+use Rattle.core_world.proofs.CallRests.{begun_rest, gone_rest, next_due, then_due, ran_due}
 use Rattle.core_steps.specs.Reached.{comes}
 use Rattle.heap_table.specs.Drafts.{IsDrafted, IsLeft}
 use Rattle.heap_table.specs.Kept.{HasRoom}
@@ -64,6 +65,11 @@ stepped h p q r plan f n a s shotless run =
 pub ends : {A : Type 0} (h : HeapSeen) (p : PassSeen) (a : A) → IsOf h p → HasRun h (done a) p p a
 ends h p a is_of = record { heap = is_of; limit = refl; cut = refl; cells = refl; ran = record { by = (refl, refl) } }
 
+-- where nothing is left behind a step, it was the last one
+pub last_step : {A : Type 0} (h : HeapSeen) (p q : PassSeen) (plan : StepPlan) (f : ℕ → Todo A) (n : ℕ) (a : A) → HasStepped h p q plan n
+    → is_shot plan.own ≡ false → f n ≡ done a → HasRun h (step plan f) p q a
+last_step h p q plan f n a s shotless e = stepped h p q q plan f n a s shotless (subst (λ d. HasRun h d q q a) (sym e) (ends h q a s.heap))
+
 -- one part behind the other
 runs_on : {A B : Type 0} (s : Shape) (start : ℕ) (d : Todo A) (g : A → Todo B) (k l m : Known) (a : A) (b : B) → Runs s start d k l a → Runs s start (g a) l m b → Runs s start (d >>= g) k m b
 runs_on s start (done c) g k l m a b one two = subst (λ y. Runs s start (g c) y m b) one.0 (subst (λ z. Runs s start (g z) l m b) one.1 two)
@@ -91,3 +97,30 @@ not_never h p q t plan n d s after left e =
     let stuck : comes (rest_of_call h.heap.shape q.known) ≡ false = ap comes left ∙ ap (λ z. comes (z >>= after)) e in
     let goes = s.comes in
     absurd (cc (stuck, goes))
+
+-- nor where the steps that are due behind a step say so
+module _ {A : Type 0} (h : HeapSeen) (p : PassSeen) (t : Task) (plan : StepPlan) (f : ℕ → Todo A) (due : IsDueOn h p t (step plan f))
+    (task : plan.task ≡ t) (n : ℕ) where
+  going : rest_of_call h.heap.shape p.known ≡ step plan (λ m. f m >>= due.after) → is_idle h.heap.shape p.known ≡ false
+  unfolding is_idle
+  going left = ap is_over left
+
+  left_behind : rest_of_call h.heap.shape (known_after h.heap.shape h.heap.start plan n p.known) ≡ (f n >>= due.after)
+  left_behind = elim due.is [
+    | inl left ↦ gone_rest h.heap.shape h.heap.start p.known plan n (going left) ∙ ap (λ z. after_answer z n) left
+    | inr b ↦
+        begun_rest h.heap.shape h.heap.start p.known plan n b.over
+        ∙ ap (λ (x : Task). after_answer (steps_of h.heap.shape x (start_of h.heap.start p.known)) n) task ∙ ap (λ z. after_answer z n) b.is
+  ]
+
+  pub never_left : (q : PassSeen) → HasStepped h p q plan n → f n ≡ never → ⊥
+  never_left q s e = not_never h p q t plan n (f n) s due.after (ap (rest_of_call h.heap.shape) s.known ∙ left_behind) e
+
+-- so a step whose word has to pass a test finds one that does
+pub passes : {A : Type 0} (h : HeapSeen) (p q : PassSeen) (t : Task) (plan : StepPlan) (test : ℕ → Bool) (d : ℕ → Todo A) (n : ℕ)
+    → IsDueOn h p t (step plan (λ m. cond (test m) (d m) never)) → plan.task ≡ t → HasStepped h p q plan n → test n ≡ true
+passes h p q t plan test d n due task s = cases (test n) refl
+  where
+    cases : (b : Bool) → test n ≡ b → test n ≡ true
+    cases true e = e
+    cases false e = absurd (never_left h p t plan (λ m. cond (test m) (d m) never) due task n q s (ap (λ b. cond b (d n) never) e))

@@ -1,0 +1,4 @@
+pub mod Forms
+pub mod Resumes
+pub mod Swaps
+pub mod Resting

@@ -1,0 +1,33 @@
+use Rattle.std.proofs.Common.{◌≡◌, ℕ, ◌==◌, ne_eqb, Bool, false, cond, Option, None, refl, sym, ap, ◌∙◌, subst}
+use Rattle.mark_word.specs.Safe.{read_safe}
+use Rattle.core_world.specs.declared.answer.Why.{Why}
+use Rattle.core_world.specs.declared.answer.Why.TheVariants.{Raced}
+use Rattle.core_world.specs.declared.name.Name.TheVariants.{Safepoint}
+use Rattle.core_world.specs.Trees.Plans.{swap, done_with, pending_for}
+use Rattle.core_world.specs.Trees.SafepointSteps.{bar, unless, running_too, resume_plan}
+use Rattle.heap_table.specs.Stepping.{CanStep, HasStepped}
+use Rattle.heap_table.proofs.Parts.{can, last_step}
+use Rattle.safepoint.proofs.running.resume_from.Goals as goal
+
+pub exchange-found-requires : goal.exchange-found-requires
+exchange-found-requires c =
+    let e = c.args.why.now in
+    let left : c.running_too-left.result ≡ running_too (read_safe c.args.word) c.args.pass.now.known.thread =
+    c.running_too-left.ensures ∙ λ i. running_too (c.requires.form i) (c.thread.ensures.same i) in
+    subst (λ (w : ℕ). CanStep c.args.heap.now c.args.pass.now (swap e Safepoint c.args.word w)) (sym left) (can _ _ _ _ _ c.requires.due refl c.requires.heap tt refl)
+
+pub returns-in-None : goal.returns-in-None
+returns-in-None c =
+    let e = c.args.why.now in
+    let h = c.args.heap.now in
+    let p = c.args.pass.now in
+    let word = c.args.word in
+    let found = c.exchange-found.result in
+    let left : c.running_too-left.result ≡ running_too (read_safe word) p.known.thread =
+    c.running_too-left.ensures ∙ λ i. running_too (c.requires.form i) (c.thread.ensures.same i) in
+    let made = subst (λ (w : ℕ). HasStepped h p c.exchange-found.new.pass (swap e Safepoint word w) found) left c.exchange-found.ensures in
+    let missed : (found == word) ≡ false = ne_eqb found word c.if-found-word.false in
+    let free : bar found ≡ None = sym c.bar.ensures ∙ c.in-None.is in
+    last_step h p _ (resume_plan e p.known.thread word) _ found _ made refl
+    (ap (λ (b : Bool). cond b (done_with tt) (unless (bar found) (pending_for (Raced word found)))) missed
+    ∙ ap (λ (x : Option Why). unless x (pending_for (Raced word found))) free)
