@@ -17,3 +17,4 @@ pub mod TrueAnswers
 pub mod OrdersOfLogs
 pub mod OneStep
 pub mod JournalsRun
+pub mod Marked

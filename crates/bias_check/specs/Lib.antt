@@ -11,3 +11,4 @@ pub mod Table
 pub mod Checking
 pub mod Logs
 pub mod Printed
+pub mod Parts

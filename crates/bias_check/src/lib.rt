@@ -2,7 +2,8 @@
 //! stops being one.
 //!
 //! `specs/` has the trusted definitions: the lines of a text and which entries a line tells (`Lines`), the run of the plain
-//! machine that they are (`Steps`), where the hashes fit the threads' generators (`Hashes`), and the answer (`Answer`).
+//! machine that they are (`Steps`), where the hashes fit the threads' generators (`Hashes`), and the answer (`Answer`); and where a
+//! text has a program and a journal (`Parts`).
 #![tactic(auto)]
 
 mod answer;
@@ -12,6 +13,7 @@ mod hashes;
 mod laws;
 mod lines;
 mod names;
+mod parts;
 mod spelled;
 #[cfg(test)]
 mod tests;
@@ -21,3 +23,4 @@ pub use check::check_journal;
 pub use laws::{
     a_line_is_at_most_one_step, journals_of_legal_logs_are_runs, runs_split_into_legal_logs,
 };
+pub use parts::{Parts, split_text};

@@ -1,6 +1,6 @@
 //! The lines of a text, and the words of a line.
 
-ghost use Rattle.std.specs.Prelude.{◌≡◌, ◌==◌, ◌+◌, ◌≤◌, [], ◌∷◌, Some, None, length, position, MatchOption, option_copied};
+ghost use Rattle.std.specs.Prelude.{◌≡◌, ◌==◌, ◌+◌, ◌≤◌, [], ◌∷◌, ◌++◌, Some, None, length, position, MatchOption, option_copied};
 ghost use Rattle.bias_check.specs.Lines.{lines_of};
 ghost use Rattle.bias_check.specs.Words.{words_behind, unended};
 
@@ -22,6 +22,7 @@ fn space(text: &[u8]) -> Option<usize>
 pub(crate) fn next_line(text: &[u8]) -> (&[u8], &[u8])
     requires { 1 ≤ length text.now }
     ensures lines { lines_of text.now ≡ result.0.now ∷ lines_of result.1.now }
+    ensures bytes { text.now ≡ result.0.now ++ result.1.now }
     ensures shorter { length result.1.now + 1 ≤ length text.now }
 {
     match line_end(text) {

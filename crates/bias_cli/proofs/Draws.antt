@@ -1,6 +1,7 @@
 -- The draws of the logs stay those of the generators.
-use Rattle.std.proofs.Common.{◌≡◌, ℕ, zero, suc, ◌+◌, ◌<◌, List, [], ◌∷◌, ◌++◌, length, replicate, refl, ap, sym, subst, ◌∙◌, arith, inl, inr, Option, Some, None, slice_get, slice_set}
+use Rattle.std.proofs.Common.{◌≡◌, ℕ, zero, suc, ◌+◌, ◌<◌, ◌==◌, ◌&&◌, true, List, [], ◌∷◌, ◌++◌, length, replicate, refl, ap, sym, subst, ◌∙◌, arith, inl, inr, Option, Some, None, slice_get, slice_set}
 use Rattle.std.proofs.lemmas.Bool.{cases_eq}
+use Rattle.std.proofs.lemmas.Bool.Decides.{nat_tests}
 use Rattle.std.proofs.lemmas.Option.{same_Some}
 use Rattle.plain_monitor.proofs.Lists.{get_set_same, get_set_other}
 use Rattle.plain_monitor.specs.declared.entry.Entry.{Entry}
@@ -8,50 +9,60 @@ use Rattle.plain_monitor.specs.declared.entry.Entry.TheVariants.{Enter, Exit, Ge
 use Rattle.plain_monitor.specs.declared.entry.Logged.{Logged}
 use Rattle.plain_monitor.specs.History.{log_of, appended}
 use Rattle.lock_policy.specs.Draws.{next_state, value_of, state_after, nth_value}
+use Rattle.bias_check.specs.Hashes.{first_word, is_right}
 use Rattle.bias_cli.specs.declared.hashes.Hashes.{Hashes}
-use Rattle.bias_cli.specs.Drawn.{first_word, draws_with, IsDraw, AreDraws, draws_in, HasDrawn, IsDrawing, IsMadeFrom, IsLogged}
+use Rattle.bias_cli.specs.Drawn.{draws_with, AreDraws, draws_in, HasDrawn, IsDrawing, IsMadeFrom, IsLogged}
 use Rattle.bias_cli.proofs.Logs.{log_more, log_other, empty_log}
 
 -- what an entry is of its thread's draws, and the generator behind it
-record IsNext (first n : ℕ) (new : Hashes) (e : Entry) : Type 0 where
-  draw : IsDraw first n e
-  drawn : HasDrawn first (draws_with n e) new
+record IsNext (start t n : ℕ) (new : Hashes) (e : Entry) : Type 0 where
+  draw : is_right start t n e ≡ true
+  drawn : HasDrawn (first_word start t) (draws_with n e) new
 
 -- a generator that was left alone
 same_next : (first n : ℕ) (old new : Hashes) → new ≡ old → HasDrawn first n old → HasDrawn first n new
 same_next first n old new e h = subst (HasDrawn first n) (sym e) h
 
+-- the number and the value are these
+draw_is_right : (value number n nth : ℕ) → number ≡ n → value ≡ nth → ((number == n) && (value == nth)) ≡ true
+draw_is_right value number n nth a b = grind (arith, nat_tests)
+
 -- a hash, by whether it was drawn
-hash_next : (first n : ℕ) (old new : Hashes) (o value : ℕ) (drawn : Option ℕ) → IsMadeFrom old new (Hash o value drawn) → HasDrawn first n old → IsNext first n new (Hash o value drawn)
-hash_next first n old new o value None m h = record { draw = tt; drawn = same_next first n old new m h }
-hash_next first n old new o value (Some number) m h =
+hash_next : (start t n : ℕ) (old new : Hashes) (o value : ℕ) (drawn : Option ℕ) → IsMadeFrom old new (Hash o value drawn) → HasDrawn (first_word start t) n old
+    → IsNext start t n new (Hash o value drawn)
+hash_next start t n old new o value None m h = record { draw = refl; drawn = same_next (first_word start t) n old new m h }
+hash_next start t n old new o value (Some number) m h =
+    let first = first_word start t in
     let e : suc n ≡ n + 1 = omega arith in
+    let numbered : number ≡ n + 1 = m.numbered ∙ ap (λ k. k + 1) h.counted in
     record {
-      draw = (m.numbered ∙ ap (λ k. k + 1) h.counted, m.valued ∙ ap (λ s. value_of (next_state s)) h.draw ∙ ap (nth_value first) e);
+      draw = draw_is_right value number (n + 1) (nth_value first number) numbered
+          (m.valued ∙ ap (λ s. value_of (next_state s)) h.draw ∙ ap (nth_value first) (e ∙ sym numbered));
       drawn = record { draw = m.moved ∙ ap next_state h.draw ∙ ap (state_after first) e; counted = m.counted ∙ ap (λ k. k + 1) h.counted };
     }
 
 -- each entry
-next_is : (first n : ℕ) (old new : Hashes) (e : Entry) → IsMadeFrom old new e → HasDrawn first n old → IsNext first n new e
-next_is first n old new (Enter o path) m h = record { draw = tt; drawn = same_next first n old new m h }
-next_is first n old new (Exit o) m h = record { draw = tt; drawn = same_next first n old new m h }
-next_is first n old new (Get o k v) m h = record { draw = tt; drawn = same_next first n old new m h }
-next_is first n old new (Put o k v) m h = record { draw = tt; drawn = same_next first n old new m h }
-next_is first n old new (Wait o) m h = record { draw = tt; drawn = same_next first n old new m h }
-next_is first n old new (Resume o) m h = record { draw = tt; drawn = same_next first n old new m h }
-next_is first n old new (Notify o w) m h = record { draw = tt; drawn = same_next first n old new m h }
-next_is first n old new (NotifyAll o w) m h = record { draw = tt; drawn = same_next first n old new m h }
-next_is first n old new (Hash o v drawn) m h = hash_next first n old new o v drawn m h
-next_is first n old new (Print v) m h = record { draw = tt; drawn = same_next first n old new m h }
-next_is first n old new (Dump k) m h = record { draw = tt; drawn = same_next first n old new m h }
-next_is first n old new (Trap f i) m h = record { draw = tt; drawn = same_next first n old new m h }
-next_is first n old new Spent m h = record { draw = tt; drawn = same_next first n old new m h }
-next_is first n old new Done m h = record { draw = tt; drawn = same_next first n old new m h }
+next_is : (start t n : ℕ) (old new : Hashes) (e : Entry) → IsMadeFrom old new e → HasDrawn (first_word start t) n old → IsNext start t n new e
+next_is start t n old new (Enter o path) m h = record { draw = refl; drawn = same_next (first_word start t) n old new m h }
+next_is start t n old new (Exit o) m h = record { draw = refl; drawn = same_next (first_word start t) n old new m h }
+next_is start t n old new (Get o k v) m h = record { draw = refl; drawn = same_next (first_word start t) n old new m h }
+next_is start t n old new (Put o k v) m h = record { draw = refl; drawn = same_next (first_word start t) n old new m h }
+next_is start t n old new (Wait o) m h = record { draw = refl; drawn = same_next (first_word start t) n old new m h }
+next_is start t n old new (Resume o) m h = record { draw = refl; drawn = same_next (first_word start t) n old new m h }
+next_is start t n old new (Notify o w) m h = record { draw = refl; drawn = same_next (first_word start t) n old new m h }
+next_is start t n old new (NotifyAll o w) m h = record { draw = refl; drawn = same_next (first_word start t) n old new m h }
+next_is start t n old new (Hash o v drawn) m h = hash_next start t n old new o v drawn m h
+next_is start t n old new (Print v) m h = record { draw = refl; drawn = same_next (first_word start t) n old new m h }
+next_is start t n old new (Dump k) m h = record { draw = refl; drawn = same_next (first_word start t) n old new m h }
+next_is start t n old new (Trap f i) m h = record { draw = refl; drawn = same_next (first_word start t) n old new m h }
+next_is start t n old new Spent m h = record { draw = refl; drawn = same_next (first_word start t) n old new m h }
+next_is start t n old new Done m h = record { draw = refl; drawn = same_next (first_word start t) n old new m h }
 
 -- a log and one more entry
-draws_more : (first n : ℕ) (log : List Logged) (l : Logged) → AreDraws first n log → IsDraw first (draws_in n log) l.entry → AreDraws first n (log ++ l ∷ [])
-draws_more first n [] l a is = (is, tt)
-draws_more first n (k ∷ log) l a is = (a.0, draws_more first (draws_with n k.entry) log l a.1 is)
+draws_more : (start t n : ℕ) (log : List Logged) (l : Logged) → AreDraws start t n log → is_right start t (draws_in n log) l.entry ≡ true
+    → AreDraws start t n (log ++ l ∷ [])
+draws_more start t n [] l a is = (is, tt)
+draws_more start t n (k ∷ log) l a is = (a.0, draws_more start t (draws_with n k.entry) log l a.1 is)
 
 -- its draws are counted on
 draws_in_more : (n : ℕ) (log : List Logged) (l : Logged) → draws_in n (log ++ l ∷ []) ≡ draws_with (draws_in n log) l.entry
@@ -62,13 +73,13 @@ draws_in_more n (k ∷ log) l = draws_in_more (draws_with n k.entry) log l
 drawing_with : (start : ℕ) (logs : List (List Logged)) (hashes : List Hashes) (t : ℕ) (old new : Hashes) (l : Logged) → t < length logs → slice_get hashes t ≡ Some old → IsMadeFrom old new l.entry
     → IsDrawing start logs hashes → IsDrawing start (appended logs t l) (slice_set hashes t new)
 drawing_with start logs hashes t old new l h was made d =
-    let next = next_is (first_word start t) (draws_in 0 (log_of logs t)) old new l.entry made (d.drawn t old was) in
+    let next = next_is start t (draws_in 0 (log_of logs t)) old new l.entry made (d.drawn t old was) in
     record {
       draws = λ i. elim (cases_eq t i) [
         | inl e ↦
-            let P : ℕ → Type 0 = λ j. AreDraws (first_word start j) 0 (log_of (appended logs t l) j) in
-            subst P e (subst (AreDraws (first_word start t) 0) (sym (log_more logs t l h)) (draws_more (first_word start t) 0 (log_of logs t) l (d.draws t) next.draw))
-        | inr n ↦ subst (AreDraws (first_word start i) 0) (sym (log_other logs t i l n)) (d.draws i)
+            let P : ℕ → Type 0 = λ j. AreDraws start j 0 (log_of (appended logs t l) j) in
+            subst P e (subst (AreDraws start t 0) (sym (log_more logs t l h)) (draws_more start t 0 (log_of logs t) l (d.draws t) next.draw))
+        | inr n ↦ subst (AreDraws start i 0) (sym (log_other logs t i l n)) (d.draws i)
       ];
       drawn = λ i now at. elim (cases_eq t i) [
         | inl e ↦
@@ -93,7 +104,7 @@ pub drawing_first : (start n : ℕ) (logs : List (List Logged)) (hashes : List H
 drawing_first start n logs hashes is each =
     let empty : (t : ℕ) → log_of logs t ≡ [] = λ t. ap (λ ls. log_of ls t) is ∙ empty_log n t in
     record {
-      draws = λ t. subst (AreDraws (first_word start t) 0) (sym (empty t)) tt;
+      draws = λ t. subst (AreDraws start t 0) (sym (empty t)) tt;
       drawn = λ t h at. subst (λ log. HasDrawn (first_word start t) (draws_in 0 log) h) (sym (empty t)) (each t h at);
     }
 

@@ -3,7 +3,7 @@ use Rattle.std.proofs.Common.{◌≡◌, ℕ, zero, suc, ◌+◌, ◌≤◌, Lis
 use Rattle.std.proofs.lemmas.List.{take-append-drop, drop-drop, take_all, drop_all}
 use Rattle.run_io.specs.Source.{IsAtEnd}
 use Rattle.run_io.specs.Sink.{Appends}
-use Rattle.bias_cli.specs.Input.{most_read, TookFirst, Took, TookMore}
+use Rattle.bias_cli.specs.Input.{TookFirst, Took, TookMore}
 use Rattle.bias_cli.specs.Output.{Wrote, WroteFront}
 
 take_joined : (n m : ℕ) (xs : List ℕ) → take (n + m) xs ≡ take n xs ++ take m (drop n xs)
@@ -18,13 +18,13 @@ took_more n m l0 l1 l2 bs cs first more left e =
     (b.0 ∙ ap (λ xs. xs ++ take m (drop n left)) a.0 ∙ sym (take_joined n m left), b.1 ∙ ap Some (drop-drop m n left))
 
 -- where nothing is left behind the first n bytes, they are all
-pub took_to_end : (n : ℕ) (l0 l1 l2 : Option (List ℕ)) (bs cs : List ℕ) → n ≤ most_read → TookFirst n l0 l1 bs → TookMore 0 l1 l2 bs cs → IsAtEnd l1 → Took l0 l2 cs
-took_to_end n l0 l1 l2 bs cs most first more ended left e =
+pub took_to_end : (n most : ℕ) (l0 l1 l2 : Option (List ℕ)) (bs cs : List ℕ) → n ≤ most + 1 → TookFirst n l0 l1 bs → TookMore 0 l1 l2 bs cs → IsAtEnd l1 → Took most l0 l2 cs
+took_to_end n most l0 l1 l2 bs cs within first more ended left e =
     let none = ended (drop n left) (first left e).1 in
     let short : length left ≤ n = omega (arith, length-drop n left, ap length none) in
     let all = took_more n 0 l0 l1 l2 bs cs first more left e in (
-      all.0 ∙ take_all (n + 0) left (omega arith) ∙ sym (take_all most_read left (omega arith)),
-      all.1 ∙ ap Some (drop_all (n + 0) left (omega arith) ∙ sym (drop_all most_read left (omega arith))),
+      all.0 ∙ take_all (n + 0) left (omega arith) ∙ sym (take_all (most + 1) left (omega arith)),
+      all.1 ∙ ap Some (drop_all (n + 0) left (omega arith) ∙ sym (drop_all (most + 1) left (omega arith))),
     )
 
 -- a write that was offered what is left of the piece

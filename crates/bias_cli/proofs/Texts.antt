@@ -1,5 +1,7 @@
 -- Writing the lines of a text one after the other.
-use Rattle.std.proofs.Common.{◌≡◌, ℕ, List, [], ◌∷◌, ◌++◌, refl, ap, sym, ◌∙◌, append_assoc, append-nil, Option, Some}
+use Rattle.std.proofs.Common.{◌≡◌, ℕ, ◌+◌, ◌<◌, List, [], ◌∷◌, ◌++◌, length, drop, get_or, refl, ap, sym, ◌∙◌, append_assoc, append-nil, Option, Some}
+use Rattle.std.specs.Prelude.{Result, Ok, Err, OnErr}
+use Rattle.std.proofs.lemmas.List.{at_drop_more}
 use Rattle.bias_cli.specs.Output.{Wrote, WroteFront}
 use Rattle.lock_journal.specs.RunText.{text_of_lines}
 
@@ -47,3 +49,24 @@ wrote_part h0 h1 h2 lines left rest line e w part =
           ∙ sym (append_assoc done part.0 (part.1 ++ text_of_lines rest)),
       λ held is. part.3 (held ++ done) (w.wrote held is) ∙ ap Some (append_assoc held done part.0),
     )
+
+-- ---- a text behind another
+
+pub wrote_both : (h0 h1 h2 : Option (List ℕ)) (a b : List ℕ) → Wrote h0 h1 a → Wrote h1 h2 b → Wrote h0 h2 (a ++ b)
+wrote_both h0 h1 h2 a b first second held is = second (held ++ a) (first held is) ∙ ap Some (append_assoc held a b)
+
+pub wrote_of_first : (h0 h1 : Option (List ℕ)) (a b : List ℕ) → WroteFront h0 h1 a → WroteFront h0 h1 (a ++ b)
+wrote_of_first h0 h1 a b part = (part.0, part.1 ++ b, ap (λ bs. bs ++ b) part.2 ∙ append_assoc part.0 part.1 b, part.3)
+
+pub wrote_of_second : (h0 h1 h2 : Option (List ℕ)) (a b : List ℕ) → Wrote h0 h1 a → WroteFront h1 h2 b → WroteFront h0 h2 (a ++ b)
+wrote_of_second h0 h1 h2 a b first part =
+    (a ++ part.0, part.1, ap (λ bs. a ++ bs) part.2 ∙ sym (append_assoc a part.0 part.1), λ held is. part.3 (held ++ a) (first held is) ∙ ap Some (append_assoc held a part.0))
+
+-- the lines that are left begin with the next one
+pub line_first : (lines : List (List ℕ)) (i : ℕ) (line : List ℕ) → i < length lines → line ≡ get_or lines i line → drop i lines ≡ line ∷ drop (i + 1) lines
+line_first lines i line h e = at_drop_more (λ xs. xs) lines i line h ∙ ap (λ l. l ∷ drop (i + 1) lines) (sym e)
+
+-- what holds anyway holds of an error
+pub on_err : {A E : Type 0} (P : Type 0) (r : Result A E) → P → OnErr r P
+on_err P (Ok x) p = tt
+on_err P (Err e) p = p

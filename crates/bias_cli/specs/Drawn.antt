@@ -1,30 +1,21 @@
--- The hashes that each thread draws, by its log.
-use Rattle.std.specs.Prelude.{◌≡◌, ℕ, ◌+◌, ◌%◌, ◌^◌, List, [], ◌∷◌, slice_get, Some}
+-- The hashes that each thread draws, by its log. What a draw is, and when it is right, is said where journals are checked.
+use Rattle.std.specs.Prelude.{◌≡◌, ℕ, ◌+◌, true, if◌then◌else◌, List, [], ◌∷◌, slice_get, Some}
 use Rattle.plain_monitor.specs.declared.entry.Entry.{Entry}
 use Rattle.plain_monitor.specs.declared.entry.Entry.TheVariants.{Hash}
 use Rattle.plain_monitor.specs.declared.entry.Logged.{Logged}
 use Rattle.plain_monitor.specs.History.{log_of, appended}
-use Rattle.lock_policy.specs.Draws.{next_state, value_of, state_after, nth_value}
+use Rattle.lock_policy.specs.Draws.{next_state, value_of, state_after}
+use Rattle.bias_check.specs.Hashes.{first_word, is_draw, is_right}
 use Rattle.bias_cli.specs.declared.hashes.Hashes.{Hashes}
-
--- the first word of thread t's generator
-abbrev pub first_word : ℕ → ℕ → ℕ
-first_word start t = (start + t) % 2 ^ 32
 
 -- how many draws there are with an entry, behind n
 abbrev pub draws_with : ℕ → Entry → ℕ
-draws_with n (Hash o value (Some number)) = n + 1
-draws_with n e = n
+draws_with n e = if is_draw e then n + 1 else n
 
--- a hash that was drawn has the number of its draw, behind n others, and its value
-abbrev pub IsDraw : ℕ → ℕ → Entry → Type 0
-IsDraw first n (Hash o value (Some number)) = (number ≡ n + 1) × (value ≡ nth_value first (n + 1))
-IsDraw first n e = Unit {0}
-
--- the same of each entry of a log, behind n draws
-abbrev pub AreDraws : ℕ → ℕ → List Logged → Type 0
-AreDraws first n [] = Unit {0}
-AreDraws first n (l ∷ log) = IsDraw first n l.entry × AreDraws first (draws_with n l.entry) log
+-- each draw of a log of thread t is right, behind n draws
+abbrev pub AreDraws : ℕ → ℕ → ℕ → List Logged → Type 0
+AreDraws start t n [] = Unit {0}
+AreDraws start t n (l ∷ log) = (is_right start t n l.entry ≡ true) × AreDraws start t (draws_with n l.entry) log
 
 -- how many draws a log has, behind n
 abbrev pub draws_in : ℕ → List Logged → ℕ
@@ -33,7 +24,7 @@ draws_in n (l ∷ log) = draws_in (draws_with n l.entry) log
 
 -- the same of each log
 abbrev pub HaveDraws : ℕ → List (List Logged) → Type 0
-HaveDraws start logs = (t : ℕ) → AreDraws (first_word start t) 0 (log_of logs t)
+HaveDraws start logs = (t : ℕ) → AreDraws start t 0 (log_of logs t)
 
 -- a generator that began with this word, after n draws
 pub record HasDrawn (first n : ℕ) (h : Hashes) : Type 0 where

@@ -1,5 +1,5 @@
 -- What a call of `biasrun` reads, writes and answers.
-use Rattle.std.specs.Prelude.{◌≡◌, ◌⊎◌, ℕ, Bool, true, false, not, if◌then◌else◌, List, [], codes, length, replicate, IsTrue, Option, Some, None, Result, Ok, Err}
+use Rattle.std.specs.Prelude.{◌≡◌, ◌⊎◌, ℕ, Bool, true, false, not, nat_lt, if◌then◌else◌, List, [], ◌++◌, codes, length, replicate, IsTrue, Option, Some, None, Result, Ok, Err}
 use Rattle.std.specs.List.{list_any, list_all}
 use Rattle.run_io.specs.Faults.{rose}
 use Rattle.plain_monitor.specs.declared.entry.Ending.{Ending}
@@ -9,15 +9,20 @@ use Rattle.object_program.specs.Program.{ProgramText}
 use Rattle.object_program.specs.Refusal.{program_of}
 use Rattle.plain_machine.specs.Machine.{PlainMachine, ending_in, is_live, is_stuck}
 use Rattle.plain_machine.specs.Legal.{IsLegal, machine_after}
-use Rattle.bias_cli.specs.Input.{Took}
+use Rattle.bias_check.specs.declared.answer.Checked.{Checked}
+use Rattle.bias_check.specs.declared.answer.CheckFault.{CheckFault}
+use Rattle.bias_check.specs.Parts.{has_journal, program_part, journal_part}
+use Rattle.bias_cli.specs.Input.{most_of_program, most_of_journal, Took}
 use Rattle.bias_cli.specs.Output.{Wrote, WroteFront}
 use Rattle.bias_cli.specs.Shots.{AreRightShots}
 use Rattle.bias_cli.specs.Own.{AreOwnLogs}
 use Rattle.bias_cli.specs.Drawn.{HaveDraws}
-use Rattle.lock_journal.specs.RunText.{text_of_run}
+use Rattle.bias_cli.specs.Report.{IsReportWhere}
+use Rattle.bias_cli.specs.Verdict.{IsVerdict, verdict_status, verdict_text}
+use Rattle.lock_journal.specs.RunText.{text_of_run, text_of_lines}
 use Rattle.run_words.specs.declared.options.Options.{Options}
 use Rattle.run_words.specs.declared.options.Command.{Command}
-use Rattle.run_words.specs.declared.options.Command.TheVariants.{Run, Make}
+use Rattle.run_words.specs.declared.options.Command.TheVariants.{Run, Check, Make}
 use Rattle.bias_cli.specs.Refused.{refusal_text}
 use Rattle.lock_journal.specs.declared.record.RunRecord.{RunRecord}
 use Rattle.lock_journal.specs.declared.record.ClassLine.{ClassLine}
@@ -39,11 +44,12 @@ source_seen left faults = record { left = left; faults = faults }
 abbrev pub sink_seen : Option (List ℕ) → ℕ → SinkSeen
 sink_seen held faults = record { held = held; faults = faults }
 
--- the run that is asked for, where the words are accepted
-abbrev pub run_asked : Option Command → Option Options
-run_asked None = None
-run_asked (Some (Run o)) = Some o
-run_asked (Some (Make items)) = None
+-- how many bytes the text may have that the words ask to read, where they ask for one
+abbrev pub most_asked : Option Command → Option ℕ
+most_asked None = None
+most_asked (Some (Run o)) = Some most_of_program
+most_asked (Some (Check fuel start)) = Some most_of_journal
+most_asked (Some (Make items)) = None
 
 -- what became of the source: it wasn't read, a read failed, or its text was read
 pub data Reading : Type 0 where
@@ -51,19 +57,21 @@ pub data Reading : Type 0 where
   ReadFault : Reading
   Text : List ℕ → Reading
 
--- refused words leave the source alone; else it is read to its end or up to the limit, unless a read fails
-abbrev pub IsReading : Option Options → SourceSeen → SourceSeen → Reading → Type 0
+-- where no text is asked for, the source is left alone; else it is read to its end or up to the limit, unless a read fails
+abbrev pub IsReading : Option ℕ → SourceSeen → SourceSeen → Reading → Type 0
 IsReading None before after Unread = after ≡ before
 IsReading None before after ReadFault = ⊥
 IsReading None before after (Text bytes) = ⊥
-IsReading (Some o) before after Unread = ⊥
-IsReading (Some o) before after ReadFault = IsTrue (rose before.faults after.faults)
-IsReading (Some o) before after (Text bytes) = Took before.left after.left bytes
+IsReading (Some most) before after Unread = ⊥
+IsReading (Some most) before after ReadFault = IsTrue (rose before.faults after.faults)
+IsReading (Some most) before after (Text bytes) = Took most before.left after.left bytes
 
--- what is due: a refusal with its status and text, or a run of a program
+-- what is due: a refusal with its status and text, a run of a program under options, or a check of a journal's lines, by the
+-- program, the fuel and what the generators of hashes start from
 pub data Due : Type 0 where
   Refuses : ℕ → List ℕ → Due
-  Runs : ProgramText → Due
+  Runs : Options → ProgramText → Due
+  Checks : ProgramText → ℕ → ℕ → List (List ℕ) → Due
 
 abbrev pub words_refused : Due
 words_refused = Refuses 2 (codes "words refused\n")
@@ -71,18 +79,36 @@ words_refused = Refuses 2 (codes "words refused\n")
 abbrev pub read_fault : Due
 read_fault = Refuses 5 (codes "read fault\n")
 
+abbrev pub no_program : ProgramError → Due
+no_program e = Refuses 3 (refusal_text e)
+
 -- a text that has no program is refused with its line and cause
-abbrev pub program_due : Result ProgramText ProgramError → Due
-program_due (Ok p) = Runs p
-program_due (Err e) = Refuses 3 (refusal_text e)
+abbrev pub run_due : Options → Result ProgramText ProgramError → Due
+run_due o (Ok p) = Runs o p
+run_due o (Err e) = no_program e
 
-abbrev pub text_due : List ℕ → Due
-text_due bytes = program_due (program_of bytes)
+abbrev pub journal_due : ℕ → ℕ → List (List ℕ) → Result ProgramText ProgramError → Due
+journal_due fuel start lines (Ok p) = Checks p fuel start lines
+journal_due fuel start lines (Err e) = no_program e
 
-abbrev pub due_of : Reading → Due
-due_of Unread = words_refused
-due_of ReadFault = read_fault
-due_of (Text bytes) = text_due bytes
+-- the limit goes first, then the marker, then the program before it
+abbrev pub check_due : ℕ → ℕ → List ℕ → Due
+check_due fuel start bytes =
+    if nat_lt most_of_journal (length bytes) then Refuses 3 (codes "program: Limit\n")
+    else if has_journal bytes then journal_due fuel start (journal_part bytes) (program_of (program_part bytes))
+    else Refuses 3 (codes "program: NoJournal\n")
+
+-- what is due of the text that these words ask for
+abbrev pub text_due : Option Command → List ℕ → Due
+text_due None bytes = words_refused
+text_due (Some (Run o)) bytes = run_due o (program_of bytes)
+text_due (Some (Check fuel start)) bytes = check_due fuel start bytes
+text_due (Some (Make items)) bytes = words_refused
+
+abbrev pub due_of : Option Command → Reading → Due
+due_of c Unread = words_refused
+due_of c ReadFault = read_fault
+due_of c (Text bytes) = text_due c bytes
 
 -- the text was written and the status is its own; or a write failed, the status is 6, and a front of the text was written
 abbrev pub IsWritten : SinkSeen → SinkSeen → ℕ → ℕ → List ℕ → Type 0
@@ -133,17 +159,26 @@ pub record IsRunOf (o : Options) (p : ProgramText) (r : RunRecord) (machine : Pl
   pub entries : AreOwnLogs p o.fuel r.logs
   pub draws : HaveDraws o.start r.logs
 
--- a run: its status is that of the machine under the record, and its text is written
+-- a run: its status is that of the machine under the record, and its text is written, and behind it the report where it is
+-- asked for
 pub record IsRun (o : Options) (p : ProgramText) (before after : SinkSeen) (status : ℕ) (r : RunRecord) : Type 0 where
   pub machine : PlainMachine
   pub run : IsRunOf o p r machine
-  pub written : IsWritten before after status (status_of machine) (text_of_run o.stats o.journal r machine)
+  pub report : List (List ℕ)
+  pub reported : IsReportWhere o.report r machine report
+  pub written : IsWritten before after status (status_of machine) (text_of_run o.stats o.journal r machine ++ text_of_lines report)
 
--- what was due was done
-abbrev pub Meets : Option Options → SinkSeen → SinkSeen → Finish → Due → Type 0
-Meets o before after finish (Refuses status text) = (finish.run ≡ None) × IsWritten before after finish.status status text
-Meets None before after finish (Runs p) = ⊥
-Meets (Some o) before after finish (Runs p) = (r : RunRecord) × (finish.run ≡ Some r) × IsRun o p before after finish.status r
+-- a check: the answer that holds of the lines is written, with its status
+pub record IsCheck (p : ProgramText) (fuel start : ℕ) (lines : List (List ℕ)) (before after : SinkSeen) (status : ℕ) : Type 0 where
+  pub answer : Result Checked CheckFault
+  pub verdict : IsVerdict p fuel start lines answer
+  pub written : IsWritten before after status (verdict_status answer) (verdict_text p answer)
+
+-- what was due was done; only a run leaves a record
+abbrev pub Meets : SinkSeen → SinkSeen → Finish → Due → Type 0
+Meets before after finish (Refuses status text) = (finish.run ≡ None) × IsWritten before after finish.status status text
+Meets before after finish (Runs o p) = (r : RunRecord) × (finish.run ≡ Some r) × IsRun o p before after finish.status r
+Meets before after finish (Checks p fuel start lines) = (finish.run ≡ None) × IsCheck p fuel start lines before after finish.status
 
 -- memory was wanting: nothing was written, and there is no record
 pub record IsGivenUp (before after : SinkSeen) (finish : Finish) : Type 0 where
@@ -151,8 +186,8 @@ pub record IsGivenUp (before after : SinkSeen) (finish : Finish) : Type 0 where
   pub run : finish.run ≡ None
   pub wrote : Wrote before.held after.held []
 
--- the source was read as the words ask, and what was due then was done
-pub record IsFinish (o : Option Options) (source_before source_after : SourceSeen) (sink_before sink_after : SinkSeen) (finish : Finish) : Type 0 where
+-- the source was read as the command asks, and what was due then was done; words that are not accepted are no command
+pub record IsFinish (c : Option Command) (source_before source_after : SourceSeen) (sink_before sink_after : SinkSeen) (finish : Finish) : Type 0 where
   pub reading : Reading
-  pub read : IsReading o source_before source_after reading
-  pub met : Meets o sink_before sink_after finish (due_of reading)
+  pub read : IsReading (most_asked c) source_before source_after reading
+  pub met : Meets sink_before sink_after finish (due_of c reading)

@@ -6,4 +6,6 @@ pub mod Own
 pub mod Drawn
 pub mod Turns
 pub mod Rooms
+pub mod Report
+pub mod Verdict
 pub mod Finish

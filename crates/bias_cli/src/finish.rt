@@ -1,23 +1,57 @@
 //! What the top call answers.
 
+ghost use Rattle.std.specs.Prelude.{◌≡◌, None};
+ghost use Rattle.bias_cli.specs.Finish.{sink_seen, IsWritten};
+
+use crate::output::write_piece;
 use lock_journal::RunRecord;
+use run_io::Sink;
 
 /// What became of a call of `biasrun`: its exit status, and the record of its run where it ran a program.
 ///
 /// | Status | Where |
 /// |---|---|
-/// | 0 | a program ran, and every thread came to its `end` |
-/// | 1 | a program ran, some thread faulted or was spent, and the machine isn't stuck |
+/// | 0 | a program ran, and every thread came to its `end`; or a journal is legal |
+/// | 1 | a program ran, some thread faulted or was spent, and the machine isn't stuck; or a line of a journal is no step, or a hash is bad |
 /// | 2 | the words are not accepted |
-/// | 3 | the text has no program; its line and cause are written |
+/// | 3 | the text has no program, its line and cause are written; or no journal, or a line of it is unreadable |
 /// | 4 | a program ran, and the machine behind the record is stuck |
 /// | 5 | a read failed |
 /// | 6 | a write failed, in place of any of the above |
 /// | 7 | memory was wanting, before the first byte was written; no contract says when that is |
 ///
-/// `run` is there exactly where the text has a program and the status isn't 7, with status 6 too.
+/// `run` is there exactly where the words ask for a run, the text has a program and the status isn't 7, with status 6 too.
 #[derive(Drop)]
 pub struct Finish {
     pub status: u8,
     pub run: Option<RunRecord>,
+}
+
+/// The status where a write failed.
+pub(crate) const WRITE_FAILED: u8 = 6;
+
+/// A call that has no record: it writes this text, and answers this status, or 6 where a write failed.
+pub(crate) fn tell<K: Sink>(sink: &mut K, status: u8, text: &[u8]) -> Finish
+    ensures run { result.run ≡ None }
+    ensures written { IsWritten (sink_seen (K.held sink.old) (K.faults sink.old)) (sink_seen (K.held sink.new) (K.faults sink.new))
+        result.status status text.now }
+{
+    match write_piece(sink, text) {
+        Ok(()) => Finish { status, run: None },
+        Err(_) => Finish {
+            status: WRITE_FAILED,
+            run: None,
+        },
+    }
+}
+
+/// Want of memory. Nothing is written.
+pub(crate) fn give_up() -> Finish
+    ensures status { result.status ≡ 7 }
+    ensures run { result.run ≡ None }
+{
+    Finish {
+        status: 7,
+        run: None,
+    }
 }

@@ -1,7 +1,8 @@
 //! The identity hashes that a thread draws.
 
 ghost use Rattle.std.specs.Prelude.{◌≡◌, ◌+◌, ◌<◌, ◌≤◌, ◌^◌, IfOk};
-ghost use Rattle.bias_cli.specs.Drawn.{first_word, HasDrawn, IsDrawnFrom};
+ghost use Rattle.bias_check.specs.Hashes.{first_word};
+ghost use Rattle.bias_cli.specs.Drawn.{HasDrawn, IsDrawnFrom};
 
 use lock_policy::Draw;
 use plain_monitor::NoMemory;

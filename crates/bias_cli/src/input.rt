@@ -8,8 +8,11 @@ ghost use Rattle.bias_cli.specs.Input.{Took, TookMore};
 use run_io::Source;
 use std::alloc::Global;
 
-/// The most bytes that are read: one more than a text may have, so that a longer one is known.
-pub(crate) const MOST_READ: usize = 1048577;
+/// The most bytes that a program's text may have.
+pub(crate) const MOST_OF_PROGRAM: usize = 1_048_576;
+
+/// The most bytes that a program with its journal may have.
+pub(crate) const MOST_OF_JOURNAL: usize = 67_108_864;
 
 /// How many bytes are asked for at a time.
 const PIECE: usize = 4096;
@@ -23,16 +26,21 @@ pub(crate) enum ReadError {
     NoMemory,
 }
 
-/// Reads the source to its end, or until `MOST_READ` bytes were taken. `Fault` comes only where the source's count of faults
-/// rose.
-pub(crate) fn read_text<S: Source>(alloc: Global, source: &mut S) -> Result<Vec<u8>, ReadError>
+/// Reads the source to its end, or until one byte more was taken than the text may have, so that a longer one is known. `Fault`
+/// comes only where the source's count of faults rose.
+pub(crate) fn read_text<S: Source>(
+    alloc: Global,
+    source: &mut S,
+    most: usize,
+) -> Result<Vec<u8>, ReadError>
+    requires { most ≤ 67108864 }
     ensures counted { S.faults source.old ≤ S.faults source.new }
     ensures fault { (result ≡ Err ReadError.Fault) → IsTrue (rose (S.faults source.old) (S.faults source.new)) }
-    ensures took { IfOk result (λ v. Took (S.left source.old) (S.left source.new) v.items) }
+    ensures took { IfOk result (λ v. Took most (S.left source.old) (S.left source.new) v.items) }
 {
     let mut bytes = Vec::new(alloc);
-    while bytes.len() < MOST_READ {
-        if read_piece(source, &mut bytes)? == 0 {
+    while bytes.len() <= most {
+        if read_piece(source, &mut bytes, most)? == 0 {
             break;
         }
     }
@@ -40,17 +48,22 @@ pub(crate) fn read_text<S: Source>(alloc: Global, source: &mut S) -> Result<Vec<
 }
 
 /// Reads once, and puts what was read behind the bytes. 0 says that nothing was left.
-fn read_piece<S: Source>(source: &mut S, bytes: &mut Vec<u8>) -> Result<usize, ReadError>
-    requires { vec_len bytes.old < 1048577 }
+fn read_piece<S: Source>(
+    source: &mut S,
+    bytes: &mut Vec<u8>,
+    most: usize,
+) -> Result<usize, ReadError>
+    requires limit { most ≤ 67108864 }
+    requires room { vec_len bytes.old ≤ most }
     ensures counted { S.faults source.old ≤ S.faults source.new }
     ensures fault { (result ≡ Err ReadError.Fault) → IsTrue (rose (S.faults source.old) (S.faults source.new)) }
     ensures more { IfOk result (λ n. vec_len bytes.new ≡ vec_len bytes.old + n) }
-    ensures most { OnOk result (vec_len bytes.new ≤ 1048577) }
+    ensures most { OnOk result (vec_len bytes.new ≤ most + 1) }
     ensures took { IfOk result (λ n. TookMore n (S.left source.old) (S.left source.new) bytes.old.items bytes.new.items) }
     ensures ended { IfOk result (λ n. n ≡ 0 → IsAtEnd (S.left source.old)) }
 {
     let mut buffer = [0u8; PIECE];
-    let room = (MOST_READ - bytes.len()).min(PIECE);
+    let room = (most + 1 - bytes.len()).min(PIECE);
     let Ok(n) = source.read(&mut buffer[..room]) else {
         return Err(ReadError::Fault);
     };

@@ -3,16 +3,16 @@
 ghost use Rattle.std.specs.Prelude.{◌≡◌, ◌⊎◌, length, Option, Some};
 ghost use Rattle.plain_machine.specs.Legal.{IsLegal};
 ghost use Rattle.lock_journal.specs.declared.record.RunRecord.{RunRecord};
-ghost use Rattle.run_words.specs.declared.options.Options.{Options};
+ghost use Rattle.run_words.specs.declared.options.Command.{Command};
 ghost use Rattle.bias_cli.specs.declared.finish.Finish.{Finish};
 ghost use Rattle.bias_cli.specs.Finish.{SourceSeen, SinkSeen, IsGivenUp, IsFinish};
 
 /// The record that a call leaves can be replayed: its logs are legal for its own program and fuel, one for each thread.
 pub fn records_can_be_replayed()
-    ensures legal { (o : Option Options) (source_before source_after : SourceSeen) (sink_before sink_after : SinkSeen) (finish : Finish) (r : RunRecord)
-        → IsGivenUp sink_before sink_after finish ⊎ IsFinish o source_before source_after sink_before sink_after finish
+    ensures legal { (c : Option Command) (source_before source_after : SourceSeen) (sink_before sink_after : SinkSeen) (finish : Finish) (r : RunRecord)
+        → IsGivenUp sink_before sink_after finish ⊎ IsFinish c source_before source_after sink_before sink_after finish
         → finish.run ≡ Some r → IsLegal r.program r.fuel r.logs }
-    ensures threads { (o : Option Options) (source_before source_after : SourceSeen) (sink_before sink_after : SinkSeen) (finish : Finish) (r : RunRecord)
-        → IsGivenUp sink_before sink_after finish ⊎ IsFinish o source_before source_after sink_before sink_after finish
+    ensures threads { (c : Option Command) (source_before source_after : SourceSeen) (sink_before sink_after : SinkSeen) (finish : Finish) (r : RunRecord)
+        → IsGivenUp sink_before sink_after finish ⊎ IsFinish c source_before source_after sink_before sink_after finish
         → finish.run ≡ Some r → length r.logs ≡ length r.program.threads }
 {}

@@ -1,18 +1,21 @@
 //! A call of `biasrun`: the words, the text, the run and the writing.
 
-ghost use Rattle.std.specs.Prelude.{◌≡◌, ◌⊎◌, map, string_bytes, Some, None, IfOk};
+ghost use Rattle.std.specs.Prelude.{◌⊎◌, map, string_bytes, Some, IfOk};
 ghost use Rattle.object_program.specs.Program.{ProgramText};
+ghost use Rattle.object_program.specs.Refusal.{program_of};
 ghost use Rattle.run_words.specs.Command.{accepted};
 ghost use Rattle.lock_journal.specs.LinesLeft.{IsShown};
-ghost use Rattle.run_words.specs.declared.options.Options.{Options};
-ghost use Rattle.bias_cli.specs.Finish.{source_seen, sink_seen, run_asked, Meets, Refuses, Runs, text_due, IsGivenUp, IsFinish, IsRunOf};
+ghost use Rattle.run_words.specs.declared.options.Command.TheVariants.{Run};
+ghost use Rattle.bias_cli.specs.Finish.{source_seen, sink_seen, Meets, Runs, run_due, IsGivenUp, IsFinish, IsRunOf};
+ghost use Rattle.bias_cli.specs.Report.{IsReportWhere};
 
-use crate::finish::Finish;
-use crate::input::{ReadError, read_text};
-use crate::output::write_piece;
+use crate::check::check_source;
+use crate::finish::{Finish, WRITE_FAILED, give_up, tell};
+use crate::input::{MOST_OF_PROGRAM, ReadError, read_text};
 use crate::recording::record_of;
 use crate::refusal::refusal_line;
-use crate::text::{status_of, write_lines};
+use crate::report::report_where;
+use crate::text::{status_of, write_text};
 use crate::turns::{Turns, run_in_turns};
 use lock_journal::RunRecord;
 use object_program::{Program, Why, read_program};
@@ -22,9 +25,6 @@ use run_io::{Sink, Source};
 use run_words::{Command, Options, WordsFault, read_words};
 use std::alloc::Global;
 
-/// The status where a write failed.
-const WRITE_FAILED: u8 = 6;
-
 /// Does what the words ask for. It starts nothing and never waits.
 pub(crate) fn run_words<S: Source, K: Sink>(
     alloc: Global,
@@ -33,13 +33,14 @@ pub(crate) fn run_words<S: Source, K: Sink>(
     sink: &mut K,
 ) -> Finish
     ensures { IsGivenUp (sink_seen (K.held sink.old) (K.faults sink.old)) (sink_seen (K.held sink.new) (K.faults sink.new)) result
-        ⊎ IsFinish (run_asked (accepted (map (λ w. string_bytes w) words.now)))
+        ⊎ IsFinish (accepted (map (λ w. string_bytes w) words.now))
         (source_seen (S.left source.old) (S.faults source.old)) (source_seen (S.left source.new) (S.faults source.new))
         (sink_seen (K.held sink.old) (K.faults sink.old)) (sink_seen (K.held sink.new) (K.faults sink.new)) result }
 {
     match read_words(alloc, words) {
         Ok(Command::Run(options)) => run_source(alloc, &options, source, sink),
-        Ok(Command::Make { .. }) | Err(WordsFault::Refused) => refuse(sink, 2, b"words refused\n"),
+        Ok(Command::Check { fuel, start }) => check_source(alloc, fuel, start, source, sink),
+        Ok(Command::Make { .. }) | Err(WordsFault::Refused) => tell(sink, 2, b"words refused\n"),
         Err(WordsFault::NoMemory) => give_up(),
     }
 }
@@ -52,13 +53,13 @@ fn run_source<S: Source, K: Sink>(
     sink: &mut K,
 ) -> Finish
     ensures { IsGivenUp (sink_seen (K.held sink.old) (K.faults sink.old)) (sink_seen (K.held sink.new) (K.faults sink.new)) result
-        ⊎ IsFinish (Some options.now)
+        ⊎ IsFinish (Some (Run options.now))
         (source_seen (S.left source.old) (S.faults source.old)) (source_seen (S.left source.new) (S.faults source.new))
         (sink_seen (K.held sink.old) (K.faults sink.old)) (sink_seen (K.held sink.new) (K.faults sink.new)) result }
 {
-    match read_text(alloc, source) {
+    match read_text(alloc, source, MOST_OF_PROGRAM) {
         Ok(bytes) => run_text(alloc, options, bytes.as_slice(), sink),
-        Err(ReadError::Fault) => refuse(sink, 5, b"read fault\n"),
+        Err(ReadError::Fault) => tell(sink, 5, b"read fault\n"),
         Err(ReadError::NoMemory) => give_up(),
     }
 }
@@ -66,13 +67,14 @@ fn run_source<S: Source, K: Sink>(
 /// Runs the program that the bytes have.
 fn run_text<K: Sink>(alloc: Global, options: &Options, bytes: &[u8], sink: &mut K) -> Finish
     ensures { IsGivenUp (sink_seen (K.held sink.old) (K.faults sink.old)) (sink_seen (K.held sink.new) (K.faults sink.new)) result
-        ⊎ Meets (Some options.now) (sink_seen (K.held sink.old) (K.faults sink.old)) (sink_seen (K.held sink.new) (K.faults sink.new)) result (text_due bytes.now) }
+        ⊎ Meets (sink_seen (K.held sink.old) (K.faults sink.old)) (sink_seen (K.held sink.new) (K.faults sink.new)) result
+        (run_due options.now (program_of bytes.now)) }
 {
     match read_program(alloc, bytes) {
         Ok(program) => run_program(alloc, options, program, sink),
         Err(error) => match error.why {
             Why::NoMemory => give_up(),
-            _ => refuse(sink, 3, refusal_line(error).bytes()),
+            _ => tell(sink, 3, refusal_line(error).bytes()),
         },
     }
 }
@@ -80,7 +82,7 @@ fn run_text<K: Sink>(alloc: Global, options: &Options, bytes: &[u8], sink: &mut 
 /// Runs the program and writes the run's text.
 fn run_program<K: Sink>(alloc: Global, options: &Options, program: Program, sink: &mut K) -> Finish
     ensures { IsGivenUp (sink_seen (K.held sink.old) (K.faults sink.old)) (sink_seen (K.held sink.new) (K.faults sink.new)) result
-        ⊎ Meets (Some options.now) (sink_seen (K.held sink.old) (K.faults sink.old)) (sink_seen (K.held sink.new) (K.faults sink.new)) result (Runs program) }
+        ⊎ Meets (sink_seen (K.held sink.old) (K.faults sink.old)) (sink_seen (K.held sink.new) (K.faults sink.new)) result (Runs options.now program) }
 {
     match run_of(alloc, options, program) {
         Ok(ran) => write_run(sink, options, ran),
@@ -88,17 +90,19 @@ fn run_program<K: Sink>(alloc: Global, options: &Options, program: Program, sink
     }
 }
 
-/// A run that is over: its record, and the machine under it.
+/// A run that is over: its record, the machine under it, and the lines of its report, none where none is asked for.
 #[derive(Drop)]
 struct Ran {
     run: RunRecord,
     machine: Machine,
+    report: Vec<List<u8>>,
 }
 
 /// Runs the program to its end.
 fn run_of(alloc: Global, options: &Options, program: Program) -> Result<Ran, NoMemory>
     ensures run { IfOk result (λ ran. IsRunOf options.now program ran.run ran.machine) }
     ensures shown { IfOk result (λ ran. IsShown ran.run ran.machine) }
+    ensures reported { IfOk result (λ ran. IsReportWhere options.now.report ran.run ran.machine ran.report.items) }
 {
     let turns = run_in_turns(alloc, &program, options)?;
     plain_machine::a_machine_that_offers_nothing_is_over();
@@ -117,18 +121,28 @@ fn run_of(alloc: Global, options: &Options, program: Program) -> Result<Ran, NoM
         List::of(shots),
         halted,
     )?;
-    Ok(Ran { run, machine })
+    let report = report_where(alloc, options.report, &run, &machine)?;
+    Ok(Ran {
+        run,
+        machine,
+        report,
+    })
 }
 
 /// Writes the text of a run that is over.
 fn write_run<K: Sink>(sink: &mut K, options: &Options, ran: Ran) -> Finish
-    requires { IsShown ran.run ran.machine }
+    requires shown { IsShown ran.run ran.machine }
+    requires reported { IsReportWhere options.now.report ran.run ran.machine ran.report.items }
     ensures { (p : ProgramText) → IsRunOf options.now p ran.run ran.machine
-        → Meets (Some options.now) (sink_seen (K.held sink.old) (K.faults sink.old)) (sink_seen (K.held sink.new) (K.faults sink.new)) result (Runs p) }
+        → Meets (sink_seen (K.held sink.old) (K.faults sink.old)) (sink_seen (K.held sink.new) (K.faults sink.new)) result (Runs options.now p) }
 {
-    let Ran { run, machine } = ran;
+    let Ran {
+        run,
+        machine,
+        report,
+    } = ran;
     let threads = run.program.threads.items().len() as u32;
-    match write_lines(sink, &run, &machine, options.stats, options.journal) {
+    match write_text(sink, &run, &machine, options, &report) {
         Ok(()) => Finish {
             status: status_of(&machine, threads),
             run: Some(run),
@@ -137,29 +151,5 @@ fn write_run<K: Sink>(sink: &mut K, options: &Options, ran: Ran) -> Finish
             status: WRITE_FAILED,
             run: Some(run),
         },
-    }
-}
-
-/// A call that has no record: it writes why, and answers this status, or 6 where a write failed.
-fn refuse<K: Sink>(sink: &mut K, status: u8, text: &[u8]) -> Finish
-    ensures { Meets None (sink_seen (K.held sink.old) (K.faults sink.old)) (sink_seen (K.held sink.new) (K.faults sink.new)) result (Refuses status text.now) }
-{
-    match write_piece(sink, text) {
-        Ok(()) => Finish { status, run: None },
-        Err(_) => Finish {
-            status: WRITE_FAILED,
-            run: None,
-        },
-    }
-}
-
-/// Want of memory. Nothing is written.
-fn give_up() -> Finish
-    ensures status { result.status ≡ 7 }
-    ensures run { result.run ≡ None }
-{
-    Finish {
-        status: 7,
-        run: None,
     }
 }

@@ -1,23 +1,24 @@
 //! Writing the text of a run, and the status that its machine gives.
 
-ghost use Rattle.std.specs.Prelude.{◌≡◌, ◌≤◌, false, length, IsTrue, OnOk, OnErr};
+ghost use Rattle.std.specs.Prelude.{◌≡◌, ◌≤◌, ◌++◌, false, length, IsTrue, OnOk, OnErr};
 ghost use Rattle.std.specs.List.{list_any};
 ghost use Rattle.run_io.specs.Faults.{rose};
 ghost use Rattle.plain_machine.specs.Machine.{ending_in};
 ghost use Rattle.bias_cli.specs.Output.{Wrote, WroteFront};
-ghost use Rattle.lock_journal.specs.RunText.{text_of_run};
+ghost use Rattle.lock_journal.specs.RunText.{text_of_run, text_of_lines};
 ghost use Rattle.lock_journal.specs.LinesLeft.{IsShown};
 ghost use Rattle.bias_cli.specs.Finish.{status_of, is_cut_short};
 
 use crate::output::write_piece;
 use lock_journal::{Line, Lines, RunRecord};
 use plain_machine::Machine;
-use plain_monitor::Ending;
+use plain_monitor::{Ending, List};
 use run_io::{Failed, Sink};
+use run_words::Options;
 
 /// Writes the lines of the run's text, with statistics and the journal where asked, each by a write call of its own, and stops at
 /// the first write that fails. `Failed` comes only where the sink's count of faults rose, and then a front of the text is written.
-pub(crate) fn write_lines<K: Sink>(
+fn write_lines<K: Sink>(
     sink: &mut K,
     run: &RunRecord,
     machine: &Machine,
@@ -34,6 +35,40 @@ pub(crate) fn write_lines<K: Sink>(
     let mut line = Line::new();
     while lines.next(run, machine, &mut line) {
         write_piece(sink, line.bytes())?;
+    }
+    Ok(())
+}
+
+/// Writes the lines of the run's text, with what the options ask for, and behind them those of the report.
+pub(crate) fn write_text<K: Sink>(
+    sink: &mut K,
+    run: &RunRecord,
+    machine: &Machine,
+    options: &Options,
+    report: &[List<u8>],
+) -> Result<(), Failed>
+    requires { IsShown run.now machine.now }
+    ensures counted { K.faults sink.old ≤ K.faults sink.new }
+    ensures ok { OnOk result (Wrote (K.held sink.old) (K.held sink.new)
+        (text_of_run options.now.stats options.now.journal run.now machine.now ++ text_of_lines report.now)) }
+    ensures failed { OnErr result (IsTrue (rose (K.faults sink.old) (K.faults sink.new))) }
+    ensures front { OnErr result (WroteFront (K.held sink.old) (K.held sink.new)
+        (text_of_run options.now.stats options.now.journal run.now machine.now ++ text_of_lines report.now)) }
+{
+    write_lines(sink, run, machine, options.stats, options.journal)?;
+    write_report(sink, report)?;
+    Ok(())
+}
+
+/// Writes these lines, each by a write call of its own, and stops at the first write that fails.
+fn write_report<K: Sink>(sink: &mut K, lines: &[List<u8>]) -> Result<(), Failed>
+    ensures counted { K.faults sink.old ≤ K.faults sink.new }
+    ensures ok { OnOk result (Wrote (K.held sink.old) (K.held sink.new) (text_of_lines lines.now)) }
+    ensures failed { OnErr result (IsTrue (rose (K.faults sink.old) (K.faults sink.new))) }
+    ensures front { OnErr result (WroteFront (K.held sink.old) (K.held sink.new) (text_of_lines lines.now)) }
+{
+    for line in lines {
+        write_piece(sink, line.items())?;
     }
     Ok(())
 }

@@ -15,7 +15,8 @@ ghost use Rattle.bias_cli.specs.Turns.{IsUnderway, Continues, OffersNothing, log
 ghost use Rattle.bias_cli.specs.Own.{acquired, IsPathOf};
 ghost use Rattle.plain_machine.specs.Thread.{ThreadState};
 ghost use Rattle.bias_cli.specs.Rooms.{HasRooms};
-ghost use Rattle.bias_cli.specs.Drawn.{IsDrawing, DrawsOn, IsLogged, IsMadeFrom, HasDrawn, first_word};
+ghost use Rattle.bias_cli.specs.Drawn.{IsDrawing, DrawsOn, IsLogged, IsMadeFrom, HasDrawn};
+ghost use Rattle.bias_check.specs.Hashes.{first_word};
 ghost use Rattle.bias_cli.specs.declared.hashes.Hashes.{Hashes};
 
 use crate::appending::{append, empty_lists};

@@ -1,5 +1,7 @@
 //! Whole runs, from words and a text in memory to what a sink in memory holds.
 
+mod checks;
+mod reports;
 mod rows;
 mod texts;
 
@@ -10,12 +12,13 @@ use std::sync::Wait;
 use std::test::Fail;
 use std::thread::Threads;
 
-/// What a call is made with: the words behind the program's name, the text and how many empty lines stand behind it, the read and
-/// the write that fail, by number from 1 or 0 for none, and the most bytes that a read gives and a write takes.
+/// What a call is made with: the words behind the program's name, the text and what stands behind it, then how many empty lines, the
+/// read and the write that fail, by number from 1 or 0 for none, and the most bytes that a read gives and a write takes.
 #[derive(Clone, Copy)]
-struct Call {
-    words: &'static [&'static str],
-    text: &'static str,
+struct Call<'a> {
+    words: &'a [&'a str],
+    text: &'a str,
+    behind: &'a [u8],
     empty_lines: u32,
     read_fails: u32,
     write_fails: u32,
@@ -23,10 +26,11 @@ struct Call {
 }
 
 /// A run of the text with these words, in which no read and no write fails.
-fn calling(words: &'static [&'static str], text: &'static str) -> Call {
+fn calling<'a>(words: &'a [&'a str], text: &'a str) -> Call<'a> {
     Call {
         words,
         text,
+        behind: b"",
         empty_lines: 0,
         read_fails: 0,
         write_fails: 0,
@@ -51,13 +55,14 @@ fn make<R: Threads + Wait + Abort + AllocGlobal + Sync>(rt: &R, call: Call) -> R
         words.push(String::from_str(rt.alloc(), word)?)?;
     }
     let mut text = Vec::from_slice(rt.alloc(), call.text.as_bytes())?;
+    text.extend_from_slice(call.behind)?;
     for _ in 0..call.empty_lines {
         text.push(b'\n')?;
     }
     let read_fails = vec![in rt.alloc(); call.read_fails]?;
     let write_fails = vec![in rt.alloc(); call.write_fails]?;
     let mut source = MemorySource::new(text, read_fails, call.cut.max(1));
-    let mut sink = MemorySink::new(rt.alloc(), 1000, write_fails, call.cut.max(1))?;
+    let mut sink = MemorySink::new(rt.alloc(), 1_000_000, write_fails, call.cut.max(1))?;
     let finish = bias_cli::biasrun(
         rt,
         rt.alloc(),

@@ -24,3 +24,4 @@ pub use lines::Lines;
 pub use order::Merge;
 pub use record::{Cell, ClassLine, RunRecord, Shot};
 pub use replaying::replay;
+pub use words::{push_object, push_thread};

@@ -10,7 +10,7 @@ use plain_monitor::{Ending, Fault, Path, Value};
 
 /// Writes the name of object `o`, for an array's with the element in brackets, in at most 64 bytes. Nothing where the program
 /// has no such object.
-pub(crate) fn push_object(out: &mut Line, program: &Program, o: u32)
+pub fn push_object(out: &mut Line, program: &Program, o: u32)
     requires { length out.old + 64 ≤ 512 }
     ensures text { out.new ≡ out.old ++ object_text program.now o }
     ensures short { length out.new ≤ length out.old + 64 }
@@ -61,7 +61,7 @@ fn push_element(out: &mut Line, object: &ObjectDef, element: u32)
 }
 
 /// Writes the name of thread `t`, in at most 32 bytes. Nothing where the program has no such thread.
-pub(crate) fn push_thread(out: &mut Line, program: &Program, t: u32)
+pub fn push_thread(out: &mut Line, program: &Program, t: u32)
     requires { length out.old + 32 ≤ 512 }
     ensures text { out.new ≡ out.old ++ thread_text program.now t }
     ensures short { length out.new ≤ length out.old + 32 }

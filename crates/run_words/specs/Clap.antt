@@ -33,6 +33,7 @@ values_found found = record {
   tick = found (codes "tick");
   stats = is_true (found (codes "stats"));
   journal = is_true (found (codes "journal"));
+  report = is_true (found (codes "report"));
 }
 
 -- the values that the code holds, with the texts behind its references
@@ -46,4 +47,5 @@ values_held v = record {
   tick = option_map (λ s. s.now) v.tick;
   stats = v.stats;
   journal = v.journal;
+  report = v.report;
 }

@@ -1,5 +1,5 @@
 -- The words of the command line.
-use Rattle.std.specs.Prelude.{ℕ, Bool, true, false, ◌==◌, List, [], ◌∷◌, ◌++◌, codes, if◌then◌else◌}
+use Rattle.std.specs.Prelude.{ℕ, Bool, true, false, ◌==◌, ◌||◌, List, [], ◌∷◌, ◌++◌, codes, if◌then◌else◌}
 use Rattle.std.specs.Prelude.{Option, Some, None, is_some, option_map, option_and_then, find}
 use Rattle.std.specs.List.{list_any, before_first, after_first}
 use Rattle.std.specs.Str.{bytes_eq}
@@ -8,7 +8,7 @@ use Rattle.run_words.specs.declared.words.Kind.{Kind}
 use Rattle.run_words.specs.declared.words.Kind.TheVariants.{Valued, Flag}
 use Rattle.run_words.specs.declared.options.Options.{Options}
 use Rattle.run_words.specs.declared.options.Command.{Command}
-use Rattle.run_words.specs.declared.options.Command.TheVariants.{Run}
+use Rattle.run_words.specs.declared.options.Command.TheVariants.{Run, Check}
 
 abbrev pub Text : Type 0
 Text = List ℕ
@@ -19,7 +19,7 @@ abbrev pub valued_names : List Text
 valued_names = codes "workers" ∷ codes "fuel" ∷ codes "quantum" ∷ codes "bias" ∷ codes "hash-start" ∷ codes "tick" ∷ []
 
 abbrev pub flag_names : List Text
-flag_names = codes "stats" ∷ codes "journal" ∷ []
+flag_names = codes "stats" ∷ codes "journal" ∷ codes "report" ∷ []
 
 abbrev pub is_one_of : List Text → Text → Bool
 is_one_of names name = list_any (λ x. bytes_eq x name) names
@@ -131,6 +131,7 @@ pub record Values : Type 0 where
   pub tick : Option Text
   pub stats : Bool
   pub journal : Bool
+  pub report : Bool
 
 abbrev pub values_of : Given → Values
 values_of given = record {
@@ -142,6 +143,7 @@ values_of given = record {
   tick = value_of (codes "tick") given;
   stats = is_true (value_of (codes "stats") given);
   journal = is_true (value_of (codes "journal") given);
+  report = is_true (value_of (codes "report") given);
 }
 
 -- what the text says, or the default where there is none
@@ -158,13 +160,19 @@ infixl 10 ◌>>=◌
 abbrev pub ◌>>=◌ : {A B : Type 0} → Option A → (A → Option B) → Option B
 o >>= f = option_and_then f o
 
+abbrev pub fuel_of : Values → Option ℕ
+fuel_of v = read_or 20000 (number 1 200000) v.fuel
+
+abbrev pub start_of : Values → Option ℕ
+start_of v = read_or 1 (number 0 4294967295) v.start
+
 abbrev pub options_of : Values → Option Options
 options_of v = do
   workers ← read_or 4 (number 1 16) v.workers
-  fuel ← read_or 20000 (number 1 200000) v.fuel
+  fuel ← fuel_of v
   quantum ← read_or 1000 (number 1 100000) v.quantum
   bias ← read_or true switch v.bias
-  start ← read_or 1 (number 0 4294967295) v.start
+  start ← start_of v
   tick ← read_or 0 (number 0 4294967295) v.tick
   Some (record {
     workers = workers;
@@ -175,17 +183,46 @@ options_of v = do
     tick = tick;
     stats = v.stats;
     journal = v.journal;
+    report = v.report;
   })
+
+-- an option is given that only a run has
+abbrev pub has_run_options : Values → Bool
+has_run_options v =
+    is_some v.workers || is_some v.quantum || is_some v.bias || is_some v.tick || v.stats || v.journal || v.report
+
+-- what a check goes by
+abbrev pub check_values : Values → Option Command
+check_values v = do
+  fuel ← fuel_of v
+  start ← start_of v
+  Some (Check fuel start)
 
 -- ---- the command
 
+-- the values of the options, where the words are options, each at most once, and each with a value where it has one
+abbrev pub values_in : List Text → Option Values
+values_in words = option_map values_of (gathered nothing_read words)
+
 abbrev pub run_of : List Text → Option Command
-run_of words =
-    option_map Run (option_and_then (λ given. options_of (values_of given)) (gathered nothing_read words))
+run_of words = option_map Run (option_and_then options_of (values_in words))
+
+-- a check takes its words as a run does, but has no more options than these two
+abbrev pub check_by : Values → Option Command
+check_by v = if has_run_options v then None else check_values v
+
+abbrev pub check_of : List Text → Option Command
+check_of words = option_and_then check_by (values_in words)
+
+abbrev pub command_in : Text → List Text → Option Command
+command_in command words =
+    if bytes_eq command (codes "run") then run_of words
+    else if bytes_eq command (codes "check") then check_of words
+    else None
 
 abbrev pub command_of : List Text → Option Command
 command_of [] = None
-command_of (command ∷ words) = if bytes_eq command (codes "run") then run_of words else None
+command_of (command ∷ words) = command_in command words
 
 -- what the words ask for, where they are accepted; the first is the program's name and is not looked at
 abbrev pub accepted : List Text → Option Command

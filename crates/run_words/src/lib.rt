@@ -5,6 +5,7 @@
 #![tactic(auto)]
 
 ghost use Rattle.std.specs.Prelude.{◌≡◌, IfOk, Some, None, Err, map, string_bytes};
+ghost use Rattle.run_words.specs.Clap as told;
 ghost use Rattle.run_words.specs.Command as spec;
 ghost use Rattle.run_words.specs.declared.WordsFault.TheVariants.{Refused};
 
@@ -15,6 +16,7 @@ mod parser;
 mod tests;
 mod words;
 
+use options::Values;
 pub use options::{Command, Options};
 use std::alloc::Global;
 use thiserror::Error;
@@ -39,8 +41,22 @@ pub fn read_words(alloc: Global, words: &[String]) -> Result<Command, WordsFault
     ensures refused { result ≡ Err Refused → spec.accepted (map (λ w. string_bytes w) words.now) ≡ None }
 {
     match words {
-        [_, command, rest @ ..] if command.as_str() == "run" => read_run(alloc, rest),
+        [_, command, rest @ ..] => read_command(alloc, command.as_str(), rest),
         _ => Err(WordsFault::Refused),
+    }
+}
+
+/// What the words behind this command's name ask for.
+fn read_command(alloc: Global, command: &str, words: &[String]) -> Result<Command, WordsFault>
+    ensures ok { IfOk result (λ c. spec.command_in command.now (map (λ w. string_bytes w) words.now) ≡ Some c) }
+    ensures refused { result ≡ Err Refused → spec.command_in command.now (map (λ w. string_bytes w) words.now) ≡ None }
+{
+    if command == "run" {
+        read_run(alloc, words)
+    } else if command == "check" {
+        read_check(alloc, words)
+    } else {
+        Err(WordsFault::Refused)
     }
 }
 
@@ -49,13 +65,31 @@ fn read_run(alloc: Global, words: &[String]) -> Result<Command, WordsFault>
     ensures ok { IfOk result (λ c. spec.run_of (map (λ w. string_bytes w) words.now) ≡ Some c) }
     ensures refused { result ≡ Err Refused → spec.run_of (map (λ w. string_bytes w) words.now) ≡ None }
 {
+    let values = read_values(alloc, words)?;
+    match options::options_of(values) {
+        Some(options) => Ok(Command::Run(options)),
+        None => Err(WordsFault::Refused),
+    }
+}
+
+/// What the words behind `check` ask for.
+fn read_check(alloc: Global, words: &[String]) -> Result<Command, WordsFault>
+    ensures ok { IfOk result (λ c. spec.check_of (map (λ w. string_bytes w) words.now) ≡ Some c) }
+    ensures refused { result ≡ Err Refused → spec.check_of (map (λ w. string_bytes w) words.now) ≡ None }
+{
+    let values = read_values(alloc, words)?;
+    options::check_by(values).ok_or(WordsFault::Refused)
+}
+
+/// The values of the options that the words give, each as a text.
+fn read_values<'a>(alloc: Global, words: &'a [String]) -> Result<Values<'a>, WordsFault>
+    ensures ok { IfOk result (λ v. spec.values_in (map (λ w. string_bytes w) words.now) ≡ Some (told.values_held v)) }
+    ensures refused { result ≡ Err Refused → spec.values_in (map (λ w. string_bytes w) words.now) ≡ None }
+{
     let has_shape = words::has_shape(alloc, words).map_err(|_| WordsFault::NoMemory)?;
     if !has_shape {
         return Err(WordsFault::Refused);
     }
     let values = parser::parse(alloc, words).map_err(|_| WordsFault::NoMemory)?;
-    match options::options_of(values) {
-        Some(options) => Ok(Command::Run(options)),
-        None => Err(WordsFault::Refused),
-    }
+    Ok(values)
 }

@@ -12,6 +12,9 @@ use crate::numbers::number;
 pub enum Command {
     /// To run a program.
     Run(Options),
+    /// To check a journal, where each thread has this much fuel, 1 to 200,000, and the generators of the identity hashes start
+    /// from `start`.
+    Check { fuel: u32, start: u32 },
     /// To make a program with this many items, 1 to 1,500. No words ask for it today.
     Make { items: u32 },
 }
@@ -35,6 +38,8 @@ pub struct Options {
     pub stats: bool,
     /// Whether the journal is written.
     pub journal: bool,
+    /// Whether it is reported who waits for whom, and how each object was locked and passed on.
+    pub report: bool,
 }
 
 /// The options as texts, `None` where they weren't given.
@@ -48,6 +53,7 @@ pub(crate) struct Values<'a> {
     pub(crate) tick: Option<&'a str>,
     pub(crate) stats: bool,
     pub(crate) journal: bool,
+    pub(crate) report: bool,
 }
 
 /// The options that the texts say, or `None` where one of them says no value of its option.
@@ -56,14 +62,55 @@ pub(crate) fn options_of(values: Values) -> Option<Options>
 {
     Some(Options {
         workers: number_or(values.workers, 4, 1, 16)?,
-        fuel: number_or(values.fuel, 20_000, 1, 200_000)?,
+        fuel: fuel_of(&values)?,
         quantum: number_or(values.quantum, 1_000, 1, 100_000)?,
         bias: switch_or(values.bias, true)?,
-        start: number_or(values.start, 1, 0, 4_294_967_295)?,
+        start: start_of(&values)?,
         tick: number_or(values.tick, 0, 0, 4_294_967_295)?,
         stats: values.stats,
         journal: values.journal,
+        report: values.report,
     })
+}
+
+/// The check that the texts ask for, or `None` where one of them says no value of its option or belongs to a run.
+pub(crate) fn check_by(values: Values) -> Option<Command>
+    ensures { result ≡ spec.check_by (told.values_held values.entry) }
+{
+    if has_run_options(&values) {
+        return None;
+    }
+    Some(Command::Check {
+        fuel: fuel_of(&values)?,
+        start: start_of(&values)?,
+    })
+}
+
+/// The fuel of each thread.
+fn fuel_of(values: &Values) -> Option<u32>
+    ensures { result ≡ spec.fuel_of (told.values_held values.now) }
+{
+    number_or(values.fuel, 20_000, 1, 200_000)
+}
+
+/// What the generators of the identity hashes start from.
+fn start_of(values: &Values) -> Option<u32>
+    ensures { result ≡ spec.start_of (told.values_held values.now) }
+{
+    number_or(values.start, 1, 0, 4_294_967_295)
+}
+
+/// Whether an option is given that only a run has.
+fn has_run_options(values: &Values) -> bool
+    ensures { result ≡ spec.has_run_options (told.values_held values.now) }
+{
+    values.workers.is_some()
+        || values.quantum.is_some()
+        || values.bias.is_some()
+        || values.tick.is_some()
+        || values.stats
+        || values.journal
+        || values.report
 }
 
 /// The number that the text says, or the default where there is no text.

@@ -43,7 +43,7 @@ fn bare_command<'a>(alloc: Global) -> clap::Command<'a>
         .disable_help_flag(true)
 }
 
-/// The command `run` with its options.
+/// The command `run` with its options, of which a check has some.
 fn run_command<'a>(alloc: Global) -> Result<clap::Command<'a>, AllocError>
     ensures { IfOk result (λ c. app_of c ≡ told.run_app) }
 {
@@ -79,6 +79,7 @@ fn values_in<'a>(matches: &ArgMatches<'a>) -> Values<'a>
         tick: matches.get_str("tick"),
         stats: is_set(matches, "stats"),
         journal: is_set(matches, "journal"),
+        report: is_set(matches, "report"),
     }
 }
 

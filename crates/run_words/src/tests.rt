@@ -13,6 +13,7 @@ const DEFAULT: Options = Options {
     tick: 0,
     stats: false,
     journal: false,
+    report: false,
 };
 
 /// What the line asks for, whose words stand between single spaces.
@@ -49,6 +50,11 @@ fn options_are_read(rt: HostRuntime) -> Result<(), Fail> {
         tick: 30,
         stats: true,
         journal: true,
+        report: true,
+    };
+    let report = Options {
+        report: true,
+        ..DEFAULT
     };
     let greatest_start = Options {
         start: 4_294_967_295,
@@ -59,16 +65,32 @@ fn options_are_read(rt: HostRuntime) -> Result<(), Fail> {
         ("biasrun run", DEFAULT),
         ("--help run", DEFAULT),
         (
-            "biasrun run --journal --tick 30 --bias=off --hash-start=0 --quantum 0000000007 --stats --fuel 200000 --workers=16",
+            "biasrun run --journal --tick 30 --bias=off --hash-start=0 --quantum 0000000007 --stats --report --fuel 200000 --workers=16",
             all,
         ),
         ("biasrun run --hash-start 4294967295", greatest_start),
         ("biasrun run --tick=0", DEFAULT),
         ("biasrun run --bias on", DEFAULT),
+        ("biasrun run --report", report),
     ];
     for (line, options) in accepted {
         let command = read_line(rt.alloc(), line)?;
         assert_eq!(rt; command, Some(Command::Run(options)), "at {line}");
+    }
+    Ok(())
+}
+
+#[test]
+fn checks_are_read(rt: HostRuntime) -> Result<(), Fail> {
+    let accepted = [
+        ("biasrun check", (20_000, 1)),
+        ("biasrun check --fuel 7", (7, 1)),
+        ("biasrun check --hash-start=0 --fuel=200000", (200_000, 0)),
+    ];
+    for (line, (fuel, start)) in accepted {
+        let command = read_line(rt.alloc(), line)?;
+        let check = Command::Check { fuel, start };
+        assert_eq!(rt; command, Some(check), "at {line}");
     }
     Ok(())
 }
@@ -113,6 +135,21 @@ fn other_words_are_refused(rt: HostRuntime) -> Result<(), Fail> {
         "biasrun run --tick 9999999999",
         "biasrun run --bias ON",
         "biasrun run --bias",
+        "biasrun run --report=1",
+        "biasrun run --report --report",
+        "biasrun check check",
+        "biasrun check --workers 4",
+        "biasrun check --quantum 1",
+        "biasrun check --bias on",
+        "biasrun check --tick 0",
+        "biasrun check --stats",
+        "biasrun check --journal",
+        "biasrun check --report",
+        "biasrun check --fuel 0",
+        "biasrun check --fuel",
+        "biasrun check --fuel 5 --fuel 5",
+        "biasrun check --hash-start 4294967296",
+        "biasrun checks",
     ];
     for line in refused {
         let command = read_line(rt.alloc(), line)?;

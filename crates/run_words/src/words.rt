@@ -18,7 +18,7 @@ pub(crate) enum Kind {
 pub(crate) static VALUED: [&str; 6] = ["workers", "fuel", "quantum", "bias", "hash-start", "tick"];
 
 /// The options that have none.
-pub(crate) static FLAGS: [&str; 2] = ["stats", "journal"];
+pub(crate) static FLAGS: [&str; 3] = ["stats", "journal", "report"];
 
 /// Whether the option with this name has a value, or `None` where there is no such option.
 fn kind_of(name: &str) -> Option<Kind>

@@ -37,3 +37,31 @@ pub const HAND_OVER: &str =
 
 pub const CROSSWISE: &str =
     "class C 1\nobject a C\nobject b C\nobject h C\nthread t1\nlocal x\nlocal y\nlocal g\nlocal v\nlocal one\nlocal two\nref x a\nref y b\nref g h\nset one 1\nset two 2\nenter x\nenter g\nget v g 0\nadd v v one\nput g 0 v\nnotifyall g\nlabel w\nget v g 0\njeq v two r\nwait g\njump w\nlabel r\nexit g\nenter y\nexit y\nexit x\nend\nthread t2\nlocal x\nlocal y\nlocal g\nlocal v\nlocal one\nlocal two\nref x b\nref y a\nref g h\nset one 1\nset two 2\nenter x\nenter g\nget v g 0\nadd v v one\nput g 0 v\nnotifyall g\nlabel w\nget v g 0\njeq v two r\nwait g\njump w\nlabel r\nexit g\nenter y\nexit y\nexit x\nend\n";
+
+pub const MANY_OBJECTS: &str = "class C 1\narray o C 101\nthread t1\nend\nthread t2\nend\n";
+
+pub const HANDOVER_40: &str =
+    "class Item 0\nclass Flag 1\narray items Item 40\nobject flag Flag\nthread t1\nlocal f\nlocal o\nlocal i\nlocal n\nlocal one\nlocal two\nlocal s\nref f flag\nset i 0\nset n 40\nset one 1\nset two 2\nlabel a\nelem o items i\nenter o\nexit o\nadd i i one\njlt i n a\nenter f\nput f 0 one\nnotifyall f\nlabel b\nget s f 0\njeq s two c\nwait f\njump b\nlabel c\nexit f\nset i 19\njlt i n d\njump e\nlabel d\nelem o items i\nenter o\nexit o\nadd i i one\njlt i n d\nlabel e\nprint n\nend\nthread t2\nlocal f\nlocal o\nlocal i\nlocal n\nlocal one\nlocal two\nlocal s\nref f flag\nset i 0\nset n 40\nset one 1\nset two 2\nenter f\nlabel a\nget s f 0\njeq s one b\nwait f\njump a\nlabel b\nexit f\nlabel c\nelem o items i\nenter o\nexit o\nadd i i one\njlt i n c\nenter f\nput f 0 two\nnotifyall f\nexit f\nend\n";
+
+/// The programs of `examples/`.
+pub const EXAMPLES: [&str; 14] = [
+    ANSWER,
+    EXIT_TOO_OFTEN,
+    WAIT_WITHOUT_HOLD,
+    WAIT_FOREVER,
+    HASH,
+    DUMP,
+    TOO_DEEP,
+    OVERFLOW,
+    UNGUARDED_GET,
+    CONTENTION,
+    HAND_OVER,
+    CROSSWISE,
+    MANY_OBJECTS,
+    HANDOVER_40,
+];
+
+/// Eight threads, each of which enters the object of its own number and then another one: 0 and 3 wait for one another, 1, 5 and 2 in
+/// this order, and 4 and 6; 7 waits for one of the first.
+pub const THREE_CYCLES: &str =
+    "class C 0\nobject o0 C\nobject o1 C\nobject o2 C\nobject o3 C\nobject o4 C\nobject o5 C\nobject o6 C\nobject o7 C\nthread t0\nlocal x\nref x o0\nenter x\nref x o3\nenter x\nend\nthread t1\nlocal x\nref x o1\nenter x\nref x o5\nenter x\nend\nthread t2\nlocal x\nref x o2\nenter x\nref x o1\nenter x\nend\nthread t3\nlocal x\nref x o3\nenter x\nref x o0\nenter x\nend\nthread t4\nlocal x\nref x o4\nenter x\nref x o6\nenter x\nend\nthread t5\nlocal x\nref x o5\nenter x\nref x o2\nenter x\nend\nthread t6\nlocal x\nref x o6\nenter x\nref x o4\nenter x\nend\nthread t7\nlocal x\nref x o7\nenter x\nref x o3\nenter x\nend\n";

@@ -1,6 +1,7 @@
 use Rattle.std.proofs.Common.{◌≡◌, ℕ, length, slice_get, Some}
 use Rattle.bias_cli.specs.declared.hashes.Hashes.{Hashes}
-use Rattle.bias_cli.specs.Drawn.{first_word, HasDrawn}
+use Rattle.bias_check.specs.Hashes.{first_word}
+use Rattle.bias_cli.specs.Drawn.{HasDrawn}
 use Rattle.bias_cli.proofs.turns.generators.Given as goal
 
 -- a generator for each thread so far

@@ -1,0 +1,90 @@
+//! A check of a journal: the text, its program, and the answer to its lines.
+
+ghost use Rattle.std.specs.Prelude.{◌⊎◌, ◌≤◌, length, Some};
+ghost use Rattle.object_program.specs.Refusal.{program_of};
+ghost use Rattle.run_words.specs.declared.options.Command.TheVariants.{Check};
+ghost use Rattle.bias_check.specs.Lines.{lines_of};
+ghost use Rattle.bias_cli.specs.Finish.{source_seen, sink_seen, Meets, Checks, check_due, journal_due, IsGivenUp, IsFinish};
+
+use crate::finish::{Finish, give_up, tell};
+use crate::input::{MOST_OF_JOURNAL, ReadError, read_text};
+use crate::refusal::refusal_line;
+use crate::verdict::{verdict_line, verdict_status};
+use bias_check::{CheckFault, Parts, check_journal, split_text};
+use object_program::{Program, Why, read_program};
+use run_io::{Sink, Source};
+use std::alloc::Global;
+
+/// Reads the source and checks the journal in its text, with this fuel for each thread and generators of hashes from `start` on.
+pub(crate) fn check_source<S: Source, K: Sink>(
+    alloc: Global,
+    fuel: u32,
+    start: u32,
+    source: &mut S,
+    sink: &mut K,
+) -> Finish
+    ensures { IsGivenUp (sink_seen (K.held sink.old) (K.faults sink.old)) (sink_seen (K.held sink.new) (K.faults sink.new)) result
+        ⊎ IsFinish (Some (Check fuel start))
+        (source_seen (S.left source.old) (S.faults source.old)) (source_seen (S.left source.new) (S.faults source.new))
+        (sink_seen (K.held sink.old) (K.faults sink.old)) (sink_seen (K.held sink.new) (K.faults sink.new)) result }
+{
+    match read_text(alloc, source, MOST_OF_JOURNAL) {
+        Ok(bytes) => check_text(alloc, fuel, start, bytes.as_slice(), sink),
+        Err(ReadError::Fault) => tell(sink, 5, b"read fault\n"),
+        Err(ReadError::NoMemory) => give_up(),
+    }
+}
+
+/// Checks the journal in these bytes.
+fn check_text<K: Sink>(alloc: Global, fuel: u32, start: u32, bytes: &[u8], sink: &mut K) -> Finish
+    ensures { IsGivenUp (sink_seen (K.held sink.old) (K.faults sink.old)) (sink_seen (K.held sink.new) (K.faults sink.new)) result
+        ⊎ Meets (sink_seen (K.held sink.old) (K.faults sink.old)) (sink_seen (K.held sink.new) (K.faults sink.new)) result (check_due fuel start bytes.now) }
+{
+    if bytes.len() > MOST_OF_JOURNAL {
+        return tell(sink, 3, b"program: Limit\n");
+    }
+    match split_text(bytes) {
+        Some(parts) => check_parts(alloc, fuel, start, parts, sink),
+        None => tell(sink, 3, b"program: NoJournal\n"),
+    }
+}
+
+/// Checks the journal of the program that stands before it.
+fn check_parts<K: Sink>(alloc: Global, fuel: u32, start: u32, parts: Parts, sink: &mut K) -> Finish
+    requires { length parts.journal.now ≤ 67108864 }
+    ensures { IsGivenUp (sink_seen (K.held sink.old) (K.faults sink.old)) (sink_seen (K.held sink.new) (K.faults sink.new)) result
+        ⊎ Meets (sink_seen (K.held sink.old) (K.faults sink.old)) (sink_seen (K.held sink.new) (K.faults sink.new)) result
+        (journal_due fuel start (lines_of parts.entry.journal.now) (program_of parts.entry.program.now)) }
+{
+    match read_program(alloc, parts.program) {
+        Ok(program) => check_lines(alloc, fuel, start, &program, parts.journal, sink),
+        Err(error) => match error.why {
+            Why::NoMemory => give_up(),
+            _ => tell(sink, 3, refusal_line(error).bytes()),
+        },
+    }
+}
+
+/// Checks the lines of the journal, and writes the answer.
+fn check_lines<K: Sink>(
+    alloc: Global,
+    fuel: u32,
+    start: u32,
+    program: &Program,
+    lines: &[u8],
+    sink: &mut K,
+) -> Finish
+    requires { length lines.now ≤ 67108864 }
+    ensures { IsGivenUp (sink_seen (K.held sink.old) (K.faults sink.old)) (sink_seen (K.held sink.new) (K.faults sink.new)) result
+        ⊎ Meets (sink_seen (K.held sink.old) (K.faults sink.old)) (sink_seen (K.held sink.new) (K.faults sink.new)) result
+        (Checks program.now fuel start (lines_of lines.now)) }
+{
+    match check_journal(alloc, program, fuel, start, lines) {
+        Err(CheckFault::NoMemory) => give_up(),
+        answer => tell(
+            sink,
+            verdict_status(answer),
+            verdict_line(program, answer).bytes(),
+        ),
+    }
+}

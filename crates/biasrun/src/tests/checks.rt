@@ -1,0 +1,182 @@
+//! Journals that are checked, and what is written of them.
+
+use crate::tests::texts::{ANSWER, EXAMPLES, HASH, WAIT_FOREVER};
+use crate::tests::{Call, calling, expect, make};
+use std::process::Abort;
+use std::sync::Wait;
+use std::test::Fail;
+use std::thread::Threads;
+
+const CHECK: &[&str] = &["check"];
+
+/// A check of this text, behind which this stands.
+fn checking<'a>(text: &'a str, behind: &'a [u8]) -> Call<'a> {
+    Call {
+        behind,
+        ..calling(CHECK, text)
+    }
+}
+
+#[test]
+fn journals_of_one_program(rt: HostRuntime) -> Result<(), Fail> {
+    let rows: [(&[u8], u8, &str); 11] = [
+        (
+            b"%journal\n@1 t1 enter a stack-first\n@2 t1 print 42\n@3 t1 exit a\n@4 t1 done\n",
+            0,
+            "legal 4 ended\n",
+        ),
+        (
+            b"%journal\n@1 t1 enter a stack-first\n@2 t1 print 42\n@3 t1 wait a\n@4 t1 done\n",
+            1,
+            "journal 3: no step\n",
+        ),
+        (b"%journal\n", 0, "legal 0 open\n"),
+        (
+            b"%journal\n@1 t1 enter z stack-first\n@2 t1 print 42\n@3 t1 exit a\n@4 t1 done\n",
+            3,
+            "journal 1: unreadable\n",
+        ),
+        (
+            b"%journal\n@1 t1 enter a stack-first\n@2 t1 print 42\n@3 t1 exit a\n@4 t1 done",
+            3,
+            "journal 4: unreadable\n",
+        ),
+        (
+            b"%journal\n@1 t1 enter a stack-first\n@1 t1 print 42\n",
+            1,
+            "journal 2: no step\n",
+        ),
+        (
+            b"%journal\n@1 t1 enter a bias-taken\n@2 t1 print 42\n",
+            0,
+            "legal 2 open\n",
+        ),
+        (b"%journal\n%journal\n", 3, "journal 1: unreadable\n"),
+        (b"", 3, "program: NoJournal\n"),
+        (b"%journal", 3, "program: NoJournal\n"),
+        (b" %journal\n%journal\r\n", 3, "program: NoJournal\n"),
+    ];
+    for (behind, status, held) in rows {
+        expect(&rt, checking(ANSWER, behind), status, false, held)?;
+    }
+    Ok(())
+}
+
+#[test]
+fn other_programs(rt: HostRuntime) -> Result<(), Fail> {
+    let rows: [(&str, &[u8], u8, &str); 5] = [
+        (
+            HASH,
+            b"%journal\n@1 t1 hash a 273329069 draw 1\n@2 t1 print 273329069\n@3 t1 done\n",
+            0,
+            "legal 3 ended\n",
+        ),
+        (
+            HASH,
+            b"%journal\n@1 t1 hash a 77\n@2 t1 print 77\n@3 t1 done\n",
+            1,
+            "hash a\n",
+        ),
+        (
+            WAIT_FOREVER,
+            b"%journal\n@1 t1 enter a monitor-first\n@2 t1 wait a\n",
+            0,
+            "legal 2 stuck\n",
+        ),
+        ("class C 17\n", b"%journal\n@1\n", 3, "line 1: BadNumber\n"),
+        ("", b"%journal\n", 3, "program: NoThread\n"),
+    ];
+    for (text, behind, status, held) in rows {
+        expect(&rt, checking(text, behind), status, false, held)?;
+    }
+    Ok(())
+}
+
+#[test]
+fn words_choose_fuel_and_generators(rt: HostRuntime) -> Result<(), Fail> {
+    let rows: [(&[&str], &str, &[u8], u8, &str); 4] = [
+        (
+            &["check", "--fuel", "1"],
+            ANSWER,
+            b"%journal\n@1 t1 spent\n",
+            0,
+            "legal 1 ended\n",
+        ),
+        (
+            &["check", "--hash-start=2"],
+            HASH,
+            b"%journal\n@1 t1 hash a 273331126 draw 1\n",
+            0,
+            "legal 1 open\n",
+        ),
+        (
+            CHECK,
+            HASH,
+            b"%journal\n@1 t1 hash a 273331126 draw 1\n",
+            1,
+            "hash a\n",
+        ),
+        (
+            &["check", "--stats"],
+            ANSWER,
+            b"%journal\n",
+            2,
+            "words refused\n",
+        ),
+    ];
+    for (words, text, behind, status, held) in rows {
+        let call = Call {
+            words,
+            ..checking(text, behind)
+        };
+        expect(&rt, call, status, false, held)?;
+    }
+    Ok(())
+}
+
+#[test]
+fn faults_end_a_check(rt: HostRuntime) -> Result<(), Fail> {
+    let read_fails = Call {
+        read_fails: 1,
+        ..checking(ANSWER, b"%journal\n")
+    };
+    expect(&rt, read_fails, 5, false, "read fault\n")?;
+    let write_fails = Call {
+        write_fails: 1,
+        ..checking(ANSWER, b"%journal\n")
+    };
+    expect(&rt, write_fails, 6, false, "")
+}
+
+/// What a run writes of its journal, behind its program and the marker, is legal.
+#[test]
+fn journals_of_runs_are_legal(rt: HostRuntime) -> Result<(), Fail> {
+    for text in EXAMPLES {
+        expect_legal(&rt, text)?;
+    }
+    Ok(())
+}
+
+/// Runs the program, and checks the journal of the run. No other line of the run has an `@`, and each of the journal has one.
+fn expect_legal<R: Threads + Wait + Abort + AllocGlobal + Sync>(
+    rt: &R,
+    text: &str,
+) -> Result<(), Fail> {
+    let run = make(rt, calling(&["run", "--journal"], text))?;
+    let mut behind = Vec::from_slice(rt.alloc(), b"%journal\n")?;
+    let mut entries = 0u32;
+    let mut is_journal = false;
+    for byte in run.held.iter() {
+        if *byte == b'@' {
+            is_journal = true;
+            entries = entries.saturating_add(1);
+        }
+        if is_journal {
+            behind.push(*byte)?;
+        }
+    }
+    let state = if run.status == 4 { "stuck" } else { "ended" };
+    let held = format!(in rt.alloc(); "legal {entries} {state}\n")?;
+    let check = checking(text, behind.as_slice());
+    expect(rt, check, 0, false, held.as_str())
+}
