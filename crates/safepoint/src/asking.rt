@@ -1,7 +1,8 @@
 //! A thread that asks for a safepoint, has it, and ends it.
 ghost use Rattle.std.specs.Prelude.{◌≡◌, false};
 ghost use Rattle.mark_word.specs.Safe.{read_safe};
-ghost use Rattle.core_world.specs.Trees.SafepointSteps.{request_steps, request_swap_steps, reached_steps, release_safepoint, release_to, halt_steps};
+ghost use Rattle.core_world.specs.Trees.SafepointSteps.{request_steps, request_swap_steps, reached_steps};
+ghost use Rattle.core_world.specs.Trees.SafepointSteps.{release_safepoint, release_to, halt_steps};
 ghost use Rattle.heap_table.specs.Parts.{IsDueOn, HasRun};
 ghost use Rattle.heap_table.specs.Seen.{IsOf};
 
