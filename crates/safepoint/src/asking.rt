@@ -1,7 +1,7 @@
 //! A thread that asks for a safepoint, has it, and ends it.
 ghost use Rattle.std.specs.Prelude.{◌≡◌, false};
 ghost use Rattle.mark_word.specs.Safe.{read_safe};
-ghost use Rattle.core_world.specs.Trees.SafepointSteps.{request_steps, request_swap_steps, reached_steps};
+ghost use Rattle.core_world.specs.Trees.SafepointSteps.{request_steps, request_swap_steps, reached_steps, safepoint_steps};
 ghost use Rattle.core_world.specs.Trees.SafepointSteps.{release_safepoint, release_to, halt_steps};
 ghost use Rattle.heap_table.specs.Parts.{IsDueOn, HasRun};
 ghost use Rattle.heap_table.specs.Seen.{IsOf};
@@ -81,6 +81,23 @@ pub fn reached(heap: &Heap, pass: &mut Pass, why: &Purpose) -> Turn<()>
         Turn::Done(())
     } else {
         Turn::Pending(Why::Stopping { word })
+    }
+}
+
+/// Asks for a safepoint, unless the thread's request stands, as `requesting` says, and looks whether it has it.
+///
+/// Pending as `request` is, the thread runs on. Pending as `reached` is, its request stands.
+pub fn safepoint(heap: &Heap, pass: &mut Pass, why: &Purpose, requesting: bool) -> Turn<()>
+    requires heap { IsOf heap.now pass.old }
+    requires due { IsDueOn heap.now pass.old why.now.task (safepoint_steps why.now pass.old.known.thread requesting) }
+    ensures { HasRun heap.now (safepoint_steps why.now pass.old.known.thread requesting) pass.old pass.new result }
+{
+    if requesting {
+        return reached(heap, pass, why);
+    }
+    match request(heap, pass, why) {
+        Turn::Done(()) => reached(heap, pass, why),
+        Turn::Pending(cause) => Turn::Pending(cause),
     }
 }
 

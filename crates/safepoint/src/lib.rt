@@ -15,5 +15,5 @@ mod running;
 mod tests;
 mod words;
 
-pub use asking::{halt, reached, release, release_to, request};
+pub use asking::{halt, reached, release, release_to, request, safepoint};
 pub use running::{poll, resume, stop};
