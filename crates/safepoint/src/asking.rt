@@ -25,7 +25,8 @@ fn unchecked(why: &Purpose) -> Purpose
     }
 }
 
-/// Asks for a safepoint: in one exchange the thread, which runs, stops and becomes the requester.
+/// Asks for a safepoint: in one exchange the thread, which runs, stops and becomes the requester. A check that `why`
+/// names is unfinished from then on.
 ///
 /// Pending, the thread runs on, and nothing was changed: `Requested { word }` says that a word that was loaded, or that
 /// the exchange found, has a requester, and `Raced { expected, found }` that the exchange found another word with none.
@@ -102,6 +103,7 @@ pub fn safepoint(heap: &Heap, pass: &mut Pass, why: &Purpose, requesting: bool) 
 }
 
 /// Ends the thread's safepoint by one exchange, which can't miss: nobody asks, and the thread alone runs, at this stage.
+/// No check is unfinished any longer.
 pub fn release_to(heap: &Heap, pass: &mut Pass, why: &Purpose, stage: Stage)
     requires heap { IsOf heap.now pass.old }
     requires due { IsDueOn heap.now pass.old why.now.task (release_to stage why.now pass.old.known.thread) }
@@ -131,7 +133,7 @@ pub fn release(heap: &Heap, pass: &mut Pass, why: &Purpose)
 }
 
 /// Halts the run at the thread's safepoint, by one exchange, which can't miss: the request is gone, no thread runs, and
-/// none will.
+/// none will. No check is unfinished any longer.
 pub fn halt(heap: &Heap, pass: &mut Pass, why: &Purpose)
     requires heap { IsOf heap.now pass.old }
     requires due { IsDueOn heap.now pass.old why.now.task (halt_steps why.now pass.old.known.thread) }
