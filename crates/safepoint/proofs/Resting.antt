@@ -1,5 +1,6 @@
 -- A call by a thread that rests is due from its beginning, and behind it the thread rests.
-use Rattle.std.proofs.Common.{◌≡◌, ℕ, ◌==◌, ◌&&◌, cond, Bool, true, false, Option, Some, None, Result, Ok, Err, IfOk, refl, sym, ap, ◌∙◌, subst, inr}
+use Rattle.std.proofs.Common.{◌≡◌, ℕ, ◌==◌, ◌&&◌, cond, Bool, true, false, Option, Some, None, Result, Ok, Err, IfOk}
+use Rattle.std.proofs.Common.{refl, sym, ap, ◌∙◌, subst, inr}
 use Rattle.core_world.specs.declared.answer.Turn.{Turn}
 use Rattle.core_world.specs.declared.answer.Why.{Why}
 use Rattle.core_world.specs.declared.answer.Why.TheVariants.{Raced, Requested, Stopping}
@@ -73,7 +74,8 @@ module _ {A : Type 0} (h : HeapSeen) (p : PassSeen) (t : Task) (plan : StepPlan)
       record {
         is_of = run.heap;
         over =
-            ran_over h.heap.shape h.heap.start h.heap.biasing p.known q.known t plan f a (record { after = end; is = inr (begins h p t (step plan f) rests may is) }) task run.ran.by refl;
+            let due : IsDueOn h p t (step plan f) = record { after = end; is = inr (begins h p t (step plan f) rests may is) } in
+            ran_over h.heap.shape h.heap.start h.heap.biasing p.known q.known t plan f a due task run.ran.by refl;
         calm = calm_stays h.heap.shape h.heap.start (step plan f) p.known q.known a calm run.ran.by rests.calm;
       }
 

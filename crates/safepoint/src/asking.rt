@@ -1,7 +1,8 @@
 //! A thread that asks for a safepoint, has it, and ends it.
 ghost use Rattle.std.specs.Prelude.{◌≡◌, false};
 ghost use Rattle.mark_word.specs.Safe.{read_safe};
-ghost use Rattle.core_world.specs.Trees.SafepointSteps.{request_steps, request_swap_steps, reached_steps, release_safepoint, release_to, halt_steps};
+ghost use Rattle.core_world.specs.Trees.SafepointSteps.{request_steps, request_swap_steps, reached_steps, safepoint_steps};
+ghost use Rattle.core_world.specs.Trees.SafepointSteps.{release_safepoint, release_to, halt_steps};
 ghost use Rattle.heap_table.specs.Parts.{IsDueOn, HasRun};
 ghost use Rattle.heap_table.specs.Seen.{IsOf};
 
@@ -24,7 +25,8 @@ fn unchecked(why: &Purpose) -> Purpose
     }
 }
 
-/// Asks for a safepoint: in one exchange the thread, which runs, stops and becomes the requester.
+/// Asks for a safepoint: in one exchange the thread, which runs, stops and becomes the requester. A check that `why`
+/// names is unfinished from then on.
 ///
 /// Pending, the thread runs on, and nothing was changed: `Requested { word }` says that a word that was loaded, or that
 /// the exchange found, has a requester, and `Raced { expected, found }` that the exchange found another word with none.
@@ -83,7 +85,25 @@ pub fn reached(heap: &Heap, pass: &mut Pass, why: &Purpose) -> Turn<()>
     }
 }
 
+/// Asks for a safepoint, unless the thread's request stands, as `requesting` says, and looks whether it has it.
+///
+/// Pending as `request` is, the thread runs on. Pending as `reached` is, its request stands.
+pub fn safepoint(heap: &Heap, pass: &mut Pass, why: &Purpose, requesting: bool) -> Turn<()>
+    requires heap { IsOf heap.now pass.old }
+    requires due { IsDueOn heap.now pass.old why.now.task (safepoint_steps why.now pass.old.known.thread requesting) }
+    ensures { HasRun heap.now (safepoint_steps why.now pass.old.known.thread requesting) pass.old pass.new result }
+{
+    if requesting {
+        return reached(heap, pass, why);
+    }
+    match request(heap, pass, why) {
+        Turn::Done(()) => reached(heap, pass, why),
+        Turn::Pending(cause) => Turn::Pending(cause),
+    }
+}
+
 /// Ends the thread's safepoint by one exchange, which can't miss: nobody asks, and the thread alone runs, at this stage.
+/// No check is unfinished any longer.
 pub fn release_to(heap: &Heap, pass: &mut Pass, why: &Purpose, stage: Stage)
     requires heap { IsOf heap.now pass.old }
     requires due { IsDueOn heap.now pass.old why.now.task (release_to stage why.now pass.old.known.thread) }
@@ -113,7 +133,7 @@ pub fn release(heap: &Heap, pass: &mut Pass, why: &Purpose)
 }
 
 /// Halts the run at the thread's safepoint, by one exchange, which can't miss: the request is gone, no thread runs, and
-/// none will.
+/// none will. No check is unfinished any longer.
 pub fn halt(heap: &Heap, pass: &mut Pass, why: &Purpose)
     requires heap { IsOf heap.now pass.old }
     requires due { IsDueOn heap.now pass.old why.now.task (halt_steps why.now pass.old.known.thread) }

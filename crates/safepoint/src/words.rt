@@ -2,7 +2,8 @@
 ghost use Rattle.std.specs.Prelude.{◌≡◌, ◌^◌, ◌<◌, is_some, IfSome};
 ghost use Rattle.mark_word.specs.Safe.{IsSafeInRange, read_safe};
 ghost use Rattle.core_world.specs.Words.Forms.{requester_form, still_form};
-ghost use Rattle.core_world.specs.Trees.SafepointSteps.{all_but, bar, running_too, requested_by, reached_word, released_word, halted_word};
+ghost use Rattle.core_world.specs.Trees.SafepointSteps.{all_but, bar, running_too, requested_by};
+ghost use Rattle.core_world.specs.Trees.SafepointSteps.{reached_word, released_word, halted_word};
 
 use core_world::Why;
 use mark_word::{SafeForm, decode_safe, encode_safe};

@@ -1,4 +1,4 @@
-use Rattle.std.proofs.Common.{◌==◌, Bool, false, cond, refl, sym, ap, ◌∙◌, subst}
+use Rattle.std.proofs.Common.{◌==◌, false, refl, sym, ap, ◌∙◌, subst}
 use Rattle.core_world.specs.declared.name.Name.TheVariants.{Safepoint}
 use Rattle.core_world.specs.declared.plan.StepPlan.{StepPlan}
 use Rattle.core_world.specs.declared.stage.Stage.TheVariants.{Calm}
@@ -6,6 +6,7 @@ use Rattle.core_world.specs.Trees.SafepointSteps.{reached_word, halt_plan}
 use Rattle.core_world.specs.Trees.Todo.{done, never}
 use Rattle.heap_table.specs.Stepping.{CanStep, HasStepped}
 use Rattle.heap_table.proofs.Parts.{can, last_step, passes}
+use Rattle.safepoint.proofs.Forms.{picks}
 use Rattle.safepoint.proofs.Swaps.{same_swap}
 use Rattle.safepoint.proofs.asking.halt.Goals as goal
 
@@ -13,7 +14,8 @@ pub exchange-requires : goal.exchange-requires
 exchange-requires c =
     let expected = c.reached_word-expected.ensures ∙ ap reached_word c.thread.ensures.same in
     let plan = same_swap Calm Safepoint c.unchecked.ensures expected c.halted_word-word.ensures in
-    subst (λ (x : StepPlan). CanStep c.args.heap.now c.args.pass.now x) (sym plan) (can _ _ _ _ _ c.requires.due refl c.requires.heap tt refl)
+    subst (λ (x : StepPlan). CanStep c.args.heap.now c.args.pass.now x) (sym plan)
+    (can _ _ _ _ _ c.requires.due refl c.requires.heap tt refl)
 
 pub returns : goal.returns
 returns c =
@@ -28,4 +30,4 @@ returns c =
     let made = subst (λ (x : StepPlan). HasStepped h p q x found) plan c.exchange.ensures in
     let halts = halt_plan (record e { check = false }) t in
     let hit = passes h p q e.task halts (λ n. n == reached_word t) (λ n. done tt) found c.requires.due refl made in
-    last_step h p q halts _ found _ made refl (ap (λ (b : Bool). cond b (done tt) never) hit)
+    last_step h p q halts _ found _ made refl (picks (done tt) never hit)

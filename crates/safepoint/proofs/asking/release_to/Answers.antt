@@ -1,10 +1,11 @@
-use Rattle.std.proofs.Common.{◌==◌, Bool, false, cond, refl, sym, ap, ◌∙◌, subst}
+use Rattle.std.proofs.Common.{◌==◌, false, refl, sym, ap, ◌∙◌, subst}
 use Rattle.core_world.specs.declared.name.Name.TheVariants.{Safepoint}
 use Rattle.core_world.specs.declared.plan.StepPlan.{StepPlan}
 use Rattle.core_world.specs.Trees.SafepointSteps.{reached_word, released_word, release_plan}
 use Rattle.core_world.specs.Trees.Todo.{done, never}
 use Rattle.heap_table.specs.Stepping.{CanStep, HasStepped}
 use Rattle.heap_table.proofs.Parts.{can, last_step, passes}
+use Rattle.safepoint.proofs.Forms.{picks}
 use Rattle.safepoint.proofs.Swaps.{same_swap}
 use Rattle.safepoint.proofs.asking.release_to.Goals as goal
 
@@ -14,7 +15,8 @@ exchange-requires c =
     let expected = c.reached_word-expected.ensures ∙ ap reached_word same in
     let word = c.released_word-word.ensures ∙ ap released_word same in
     let plan = same_swap c.args.stage Safepoint c.unchecked.ensures expected word in
-    subst (λ (x : StepPlan). CanStep c.args.heap.now c.args.pass.now x) (sym plan) (can _ _ _ _ _ c.requires.due refl c.requires.heap tt refl)
+    subst (λ (x : StepPlan). CanStep c.args.heap.now c.args.pass.now x) (sym plan)
+    (can _ _ _ _ _ c.requires.due refl c.requires.heap tt refl)
 
 pub returns : goal.returns
 returns c =
@@ -31,4 +33,4 @@ returns c =
     let made = subst (λ (x : StepPlan). HasStepped h p q x found) plan c.exchange.ensures in
     let releases = release_plan (record e { check = false }) c.args.stage t in
     let hit = passes h p q e.task releases (λ n. n == reached_word t) (λ n. done tt) found c.requires.due refl made in
-    last_step h p q releases _ found _ made refl (ap (λ (b : Bool). cond b (done tt) never) hit)
+    last_step h p q releases _ found _ made refl (picks (done tt) never hit)

@@ -1,4 +1,4 @@
-use Rattle.std.proofs.Common.{Bool, false, cond, refl, sym, ap, subst}
+use Rattle.std.proofs.Common.{false, refl, sym, subst}
 use Rattle.core_world.specs.declared.answer.Turn.{Turn}
 use Rattle.core_world.specs.declared.answer.Why.TheVariants.{Requested}
 use Rattle.core_world.specs.declared.name.Name.TheVariants.{Safepoint}
@@ -8,13 +8,14 @@ use Rattle.core_world.specs.Trees.Todo.{Todo}
 use Rattle.heap_table.specs.Parts.{IsDueOn, HasRun}
 use Rattle.heap_table.specs.Stepping.{CanStep, HasStepped}
 use Rattle.heap_table.proofs.Parts.{can, rest_due, stepped, last_step}
-use Rattle.safepoint.proofs.Forms.{asks}
+use Rattle.safepoint.proofs.Forms.{asks, picks}
 use Rattle.safepoint.proofs.Resumes.{request_left}
 use Rattle.safepoint.proofs.asking.request.Goals as goal
 
 pub look-word-requires : goal.look-word-requires
 look-word-requires c =
-    subst (λ (e : Purpose). CanStep c.args.heap.now c.args.pass.now (load e Safepoint)) (sym c.unchecked.ensures) (can _ _ _ _ _ c.requires.due refl c.requires.heap tt refl)
+    subst (λ (e : Purpose). CanStep c.args.heap.now c.args.pass.now (load e Safepoint)) (sym c.unchecked.ensures)
+    (can _ _ _ _ _ c.requires.due refl c.requires.heap tt refl)
 
 pub request_from-requires-clause-due : goal.request_from-requires-clause-due
 request_from-requires-clause-due c =
@@ -27,7 +28,8 @@ request_from-requires-clause-due c =
     let made = subst (λ (x : Purpose). HasStepped h p q (load x Safepoint) word) c.unchecked.ensures c.look-word.ensures.stepped in
     let none = asks word _ c.look-word.ensures.form _ _ c.has_requester.ensures c.if-has_requester.false in
     let left = request_left h.heap.shape h.heap.start e loads p.known q.known word made.known none in
-    subst (λ (d : Todo (Turn (Unit {0}))). IsDueOn h q e.task d) left (rest_due h p e.task (load loads Safepoint) _ c.requires.due refl q word made)
+    subst (λ (d : Todo (Turn (Unit {0}))). IsDueOn h q e.task d) left
+    (rest_due h p e.task (load loads Safepoint) _ c.requires.due refl q word made)
 
 pub returns-then-has_requester : goal.returns-then-has_requester
 returns-then-has_requester c =
@@ -39,7 +41,7 @@ returns-then-has_requester c =
     let loads : Purpose = record e { check = false } in
     let made = subst (λ (x : Purpose). HasStepped h p q (load x Safepoint) word) c.unchecked.ensures c.look-word.ensures.stepped in
     let one = asks word _ c.look-word.ensures.form _ _ c.has_requester.ensures c.if-has_requester.true in
-    last_step h p q (load loads Safepoint) _ word _ made refl (ap (λ (b : Bool). cond b (pending_for (Requested word)) (request_swap_steps e p.known.thread word)) one)
+    last_step h p q (load loads Safepoint) _ word _ made refl (picks (pending_for (Requested word)) (request_swap_steps e p.known.thread word) one)
 
 pub returns : goal.returns
 returns c =
@@ -53,4 +55,5 @@ returns c =
     let made = subst (λ (x : Purpose). HasStepped h p q (load x Safepoint) word) c.unchecked.ensures c.look-word.ensures.stepped in
     let none = asks word _ c.look-word.ensures.form _ _ c.has_requester.ensures c.if-has_requester.false in
     let left = request_left h.heap.shape h.heap.start e loads p.known q.known word made.known none in
-    stepped h p q r (load loads Safepoint) _ word _ made refl (subst (λ (d : Todo (Turn (Unit {0}))). HasRun h d q r c.request_from.result) (sym left) c.request_from.ensures)
+    stepped h p q r (load loads Safepoint) _ word _ made refl
+    (subst (λ (d : Todo (Turn (Unit {0}))). HasRun h d q r c.request_from.result) (sym left) c.request_from.ensures)

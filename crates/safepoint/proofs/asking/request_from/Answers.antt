@@ -16,4 +16,5 @@ exchange-found-requires c =
     let e = c.args.why.now in
     let left : c.requested_by-left.result ≡ requested_by (read_safe c.args.word) c.args.pass.now.known.thread =
     c.requested_by-left.ensures ∙ λ i. requested_by (c.requires.form i) (c.thread.ensures.same i) in
-    subst (λ (w : ℕ). CanStep c.args.heap.now c.args.pass.now (swap e Safepoint c.args.word w)) (sym left) (can _ _ _ _ _ c.requires.due refl c.requires.heap tt refl)
+    subst (λ (w : ℕ). CanStep c.args.heap.now c.args.pass.now (swap e Safepoint c.args.word w)) (sym left)
+    (can _ _ _ _ _ c.requires.due refl c.requires.heap tt refl)

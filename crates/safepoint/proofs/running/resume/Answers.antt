@@ -24,7 +24,8 @@ resume_from-requires-clause-due c =
     let made = c.look-word.ensures.stepped in
     let free : bar word ≡ None = sym c.bar.ensures ∙ c.in-None.is in
     let left = resume_left h.heap.shape h.heap.start e e p.known q.known word made.known free in
-    subst (λ (d : Todo (Turn (Unit {0}))). IsDueOn h q e.task d) left (rest_due h p e.task (load e Safepoint) _ c.requires.due refl q word made)
+    subst (λ (d : Todo (Turn (Unit {0}))). IsDueOn h q e.task d) left
+    (rest_due h p e.task (load e Safepoint) _ c.requires.due refl q word made)
 
 pub returns-in-Some : goal.returns-in-Some
 returns-in-Some c =
@@ -46,4 +47,5 @@ returns-in-None c =
     let made = c.look-word.ensures.stepped in
     let free : bar word ≡ None = sym c.bar.ensures ∙ c.in-None.is in
     let left = resume_left h.heap.shape h.heap.start e e p.known q.known word made.known free in
-    stepped h p q r (load e Safepoint) _ word _ made refl (subst (λ (d : Todo (Turn (Unit {0}))). HasRun h d q r c.resume_from.result) (sym left) c.resume_from.ensures)
+    stepped h p q r (load e Safepoint) _ word _ made refl
+    (subst (λ (d : Todo (Turn (Unit {0}))). HasRun h d q r c.resume_from.result) (sym left) c.resume_from.ensures)

@@ -14,7 +14,8 @@ exchange-found-requires c =
     let e = c.args.why.now in
     let left : c.running_too-left.result ≡ running_too (read_safe c.args.word) c.args.pass.now.known.thread =
     c.running_too-left.ensures ∙ λ i. running_too (c.requires.form i) (c.thread.ensures.same i) in
-    subst (λ (w : ℕ). CanStep c.args.heap.now c.args.pass.now (swap e Safepoint c.args.word w)) (sym left) (can _ _ _ _ _ c.requires.due refl c.requires.heap tt refl)
+    subst (λ (w : ℕ). CanStep c.args.heap.now c.args.pass.now (swap e Safepoint c.args.word w)) (sym left)
+    (can _ _ _ _ _ c.requires.due refl c.requires.heap tt refl)
 
 pub returns-in-None : goal.returns-in-None
 returns-in-None c =
@@ -25,7 +26,8 @@ returns-in-None c =
     let found = c.exchange-found.result in
     let left : c.running_too-left.result ≡ running_too (read_safe word) p.known.thread =
     c.running_too-left.ensures ∙ λ i. running_too (c.requires.form i) (c.thread.ensures.same i) in
-    let made = subst (λ (w : ℕ). HasStepped h p c.exchange-found.new.pass (swap e Safepoint word w) found) left c.exchange-found.ensures in
+    let q = c.exchange-found.new.pass in
+    let made = subst (λ (w : ℕ). HasStepped h p q (swap e Safepoint word w) found) left c.exchange-found.ensures in
     let missed : (found == word) ≡ false = ne_eqb found word c.if-found-word.false in
     let free : bar found ≡ None = sym c.bar.ensures ∙ c.in-None.is in
     last_step h p _ (resume_plan e p.known.thread word) _ found _ made refl

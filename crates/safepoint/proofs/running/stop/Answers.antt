@@ -11,7 +11,9 @@ use Rattle.safepoint.proofs.running.stop.Goals as goal
 pub store-requires : goal.store-requires
 store-requires c =
     let e = c.args.why.now in
-    subst (CanStep c.args.heap.now c.args.pass.now) (λ i. publish_log_plan e (sym c.thread-thread.ensures.same i) (length (sym c.log.ensures i)))
+    let thread = sym c.thread-thread.ensures.same in
+    let log = sym c.log.ensures in
+    subst (CanStep c.args.heap.now c.args.pass.now) (λ i. publish_log_plan e (thread i) (length (log i)))
     (can _ _ _ _ _ c.requires.due refl c.requires.heap tt refl)
 
 pub mask-requires : goal.mask-requires
@@ -20,8 +22,12 @@ mask-requires c =
     let h = c.args.heap.now in
     let p = c.args.pass.now in
     let q = c.store.new.pass in
-    let first =
-    subst (λ (x : StepPlan). HasStepped h p q x c.store.result) (λ i. publish_log_plan e (c.thread-thread.ensures.same i) (length (c.log.ensures i))) c.store.ensures in
-    let due = rest_due h p e.task (publish_log_plan e p.known.thread (length p.known.log)) _ c.requires.due refl q c.store.result first in
-    let bits : c.all_but.result ≡ all_but p.known.thread = c.all_but.ensures ∙ ap all_but c.thread-thread.ensures.same in
-    subst (λ (b : ℕ). CanStep h q (quiet_plan e Safepoint (Mask b))) (sym bits) (can h q e.task (stop_plan e p.known.thread) _ due refl c.store.ensures.heap tt refl)
+    let found = c.store.result in
+    let thread = c.thread-thread.ensures.same in
+    let log = c.log.ensures in
+    let publishes = publish_log_plan e p.known.thread (length p.known.log) in
+    let made = subst (λ (x : StepPlan). HasStepped h p q x found) (λ i. publish_log_plan e (thread i) (length (log i))) c.store.ensures in
+    let due = rest_due h p e.task publishes _ c.requires.due refl q found made in
+    let bits : c.all_but.result ≡ all_but p.known.thread = c.all_but.ensures ∙ ap all_but thread in
+    subst (λ (b : ℕ). CanStep h q (quiet_plan e Safepoint (Mask b))) (sym bits)
+    (can h q e.task (stop_plan e p.known.thread) _ due refl c.store.ensures.heap tt refl)

@@ -12,12 +12,14 @@ unfolding steps_of
 release-requires-clause-due c =
     let k = c.args.pass.now.known in
     let may = free_too _ _ _ (sym c.reached.ensures ∙ c.if-reached.true) (sym c.is_free.ensures ∙ c.if-is_free.true) in
-    due_as _ _ c.requires _ _ (λ (x : Purpose). release_safepoint x k.thread) c.alone.ensures may (release_ends (lone_purpose Release) k.thread)
+    due_as _ _ c.requires _ _ (λ (x : Purpose). release_safepoint x k.thread) c.alone.ensures may
+    (release_ends (lone_purpose Release) k.thread)
 
 pub returns-then-is_free : goal.returns-then-is_free
 unfolding steps_of
 returns-then-is_free c =
     let k = c.args.pass.now.known in
     let may = free_too _ _ _ (sym c.reached.ensures ∙ c.if-reached.true) (sym c.is_free.ensures ∙ c.if-is_free.true) in
-    rests_as _ _ c.requires _ _ (λ (x : Purpose). release_safepoint x k.thread) c.alone.ensures may (release_ends (lone_purpose Release) k.thread)
+    rests_as _ _ c.requires _ _ (λ (x : Purpose). release_safepoint x k.thread) c.alone.ensures may
+    (release_ends (lone_purpose Release) k.thread)
     _ _ refl _ _ refl (λ x. release_calm x k.thread) c.release.ensures

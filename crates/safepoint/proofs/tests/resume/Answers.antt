@@ -12,7 +12,8 @@ resume-requires-clause-due c =
     let k = c.args.pass.now.known in
     let stopped = sym c.running.ensures ∙ c.if-running.false in
     let unasking = sym c.requesting.ensures ∙ c.if-requesting.false in
-    due_as _ _ c.requires _ _ (λ (x : Purpose). resume_steps x (local_of k)) c.aside-why.ensures (λ i. not (stopped i) && not (unasking i)) refl
+    due_as _ _ c.requires _ _ (λ (x : Purpose). resume_steps x (local_of k)) c.aside-why.ensures
+    (λ i. not (stopped i) && not (unasking i)) refl
 
 pub returns : goal.returns
 unfolding steps_of
@@ -20,5 +21,6 @@ returns c =
     let k = c.args.pass.now.known in
     let stopped = sym c.running.ensures ∙ c.if-running.false in
     let unasking = sym c.requesting.ensures ∙ c.if-requesting.false in
-    rests_as _ _ c.requires _ _ (λ (x : Purpose). resume_steps x (local_of k)) c.aside-why.ensures (λ i. not (stopped i) && not (unasking i)) refl
+    rests_as _ _ c.requires _ _ (λ (x : Purpose). resume_steps x (local_of k)) c.aside-why.ensures
+    (λ i. not (stopped i) && not (unasking i)) refl
     _ _ refl _ _ refl (λ x. resume_calm x (local_of k)) c.resume.ensures
