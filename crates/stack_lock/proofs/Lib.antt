@@ -1,0 +1,4 @@
+mod Arms
+mod Reading
+mod Room
+mod Ruled
