@@ -1,5 +1,5 @@
 //! The places of a thread's lock records, by its hold words.
-ghost use Rattle.std.specs.Prelude.{◌≡◌, ◌≤◌, ◌<◌, ◌==◌, ◌^◌};
+ghost use Rattle.std.specs.Prelude.{◌≡◌, ◌≤◌, ◌<◌, ◌==◌, ◌^◌, length};
 ghost use Rattle.std.specs.List.{position_or_len};
 ghost use Rattle.core_world.specs.Locks.{hold_count};
 ghost use Rattle.core_world.specs.Trees.Plans.{free_place, top_place};
@@ -11,6 +11,7 @@ use mark_word::{HoldForm, encode_hold};
 fn place_of(holds: &[u64; 64], word: u64) -> u32
     ensures place { result ≡ position_or_len (λ h. h == word) holds.now }
     ensures few { result ≤ 64 }
+    ensures all { length holds.now ≡ 64 }
 {
     for i in 0..64 {
         if holds[i] == word {
@@ -24,6 +25,7 @@ fn place_of(holds: &[u64; 64], word: u64) -> u32
 pub fn free_place(pass: &Pass) -> u32
     ensures place { result ≡ free_place pass.now.known.holds }
     ensures few { result ≤ 64 }
+    ensures all { length pass.now.known.holds ≡ 64 }
 {
     place_of(pass.hold_words(), 0)
 }
