@@ -2,3 +2,4 @@ mod Arms
 mod Reading
 mod Room
 mod Ruled
+mod Seizing
