@@ -1,4 +1,5 @@
 mod Arms
+mod Never
 mod Reading
 mod Room
 mod Ruled
