@@ -4,3 +4,4 @@ mod Reading
 mod Room
 mod Ruled
 mod Seizing
+mod Stamps

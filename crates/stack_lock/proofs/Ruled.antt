@@ -1,11 +1,15 @@
 -- What the law of the heap says of steps that are due.
-use Rattle.std.proofs.Common.{◌≡◌, ◌⊎◌, ℕ, ◌<◌, ◌≤◌, ◌&&◌, Bool, true, false, length, sym, ap, ◌∙◌, subst, arith, inl, inr}
+use Rattle.std.proofs.Common.{◌≡◌, ◌⊎◌, ℕ, ◌+◌, ◌^◌, ◌<◌, ◌≤◌, ◌&&◌, Bool, true, false, length, refl, sym, ap, ◌∙◌, subst, arith, inl, inr}
+use Rattle.plain_monitor.specs.History.{last_stamp}
+use Rattle.core_world.specs.declared.name.Name.TheVariants.{Stamp}
 use Rattle.core_world.specs.declared.plan.StepPlan.{StepPlan}
 use Rattle.core_world.specs.declared.task.Task.{Task}
 use Rattle.core_world.specs.There.{IsIn}
 use Rattle.core_world.specs.Threads.Known.{Known, start_of}
 use Rattle.core_world.specs.Threads.Stages.{is_calm}
 use Rattle.core_world.specs.Trees.Calls.{steps_of, may_begin}
+use Rattle.core_world.specs.Trees.LockSteps.{raise_stamp_plan}
+use Rattle.core_world.specs.Trees.Plans.{Purpose}
 use Rattle.core_world.specs.Trees.Todo.{Todo, never, step, ◌>>=◌}
 use Rattle.core_world.specs.Words.Shape.{Shape, IsInLimits}
 use Rattle.core_world.specs.Steps.{rest_of_call, is_idle}
@@ -16,16 +20,38 @@ use Rattle.core_steps.specs.Logic.{Heap, heap_of}
 use Rattle.core_steps.specs.Reached.{comes}
 use Rattle.core_steps.specs.Sound.{Finishes, Sound}
 use Rattle.core_steps.proofs.NextSteps.{stands_here}
-use Rattle.core_steps.proofs.ReachedWorlds.{sound_comes, sound_rests}
+use Rattle.core_steps.proofs.ReachedWorlds.{sound_comes, sound_rests, known_step_sound}
 use Rattle.core_steps.proofs.Table.{calls_begin}
 use Rattle.heap_table.specs.Parts.{IsDueOn}
-use Rattle.heap_table.specs.Ruled.{IsReal}
+use Rattle.heap_table.specs.Ruled.{IsReal, Stepped}
 use Rattle.heap_table.specs.Seen.{HeapSeen, PassSeen, IsOf}
 use Rattle.heap_table.proofs.Knows.{is_there}
+use Rattle.heap_table.proofs.Stamps.{stamp_fits}
 
 -- the heap has the word of the first of them
 pub there : {A : Type 0} (h : HeapSeen) (p : PassSeen) (t : Task) (plan : StepPlan) (f : ℕ → Todo A) → IsOf h p → IsDueOn h p t (step plan f) → plan.task ≡ t → IsIn h.heap.shape plan.at
 there h p t plan f is_of due task = (is_there h.heap p.known plan (next_due h.heap.shape h.heap.start h.heap.biasing p.known t plan f due task) is_of.within is_of.real).0
+
+-- there was a sound world in which the first of them could be made
+would : {A : Type 0} (h : HeapSeen) (p : PassSeen) (t : Task) (plan : StepPlan) (f : ℕ → Todo A) (is_of : IsOf h p) → IsDueOn h p t (step plan f) → plan.task ≡ t
+    → Stepped h.heap p.known plan (is_of.real.world.words plan.at)
+would h p t plan f is_of due task =
+    let r = is_of.real in
+    let next = next_due h.heap.shape h.heap.start h.heap.biasing p.known t plan f due task in
+    record {
+      world = r.world;
+      is_of = r.is_of;
+      sound = r.sound;
+      knew = r.knew;
+      was_there = refl;
+      sound_after = known_step_sound h.heap p.known plan next r.world r.is_of r.knew is_of.within r.sound;
+    }
+
+-- so the next stamp fits a word where a stamp is raised
+pub stamp_room : {A : Type 0} (h : HeapSeen) (p : PassSeen) (e : Purpose) (o stamp : ℕ) (f : ℕ → Todo A) → IsOf h p → IsDueOn h p e.task (step (raise_stamp_plan e o stamp) f)
+    → last_stamp p.known.log + 1 < 2 ^ 64
+stamp_room h p e o stamp f is_of due =
+    stamp_fits h.heap p.known (raise_stamp_plan e o stamp) (is_of.real.world.words (Stamp o)) (last_stamp p.known.log) (would h p e.task (raise_stamp_plan e o stamp) f is_of due refl) refl refl
 
 -- it has few objects
 sound_few : (w : World) → Sound w → length w.shape.objects ≤ 4096

@@ -9,8 +9,10 @@
 #![tactic(auto)]
 
 mod enters;
+mod exits;
 mod places;
 mod words;
 
 pub use enters::{hold, stack_enter};
+pub use exits::{clear, leave, raise, stack_exit};
 pub use places::{free_place, top_place};
