@@ -121,10 +121,13 @@ fn leave_lock(
 {
     let mark = heap.load(pass, why, Stage::Calm, Name::Mark { object });
     match mark_form(mark) {
-        Some(MarkForm::Inflating) => StackOut::Not(Why::Inflating),
-        Some(MarkForm::Locked { .. }) => let_go(heap, pass, why, object, place, header, mark),
-        Some(MarkForm::Inflated { monitor }) => StackOut::Monitor { number: monitor },
-        _ => unreachable!(),
+        Some(form) => match form {
+            MarkForm::Inflating => StackOut::Not(Why::Inflating),
+            MarkForm::Locked { .. } => let_go(heap, pass, why, object, place, header, mark),
+            MarkForm::Inflated { monitor } => StackOut::Monitor { number: monitor },
+            _ => unreachable!(),
+        },
+        None => unreachable!(),
     }
 }
 
