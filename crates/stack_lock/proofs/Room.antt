@@ -1,5 +1,5 @@
 -- A thread with a free place has room for one more hold of each object.
-use Rattle.std.proofs.Common.{◌≡◌, ℕ, zero, suc, ◌+◌, ◌<◌, ◌≤◌, ◌==◌, eqb-true, Bool, true, false, cond, not, List, [], ◌∷◌, length, refl, ap, ◌∙◌, subst, sym, arith}
+use Rattle.std.proofs.Common.{◌≡◌, ℕ, suc, ◌+◌, ◌<◌, ◌≤◌, ◌==◌, eqb-true, Bool, true, false, cond, not, List, [], ◌∷◌, length, refl, ap, ◌∙◌, subst, sym, arith}
 use Rattle.std.specs.List.{position_or_len}
 use Rattle.core_world.specs.Words.Forms.{names}
 use Rattle.core_world.specs.Threads.Stages.{one_if}

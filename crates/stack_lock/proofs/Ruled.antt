@@ -1,5 +1,5 @@
 -- What the law of the heap says of steps that are due.
-use Rattle.std.proofs.Common.{◌≡◌, ◌⊎◌, ℕ, ◌+◌, ◌^◌, ◌<◌, ◌≤◌, ◌&&◌, Bool, true, false, length, refl, sym, ap, ◌∙◌, subst, arith, inl, inr}
+use Rattle.std.proofs.Common.{◌≡◌, ℕ, ◌+◌, ◌^◌, ◌<◌, ◌≤◌, ◌&&◌, Bool, true, false, length, refl, sym, ap, ◌∙◌, subst, inl, inr}
 use Rattle.plain_monitor.specs.History.{last_stamp}
 use Rattle.core_world.specs.declared.name.Name.TheVariants.{Stamp}
 use Rattle.core_world.specs.declared.plan.StepPlan.{StepPlan}
@@ -11,9 +11,8 @@ use Rattle.core_world.specs.Trees.Calls.{steps_of, may_begin}
 use Rattle.core_world.specs.Trees.LockSteps.{raise_stamp_plan}
 use Rattle.core_world.specs.Trees.Plans.{Purpose}
 use Rattle.core_world.specs.Trees.Todo.{Todo, never, step, ◌>>=◌}
-use Rattle.core_world.specs.Words.Shape.{Shape, IsInLimits}
+use Rattle.core_world.specs.Words.Shape.{Shape}
 use Rattle.core_world.specs.Steps.{rest_of_call, is_idle}
-use Rattle.core_world.specs.Valid.{Fits}
 use Rattle.core_world.specs.World.{World}
 use Rattle.core_world.proofs.CallRests.{next_due}
 use Rattle.core_steps.specs.Logic.{Heap, heap_of}
@@ -23,7 +22,7 @@ use Rattle.core_steps.proofs.NextSteps.{stands_here}
 use Rattle.core_steps.proofs.ReachedWorlds.{sound_comes, sound_rests, known_step_sound}
 use Rattle.core_steps.proofs.Table.{calls_begin}
 use Rattle.heap_table.specs.Parts.{IsDueOn}
-use Rattle.heap_table.specs.Ruled.{IsReal, Stepped}
+use Rattle.heap_table.specs.Ruled.{Stepped}
 use Rattle.heap_table.specs.Seen.{HeapSeen, PassSeen, IsOf}
 use Rattle.heap_table.proofs.Knows.{is_there}
 use Rattle.heap_table.proofs.Stamps.{stamp_fits}

@@ -1,8 +1,8 @@
 -- The stamp of a log's last entry.
-use Rattle.std.proofs.Common.{◌≡◌, ℕ, zero, suc, ◌+◌, ◌-◌, ◌==◌, Bool, true, false, cond, List, [], ◌∷◌, length, slice_get, Option, Some, None, refl, sym, ap, ◌∙◌, subst, arith}
+use Rattle.std.proofs.Common.{◌≡◌, ℕ, suc, ◌-◌, List, [], ◌∷◌, length, slice_get, Some, None, refl, sym, ap, ◌∙◌, arith}
 use Rattle.std.proofs.lemmas.Option.{same_Some}
 use Rattle.plain_monitor.specs.declared.entry.Logged.{Logged}
-use Rattle.plain_monitor.specs.History.{last_above, last_stamp}
+use Rattle.plain_monitor.specs.History.{last_above}
 
 pub last_is : (n : ℕ) (log : List Logged) (l : Logged) → slice_get log (length log - 1) ≡ Some l → last_above n log ≡ l.stamp
 last_is n [] l e = absurd (cc e)

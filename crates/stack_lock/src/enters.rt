@@ -27,14 +27,7 @@ fn log_enter(heap: &Heap, pass: &mut Pass, why: &Purpose, object: u32, path: Pat
 }
 
 // The thread waits no more to enter, if it did, and logs the Enter. Its new hold word stands at this place.
-fn entered(
-    heap: &Heap,
-    pass: &mut Pass,
-    why: &Purpose,
-    object: u32,
-    path: Path,
-    place: u32,
-) -> Path
+fn entered(heap: &Heap, pass: &mut Pass, why: &Purpose, object: u32, path: Path, place: u32) -> Path
     requires heap { IsOf heap.now pass.old }
     requires due { IsDueOn heap.now pass.old why.now.task
         (entered_by why.now pass.old.known.thread pass.old.known.wait object place path) }
@@ -96,13 +89,7 @@ fn stack_again(heap: &Heap, pass: &mut Pass, why: &Purpose, object: u32) -> Turn
 }
 
 // Nobody has the lock: the mark is the header of the new record, and is exchanged for the record's place.
-fn stack_first(
-    heap: &Heap,
-    pass: &mut Pass,
-    why: &Purpose,
-    object: u32,
-    mark: u64,
-) -> Turn<Path>
+fn stack_first(heap: &Heap, pass: &mut Pass, why: &Purpose, object: u32, mark: u64) -> Turn<Path>
     requires heap { IsOf heap.now pass.old }
     requires object { object < length heap.now.heap.shape.objects }
     requires due { IsDueOn heap.now pass.old why.now.task
@@ -113,7 +100,13 @@ fn stack_first(
 {
     let thread = pass.thread();
     let place = free_place(pass);
-    heap.store(pass, why, Stage::Calm, Name::Displaced { thread, place }, mark);
+    heap.store(
+        pass,
+        why,
+        Stage::Calm,
+        Name::Displaced { thread, place },
+        mark,
+    );
     let stage = Stage::Seizes { object, place };
     let locked = encode(&MarkForm::Locked { thread, place });
     let found = heap.exchange(pass, why, stage, Name::Mark { object }, mark, locked);

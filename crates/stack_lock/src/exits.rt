@@ -11,7 +11,7 @@ ghost use Rattle.stack_lock.specs.Parts.{leave_at, clear_at, marked_exit};
 
 use crate::places::top_place;
 use crate::words::mark_form;
-use core_world::{Name, Stage, StackOut, Why};
+use core_world::{Name, StackOut, Stage, Why};
 use heap_table::{Heap, Pass, Purpose};
 use mark_word::MarkForm;
 use plain_monitor::Entry;
@@ -132,13 +132,7 @@ fn leave_lock(
 }
 
 // The displaced word of the thread's newest record says whether the record is recursive.
-fn leave_record(
-    heap: &Heap,
-    pass: &mut Pass,
-    why: &Purpose,
-    object: u32,
-    place: u32,
-) -> StackOut
+fn leave_record(heap: &Heap, pass: &mut Pass, why: &Purpose, object: u32, place: u32) -> StackOut
     requires heap { IsOf heap.now pass.old }
     requires place { place ≡ top_place object pass.old.known.holds }
     requires due { IsDueOn heap.now pass.old why.now.task

@@ -1,8 +1,8 @@
-use Rattle.std.proofs.Common.{◌≡◌, refl, sym, ap, ◌∙◌, subst, Some}
+use Rattle.std.proofs.Common.{subst, Some}
 use Rattle.mark_word.specs.declared.mark.MarkForm.{MarkForm}
 use Rattle.core_world.specs.Threads.Known.{local_of}
 use Rattle.core_world.specs.Trees.LockSteps.{stack_enter_at}
-use Rattle.heap_table.specs.Parts.{IsDueOn, HasRun}
+use Rattle.heap_table.specs.Parts.{IsDueOn}
 use Rattle.stack_lock.proofs.Never.{never_entered}
 use Rattle.stack_lock.proofs.Ruled.{not_due}
 use Rattle.stack_lock.proofs.enters.enter_by.Goals as goal
@@ -22,4 +22,4 @@ unreachable-requires c =
     let a = c.args in
     let k = local_of a.pass.now.known in
     not_due a.heap.now a.pass.now a.why.now.task (stack_enter_at (Some a.form) a.why.now k a.object a.mark) c.requires.heap c.requires.due
-        (never_entered a.form a.why.now k a.object a.mark c.in_default.not-Neutral c.in_default.not-Locked)
+    (never_entered a.form a.why.now k a.object a.mark c.in_default.not-Neutral c.in_default.not-Locked)

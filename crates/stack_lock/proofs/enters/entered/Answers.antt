@@ -1,4 +1,4 @@
-use Rattle.std.proofs.Common.{◌≡◌, true, false, refl, sym, ap, ◌∙◌, subst}
+use Rattle.std.proofs.Common.{◌≡◌, true, refl, sym, ap, ◌∙◌, subst}
 use Rattle.core_world.specs.declared.name.Name.TheVariants.{Waiting}
 use Rattle.core_world.specs.declared.plan.StepPlan.{StepPlan}
 use Rattle.core_world.specs.declared.stage.Stage.TheVariants.{Enters}
@@ -6,9 +6,9 @@ use Rattle.core_world.specs.Words.Forms.{is_entering}
 use Rattle.core_world.specs.Trees.LockSteps.{store_ready_plan, log_enter_steps}
 use Rattle.heap_table.specs.StepPlans.{store_plan}
 use Rattle.heap_table.specs.Stepping.{CanStep, HasStepped}
-use Rattle.heap_table.proofs.Parts.{can, rest_due, stepped}
+use Rattle.heap_table.proofs.Parts.{can, rest_due}
 use Rattle.stack_lock.specs.Parts.{ready_steps}
-use Rattle.stack_lock.proofs.Arms.{due_then, due_else, run_then, run_else}
+use Rattle.stack_lock.proofs.Arms.{due_then}
 use Rattle.stack_lock.proofs.enters.entered.Goals as goal
 
 pub store-requires : goal.store-requires

@@ -1,5 +1,4 @@
-use Rattle.std.proofs.Common.{◌≡◌, ◌+◌, ◌<◌, refl, sym, ap, ◌∙◌, subst, arith}
-use Rattle.core_world.specs.declared.name.Name.TheVariants.{Hold}
+use Rattle.std.proofs.Common.{◌≡◌, ◌+◌, refl, sym, ap, ◌∙◌, subst, arith}
 use Rattle.core_world.specs.declared.plan.StepPlan.{StepPlan}
 use Rattle.core_world.specs.declared.stage.Stage.TheVariants.{Enters}
 use Rattle.core_world.specs.Locks.{hold_count}
@@ -54,7 +53,7 @@ entered-requires-clause-due c =
     let thread : q.known.thread ≡ k.thread = ap (λ (x : Known). x.thread) s.known in
     let wait : q.known.wait ≡ k.wait = ap (λ (x : Known). x.wait) s.known in
     subst (IsDueOn a.heap.now q e.task) (λ i. entered_by e (sym thread i) (sym wait i) o (sym c.free_place-place.ensures.place i) a.path)
-        (rest_due a.heap.now a.pass.now e.task plan _ c.requires.due refl q c.store_hold.result s)
+    (rest_due a.heap.now a.pass.now e.task plan _ c.requires.due refl q c.store_hold.result s)
 
 pub returns : goal.returns
 returns c =

@@ -36,7 +36,7 @@ hold-requires-clause-due c =
     let local : local_of q.known ≡ local_of k = ap local_of s.known in
     let rest = rest_due h a.pass.now e.task plan _ c.requires.due refl q c.store.result s in
     subst (λ (l : Local). IsDueOn h q e.task (hold_steps e l a.object StackAgain)) (sym local)
-        (part_due h.heap.shape h.heap.start h.heap.biasing q.known e.task (hold_steps e (local_of k) a.object StackAgain) done_with rest)
+    (part_due h.heap.shape h.heap.start h.heap.biasing q.known e.task (hold_steps e (local_of k) a.object StackAgain) done_with rest)
 
 pub returns : goal.returns
 returns c =
@@ -53,4 +53,4 @@ returns c =
     let local : local_of q.known ≡ local_of k = ap local_of s.known in
     let run = subst (λ (l : Local). HasRun h (hold_steps e l a.object StackAgain) q r path) local c.hold.ensures in
     stepped h a.pass.now q r plan _ c.store.result (Done path) s refl
-        (in_turn h q r r (hold_steps e (local_of k) a.object StackAgain) done_with path (Done path) run (ends h r (Done path) run.heap))
+    (in_turn h q r r (hold_steps e (local_of k) a.object StackAgain) done_with path (Done path) run (ends h r (Done path) run.heap))

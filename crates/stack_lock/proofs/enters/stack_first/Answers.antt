@@ -74,7 +74,7 @@ hold-requires-clause-due c =
     let local : local_of r.known ≡ local_of k = ap local_of t.known ∙ seized h.heap.shape h.heap.start e k.thread a.object a.mark (free_place k.holds) found q.known ∙ ap local_of s.known in
     let due = due_then h r (found == a.mark) (hold_steps e (local_of k) a.object StackFirst >>= done_with) (pending_for (why.Raced a.mark found)) e.task (rest_due h q e.task seize _ rest refl r found t) hit in
     subst (λ (l : Local). IsDueOn h r e.task (hold_steps e l a.object StackFirst)) (sym local)
-        (part_due h.heap.shape h.heap.start h.heap.biasing r.known e.task (hold_steps e (local_of k) a.object StackFirst) done_with due)
+    (part_due h.heap.shape h.heap.start h.heap.biasing r.known e.task (hold_steps e (local_of k) a.object StackFirst) done_with due)
 
 pub returns-then-found-mark : goal.returns-then-found-mark
 returns-then-found-mark c =
@@ -96,7 +96,7 @@ returns-then-found-mark c =
     let miss : (found == a.mark) ≡ false = ne_eqb _ _ c.if-found-mark.true in
     let out = Pending (why.Raced a.mark found) in
     stepped h a.pass.now q r plan _ c.store.result out s refl
-        (stepped h q r r seize _ found out t refl (run_else h r (found == a.mark) (hold_steps e (local_of k) a.object StackFirst >>= done_with) (pending_for (why.Raced a.mark found)) r out miss (ends h r out t.heap)))
+    (stepped h q r r seize _ found out t refl (run_else h r (found == a.mark) (hold_steps e (local_of k) a.object StackFirst >>= done_with) (pending_for (why.Raced a.mark found)) r out miss (ends h r out t.heap)))
 
 pub returns : goal.returns
 returns c =
@@ -122,4 +122,4 @@ returns c =
     let held = subst (λ (l : Local). HasRun h (hold_steps e l a.object StackFirst) r last path) local c.hold.ensures in
     let run = in_turn h r last last (hold_steps e (local_of k) a.object StackFirst) done_with path (Done path) held (ends h last (Done path) held.heap) in
     stepped h a.pass.now q last plan _ c.store.result (Done path) s refl
-        (stepped h q r last seize _ found (Done path) t refl (run_then h r (found == a.mark) (hold_steps e (local_of k) a.object StackFirst >>= done_with) (pending_for (why.Raced a.mark found)) last (Done path) hit run))
+    (stepped h q r last seize _ found (Done path) t refl (run_then h r (found == a.mark) (hold_steps e (local_of k) a.object StackFirst >>= done_with) (pending_for (why.Raced a.mark found)) last (Done path) hit run))

@@ -1,4 +1,4 @@
-use Rattle.std.proofs.Common.{◌≡◌, None, refl, sym, ap, subst}
+use Rattle.std.proofs.Common.{None, refl, sym, ap, subst}
 use Rattle.core_world.specs.declared.plan.StepPlan.{StepPlan}
 use Rattle.core_world.specs.Trees.LockSteps.{clear_plan}
 use Rattle.core_world.specs.Trees.Plans.{Purpose}

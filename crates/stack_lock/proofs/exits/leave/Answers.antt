@@ -1,4 +1,4 @@
-use Rattle.std.proofs.Common.{◌≡◌, refl, sym, ap, subst}
+use Rattle.std.proofs.Common.{◌≡◌, refl, sym, subst}
 use Rattle.plain_monitor.specs.declared.entry.Entry.TheVariants as entry
 use Rattle.core_world.specs.declared.name.Name.TheVariants.{Hold}
 use Rattle.core_world.specs.declared.plan.StepPlan.{StepPlan}

@@ -1,6 +1,6 @@
-use Rattle.std.proofs.Common.{◌≡◌, refl, sym, ap, ◌∙◌, subst, Option, Some, None}
+use Rattle.std.proofs.Common.{◌≡◌, refl, sym, ap, ◌∙◌, subst, Option, Some}
 use Rattle.mark_word.specs.declared.mark.MarkForm.{MarkForm}
-use Rattle.mark_word.specs.declared.mark.MarkForm.TheVariants.{Inflating, Locked, Inflated}
+use Rattle.mark_word.specs.declared.mark.MarkForm.TheVariants.{Inflating, Inflated}
 use Rattle.mark_word.specs.Mark.{read_mark}
 use Rattle.core_world.specs.declared.answer.StackOut.TheVariants.{Monitor, Not}
 use Rattle.core_world.specs.declared.answer.Why.TheVariants as why
@@ -31,7 +31,7 @@ let_go-requires-clause-due c =
     let local : local_of q.known ≡ l = ap local_of s.known in
     let rest = rest_due h a.pass.now e.task plan _ c.requires.due refl q mark s in
     subst (λ (x : Local). IsDueOn h q e.task (stack_exit_by e x a.object a.header mark)) (sym local)
-        (subst (λ (f : Option MarkForm). IsDueOn h q e.task (stack_exit_at f e l a.object a.header mark)) form rest)
+    (subst (λ (f : Option MarkForm). IsDueOn h q e.task (stack_exit_at f e l a.object a.header mark)) form rest)
 
 pub unreachable-requires : goal.unreachable-requires
 unreachable-requires c =
@@ -46,8 +46,8 @@ unreachable-requires c =
     let rest = rest_due h a.pass.now e.task plan _ c.requires.due refl q mark s in
     let form = c.in-Some.form in
     not_due h q e.task (stack_exit_at (read_mark mark) e l a.object a.header mark) s.heap rest
-        (ap (λ (f : Option MarkForm). stack_exit_at f e l a.object a.header mark) (sym c.mark_form.ensures ∙ c.in-Some.is)
-        ∙ never_left form e l a.object a.header mark c.in_default.not-Inflating c.in_default.not-Locked c.in_default.not-Inflated)
+    (ap (λ (f : Option MarkForm). stack_exit_at f e l a.object a.header mark) (sym c.mark_form.ensures ∙ c.in-Some.is)
+    ∙ never_left form e l a.object a.header mark c.in_default.not-Inflating c.in_default.not-Locked c.in_default.not-Inflated)
 
 pub unreachable-requires-in-None : goal.unreachable-requires-in-None
 unreachable-requires-in-None c =
@@ -61,7 +61,7 @@ unreachable-requires-in-None c =
     let s = c.load-mark.ensures in
     let rest = rest_due h a.pass.now e.task plan _ c.requires.due refl q mark s in
     not_due h q e.task (stack_exit_at (read_mark mark) e l a.object a.header mark) s.heap rest
-        (ap (λ (f : Option MarkForm). stack_exit_at f e l a.object a.header mark) (sym c.mark_form.ensures ∙ c.in-None.is))
+    (ap (λ (f : Option MarkForm). stack_exit_at f e l a.object a.header mark) (sym c.mark_form.ensures ∙ c.in-None.is))
 
 pub returns-in-Locked : goal.returns-in-Locked
 returns-in-Locked c =

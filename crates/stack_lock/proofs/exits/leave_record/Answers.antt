@@ -1,4 +1,4 @@
-use Rattle.std.proofs.Common.{◌≡◌, ◌==◌, true, false, refl, sym, ap, ◌∙◌, subst, eq-eqb, ne_eqb}
+use Rattle.std.proofs.Common.{◌≡◌, ◌==◌, true, false, refl, sym, ap, subst, eq-eqb, ne_eqb}
 use Rattle.core_world.specs.declared.answer.StackOut.{StackOut}
 use Rattle.core_world.specs.declared.answer.StackOut.TheVariants.{Left}
 use Rattle.core_world.specs.declared.name.Name.TheVariants.{Displaced}
@@ -45,7 +45,7 @@ leave-requires-clause-due c =
     let zero_is : (header == 0) ≡ true = eq-eqb _ _ c.if-header-eq0.true in
     let due = due_then h q (header == 0) left marked e.task rest zero_is in
     subst (IsDueOn h q e.task) (λ i. leave_at e (sym thread i) a.object (sym c.requires.place i))
-        (part_due h.heap.shape h.heap.start h.heap.biasing q.known e.task (leave_steps e (local_of k) a.object) (λ _. done Left) due)
+    (part_due h.heap.shape h.heap.start h.heap.biasing q.known e.task (leave_steps e (local_of k) a.object) (λ _. done Left) due)
 
 pub leave_lock-requires-clause-due : goal.leave_lock-requires-clause-due
 leave_lock-requires-clause-due c =
@@ -87,8 +87,8 @@ returns-then-header-eq0 c =
     let r = c.leave.new.pass in
     let run = subst (λ (d : Todo (Unit {0})). HasRun h d q r tt) (λ i. leave_at e (thread i) a.object (c.requires.place i)) c.leave.ensures in
     stepped h a.pass.now q r plan _ header Left s refl
-        (run_then h q (header == 0) left marked r Left zero_is
-        (in_turn h q r r (leave_steps e (local_of k) a.object) (λ _. done Left) tt Left run (ends h r Left run.heap)))
+    (run_then h q (header == 0) left marked r Left zero_is
+    (in_turn h q r r (leave_steps e (local_of k) a.object) (λ _. done Left) tt Left run (ends h r Left run.heap)))
 
 pub returns : goal.returns
 returns c =

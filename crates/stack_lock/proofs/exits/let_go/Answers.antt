@@ -63,7 +63,7 @@ clear-requires-clause-due c =
     let thread : q.known.thread ≡ k.thread = ap (λ (x : Known). x.thread) s.known ∙ same_thread h.heap.shape h.heap.start plan found k in
     let rest = due_then h q (found == a.mark) (clear_steps e (local_of k) o >>= (λ _. done Left)) (done (Not (why.Raced a.mark found))) e.task (rest_due h a.pass.now e.task plan _ c.requires.due refl q found s) hit in
     subst (IsDueOn h q e.task) (λ i. clear_at e (sym thread i) (sym c.requires.place i))
-        (part_due h.heap.shape h.heap.start h.heap.biasing q.known e.task (clear_steps e (local_of k) o) (λ _. done Left) rest)
+    (part_due h.heap.shape h.heap.start h.heap.biasing q.known e.task (clear_steps e (local_of k) o) (λ _. done Left) rest)
 
 pub returns : goal.returns
 returns c =
@@ -82,5 +82,5 @@ returns c =
     let r = c.clear.new.pass in
     let run = subst (λ (d : Todo (Unit {0})). HasRun h d q r tt) (λ i. clear_at e (thread i) (c.requires.place i)) c.clear.ensures in
     stepped h a.pass.now q r plan _ found Left s refl
-        (run_then h q (found == a.mark) (clear_steps e (local_of k) o >>= (λ _. done Left)) (done (Not (why.Raced a.mark found))) r Left hit
-        (in_turn h q r r (clear_steps e (local_of k) o) (λ _. done Left) tt Left run (ends h r Left run.heap)))
+    (run_then h q (found == a.mark) (clear_steps e (local_of k) o >>= (λ _. done Left)) (done (Not (why.Raced a.mark found))) r Left hit
+    (in_turn h q r r (clear_steps e (local_of k) o) (λ _. done Left) tt Left run (ends h r Left run.heap)))

@@ -1,4 +1,4 @@
-use Rattle.std.proofs.Common.{◌≡◌, ◌==◌, ◌+◌, true, false, refl, sym, ap, ◌∙◌, subst, eq-eqb, ne_eqb}
+use Rattle.std.proofs.Common.{◌≡◌, ◌==◌, true, refl, sym, ap, ◌∙◌, subst, eq-eqb}
 use Rattle.core_world.specs.declared.act.Act.TheVariants.{Raise}
 use Rattle.core_world.specs.declared.name.Name.TheVariants.{Stamp}
 use Rattle.core_world.specs.Locks.{hold_count}
@@ -6,9 +6,9 @@ use Rattle.core_world.specs.Threads.Known.{local_of}
 use Rattle.core_world.specs.Trees.LockSteps.{raise_stamp_plan}
 use Rattle.core_world.specs.Trees.Plans.{quiet_plan, next_stamp}
 use Rattle.core_world.specs.Trees.Todo.{done, step}
-use Rattle.heap_table.specs.Stepping.{CanStep, HasStepped}
-use Rattle.heap_table.proofs.Parts.{can, stepped, ends}
-use Rattle.stack_lock.proofs.Arms.{due_then, run_then, run_else}
+use Rattle.heap_table.specs.Stepping.{CanStep}
+use Rattle.heap_table.proofs.Parts.{can}
+use Rattle.stack_lock.proofs.Arms.{due_then}
 use Rattle.stack_lock.proofs.Ruled.{stamp_room}
 use Rattle.stack_lock.proofs.exits.raise.Goals as goal
 

@@ -1,4 +1,4 @@
-use Rattle.std.proofs.Common.{◌≡◌, ◌==◌, ◌<◌, length, refl, sym, ap, ◌∙◌, subst, arith}
+use Rattle.std.proofs.Common.{◌==◌, refl, sym, ap, ◌∙◌, subst, arith}
 use Rattle.core_world.specs.Locks.{hold_count}
 use Rattle.core_world.specs.Threads.Known.{Local, local_of}
 use Rattle.core_world.specs.Trees.LockSteps.{raise_stamp_plan, raise_steps, stack_exit_record}
