@@ -11,6 +11,8 @@
 mod enters;
 mod exits;
 mod places;
+#[cfg(test)]
+mod tests;
 mod words;
 
 pub use enters::{hold, stack_enter};
