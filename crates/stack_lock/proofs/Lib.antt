@@ -1,7 +1,8 @@
-mod Arms
+pub mod Arms
 mod Never
 mod Reading
 mod Room
-mod Ruled
+pub mod Ruled
 mod Seizing
 mod Stamps
+mod Tested

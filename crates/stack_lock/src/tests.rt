@@ -37,10 +37,10 @@ fn begin(alloc: Global) -> Result<(Heap, Pass, Pass), NoMemory>
 }
 
 // The thread resumes, by an exchange of this safepoint word for that one.
-fn resume(heap: &Heap, pass: &mut Pass, from: u64, to: u64) -> bool
-    requires knows { Knows heap.now (first_known pass.old.known.thread) pass.old }
-    requires next { IsNext two 7 false (looked pass.old.known.thread from) (swap resuming Safepoint from to) }
-    ensures { result ≡ true → Knows heap.now (resumed pass.old.known.thread from to) pass.new }
+fn resume(heap: &Heap, pass: &mut Pass, thread: u32, from: u64, to: u64) -> bool
+    requires knows { Knows heap.now (first_known thread) pass.old }
+    requires next { IsNext two 7 false (looked thread from) (swap resuming Safepoint from to) }
+    ensures { result ≡ true → Knows heap.now (resumed thread from to) pass.new }
 {
     let why = Purpose {
         task: Task::Resume,
@@ -80,19 +80,26 @@ fn enter_first(heap: &Heap, pass: &mut Pass) -> Turn<Path>
     enter(heap, pass, 1)
 }
 
+// The second thread tries to enter it by the neutral mark that it had.
+fn enter_second(heap: &Heap, pass: &mut Pass) -> Turn<Path>
+    requires { Knows heap.now (resumed 1 1 3) pass.old }
+{
+    enter(heap, pass, 1)
+}
+
 #[test]
 fn one_thread_has_the_lock(rt: HostRuntime) -> Result<(), Fail> {
     let (heap, mut first, mut second) = begin(rt.alloc())?;
-    let runs = resume(&heap, &mut first, 0, 1);
+    let runs = resume(&heap, &mut first, 0, 0, 1);
     assert!(rt; runs);
-    let runs = resume(&heap, &mut second, 1, 3);
+    let runs = resume(&heap, &mut second, 1, 1, 3);
     assert!(rt; runs);
     let turn = enter_first(&heap, &mut first);
     let Turn::Done(path) = turn else {
         panic!(rt; "the mark is neutral")
     };
     assert_eq!(rt; path, Path::StackFirst);
-    let turn = enter(&heap, &mut second, 1);
+    let turn = enter_second(&heap, &mut second);
     let raced = Why::Raced {
         expected: 1,
         found: 4096,
