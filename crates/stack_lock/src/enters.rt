@@ -1,0 +1,172 @@
+//! How a thread takes a hold by a lock record.
+ghost use Rattle.std.specs.Prelude.{◌≡◌, ◌<◌, length, Some};
+ghost use Rattle.core_world.specs.Threads.Known.{local_of};
+ghost use Rattle.core_world.specs.Trees.LockSteps.{log_enter_steps, hold_steps, stack_again_steps, stack_first_steps};
+ghost use Rattle.core_world.specs.Trees.LockSteps.{stack_enter_at, stack_enter_steps};
+ghost use Rattle.heap_table.specs.Parts.{IsDueOn, HasRun};
+ghost use Rattle.heap_table.specs.Seen.{IsOf};
+ghost use Rattle.stack_lock.specs.Parts.{entered_by};
+
+use crate::places::free_place;
+use crate::words::{is_entering, mark_form};
+use core_world::{Name, Stage, Turn, Why};
+use heap_table::{Heap, Pass, Purpose};
+use mark_word::{HoldForm, MarkForm, WaitForm, encode, encode_hold, encode_wait};
+use plain_monitor::{Entry, Path};
+
+// Logs the Enter, by a load of the object's stamp.
+fn log_enter(heap: &Heap, pass: &mut Pass, why: &Purpose, object: u32, path: Path) -> Path
+    requires heap { IsOf heap.now pass.old }
+    requires due { IsDueOn heap.now pass.old why.now.task (log_enter_steps why.now object path) }
+    requires room { length pass.old.known.log < pass.old.limit }
+    ensures { HasRun heap.now (log_enter_steps why.now object path) pass.old pass.new result }
+{
+    let entry = Entry::Enter { object, path };
+    heap.log_load(pass, why, Name::Stamp { object }, entry);
+    path
+}
+
+// The thread waits no more to enter, if it did, and logs the Enter. Its new hold word stands at this place.
+fn entered(heap: &Heap, pass: &mut Pass, why: &Purpose, object: u32, path: Path, place: u32) -> Path
+    requires heap { IsOf heap.now pass.old }
+    requires due { IsDueOn heap.now pass.old why.now.task
+        (entered_by why.now pass.old.known.thread pass.old.known.wait object place path) }
+    requires room { length pass.old.known.log < pass.old.limit }
+    ensures { HasRun heap.now (entered_by why.now pass.old.known.thread pass.old.known.wait object place path)
+        pass.old pass.new result }
+{
+    if is_entering(pass.wait_word()) {
+        let at = Name::Waiting {
+            thread: pass.thread(),
+        };
+        let stage = Stage::Enters {
+            object,
+            place,
+            path,
+        };
+        heap.store(pass, why, stage, at, encode_wait(&WaitForm::Ready));
+        return log_enter(heap, pass, why, object, path);
+    }
+    log_enter(heap, pass, why, object, path)
+}
+
+/// Stores the thread's next hold word of the object at its lowest free place, and logs the Enter with this path, which
+/// it answers. Where the thread's waiting word says that it is entering an object, the word becomes Ready before.
+pub fn hold(heap: &Heap, pass: &mut Pass, why: &Purpose, object: u32, path: Path) -> Path
+    requires heap { IsOf heap.now pass.old }
+    requires object { object < length heap.now.heap.shape.objects }
+    requires due { IsDueOn heap.now pass.old why.now.task (hold_steps why.now (local_of pass.old.known) object path) }
+    requires room { length pass.old.known.log < pass.old.limit }
+    ensures { HasRun heap.now (hold_steps why.now (local_of pass.old.known) object path) pass.old pass.new result }
+{
+    let place = free_place(pass);
+    let depth = pass.held(object) + 1;
+    let word = encode_hold(&HoldForm::Holds { object, depth });
+    let stage = Stage::Enters {
+        object,
+        place,
+        path,
+    };
+    heap.store_hold(pass, why, stage, place, word);
+    entered(heap, pass, why, object, path, place)
+}
+
+// The thread has the lock: 0 for the header says that the new record is recursive.
+fn stack_again(heap: &Heap, pass: &mut Pass, why: &Purpose, object: u32) -> Turn<Path>
+    requires heap { IsOf heap.now pass.old }
+    requires object { object < length heap.now.heap.shape.objects }
+    requires due { IsDueOn heap.now pass.old why.now.task
+        (stack_again_steps why.now (local_of pass.old.known) object) }
+    requires room { length pass.old.known.log < pass.old.limit }
+    ensures { HasRun heap.now (stack_again_steps why.now (local_of pass.old.known) object) pass.old pass.new result }
+{
+    let at = Name::Displaced {
+        thread: pass.thread(),
+        place: free_place(pass),
+    };
+    heap.store(pass, why, Stage::Calm, at, 0);
+    Turn::Done(hold(heap, pass, why, object, Path::StackAgain))
+}
+
+// Nobody has the lock: the mark is the header of the new record, and is exchanged for the record's place.
+fn stack_first(heap: &Heap, pass: &mut Pass, why: &Purpose, object: u32, mark: u64) -> Turn<Path>
+    requires heap { IsOf heap.now pass.old }
+    requires object { object < length heap.now.heap.shape.objects }
+    requires due { IsDueOn heap.now pass.old why.now.task
+        (stack_first_steps why.now (local_of pass.old.known) object mark) }
+    requires room { length pass.old.known.log < pass.old.limit }
+    ensures { HasRun heap.now (stack_first_steps why.now (local_of pass.old.known) object mark)
+        pass.old pass.new result }
+{
+    let thread = pass.thread();
+    let place = free_place(pass);
+    heap.store(
+        pass,
+        why,
+        Stage::Calm,
+        Name::Displaced { thread, place },
+        mark,
+    );
+    let stage = Stage::Seizes { object, place };
+    let locked = encode(&MarkForm::Locked { thread, place });
+    let found = heap.exchange(pass, why, stage, Name::Mark { object }, mark, locked);
+    if found != mark {
+        return Turn::Pending(Why::Raced {
+            expected: mark,
+            found,
+        });
+    }
+    Turn::Done(hold(heap, pass, why, object, Path::StackFirst))
+}
+
+// An enter by a mark of this form.
+fn enter_by(
+    heap: &Heap,
+    pass: &mut Pass,
+    why: &Purpose,
+    object: u32,
+    mark: u64,
+    form: MarkForm,
+) -> Turn<Path>
+    requires heap { IsOf heap.now pass.old }
+    requires object { object < length heap.now.heap.shape.objects }
+    requires due { IsDueOn heap.now pass.old why.now.task
+        (stack_enter_at (Some form) why.now (local_of pass.old.known) object mark) }
+    requires room { length pass.old.known.log < pass.old.limit }
+    ensures { HasRun heap.now (stack_enter_at (Some form) why.now (local_of pass.old.known) object mark)
+        pass.old pass.new result }
+{
+    match form {
+        MarkForm::Neutral { .. } => stack_first(heap, pass, why, object, mark),
+        MarkForm::Locked { .. } => stack_again(heap, pass, why, object),
+        _ => unreachable!(),
+    }
+}
+
+/// Takes a hold of the object by a lock record at the thread's lowest free place. The thread has seen this mark, which
+/// is neutral or names a lock record of its own.
+///
+/// `Done(StackFirst)` says that the mark was neutral, and was exchanged for the record. `Done(StackAgain)` says that the
+/// thread's own record was there, and has one more above it. Either way the hold word is stored and the Enter logged.
+/// `Pending(Raced { expected, found })` says that the exchange expected the neutral mark and found another: the mark is
+/// left as it was, no hold was taken and nothing logged, and only the place's displaced word was stored.
+pub fn stack_enter(
+    heap: &Heap,
+    pass: &mut Pass,
+    why: &Purpose,
+    object: u32,
+    mark: u64,
+) -> Turn<Path>
+    requires heap { IsOf heap.now pass.old }
+    requires object { object < length heap.now.heap.shape.objects }
+    requires due { IsDueOn heap.now pass.old why.now.task
+        (stack_enter_steps why.now (local_of pass.old.known) object mark) }
+    requires room { length pass.old.known.log < pass.old.limit }
+    ensures { HasRun heap.now (stack_enter_steps why.now (local_of pass.old.known) object mark)
+        pass.old pass.new result }
+{
+    match mark_form(mark) {
+        Some(form) => enter_by(heap, pass, why, object, mark, form),
+        None => unreachable!(),
+    }
+}

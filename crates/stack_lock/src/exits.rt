@@ -1,0 +1,173 @@
+//! How a thread leaves a hold by a lock record.
+ghost use Rattle.std.specs.Prelude.{◌≡◌, ◌+◌, ◌<◌, ◌^◌, length};
+ghost use Rattle.plain_monitor.specs.History.{last_stamp};
+ghost use Rattle.core_world.specs.Locks.{hold_count};
+ghost use Rattle.core_world.specs.Threads.Known.{local_of};
+ghost use Rattle.core_world.specs.Trees.LockSteps.{raise_steps, stack_exit_by, stack_exit_record, stack_exit_steps};
+ghost use Rattle.core_world.specs.Trees.Plans.{top_place};
+ghost use Rattle.heap_table.specs.Parts.{IsDueOn, HasRun};
+ghost use Rattle.heap_table.specs.Seen.{IsOf};
+ghost use Rattle.stack_lock.specs.Parts.{leave_at, clear_at, marked_exit};
+
+use crate::places::top_place;
+use crate::words::mark_form;
+use core_world::{Name, StackOut, Stage, Why};
+use heap_table::{Heap, Pass, Purpose};
+use mark_word::MarkForm;
+use plain_monitor::Entry;
+
+// The stamp of the thread's next entry, if that is no Enter or Resume.
+fn next_stamp(pass: &Pass) -> u64
+    requires { last_stamp pass.now.known.log + 1 < 2 ^ 64 }
+    ensures { result ≡ last_stamp pass.now.known.log + 1 }
+{
+    match pass.log().last() {
+        Some(last) => last.stamp + 1,
+        None => 1,
+    }
+}
+
+/// Raises the object's stamp to that of the thread's next entry, where the thread has one hold on the object. So the
+/// next owner's Enter is stamped above it.
+pub fn raise(heap: &Heap, pass: &mut Pass, why: &Purpose, object: u32)
+    requires heap { IsOf heap.now pass.old }
+    requires due { IsDueOn heap.now pass.old why.now.task (raise_steps why.now (local_of pass.old.known) object) }
+    ensures run { HasRun heap.now (raise_steps why.now (local_of pass.old.known) object) pass.old pass.new result }
+    ensures kept { local_of pass.new.known ≡ local_of pass.old.known }
+{
+    if pass.held(object) == 1 {
+        let stamp = next_stamp(pass);
+        heap.raise(pass, why, Name::Stamp { object }, stamp);
+        return;
+    }
+}
+
+/// Clears the hold word of the object at this place of the thread, and logs the Exit.
+pub fn leave(heap: &Heap, pass: &mut Pass, why: &Purpose, object: u32, place: u32)
+    requires heap { IsOf heap.now pass.old }
+    requires due { IsDueOn heap.now pass.old why.now.task (leave_at why.now pass.old.known.thread object place) }
+    requires room { length pass.old.known.log < pass.old.limit }
+    ensures { HasRun heap.now (leave_at why.now pass.old.known.thread object place) pass.old pass.new result }
+{
+    let at = Name::Hold {
+        thread: pass.thread(),
+        place,
+    };
+    heap.log_store(pass, why, Stage::Calm, at, 0, Entry::Exit { object });
+}
+
+/// Clears the hold word at this place of the thread, behind the step that logged its Exit: nothing is unfinished any
+/// more.
+pub fn clear(heap: &Heap, pass: &mut Pass, why: &Purpose, place: u32)
+    requires heap { IsOf heap.now pass.old }
+    requires due { IsDueOn heap.now pass.old why.now.task (clear_at why.now pass.old.known.thread place) }
+    ensures { HasRun heap.now (clear_at why.now pass.old.known.thread place) pass.old pass.new result }
+{
+    let over = Purpose {
+        task: why.task,
+        unfinished: None,
+        check: why.check,
+    };
+    heap.store_hold(pass, &over, Stage::Calm, place, 0);
+}
+
+// The mark names this record, which is not recursive: it is exchanged for the header, which logs the Exit.
+fn let_go(
+    heap: &Heap,
+    pass: &mut Pass,
+    why: &Purpose,
+    object: u32,
+    place: u32,
+    header: u64,
+    mark: u64,
+) -> StackOut
+    requires heap { IsOf heap.now pass.old }
+    requires place { place ≡ top_place object pass.old.known.holds }
+    requires due { IsDueOn heap.now pass.old why.now.task
+        (stack_exit_by why.now (local_of pass.old.known) object header mark) }
+    requires room { length pass.old.known.log < pass.old.limit }
+    ensures { HasRun heap.now (stack_exit_by why.now (local_of pass.old.known) object header mark)
+        pass.old pass.new result }
+{
+    let stage = Stage::Exits { object, place };
+    let at = Name::Mark { object };
+    let entry = Entry::Exit { object };
+    let found = heap.log_exchange(pass, why, stage, at, mark, header, entry);
+    if found != mark {
+        return StackOut::Not(Why::Raced {
+            expected: mark,
+            found,
+        });
+    }
+    clear(heap, pass, why, place);
+    StackOut::Left
+}
+
+// The record is not recursive: the mark says whether it is the lock that is left.
+fn leave_lock(
+    heap: &Heap,
+    pass: &mut Pass,
+    why: &Purpose,
+    object: u32,
+    place: u32,
+    header: u64,
+) -> StackOut
+    requires heap { IsOf heap.now pass.old }
+    requires place { place ≡ top_place object pass.old.known.holds }
+    requires due { IsDueOn heap.now pass.old why.now.task
+        (marked_exit why.now (local_of pass.old.known) object header) }
+    requires room { length pass.old.known.log < pass.old.limit }
+    ensures { HasRun heap.now (marked_exit why.now (local_of pass.old.known) object header) pass.old pass.new result }
+{
+    let mark = heap.load(pass, why, Stage::Calm, Name::Mark { object });
+    match mark_form(mark) {
+        Some(form) => match form {
+            MarkForm::Inflating => StackOut::Not(Why::Inflating),
+            MarkForm::Locked { .. } => let_go(heap, pass, why, object, place, header, mark),
+            MarkForm::Inflated { monitor } => StackOut::Monitor { number: monitor },
+            _ => unreachable!(),
+        },
+        None => unreachable!(),
+    }
+}
+
+// The displaced word of the thread's newest record says whether the record is recursive.
+fn leave_record(heap: &Heap, pass: &mut Pass, why: &Purpose, object: u32, place: u32) -> StackOut
+    requires heap { IsOf heap.now pass.old }
+    requires place { place ≡ top_place object pass.old.known.holds }
+    requires due { IsDueOn heap.now pass.old why.now.task
+        (stack_exit_record why.now (local_of pass.old.known) object) }
+    requires room { length pass.old.known.log < pass.old.limit }
+    ensures { HasRun heap.now (stack_exit_record why.now (local_of pass.old.known) object) pass.old pass.new result }
+{
+    let at = Name::Displaced {
+        thread: pass.thread(),
+        place,
+    };
+    let header = heap.load(pass, why, Stage::Calm, at);
+    if header == 0 {
+        leave(heap, pass, why, object, place);
+        return StackOut::Left;
+    }
+    leave_lock(heap, pass, why, object, place, header)
+}
+
+/// Leaves the thread's newest hold of the object, of which it has one.
+///
+/// `Left` says that the hold word is cleared and the Exit logged: the record was recursive, or the object's mark named
+/// it and was exchanged for the header. `Monitor { number }` says that the object's mark names this monitor, and
+/// `Not(Inflating)` that another thread is inflating its lock. `Not(Raced { expected, found })` says that the exchange
+/// expected the mark that named the record and found another. In these three nothing is let go and nothing logged; only
+/// the object's stamp was raised, where this is the thread's last hold.
+pub fn stack_exit(heap: &Heap, pass: &mut Pass, why: &Purpose, object: u32) -> StackOut
+    requires heap { IsOf heap.now pass.old }
+    requires object { object < length heap.now.heap.shape.objects }
+    requires held { 0 < hold_count object pass.old.known.holds }
+    requires due { IsDueOn heap.now pass.old why.now.task (stack_exit_steps why.now (local_of pass.old.known) object) }
+    requires room { length pass.old.known.log < pass.old.limit }
+    ensures { HasRun heap.now (stack_exit_steps why.now (local_of pass.old.known) object) pass.old pass.new result }
+{
+    let place = top_place(pass, object);
+    raise(heap, pass, why, object);
+    leave_record(heap, pass, why, object, place)
+}
