@@ -1,18 +1,22 @@
--- What the law of the heap says of the numbers that an inflation names.
-use Rattle.std.proofs.Common.{◌≡◌, ℕ, ◌^◌, ◌<◌, ◌==◌, Bool, true, false, if◌then◌else◌, Option, Some, refl, sym, ap, ◌∙◌, subst, inl, inr, arith}
+-- An inflation: what the law of the heap says of the numbers that it names, and its parts.
+use Rattle.std.proofs.Common.{◌≡◌, ℕ, ◌^◌, ◌<◌, ◌==◌, Bool, true, false, if◌then◌else◌, Option, Some, inl, inr}
+use Rattle.std.proofs.Common.{refl, sym, ap, ◌∙◌, subst, arith}
 use borrow.Author.Tests.{eqb-true, eqb-false}
 use Rattle.mark_word.specs.declared.mark.MarkForm.{MarkForm}
 use Rattle.mark_word.specs.declared.mark.MarkForm.TheVariants.{Inflating, Neutral, Anonymous, Biased, Locked, Inflated, Marked}
 use Rattle.mark_word.specs.declared.owner.OwnerForm.TheVariants.{ByRecord}
+use Rattle.mark_word.specs.Mark.{mark_of}
 use Rattle.mark_word.specs.Owner.{owner_of}
 use Rattle.core_world.specs.declared.answer.Turn.{Turn}
 use Rattle.core_world.specs.declared.answer.Why.TheVariants as why
-use Rattle.core_world.specs.declared.name.Name.TheVariants.{Displaced, Header}
+use Rattle.core_world.specs.declared.name.Name.TheVariants.{Mark, Displaced, Header}
+use Rattle.core_world.specs.declared.plan.Own.TheVariants.{Spend}
 use Rattle.core_world.specs.declared.stage.Stage.{Stage}
-use Rattle.core_world.specs.declared.stage.Stage.TheVariants.{Inflates}
+use Rattle.core_world.specs.declared.stage.Stage.TheVariants.{Calm, Inflates}
 use Rattle.core_world.specs.Threads.Known.{Known}
-use Rattle.core_world.specs.Trees.MonitorSteps.{inflate_plan, prepare_plan, name_plan, name_neutral_plan, prepare_steps, inflate_locked, inflate_with, inflate_by, inflate_at}
-use Rattle.core_world.specs.Trees.Plans.{Purpose, load_plan, done_with, pending_for}
+use Rattle.core_world.specs.Trees.MonitorSteps.{inflate_plan, prepare_plan, name_plan, name_neutral_plan}
+use Rattle.core_world.specs.Trees.MonitorSteps.{prepare_steps, inflate_locked, inflate_with, inflate_by, inflate_at}
+use Rattle.core_world.specs.Trees.Plans.{Purpose, with_own, swap, load_plan, done_with, pending_for}
 use Rattle.core_world.specs.Trees.Todo.{Todo, never, ◌>>=◌, ask}
 use Rattle.core_world.specs.Valid.{IsRevoking}
 use Rattle.core_world.specs.Words.Shape.{Shape, IsInLimits, monitor_count}
@@ -23,6 +27,7 @@ use Rattle.core_steps.specs.Sound.{Sound}
 use Rattle.core_steps.proofs.There.{kept_there}
 use Rattle.heap_table.specs.Parts.{IsDueOn, HasRun}
 use Rattle.heap_table.specs.Seen.{HeapSeen, PassSeen, IsOf}
+use Rattle.heap_table.specs.StepPlans.{store_plan}
 use Rattle.heap_table.specs.Stepping.{HasStepped}
 use Rattle.heap_table.proofs.Parts.{rest_due, part_then}
 use Rattle.stack_lock.proofs.Arms.{due_then}
@@ -41,14 +46,17 @@ limits h p is_of = let r = is_of.real in subst (λ (z : Heap). IsInLimits z.shap
 sound_kept : (w : World) (t m : ℕ) → Sound w → (w.known t).kept ≡ Some m → m < monitor_count w.shape
 sound_kept w t m sound kept = elim sound.valid.is [
   | inl a ↦ kept_there w sound.valid.objects a.0 t m kept
-  | inr s ↦ subst (λ (z : Shape). m < monitor_count z) (sym s.0.shape) (kept_there s.0.before sound.valid.objects s.0.fits t m (before s.0 (t == s.0.requester) refl))
+  | inr s ↦ subst (λ (z : Shape). m < monitor_count z) (sym s.0.shape) (kept_there s.0.before sound.valid.objects s.0.fits t m (before s.0))
 ]
   where
-    before : (s : IsRevoking w sound.valid.objects) (b : Bool) → (t == s.requester) ≡ b → (s.before.known t).kept ≡ Some m
-    before s true e =
+    known : (s : IsRevoking w sound.valid.objects) (b : Bool) → (t == s.requester) ≡ b → (s.before.known t).kept ≡ (w.known t).kept
+    known s true e =
         let is : t ≡ s.requester = eqb-true t s.requester e in
-        ap (λ (u : ℕ). (s.before.known u).kept) is ∙ ap (λ (k : Known). k.kept) (sym s.knows) ∙ ap (λ (u : ℕ). (w.known u).kept) (sym is) ∙ kept
-    before s false e = ap (λ (k : Known). k.kept) (sym (s.others t (eqb-false t s.requester e))) ∙ kept
+        ap (λ (u : ℕ). (s.before.known u).kept) is ∙ ap (λ (k : Known). k.kept) (sym s.knows) ∙ ap (λ (u : ℕ). (w.known u).kept) (sym is)
+    known s false e = ap (λ (k : Known). k.kept) (sym (s.others t (eqb-false t s.requester e)))
+
+    before : (s : IsRevoking w sound.valid.objects) → (s.before.known t).kept ≡ Some m
+    before s = known s (t == s.requester) refl ∙ kept
 
 -- it has the monitor that a thread keeps
 pub kept_in : (h : HeapSeen) (p : PassSeen) (m : ℕ) → IsOf h p → p.known.kept ≡ Some m → m < monitor_count h.heap.shape
@@ -60,7 +68,7 @@ kept_in h p m is_of kept =
 pub fits : (h : HeapSeen) (p : PassSeen) (m : ℕ) → IsOf h p → m < monitor_count h.heap.shape → m < 2 ^ 20
 fits h p m is_of within = let l = limits h p is_of in omega (arith, within, l.objects, l.threads)
 
--- THE PARTS of an inflation. Behind the exchange of a mark that named a lock record:
+-- THE PARTS of an inflation: what comes behind the exchange of a mark that named a lock record,
 abbrev pub locked_on : Purpose → ℕ → ℕ → ℕ → ℕ → Todo (Turn ℕ)
 locked_on e o m t place = do
   header ← ask (load_plan e (Inflates o t place) (Displaced t place))
@@ -96,15 +104,23 @@ module _ {A : Type 0} (h : HeapSeen) (p : PassSeen) (e : Purpose) (stage : Stage
 
 -- where the exchange of a mark that named a lock record hit, it goes on
 module _ (h : HeapSeen) (p q : PassSeen) (e : Purpose) (o mark m t place found : ℕ) where
-  pub locked_due : IsDueOn h p e.task (inflate_locked e o mark m t place) → HasStepped h p q (inflate_plan e o mark t place) found → (found == mark) ≡ true
-      → IsDueOn h q e.task (locked_on e o m t place)
+  pub locked_due : IsDueOn h p e.task (inflate_locked e o mark m t place) → HasStepped h p q (inflate_plan e o mark t place) found
+      → (found == mark) ≡ true → IsDueOn h q e.task (locked_on e o m t place)
   locked_due due s hit =
       due_then h q (found == mark) (locked_on e o m t place) (pending_for (why.Raced mark found)) e.task
       (rest_due h p e.task (inflate_plan e o mark t place) _ due refl q found s) hit
 
--- MARKS that are not inflated, and marks that are inflated by what the thread keeps
-pub never_with : (f : MarkForm) (e : Purpose) (o mark m : ℕ) → ((t p : ℕ) → f ≡ Locked t p → ⊥) → ((hash age : ℕ) → f ≡ Neutral hash age → ⊥)
-    → inflate_with (Some f) e o mark m ≡ never
+-- THE LAST PLAN names the monitor, where its word is that of an inflated mark
+module _ (e : Purpose) (o mark m word : ℕ) (is : word ≡ mark_of (Inflated m)) where
+  pub names : with_own Spend (store_plan e Calm (Mark o) word) ≡ name_plan e o m
+  names = ap (λ w. with_own Spend (store_plan e Calm (Mark o) w)) is
+
+  pub names_neutral : with_own Spend (swap e (Mark o) mark word) ≡ name_neutral_plan e o mark m
+  names_neutral = ap (λ w. with_own Spend (swap e (Mark o) mark w)) is
+
+-- MARKS that no valid world comes with, and those whose lock gets a monitor
+pub never_with : (f : MarkForm) (e : Purpose) (o mark m : ℕ) → ((t p : ℕ) → f ≡ Locked t p → ⊥)
+    → ((hash age : ℕ) → f ≡ Neutral hash age → ⊥) → inflate_with (Some f) e o mark m ≡ never
 never_with Inflating e o mark m locked neutral = refl
 never_with (Neutral hash age) e o mark m locked neutral = absurd (neutral hash age refl)
 never_with (Anonymous epoch age) e o mark m locked neutral = refl

@@ -139,12 +139,13 @@ fn inflate_by(heap: &Heap, pass: &mut Pass, why: &Purpose, object: u32, mark: u6
     }
 }
 
-/// The number of the object's monitor, which its mark names already, or which the thread makes. The object's mark has
-/// no bias pattern.
+/// Answers the number of the object's monitor: that of the one that its mark names already, or of one that the thread
+/// gives it. The object's mark has no bias pattern.
 ///
-/// `Done(monitor)` says that the object's mark names this monitor. Where the thread made it, it is the one that the
+/// `Done(monitor)` says that the object's mark names this monitor. Where the thread gave it, it is the one that the
 /// thread kept, or else one that it claimed, and the thread keeps none any more. Its header is the neutral mark that
-/// the object had, or that its lock record had displaced; its owner is nobody or that record, and its recursions are 0.
+/// the object had, or that the object's lock record had displaced; its owner is nobody, or that record; and its
+/// recursions are 0.
 /// `Pending(Inflating)` says that another thread is inflating the lock: nothing was stored.
 /// `Pending(Raced { expected, found })` says that the exchange expected the mark that the thread had seen and found
 /// another: the mark is left as it was. The thread keeps its monitor, the one that it claimed as well, for the next

@@ -1,4 +1,4 @@
-use Rattle.std.proofs.Common.{◌≡◌, ℕ, refl, sym, ap, ◌∙◌, subst, Option, Some, None}
+use Rattle.std.proofs.Common.{◌≡◌, ℕ, refl, sym, ap, ◌∙◌, subst, Option, Some}
 use Rattle.mark_word.specs.declared.mark.MarkForm.{MarkForm}
 use Rattle.mark_word.specs.declared.mark.MarkForm.TheVariants.{Inflating, Inflated}
 use Rattle.mark_word.specs.Mark.{read_mark}
@@ -27,7 +27,7 @@ inflate_by-requires-clause-due c =
     let s = c.load-mark.ensures in
     let same : q.known.kept ≡ k = ap (λ (x : Known). x.kept) s.known in
     let form = ap (λ (f : Option MarkForm). inflate_at f e k a.object mark) (sym c.mark_form.ensures ∙ c.in-Some.is)
-        ∙ is_made c.in-Some.form e k a.object mark c.in_default.not-Inflating c.in_default.not-Inflated in
+    ∙ is_made c.in-Some.form e k a.object mark c.in_default.not-Inflating c.in_default.not-Inflated in
     let rest = rest_due h a.pass.now e.task (load e (Mark a.object)) _ c.requires.due refl q mark s in
     subst (λ (x : Option ℕ). IsDueOn h q e.task (inflate_by x e a.object mark)) (sym same) (subst (IsDueOn h q e.task) form rest)
 
@@ -86,7 +86,7 @@ returns-in_default c =
     let s = c.load-mark.ensures in
     let same : q.known.kept ≡ k = ap (λ (x : Known). x.kept) s.known in
     let form = ap (λ (f : Option MarkForm). inflate_at f e k a.object mark) (sym c.mark_form.ensures ∙ c.in-Some.is)
-        ∙ is_made c.in-Some.form e k a.object mark c.in_default.not-Inflating c.in_default.not-Inflated in
+    ∙ is_made c.in-Some.form e k a.object mark c.in_default.not-Inflating c.in_default.not-Inflated in
     let run = subst (λ (x : Option ℕ). HasRun h (inflate_by x e a.object mark) q r out) same c.inflate_by.ensures in
     stepped h a.pass.now q r (load e (Mark a.object)) _ mark out s refl (subst (λ d. HasRun h d q r out) (sym form) run)
 

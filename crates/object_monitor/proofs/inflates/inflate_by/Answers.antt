@@ -3,7 +3,7 @@ use Rattle.mark_word.specs.Mark.{read_mark}
 use Rattle.core_world.specs.Threads.Known.{Known}
 use Rattle.core_world.specs.Trees.MonitorSteps.{claim_plan, inflate_with, inflate_by}
 use Rattle.heap_table.specs.Parts.{IsDueOn}
-use Rattle.heap_table.proofs.Parts.{can, rest_due, stepped}
+use Rattle.heap_table.proofs.Parts.{can, rest_due}
 use Rattle.object_monitor.proofs.Inflating.{fits, kept_in}
 use Rattle.object_monitor.proofs.inflates.inflate_by.Goals as goal
 
@@ -38,4 +38,6 @@ inflate_with-requires-in-None-clause-due c =
     let h = a.heap.now in
     let e = a.why.now in
     let due = subst (λ (k : Option ℕ). IsDueOn h a.pass.now e.task (inflate_by k e a.object a.mark)) (sym c.kept.ensures ∙ c.in-None.is) c.requires.due in
-    rest_due h a.pass.now e.task (claim_plan e) (λ m. inflate_with (read_mark a.mark) e a.object a.mark m) due refl c.claim-claimed.new.pass c.claim-claimed.result c.claim-claimed.ensures
+    let q = c.claim-claimed.new.pass in
+    let m = c.claim-claimed.result in
+    rest_due h a.pass.now e.task (claim_plan e) (λ m. inflate_with (read_mark a.mark) e a.object a.mark m) due refl q m c.claim-claimed.ensures

@@ -1,21 +1,19 @@
-use Rattle.std.proofs.Common.{◌≡◌, ◌==◌, true, false, refl, sym, ap, subst, eq-eqb, ne_eqb, arith}
+use Rattle.std.proofs.Common.{◌≡◌, ◌==◌, true, false, refl, sym, subst, eq-eqb, ne_eqb, arith}
 use Rattle.mark_word.specs.declared.owner.OwnerForm.TheVariants.{ByRecord}
 use Rattle.mark_word.specs.Owner.{owner_of}
 use Rattle.core_world.specs.declared.answer.Turn.TheVariants.{Done, Pending}
 use Rattle.core_world.specs.declared.answer.Why.TheVariants as why
-use Rattle.core_world.specs.declared.name.Name.TheVariants.{Displaced, Mark}
-use Rattle.core_world.specs.declared.plan.Own.TheVariants.{Spend}
+use Rattle.core_world.specs.declared.name.Name.TheVariants.{Displaced}
 use Rattle.core_world.specs.declared.plan.StepPlan.{StepPlan}
-use Rattle.core_world.specs.declared.stage.Stage.TheVariants.{Calm, Inflates}
+use Rattle.core_world.specs.declared.stage.Stage.TheVariants.{Inflates}
 use Rattle.core_world.specs.Trees.MonitorSteps.{inflate_plan, name_plan, prepare_steps}
-use Rattle.core_world.specs.Trees.Plans.{with_own, load_plan, pending_for}
+use Rattle.core_world.specs.Trees.Plans.{load_plan, pending_for}
 use Rattle.heap_table.specs.Parts.{IsDueOn, HasRun}
-use Rattle.heap_table.specs.StepPlans.{store_plan}
 use Rattle.heap_table.specs.Stepping.{CanStep, HasStepped}
 use Rattle.heap_table.proofs.Parts.{can, rest_due, stepped, in_turn, ends}
 use Rattle.stack_lock.proofs.Arms.{run_then, run_else}
 use Rattle.stack_lock.proofs.Ruled.{there}
-use Rattle.object_monitor.proofs.Inflating.{limits, locked_on, locked_named, locked_due, prepares, fits_mark, prepared}
+use Rattle.object_monitor.proofs.Inflating.{limits, locked_on, locked_named, locked_due, prepares, fits_mark, prepared, names}
 use Rattle.object_monitor.proofs.inflates.inflate_locked.Goals as goal
 
 pub exchange-found-requires : goal.exchange-found-requires
@@ -113,7 +111,7 @@ store_and_keep-requires c =
     let rest = rest_due h q e.task (load_plan e at (Displaced a.thread a.place)) _ due refl r header c.load-header.ensures in
     let run = subst (λ w. HasRun h (prepare_steps e at o m header w) r u tt) c.encode_owner-owner.ensures c.prepare.ensures in
     let named = prepared h r e at o m header owner (locked_named e o m) rest u run in
-    let same : with_own Spend (store_plan e Calm (Mark o) c.encode-named.result) ≡ name_plan e o m = ap (λ w. with_own Spend (store_plan e Calm (Mark o) w)) c.encode-named.ensures in
+    let same = names e o a.mark m c.encode-named.result c.encode-named.ensures in
     subst (CanStep h u) (sym same) (can h u e.task (name_plan e o m) _ named refl run.heap tt refl)
 
 pub returns : goal.returns
@@ -133,7 +131,7 @@ returns c =
     let owner = owner_of (ByRecord a.thread a.place) in
     let hit : (found == a.mark) ≡ true = eq-eqb _ _ c.if-found-mark.false in
     let run = subst (λ w. HasRun h (prepare_steps e at o m header w) r u tt) c.encode_owner-owner.ensures c.prepare.ensures in
-    let same : with_own Spend (store_plan e Calm (Mark o) c.encode-named.result) ≡ name_plan e o m = ap (λ w. with_own Spend (store_plan e Calm (Mark o) w)) c.encode-named.ensures in
+    let same = names e o a.mark m c.encode-named.result c.encode-named.ensures in
     let s = subst (λ (x : StepPlan). HasStepped h u v x c.store_and_keep.result) same c.store_and_keep.ensures in
     let named = stepped h u v v (name_plan e o m) _ c.store_and_keep.result (Done m) s refl (ends h v (Done m) s.heap) in
     stepped h a.pass.now q v (inflate_plan e o a.mark a.thread a.place) _ found (Done m) c.exchange-found.ensures refl

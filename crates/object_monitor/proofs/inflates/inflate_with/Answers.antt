@@ -38,12 +38,16 @@ pub returns-in-Locked : goal.returns-in-Locked
 returns-in-Locked c =
     let a = c.args in
     let form = sym c.mark_form.ensures ∙ c.in-Some.is ∙ ap Some c.in-Locked.is in
-    subst (λ (f : Option MarkForm). HasRun a.heap.now (inflate_with f a.why.now a.object a.mark a.monitor) a.pass.now c.inflate_locked.new.pass c.inflate_locked.result)
-    (sym form) c.inflate_locked.ensures
+    let q = c.inflate_locked.new.pass in
+    let out = c.inflate_locked.result in
+    subst (λ (f : Option MarkForm). HasRun a.heap.now (inflate_with f a.why.now a.object a.mark a.monitor) a.pass.now q out) (sym form)
+    c.inflate_locked.ensures
 
 pub returns-in-Neutral : goal.returns-in-Neutral
 returns-in-Neutral c =
     let a = c.args in
     let form = sym c.mark_form.ensures ∙ c.in-Some.is ∙ ap Some c.in-Neutral.is in
-    subst (λ (f : Option MarkForm). HasRun a.heap.now (inflate_with f a.why.now a.object a.mark a.monitor) a.pass.now c.inflate_neutral.new.pass c.inflate_neutral.result)
-    (sym form) c.inflate_neutral.ensures
+    let q = c.inflate_neutral.new.pass in
+    let out = c.inflate_neutral.result in
+    subst (λ (f : Option MarkForm). HasRun a.heap.now (inflate_with f a.why.now a.object a.mark a.monitor) a.pass.now q out) (sym form)
+    c.inflate_neutral.ensures
