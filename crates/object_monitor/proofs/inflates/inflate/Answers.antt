@@ -1,0 +1,107 @@
+use Rattle.std.proofs.Common.{◌≡◌, ℕ, refl, sym, ap, ◌∙◌, subst, Option, Some}
+use Rattle.mark_word.specs.declared.mark.MarkForm.{MarkForm}
+use Rattle.mark_word.specs.declared.mark.MarkForm.TheVariants.{Inflating, Inflated}
+use Rattle.mark_word.specs.Mark.{read_mark}
+use Rattle.core_world.specs.declared.answer.Turn.TheVariants.{Done, Pending}
+use Rattle.core_world.specs.declared.answer.Why.TheVariants as why
+use Rattle.core_world.specs.declared.name.Name.TheVariants.{Mark}
+use Rattle.core_world.specs.Threads.Known.{Known}
+use Rattle.core_world.specs.Trees.MonitorSteps.{inflate_by, inflate_at}
+use Rattle.core_world.specs.Trees.Plans.{load}
+use Rattle.heap_table.specs.Parts.{IsDueOn, HasRun}
+use Rattle.heap_table.proofs.Parts.{can, rest_due, stepped, ends}
+use Rattle.object_monitor.proofs.Inflating.{is_made}
+use Rattle.object_monitor.proofs.inflates.inflate.Goals as goal
+
+pub load-mark-requires : goal.load-mark-requires
+load-mark-requires c = let a = c.args in can a.heap.now a.pass.now a.why.now.task (load a.why.now (Mark a.object)) _ c.requires.due refl c.requires.heap tt refl
+
+pub inflate_by-requires-clause-due : goal.inflate_by-requires-clause-due
+inflate_by-requires-clause-due c =
+    let a = c.args in
+    let h = a.heap.now in
+    let e = a.why.now in
+    let k = a.pass.now.known.kept in
+    let q = c.load-mark.new.pass in
+    let mark = c.load-mark.result in
+    let s = c.load-mark.ensures in
+    let same : q.known.kept ≡ k = ap (λ (x : Known). x.kept) s.known in
+    let form = ap (λ (f : Option MarkForm). inflate_at f e k a.object mark) (sym c.mark_form.ensures ∙ c.in-Some.is)
+    ∙ is_made c.in-Some.form e k a.object mark c.in_default.not-Inflating c.in_default.not-Inflated in
+    let rest = rest_due h a.pass.now e.task (load e (Mark a.object)) _ c.requires.due refl q mark s in
+    subst (λ (x : Option ℕ). IsDueOn h q e.task (inflate_by x e a.object mark)) (sym same) (subst (IsDueOn h q e.task) form rest)
+
+pub inflate_by-requires-in-None-clause-due : goal.inflate_by-requires-in-None-clause-due
+inflate_by-requires-in-None-clause-due c =
+    let a = c.args in
+    let h = a.heap.now in
+    let e = a.why.now in
+    let k = a.pass.now.known.kept in
+    let q = c.load-mark.new.pass in
+    let mark = c.load-mark.result in
+    let s = c.load-mark.ensures in
+    let same : q.known.kept ≡ k = ap (λ (x : Known). x.kept) s.known in
+    let rest = rest_due h a.pass.now e.task (load e (Mark a.object)) _ c.requires.due refl q mark s in
+    subst (λ (x : Option ℕ). IsDueOn h q e.task (inflate_by x e a.object mark)) (sym same)
+    (subst (λ (f : Option MarkForm). IsDueOn h q e.task (inflate_at f e k a.object mark)) (sym c.mark_form.ensures ∙ c.in-None.is) rest)
+
+pub returns-in-Inflating : goal.returns-in-Inflating
+returns-in-Inflating c =
+    let a = c.args in
+    let h = a.heap.now in
+    let e = a.why.now in
+    let k = a.pass.now.known.kept in
+    let q = c.load-mark.new.pass in
+    let mark = c.load-mark.result in
+    let s = c.load-mark.ensures in
+    let form : read_mark mark ≡ Some Inflating = sym c.mark_form.ensures ∙ c.in-Some.is ∙ ap Some c.in-Inflating.is in
+    let out = Pending why.Inflating in
+    stepped h a.pass.now q q (load e (Mark a.object)) _ mark out s refl
+    (subst (λ (f : Option MarkForm). HasRun h (inflate_at f e k a.object mark) q q out) (sym form) (ends h q out s.heap))
+
+pub returns-in-Inflated : goal.returns-in-Inflated
+returns-in-Inflated c =
+    let a = c.args in
+    let h = a.heap.now in
+    let e = a.why.now in
+    let k = a.pass.now.known.kept in
+    let q = c.load-mark.new.pass in
+    let mark = c.load-mark.result in
+    let s = c.load-mark.ensures in
+    let m = c.in-Inflated.monitor in
+    let form : read_mark mark ≡ Some (Inflated m) = sym c.mark_form.ensures ∙ c.in-Some.is ∙ ap Some c.in-Inflated.is in
+    stepped h a.pass.now q q (load e (Mark a.object)) _ mark (Done m) s refl
+    (subst (λ (f : Option MarkForm). HasRun h (inflate_at f e k a.object mark) q q (Done m)) (sym form) (ends h q (Done m) s.heap))
+
+pub returns-in_default : goal.returns-in_default
+returns-in_default c =
+    let a = c.args in
+    let h = a.heap.now in
+    let e = a.why.now in
+    let k = a.pass.now.known.kept in
+    let q = c.load-mark.new.pass in
+    let r = c.inflate_by.new.pass in
+    let mark = c.load-mark.result in
+    let out = c.inflate_by.result in
+    let s = c.load-mark.ensures in
+    let same : q.known.kept ≡ k = ap (λ (x : Known). x.kept) s.known in
+    let form = ap (λ (f : Option MarkForm). inflate_at f e k a.object mark) (sym c.mark_form.ensures ∙ c.in-Some.is)
+    ∙ is_made c.in-Some.form e k a.object mark c.in_default.not-Inflating c.in_default.not-Inflated in
+    let run = subst (λ (x : Option ℕ). HasRun h (inflate_by x e a.object mark) q r out) same c.inflate_by.ensures in
+    stepped h a.pass.now q r (load e (Mark a.object)) _ mark out s refl (subst (λ d. HasRun h d q r out) (sym form) run)
+
+pub returns-in-None : goal.returns-in-None
+returns-in-None c =
+    let a = c.args in
+    let h = a.heap.now in
+    let e = a.why.now in
+    let k = a.pass.now.known.kept in
+    let q = c.load-mark.new.pass in
+    let r = c.inflate_by-in-None.new.pass in
+    let mark = c.load-mark.result in
+    let out = c.inflate_by-in-None.result in
+    let s = c.load-mark.ensures in
+    let same : q.known.kept ≡ k = ap (λ (x : Known). x.kept) s.known in
+    let run = subst (λ (x : Option ℕ). HasRun h (inflate_by x e a.object mark) q r out) same c.inflate_by-in-None.ensures in
+    stepped h a.pass.now q r (load e (Mark a.object)) _ mark out s refl
+    (subst (λ (f : Option MarkForm). HasRun h (inflate_at f e k a.object mark) q r out) (sym (sym c.mark_form.ensures ∙ c.in-None.is)) run)

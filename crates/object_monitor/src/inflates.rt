@@ -1,0 +1,168 @@
+//! How a lock gets a monitor.
+ghost use Rattle.std.specs.Prelude.{◌≡◌};
+ghost use Rattle.mark_word.specs.Mark.{read_mark};
+ghost use Rattle.core_world.specs.Trees.MonitorSteps.{prepare_steps, inflate_locked, inflate_neutral, inflate_with};
+ghost use Rattle.core_world.specs.Trees.MonitorSteps.{inflate_by, inflate_steps};
+ghost use Rattle.heap_table.specs.Parts.{IsDueOn, HasRun};
+ghost use Rattle.heap_table.specs.Seen.{IsOf};
+
+use crate::words::mark_form;
+use core_world::{Name, Own, Stage, Turn, Why};
+use heap_table::{Heap, Pass, Purpose};
+use mark_word::{MarkForm, OwnerForm, encode, encode_owner};
+
+// Stores the words of a monitor that the thread keeps, before the object's mark names it.
+fn prepare(
+    heap: &Heap,
+    pass: &mut Pass,
+    why: &Purpose,
+    stage: Stage,
+    object: u32,
+    monitor: u32,
+    header: u64,
+    owner: u64,
+)
+    requires heap { IsOf heap.now pass.old }
+    requires due { IsDueOn heap.now pass.old why.now.task
+        (prepare_steps why.now stage object monitor header owner) }
+    ensures { HasRun heap.now (prepare_steps why.now stage object monitor header owner) pass.old pass.new result }
+{
+    heap.store(pass, why, stage, Name::Header { monitor }, header);
+    heap.store(pass, why, stage, Name::Owner { monitor }, owner);
+    heap.store(pass, why, stage, Name::Recursions { monitor }, 0);
+    heap.store(pass, why, stage, Name::Object { monitor }, object as u64);
+}
+
+// The mark names a lock record. While it is 0, the monitor gets the record's header, and the record as its owner.
+fn inflate_locked(
+    heap: &Heap,
+    pass: &mut Pass,
+    why: &Purpose,
+    object: u32,
+    mark: u64,
+    monitor: u32,
+    thread: u32,
+    place: u32,
+) -> Turn<u32>
+    requires heap { IsOf heap.now pass.old }
+    requires due { IsDueOn heap.now pass.old why.now.task
+        (inflate_locked why.now object mark monitor thread place) }
+    ensures { HasRun heap.now (inflate_locked why.now object mark monitor thread place) pass.old pass.new result }
+{
+    let stage = Stage::Inflates {
+        object,
+        thread,
+        place,
+    };
+    let found = heap.exchange(pass, why, stage, Name::Mark { object }, mark, 0);
+    if found != mark {
+        return Turn::Pending(Why::Raced {
+            expected: mark,
+            found,
+        });
+    }
+    let header = heap.load(pass, why, stage, Name::Displaced { thread, place });
+    let owner = encode_owner(&OwnerForm::ByRecord { thread, place });
+    prepare(heap, pass, why, stage, object, monitor, header, owner);
+    let named = encode(&MarkForm::Inflated { monitor });
+    let at = Name::Mark { object };
+    heap.store_and_keep(pass, why, Stage::Calm, Own::Spend, at, named);
+    Turn::Done(monitor)
+}
+
+// The mark is neutral: the monitor gets it as its header, and no owner, and then the mark is exchanged.
+fn inflate_neutral(
+    heap: &Heap,
+    pass: &mut Pass,
+    why: &Purpose,
+    object: u32,
+    mark: u64,
+    monitor: u32,
+) -> Turn<u32>
+    requires heap { IsOf heap.now pass.old }
+    requires due { IsDueOn heap.now pass.old why.now.task (inflate_neutral why.now object mark monitor) }
+    ensures { HasRun heap.now (inflate_neutral why.now object mark monitor) pass.old pass.new result }
+{
+    let owner = encode_owner(&OwnerForm::Free);
+    prepare(heap, pass, why, Stage::Calm, object, monitor, mark, owner);
+    let named = encode(&MarkForm::Inflated { monitor });
+    let at = Name::Mark { object };
+    let found = heap.exchange_and_keep(pass, why, Own::Spend, at, mark, named);
+    if found != mark {
+        return Turn::Pending(Why::Raced {
+            expected: mark,
+            found,
+        });
+    }
+    Turn::Done(monitor)
+}
+
+// By what the mark says, with this monitor of the thread.
+fn inflate_with(
+    heap: &Heap,
+    pass: &mut Pass,
+    why: &Purpose,
+    object: u32,
+    mark: u64,
+    monitor: u32,
+) -> Turn<u32>
+    requires heap { IsOf heap.now pass.old }
+    requires due { IsDueOn heap.now pass.old why.now.task
+        (inflate_with (read_mark mark) why.now object mark monitor) }
+    ensures { HasRun heap.now (inflate_with (read_mark mark) why.now object mark monitor) pass.old pass.new result }
+{
+    match mark_form(mark) {
+        Some(form) => match form {
+            MarkForm::Locked { thread, place } => {
+                inflate_locked(heap, pass, why, object, mark, monitor, thread, place)
+            }
+            MarkForm::Neutral { .. } => inflate_neutral(heap, pass, why, object, mark, monitor),
+            _ => unreachable!(),
+        },
+        None => unreachable!(),
+    }
+}
+
+// With the monitor that the thread keeps, or else with one that it claims.
+fn inflate_by(heap: &Heap, pass: &mut Pass, why: &Purpose, object: u32, mark: u64) -> Turn<u32>
+    requires heap { IsOf heap.now pass.old }
+    requires due { IsDueOn heap.now pass.old why.now.task
+        (inflate_by pass.old.known.kept why.now object mark) }
+    ensures { HasRun heap.now (inflate_by pass.old.known.kept why.now object mark) pass.old pass.new result }
+{
+    match pass.kept() {
+        Some(kept) => inflate_with(heap, pass, why, object, mark, kept as u32),
+        None => {
+            let claimed = heap.claim(pass, why);
+            inflate_with(heap, pass, why, object, mark, claimed as u32)
+        }
+    }
+}
+
+/// Answers the number of the object's monitor: that of the one that its mark names already, or of one that the thread
+/// gives it. The object's mark has no bias pattern.
+///
+/// `Done(monitor)` says that the object's mark names this monitor. Where the thread gave it, it is the one that the
+/// thread kept, or else one that it claimed, and the thread keeps none any more. Its header is the neutral mark that
+/// the object had, or that the object's lock record had displaced; its owner is nobody, or that record; and its
+/// recursions are 0.
+/// `Pending(Inflating)` says that another thread is inflating the lock: nothing was stored.
+/// `Pending(Raced { expected, found })` says that the exchange expected the mark that the thread had seen and found
+/// another: the mark is left as it was. The thread keeps its monitor, the one that it claimed as well, for the next
+/// time; where the mark was neutral, the words of that monitor were stored.
+pub fn inflate(heap: &Heap, pass: &mut Pass, why: &Purpose, object: u32) -> Turn<u32>
+    requires heap { IsOf heap.now pass.old }
+    requires due { IsDueOn heap.now pass.old why.now.task
+        (inflate_steps why.now pass.old.known.kept object) }
+    ensures { HasRun heap.now (inflate_steps why.now pass.old.known.kept object) pass.old pass.new result }
+{
+    let mark = heap.load(pass, why, Stage::Calm, Name::Mark { object });
+    match mark_form(mark) {
+        Some(form) => match form {
+            MarkForm::Inflating => Turn::Pending(Why::Inflating),
+            MarkForm::Inflated { monitor } => Turn::Done(monitor),
+            _ => inflate_by(heap, pass, why, object, mark),
+        },
+        None => inflate_by(heap, pass, why, object, mark),
+    }
+}
