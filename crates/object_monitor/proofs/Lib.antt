@@ -1,1 +1,2 @@
+mod Inflated
 mod Inflating

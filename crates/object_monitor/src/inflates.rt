@@ -1,6 +1,7 @@
 //! How a lock gets a monitor.
 ghost use Rattle.std.specs.Prelude.{◌≡◌};
 ghost use Rattle.mark_word.specs.Mark.{read_mark};
+ghost use Rattle.core_world.specs.Threads.Known.{local_of};
 ghost use Rattle.core_world.specs.Trees.MonitorSteps.{prepare_steps, inflate_locked, inflate_neutral, inflate_with};
 ghost use Rattle.core_world.specs.Trees.MonitorSteps.{inflate_by, inflate_steps};
 ghost use Rattle.heap_table.specs.Parts.{IsDueOn, HasRun};
@@ -150,11 +151,13 @@ fn inflate_by(heap: &Heap, pass: &mut Pass, why: &Purpose, object: u32, mark: u6
 /// `Pending(Raced { expected, found })` says that the exchange expected the mark that the thread had seen and found
 /// another: the mark is left as it was. The thread keeps its monitor, the one that it claimed as well, for the next
 /// time; where the mark was neutral, the words of that monitor were stored.
+/// Whatever it answers, nothing is logged, and the thread's hold words and its waiting word are as they were.
 pub fn inflate(heap: &Heap, pass: &mut Pass, why: &Purpose, object: u32) -> Turn<u32>
     requires heap { IsOf heap.now pass.old }
     requires due { IsDueOn heap.now pass.old why.now.task
         (inflate_steps why.now pass.old.known.kept object) }
-    ensures { HasRun heap.now (inflate_steps why.now pass.old.known.kept object) pass.old pass.new result }
+    ensures run { HasRun heap.now (inflate_steps why.now pass.old.known.kept object) pass.old pass.new result }
+    ensures local { local_of pass.new.known ≡ local_of pass.old.known }
 {
     let mark = heap.load(pass, why, Stage::Calm, Name::Mark { object });
     match mark_form(mark) {

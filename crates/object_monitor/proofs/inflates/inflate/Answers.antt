@@ -10,6 +10,7 @@ use Rattle.core_world.specs.Trees.MonitorSteps.{inflate_by, inflate_at}
 use Rattle.core_world.specs.Trees.Plans.{load}
 use Rattle.heap_table.specs.Parts.{IsDueOn, HasRun}
 use Rattle.heap_table.proofs.Parts.{can, rest_due, stepped, ends}
+use Rattle.object_monitor.proofs.Inflated.{local_stays}
 use Rattle.object_monitor.proofs.Inflating.{is_made}
 use Rattle.object_monitor.proofs.inflates.inflate.Goals as goal
 
@@ -45,8 +46,8 @@ inflate_by-requires-in-None-clause-due c =
     subst (λ (x : Option ℕ). IsDueOn h q e.task (inflate_by x e a.object mark)) (sym same)
     (subst (λ (f : Option MarkForm). IsDueOn h q e.task (inflate_at f e k a.object mark)) (sym c.mark_form.ensures ∙ c.in-None.is) rest)
 
-pub returns-in-Inflating : goal.returns-in-Inflating
-returns-in-Inflating c =
+pub returns-in-Inflating-clause-run : goal.returns-in-Inflating-clause-run
+returns-in-Inflating-clause-run c =
     let a = c.args in
     let h = a.heap.now in
     let e = a.why.now in
@@ -59,8 +60,8 @@ returns-in-Inflating c =
     stepped h a.pass.now q q (load e (Mark a.object)) _ mark out s refl
     (subst (λ (f : Option MarkForm). HasRun h (inflate_at f e k a.object mark) q q out) (sym form) (ends h q out s.heap))
 
-pub returns-in-Inflated : goal.returns-in-Inflated
-returns-in-Inflated c =
+pub returns-in-Inflated-clause-run : goal.returns-in-Inflated-clause-run
+returns-in-Inflated-clause-run c =
     let a = c.args in
     let h = a.heap.now in
     let e = a.why.now in
@@ -73,8 +74,8 @@ returns-in-Inflated c =
     stepped h a.pass.now q q (load e (Mark a.object)) _ mark (Done m) s refl
     (subst (λ (f : Option MarkForm). HasRun h (inflate_at f e k a.object mark) q q (Done m)) (sym form) (ends h q (Done m) s.heap))
 
-pub returns-in_default : goal.returns-in_default
-returns-in_default c =
+pub returns-in_default-clause-run : goal.returns-in_default-clause-run
+returns-in_default-clause-run c =
     let a = c.args in
     let h = a.heap.now in
     let e = a.why.now in
@@ -90,8 +91,8 @@ returns-in_default c =
     let run = subst (λ (x : Option ℕ). HasRun h (inflate_by x e a.object mark) q r out) same c.inflate_by.ensures in
     stepped h a.pass.now q r (load e (Mark a.object)) _ mark out s refl (subst (λ d. HasRun h d q r out) (sym form) run)
 
-pub returns-in-None : goal.returns-in-None
-returns-in-None c =
+pub returns-in-None-clause-run : goal.returns-in-None-clause-run
+returns-in-None-clause-run c =
     let a = c.args in
     let h = a.heap.now in
     let e = a.why.now in
@@ -105,3 +106,27 @@ returns-in-None c =
     let run = subst (λ (x : Option ℕ). HasRun h (inflate_by x e a.object mark) q r out) same c.inflate_by-in-None.ensures in
     stepped h a.pass.now q r (load e (Mark a.object)) _ mark out s refl
     (subst (λ (f : Option MarkForm). HasRun h (inflate_at f e k a.object mark) q r out) (sym (sym c.mark_form.ensures ∙ c.in-None.is)) run)
+
+pub returns-in-Inflating-clause-local : goal.returns-in-Inflating-clause-local
+returns-in-Inflating-clause-local c =
+    let a = c.args in
+    let kept = a.pass.now.known.kept in
+    local_stays a.heap.now a.pass.now c.load-mark.new.pass a.why.now kept a.object (Pending why.Inflating) (returns-in-Inflating-clause-run c)
+
+pub returns-in-Inflated-clause-local : goal.returns-in-Inflated-clause-local
+returns-in-Inflated-clause-local c =
+    let a = c.args in
+    let kept = a.pass.now.known.kept in
+    local_stays a.heap.now a.pass.now c.load-mark.new.pass a.why.now kept a.object (Done c.in-Inflated.monitor) (returns-in-Inflated-clause-run c)
+
+pub returns-in_default-clause-local : goal.returns-in_default-clause-local
+returns-in_default-clause-local c =
+    let a = c.args in
+    let kept = a.pass.now.known.kept in
+    local_stays a.heap.now a.pass.now c.inflate_by.new.pass a.why.now kept a.object c.inflate_by.result (returns-in_default-clause-run c)
+
+pub returns-in-None-clause-local : goal.returns-in-None-clause-local
+returns-in-None-clause-local c =
+    let a = c.args in
+    let kept = a.pass.now.known.kept in
+    local_stays a.heap.now a.pass.now c.inflate_by-in-None.new.pass a.why.now kept a.object c.inflate_by-in-None.result (returns-in-None-clause-run c)
