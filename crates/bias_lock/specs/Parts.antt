@@ -1,8 +1,11 @@
--- What comes behind the first step of an exit under a bias.
+-- What comes behind the first step of an enter or an exit under a bias.
 use Rattle.std.specs.Prelude.{ℕ, if◌then◌else◌, Bool, true, false}
-use Rattle.core_world.specs.declared.name.Name.TheVariants.{Mark}
+use Rattle.mark_word.specs.Mark.{read_mark}
+use Rattle.core_world.specs.declared.answer.BiasTry.{BiasTry}
+use Rattle.core_world.specs.declared.name.Name.TheVariants.{Mark, Prototype}
 use Rattle.core_world.specs.Threads.Known.{Local}
 use Rattle.core_world.specs.Words.Forms.{is_biased}
+use Rattle.core_world.specs.Trees.BiasSteps.{bias_enter_by}
 use Rattle.core_world.specs.Trees.LockSteps.{leave_steps}
 use Rattle.core_world.specs.Trees.Plans.{Purpose, load}
 use Rattle.core_world.specs.Trees.Todo.{Todo, done, ◌>>=◌, ask}
@@ -14,3 +17,9 @@ marked_exit e k o = do
   if is_biased mark then (do
     _ ← leave_steps e k o
     done true) else done false
+
+-- behind the load of a mark of o, which is of class c, with the bias pattern
+abbrev pub prototype_enter : Purpose → Local → ℕ → ℕ → ℕ → Todo BiasTry
+prototype_enter e k c o mark = do
+  prototype ← ask (load e (Prototype c))
+  bias_enter_by (read_mark prototype) e k o mark prototype

@@ -8,7 +8,10 @@
 //! answers what the tree answers. None takes memory.
 #![tactic(auto)]
 
+mod drops;
+mod enters;
 mod exits;
 mod words;
 
+pub use enters::bias_enter;
 pub use exits::bias_exit;
