@@ -1,9 +1,9 @@
--- Marks and prototypes by which no bias is entered.
+-- Marks and prototypes by which no bias is entered or ended.
 use Rattle.std.proofs.Common.{◌≡◌, ℕ, Some, refl}
 use Rattle.mark_word.specs.declared.mark.MarkForm.{MarkForm}
 use Rattle.mark_word.specs.declared.mark.MarkForm.TheVariants.{Inflating, Neutral, Anonymous, Biased, Locked, Inflated, Marked}
 use Rattle.core_world.specs.Threads.Known.{Local}
-use Rattle.core_world.specs.Trees.BiasSteps.{bias_enter_at, bias_enter_by}
+use Rattle.core_world.specs.Trees.BiasSteps.{bias_enter_at, bias_enter_by, bias_drop_at}
 use Rattle.core_world.specs.Trees.Plans.{Purpose}
 use Rattle.core_world.specs.Trees.Todo.{never}
 
@@ -26,3 +26,13 @@ no_prototype (Biased t epoch age) e k o mark prototype neutral anonymous = refl
 no_prototype (Locked t p) e k o mark prototype neutral anonymous = refl
 no_prototype (Inflated m) e k o mark prototype neutral anonymous = refl
 no_prototype Marked e k o mark prototype neutral anonymous = refl
+
+pub never_dropped : (f : MarkForm) (epoch : ℕ) (e : Purpose) (o mark : ℕ) → ((t old age : ℕ) → f ≡ Biased t old age → ⊥) → ((old age : ℕ) → f ≡ Anonymous old age → ⊥)
+    → bias_drop_at (Some f) epoch e o mark ≡ never
+never_dropped Inflating epoch e o mark biased anonymous = refl
+never_dropped (Neutral hash age) epoch e o mark biased anonymous = refl
+never_dropped (Anonymous old age) epoch e o mark biased anonymous = absurd (anonymous old age refl)
+never_dropped (Biased t old age) epoch e o mark biased anonymous = absurd (biased t old age refl)
+never_dropped (Locked t p) epoch e o mark biased anonymous = refl
+never_dropped (Inflated m) epoch e o mark biased anonymous = refl
+never_dropped Marked epoch e o mark biased anonymous = refl

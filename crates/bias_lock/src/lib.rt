@@ -13,5 +13,6 @@ mod enters;
 mod exits;
 mod words;
 
+pub use drops::bias_drop;
 pub use enters::bias_enter;
 pub use exits::bias_exit;

@@ -1,7 +1,7 @@
 //! What marks say.
 ghost use Rattle.std.specs.Prelude.{◌≡◌};
 ghost use Rattle.mark_word.specs.Mark.{read_mark};
-ghost use Rattle.core_world.specs.Words.Forms.{is_biased};
+ghost use Rattle.core_world.specs.Words.Forms.{is_biased, epoch_in};
 
 use mark_word::{MarkForm, decode};
 
@@ -23,5 +23,18 @@ pub fn is_biased(mark: u64) -> bool
             _ => false,
         },
         None => false,
+    }
+}
+
+/// The epoch of a prototype, where it is biased, which it is to no thread.
+pub fn class_epoch(prototype: u64) -> Option<u8>
+    ensures { result ≡ epoch_in prototype }
+{
+    match mark_form(prototype) {
+        Some(form) => match form {
+            MarkForm::Anonymous { epoch, .. } => Some(epoch),
+            _ => None,
+        },
+        None => None,
     }
 }
