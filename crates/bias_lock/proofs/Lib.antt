@@ -1,2 +1,3 @@
+mod Chosen
 mod Never
 mod Taking

@@ -3,7 +3,7 @@ use Rattle.std.proofs.Common.{◌≡◌, ℕ, Some, refl}
 use Rattle.mark_word.specs.declared.mark.MarkForm.{MarkForm}
 use Rattle.mark_word.specs.declared.mark.MarkForm.TheVariants.{Inflating, Neutral, Anonymous, Biased, Locked, Inflated, Marked}
 use Rattle.core_world.specs.Threads.Known.{Local}
-use Rattle.core_world.specs.Trees.BiasSteps.{bias_enter_at, bias_enter_by, bias_drop_at}
+use Rattle.core_world.specs.Trees.BiasSteps.{bias_enter_at, bias_enter_by, bias_drop_at, bias_after_at}
 use Rattle.core_world.specs.Trees.Plans.{Purpose}
 use Rattle.core_world.specs.Trees.Todo.{never}
 
@@ -36,3 +36,12 @@ never_dropped (Biased t old age) epoch e o mark biased anonymous = absurd (biase
 never_dropped (Locked t p) epoch e o mark biased anonymous = refl
 never_dropped (Inflated m) epoch e o mark biased anonymous = refl
 never_dropped Marked epoch e o mark biased anonymous = refl
+
+pub never_after : (f : MarkForm) (e : Purpose) (k : Local) (o : ℕ) → ((t epoch age : ℕ) → f ≡ Biased t epoch age → ⊥) → bias_after_at (Some f) e k o ≡ never
+never_after Inflating e k o biased = refl
+never_after (Neutral hash age) e k o biased = refl
+never_after (Anonymous epoch age) e k o biased = refl
+never_after (Biased t epoch age) e k o biased = absurd (biased t epoch age refl)
+never_after (Locked t p) e k o biased = refl
+never_after (Inflated m) e k o biased = refl
+never_after Marked e k o biased = refl

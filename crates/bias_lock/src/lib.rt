@@ -8,11 +8,13 @@
 //! answers what the tree answers. None takes memory.
 #![tactic(auto)]
 
+mod afters;
 mod drops;
 mod enters;
 mod exits;
 mod words;
 
+pub use afters::bias_after;
 pub use drops::bias_drop;
 pub use enters::bias_enter;
 pub use exits::bias_exit;
