@@ -4,6 +4,7 @@ ghost use Rattle.core_world.specs.Threads.Known.{local_of};
 ghost use Rattle.core_world.specs.Trees.BiasSteps.{stage_after, bias_after_at, bias_after_steps};
 ghost use Rattle.heap_table.specs.Parts.{IsDueOn, HasRun};
 ghost use Rattle.heap_table.specs.Seen.{IsOf};
+ghost use Rattle.bias_lock.specs.Kept.{IsKeptUnlessTook};
 
 use crate::enters::took;
 use crate::words::{is_biased, mark_form};
@@ -16,10 +17,10 @@ use plain_monitor::Path;
 fn stage_after(took: bool, object: u32) -> Stage
     ensures { result ≡ stage_after took object }
 {
-    match took {
-        true => Stage::Takes { object },
-        false => Stage::Calm,
+    if took {
+        return Stage::Takes { object };
     }
+    Stage::Calm
 }
 
 // An enter by a biased mark of this form: the bias is the thread's own.
@@ -65,8 +66,9 @@ pub fn bias_after(
     requires due { IsDueOn heap.now pass.old why.now.task
         (bias_after_steps why.now (local_of pass.old.known) object took) }
     requires room { length pass.old.known.log < pass.old.limit }
-    ensures { HasRun heap.now (bias_after_steps why.now (local_of pass.old.known) object took)
+    ensures run { HasRun heap.now (bias_after_steps why.now (local_of pass.old.known) object took)
         pass.old pass.new result }
+    ensures kept { IsKeptUnlessTook result (local_of pass.old.known) (local_of pass.new.known) }
 {
     let stage = stage_after(took, object);
     let mark = heap.load(pass, why, stage, Name::Mark { object });

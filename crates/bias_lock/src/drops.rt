@@ -2,6 +2,7 @@
 ghost use Rattle.std.specs.Prelude.{◌≡◌, Some};
 ghost use Rattle.mark_word.specs.declared.mark.MarkForm.TheVariants.{Neutral};
 ghost use Rattle.mark_word.specs.Mark.{mark_of};
+ghost use Rattle.core_world.specs.Threads.Known.{local_of};
 ghost use Rattle.core_world.specs.Trees.BiasSteps.{unbias_swap_steps, bias_drop_at, bias_drop_by, bias_drop_steps};
 ghost use Rattle.heap_table.specs.Parts.{IsDueOn, HasRun};
 ghost use Rattle.heap_table.specs.Seen.{IsOf};
@@ -125,7 +126,8 @@ fn drop_biased(
 pub fn bias_drop(heap: &Heap, pass: &mut Pass, why: &Purpose, class: u32, object: u32) -> BiasTry
     requires heap { IsOf heap.now pass.old }
     requires due { IsDueOn heap.now pass.old why.now.task (bias_drop_steps why.now class object) }
-    ensures { HasRun heap.now (bias_drop_steps why.now class object) pass.old pass.new result }
+    ensures run { HasRun heap.now (bias_drop_steps why.now class object) pass.old pass.new result }
+    ensures kept { local_of pass.new.known ≡ local_of pass.old.known }
 {
     let mark = heap.load(pass, why, Stage::Calm, Name::Mark { object });
     if is_biased(mark) {

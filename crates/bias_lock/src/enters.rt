@@ -6,6 +6,7 @@ ghost use Rattle.core_world.specs.Trees.BiasSteps.{took_steps, rebias_steps, bia
 ghost use Rattle.core_world.specs.Trees.BiasSteps.{bias_enter_at, bias_enter_by, bias_enter_steps};
 ghost use Rattle.heap_table.specs.Parts.{IsDueOn, HasRun};
 ghost use Rattle.heap_table.specs.Seen.{IsOf};
+ghost use Rattle.bias_lock.specs.Kept.{IsKeptUnlessTook};
 ghost use Rattle.bias_lock.specs.Parts.{prototype_enter};
 
 use crate::drops::unbias;
@@ -193,8 +194,9 @@ pub fn bias_enter(
     requires due { IsDueOn heap.now pass.old why.now.task
         (bias_enter_steps why.now (local_of pass.old.known) class object) }
     requires room { length pass.old.known.log < pass.old.limit }
-    ensures { HasRun heap.now (bias_enter_steps why.now (local_of pass.old.known) class object)
+    ensures run { HasRun heap.now (bias_enter_steps why.now (local_of pass.old.known) class object)
         pass.old pass.new result }
+    ensures kept { IsKeptUnlessTook result (local_of pass.old.known) (local_of pass.new.known) }
 {
     let mark = heap.load(pass, why, Stage::Calm, Name::Mark { object });
     if is_biased(mark) {

@@ -1,5 +1,5 @@
 //! How a thread leaves a hold under a bias.
-ghost use Rattle.std.specs.Prelude.{◌≡◌, ◌<◌, length};
+ghost use Rattle.std.specs.Prelude.{◌≡◌, ◌<◌, length, false};
 ghost use Rattle.core_world.specs.Locks.{hold_count};
 ghost use Rattle.core_world.specs.Threads.Known.{local_of};
 ghost use Rattle.core_world.specs.Trees.BiasSteps.{bias_exit_steps};
@@ -41,7 +41,9 @@ pub fn bias_exit(heap: &Heap, pass: &mut Pass, why: &Purpose, object: u32) -> bo
     requires held { 0 < hold_count object pass.old.known.holds }
     requires due { IsDueOn heap.now pass.old why.now.task (bias_exit_steps why.now (local_of pass.old.known) object) }
     requires room { length pass.old.known.log < pass.old.limit }
-    ensures { HasRun heap.now (bias_exit_steps why.now (local_of pass.old.known) object) pass.old pass.new result }
+    ensures run { HasRun heap.now (bias_exit_steps why.now (local_of pass.old.known) object)
+        pass.old pass.new result }
+    ensures kept { result ≡ false → local_of pass.new.known ≡ local_of pass.old.known }
 {
     let place = top_place(pass, object);
     raise(heap, pass, why, object);

@@ -13,6 +13,7 @@ use Rattle.heap_table.specs.Parts.{IsDueOn, HasRun}
 use Rattle.heap_table.specs.Stepping.{CanStep, HasStepped}
 use Rattle.heap_table.proofs.Parts.{can, rest_due, stepped, ends}
 use Rattle.stack_lock.proofs.Arms.{due_then, run_then, run_else}
+use Rattle.bias_lock.proofs.Keeping.{after_keeps}
 use Rattle.bias_lock.proofs.afters.bias_after.Goals as goal
 
 pub load-mark-requires : goal.load-mark-requires
@@ -42,8 +43,8 @@ enter_own-requires-clause-due c =
     let due = due_then h q (is_biased mark) (bias_after_at (read_mark mark) e l a.object) (done (Unbiased mark)) e.task (rest_due h p e.task plan _ c.requires.due refl q mark s) biased in
     subst (IsDueOn h q e.task) (λ i. bias_after_at (sym c.mark_form-form.ensures i) e (sym local i) a.object) due
 
-pub returns-then-is_biased : goal.returns-then-is_biased
-returns-then-is_biased c =
+pub returns-then-is_biased-clause-run : goal.returns-then-is_biased-clause-run
+returns-then-is_biased-clause-run c =
     let a = c.args in
     let h = a.heap.now in
     let p = a.pass.now in
@@ -61,8 +62,8 @@ returns-then-is_biased c =
     let run = subst (λ d. HasRun h d q r out) (λ i. bias_after_at (c.mark_form-form.ensures i) e (local i) a.object) c.enter_own.ensures in
     stepped h p q r plan _ mark out s refl (run_then h q (is_biased mark) (bias_after_at (read_mark mark) e l a.object) (done (Unbiased mark)) r out biased run)
 
-pub returns : goal.returns
-returns c =
+pub returns-clause-run : goal.returns-clause-run
+returns-clause-run c =
     let a = c.args in
     let h = a.heap.now in
     let p = a.pass.now in
@@ -76,3 +77,15 @@ returns c =
     let unbiased : is_biased mark ≡ false = sym c.is_biased.ensures ∙ c.if-is_biased.false in
     let out = Unbiased mark in
     stepped h p q q plan _ mark out s refl (run_else h q (is_biased mark) (bias_after_at (read_mark mark) e l a.object) (done out) q out unbiased (ends h q out s.heap))
+
+pub returns-then-is_biased-clause-kept : goal.returns-then-is_biased-clause-kept
+returns-then-is_biased-clause-kept c =
+    let a = c.args in
+    let h = a.heap.now in
+    after_keeps h.heap.shape h.heap.start a.why.now (local_of a.pass.now.known) a.object a.took a.pass.now.known c.enter_own.new.pass.known c.enter_own.result (returns-then-is_biased-clause-run c).ran.by
+
+pub returns-clause-kept : goal.returns-clause-kept
+returns-clause-kept c =
+    let a = c.args in
+    let h = a.heap.now in
+    after_keeps h.heap.shape h.heap.start a.why.now (local_of a.pass.now.known) a.object a.took a.pass.now.known c.load-mark.new.pass.known (Unbiased c.load-mark.result) (returns-clause-run c).ran.by

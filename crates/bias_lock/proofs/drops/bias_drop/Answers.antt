@@ -7,6 +7,7 @@ use Rattle.core_world.specs.Trees.Todo.{done}
 use Rattle.heap_table.proofs.Parts.{can, rest_due, stepped, ends}
 use Rattle.stack_lock.proofs.Arms.{due_then, run_then, run_else}
 use Rattle.bias_lock.specs.Parts.{prototype_drop}
+use Rattle.bias_lock.proofs.Keeping.{drop_keeps}
 use Rattle.bias_lock.proofs.drops.bias_drop.Goals as goal
 
 pub load-mark-requires : goal.load-mark-requires
@@ -25,8 +26,8 @@ drop_biased-requires-clause-due c =
     let biased : is_biased mark ≡ true = sym c.is_biased.ensures ∙ c.if-is_biased.true in
     due_then h q (is_biased mark) (prototype_drop e a.class a.object mark) (done (Unbiased mark)) e.task (rest_due h p e.task plan _ c.requires.due refl q mark s) biased
 
-pub returns-then-is_biased : goal.returns-then-is_biased
-returns-then-is_biased c =
+pub returns-then-is_biased-clause-run : goal.returns-then-is_biased-clause-run
+returns-then-is_biased-clause-run c =
     let a = c.args in
     let h = a.heap.now in
     let p = a.pass.now in
@@ -40,8 +41,8 @@ returns-then-is_biased c =
     let out = c.drop_biased.result in
     stepped h p q r plan _ mark out s refl (run_then h q (is_biased mark) (prototype_drop e a.class a.object mark) (done (Unbiased mark)) r out biased c.drop_biased.ensures)
 
-pub returns : goal.returns
-returns c =
+pub returns-clause-run : goal.returns-clause-run
+returns-clause-run c =
     let a = c.args in
     let h = a.heap.now in
     let p = a.pass.now in
@@ -53,3 +54,15 @@ returns c =
     let unbiased : is_biased mark ≡ false = sym c.is_biased.ensures ∙ c.if-is_biased.false in
     let out = Unbiased mark in
     stepped h p q q plan _ mark out s refl (run_else h q (is_biased mark) (prototype_drop e a.class a.object mark) (done out) q out unbiased (ends h q out s.heap))
+
+pub returns-then-is_biased-clause-kept : goal.returns-then-is_biased-clause-kept
+returns-then-is_biased-clause-kept c =
+    let a = c.args in
+    let h = a.heap.now in
+    drop_keeps h.heap.shape h.heap.start a.why.now a.class a.object a.pass.now.known c.drop_biased.new.pass.known c.drop_biased.result (returns-then-is_biased-clause-run c).ran.by
+
+pub returns-clause-kept : goal.returns-clause-kept
+returns-clause-kept c =
+    let a = c.args in
+    let h = a.heap.now in
+    drop_keeps h.heap.shape h.heap.start a.why.now a.class a.object a.pass.now.known c.load-mark.new.pass.known (Unbiased c.load-mark.result) (returns-clause-run c).ran.by

@@ -9,6 +9,7 @@ use Rattle.heap_table.specs.Parts.{IsDueOn, HasRun}
 use Rattle.heap_table.proofs.Parts.{can, rest_due, stepped, ends}
 use Rattle.stack_lock.proofs.Arms.{due_then, run_then, run_else}
 use Rattle.bias_lock.specs.Parts.{prototype_enter}
+use Rattle.bias_lock.proofs.Keeping.{enter_keeps}
 use Rattle.bias_lock.proofs.enters.bias_enter.Goals as goal
 
 pub load-mark-requires : goal.load-mark-requires
@@ -31,8 +32,8 @@ enter_biased-requires-clause-due c =
     subst (λ (x : Local). IsDueOn h q e.task (prototype_enter e x a.class a.object mark)) (sym local)
     (due_then h q (is_biased mark) (prototype_enter e l a.class a.object mark) (done (Unbiased mark)) e.task rest biased)
 
-pub returns-then-is_biased : goal.returns-then-is_biased
-returns-then-is_biased c =
+pub returns-then-is_biased-clause-run : goal.returns-then-is_biased-clause-run
+returns-then-is_biased-clause-run c =
     let a = c.args in
     let h = a.heap.now in
     let p = a.pass.now in
@@ -49,8 +50,8 @@ returns-then-is_biased c =
     let run = subst (λ (x : Local). HasRun h (prototype_enter e x a.class a.object mark) q r out) local c.enter_biased.ensures in
     stepped h p q r plan _ mark out s refl (run_then h q (is_biased mark) (prototype_enter e l a.class a.object mark) (done (Unbiased mark)) r out biased run)
 
-pub returns : goal.returns
-returns c =
+pub returns-clause-run : goal.returns-clause-run
+returns-clause-run c =
     let a = c.args in
     let h = a.heap.now in
     let p = a.pass.now in
@@ -63,3 +64,15 @@ returns c =
     let unbiased : is_biased mark ≡ false = sym c.is_biased.ensures ∙ c.if-is_biased.false in
     let out = Unbiased mark in
     stepped h p q q plan _ mark out s refl (run_else h q (is_biased mark) (prototype_enter e l a.class a.object mark) (done out) q out unbiased (ends h q out s.heap))
+
+pub returns-then-is_biased-clause-kept : goal.returns-then-is_biased-clause-kept
+returns-then-is_biased-clause-kept c =
+    let a = c.args in
+    let h = a.heap.now in
+    enter_keeps h.heap.shape h.heap.start a.why.now (local_of a.pass.now.known) a.class a.object a.pass.now.known c.enter_biased.new.pass.known c.enter_biased.result (returns-then-is_biased-clause-run c).ran.by
+
+pub returns-clause-kept : goal.returns-clause-kept
+returns-clause-kept c =
+    let a = c.args in
+    let h = a.heap.now in
+    enter_keeps h.heap.shape h.heap.start a.why.now (local_of a.pass.now.known) a.class a.object a.pass.now.known c.load-mark.new.pass.known (Unbiased c.load-mark.result) (returns-clause-run c).ran.by
