@@ -20,7 +20,8 @@ fn leave_marked(heap: &Heap, pass: &mut Pass, why: &Purpose, object: u32, place:
     requires due { IsDueOn heap.now pass.old why.now.task
         (marked_exit why.now (local_of pass.old.known) object) }
     requires room { length pass.old.known.log < pass.old.limit }
-    ensures { HasRun heap.now (marked_exit why.now (local_of pass.old.known) object) pass.old pass.new result }
+    ensures run { HasRun heap.now (marked_exit why.now (local_of pass.old.known) object) pass.old pass.new result }
+    ensures kept { result ≡ false → local_of pass.new.known ≡ local_of pass.old.known }
 {
     let mark = heap.load(pass, why, Stage::Calm, Name::Mark { object });
     if is_biased(mark) {

@@ -36,8 +36,8 @@ leave_marked-requires-clause-due c =
 pub leave_marked-requires-clause-place : goal.leave_marked-requires-clause-place
 leave_marked-requires-clause-place c = c.top_place-place.ensures.place ∙ ap (λ (l : Local). top_place c.args.object l.holds) (sym c.raise.ensures.kept)
 
-pub returns : goal.returns
-returns c =
+pub returns-clause-run : goal.returns-clause-run
+returns-clause-run c =
     let a = c.args in
     let h = a.heap.now in
     let e = a.why.now in
@@ -45,5 +45,8 @@ returns c =
     let q = c.raise.new.pass in
     let r = c.leave_marked.new.pass in
     let out = c.leave_marked.result in
-    let run = subst (λ (l : Local). HasRun h (marked_exit e l a.object) q r out) c.raise.ensures.kept c.leave_marked.ensures in
+    let run = subst (λ (l : Local). HasRun h (marked_exit e l a.object) q r out) c.raise.ensures.kept c.leave_marked.ensures.run in
     in_turn h a.pass.now q r (raise_steps e (local_of k) a.object) (λ _. marked_exit e (local_of k) a.object) tt out c.raise.ensures.run run
+
+pub returns-clause-kept : goal.returns-clause-kept
+returns-clause-kept c = λ none. c.leave_marked.ensures.kept none ∙ c.raise.ensures.kept

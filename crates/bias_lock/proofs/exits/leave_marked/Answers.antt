@@ -32,8 +32,8 @@ leave-requires-clause-due c =
     subst (IsDueOn h q e.task) (λ i. leave_at e (sym thread i) a.object (sym c.requires.place i))
     (part_due h.heap.shape h.heap.start h.heap.biasing q.known e.task (leave_steps e (local_of k) a.object) (λ _. done true) due)
 
-pub returns-then-is_biased : goal.returns-then-is_biased
-returns-then-is_biased c =
+pub returns-then-is_biased-clause-run : goal.returns-then-is_biased-clause-run
+returns-then-is_biased-clause-run c =
     let a = c.args in
     let h = a.heap.now in
     let e = a.why.now in
@@ -50,8 +50,8 @@ returns-then-is_biased c =
     (run_then h q (is_biased mark) left (done false) r true biased
     (in_turn h q r r (leave_steps e (local_of k) a.object) (λ _. done true) tt true run (ends h r true run.heap)))
 
-pub returns : goal.returns
-returns c =
+pub returns-clause-run : goal.returns-clause-run
+returns-clause-run c =
     let a = c.args in
     let h = a.heap.now in
     let e = a.why.now in
@@ -63,3 +63,9 @@ returns c =
     let unbiased : is_biased mark ≡ false = sym c.is_biased.ensures ∙ c.if-is_biased.false in
     stepped h a.pass.now q q (load e (Mark a.object)) _ mark false s refl
     (run_else h q (is_biased mark) left (done false) q false unbiased (ends h q false s.heap))
+
+pub returns-then-is_biased-clause-kept : goal.returns-then-is_biased-clause-kept
+returns-then-is_biased-clause-kept c = λ other. absurd (cc other)
+
+pub returns-clause-kept : goal.returns-clause-kept
+returns-clause-kept c = λ none. let s = c.load-mark.ensures in ap local_of s.known
