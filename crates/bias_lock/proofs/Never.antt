@@ -7,7 +7,8 @@ use Rattle.core_world.specs.Trees.BiasSteps.{bias_enter_at, bias_enter_by, bias_
 use Rattle.core_world.specs.Trees.Plans.{Purpose}
 use Rattle.core_world.specs.Trees.Todo.{never}
 
-pub never_entered : (f : MarkForm) (epoch : ℕ) (e : Purpose) (k : Local) (o mark : ℕ) → ((t old age : ℕ) → f ≡ Biased t old age → ⊥) → ((old age : ℕ) → f ≡ Anonymous old age → ⊥)
+pub never_entered : (f : MarkForm) (epoch : ℕ) (e : Purpose) (k : Local) (o mark : ℕ)
+    → ((t old age : ℕ) → f ≡ Biased t old age → ⊥) → ((old age : ℕ) → f ≡ Anonymous old age → ⊥)
     → bias_enter_at (Some f) epoch e k o mark ≡ never
 never_entered Inflating epoch e k o mark biased anonymous = refl
 never_entered (Neutral hash age) epoch e k o mark biased anonymous = refl
@@ -17,7 +18,8 @@ never_entered (Locked t p) epoch e k o mark biased anonymous = refl
 never_entered (Inflated m) epoch e k o mark biased anonymous = refl
 never_entered Marked epoch e k o mark biased anonymous = refl
 
-pub no_prototype : (f : MarkForm) (e : Purpose) (k : Local) (o mark prototype : ℕ) → ((hash age : ℕ) → f ≡ Neutral hash age → ⊥) → ((epoch age : ℕ) → f ≡ Anonymous epoch age → ⊥)
+pub no_prototype : (f : MarkForm) (e : Purpose) (k : Local) (o mark prototype : ℕ)
+    → ((hash age : ℕ) → f ≡ Neutral hash age → ⊥) → ((epoch age : ℕ) → f ≡ Anonymous epoch age → ⊥)
     → bias_enter_by (Some f) e k o mark prototype ≡ never
 no_prototype Inflating e k o mark prototype neutral anonymous = refl
 no_prototype (Neutral hash age) e k o mark prototype neutral anonymous = absurd (neutral hash age refl)
@@ -27,7 +29,8 @@ no_prototype (Locked t p) e k o mark prototype neutral anonymous = refl
 no_prototype (Inflated m) e k o mark prototype neutral anonymous = refl
 no_prototype Marked e k o mark prototype neutral anonymous = refl
 
-pub never_dropped : (f : MarkForm) (epoch : ℕ) (e : Purpose) (o mark : ℕ) → ((t old age : ℕ) → f ≡ Biased t old age → ⊥) → ((old age : ℕ) → f ≡ Anonymous old age → ⊥)
+pub never_dropped : (f : MarkForm) (epoch : ℕ) (e : Purpose) (o mark : ℕ)
+    → ((t old age : ℕ) → f ≡ Biased t old age → ⊥) → ((old age : ℕ) → f ≡ Anonymous old age → ⊥)
     → bias_drop_at (Some f) epoch e o mark ≡ never
 never_dropped Inflating epoch e o mark biased anonymous = refl
 never_dropped (Neutral hash age) epoch e o mark biased anonymous = refl
@@ -37,7 +40,9 @@ never_dropped (Locked t p) epoch e o mark biased anonymous = refl
 never_dropped (Inflated m) epoch e o mark biased anonymous = refl
 never_dropped Marked epoch e o mark biased anonymous = refl
 
-pub never_after : (f : MarkForm) (e : Purpose) (k : Local) (o : ℕ) → ((t epoch age : ℕ) → f ≡ Biased t epoch age → ⊥) → bias_after_at (Some f) e k o ≡ never
+pub never_after : (f : MarkForm) (e : Purpose) (k : Local) (o : ℕ)
+    → ((t epoch age : ℕ) → f ≡ Biased t epoch age → ⊥)
+    → bias_after_at (Some f) e k o ≡ never
 never_after Inflating e k o biased = refl
 never_after (Neutral hash age) e k o biased = refl
 never_after (Anonymous epoch age) e k o biased = refl

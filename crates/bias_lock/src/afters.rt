@@ -54,13 +54,7 @@ fn enter_own(
 /// `Took(BiasTaken)` says that the mark is biased, which it is to the thread: the hold word is stored and the Enter
 /// logged. `Unbiased { mark }` says that the mark has no bias pattern: no hold was taken and nothing logged. Either way
 /// the mark is left as it is, and there is no other answer.
-pub fn bias_after(
-    heap: &Heap,
-    pass: &mut Pass,
-    why: &Purpose,
-    object: u32,
-    took: bool,
-) -> BiasTry
+pub fn bias_after(heap: &Heap, pass: &mut Pass, why: &Purpose, object: u32, took: bool) -> BiasTry
     requires heap { IsOf heap.now pass.old }
     requires object { object < length heap.now.heap.shape.objects }
     requires due { IsDueOn heap.now pass.old why.now.task

@@ -29,14 +29,7 @@ pub fn took(heap: &Heap, pass: &mut Pass, why: &Purpose, object: u32, path: Path
 }
 
 // The bias is stale, or valid and anonymous: the mark is exchanged for the bias to this thread in this epoch.
-fn rebias(
-    heap: &Heap,
-    pass: &mut Pass,
-    why: &Purpose,
-    object: u32,
-    mark: u64,
-    epoch: u8,
-) -> BiasTry
+fn rebias(heap: &Heap, pass: &mut Pass, why: &Purpose, object: u32, mark: u64, epoch: u8) -> BiasTry
     requires heap { IsOf heap.now pass.old }
     requires object { object < length heap.now.heap.shape.objects }
     requires epoch { epoch < 4 }
@@ -108,7 +101,9 @@ fn enter_at(
 {
     match form {
         MarkForm::Biased {
-            thread, epoch: old, ..
+            thread,
+            epoch: old,
+            ..
         } => {
             if old == epoch {
                 return enter_valid(heap, pass, why, object, mark, thread);
@@ -182,13 +177,7 @@ fn enter_biased(
 /// `Valid { mark }` says that the mark is validly biased to another thread. `Raced { expected, found }` says that an
 /// exchange expected the biased mark and found another, which it left. In these three no hold was taken and nothing
 /// logged.
-pub fn bias_enter(
-    heap: &Heap,
-    pass: &mut Pass,
-    why: &Purpose,
-    class: u32,
-    object: u32,
-) -> BiasTry
+pub fn bias_enter(heap: &Heap, pass: &mut Pass, why: &Purpose, class: u32, object: u32) -> BiasTry
     requires heap { IsOf heap.now pass.old }
     requires object { object < length heap.now.heap.shape.objects }
     requires due { IsDueOn heap.now pass.old why.now.task

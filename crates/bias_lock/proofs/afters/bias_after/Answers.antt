@@ -1,14 +1,13 @@
-use Rattle.std.proofs.Common.{◌≡◌, true, false, Option, refl, sym, ap, ◌∙◌, subst}
-use Rattle.mark_word.specs.declared.mark.MarkForm.{MarkForm}
+use Rattle.std.proofs.Common.{◌≡◌, true, false, refl, sym, ap, ◌∙◌, subst}
 use Rattle.mark_word.specs.Mark.{read_mark}
 use Rattle.core_world.specs.declared.answer.BiasTry.TheVariants.{Unbiased}
 use Rattle.core_world.specs.declared.name.Name.TheVariants.{Mark}
 use Rattle.core_world.specs.declared.plan.StepPlan.{StepPlan}
-use Rattle.core_world.specs.Threads.Known.{Local, local_of}
+use Rattle.core_world.specs.Threads.Known.{local_of}
 use Rattle.core_world.specs.Words.Forms.{is_biased}
 use Rattle.core_world.specs.Trees.BiasSteps.{stage_after, bias_after_at}
 use Rattle.core_world.specs.Trees.Plans.{load_plan}
-use Rattle.core_world.specs.Trees.Todo.{Todo, done}
+use Rattle.core_world.specs.Trees.Todo.{done}
 use Rattle.heap_table.specs.Parts.{IsDueOn, HasRun}
 use Rattle.heap_table.specs.Stepping.{CanStep, HasStepped}
 use Rattle.heap_table.proofs.Parts.{can, rest_due, stepped, ends}
@@ -40,7 +39,8 @@ enter_own-requires-clause-due c =
     let s = subst (λ (x : StepPlan). HasStepped h p q x mark) same c.load-mark.ensures in
     let biased : is_biased mark ≡ true = sym c.is_biased.ensures ∙ c.if-is_biased.true in
     let local : local_of q.known ≡ l = ap local_of s.known in
-    let due = due_then h q (is_biased mark) (bias_after_at (read_mark mark) e l a.object) (done (Unbiased mark)) e.task (rest_due h p e.task plan _ c.requires.due refl q mark s) biased in
+    let rest = rest_due h p e.task plan _ c.requires.due refl q mark s in
+    let due = due_then h q (is_biased mark) (bias_after_at (read_mark mark) e l a.object) (done (Unbiased mark)) e.task rest biased in
     subst (IsDueOn h q e.task) (λ i. bias_after_at (sym c.mark_form-form.ensures i) e (sym local i) a.object) due
 
 pub returns-then-is_biased-clause-run : goal.returns-then-is_biased-clause-run
@@ -60,7 +60,8 @@ returns-then-is_biased-clause-run c =
     let r = c.enter_own.new.pass in
     let out = c.enter_own.result in
     let run = subst (λ d. HasRun h d q r out) (λ i. bias_after_at (c.mark_form-form.ensures i) e (local i) a.object) c.enter_own.ensures in
-    stepped h p q r plan _ mark out s refl (run_then h q (is_biased mark) (bias_after_at (read_mark mark) e l a.object) (done (Unbiased mark)) r out biased run)
+    stepped h p q r plan _ mark out s refl
+    (run_then h q (is_biased mark) (bias_after_at (read_mark mark) e l a.object) (done (Unbiased mark)) r out biased run)
 
 pub returns-clause-run : goal.returns-clause-run
 returns-clause-run c =
@@ -76,16 +77,21 @@ returns-clause-run c =
     let s = subst (λ (x : StepPlan). HasStepped h p q x mark) same c.load-mark.ensures in
     let unbiased : is_biased mark ≡ false = sym c.is_biased.ensures ∙ c.if-is_biased.false in
     let out = Unbiased mark in
-    stepped h p q q plan _ mark out s refl (run_else h q (is_biased mark) (bias_after_at (read_mark mark) e l a.object) (done out) q out unbiased (ends h q out s.heap))
+    stepped h p q q plan _ mark out s refl
+    (run_else h q (is_biased mark) (bias_after_at (read_mark mark) e l a.object) (done out) q out unbiased (ends h q out s.heap))
 
 pub returns-then-is_biased-clause-kept : goal.returns-then-is_biased-clause-kept
 returns-then-is_biased-clause-kept c =
     let a = c.args in
     let h = a.heap.now in
-    after_keeps h.heap.shape h.heap.start a.why.now (local_of a.pass.now.known) a.object a.took a.pass.now.known c.enter_own.new.pass.known c.enter_own.result (returns-then-is_biased-clause-run c).ran.by
+    let k = a.pass.now.known in
+    let run = returns-then-is_biased-clause-run c in
+    after_keeps h.heap.shape h.heap.start a.why.now (local_of k) a.object a.took k c.enter_own.new.pass.known c.enter_own.result run.ran.by
 
 pub returns-clause-kept : goal.returns-clause-kept
 returns-clause-kept c =
     let a = c.args in
     let h = a.heap.now in
-    after_keeps h.heap.shape h.heap.start a.why.now (local_of a.pass.now.known) a.object a.took a.pass.now.known c.load-mark.new.pass.known (Unbiased c.load-mark.result) (returns-clause-run c).ran.by
+    let k = a.pass.now.known in
+    let run = returns-clause-run c in
+    after_keeps h.heap.shape h.heap.start a.why.now (local_of k) a.object a.took k c.load-mark.new.pass.known (Unbiased c.load-mark.result) run.ran.by

@@ -1,4 +1,4 @@
-use Rattle.std.proofs.Common.{◌≡◌, ◌==◌, true, Option, Some, refl, sym, ap, ◌∙◌, subst}
+use Rattle.std.proofs.Common.{◌==◌, Option, Some, sym, ap, ◌∙◌, subst}
 use Rattle.mark_word.specs.declared.mark.MarkForm.{MarkForm}
 use Rattle.plain_monitor.specs.declared.entry.Path.TheVariants.{BiasTaken}
 use Rattle.core_world.specs.Threads.Known.{local_of}
@@ -41,7 +41,8 @@ unreachable-requires-in-None c =
     let p = a.pass.now in
     let e = a.why.now in
     let l = local_of p.known in
-    not_due h p e.task (bias_after_at a.form e l a.object) c.requires.heap c.requires.due (ap (λ (f : Option MarkForm). bias_after_at f e l a.object) c.in-None.is)
+    not_due h p e.task (bias_after_at a.form e l a.object) c.requires.heap
+    c.requires.due (ap (λ (f : Option MarkForm). bias_after_at f e l a.object) c.in-None.is)
 
 pub returns : goal.returns
 returns c =

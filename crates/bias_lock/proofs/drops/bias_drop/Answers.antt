@@ -11,7 +11,8 @@ use Rattle.bias_lock.proofs.Keeping.{drop_keeps}
 use Rattle.bias_lock.proofs.drops.bias_drop.Goals as goal
 
 pub load-mark-requires : goal.load-mark-requires
-load-mark-requires c = let a = c.args in can a.heap.now a.pass.now a.why.now.task (load a.why.now (Mark a.object)) _ c.requires.due refl c.requires.heap tt refl
+load-mark-requires c =
+    let a = c.args in can a.heap.now a.pass.now a.why.now.task (load a.why.now (Mark a.object)) _ c.requires.due refl c.requires.heap tt refl
 
 pub drop_biased-requires-clause-due : goal.drop_biased-requires-clause-due
 drop_biased-requires-clause-due c =
@@ -24,7 +25,8 @@ drop_biased-requires-clause-due c =
     let mark = c.load-mark.result in
     let s = c.load-mark.ensures in
     let biased : is_biased mark ≡ true = sym c.is_biased.ensures ∙ c.if-is_biased.true in
-    due_then h q (is_biased mark) (prototype_drop e a.class a.object mark) (done (Unbiased mark)) e.task (rest_due h p e.task plan _ c.requires.due refl q mark s) biased
+    due_then h q (is_biased mark) (prototype_drop e a.class a.object mark) (done (Unbiased mark)) e.task
+    (rest_due h p e.task plan _ c.requires.due refl q mark s) biased
 
 pub returns-then-is_biased-clause-run : goal.returns-then-is_biased-clause-run
 returns-then-is_biased-clause-run c =
@@ -39,7 +41,8 @@ returns-then-is_biased-clause-run c =
     let biased : is_biased mark ≡ true = sym c.is_biased.ensures ∙ c.if-is_biased.true in
     let r = c.drop_biased.new.pass in
     let out = c.drop_biased.result in
-    stepped h p q r plan _ mark out s refl (run_then h q (is_biased mark) (prototype_drop e a.class a.object mark) (done (Unbiased mark)) r out biased c.drop_biased.ensures)
+    stepped h p q r plan _ mark out s refl
+    (run_then h q (is_biased mark) (prototype_drop e a.class a.object mark) (done (Unbiased mark)) r out biased c.drop_biased.ensures)
 
 pub returns-clause-run : goal.returns-clause-run
 returns-clause-run c =
@@ -53,16 +56,19 @@ returns-clause-run c =
     let s = c.load-mark.ensures in
     let unbiased : is_biased mark ≡ false = sym c.is_biased.ensures ∙ c.if-is_biased.false in
     let out = Unbiased mark in
-    stepped h p q q plan _ mark out s refl (run_else h q (is_biased mark) (prototype_drop e a.class a.object mark) (done out) q out unbiased (ends h q out s.heap))
+    stepped h p q q plan _ mark out s refl
+    (run_else h q (is_biased mark) (prototype_drop e a.class a.object mark) (done out) q out unbiased (ends h q out s.heap))
 
 pub returns-then-is_biased-clause-kept : goal.returns-then-is_biased-clause-kept
 returns-then-is_biased-clause-kept c =
     let a = c.args in
     let h = a.heap.now in
-    drop_keeps h.heap.shape h.heap.start a.why.now a.class a.object a.pass.now.known c.drop_biased.new.pass.known c.drop_biased.result (returns-then-is_biased-clause-run c).ran.by
+    drop_keeps h.heap.shape h.heap.start a.why.now a.class a.object a.pass.now.known c.drop_biased.new.pass.known c.drop_biased.result
+    (returns-then-is_biased-clause-run c).ran.by
 
 pub returns-clause-kept : goal.returns-clause-kept
 returns-clause-kept c =
     let a = c.args in
     let h = a.heap.now in
-    drop_keeps h.heap.shape h.heap.start a.why.now a.class a.object a.pass.now.known c.load-mark.new.pass.known (Unbiased c.load-mark.result) (returns-clause-run c).ran.by
+    drop_keeps h.heap.shape h.heap.start a.why.now a.class a.object a.pass.now.known c.load-mark.new.pass.known (Unbiased c.load-mark.result)
+    (returns-clause-run c).ran.by

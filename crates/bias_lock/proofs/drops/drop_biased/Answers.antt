@@ -1,4 +1,4 @@
-use Rattle.std.proofs.Common.{◌≡◌, ℕ, Option, refl, sym, subst}
+use Rattle.std.proofs.Common.{ℕ, Option, refl, sym, subst}
 use Rattle.core_world.specs.declared.name.Name.TheVariants.{Prototype}
 use Rattle.core_world.specs.Trees.BiasSteps.{bias_drop_by}
 use Rattle.core_world.specs.Trees.Plans.{load}
@@ -7,7 +7,8 @@ use Rattle.heap_table.proofs.Parts.{can, rest_due, stepped}
 use Rattle.bias_lock.proofs.drops.drop_biased.Goals as goal
 
 pub load-prototype-requires : goal.load-prototype-requires
-load-prototype-requires c = let a = c.args in can a.heap.now a.pass.now a.why.now.task (load a.why.now (Prototype a.class)) _ c.requires.due refl c.requires.heap tt refl
+load-prototype-requires c =
+    let a = c.args in can a.heap.now a.pass.now a.why.now.task (load a.why.now (Prototype a.class)) _ c.requires.due refl c.requires.heap tt refl
 
 pub drop_by-requires-clause-due : goal.drop_by-requires-clause-due
 drop_by-requires-clause-due c =

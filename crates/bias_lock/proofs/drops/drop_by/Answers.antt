@@ -1,7 +1,7 @@
-use Rattle.std.proofs.Common.{◌≡◌, ℕ, Option, Some, sym, ap, ◌∙◌, subst}
+use Rattle.std.proofs.Common.{ℕ, Option, Some, sym, ap, ◌∙◌, subst}
 use Rattle.mark_word.specs.declared.mark.MarkForm.{MarkForm}
 use Rattle.core_world.specs.Trees.BiasSteps.{bias_drop_at, bias_drop_by}
-use Rattle.heap_table.specs.Parts.{IsDueOn, HasRun}
+use Rattle.heap_table.specs.Parts.{IsDueOn}
 use Rattle.stack_lock.proofs.Ruled.{not_due}
 use Rattle.bias_lock.proofs.drops.drop_by.Goals as goal
 

@@ -13,7 +13,8 @@ use Rattle.bias_lock.proofs.Keeping.{enter_keeps}
 use Rattle.bias_lock.proofs.enters.bias_enter.Goals as goal
 
 pub load-mark-requires : goal.load-mark-requires
-load-mark-requires c = let a = c.args in can a.heap.now a.pass.now a.why.now.task (load a.why.now (Mark a.object)) _ c.requires.due refl c.requires.heap tt refl
+load-mark-requires c =
+    let a = c.args in can a.heap.now a.pass.now a.why.now.task (load a.why.now (Mark a.object)) _ c.requires.due refl c.requires.heap tt refl
 
 pub enter_biased-requires-clause-due : goal.enter_biased-requires-clause-due
 enter_biased-requires-clause-due c =
@@ -48,7 +49,8 @@ returns-then-is_biased-clause-run c =
     let r = c.enter_biased.new.pass in
     let out = c.enter_biased.result in
     let run = subst (λ (x : Local). HasRun h (prototype_enter e x a.class a.object mark) q r out) local c.enter_biased.ensures in
-    stepped h p q r plan _ mark out s refl (run_then h q (is_biased mark) (prototype_enter e l a.class a.object mark) (done (Unbiased mark)) r out biased run)
+    stepped h p q r plan _ mark out s refl
+    (run_then h q (is_biased mark) (prototype_enter e l a.class a.object mark) (done (Unbiased mark)) r out biased run)
 
 pub returns-clause-run : goal.returns-clause-run
 returns-clause-run c =
@@ -63,16 +65,21 @@ returns-clause-run c =
     let s = c.load-mark.ensures in
     let unbiased : is_biased mark ≡ false = sym c.is_biased.ensures ∙ c.if-is_biased.false in
     let out = Unbiased mark in
-    stepped h p q q plan _ mark out s refl (run_else h q (is_biased mark) (prototype_enter e l a.class a.object mark) (done out) q out unbiased (ends h q out s.heap))
+    stepped h p q q plan _ mark out s refl
+    (run_else h q (is_biased mark) (prototype_enter e l a.class a.object mark) (done out) q out unbiased (ends h q out s.heap))
 
 pub returns-then-is_biased-clause-kept : goal.returns-then-is_biased-clause-kept
 returns-then-is_biased-clause-kept c =
     let a = c.args in
     let h = a.heap.now in
-    enter_keeps h.heap.shape h.heap.start a.why.now (local_of a.pass.now.known) a.class a.object a.pass.now.known c.enter_biased.new.pass.known c.enter_biased.result (returns-then-is_biased-clause-run c).ran.by
+    let k = a.pass.now.known in
+    let run = returns-then-is_biased-clause-run c in
+    enter_keeps h.heap.shape h.heap.start a.why.now (local_of k) a.class a.object k c.enter_biased.new.pass.known c.enter_biased.result run.ran.by
 
 pub returns-clause-kept : goal.returns-clause-kept
 returns-clause-kept c =
     let a = c.args in
     let h = a.heap.now in
-    enter_keeps h.heap.shape h.heap.start a.why.now (local_of a.pass.now.known) a.class a.object a.pass.now.known c.load-mark.new.pass.known (Unbiased c.load-mark.result) (returns-clause-run c).ran.by
+    let k = a.pass.now.known in
+    let run = returns-clause-run c in
+    enter_keeps h.heap.shape h.heap.start a.why.now (local_of k) a.class a.object k c.load-mark.new.pass.known (Unbiased c.load-mark.result) run.ran.by

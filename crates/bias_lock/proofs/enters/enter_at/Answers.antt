@@ -1,9 +1,9 @@
-use Rattle.std.proofs.Common.{◌≡◌, ◌==◌, true, false, Some, sym, subst, eq-eqb, ne_eqb}
+use Rattle.std.proofs.Common.{◌==◌, Some, subst, eq-eqb, ne_eqb}
 use Rattle.mark_word.specs.declared.mark.MarkForm.{MarkForm}
 use Rattle.core_world.specs.Threads.Known.{local_of}
 use Rattle.core_world.specs.Trees.BiasSteps.{bias_enter_at, bias_valid_steps, rebias_steps}
-use Rattle.heap_table.specs.Parts.{IsDueOn, HasRun}
-use Rattle.stack_lock.proofs.Arms.{due_then, due_else, run_then, run_else}
+use Rattle.heap_table.specs.Parts.{IsDueOn}
+use Rattle.stack_lock.proofs.Arms.{due_then, due_else}
 use Rattle.stack_lock.proofs.Ruled.{not_due}
 use Rattle.bias_lock.proofs.Never.{never_entered}
 use Rattle.bias_lock.proofs.enters.enter_at.Goals as goal
@@ -17,7 +17,9 @@ enter_valid-requires-clause-due c =
     let l = local_of p.known in
     let b = c.in-Biased in
     let due = subst (λ (f : MarkForm). IsDueOn h p e.task (bias_enter_at (Some f) a.epoch e l a.object a.mark)) b.is c.requires.due in
-    due_then h p (b.old == a.epoch) (bias_valid_steps e l a.object a.mark b.thread) (rebias_steps e l a.object a.mark a.epoch) e.task due (eq-eqb _ _ c.if-old-epoch.true)
+    let valid = bias_valid_steps e l a.object a.mark b.thread in
+    let stale = rebias_steps e l a.object a.mark a.epoch in
+    due_then h p (b.old == a.epoch) valid stale e.task due (eq-eqb _ _ c.if-old-epoch.true)
 
 pub rebias-requires-clause-due : goal.rebias-requires-clause-due
 rebias-requires-clause-due c =
@@ -28,7 +30,9 @@ rebias-requires-clause-due c =
     let l = local_of p.known in
     let b = c.in-Biased in
     let due = subst (λ (f : MarkForm). IsDueOn h p e.task (bias_enter_at (Some f) a.epoch e l a.object a.mark)) b.is c.requires.due in
-    due_else h p (b.old == a.epoch) (bias_valid_steps e l a.object a.mark b.thread) (rebias_steps e l a.object a.mark a.epoch) e.task due (ne_eqb _ _ c.if-old-epoch.false)
+    let valid = bias_valid_steps e l a.object a.mark b.thread in
+    let stale = rebias_steps e l a.object a.mark a.epoch in
+    due_else h p (b.old == a.epoch) valid stale e.task due (ne_eqb _ _ c.if-old-epoch.false)
 
 pub rebias-requires-in-Anonymous-clause-due : goal.rebias-requires-in-Anonymous-clause-due
 rebias-requires-in-Anonymous-clause-due c =

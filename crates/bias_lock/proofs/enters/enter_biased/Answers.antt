@@ -11,7 +11,8 @@ use Rattle.stack_lock.proofs.Ruled.{not_due}
 use Rattle.bias_lock.proofs.enters.enter_biased.Goals as goal
 
 pub load-prototype-requires : goal.load-prototype-requires
-load-prototype-requires c = let a = c.args in can a.heap.now a.pass.now a.why.now.task (load a.why.now (Prototype a.class)) _ c.requires.due refl c.requires.heap tt refl
+load-prototype-requires c =
+    let a = c.args in can a.heap.now a.pass.now a.why.now.task (load a.why.now (Prototype a.class)) _ c.requires.due refl c.requires.heap tt refl
 
 pub enter_by-requires-clause-due : goal.enter_by-requires-clause-due
 enter_by-requires-clause-due c =
@@ -61,4 +62,5 @@ returns c =
     let r = c.enter_by.new.pass in
     let out = c.enter_by.result in
     let run = subst (λ (x : Local). HasRun h (bias_enter_by (Some c.in-Some.form) e x a.object a.mark prototype) q r out) local c.enter_by.ensures in
-    stepped h p q r plan _ prototype out s refl (subst (λ (f : Option MarkForm). HasRun h (bias_enter_by f e l a.object a.mark prototype) q r out) (sym form) run)
+    stepped h p q r plan _ prototype out s refl
+    (subst (λ (f : Option MarkForm). HasRun h (bias_enter_by f e l a.object a.mark prototype) q r out) (sym form) run)

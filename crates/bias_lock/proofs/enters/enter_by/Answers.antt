@@ -1,10 +1,10 @@
-use Rattle.std.proofs.Common.{◌≡◌, Option, Some, sym, ap, ◌∙◌, subst}
+use Rattle.std.proofs.Common.{Option, Some, sym, ap, ◌∙◌, subst}
 use Rattle.mark_word.specs.declared.mark.MarkForm.{MarkForm}
 use Rattle.mark_word.specs.declared.mark.MarkForm.TheVariants.{Anonymous}
 use Rattle.mark_word.proofs.ReadingMarks.{read_mark-spells}
 use Rattle.core_world.specs.Threads.Known.{local_of}
 use Rattle.core_world.specs.Trees.BiasSteps.{bias_enter_at, bias_enter_by}
-use Rattle.heap_table.specs.Parts.{IsDueOn, HasRun}
+use Rattle.heap_table.specs.Parts.{IsDueOn}
 use Rattle.stack_lock.proofs.Ruled.{not_due}
 use Rattle.bias_lock.proofs.Never.{no_prototype}
 use Rattle.bias_lock.proofs.enters.enter_by.Goals as goal
@@ -30,8 +30,10 @@ enter_at-requires-clause-due c =
     let p = a.pass.now in
     let e = a.why.now in
     let l = local_of p.known in
-    let due = subst (λ (f : MarkForm). IsDueOn h p e.task (bias_enter_by (Some f) e l a.object a.mark a.prototype)) c.in-Anonymous.is c.requires.due in
-    subst (λ (f : Option MarkForm). IsDueOn h p e.task (bias_enter_at f c.in-Anonymous.epoch e l a.object a.mark)) (sym c.mark_form.ensures ∙ c.in-Some.is) due
+    let due =
+      subst (λ (f : MarkForm). IsDueOn h p e.task (bias_enter_by (Some f) e l a.object a.mark a.prototype)) c.in-Anonymous.is c.requires.due in
+    subst (λ (f : Option MarkForm). IsDueOn h p e.task (bias_enter_at f c.in-Anonymous.epoch e l a.object a.mark))
+    (sym c.mark_form.ensures ∙ c.in-Some.is) due
 
 pub unreachable-requires : goal.unreachable-requires
 unreachable-requires c =
@@ -40,7 +42,8 @@ unreachable-requires c =
     let p = a.pass.now in
     let e = a.why.now in
     let l = local_of p.known in
-    let due = subst (λ (f : MarkForm). IsDueOn h p e.task (bias_enter_by (Some f) e l a.object a.mark a.prototype)) c.in-Anonymous.is c.requires.due in
+    let due =
+      subst (λ (f : MarkForm). IsDueOn h p e.task (bias_enter_by (Some f) e l a.object a.mark a.prototype)) c.in-Anonymous.is c.requires.due in
     not_due h p e.task (bias_enter_by (Some (Anonymous c.in-Anonymous.epoch c.in-Anonymous.age)) e l a.object a.mark a.prototype) c.requires.heap due
     (ap (λ (f : Option MarkForm). bias_enter_at f c.in-Anonymous.epoch e l a.object a.mark) (sym c.mark_form.ensures ∙ c.in-None.is))
 

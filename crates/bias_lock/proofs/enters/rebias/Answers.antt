@@ -27,8 +27,10 @@ exchange-found-requires c =
     let p = a.pass.now in
     let e = a.why.now in
     let plan = rebias_plan e p.known.thread a.object a.mark a.epoch in
-    let word : c.encode-own.result ≡ mark_of (Biased p.known.thread a.epoch 0) = c.encode-own.ensures ∙ λ i. mark_of (Biased (c.thread-thread.ensures.same i) a.epoch 0) in
-    let same : swap_plan e (Takes a.object) (Mark a.object) a.mark c.encode-own.result ≡ plan = ap (λ w. swap_plan e (Takes a.object) (Mark a.object) a.mark w) word in
+    let word : c.encode-own.result ≡ mark_of (Biased p.known.thread a.epoch 0) =
+      c.encode-own.ensures ∙ λ i. mark_of (Biased (c.thread-thread.ensures.same i) a.epoch 0) in
+    let same : swap_plan e (Takes a.object) (Mark a.object) a.mark c.encode-own.result ≡ plan =
+      ap (λ w. swap_plan e (Takes a.object) (Mark a.object) a.mark w) word in
     subst (CanStep h p) (sym same) (can h p e.task plan _ c.requires.due refl c.requires.heap tt refl)
 
 pub took-requires-clause-due : goal.took-requires-clause-due
@@ -39,14 +41,18 @@ took-requires-clause-due c =
     let e = a.why.now in
     let l = local_of p.known in
     let plan = rebias_plan e p.known.thread a.object a.mark a.epoch in
-    let word : c.encode-own.result ≡ mark_of (Biased p.known.thread a.epoch 0) = c.encode-own.ensures ∙ λ i. mark_of (Biased (c.thread-thread.ensures.same i) a.epoch 0) in
-    let same : swap_plan e (Takes a.object) (Mark a.object) a.mark c.encode-own.result ≡ plan = ap (λ w. swap_plan e (Takes a.object) (Mark a.object) a.mark w) word in
+    let word : c.encode-own.result ≡ mark_of (Biased p.known.thread a.epoch 0) =
+      c.encode-own.ensures ∙ λ i. mark_of (Biased (c.thread-thread.ensures.same i) a.epoch 0) in
+    let same : swap_plan e (Takes a.object) (Mark a.object) a.mark c.encode-own.result ≡ plan =
+      ap (λ w. swap_plan e (Takes a.object) (Mark a.object) a.mark w) word in
     let q = c.exchange-found.new.pass in
     let found = c.exchange-found.result in
     let s = subst (λ (x : StepPlan). HasStepped h p q x found) same c.exchange-found.ensures in
-    let local : local_of q.known ≡ l = ap local_of s.known ∙ rebiased h.heap.shape h.heap.start e p.known.thread a.object a.mark a.epoch found p.known in
+    let local : local_of q.known ≡ l =
+      ap local_of s.known ∙ rebiased h.heap.shape h.heap.start e p.known.thread a.object a.mark a.epoch found p.known in
     let hit : (found == a.mark) ≡ true = eq-eqb _ _ c.if-found-mark.false in
-    let due = due_then h q (found == a.mark) (took_steps e l a.object BiasTaken) (done (Raced a.mark found)) e.task (rest_due h p e.task plan _ c.requires.due refl q found s) hit in
+    let rest = rest_due h p e.task plan _ c.requires.due refl q found s in
+    let due = due_then h q (found == a.mark) (took_steps e l a.object BiasTaken) (done (Raced a.mark found)) e.task rest hit in
     subst (λ (x : Local). IsDueOn h q e.task (took_steps e x a.object BiasTaken)) (sym local) due
 
 pub returns-then-found-mark : goal.returns-then-found-mark
@@ -57,14 +63,17 @@ returns-then-found-mark c =
     let e = a.why.now in
     let l = local_of p.known in
     let plan = rebias_plan e p.known.thread a.object a.mark a.epoch in
-    let word : c.encode-own.result ≡ mark_of (Biased p.known.thread a.epoch 0) = c.encode-own.ensures ∙ λ i. mark_of (Biased (c.thread-thread.ensures.same i) a.epoch 0) in
-    let same : swap_plan e (Takes a.object) (Mark a.object) a.mark c.encode-own.result ≡ plan = ap (λ w. swap_plan e (Takes a.object) (Mark a.object) a.mark w) word in
+    let word : c.encode-own.result ≡ mark_of (Biased p.known.thread a.epoch 0) =
+      c.encode-own.ensures ∙ λ i. mark_of (Biased (c.thread-thread.ensures.same i) a.epoch 0) in
+    let same : swap_plan e (Takes a.object) (Mark a.object) a.mark c.encode-own.result ≡ plan =
+      ap (λ w. swap_plan e (Takes a.object) (Mark a.object) a.mark w) word in
     let q = c.exchange-found.new.pass in
     let found = c.exchange-found.result in
     let s = subst (λ (x : StepPlan). HasStepped h p q x found) same c.exchange-found.ensures in
     let miss : (found == a.mark) ≡ false = ne_eqb _ _ c.if-found-mark.true in
     let out = Raced a.mark found in
-    stepped h p q q plan _ found out s refl (run_else h q (found == a.mark) (took_steps e l a.object BiasTaken) (done out) q out miss (ends h q out s.heap))
+    stepped h p q q plan _ found out s refl
+    (run_else h q (found == a.mark) (took_steps e l a.object BiasTaken) (done out) q out miss (ends h q out s.heap))
 
 pub returns : goal.returns
 returns c =
@@ -74,14 +83,18 @@ returns c =
     let e = a.why.now in
     let l = local_of p.known in
     let plan = rebias_plan e p.known.thread a.object a.mark a.epoch in
-    let word : c.encode-own.result ≡ mark_of (Biased p.known.thread a.epoch 0) = c.encode-own.ensures ∙ λ i. mark_of (Biased (c.thread-thread.ensures.same i) a.epoch 0) in
-    let same : swap_plan e (Takes a.object) (Mark a.object) a.mark c.encode-own.result ≡ plan = ap (λ w. swap_plan e (Takes a.object) (Mark a.object) a.mark w) word in
+    let word : c.encode-own.result ≡ mark_of (Biased p.known.thread a.epoch 0) =
+      c.encode-own.ensures ∙ λ i. mark_of (Biased (c.thread-thread.ensures.same i) a.epoch 0) in
+    let same : swap_plan e (Takes a.object) (Mark a.object) a.mark c.encode-own.result ≡ plan =
+      ap (λ w. swap_plan e (Takes a.object) (Mark a.object) a.mark w) word in
     let q = c.exchange-found.new.pass in
     let found = c.exchange-found.result in
     let s = subst (λ (x : StepPlan). HasStepped h p q x found) same c.exchange-found.ensures in
-    let local : local_of q.known ≡ l = ap local_of s.known ∙ rebiased h.heap.shape h.heap.start e p.known.thread a.object a.mark a.epoch found p.known in
+    let local : local_of q.known ≡ l =
+      ap local_of s.known ∙ rebiased h.heap.shape h.heap.start e p.known.thread a.object a.mark a.epoch found p.known in
     let hit : (found == a.mark) ≡ true = eq-eqb _ _ c.if-found-mark.false in
     let r = c.took.new.pass in
     let out = c.took.result in
     let run = subst (λ (x : Local). HasRun h (took_steps e x a.object BiasTaken) q r out) local c.took.ensures in
-    stepped h p q r plan _ found out s refl (run_then h q (found == a.mark) (took_steps e l a.object BiasTaken) (done (Raced a.mark found)) r out hit run)
+    stepped h p q r plan _ found out s refl
+    (run_then h q (found == a.mark) (took_steps e l a.object BiasTaken) (done (Raced a.mark found)) r out hit run)

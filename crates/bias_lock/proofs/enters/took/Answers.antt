@@ -21,4 +21,5 @@ returns c =
     let q = c.hold.new.pass in
     let run = c.hold.ensures in
     let path = c.hold.result in
-    in_turn h a.pass.now q q (hold_steps a.why.now (local_of a.pass.now.known) a.object a.path) (λ path. done (Took path)) path (Took path) run (ends h q (Took path) run.heap)
+    in_turn h a.pass.now q q (hold_steps a.why.now (local_of a.pass.now.known) a.object a.path) (λ path. done (Took path)) path (Took path) run
+    (ends h q (Took path) run.heap)

@@ -13,7 +13,8 @@ use Rattle.stack_lock.proofs.Arms.{due_then, run_then, run_else}
 use Rattle.bias_lock.proofs.exits.leave_marked.Goals as goal
 
 pub load-mark-requires : goal.load-mark-requires
-load-mark-requires c = let a = c.args in can a.heap.now a.pass.now a.why.now.task (load a.why.now (Mark a.object)) _ c.requires.due refl c.requires.heap tt refl
+load-mark-requires c =
+    let a = c.args in can a.heap.now a.pass.now a.why.now.task (load a.why.now (Mark a.object)) _ c.requires.due refl c.requires.heap tt refl
 
 pub leave-requires-clause-due : goal.leave-requires-clause-due
 leave-requires-clause-due c =
