@@ -1,4 +1,4 @@
-//! How a thread ends a bias.
+//! How a thread ends a bias without a safepoint.
 ghost use Rattle.std.specs.Prelude.{◌≡◌, Some};
 ghost use Rattle.mark_word.specs.declared.mark.MarkForm.TheVariants.{Neutral};
 ghost use Rattle.mark_word.specs.Mark.{mark_of};
@@ -13,7 +13,8 @@ use core_world::{BiasTry, Name, Stage};
 use heap_table::{Heap, Pass, Purpose};
 use mark_word::{MarkForm, encode};
 
-/// Exchanges the biased mark for this neutral one.
+/// Exchanges the biased mark for this neutral one. `Unbiased` has the neutral mark, which stands now. `Raced` has the
+/// biased mark and the other one that the exchange found and left.
 pub fn unbias(
     heap: &Heap,
     pass: &mut Pass,

@@ -17,7 +17,7 @@ use mark_word::{MarkForm, encode};
 use plain_monitor::Path;
 use stack_lock::hold;
 
-/// Stores the hold under a bias to the thread, and logs the Enter with this path.
+/// Stores the hold under a bias to the thread, and logs the Enter with this path. It answers `Took` with the path.
 pub fn took(heap: &Heap, pass: &mut Pass, why: &Purpose, object: u32, path: Path) -> BiasTry
     requires heap { IsOf heap.now pass.old }
     requires object { object < length heap.now.heap.shape.objects }
@@ -56,7 +56,7 @@ fn rebias(heap: &Heap, pass: &mut Pass, why: &Purpose, object: u32, mark: u64, e
     took(heap, pass, why, object, Path::BiasTaken)
 }
 
-// The bias is valid, and to this thread: only the thread itself can enter under it.
+// The bias is valid, and to the thread of this number: only where that is this thread, it enters under it.
 fn enter_valid(
     heap: &Heap,
     pass: &mut Pass,
@@ -176,7 +176,7 @@ fn enter_biased(
 /// found so, or it was biased though its class's prototype is neutral, and was exchanged for the prototype.
 /// `Valid { mark }` says that the mark is validly biased to another thread. `Raced { expected, found }` says that an
 /// exchange expected the biased mark and found another, which it left. In these three no hold was taken and nothing
-/// logged.
+/// logged, and the thread's own words are as they were.
 pub fn bias_enter(heap: &Heap, pass: &mut Pass, why: &Purpose, class: u32, object: u32) -> BiasTry
     requires heap { IsOf heap.now pass.old }
     requires object { object < length heap.now.heap.shape.objects }
