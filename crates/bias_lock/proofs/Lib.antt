@@ -1,0 +1,4 @@
+mod Chosen
+mod Keeping
+mod Never
+mod Taking

@@ -1,0 +1,138 @@
+//! How a thread ends a bias without a safepoint.
+ghost use Rattle.std.specs.Prelude.{◌≡◌, Some};
+ghost use Rattle.mark_word.specs.declared.mark.MarkForm.TheVariants.{Neutral};
+ghost use Rattle.mark_word.specs.Mark.{mark_of};
+ghost use Rattle.core_world.specs.Threads.Known.{local_of};
+ghost use Rattle.core_world.specs.Trees.BiasSteps.{unbias_swap_steps, bias_drop_at, bias_drop_by, bias_drop_steps};
+ghost use Rattle.heap_table.specs.Parts.{IsDueOn, HasRun};
+ghost use Rattle.heap_table.specs.Seen.{IsOf};
+ghost use Rattle.bias_lock.specs.Parts.{prototype_drop};
+
+use crate::words::{class_epoch, is_biased, mark_form};
+use core_world::{BiasTry, Name, Stage};
+use heap_table::{Heap, Pass, Purpose};
+use mark_word::{MarkForm, encode};
+
+/// Exchanges the biased mark for this neutral one. `Unbiased` has the neutral mark, which stands now. `Raced` has the
+/// biased mark and the other one that the exchange found and left.
+pub fn unbias(
+    heap: &Heap,
+    pass: &mut Pass,
+    why: &Purpose,
+    object: u32,
+    mark: u64,
+    neutral: u64,
+) -> BiasTry
+    requires heap { IsOf heap.now pass.old }
+    requires due { IsDueOn heap.now pass.old why.now.task (unbias_swap_steps why.now object mark neutral) }
+    ensures { HasRun heap.now (unbias_swap_steps why.now object mark neutral) pass.old pass.new result }
+{
+    let at = Name::Mark { object };
+    let found = heap.exchange(pass, why, Stage::Calm, at, mark, neutral);
+    if found != mark {
+        return BiasTry::Raced {
+            expected: mark,
+            found,
+        };
+    }
+    BiasTry::Unbiased { mark: neutral }
+}
+
+// The mark is exchanged for the neutral one without a hash.
+fn make_neutral(heap: &Heap, pass: &mut Pass, why: &Purpose, object: u32, mark: u64) -> BiasTry
+    requires heap { IsOf heap.now pass.old }
+    requires due { IsDueOn heap.now pass.old why.now.task
+        (unbias_swap_steps why.now object mark (mark_of (Neutral 0 0))) }
+    ensures { HasRun heap.now (unbias_swap_steps why.now object mark (mark_of (Neutral 0 0)))
+        pass.old pass.new result }
+{
+    let neutral = encode(&MarkForm::Neutral { hash: 0, age: 0 });
+    unbias(heap, pass, why, object, mark, neutral)
+}
+
+// The end of a bias of this form, where the class's epoch is this one: a valid bias to a thread stays.
+fn drop_at(
+    heap: &Heap,
+    pass: &mut Pass,
+    why: &Purpose,
+    object: u32,
+    mark: u64,
+    form: MarkForm,
+    epoch: u8,
+) -> BiasTry
+    requires heap { IsOf heap.now pass.old }
+    requires due { IsDueOn heap.now pass.old why.now.task (bias_drop_at (Some form) epoch why.now object mark) }
+    ensures { HasRun heap.now (bias_drop_at (Some form) epoch why.now object mark) pass.old pass.new result }
+{
+    match form {
+        MarkForm::Biased { epoch: old, .. } => {
+            if old == epoch {
+                return BiasTry::Valid { mark };
+            }
+            make_neutral(heap, pass, why, object, mark)
+        }
+        MarkForm::Anonymous { .. } => make_neutral(heap, pass, why, object, mark),
+        _ => unreachable!(),
+    }
+}
+
+// The end of the mark's bias, where the class has this epoch, or its biases are over.
+fn drop_by(
+    heap: &Heap,
+    pass: &mut Pass,
+    why: &Purpose,
+    object: u32,
+    mark: u64,
+    prototype: u64,
+    epoch: Option<u8>,
+) -> BiasTry
+    requires heap { IsOf heap.now pass.old }
+    requires due { IsDueOn heap.now pass.old why.now.task (bias_drop_by epoch why.now object mark prototype) }
+    ensures { HasRun heap.now (bias_drop_by epoch why.now object mark prototype) pass.old pass.new result }
+{
+    match epoch {
+        None => unbias(heap, pass, why, object, mark, prototype),
+        Some(epoch) => match mark_form(mark) {
+            Some(form) => drop_at(heap, pass, why, object, mark, form, epoch),
+            None => unreachable!(),
+        },
+    }
+}
+
+// The end of the mark's bias: the class's prototype says whether it is over already, and which epoch is valid.
+fn drop_biased(
+    heap: &Heap,
+    pass: &mut Pass,
+    why: &Purpose,
+    class: u32,
+    object: u32,
+    mark: u64,
+) -> BiasTry
+    requires heap { IsOf heap.now pass.old }
+    requires due { IsDueOn heap.now pass.old why.now.task (prototype_drop why.now class object mark) }
+    ensures { HasRun heap.now (prototype_drop why.now class object mark) pass.old pass.new result }
+{
+    let prototype = heap.load(pass, why, Stage::Calm, Name::Prototype { class });
+    let epoch = class_epoch(prototype);
+    drop_by(heap, pass, why, object, mark, prototype, epoch)
+}
+
+/// Ends the bias of the object of this class, as far as that needs no safepoint.
+///
+/// `Unbiased { mark }` says that the mark has no bias pattern: it was found so, or it was biased, and was exchanged for
+/// this one. That is the class's prototype, where the prototype is not biased, and else the neutral mark without a hash,
+/// where the bias was to nobody or in an epoch that is over. `Valid { mark }` says that the mark is validly biased to a
+/// thread, and is left as it is. `Raced { expected, found }` says that an exchange expected the biased mark and found
+/// another, which it left. Nothing is logged, and no hold changes.
+pub fn bias_drop(heap: &Heap, pass: &mut Pass, why: &Purpose, class: u32, object: u32) -> BiasTry
+    requires heap { IsOf heap.now pass.old }
+    requires due { IsDueOn heap.now pass.old why.now.task (bias_drop_steps why.now class object) }
+    ensures run { HasRun heap.now (bias_drop_steps why.now class object) pass.old pass.new result }
+    ensures kept { local_of pass.new.known ≡ local_of pass.old.known }
+{
+    let mark = heap.load(pass, why, Stage::Calm, Name::Mark { object });
+    if is_biased(mark) {
+        return drop_biased(heap, pass, why, class, object, mark);
+    }
+    BiasTry::Unbiased { mark }
+}

@@ -1,0 +1,195 @@
+//! How a thread takes a hold under a bias.
+ghost use Rattle.std.specs.Prelude.{◌≡◌, ◌<◌, length, Some};
+ghost use Rattle.mark_word.specs.Mark.{read_mark};
+ghost use Rattle.core_world.specs.Threads.Known.{local_of};
+ghost use Rattle.core_world.specs.Trees.BiasSteps.{took_steps, rebias_steps, bias_valid_steps};
+ghost use Rattle.core_world.specs.Trees.BiasSteps.{bias_enter_at, bias_enter_by, bias_enter_steps};
+ghost use Rattle.heap_table.specs.Parts.{IsDueOn, HasRun};
+ghost use Rattle.heap_table.specs.Seen.{IsOf};
+ghost use Rattle.bias_lock.specs.Kept.{IsKeptUnlessTook};
+ghost use Rattle.bias_lock.specs.Parts.{prototype_enter};
+
+use crate::drops::unbias;
+use crate::words::{is_biased, mark_form};
+use core_world::{BiasTry, Name, Stage};
+use heap_table::{Heap, Pass, Purpose};
+use mark_word::{MarkForm, encode};
+use plain_monitor::Path;
+use stack_lock::hold;
+
+/// Stores the hold under a bias to the thread, and logs the Enter with this path. It answers `Took` with the path.
+pub fn took(heap: &Heap, pass: &mut Pass, why: &Purpose, object: u32, path: Path) -> BiasTry
+    requires heap { IsOf heap.now pass.old }
+    requires object { object < length heap.now.heap.shape.objects }
+    requires due { IsDueOn heap.now pass.old why.now.task (took_steps why.now (local_of pass.old.known) object path) }
+    requires room { length pass.old.known.log < pass.old.limit }
+    ensures { HasRun heap.now (took_steps why.now (local_of pass.old.known) object path) pass.old pass.new result }
+{
+    BiasTry::Took(hold(heap, pass, why, object, path))
+}
+
+// The bias is stale, or valid and anonymous: the mark is exchanged for the bias to this thread in this epoch.
+fn rebias(heap: &Heap, pass: &mut Pass, why: &Purpose, object: u32, mark: u64, epoch: u8) -> BiasTry
+    requires heap { IsOf heap.now pass.old }
+    requires object { object < length heap.now.heap.shape.objects }
+    requires epoch { epoch < 4 }
+    requires due { IsDueOn heap.now pass.old why.now.task
+        (rebias_steps why.now (local_of pass.old.known) object mark epoch) }
+    requires room { length pass.old.known.log < pass.old.limit }
+    ensures { HasRun heap.now (rebias_steps why.now (local_of pass.old.known) object mark epoch)
+        pass.old pass.new result }
+{
+    let thread = pass.thread();
+    let own = encode(&MarkForm::Biased {
+        thread,
+        epoch,
+        age: 0,
+    });
+    let stage = Stage::Takes { object };
+    let found = heap.exchange(pass, why, stage, Name::Mark { object }, mark, own);
+    if found != mark {
+        return BiasTry::Raced {
+            expected: mark,
+            found,
+        };
+    }
+    took(heap, pass, why, object, Path::BiasTaken)
+}
+
+// The bias is valid, and to the thread of this number: only where that is this thread, it enters under it.
+fn enter_valid(
+    heap: &Heap,
+    pass: &mut Pass,
+    why: &Purpose,
+    object: u32,
+    mark: u64,
+    thread: u32,
+) -> BiasTry
+    requires heap { IsOf heap.now pass.old }
+    requires object { object < length heap.now.heap.shape.objects }
+    requires due { IsDueOn heap.now pass.old why.now.task
+        (bias_valid_steps why.now (local_of pass.old.known) object mark thread) }
+    requires room { length pass.old.known.log < pass.old.limit }
+    ensures { HasRun heap.now (bias_valid_steps why.now (local_of pass.old.known) object mark thread)
+        pass.old pass.new result }
+{
+    let own = pass.thread();
+    if thread == own {
+        return took(heap, pass, why, object, Path::BiasOwn);
+    }
+    BiasTry::Valid { mark }
+}
+
+// An enter by a biased mark of this form, where the class's epoch is this one.
+fn enter_at(
+    heap: &Heap,
+    pass: &mut Pass,
+    why: &Purpose,
+    object: u32,
+    mark: u64,
+    form: MarkForm,
+    epoch: u8,
+) -> BiasTry
+    requires heap { IsOf heap.now pass.old }
+    requires object { object < length heap.now.heap.shape.objects }
+    requires epoch { epoch < 4 }
+    requires due { IsDueOn heap.now pass.old why.now.task
+        (bias_enter_at (Some form) epoch why.now (local_of pass.old.known) object mark) }
+    requires room { length pass.old.known.log < pass.old.limit }
+    ensures { HasRun heap.now (bias_enter_at (Some form) epoch why.now (local_of pass.old.known) object mark)
+        pass.old pass.new result }
+{
+    match form {
+        MarkForm::Biased {
+            thread,
+            epoch: old,
+            ..
+        } => {
+            if old == epoch {
+                return enter_valid(heap, pass, why, object, mark, thread);
+            }
+            rebias(heap, pass, why, object, mark, epoch)
+        }
+        MarkForm::Anonymous { .. } => rebias(heap, pass, why, object, mark, epoch),
+        _ => unreachable!(),
+    }
+}
+
+// An enter by a biased mark, where the class's prototype is of this form.
+fn enter_by(
+    heap: &Heap,
+    pass: &mut Pass,
+    why: &Purpose,
+    object: u32,
+    mark: u64,
+    prototype: u64,
+    form: MarkForm,
+) -> BiasTry
+    requires heap { IsOf heap.now pass.old }
+    requires object { object < length heap.now.heap.shape.objects }
+    requires form { read_mark prototype ≡ Some form }
+    requires due { IsDueOn heap.now pass.old why.now.task
+        (bias_enter_by (Some form) why.now (local_of pass.old.known) object mark prototype) }
+    requires room { length pass.old.known.log < pass.old.limit }
+    ensures { HasRun heap.now (bias_enter_by (Some form) why.now (local_of pass.old.known) object mark prototype)
+        pass.old pass.new result }
+{
+    match form {
+        MarkForm::Neutral { .. } => unbias(heap, pass, why, object, mark, prototype),
+        MarkForm::Anonymous { epoch, .. } => match mark_form(mark) {
+            Some(bias) => enter_at(heap, pass, why, object, mark, bias, epoch),
+            None => unreachable!(),
+        },
+        _ => unreachable!(),
+    }
+}
+
+// An enter by a biased mark: the class's prototype says whether the class may be biased, and which epoch is valid.
+fn enter_biased(
+    heap: &Heap,
+    pass: &mut Pass,
+    why: &Purpose,
+    class: u32,
+    object: u32,
+    mark: u64,
+) -> BiasTry
+    requires heap { IsOf heap.now pass.old }
+    requires object { object < length heap.now.heap.shape.objects }
+    requires due { IsDueOn heap.now pass.old why.now.task
+        (prototype_enter why.now (local_of pass.old.known) class object mark) }
+    requires room { length pass.old.known.log < pass.old.limit }
+    ensures { HasRun heap.now (prototype_enter why.now (local_of pass.old.known) class object mark)
+        pass.old pass.new result }
+{
+    let prototype = heap.load(pass, why, Stage::Calm, Name::Prototype { class });
+    match mark_form(prototype) {
+        Some(form) => enter_by(heap, pass, why, object, mark, prototype, form),
+        None => unreachable!(),
+    }
+}
+
+/// Enters the object of this class under a bias to the thread, as far as that needs no safepoint.
+///
+/// `Took(BiasOwn)` says that the mark was validly biased to the thread and is left as it is. `Took(BiasTaken)` says that
+/// the mark was biased to nobody, or in an epoch that is over, and was exchanged for a valid bias to the thread. Either
+/// way the hold word is stored and the Enter logged. `Unbiased { mark }` says that the mark has no bias pattern: it was
+/// found so, or it was biased though its class's prototype is neutral, and was exchanged for the prototype.
+/// `Valid { mark }` says that the mark is validly biased to another thread. `Raced { expected, found }` says that an
+/// exchange expected the biased mark and found another, which it left. In these three no hold was taken and nothing
+/// logged, and the thread's own words are as they were.
+pub fn bias_enter(heap: &Heap, pass: &mut Pass, why: &Purpose, class: u32, object: u32) -> BiasTry
+    requires heap { IsOf heap.now pass.old }
+    requires object { object < length heap.now.heap.shape.objects }
+    requires due { IsDueOn heap.now pass.old why.now.task
+        (bias_enter_steps why.now (local_of pass.old.known) class object) }
+    requires room { length pass.old.known.log < pass.old.limit }
+    ensures run { HasRun heap.now (bias_enter_steps why.now (local_of pass.old.known) class object)
+        pass.old pass.new result }
+    ensures kept { IsKeptUnlessTook result (local_of pass.old.known) (local_of pass.new.known) }
+{
+    let mark = heap.load(pass, why, Stage::Calm, Name::Mark { object });
+    if is_biased(mark) {
+        return enter_biased(heap, pass, why, class, object, mark);
+    }
+    BiasTry::Unbiased { mark }
+}

@@ -1,0 +1,52 @@
+//! How a thread leaves a hold under a bias.
+ghost use Rattle.std.specs.Prelude.{◌≡◌, ◌<◌, length, false};
+ghost use Rattle.core_world.specs.Locks.{hold_count};
+ghost use Rattle.core_world.specs.Threads.Known.{local_of};
+ghost use Rattle.core_world.specs.Trees.BiasSteps.{bias_exit_steps};
+ghost use Rattle.core_world.specs.Trees.Plans.{top_place};
+ghost use Rattle.heap_table.specs.Parts.{IsDueOn, HasRun};
+ghost use Rattle.heap_table.specs.Seen.{IsOf};
+ghost use Rattle.bias_lock.specs.Parts.{marked_exit};
+
+use crate::words::is_biased;
+use core_world::{Name, Stage};
+use heap_table::{Heap, Pass, Purpose};
+use stack_lock::{leave, raise, top_place};
+
+// The mark says whether it is a bias under which the hold is left.
+fn leave_marked(heap: &Heap, pass: &mut Pass, why: &Purpose, object: u32, place: u32) -> bool
+    requires heap { IsOf heap.now pass.old }
+    requires place { place ≡ top_place object pass.old.known.holds }
+    requires due { IsDueOn heap.now pass.old why.now.task
+        (marked_exit why.now (local_of pass.old.known) object) }
+    requires room { length pass.old.known.log < pass.old.limit }
+    ensures run { HasRun heap.now (marked_exit why.now (local_of pass.old.known) object) pass.old pass.new result }
+    ensures kept { result ≡ false → local_of pass.new.known ≡ local_of pass.old.known }
+{
+    let mark = heap.load(pass, why, Stage::Calm, Name::Mark { object });
+    if is_biased(mark) {
+        leave(heap, pass, why, object, place);
+        return true;
+    }
+    false
+}
+
+/// Leaves the thread's newest hold of the object, of which it has one, where the object's mark has the bias pattern.
+///
+/// `true` says that it has: the hold word is cleared and the Exit logged. The mark is left as it is, so that the bias
+/// stays. `false` says that it has not: nothing is let go and nothing logged. Either way the object's stamp was raised
+/// before, where this is the thread's last hold.
+pub fn bias_exit(heap: &Heap, pass: &mut Pass, why: &Purpose, object: u32) -> bool
+    requires heap { IsOf heap.now pass.old }
+    requires object { object < length heap.now.heap.shape.objects }
+    requires held { 0 < hold_count object pass.old.known.holds }
+    requires due { IsDueOn heap.now pass.old why.now.task (bias_exit_steps why.now (local_of pass.old.known) object) }
+    requires room { length pass.old.known.log < pass.old.limit }
+    ensures run { HasRun heap.now (bias_exit_steps why.now (local_of pass.old.known) object)
+        pass.old pass.new result }
+    ensures kept { result ≡ false → local_of pass.new.known ≡ local_of pass.old.known }
+{
+    let place = top_place(pass, object);
+    raise(heap, pass, why, object);
+    leave_marked(heap, pass, why, object, place)
+}
