@@ -1,0 +1,2 @@
+mod OwnersRead
+mod OwningSteps

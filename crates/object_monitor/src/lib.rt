@@ -1,0 +1,15 @@
+//! Monitors: how a thread enters and leaves one.
+//!
+//! This is HotSpot's heavyweight locking of OpenJDK 8, as `objectMonitor.cpp` has it. The owner word of a free monitor is
+//! exchanged for the thread, and a thread that owns the monitor counts its recursions. Where a lock record of the thread
+//! was the owner, from before the lock was inflated, the thread takes its place. At the last exit the owner word is
+//! cleared. Each hold by a monitor has a lock record, too, whose displaced word is 3.
+//!
+//! Each function makes the steps of its tree in `core_world`, as they are due, on the words of a `heap_table` heap, and
+//! answers what the tree answers. None takes memory.
+#![tactic(auto)]
+
+mod exits;
+mod owners;
+
+pub use exits::monitor_exit;
