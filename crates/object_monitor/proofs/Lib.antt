@@ -1,2 +1,4 @@
+mod Grabbing
 mod OwnersRead
 mod OwningSteps
+mod RecursionRoom

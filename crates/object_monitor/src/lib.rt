@@ -9,7 +9,9 @@
 //! answers what the tree answers. None takes memory.
 #![tactic(auto)]
 
+mod enters;
 mod exits;
 mod owners;
 
+pub use enters::monitor_enter;
 pub use exits::monitor_exit;
