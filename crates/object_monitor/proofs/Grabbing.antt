@@ -1,6 +1,5 @@
 -- What the exchange of an owner word leaves of its thread's knowledge.
 use Rattle.std.proofs.Common.{◌≡◌, ℕ, Bool, true, false, cond, refl}
-use Rattle.plain_monitor.specs.declared.entry.Logged.{Logged}
 use Rattle.core_world.specs.Words.Acts.{hits}
 use Rattle.core_world.specs.Words.Shape.{Shape}
 use Rattle.core_world.specs.Steps.{known_after, known_hit, known_miss}

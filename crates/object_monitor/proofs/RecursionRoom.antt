@@ -1,6 +1,6 @@
 -- The recursions that an owner raises fit their word: the monitor is that of the object, so they count hold words, of which there are 64.
 -- That follows from the sound worlds behind the thread's next steps: the one that raises them, and those up to its new hold word.
-use Rattle.std.proofs.Common.{◌≡◌, ◌≢◌, ℕ, suc, ◌+◌, ◌^◌, ◌<◌, ◌≤◌, ◌==◌, ◌||◌, eq-eqb, ne_eqb, eqb-true, Bool, true, false, cond, List, [], ◌∷◌, length, slice_index, Option, Some, None, refl, sym, ap, ◌∙◌, subst, arith, inl, inr}
+use Rattle.std.proofs.Common.{◌≡◌, ℕ, suc, ◌+◌, ◌^◌, ◌<◌, ◌≤◌, ◌||◌, eq-eqb, ne_eqb, eqb-true, Bool, true, false, cond, List, [], ◌∷◌, length, slice_index, Option, Some, None, refl, sym, ap, ◌∙◌, subst, arith, inl, inr}
 use Rattle.mark_word.specs.declared.mark.MarkForm.{MarkForm}
 use Rattle.mark_word.specs.declared.mark.MarkForm.TheVariants.{Inflating, Neutral, Anonymous, Biased, Locked, Inflated, Marked}
 use Rattle.mark_word.specs.declared.owner.OwnerForm.{OwnerForm}
@@ -9,14 +9,13 @@ use Rattle.mark_word.specs.Mark.{read_mark}
 use Rattle.mark_word.specs.Owner.{read_owner}
 use Rattle.plain_monitor.specs.Monitor.{is_thread}
 use Rattle.plain_monitor.specs.declared.entry.Path.TheVariants.{MonitorAgain}
-use Rattle.core_world.specs.declared.name.Name.{Name}
-use Rattle.core_world.specs.declared.name.Name.TheVariants.{Mark, Displaced, Hold, Owner, Recursions}
+use Rattle.core_world.specs.declared.name.Name.TheVariants.{Displaced, Hold, Recursions}
 use Rattle.core_world.specs.declared.plan.StepPlan.{StepPlan}
 use Rattle.core_world.specs.declared.stage.Stage.{Stage}
 use Rattle.core_world.specs.declared.stage.Stage.TheVariants.{Calm, Ahead, Enters}
 use Rattle.core_world.specs.declared.task.Task.{Task}
 use Rattle.core_world.specs.Due.{IsDue, IsNext}
-use Rattle.core_world.specs.Locks.{Lock, Open, BiasedTo, OnRecord, OwnedBy, lock, lock_form, record_lock, owner_lock, holder, who, marks, owner_words, prototype_of, inflations, displaced_words, hold_count, recursion_count, count_where, has_epoch, owner_at}
+use Rattle.core_world.specs.Locks.{Lock, Open, BiasedTo, OnRecord, OwnedBy, lock, lock_form, owner_lock, holder, who, marks, owner_words, prototype_of, inflations, displaced_words, hold_count, recursion_count, count_where, has_epoch, owner_at}
 use Rattle.core_world.specs.Steps.{known_after, world_after}
 use Rattle.core_world.specs.Threads.Known.{Known, Local, local_of}
 use Rattle.core_world.specs.Threads.Stages.{Inflation, bears, one_if, path_into, recursions_ahead, recursions_behind, revocation_in}
@@ -26,7 +25,6 @@ use Rattle.core_world.specs.Trees.Plans.{Purpose, load, free_place, done_with}
 use Rattle.core_world.specs.Trees.Todo.{Todo, step, ◌>>=◌}
 use Rattle.core_world.specs.Valid.{Fits}
 use Rattle.core_world.specs.Words.Forms.{hold_word, is_biased, is_biased_form, is_neutral, monitor_in, monitor_form, epoch_in}
-use Rattle.core_world.specs.Words.Names.{with_word}
 use Rattle.core_world.specs.World.{World}
 use Rattle.core_world.proofs.CallRests.{next_due, then_due}
 use Rattle.core_world.proofs.KnowledgeParts.{by_equal}

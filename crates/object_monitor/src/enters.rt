@@ -78,13 +78,7 @@ fn monitor_again(
 }
 
 // A lock record of the thread owns the monitor: the thread itself becomes the owner, with one recursion.
-fn monitor_own(
-    heap: &Heap,
-    pass: &mut Pass,
-    why: &Purpose,
-    object: u32,
-    monitor: u32,
-) -> Turn<Path>
+fn monitor_own(heap: &Heap, pass: &mut Pass, why: &Purpose, object: u32, monitor: u32) -> Turn<Path>
     requires heap { IsOf heap.now pass.old }
     requires object { object < length heap.now.heap.shape.objects }
     requires due { IsDueOn heap.now pass.old why.now.task
