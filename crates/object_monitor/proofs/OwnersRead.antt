@@ -10,6 +10,7 @@ none_of : (r : Option OwnerForm) → ((f : OwnerForm) → r ≡ Some f → ⊥) 
 none_of None h = refl
 none_of (Some f) h = absurd (h f refl)
 
-pub owner_read : (word : ℕ) (r : Result OwnerForm BadMark) → IfOk r (λ f. SpellsOwner f word) → OnErr r ((f : OwnerForm) → SpellsOwner f word → ⊥) → result_ok r ≡ read_owner word
+pub owner_read : (word : ℕ) (r : Result OwnerForm BadMark) → IfOk r (λ f. SpellsOwner f word)
+    → OnErr r ((f : OwnerForm) → SpellsOwner f word → ⊥) → result_ok r ≡ read_owner word
 owner_read word (Ok f) found none = sym (ap read_owner found.1 ∙ read_owner-owner_of f found.0)
 owner_read word (Err e) found none = none_of (read_owner word) (λ f is. none f (read_owner-spells word f is))

@@ -16,5 +16,6 @@ pub after_owning : (f : Option OwnerForm) (h : HeapSeen) (p q : PassSeen) (e : P
     → IsDueOn h p e.task (own_steps f e k o m >>= (λ _. d)) → HasRun h (own_steps f e k o m) p q tt → IsDueOn h q e.task d
 after_owning None h p q e k o m d due run = absurd run.ran.by
 after_owning (Some Free) h p q e k o m d due run = absurd run.ran.by
-after_owning (Some (ByThread u)) h p q e k o m d due run = subst (λ (x : Known). IsDue h.heap.shape h.heap.start h.heap.biasing x e.task d) (sym run.ran.by.0) due
+after_owning (Some (ByThread u)) h p q e k o m d due run =
+    subst (λ (x : Known). IsDue h.heap.shape h.heap.start h.heap.biasing x e.task d) (sym run.ran.by.0) due
 after_owning (Some (ByRecord u r)) h p q e k o m d due run = part_then h p q e.task (take_over_plan e k.thread o m) _ (λ _. d) tt due refl run

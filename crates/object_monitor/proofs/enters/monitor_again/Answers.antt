@@ -18,7 +18,9 @@ load-recursions-requires c =
 pub overflow_add-recursions : goal.overflow_add-recursions
 overflow_add-recursions c =
     let a = c.args in
-    let room = recursion_room a.heap.now a.pass.now c.load-recursions.new.pass a.why.now a.object a.monitor c.load-recursions.result c.requires.heap c.requires.due c.load-recursions.ensures in
+    let room =
+    recursion_room a.heap.now a.pass.now c.load-recursions.new.pass a.why.now a.object a.monitor c.load-recursions.result
+    c.requires.heap c.requires.due c.load-recursions.ensures in
     omega (arith, room)
 
 pub store-requires : goal.store-requires

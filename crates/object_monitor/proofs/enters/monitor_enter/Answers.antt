@@ -22,7 +22,8 @@ exchange-found-requires c =
     let e = a.why.now in
     let t = a.pass.now.known.thread in
     let plan = grab_plan e t a.object a.monitor in
-    let word : c.encode_owner-word.result ≡ owner_of (ByThread t) = c.encode_owner-word.ensures ∙ ap (λ u. owner_of (ByThread u)) c.thread-thread.ensures.same in
+    let word : c.encode_owner-word.result ≡ owner_of (ByThread t) =
+    c.encode_owner-word.ensures ∙ ap (λ u. owner_of (ByThread u)) c.thread-thread.ensures.same in
     let same : swap_plan e (Grabs a.object) (Owner a.monitor) c.encode_owner-free.result c.encode_owner-word.result ≡ plan =
     λ i. swap_plan e (Grabs a.object) (Owner a.monitor) (c.encode_owner-free.ensures i) (word i) in
     subst (CanStep h a.pass.now) (sym same) (can h a.pass.now e.task plan _ c.requires.due refl c.requires.heap tt refl)
@@ -37,7 +38,8 @@ enter_by-requires-clause-due c =
     let q = c.exchange-found.new.pass in
     let n = c.exchange-found.result in
     let plan = grab_plan e t a.object a.monitor in
-    let word : c.encode_owner-word.result ≡ owner_of (ByThread t) = c.encode_owner-word.ensures ∙ ap (λ u. owner_of (ByThread u)) c.thread-thread.ensures.same in
+    let word : c.encode_owner-word.result ≡ owner_of (ByThread t) =
+    c.encode_owner-word.ensures ∙ ap (λ u. owner_of (ByThread u)) c.thread-thread.ensures.same in
     let same : swap_plan e (Grabs a.object) (Owner a.monitor) c.encode_owner-free.result c.encode_owner-word.result ≡ plan =
     λ i. swap_plan e (Grabs a.object) (Owner a.monitor) (c.encode_owner-free.ensures i) (word i) in
     let s = subst (λ (x : StepPlan). HasStepped h a.pass.now q x n) same c.exchange-found.ensures in
@@ -57,7 +59,8 @@ unreachable-requires c =
     let q = c.exchange-found.new.pass in
     let n = c.exchange-found.result in
     let plan = grab_plan e t a.object a.monitor in
-    let word : c.encode_owner-word.result ≡ owner_of (ByThread t) = c.encode_owner-word.ensures ∙ ap (λ u. owner_of (ByThread u)) c.thread-thread.ensures.same in
+    let word : c.encode_owner-word.result ≡ owner_of (ByThread t) =
+    c.encode_owner-word.ensures ∙ ap (λ u. owner_of (ByThread u)) c.thread-thread.ensures.same in
     let same : swap_plan e (Grabs a.object) (Owner a.monitor) c.encode_owner-free.result c.encode_owner-word.result ≡ plan =
     λ i. swap_plan e (Grabs a.object) (Owner a.monitor) (c.encode_owner-free.ensures i) (word i) in
     let s = subst (λ (x : StepPlan). HasStepped h a.pass.now q x n) same c.exchange-found.ensures in
@@ -77,7 +80,8 @@ returns c =
     let r = c.enter_by.new.pass in
     let out = c.enter_by.result in
     let plan = grab_plan e t a.object a.monitor in
-    let word : c.encode_owner-word.result ≡ owner_of (ByThread t) = c.encode_owner-word.ensures ∙ ap (λ u. owner_of (ByThread u)) c.thread-thread.ensures.same in
+    let word : c.encode_owner-word.result ≡ owner_of (ByThread t) =
+    c.encode_owner-word.ensures ∙ ap (λ u. owner_of (ByThread u)) c.thread-thread.ensures.same in
     let same : swap_plan e (Grabs a.object) (Owner a.monitor) c.encode_owner-free.result c.encode_owner-word.result ≡ plan =
     λ i. swap_plan e (Grabs a.object) (Owner a.monitor) (c.encode_owner-free.ensures i) (word i) in
     let s = subst (λ (x : StepPlan). HasStepped h a.pass.now q x n) same c.exchange-found.ensures in

@@ -20,8 +20,10 @@ store-requires c =
     let e = a.why.now in
     let k = a.pass.now.known in
     let plan = take_over_plan e k.thread a.object a.monitor in
-    let word : c.encode_owner-word.result ≡ owner_of (ByThread k.thread) = c.encode_owner-word.ensures ∙ ap (λ t. owner_of (ByThread t)) c.thread-thread.ensures.same in
-    let same : store_plan e (TakesOver a.object) (Owner a.monitor) c.encode_owner-word.result ≡ plan = ap (store_plan e (TakesOver a.object) (Owner a.monitor)) word in
+    let word : c.encode_owner-word.result ≡ owner_of (ByThread k.thread) =
+    c.encode_owner-word.ensures ∙ ap (λ t. owner_of (ByThread t)) c.thread-thread.ensures.same in
+    let same : store_plan e (TakesOver a.object) (Owner a.monitor) c.encode_owner-word.result ≡ plan =
+    ap (store_plan e (TakesOver a.object) (Owner a.monitor)) word in
     subst (CanStep h a.pass.now) (sym same) (can h a.pass.now e.task plan _ c.requires.due refl c.requires.heap tt refl)
 
 pub store-requires-2 : goal.store-requires-2
@@ -32,8 +34,10 @@ store-requires-2 c =
     let k = a.pass.now.known in
     let q = c.store.new.pass in
     let plan = take_over_plan e k.thread a.object a.monitor in
-    let word : c.encode_owner-word.result ≡ owner_of (ByThread k.thread) = c.encode_owner-word.ensures ∙ ap (λ t. owner_of (ByThread t)) c.thread-thread.ensures.same in
-    let same : store_plan e (TakesOver a.object) (Owner a.monitor) c.encode_owner-word.result ≡ plan = ap (store_plan e (TakesOver a.object) (Owner a.monitor)) word in
+    let word : c.encode_owner-word.result ≡ owner_of (ByThread k.thread) =
+    c.encode_owner-word.ensures ∙ ap (λ t. owner_of (ByThread t)) c.thread-thread.ensures.same in
+    let same : store_plan e (TakesOver a.object) (Owner a.monitor) c.encode_owner-word.result ≡ plan =
+    ap (store_plan e (TakesOver a.object) (Owner a.monitor)) word in
     let s = subst (λ (x : StepPlan). HasStepped h a.pass.now q x c.store.result) same c.store.ensures in
     can h q e.task (raise_count_plan e a.object a.monitor 0) _ (rest_due h a.pass.now e.task plan _ c.requires.due refl q c.store.result s) refl s.heap tt refl
 
@@ -46,8 +50,10 @@ record-requires-clause-due c =
     let q = c.store.new.pass in
     let r = c.store-2.new.pass in
     let plan = take_over_plan e k.thread a.object a.monitor in
-    let word : c.encode_owner-word.result ≡ owner_of (ByThread k.thread) = c.encode_owner-word.ensures ∙ ap (λ t. owner_of (ByThread t)) c.thread-thread.ensures.same in
-    let same : store_plan e (TakesOver a.object) (Owner a.monitor) c.encode_owner-word.result ≡ plan = ap (store_plan e (TakesOver a.object) (Owner a.monitor)) word in
+    let word : c.encode_owner-word.result ≡ owner_of (ByThread k.thread) =
+    c.encode_owner-word.ensures ∙ ap (λ t. owner_of (ByThread t)) c.thread-thread.ensures.same in
+    let same : store_plan e (TakesOver a.object) (Owner a.monitor) c.encode_owner-word.result ≡ plan =
+    ap (store_plan e (TakesOver a.object) (Owner a.monitor)) word in
     let s = subst (λ (x : StepPlan). HasStepped h a.pass.now q x c.store.result) same c.store.ensures in
     let t = c.store-2.ensures in
     let rest = rest_due h a.pass.now e.task plan _ c.requires.due refl q c.store.result s in
@@ -66,8 +72,10 @@ returns c =
     let end = c.record.new.pass in
     let out = c.record.result in
     let plan = take_over_plan e k.thread a.object a.monitor in
-    let word : c.encode_owner-word.result ≡ owner_of (ByThread k.thread) = c.encode_owner-word.ensures ∙ ap (λ t. owner_of (ByThread t)) c.thread-thread.ensures.same in
-    let same : store_plan e (TakesOver a.object) (Owner a.monitor) c.encode_owner-word.result ≡ plan = ap (store_plan e (TakesOver a.object) (Owner a.monitor)) word in
+    let word : c.encode_owner-word.result ≡ owner_of (ByThread k.thread) =
+    c.encode_owner-word.ensures ∙ ap (λ t. owner_of (ByThread t)) c.thread-thread.ensures.same in
+    let same : store_plan e (TakesOver a.object) (Owner a.monitor) c.encode_owner-word.result ≡ plan =
+    ap (store_plan e (TakesOver a.object) (Owner a.monitor)) word in
     let s = subst (λ (x : StepPlan). HasStepped h a.pass.now q x c.store.result) same c.store.ensures in
     let t = c.store-2.ensures in
     let local : local_of r.known ≡ local_of k = ap local_of t.known ∙ ap local_of s.known in

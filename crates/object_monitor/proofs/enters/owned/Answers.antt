@@ -19,7 +19,8 @@ store-requires c =
     let a = c.args in
     let e = a.why.now in
     let plan = store_entering_plan e a.pass.now.known.thread a.object in
-    let same : store_plan e Calm (Waiting c.thread.result) c.encode_wait-entering.result ≡ plan = λ i. store_plan e Calm (Waiting (c.thread.ensures.same i)) (c.encode_wait-entering.ensures i) in
+    let same : store_plan e Calm (Waiting c.thread.result) c.encode_wait-entering.result ≡ plan =
+    λ i. store_plan e Calm (Waiting (c.thread.ensures.same i)) (c.encode_wait-entering.ensures i) in
     subst (CanStep a.heap.now a.pass.now) (sym same) (can a.heap.now a.pass.now e.task plan _ c.requires.due refl c.requires.heap tt refl)
 
 pub returns : goal.returns
@@ -28,7 +29,8 @@ returns c =
     let e = a.why.now in
     let q = c.store.new.pass in
     let plan = store_entering_plan e a.pass.now.known.thread a.object in
-    let same : store_plan e Calm (Waiting c.thread.result) c.encode_wait-entering.result ≡ plan = λ i. store_plan e Calm (Waiting (c.thread.ensures.same i)) (c.encode_wait-entering.ensures i) in
+    let same : store_plan e Calm (Waiting c.thread.result) c.encode_wait-entering.result ≡ plan =
+    λ i. store_plan e Calm (Waiting (c.thread.ensures.same i)) (c.encode_wait-entering.ensures i) in
     let s = subst (λ (x : StepPlan). HasStepped a.heap.now a.pass.now q x c.store.result) same c.store.ensures in
     let out = Pending (why.Owned a.word) in
     stepped a.heap.now a.pass.now q q plan _ c.store.result out s refl (ends a.heap.now q out s.heap)

@@ -18,7 +18,8 @@ store-requires c =
     let e = a.why.now in
     let k = a.pass.now.known in
     let plan = displace_plan e a.stage k.thread (free_place k.holds) 3 in
-    let same : store_plan e a.stage (Displaced c.thread.result c.free_place.result) 3 ≡ plan = λ i. store_plan e a.stage (Displaced (c.thread.ensures.same i) (c.free_place.ensures.place i)) 3 in
+    let same : store_plan e a.stage (Displaced c.thread.result c.free_place.result) 3 ≡ plan =
+    λ i. store_plan e a.stage (Displaced (c.thread.ensures.same i) (c.free_place.ensures.place i)) 3 in
     subst (CanStep a.heap.now a.pass.now) (sym same) (can a.heap.now a.pass.now e.task plan _ c.requires.due refl c.requires.heap tt refl)
 
 pub hold-requires-clause-due : goal.hold-requires-clause-due
@@ -29,7 +30,8 @@ hold-requires-clause-due c =
     let k = a.pass.now.known in
     let q = c.store.new.pass in
     let plan = displace_plan e a.stage k.thread (free_place k.holds) 3 in
-    let same : store_plan e a.stage (Displaced c.thread.result c.free_place.result) 3 ≡ plan = λ i. store_plan e a.stage (Displaced (c.thread.ensures.same i) (c.free_place.ensures.place i)) 3 in
+    let same : store_plan e a.stage (Displaced c.thread.result c.free_place.result) 3 ≡ plan =
+    λ i. store_plan e a.stage (Displaced (c.thread.ensures.same i) (c.free_place.ensures.place i)) 3 in
     let s = subst (λ (x : StepPlan). HasStepped h a.pass.now q x c.store.result) same c.store.ensures in
     let local : local_of q.known ≡ local_of k = ap local_of s.known in
     let rest = rest_due h a.pass.now e.task plan _ c.requires.due refl q c.store.result s in
@@ -46,7 +48,8 @@ returns c =
     let r = c.hold.new.pass in
     let path = c.hold.result in
     let plan = displace_plan e a.stage k.thread (free_place k.holds) 3 in
-    let same : store_plan e a.stage (Displaced c.thread.result c.free_place.result) 3 ≡ plan = λ i. store_plan e a.stage (Displaced (c.thread.ensures.same i) (c.free_place.ensures.place i)) 3 in
+    let same : store_plan e a.stage (Displaced c.thread.result c.free_place.result) 3 ≡ plan =
+    λ i. store_plan e a.stage (Displaced (c.thread.ensures.same i) (c.free_place.ensures.place i)) 3 in
     let s = subst (λ (x : StepPlan). HasStepped h a.pass.now q x c.store.result) same c.store.ensures in
     let local : local_of q.known ≡ local_of k = ap local_of s.known in
     let run = subst (λ (l : Local). HasRun h (hold_steps e l a.object a.path) q r path) local c.hold.ensures in

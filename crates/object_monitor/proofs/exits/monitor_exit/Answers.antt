@@ -34,9 +34,11 @@ own-requires-clause-due c =
     let local : local_of q.known ≡ l = ap local_of s.known in
     let form = sym c.owner_form.ensures ∙ c.in-Some.is in
     let rest = rest_due h a.pass.now e.task (load e (Owner a.monitor)) _ c.requires.due refl q n s in
-    let due = subst (λ (f : Option OwnerForm). IsDueOn h q e.task (own_steps f e l a.object a.monitor >>= (λ _. counted_exit e l a.object a.monitor))) form rest in
+    let due =
+    subst (λ (f : Option OwnerForm). IsDueOn h q e.task (own_steps f e l a.object a.monitor >>= (λ _. counted_exit e l a.object a.monitor))) form rest in
     subst (λ (x : Local). IsDueOn h q e.task (own_steps (Some c.in-Some.form) e x a.object a.monitor)) (sym local)
-    (part_due h.heap.shape h.heap.start h.heap.biasing q.known e.task (own_steps (Some c.in-Some.form) e l a.object a.monitor) (λ _. counted_exit e l a.object a.monitor) due)
+    (part_due h.heap.shape h.heap.start h.heap.biasing q.known e.task (own_steps (Some c.in-Some.form) e l a.object a.monitor)
+    (λ _. counted_exit e l a.object a.monitor) due)
 
 pub leave_owned-requires-clause-due : goal.leave_owned-requires-clause-due
 leave_owned-requires-clause-due c =
@@ -51,7 +53,8 @@ leave_owned-requires-clause-due c =
     let local : local_of q.known ≡ l = ap local_of s.known in
     let form = sym c.owner_form.ensures ∙ c.in-Some.is in
     let rest = rest_due h a.pass.now e.task (load e (Owner a.monitor)) _ c.requires.due refl q n s in
-    let due = subst (λ (f : Option OwnerForm). IsDueOn h q e.task (own_steps f e l a.object a.monitor >>= (λ _. counted_exit e l a.object a.monitor))) form rest in
+    let due =
+    subst (λ (f : Option OwnerForm). IsDueOn h q e.task (own_steps f e l a.object a.monitor >>= (λ _. counted_exit e l a.object a.monitor))) form rest in
     let owned = subst (λ (x : Local). HasRun h (own_steps (Some c.in-Some.form) e x a.object a.monitor) q r tt) local c.own.ensures.run in
     subst (λ (x : Local). IsDueOn h r e.task (counted_exit e x a.object a.monitor)) (sym (c.own.ensures.kept ∙ local))
     (after_owning (Some c.in-Some.form) h q r e l a.object a.monitor (counted_exit e l a.object a.monitor) due owned)
@@ -73,7 +76,8 @@ unreachable-requires c =
     let s = c.load-owner.ensures in
     let rest = rest_due h a.pass.now e.task (load e (Owner a.monitor)) _ c.requires.due refl q n s in
     not_due h q e.task (own_steps (read_owner n) e l a.object a.monitor >>= (λ _. counted_exit e l a.object a.monitor)) s.heap rest
-    (ap (λ (f : Option OwnerForm). own_steps f e l a.object a.monitor >>= (λ _. counted_exit e l a.object a.monitor)) (sym c.owner_form.ensures ∙ c.in-None.is))
+    (ap (λ (f : Option OwnerForm). own_steps f e l a.object a.monitor >>= (λ _. counted_exit e l a.object a.monitor))
+    (sym c.owner_form.ensures ∙ c.in-None.is))
 
 pub returns : goal.returns
 returns c =
@@ -90,6 +94,7 @@ returns c =
     let form = sym c.owner_form.ensures ∙ c.in-Some.is in
     let owned = subst (λ (x : Local). HasRun h (own_steps (Some c.in-Some.form) e x a.object a.monitor) q r tt) local c.own.ensures.run in
     let left = subst (λ (x : Local). HasRun h (counted_exit e x a.object a.monitor) r end tt) (c.own.ensures.kept ∙ local) c.leave_owned.ensures in
-    let run = in_turn h q r end (own_steps (Some c.in-Some.form) e l a.object a.monitor) (λ _. counted_exit e l a.object a.monitor) tt tt owned left in
+    let run =
+    in_turn h q r end (own_steps (Some c.in-Some.form) e l a.object a.monitor) (λ _. counted_exit e l a.object a.monitor) tt tt owned left in
     stepped h a.pass.now q end (load e (Owner a.monitor)) _ n tt s refl
     (subst (λ (f : Option OwnerForm). HasRun h (own_steps f e l a.object a.monitor >>= (λ _. counted_exit e l a.object a.monitor)) q end tt) (sym form) run)

@@ -20,10 +20,13 @@ store-requires c =
     let h = a.heap.now in
     let e = a.why.now in
     let k = a.pass.now.known in
-    let due = subst (λ (f : OwnerForm). IsDueOn h a.pass.now e.task (own_steps (Some f) e (local_of k) a.object a.monitor)) c.in-ByRecord.is c.requires.due in
+    let due =
+    subst (λ (f : OwnerForm). IsDueOn h a.pass.now e.task (own_steps (Some f) e (local_of k) a.object a.monitor)) c.in-ByRecord.is c.requires.due in
     let plan = take_over_plan e k.thread a.object a.monitor in
-    let word : c.encode_owner-word.result ≡ owner_of (ByThread k.thread) = c.encode_owner-word.ensures ∙ ap (λ t. owner_of (ByThread t)) c.thread-thread.ensures.same in
-    let same : store_plan e (TakesOver a.object) (Owner a.monitor) c.encode_owner-word.result ≡ plan = ap (store_plan e (TakesOver a.object) (Owner a.monitor)) word in
+    let word : c.encode_owner-word.result ≡ owner_of (ByThread k.thread) =
+    c.encode_owner-word.ensures ∙ ap (λ t. owner_of (ByThread t)) c.thread-thread.ensures.same in
+    let same : store_plan e (TakesOver a.object) (Owner a.monitor) c.encode_owner-word.result ≡ plan =
+    ap (store_plan e (TakesOver a.object) (Owner a.monitor)) word in
     subst (CanStep h a.pass.now) (sym same) (can h a.pass.now e.task plan _ due refl c.requires.heap tt refl)
 
 pub store-requires-in-ByRecord : goal.store-requires-in-ByRecord
@@ -33,10 +36,13 @@ store-requires-in-ByRecord c =
     let e = a.why.now in
     let k = a.pass.now.known in
     let q = c.store.new.pass in
-    let due = subst (λ (f : OwnerForm). IsDueOn h a.pass.now e.task (own_steps (Some f) e (local_of k) a.object a.monitor)) c.in-ByRecord.is c.requires.due in
+    let due =
+    subst (λ (f : OwnerForm). IsDueOn h a.pass.now e.task (own_steps (Some f) e (local_of k) a.object a.monitor)) c.in-ByRecord.is c.requires.due in
     let plan = take_over_plan e k.thread a.object a.monitor in
-    let word : c.encode_owner-word.result ≡ owner_of (ByThread k.thread) = c.encode_owner-word.ensures ∙ ap (λ t. owner_of (ByThread t)) c.thread-thread.ensures.same in
-    let same : store_plan e (TakesOver a.object) (Owner a.monitor) c.encode_owner-word.result ≡ plan = ap (store_plan e (TakesOver a.object) (Owner a.monitor)) word in
+    let word : c.encode_owner-word.result ≡ owner_of (ByThread k.thread) =
+    c.encode_owner-word.ensures ∙ ap (λ t. owner_of (ByThread t)) c.thread-thread.ensures.same in
+    let same : store_plan e (TakesOver a.object) (Owner a.monitor) c.encode_owner-word.result ≡ plan =
+    ap (store_plan e (TakesOver a.object) (Owner a.monitor)) word in
     let s = subst (λ (x : StepPlan). HasStepped h a.pass.now q x c.store.result) same c.store.ensures in
     can h q e.task (reset_count_plan e a.monitor) _ (rest_due h a.pass.now e.task plan _ due refl q c.store.result s) refl s.heap tt refl
 
