@@ -1,2 +1,6 @@
+mod Grabbing
 mod Inflated
 mod Inflating
+mod OwnersRead
+mod OwningSteps
+mod RecursionRoom

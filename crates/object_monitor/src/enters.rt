@@ -1,0 +1,172 @@
+//! How a thread takes a hold by the monitor.
+ghost use Rattle.std.specs.Prelude.{◌≡◌, ◌<◌, length, Some};
+ghost use Rattle.core_world.specs.Threads.Known.{local_of};
+ghost use Rattle.core_world.specs.Trees.MonitorSteps.{record_steps, owned_steps, monitor_again_steps, monitor_own_steps};
+ghost use Rattle.core_world.specs.Trees.MonitorSteps.{monitor_enter_at, monitor_enter_steps};
+ghost use Rattle.heap_table.specs.Parts.{IsDueOn, HasRun};
+ghost use Rattle.heap_table.specs.Seen.{IsOf};
+
+use crate::owners::owner_form;
+use core_world::{Name, Stage, Turn, Why};
+use heap_table::{Heap, Pass, Purpose};
+use mark_word::{OwnerForm, WaitForm, encode_owner, encode_wait};
+use plain_monitor::Path;
+use stack_lock::{free_place, hold};
+
+// The displaced word 3 of the new record says that its hold goes by the monitor.
+fn record(
+    heap: &Heap,
+    pass: &mut Pass,
+    why: &Purpose,
+    stage: Stage,
+    object: u32,
+    path: Path,
+) -> Turn<Path>
+    requires heap { IsOf heap.now pass.old }
+    requires object { object < length heap.now.heap.shape.objects }
+    requires due { IsDueOn heap.now pass.old why.now.task
+        (record_steps why.now stage (local_of pass.old.known) object path) }
+    requires room { length pass.old.known.log < pass.old.limit }
+    ensures { HasRun heap.now (record_steps why.now stage (local_of pass.old.known) object path)
+        pass.old pass.new result }
+{
+    let at = Name::Displaced {
+        thread: pass.thread(),
+        place: free_place(pass),
+    };
+    heap.store(pass, why, stage, at, 3);
+    Turn::Done(hold(heap, pass, why, object, path))
+}
+
+// Another owns the monitor, by this owner word: the thread's waiting word says that it is entering the object.
+fn owned(heap: &Heap, pass: &mut Pass, why: &Purpose, object: u32, word: u64) -> Turn<Path>
+    requires heap { IsOf heap.now pass.old }
+    requires object { object < length heap.now.heap.shape.objects }
+    requires due { IsDueOn heap.now pass.old why.now.task
+        (owned_steps why.now (local_of pass.old.known) object word) }
+    ensures { HasRun heap.now (owned_steps why.now (local_of pass.old.known) object word) pass.old pass.new result }
+{
+    let at = Name::Waiting {
+        thread: pass.thread(),
+    };
+    let entering = encode_wait(&WaitForm::Entering { object });
+    heap.store(pass, why, Stage::Calm, at, entering);
+    Turn::Pending(Why::Owned { word })
+}
+
+// The thread owns the monitor: its recursions rise.
+fn monitor_again(
+    heap: &Heap,
+    pass: &mut Pass,
+    why: &Purpose,
+    object: u32,
+    monitor: u32,
+) -> Turn<Path>
+    requires heap { IsOf heap.now pass.old }
+    requires object { object < length heap.now.heap.shape.objects }
+    requires due { IsDueOn heap.now pass.old why.now.task
+        (monitor_again_steps why.now (local_of pass.old.known) object monitor) }
+    requires room { length pass.old.known.log < pass.old.limit }
+    ensures { HasRun heap.now (monitor_again_steps why.now (local_of pass.old.known) object monitor)
+        pass.old pass.new result }
+{
+    let at = Name::Recursions { monitor };
+    let stage = Stage::Ahead { object };
+    let recursions = heap.load(pass, why, Stage::Calm, at);
+    heap.store(pass, why, stage, at, recursions + 1);
+    record(heap, pass, why, stage, object, Path::MonitorAgain)
+}
+
+// A lock record of the thread owns the monitor: the thread itself becomes the owner, with one recursion.
+fn monitor_own(heap: &Heap, pass: &mut Pass, why: &Purpose, object: u32, monitor: u32) -> Turn<Path>
+    requires heap { IsOf heap.now pass.old }
+    requires object { object < length heap.now.heap.shape.objects }
+    requires due { IsDueOn heap.now pass.old why.now.task
+        (monitor_own_steps why.now (local_of pass.old.known) object monitor) }
+    requires room { length pass.old.known.log < pass.old.limit }
+    ensures { HasRun heap.now (monitor_own_steps why.now (local_of pass.old.known) object monitor)
+        pass.old pass.new result }
+{
+    let thread = pass.thread();
+    let word = encode_owner(&OwnerForm::ByThread { thread });
+    let stage = Stage::TakesOver { object };
+    heap.store(pass, why, stage, Name::Owner { monitor }, word);
+    let ahead = Stage::Ahead { object };
+    heap.store(pass, why, ahead, Name::Recursions { monitor }, 1);
+    record(heap, pass, why, ahead, object, Path::MonitorAgain)
+}
+
+// An enter by the owner word that the exchange found, which has this form.
+fn enter_by(
+    heap: &Heap,
+    pass: &mut Pass,
+    why: &Purpose,
+    object: u32,
+    monitor: u32,
+    found: u64,
+    form: OwnerForm,
+) -> Turn<Path>
+    requires heap { IsOf heap.now pass.old }
+    requires object { object < length heap.now.heap.shape.objects }
+    requires due { IsDueOn heap.now pass.old why.now.task
+        (monitor_enter_at (Some form) why.now (local_of pass.old.known) object monitor found) }
+    requires room { length pass.old.known.log < pass.old.limit }
+    ensures { HasRun heap.now (monitor_enter_at (Some form) why.now (local_of pass.old.known) object monitor found)
+        pass.old pass.new result }
+{
+    match form {
+        OwnerForm::Free => {
+            let stage = Stage::Grabs { object };
+            record(heap, pass, why, stage, object, Path::MonitorFirst)
+        }
+        OwnerForm::ByThread { thread } => {
+            if thread == pass.thread() {
+                monitor_again(heap, pass, why, object, monitor)
+            } else {
+                owned(heap, pass, why, object, found)
+            }
+        }
+        OwnerForm::ByRecord { thread, .. } => {
+            if thread == pass.thread() {
+                monitor_own(heap, pass, why, object, monitor)
+            } else {
+                owned(heap, pass, why, object, found)
+            }
+        }
+    }
+}
+
+/// Takes a hold of the object by its monitor, which is this one.
+///
+/// `Done(MonitorFirst)` says that the monitor was free, and the thread owns it now. `Done(MonitorAgain)` says that the
+/// thread owned it, or that a lock record of the thread did, whose place the thread has taken: the recursions are one
+/// more. Either way the hold word is stored, at a record whose displaced word is 3, and the Enter logged.
+/// `Pending(Owned { word })` says that the owner word was this one, which names another thread or a lock record of one:
+/// the monitor is left as it was, no hold was taken and nothing logged, and the thread's waiting word says that it is
+/// entering the object.
+pub fn monitor_enter(
+    heap: &Heap,
+    pass: &mut Pass,
+    why: &Purpose,
+    object: u32,
+    monitor: u32,
+) -> Turn<Path>
+    requires heap { IsOf heap.now pass.old }
+    requires object { object < length heap.now.heap.shape.objects }
+    requires due { IsDueOn heap.now pass.old why.now.task
+        (monitor_enter_steps why.now (local_of pass.old.known) object monitor) }
+    requires room { length pass.old.known.log < pass.old.limit }
+    ensures { HasRun heap.now (monitor_enter_steps why.now (local_of pass.old.known) object monitor)
+        pass.old pass.new result }
+{
+    let thread = pass.thread();
+    let stage = Stage::Grabs { object };
+    let at = Name::Owner { monitor };
+    let free = encode_owner(&OwnerForm::Free);
+    let word = encode_owner(&OwnerForm::ByThread { thread });
+    let found = heap.exchange(pass, why, stage, at, free, word);
+    match owner_form(found) {
+        Some(form) => enter_by(heap, pass, why, object, monitor, found, form),
+        None => unreachable!(),
+    }
+}
