@@ -2,3 +2,4 @@ mod Chosen
 mod Keeping
 mod Never
 mod Taking
+mod Tested

@@ -12,6 +12,8 @@ mod afters;
 mod drops;
 mod enters;
 mod exits;
+#[cfg(test)]
+mod tests;
 mod words;
 
 pub use afters::bias_after;

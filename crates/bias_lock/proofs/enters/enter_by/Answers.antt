@@ -31,7 +31,7 @@ enter_at-requires-clause-due c =
     let e = a.why.now in
     let l = local_of p.known in
     let due =
-      subst (λ (f : MarkForm). IsDueOn h p e.task (bias_enter_by (Some f) e l a.object a.mark a.prototype)) c.in-Anonymous.is c.requires.due in
+    subst (λ (f : MarkForm). IsDueOn h p e.task (bias_enter_by (Some f) e l a.object a.mark a.prototype)) c.in-Anonymous.is c.requires.due in
     subst (λ (f : Option MarkForm). IsDueOn h p e.task (bias_enter_at f c.in-Anonymous.epoch e l a.object a.mark))
     (sym c.mark_form.ensures ∙ c.in-Some.is) due
 
@@ -43,7 +43,7 @@ unreachable-requires c =
     let e = a.why.now in
     let l = local_of p.known in
     let due =
-      subst (λ (f : MarkForm). IsDueOn h p e.task (bias_enter_by (Some f) e l a.object a.mark a.prototype)) c.in-Anonymous.is c.requires.due in
+    subst (λ (f : MarkForm). IsDueOn h p e.task (bias_enter_by (Some f) e l a.object a.mark a.prototype)) c.in-Anonymous.is c.requires.due in
     not_due h p e.task (bias_enter_by (Some (Anonymous c.in-Anonymous.epoch c.in-Anonymous.age)) e l a.object a.mark a.prototype) c.requires.heap due
     (ap (λ (f : Option MarkForm). bias_enter_at f c.in-Anonymous.epoch e l a.object a.mark) (sym c.mark_form.ensures ∙ c.in-None.is))
 

@@ -28,9 +28,9 @@ exchange-found-requires c =
     let e = a.why.now in
     let plan = rebias_plan e p.known.thread a.object a.mark a.epoch in
     let word : c.encode-own.result ≡ mark_of (Biased p.known.thread a.epoch 0) =
-      c.encode-own.ensures ∙ λ i. mark_of (Biased (c.thread-thread.ensures.same i) a.epoch 0) in
+    c.encode-own.ensures ∙ λ i. mark_of (Biased (c.thread-thread.ensures.same i) a.epoch 0) in
     let same : swap_plan e (Takes a.object) (Mark a.object) a.mark c.encode-own.result ≡ plan =
-      ap (λ w. swap_plan e (Takes a.object) (Mark a.object) a.mark w) word in
+    ap (λ w. swap_plan e (Takes a.object) (Mark a.object) a.mark w) word in
     subst (CanStep h p) (sym same) (can h p e.task plan _ c.requires.due refl c.requires.heap tt refl)
 
 pub took-requires-clause-due : goal.took-requires-clause-due
@@ -42,14 +42,14 @@ took-requires-clause-due c =
     let l = local_of p.known in
     let plan = rebias_plan e p.known.thread a.object a.mark a.epoch in
     let word : c.encode-own.result ≡ mark_of (Biased p.known.thread a.epoch 0) =
-      c.encode-own.ensures ∙ λ i. mark_of (Biased (c.thread-thread.ensures.same i) a.epoch 0) in
+    c.encode-own.ensures ∙ λ i. mark_of (Biased (c.thread-thread.ensures.same i) a.epoch 0) in
     let same : swap_plan e (Takes a.object) (Mark a.object) a.mark c.encode-own.result ≡ plan =
-      ap (λ w. swap_plan e (Takes a.object) (Mark a.object) a.mark w) word in
+    ap (λ w. swap_plan e (Takes a.object) (Mark a.object) a.mark w) word in
     let q = c.exchange-found.new.pass in
     let found = c.exchange-found.result in
     let s = subst (λ (x : StepPlan). HasStepped h p q x found) same c.exchange-found.ensures in
     let local : local_of q.known ≡ l =
-      ap local_of s.known ∙ rebiased h.heap.shape h.heap.start e p.known.thread a.object a.mark a.epoch found p.known in
+    ap local_of s.known ∙ rebiased h.heap.shape h.heap.start e p.known.thread a.object a.mark a.epoch found p.known in
     let hit : (found == a.mark) ≡ true = eq-eqb _ _ c.if-found-mark.false in
     let rest = rest_due h p e.task plan _ c.requires.due refl q found s in
     let due = due_then h q (found == a.mark) (took_steps e l a.object BiasTaken) (done (Raced a.mark found)) e.task rest hit in
@@ -64,9 +64,9 @@ returns-then-found-mark c =
     let l = local_of p.known in
     let plan = rebias_plan e p.known.thread a.object a.mark a.epoch in
     let word : c.encode-own.result ≡ mark_of (Biased p.known.thread a.epoch 0) =
-      c.encode-own.ensures ∙ λ i. mark_of (Biased (c.thread-thread.ensures.same i) a.epoch 0) in
+    c.encode-own.ensures ∙ λ i. mark_of (Biased (c.thread-thread.ensures.same i) a.epoch 0) in
     let same : swap_plan e (Takes a.object) (Mark a.object) a.mark c.encode-own.result ≡ plan =
-      ap (λ w. swap_plan e (Takes a.object) (Mark a.object) a.mark w) word in
+    ap (λ w. swap_plan e (Takes a.object) (Mark a.object) a.mark w) word in
     let q = c.exchange-found.new.pass in
     let found = c.exchange-found.result in
     let s = subst (λ (x : StepPlan). HasStepped h p q x found) same c.exchange-found.ensures in
@@ -84,14 +84,14 @@ returns c =
     let l = local_of p.known in
     let plan = rebias_plan e p.known.thread a.object a.mark a.epoch in
     let word : c.encode-own.result ≡ mark_of (Biased p.known.thread a.epoch 0) =
-      c.encode-own.ensures ∙ λ i. mark_of (Biased (c.thread-thread.ensures.same i) a.epoch 0) in
+    c.encode-own.ensures ∙ λ i. mark_of (Biased (c.thread-thread.ensures.same i) a.epoch 0) in
     let same : swap_plan e (Takes a.object) (Mark a.object) a.mark c.encode-own.result ≡ plan =
-      ap (λ w. swap_plan e (Takes a.object) (Mark a.object) a.mark w) word in
+    ap (λ w. swap_plan e (Takes a.object) (Mark a.object) a.mark w) word in
     let q = c.exchange-found.new.pass in
     let found = c.exchange-found.result in
     let s = subst (λ (x : StepPlan). HasStepped h p q x found) same c.exchange-found.ensures in
     let local : local_of q.known ≡ l =
-      ap local_of s.known ∙ rebiased h.heap.shape h.heap.start e p.known.thread a.object a.mark a.epoch found p.known in
+    ap local_of s.known ∙ rebiased h.heap.shape h.heap.start e p.known.thread a.object a.mark a.epoch found p.known in
     let hit : (found == a.mark) ≡ true = eq-eqb _ _ c.if-found-mark.false in
     let r = c.took.new.pass in
     let out = c.took.result in

@@ -35,7 +35,7 @@ leave_marked-requires-clause-due c =
     let plan = raise_stamp_plan e a.object (next_stamp (local_of k)) in
     let one = hold_count a.object k.holds == 1 in
     let rest =
-      after_choice h a.pass.now q e.task plan (λ n. done tt) tt (λ _. marked_exit e (local_of k) a.object) tt one c.requires.due refl c.raise.ensures.run in
+    after_choice h a.pass.now q e.task plan (λ n. done tt) tt (λ _. marked_exit e (local_of k) a.object) tt one c.requires.due refl c.raise.ensures.run in
     subst (λ (l : Local). IsDueOn h q e.task (marked_exit e l a.object)) (sym c.raise.ensures.kept) rest
 
 pub leave_marked-requires-clause-place : goal.leave_marked-requires-clause-place
