@@ -1,10 +1,12 @@
 //! How an object's hash is found, or given to it.
 ghost use Rattle.std.specs.Prelude.{◌≡◌, ◌<◌, length};
-ghost use Rattle.core_world.specs.Trees.HashSteps.{draw_steps};
+ghost use Rattle.core_world.specs.Threads.Known.{local_of};
+ghost use Rattle.core_world.specs.Trees.HashSteps.{draw_steps, hash_monitor_steps, hash_displaced_steps};
 ghost use Rattle.heap_table.specs.Parts.{IsDueOn, HasRun};
 ghost use Rattle.heap_table.specs.Seen.{IsOf};
 
-use crate::words::marked_with;
+use crate::places::first_place;
+use crate::words::{hash_in, marked_with};
 use core_world::{Name, Stage, Turn, Why};
 use heap_table::{Heap, Pass, Purpose};
 use plain_monitor::Entry;
@@ -41,4 +43,50 @@ fn draw(
         });
     }
     Turn::Done(value)
+}
+
+// The lock is inflated with this monitor: the hash stands in the header that the monitor has.
+fn hash_monitor(
+    heap: &Heap,
+    pass: &mut Pass,
+    why: &Purpose,
+    number: u32,
+    value: u32,
+    object: u32,
+    monitor: u32,
+) -> Turn<u32>
+    requires heap { IsOf heap.now pass.old }
+    requires due { IsDueOn heap.now pass.old why.now.task
+        (hash_monitor_steps why.now (record { number = number; value = value }) object monitor) }
+    requires room { length pass.old.known.log < pass.old.limit }
+    ensures { HasRun heap.now (hash_monitor_steps why.now (record { number = number; value = value }) object monitor)
+        pass.old pass.new result }
+{
+    let at = Name::Header { monitor };
+    let header = heap.find_hash(pass, why, at, object);
+    let hash = hash_in(header);
+    if hash != 0 {
+        return Turn::Done(hash);
+    }
+    draw(heap, pass, why, number, value, at, object, header)
+}
+
+// The thread has the lock: the hash stands, if anywhere, in the header that its first lock record of the object displaced.
+fn hash_displaced(heap: &Heap, pass: &mut Pass, why: &Purpose, object: u32) -> Option<u32>
+    requires heap { IsOf heap.now pass.old }
+    requires object { object < length heap.now.heap.shape.objects }
+    requires due { IsDueOn heap.now pass.old why.now.task
+        (hash_displaced_steps why.now (local_of pass.old.known) object) }
+    requires room { length pass.old.known.log < pass.old.limit }
+    ensures { HasRun heap.now (hash_displaced_steps why.now (local_of pass.old.known) object)
+        pass.old pass.new result }
+{
+    let thread = pass.thread();
+    let place = first_place(pass, object);
+    let header = heap.find_hash(pass, why, Name::Displaced { thread, place }, object);
+    let hash = hash_in(header);
+    if hash != 0 {
+        return Some(hash);
+    }
+    None
 }

@@ -10,4 +10,5 @@
 #![tactic(auto)]
 
 mod hashes;
+mod places;
 mod words;
