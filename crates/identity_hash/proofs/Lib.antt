@@ -1,2 +1,3 @@
 mod Drawing
 mod Finding
+mod Silent

@@ -2,6 +2,7 @@
 ghost use Rattle.std.specs.Prelude.{◌≡◌, ◌<◌, length};
 ghost use Rattle.core_world.specs.Threads.Known.{local_of};
 ghost use Rattle.core_world.specs.Trees.HashSteps.{draw_steps, hash_monitor_steps, hash_displaced_steps};
+ghost use Rattle.core_world.specs.Trees.HashSteps.{hash_inflate_steps};
 ghost use Rattle.heap_table.specs.Parts.{IsDueOn, HasRun};
 ghost use Rattle.heap_table.specs.Seen.{IsOf};
 
@@ -9,6 +10,7 @@ use crate::places::first_place;
 use crate::words::{hash_in, marked_with};
 use core_world::{Name, Stage, Turn, Why};
 use heap_table::{Heap, Pass, Purpose};
+use object_monitor::inflate;
 use plain_monitor::Entry;
 
 // The header without a hash is exchanged for the same one with the hash drawn, which logs the Hash.
@@ -89,4 +91,27 @@ fn hash_displaced(heap: &Heap, pass: &mut Pass, why: &Purpose, object: u32) -> O
         return Some(hash);
     }
     None
+}
+
+// The lock is inflated first, or was: then the hash stands in its monitor's header.
+fn hash_inflate(
+    heap: &Heap,
+    pass: &mut Pass,
+    why: &Purpose,
+    number: u32,
+    value: u32,
+    object: u32,
+) -> Turn<u32>
+    requires heap { IsOf heap.now pass.old }
+    requires due { IsDueOn heap.now pass.old why.now.task
+        (hash_inflate_steps why.now pass.old.known.kept (record { number = number; value = value }) object) }
+    requires room { length pass.old.known.log < pass.old.limit }
+    ensures { HasRun heap.now
+        (hash_inflate_steps why.now pass.old.known.kept (record { number = number; value = value }) object)
+        pass.old pass.new result }
+{
+    match inflate(heap, pass, why, object) {
+        Turn::Done(monitor) => hash_monitor(heap, pass, why, number, value, object, monitor),
+        Turn::Pending(reason) => Turn::Pending(reason),
+    }
 }
