@@ -1,3 +1,4 @@
 mod Drawing
 mod Finding
+mod Marks
 mod Silent

@@ -2,14 +2,16 @@
 ghost use Rattle.std.specs.Prelude.{◌≡◌, ◌<◌, length};
 ghost use Rattle.core_world.specs.Threads.Known.{local_of};
 ghost use Rattle.core_world.specs.Trees.HashSteps.{draw_steps, hash_monitor_steps, hash_displaced_steps};
-ghost use Rattle.core_world.specs.Trees.HashSteps.{hash_inflate_steps};
+ghost use Rattle.core_world.specs.Trees.HashSteps.{hash_inflate_steps, hash_header_steps};
+ghost use Rattle.identity_hash.specs.Parts.{hash_owned_steps};
 ghost use Rattle.heap_table.specs.Parts.{IsDueOn, HasRun};
 ghost use Rattle.heap_table.specs.Seen.{IsOf};
 
 use crate::places::first_place;
-use crate::words::{hash_in, marked_with};
+use crate::words::{hash_in, mark_form, marked_with};
 use core_world::{Name, Stage, Turn, Why};
 use heap_table::{Heap, Pass, Purpose};
+use mark_word::MarkForm;
 use object_monitor::inflate;
 use plain_monitor::Entry;
 
@@ -113,5 +115,84 @@ fn hash_inflate(
     match inflate(heap, pass, why, object) {
         Turn::Done(monitor) => hash_monitor(heap, pass, why, number, value, object, monitor),
         Turn::Pending(reason) => Turn::Pending(reason),
+    }
+}
+
+// The thread has the lock by a record of its own: a displaced header in the record is never changed to hold a hash.
+fn hash_owned(
+    heap: &Heap,
+    pass: &mut Pass,
+    why: &Purpose,
+    number: u32,
+    value: u32,
+    object: u32,
+) -> Turn<u32>
+    requires heap { IsOf heap.now pass.old }
+    requires object { object < length heap.now.heap.shape.objects }
+    requires due { IsDueOn heap.now pass.old why.now.task (hash_owned_steps why.now (local_of pass.old.known)
+        pass.old.known.kept (record { number = number; value = value }) object) }
+    requires room { length pass.old.known.log < pass.old.limit }
+    ensures { HasRun heap.now (hash_owned_steps why.now (local_of pass.old.known)
+        pass.old.known.kept (record { number = number; value = value }) object) pass.old pass.new result }
+{
+    match hash_displaced(heap, pass, why, object) {
+        Some(hash) => Turn::Done(hash),
+        None => hash_inflate(heap, pass, why, number, value, object),
+    }
+}
+
+/// Answers the object's identity hash: the one that it has, or else this value, which is the thread's draw of this
+/// number. The object's mark has no bias pattern.
+///
+/// `Done(hash)` says that the object's header has this hash, and that a Hash was logged. Where the header had it
+/// already, in the neutral mark, in the lock record that displaced it or in the object's monitor, nothing was stored
+/// there, and the entry says that the hash was found. Where it had none, the neutral mark or the monitor's header was
+/// exchanged for the same one with the value, the hash is the value, and the entry has the draw's number.
+/// An object that a lock record has locked, of another thread or with a header that has no hash, was inflated first: the
+/// mark names its monitor, and the thread keeps none that it had kept.
+/// `Pending(Inflating)` says that another thread is inflating the lock: nothing was stored and nothing logged.
+/// `Pending(Raced { expected, found })` says that an exchange expected the word that the thread had seen and found
+/// another, which is left as it was, and that nothing was logged. The exchange was that of the mark at an inflation, so
+/// that the thread keeps its monitor for the next time, or that of the header without a hash; where the lock was
+/// inflated before, it stays so.
+pub fn header_hash(
+    heap: &Heap,
+    pass: &mut Pass,
+    why: &Purpose,
+    number: u32,
+    value: u32,
+    object: u32,
+) -> Turn<u32>
+    requires heap { IsOf heap.now pass.old }
+    requires object { object < length heap.now.heap.shape.objects }
+    requires due { IsDueOn heap.now pass.old why.now.task (hash_header_steps why.now (local_of pass.old.known)
+        pass.old.known.kept (record { number = number; value = value }) object) }
+    requires room { length pass.old.known.log < pass.old.limit }
+    ensures { HasRun heap.now (hash_header_steps why.now (local_of pass.old.known)
+        pass.old.known.kept (record { number = number; value = value }) object) pass.old pass.new result }
+{
+    let at = Name::Mark { object };
+    let mark = heap.find_hash(pass, why, at, object);
+    match mark_form(mark) {
+        Some(form) => match form {
+            MarkForm::Inflating => Turn::Pending(Why::Inflating),
+            MarkForm::Neutral { hash, .. } => {
+                if hash != 0 {
+                    return Turn::Done(hash);
+                }
+                draw(heap, pass, why, number, value, at, object, mark)
+            }
+            MarkForm::Locked { thread, .. } => {
+                if thread != pass.thread() {
+                    return hash_inflate(heap, pass, why, number, value, object);
+                }
+                hash_owned(heap, pass, why, number, value, object)
+            }
+            MarkForm::Inflated { monitor } => {
+                hash_monitor(heap, pass, why, number, value, object, monitor)
+            }
+            _ => unreachable!(),
+        },
+        None => unreachable!(),
     }
 }

@@ -12,3 +12,5 @@
 mod hashes;
 mod places;
 mod words;
+
+pub use hashes::header_hash;
