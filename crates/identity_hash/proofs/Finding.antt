@@ -1,5 +1,5 @@
 -- A load that looks for a hash: where it finds none, it leaves all that its thread's knowledge says of itself.
-use Rattle.std.proofs.Common.{◌≡◌, ℕ, ◌<◌, ◌==◌, Bool, true, false, if◌then◌else◌, Option, Some, None, List, length, refl, sym, ap, ◌∙◌, subst}
+use Rattle.std.proofs.Common.{◌≡◌, ℕ, ◌<◌, ◌==◌, Bool, true, false, if◌then◌else◌, Some, None, List, length, refl, sym, ap, ◌∙◌, subst}
 use Rattle.plain_monitor.specs.declared.entry.Logged.{Logged}
 use Rattle.plain_monitor.specs.declared.entry.Entry.TheVariants.{Hash}
 use Rattle.core_world.specs.declared.name.Name.{Name}

@@ -144,17 +144,18 @@ fn hash_owned(
 /// Answers the object's identity hash: the one that it has, or else this value, which is the thread's draw of this
 /// number. The object's mark has no bias pattern.
 ///
-/// `Done(hash)` says that the object's header has this hash, and that a Hash was logged. Where the header had it
-/// already, in the neutral mark, in the lock record that displaced it or in the object's monitor, nothing was stored
-/// there, and the entry says that the hash was found. Where it had none, the neutral mark or the monitor's header was
-/// exchanged for the same one with the value, the hash is the value, and the entry has the draw's number.
-/// An object that a lock record has locked, of another thread or with a header that has no hash, was inflated first: the
-/// mark names its monitor, and the thread keeps none that it had kept.
+/// `Done(hash)` says that the object has this hash, and that its Hash was logged. Where a header had it already, which is
+/// the neutral mark, the one that the thread's own lock record displaced or that of the object's monitor, nothing was
+/// stored there, and the entry says that the hash was found. Where the header had none, the neutral mark or the
+/// monitor's header was exchanged for the same one with the value, the hash is the value, and the entry has the draw's
+/// number. A header in a lock record is never changed: where the object is locked by a record of another thread, or by
+/// one of its own that displaced a header without a hash, the lock is inflated first, and stays so. The thread keeps no
+/// monitor any more where it was the one that inflated it.
 /// `Pending(Inflating)` says that another thread is inflating the lock: nothing was stored and nothing logged.
 /// `Pending(Raced { expected, found })` says that an exchange expected the word that the thread had seen and found
-/// another, which is left as it was, and that nothing was logged. The exchange was that of the mark at an inflation, so
-/// that the thread keeps its monitor for the next time, or that of the header without a hash; where the lock was
-/// inflated before, it stays so.
+/// another, which is left as it was: nothing was logged, and no hash given. It was either that of the header without a
+/// hash, where a lock that was inflated first stays so, or that of the mark at an inflation, which leaves what `inflate`
+/// leaves: the thread keeps its monitor, the one that it claimed as well, for the next time.
 pub fn header_hash(
     heap: &Heap,
     pass: &mut Pass,

@@ -1,5 +1,4 @@
-use Rattle.std.proofs.Common.{refl, sym, subst}
-use Rattle.core_world.specs.declared.answer.Turn.{Turn}
+use Rattle.std.proofs.Common.{refl, subst}
 use Rattle.core_world.specs.declared.answer.Turn.TheVariants.{Done, Pending}
 use Rattle.core_world.specs.declared.name.Name.TheVariants.{Mark}
 use Rattle.core_world.specs.Trees.HashSteps.{NextDraw, hash_inflated}
