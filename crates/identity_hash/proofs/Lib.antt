@@ -1,0 +1,4 @@
+mod Drawing
+mod Finding
+mod Marks
+mod Silent

@@ -1,0 +1,11 @@
+-- A part of the steps that find an object's identity hash or give it one.
+use Rattle.std.specs.Prelude.{ℕ, Option}
+use Rattle.core_world.specs.declared.answer.Turn.{Turn}
+use Rattle.core_world.specs.Threads.Known.{Local}
+use Rattle.core_world.specs.Trees.HashSteps.{NextDraw, hash_displaced_steps, hash_unless}
+use Rattle.core_world.specs.Trees.Plans.{Purpose}
+use Rattle.core_world.specs.Trees.Todo.{Todo, ◌>>=◌}
+
+-- o is locked by a record of this thread: where the record's header has no hash, the lock is inflated
+abbrev pub hash_owned_steps : Purpose → Local → Option ℕ → NextDraw → ℕ → Todo (Turn ℕ)
+hash_owned_steps e k kept draw o = hash_displaced_steps e k o >>= λ found. hash_unless found e kept draw o
