@@ -3,7 +3,7 @@ use Rattle.std.proofs.Common.{◌≡◌, ℕ, ◌<◌, ◌==◌, Bool, true, fal
 use Rattle.plain_monitor.specs.declared.entry.Logged.{Logged}
 use Rattle.plain_monitor.specs.declared.entry.Entry.TheVariants.{Hash}
 use Rattle.core_world.specs.declared.name.Name.{Name}
-use Rattle.core_world.specs.declared.name.Name.TheVariants.{Mark}
+use Rattle.core_world.specs.declared.name.Name.TheVariants.{Mark, Displaced}
 use Rattle.core_world.specs.Threads.Known.{Known, Local, local_of}
 use Rattle.core_world.specs.Steps.{with_entry}
 use Rattle.core_world.specs.Trees.HashSteps.{find_hash_plan, hash_displaced_steps}
@@ -31,7 +31,8 @@ module _ (h : HeapSeen) (p q : PassSeen) (e : Purpose) (at : Name) (o n : ℕ) (
   same_kept = ap (λ (k : Known). k.kept) s.known
 
 -- Where that is the object's mark, it knows the same of its own words.
-pub same_local : (h : HeapSeen) (p q : PassSeen) (e : Purpose) (o n : ℕ) → HasStepped h p q (find_hash_plan e (Mark o) o) n → hash_in n ≡ 0 → local_of q.known ≡ local_of p.known
+pub same_local : (h : HeapSeen) (p q : PassSeen) (e : Purpose) (o n : ℕ) → HasStepped h p q (find_hash_plan e (Mark o) o) n
+    → hash_in n ≡ 0 → local_of q.known ≡ local_of p.known
 same_local h p q e o n s none =
     ap local_of s.known ∙ λ i. local_of (record p.known { log = if none i == 0 then p.known.log else with_entry (Hash o (hash_in n) None) n p.known.log })
 
@@ -50,7 +51,12 @@ module _ (h : HeapSeen) (p q : PassSeen) (e : Purpose) (k : Local) (o : ℕ) (ru
   behind_log : q.known.log ≡ p.known.log
   behind_log =
       let n = run.ran.by.0 in
-      ap (λ (k : Known). k.log) run.ran.by.1.0 ∙ ap (λ (b : Bool). if b then p.known.log else with_entry (Hash o (hash_in n) None) n p.known.log) (none_found (hash_in n) run.ran.by.1.1)
+      ap (λ (k : Known). k.log) run.ran.by.1.0
+      ∙ ap (λ (b : Bool). if b then p.known.log else with_entry (Hash o (hash_in n) None) n p.known.log) (none_found (hash_in n) run.ran.by.1.1)
 
   pub behind_room : length p.known.log < p.limit → length q.known.log < q.limit
   behind_room room = subst (λ m. length q.known.log < m) (sym run.limit) (subst (λ (l : List Logged). length l < p.limit) (sym behind_log) room)
+
+-- The load of a displaced header, by what the code says of its thread and its place.
+pub of_record : (e : Purpose) (o t u p r : ℕ) → t ≡ u → p ≡ r → find_hash_plan e (Displaced t p) o ≡ find_hash_plan e (Displaced u r) o
+of_record e o t u p r thread place = λ i. find_hash_plan e (Displaced (thread i) (place i)) o

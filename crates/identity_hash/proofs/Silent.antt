@@ -37,7 +37,8 @@ module _ (s : Shape) (start : ℕ) where
   run_leaves (step p f) k l a silent run = run_leaves (f run.0) (known_after s start p run.0 k) l a (silent.1 run.0) run.1 ∙ step_leaves p run.0 k silent.0
 
 -- so there is room behind them where there was before
-pub room_behind : {A : Type 0} (h : HeapSeen) (d : Todo A) (p q : PassSeen) (a : A) → AreSilent d → HasRun h d p q a → length p.known.log < p.limit → length q.known.log < q.limit
+pub room_behind : {A : Type 0} (h : HeapSeen) (d : Todo A) (p q : PassSeen) (a : A) → AreSilent d → HasRun h d p q a
+    → length p.known.log < p.limit → length q.known.log < q.limit
 room_behind h d p q a silent run room =
     let same = run_leaves h.heap.shape h.heap.start d p.known q.known a silent run.ran.by in
     subst (λ m. length q.known.log < m) (sym run.limit) (subst (λ (l : List Logged). length l < p.limit) (sym same) room)

@@ -26,7 +26,8 @@ pub fn hash_in(word: u64) -> u32
     }
 }
 
-/// The neutral mark of age 0 with this hash.
+/// The neutral mark of age 0 with this hash. `encode` would ask that the hash is below 2^31, which a step that may miss does
+/// not tell of the value drawn.
 pub fn marked_with(hash: u32) -> u64
     ensures { result ≡ mark_of (Neutral hash 0) }
 {

@@ -17,7 +17,8 @@ log_exchange-found-requires c =
     let e = a.why.now in
     let d : NextDraw = record { number = a.number; value = a.value } in
     let same = draws e d a.at a.object a.header c.marked_with-word.result c.marked_with-word.ensures in
-    subst (CanStep h a.pass.now) (sym same) (can h a.pass.now e.task (draw_plan e d a.at a.object a.header) _ c.requires.due refl c.requires.heap c.requires.room refl)
+    subst (CanStep h a.pass.now) (sym same)
+    (can h a.pass.now e.task (draw_plan e d a.at a.object a.header) _ c.requires.due refl c.requires.heap c.requires.room refl)
 
 pub returns-then-found-header : goal.returns-then-found-header
 returns-then-found-header c =

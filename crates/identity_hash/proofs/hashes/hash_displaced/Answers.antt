@@ -10,6 +10,7 @@ use Rattle.heap_table.specs.Parts.{HasRun}
 use Rattle.heap_table.specs.Stepping.{CanStep, HasStepped}
 use Rattle.heap_table.proofs.Parts.{can, last_step}
 use Rattle.stack_lock.proofs.Ruled.{few_objects}
+use Rattle.identity_hash.proofs.Finding.{of_record}
 use Rattle.identity_hash.proofs.hashes.hash_displaced.Goals as goal
 
 pub first_place-place-requires : goal.first_place-place-requires
@@ -21,7 +22,7 @@ find_hash-header-requires c =
     let e = a.why.now in
     let k = a.pass.now.known in
     let plan = find_hash_plan e (Displaced k.thread (first_place a.object k.holds)) a.object in
-    let same : find_hash_plan e (Displaced c.thread-thread.result c.first_place-place.result) a.object ≡ plan = λ i. find_hash_plan e (Displaced (c.thread-thread.ensures.same i) (c.first_place-place.ensures i)) a.object in
+    let same = of_record e a.object _ k.thread _ (first_place a.object k.holds) c.thread-thread.ensures.same c.first_place-place.ensures in
     subst (CanStep a.heap.now a.pass.now) (sym same) (can a.heap.now a.pass.now e.task plan _ c.requires.due refl c.requires.heap c.requires.room refl)
 
 pub returns-then-hash-ne0 : goal.returns-then-hash-ne0
@@ -31,7 +32,7 @@ returns-then-hash-ne0 c =
     let e = a.why.now in
     let k = a.pass.now.known in
     let plan = find_hash_plan e (Displaced k.thread (first_place a.object k.holds)) a.object in
-    let same : find_hash_plan e (Displaced c.thread-thread.result c.first_place-place.result) a.object ≡ plan = λ i. find_hash_plan e (Displaced (c.thread-thread.ensures.same i) (c.first_place-place.ensures i)) a.object in
+    let same = of_record e a.object _ k.thread _ (first_place a.object k.holds) c.thread-thread.ensures.same c.first_place-place.ensures in
     let q = c.find_hash-header.new.pass in
     let header = c.find_hash-header.result in
     let s = subst (λ (x : StepPlan). HasStepped h a.pass.now q x header) same c.find_hash-header.ensures in
@@ -46,7 +47,7 @@ returns c =
     let e = a.why.now in
     let k = a.pass.now.known in
     let plan = find_hash_plan e (Displaced k.thread (first_place a.object k.holds)) a.object in
-    let same : find_hash_plan e (Displaced c.thread-thread.result c.first_place-place.result) a.object ≡ plan = λ i. find_hash_plan e (Displaced (c.thread-thread.ensures.same i) (c.first_place-place.ensures i)) a.object in
+    let same = of_record e a.object _ k.thread _ (first_place a.object k.holds) c.thread-thread.ensures.same c.first_place-place.ensures in
     let q = c.find_hash-header.new.pass in
     let header = c.find_hash-header.result in
     let s = subst (λ (x : StepPlan). HasStepped h a.pass.now q x header) same c.find_hash-header.ensures in

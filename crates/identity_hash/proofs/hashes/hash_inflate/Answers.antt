@@ -34,7 +34,8 @@ hash_monitor-requires-clause-room c =
     let a = c.args in
     let e = a.why.now in
     let kept = a.pass.now.known.kept in
-    room_behind a.heap.now (inflate_steps e kept a.object) a.pass.now c.inflate.new.pass c.inflate.result (inflating e kept a.object) c.inflate.ensures c.requires.room
+    room_behind a.heap.now (inflate_steps e kept a.object) a.pass.now c.inflate.new.pass c.inflate.result
+    (inflating e kept a.object) c.inflate.ensures c.requires.room
 
 pub returns-in-Done : goal.returns-in-Done
 returns-in-Done c =

@@ -17,7 +17,8 @@ hash_displaced-requires-clause-due c =
     let e = a.why.now in
     let k = a.pass.now.known in
     let d : NextDraw = record { number = a.number; value = a.value } in
-    part_due h.heap.shape h.heap.start h.heap.biasing k e.task (hash_displaced_steps e (local_of k) a.object) (λ found. hash_unless found e k.kept d a.object) c.requires.due
+    part_due h.heap.shape h.heap.start h.heap.biasing k e.task (hash_displaced_steps e (local_of k) a.object)
+    (λ found. hash_unless found e k.kept d a.object) c.requires.due
 
 pub returns-in-Some : goal.returns-in-Some
 returns-in-Some c =
@@ -67,5 +68,7 @@ returns-in-None c =
     let out = c.hash_inflate.result in
     let first = hash_displaced_steps e (local_of k) a.object in
     let run = subst (HasRun h first a.pass.now q) c.in-None.is c.hash_displaced.ensures in
-    let rest = subst (λ (x : Option ℕ). HasRun h (hash_inflate_steps e x d a.object) q r out) (behind_kept h a.pass.now q e (local_of k) a.object run) c.hash_inflate.ensures in
+    let rest =
+    subst (λ (x : Option ℕ). HasRun h (hash_inflate_steps e x d a.object) q r out)
+    (behind_kept h a.pass.now q e (local_of k) a.object run) c.hash_inflate.ensures in
     in_turn h a.pass.now q r first (λ found. hash_unless found e k.kept d a.object) None out run rest

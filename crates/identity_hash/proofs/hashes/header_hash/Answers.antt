@@ -176,7 +176,9 @@ hash_owned-requires-clause-due c =
     let own : (c.in-Locked.thread == k.thread) ≡ true = ap (λ n. c.in-Locked.thread == n) (sym thread) ∙ eq-eqb _ _ c.if-thread.false in
     let rest = rest_due h a.pass.now e.task (find_hash_plan e (Mark a.object) a.object) _ c.requires.due refl q mark s in
     let due = subst (λ (f : Option MarkForm). IsDueOn h q e.task (hash_mark_steps f e (local_of k) k.kept d a.object mark)) form rest in
-    let both = due_then h q (c.in-Locked.thread == k.thread) (hash_owned_steps e (local_of k) k.kept d a.object) (hash_inflate_steps e k.kept d a.object) e.task due own in
+    let both =
+    due_then h q (c.in-Locked.thread == k.thread)
+    (hash_owned_steps e (local_of k) k.kept d a.object) (hash_inflate_steps e k.kept d a.object) e.task due own in
     subst (λ (x : Local × Option ℕ). IsDueOn h q e.task (hash_owned_steps e x.0 x.1 d a.object)) (λ i. (sym local i, sym kept i)) both
 
 pub hash_owned-requires-clause-room : goal.hash_owned-requires-clause-room
@@ -269,7 +271,8 @@ unreachable-requires c =
     let s = c.find_hash-mark.ensures in
     never_left h a.pass.now e.task (find_hash_plan e (Mark a.object) a.object) _ c.requires.due refl mark q s
     (ap (λ (f : Option MarkForm). hash_mark_steps f e (local_of k) k.kept d a.object mark) (sym c.mark_form.ensures ∙ c.in-Some.is)
-    ∙ never_hashed c.in-Some.form e (local_of k) k.kept d a.object mark c.in_default.not-Inflating c.in_default.not-Neutral c.in_default.not-Locked c.in_default.not-Inflated)
+    ∙ never_hashed c.in-Some.form e (local_of k) k.kept d a.object mark
+    c.in_default.not-Inflating c.in_default.not-Neutral c.in_default.not-Locked c.in_default.not-Inflated)
 
 pub unreachable-requires-in-None : goal.unreachable-requires-in-None
 unreachable-requires-in-None c =

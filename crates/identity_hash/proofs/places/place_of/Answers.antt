@@ -3,9 +3,13 @@ use Rattle.std.proofs.lemmas.List.Sums.{position_or_len_is}
 use Rattle.identity_hash.proofs.places.place_of.Goals as goal
 
 pub returns-then-holds-i : goal.returns-then-holds-i
-returns-then-holds-i c = sym (position_or_len_is (λ h. h == c.args.word) c.args.holds.now c.loop-i.i 0 (omega arith) c.loop-i.invariant (λ lt. eq-eqb _ _ c.if-holds-i.true))
+returns-then-holds-i c =
+    sym (position_or_len_is (λ h. h == c.args.word) c.args.holds.now c.loop-i.i 0 (omega arith)
+    c.loop-i.invariant (λ lt. eq-eqb _ _ c.if-holds-i.true))
 
 pub returns : goal.returns
 returns c =
     let n : length c.args.holds.now ≡ 64 = search rules in
-    sym (position_or_len_is (λ h. h == c.args.word) c.args.holds.now 64 0 (omega (arith, n)) (λ k lt. c.loop-i.invariant k (omega (arith, lt, c.loop-i-test.false))) (λ lt. absurd (omega (arith, lt, n))))
+    sym (position_or_len_is (λ h. h == c.args.word) c.args.holds.now 64 0 (omega (arith, n))
+    (λ k lt. c.loop-i.invariant k (omega (arith, lt, c.loop-i-test.false)))
+    (λ lt. absurd (omega (arith, lt, n))))
