@@ -1,1 +1,3 @@
 mod Inflating
+mod OwnersRead
+mod OwningSteps

@@ -1,0 +1,128 @@
+//! How a thread leaves a hold by the monitor.
+ghost use Rattle.std.specs.Prelude.{◌≡◌, ◌<◌, length, Some};
+ghost use Rattle.core_world.specs.Locks.{hold_count};
+ghost use Rattle.core_world.specs.Threads.Known.{local_of};
+ghost use Rattle.core_world.specs.Trees.MonitorSteps.{own_steps, release_steps, monitor_exit_steps};
+ghost use Rattle.core_world.specs.Trees.Plans.{top_place};
+ghost use Rattle.heap_table.specs.Parts.{IsDueOn, HasRun};
+ghost use Rattle.heap_table.specs.Seen.{IsOf};
+ghost use Rattle.object_monitor.specs.ExitParts.{lowered_exit, counted_exit};
+
+use crate::owners::owner_form;
+use core_world::{Name, Stage};
+use heap_table::{Heap, Pass, Purpose};
+use mark_word::{OwnerForm, encode_owner};
+use plain_monitor::Entry;
+use stack_lock::{clear, leave, top_place};
+
+// The owner of the monitor has this form. Where a record of the thread is the owner, the thread itself takes its place,
+// with no recursions.
+fn own(heap: &Heap, pass: &mut Pass, why: &Purpose, object: u32, monitor: u32, form: OwnerForm)
+    requires heap { IsOf heap.now pass.old }
+    requires due { IsDueOn heap.now pass.old why.now.task
+        (own_steps (Some form) why.now (local_of pass.old.known) object monitor) }
+    ensures run { HasRun heap.now (own_steps (Some form) why.now (local_of pass.old.known) object monitor)
+        pass.old pass.new result }
+    ensures kept { local_of pass.new.known ≡ local_of pass.old.known }
+{
+    match form {
+        OwnerForm::ByThread { .. } => {}
+        OwnerForm::ByRecord { .. } => {
+            let thread = pass.thread();
+            let word = encode_owner(&OwnerForm::ByThread { thread });
+            let stage = Stage::TakesOver { object };
+            heap.store(pass, why, stage, Name::Owner { monitor }, word);
+            let at = Name::Recursions { monitor };
+            heap.store(pass, why, Stage::Calm, at, 0);
+        }
+        OwnerForm::Free => unreachable!(),
+    }
+}
+
+// The last hold: the owner word is cleared, which logs the Exit, and then the hold word.
+fn release(heap: &Heap, pass: &mut Pass, why: &Purpose, object: u32, monitor: u32, place: u32)
+    requires heap { IsOf heap.now pass.old }
+    requires place { place ≡ top_place object pass.old.known.holds }
+    requires due { IsDueOn heap.now pass.old why.now.task
+        (release_steps why.now (local_of pass.old.known) object monitor) }
+    requires room { length pass.old.known.log < pass.old.limit }
+    ensures { HasRun heap.now (release_steps why.now (local_of pass.old.known) object monitor)
+        pass.old pass.new result }
+{
+    let stage = Stage::Exits { object, place };
+    let at = Name::Owner { monitor };
+    let word = encode_owner(&OwnerForm::Free);
+    heap.log_store(pass, why, stage, at, word, Entry::Exit { object });
+    clear(heap, pass, why, place);
+}
+
+// Another hold is left: the recursions, which are this word, are lowered before the hold word is cleared.
+fn lower(
+    heap: &Heap,
+    pass: &mut Pass,
+    why: &Purpose,
+    object: u32,
+    monitor: u32,
+    place: u32,
+    recursions: u64,
+)
+    requires heap { IsOf heap.now pass.old }
+    requires place { place ≡ top_place object pass.old.known.holds }
+    requires some { 0 < recursions }
+    requires due { IsDueOn heap.now pass.old why.now.task
+        (lowered_exit why.now (local_of pass.old.known) object monitor recursions) }
+    requires room { length pass.old.known.log < pass.old.limit }
+    ensures { HasRun heap.now (lowered_exit why.now (local_of pass.old.known) object monitor recursions)
+        pass.old pass.new result }
+{
+    let stage = Stage::Behind { object };
+    let at = Name::Recursions { monitor };
+    heap.store(pass, why, stage, at, recursions - 1);
+    leave(heap, pass, why, object, place);
+}
+
+// The thread owns the monitor: the recursions say whether this is its last hold.
+fn leave_owned(heap: &Heap, pass: &mut Pass, why: &Purpose, object: u32, monitor: u32, place: u32)
+    requires heap { IsOf heap.now pass.old }
+    requires place { place ≡ top_place object pass.old.known.holds }
+    requires due { IsDueOn heap.now pass.old why.now.task
+        (counted_exit why.now (local_of pass.old.known) object monitor) }
+    requires room { length pass.old.known.log < pass.old.limit }
+    ensures { HasRun heap.now (counted_exit why.now (local_of pass.old.known) object monitor)
+        pass.old pass.new result }
+{
+    let at = Name::Recursions { monitor };
+    let recursions = heap.load(pass, why, Stage::Calm, at);
+    if recursions == 0 {
+        release(heap, pass, why, object, monitor, place);
+    } else {
+        lower(heap, pass, why, object, monitor, place, recursions);
+    }
+}
+
+/// Leaves the thread's newest hold of the object, whose mark names this monitor. The thread has such a hold, and its
+/// record is no recursive one of a stack lock.
+///
+/// The Exit is logged and the hold word is cleared. At the last hold the owner word is cleared, so that the monitor is
+/// free; at any other the recursions are lowered by one. Where a lock record of the thread was the owner, the thread
+/// itself became it before, with no recursions.
+pub fn monitor_exit(heap: &Heap, pass: &mut Pass, why: &Purpose, object: u32, monitor: u32)
+    requires heap { IsOf heap.now pass.old }
+    requires object { object < length heap.now.heap.shape.objects }
+    requires held { 0 < hold_count object pass.old.known.holds }
+    requires due { IsDueOn heap.now pass.old why.now.task
+        (monitor_exit_steps why.now (local_of pass.old.known) object monitor) }
+    requires room { length pass.old.known.log < pass.old.limit }
+    ensures { HasRun heap.now (monitor_exit_steps why.now (local_of pass.old.known) object monitor)
+        pass.old pass.new result }
+{
+    let place = top_place(pass, object);
+    let owner = heap.load(pass, why, Stage::Calm, Name::Owner { monitor });
+    match owner_form(owner) {
+        Some(form) => {
+            own(heap, pass, why, object, monitor, form);
+            leave_owned(heap, pass, why, object, monitor, place);
+        }
+        None => unreachable!(),
+    }
+}
