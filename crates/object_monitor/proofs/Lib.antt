@@ -1,3 +1,5 @@
 mod Inflating
 mod OwnersRead
 mod OwningSteps
+mod Resuming
+mod WaitsRead
