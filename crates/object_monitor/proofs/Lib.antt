@@ -1,4 +1,6 @@
 mod Inflating
+mod LastStamps
+mod LowStamps
 mod OwnersRead
 mod OwningSteps
 mod Resuming

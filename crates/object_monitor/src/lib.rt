@@ -19,4 +19,4 @@ mod words;
 
 pub use exits::monitor_exit;
 pub use inflates::inflate;
-pub use waits::monitor_resume;
+pub use waits::{monitor_resume, monitor_wait, publish};

@@ -1,14 +1,18 @@
 //! How a thread that owns a monitor waits, and takes the monitor again.
-ghost use Rattle.std.specs.Prelude.{◌≡◌, ◌<◌, length, Some};
+ghost use Rattle.std.specs.Prelude.{◌≡◌, ◌+◌, ◌<◌, ◌^◌, length, Some};
 ghost use Rattle.mark_word.specs.Wait.{read_wait};
+ghost use Rattle.plain_monitor.specs.History.{last_stamp};
+ghost use Rattle.core_world.specs.Threads.Known.{local_of};
 ghost use Rattle.core_world.specs.Trees.WaitSteps.{resumed_steps, resume_owner_at, resume_owner_steps, monitor_resume_steps};
+ghost use Rattle.core_world.specs.Trees.WaitSteps.{monitor_wait_steps, publish_steps};
 ghost use Rattle.heap_table.specs.Parts.{IsDueOn, HasRun};
 ghost use Rattle.heap_table.specs.Seen.{IsOf};
-ghost use Rattle.object_monitor.specs.WaitParts.{marked_resume};
+ghost use Rattle.object_monitor.specs.WaitParts.{marked_resume, stamped_wait, quit_steps, owned_wait};
 
+use crate::exits::own;
 use crate::owners::owner_form;
 use crate::words::mark_form;
-use core_world::{Name, Stage, Turn, Why};
+use core_world::{Name, Own, Stage, Turn, Why};
 use heap_table::{Heap, Pass, Purpose};
 use mark_word::{MarkForm, OwnerForm, WaitForm, decode_wait, encode_owner, encode_wait};
 use plain_monitor::Entry;
@@ -145,4 +149,103 @@ pub fn monitor_resume(heap: &Heap, pass: &mut Pass, why: &Purpose, saved: u64, o
         },
         None => unreachable!(),
     }
+}
+
+// The stamp of the thread's next entry, if that is no Enter or Resume.
+fn next_stamp(pass: &Pass) -> u64
+    requires { last_stamp pass.now.known.log + 1 < 2 ^ 64 }
+    ensures { result ≡ last_stamp pass.now.known.log + 1 }
+{
+    match pass.log().last() {
+        Some(last) => last.stamp + 1,
+        None => 1,
+    }
+}
+
+// Raises the object's stamp to that of the thread's next entry, which is the Wait: the waiting word has the same stamp,
+// and its store logs the Wait. The operation is unfinished still.
+fn log_wait(heap: &Heap, pass: &mut Pass, why: &Purpose, object: u32)
+    requires heap { IsOf heap.now pass.old }
+    requires object { object < length heap.now.heap.shape.objects }
+    requires due { IsDueOn heap.now pass.old why.now.task (stamped_wait why.now (local_of pass.old.known) object) }
+    requires room { length pass.old.known.log < pass.old.limit }
+    ensures { HasRun heap.now (stamped_wait why.now (local_of pass.old.known) object) pass.old pass.new result }
+{
+    let stamp = next_stamp(pass);
+    heap.raise(pass, why, Name::Stamp { object }, stamp);
+    let at = Name::Waiting {
+        thread: pass.thread(),
+    };
+    let word = encode_wait(&WaitForm::Waiting { object, stamp });
+    let stage = Stage::Waits { object };
+    heap.log_store_within(pass, why, stage, at, word, Entry::Wait { object });
+}
+
+// The recursions of the monitor become 0, and then its owner word Free.
+fn quit(heap: &Heap, pass: &mut Pass, why: &Purpose, object: u32, monitor: u32)
+    requires heap { IsOf heap.now pass.old }
+    requires due { IsDueOn heap.now pass.old why.now.task (quit_steps why.now object monitor) }
+    ensures { HasRun heap.now (quit_steps why.now object monitor) pass.old pass.new result }
+{
+    let stage = Stage::Waits { object };
+    heap.store(pass, why, stage, Name::Recursions { monitor }, 0);
+    let free = encode_owner(&OwnerForm::Free);
+    heap.store(pass, why, Stage::Calm, Name::Owner { monitor }, free);
+}
+
+// The thread itself owns the monitor: it keeps the recursions, logs the Wait, and lets the monitor go.
+fn wait_owned(heap: &Heap, pass: &mut Pass, why: &Purpose, object: u32, monitor: u32) -> u64
+    requires heap { IsOf heap.now pass.old }
+    requires object { object < length heap.now.heap.shape.objects }
+    requires due { IsDueOn heap.now pass.old why.now.task
+        (owned_wait why.now (local_of pass.old.known) object monitor) }
+    requires room { length pass.old.known.log < pass.old.limit }
+    ensures { HasRun heap.now (owned_wait why.now (local_of pass.old.known) object monitor)
+        pass.old pass.new result }
+{
+    let at = Name::Recursions { monitor };
+    let recursions = heap.load_and_keep(pass, why, Own::Save, at);
+    log_wait(heap, pass, why, object);
+    quit(heap, pass, why, object, monitor);
+    recursions
+}
+
+/// Begins a wait on the object, whose mark names this monitor, by the thread that owns it.
+///
+/// The Wait is logged, the thread's waiting word says that it waits since the stamp of that entry, and the monitor is
+/// free, whatever the count of the thread's holds, which it keeps. The recursions that the monitor had are answered, and
+/// the thread keeps them as those to be restored. Where a lock record of the thread was the owner, the thread itself
+/// became it before, with no recursions. The operation is unfinished still: `monitor_resume` ends it.
+pub fn monitor_wait(heap: &Heap, pass: &mut Pass, why: &Purpose, object: u32, monitor: u32) -> u64
+    requires heap { IsOf heap.now pass.old }
+    requires object { object < length heap.now.heap.shape.objects }
+    requires due { IsDueOn heap.now pass.old why.now.task
+        (monitor_wait_steps why.now (local_of pass.old.known) object monitor) }
+    requires room { length pass.old.known.log < pass.old.limit }
+    ensures { HasRun heap.now (monitor_wait_steps why.now (local_of pass.old.known) object monitor)
+        pass.old pass.new result }
+{
+    let owner = heap.load(pass, why, Stage::Calm, Name::Owner { monitor });
+    match owner_form(owner) {
+        Some(form) => {
+            own(heap, pass, why, object, monitor, form);
+            wait_owned(heap, pass, why, object, monitor)
+        }
+        None => unreachable!(),
+    }
+}
+
+/// Publishes the length of the thread's log with one entry more. This step logs that entry, which is the one given, and
+/// ends the operation.
+pub fn publish(heap: &Heap, pass: &mut Pass, why: &Purpose, entry: Entry)
+    requires heap { IsOf heap.now pass.old }
+    requires due { IsDueOn heap.now pass.old why.now.task (publish_steps entry why.now (local_of pass.old.known)) }
+    requires room { length pass.old.known.log < pass.old.limit }
+    ensures { HasRun heap.now (publish_steps entry why.now (local_of pass.old.known)) pass.old pass.new result }
+{
+    let at = Name::Length {
+        thread: pass.thread(),
+    };
+    let length = pass.log().len() as u64 + 1;
+    heap.log_store(pass, why, Stage::Calm, at, length, entry);
 }
