@@ -1,5 +1,6 @@
 -- A stamp is at most the number of all entries, so it fits a waiting word.
-use Rattle.std.proofs.Common.{◌≡◌, inl, inr, ℕ, zero, suc, ◌+◌, ◌*◌, ◌≤◌, ◌==◌, Bool, true, false, List, length, refl, sym, ap, ◌∙◌, subst, arith}
+use Rattle.std.proofs.Common.{◌≡◌, inl, inr, ℕ, zero, suc, ◌+◌, ◌*◌, ◌≤◌, ◌==◌, Bool, true, false, List, length}
+use Rattle.std.proofs.Common.{refl, sym, ap, ◌∙◌, subst, arith}
 use borrow.Author.Tests.{eqb-true, eqb-false}
 use Rattle.plain_monitor.specs.declared.entry.Logged.{Logged}
 use Rattle.plain_monitor.specs.History.{last_stamp}
@@ -17,7 +18,11 @@ entries_few u zero f few = omega arith
 entries_few u (suc n) f few = let h = entries_few (u + 1) n f few in let g = few u in omega (arith, h, g)
 
 fits_few : (w : World) (objects : List PlainObject) → Fits w objects → (t : ℕ) → last_stamp (w.known t).log ≤ 6401056
-fits_few w objects f t = let a = f.stamps.logged t in let b = entries_few 0 w.shape.threads w.known f.lengths.few in let c = f.limits.threads in omega (arith, a, b, c)
+fits_few w objects f t =
+    let a = f.stamps.logged t in
+    let b = entries_few 0 w.shape.threads w.known f.lengths.few in
+    let c = f.limits.threads in
+    omega (arith, a, b, c)
 
 sound_low : (w : World) (t : ℕ) → Sound w → last_stamp (w.known t).log ≤ 6401056
 sound_low w t sound = elim sound.valid.is [
@@ -28,8 +33,12 @@ sound_low w t sound = elim sound.valid.is [
     same : (s : IsRevoking w sound.valid.objects) (b : Bool) → (t == s.requester) ≡ b → (s.before.known t).log ≡ (w.known t).log
     same s true e =
         let is : t ≡ s.requester = eqb-true t s.requester e in
-        ap (λ (u : ℕ). (s.before.known u).log) is ∙ ap (λ (k : Known). k.log) (sym s.knows) ∙ ap (λ (u : ℕ). (w.known u).log) (sym is)
+        ap (λ (u : ℕ). (s.before.known u).log) is
+        ∙ ap (λ (k : Known). k.log) (sym s.knows)
+        ∙ ap (λ (u : ℕ). (w.known u).log) (sym is)
     same s false e = ap (λ (k : Known). k.log) (sym (s.others t (eqb-false t s.requester e)))
 
 pub low : (h : HeapSeen) (p : PassSeen) → IsOf h p → last_stamp p.known.log ≤ 6401056
-low h p is_of = let r = is_of.real in subst (λ (k : Known). last_stamp k.log ≤ 6401056) r.knew (sound_low r.world p.known.thread r.sound)
+low h p is_of =
+    let r = is_of.real in
+    subst (λ (k : Known). last_stamp k.log ≤ 6401056) r.knew (sound_low r.world p.known.thread r.sound)

@@ -10,6 +10,7 @@ none_of : (r : Option WaitForm) → ((f : WaitForm) → r ≡ Some f → ⊥) �
 none_of None h = refl
 none_of (Some f) h = absurd (h f refl)
 
-pub wait_read : (word : ℕ) (r : Result WaitForm BadMark) → IfOk r (λ f. SpellsWait f word) → OnErr r ((f : WaitForm) → SpellsWait f word → ⊥) → result_ok r ≡ read_wait word
+pub wait_read : (word : ℕ) (r : Result WaitForm BadMark) → IfOk r (λ f. SpellsWait f word)
+    → OnErr r ((f : WaitForm) → SpellsWait f word → ⊥) → result_ok r ≡ read_wait word
 wait_read word (Ok f) found none = sym (ap read_wait found.1 ∙ read_wait-wait_of f found.0)
 wait_read word (Err e) found none = none_of (read_wait word) (λ f is. none f (read_wait-spells word f is))

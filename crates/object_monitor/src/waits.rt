@@ -129,7 +129,13 @@ fn resume_mark(heap: &Heap, pass: &mut Pass, why: &Purpose, saved: u64, object: 
 /// `Pending(NotNotified { word })` says that nobody has notified the thread: its waiting word is `word` still.
 /// `Pending(Owned { word })` says that the thread was notified, and that another thread owns the monitor, by the owner
 /// word `word`. In these two nothing was stored and nothing logged.
-pub fn monitor_resume(heap: &Heap, pass: &mut Pass, why: &Purpose, saved: u64, object: u32) -> Turn<()>
+pub fn monitor_resume(
+    heap: &Heap,
+    pass: &mut Pass,
+    why: &Purpose,
+    saved: u64,
+    object: u32,
+) -> Turn<()>
     requires heap { IsOf heap.now pass.old }
     requires due { IsDueOn heap.now pass.old why.now.task
         (monitor_resume_steps why.now pass.old.known.thread saved object) }

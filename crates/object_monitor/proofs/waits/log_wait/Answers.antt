@@ -1,4 +1,4 @@
-use Rattle.std.proofs.Common.{◌≡◌, ◌+◌, ◌^◌, ◌<◌, length, refl, sym, ap, ◌∙◌, subst, arith}
+use Rattle.std.proofs.Common.{◌≡◌, ◌<◌, length, refl, sym, ap, ◌∙◌, subst, arith}
 use Rattle.mark_word.specs.declared.wait.WaitForm.TheVariants as wait
 use Rattle.mark_word.specs.Wait.{wait_of}
 use Rattle.plain_monitor.specs.declared.entry.Entry.TheVariants as entry
@@ -25,7 +25,8 @@ raise-requires c =
     let a = c.args in
     let e = a.why.now in
     let plan = raise_stamp_plan e a.object (next_stamp (local_of a.pass.now.known)) in
-    let same : quiet_plan e (Stamp a.object) (Raise c.next_stamp-stamp.result) ≡ plan = ap (λ w. quiet_plan e (Stamp a.object) (Raise w)) c.next_stamp-stamp.ensures in
+    let same : quiet_plan e (Stamp a.object) (Raise c.next_stamp-stamp.result) ≡ plan =
+    ap (λ w. quiet_plan e (Stamp a.object) (Raise w)) c.next_stamp-stamp.ensures in
     subst (CanStep a.heap.now a.pass.now) (sym same) (can a.heap.now a.pass.now e.task plan _ c.requires.due refl c.requires.heap tt refl)
 
 pub encode_wait-word-requires : goal.encode_wait-word-requires
@@ -45,10 +46,12 @@ log_store_within-requires c =
     let k = a.pass.now.known in
     let q = c.raise.new.pass in
     let plan = raise_stamp_plan e o (next_stamp (local_of k)) in
-    let raising : quiet_plan e (Stamp o) (Raise c.next_stamp-stamp.result) ≡ plan = ap (λ w. quiet_plan e (Stamp o) (Raise w)) c.next_stamp-stamp.ensures in
+    let raising : quiet_plan e (Stamp o) (Raise c.next_stamp-stamp.result) ≡ plan =
+    ap (λ w. quiet_plan e (Stamp o) (Raise w)) c.next_stamp-stamp.ensures in
     let s = subst (λ (x : StepPlan). HasStepped h a.pass.now q x c.raise.result) raising c.raise.ensures in
     let thread : c.thread.result ≡ k.thread = c.thread.ensures.same ∙ ap (λ (x : Known). x.thread) s.known in
-    let word : c.encode_wait-word.result ≡ wait_of (wait.Waiting o (next_stamp (local_of k))) = c.encode_wait-word.ensures ∙ ap (λ n. wait_of (wait.Waiting o n)) c.next_stamp-stamp.ensures in
+    let word : c.encode_wait-word.result ≡ wait_of (wait.Waiting o (next_stamp (local_of k))) =
+    c.encode_wait-word.ensures ∙ ap (λ n. wait_of (wait.Waiting o n)) c.next_stamp-stamp.ensures in
     let logging = log_wait_plan e k.thread o (next_stamp (local_of k)) in
     let same : log_store_within_plan e (Waits o) (Waiting c.thread.result) c.encode_wait-word.result (entry.Wait o) ≡ logging =
     λ i. log_store_within_plan e (Waits o) (Waiting (thread i)) (word i) (entry.Wait o) in

@@ -21,8 +21,10 @@ pub load-word-requires : goal.load-word-requires
 load-word-requires c =
     let a = c.args in
     let t = a.pass.now.known.thread in
-    let same : load a.why.now (Waiting c.thread.result) ≡ load a.why.now (Waiting t) = ap (λ u. load a.why.now (Waiting u)) c.thread.ensures.same in
-    subst (CanStep a.heap.now a.pass.now) (sym same) (can a.heap.now a.pass.now a.why.now.task (load a.why.now (Waiting t)) _ c.requires.due refl c.requires.heap tt refl)
+    let same : load a.why.now (Waiting c.thread.result) ≡ load a.why.now (Waiting t) =
+    ap (λ u. load a.why.now (Waiting u)) c.thread.ensures.same in
+    subst (CanStep a.heap.now a.pass.now) (sym same)
+    (can a.heap.now a.pass.now a.why.now.task (load a.why.now (Waiting t)) _ c.requires.due refl c.requires.heap tt refl)
 
 pub resume_mark-requires-clause-due : goal.resume_mark-requires-clause-due
 resume_mark-requires-clause-due c =
@@ -65,7 +67,8 @@ returns-in-Waiting c =
     let word = c.load-word.result in
     let same : load e (Waiting c.thread.result) ≡ load e (Waiting t) = ap (λ u. load e (Waiting u)) c.thread.ensures.same in
     let s = subst (λ (x : StepPlan). HasStepped h a.pass.now q x word) same c.load-word.ensures in
-    let form : read_wait word ≡ Some (wait.Waiting c.in-Waiting.object c.in-Waiting.stamp) = sym c.wait_form.ensures ∙ c.in-Some.is ∙ ap Some c.in-Waiting.is in
+    let form : read_wait word ≡ Some (wait.Waiting c.in-Waiting.object c.in-Waiting.stamp) =
+    sym c.wait_form.ensures ∙ c.in-Some.is ∙ ap Some c.in-Waiting.is in
     let out = Pending (why.NotNotified word) in
     stepped h a.pass.now q q (load e (Waiting t)) _ word out s refl
     (subst (λ (f : Option WaitForm). HasRun h (resume_at f e t a.saved a.object word) q q out) (sym form) (ends h q out s.heap))

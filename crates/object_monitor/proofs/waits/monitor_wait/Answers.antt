@@ -31,9 +31,10 @@ own-requires-clause-due c =
     let local : local_of q.known ≡ l = ap local_of s.known in
     let form = sym c.owner_form.ensures ∙ c.in-Some.is in
     let rest = rest_due h a.pass.now e.task (load e (Owner a.monitor)) _ c.requires.due refl q n s in
-    let due = subst (λ (f : Option OwnerForm). IsDueOn h q e.task (own_steps f e l a.object a.monitor >>= (λ _. owned_wait e l a.object a.monitor))) form rest in
+    let next = owned_wait e l a.object a.monitor in
+    let due = subst (λ (f : Option OwnerForm). IsDueOn h q e.task (own_steps f e l a.object a.monitor >>= (λ _. next))) form rest in
     subst (λ (x : Local). IsDueOn h q e.task (own_steps (Some c.in-Some.form) e x a.object a.monitor)) (sym local)
-    (part_due h.heap.shape h.heap.start h.heap.biasing q.known e.task (own_steps (Some c.in-Some.form) e l a.object a.monitor) (λ _. owned_wait e l a.object a.monitor) due)
+    (part_due h.heap.shape h.heap.start h.heap.biasing q.known e.task (own_steps (Some c.in-Some.form) e l a.object a.monitor) (λ _. next) due)
 
 pub wait_owned-requires-clause-due : goal.wait_owned-requires-clause-due
 wait_owned-requires-clause-due c =
@@ -48,10 +49,11 @@ wait_owned-requires-clause-due c =
     let local : local_of q.known ≡ l = ap local_of s.known in
     let form = sym c.owner_form.ensures ∙ c.in-Some.is in
     let rest = rest_due h a.pass.now e.task (load e (Owner a.monitor)) _ c.requires.due refl q n s in
-    let due = subst (λ (f : Option OwnerForm). IsDueOn h q e.task (own_steps f e l a.object a.monitor >>= (λ _. owned_wait e l a.object a.monitor))) form rest in
+    let next = owned_wait e l a.object a.monitor in
+    let due = subst (λ (f : Option OwnerForm). IsDueOn h q e.task (own_steps f e l a.object a.monitor >>= (λ _. next))) form rest in
     let owned = subst (λ (x : Local). HasRun h (own_steps (Some c.in-Some.form) e x a.object a.monitor) q r tt) local c.own.ensures.run in
     subst (λ (x : Local). IsDueOn h r e.task (owned_wait e x a.object a.monitor)) (sym (c.own.ensures.kept ∙ local))
-    (after_owning (Some c.in-Some.form) h q r e l a.object a.monitor (owned_wait e l a.object a.monitor) due owned)
+    (after_owning (Some c.in-Some.form) h q r e l a.object a.monitor next due owned)
 
 pub unreachable-requires : goal.unreachable-requires
 unreachable-requires c =
@@ -63,8 +65,9 @@ unreachable-requires c =
     let n = c.load-owner.result in
     let s = c.load-owner.ensures in
     let rest = rest_due h a.pass.now e.task (load e (Owner a.monitor)) _ c.requires.due refl q n s in
-    not_due h q e.task (own_steps (read_owner n) e l a.object a.monitor >>= (λ _. owned_wait e l a.object a.monitor)) s.heap rest
-    (ap (λ (f : Option OwnerForm). own_steps f e l a.object a.monitor >>= (λ _. owned_wait e l a.object a.monitor)) (sym c.owner_form.ensures ∙ c.in-None.is))
+    let next = owned_wait e l a.object a.monitor in
+    not_due h q e.task (own_steps (read_owner n) e l a.object a.monitor >>= (λ _. next)) s.heap rest
+    (ap (λ (f : Option OwnerForm). own_steps f e l a.object a.monitor >>= (λ _. next)) (sym c.owner_form.ensures ∙ c.in-None.is))
 
 pub returns : goal.returns
 returns c =
@@ -82,6 +85,7 @@ returns c =
     let form = sym c.owner_form.ensures ∙ c.in-Some.is in
     let owned = subst (λ (x : Local). HasRun h (own_steps (Some c.in-Some.form) e x a.object a.monitor) q r tt) local c.own.ensures.run in
     let left = subst (λ (x : Local). HasRun h (owned_wait e x a.object a.monitor) r end out) (c.own.ensures.kept ∙ local) c.wait_owned.ensures in
-    let run = in_turn h q r end (own_steps (Some c.in-Some.form) e l a.object a.monitor) (λ _. owned_wait e l a.object a.monitor) tt out owned left in
+    let next = owned_wait e l a.object a.monitor in
+    let run = in_turn h q r end (own_steps (Some c.in-Some.form) e l a.object a.monitor) (λ _. next) tt out owned left in
     stepped h a.pass.now q end (load e (Owner a.monitor)) _ n out s refl
-    (subst (λ (f : Option OwnerForm). HasRun h (own_steps f e l a.object a.monitor >>= (λ _. owned_wait e l a.object a.monitor)) q end out) (sym form) run)
+    (subst (λ (f : Option OwnerForm). HasRun h (own_steps f e l a.object a.monitor >>= (λ _. next)) q end out) (sym form) run)

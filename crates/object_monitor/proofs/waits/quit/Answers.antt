@@ -19,6 +19,7 @@ store-requires-2 c =
     let e = a.why.now in
     let q = c.store.new.pass in
     let s = c.store.ensures in
-    let same : store_plan e Calm (Owner a.monitor) c.encode_owner-free.result ≡ quit_plan e a.monitor = ap (store_plan e Calm (Owner a.monitor)) c.encode_owner-free.ensures in
+    let same : store_plan e Calm (Owner a.monitor) c.encode_owner-free.result ≡ quit_plan e a.monitor =
+    ap (store_plan e Calm (Owner a.monitor)) c.encode_owner-free.ensures in
     let rest = rest_due h a.pass.now e.task (drop_plan e a.object a.monitor) _ c.requires.due refl q c.store.result s in
     subst (CanStep h q) (sym same) (can h q e.task (quit_plan e a.monitor) _ rest refl s.heap tt refl)

@@ -13,7 +13,9 @@ use Rattle.object_monitor.proofs.Resuming.{never_marked}
 use Rattle.object_monitor.proofs.waits.resume_mark.Goals as goal
 
 pub load-mark-requires : goal.load-mark-requires
-load-mark-requires c = let a = c.args in can a.heap.now a.pass.now a.why.now.task (load a.why.now (Mark a.object)) _ c.requires.due refl c.requires.heap tt refl
+load-mark-requires c =
+    let a = c.args in
+    can a.heap.now a.pass.now a.why.now.task (load a.why.now (Mark a.object)) _ c.requires.due refl c.requires.heap tt refl
 
 pub resume_owner-requires-clause-due : goal.resume_owner-requires-clause-due
 resume_owner-requires-clause-due c =

@@ -1,9 +1,5 @@
 use Rattle.std.proofs.Common.{◌≡◌, ◌<◌, length, refl, sym, ap, ◌∙◌, subst, arith}
-use Rattle.mark_word.specs.declared.wait.WaitForm.TheVariants.{Ready}
-use Rattle.mark_word.specs.Wait.{wait_of}
-use Rattle.plain_monitor.specs.declared.entry.Entry.TheVariants as entry
-use Rattle.core_world.specs.declared.act.Act.TheVariants.{Load}
-use Rattle.core_world.specs.declared.name.Name.TheVariants.{Waiting, Stamp}
+use Rattle.core_world.specs.declared.name.Name.TheVariants.{Waiting}
 use Rattle.core_world.specs.declared.plan.StepPlan.{StepPlan}
 use Rattle.core_world.specs.declared.stage.Stage.TheVariants.{Resumes}
 use Rattle.core_world.specs.Threads.Known.{Known}

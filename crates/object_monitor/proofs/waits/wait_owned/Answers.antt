@@ -2,7 +2,7 @@ use Rattle.std.proofs.Common.{◌≡◌, refl, sym, ap, subst}
 use Rattle.core_world.specs.Threads.Known.{Local, local_of}
 use Rattle.core_world.specs.Trees.LockSteps.{raise_stamp_plan}
 use Rattle.core_world.specs.Trees.Plans.{next_stamp}
-use Rattle.core_world.specs.Trees.Todo.{Todo, done, ◌>>=◌}
+use Rattle.core_world.specs.Trees.Todo.{done, ◌>>=◌}
 use Rattle.core_world.specs.Trees.WaitSteps.{save_count_plan}
 use Rattle.core_world.proofs.CallRests.{part_due}
 use Rattle.heap_table.specs.Parts.{IsDueOn, HasRun}
@@ -27,7 +27,8 @@ log_wait-requires-clause-due c =
     let local : local_of q.known ≡ l = ap local_of s.known in
     let rest = rest_due h a.pass.now e.task (save_count_plan e a.monitor) _ c.requires.due refl q n s in
     subst (λ (x : Local). IsDueOn h q e.task (stamped_wait e x a.object)) (sym local)
-    (part_due h.heap.shape h.heap.start h.heap.biasing q.known e.task (stamped_wait e l a.object) (λ _. quit_steps e a.object a.monitor >>= (λ _. done n)) rest)
+    (part_due h.heap.shape h.heap.start h.heap.biasing q.known e.task (stamped_wait e l a.object)
+    (λ _. quit_steps e a.object a.monitor >>= (λ _. done n)) rest)
 
 pub quit-requires-clause-due : goal.quit-requires-clause-due
 quit-requires-clause-due c =
@@ -43,4 +44,5 @@ quit-requires-clause-due c =
     let rest = rest_due h a.pass.now e.task (save_count_plan e a.monitor) _ c.requires.due refl q n s in
     let logged = subst (λ (x : Local). HasRun h (stamped_wait e x a.object) q r tt) local c.log_wait.ensures in
     part_due h.heap.shape h.heap.start h.heap.biasing r.known e.task (quit_steps e a.object a.monitor) (λ _. done n)
-    (part_then h q r e.task (raise_stamp_plan e a.object (next_stamp l)) _ (λ _. quit_steps e a.object a.monitor >>= (λ _. done n)) tt rest refl logged)
+    (part_then h q r e.task (raise_stamp_plan e a.object (next_stamp l)) _
+    (λ _. quit_steps e a.object a.monitor >>= (λ _. done n)) tt rest refl logged)
