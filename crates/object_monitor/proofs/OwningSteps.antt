@@ -12,7 +12,7 @@ use Rattle.heap_table.specs.Seen.{HeapSeen, PassSeen}
 use Rattle.heap_table.proofs.Parts.{part_then}
 
 -- behind them what comes next is due
-pub after_owning : (f : Option OwnerForm) (h : HeapSeen) (p q : PassSeen) (e : Purpose) (k : Local) (o m : ℕ) (d : Todo (Unit {0}))
+pub after_owning : {A : Type 0} (f : Option OwnerForm) (h : HeapSeen) (p q : PassSeen) (e : Purpose) (k : Local) (o m : ℕ) (d : Todo A)
     → IsDueOn h p e.task (own_steps f e k o m >>= (λ _. d)) → HasRun h (own_steps f e k o m) p q tt → IsDueOn h q e.task d
 after_owning None h p q e k o m d due run = absurd run.ran.by
 after_owning (Some Free) h p q e k o m d due run = absurd run.ran.by

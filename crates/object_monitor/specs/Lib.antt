@@ -1,1 +1,2 @@
 pub mod ExitParts
+pub mod WaitParts

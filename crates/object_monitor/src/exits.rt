@@ -15,9 +15,9 @@ use mark_word::{OwnerForm, encode_owner};
 use plain_monitor::Entry;
 use stack_lock::{clear, leave, top_place};
 
-// The owner of the monitor has this form. Where a record of the thread is the owner, the thread itself takes its place,
-// with no recursions.
-fn own(heap: &Heap, pass: &mut Pass, why: &Purpose, object: u32, monitor: u32, form: OwnerForm)
+/// The owner of the monitor has this form. Where a record of the thread is the owner, the thread itself takes its place,
+/// with no recursions.
+pub fn own(heap: &Heap, pass: &mut Pass, why: &Purpose, object: u32, monitor: u32, form: OwnerForm)
     requires heap { IsOf heap.now pass.old }
     requires due { IsDueOn heap.now pass.old why.now.task
         (own_steps (Some form) why.now (local_of pass.old.known) object monitor) }

@@ -1,10 +1,11 @@
-//! Monitors: how a lock gets one, and how a thread enters and leaves it.
+//! Monitors: how a lock gets one, how a thread enters and leaves it, and how it waits on it.
 //!
 //! This is HotSpot's heavyweight locking of OpenJDK 8, as `objectMonitor.cpp` and `synchronizer.cpp` have it. The mark of
 //! an inflated object names its monitor, which says who owns it, how often the owner has entered it again, the header
 //! that the mark had, and the object. The owner word of a free monitor is exchanged for the thread, and a thread that
 //! owns the monitor counts its recursions. Where a lock record of the thread was the owner, from before the lock was
-//! inflated, the thread takes its place. At the last exit the owner word is cleared. Each hold by a monitor has a lock
+//! inflated, the thread takes its place. At the last exit the owner word is cleared. A thread that waits lets the
+//! monitor go at once, with all its recursions, and has them again at the end. Each hold by a monitor has a lock
 //! record, too, whose displaced word is 3.
 //!
 //! Each function makes the steps of its tree in `core_world`, as they are due, on the words of a `heap_table` heap, and
@@ -15,8 +16,10 @@ mod enters;
 mod exits;
 mod inflates;
 mod owners;
+mod waits;
 mod words;
 
 pub use enters::monitor_enter;
 pub use exits::monitor_exit;
 pub use inflates::inflate;
+pub use waits::{monitor_resume, monitor_wait, publish};

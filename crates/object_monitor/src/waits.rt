@@ -1,0 +1,257 @@
+//! How a thread that owns a monitor waits, and takes the monitor again.
+ghost use Rattle.std.specs.Prelude.{◌≡◌, ◌+◌, ◌<◌, ◌^◌, length, Some};
+ghost use Rattle.mark_word.specs.Wait.{read_wait};
+ghost use Rattle.plain_monitor.specs.History.{last_stamp};
+ghost use Rattle.core_world.specs.Threads.Known.{local_of};
+ghost use Rattle.core_world.specs.Trees.WaitSteps.{resumed_steps, resume_owner_at, resume_owner_steps, monitor_resume_steps};
+ghost use Rattle.core_world.specs.Trees.WaitSteps.{monitor_wait_steps, publish_steps};
+ghost use Rattle.heap_table.specs.Parts.{IsDueOn, HasRun};
+ghost use Rattle.heap_table.specs.Seen.{IsOf};
+ghost use Rattle.object_monitor.specs.WaitParts.{marked_resume, stamped_wait, quit_steps, owned_wait};
+
+use crate::exits::own;
+use crate::owners::owner_form;
+use crate::words::mark_form;
+use core_world::{Name, Own, Stage, Turn, Why};
+use heap_table::{Heap, Pass, Purpose};
+use mark_word::{MarkForm, OwnerForm, WaitForm, decode_wait, encode_owner, encode_wait};
+use plain_monitor::Entry;
+
+fn wait_form(word: u64) -> Option<WaitForm>
+    ensures { result ≡ read_wait word }
+{
+    decode_wait(word).ok()
+}
+
+// The monitor is the thread's again: it gets the saved recursions, the thread waits no more, and the Resume is logged,
+// by a load of the object's stamp.
+fn resumed(
+    heap: &Heap,
+    pass: &mut Pass,
+    why: &Purpose,
+    saved: u64,
+    object: u32,
+    monitor: u32,
+) -> Turn<()>
+    requires heap { IsOf heap.now pass.old }
+    requires due { IsDueOn heap.now pass.old why.now.task
+        (resumed_steps why.now pass.old.known.thread saved object monitor) }
+    requires room { length pass.old.known.log < pass.old.limit }
+    ensures { HasRun heap.now (resumed_steps why.now pass.old.known.thread saved object monitor)
+        pass.old pass.new result }
+{
+    let stage = Stage::Resumes { object };
+    heap.store(pass, why, stage, Name::Recursions { monitor }, saved);
+    let at = Name::Waiting {
+        thread: pass.thread(),
+    };
+    let word = encode_wait(&WaitForm::Ready);
+    heap.store(pass, why, stage, at, word);
+    heap.log_load(pass, why, Name::Stamp { object }, Entry::Resume { object });
+    Turn::Done(())
+}
+
+// Whom the owner word `found` names: where it is nobody, the exchange took the monitor.
+fn resume_by(
+    heap: &Heap,
+    pass: &mut Pass,
+    why: &Purpose,
+    saved: u64,
+    object: u32,
+    monitor: u32,
+    found: u64,
+    form: OwnerForm,
+) -> Turn<()>
+    requires heap { IsOf heap.now pass.old }
+    requires due { IsDueOn heap.now pass.old why.now.task
+        (resume_owner_at (Some form) why.now pass.old.known.thread saved object monitor found) }
+    requires room { length pass.old.known.log < pass.old.limit }
+    ensures { HasRun heap.now (resume_owner_at (Some form) why.now pass.old.known.thread saved object monitor found)
+        pass.old pass.new result }
+{
+    match form {
+        OwnerForm::Free => resumed(heap, pass, why, saved, object, monitor),
+        _ => Turn::Pending(Why::Owned { word: found }),
+    }
+}
+
+// The thread was notified, and the object's mark names this monitor: its owner word is exchanged from Free.
+fn resume_owner(
+    heap: &Heap,
+    pass: &mut Pass,
+    why: &Purpose,
+    saved: u64,
+    object: u32,
+    monitor: u32,
+) -> Turn<()>
+    requires heap { IsOf heap.now pass.old }
+    requires due { IsDueOn heap.now pass.old why.now.task
+        (resume_owner_steps why.now pass.old.known.thread saved object monitor) }
+    requires room { length pass.old.known.log < pass.old.limit }
+    ensures { HasRun heap.now (resume_owner_steps why.now pass.old.known.thread saved object monitor)
+        pass.old pass.new result }
+{
+    let thread = pass.thread();
+    let stage = Stage::Resumes { object };
+    let at = Name::Owner { monitor };
+    let free = encode_owner(&OwnerForm::Free);
+    let word = encode_owner(&OwnerForm::ByThread { thread });
+    let found = heap.exchange(pass, why, stage, at, free, word);
+    match owner_form(found) {
+        Some(form) => resume_by(heap, pass, why, saved, object, monitor, found, form),
+        None => unreachable!(),
+    }
+}
+
+// The thread was notified: the object's mark names the monitor.
+fn resume_mark(heap: &Heap, pass: &mut Pass, why: &Purpose, saved: u64, object: u32) -> Turn<()>
+    requires heap { IsOf heap.now pass.old }
+    requires due { IsDueOn heap.now pass.old why.now.task
+        (marked_resume why.now pass.old.known.thread saved object) }
+    requires room { length pass.old.known.log < pass.old.limit }
+    ensures { HasRun heap.now (marked_resume why.now pass.old.known.thread saved object) pass.old pass.new result }
+{
+    let mark = heap.load(pass, why, Stage::Calm, Name::Mark { object });
+    match mark_form(mark) {
+        Some(form) => match form {
+            MarkForm::Inflated { monitor } => resume_owner(heap, pass, why, saved, object, monitor),
+            _ => unreachable!(),
+        },
+        None => unreachable!(),
+    }
+}
+
+/// Ends the wait on the object of a thread that let go of the monitor, in the same call or in a later one. The object's
+/// mark names the monitor still.
+///
+/// `Done(())` says that the thread owns the monitor again, with the saved recursions, that it waits no more, and that
+/// the Resume is logged.
+/// `Pending(NotNotified { word })` says that nobody has notified the thread: its waiting word is `word` still.
+/// `Pending(Owned { word })` says that the thread was notified, and that another thread owns the monitor, by the owner
+/// word `word`. In these two nothing was stored and nothing logged.
+pub fn monitor_resume(
+    heap: &Heap,
+    pass: &mut Pass,
+    why: &Purpose,
+    saved: u64,
+    object: u32,
+) -> Turn<()>
+    requires heap { IsOf heap.now pass.old }
+    requires due { IsDueOn heap.now pass.old why.now.task
+        (monitor_resume_steps why.now pass.old.known.thread saved object) }
+    requires room { length pass.old.known.log < pass.old.limit }
+    ensures { HasRun heap.now (monitor_resume_steps why.now pass.old.known.thread saved object)
+        pass.old pass.new result }
+{
+    let at = Name::Waiting {
+        thread: pass.thread(),
+    };
+    let word = heap.load(pass, why, Stage::Calm, at);
+    match wait_form(word) {
+        Some(form) => match form {
+            WaitForm::Waiting { .. } => Turn::Pending(Why::NotNotified { word }),
+            WaitForm::Notified { .. } => resume_mark(heap, pass, why, saved, object),
+            _ => unreachable!(),
+        },
+        None => unreachable!(),
+    }
+}
+
+// The stamp of the thread's next entry, if that is no Enter or Resume.
+fn next_stamp(pass: &Pass) -> u64
+    requires { last_stamp pass.now.known.log + 1 < 2 ^ 64 }
+    ensures { result ≡ last_stamp pass.now.known.log + 1 }
+{
+    match pass.log().last() {
+        Some(last) => last.stamp + 1,
+        None => 1,
+    }
+}
+
+// Raises the object's stamp to that of the thread's next entry, which is the Wait: the waiting word has the same stamp,
+// and its store logs the Wait. The operation is unfinished still.
+fn log_wait(heap: &Heap, pass: &mut Pass, why: &Purpose, object: u32)
+    requires heap { IsOf heap.now pass.old }
+    requires object { object < length heap.now.heap.shape.objects }
+    requires due { IsDueOn heap.now pass.old why.now.task (stamped_wait why.now (local_of pass.old.known) object) }
+    requires room { length pass.old.known.log < pass.old.limit }
+    ensures { HasRun heap.now (stamped_wait why.now (local_of pass.old.known) object) pass.old pass.new result }
+{
+    let stamp = next_stamp(pass);
+    heap.raise(pass, why, Name::Stamp { object }, stamp);
+    let at = Name::Waiting {
+        thread: pass.thread(),
+    };
+    let word = encode_wait(&WaitForm::Waiting { object, stamp });
+    let stage = Stage::Waits { object };
+    heap.log_store_within(pass, why, stage, at, word, Entry::Wait { object });
+}
+
+// The recursions of the monitor become 0, and then its owner word Free.
+fn quit(heap: &Heap, pass: &mut Pass, why: &Purpose, object: u32, monitor: u32)
+    requires heap { IsOf heap.now pass.old }
+    requires due { IsDueOn heap.now pass.old why.now.task (quit_steps why.now object monitor) }
+    ensures { HasRun heap.now (quit_steps why.now object monitor) pass.old pass.new result }
+{
+    let stage = Stage::Waits { object };
+    heap.store(pass, why, stage, Name::Recursions { monitor }, 0);
+    let free = encode_owner(&OwnerForm::Free);
+    heap.store(pass, why, Stage::Calm, Name::Owner { monitor }, free);
+}
+
+// The thread itself owns the monitor: it keeps the recursions, logs the Wait, and lets the monitor go.
+fn wait_owned(heap: &Heap, pass: &mut Pass, why: &Purpose, object: u32, monitor: u32) -> u64
+    requires heap { IsOf heap.now pass.old }
+    requires object { object < length heap.now.heap.shape.objects }
+    requires due { IsDueOn heap.now pass.old why.now.task
+        (owned_wait why.now (local_of pass.old.known) object monitor) }
+    requires room { length pass.old.known.log < pass.old.limit }
+    ensures { HasRun heap.now (owned_wait why.now (local_of pass.old.known) object monitor)
+        pass.old pass.new result }
+{
+    let at = Name::Recursions { monitor };
+    let recursions = heap.load_and_keep(pass, why, Own::Save, at);
+    log_wait(heap, pass, why, object);
+    quit(heap, pass, why, object, monitor);
+    recursions
+}
+
+/// Begins a wait on the object, whose mark names this monitor, by the thread that owns it.
+///
+/// The Wait is logged, the thread's waiting word says that it waits since the stamp of that entry, and the monitor is
+/// free, whatever the count of the thread's holds, which it keeps. The recursions that the monitor had are answered, and
+/// the thread keeps them as those to be restored. Where a lock record of the thread was the owner, the thread itself
+/// became it before, with no recursions. The operation is unfinished still: `monitor_resume` ends it.
+pub fn monitor_wait(heap: &Heap, pass: &mut Pass, why: &Purpose, object: u32, monitor: u32) -> u64
+    requires heap { IsOf heap.now pass.old }
+    requires object { object < length heap.now.heap.shape.objects }
+    requires due { IsDueOn heap.now pass.old why.now.task
+        (monitor_wait_steps why.now (local_of pass.old.known) object monitor) }
+    requires room { length pass.old.known.log < pass.old.limit }
+    ensures { HasRun heap.now (monitor_wait_steps why.now (local_of pass.old.known) object monitor)
+        pass.old pass.new result }
+{
+    let owner = heap.load(pass, why, Stage::Calm, Name::Owner { monitor });
+    match owner_form(owner) {
+        Some(form) => {
+            own(heap, pass, why, object, monitor, form);
+            wait_owned(heap, pass, why, object, monitor)
+        }
+        None => unreachable!(),
+    }
+}
+
+/// Publishes the length of the thread's log with one entry more. This step logs that entry, which is the one given, and
+/// ends the operation.
+pub fn publish(heap: &Heap, pass: &mut Pass, why: &Purpose, entry: Entry)
+    requires heap { IsOf heap.now pass.old }
+    requires due { IsDueOn heap.now pass.old why.now.task (publish_steps entry why.now (local_of pass.old.known)) }
+    requires room { length pass.old.known.log < pass.old.limit }
+    ensures { HasRun heap.now (publish_steps entry why.now (local_of pass.old.known)) pass.old pass.new result }
+{
+    let at = Name::Length {
+        thread: pass.thread(),
+    };
+    let length = pass.log().len() as u64 + 1;
+    heap.log_store(pass, why, Stage::Calm, at, length, entry);
+}
