@@ -1,5 +1,5 @@
 //! Laws of steps on the safepoint word, the journal, lock records and monitors: such a step keeps the world valid, whatever other threads do.
-//! `docs/WORLD.md` lists the kinds of step that have a law, and those that have none yet.
+//! `docs/WORLD.md` lists the kinds of step, and the law of each.
 //!
 //! A law is a public function with an empty body. Its contract says of one kind of step: in every valid world in which the thread
 //! knows what it knows, the step gives a valid world, with the same plain objects or with those that took the step's entry.
