@@ -1,4 +1,3 @@
-mod Chosen
 mod Keeping
 mod Never
 mod Taking

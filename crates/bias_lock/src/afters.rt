@@ -7,9 +7,8 @@ ghost use Rattle.heap_table.specs.Seen.{IsOf};
 ghost use Rattle.bias_lock.specs.Kept.{IsKeptUnlessTook};
 
 use crate::enters::took;
-use crate::words::{is_biased, mark_form};
 use core_world::{BiasTry, Name, Stage};
-use heap_table::{Heap, Pass, Purpose};
+use heap_table::{Heap, Pass, Purpose, is_biased, mark_of_word};
 use mark_word::MarkForm;
 use plain_monitor::Path;
 
@@ -67,7 +66,7 @@ pub fn bias_after(heap: &Heap, pass: &mut Pass, why: &Purpose, object: u32, took
     let stage = stage_after(took, object);
     let mark = heap.load(pass, why, stage, Name::Mark { object });
     if is_biased(mark) {
-        let form = mark_form(mark);
+        let form = mark_of_word(mark);
         return enter_own(heap, pass, why, object, form);
     }
     BiasTry::Unbiased { mark }

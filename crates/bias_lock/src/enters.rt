@@ -10,9 +10,8 @@ ghost use Rattle.bias_lock.specs.Kept.{IsKeptUnlessTook};
 ghost use Rattle.bias_lock.specs.Parts.{prototype_enter};
 
 use crate::drops::unbias;
-use crate::words::{is_biased, mark_form};
 use core_world::{BiasTry, Name, Stage};
-use heap_table::{Heap, Pass, Purpose};
+use heap_table::{Heap, Pass, Purpose, is_biased, mark_of_word};
 use mark_word::{MarkForm, encode};
 use plain_monitor::Path;
 use stack_lock::hold;
@@ -136,7 +135,7 @@ fn enter_by(
 {
     match form {
         MarkForm::Neutral { .. } => unbias(heap, pass, why, object, mark, prototype),
-        MarkForm::Anonymous { epoch, .. } => match mark_form(mark) {
+        MarkForm::Anonymous { epoch, .. } => match mark_of_word(mark) {
             Some(bias) => enter_at(heap, pass, why, object, mark, bias, epoch),
             None => unreachable!(),
         },
@@ -162,7 +161,7 @@ fn enter_biased(
         pass.old pass.new result }
 {
     let prototype = heap.load(pass, why, Stage::Calm, Name::Prototype { class });
-    match mark_form(prototype) {
+    match mark_of_word(prototype) {
         Some(form) => enter_by(heap, pass, why, object, mark, prototype, form),
         None => unreachable!(),
     }

@@ -8,9 +8,8 @@ ghost use Rattle.heap_table.specs.Parts.{IsDueOn, HasRun};
 ghost use Rattle.heap_table.specs.Seen.{IsOf};
 ghost use Rattle.bias_lock.specs.Parts.{marked_exit};
 
-use crate::words::is_biased;
 use core_world::{Name, Stage};
-use heap_table::{Heap, Pass, Purpose};
+use heap_table::{Heap, Pass, Purpose, is_biased};
 use stack_lock::{leave, raise, top_place};
 
 // The mark says whether it is a bias under which the hold is left.

@@ -13,3 +13,7 @@ pub mod Resuming
 pub mod Walking
 pub mod Parts
 pub mod BiasesAtEnd
+pub mod Ruled
+pub mod Arms
+pub mod Resting
+pub mod Aside

@@ -19,6 +19,7 @@ use Rattle.core_world.proofs.LookWhileRevoking.{forgotten}
 use Rattle.core_counts.specs.BiasLaw.{BiasLawHolds}
 use Rattle.core_steps.specs.Logic.{Heap}
 use Rattle.heap_table.specs.Ruled.{Stepped}
+use Rattle.heap_table.specs.Seen.{HeapSeen, PassSeen, IsOf}
 use Rattle.heap_table.proofs.Follow.{last_end}
 use Rattle.heap_table.proofs.Knows.{told_here}
 
@@ -66,3 +67,11 @@ stamp_fits b k p n last was same hit =
     let now : (world_after p t w).known t ≡ known_after w.shape w.start p n k = here ∙ λ i. known_after w.shape w.start p (was.was_there i) (was.knew i) in
     let log : ((world_after p t w).known t).log ≡ log_after p.note n k.log = ap (λ (x : Known). x.log) now ∙ log_hit w p n k hit in
     by_note p.note k.log n last (subst (λ (x : Known). last_stamp x.log ≤ 6401056) was.knew old) (subst (λ (l : List Logged). last_stamp l ≤ 6401056) log new) same
+
+-- no stamp of a pass's log is higher
+pub low : (h : HeapSeen) (p : PassSeen) → IsOf h p → last_stamp p.known.log ≤ 6401056
+low h p is_of =
+    let w : World = is_of.real.world in
+    let sound = is_of.real.sound in
+    subst (λ (k : Known). last_stamp k.log ≤ 6401056) is_of.real.knew
+    (few w sound.valid.objects (forgotten BiasLawHolds w sound.valid.objects sound.valid.is) p.known.thread)

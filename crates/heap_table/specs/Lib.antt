@@ -13,3 +13,4 @@ pub mod Fresh
 pub mod Walk
 pub mod Parts
 pub mod BiasesAtEnd
+pub mod Resting

@@ -1,6 +1,8 @@
 //! What one thread steps with.
-ghost use Rattle.std.specs.Prelude.{◌≡◌, ◌+◌, ◌-◌, ◌<◌, ◌≤◌, [], ◌∷◌, ◌++◌, length};
+ghost use Rattle.std.specs.Prelude.{◌≡◌, ◌+◌, ◌-◌, ◌<◌, ◌≤◌, ◌==◌, [], ◌∷◌, ◌++◌, length};
+ghost use Rattle.std.specs.List.{position_or_len};
 ghost use Rattle.lock_policy.specs.Draws.{nth_value};
+ghost use Rattle.plain_monitor.specs.History.{last_stamp};
 ghost use Rattle.core_world.specs.Locks.{hold_count};
 ghost use Rattle.heap_table.specs.Kept.{all_holds};
 ghost use Rattle.heap_table.specs.Seen.{PassSeen};
@@ -8,7 +10,7 @@ ghost use Rattle.heap_table.specs.Tallies.{counts_shown};
 
 use crate::counts::ClassCounts;
 use crate::mirror::Mirror;
-use crate::reads::{held_of, holds_of};
+use crate::reads::{held_of, holds_of, place_of};
 use crate::rule::Place;
 use crate::shots::{Cell, Shot};
 use core_world::Unfinished;
@@ -62,6 +64,13 @@ impl Pass {
         self.mirror.log.as_slice()
     }
 
+    /// The stamp of the log's last entry, or 0.
+    pub fn last_stamp(&self) -> u64
+        ensures { result ≡ last_stamp self.now.known.log }
+    {
+        self.mirror.last
+    }
+
     /// How many entries may still be logged.
     pub fn room(&self) -> u32
         ensures room { result + length self.now.known.log ≡ self.now.limit }
@@ -90,6 +99,15 @@ impl Pass {
         ensures { result.now ≡ self.now.known.holds }
     {
         &self.mirror.holds
+    }
+
+    /// The first place with this hold word, or 64 where none has it.
+    pub fn place_of(&self, word: u64) -> u32
+        ensures place { result ≡ position_or_len (λ h. h == word) self.now.known.holds }
+        ensures few { result ≤ 64 }
+        ensures all { length self.now.known.holds ≡ 64 }
+    {
+        place_of(&self.mirror.holds, word)
     }
 
     /// What the thread last stored in its waiting word.

@@ -1,22 +1,55 @@
 //! What words say, as the definitions read them.
-ghost use Rattle.std.specs.Prelude.{◌≡◌, ◌≤◌};
+ghost use Rattle.std.specs.Prelude.{◌≡◌, ◌≤◌, ◌==◌, length};
 ghost use Rattle.mark_word.specs.Mark.{read_mark};
 ghost use Rattle.mark_word.specs.Safe.{read_safe};
 ghost use Rattle.plain_monitor.specs.ValueWords.{read_value};
 ghost use Rattle.mark_word.specs.Hold.{read_hold};
-ghost use Rattle.core_world.specs.Words.Forms.{hash_in, names, is_halted};
+ghost use Rattle.mark_word.specs.Owner.{read_owner};
+ghost use Rattle.mark_word.specs.Wait.{read_wait};
+ghost use Rattle.std.specs.List.{position_or_len};
+ghost use Rattle.core_world.specs.Words.Forms.{hash_in, is_biased, names, is_halted};
 ghost use Rattle.core_world.specs.Locks.{hold_count};
 ghost use Rattle.core_world.specs.Threads.Stages.{one_if};
 ghost use Rattle.heap_table.specs.Kept.{all_holds};
 ghost use Rattle.core_world.specs.Trees.Operations.{value_found};
 
-use mark_word::{HoldForm, MarkForm, SafeForm, decode, decode_hold, decode_safe};
+use mark_word::{HoldForm, MarkForm, OwnerForm, SafeForm, WaitForm};
+use mark_word::{decode, decode_hold, decode_owner, decode_safe, decode_wait};
 use plain_monitor::{Value, word_value};
 
-fn mark_of_word(word: u64) -> Option<MarkForm>
+/// What a mark says.
+pub fn mark_of_word(word: u64) -> Option<MarkForm>
     ensures { result ≡ read_mark word }
 {
     decode(word).ok()
+}
+
+/// Whether a mark has the bias pattern: it is biased, to a thread or to none.
+pub fn is_biased(mark: u64) -> bool
+    ensures { result ≡ is_biased mark }
+{
+    match mark_of_word(mark) {
+        Some(form) => match form {
+            MarkForm::Anonymous { .. } => true,
+            MarkForm::Biased { .. } => true,
+            _ => false,
+        },
+        None => false,
+    }
+}
+
+/// Who owns a monitor, by its owner word.
+pub fn owner_of_word(word: u64) -> Option<OwnerForm>
+    ensures { result ≡ read_owner word }
+{
+    decode_owner(word).ok()
+}
+
+/// What a waiting word says.
+pub fn wait_of_word(word: u64) -> Option<WaitForm>
+    ensures { result ≡ read_wait word }
+{
+    decode_wait(word).ok()
 }
 
 fn value_read(word: u64) -> Option<Value>
@@ -85,6 +118,20 @@ pub fn held_of(holds: &[u64; 64], object: u32) -> u32
         held += one_if(names(object, *hold));
     }
     held
+}
+
+/// The first place with this hold word, or 64.
+pub fn place_of(holds: &[u64; 64], word: u64) -> u32
+    ensures place { result ≡ position_or_len (λ h. h == word) holds.now }
+    ensures few { result ≤ 64 }
+    ensures all { length holds.now ≡ 64 }
+{
+    for i in 0..64 {
+        if holds[i] == word {
+            return i as u32;
+        }
+    }
+    64
 }
 
 /// How many of the hold words are not empty.

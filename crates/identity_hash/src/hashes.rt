@@ -8,9 +8,9 @@ ghost use Rattle.heap_table.specs.Parts.{IsDueOn, HasRun};
 ghost use Rattle.heap_table.specs.Seen.{IsOf};
 
 use crate::places::first_place;
-use crate::words::{hash_in, mark_form, marked_with};
+use crate::words::marked_with;
 use core_world::{Name, Stage, Turn, Why};
-use heap_table::{Heap, Pass, Purpose};
+use heap_table::{Heap, Pass, Purpose, hash_of_word, mark_of_word};
 use mark_word::MarkForm;
 use object_monitor::inflate;
 use plain_monitor::Entry;
@@ -68,7 +68,7 @@ fn hash_monitor(
 {
     let at = Name::Header { monitor };
     let header = heap.find_hash(pass, why, at, object);
-    let hash = hash_in(header);
+    let hash = hash_of_word(header);
     if hash != 0 {
         return Turn::Done(hash);
     }
@@ -88,7 +88,7 @@ fn hash_displaced(heap: &Heap, pass: &mut Pass, why: &Purpose, object: u32) -> O
     let thread = pass.thread();
     let place = first_place(pass, object);
     let header = heap.find_hash(pass, why, Name::Displaced { thread, place }, object);
-    let hash = hash_in(header);
+    let hash = hash_of_word(header);
     if hash != 0 {
         return Some(hash);
     }
@@ -174,7 +174,7 @@ pub fn header_hash(
 {
     let at = Name::Mark { object };
     let mark = heap.find_hash(pass, why, at, object);
-    match mark_form(mark) {
+    match mark_of_word(mark) {
         Some(form) => match form {
             MarkForm::Inflating => Turn::Pending(Why::Inflating),
             MarkForm::Neutral { hash, .. } => {

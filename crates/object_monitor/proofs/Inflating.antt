@@ -30,8 +30,8 @@ use Rattle.heap_table.specs.Seen.{HeapSeen, PassSeen, IsOf}
 use Rattle.heap_table.specs.StepPlans.{store_plan}
 use Rattle.heap_table.specs.Stepping.{HasStepped}
 use Rattle.heap_table.proofs.Parts.{rest_due, part_then}
-use Rattle.stack_lock.proofs.Arms.{due_then}
-use Rattle.stack_lock.proofs.Ruled.{there}
+use Rattle.heap_table.proofs.Arms.{due_then}
+use Rattle.heap_table.proofs.Ruled.{there}
 
 sound_limits : (w : World) → Sound w → IsInLimits w.shape
 sound_limits w sound = elim sound.valid.is [

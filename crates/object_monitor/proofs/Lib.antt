@@ -1,10 +1,6 @@
 mod Grabbing
 mod Inflated
 mod Inflating
-mod LastStamps
-mod LowStamps
-mod OwnersRead
 mod OwningSteps
 mod RecursionRoom
 mod Resuming
-mod WaitsRead

@@ -13,7 +13,7 @@ use Rattle.core_world.specs.Trees.Todo.{Todo, never}
 use Rattle.core_world.specs.Trees.WaitSteps.{resume_owner_at, resume_mark_at, resume_at}
 use Rattle.heap_table.specs.Parts.{IsDueOn}
 use Rattle.heap_table.specs.Seen.{HeapSeen, PassSeen, IsOf}
-use Rattle.stack_lock.proofs.Ruled.{not_due}
+use Rattle.heap_table.proofs.Ruled.{not_due}
 
 module _ (h : HeapSeen) (p : PassSeen) (e : Purpose) (t saved o m found : ℕ) (is_of : IsOf h p) where
   other : (d : Todo (Turn (Unit {0}))) (b : Bool) → IsDueOn h p e.task (cond b never d) → cond b never d ≡ d

@@ -6,9 +6,8 @@ ghost use Rattle.core_world.specs.Trees.MonitorSteps.{monitor_enter_at, monitor_
 ghost use Rattle.heap_table.specs.Parts.{IsDueOn, HasRun};
 ghost use Rattle.heap_table.specs.Seen.{IsOf};
 
-use crate::owners::owner_form;
 use core_world::{Name, Stage, Turn, Why};
-use heap_table::{Heap, Pass, Purpose};
+use heap_table::{Heap, Pass, Purpose, owner_of_word};
 use mark_word::{OwnerForm, WaitForm, encode_owner, encode_wait};
 use plain_monitor::Path;
 use stack_lock::{free_place, hold};
@@ -165,7 +164,7 @@ pub fn monitor_enter(
     let free = encode_owner(&OwnerForm::Free);
     let word = encode_owner(&OwnerForm::ByThread { thread });
     let found = heap.exchange(pass, why, stage, at, free, word);
-    match owner_form(found) {
+    match owner_of_word(found) {
         Some(form) => enter_by(heap, pass, why, object, monitor, found, form),
         None => unreachable!(),
     }

@@ -8,9 +8,8 @@ ghost use Rattle.heap_table.specs.Parts.{IsDueOn, HasRun};
 ghost use Rattle.heap_table.specs.Seen.{IsOf};
 ghost use Rattle.object_monitor.specs.ExitParts.{lowered_exit, counted_exit};
 
-use crate::owners::owner_form;
 use core_world::{Name, Stage};
-use heap_table::{Heap, Pass, Purpose};
+use heap_table::{Heap, Pass, Purpose, owner_of_word};
 use mark_word::{OwnerForm, encode_owner};
 use plain_monitor::Entry;
 use stack_lock::{clear, leave, top_place};
@@ -118,7 +117,7 @@ pub fn monitor_exit(heap: &Heap, pass: &mut Pass, why: &Purpose, object: u32, mo
 {
     let place = top_place(pass, object);
     let owner = heap.load(pass, why, Stage::Calm, Name::Owner { monitor });
-    match owner_form(owner) {
+    match owner_of_word(owner) {
         Some(form) => {
             own(heap, pass, why, object, monitor, form);
             leave_owned(heap, pass, why, object, monitor, place);

@@ -7,9 +7,8 @@ ghost use Rattle.core_world.specs.Trees.MonitorSteps.{inflate_by, inflate_steps}
 ghost use Rattle.heap_table.specs.Parts.{IsDueOn, HasRun};
 ghost use Rattle.heap_table.specs.Seen.{IsOf};
 
-use crate::words::mark_form;
 use core_world::{Name, Own, Stage, Turn, Why};
-use heap_table::{Heap, Pass, Purpose};
+use heap_table::{Heap, Pass, Purpose, mark_of_word};
 use mark_word::{MarkForm, OwnerForm, encode, encode_owner};
 
 // Stores the words of a monitor that the thread keeps, before the object's mark names it.
@@ -112,7 +111,7 @@ fn inflate_with(
         (inflate_with (read_mark mark) why.now object mark monitor) }
     ensures { HasRun heap.now (inflate_with (read_mark mark) why.now object mark monitor) pass.old pass.new result }
 {
-    match mark_form(mark) {
+    match mark_of_word(mark) {
         Some(form) => match form {
             MarkForm::Locked { thread, place } => {
                 inflate_locked(heap, pass, why, object, mark, monitor, thread, place)
@@ -160,7 +159,7 @@ pub fn inflate(heap: &Heap, pass: &mut Pass, why: &Purpose, object: u32) -> Turn
     ensures local { local_of pass.new.known ≡ local_of pass.old.known }
 {
     let mark = heap.load(pass, why, Stage::Calm, Name::Mark { object });
-    match mark_form(mark) {
+    match mark_of_word(mark) {
         Some(form) => match form {
             MarkForm::Inflating => Turn::Pending(Why::Inflating),
             MarkForm::Inflated { monitor } => Turn::Done(monitor),

@@ -15,9 +15,7 @@
 mod enters;
 mod exits;
 mod inflates;
-mod owners;
 mod waits;
-mod words;
 
 pub use enters::monitor_enter;
 pub use exits::monitor_exit;

@@ -1,7 +1,5 @@
 //! How a thread that owns a monitor waits, and takes the monitor again.
-ghost use Rattle.std.specs.Prelude.{◌≡◌, ◌+◌, ◌<◌, ◌^◌, length, Some};
-ghost use Rattle.mark_word.specs.Wait.{read_wait};
-ghost use Rattle.plain_monitor.specs.History.{last_stamp};
+ghost use Rattle.std.specs.Prelude.{◌≡◌, ◌<◌, length, Some};
 ghost use Rattle.core_world.specs.Threads.Known.{local_of};
 ghost use Rattle.core_world.specs.Trees.WaitSteps.{resumed_steps, resume_owner_at, resume_owner_steps, monitor_resume_steps};
 ghost use Rattle.core_world.specs.Trees.WaitSteps.{monitor_wait_steps, publish_steps};
@@ -10,18 +8,10 @@ ghost use Rattle.heap_table.specs.Seen.{IsOf};
 ghost use Rattle.object_monitor.specs.WaitParts.{marked_resume, stamped_wait, quit_steps, owned_wait};
 
 use crate::exits::own;
-use crate::owners::owner_form;
-use crate::words::mark_form;
 use core_world::{Name, Own, Stage, Turn, Why};
-use heap_table::{Heap, Pass, Purpose};
-use mark_word::{MarkForm, OwnerForm, WaitForm, decode_wait, encode_owner, encode_wait};
+use heap_table::{Heap, Pass, Purpose, mark_of_word, owner_of_word, wait_of_word};
+use mark_word::{MarkForm, OwnerForm, WaitForm, encode_owner, encode_wait};
 use plain_monitor::Entry;
-
-fn wait_form(word: u64) -> Option<WaitForm>
-    ensures { result ≡ read_wait word }
-{
-    decode_wait(word).ok()
-}
 
 // The monitor is the thread's again: it gets the saved recursions, the thread waits no more, and the Resume is logged,
 // by a load of the object's stamp.
@@ -97,7 +87,7 @@ fn resume_owner(
     let free = encode_owner(&OwnerForm::Free);
     let word = encode_owner(&OwnerForm::ByThread { thread });
     let found = heap.exchange(pass, why, stage, at, free, word);
-    match owner_form(found) {
+    match owner_of_word(found) {
         Some(form) => resume_by(heap, pass, why, saved, object, monitor, found, form),
         None => unreachable!(),
     }
@@ -112,7 +102,7 @@ fn resume_mark(heap: &Heap, pass: &mut Pass, why: &Purpose, saved: u64, object: 
     ensures { HasRun heap.now (marked_resume why.now pass.old.known.thread saved object) pass.old pass.new result }
 {
     let mark = heap.load(pass, why, Stage::Calm, Name::Mark { object });
-    match mark_form(mark) {
+    match mark_of_word(mark) {
         Some(form) => match form {
             MarkForm::Inflated { monitor } => resume_owner(heap, pass, why, saved, object, monitor),
             _ => unreachable!(),
@@ -147,24 +137,13 @@ pub fn monitor_resume(
         thread: pass.thread(),
     };
     let word = heap.load(pass, why, Stage::Calm, at);
-    match wait_form(word) {
+    match wait_of_word(word) {
         Some(form) => match form {
             WaitForm::Waiting { .. } => Turn::Pending(Why::NotNotified { word }),
             WaitForm::Notified { .. } => resume_mark(heap, pass, why, saved, object),
             _ => unreachable!(),
         },
         None => unreachable!(),
-    }
-}
-
-// The stamp of the thread's next entry, if that is no Enter or Resume.
-fn next_stamp(pass: &Pass) -> u64
-    requires { last_stamp pass.now.known.log + 1 < 2 ^ 64 }
-    ensures { result ≡ last_stamp pass.now.known.log + 1 }
-{
-    match pass.log().last() {
-        Some(last) => last.stamp + 1,
-        None => 1,
     }
 }
 
@@ -177,7 +156,7 @@ fn log_wait(heap: &Heap, pass: &mut Pass, why: &Purpose, object: u32)
     requires room { length pass.old.known.log < pass.old.limit }
     ensures { HasRun heap.now (stamped_wait why.now (local_of pass.old.known) object) pass.old pass.new result }
 {
-    let stamp = next_stamp(pass);
+    let stamp = pass.last_stamp() + 1;
     heap.raise(pass, why, Name::Stamp { object }, stamp);
     let at = Name::Waiting {
         thread: pass.thread(),
@@ -232,7 +211,7 @@ pub fn monitor_wait(heap: &Heap, pass: &mut Pass, why: &Purpose, object: u32, mo
         pass.old pass.new result }
 {
     let owner = heap.load(pass, why, Stage::Calm, Name::Owner { monitor });
-    match owner_form(owner) {
+    match owner_of_word(owner) {
         Some(form) => {
             own(heap, pass, why, object, monitor, form);
             wait_owned(heap, pass, why, object, monitor)

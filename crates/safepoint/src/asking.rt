@@ -7,10 +7,10 @@ ghost use Rattle.heap_table.specs.Parts.{IsDueOn, HasRun};
 ghost use Rattle.heap_table.specs.Seen.{IsOf};
 
 use crate::words::{
-    form_of, halted_word, has_requester, is_still, reached_word, released_word, requested_by,
+    halted_word, has_requester, is_still, reached_word, released_word, requested_by,
 };
 use core_world::{Name, Stage, Turn, Why};
-use heap_table::{Heap, Pass, Purpose};
+use heap_table::{Heap, Pass, Purpose, safe_of_word};
 use mark_word::SafeForm;
 
 // The purpose of a step behind which no check is unfinished.
@@ -60,7 +60,7 @@ fn request_from(
     if found == word {
         return Turn::Done(());
     }
-    if has_requester(form_of(found)) {
+    if has_requester(safe_of_word(found)) {
         Turn::Pending(Why::Requested { word: found })
     } else {
         Turn::Pending(Why::Raced {

@@ -6,9 +6,9 @@ ghost use Rattle.core_world.specs.Trees.SafepointSteps.{poll_steps, stop_steps, 
 ghost use Rattle.heap_table.specs.Parts.{IsDueOn, HasRun};
 ghost use Rattle.heap_table.specs.Seen.{IsOf};
 
-use crate::words::{all_but, bar, form_of, has_requester, running_too};
+use crate::words::{all_but, bar, has_requester, running_too};
 use core_world::{Name, Stage, Turn, Why};
-use heap_table::{Heap, Pass, Purpose};
+use heap_table::{Heap, Pass, Purpose, safe_of_word};
 use mark_word::SafeForm;
 
 /// Looks whether a thread asks for a safepoint.
@@ -78,7 +78,7 @@ fn resume_from(
     if found == word {
         return Turn::Done(());
     }
-    match bar(found, form_of(found)) {
+    match bar(found, safe_of_word(found)) {
         Some(cause) => Turn::Pending(cause),
         None => Turn::Pending(Why::Raced {
             expected: word,

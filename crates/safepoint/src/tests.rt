@@ -1,7 +1,7 @@
 //! Two threads of one heap: one asks for a safepoint, and the other stops for it.
 ghost use Rattle.std.specs.Prelude.{◌≡◌, ◌&&◌, IfOk, false, is_none, not, None};
 ghost use Rattle.heap_table.specs.Fresh.{IsFresh};
-ghost use Rattle.safepoint.specs.Resting.{Rests};
+ghost use Rattle.heap_table.specs.Resting.{Rests};
 
 use core_world::{Task, Turn, Why};
 use heap_table::{Heap, HeapShape, Pass, Purpose};

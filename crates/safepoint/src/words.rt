@@ -6,14 +6,7 @@ ghost use Rattle.core_world.specs.Trees.SafepointSteps.{all_but, bar, running_to
 ghost use Rattle.core_world.specs.Trees.SafepointSteps.{reached_word, released_word, halted_word};
 
 use core_world::Why;
-use mark_word::{SafeForm, decode_safe, encode_safe};
-
-/// What the word says.
-pub fn form_of(word: u64) -> Option<SafeForm>
-    ensures { result ≡ read_safe word }
-{
-    decode_safe(word).ok()
-}
+use mark_word::{SafeForm, encode_safe};
 
 /// Whether a thread asks for a safepoint.
 pub fn has_requester(form: Option<SafeForm>) -> bool

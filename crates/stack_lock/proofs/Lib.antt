@@ -1,8 +1,4 @@
-pub mod Arms
 mod Never
-mod Reading
 mod Room
-pub mod Ruled
 mod Seizing
-mod Stamps
 mod Tested

@@ -8,9 +8,9 @@ ghost use Rattle.heap_table.specs.Seen.{IsOf};
 ghost use Rattle.stack_lock.specs.Parts.{entered_by};
 
 use crate::places::free_place;
-use crate::words::{is_entering, mark_form};
+use crate::words::is_entering;
 use core_world::{Name, Stage, Turn, Why};
-use heap_table::{Heap, Pass, Purpose};
+use heap_table::{Heap, Pass, Purpose, mark_of_word};
 use mark_word::{HoldForm, MarkForm, WaitForm, encode, encode_hold, encode_wait};
 use plain_monitor::{Entry, Path};
 
@@ -165,7 +165,7 @@ pub fn stack_enter(
     ensures { HasRun heap.now (stack_enter_steps why.now (local_of pass.old.known) object mark)
         pass.old pass.new result }
 {
-    match mark_form(mark) {
+    match mark_of_word(mark) {
         Some(form) => enter_by(heap, pass, why, object, mark, form),
         None => unreachable!(),
     }

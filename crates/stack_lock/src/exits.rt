@@ -1,6 +1,5 @@
 //! How a thread leaves a hold by a lock record.
-ghost use Rattle.std.specs.Prelude.{◌≡◌, ◌+◌, ◌<◌, ◌^◌, length};
-ghost use Rattle.plain_monitor.specs.History.{last_stamp};
+ghost use Rattle.std.specs.Prelude.{◌≡◌, ◌<◌, length};
 ghost use Rattle.core_world.specs.Locks.{hold_count};
 ghost use Rattle.core_world.specs.Threads.Known.{local_of};
 ghost use Rattle.core_world.specs.Trees.LockSteps.{raise_steps, stack_exit_by, stack_exit_record, stack_exit_steps};
@@ -10,22 +9,10 @@ ghost use Rattle.heap_table.specs.Seen.{IsOf};
 ghost use Rattle.stack_lock.specs.Parts.{leave_at, clear_at, marked_exit};
 
 use crate::places::top_place;
-use crate::words::mark_form;
 use core_world::{Name, StackOut, Stage, Why};
-use heap_table::{Heap, Pass, Purpose};
+use heap_table::{Heap, Pass, Purpose, mark_of_word};
 use mark_word::MarkForm;
 use plain_monitor::Entry;
-
-// The stamp of the thread's next entry, if that is no Enter or Resume.
-fn next_stamp(pass: &Pass) -> u64
-    requires { last_stamp pass.now.known.log + 1 < 2 ^ 64 }
-    ensures { result ≡ last_stamp pass.now.known.log + 1 }
-{
-    match pass.log().last() {
-        Some(last) => last.stamp + 1,
-        None => 1,
-    }
-}
 
 /// Raises the object's stamp to that of the thread's next entry, where the thread has one hold on the object. So the
 /// next owner's Enter is stamped above it.
@@ -36,7 +23,7 @@ pub fn raise(heap: &Heap, pass: &mut Pass, why: &Purpose, object: u32)
     ensures kept { local_of pass.new.known ≡ local_of pass.old.known }
 {
     if pass.held(object) == 1 {
-        let stamp = next_stamp(pass);
+        let stamp = pass.last_stamp() + 1;
         heap.raise(pass, why, Name::Stamp { object }, stamp);
         return;
     }
@@ -120,7 +107,7 @@ fn leave_lock(
     ensures { HasRun heap.now (marked_exit why.now (local_of pass.old.known) object header) pass.old pass.new result }
 {
     let mark = heap.load(pass, why, Stage::Calm, Name::Mark { object });
-    match mark_form(mark) {
+    match mark_of_word(mark) {
         Some(form) => match form {
             MarkForm::Inflating => StackOut::Not(Why::Inflating),
             MarkForm::Locked { .. } => let_go(heap, pass, why, object, place, header, mark),

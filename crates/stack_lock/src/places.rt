@@ -1,25 +1,10 @@
 //! The places of a thread's lock records, by its hold words.
-ghost use Rattle.std.specs.Prelude.{◌≡◌, ◌≤◌, ◌<◌, ◌==◌, ◌^◌, length};
-ghost use Rattle.std.specs.List.{position_or_len};
+ghost use Rattle.std.specs.Prelude.{◌≡◌, ◌≤◌, ◌<◌, ◌^◌, length};
 ghost use Rattle.core_world.specs.Locks.{hold_count};
 ghost use Rattle.core_world.specs.Trees.Plans.{free_place, top_place};
 
 use heap_table::Pass;
 use mark_word::{HoldForm, encode_hold};
-
-// The first place with this hold word, or 64.
-fn place_of(holds: &[u64; 64], word: u64) -> u32
-    ensures place { result ≡ position_or_len (λ h. h == word) holds.now }
-    ensures few { result ≤ 64 }
-    ensures all { length holds.now ≡ 64 }
-{
-    for i in 0..64 {
-        if holds[i] == word {
-            return i as u32;
-        }
-    }
-    64
-}
 
 /// The lowest free place, or 64 where all are taken.
 pub fn free_place(pass: &Pass) -> u32
@@ -27,7 +12,7 @@ pub fn free_place(pass: &Pass) -> u32
     ensures few { result ≤ 64 }
     ensures all { length pass.now.known.holds ≡ 64 }
 {
-    place_of(pass.hold_words(), 0)
+    pass.place_of(0)
 }
 
 /// The place of the thread's newest record of an object of which it has one: that of the greatest depth.
@@ -39,5 +24,5 @@ pub fn top_place(pass: &Pass, object: u32) -> u32
 {
     let depth = pass.held(object);
     let word = encode_hold(&HoldForm::Holds { object, depth });
-    place_of(pass.hold_words(), word)
+    pass.place_of(word)
 }

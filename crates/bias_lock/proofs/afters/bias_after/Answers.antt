@@ -11,7 +11,7 @@ use Rattle.core_world.specs.Trees.Todo.{done}
 use Rattle.heap_table.specs.Parts.{IsDueOn, HasRun}
 use Rattle.heap_table.specs.Stepping.{CanStep, HasStepped}
 use Rattle.heap_table.proofs.Parts.{can, rest_due, stepped, ends}
-use Rattle.stack_lock.proofs.Arms.{due_then, run_then, run_else}
+use Rattle.heap_table.proofs.Arms.{due_then, run_then, run_else}
 use Rattle.bias_lock.proofs.Keeping.{after_keeps}
 use Rattle.bias_lock.proofs.afters.bias_after.Goals as goal
 
@@ -41,7 +41,7 @@ enter_own-requires-clause-due c =
     let local : local_of q.known ≡ l = ap local_of s.known in
     let rest = rest_due h p e.task plan _ c.requires.due refl q mark s in
     let due = due_then h q (is_biased mark) (bias_after_at (read_mark mark) e l a.object) (done (Unbiased mark)) e.task rest biased in
-    subst (IsDueOn h q e.task) (λ i. bias_after_at (sym c.mark_form-form.ensures i) e (sym local i) a.object) due
+    subst (IsDueOn h q e.task) (λ i. bias_after_at (sym c.mark_of_word-form.ensures i) e (sym local i) a.object) due
 
 pub returns-then-is_biased-clause-run : goal.returns-then-is_biased-clause-run
 returns-then-is_biased-clause-run c =
@@ -59,7 +59,7 @@ returns-then-is_biased-clause-run c =
     let local : local_of q.known ≡ l = ap local_of s.known in
     let r = c.enter_own.new.pass in
     let out = c.enter_own.result in
-    let run = subst (λ d. HasRun h d q r out) (λ i. bias_after_at (c.mark_form-form.ensures i) e (local i) a.object) c.enter_own.ensures in
+    let run = subst (λ d. HasRun h d q r out) (λ i. bias_after_at (c.mark_of_word-form.ensures i) e (local i) a.object) c.enter_own.ensures in
     stepped h p q r plan _ mark out s refl
     (run_then h q (is_biased mark) (bias_after_at (read_mark mark) e l a.object) (done (Unbiased mark)) r out biased run)
 

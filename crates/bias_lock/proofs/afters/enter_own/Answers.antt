@@ -5,9 +5,9 @@ use Rattle.core_world.specs.Threads.Known.{local_of}
 use Rattle.core_world.specs.Trees.BiasSteps.{took_steps, bias_after_at}
 use Rattle.core_world.specs.Trees.Todo.{never}
 use Rattle.heap_table.specs.Parts.{IsDueOn, HasRun}
-use Rattle.stack_lock.proofs.Arms.{due_then, run_then}
-use Rattle.stack_lock.proofs.Ruled.{not_due}
-use Rattle.bias_lock.proofs.Chosen.{chosen}
+use Rattle.heap_table.proofs.Arms.{due_then, run_then}
+use Rattle.heap_table.proofs.Ruled.{not_due}
+use Rattle.heap_table.proofs.Ruled.{chosen}
 use Rattle.bias_lock.proofs.Never.{never_after}
 use Rattle.bias_lock.proofs.afters.enter_own.Goals as goal
 

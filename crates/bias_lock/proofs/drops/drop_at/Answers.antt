@@ -6,8 +6,8 @@ use Rattle.core_world.specs.declared.answer.BiasTry.TheVariants.{Valid}
 use Rattle.core_world.specs.Trees.BiasSteps.{bias_drop_at, unbias_swap_steps}
 use Rattle.core_world.specs.Trees.Todo.{done}
 use Rattle.heap_table.specs.Parts.{IsDueOn}
-use Rattle.stack_lock.proofs.Arms.{due_else}
-use Rattle.stack_lock.proofs.Ruled.{not_due}
+use Rattle.heap_table.proofs.Arms.{due_else}
+use Rattle.heap_table.proofs.Ruled.{not_due}
 use Rattle.bias_lock.proofs.Never.{never_dropped}
 use Rattle.bias_lock.proofs.drops.drop_at.Goals as goal
 

@@ -3,7 +3,7 @@ use Rattle.core_world.specs.declared.answer.BiasTry.TheVariants.{Unbiased, Raced
 use Rattle.core_world.specs.Trees.BiasSteps.{unbias_plan}
 use Rattle.core_world.specs.Trees.Todo.{done}
 use Rattle.heap_table.proofs.Parts.{can, stepped, ends}
-use Rattle.stack_lock.proofs.Arms.{run_then, run_else}
+use Rattle.heap_table.proofs.Arms.{run_then, run_else}
 use Rattle.bias_lock.proofs.drops.unbias.Goals as goal
 
 pub exchange-found-requires : goal.exchange-found-requires

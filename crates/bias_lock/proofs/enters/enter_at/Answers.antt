@@ -3,8 +3,8 @@ use Rattle.mark_word.specs.declared.mark.MarkForm.{MarkForm}
 use Rattle.core_world.specs.Threads.Known.{local_of}
 use Rattle.core_world.specs.Trees.BiasSteps.{bias_enter_at, bias_valid_steps, rebias_steps}
 use Rattle.heap_table.specs.Parts.{IsDueOn}
-use Rattle.stack_lock.proofs.Arms.{due_then, due_else}
-use Rattle.stack_lock.proofs.Ruled.{not_due}
+use Rattle.heap_table.proofs.Arms.{due_then, due_else}
+use Rattle.heap_table.proofs.Ruled.{not_due}
 use Rattle.bias_lock.proofs.Never.{never_entered}
 use Rattle.bias_lock.proofs.enters.enter_at.Goals as goal
 

@@ -7,7 +7,7 @@ use Rattle.core_world.specs.Trees.BiasSteps.{bias_enter_by}
 use Rattle.core_world.specs.Trees.Plans.{load}
 use Rattle.heap_table.specs.Parts.{IsDueOn, HasRun}
 use Rattle.heap_table.proofs.Parts.{can, rest_due, stepped}
-use Rattle.stack_lock.proofs.Ruled.{not_due}
+use Rattle.heap_table.proofs.Ruled.{not_due}
 use Rattle.bias_lock.proofs.enters.enter_biased.Goals as goal
 
 pub load-prototype-requires : goal.load-prototype-requires
@@ -25,7 +25,7 @@ enter_by-requires-clause-due c =
     let q = c.load-prototype.new.pass in
     let prototype = c.load-prototype.result in
     let s = c.load-prototype.ensures in
-    let form = sym c.mark_form.ensures ∙ c.in-Some.is in
+    let form = sym c.mark_of_word.ensures ∙ c.in-Some.is in
     let local : local_of q.known ≡ l = ap local_of s.known in
     let rest = rest_due h p e.task plan _ c.requires.due refl q prototype s in
     subst (λ (x : Local). IsDueOn h q e.task (bias_enter_by (Some c.in-Some.form) e x a.object a.mark prototype)) (sym local)
@@ -44,7 +44,7 @@ unreachable-requires c =
     let s = c.load-prototype.ensures in
     let rest = rest_due h p e.task plan _ c.requires.due refl q prototype s in
     not_due h q e.task (bias_enter_by (read_mark prototype) e l a.object a.mark prototype) s.heap rest
-    (ap (λ (f : Option MarkForm). bias_enter_by f e l a.object a.mark prototype) (sym c.mark_form.ensures ∙ c.in-None.is))
+    (ap (λ (f : Option MarkForm). bias_enter_by f e l a.object a.mark prototype) (sym c.mark_of_word.ensures ∙ c.in-None.is))
 
 pub returns : goal.returns
 returns c =
@@ -57,7 +57,7 @@ returns c =
     let q = c.load-prototype.new.pass in
     let prototype = c.load-prototype.result in
     let s = c.load-prototype.ensures in
-    let form = sym c.mark_form.ensures ∙ c.in-Some.is in
+    let form = sym c.mark_of_word.ensures ∙ c.in-Some.is in
     let local : local_of q.known ≡ l = ap local_of s.known in
     let r = c.enter_by.new.pass in
     let out = c.enter_by.result in

@@ -5,7 +5,7 @@ use Rattle.mark_word.proofs.ReadingMarks.{read_mark-spells}
 use Rattle.core_world.specs.Threads.Known.{local_of}
 use Rattle.core_world.specs.Trees.BiasSteps.{bias_enter_at, bias_enter_by}
 use Rattle.heap_table.specs.Parts.{IsDueOn}
-use Rattle.stack_lock.proofs.Ruled.{not_due}
+use Rattle.heap_table.proofs.Ruled.{not_due}
 use Rattle.bias_lock.proofs.Never.{no_prototype}
 use Rattle.bias_lock.proofs.enters.enter_by.Goals as goal
 
@@ -33,7 +33,7 @@ enter_at-requires-clause-due c =
     let due =
     subst (λ (f : MarkForm). IsDueOn h p e.task (bias_enter_by (Some f) e l a.object a.mark a.prototype)) c.in-Anonymous.is c.requires.due in
     subst (λ (f : Option MarkForm). IsDueOn h p e.task (bias_enter_at f c.in-Anonymous.epoch e l a.object a.mark))
-    (sym c.mark_form.ensures ∙ c.in-Some.is) due
+    (sym c.mark_of_word.ensures ∙ c.in-Some.is) due
 
 pub unreachable-requires : goal.unreachable-requires
 unreachable-requires c =
@@ -45,7 +45,7 @@ unreachable-requires c =
     let due =
     subst (λ (f : MarkForm). IsDueOn h p e.task (bias_enter_by (Some f) e l a.object a.mark a.prototype)) c.in-Anonymous.is c.requires.due in
     not_due h p e.task (bias_enter_by (Some (Anonymous c.in-Anonymous.epoch c.in-Anonymous.age)) e l a.object a.mark a.prototype) c.requires.heap due
-    (ap (λ (f : Option MarkForm). bias_enter_at f c.in-Anonymous.epoch e l a.object a.mark) (sym c.mark_form.ensures ∙ c.in-None.is))
+    (ap (λ (f : Option MarkForm). bias_enter_at f c.in-Anonymous.epoch e l a.object a.mark) (sym c.mark_of_word.ensures ∙ c.in-None.is))
 
 pub unreachable-requires-in_default : goal.unreachable-requires-in_default
 unreachable-requires-in_default c =

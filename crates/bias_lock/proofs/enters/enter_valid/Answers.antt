@@ -5,7 +5,7 @@ use Rattle.core_world.specs.Threads.Known.{local_of}
 use Rattle.core_world.specs.Trees.BiasSteps.{took_steps}
 use Rattle.core_world.specs.Trees.Todo.{done}
 use Rattle.heap_table.proofs.Parts.{ends}
-use Rattle.stack_lock.proofs.Arms.{due_then, run_then, run_else}
+use Rattle.heap_table.proofs.Arms.{due_then, run_then, run_else}
 use Rattle.bias_lock.proofs.enters.enter_valid.Goals as goal
 
 pub took-requires-clause-due : goal.took-requires-clause-due

@@ -13,7 +13,7 @@ use Rattle.heap_table.specs.Parts.{IsDueOn, HasRun}
 use Rattle.heap_table.specs.StepPlans.{swap_plan}
 use Rattle.heap_table.specs.Stepping.{CanStep, HasStepped}
 use Rattle.heap_table.proofs.Parts.{can, rest_due, stepped, ends}
-use Rattle.stack_lock.proofs.Arms.{due_then, run_then, run_else}
+use Rattle.heap_table.proofs.Arms.{due_then, run_then, run_else}
 use Rattle.bias_lock.proofs.Taking.{rebiased}
 use Rattle.bias_lock.proofs.enters.rebias.Goals as goal
 

@@ -7,8 +7,8 @@ use Rattle.core_world.specs.Trees.Todo.{done}
 use Rattle.core_world.proofs.CallRests.{part_due}
 use Rattle.heap_table.specs.Parts.{IsDueOn, HasRun}
 use Rattle.heap_table.proofs.Parts.{in_turn}
-use Rattle.stack_lock.proofs.Arms.{after_choice}
-use Rattle.stack_lock.proofs.Ruled.{few_objects}
+use Rattle.heap_table.proofs.Arms.{after_choice}
+use Rattle.heap_table.proofs.Ruled.{few_objects}
 use Rattle.bias_lock.specs.Parts.{marked_exit}
 use Rattle.bias_lock.proofs.exits.bias_exit.Goals as goal
 

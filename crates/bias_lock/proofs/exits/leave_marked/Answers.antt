@@ -9,7 +9,7 @@ use Rattle.core_world.proofs.CallRests.{part_due}
 use Rattle.heap_table.specs.Parts.{IsDueOn, HasRun}
 use Rattle.heap_table.proofs.Parts.{can, rest_due, stepped, in_turn, ends}
 use Rattle.stack_lock.specs.Parts.{leave_at}
-use Rattle.stack_lock.proofs.Arms.{due_then, run_then, run_else}
+use Rattle.heap_table.proofs.Arms.{due_then, run_then, run_else}
 use Rattle.bias_lock.proofs.exits.leave_marked.Goals as goal
 
 pub load-mark-requires : goal.load-mark-requires

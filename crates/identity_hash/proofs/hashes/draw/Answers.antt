@@ -6,7 +6,7 @@ use Rattle.core_world.specs.Trees.HashSteps.{NextDraw, draw_plan}
 use Rattle.core_world.specs.Trees.Plans.{done_with, pending_for}
 use Rattle.heap_table.specs.Stepping.{CanStep, HasStepped}
 use Rattle.heap_table.proofs.Parts.{can, stepped, ends}
-use Rattle.stack_lock.proofs.Arms.{run_then, run_else}
+use Rattle.heap_table.proofs.Arms.{run_then, run_else}
 use Rattle.identity_hash.proofs.Drawing.{draws}
 use Rattle.identity_hash.proofs.hashes.draw.Goals as goal
 

@@ -9,7 +9,7 @@ use Rattle.core_world.specs.Words.Forms.{hash_in}
 use Rattle.heap_table.specs.Parts.{HasRun}
 use Rattle.heap_table.specs.Stepping.{CanStep, HasStepped}
 use Rattle.heap_table.proofs.Parts.{can, last_step}
-use Rattle.stack_lock.proofs.Ruled.{few_objects}
+use Rattle.heap_table.proofs.Ruled.{few_objects}
 use Rattle.identity_hash.proofs.Finding.{of_record}
 use Rattle.identity_hash.proofs.hashes.hash_displaced.Goals as goal
 
@@ -36,8 +36,8 @@ returns-then-hash-ne0 c =
     let q = c.find_hash-header.new.pass in
     let header = c.find_hash-header.result in
     let s = subst (λ (x : StepPlan). HasStepped h a.pass.now q x header) same c.find_hash-header.ensures in
-    let has : (hash_in header == 0) ≡ false = ap (λ n. n == 0) (sym c.hash_in-hash.ensures) ∙ ne_eqb _ _ c.if-hash-ne0.true in
-    subst (λ n. HasRun h (hash_displaced_steps e (local_of k) a.object) a.pass.now q (Some n)) (sym c.hash_in-hash.ensures)
+    let has : (hash_in header == 0) ≡ false = ap (λ n. n == 0) (sym c.hash_of_word-hash.ensures) ∙ ne_eqb _ _ c.if-hash-ne0.true in
+    subst (λ n. HasRun h (hash_displaced_steps e (local_of k) a.object) a.pass.now q (Some n)) (sym c.hash_of_word-hash.ensures)
     (last_step h a.pass.now q plan _ header (Some (hash_in header)) s refl (ap (λ b. done (if b then None else Some (hash_in header))) has))
 
 pub returns : goal.returns
@@ -51,5 +51,5 @@ returns c =
     let q = c.find_hash-header.new.pass in
     let header = c.find_hash-header.result in
     let s = subst (λ (x : StepPlan). HasStepped h a.pass.now q x header) same c.find_hash-header.ensures in
-    let none : (hash_in header == 0) ≡ true = ap (λ n. n == 0) (sym c.hash_in-hash.ensures) ∙ eq-eqb _ _ c.if-hash-ne0.false in
+    let none : (hash_in header == 0) ≡ true = ap (λ n. n == 0) (sym c.hash_of_word-hash.ensures) ∙ eq-eqb _ _ c.if-hash-ne0.false in
     last_step h a.pass.now q plan _ header None s refl (ap (λ b. done (if b then None else Some (hash_in header))) none)

@@ -12,7 +12,7 @@ use Rattle.core_world.specs.Words.Forms.{hash_in, hash_form}
 use Rattle.identity_hash.specs.Parts.{hash_owned_steps}
 use Rattle.heap_table.specs.Parts.{IsDueOn, HasRun}
 use Rattle.heap_table.proofs.Parts.{can, rest_due, never_left, stepped, ends}
-use Rattle.stack_lock.proofs.Arms.{due_then, due_else, run_then, run_else}
+use Rattle.heap_table.proofs.Arms.{due_then, due_else, run_then, run_else}
 use Rattle.identity_hash.proofs.Finding.{room_left, same_local, same_kept}
 use Rattle.identity_hash.proofs.Marks.{never_hashed}
 use Rattle.identity_hash.proofs.hashes.header_hash.Goals as goal
@@ -32,7 +32,7 @@ returns-in-Inflating c =
     let q = c.find_hash-mark.new.pass in
     let mark = c.find_hash-mark.result in
     let s = c.find_hash-mark.ensures in
-    let form : read_mark mark ≡ Some Inflating = sym c.mark_form.ensures ∙ c.in-Some.is ∙ ap Some c.in-Inflating.is in
+    let form : read_mark mark ≡ Some Inflating = sym c.mark_of_word.ensures ∙ c.in-Some.is ∙ ap Some c.in-Inflating.is in
     let out = Pending why.Inflating in
     stepped h a.pass.now q q (find_hash_plan e (Mark a.object) a.object) _ mark out s refl
     (subst (λ (f : Option MarkForm). HasRun h (hash_mark_steps f e (local_of k) k.kept d a.object mark) q q out) (sym form)
@@ -48,7 +48,7 @@ returns-then-hash-ne0 c =
     let q = c.find_hash-mark.new.pass in
     let mark = c.find_hash-mark.result in
     let s = c.find_hash-mark.ensures in
-    let form : read_mark mark ≡ Some (Neutral c.in-Neutral.hash c.in-Neutral.age) = sym c.mark_form.ensures ∙ c.in-Some.is ∙ ap Some c.in-Neutral.is in
+    let form : read_mark mark ≡ Some (Neutral c.in-Neutral.hash c.in-Neutral.age) = sym c.mark_of_word.ensures ∙ c.in-Some.is ∙ ap Some c.in-Neutral.is in
     let has : (c.in-Neutral.hash == 0) ≡ false = ne_eqb _ _ c.if-hash-ne0.true in
     let out = Done c.in-Neutral.hash in
     stepped h a.pass.now q q (find_hash_plan e (Mark a.object) a.object) _ mark out s refl
@@ -65,7 +65,7 @@ draw-requires-clause-due c =
     let q = c.find_hash-mark.new.pass in
     let mark = c.find_hash-mark.result in
     let s = c.find_hash-mark.ensures in
-    let form : read_mark mark ≡ Some (Neutral c.in-Neutral.hash c.in-Neutral.age) = sym c.mark_form.ensures ∙ c.in-Some.is ∙ ap Some c.in-Neutral.is in
+    let form : read_mark mark ≡ Some (Neutral c.in-Neutral.hash c.in-Neutral.age) = sym c.mark_of_word.ensures ∙ c.in-Some.is ∙ ap Some c.in-Neutral.is in
     let zero : (c.in-Neutral.hash == 0) ≡ true = eq-eqb _ _ c.if-hash-ne0.false in
     let rest = rest_due h a.pass.now e.task (find_hash_plan e (Mark a.object) a.object) _ c.requires.due refl q mark s in
     let due = subst (λ (f : Option MarkForm). IsDueOn h q e.task (hash_mark_steps f e (local_of k) k.kept d a.object mark)) form rest in
@@ -81,7 +81,7 @@ draw-requires-clause-room c =
     let q = c.find_hash-mark.new.pass in
     let mark = c.find_hash-mark.result in
     let s = c.find_hash-mark.ensures in
-    let form : read_mark mark ≡ Some (Neutral c.in-Neutral.hash c.in-Neutral.age) = sym c.mark_form.ensures ∙ c.in-Some.is ∙ ap Some c.in-Neutral.is in
+    let form : read_mark mark ≡ Some (Neutral c.in-Neutral.hash c.in-Neutral.age) = sym c.mark_of_word.ensures ∙ c.in-Some.is ∙ ap Some c.in-Neutral.is in
     let zero : (c.in-Neutral.hash == 0) ≡ true = eq-eqb _ _ c.if-hash-ne0.false in
     room_left h a.pass.now q e (Mark a.object) a.object mark s (ap (λ f. hash_form f == 0) form ∙ zero) c.requires.room
 
@@ -95,7 +95,7 @@ returns-else-hash-ne0 c =
     let q = c.find_hash-mark.new.pass in
     let mark = c.find_hash-mark.result in
     let s = c.find_hash-mark.ensures in
-    let form : read_mark mark ≡ Some (Neutral c.in-Neutral.hash c.in-Neutral.age) = sym c.mark_form.ensures ∙ c.in-Some.is ∙ ap Some c.in-Neutral.is in
+    let form : read_mark mark ≡ Some (Neutral c.in-Neutral.hash c.in-Neutral.age) = sym c.mark_of_word.ensures ∙ c.in-Some.is ∙ ap Some c.in-Neutral.is in
     let zero : (c.in-Neutral.hash == 0) ≡ true = eq-eqb _ _ c.if-hash-ne0.false in
     stepped h a.pass.now q c.draw.new.pass (find_hash_plan e (Mark a.object) a.object) _ mark c.draw.result s refl
     (subst (λ (f : Option MarkForm). HasRun h (hash_mark_steps f e (local_of k) k.kept d a.object mark) q c.draw.new.pass c.draw.result) (sym form)
@@ -111,7 +111,7 @@ hash_inflate-requires-clause-due c =
     let q = c.find_hash-mark.new.pass in
     let mark = c.find_hash-mark.result in
     let s = c.find_hash-mark.ensures in
-    let form : read_mark mark ≡ Some (Locked c.in-Locked.thread c.in-Locked.place) = sym c.mark_form.ensures ∙ c.in-Some.is ∙ ap Some c.in-Locked.is in
+    let form : read_mark mark ≡ Some (Locked c.in-Locked.thread c.in-Locked.place) = sym c.mark_of_word.ensures ∙ c.in-Some.is ∙ ap Some c.in-Locked.is in
     let none : hash_in mark ≡ 0 = ap hash_form form in
     let local = same_local h a.pass.now q e a.object mark s none in
     let kept = same_kept h a.pass.now q e (Mark a.object) a.object mark s in
@@ -132,7 +132,7 @@ hash_inflate-requires-clause-room c =
     let q = c.find_hash-mark.new.pass in
     let mark = c.find_hash-mark.result in
     let s = c.find_hash-mark.ensures in
-    let form : read_mark mark ≡ Some (Locked c.in-Locked.thread c.in-Locked.place) = sym c.mark_form.ensures ∙ c.in-Some.is ∙ ap Some c.in-Locked.is in
+    let form : read_mark mark ≡ Some (Locked c.in-Locked.thread c.in-Locked.place) = sym c.mark_of_word.ensures ∙ c.in-Some.is ∙ ap Some c.in-Locked.is in
     room_left h a.pass.now q e (Mark a.object) a.object mark s (ap (λ f. hash_form f == 0) form) c.requires.room
 
 pub returns-then-thread : goal.returns-then-thread
@@ -145,7 +145,7 @@ returns-then-thread c =
     let q = c.find_hash-mark.new.pass in
     let mark = c.find_hash-mark.result in
     let s = c.find_hash-mark.ensures in
-    let form : read_mark mark ≡ Some (Locked c.in-Locked.thread c.in-Locked.place) = sym c.mark_form.ensures ∙ c.in-Some.is ∙ ap Some c.in-Locked.is in
+    let form : read_mark mark ≡ Some (Locked c.in-Locked.thread c.in-Locked.place) = sym c.mark_of_word.ensures ∙ c.in-Some.is ∙ ap Some c.in-Locked.is in
     let none : hash_in mark ≡ 0 = ap hash_form form in
     let local = same_local h a.pass.now q e a.object mark s none in
     let kept = same_kept h a.pass.now q e (Mark a.object) a.object mark s in
@@ -168,7 +168,7 @@ hash_owned-requires-clause-due c =
     let q = c.find_hash-mark.new.pass in
     let mark = c.find_hash-mark.result in
     let s = c.find_hash-mark.ensures in
-    let form : read_mark mark ≡ Some (Locked c.in-Locked.thread c.in-Locked.place) = sym c.mark_form.ensures ∙ c.in-Some.is ∙ ap Some c.in-Locked.is in
+    let form : read_mark mark ≡ Some (Locked c.in-Locked.thread c.in-Locked.place) = sym c.mark_of_word.ensures ∙ c.in-Some.is ∙ ap Some c.in-Locked.is in
     let none : hash_in mark ≡ 0 = ap hash_form form in
     let local = same_local h a.pass.now q e a.object mark s none in
     let kept = same_kept h a.pass.now q e (Mark a.object) a.object mark s in
@@ -191,7 +191,7 @@ hash_owned-requires-clause-room c =
     let q = c.find_hash-mark.new.pass in
     let mark = c.find_hash-mark.result in
     let s = c.find_hash-mark.ensures in
-    let form : read_mark mark ≡ Some (Locked c.in-Locked.thread c.in-Locked.place) = sym c.mark_form.ensures ∙ c.in-Some.is ∙ ap Some c.in-Locked.is in
+    let form : read_mark mark ≡ Some (Locked c.in-Locked.thread c.in-Locked.place) = sym c.mark_of_word.ensures ∙ c.in-Some.is ∙ ap Some c.in-Locked.is in
     room_left h a.pass.now q e (Mark a.object) a.object mark s (ap (λ f. hash_form f == 0) form) c.requires.room
 
 pub returns-else-thread : goal.returns-else-thread
@@ -204,7 +204,7 @@ returns-else-thread c =
     let q = c.find_hash-mark.new.pass in
     let mark = c.find_hash-mark.result in
     let s = c.find_hash-mark.ensures in
-    let form : read_mark mark ≡ Some (Locked c.in-Locked.thread c.in-Locked.place) = sym c.mark_form.ensures ∙ c.in-Some.is ∙ ap Some c.in-Locked.is in
+    let form : read_mark mark ≡ Some (Locked c.in-Locked.thread c.in-Locked.place) = sym c.mark_of_word.ensures ∙ c.in-Some.is ∙ ap Some c.in-Locked.is in
     let none : hash_in mark ≡ 0 = ap hash_form form in
     let local = same_local h a.pass.now q e a.object mark s none in
     let kept = same_kept h a.pass.now q e (Mark a.object) a.object mark s in
@@ -227,7 +227,7 @@ hash_monitor-requires-clause-due c =
     let q = c.find_hash-mark.new.pass in
     let mark = c.find_hash-mark.result in
     let s = c.find_hash-mark.ensures in
-    let form : read_mark mark ≡ Some (Inflated c.in-Inflated.monitor) = sym c.mark_form.ensures ∙ c.in-Some.is ∙ ap Some c.in-Inflated.is in
+    let form : read_mark mark ≡ Some (Inflated c.in-Inflated.monitor) = sym c.mark_of_word.ensures ∙ c.in-Some.is ∙ ap Some c.in-Inflated.is in
     let rest = rest_due h a.pass.now e.task (find_hash_plan e (Mark a.object) a.object) _ c.requires.due refl q mark s in
     subst (λ (f : Option MarkForm). IsDueOn h q e.task (hash_mark_steps f e (local_of k) k.kept d a.object mark)) form rest
 
@@ -241,7 +241,7 @@ hash_monitor-requires-clause-room c =
     let q = c.find_hash-mark.new.pass in
     let mark = c.find_hash-mark.result in
     let s = c.find_hash-mark.ensures in
-    let form : read_mark mark ≡ Some (Inflated c.in-Inflated.monitor) = sym c.mark_form.ensures ∙ c.in-Some.is ∙ ap Some c.in-Inflated.is in
+    let form : read_mark mark ≡ Some (Inflated c.in-Inflated.monitor) = sym c.mark_of_word.ensures ∙ c.in-Some.is ∙ ap Some c.in-Inflated.is in
     room_left h a.pass.now q e (Mark a.object) a.object mark s (ap (λ f. hash_form f == 0) form) c.requires.room
 
 pub returns-in-Inflated : goal.returns-in-Inflated
@@ -254,7 +254,7 @@ returns-in-Inflated c =
     let q = c.find_hash-mark.new.pass in
     let mark = c.find_hash-mark.result in
     let s = c.find_hash-mark.ensures in
-    let form : read_mark mark ≡ Some (Inflated c.in-Inflated.monitor) = sym c.mark_form.ensures ∙ c.in-Some.is ∙ ap Some c.in-Inflated.is in
+    let form : read_mark mark ≡ Some (Inflated c.in-Inflated.monitor) = sym c.mark_of_word.ensures ∙ c.in-Some.is ∙ ap Some c.in-Inflated.is in
     stepped h a.pass.now q c.hash_monitor.new.pass (find_hash_plan e (Mark a.object) a.object) _ mark c.hash_monitor.result s refl
     (subst (λ (f : Option MarkForm). HasRun h (hash_mark_steps f e (local_of k) k.kept d a.object mark) q c.hash_monitor.new.pass c.hash_monitor.result) (sym form)
     c.hash_monitor.ensures)
@@ -270,7 +270,7 @@ unreachable-requires c =
     let mark = c.find_hash-mark.result in
     let s = c.find_hash-mark.ensures in
     never_left h a.pass.now e.task (find_hash_plan e (Mark a.object) a.object) _ c.requires.due refl mark q s
-    (ap (λ (f : Option MarkForm). hash_mark_steps f e (local_of k) k.kept d a.object mark) (sym c.mark_form.ensures ∙ c.in-Some.is)
+    (ap (λ (f : Option MarkForm). hash_mark_steps f e (local_of k) k.kept d a.object mark) (sym c.mark_of_word.ensures ∙ c.in-Some.is)
     ∙ never_hashed c.in-Some.form e (local_of k) k.kept d a.object mark
     c.in_default.not-Inflating c.in_default.not-Neutral c.in_default.not-Locked c.in_default.not-Inflated)
 
@@ -285,4 +285,4 @@ unreachable-requires-in-None c =
     let mark = c.find_hash-mark.result in
     let s = c.find_hash-mark.ensures in
     never_left h a.pass.now e.task (find_hash_plan e (Mark a.object) a.object) _ c.requires.due refl mark q s
-    (ap (λ (f : Option MarkForm). hash_mark_steps f e (local_of k) k.kept d a.object mark) (sym c.mark_form.ensures ∙ c.in-None.is))
+    (ap (λ (f : Option MarkForm). hash_mark_steps f e (local_of k) k.kept d a.object mark) (sym c.mark_of_word.ensures ∙ c.in-None.is))

@@ -11,7 +11,7 @@ use Rattle.heap_table.specs.Parts.{IsDueOn, HasRun}
 use Rattle.heap_table.specs.StepPlans.{swap_plan}
 use Rattle.heap_table.specs.Stepping.{CanStep, HasStepped}
 use Rattle.heap_table.proofs.Parts.{can, rest_due, stepped}
-use Rattle.stack_lock.proofs.Ruled.{not_due}
+use Rattle.heap_table.proofs.Ruled.{not_due}
 use Rattle.object_monitor.proofs.Grabbing.{grabbed}
 use Rattle.object_monitor.proofs.enters.monitor_enter.Goals as goal
 
@@ -44,7 +44,7 @@ enter_by-requires-clause-due c =
     λ i. swap_plan e (Grabs a.object) (Owner a.monitor) (c.encode_owner-free.ensures i) (word i) in
     let s = subst (λ (x : StepPlan). HasStepped h a.pass.now q x n) same c.exchange-found.ensures in
     let local : local_of q.known ≡ local_of k = ap local_of s.known ∙ grabbed h.heap.shape h.heap.start e t a.object a.monitor n k in
-    let form = sym c.owner_form.ensures ∙ c.in-Some.is in
+    let form = sym c.owner_of_word.ensures ∙ c.in-Some.is in
     let rest = rest_due h a.pass.now e.task plan _ c.requires.due refl q n s in
     subst (λ (x : Local). IsDueOn h q e.task (monitor_enter_at (Some c.in-Some.form) e x a.object a.monitor n)) (sym local)
     (subst (λ (f : Option OwnerForm). IsDueOn h q e.task (monitor_enter_at f e (local_of k) a.object a.monitor n)) form rest)
@@ -66,7 +66,7 @@ unreachable-requires c =
     let s = subst (λ (x : StepPlan). HasStepped h a.pass.now q x n) same c.exchange-found.ensures in
     let rest = rest_due h a.pass.now e.task plan _ c.requires.due refl q n s in
     not_due h q e.task (monitor_enter_at (read_owner n) e (local_of k) a.object a.monitor n) s.heap rest
-    (ap (λ (f : Option OwnerForm). monitor_enter_at f e (local_of k) a.object a.monitor n) (sym c.owner_form.ensures ∙ c.in-None.is))
+    (ap (λ (f : Option OwnerForm). monitor_enter_at f e (local_of k) a.object a.monitor n) (sym c.owner_of_word.ensures ∙ c.in-None.is))
 
 pub returns : goal.returns
 returns c =
@@ -86,7 +86,7 @@ returns c =
     λ i. swap_plan e (Grabs a.object) (Owner a.monitor) (c.encode_owner-free.ensures i) (word i) in
     let s = subst (λ (x : StepPlan). HasStepped h a.pass.now q x n) same c.exchange-found.ensures in
     let local : local_of q.known ≡ local_of k = ap local_of s.known ∙ grabbed h.heap.shape h.heap.start e t a.object a.monitor n k in
-    let form = sym c.owner_form.ensures ∙ c.in-Some.is in
+    let form = sym c.owner_of_word.ensures ∙ c.in-Some.is in
     let run = subst (λ (x : Local). HasRun h (monitor_enter_at (Some c.in-Some.form) e x a.object a.monitor n) q r out) local c.enter_by.ensures in
     stepped h a.pass.now q r plan _ n out s refl
     (subst (λ (f : Option OwnerForm). HasRun h (monitor_enter_at f e (local_of k) a.object a.monitor n) q r out) (sym form) run)

@@ -8,7 +8,7 @@ use Rattle.core_world.specs.Trees.MonitorSteps.{store_entering_plan}
 use Rattle.heap_table.specs.StepPlans.{store_plan}
 use Rattle.heap_table.specs.Stepping.{CanStep, HasStepped}
 use Rattle.heap_table.proofs.Parts.{can, stepped, ends}
-use Rattle.stack_lock.proofs.Ruled.{few_objects}
+use Rattle.heap_table.proofs.Ruled.{few_objects}
 use Rattle.object_monitor.proofs.enters.owned.Goals as goal
 
 pub encode_wait-entering-requires : goal.encode_wait-entering-requires

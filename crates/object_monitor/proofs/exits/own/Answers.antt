@@ -11,7 +11,7 @@ use Rattle.heap_table.specs.Parts.{IsDueOn}
 use Rattle.heap_table.specs.StepPlans.{store_plan}
 use Rattle.heap_table.specs.Stepping.{CanStep, HasStepped}
 use Rattle.heap_table.proofs.Parts.{can, rest_due}
-use Rattle.stack_lock.proofs.Ruled.{not_due}
+use Rattle.heap_table.proofs.Ruled.{not_due}
 use Rattle.object_monitor.proofs.exits.own.Goals as goal
 
 pub store-requires : goal.store-requires

@@ -27,7 +27,7 @@ inflate_by-requires-clause-due c =
     let mark = c.load-mark.result in
     let s = c.load-mark.ensures in
     let same : q.known.kept ≡ k = ap (λ (x : Known). x.kept) s.known in
-    let form = ap (λ (f : Option MarkForm). inflate_at f e k a.object mark) (sym c.mark_form.ensures ∙ c.in-Some.is)
+    let form = ap (λ (f : Option MarkForm). inflate_at f e k a.object mark) (sym c.mark_of_word.ensures ∙ c.in-Some.is)
     ∙ is_made c.in-Some.form e k a.object mark c.in_default.not-Inflating c.in_default.not-Inflated in
     let rest = rest_due h a.pass.now e.task (load e (Mark a.object)) _ c.requires.due refl q mark s in
     subst (λ (x : Option ℕ). IsDueOn h q e.task (inflate_by x e a.object mark)) (sym same) (subst (IsDueOn h q e.task) form rest)
@@ -44,7 +44,7 @@ inflate_by-requires-in-None-clause-due c =
     let same : q.known.kept ≡ k = ap (λ (x : Known). x.kept) s.known in
     let rest = rest_due h a.pass.now e.task (load e (Mark a.object)) _ c.requires.due refl q mark s in
     subst (λ (x : Option ℕ). IsDueOn h q e.task (inflate_by x e a.object mark)) (sym same)
-    (subst (λ (f : Option MarkForm). IsDueOn h q e.task (inflate_at f e k a.object mark)) (sym c.mark_form.ensures ∙ c.in-None.is) rest)
+    (subst (λ (f : Option MarkForm). IsDueOn h q e.task (inflate_at f e k a.object mark)) (sym c.mark_of_word.ensures ∙ c.in-None.is) rest)
 
 pub returns-in-Inflating-clause-run : goal.returns-in-Inflating-clause-run
 returns-in-Inflating-clause-run c =
@@ -55,7 +55,7 @@ returns-in-Inflating-clause-run c =
     let q = c.load-mark.new.pass in
     let mark = c.load-mark.result in
     let s = c.load-mark.ensures in
-    let form : read_mark mark ≡ Some Inflating = sym c.mark_form.ensures ∙ c.in-Some.is ∙ ap Some c.in-Inflating.is in
+    let form : read_mark mark ≡ Some Inflating = sym c.mark_of_word.ensures ∙ c.in-Some.is ∙ ap Some c.in-Inflating.is in
     let out = Pending why.Inflating in
     stepped h a.pass.now q q (load e (Mark a.object)) _ mark out s refl
     (subst (λ (f : Option MarkForm). HasRun h (inflate_at f e k a.object mark) q q out) (sym form) (ends h q out s.heap))
@@ -70,7 +70,7 @@ returns-in-Inflated-clause-run c =
     let mark = c.load-mark.result in
     let s = c.load-mark.ensures in
     let m = c.in-Inflated.monitor in
-    let form : read_mark mark ≡ Some (Inflated m) = sym c.mark_form.ensures ∙ c.in-Some.is ∙ ap Some c.in-Inflated.is in
+    let form : read_mark mark ≡ Some (Inflated m) = sym c.mark_of_word.ensures ∙ c.in-Some.is ∙ ap Some c.in-Inflated.is in
     stepped h a.pass.now q q (load e (Mark a.object)) _ mark (Done m) s refl
     (subst (λ (f : Option MarkForm). HasRun h (inflate_at f e k a.object mark) q q (Done m)) (sym form) (ends h q (Done m) s.heap))
 
@@ -86,7 +86,7 @@ returns-in_default-clause-run c =
     let out = c.inflate_by.result in
     let s = c.load-mark.ensures in
     let same : q.known.kept ≡ k = ap (λ (x : Known). x.kept) s.known in
-    let form = ap (λ (f : Option MarkForm). inflate_at f e k a.object mark) (sym c.mark_form.ensures ∙ c.in-Some.is)
+    let form = ap (λ (f : Option MarkForm). inflate_at f e k a.object mark) (sym c.mark_of_word.ensures ∙ c.in-Some.is)
     ∙ is_made c.in-Some.form e k a.object mark c.in_default.not-Inflating c.in_default.not-Inflated in
     let run = subst (λ (x : Option ℕ). HasRun h (inflate_by x e a.object mark) q r out) same c.inflate_by.ensures in
     stepped h a.pass.now q r (load e (Mark a.object)) _ mark out s refl (subst (λ d. HasRun h d q r out) (sym form) run)
@@ -105,7 +105,7 @@ returns-in-None-clause-run c =
     let same : q.known.kept ≡ k = ap (λ (x : Known). x.kept) s.known in
     let run = subst (λ (x : Option ℕ). HasRun h (inflate_by x e a.object mark) q r out) same c.inflate_by-in-None.ensures in
     stepped h a.pass.now q r (load e (Mark a.object)) _ mark out s refl
-    (subst (λ (f : Option MarkForm). HasRun h (inflate_at f e k a.object mark) q r out) (sym (sym c.mark_form.ensures ∙ c.in-None.is)) run)
+    (subst (λ (f : Option MarkForm). HasRun h (inflate_at f e k a.object mark) q r out) (sym (sym c.mark_of_word.ensures ∙ c.in-None.is)) run)
 
 pub returns-in-Inflating-clause-local : goal.returns-in-Inflating-clause-local
 returns-in-Inflating-clause-local c =

@@ -11,8 +11,8 @@ use Rattle.core_world.specs.Trees.Plans.{load_plan, pending_for}
 use Rattle.heap_table.specs.Parts.{IsDueOn, HasRun}
 use Rattle.heap_table.specs.Stepping.{CanStep, HasStepped}
 use Rattle.heap_table.proofs.Parts.{can, rest_due, stepped, in_turn, ends}
-use Rattle.stack_lock.proofs.Arms.{run_then, run_else}
-use Rattle.stack_lock.proofs.Ruled.{there}
+use Rattle.heap_table.proofs.Arms.{run_then, run_else}
+use Rattle.heap_table.proofs.Ruled.{there}
 use Rattle.object_monitor.proofs.Inflating.{limits, locked_on, locked_named, locked_due, prepares, fits_mark, prepared, names}
 use Rattle.object_monitor.proofs.inflates.inflate_locked.Goals as goal
 

@@ -10,7 +10,7 @@ use Rattle.core_world.specs.Trees.Plans.{done_with, pending_for}
 use Rattle.heap_table.specs.Parts.{IsDueOn, HasRun}
 use Rattle.heap_table.specs.Stepping.{CanStep, HasStepped}
 use Rattle.heap_table.proofs.Parts.{can, stepped, in_turn, ends}
-use Rattle.stack_lock.proofs.Arms.{run_then, run_else}
+use Rattle.heap_table.proofs.Arms.{run_then, run_else}
 use Rattle.object_monitor.proofs.Inflating.{neutral_named, prepares, fits_mark, prepared, names_neutral}
 use Rattle.object_monitor.proofs.inflates.inflate_neutral.Goals as goal
 

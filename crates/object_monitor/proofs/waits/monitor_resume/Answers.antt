@@ -12,7 +12,7 @@ use Rattle.core_world.specs.Trees.WaitSteps.{resume_at}
 use Rattle.heap_table.specs.Parts.{IsDueOn, HasRun}
 use Rattle.heap_table.specs.Stepping.{CanStep, HasStepped}
 use Rattle.heap_table.proofs.Parts.{can, rest_due, stepped, ends}
-use Rattle.stack_lock.proofs.Ruled.{not_due}
+use Rattle.heap_table.proofs.Ruled.{not_due}
 use Rattle.object_monitor.specs.WaitParts.{marked_resume}
 use Rattle.object_monitor.proofs.Resuming.{never_resumed}
 use Rattle.object_monitor.proofs.waits.monitor_resume.Goals as goal
@@ -37,7 +37,7 @@ resume_mark-requires-clause-due c =
     let same : load e (Waiting c.thread.result) ≡ load e (Waiting t) = ap (λ u. load e (Waiting u)) c.thread.ensures.same in
     let s = subst (λ (x : StepPlan). HasStepped h a.pass.now q x word) same c.load-word.ensures in
     let thread : q.known.thread ≡ t = ap (λ (x : Known). x.thread) s.known in
-    let form : read_wait word ≡ Some (wait.Notified c.in-Notified.object) = sym c.wait_form.ensures ∙ c.in-Some.is ∙ ap Some c.in-Notified.is in
+    let form : read_wait word ≡ Some (wait.Notified c.in-Notified.object) = sym c.wait_of_word.ensures ∙ c.in-Some.is ∙ ap Some c.in-Notified.is in
     let rest = rest_due h a.pass.now e.task (load e (Waiting t)) _ c.requires.due refl q word s in
     subst (λ (u : ℕ). IsDueOn h q e.task (marked_resume e u a.saved a.object)) (sym thread)
     (subst (λ (f : Option WaitForm). IsDueOn h q e.task (resume_at f e t a.saved a.object word)) form rest)
@@ -54,7 +54,7 @@ unreachable-requires c =
     let s = subst (λ (x : StepPlan). HasStepped h a.pass.now q x word) same c.load-word.ensures in
     let rest = rest_due h a.pass.now e.task (load e (Waiting t)) _ c.requires.due refl q word s in
     not_due h q e.task (resume_at (read_wait word) e t a.saved a.object word) s.heap rest
-    (ap (λ (f : Option WaitForm). resume_at f e t a.saved a.object word) (sym c.wait_form.ensures ∙ c.in-Some.is)
+    (ap (λ (f : Option WaitForm). resume_at f e t a.saved a.object word) (sym c.wait_of_word.ensures ∙ c.in-Some.is)
     ∙ never_resumed c.in-Some.form e t a.saved a.object word c.in_default.not-Waiting c.in_default.not-Notified)
 
 pub returns-in-Waiting : goal.returns-in-Waiting
@@ -68,7 +68,7 @@ returns-in-Waiting c =
     let same : load e (Waiting c.thread.result) ≡ load e (Waiting t) = ap (λ u. load e (Waiting u)) c.thread.ensures.same in
     let s = subst (λ (x : StepPlan). HasStepped h a.pass.now q x word) same c.load-word.ensures in
     let form : read_wait word ≡ Some (wait.Waiting c.in-Waiting.object c.in-Waiting.stamp) =
-    sym c.wait_form.ensures ∙ c.in-Some.is ∙ ap Some c.in-Waiting.is in
+    sym c.wait_of_word.ensures ∙ c.in-Some.is ∙ ap Some c.in-Waiting.is in
     let out = Pending (why.NotNotified word) in
     stepped h a.pass.now q q (load e (Waiting t)) _ word out s refl
     (subst (λ (f : Option WaitForm). HasRun h (resume_at f e t a.saved a.object word) q q out) (sym form) (ends h q out s.heap))
@@ -86,7 +86,7 @@ returns-in-Notified c =
     let same : load e (Waiting c.thread.result) ≡ load e (Waiting t) = ap (λ u. load e (Waiting u)) c.thread.ensures.same in
     let s = subst (λ (x : StepPlan). HasStepped h a.pass.now q x word) same c.load-word.ensures in
     let thread : q.known.thread ≡ t = ap (λ (x : Known). x.thread) s.known in
-    let form : read_wait word ≡ Some (wait.Notified c.in-Notified.object) = sym c.wait_form.ensures ∙ c.in-Some.is ∙ ap Some c.in-Notified.is in
+    let form : read_wait word ≡ Some (wait.Notified c.in-Notified.object) = sym c.wait_of_word.ensures ∙ c.in-Some.is ∙ ap Some c.in-Notified.is in
     let run = subst (λ (u : ℕ). HasRun h (marked_resume e u a.saved a.object) q r out) thread c.resume_mark.ensures in
     stepped h a.pass.now q r (load e (Waiting t)) _ word out s refl
     (subst (λ (f : Option WaitForm). HasRun h (resume_at f e t a.saved a.object word) q r out) (sym form) run)

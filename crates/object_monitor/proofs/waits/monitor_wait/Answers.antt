@@ -9,7 +9,7 @@ use Rattle.core_world.specs.Trees.Todo.{◌>>=◌}
 use Rattle.core_world.proofs.CallRests.{part_due}
 use Rattle.heap_table.specs.Parts.{IsDueOn, HasRun}
 use Rattle.heap_table.proofs.Parts.{can, rest_due, stepped, in_turn}
-use Rattle.stack_lock.proofs.Ruled.{not_due}
+use Rattle.heap_table.proofs.Ruled.{not_due}
 use Rattle.object_monitor.specs.WaitParts.{owned_wait}
 use Rattle.object_monitor.proofs.OwningSteps.{after_owning}
 use Rattle.object_monitor.proofs.waits.monitor_wait.Goals as goal
@@ -29,7 +29,7 @@ own-requires-clause-due c =
     let n = c.load-owner.result in
     let s = c.load-owner.ensures in
     let local : local_of q.known ≡ l = ap local_of s.known in
-    let form = sym c.owner_form.ensures ∙ c.in-Some.is in
+    let form = sym c.owner_of_word.ensures ∙ c.in-Some.is in
     let rest = rest_due h a.pass.now e.task (load e (Owner a.monitor)) _ c.requires.due refl q n s in
     let next = owned_wait e l a.object a.monitor in
     let due = subst (λ (f : Option OwnerForm). IsDueOn h q e.task (own_steps f e l a.object a.monitor >>= (λ _. next))) form rest in
@@ -47,7 +47,7 @@ wait_owned-requires-clause-due c =
     let n = c.load-owner.result in
     let s = c.load-owner.ensures in
     let local : local_of q.known ≡ l = ap local_of s.known in
-    let form = sym c.owner_form.ensures ∙ c.in-Some.is in
+    let form = sym c.owner_of_word.ensures ∙ c.in-Some.is in
     let rest = rest_due h a.pass.now e.task (load e (Owner a.monitor)) _ c.requires.due refl q n s in
     let next = owned_wait e l a.object a.monitor in
     let due = subst (λ (f : Option OwnerForm). IsDueOn h q e.task (own_steps f e l a.object a.monitor >>= (λ _. next))) form rest in
@@ -67,7 +67,7 @@ unreachable-requires c =
     let rest = rest_due h a.pass.now e.task (load e (Owner a.monitor)) _ c.requires.due refl q n s in
     let next = owned_wait e l a.object a.monitor in
     not_due h q e.task (own_steps (read_owner n) e l a.object a.monitor >>= (λ _. next)) s.heap rest
-    (ap (λ (f : Option OwnerForm). own_steps f e l a.object a.monitor >>= (λ _. next)) (sym c.owner_form.ensures ∙ c.in-None.is))
+    (ap (λ (f : Option OwnerForm). own_steps f e l a.object a.monitor >>= (λ _. next)) (sym c.owner_of_word.ensures ∙ c.in-None.is))
 
 pub returns : goal.returns
 returns c =
@@ -82,7 +82,7 @@ returns c =
     let n = c.load-owner.result in
     let s = c.load-owner.ensures in
     let local : local_of q.known ≡ l = ap local_of s.known in
-    let form = sym c.owner_form.ensures ∙ c.in-Some.is in
+    let form = sym c.owner_of_word.ensures ∙ c.in-Some.is in
     let owned = subst (λ (x : Local). HasRun h (own_steps (Some c.in-Some.form) e x a.object a.monitor) q r tt) local c.own.ensures.run in
     let left = subst (λ (x : Local). HasRun h (owned_wait e x a.object a.monitor) r end out) (c.own.ensures.kept ∙ local) c.wait_owned.ensures in
     let next = owned_wait e l a.object a.monitor in

@@ -8,7 +8,7 @@ use Rattle.core_world.specs.Trees.Plans.{load}
 use Rattle.core_world.specs.Trees.WaitSteps.{resume_owner_steps, resume_mark_at}
 use Rattle.heap_table.specs.Parts.{IsDueOn}
 use Rattle.heap_table.proofs.Parts.{can, rest_due}
-use Rattle.stack_lock.proofs.Ruled.{not_due}
+use Rattle.heap_table.proofs.Ruled.{not_due}
 use Rattle.object_monitor.proofs.Resuming.{never_marked}
 use Rattle.object_monitor.proofs.waits.resume_mark.Goals as goal
 
@@ -28,7 +28,7 @@ resume_owner-requires-clause-due c =
     let s = c.load-mark.ensures in
     let m = c.in-Inflated.monitor in
     let thread : q.known.thread ≡ t = ap (λ (x : Known). x.thread) s.known in
-    let form : read_mark mark ≡ Some (Inflated m) = sym c.mark_form.ensures ∙ c.in-Some.is ∙ ap Some c.in-Inflated.is in
+    let form : read_mark mark ≡ Some (Inflated m) = sym c.mark_of_word.ensures ∙ c.in-Some.is ∙ ap Some c.in-Inflated.is in
     let rest = rest_due h a.pass.now e.task (load e (Mark a.object)) _ c.requires.due refl q mark s in
     subst (λ (u : ℕ). IsDueOn h q e.task (resume_owner_steps e u a.saved a.object m)) (sym thread)
     (subst (λ (f : Option MarkForm). IsDueOn h q e.task (resume_mark_at f e t a.saved a.object)) form rest)
@@ -44,5 +44,5 @@ unreachable-requires c =
     let s = c.load-mark.ensures in
     let rest = rest_due h a.pass.now e.task (load e (Mark a.object)) _ c.requires.due refl q mark s in
     not_due h q e.task (resume_mark_at (read_mark mark) e t a.saved a.object) s.heap rest
-    (ap (λ (f : Option MarkForm). resume_mark_at f e t a.saved a.object) (sym c.mark_form.ensures ∙ c.in-Some.is)
+    (ap (λ (f : Option MarkForm). resume_mark_at f e t a.saved a.object) (sym c.mark_of_word.ensures ∙ c.in-Some.is)
     ∙ never_marked c.in-Some.form e t a.saved a.object c.in_default.not-Inflated)

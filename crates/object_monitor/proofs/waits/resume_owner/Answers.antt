@@ -46,7 +46,7 @@ resume_by-requires-clause-due c =
     let s = subst (λ (x : StepPlan). HasStepped h a.pass.now q x found) same c.exchange-found.ensures in
     let thread : q.known.thread ≡ t =
     ap (λ (x : Known). x.thread) s.known ∙ same_thread h.heap.shape h.heap.start (regain_plan e t o m) found k in
-    let form : read_owner found ≡ Some c.in-Some.form = sym c.owner_form.ensures ∙ c.in-Some.is in
+    let form : read_owner found ≡ Some c.in-Some.form = sym c.owner_of_word.ensures ∙ c.in-Some.is in
     let rest = rest_due h a.pass.now e.task (regain_plan e t o m) _ c.requires.due refl q found s in
     subst (λ (u : ℕ). IsDueOn h q e.task (resume_owner_at (Some c.in-Some.form) e u a.saved o m found)) (sym thread)
     (subst (λ (f : Option OwnerForm). IsDueOn h q e.task (resume_owner_at f e t a.saved o m found)) form rest)

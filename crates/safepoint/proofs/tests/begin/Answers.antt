@@ -1,4 +1,4 @@
-use Rattle.safepoint.proofs.Resting.{fresh_rests, if_ok}
+use Rattle.heap_table.proofs.Resting.{fresh_rests, if_ok}
 use Rattle.safepoint.proofs.tests.begin.Goals as goal
 
 pub returns : goal.returns

@@ -1,7 +1,7 @@
 use Rattle.std.proofs.Common.{refl, sym, ◌∙◌}
 use Rattle.core_world.specs.Trees.SafepointSteps.{poll_steps}
 use Rattle.core_world.specs.Trees.Calls.{steps_of}
-use Rattle.safepoint.proofs.Resting.{due_as, rests_as, poll_calm}
+use Rattle.heap_table.proofs.Resting.{due_as, rests_as}
 use Rattle.safepoint.proofs.tests.poll.Goals as goal
 
 pub poll-requires-clause-due : goal.poll-requires-clause-due
@@ -15,4 +15,4 @@ unfolding steps_of
 returns-then-running c =
     let may = sym c.running.ensures ∙ c.if-running.true in
     rests_as _ _ c.requires _ _ poll_steps c.aside-why.ensures may refl
-    _ _ refl _ _ refl poll_calm c.poll.ensures
+    refl _ _ c.poll.ensures

@@ -1,7 +1,8 @@
 use Rattle.std.proofs.Common.{refl, sym, ◌∙◌}
 use Rattle.core_world.specs.Trees.SafepointSteps.{reached_steps}
 use Rattle.core_world.specs.Trees.Calls.{steps_of}
-use Rattle.safepoint.proofs.Resting.{due_as, rests_as, reached_calm, free_too}
+use Rattle.heap_table.proofs.Resting.{due_as, rests_as}
+use Rattle.safepoint.proofs.Resting.{free_too}
 use Rattle.safepoint.proofs.tests.reached.Goals as goal
 
 pub reached-requires-clause-due : goal.reached-requires-clause-due
@@ -15,4 +16,4 @@ unfolding steps_of
 returns-then-is_free c =
     let may = free_too _ _ _ (sym c.requesting.ensures ∙ c.if-requesting.true) (sym c.is_free.ensures ∙ c.if-is_free.true) in
     rests_as _ _ c.requires _ _ reached_steps c.alone.ensures may refl
-    _ _ refl _ _ refl reached_calm c.reached.ensures
+    refl _ _ c.reached.ensures

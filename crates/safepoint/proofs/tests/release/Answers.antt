@@ -4,7 +4,8 @@ use Rattle.core_world.specs.Trees.SafepointSteps.{release_safepoint}
 use Rattle.core_world.specs.Trees.Operations.{lone_purpose}
 use Rattle.core_world.specs.declared.task.Task.TheVariants.{Release}
 use Rattle.core_world.specs.Trees.Calls.{steps_of}
-use Rattle.safepoint.proofs.Resting.{due_as, rests_as, release_calm, release_ends, free_too}
+use Rattle.heap_table.proofs.Resting.{due_as, rests_as}
+use Rattle.safepoint.proofs.Resting.{release_ends, free_too}
 use Rattle.safepoint.proofs.tests.release.Goals as goal
 
 pub release-requires-clause-due : goal.release-requires-clause-due
@@ -22,4 +23,4 @@ returns-then-is_free c =
     let may = free_too _ _ _ (sym c.reached.ensures ∙ c.if-reached.true) (sym c.is_free.ensures ∙ c.if-is_free.true) in
     rests_as _ _ c.requires _ _ (λ (x : Purpose). release_safepoint x k.thread) c.alone.ensures may
     (release_ends (lone_purpose Release) k.thread)
-    _ _ refl _ _ refl (λ x. release_calm x k.thread) c.release.ensures
+    refl _ _ c.release.ensures

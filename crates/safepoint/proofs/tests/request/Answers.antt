@@ -2,7 +2,8 @@ use Rattle.std.proofs.Common.{refl, sym, ◌∙◌}
 use Rattle.core_world.specs.Trees.Plans.{Purpose}
 use Rattle.core_world.specs.Trees.SafepointSteps.{request_steps}
 use Rattle.core_world.specs.Trees.Calls.{steps_of}
-use Rattle.safepoint.proofs.Resting.{due_as, rests_as, request_calm, free_too}
+use Rattle.heap_table.proofs.Resting.{due_as, rests_as}
+use Rattle.safepoint.proofs.Resting.{free_too}
 use Rattle.safepoint.proofs.tests.request.Goals as goal
 
 pub request-requires-clause-due : goal.request-requires-clause-due
@@ -18,4 +19,4 @@ returns-then-is_free c =
     let k = c.args.pass.now.known in
     let may = free_too _ _ _ (sym c.running.ensures ∙ c.if-running.true) (sym c.is_free.ensures ∙ c.if-is_free.true) in
     rests_as _ _ c.requires _ _ (λ (x : Purpose). request_steps x k.thread) c.alone.ensures may refl
-    _ _ refl _ _ refl (λ x. request_calm x k.thread) c.request.ensures
+    refl _ _ c.request.ensures

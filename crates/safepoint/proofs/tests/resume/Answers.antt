@@ -3,7 +3,7 @@ use Rattle.core_world.specs.Threads.Known.{local_of}
 use Rattle.core_world.specs.Trees.Plans.{Purpose}
 use Rattle.core_world.specs.Trees.SafepointSteps.{resume_steps}
 use Rattle.core_world.specs.Trees.Calls.{steps_of}
-use Rattle.safepoint.proofs.Resting.{due_as, rests_as, resume_calm}
+use Rattle.heap_table.proofs.Resting.{due_as, rests_as}
 use Rattle.safepoint.proofs.tests.resume.Goals as goal
 
 pub resume-requires-clause-due : goal.resume-requires-clause-due
@@ -23,4 +23,4 @@ returns c =
     let unasking = sym c.requesting.ensures ∙ c.if-requesting.false in
     rests_as _ _ c.requires _ _ (λ (x : Purpose). resume_steps x (local_of k)) c.aside-why.ensures
     (λ i. not (stopped i) && not (unasking i)) refl
-    _ _ refl _ _ refl (λ x. resume_calm x (local_of k)) c.resume.ensures
+    refl _ _ c.resume.ensures

@@ -3,7 +3,7 @@ use Rattle.core_world.specs.Threads.Known.{local_of}
 use Rattle.core_world.specs.Trees.Plans.{Purpose}
 use Rattle.core_world.specs.Trees.SafepointSteps.{stop_steps}
 use Rattle.core_world.specs.Trees.Calls.{steps_of}
-use Rattle.safepoint.proofs.Resting.{due_as, rests_as, stop_calm}
+use Rattle.heap_table.proofs.Resting.{due_as, rests_as}
 use Rattle.safepoint.proofs.tests.stop.Goals as goal
 
 pub stop-requires-clause-due : goal.stop-requires-clause-due
@@ -19,4 +19,4 @@ returns-then-running c =
     let k = c.args.pass.now.known in
     let may = sym c.running.ensures ∙ c.if-running.true in
     rests_as _ _ c.requires _ _ (λ (x : Purpose). stop_steps x (local_of k)) c.aside-why.ensures may refl
-    _ _ refl _ _ refl (λ x. stop_calm x (local_of k)) c.stop.ensures
+    refl _ _ c.stop.ensures

@@ -4,7 +4,7 @@ use Rattle.core_world.specs.Threads.Known.{local_of}
 use Rattle.core_world.specs.Trees.LockSteps.{stack_enter_at}
 use Rattle.heap_table.specs.Parts.{IsDueOn}
 use Rattle.stack_lock.proofs.Never.{never_entered}
-use Rattle.stack_lock.proofs.Ruled.{not_due}
+use Rattle.heap_table.proofs.Ruled.{not_due}
 use Rattle.stack_lock.proofs.enters.enter_by.Goals as goal
 
 pub stack_first-requires-clause-due : goal.stack_first-requires-clause-due

@@ -8,7 +8,7 @@ use Rattle.heap_table.specs.StepPlans.{store_plan}
 use Rattle.heap_table.specs.Stepping.{CanStep, HasStepped}
 use Rattle.heap_table.proofs.Parts.{can, rest_due}
 use Rattle.stack_lock.specs.Parts.{ready_steps}
-use Rattle.stack_lock.proofs.Arms.{due_then}
+use Rattle.heap_table.proofs.Arms.{due_then}
 use Rattle.stack_lock.proofs.enters.entered.Goals as goal
 
 pub store-requires : goal.store-requires

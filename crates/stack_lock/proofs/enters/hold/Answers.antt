@@ -14,7 +14,7 @@ use Rattle.heap_table.specs.Parts.{IsDueOn, HasRun}
 use Rattle.stack_lock.specs.Parts.{entered_by}
 use Rattle.heap_table.proofs.Parts.{can, rest_due, stepped}
 use Rattle.stack_lock.proofs.Room.{room}
-use Rattle.stack_lock.proofs.Ruled.{there, few_objects}
+use Rattle.heap_table.proofs.Ruled.{there, few_objects}
 use Rattle.stack_lock.proofs.enters.hold.Goals as goal
 
 pub encode_hold-word-requires : goal.encode_hold-word-requires

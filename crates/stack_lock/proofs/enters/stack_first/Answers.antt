@@ -16,8 +16,8 @@ use Rattle.heap_table.specs.Parts.{IsDueOn, HasRun}
 use Rattle.heap_table.specs.StepPlans.{store_plan, swap_plan}
 use Rattle.heap_table.specs.Stepping.{CanStep, HasStepped}
 use Rattle.heap_table.proofs.Parts.{can, rest_due, stepped, in_turn, ends}
-use Rattle.stack_lock.proofs.Arms.{due_then, run_then, run_else}
-use Rattle.stack_lock.proofs.Ruled.{there}
+use Rattle.heap_table.proofs.Arms.{due_then, run_then, run_else}
+use Rattle.heap_table.proofs.Ruled.{there}
 use Rattle.stack_lock.proofs.Seizing.{seized}
 use Rattle.stack_lock.proofs.enters.stack_first.Goals as goal
 

@@ -11,7 +11,7 @@ use Rattle.core_world.specs.Trees.Plans.{load}
 use Rattle.heap_table.specs.Parts.{IsDueOn, HasRun}
 use Rattle.heap_table.proofs.Parts.{can, rest_due, stepped, ends}
 use Rattle.stack_lock.proofs.Never.{never_left}
-use Rattle.stack_lock.proofs.Ruled.{not_due}
+use Rattle.heap_table.proofs.Ruled.{not_due}
 use Rattle.stack_lock.proofs.exits.leave_lock.Goals as goal
 
 pub load-mark-requires : goal.load-mark-requires
@@ -27,7 +27,7 @@ let_go-requires-clause-due c =
     let mark = c.load-mark.result in
     let plan = load e (Mark a.object) in
     let s = c.load-mark.ensures in
-    let form = sym c.mark_form.ensures ∙ c.in-Some.is ∙ ap Some c.in-Locked.is in
+    let form = sym c.mark_of_word.ensures ∙ c.in-Some.is ∙ ap Some c.in-Locked.is in
     let local : local_of q.known ≡ l = ap local_of s.known in
     let rest = rest_due h a.pass.now e.task plan _ c.requires.due refl q mark s in
     subst (λ (x : Local). IsDueOn h q e.task (stack_exit_by e x a.object a.header mark)) (sym local)
@@ -46,7 +46,7 @@ unreachable-requires c =
     let rest = rest_due h a.pass.now e.task plan _ c.requires.due refl q mark s in
     let form = c.in-Some.form in
     not_due h q e.task (stack_exit_at (read_mark mark) e l a.object a.header mark) s.heap rest
-    (ap (λ (f : Option MarkForm). stack_exit_at f e l a.object a.header mark) (sym c.mark_form.ensures ∙ c.in-Some.is)
+    (ap (λ (f : Option MarkForm). stack_exit_at f e l a.object a.header mark) (sym c.mark_of_word.ensures ∙ c.in-Some.is)
     ∙ never_left form e l a.object a.header mark c.in_default.not-Inflating c.in_default.not-Locked c.in_default.not-Inflated)
 
 pub unreachable-requires-in-None : goal.unreachable-requires-in-None
@@ -61,7 +61,7 @@ unreachable-requires-in-None c =
     let s = c.load-mark.ensures in
     let rest = rest_due h a.pass.now e.task plan _ c.requires.due refl q mark s in
     not_due h q e.task (stack_exit_at (read_mark mark) e l a.object a.header mark) s.heap rest
-    (ap (λ (f : Option MarkForm). stack_exit_at f e l a.object a.header mark) (sym c.mark_form.ensures ∙ c.in-None.is))
+    (ap (λ (f : Option MarkForm). stack_exit_at f e l a.object a.header mark) (sym c.mark_of_word.ensures ∙ c.in-None.is))
 
 pub returns-in-Locked : goal.returns-in-Locked
 returns-in-Locked c =
@@ -73,7 +73,7 @@ returns-in-Locked c =
     let mark = c.load-mark.result in
     let plan = load e (Mark a.object) in
     let s = c.load-mark.ensures in
-    let form = sym c.mark_form.ensures ∙ c.in-Some.is ∙ ap Some c.in-Locked.is in
+    let form = sym c.mark_of_word.ensures ∙ c.in-Some.is ∙ ap Some c.in-Locked.is in
     let local : local_of q.known ≡ l = ap local_of s.known in
     let r = c.let_go.new.pass in
     let out = c.let_go.result in
@@ -90,7 +90,7 @@ returns-in-Inflating c =
     let mark = c.load-mark.result in
     let plan = load e (Mark a.object) in
     let s = c.load-mark.ensures in
-    let form : read_mark mark ≡ Some Inflating = sym c.mark_form.ensures ∙ c.in-Some.is ∙ ap Some c.in-Inflating.is in
+    let form : read_mark mark ≡ Some Inflating = sym c.mark_of_word.ensures ∙ c.in-Some.is ∙ ap Some c.in-Inflating.is in
     let out = Not why.Inflating in
     stepped h a.pass.now q q plan _ mark out s refl (subst (λ (f : Option MarkForm). HasRun h (stack_exit_at f e l a.object a.header mark) q q out) (sym form) (ends h q out s.heap))
 
@@ -104,6 +104,6 @@ returns-in-Inflated c =
     let mark = c.load-mark.result in
     let plan = load e (Mark a.object) in
     let s = c.load-mark.ensures in
-    let form : read_mark mark ≡ Some (Inflated c.in-Inflated.monitor) = sym c.mark_form.ensures ∙ c.in-Some.is ∙ ap Some c.in-Inflated.is in
+    let form : read_mark mark ≡ Some (Inflated c.in-Inflated.monitor) = sym c.mark_of_word.ensures ∙ c.in-Some.is ∙ ap Some c.in-Inflated.is in
     let out = Monitor c.in-Inflated.monitor in
     stepped h a.pass.now q q plan _ mark out s refl (subst (λ (f : Option MarkForm). HasRun h (stack_exit_at f e l a.object a.header mark) q q out) (sym form) (ends h q out s.heap))

@@ -17,7 +17,7 @@ use Rattle.heap_table.specs.Stepping.{CanStep, HasStepped}
 use Rattle.heap_table.proofs.Knows.{same_thread}
 use Rattle.heap_table.proofs.Parts.{can, rest_due, stepped, in_turn, ends}
 use Rattle.stack_lock.specs.Parts.{clear_at}
-use Rattle.stack_lock.proofs.Arms.{due_then, run_then, run_else}
+use Rattle.heap_table.proofs.Arms.{due_then, run_then, run_else}
 use Rattle.stack_lock.proofs.exits.let_go.Goals as goal
 
 pub log_exchange-found-requires : goal.log_exchange-found-requires

@@ -1,4 +1,4 @@
-use Rattle.std.proofs.Common.{◌≡◌, ◌==◌, true, refl, sym, ap, ◌∙◌, subst, eq-eqb}
+use Rattle.std.proofs.Common.{◌≡◌, ◌==◌, ◌+◌, true, arith, refl, sym, ap, ◌∙◌, subst, eq-eqb}
 use Rattle.core_world.specs.declared.act.Act.TheVariants.{Raise}
 use Rattle.core_world.specs.declared.name.Name.TheVariants.{Stamp}
 use Rattle.core_world.specs.Locks.{hold_count}
@@ -8,19 +8,21 @@ use Rattle.core_world.specs.Trees.Plans.{quiet_plan, next_stamp}
 use Rattle.core_world.specs.Trees.Todo.{done, step}
 use Rattle.heap_table.specs.Stepping.{CanStep}
 use Rattle.heap_table.proofs.Parts.{can}
-use Rattle.stack_lock.proofs.Arms.{due_then}
-use Rattle.stack_lock.proofs.Ruled.{stamp_room}
+use Rattle.heap_table.proofs.Arms.{due_then}
+use Rattle.heap_table.proofs.Ruled.{stamp_room}
 use Rattle.stack_lock.proofs.exits.raise.Goals as goal
 
-pub next_stamp-stamp-requires : goal.next_stamp-stamp-requires
-next_stamp-stamp-requires c =
+pub overflow_add-stamp : goal.overflow_add-stamp
+overflow_add-stamp c =
     let a = c.args in
     let e = a.why.now in
     let k = a.pass.now.known in
     let plan = raise_stamp_plan e a.object (next_stamp (local_of k)) in
     let one : (hold_count a.object k.holds == 1) ≡ true = eq-eqb _ _ (sym c.held.ensures.held ∙ c.if-held-eq1.true) in
     let due = due_then a.heap.now a.pass.now (hold_count a.object k.holds == 1) (step plan (λ n. done tt)) (done tt) e.task c.requires.due one in
-    stamp_room a.heap.now a.pass.now e a.object (next_stamp (local_of k)) (λ n. done tt) c.requires.heap due
+    let room = stamp_room a.heap.now a.pass.now e a.object (next_stamp (local_of k)) (λ n. done tt) c.requires.heap due in
+    let is = c.last_stamp-stamp.ensures in
+    omega (arith, room, is)
 
 pub raise-requires : goal.raise-requires
 raise-requires c =
@@ -30,5 +32,5 @@ raise-requires c =
     let plan = raise_stamp_plan e a.object (next_stamp (local_of k)) in
     let one : (hold_count a.object k.holds == 1) ≡ true = eq-eqb _ _ (sym c.held.ensures.held ∙ c.if-held-eq1.true) in
     let due = due_then a.heap.now a.pass.now (hold_count a.object k.holds == 1) (step plan (λ n. done tt)) (done tt) e.task c.requires.due one in
-    let same = ap (λ w. quiet_plan e (Stamp a.object) (Raise w)) c.next_stamp-stamp.ensures in
+    let same = ap (λ w. quiet_plan e (Stamp a.object) (Raise (w + 1))) c.last_stamp-stamp.ensures in
     subst (CanStep a.heap.now a.pass.now) (sym same) (can a.heap.now a.pass.now e.task plan (λ n. done tt) due refl c.requires.heap tt refl)

@@ -1,6 +1,6 @@
 use Rattle.std.proofs.Common.{rules, ◌≡◌, ◌==◌, length, sym, arith, eq-eqb}
 use Rattle.std.proofs.lemmas.List.Sums.{position_or_len_is}
-use Rattle.stack_lock.proofs.places.place_of.Goals as goal
+use Rattle.heap_table.proofs.reads.place_of.Goals as goal
 
 pub returns-then-holds-i-clause-place : goal.returns-then-holds-i-clause-place
 returns-then-holds-i-clause-place c = sym (position_or_len_is (λ h. h == c.args.word) c.args.holds.now c.loop-i.i 0 (omega arith) c.loop-i.invariant (λ lt. eq-eqb _ _ c.if-holds-i.true))

@@ -1,5 +1,5 @@
 -- What the law of the heap says of steps that are due.
-use Rattle.std.proofs.Common.{◌≡◌, ℕ, ◌+◌, ◌^◌, ◌<◌, ◌≤◌, ◌&&◌, Bool, true, false, length, refl, sym, ap, ◌∙◌, subst, inl, inr}
+use Rattle.std.proofs.Common.{◌≡◌, ℕ, ◌+◌, ◌^◌, ◌<◌, ◌≤◌, ◌&&◌, if◌then◌else◌, Bool, true, false, length, refl, sym, ap, ◌∙◌, subst, inl, inr}
 use Rattle.plain_monitor.specs.History.{last_stamp}
 use Rattle.core_world.specs.declared.name.Name.TheVariants.{Stamp}
 use Rattle.core_world.specs.declared.plan.StepPlan.{StepPlan}
@@ -91,3 +91,9 @@ not_due h p t d is_of due e =
           absurd (cc (goes, stuck))
       | inr b ↦ first_is h.heap r.world k t r.is_of r.sound r.knew is_of.within b.over (both (is_calm k.stage) (may_begin h.heap.shape h.heap.biasing k t) b.may) (b.is ∙ ap (λ z. z >>= due.after) e)
     ]
+
+-- so where a test chooses between steps and none that a valid world comes to, it chooses the steps
+pub chosen : {A : Type 0} (h : HeapSeen) (p : PassSeen) (t : Task) (b : Bool) (x : Todo A) → IsOf h p → IsDueOn h p t (if b then x else never)
+    → b ≡ true
+chosen h p t true x is_of due = refl
+chosen {A = A} h p t false x is_of due = absurd (not_due {A = A} h p t never is_of due refl)

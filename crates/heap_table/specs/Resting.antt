@@ -1,0 +1,26 @@
+-- A thread between two calls, and what its next call asks.
+use Rattle.std.specs.Prelude.{◌≡◌, ℕ, ◌+◌, ◌≤◌, true, length}
+use Rattle.core_world.specs.declared.task.Task.{Task}
+use Rattle.core_world.specs.Steps.{is_idle}
+use Rattle.core_world.specs.Threads.Known.{Start, start_of}
+use Rattle.core_world.specs.Trees.Calls.{may_begin}
+use Rattle.heap_table.specs.Seen.{HeapSeen, PassSeen, IsOf}
+
+-- It is in the middle of nothing: its last call is over.
+pub record Rests (h : HeapSeen) (p : PassSeen) : Type 0 where
+  pub is_of : IsOf h p
+  pub over : is_idle h.heap.shape p.known ≡ true
+
+-- A call of this task may begin: the thread rests, and the call's own conditions hold.
+pub record MayCall (h : HeapSeen) (p : PassSeen) (t : Task) : Type 0 where
+  pub rests : Rests h p
+  pub may : may_begin h.heap.shape h.heap.biasing p.known t ≡ true
+
+-- So may an operation, which logs two entries at most: the log has room for them.
+pub record MayOperate (h : HeapSeen) (p : PassSeen) (t : Task) : Type 0 where
+  pub call : MayCall h p t
+  pub room : length p.known.log + 2 ≤ p.limit
+
+-- what a call that begins now takes of the thread's knowledge
+abbrev pub start_now : HeapSeen → PassSeen → Start
+start_now h p = start_of h.heap.start p.known
