@@ -1,0 +1,6 @@
+//! What a thread does at its reached safepoint: it revokes a bias, takes a shot, or looks whether the run is stuck.
+//!
+//! Revocation is after OpenJDK 8's `biasedLocking.cpp`: one bias, or all of a class at once. Each function makes the steps
+//! of its tree in `core_world`, as they are due, on the words of a `heap_table` heap, and answers what the tree answers.
+//! None takes memory.
+#![tactic(auto)]
