@@ -17,3 +17,4 @@ pub mod Ruled
 pub mod Arms
 pub mod Resting
 pub mod Aside
+pub mod Loops
