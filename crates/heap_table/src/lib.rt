@@ -38,7 +38,7 @@ pub use heap::Heap;
 pub use pass::Pass;
 pub use purpose::Purpose;
 pub use reads::{
-    hash_of_word, is_biased, mark_of_word, owner_of_word, safe_of_word, wait_of_word,
+    hash_of_word, is_biased, mark_of_word, owner_of_word, safe_of_word, value_of_word, wait_of_word,
 };
 pub use shape::{HeapShape, no_two_names_have_one_place, words_of_two_groups_lie_apart};
 pub use shots::{Cell, Shot};

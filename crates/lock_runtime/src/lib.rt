@@ -1,5 +1,16 @@
 //! The calls of the runtime on one heap: the contract for all layers above.
 //!
 //! Each call is a whole one, of a thread that is in the middle of nothing, and leaves it so. It makes the steps of its
-//! tree in `core_world`, by the operations' crates. None takes memory, none waits, and none tries again.
+//! tree in `core_world`, by the operations' crates: `rests` says that the call is over, `run` that these steps were made,
+//! with this answer, and `says` what they log and leave, by the answer, and why a call is pending or refused, in its own
+//! steps. None takes memory, none waits, and none tries again.
 #![tactic(auto)]
+
+mod leaving;
+mod purposes;
+mod running;
+mod values;
+
+pub use leaving::exit;
+pub use running::{poll, resume, stop};
+pub use values::{finish, get, print, put};

@@ -1,0 +1,23 @@
+-- What the conditions of a call give its code.
+use Rattle.std.proofs.Common.{◌≡◌, ℕ, ◌+◌, ◌<◌, ◌≤◌, ◌==◌, ◌&&◌, Bool, true, false, length, nat_lt, refl, arith, ltb-true}
+use Rattle.core_world.specs.declared.task.Task.{Task}
+use Rattle.core_world.specs.Trees.Calls.{is_object}
+use Rattle.core_world.specs.Words.Shape.{Shape}
+use Rattle.heap_table.specs.Resting.{MayOperate}
+use Rattle.heap_table.specs.Seen.{HeapSeen, PassSeen}
+
+pub first_of : (a b : Bool) → (a && b) ≡ true → a ≡ true
+first_of true b e = refl
+first_of false b e = absurd (cc e)
+
+pub second_of : (a b : Bool) → (a && b) ≡ true → b ≡ true
+second_of true b e = e
+second_of false b e = absurd (cc e)
+
+-- the object is there
+pub object_there : (s : Shape) (o : ℕ) (b : Bool) → (is_object s o && b) ≡ true → o < length s.objects
+object_there s o b e = ltb-true o (length s.objects) (first_of (is_object s o) b e)
+
+-- and the log has room for an entry
+pub room_one : (h : HeapSeen) (p : PassSeen) (t : Task) → MayOperate h p t → length p.known.log < p.limit
+room_one h p t c = let room = c.room in omega (arith, room)

@@ -1,0 +1,1 @@
+use Rattle.lock_runtime.proofs.values.get.Goals as goal

@@ -1,0 +1,58 @@
+//! Calls of a thread that polls, stops and goes on.
+ghost use Rattle.std.specs.Prelude.{◌≡◌};
+ghost use Rattle.core_world.specs.declared.task.Task.TheVariants.{Poll, Stop, Resume};
+ghost use Rattle.core_world.specs.Trees.Calls.{side_purpose};
+ghost use Rattle.core_world.specs.Trees.SafepointSteps.{poll_steps, stop_steps, resume_steps};
+ghost use Rattle.core_calls.specs.Paths.{Tells};
+ghost use Rattle.core_calls.specs.CallsSay.{PollSays, StopSays, ResumeSays};
+ghost use Rattle.heap_table.specs.Parts.{HasRun};
+ghost use Rattle.heap_table.specs.Resting.{MayCall, Rests, start_now};
+
+use crate::purposes::aside;
+use core_world::{Task, Turn};
+use heap_table::{Heap, Pass};
+
+/// Looks whether another thread asks for a safepoint. The thread runs.
+///
+/// `Pending(Requested { word })` comes exactly where the loaded safepoint `word` has a requester: the thread runs on, and is
+/// to stop. Nothing is logged, and an unfinished operation and check stay so.
+pub fn poll(heap: &Heap, pass: &mut Pass) -> Turn<()>
+    requires { MayCall heap.now pass.old Poll }
+    ensures rests { Rests heap.now pass.new }
+    ensures run { HasRun heap.now (poll_steps (side_purpose Poll (start_now heap.now pass.old)))
+        pass.old pass.new result }
+    ensures says { Tells pass.old.known pass.new.known (λ ms. PollSays (start_now heap.now pass.old) ms result) }
+{
+    let why = aside(pass, Task::Poll);
+    safepoint::poll(heap, pass, &why)
+}
+
+/// Publishes the length of the log and stops the thread, which runs.
+///
+/// Nothing is logged, and an unfinished operation and check stay so.
+pub fn stop(heap: &Heap, pass: &mut Pass)
+    requires { MayCall heap.now pass.old Stop }
+    ensures rests { Rests heap.now pass.new }
+    ensures run { HasRun heap.now (stop_steps (side_purpose Stop (start_now heap.now pass.old))
+        (start_now heap.now pass.old).local) pass.old pass.new result }
+    ensures says { Tells pass.old.known pass.new.known (λ ms. StopSays (start_now heap.now pass.old) ms result) }
+{
+    let why = aside(pass, Task::Stop);
+    safepoint::stop(heap, pass, &why)
+}
+
+/// Sets the thread running, which is stopped and asks for no safepoint.
+///
+/// Pending, the thread stays stopped: `Halted` and `Requested { word }` say that the safepoint word, loaded or found by the
+/// exchange, has the halt or a requester, and `Raced { expected, found }` that the exchange found another word with
+/// neither. Nothing is logged, and an unfinished operation and check stay so.
+pub fn resume(heap: &Heap, pass: &mut Pass) -> Turn<()>
+    requires { MayCall heap.now pass.old Resume }
+    ensures rests { Rests heap.now pass.new }
+    ensures run { HasRun heap.now (resume_steps (side_purpose Resume (start_now heap.now pass.old))
+        (start_now heap.now pass.old).local) pass.old pass.new result }
+    ensures says { Tells pass.old.known pass.new.known (λ ms. ResumeSays (start_now heap.now pass.old) ms result) }
+{
+    let why = aside(pass, Task::Resume);
+    safepoint::resume(heap, pass, &why)
+}

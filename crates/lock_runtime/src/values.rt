@@ -1,0 +1,104 @@
+//! Calls that make one entry at once: slots, prints and the end of a thread.
+ghost use Rattle.std.specs.Prelude.{◌≡◌};
+ghost use Rattle.core_world.specs.declared.task.Task.TheVariants.{Get, Put, Print, Finish};
+ghost use Rattle.core_world.specs.Trees.Operations.{get_steps, put_steps, print_steps, finish_steps, ending_entry};
+ghost use Rattle.core_calls.specs.Paths.{Tells};
+ghost use Rattle.core_calls.specs.CallsSay.{GetSays, PutSays, PrintSays, FinishSays};
+ghost use Rattle.heap_table.specs.Parts.{HasRun};
+ghost use Rattle.heap_table.specs.Resting.{MayOperate, Rests, start_now};
+
+use crate::purposes::alone;
+use core_world::{Name, Stage, Task, Unguarded};
+use heap_table::{Heap, Pass, value_of_word};
+use mark_word::{WaitForm, encode_wait};
+use object_monitor::publish;
+use plain_monitor::{Ending, Entry, Value, value_word};
+
+/// The value of the object's slot, by one load, which logs a Get with it.
+///
+/// `Unguarded` comes exactly where the thread has no hold on the object; then no step is made.
+pub fn get(heap: &Heap, pass: &mut Pass, object: u32, slot: u32) -> Result<Value, Unguarded>
+    requires { MayOperate heap.now pass.old (Get object slot) }
+    ensures rests { Rests heap.now pass.new }
+    ensures run { HasRun heap.now (get_steps (start_now heap.now pass.old) object slot) pass.old pass.new result }
+    ensures says { Tells pass.old.known pass.new.known (λ ms. GetSays (start_now heap.now pass.old) object slot ms result) }
+{
+    if pass.held(object) == 0 {
+        return Err(Unguarded);
+    }
+    let why = alone(Task::Get { object, slot });
+    let word = heap.log_get(pass, &why, object, slot);
+    Ok(value_of_word(word))
+}
+
+/// Stores the value in the object's slot, by one store, which logs a Put with it.
+///
+/// `Unguarded` comes exactly where the thread has no hold on the object; then no step is made.
+pub fn put(
+    heap: &Heap,
+    pass: &mut Pass,
+    object: u32,
+    slot: u32,
+    value: Value,
+) -> Result<(), Unguarded>
+    requires { MayOperate heap.now pass.old (Put object slot value) }
+    ensures rests { Rests heap.now pass.new }
+    ensures run { HasRun heap.now (put_steps (start_now heap.now pass.old) object slot value) pass.old pass.new result }
+    ensures says { Tells pass.old.known pass.new.known
+        (λ ms. PutSays (start_now heap.now pass.old) object slot value ms result) }
+{
+    if pass.held(object) == 0 {
+        return Err(Unguarded);
+    }
+    let why = alone(Task::Put {
+        object,
+        slot,
+        value,
+    });
+    let entry = Entry::Put {
+        object,
+        slot,
+        value,
+    };
+    let at = Name::Slot { object, slot };
+    heap.log_store(pass, &why, Stage::Calm, at, value_word(&value), entry);
+    Ok(())
+}
+
+/// Logs a Print of the value.
+pub fn print(heap: &Heap, pass: &mut Pass, value: Value)
+    requires { MayOperate heap.now pass.old (Print value) }
+    ensures rests { Rests heap.now pass.new }
+    ensures run { HasRun heap.now (print_steps (start_now heap.now pass.old) value) pass.old pass.new result }
+    ensures says { Tells pass.old.known pass.new.known (λ ms. PrintSays value ms result) }
+{
+    let why = alone(Task::Print { value });
+    publish(heap, pass, &why, Entry::Print { value })
+}
+
+// The entry with which a thread ends so.
+fn ending_entry(ending: Ending) -> Entry
+    ensures { result ≡ ending_entry ending }
+{
+    match ending {
+        Ending::Trap { fault, index } => Entry::Trap { fault, index },
+        Ending::Spent => Entry::Spent,
+        Ending::Done => Entry::Done,
+    }
+}
+
+/// Ends the thread, which has no holds: logs how it ended, and says so in its waiting word. It may be stopped and resumed
+/// afterwards.
+pub fn finish(heap: &Heap, pass: &mut Pass, ending: Ending)
+    requires { MayOperate heap.now pass.old (Finish ending) }
+    ensures rests { Rests heap.now pass.new }
+    ensures run { HasRun heap.now (finish_steps (start_now heap.now pass.old) ending) pass.old pass.new result }
+    ensures says { Tells pass.old.known pass.new.known (λ ms. FinishSays ending ms result) }
+{
+    let why = alone(Task::Finish { ending });
+    publish(heap, pass, &why, ending_entry(ending));
+    let at = Name::Waiting {
+        thread: pass.thread(),
+    };
+    heap.store(pass, &why, Stage::Calm, at, encode_wait(&WaitForm::Ended));
+}
