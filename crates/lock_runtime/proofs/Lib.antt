@@ -1,3 +1,4 @@
 pub mod Begins
 pub mod LeftNothing
 pub mod Behind
+pub mod Entered

@@ -6,6 +6,7 @@
 //! steps. None takes memory, none waits, and none tries again.
 #![tactic(auto)]
 
+mod entering;
 mod leaving;
 mod purposes;
 mod running;

@@ -1,0 +1,48 @@
+-- Enters: by which marks none comes to an end, and that they take of their thread's knowledge its own words, its log and the monitor that it keeps.
+use Rattle.std.proofs.Common.{◌≡◌, ℕ, ◌==◌, Bool, true, false, if◌then◌else◌, Option, Some, None, refl, sym, ap, ◌∙◌}
+use Rattle.plain_monitor.specs.declared.entry.Path.{Path}
+use Rattle.mark_word.specs.declared.mark.MarkForm.{MarkForm}
+use Rattle.mark_word.specs.declared.mark.MarkForm.TheVariants.{Inflating, Neutral, Anonymous, Biased, Locked, Inflated, Marked}
+use Rattle.mark_word.specs.Mark.{read_mark}
+use Rattle.core_world.specs.declared.answer.BiasTry.{BiasTry}
+use Rattle.core_world.specs.declared.answer.BiasTry.TheVariants.{Took, Unbiased, Valid, Raced}
+use Rattle.core_world.specs.declared.answer.Turn.{Turn}
+use Rattle.core_world.specs.Threads.Known.{Start}
+use Rattle.core_world.specs.Trees.LockSteps.{stack_enter_steps}
+use Rattle.core_world.specs.Trees.MonitorSteps.{inflate_steps, monitor_enter_steps}
+use Rattle.core_world.specs.Trees.Operations.{and_then, enter_at, enter_monitor_steps, enter_unbiased}
+use Rattle.core_world.specs.Trees.Plans.{Purpose}
+use Rattle.core_world.specs.Trees.Todo.{Todo, never, ◌>>=◌}
+
+pub never_entered : (f : MarkForm) (e : Purpose) (k : Start) (o mark : ℕ) → (f ≡ Inflating → ⊥) → ((hash age : ℕ) → f ≡ Neutral hash age → ⊥)
+    → ((t p : ℕ) → f ≡ Locked t p → ⊥) → ((m : ℕ) → f ≡ Inflated m → ⊥) → enter_at (Some f) e k o mark ≡ never
+never_entered Inflating e k o mark inflating neutral locked inflated = absurd (inflating refl)
+never_entered (Neutral hash age) e k o mark inflating neutral locked inflated = absurd (neutral hash age refl)
+never_entered (Anonymous epoch age) e k o mark inflating neutral locked inflated = refl
+never_entered (Biased t epoch age) e k o mark inflating neutral locked inflated = refl
+never_entered (Locked t p) e k o mark inflating neutral locked inflated = absurd (locked t p refl)
+never_entered (Inflated m) e k o mark inflating neutral locked inflated = absurd (inflated m refl)
+never_entered Marked e k o mark inflating neutral locked inflated = refl
+
+module _ (e : Purpose) (k l : Start) (o : ℕ) (local : k.local ≡ l.local) (kept : k.kept ≡ l.kept) where
+  by_record : (mark t : ℕ)
+      → (if t == k.local.thread then stack_enter_steps e k.local o mark else enter_monitor_steps e k o)
+      ≡ (if t == l.local.thread then stack_enter_steps e l.local o mark else enter_monitor_steps e l o)
+  by_record mark t = λ i. if t == (local i).thread then stack_enter_steps e (local i) o mark
+      else (inflate_steps e (kept i) o >>= (λ (turn : Turn ℕ). and_then turn (λ m. monitor_enter_steps e (local i) o m)))
+
+  pub enters_alike : (f : Option MarkForm) (mark : ℕ) → enter_at f e k o mark ≡ enter_at f e l o mark
+  enters_alike None mark = refl
+  enters_alike (Some Inflating) mark = refl
+  enters_alike (Some (Neutral hash age)) mark = λ i. stack_enter_steps e (local i) o mark
+  enters_alike (Some (Anonymous epoch age)) mark = refl
+  enters_alike (Some (Biased t epoch age)) mark = refl
+  enters_alike (Some (Locked t p)) mark = by_record mark t
+  enters_alike (Some (Inflated m)) mark = λ i. monitor_enter_steps e (local i) o m
+  enters_alike (Some Marked) mark = refl
+
+  pub unbiased_alike : (tried : BiasTry) → enter_unbiased tried e k o ≡ enter_unbiased tried e l o
+  unbiased_alike (Took path) = refl
+  unbiased_alike (Unbiased mark) = enters_alike (read_mark mark) mark
+  unbiased_alike (Valid mark) = refl
+  unbiased_alike (Raced expected found) = refl
