@@ -12,8 +12,8 @@ use heap_table::{Heap, Pass, Purpose, is_biased, mark_of_word};
 use mark_word::MarkForm;
 use plain_monitor::Path;
 
-// Where the thread stands once it has revoked the object's bias, by whether it gave itself a new one.
-fn stage_after(took: bool, object: u32) -> Stage
+/// Where the thread stands once it has revoked the object's bias, by whether it gave itself a new one.
+pub fn stage_after(took: bool, object: u32) -> Stage
     ensures { result ≡ stage_after took object }
 {
     if took {

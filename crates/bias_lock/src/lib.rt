@@ -16,7 +16,7 @@ mod exits;
 mod tests;
 mod words;
 
-pub use afters::bias_after;
+pub use afters::{bias_after, stage_after};
 pub use drops::bias_drop;
 pub use enters::bias_enter;
 pub use exits::bias_exit;

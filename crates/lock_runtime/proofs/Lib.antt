@@ -2,3 +2,4 @@ pub mod Begins
 pub mod LeftNothing
 pub mod Behind
 pub mod Entered
+pub mod Asides

@@ -9,9 +9,11 @@
 mod entering;
 mod leaving;
 mod purposes;
+mod revoking;
 mod running;
 mod values;
 
+pub use entering::enter;
 pub use leaving::exit;
 pub use running::{poll, resume, stop};
 pub use values::{finish, get, print, put};

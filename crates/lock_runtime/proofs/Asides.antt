@@ -1,0 +1,177 @@
+-- A revocation leaves what its call takes of its thread's knowledge; an attempt on a bias leaves what the thread keeps.
+use Rattle.std.proofs.Common.{◌≡◌, ℕ, ◌+◌, ◌==◌, ◌&&◌, Bool, true, false, cond, if◌then◌else◌, not, Option, Some, None, List, [], ◌∷◌, ◌++◌, refl, ap, ◌∙◌}
+use Rattle.mark_word.specs.declared.mark.MarkForm.{MarkForm}
+use Rattle.mark_word.specs.declared.mark.MarkForm.TheVariants.{Inflating, Neutral, Anonymous, Biased, Locked, Inflated, Marked}
+use Rattle.mark_word.specs.Mark.{mark_of, read_mark}
+use Rattle.mark_word.specs.Hold.{read_hold}
+use Rattle.mark_word.specs.Safe.{read_safe}
+use Rattle.lock_policy.specs.declared.policy.Verdict.{Verdict}
+use Rattle.lock_policy.specs.declared.policy.Verdict.TheVariants.{Single, BulkRebias, BulkRevoke}
+use Rattle.lock_policy.specs.Policy.{decided}
+use Rattle.core_world.specs.declared.act.Act.TheVariants.{Store}
+use Rattle.core_world.specs.declared.answer.Turn.{Turn}
+use Rattle.core_world.specs.declared.answer.Turn.TheVariants.{Done, Pending}
+use Rattle.core_world.specs.declared.answer.Why.TheVariants as why
+use Rattle.core_world.specs.declared.name.Name.{Name}
+use Rattle.core_world.specs.declared.name.Name.TheVariants.{Safepoint, Prototype, LastBulk, Mark, Hold, Displaced}
+use Rattle.core_world.specs.declared.plan.Own.TheVariants as own
+use Rattle.core_world.specs.declared.stage.Stage.{Stage}
+use Rattle.core_world.specs.Locks.{is_valid_bias, hold_count}
+use Rattle.core_world.specs.RevocationRules.{Write, write, raised_form, with_epoch, store_where, object_held, biased_word, revoke_biased, record_writes, first_place}
+use Rattle.core_world.specs.Threads.Stages.{Revocation}
+use Rattle.core_world.specs.Words.Forms.{epoch_in, is_biased, is_still, names, hold_word}
+use Rattle.core_world.specs.Words.Shape.{Shape, class_of}
+use Rattle.core_world.specs.Trees.Operations.{and_then, revocation_steps}
+use Rattle.core_world.specs.Trees.Plans.{Purpose, done_with, pending_for, load}
+use Rattle.core_world.specs.Trees.RevocationSteps.{look, store_steps, revoke_at, revoke_steps, visit_held, walk_steps, take_bias_steps, next_epoch, bulk_rebias_steps, bulk_revoke_steps, verdict_steps, decided_steps, revoke_at_safepoint_steps}
+use Rattle.core_world.specs.Trees.SafepointSteps.{has_requester, request_swap_steps, request_steps, reached_steps, then_reached, safepoint_steps, release_to, reached_word}
+use Rattle.core_world.specs.Trees.Todo.{Todo, done, never, ◌>>=◌, each_from, all_from}
+use Rattle.core_world.specs.Trees.BiasSteps.{stage_after}
+use Rattle.lock_runtime.specs.Parts.{reached_revocation}
+use Rattle.heap_table.proofs.Aside.{AreAside, IsAside, leaves_own_words, either_aside, then_aside, all_aside, each_aside}
+
+-- THE SAFEPOINT
+reached : (e : Purpose) → AreAside (reached_steps e)
+reached e = (record { quiet = refl; words = refl; keeps = refl }, λ n. either_aside (is_still n) _ _ tt tt)
+
+reached_behind : (e : Purpose) (turn : Turn (Unit {0})) → AreAside (then_reached e turn)
+reached_behind e (Done x) = reached e
+reached_behind e (Pending cause) = tt
+
+request : (e : Purpose) (t : ℕ) → AreAside (request_steps e t)
+request e t = (
+  record { quiet = refl; words = refl; keeps = refl },
+  λ n. either_aside (has_requester n) _ (request_swap_steps e t n) tt
+      (record { quiet = refl; words = refl; keeps = refl }, λ m. either_aside (m == n) _ _ tt (either_aside (has_requester m) _ _ tt tt)),
+)
+
+pub safepoint_aside : (e : Purpose) (t : ℕ) (requesting : Bool) → AreAside (safepoint_steps e t requesting)
+safepoint_aside e t true = reached e
+safepoint_aside e t false = then_aside (request_steps e t) (then_reached e) (request e t) (reached_behind e)
+
+release : (stage : Stage) (e : Purpose) (t : ℕ) → AreAside (release_to stage e t)
+release stage e t = (record { quiet = refl; words = refl; keeps = refl }, λ n. either_aside (n == reached_word t) _ _ tt tt)
+
+-- THE STORES of a revocation: none is of a hold word or of a waiting word.
+AreBeside : List Write → Type 0
+AreBeside [] = Unit {0}
+AreBeside (x ∷ xs) = (leaves_own_words x.at (Store x.word) ≡ true) × AreBeside xs
+
+beside_then : (xs ys : List Write) → AreBeside xs → AreBeside ys → AreBeside (xs ++ ys)
+beside_then [] ys one two = two
+beside_then (x ∷ xs) ys one two = (one.0, beside_then xs ys one.1 two)
+
+stores : (e : Purpose) (b : Revocation) (xs : List Write) → AreBeside xs → AreAside (store_steps e b xs)
+stores e b [] all = tt
+stores e b (x ∷ xs) all = (record { quiet = refl; words = all.0; keeps = refl }, λ n. stores e b xs all.1)
+
+records : (o t p : ℕ) (hs : List ℕ) → AreBeside (record_writes o t p hs)
+records o t p [] = tt
+records o t p (h ∷ hs) = beside_then (if names o h then write (Displaced t p) (if h == hold_word o 1 then mark_of (Neutral 0 0) else 0) ∷ [] else []) _ (first (names o h)) (records o t (p + 1) hs)
+  where
+    first : (b : Bool) → AreBeside (if b then write (Displaced t p) (if h == hold_word o 1 then mark_of (Neutral 0 0) else 0) ∷ [] else [])
+    first true = (refl, tt)
+    first false = tt
+
+biased : (o t : ℕ) (allowed : Bool) (hs : List ℕ) → AreBeside (revoke_biased o t allowed hs)
+biased o t allowed hs = cases (hold_count o hs == 0)
+  where
+    cases : (b : Bool) → AreBeside (if b then write (Mark o) (mark_of (if allowed then Anonymous 0 0 else Neutral 0 0)) ∷ [] else (record_writes o t 0 hs ++ write (Mark o) (mark_of (Locked t (first_place o hs))) ∷ []))
+    cases true = (refl, tt)
+    cases false = beside_then (record_writes o t 0 hs) _ (records o t 0 hs) (refl, tt)
+
+where_mark : (o : ℕ) (w : Option ℕ) → AreBeside (store_where (Mark o) w)
+where_mark o None = tt
+where_mark o (Some w) = (refl, tt)
+
+raised : (epoch : Option ℕ) (c : ℕ) → AreBeside (raised_form epoch c)
+raised None c = tt
+raised (Some epoch) c = (refl, tt)
+
+module _ (e : Purpose) (b : Revocation) where
+  at_form : (f : Option MarkForm) (o : ℕ) (allowed : Bool) → AreAside (revoke_at f e b o allowed)
+  at_form None o allowed = tt
+  at_form (Some Inflating) o allowed = tt
+  at_form (Some (Neutral hash age)) o allowed = tt
+  at_form (Some (Anonymous epoch age)) o true = tt
+  at_form (Some (Anonymous epoch age)) o false = (record { quiet = refl; words = refl; keeps = refl }, λ n. tt)
+  at_form (Some (Biased t epoch age)) o allowed = then_aside (each_from 0 64 (λ p. look e b (Hold t p))) _
+      (each_aside 0 64 (λ p. look e b (Hold t p)) (λ p. (record { quiet = refl; words = refl; keeps = refl }, λ n. tt)))
+      (λ hs. stores e b (revoke_biased o t allowed hs) (biased o t allowed hs))
+  at_form (Some (Locked t p)) o allowed = tt
+  at_form (Some (Inflated m)) o allowed = tt
+  at_form (Some Marked) o allowed = tt
+
+  one : (o : ℕ) (allowed : Bool) → AreAside (revoke_steps e b o allowed)
+  one o allowed = (record { quiet = refl; words = refl; keeps = refl }, λ mark. at_form (read_mark mark) o allowed)
+
+  module _ (s : Shape) (c : ℕ) (visit : ℕ → ℕ → Todo (Unit {0})) (visits : (o mark : ℕ) → AreAside (visit o mark)) where
+    held : (o : Option ℕ) → AreAside (visit_held s c e b visit o)
+    held None = tt
+    held (Some o) = either_aside (class_of s o == c) _ _ (record { quiet = refl; words = refl; keeps = refl }, λ mark. either_aside (is_biased mark) _ _ (visits o mark) tt) tt
+
+    walk : AreAside (walk_steps s c e b visit)
+    walk = all_aside 0 s.threads _ (λ t. all_aside 0 64 _ (λ p. (record { quiet = refl; words = refl; keeps = refl }, λ hold. held (object_held (read_hold hold)))))
+
+  take : (epoch : Option ℕ) (t : ℕ) → AreAside (take_bias_steps e b epoch t)
+  take epoch t = (
+    record { quiet = refl; words = refl; keeps = refl },
+    λ mark. then_aside (store_steps e b (store_where (Mark b.object) (biased_word (is_biased mark) epoch t))) _
+        (stores e b (store_where (Mark b.object) (biased_word (is_biased mark) epoch t)) (where_mark b.object (biased_word (is_biased mark) epoch t))) (λ _. tt),
+  )
+
+  bulk_rebias : (s : Shape) (t c : ℕ) (epoch : Option ℕ) → AreAside (bulk_rebias_steps s t c e b epoch)
+  bulk_rebias s t c epoch = (
+    record { quiet = refl; words = refl; keeps = refl },
+    λ n. then_aside (store_steps e b (raised_form epoch c)) _ (stores e b (raised_form epoch c) (raised epoch c))
+        (λ _. then_aside (walk_steps s c e b (λ o mark. store_steps e b (store_where (Mark o) (with_epoch (read_mark mark) (next_epoch epoch))))) _
+            (walk s c (λ o mark. store_steps e b (store_where (Mark o) (with_epoch (read_mark mark) (next_epoch epoch))))
+                (λ o mark. stores e b (store_where (Mark o) (with_epoch (read_mark mark) (next_epoch epoch))) (where_mark o (with_epoch (read_mark mark) (next_epoch epoch)))))
+            (λ _. then_aside (revoke_steps e b b.object b.rebias) _ (one b.object b.rebias) (λ _. either_aside b.rebias _ _ (take (next_epoch epoch) t) tt))),
+  )
+
+  bulk_revoke : (s : Shape) (c : ℕ) → AreAside (bulk_revoke_steps s c e b)
+  bulk_revoke s c = (
+    record { quiet = refl; words = refl; keeps = refl },
+    λ n. (
+      record { quiet = refl; words = refl; keeps = refl },
+      λ m. then_aside (walk_steps s c e b (λ o mark. revoke_at (read_mark mark) e b o false)) _
+          (walk s c (λ o mark. revoke_at (read_mark mark) e b o false) (λ o mark. at_form (read_mark mark) o false)) (λ _. one b.object false),
+    ),
+  )
+
+  by_verdict : (s : Shape) (t c : ℕ) (epoch : Option ℕ) (v : Verdict) → AreAside (verdict_steps s t c e b epoch v)
+  by_verdict s t c epoch Single = then_aside (revoke_steps e b b.object false) _ (one b.object false) (λ _. tt)
+  by_verdict s t c epoch BulkRebias = bulk_rebias s t c epoch
+  by_verdict s t c epoch BulkRevoke = then_aside (bulk_revoke_steps s c e b) _ (bulk_revoke s c) (λ _. tt)
+
+  by_count : (s : Shape) (t c : ℕ) (epoch : Option ℕ) (count last : ℕ) → AreAside (decided_steps s t c e b epoch count last)
+  by_count s t c epoch count last = (
+    record { quiet = refl; words = refl; keeps = refl },
+    λ n. then_aside (verdict_steps s t c e b epoch (decided count last b.now).0) _ (by_verdict s t c epoch (decided count last b.now).0) (λ _. tt),
+  )
+
+  at_safepoint : (s : Shape) (t : ℕ) → AreAside (revoke_at_safepoint_steps s t e b)
+  at_safepoint s t = (
+    record { quiet = refl; words = refl; keeps = refl },
+    λ mark. (
+      record { quiet = refl; words = refl; keeps = refl },
+      λ prototype. (
+        record { quiet = refl; words = refl; keeps = refl },
+        λ count. (
+          record { quiet = refl; words = refl; keeps = refl },
+          λ last. either_aside (is_valid_bias (read_mark mark) prototype) _ _ (by_count s t (class_of s b.object) (epoch_in prototype) count last) tt,
+        ),
+      ),
+    ),
+  )
+
+  behind_safepoint : (s : Shape) (t : ℕ) (turn : Turn (Unit {0}))
+      → AreAside (and_then turn (λ _. reached_revocation s t e b))
+  behind_safepoint s t (Done x) =
+      then_aside (revoke_at_safepoint_steps s t e b) _ (at_safepoint s t)
+      (λ outcome. then_aside (release_to (stage_after outcome.took b.object) e t) _ (release (stage_after outcome.took b.object) e t) (λ _. tt))
+  behind_safepoint s t (Pending cause) = tt
+
+  pub revocation_aside : (s : Shape) (t : ℕ) (requesting : Bool) → AreAside (revocation_steps s t requesting e b)
+  revocation_aside s t requesting = then_aside (safepoint_steps e t requesting) _ (safepoint_aside e t requesting) (behind_safepoint s t)

@@ -1,0 +1,105 @@
+//! The end of a bias: at a safepoint of the thread's own where it is valid, and else by an exchange.
+ghost use Rattle.std.specs.Prelude.{◌≡◌, ◌<◌, length};
+ghost use Rattle.core_world.specs.Trees.Operations.{revocation_steps, revoked_steps, unbias_steps};
+ghost use Rattle.heap_table.specs.Parts.{IsDueOn, HasRun};
+ghost use Rattle.heap_table.specs.Resting.{start_now};
+ghost use Rattle.heap_table.specs.Seen.{IsOf};
+ghost use Rattle.lock_runtime.specs.Parts.{reached_revocation, unbias_first};
+
+use bias_lock::{bias_drop, stage_after};
+use core_world::{BiasTry, Turn, Why};
+use heap_table::{Heap, Pass, Purpose};
+use revoke_walk::{Revocation, revoke_at_safepoint};
+use safepoint::{release_to, safepoint};
+
+// The thread has its safepoint: the object's bias is revoked, and the safepoint ends.
+fn revoke_reached(heap: &Heap, pass: &mut Pass, why: &Purpose, revocation: &Revocation) -> Turn<bool>
+    requires heap { IsOf heap.now pass.old }
+    requires object { revocation.now.object < length heap.now.heap.shape.objects }
+    requires due { IsDueOn heap.now pass.old why.now.task
+        (reached_revocation heap.now.heap.shape pass.old.known.thread why.now revocation.now) }
+    ensures { HasRun heap.now (reached_revocation heap.now.heap.shape pass.old.known.thread why.now revocation.now)
+        pass.old pass.new result }
+{
+    let outcome = revoke_at_safepoint(heap, pass, why, revocation);
+    let stage = stage_after(outcome.took, revocation.object);
+    release_to(heap, pass, why, stage);
+    Turn::Done(outcome.took)
+}
+
+/// Revokes the object's bias at a safepoint of the thread's own, whose request stands already or is made. It answers
+/// whether the thread gave itself a new bias.
+pub fn revocation(
+    heap: &Heap,
+    pass: &mut Pass,
+    why: &Purpose,
+    revocation: &Revocation,
+    requesting: bool,
+) -> Turn<bool>
+    requires heap { IsOf heap.now pass.old }
+    requires object { revocation.now.object < length heap.now.heap.shape.objects }
+    requires due { IsDueOn heap.now pass.old why.now.task
+        (revocation_steps heap.now.heap.shape pass.old.known.thread requesting why.now revocation.now) }
+    ensures { HasRun heap.now
+        (revocation_steps heap.now.heap.shape pass.old.known.thread requesting why.now revocation.now)
+        pass.old pass.new result }
+{
+    match safepoint(heap, pass, why, requesting) {
+        Turn::Done(()) => revoke_reached(heap, pass, why, revocation),
+        Turn::Pending(cause) => Turn::Pending(cause),
+    }
+}
+
+// The same, for an operation that takes no new bias.
+fn revoked(
+    heap: &Heap,
+    pass: &mut Pass,
+    why: &Purpose,
+    bias: &Revocation,
+    requesting: bool,
+) -> Turn<()>
+    requires heap { IsOf heap.now pass.old }
+    requires object { bias.now.object < length heap.now.heap.shape.objects }
+    requires due { IsDueOn heap.now pass.old why.now.task
+        (revoked_steps heap.now.heap.shape pass.old.known.thread requesting why.now bias.now) }
+    ensures { HasRun heap.now (revoked_steps heap.now.heap.shape pass.old.known.thread requesting why.now bias.now)
+        pass.old pass.new result }
+{
+    match revocation(heap, pass, why, bias, requesting) {
+        Turn::Done(_) => Turn::Done(()),
+        Turn::Pending(cause) => Turn::Pending(cause),
+    }
+}
+
+// No request of the thread stands.
+fn unbias_first(heap: &Heap, pass: &mut Pass, why: &Purpose, bias: &Revocation) -> Turn<()>
+    requires heap { IsOf heap.now pass.old }
+    requires object { bias.now.object < length heap.now.heap.shape.objects }
+    requires due { IsDueOn heap.now pass.old why.now.task
+        (unbias_first heap.now.heap.shape why.now (start_now heap.now pass.old) bias.now) }
+    ensures { HasRun heap.now (unbias_first heap.now.heap.shape why.now (start_now heap.now pass.old) bias.now)
+        pass.old pass.new result }
+{
+    let class = heap.shape().class_of(bias.object);
+    match bias_drop(heap, pass, why, class, bias.object) {
+        BiasTry::Unbiased { .. } => Turn::Done(()),
+        BiasTry::Valid { .. } => revoked(heap, pass, why, bias, false),
+        BiasTry::Raced { expected, found } => Turn::Pending(Why::Raced { expected, found }),
+        BiasTry::Took(_) => unreachable!(),
+    }
+}
+
+/// Sees that the object's mark has no bias pattern. `Done(())` says that it has none.
+pub fn unbias(heap: &Heap, pass: &mut Pass, why: &Purpose, bias: &Revocation) -> Turn<()>
+    requires heap { IsOf heap.now pass.old }
+    requires object { bias.now.object < length heap.now.heap.shape.objects }
+    requires due { IsDueOn heap.now pass.old why.now.task
+        (unbias_steps heap.now.heap.shape why.now (start_now heap.now pass.old) bias.now) }
+    ensures { HasRun heap.now (unbias_steps heap.now.heap.shape why.now (start_now heap.now pass.old) bias.now)
+        pass.old pass.new result }
+{
+    if pass.requesting() {
+        return revoked(heap, pass, why, bias, true);
+    }
+    unbias_first(heap, pass, why, bias)
+}
