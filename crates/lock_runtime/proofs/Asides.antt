@@ -53,7 +53,7 @@ release : (stage : Stage) (e : Purpose) (t : ℕ) → AreAside (release_to stage
 release stage e t = (record { quiet = refl; words = refl; keeps = refl }, λ n. either_aside (n == reached_word t) _ _ tt tt)
 
 -- THE STORES of a revocation: none is of a hold word or of a waiting word.
-AreBeside : List Write → Type 0
+abbrev AreBeside : List Write → Type 0
 AreBeside [] = Unit {0}
 AreBeside (x ∷ xs) = (leaves_own_words x.at (Store x.word) ≡ true) × AreBeside xs
 
@@ -110,8 +110,12 @@ module _ (e : Purpose) (b : Revocation) where
     held None = tt
     held (Some o) = either_aside (class_of s o == c) _ _ (record { quiet = refl; words = refl; keeps = refl }, λ mark. either_aside (is_biased mark) _ _ (visits o mark) tt) tt
 
+    placed : (t p : ℕ) → AreAside (look e b (Hold t p) >>= (λ hold. visit_held s c e b visit (object_held (read_hold hold))))
+    placed t p = (record { quiet = refl; words = refl; keeps = refl }, λ hold. held (object_held (read_hold hold)))
+
     walk : AreAside (walk_steps s c e b visit)
-    walk = all_aside 0 s.threads _ (λ t. all_aside 0 64 _ (λ p. (record { quiet = refl; words = refl; keeps = refl }, λ hold. held (object_held (read_hold hold)))))
+    walk = all_aside 0 s.threads (λ t. all_from 0 64 (λ p. look e b (Hold t p) >>= (λ hold. visit_held s c e b visit (object_held (read_hold hold)))))
+        (λ t. all_aside 0 64 (λ p. look e b (Hold t p) >>= (λ hold. visit_held s c e b visit (object_held (read_hold hold)))) (placed t))
 
   take : (epoch : Option ℕ) (t : ℕ) → AreAside (take_bias_steps e b epoch t)
   take epoch t = (
@@ -151,7 +155,7 @@ module _ (e : Purpose) (b : Revocation) where
     λ n. then_aside (verdict_steps s t c e b epoch (decided count last b.now).0) _ (by_verdict s t c epoch (decided count last b.now).0) (λ _. tt),
   )
 
-  at_safepoint : (s : Shape) (t : ℕ) → AreAside (revoke_at_safepoint_steps s t e b)
+  pub at_safepoint : (s : Shape) (t : ℕ) → AreAside (revoke_at_safepoint_steps s t e b)
   at_safepoint s t = (
     record { quiet = refl; words = refl; keeps = refl },
     λ mark. (

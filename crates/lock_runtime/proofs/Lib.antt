@@ -3,3 +3,5 @@ pub mod LeftNothing
 pub mod Behind
 pub mod Entered
 pub mod Asides
+pub mod Revoked
+pub mod KeptAmid

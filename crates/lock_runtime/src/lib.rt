@@ -11,6 +11,7 @@ mod leaving;
 mod purposes;
 mod revoking;
 mod running;
+mod stub;
 mod values;
 
 pub use entering::enter;

@@ -9,7 +9,7 @@ ghost use Rattle.lock_runtime.specs.Parts.{reached_revocation, unbias_first};
 use bias_lock::{bias_drop, stage_after};
 use core_world::{BiasTry, Turn, Why};
 use heap_table::{Heap, Pass, Purpose};
-use revoke_walk::{Revocation, revoke_at_safepoint};
+use crate::stub::{Revocation, revoke_at_safepoint};
 use safepoint::{release_to, safepoint};
 
 // The thread has its safepoint: the object's bias is revoked, and the safepoint ends.
@@ -22,9 +22,9 @@ fn revoke_reached(heap: &Heap, pass: &mut Pass, why: &Purpose, revocation: &Revo
         pass.old pass.new result }
 {
     let outcome = revoke_at_safepoint(heap, pass, why, revocation);
-    let stage = stage_after(outcome.took, revocation.object);
+    let stage = stage_after(outcome.1, revocation.object);
     release_to(heap, pass, why, stage);
-    Turn::Done(outcome.took)
+    Turn::Done(outcome.1)
 }
 
 /// Revokes the object's bias at a safepoint of the thread's own, whose request stands already or is made. It answers

@@ -1,0 +1,119 @@
+use Rattle.std.proofs.Common.{◌≡◌, ℕ, Bool, true, false, refl, sym, ap, ◌∙◌, subst}
+use Rattle.core_world.specs.declared.answer.BiasTry.{BiasTry}
+use Rattle.core_world.specs.declared.answer.BiasTry.TheVariants.{Took, Unbiased, Valid, Raced}
+use Rattle.core_world.specs.declared.answer.Turn.{Turn}
+use Rattle.core_world.specs.declared.answer.Turn.TheVariants.{Done, Pending}
+use Rattle.core_world.specs.declared.answer.Why.TheVariants as why
+use Rattle.core_world.specs.Threads.Known.{Local, local_of}
+use Rattle.core_world.specs.Threads.Stages.{Revocation}
+use Rattle.core_world.specs.Trees.BiasSteps.{bias_drop_steps}
+use Rattle.core_world.specs.Trees.Operations.{unbias_tried, revoked_steps}
+use Rattle.core_world.specs.Trees.Todo.{Todo}
+use Rattle.core_world.specs.Words.Shape.{Shape, class_of}
+use Rattle.core_world.proofs.CallRests.{part_due}
+use Rattle.heap_table.specs.Parts.{IsDueOn, HasRun}
+use Rattle.heap_table.specs.Resting.{start_now}
+use Rattle.heap_table.proofs.Parts.{in_turn, ends}
+use Rattle.heap_table.proofs.Ruled.{not_due}
+use Rattle.bias_lock.specs.Kept.{IsKeptUnlessTook}
+use Rattle.lock_runtime.proofs.Behind.{next_part}
+use Rattle.lock_runtime.proofs.revoking.unbias_first.Goals as goal
+
+pub bias_drop-requires-clause-due : goal.bias_drop-requires-clause-due
+bias_drop-requires-clause-due c =
+    let a = c.args in
+    let h = a.heap.now in
+    let e = a.why.now in
+    let b = a.bias.now in
+    let p = a.pass.now in
+    let ob : c.bias.inside.object ≡ b.object = ap (λ (r : Revocation). r.object) c.bias.view_is in
+    let class : c.class_of-class.result ≡ class_of h.heap.shape b.object = c.class_of-class.ensures.class ∙ (λ i. class_of (c.shape.ensures i) (ob i)) in
+    let next : BiasTry → Todo (Turn (Unit {0})) = λ tried. unbias_tried tried h.heap.shape e (start_now h p) b in
+    subst (IsDueOn h p e.task) (λ i. bias_drop_steps e (sym class i) (sym ob i))
+    (part_due h.heap.shape h.heap.start h.heap.biasing p.known e.task (bias_drop_steps e (class_of h.heap.shape b.object) b.object) next c.requires.due)
+
+pub revoked-requires-clause-due : goal.revoked-requires-clause-due
+revoked-requires-clause-due c =
+    let a = c.args in
+    let h = a.heap.now in
+    let e = a.why.now in
+    let b = a.bias.now in
+    let p = a.pass.now in
+    let k = start_now h p in
+    let q = c.bias_drop.new.pass in
+    let ob : c.bias.inside.object ≡ b.object = ap (λ (r : Revocation). r.object) c.bias.view_is in
+    let class : c.class_of-class.result ≡ class_of h.heap.shape b.object = c.class_of-class.ensures.class ∙ (λ i. class_of (c.shape.ensures i) (ob i)) in
+    let d = bias_drop_steps e (class_of h.heap.shape b.object) b.object in
+    let next : BiasTry → Todo (Turn (Unit {0})) = λ tried. unbias_tried tried h.heap.shape e k b in
+    let ran = subst (λ (x : Todo BiasTry). HasRun h x p q (Valid c.in-Valid.mark)) (λ i. bias_drop_steps e (class i) (ob i)) (subst (λ (x : BiasTry). HasRun h (bias_drop_steps e c.class_of-class.result c.bias.inside.object) p q x) c.in-Valid.is c.bias_drop.ensures.run) in
+    let thread : q.known.thread ≡ p.known.thread = ap (λ (x : Local). x.thread) (subst (λ (x : BiasTry). IsKeptUnlessTook x (local_of p.known) (local_of q.known)) c.in-Valid.is c.bias_drop.ensures.kept) in
+    subst (λ t. IsDueOn h q e.task (revoked_steps h.heap.shape t false e b)) (sym thread)
+    (next_part h p q e.task d next (Valid c.in-Valid.mark) c.requires.due refl ran)
+
+pub unreachable-requires : goal.unreachable-requires
+unreachable-requires c =
+    let a = c.args in
+    let h = a.heap.now in
+    let e = a.why.now in
+    let b = a.bias.now in
+    let p = a.pass.now in
+    let k = start_now h p in
+    let q = c.bias_drop.new.pass in
+    let ob : c.bias.inside.object ≡ b.object = ap (λ (r : Revocation). r.object) c.bias.view_is in
+    let class : c.class_of-class.result ≡ class_of h.heap.shape b.object = c.class_of-class.ensures.class ∙ (λ i. class_of (c.shape.ensures i) (ob i)) in
+    let d = bias_drop_steps e (class_of h.heap.shape b.object) b.object in
+    let next : BiasTry → Todo (Turn (Unit {0})) = λ tried. unbias_tried tried h.heap.shape e k b in
+    let ran = subst (λ (x : Todo BiasTry). HasRun h x p q (Took c.in-Took.arg)) (λ i. bias_drop_steps e (class i) (ob i)) (subst (λ (x : BiasTry). HasRun h (bias_drop_steps e c.class_of-class.result c.bias.inside.object) p q x) c.in-Took.is c.bias_drop.ensures.run) in
+    not_due h q e.task (next (Took c.in-Took.arg)) ran.heap (next_part h p q e.task d next (Took c.in-Took.arg) c.requires.due refl ran) refl
+
+pub returns-in-Unbiased : goal.returns-in-Unbiased
+returns-in-Unbiased c =
+    let a = c.args in
+    let h = a.heap.now in
+    let e = a.why.now in
+    let b = a.bias.now in
+    let p = a.pass.now in
+    let k = start_now h p in
+    let q = c.bias_drop.new.pass in
+    let ob : c.bias.inside.object ≡ b.object = ap (λ (r : Revocation). r.object) c.bias.view_is in
+    let class : c.class_of-class.result ≡ class_of h.heap.shape b.object = c.class_of-class.ensures.class ∙ (λ i. class_of (c.shape.ensures i) (ob i)) in
+    let d = bias_drop_steps e (class_of h.heap.shape b.object) b.object in
+    let next : BiasTry → Todo (Turn (Unit {0})) = λ tried. unbias_tried tried h.heap.shape e k b in
+    let ran = subst (λ (x : Todo BiasTry). HasRun h x p q (Unbiased c.in-Unbiased.mark)) (λ i. bias_drop_steps e (class i) (ob i)) (subst (λ (x : BiasTry). HasRun h (bias_drop_steps e c.class_of-class.result c.bias.inside.object) p q x) c.in-Unbiased.is c.bias_drop.ensures.run) in
+    in_turn h p q q d next (Unbiased c.in-Unbiased.mark) (Done tt) ran (ends h q (Done tt) ran.heap)
+
+pub returns-in-Raced : goal.returns-in-Raced
+returns-in-Raced c =
+    let a = c.args in
+    let h = a.heap.now in
+    let e = a.why.now in
+    let b = a.bias.now in
+    let p = a.pass.now in
+    let k = start_now h p in
+    let q = c.bias_drop.new.pass in
+    let ob : c.bias.inside.object ≡ b.object = ap (λ (r : Revocation). r.object) c.bias.view_is in
+    let class : c.class_of-class.result ≡ class_of h.heap.shape b.object = c.class_of-class.ensures.class ∙ (λ i. class_of (c.shape.ensures i) (ob i)) in
+    let d = bias_drop_steps e (class_of h.heap.shape b.object) b.object in
+    let next : BiasTry → Todo (Turn (Unit {0})) = λ tried. unbias_tried tried h.heap.shape e k b in
+    let ran = subst (λ (x : Todo BiasTry). HasRun h x p q (Raced c.in-Raced.expected c.in-Raced.found)) (λ i. bias_drop_steps e (class i) (ob i)) (subst (λ (x : BiasTry). HasRun h (bias_drop_steps e c.class_of-class.result c.bias.inside.object) p q x) c.in-Raced.is c.bias_drop.ensures.run) in
+    let out : Turn (Unit {0}) = Pending (why.Raced c.in-Raced.expected c.in-Raced.found) in
+    in_turn h p q q d next (Raced c.in-Raced.expected c.in-Raced.found) out ran (ends h q out ran.heap)
+
+pub returns-in-Valid : goal.returns-in-Valid
+returns-in-Valid c =
+    let a = c.args in
+    let h = a.heap.now in
+    let e = a.why.now in
+    let b = a.bias.now in
+    let p = a.pass.now in
+    let k = start_now h p in
+    let q = c.bias_drop.new.pass in
+    let ob : c.bias.inside.object ≡ b.object = ap (λ (r : Revocation). r.object) c.bias.view_is in
+    let class : c.class_of-class.result ≡ class_of h.heap.shape b.object = c.class_of-class.ensures.class ∙ (λ i. class_of (c.shape.ensures i) (ob i)) in
+    let d = bias_drop_steps e (class_of h.heap.shape b.object) b.object in
+    let next : BiasTry → Todo (Turn (Unit {0})) = λ tried. unbias_tried tried h.heap.shape e k b in
+    let ran = subst (λ (x : Todo BiasTry). HasRun h x p q (Valid c.in-Valid.mark)) (λ i. bias_drop_steps e (class i) (ob i)) (subst (λ (x : BiasTry). HasRun h (bias_drop_steps e c.class_of-class.result c.bias.inside.object) p q x) c.in-Valid.is c.bias_drop.ensures.run) in
+    let r = c.revoked.new.pass in
+    let thread : q.known.thread ≡ p.known.thread = ap (λ (x : Local). x.thread) (subst (λ (x : BiasTry). IsKeptUnlessTook x (local_of p.known) (local_of q.known)) c.in-Valid.is c.bias_drop.ensures.kept) in
+    let rest = subst (λ t. HasRun h (revoked_steps h.heap.shape t false e b) q r c.revoked.result) thread c.revoked.ensures in
+    in_turn h p q r d next (Valid c.in-Valid.mark) c.revoked.result ran rest
