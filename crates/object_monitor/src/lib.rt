@@ -15,9 +15,11 @@
 mod enters;
 mod exits;
 mod inflates;
+mod notifies;
 mod waits;
 
 pub use enters::monitor_enter;
 pub use exits::monitor_exit;
 pub use inflates::inflate;
+pub use notifies::{monitor_notify, monitor_notify_all};
 pub use waits::{monitor_resume, monitor_wait, publish};
