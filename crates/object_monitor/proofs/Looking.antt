@@ -10,7 +10,8 @@ use Rattle.heap_table.specs.Parts.{IsDueOn, HasRun}
 use Rattle.heap_table.specs.Seen.{HeapSeen, PassSeen, IsOf}
 use Rattle.heap_table.specs.Stepping.{CanStep, HasStepped}
 use Rattle.heap_table.proofs.Loops.{HasCome, nothing_yet, comes_on, comes_as, each_next, bind_done}
-use Rattle.heap_table.proofs.Parts.{can, rest_due, last_step, ends}
+use Rattle.heap_table.proofs.Aside.{AreAside, StartsAlike, aside, each_aside}
+use Rattle.heap_table.proofs.Parts.{can, rest_due, last_step, ends, part_then}
 
 -- The first i words were looked at, and so many are left.
 abbrev pub looks_left : Purpose → ℕ → ℕ → List ℕ → Todo (List ℕ)
@@ -88,3 +89,16 @@ module _ (h : HeapSeen) (e : Purpose) (o : PassSeen) (n : ℕ) where
       let nothing : looks_left e i l.left words ≡ done (take n words) =
       ap (λ k. looks_left e i k words) (none_left l.left i l.count end) ∙ (λ j. done (append-nil (take (end j) words) j)) in
       l.come.through p (take n words) (subst (λ d. HasRun h d p p (take n words)) (sym nothing) (ends h p (take n words) l.heap))
+
+-- behind the look, what comes then is due, and the thread stands as before
+look_aside : (e : Purpose) (n : ℕ) → AreAside (look_steps e n)
+look_aside e n = each_aside 0 n (λ t. ask (load e (Waiting t))) (λ j. (record { quiet = refl; words = refl; keeps = refl }, λ x. tt))
+
+pub looks_aside : (h : HeapSeen) (p q : PassSeen) (e : Purpose) (n : ℕ) (words : List ℕ) → HasRun h (look_steps e n) p q words → StartsAlike p.known q.known
+looks_aside h p q e n words run = aside h (look_steps e n) p q words (look_aside e n) run
+
+pub look_then : {B : Type 0} (h : HeapSeen) (p q : PassSeen) (e : Purpose) (n : ℕ) (g : List ℕ → Todo B) (words : List ℕ) → p.known.thread < n
+    → IsDueOn h p e.task (look_steps e n >>= g) → HasRun h (look_steps e n) p q words → IsDueOn h q e.task (g words)
+look_then h p q e zero g words within due run = absurd (omega (arith, within))
+look_then h p q e (suc m) g words within due run =
+    part_then h p q e.task (load e (Waiting 0)) (λ x. each_from 1 m (λ t. ask (load e (Waiting t))) >>= (λ others. done (x ∷ others))) g words due refl run
