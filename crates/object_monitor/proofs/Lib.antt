@@ -6,3 +6,4 @@ mod OwningSteps
 mod RecursionRoom
 mod Resuming
 mod Looking
+mod Waking
