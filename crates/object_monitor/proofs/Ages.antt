@@ -1,5 +1,5 @@
 -- The waiters by their age: who is the first of them, and who is left without it.
-use Rattle.std.proofs.Common.{◌≡◌, ℕ, zero, suc, ◌+◌, ◌<◌, ◌≤◌, Bool, true, false, cond, List, [], ◌∷◌, length, take, drop, set, get_or, Option, Some, None, refl, sym, ap, ◌∙◌, arith, length-take, drop-cons, get_or-take}
+use Rattle.std.proofs.Common.{◌≡◌, ℕ, suc, ◌+◌, ◌<◌, ◌≤◌, Bool, true, false, cond, List, [], ◌∷◌, length, take, drop, set, get_or, Option, Some, None, refl, sym, ap, ◌∙◌, arith, length-take, drop-cons, get_or-take}
 use Rattle.std.proofs.Math.Seq.{take-set-lt}
 use Rattle.mark_word.specs.declared.wait.WaitForm.{WaitForm}
 use Rattle.mark_word.specs.declared.wait.WaitForm.TheVariants.{Ready}
@@ -155,6 +155,3 @@ pub first_and_others : (ps : List (ℕ × ℕ)) (p : ℕ × ℕ) → first_of ps
 first_and_others [] p e = absurd (cc e)
 first_and_others (q ∷ qs) p e = ap (λ (x : Option (ℕ × ℕ)). one_or p x ∷ qs) e
 
-pub none_first : (ps : List (ℕ × ℕ)) → first_of ps ≡ None → ps ≡ []
-none_first [] e = refl
-none_first (q ∷ qs) e = absurd (cc e)

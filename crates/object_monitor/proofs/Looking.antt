@@ -2,7 +2,6 @@
 use Rattle.std.proofs.Common.{◌≡◌, ℕ, zero, suc, ◌+◌, ◌<◌, List, [], ◌∷◌, ◌++◌, length, take, set, refl, sym, ap, ◌∙◌, subst, arith, append_assoc, append-nil}
 use Rattle.std.proofs.lemmas.List.{take_more_set}
 use Rattle.core_world.specs.declared.name.Name.TheVariants.{Waiting}
-use Rattle.core_world.specs.declared.plan.StepPlan.{StepPlan}
 use Rattle.core_world.specs.Trees.Plans.{Purpose, load}
 use Rattle.core_world.specs.Trees.Todo.{Todo, done, ◌>>=◌, ask, each_from}
 use Rattle.core_world.specs.Trees.WaitSteps.{look_steps}

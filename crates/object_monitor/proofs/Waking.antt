@@ -1,5 +1,5 @@
 -- The steps behind the look at the waiting words, by who waits, and how far the notifies of all have come.
-use Rattle.std.proofs.Common.{◌≡◌, ℕ, suc, ◌+◌, ◌<◌, ◌≤◌, List, [], ◌∷◌, length, take, set, Option, Some, None, refl, sym, ap, ◌∙◌, subst, arith, length-take}
+use Rattle.std.proofs.Common.{◌≡◌, ℕ, suc, ◌+◌, ◌<◌, ◌≤◌, List, [], ◌∷◌, length, take, set, Some, None, refl, sym, ap, ◌∙◌, subst, arith, length-take}
 use Rattle.mark_word.specs.declared.wait.WaitForm.TheVariants as wait
 use Rattle.mark_word.specs.Wait.{wait_of}
 use Rattle.plain_monitor.specs.declared.entry.Entry.TheVariants as entry
@@ -17,7 +17,7 @@ use Rattle.heap_table.specs.Stepping.{CanStep, HasStepped}
 use Rattle.heap_table.proofs.Loops.{HasCome, nothing_yet, comes_on, comes_as}
 use Rattle.heap_table.proofs.Parts.{can, rest_due, last_step}
 use Rattle.object_monitor.specs.NotifyParts.{first_of, notify_one, notify_those}
-use Rattle.object_monitor.proofs.Ages.{few_waiters, taken_of, first_and_others, others_than_first, none_first}
+use Rattle.object_monitor.proofs.Ages.{few_waiters, taken_of, first_and_others, others_than_first}
 
 -- THE TREES, by the oldest waiter
 pub first_notified : (ps : List (ℕ × ℕ)) (e : Purpose) (k : Local) (o : ℕ) → notify_first ps e k o ≡ notify_one (first_of ps) e k o
@@ -182,3 +182,14 @@ module _ (h : HeapSeen) (e : Purpose) (d : Todo ℕ) (from p : PassSeen) (o n to
         let s : HasStepped h p q last_plan x = subst (λ (y : StepPlan). HasStepped h p q y x) as_logged logged in
         let run : HasRun h (ask last_plan >>= at_end) p q total = last_step h p q last_plan at_end x total s refl refl in
         subst (λ m. HasRun h d from q m) all_woken (come_at_last.through q total run)
+
+pub fewer : (o n : ℕ) (words : List ℕ) (p : ℕ × ℕ) → n ≤ length words → first_of (waiting o n words) ≡ Some p
+    → length (waiting o n (set words p.0 0)) < length (waiting o n words)
+fewer o n words p fits some = let less = one_less o n words p fits some in omega (arith, less.1)
+
+pub nobody : (o n : ℕ) (words : List ℕ) → ((t since : ℕ) → first_of (waiting o n words) ≡ Some (t, since) → ⊥) → waiting o n words ≡ []
+nobody o n words none = nobody_in (waiting o n words) none
+  where
+    nobody_in : (ps : List (ℕ × ℕ)) → ((t since : ℕ) → first_of ps ≡ Some (t, since) → ⊥) → ps ≡ []
+    nobody_in [] none = refl
+    nobody_in (p ∷ ps) none = absurd (none p.0 p.1 refl)

@@ -1,4 +1,4 @@
-use Rattle.std.proofs.Common.{◌≡◌, ◌≤◌, length, refl, ap, ◌∙◌, arith, length-set}
+use Rattle.std.proofs.Common.{◌≡◌, ◌≤◌, refl, ap, ◌∙◌, arith, length-set}
 use Rattle.core_world.specs.Words.Shape.{Shape}
 use Rattle.object_monitor.proofs.Looking.{none_looked, can_look, looked_on, all_looked}
 use Rattle.object_monitor.proofs.notifies.look.Goals as goal

@@ -1,4 +1,4 @@
-use Rattle.std.proofs.Common.{◌≡◌, ℕ, List, Some, None, length, take, sym, ap, ◌∙◌, subst}
+use Rattle.std.proofs.Common.{◌≡◌, ℕ, List, Some, None, take, sym, ap, ◌∙◌, subst}
 use Rattle.plain_monitor.specs.declared.entry.Entry.TheVariants as entry
 use Rattle.core_world.specs.Threads.Known.{Local, local_of}
 use Rattle.core_world.specs.Trees.Todo.{Todo, done}
@@ -8,7 +8,7 @@ use Rattle.core_world.proofs.CallRests.{part_due}
 use Rattle.heap_table.specs.Parts.{IsDueOn, HasRun}
 use Rattle.heap_table.proofs.Aside.{room_aside}
 use Rattle.heap_table.proofs.Parts.{in_turn, ends}
-use Rattle.object_monitor.specs.NotifyParts.{first_of, notify_those}
+use Rattle.object_monitor.specs.NotifyParts.{first_of}
 use Rattle.object_monitor.proofs.Looking.{looks_aside, look_then}
 use Rattle.object_monitor.proofs.Waking.{some_listed, none_listed, none_to_notify, waiting}
 use Rattle.object_monitor.proofs.notifies.monitor_notify_all.Goals as goal

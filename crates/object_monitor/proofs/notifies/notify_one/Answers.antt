@@ -1,6 +1,4 @@
-use Rattle.std.proofs.Common.{◌≡◌, ℕ, ◌+◌, length, Option, Some, None, refl, sym, ap, ◌∙◌, subst, arith}
-use Rattle.mark_word.specs.declared.wait.WaitForm.TheVariants as wait
-use Rattle.mark_word.specs.Wait.{wait_of}
+use Rattle.std.proofs.Common.{◌≡◌, ℕ, Option, Some, None, refl, sym, ap, subst}
 use Rattle.plain_monitor.specs.declared.entry.Entry.TheVariants as entry
 use Rattle.core_world.specs.declared.name.Name.TheVariants.{Waiting}
 use Rattle.core_world.specs.declared.plan.StepPlan.{StepPlan}

@@ -1,4 +1,4 @@
-use Rattle.std.proofs.Common.{rules, ◌≡◌, ℕ, ◌+◌, ◌-◌, ◌<◌, ◌≤◌, length, take, drop, get_or, sym, ap, ◌∙◌, arith}
+use Rattle.std.proofs.Common.{rules, ◌≡◌, ℕ, ◌+◌, ◌-◌, length, take, drop, get_or, sym, ap, ◌∙◌, arith}
 use Rattle.core_world.specs.Trees.WaitSteps.{waiters, by_age}
 use Rattle.object_monitor.specs.NotifyParts.{first_of, oldest_with}
 use Rattle.object_monitor.proofs.Ages.{one_down}
