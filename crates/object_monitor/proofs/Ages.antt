@@ -143,7 +143,7 @@ taken_of o n words p ps fits e =
     record {
       within = within;
       left = ap (λ (l : List ℕ). by_age (waiters o 0 l)) (take-set-lt n words p.0 0 within)
-        ∙ ap (λ (i : ℕ). by_age (waiters o 0 (set (take n words) i 0))) is ∙ r.left;
+          ∙ ap (λ (i : ℕ). by_age (waiters o 0 (set (take n words) i 0))) is ∙ r.left;
     }
 
 abbrev one_or : ℕ × ℕ → Option (ℕ × ℕ) → ℕ × ℕ
@@ -154,4 +154,3 @@ one_or p (Some x) = x
 pub first_and_others : (ps : List (ℕ × ℕ)) (p : ℕ × ℕ) → first_of ps ≡ Some p → ps ≡ p ∷ others_than_first ps
 first_and_others [] p e = absurd (cc e)
 first_and_others (q ∷ qs) p e = ap (λ (x : Option (ℕ × ℕ)). one_or p x ∷ qs) e
-

@@ -75,8 +75,8 @@ module _ (h : HeapSeen) (e : Purpose) (o : PassSeen) (n : ℕ) where
           heap = s.heap;
           due = subst (λ d. IsDueOn h q e.task d) goes (rest_due h p e.task (load e (Waiting i)) (behind i more.0 words) due_now refl q x s);
           come = comes_as h (look_steps e n) o (behind i more.0 words x) (looks_left e (i + 1) more.0 (set words i x)) q goes
-            (comes_on h (look_steps e n) o (ask (load e (Waiting i))) (behind i more.0 words) p q x
-            (comes_as h (look_steps e n) o (looks_left e i l.left words) (ask (load e (Waiting i)) >>= behind i more.0 words) p same l.come) run);
+              (comes_on h (look_steps e n) o (ask (load e (Waiting i))) (behind i more.0 words) p q x
+              (comes_as h (look_steps e n) o (looks_left e i l.left words) (ask (load e (Waiting i)) >>= behind i more.0 words) p same l.come) run);
         }
 
   none_left : (left i : ℕ) → i + left ≡ n → i ≡ n → left ≡ 0

@@ -141,7 +141,7 @@ module _ (h : HeapSeen) (e : Purpose) (d : Todo ℕ) (from p : PassSeen) (o n to
           room = omega (arith, logs, limit, room);
           due = subst (λ y. IsDueOn h q e.task y) goes (rest_due h p e.task waking_plan behind due_now refl q x s);
           come = comes_as h d from (behind x) (wakes_left e o total (w.before + 1) next (waiting o n (set words next.0 0))) q goes
-            (comes_on h d from (ask waking_plan) behind p q x come_now run);
+              (comes_on h d from (ask waking_plan) behind p q x come_now run);
         }
 
   pub can_wake : (next : ℕ × ℕ) → first_of left ≡ Some next → CanStep h p (store_plan e (Notifies o woken) (Waiting thread) word)

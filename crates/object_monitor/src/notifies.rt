@@ -1,7 +1,7 @@
 //! How a thread that owns a monitor notifies those that wait on it, of whom the one that has waited longest comes first.
 ghost use Rattle.std.specs.Prelude.{◌≡◌, ◌<◌, ◌≤◌, length, take, Some};
 ghost use Rattle.core_world.specs.Threads.Known.{local_of};
-ghost use Rattle.core_world.specs.Trees.WaitSteps.{look_steps, waiters, by_age, notify_listed};
+ghost use Rattle.core_world.specs.Trees.WaitSteps.{look_steps, waiters, by_age};
 ghost use Rattle.core_world.specs.Trees.WaitSteps.{monitor_notify_steps, monitor_notify_all_steps};
 ghost use Rattle.heap_table.specs.Parts.{IsDueOn, HasRun};
 ghost use Rattle.heap_table.specs.Seen.{IsOf};
@@ -94,12 +94,14 @@ fn notify_one(
             let word = encode_wait(&WaitForm::Notified { object });
             let woken = Some(thread);
             let at = Name::Waiting { thread };
-            heap.log_store(pass, why, Stage::Calm, at, word, Entry::Notify { object, woken });
+            let entry = Entry::Notify { object, woken };
+            heap.log_store(pass, why, Stage::Calm, at, word, entry);
             woken
         }
         None => {
-            publish(heap, pass, why, Entry::Notify { object, woken: None });
-            None
+            let woken = None;
+            publish(heap, pass, why, Entry::Notify { object, woken });
+            woken
         }
     }
 }
@@ -150,14 +152,18 @@ fn notify_those(
     let mut woken = 1;
     words[thread as usize] = 0;
     while let Some((next, _)) = oldest(&words, count, object) {
-        let stage = Stage::Notifies { object, notified: woken };
+        let stage = Stage::Notifies {
+            object,
+            notified: woken,
+        };
         heap.store(pass, why, stage, Name::Waiting { thread }, word);
         words[next as usize] = 0;
         thread = next;
         woken += 1;
     }
     let at = Name::Waiting { thread };
-    heap.log_store(pass, why, Stage::Calm, at, word, Entry::NotifyAll { object, woken });
+    let entry = Entry::NotifyAll { object, woken };
+    heap.log_store(pass, why, Stage::Calm, at, word, entry);
     woken
 }
 

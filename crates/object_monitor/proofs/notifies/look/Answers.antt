@@ -19,10 +19,11 @@ loop-thread-preserved c =
     let l = c.loop-thread in
     let all : c.threads-thread-end.result ≡ h.heap.shape.threads = c.threads-thread-end.ensures.same ∙ ap (λ (s : Shape). s.threads) c.shape.ensures in
     let few : c.threads-thread-end.result ≤ 16 = omega (arith, c.threads-thread-end.ensures.same, c.threads-thread-end.ensures.limits.threads) in
-    let sixteen = l.invariant.1 in
-    (looked_on h c.args.why.now c.args.pass.now h.heap.shape.threads l.pass l.thread l.words l.invariant.0 (omega (arith, all, c.loop-thread-test.true))
-    c.load.new.pass c.load.result c.load.ensures (omega (arith, sixteen, few, c.loop-thread-test.true)),
-    length-set l.words l.thread c.load.result ∙ sixteen)
+    let sixteen = l.invariant.1 in (
+      looked_on h c.args.why.now c.args.pass.now h.heap.shape.threads l.pass l.thread l.words l.invariant.0 (omega (arith, all, c.loop-thread-test.true))
+          c.load.new.pass c.load.result c.load.ensures (omega (arith, sixteen, few, c.loop-thread-test.true)),
+      length-set l.words l.thread c.load.result ∙ sixteen,
+    )
 
 pub returns : goal.returns
 returns c =

@@ -22,9 +22,10 @@ loop-next-init c =
     let n = h.heap.shape.threads in
     let all : c.threads-count.result ≡ n = c.threads-count.ensures.same ∙ ap (λ (s : Shape). s.threads) c.shape.ensures in
     let few : n ≤ 16 = omega (arith, all, c.threads-count.ensures.same, c.threads-count.ensures.limits.threads) in
-    let sixteen : length a.words ≡ 16 = search rules in
-    (first_on_its_way h a.why.now a.pass.now a.object n a.words a.first (omega (arith, few, sixteen)) c.requires.first c.requires.heap c.requires.room c.requires.due,
-    length-set a.words a.first.0 0 ∙ sixteen)
+    let sixteen : length a.words ≡ 16 = search rules in (
+      first_on_its_way h a.why.now a.pass.now a.object n a.words a.first (omega (arith, few, sixteen)) c.requires.first c.requires.heap c.requires.room c.requires.due,
+      length-set a.words a.first.0 0 ∙ sixteen,
+    )
 
 pub store-requires : goal.store-requires
 store-requires c =
@@ -87,10 +88,11 @@ loop-next-preserved c =
     let few : n ≤ 16 = omega (arith, all, c.threads-count.ensures.same, c.threads-count.ensures.limits.threads) in
     let some : first_of (waiting a.object n l.words) ≡ Some (c.in-Some.next, c.in-Some.field-0-1) =
     sym (c.oldest.ensures ∙ ap (λ m. first_of (waiting a.object m l.words)) all) ∙ c.in-Some.is in
-    let sixteen = l.invariant.1 in
-    (woken_on h a.why.now _ a.pass.now l.pass a.object n _ l.words l.thread l.woken c.encode_wait-word.result l.invariant.0 c.encode_wait-word.ensures
-    (c.in-Some.next, c.in-Some.field-0-1) some c.store.new.pass c.store.result c.store.ensures (omega (arith, few, sixteen)),
-    length-set l.words c.in-Some.next 0 ∙ sixteen)
+    let sixteen = l.invariant.1 in (
+      woken_on h a.why.now _ a.pass.now l.pass a.object n _ l.words l.thread l.woken c.encode_wait-word.result l.invariant.0 c.encode_wait-word.ensures
+          (c.in-Some.next, c.in-Some.field-0-1) some c.store.new.pass c.store.result c.store.ensures (omega (arith, few, sixteen)),
+      length-set l.words c.in-Some.next 0 ∙ sixteen,
+    )
 
 pub log_store-requires : goal.log_store-requires
 log_store-requires c =

@@ -14,6 +14,8 @@ loop-left-preserved c =
     let sixteen : length words ≡ 16 = search rules in
     let next : c.loop-left.left ≡ i + 1 = omega (arith, c.loop-left-test.true) in
     let before : c.loop-left.oldest ≡ first_of (by_age (waiters o (i + 1) (drop (i + 1) (take n words)))) =
-    inv.1 ∙ ap (λ (k : ℕ). first_of (by_age (waiters o k (drop k (take n words))))) next in
-    (omega (arith, inv.0), c.with_word-oldest.ensures ∙ ap (oldest_with o i (get_or words i 0)) before
-    ∙ sym (one_down o n i words (omega (arith, sixteen, c.requires)) (omega (arith, next, inv.0))))
+    inv.1 ∙ ap (λ (k : ℕ). first_of (by_age (waiters o k (drop k (take n words))))) next in (
+      omega (arith, inv.0),
+      c.with_word-oldest.ensures ∙ ap (oldest_with o i (get_or words i 0)) before
+          ∙ sym (one_down o n i words (omega (arith, sixteen, c.requires)) (omega (arith, next, inv.0))),
+    )
