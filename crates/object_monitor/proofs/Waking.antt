@@ -48,7 +48,7 @@ few_waiting o n words fits =
     let all : length (take n words) ≡ n = length-take n words ∙ omega (arith, fits) in
     omega (arith, few, all)
 
--- of two and more, the first has one more than are left without it
+-- the first is one of the first n threads, and without it there is one waiter fewer
 pub one_less : (o n : ℕ) (words : List ℕ) (p : ℕ × ℕ) → n ≤ length words → first_of (waiting o n words) ≡ Some p
     → (p.0 < n) × (length (waiting o n words) ≡ suc (length (waiting o n (set words p.0 0))))
 one_less o n words p fits some =

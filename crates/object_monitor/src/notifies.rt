@@ -1,4 +1,4 @@
-//! How a thread that owns a monitor notifies those that wait on it, of whom the one that has waited longest comes first.
+//! How a thread that owns a monitor notifies those that wait on it: the one that has waited longest comes first.
 ghost use Rattle.std.specs.Prelude.{◌≡◌, ◌<◌, ◌≤◌, length, take, Some};
 ghost use Rattle.core_world.specs.Threads.Known.{local_of};
 ghost use Rattle.core_world.specs.Trees.WaitSteps.{look_steps, waiters, by_age};
@@ -126,7 +126,8 @@ pub fn monitor_notify(heap: &Heap, pass: &mut Pass, why: &Purpose, object: u32) 
     notify_one(heap, pass, why, object, waiter)
 }
 
-// Notifies each waiter, of whom `first` is the oldest. It stands in `words` no more once it is on its way.
+// Notifies each waiter by these waiting words, of whom `first` is the oldest. The word of one who is next to be notified
+// becomes 0 in `words`, which says Ready, so that the oldest of the others is found.
 fn notify_those(
     heap: &Heap,
     pass: &mut Pass,
@@ -167,8 +168,8 @@ fn notify_those(
     woken
 }
 
-/// Notifies each thread that waits on the object, the one that has waited longest first. The thread of the pass owns the
-/// object's monitor.
+/// Notifies each thread that waits on the object, the one that has waited longest first. The thread of the pass owns
+/// the object's monitor.
 ///
 /// The answer says how many there were: the waiting word of each says now that it was notified, and the NotifyAll of so
 /// many is logged.
