@@ -5,9 +5,9 @@
 //! that the mark had, and the object. The owner word of a free monitor is exchanged for the thread, and a thread that
 //! owns the monitor counts its recursions. Where a lock record of the thread was the owner, from before the lock was
 //! inflated, the thread takes its place. At the last exit the owner word is cleared. A thread that waits lets the
-//! monitor go at once, with all its recursions, and has them again at the end. A notify takes the thread that has waited
-//! longest, and a notify of all takes them in that order. Each hold by a monitor has a lock record, too, whose displaced
-//! word is 3.
+//! monitor go at once, with all its recursions, and has them again at the end. A notify takes the thread that has
+//! waited longest, and a notify of all takes them in that order. Each hold by a monitor has a lock record, too, whose
+//! displaced word is 3.
 //!
 //! Each function makes the steps of its tree in `core_world`, as they are due, on the words of a `heap_table` heap, and
 //! answers what the tree answers. None takes memory.

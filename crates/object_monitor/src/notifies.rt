@@ -126,8 +126,8 @@ pub fn monitor_notify(heap: &Heap, pass: &mut Pass, why: &Purpose, object: u32) 
     notify_one(heap, pass, why, object, waiter)
 }
 
-// Notifies each waiter by these waiting words, of whom `first` is the oldest. The word of one who is next to be notified
-// becomes 0 in `words`, which says Ready, so that the oldest of the others is found.
+// Notifies each waiter by these waiting words, of whom `first` is the oldest. The word of one who is next to be
+// notified becomes 0 in `words`, which says Ready, so that the oldest of the others is found.
 fn notify_those(
     heap: &Heap,
     pass: &mut Pass,
