@@ -1,2 +1,3 @@
 pub mod ExitParts
+pub mod NotifyParts
 pub mod WaitParts
