@@ -4,3 +4,9 @@
 //! of its tree in `core_world`, as they are due, on the words of a `heap_table` heap, and answers what the tree answers.
 //! None takes memory.
 #![tactic(auto)]
+
+mod revocation;
+mod revokes;
+mod steps;
+mod visit;
+mod words;

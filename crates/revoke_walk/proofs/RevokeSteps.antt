@@ -1,0 +1,66 @@
+-- The steps of a revocation: lists of stores, and of which call they are.
+use Rattle.std.proofs.Common.{◌≡◌, ℕ, ◌==◌, ◌++◌, Bool, true, false, cond, List, [], ◌∷◌, Option, Some, None, refl, sym, ap}
+use Rattle.mark_word.specs.declared.mark.MarkForm.{MarkForm}
+use Rattle.mark_word.specs.declared.mark.MarkForm.TheVariants.{Inflating, Neutral, Anonymous, Biased, Locked, Inflated, Marked}
+use Rattle.mark_word.specs.Hold.{read_hold}
+use Rattle.mark_word.specs.Mark.{mark_of, read_mark}
+use Rattle.core_world.specs.declared.name.Name.TheVariants.{Mark, Hold}
+use Rattle.core_world.specs.declared.plan.Own.TheVariants as own
+use Rattle.core_world.specs.RevocationRules.{Write, write, revoke_biased, with_epoch, store_where, object_held}
+use Rattle.core_world.specs.Threads.Stages.{Revocation}
+use Rattle.core_world.specs.Trees.Plans.{Purpose}
+use Rattle.core_world.specs.Trees.RevocationSteps.{look, revoke_plan, store_steps, revoke_at, revoke_steps, visit_held}
+use Rattle.core_world.specs.Trees.Todo.{Todo, done, never, step, ◌>>=◌, all_from, each_from}
+use Rattle.core_world.specs.Words.Forms.{is_biased}
+use Rattle.core_world.specs.Words.Shape.{Shape, class_of}
+use Rattle.revoke_walk.specs.declared.visit.Visit.{Visit}
+use Rattle.revoke_walk.specs.declared.visit.Visit.TheVariants.{Renew, Revoke}
+use Rattle.revoke_walk.specs.RevokeParts.{visit_form, visit_by, place_steps, thread_steps}
+use Rattle.revoke_walk.proofs.Behind.{AreOf, then_of, either_of, all_of, each_of}
+
+-- stores one after the other, in two parts
+pub two_stores : (e : Purpose) (b : Revocation) (xs ys : List Write) → store_steps e b (xs ++ ys) ≡ (store_steps e b xs >>= (λ u. store_steps e b ys))
+two_stores e b [] ys = refl
+two_stores e b (x ∷ xs) ys = λ i. step (revoke_plan e b own.Same x.at x.word) (λ n. two_stores e b xs ys i)
+
+-- ALL ARE OF the call for which they are made
+module _ (e : Purpose) (b : Revocation) where
+  pub stores_of : (xs : List Write) → AreOf e.task (store_steps e b xs)
+  stores_of [] = tt
+  stores_of (x ∷ xs) = (refl, λ n. stores_of xs)
+
+  pub holds_of : (t : ℕ) → AreOf e.task (each_from 0 64 (λ p. look e b (Hold t p)))
+  holds_of t = each_of e.task 0 64 (λ p. look e b (Hold t p)) (λ p. (refl, λ n. tt))
+
+  pub form_of : (f : Option MarkForm) (o : ℕ) (allowed : Bool) → AreOf e.task (revoke_at f e b o allowed)
+  form_of (Some (Anonymous epoch age)) o allowed = stores_of _
+  form_of (Some (Biased t epoch age)) o allowed =
+      then_of e.task (each_from 0 64 (λ p. look e b (Hold t p))) (λ holds. store_steps e b (revoke_biased o t allowed holds)) (holds_of t) (λ holds. stores_of _)
+  form_of None o allowed = tt
+  form_of (Some Inflating) o allowed = tt
+  form_of (Some (Neutral hash age)) o allowed = tt
+  form_of (Some (Locked t p)) o allowed = tt
+  form_of (Some (Inflated m)) o allowed = tt
+  form_of (Some Marked) o allowed = tt
+
+  pub revoke_of : (o : ℕ) (allowed : Bool) → AreOf e.task (revoke_steps e b o allowed)
+  revoke_of o allowed = (refl, λ mark. form_of (read_mark mark) o allowed)
+
+  pub visit_of : (v : Visit) (f : Option MarkForm) (o : ℕ) → AreOf e.task (visit_form v f e b o)
+  visit_of (Renew epoch) f o = stores_of _
+  visit_of Revoke f o = form_of f o false
+
+  pub held_of : (s : Shape) (c : ℕ) (v : Visit) (held : Option ℕ) → AreOf e.task (visit_held s c e b (visit_by v e b) held)
+  held_of s c v None = tt
+  held_of s c v (Some o) =
+      either_of e.task (class_of s o == c) (look e b (Mark o) >>= (λ mark. cond (is_biased mark) (visit_by v e b o mark) (done tt))) (done tt)
+      (refl, λ mark. either_of e.task (is_biased mark) (visit_by v e b o mark) (done tt) (visit_of v (read_mark mark) o) tt) tt
+
+  pub place_of : (s : Shape) (c : ℕ) (v : Visit) (t p : ℕ) → AreOf e.task (place_steps s c e b v t p)
+  place_of s c v t p = (refl, λ hold. held_of s c v (object_held (read_hold hold)))
+
+  pub thread_of : (s : Shape) (c : ℕ) (v : Visit) (t : ℕ) → AreOf e.task (thread_steps s c e b v t)
+  thread_of s c v t = all_of e.task 0 64 (λ p. place_steps s c e b v t p) (λ p. place_of s c v t p)
+
+  pub walk_of : (s : Shape) (c : ℕ) (v : Visit) → AreOf e.task (all_from 0 s.threads (λ t. thread_steps s c e b v t))
+  walk_of s c v = all_of e.task 0 s.threads (λ t. thread_steps s c e b v t) (λ t. thread_of s c v t)
