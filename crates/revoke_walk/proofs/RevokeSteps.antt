@@ -1,12 +1,14 @@
 -- The steps of a revocation: lists of stores, and of which call they are.
-use Rattle.std.proofs.Common.{◌≡◌, ℕ, ◌==◌, ◌++◌, Bool, true, false, cond, List, [], ◌∷◌, Option, Some, None, refl, sym, ap}
+use Rattle.std.proofs.Common.{◌≡◌, ℕ, ◌+◌, ◌<◌, ◌≤◌, ◌==◌, ◌++◌, Bool, true, false, cond, if◌then◌else◌, List, [], ◌∷◌, length, drop, get_or, Option, Some, None, refl, sym, ap, ◌∙◌}
+use Rattle.std.proofs.lemmas.List.{drop_more, drop_all}
 use Rattle.mark_word.specs.declared.mark.MarkForm.{MarkForm}
 use Rattle.mark_word.specs.declared.mark.MarkForm.TheVariants.{Inflating, Neutral, Anonymous, Biased, Locked, Inflated, Marked}
 use Rattle.mark_word.specs.Hold.{read_hold}
 use Rattle.mark_word.specs.Mark.{mark_of, read_mark}
 use Rattle.core_world.specs.declared.name.Name.TheVariants.{Mark, Hold}
 use Rattle.core_world.specs.declared.plan.Own.TheVariants as own
-use Rattle.core_world.specs.RevocationRules.{Write, write, revoke_biased, with_epoch, store_where, object_held}
+use Rattle.core_world.specs.Locks.{hold_count}
+use Rattle.core_world.specs.RevocationRules.{Write, write, record_writes, revoke_biased, with_epoch, store_where, object_held}
 use Rattle.core_world.specs.Threads.Stages.{Revocation}
 use Rattle.core_world.specs.Trees.Plans.{Purpose}
 use Rattle.core_world.specs.Trees.RevocationSteps.{look, revoke_plan, store_steps, revoke_at, revoke_steps, visit_held}
@@ -15,7 +17,7 @@ use Rattle.core_world.specs.Words.Forms.{is_biased}
 use Rattle.core_world.specs.Words.Shape.{Shape, class_of}
 use Rattle.revoke_walk.specs.declared.visit.Visit.{Visit}
 use Rattle.revoke_walk.specs.declared.visit.Visit.TheVariants.{Renew, Revoke}
-use Rattle.revoke_walk.specs.RevokeParts.{visit_form, visit_by, place_steps, thread_steps}
+use Rattle.revoke_walk.specs.RevokeParts.{mark_locked, record_write, record_steps, visit_form, visit_by, place_steps, thread_steps}
 use Rattle.revoke_walk.proofs.Behind.{AreOf, then_of, either_of, all_of, each_of}
 
 -- stores one after the other, in two parts
@@ -64,3 +66,33 @@ module _ (e : Purpose) (b : Revocation) where
 
   pub walk_of : (s : Shape) (c : ℕ) (v : Visit) → AreOf e.task (all_from 0 s.threads (λ t. thread_steps s c e b v t))
   walk_of s c v = all_of e.task 0 s.threads (λ t. thread_steps s c e b v t) (λ t. thread_of s c v t)
+
+-- THE RECORDS of o: those of the thread's hold words from place i on, and then other stores
+append_writes : (xs ys zs : List Write) → ((xs ++ ys) ++ zs) ≡ (xs ++ (ys ++ zs))
+append_writes [] ys zs = refl
+append_writes (x ∷ xs) ys zs = ap (λ (l : List Write). x ∷ l) (append_writes xs ys zs)
+
+abbrev pub records_left : Purpose → Revocation → ℕ → ℕ → List ℕ → List Write → ℕ → Todo (Unit {0})
+records_left e b o t hs ys i = store_steps e b (record_writes o t i (drop i hs) ++ ys)
+
+pub record_first : (e : Purpose) (b : Revocation) (o t : ℕ) (hs : List ℕ) (ys : List Write) (i : ℕ) → i < length hs
+    → records_left e b o t hs ys i ≡ (record_steps e b o t i (get_or hs i 0) >>= (λ u. records_left e b o t hs ys (i + 1)))
+record_first e b o t hs ys i less =
+    let first = record_write o t i (get_or hs i 0) in
+    let others = record_writes o t (i + 1) (drop (i + 1) hs) in
+    ap (λ (l : List ℕ). store_steps e b (record_writes o t i l ++ ys)) (drop_more hs i 0 less)
+    ∙ ap (store_steps e b) (append_writes first others ys)
+    ∙ two_stores e b first (others ++ ys)
+
+pub records_none : (e : Purpose) (b : Revocation) (o t : ℕ) (hs : List ℕ) (ys : List Write) (i : ℕ) → length hs ≤ i → records_left e b o t hs ys i ≡ store_steps e b ys
+records_none e b o t hs ys i all = ap (λ (l : List ℕ). store_steps e b (record_writes o t i l ++ ys)) (drop_all i hs all)
+
+-- by whether the thread has a hold of o
+pub unheld_writes : (o t : ℕ) (allowed : Bool) (hs : List ℕ) → (hold_count o hs == 0) ≡ true
+    → revoke_biased o t allowed hs ≡ (write (Mark o) (mark_of (if allowed then Anonymous 0 0 else Neutral 0 0)) ∷ [])
+unheld_writes o t allowed hs e =
+    ap (λ (c : Bool). if c then write (Mark o) (mark_of (if allowed then Anonymous 0 0 else Neutral 0 0)) ∷ [] else record_writes o t 0 hs ++ mark_locked o t hs) e
+
+pub held_writes : (o t : ℕ) (allowed : Bool) (hs : List ℕ) → (hold_count o hs == 0) ≡ false → revoke_biased o t allowed hs ≡ (record_writes o t 0 hs ++ mark_locked o t hs)
+held_writes o t allowed hs e =
+    ap (λ (c : Bool). if c then write (Mark o) (mark_of (if allowed then Anonymous 0 0 else Neutral 0 0)) ∷ [] else record_writes o t 0 hs ++ mark_locked o t hs) e
