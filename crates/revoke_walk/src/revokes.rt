@@ -10,7 +10,7 @@ ghost use Rattle.revoke_walk.specs.RevokeParts.{holds_steps, record_steps, locke
 
 use crate::revocation::Revocation;
 use crate::steps::{look, store_one};
-use crate::words::{first_place, held_of, names};
+use crate::words::{first_place, free_mark, held_of, names};
 use core_world::Name;
 use heap_table::{Heap, Pass, Purpose, mark_of_word};
 use mark_word::{HoldForm, MarkForm, encode, encode_hold};
@@ -116,7 +116,7 @@ fn revoke_biased(
 {
     let holds = load_holds(heap, pass, why, revocation, thread);
     if held_of(&holds, object) == 0 {
-        let mark = if allowed { 0b101 } else { 0b001 };
+        let mark = free_mark(allowed);
         store_one(heap, pass, why, revocation, Name::Mark { object }, mark);
         return;
     }

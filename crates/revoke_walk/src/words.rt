@@ -1,5 +1,7 @@
 //! What words of a revocation say.
-ghost use Rattle.std.specs.Prelude.{◌≡◌, ◌≤◌, ◌<◌, ◌^◌, ◌==◌, length};
+ghost use Rattle.std.specs.Prelude.{◌≡◌, ◌≤◌, ◌<◌, ◌^◌, ◌==◌, if◌then◌else◌, length};
+ghost use Rattle.mark_word.specs.declared.mark.MarkForm.TheVariants.{Neutral, Anonymous};
+ghost use Rattle.mark_word.specs.Mark.{mark_of};
 ghost use Rattle.mark_word.specs.Hold.{read_hold};
 ghost use Rattle.core_world.specs.Words.Forms.{epoch_in, names};
 ghost use Rattle.core_world.specs.Locks.{hold_count};
@@ -82,4 +84,12 @@ pub fn first_place(holds: &[u64; 64], object: u32) -> u32
         }
     }
     64
+}
+
+/// The mark of an object that nobody has, behind the revocation of its bias: biased to nobody where a new bias is
+/// allowed, and else neutral.
+pub fn free_mark(allowed: bool) -> u64
+    ensures { result ≡ mark_of (if allowed then Anonymous 0 0 else Neutral 0 0) }
+{
+    if allowed { 0b101 } else { 0b001 }
 }

@@ -21,3 +21,61 @@ load_holds-holds-requires-clause-due c =
     let e = a.why.now in
     let b = a.revocation.now in
     part_due h.heap.shape h.heap.start h.heap.biasing a.pass.now.known e.task (holds_steps e b a.thread) (λ holds. store_steps e b (revoke_biased a.object a.thread a.allowed holds)) c.requires.due
+
+pub store_one-requires-clause-due : goal.store_one-requires-clause-due
+store_one-requires-clause-due c =
+    let a = c.args in
+    let h = a.heap.now in
+    let e = a.why.now in
+    let b = a.revocation.now in
+    let hs = c.load_holds-holds.result in
+    let q = c.load_holds-holds.new.pass in
+    let g : List ℕ → Todo (Unit {0}) = λ holds. store_steps e b (revoke_biased a.object a.thread a.allowed holds) in
+    let due = after_part h a.pass.now q e.task (holds_steps e b a.thread) g hs c.requires.due (holds_of e b a.thread) c.load_holds-holds.ensures in
+    let none : (hold_count a.object hs == 0) ≡ true = eq-eqb _ _ (sym c.held_of.ensures.held ∙ c.if-held_of-eq0.true) in
+    let writes = unheld_writes a.object a.thread a.allowed hs none in
+    subst (λ (w : ℕ). IsDueOn h q e.task (store_steps e b (write (Mark a.object) w ∷ []))) (sym c.free_mark-mark.ensures)
+    (subst (λ (xs : List Write). IsDueOn h q e.task (store_steps e b xs)) writes due)
+
+pub returns-then-held_of-eq0 : goal.returns-then-held_of-eq0
+returns-then-held_of-eq0 c =
+    let a = c.args in
+    let h = a.heap.now in
+    let e = a.why.now in
+    let b = a.revocation.now in
+    let hs = c.load_holds-holds.result in
+    let q = c.load_holds-holds.new.pass in
+    let r = c.store_one.new.pass in
+    let g : List ℕ → Todo (Unit {0}) = λ holds. store_steps e b (revoke_biased a.object a.thread a.allowed holds) in
+    let none : (hold_count a.object hs == 0) ≡ true = eq-eqb _ _ (sym c.held_of.ensures.held ∙ c.if-held_of-eq0.true) in
+    let writes = unheld_writes a.object a.thread a.allowed hs none in
+    let run = subst (λ (w : ℕ). HasRun h (store_steps e b (write (Mark a.object) w ∷ [])) q r tt) c.free_mark-mark.ensures c.store_one.ensures in
+    in_turn h a.pass.now q r (holds_steps e b a.thread) g hs tt c.load_holds-holds.ensures
+    (subst (λ (xs : List Write). HasRun h (store_steps e b xs) q r tt) (sym writes) run)
+
+pub lock-requires-clause-due : goal.lock-requires-clause-due
+lock-requires-clause-due c =
+    let a = c.args in
+    let h = a.heap.now in
+    let e = a.why.now in
+    let b = a.revocation.now in
+    let hs = c.load_holds-holds.result in
+    let q = c.load_holds-holds.new.pass in
+    let g : List ℕ → Todo (Unit {0}) = λ holds. store_steps e b (revoke_biased a.object a.thread a.allowed holds) in
+    let due = after_part h a.pass.now q e.task (holds_steps e b a.thread) g hs c.requires.due (holds_of e b a.thread) c.load_holds-holds.ensures in
+    let some : (hold_count a.object hs == 0) ≡ false = ne_eqb _ _ (λ zero. c.if-held_of-eq0.false (c.held_of.ensures.held ∙ zero)) in
+    subst (λ (xs : List Write). IsDueOn h q e.task (store_steps e b xs)) (held_writes a.object a.thread a.allowed hs some) due
+
+pub returns : goal.returns
+returns c =
+    let a = c.args in
+    let h = a.heap.now in
+    let e = a.why.now in
+    let b = a.revocation.now in
+    let hs = c.load_holds-holds.result in
+    let q = c.load_holds-holds.new.pass in
+    let r = c.lock.new.pass in
+    let g : List ℕ → Todo (Unit {0}) = λ holds. store_steps e b (revoke_biased a.object a.thread a.allowed holds) in
+    let some : (hold_count a.object hs == 0) ≡ false = ne_eqb _ _ (λ zero. c.if-held_of-eq0.false (c.held_of.ensures.held ∙ zero)) in
+    in_turn h a.pass.now q r (holds_steps e b a.thread) g hs tt c.load_holds-holds.ensures
+    (subst (λ (xs : List Write). HasRun h (store_steps e b xs) q r tt) (sym (held_writes a.object a.thread a.allowed hs some)) c.lock.ensures)
