@@ -13,7 +13,7 @@ use Rattle.core_world.specs.Threads.Stages.{Revocation}
 use Rattle.core_world.specs.Trees.Plans.{Purpose}
 use Rattle.core_world.specs.Trees.RevocationSteps.{look, revoke_plan, store_steps, revoke_at, revoke_steps, visit_held}
 use Rattle.core_world.specs.Trees.Todo.{Todo, done, never, step, ◌>>=◌, all_from, each_from}
-use Rattle.core_world.specs.Words.Forms.{is_biased}
+use Rattle.core_world.specs.Words.Forms.{is_biased, is_biased_form}
 use Rattle.core_world.specs.Words.Shape.{Shape, class_of}
 use Rattle.revoke_walk.specs.declared.visit.Visit.{Visit}
 use Rattle.revoke_walk.specs.declared.visit.Visit.TheVariants.{Renew, Revoke}
@@ -96,3 +96,24 @@ unheld_writes o t allowed hs e =
 pub held_writes : (o t : ℕ) (allowed : Bool) (hs : List ℕ) → (hold_count o hs == 0) ≡ false → revoke_biased o t allowed hs ≡ (record_writes o t 0 hs ++ mark_locked o t hs)
 held_writes o t allowed hs e =
     ap (λ (c : Bool). if c then write (Mark o) (mark_of (if allowed then Anonymous 0 0 else Neutral 0 0)) ∷ [] else record_writes o t 0 hs ++ mark_locked o t hs) e
+
+-- WHERE A MARK ISN'T BIASED nothing is done with it, so that no test is needed
+pub biased_or_not : (v : Visit) (f : Option MarkForm) (e : Purpose) (b : Revocation) (o : ℕ) → (if is_biased_form f then visit_form v f e b o else done tt) ≡ visit_form v f e b o
+biased_or_not v (Some (Anonymous epoch age)) e b o = refl
+biased_or_not v (Some (Biased t epoch age)) e b o = refl
+biased_or_not (Renew n) None e b o = refl
+biased_or_not (Renew n) (Some Inflating) e b o = refl
+biased_or_not (Renew n) (Some (Neutral hash age)) e b o = refl
+biased_or_not (Renew n) (Some (Locked t p)) e b o = refl
+biased_or_not (Renew n) (Some (Inflated m)) e b o = refl
+biased_or_not (Renew n) (Some Marked) e b o = refl
+biased_or_not Revoke None e b o = refl
+biased_or_not Revoke (Some Inflating) e b o = refl
+biased_or_not Revoke (Some (Neutral hash age)) e b o = refl
+biased_or_not Revoke (Some (Locked t p)) e b o = refl
+biased_or_not Revoke (Some (Inflated m)) e b o = refl
+biased_or_not Revoke (Some Marked) e b o = refl
+
+pub none_visited : (v : Visit) (e : Purpose) (b : Revocation) (o : ℕ) → visit_form v None e b o ≡ done tt
+none_visited (Renew n) e b o = refl
+none_visited Revoke e b o = refl

@@ -9,8 +9,11 @@ use Rattle.core_world.specs.declared.name.Name.{Name}
 use Rattle.core_world.specs.declared.name.Name.TheVariants.{Mark}
 use Rattle.core_world.specs.declared.plan.Own.TheVariants as own
 use Rattle.core_world.specs.declared.plan.StepPlan.{StepPlan}
-use Rattle.core_world.specs.Clauses.WordForms.{IsMark}
-use Rattle.core_world.specs.RevocationRules.{write}
+use Rattle.mark_word.specs.declared.hold.HoldForm.{HoldForm}
+use Rattle.mark_word.specs.declared.hold.HoldForm.TheVariants.{Empty, Holds}
+use Rattle.core_world.specs.Clauses.WordForms.{IsMark, IsHold}
+use Rattle.core_world.specs.Locks.{or_zero}
+use Rattle.core_world.specs.RevocationRules.{object_held}
 use Rattle.core_world.specs.Steps.{world_after}
 use Rattle.core_world.specs.Threads.Stages.{Revocation}
 use Rattle.core_world.specs.Trees.Plans.{Purpose}
@@ -76,3 +79,11 @@ locked_place h p e b o t n f is_of due thread most =
         let is : n ≡ 64 = grind (arith, nat_tests, e) in
         absurd (no_place is_of.real.world.shape t thread (subst (λ (m : ℕ). IsMark is_of.real.world.shape (read_mark (mark_of (Locked t m)))) is stored))
     cases stored false e = grind (arith, nat_tests, e, most)
+
+-- the object that a hold word of the heap names is one of the heap
+pub held_there : (s : Shape) (f : Option HoldForm) (o : ℕ) → IsHold s f → object_held f ≡ Some o → o < length s.objects
+held_there s None o formed e = absurd formed
+held_there s (Some Empty) o formed e = absurd (cc e)
+held_there s (Some (Holds object depth)) o formed e =
+    let same : object ≡ o = ap (λ (x : Option ℕ). or_zero x) e in
+    subst (λ (n : ℕ). n < length s.objects) same formed

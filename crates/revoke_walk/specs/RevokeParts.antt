@@ -9,8 +9,8 @@ use Rattle.core_world.specs.RevocationRules.{Write, write, with_epoch, store_whe
 use Rattle.core_world.specs.Threads.Stages.{Revocation}
 use Rattle.core_world.specs.Trees.Plans.{Purpose}
 use Rattle.core_world.specs.Trees.RevocationSteps.{look, store_steps, revoke_at, visit_held}
-use Rattle.core_world.specs.Trees.Todo.{Todo, ◌>>=◌, each_from, all_from}
-use Rattle.core_world.specs.Words.Forms.{names, hold_word}
+use Rattle.core_world.specs.Trees.Todo.{Todo, done, ◌>>=◌, each_from, all_from}
+use Rattle.core_world.specs.Words.Forms.{names, hold_word, is_biased}
 use Rattle.core_world.specs.Words.Shape.{Shape}
 use Rattle.revoke_walk.specs.declared.visit.Visit.{Visit}
 use Rattle.revoke_walk.specs.declared.visit.Visit.TheVariants.{Renew, Revoke}
@@ -40,6 +40,12 @@ visit_form Revoke f e b o = revoke_at f e b o false
 
 abbrev pub visit_by : Visit → Purpose → Revocation → ℕ → ℕ → Todo (Unit {0})
 visit_by v e b o mark = visit_form v (read_mark mark) e b o
+
+-- with the object o of the class, where its mark is biased
+abbrev pub object_steps : Purpose → Revocation → Visit → ℕ → Todo (Unit {0})
+object_steps e b v o = do
+  mark ← look e b (Mark o)
+  if is_biased mark then visit_by v e b o mark else done tt
 
 -- the epoch is in its range
 abbrev pub IsVisit : Visit → Type 0

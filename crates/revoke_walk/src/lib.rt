@@ -9,4 +9,5 @@ mod revocation;
 mod revokes;
 mod steps;
 mod visit;
+mod walks;
 mod words;
