@@ -43,6 +43,9 @@ module _ {B : Type 0} (h : HeapSeen) (o : PassSeen) (t : Task) (rest : ℕ → T
 abbrev pub all_left : ℕ → (ℕ → Todo (Unit {0})) → ℕ → Todo (Unit {0})
 all_left n f i = all_from i (n - i) f
 
+pub left_all : (n : ℕ) (f : ℕ → Todo (Unit {0})) → all_left n f 0 ≡ all_from 0 n f
+left_all n f = let all : n - 0 ≡ n = omega arith in ap (λ m. all_from 0 m f) all
+
 pub left_next : (n : ℕ) (f : ℕ → Todo (Unit {0})) (i : ℕ) → i < n → all_left n f i ≡ (f i >>= (λ u. all_left n f (i + 1)))
 left_next n f i less = let one : n - i ≡ suc (n - (i + 1)) = omega (arith, less) in ap (λ m. all_from i m f) one
 

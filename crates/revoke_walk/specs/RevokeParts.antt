@@ -1,14 +1,14 @@
 -- Parts of a revocation at a safepoint, as the code makes them.
-use Rattle.std.specs.Prelude.{ℕ, ◌==◌, ◌<◌, ◌++◌, if◌then◌else◌, false, List, [], ◌∷◌, Option, Some}
+use Rattle.std.specs.Prelude.{ℕ, ◌+◌, ◌%◌, ◌==◌, ◌<◌, ◌++◌, if◌then◌else◌, Bool, false, List, [], ◌∷◌, Option, Some}
 use Rattle.mark_word.specs.declared.mark.MarkForm.{MarkForm}
 use Rattle.mark_word.specs.declared.mark.MarkForm.TheVariants.{Neutral, Locked}
 use Rattle.mark_word.specs.Hold.{read_hold}
 use Rattle.mark_word.specs.Mark.{mark_of, read_mark}
-use Rattle.core_world.specs.declared.name.Name.TheVariants.{Mark, Hold, Displaced}
-use Rattle.core_world.specs.RevocationRules.{Write, write, with_epoch, store_where, object_held, record_writes, first_place}
+use Rattle.core_world.specs.declared.name.Name.TheVariants.{Prototype, Mark, Hold, Displaced}
+use Rattle.core_world.specs.RevocationRules.{Write, write, raised_form, with_epoch, store_where, object_held, record_writes, first_place}
 use Rattle.core_world.specs.Threads.Stages.{Revocation}
 use Rattle.core_world.specs.Trees.Plans.{Purpose}
-use Rattle.core_world.specs.Trees.RevocationSteps.{look, store_steps, revoke_at, visit_held}
+use Rattle.core_world.specs.Trees.RevocationSteps.{look, store_steps, revoke_at, revoke_steps, visit_held, walk_steps, take_bias_steps}
 use Rattle.core_world.specs.Trees.Todo.{Todo, done, ◌>>=◌, each_from, all_from}
 use Rattle.core_world.specs.Words.Forms.{names, hold_word, is_biased}
 use Rattle.core_world.specs.Words.Shape.{Shape}
@@ -60,3 +60,30 @@ place_steps s c e b v t p = do
 
 abbrev pub thread_steps : Shape → ℕ → Purpose → Revocation → Visit → ℕ → Todo (Unit {0})
 thread_steps s c e b v t = all_from 0 64 (λ p. place_steps s c e b v t p)
+
+-- OF A BULK REBIAS: behind the walk, where the class's epoch is this one; with the walk; and with the store of the next epoch before it
+abbrev pub rebiased_steps : Purpose → Revocation → ℕ → ℕ → Todo Bool
+rebiased_steps e b epoch t = do
+  _ ← revoke_steps e b b.object b.rebias
+  if b.rebias then take_bias_steps e b (Some epoch) t else done false
+
+abbrev pub renewed_steps : Shape → ℕ → ℕ → Purpose → Revocation → ℕ → Todo Bool
+renewed_steps s t c e b epoch = do
+  _ ← walk_steps s c e b (visit_by (Renew epoch) e b)
+  rebiased_steps e b epoch t
+
+abbrev pub raised_steps : Shape → ℕ → ℕ → Purpose → Revocation → ℕ → Todo Bool
+raised_steps s t c e b epoch = do
+  _ ← store_steps e b (raised_form (Some epoch) c)
+  renewed_steps s t c e b ((epoch + 1) % 4)
+
+-- OF A BULK REVOKE: the walk, and the store of the neutral prototype before it
+abbrev pub unbiased_steps : Shape → ℕ → Purpose → Revocation → Todo (Unit {0})
+unbiased_steps s c e b = do
+  _ ← walk_steps s c e b (visit_by Revoke e b)
+  revoke_steps e b b.object false
+
+abbrev pub neutral_steps : Shape → ℕ → Purpose → Revocation → Todo (Unit {0})
+neutral_steps s c e b = do
+  _ ← store_steps e b (write (Prototype c) (mark_of (Neutral 0 0)) ∷ [])
+  unbiased_steps s c e b

@@ -5,6 +5,7 @@
 //! None takes memory.
 #![tactic(auto)]
 
+mod bulks;
 mod revocation;
 mod revokes;
 mod steps;
