@@ -1,12 +1,16 @@
 -- What is due behind a part, whether it makes a step or none, where all its steps are of one call.
-use Rattle.std.proofs.Common.{◌≡◌, ℕ, zero, suc, ◌+◌, Bool, true, false, cond, List, [], ◌∷◌, sym, subst}
+use Rattle.std.proofs.Common.{◌≡◌, ℕ, zero, suc, ◌+◌, Bool, true, false, cond, List, [], ◌∷◌, sym, ap, ◌∙◌, subst}
 use Rattle.core_world.specs.declared.plan.StepPlan.{StepPlan}
 use Rattle.core_world.specs.declared.task.Task.{Task}
-use Rattle.core_world.specs.Due.{IsDue}
+use Rattle.core_world.specs.Due.{IsDue, Runs}
+use Rattle.core_world.specs.Steps.{known_after}
 use Rattle.core_world.specs.Threads.Known.{Known}
 use Rattle.core_world.specs.Trees.Todo.{Todo, done, never, step, ◌>>=◌, all_from, each_from}
+use Rattle.core_world.specs.Words.Shape.{Shape}
+use Rattle.core_world.proofs.CallRests.{part_due}
 use Rattle.heap_table.specs.Parts.{IsDueOn, HasRun}
 use Rattle.heap_table.specs.Seen.{HeapSeen, PassSeen}
+use Rattle.heap_table.proofs.Knows.{same_thread}
 use Rattle.heap_table.proofs.Parts.{part_then}
 
 -- all steps are of a call of this task
@@ -43,3 +47,16 @@ module _ (t : Task) where
   each_of i (suc n) f each =
       then_of (f i) (λ first. each_from (i + 1) n f >>= (λ others. done (first ∷ others))) (each i) (λ first.
       then_of (each_from (i + 1) n f) (λ others. done (first ∷ others)) (each_of (i + 1) n f each) (λ others. tt))
+
+-- the part in front is due
+pub front_due : {A B : Type 0} (h : HeapSeen) (p : PassSeen) (t : Task) (d : Todo A) (g : A → Todo B) → IsDueOn h p t (d >>= g) → IsDueOn h p t d
+front_due h p t d g due = part_due h.heap.shape h.heap.start h.heap.biasing p.known t d g due
+
+-- behind a run the pass is one of the same thread
+runs_by : {A : Type 0} (s : Shape) (start : ℕ) (d : Todo A) (k l : Known) (a : A) → Runs s start d k l a → l.thread ≡ k.thread
+runs_by s start (done b) k l a run = ap (λ (x : Known). x.thread) run.0
+runs_by s start never k l a run = absurd run
+runs_by s start (step p f) k l a run = runs_by s start (f run.0) (known_after s start p run.0 k) l a run.1 ∙ same_thread s start p run.0 k
+
+pub same_runner : {A : Type 0} (h : HeapSeen) (d : Todo A) (p q : PassSeen) (a : A) → HasRun h d p q a → q.known.thread ≡ p.known.thread
+same_runner h d p q a run = runs_by h.heap.shape h.heap.start d p.known q.known a run.ran.by
