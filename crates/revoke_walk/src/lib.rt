@@ -6,9 +6,14 @@
 #![tactic(auto)]
 
 mod bulks;
+mod outcome;
 mod revocation;
 mod revokes;
 mod steps;
+mod verdicts;
 mod visit;
 mod walks;
 mod words;
+
+pub use outcome::Outcome;
+pub use verdicts::revoke_at_safepoint;
