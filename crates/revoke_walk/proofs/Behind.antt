@@ -10,6 +10,7 @@ use Rattle.core_world.specs.Words.Shape.{Shape}
 use Rattle.core_world.proofs.CallRests.{part_due}
 use Rattle.heap_table.specs.Parts.{IsDueOn, HasRun}
 use Rattle.heap_table.specs.Seen.{HeapSeen, PassSeen}
+use Rattle.heap_table.specs.Stepping.{HasStepped}
 use Rattle.heap_table.proofs.Knows.{same_thread}
 use Rattle.heap_table.proofs.Parts.{part_then}
 
@@ -60,3 +61,6 @@ runs_by s start (step p f) k l a run = runs_by s start (f run.0) (known_after s 
 
 pub same_runner : {A : Type 0} (h : HeapSeen) (d : Todo A) (p q : PassSeen) (a : A) → HasRun h d p q a → q.known.thread ≡ p.known.thread
 same_runner h d p q a run = runs_by h.heap.shape h.heap.start d p.known q.known a run.ran.by
+
+pub same_stepper : (h : HeapSeen) (p q : PassSeen) (plan : StepPlan) (n : ℕ) → HasStepped h p q plan n → q.known.thread ≡ p.known.thread
+same_stepper h p q plan n s = ap (λ (x : Known). x.thread) s.known ∙ same_thread h.heap.shape h.heap.start plan n p.known

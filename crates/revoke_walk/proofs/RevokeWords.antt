@@ -2,8 +2,9 @@
 use Rattle.std.proofs.Common.{◌≡◌, ℕ, ◌+◌, ◌<◌, ◌≤◌, ◌==◌, ◌&&◌, nat_lt, Bool, true, false, cond, length, Option, Some, None, refl, sym, ap, ◌∙◌, subst, inl, inr, arith, eq-eqb}
 use Rattle.std.proofs.lemmas.Bool.Decides.{nat_tests}
 use Rattle.mark_word.specs.declared.mark.MarkForm.{MarkForm}
-use Rattle.mark_word.specs.declared.mark.MarkForm.TheVariants.{Locked}
+use Rattle.mark_word.specs.declared.mark.MarkForm.TheVariants.{Inflating, Neutral, Anonymous, Biased, Locked, Inflated, Marked}
 use Rattle.mark_word.specs.Mark.{mark_of, read_mark}
+use Rattle.mark_word.proofs.ReadingMarks.{read_mark-spells}
 use Rattle.core_world.specs.declared.act.Act.TheVariants.{Store}
 use Rattle.core_world.specs.declared.name.Name.{Name}
 use Rattle.core_world.specs.declared.name.Name.TheVariants.{Mark}
@@ -12,7 +13,7 @@ use Rattle.core_world.specs.declared.plan.StepPlan.{StepPlan}
 use Rattle.mark_word.specs.declared.hold.HoldForm.{HoldForm}
 use Rattle.mark_word.specs.declared.hold.HoldForm.TheVariants.{Empty, Holds}
 use Rattle.core_world.specs.Clauses.WordForms.{IsMark, IsHold}
-use Rattle.core_world.specs.Locks.{or_zero}
+use Rattle.core_world.specs.Locks.{or_zero, has_epoch, is_valid_bias}
 use Rattle.core_world.specs.RevocationRules.{object_held}
 use Rattle.core_world.specs.Steps.{world_after}
 use Rattle.core_world.specs.Threads.Stages.{Revocation}
@@ -20,6 +21,7 @@ use Rattle.core_world.specs.Trees.Plans.{Purpose}
 use Rattle.core_world.specs.Trees.RevocationSteps.{revoke_plan}
 use Rattle.core_world.specs.Trees.Todo.{Todo, step}
 use Rattle.core_world.specs.Valid.{FormsFit}
+use Rattle.core_world.specs.Words.Forms.{epoch_in, epoch_form}
 use Rattle.core_world.specs.Words.Shape.{Shape, IsInLimits}
 use Rattle.core_world.specs.World.{World}
 use Rattle.core_world.proofs.CallRests.{next_due}
@@ -87,3 +89,30 @@ held_there s (Some Empty) o formed e = absurd (cc e)
 held_there s (Some (Holds object depth)) o formed e =
     let same : object ≡ o = ap (λ (x : Option ℕ). or_zero x) e in
     subst (λ (n : ℕ). n < length s.objects) same formed
+
+-- PROTOTYPES. Without an epoch no bias to it is valid, and an epoch is in its range.
+pub no_bias : (f : Option MarkForm) (n : ℕ) → epoch_in n ≡ None → is_valid_bias f n ≡ false
+no_bias (Some (Biased thread epoch age)) n none = ap (λ (x : Option ℕ). has_epoch x epoch) none
+no_bias None n none = refl
+no_bias (Some Inflating) n none = refl
+no_bias (Some (Neutral hash age)) n none = refl
+no_bias (Some (Anonymous epoch age)) n none = refl
+no_bias (Some (Locked t p)) n none = refl
+no_bias (Some (Inflated m)) n none = refl
+no_bias (Some Marked) n none = refl
+
+pub epoch_range : (n epoch : ℕ) → epoch_in n ≡ Some epoch → epoch < 4
+epoch_range n epoch is = cases (read_mark n) refl
+  where
+    cases : (f : Option MarkForm) → read_mark n ≡ f → epoch < 4
+    cases (Some (Anonymous other age)) m =
+        let range = (read_mark-spells n (Anonymous other age) m).0 in
+        let same : other ≡ epoch = ap or_zero (sym (ap epoch_form m) ∙ is) in
+        subst (λ (x : ℕ). x < 4) same range.0
+    cases None m = absurd (cc (is, ap epoch_form m))
+    cases (Some Inflating) m = absurd (cc (is, ap epoch_form m))
+    cases (Some (Neutral hash age)) m = absurd (cc (is, ap epoch_form m))
+    cases (Some (Biased t other age)) m = absurd (cc (is, ap epoch_form m))
+    cases (Some (Locked t p)) m = absurd (cc (is, ap epoch_form m))
+    cases (Some (Inflated k)) m = absurd (cc (is, ap epoch_form m))
+    cases (Some Marked) m = absurd (cc (is, ap epoch_form m))
