@@ -4,3 +4,16 @@
 //! of its tree in `core_world`, as they are due, on the words of a `heap_table` heap, and answers what the tree answers.
 //! None takes memory.
 #![tactic(auto)]
+
+mod bulks;
+mod outcome;
+mod revocation;
+mod revokes;
+mod steps;
+mod verdicts;
+mod visit;
+mod walks;
+mod words;
+
+pub use outcome::Outcome;
+pub use verdicts::revoke_at_safepoint;

@@ -1,0 +1,4 @@
+mod Behind
+mod Rounds
+mod RevokeSteps
+mod RevokeWords

@@ -1,0 +1,9 @@
+use Rattle.std.proofs.Common.{◌≡◌, length, take}
+use Rattle.core_world.specs.declared.name.Name.TheVariants.{Hold}
+use Rattle.core_world.specs.Trees.RevocationSteps.{look}
+use Rattle.revoke_walk.proofs.Rounds.{Answered}
+use Rattle.revoke_walk.proofs.revokes.load_holds.Given as goal
+
+abbrev pub invariant-loop-i : goal.invariant-loop-i
+invariant-loop-i l =
+    (length l.holds ≡ 64) × Answered l.heap l.fn.pass l.why.task 64 (λ p. look l.why l.revocation (Hold l.thread p)) l.i (take l.i l.holds) l.pass

@@ -1,0 +1,43 @@
+use Rattle.std.proofs.Common.{◌≡◌, ℕ, refl, sym, ap, ◌∙◌, subst, arith}
+use Rattle.core_world.specs.Trees.Todo.{Todo, done}
+use Rattle.heap_table.specs.Parts.{HasRun}
+use Rattle.heap_table.proofs.Parts.{ends}
+use Rattle.revoke_walk.specs.RevokeParts.{place_steps}
+use Rattle.revoke_walk.proofs.RevokeSteps.{place_of}
+use Rattle.revoke_walk.proofs.Rounds.{Round, first_round, round_due, next_round, all_left, left_next, left_none}
+use Rattle.revoke_walk.proofs.walks.walk_thread.Goals as goal
+
+pub loop-place-init : goal.loop-place-init
+loop-place-init c =
+    let a = c.args in
+    let f : ℕ → Todo (Unit {0}) = λ p. place_steps a.heap.now.heap.shape a.class a.why.now a.revocation.now a.how a.thread p in
+    first_round a.heap.now a.pass.now a.why.now.task (all_left 64 f) c.requires.heap c.requires.due
+
+pub walk_place-requires-clause-heap : goal.walk_place-requires-clause-heap
+walk_place-requires-clause-heap c = c.loop-place.invariant.is_of
+
+pub walk_place-requires-clause-due : goal.walk_place-requires-clause-due
+walk_place-requires-clause-due c =
+    let a = c.args in
+    let l = c.loop-place in
+    let f : ℕ → Todo (Unit {0}) = λ p. place_steps a.heap.now.heap.shape a.class a.why.now a.revocation.now a.how a.thread p in
+    round_due a.heap.now a.pass.now a.why.now.task (all_left 64 f) l.place l.pass l.invariant (f l.place) (left_next 64 f l.place (omega (arith, c.loop-place-test.true)))
+
+pub loop-place-preserved : goal.loop-place-preserved
+loop-place-preserved c =
+    let a = c.args in
+    let l = c.loop-place in
+    let s = a.heap.now.heap.shape in
+    let f : ℕ → Todo (Unit {0}) = λ p. place_steps s a.class a.why.now a.revocation.now a.how a.thread p in
+    next_round a.heap.now a.pass.now a.why.now.task (all_left 64 f) l.place l.pass l.invariant (f l.place) (left_next 64 f l.place (omega (arith, c.loop-place-test.true)))
+    c.walk_place.new.pass tt (place_of a.why.now a.revocation.now s a.class a.how a.thread l.place) c.walk_place.ensures
+
+pub returns : goal.returns
+returns c =
+    let a = c.args in
+    let l = c.loop-place in
+    let h = a.heap.now in
+    let f : ℕ → Todo (Unit {0}) = λ p. place_steps h.heap.shape a.class a.why.now a.revocation.now a.how a.thread p in
+    let end : l.place ≡ 64 = omega (arith, c.loop-place-test.false, l.auto.place-end) in
+    let none : all_left 64 f l.place ≡ done tt = ap (all_left 64 f) end ∙ left_none 64 f in
+    l.invariant.come.through l.pass tt (subst (λ (d : Todo (Unit {0})). HasRun h d l.pass l.pass tt) (sym none) (ends h l.pass tt l.invariant.is_of))

@@ -1,0 +1,143 @@
+//! The revocation of a bias at a reached safepoint, by the verdict on the object's class.
+ghost use Rattle.std.specs.Prelude.{◌≡◌, ◌<◌, length, Some};
+ghost use Rattle.lock_policy.specs.Policy.{decided, is_reset};
+ghost use Rattle.core_world.specs.Trees.RevocationSteps.{verdict_steps, decided_steps, revoke_at_safepoint_steps};
+ghost use Rattle.heap_table.specs.Parts.{IsDueOn, HasRun};
+ghost use Rattle.heap_table.specs.Seen.{IsOf};
+
+use crate::bulks::{bulk_rebias, bulk_revoke};
+use crate::outcome::Outcome;
+use crate::revocation::Revocation;
+use crate::revokes::revoke;
+use crate::words::class_epoch;
+use core_world::{Name, Own, Stage};
+use heap_table::{Heap, Pass, Purpose};
+use lock_policy::{Verdict, decide};
+
+// The verdict on a class with this count, and its new count. No count above 40 rises, so that each fits its word.
+fn verdict_on(count: u64, last: u64, now: u64) -> (Verdict, u64)
+    ensures { result ≡ decided count last now }
+{
+    if count > 40 {
+        return (Verdict::Single, count);
+    }
+    let (verdict, new) = decide(count as u32, last, now);
+    (verdict, new as u64)
+}
+
+// Whether the count was reset before the verdict.
+fn was_reset(count: u64, last: u64, now: u64) -> bool
+    ensures { result ≡ is_reset count last now }
+{
+    20 <= count && count < 40 && last != 0 && last <= now && now - last >= 25_000
+}
+
+// Does what the verdict says. It answers whether the thread gave itself a new bias.
+fn carry_out(
+    heap: &Heap,
+    pass: &mut Pass,
+    why: &Purpose,
+    revocation: &Revocation,
+    class: u32,
+    epoch: u8,
+    verdict: Verdict,
+) -> bool
+    requires heap { IsOf heap.now pass.old }
+    requires object { revocation.now.object < length heap.now.heap.shape.objects }
+    requires epoch { epoch < 4 }
+    requires due { IsDueOn heap.now pass.old why.now.task
+        (verdict_steps heap.now.heap.shape pass.old.known.thread class why.now revocation.now (Some epoch) verdict) }
+    ensures { HasRun heap.now
+        (verdict_steps heap.now.heap.shape pass.old.known.thread class why.now revocation.now (Some epoch) verdict)
+        pass.old pass.new result }
+{
+    match verdict {
+        Verdict::Single => {
+            revoke(heap, pass, why, revocation, revocation.object, false);
+            false
+        }
+        Verdict::BulkRebias => bulk_rebias(heap, pass, why, revocation, class, epoch),
+        Verdict::BulkRevoke => {
+            bulk_revoke(heap, pass, why, revocation, class);
+            false
+        }
+    }
+}
+
+// Decides by the class's count and the moment of its last bulk operation, stores the new count, which counts the
+// verdict, and carries the verdict out.
+fn decide_and_revoke(
+    heap: &Heap,
+    pass: &mut Pass,
+    why: &Purpose,
+    revocation: &Revocation,
+    class: u32,
+    epoch: u8,
+    count: u64,
+    last: u64,
+) -> Outcome
+    requires heap { IsOf heap.now pass.old }
+    requires object { revocation.now.object < length heap.now.heap.shape.objects }
+    requires epoch { epoch < 4 }
+    requires due { IsDueOn heap.now pass.old why.now.task (decided_steps
+        heap.now.heap.shape pass.old.known.thread class why.now revocation.now (Some epoch) count last) }
+    ensures { HasRun heap.now (decided_steps
+        heap.now.heap.shape pass.old.known.thread class why.now revocation.now (Some epoch) count last)
+        pass.old pass.new result }
+{
+    let moment = revocation.moment;
+    let (verdict, new) = verdict_on(count, last, moment);
+    let reset = was_reset(count, last, moment);
+    let own = Own::CountVerdict {
+        class,
+        verdict,
+        reset,
+    };
+    let at = Name::Revocations { class };
+    heap.store_and_keep(pass, why, revocation.stage(), own, at, new);
+    let took = carry_out(heap, pass, why, revocation, class, epoch, verdict);
+    Outcome { verdict, took }
+}
+
+/// Revokes the bias of the object at the thread's reached safepoint. The object is validly biased to a thread. `rebias`
+/// says whether the thread may take a new bias to it, and `now` is the moment for the policy of bulk operations, in
+/// milliseconds.
+///
+/// The class's count of revocations is stored anew, and the thread counts the verdict, which the answer has. `Single`:
+/// the object's bias alone is revoked, so that it is locked by the records that its biased thread has of it, or neutral
+/// where there are none. `BulkRebias`: the class gets its next epoch, which makes the biases of its objects invalid but
+/// for those that lock records name; the object is left without a bias to a thread, or locked by records. Where `rebias`
+/// is true and the object isn't locked, it is biased to this thread then, and `took` is true; else `took` is false.
+/// `BulkRevoke`: the class's prototype becomes neutral, and the biases of all its objects that lock records name are
+/// revoked, and the object's.
+pub fn revoke_at_safepoint(
+    heap: &Heap,
+    pass: &mut Pass,
+    why: &Purpose,
+    object: u32,
+    rebias: bool,
+    now: u64,
+) -> Outcome
+    requires heap { IsOf heap.now pass.old }
+    requires object { object < length heap.now.heap.shape.objects }
+    requires due { IsDueOn heap.now pass.old why.now.task (revoke_at_safepoint_steps heap.now.heap.shape
+        pass.old.known.thread why.now (record { object = object; rebias = rebias; now = now })) }
+    ensures { HasRun heap.now (revoke_at_safepoint_steps heap.now.heap.shape
+        pass.old.known.thread why.now (record { object = object; rebias = rebias; now = now }))
+        pass.old pass.new result }
+{
+    let class = heap.shape().class_of(object);
+    heap.load(pass, why, Stage::Calm, Name::Mark { object });
+    let prototype = heap.load(pass, why, Stage::Calm, Name::Prototype { class });
+    let count = heap.load(pass, why, Stage::Calm, Name::Revocations { class });
+    let last = heap.load(pass, why, Stage::Calm, Name::LastBulk { class });
+    let revocation = Revocation {
+        object,
+        rebias,
+        moment: now,
+    };
+    match class_epoch(prototype) {
+        Some(epoch) => decide_and_revoke(heap, pass, why, &revocation, class, epoch, count, last),
+        None => unreachable!(),
+    }
+}
