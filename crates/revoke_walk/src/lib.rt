@@ -4,3 +4,7 @@
 //! of its tree in `core_world`, as they are due, on the words of a `heap_table` heap, and answers what the tree answers.
 //! None takes memory.
 #![tactic(auto)]
+
+mod stands;
+
+pub use stands::stands_still;
