@@ -1,1 +1,2 @@
 pub mod StandParts
+pub mod ShotParts

@@ -5,6 +5,8 @@
 //! None takes memory.
 #![tactic(auto)]
 
+mod shots;
 mod stands;
 
+pub use shots::take_shot;
 pub use stands::stands_still;
