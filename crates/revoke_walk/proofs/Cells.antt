@@ -1,5 +1,5 @@
 -- Counts of hold words, cells and lengths, one more at a time.
-use Rattle.std.proofs.Common.{◌≡◌, ℕ, zero, suc, ◌+◌, ◌<◌, ◌≤◌, List, [], ◌∷◌, ◌++◌, length, take, Option, refl, sym, ap, ◌∙◌, arith, add-one}
+use Rattle.std.proofs.Common.{◌≡◌, ℕ, zero, suc, ◌+◌, ◌<◌, List, [], ◌∷◌, ◌++◌, length, take, Option, refl, ap, ◌∙◌, arith}
 use Rattle.core_world.specs.Locks.{count_where}
 use Rattle.core_world.specs.RevocationRules.{words_from}
 use Rattle.core_world.specs.Steps.{cells_from, owner_and_count_in}

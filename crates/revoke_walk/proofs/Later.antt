@@ -5,15 +5,14 @@ use Rattle.core_world.specs.declared.name.Name.{Name}
 use Rattle.core_world.specs.declared.name.Name.TheVariants as name
 use Rattle.core_world.specs.declared.name.Name.TheVariants.{Length}
 use Rattle.core_world.specs.declared.stage.Stage.TheVariants.{Calm}
-use Rattle.core_world.specs.Clauses.Lengths.{log_limit}
 use Rattle.core_world.specs.Locks.{or_zero}
 use Rattle.core_world.specs.Steps.{known_hit, seen_at_safepoint_before, seen_words}
 use Rattle.core_world.specs.Threads.Known.{Known, last_seen}
 use Rattle.core_world.specs.Trees.Plans.{Purpose, load}
 use Rattle.core_world.specs.Words.Shape.{Shape}
-use Rattle.core_steps.specs.Logic.{Heap, Stands}
+use Rattle.core_steps.specs.Logic.{Stands}
 use Rattle.core_steps.proofs.LawRules.{home}
-use Rattle.core_steps.proofs.SafepointLooks.{Seeing, still_seen, saw_there, is_as_seen, fits_reached}
+use Rattle.core_steps.proofs.SafepointLooks.{still_seen, saw_there, is_as_seen, fits_reached}
 use Rattle.heap_table.specs.Seen.{HeapSeen, PassSeen, IsOf}
 use Rattle.heap_table.specs.Stepping.{HasStepped}
 use Rattle.heap_table.proofs.Knows.{was_of}

@@ -1,8 +1,10 @@
 -- A loop over parts that each begin with a step, and the draft of a shot that is filled on the way.
-use Rattle.std.proofs.Common.{◌≡◌, ℕ, suc, ◌+◌, List, [], Option, refl, sym, subst}
+use Rattle.std.proofs.Common.{◌≡◌, ℕ, zero, suc, ◌+◌, List, [], Option, refl, sym, subst}
 use Rattle.core_world.specs.declared.plan.StepPlan.{StepPlan}
 use Rattle.core_world.specs.declared.task.Task.{Task}
-use Rattle.core_world.specs.Trees.Todo.{Todo, done, step, all_from}
+use Rattle.core_world.specs.Trees.Todo.{Todo, done, never, step, ◌>>=◌, all_from}
+use Rattle.core_world.specs.Due.{IsDue}
+use Rattle.core_world.specs.Threads.Known.{Known}
 use Rattle.core_world.proofs.CallRests.{part_due}
 use Rattle.heap_table.specs.Parts.{IsDueOn, HasRun}
 use Rattle.heap_table.specs.Seen.{HeapSeen, PassSeen, IsOf}
@@ -61,3 +63,20 @@ module _ (h : HeapSeen) (p : PassSeen) where
 pub drafted : (h : HeapSeen) (q r : PassSeen) (cut : List ℕ) (cells : List (Option ℕ × ℕ)) → r ≡ record q { cut = cut; cells = cells } → IsOf h q → IsOf h r
 drafted h q r cut cells same i =
     subst (IsOf h) (sym same) (record { table = i.table; within = i.within; classes = i.classes; first = i.first; threads = i.threads; objects = i.objects; real = i.real })
+
+-- ANY PART, of no step or of some: its first step, if it has one, is of this task
+abbrev pub IsOfTask : {A : Type 0} → Todo A → Task → Type 0
+IsOfTask (step plan f) t = plan.task ≡ t
+IsOfTask _ t = Unit {0}
+
+pub all_of_task : (i n : ℕ) (t : Task) (plan : ℕ → StepPlan) (rest : ℕ → ℕ → Todo (Unit {0})) → ((j : ℕ) → (plan j).task ≡ t) → IsOfTask (all_from i n (λ j. step (plan j) (rest j))) t
+all_of_task i zero t plan rest each = tt
+all_of_task i (suc n) t plan rest each = each i
+
+-- and behind it what follows is due
+pub any_then : {A B : Type 0} (h : HeapSeen) (p q : PassSeen) (t : Task) (d : Todo A) (g : A → Todo B) (a : A) → IsOfTask d t → IsDueOn h p t (d >>= g) → HasRun h d p q a → IsDueOn h q t (g a)
+any_then {A = A} h p q t (done b) g a task due run =
+    subst (λ (k : Known). IsDue h.heap.shape h.heap.start h.heap.biasing k t (g a)) (sym run.ran.by.0)
+    (subst (λ (x : A). IsDueOn h p t (g x)) (sym run.ran.by.1) due)
+any_then h p q t never g a task due run = absurd run.ran.by
+any_then h p q t (step plan f) g a task due run = part_then h p q t plan f g a due task run

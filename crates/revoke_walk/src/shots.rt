@@ -191,10 +191,7 @@ fn look_at_monitor(heap: &Heap, pass: &mut Pass, why: &Purpose, object: u32, mon
     let owner = heap.load(pass, why, Stage::Calm, Name::Owner { monitor });
     match owner_of_word(owner) {
         Some(form) => look_at_owner(heap, pass, why, object, form),
-        None => Cell {
-            owner: None,
-            count: 0,
-        },
+        None => unreachable!(),
     }
 }
 
@@ -240,10 +237,7 @@ fn look_at_cell(heap: &Heap, pass: &mut Pass, why: &Purpose, object: u32) -> Cel
     let mark = heap.load(pass, why, Stage::Calm, Name::Mark { object });
     match mark_of_word(mark) {
         Some(form) => look_behind(heap, pass, why, object, form),
-        None => Cell {
-            owner: None,
-            count: 0,
-        },
+        None => unreachable!(),
     }
 }
 

@@ -1,13 +1,12 @@
-use Rattle.std.proofs.Common.{◌≡◌, ℕ, Bool, true, false, cond, refl, sym, ap, ◌∙◌, subst}
+use Rattle.std.proofs.Common.{◌≡◌, Bool, true, false, cond, refl, sym, ap, ◌∙◌, subst}
 use Rattle.core_world.specs.declared.name.Name.TheVariants.{Prototype}
 use Rattle.core_world.specs.declared.plan.StepPlan.{StepPlan}
-use Rattle.core_world.specs.Locks.{Lock, Open, BiasedTo, has_epoch}
+use Rattle.core_world.specs.Locks.{Open, BiasedTo, has_epoch}
 use Rattle.core_world.specs.Trees.LookSteps.{look_at_holds}
 use Rattle.core_world.specs.Trees.Plans.{load}
-use Rattle.core_world.specs.Trees.Todo.{Todo, done}
+use Rattle.core_world.specs.Trees.Todo.{done}
 use Rattle.core_world.specs.Words.Forms.{epoch_in}
 use Rattle.core_world.specs.Words.Shape.{Shape, class_of}
-use Rattle.heap_table.specs.Parts.{IsDueOn, HasRun}
 use Rattle.heap_table.specs.Stepping.{CanStep, HasStepped}
 use Rattle.heap_table.proofs.Arms.{due_then, run_then, run_else}
 use Rattle.heap_table.proofs.Parts.{can, rest_due, stepped, ends}

@@ -1,4 +1,4 @@
-use Rattle.std.proofs.Common.{◌≡◌, Option, Some, None, refl, sym, ap, ◌∙◌, subst}
+use Rattle.std.proofs.Common.{◌≡◌, Option, Some, refl, sym, ap, ◌∙◌, subst}
 use Rattle.mark_word.specs.declared.mark.MarkForm.{MarkForm}
 use Rattle.mark_word.specs.Mark.{read_mark}
 use Rattle.core_world.specs.declared.name.Name.TheVariants.{Mark}
@@ -31,15 +31,15 @@ look_behind-requires-clause-reached c =
     let a = c.args in
     (load_later a.heap.now a.pass.now c.load-mark.new.pass a.why.now (Mark a.object) c.load-mark.result c.requires.heap c.requires.reached c.load-mark.ensures).reached ∙ c.requires.reached
 
-pub returns-in-Some-clause-later : goal.returns-in-Some-clause-later
-returns-in-Some-clause-later c =
+pub returns-clause-later : goal.returns-clause-later
+returns-clause-later c =
     let a = c.args in
     later_than a.pass.now.known c.load-mark.new.pass.known c.look_behind.new.pass.known
     (load_later a.heap.now a.pass.now c.load-mark.new.pass a.why.now (Mark a.object) c.load-mark.result c.requires.heap c.requires.reached c.load-mark.ensures)
     c.look_behind.ensures.later
 
-pub returns-in-Some-clause-cell : goal.returns-in-Some-clause-cell
-returns-in-Some-clause-cell c = λ l later.
+pub returns-clause-cell : goal.returns-clause-cell
+returns-clause-cell c = λ l later.
     let a = c.args in
     let q = c.load-mark.new.pass in
     let n = c.load-mark.result in

@@ -1,4 +1,4 @@
-use Rattle.std.proofs.Common.{◌≡◌, ℕ, ◌+◌, ◌<◌, refl, sym, ap, ◌∙◌, subst, arith, add-one}
+use Rattle.std.proofs.Common.{◌≡◌, ◌+◌, refl, sym, ap, ◌∙◌, subst, arith, add-one}
 use Rattle.core_world.specs.declared.name.Name.TheVariants.{Hold}
 use Rattle.core_world.specs.RevocationRules.{holds_in}
 use Rattle.core_world.specs.Steps.{seen_words}

@@ -1,4 +1,4 @@
-use Rattle.std.proofs.Common.{◌≡◌, ◌≤◌, ◌==◌, true, false, cond, length, refl, sym, ap, ◌∙◌, subst, arith, ne_eqb}
+use Rattle.std.proofs.Common.{◌≡◌, ◌==◌, false, cond, length, refl, sym, ap, ◌∙◌, arith, ne_eqb}
 use Rattle.core_world.specs.declared.name.Name.TheVariants.{Length}
 use Rattle.core_world.specs.Steps.{seen_words}
 use Rattle.core_world.specs.Trees.Plans.{load}

@@ -1,10 +1,10 @@
-use Rattle.std.proofs.Common.{◌≡◌, ℕ, ◌+◌, ◌<◌, List, [], ◌∷◌, ◌++◌, length, refl, sym, ap, ◌∙◌, subst, arith, add-one}
+use Rattle.std.proofs.Common.{◌≡◌, ◌+◌, [], ◌∷◌, ◌++◌, length, refl, sym, ap, ◌∙◌, subst, arith, add-one}
 use Rattle.std.proofs.lemmas.List.{length-append}
 use Rattle.core_world.specs.declared.name.Name.TheVariants.{Length}
 use Rattle.core_world.specs.Trees.Plans.{load}
 use Rattle.core_world.specs.Trees.Todo.{done, all_from}
 use Rattle.heap_table.specs.Parts.{IsDueOn, HasRun}
-use Rattle.heap_table.specs.Seen.{PassSeen, IsOf}
+use Rattle.heap_table.specs.Seen.{PassSeen}
 use Rattle.heap_table.proofs.Loops.{HasCome}
 use Rattle.heap_table.proofs.Parts.{ends}
 use Rattle.revoke_walk.specs.ShotParts.{IsLater, lengths_below, length_of, look_at_length, look_at_lengths}

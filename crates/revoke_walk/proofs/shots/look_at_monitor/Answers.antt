@@ -1,4 +1,4 @@
-use Rattle.std.proofs.Common.{◌≡◌, Option, Some, None, refl, sym, ap, ◌∙◌, subst}
+use Rattle.std.proofs.Common.{◌≡◌, Option, Some, refl, sym, ap, ◌∙◌, subst}
 use Rattle.mark_word.specs.declared.owner.OwnerForm.{OwnerForm}
 use Rattle.mark_word.specs.Owner.{read_owner}
 use Rattle.core_world.specs.declared.name.Name.TheVariants.{Owner}
@@ -32,15 +32,15 @@ look_at_owner-requires-clause-reached c =
     let a = c.args in
     (load_later a.heap.now a.pass.now c.load-owner.new.pass a.why.now (Owner a.monitor) c.load-owner.result c.requires.heap c.requires.reached c.load-owner.ensures).reached ∙ c.requires.reached
 
-pub returns-in-Some-clause-later : goal.returns-in-Some-clause-later
-returns-in-Some-clause-later c =
+pub returns-clause-later : goal.returns-clause-later
+returns-clause-later c =
     let a = c.args in
     later_than a.pass.now.known c.load-owner.new.pass.known c.look_at_owner.new.pass.known
     (load_later a.heap.now a.pass.now c.load-owner.new.pass a.why.now (Owner a.monitor) c.load-owner.result c.requires.heap c.requires.reached c.load-owner.ensures)
     c.look_at_owner.ensures.later
 
-pub returns-in-Some-clause-cell : goal.returns-in-Some-clause-cell
-returns-in-Some-clause-cell c = λ l later.
+pub returns-clause-cell : goal.returns-clause-cell
+returns-clause-cell c = λ l later.
     let a = c.args in
     let q = c.load-owner.new.pass in
     let n = c.load-owner.result in
