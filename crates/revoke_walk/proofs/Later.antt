@@ -7,22 +7,25 @@ use Rattle.core_world.specs.declared.name.Name.TheVariants.{Length}
 use Rattle.core_world.specs.declared.stage.Stage.TheVariants.{Calm}
 use Rattle.core_world.specs.Locks.{or_zero}
 use Rattle.core_world.specs.Steps.{known_hit, seen_at_safepoint_before, seen_words}
-use Rattle.core_world.specs.Threads.Known.{Known, last_seen}
+use Rattle.core_world.specs.Threads.Known.{Known, last_seen, local_of}
 use Rattle.core_world.specs.Trees.Plans.{Purpose, load}
+use Rattle.core_world.specs.Trees.Todo.{done, step}
 use Rattle.core_world.specs.Words.Shape.{Shape}
 use Rattle.core_steps.specs.Logic.{Stands}
 use Rattle.core_steps.proofs.LawRules.{home}
 use Rattle.core_steps.proofs.SafepointLooks.{still_seen, saw_there, is_as_seen, fits_reached}
 use Rattle.heap_table.specs.Seen.{HeapSeen, PassSeen, IsOf}
 use Rattle.heap_table.specs.Stepping.{HasStepped}
+use Rattle.heap_table.proofs.Aside.{AreAside, leaves_own_words, aside}
+use Rattle.heap_table.proofs.Parts.{last_step}
 use Rattle.heap_table.proofs.Knows.{was_of}
 use Rattle.revoke_walk.specs.ShotParts.{IsLater, IsSettled}
 
 pub later_itself : (k : Known) → IsLater k k
-later_itself k = record { thread = refl; log = refl; reached = refl; saw = λ n v e. e }
+later_itself k = record { local = refl; reached = refl; saw = λ n v e. e }
 
 pub later_than : (k l m : Known) → IsLater k l → IsLater l m → IsLater k m
-later_than k l m a b = record { thread = b.thread ∙ a.thread; log = b.log ∙ a.log; reached = b.reached ∙ a.reached; saw = λ n v e. b.saw n v (a.saw n v e) }
+later_than k l m a b = record { local = b.local ∙ a.local; reached = b.reached ∙ a.reached; saw = λ n v e. b.saw n v (a.saw n v e) }
 
 pub settled_later : {A : Type 0} (k l : Known) (f : Known → A) (x : A) → IsLater k l → IsSettled k f x → IsSettled l f x
 settled_later k l f x a h m b = h m (later_than k l m a b)
@@ -34,6 +37,11 @@ seen_word k n v saw l later = ap or_zero (later.saw n v saw)
 kept : (at : Name) (k : Known) → k.reached ≡ true → seen_at_safepoint_before at Load k ≡ k.seen_at_safepoint
 kept name.Safepoint k reached = ap (λ (b : Bool). cond b k.seen_at_safepoint []) reached
 kept _ k reached = refl
+
+load_leaves : (at : Name) → leaves_own_words at Load ≡ true
+load_leaves (name.Hold t p) = refl
+load_leaves (name.Waiting t) = refl
+load_leaves _ = refl
 
 or_true : (a b : Bool) → a ≡ true → (a || b) ≡ true
 or_true true b e = refl
@@ -48,12 +56,17 @@ module _ (h : HeapSeen) (p q : PassSeen) (e : Purpose) (at : Name) (n : ℕ) (is
   behind : Known
   behind = known_hit h.heap.shape h.heap.start (load e at) n p.known
 
+  load_local : local_of q.known ≡ local_of p.known
+  load_local =
+      let d = step (load e at) done in
+      let aside_of : AreAside d = (record { quiet = refl; words = load_leaves at; keeps = refl }, λ m. tt) in
+      (aside h d p q n aside_of (last_step h p q (load e at) done n n s refl refl)).local
+
   pub load_later : IsLater p.known q.known
   load_later =
       let seeing = still_seen h.heap p.known.thread e at p.known n reached (kept at p.known reached) (was_of h.heap p.known (load e at) n s.stepped is_of.within) in
       subst (IsLater p.known) (sym s.known) (record {
-        thread = refl;
-        log = refl;
+        local = sym (ap local_of s.known) ∙ load_local;
         reached = stays_reached h.heap.shape h.heap.start e at n p.known reached;
         saw = seeing.saw;
       })

@@ -9,7 +9,7 @@ use Rattle.core_world.specs.Due.{Ran}
 use Rattle.core_world.specs.Locks.{Lock, Open, BiasedTo, has_epoch, lock_form, holder, hold_count, owner_and_count_by}
 use Rattle.core_world.specs.RevocationRules.{holds_in, words_from}
 use Rattle.core_world.specs.Steps.{seen_words, cells_from}
-use Rattle.core_world.specs.Threads.Known.{Known, last_seen}
+use Rattle.core_world.specs.Threads.Known.{Known, last_seen, local_of}
 use Rattle.core_world.specs.Trees.LookSteps.{look_at_holds, look_at_owner, look_behind}
 use Rattle.core_world.specs.Trees.Plans.{Purpose, load}
 use Rattle.core_world.specs.Trees.Todo.{Todo, done, ◌>>=◌, ask, all_from}
@@ -23,10 +23,10 @@ pub record HasShot (h : HeapSeen) (d : Todo (Unit {0})) (p q : PassSeen) : Type 
   pub limit : q.limit ≡ p.limit
   pub ran : Ran h.heap.shape h.heap.start d p.known q.known tt
 
--- Of one thread, that knew k: at the same reached safepoint it knows l, and has seen there what it had seen, and as it had.
+-- Of one thread, that knew k: at the same reached safepoint it knows l. It has logged nothing and stored none of its own words, and has seen at the
+-- safepoint what it had seen, and as it had.
 pub record IsLater (k l : Known) : Type 0 where
-  pub thread : l.thread ≡ k.thread
-  pub log : l.log ≡ k.log
+  pub local : local_of l ≡ local_of k
   pub reached : l.reached ≡ k.reached
   pub saw : (n : Name) (v : ℕ) → last_seen n k.seen_at_safepoint ≡ Some v → last_seen n l.seen_at_safepoint ≡ Some v
 

@@ -2,14 +2,18 @@
 ghost use Rattle.std.specs.Prelude.{◌≡◌, ◌<◌, ◌≤◌, [], length, Some, true};
 ghost use Rattle.core_world.specs.Locks.{has_epoch, owner_lock, BiasedTo};
 ghost use Rattle.core_world.specs.Steps.{seen_words, cut_from, cells_from};
+ghost use Rattle.core_world.specs.Threads.Known.{local_of};
 ghost use Rattle.core_world.specs.Threads.Stages.{one_if};
-ghost use Rattle.core_world.specs.Trees.LookSteps.{look_at_holds, look_at_owner, look_behind, look_at_objects, take_shot_steps};
+ghost use Rattle.core_world.specs.Trees.LookSteps.{look_at_holds, look_at_owner, look_behind, look_at_objects};
+ghost use Rattle.core_world.specs.Trees.LookSteps.{take_shot_steps};
 ghost use Rattle.core_world.specs.Words.Forms.{epoch_in, names};
 ghost use Rattle.heap_table.specs.Parts.{IsDueOn, HasRun};
 ghost use Rattle.heap_table.specs.Seen.{IsOf};
 ghost use Rattle.mark_word.specs.Hold.{read_hold};
-ghost use Rattle.revoke_walk.specs.ShotParts.{HasShot, IsLater, IsSettled, held_in, owned_cell, cell_by, cell_at, cell_of, bias_lock, length_of};
-ghost use Rattle.revoke_walk.specs.ShotParts.{look_at_hold, look_at_bias, look_at_monitor, look_at_cell, look_at_length, look_at_lengths};
+ghost use Rattle.revoke_walk.specs.ShotParts.{HasShot, IsLater, IsSettled};
+ghost use Rattle.revoke_walk.specs.ShotParts.{held_in, owned_cell, cell_by, cell_at, cell_of, bias_lock, length_of};
+ghost use Rattle.revoke_walk.specs.ShotParts.{look_at_hold, look_at_bias, look_at_monitor, look_at_cell};
+ghost use Rattle.revoke_walk.specs.ShotParts.{look_at_length, look_at_lengths};
 ghost use Rattle.core_world.specs.declared.name.Name.TheVariants as name;
 
 use core_world::{Name, Own, Stage};
@@ -69,7 +73,8 @@ fn look_at_hold(
     requires reached { pass.old.known.reached ≡ true }
     ensures run { HasRun heap.now (look_at_hold why.now thread place) pass.old pass.new tt }
     ensures later { IsLater pass.old.known pass.new.known }
-    ensures held { IsSettled pass.new.known (λ k. one_if (names object (seen_words k (name.Hold thread place)))) result }
+    ensures held { IsSettled pass.new.known
+        (λ k. one_if (names object (seen_words k (name.Hold thread place)))) result }
     ensures few { result ≤ 1 }
 {
     let at = Name::Hold { thread, place };
@@ -134,12 +139,13 @@ fn look_at_bias(
 ) -> Cell
     requires heap { IsOf heap.now pass.old }
     requires object { object < length heap.now.heap.shape.objects }
-    requires due { IsDueOn heap.now pass.old why.now.task (look_at_bias why.now heap.now.heap.shape object thread epoch) }
+    requires due { IsDueOn heap.now pass.old why.now.task
+        (look_at_bias why.now heap.now.heap.shape object thread epoch) }
     requires reached { pass.old.known.reached ≡ true }
     ensures run { HasRun heap.now (look_at_bias why.now heap.now.heap.shape object thread epoch) pass.old pass.new tt }
     ensures later { IsLater pass.old.known pass.new.known }
-    ensures cell { IsSettled pass.new.known (λ k. cell_by (bias_lock heap.now.heap.shape object thread epoch k) object k)
-        (result.owner, result.count) }
+    ensures cell { IsSettled pass.new.known
+        (λ k. cell_by (bias_lock heap.now.heap.shape object thread epoch k) object k) (result.owner, result.count) }
 {
     let class = heap.shape().class_of(object);
     let prototype = heap.load(pass, why, Stage::Calm, Name::Prototype { class });
@@ -209,7 +215,8 @@ fn look_behind(
     requires reached { pass.old.known.reached ≡ true }
     ensures run { HasRun heap.now (look_behind (Some form) why.now heap.now.heap.shape object) pass.old pass.new tt }
     ensures later { IsLater pass.old.known pass.new.known }
-    ensures cell { IsSettled pass.new.known (cell_at (Some form) heap.now.heap.shape object) (result.owner, result.count) }
+    ensures cell { IsSettled pass.new.known (cell_at (Some form) heap.now.heap.shape object)
+        (result.owner, result.count) }
 {
     match form {
         MarkForm::Biased { thread, epoch, .. } => {
@@ -293,14 +300,15 @@ fn look_at_lengths(heap: &Heap, pass: &mut Pass, why: &Purpose)
     }
 }
 
-/// Takes a shot of a dump at the thread's reached safepoint, and keeps it: the length of each thread's log, and for each
-/// object who has its lock, and how often. The draft of the pass, whatever it was, becomes this shot, which is then the
-/// last of the shots that the pass has taken.
+/// Takes a shot of a dump at the thread's reached safepoint, and keeps it: the length of each thread's log, and for
+/// each object who has its lock, and how often. The draft of the pass, whatever it was, becomes this shot, which is then
+/// the last of the shots that the pass has taken. Nothing is stored and nothing logged.
 pub fn take_shot(heap: &Heap, pass: &mut Pass, why: &Purpose)
     requires heap { IsOf heap.now pass.old }
     requires due { IsDueOn heap.now pass.old why.now.task (take_shot_steps why.now heap.now.heap.shape) }
     requires reached { pass.old.known.reached ≡ true }
-    ensures { HasShot heap.now (take_shot_steps why.now heap.now.heap.shape) pass.old pass.new }
+    ensures run { HasShot heap.now (take_shot_steps why.now heap.now.heap.shape) pass.old pass.new }
+    ensures local { local_of pass.new.known ≡ local_of pass.old.known }
 {
     pass.begin_shot();
     look_at_objects(heap, pass, why);

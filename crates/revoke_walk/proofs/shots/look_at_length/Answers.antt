@@ -1,6 +1,7 @@
 use Rattle.std.proofs.Common.{◌≡◌, ◌==◌, false, cond, length, refl, sym, ap, ◌∙◌, arith, ne_eqb}
 use Rattle.core_world.specs.declared.name.Name.TheVariants.{Length}
 use Rattle.core_world.specs.Steps.{seen_words}
+use Rattle.core_world.specs.Threads.Known.{Local}
 use Rattle.core_world.specs.Trees.Plans.{load}
 use Rattle.heap_table.proofs.Parts.{can}
 use Rattle.revoke_walk.proofs.Later.{load_later, load_saw, load_settled, load_calm, log_few, published_few}
@@ -49,5 +50,5 @@ returns-else-thread-clause-length c = λ l later.
     let q = c.load-published.new.pass in
     let word = load_settled a.heap.now a.pass.now q a.why.now (Length a.thread) c.load-published.result c.requires.heap c.requires.reached c.load-published.ensures l later in
     let other : (a.thread == l.thread) ≡ false =
-    ne_eqb a.thread l.thread (λ same. c.if-thread.false (same ∙ later.thread ∙ sym c.thread.ensures.same)) in
+    ne_eqb a.thread l.thread (λ same. c.if-thread.false (same ∙ ap (λ (x : Local). x.thread) later.local ∙ sym c.thread.ensures.same)) in
     ap (λ b. cond b (length l.log) (seen_words l (Length a.thread))) other ∙ word

@@ -1,6 +1,7 @@
-use Rattle.std.proofs.Common.{◌≡◌, refl, sym, ◌∙◌, subst}
+use Rattle.std.proofs.Common.{ap, ◌≡◌, refl, sym, ◌∙◌, subst}
 use Rattle.mark_word.specs.Mark.{read_mark}
 use Rattle.core_world.specs.declared.name.Name.TheVariants.{Mark, Length}
+use Rattle.core_world.specs.Threads.Known.{local_of}
 use Rattle.core_world.specs.Trees.LookSteps.{keep_shot_plan, look_behind, look_at_objects, take_shot_steps}
 use Rattle.core_world.specs.Trees.Plans.{Purpose, load}
 use Rattle.core_world.specs.Trees.Todo.{Todo, done, ◌>>=◌, ask}
@@ -65,8 +66,8 @@ load_and_keep-requires c =
       drafted = (sym (lengths.cut r.known (later_itself r.known)), lengths.cells ∙ sym (c.look_at_objects.ensures.cells r.known lengths.later));
     }
 
-pub returns : goal.returns
-returns c =
+pub returns-clause-run : goal.returns-clause-run
+returns-clause-run c =
     let a = c.args in
     let h = a.heap.now in
     let e = a.why.now in
@@ -90,3 +91,8 @@ returns c =
     shot_of_run h p (take_shot_steps e s) z
     (in_turn h (bare p) (bare q) (bare z) (look_at_objects e s) (λ u. look_at_lengths e s >>= kept e) tt tt one
     (in_turn h (bare q) (bare r) (bare z) (look_at_lengths e s) (kept e) tt tt two three))
+
+pub returns-clause-local : goal.returns-clause-local
+returns-clause-local c =
+    let same : c.begin_shot.new.self ≡ bare c.args.pass.now = c.begin_shot.ensures in
+    ap local_of c.load_and_keep.ensures.known ∙ c.look_at_lengths.ensures.later.local ∙ c.look_at_objects.ensures.later.local ∙ ap (λ (z : PassSeen). local_of z.known) same
