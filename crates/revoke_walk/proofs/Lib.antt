@@ -2,3 +2,8 @@ mod Behind
 mod Rounds
 mod RevokeSteps
 mod RevokeWords
+mod Standing
+mod StandLoop
+mod Later
+mod Parting
+mod Cells

@@ -1,1 +1,3 @@
 pub mod RevokeParts
+pub mod StandParts
+pub mod ShotParts

@@ -9,6 +9,8 @@ mod bulks;
 mod outcome;
 mod revocation;
 mod revokes;
+mod shots;
+mod stands;
 mod steps;
 mod verdicts;
 mod visit;
@@ -16,4 +18,7 @@ mod walks;
 mod words;
 
 pub use outcome::Outcome;
+pub use revocation::Revocation;
+pub use shots::take_shot;
+pub use stands::stands_still;
 pub use verdicts::revoke_at_safepoint;

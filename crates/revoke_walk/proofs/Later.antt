@@ -1,0 +1,101 @@
+-- What a thread sees at its reached safepoint stays seen.
+use Rattle.std.proofs.Common.{◌≡◌, ℕ, ◌≤◌, ◌||◌, Bool, true, false, cond, [], length, Some, refl, sym, ap, ◌∙◌, subst, arith}
+use Rattle.core_world.specs.declared.act.Act.TheVariants.{Load}
+use Rattle.core_world.specs.declared.name.Name.{Name}
+use Rattle.core_world.specs.declared.name.Name.TheVariants as name
+use Rattle.core_world.specs.declared.name.Name.TheVariants.{Length}
+use Rattle.core_world.specs.declared.stage.Stage.TheVariants.{Calm}
+use Rattle.core_world.specs.Locks.{or_zero}
+use Rattle.core_world.specs.Steps.{known_hit, seen_at_safepoint_before, seen_words}
+use Rattle.core_world.specs.Threads.Known.{Known, last_seen, local_of}
+use Rattle.core_world.specs.Trees.Plans.{Purpose, load}
+use Rattle.core_world.specs.Trees.Todo.{done, step}
+use Rattle.core_world.specs.Words.Shape.{Shape}
+use Rattle.core_steps.specs.Logic.{Stands}
+use Rattle.core_steps.proofs.LawRules.{home}
+use Rattle.core_steps.proofs.SafepointLooks.{still_seen, saw_there, is_as_seen, fits_reached}
+use Rattle.heap_table.specs.Seen.{HeapSeen, PassSeen, IsOf}
+use Rattle.heap_table.specs.Stepping.{HasStepped}
+use Rattle.heap_table.proofs.Aside.{AreAside, leaves_own_words, aside}
+use Rattle.heap_table.proofs.Parts.{last_step}
+use Rattle.heap_table.proofs.Knows.{was_of}
+use Rattle.revoke_walk.specs.ShotParts.{IsLater, IsSettled}
+
+pub later_itself : (k : Known) → IsLater k k
+later_itself k = record { local = refl; reached = refl; saw = λ n v e. e }
+
+pub later_than : (k l m : Known) → IsLater k l → IsLater l m → IsLater k m
+later_than k l m a b = record { local = b.local ∙ a.local; reached = b.reached ∙ a.reached; saw = λ n v e. b.saw n v (a.saw n v e) }
+
+pub settled_later : {A : Type 0} (k l : Known) (f : Known → A) (x : A) → IsLater k l → IsSettled k f x → IsSettled l f x
+settled_later k l f x a h m b = h m (later_than k l m a b)
+
+-- what was seen of a word
+pub seen_word : (k : Known) (n : Name) (v : ℕ) → last_seen n k.seen_at_safepoint ≡ Some v → IsSettled k (λ l. seen_words l n) v
+seen_word k n v saw l later = ap or_zero (later.saw n v saw)
+
+kept : (at : Name) (k : Known) → k.reached ≡ true → seen_at_safepoint_before at Load k ≡ k.seen_at_safepoint
+kept name.Safepoint k reached = ap (λ (b : Bool). cond b k.seen_at_safepoint []) reached
+kept _ k reached = refl
+
+load_leaves : (at : Name) → leaves_own_words at Load ≡ true
+load_leaves (name.Hold t p) = refl
+load_leaves (name.Waiting t) = refl
+load_leaves _ = refl
+
+or_true : (a b : Bool) → a ≡ true → (a || b) ≡ true
+or_true true b e = refl
+or_true false b e = absurd (cc e)
+
+stays_reached : (s : Shape) (start : ℕ) (e : Purpose) (at : Name) (n : ℕ) (k : Known) → k.reached ≡ true → (known_hit s start (load e at) n k).reached ≡ k.reached
+stays_reached s start e name.Safepoint n k reached = or_true k.reached _ reached ∙ sym reached
+stays_reached s start e _ n k reached = refl
+
+-- A load at the reached safepoint: the thread knows more behind it, and has seen the word that it found.
+module _ (h : HeapSeen) (p q : PassSeen) (e : Purpose) (at : Name) (n : ℕ) (is_of : IsOf h p) (reached : p.known.reached ≡ true) (s : HasStepped h p q (load e at) n) where
+  behind : Known
+  behind = known_hit h.heap.shape h.heap.start (load e at) n p.known
+
+  load_local : local_of q.known ≡ local_of p.known
+  load_local =
+      let d = step (load e at) done in
+      let aside_of : AreAside d = (record { quiet = refl; words = load_leaves at; keeps = refl }, λ m. tt) in
+      (aside h d p q n aside_of (last_step h p q (load e at) done n n s refl refl)).local
+
+  pub load_later : IsLater p.known q.known
+  load_later =
+      let seeing = still_seen h.heap p.known.thread e at p.known n reached (kept at p.known reached) (was_of h.heap p.known (load e at) n s.stepped is_of.within) in
+      subst (IsLater p.known) (sym s.known) (record {
+        local = sym (ap local_of s.known) ∙ load_local;
+        reached = stays_reached h.heap.shape h.heap.start e at n p.known reached;
+        saw = seeing.saw;
+      })
+
+  pub load_saw : last_seen at q.known.seen_at_safepoint ≡ Some n
+  load_saw = subst (λ (k : Known). last_seen at k.seen_at_safepoint ≡ Some n) (sym s.known) (saw_there h.heap p.known.thread e at p.known n (kept at p.known reached))
+
+  pub load_settled : IsSettled q.known (λ l. seen_words l at) n
+  load_settled = seen_word q.known at n load_saw
+
+  pub load_calm : q.known.stage ≡ Calm
+  load_calm = ap (λ (k : Known). k.stage) s.known
+
+-- LENGTHS. No log is longer than its limit, nor its published length.
+module _ (h : HeapSeen) (p : PassSeen) (is_of : IsOf h p) where
+  stands : Stands h.heap p.known
+  stands =
+      let r = is_of.real in
+      record { world = r.world; objects = r.sound.valid.objects; is_of = r.is_of; knows = r.knew; within = is_of.within; valid = r.sound.valid.is }
+
+  module _ (reached : p.known.reached ≡ true) (calm : p.known.stage ≡ Calm) where
+    pub log_few : length p.known.log ≤ 400066
+    log_few = home h.heap p.known stands (λ s y. length y.log ≤ 400066) ((fits_reached h.heap p.known stands reached calm).lengths.few p.known.thread)
+
+    pub published_few : (u n : ℕ) → last_seen (Length u) p.known.seen_at_safepoint ≡ Some n → n ≤ 400066
+    published_few u n saw =
+        let fits = fits_reached h.heap p.known stands reached calm in
+        let word : stands.world.words (Length u) ≡ n = is_as_seen h.heap p.known stands reached (Length u) n saw in
+        let a = fits.lengths.stored u in
+        let b = fits.lengths.most u in
+        let c = fits.lengths.few u in
+        omega (arith, a, b, c, word)

@@ -1,0 +1,24 @@
+use Rattle.std.proofs.Common.{refl, ap, sym, ◌∙◌}
+use Rattle.core_world.specs.declared.name.Name.TheVariants.{Hold}
+use Rattle.core_world.specs.Threads.Stages.{one_if}
+use Rattle.core_world.specs.Trees.Plans.{load}
+use Rattle.core_world.specs.Words.Forms.{names}
+use Rattle.heap_table.proofs.Parts.{can}
+use Rattle.revoke_walk.proofs.Later.{load_later, load_settled}
+use Rattle.revoke_walk.proofs.shots.look_at_hold.Goals as goal
+
+pub load-word-requires : goal.load-word-requires
+load-word-requires c =
+    let a = c.args in
+    can a.heap.now a.pass.now a.why.now.task (load a.why.now (Hold a.thread a.place)) _ c.requires.due refl c.requires.heap tt refl
+
+pub returns-clause-later : goal.returns-clause-later
+returns-clause-later c =
+    let a = c.args in
+    load_later a.heap.now a.pass.now c.load-word.new.pass a.why.now (Hold a.thread a.place) c.load-word.result c.requires.heap c.requires.reached c.load-word.ensures
+
+pub returns-clause-held : goal.returns-clause-held
+returns-clause-held c = λ l later.
+    let a = c.args in
+    let word = load_settled a.heap.now a.pass.now c.load-word.new.pass a.why.now (Hold a.thread a.place) c.load-word.result c.requires.heap c.requires.reached c.load-word.ensures l later in
+    ap (λ n. one_if (names a.object n)) word ∙ sym c.names.ensures.value

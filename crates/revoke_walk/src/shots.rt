@@ -1,0 +1,317 @@
+//! The shot of a dump: who has each lock, and how long each log is.
+ghost use Rattle.std.specs.Prelude.{◌≡◌, ◌<◌, ◌≤◌, [], length, Some, true};
+ghost use Rattle.core_world.specs.Locks.{has_epoch, owner_lock, BiasedTo};
+ghost use Rattle.core_world.specs.Steps.{seen_words, cut_from, cells_from};
+ghost use Rattle.core_world.specs.Threads.Known.{local_of};
+ghost use Rattle.core_world.specs.Threads.Stages.{one_if};
+ghost use Rattle.core_world.specs.Trees.LookSteps.{look_at_holds, look_at_owner, look_behind, look_at_objects};
+ghost use Rattle.core_world.specs.Trees.LookSteps.{take_shot_steps};
+ghost use Rattle.core_world.specs.Words.Forms.{epoch_in, names};
+ghost use Rattle.heap_table.specs.Parts.{IsDueOn, HasRun};
+ghost use Rattle.heap_table.specs.Seen.{IsOf};
+ghost use Rattle.mark_word.specs.Hold.{read_hold};
+ghost use Rattle.revoke_walk.specs.ShotParts.{HasShot, IsLater, IsSettled};
+ghost use Rattle.revoke_walk.specs.ShotParts.{held_in, owned_cell, cell_by, cell_at, cell_of, bias_lock, length_of};
+ghost use Rattle.revoke_walk.specs.ShotParts.{look_at_hold, look_at_bias, look_at_monitor, look_at_cell};
+ghost use Rattle.revoke_walk.specs.ShotParts.{look_at_length, look_at_lengths};
+ghost use Rattle.core_world.specs.declared.name.Name.TheVariants as name;
+
+use core_world::{Name, Own, Stage};
+use heap_table::{Cell, Heap, Pass, Purpose, mark_of_word, owner_of_word};
+use mark_word::{HoldForm, MarkForm, OwnerForm, decode_hold};
+
+fn hold_of_word(word: u64) -> Option<HoldForm>
+    ensures { result ≡ read_hold word }
+{
+    decode_hold(word).ok()
+}
+
+// 1 where the hold word names the object, and else 0.
+fn names(object: u32, word: u64) -> u32
+    ensures value { result ≡ one_if (names object word) }
+    ensures few { result ≤ 1 }
+{
+    match hold_of_word(word) {
+        Some(form) => match form {
+            HoldForm::Holds { object: of, .. } => {
+                if of == object {
+                    1
+                } else {
+                    0
+                }
+            }
+            HoldForm::Empty => 0,
+        },
+        None => 0,
+    }
+}
+
+// Whether a bias of this epoch is valid, by the prototype of its class.
+fn is_valid(prototype: u64, epoch: u8) -> bool
+    ensures { result ≡ has_epoch (epoch_in prototype) epoch }
+{
+    match mark_of_word(prototype) {
+        Some(form) => match form {
+            MarkForm::Anonymous { epoch: valid, .. } => valid == epoch,
+            _ => false,
+        },
+        None => false,
+    }
+}
+
+// 1 where the thread's hold word of this place names the object, and else 0.
+fn look_at_hold(
+    heap: &Heap,
+    pass: &mut Pass,
+    why: &Purpose,
+    object: u32,
+    thread: u32,
+    place: u32,
+) -> u32
+    requires heap { IsOf heap.now pass.old }
+    requires due { IsDueOn heap.now pass.old why.now.task (look_at_hold why.now thread place) }
+    requires reached { pass.old.known.reached ≡ true }
+    ensures run { HasRun heap.now (look_at_hold why.now thread place) pass.old pass.new tt }
+    ensures later { IsLater pass.old.known pass.new.known }
+    ensures held { IsSettled pass.new.known
+        (λ k. one_if (names object (seen_words k (name.Hold thread place)))) result }
+    ensures few { result ≤ 1 }
+{
+    let at = Name::Hold { thread, place };
+    let word = heap.load(pass, why, Stage::Calm, at);
+    names(object, word)
+}
+
+// How many of the thread's hold words name the object.
+fn look_at_holds(heap: &Heap, pass: &mut Pass, why: &Purpose, object: u32, thread: u32) -> u32
+    requires heap { IsOf heap.now pass.old }
+    requires due { IsDueOn heap.now pass.old why.now.task (look_at_holds why.now thread) }
+    requires reached { pass.old.known.reached ≡ true }
+    ensures run { HasRun heap.now (look_at_holds why.now thread) pass.old pass.new tt }
+    ensures later { IsLater pass.old.known pass.new.known }
+    ensures held { IsSettled pass.new.known (λ k. held_in object k thread) result }
+{
+    let mut held = 0;
+    for place in 0..64u32 {
+        held += look_at_hold(heap, pass, why, object, thread, place);
+    }
+    held
+}
+
+// The thread has the object's lock.
+fn look_at_owned(heap: &Heap, pass: &mut Pass, why: &Purpose, object: u32, thread: u32) -> Cell
+    requires heap { IsOf heap.now pass.old }
+    requires due { IsDueOn heap.now pass.old why.now.task (look_at_holds why.now thread) }
+    requires reached { pass.old.known.reached ≡ true }
+    ensures run { HasRun heap.now (look_at_holds why.now thread) pass.old pass.new tt }
+    ensures later { IsLater pass.old.known pass.new.known }
+    ensures cell { IsSettled pass.new.known (owned_cell object thread) (result.owner, result.count) }
+{
+    let count = look_at_holds(heap, pass, why, object, thread);
+    Cell {
+        owner: Some(thread),
+        count,
+    }
+}
+
+// The object is validly biased to the thread, which has its lock where it holds it.
+fn look_at_biased(heap: &Heap, pass: &mut Pass, why: &Purpose, object: u32, thread: u32) -> Cell
+    requires heap { IsOf heap.now pass.old }
+    requires due { IsDueOn heap.now pass.old why.now.task (look_at_holds why.now thread) }
+    requires reached { pass.old.known.reached ≡ true }
+    ensures run { HasRun heap.now (look_at_holds why.now thread) pass.old pass.new tt }
+    ensures later { IsLater pass.old.known pass.new.known }
+    ensures cell { IsSettled pass.new.known (cell_by (BiasedTo thread) object) (result.owner, result.count) }
+{
+    let count = look_at_holds(heap, pass, why, object, thread);
+    let owner = if count == 0 { None } else { Some(thread) };
+    Cell { owner, count }
+}
+
+// The object is biased to the thread, in this epoch.
+fn look_at_bias(
+    heap: &Heap,
+    pass: &mut Pass,
+    why: &Purpose,
+    object: u32,
+    thread: u32,
+    epoch: u8,
+) -> Cell
+    requires heap { IsOf heap.now pass.old }
+    requires object { object < length heap.now.heap.shape.objects }
+    requires due { IsDueOn heap.now pass.old why.now.task
+        (look_at_bias why.now heap.now.heap.shape object thread epoch) }
+    requires reached { pass.old.known.reached ≡ true }
+    ensures run { HasRun heap.now (look_at_bias why.now heap.now.heap.shape object thread epoch) pass.old pass.new tt }
+    ensures later { IsLater pass.old.known pass.new.known }
+    ensures cell { IsSettled pass.new.known
+        (λ k. cell_by (bias_lock heap.now.heap.shape object thread epoch k) object k) (result.owner, result.count) }
+{
+    let class = heap.shape().class_of(object);
+    let prototype = heap.load(pass, why, Stage::Calm, Name::Prototype { class });
+    if is_valid(prototype, epoch) {
+        look_at_biased(heap, pass, why, object, thread)
+    } else {
+        Cell {
+            owner: None,
+            count: 0,
+        }
+    }
+}
+
+// The owner word of the object's monitor has this form.
+fn look_at_owner(
+    heap: &Heap,
+    pass: &mut Pass,
+    why: &Purpose,
+    object: u32,
+    form: OwnerForm,
+) -> Cell
+    requires heap { IsOf heap.now pass.old }
+    requires due { IsDueOn heap.now pass.old why.now.task (look_at_owner (Some form) why.now) }
+    requires reached { pass.old.known.reached ≡ true }
+    ensures run { HasRun heap.now (look_at_owner (Some form) why.now) pass.old pass.new tt }
+    ensures later { IsLater pass.old.known pass.new.known }
+    ensures cell { IsSettled pass.new.known (cell_by (owner_lock (Some form)) object) (result.owner, result.count) }
+{
+    match form {
+        OwnerForm::Free => Cell {
+            owner: None,
+            count: 0,
+        },
+        OwnerForm::ByThread { thread } => look_at_owned(heap, pass, why, object, thread),
+        OwnerForm::ByRecord { thread, .. } => look_at_owned(heap, pass, why, object, thread),
+    }
+}
+
+// The object's mark names the monitor.
+fn look_at_monitor(heap: &Heap, pass: &mut Pass, why: &Purpose, object: u32, monitor: u32) -> Cell
+    requires heap { IsOf heap.now pass.old }
+    requires due { IsDueOn heap.now pass.old why.now.task (look_at_monitor why.now monitor) }
+    requires reached { pass.old.known.reached ≡ true }
+    ensures run { HasRun heap.now (look_at_monitor why.now monitor) pass.old pass.new tt }
+    ensures later { IsLater pass.old.known pass.new.known }
+    ensures cell { IsSettled pass.new.known (cell_at (Some (MarkForm.Inflated monitor)) heap.now.heap.shape object)
+        (result.owner, result.count) }
+{
+    let owner = heap.load(pass, why, Stage::Calm, Name::Owner { monitor });
+    match owner_of_word(owner) {
+        Some(form) => look_at_owner(heap, pass, why, object, form),
+        None => unreachable!(),
+    }
+}
+
+// The object's mark has this form.
+fn look_behind(
+    heap: &Heap,
+    pass: &mut Pass,
+    why: &Purpose,
+    object: u32,
+    form: MarkForm,
+) -> Cell
+    requires heap { IsOf heap.now pass.old }
+    requires object { object < length heap.now.heap.shape.objects }
+    requires due { IsDueOn heap.now pass.old why.now.task (look_behind (Some form) why.now heap.now.heap.shape object) }
+    requires reached { pass.old.known.reached ≡ true }
+    ensures run { HasRun heap.now (look_behind (Some form) why.now heap.now.heap.shape object) pass.old pass.new tt }
+    ensures later { IsLater pass.old.known pass.new.known }
+    ensures cell { IsSettled pass.new.known (cell_at (Some form) heap.now.heap.shape object)
+        (result.owner, result.count) }
+{
+    match form {
+        MarkForm::Biased { thread, epoch, .. } => {
+            look_at_bias(heap, pass, why, object, thread, epoch)
+        }
+        MarkForm::Locked { thread, .. } => look_at_owned(heap, pass, why, object, thread),
+        MarkForm::Inflated { monitor } => look_at_monitor(heap, pass, why, object, monitor),
+        _ => Cell {
+            owner: None,
+            count: 0,
+        },
+    }
+}
+
+// Who has the object's lock, and how often.
+fn look_at_cell(heap: &Heap, pass: &mut Pass, why: &Purpose, object: u32) -> Cell
+    requires heap { IsOf heap.now pass.old }
+    requires object { object < length heap.now.heap.shape.objects }
+    requires due { IsDueOn heap.now pass.old why.now.task (look_at_cell why.now heap.now.heap.shape object) }
+    requires reached { pass.old.known.reached ≡ true }
+    ensures run { HasRun heap.now (look_at_cell why.now heap.now.heap.shape object) pass.old pass.new tt }
+    ensures later { IsLater pass.old.known pass.new.known }
+    ensures cell { IsSettled pass.new.known (cell_of heap.now.heap.shape object) (result.owner, result.count) }
+{
+    let mark = heap.load(pass, why, Stage::Calm, Name::Mark { object });
+    match mark_of_word(mark) {
+        Some(form) => look_behind(heap, pass, why, object, form),
+        None => unreachable!(),
+    }
+}
+
+// How long the thread's log is: as it published it, and for the pass's own thread as it is.
+fn look_at_length(heap: &Heap, pass: &mut Pass, why: &Purpose, thread: u32) -> u32
+    requires heap { IsOf heap.now pass.old }
+    requires due { IsDueOn heap.now pass.old why.now.task (look_at_length why.now thread) }
+    requires reached { pass.old.known.reached ≡ true }
+    ensures run { HasRun heap.now (look_at_length why.now thread) pass.old pass.new tt }
+    ensures later { IsLater pass.old.known pass.new.known }
+    ensures length { IsSettled pass.new.known (length_of thread) result }
+{
+    let published = heap.load(pass, why, Stage::Calm, Name::Length { thread });
+    if thread == pass.thread() {
+        pass.log().len() as u32
+    } else {
+        published as u32
+    }
+}
+
+// The cells of all objects.
+fn look_at_objects(heap: &Heap, pass: &mut Pass, why: &Purpose)
+    requires heap { IsOf heap.now pass.old }
+    requires due { IsDueOn heap.now pass.old why.now.task (look_at_objects why.now heap.now.heap.shape) }
+    requires reached { pass.old.known.reached ≡ true }
+    requires none { pass.old.cells ≡ [] }
+    ensures run { HasShot heap.now (look_at_objects why.now heap.now.heap.shape) pass.old pass.new }
+    ensures later { IsLater pass.old.known pass.new.known }
+    ensures cut { pass.new.cut ≡ pass.old.cut }
+    ensures cells { IsSettled pass.new.known
+        (λ k. cells_from 0 heap.now.heap.shape.objects heap.now.heap.shape (seen_words k)) pass.new.cells }
+{
+    for object in 0..heap.shape().objects() as u32 {
+        let cell = look_at_cell(heap, pass, why, object);
+        pass.see_cell(cell);
+    }
+}
+
+// The lengths of all logs.
+fn look_at_lengths(heap: &Heap, pass: &mut Pass, why: &Purpose)
+    requires heap { IsOf heap.now pass.old }
+    requires due { IsDueOn heap.now pass.old why.now.task (look_at_lengths why.now heap.now.heap.shape) }
+    requires reached { pass.old.known.reached ≡ true }
+    requires none { pass.old.cut ≡ [] }
+    ensures run { HasShot heap.now (look_at_lengths why.now heap.now.heap.shape) pass.old pass.new }
+    ensures later { IsLater pass.old.known pass.new.known }
+    ensures cells { pass.new.cells ≡ pass.old.cells }
+    ensures cut { IsSettled pass.new.known (cut_from 0 heap.now.heap.shape.threads) pass.new.cut }
+{
+    for thread in 0..heap.shape().threads() {
+        let entries = look_at_length(heap, pass, why, thread);
+        pass.see_length(entries);
+    }
+}
+
+/// Takes a shot of a dump at the thread's reached safepoint, and keeps it: the length of each thread's log, and for
+/// each object who has its lock, and how often. The draft of the pass, whatever it was, becomes this shot, which is then
+/// the last of the shots that the pass has taken. Nothing is stored and nothing logged.
+pub fn take_shot(heap: &Heap, pass: &mut Pass, why: &Purpose)
+    requires heap { IsOf heap.now pass.old }
+    requires due { IsDueOn heap.now pass.old why.now.task (take_shot_steps why.now heap.now.heap.shape) }
+    requires reached { pass.old.known.reached ≡ true }
+    ensures run { HasShot heap.now (take_shot_steps why.now heap.now.heap.shape) pass.old pass.new }
+    ensures local { local_of pass.new.known ≡ local_of pass.old.known }
+{
+    pass.begin_shot();
+    look_at_objects(heap, pass, why);
+    look_at_lengths(heap, pass, why);
+    heap.load_and_keep(pass, why, Own::TakeShot, Name::Safepoint);
+}
