@@ -1,5 +1,5 @@
 -- What is due behind a part, whether it makes steps or none.
-use Rattle.std.proofs.Common.{◌≡◌, ℕ, ◌<◌, Bool, true, false, if◌then◌else◌, List, length, Result, Ok, Err, sym, ap, subst}
+use Rattle.std.proofs.Common.{◌≡◌, ◌<◌, Bool, true, false, if◌then◌else◌, List, length, Ok, Err, sym, ap, subst}
 use Rattle.plain_monitor.specs.declared.entry.Logged.{Logged}
 use Rattle.core_world.specs.declared.task.Task.{Task}
 use Rattle.core_world.specs.Due.{IsDue}

@@ -1,4 +1,4 @@
-use Rattle.std.proofs.Common.{◌≡◌, ℕ, ◌+◌, length, refl, sym, ap, ◌∙◌, subst}
+use Rattle.std.proofs.Common.{◌≡◌, ◌+◌, length, refl, sym, ap, ◌∙◌, subst}
 use Rattle.plain_monitor.specs.declared.entry.Entry.{Entry}
 use Rattle.core_world.specs.declared.name.Name.TheVariants.{Waiting}
 use Rattle.core_world.specs.declared.plan.StepPlan.{StepPlan}

@@ -1,4 +1,4 @@
-use Rattle.std.proofs.Common.{◌≡◌, ◌==◌, true, false, Result, Ok, Err, refl, sym, ap, ◌∙◌, subst, ne_eqb}
+use Rattle.std.proofs.Common.{◌≡◌, ◌==◌, false, Result, Ok, Err, refl, sym, ap, ◌∙◌, subst, ne_eqb}
 use Rattle.plain_monitor.specs.declared.entry.Value.{Value}
 use Rattle.plain_monitor.specs.ValueWords.{read_value}
 use Rattle.core_world.specs.declared.answer.Unguarded.{Unguarded}

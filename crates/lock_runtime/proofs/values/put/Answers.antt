@@ -1,4 +1,4 @@
-use Rattle.std.proofs.Common.{◌≡◌, ◌==◌, ◌&&◌, nat_lt, Bool, false, Result, Ok, Err, refl, sym, ap, ◌∙◌, subst, ne_eqb}
+use Rattle.std.proofs.Common.{◌≡◌, ◌==◌, ◌&&◌, nat_lt, false, Result, Ok, Err, refl, sym, ap, ◌∙◌, subst, ne_eqb}
 use Rattle.plain_monitor.specs.declared.entry.Entry.TheVariants as entry
 use Rattle.plain_monitor.proofs.ValuesRead.{word_of-only}
 use Rattle.core_world.specs.declared.answer.Unguarded.{Unguarded}
@@ -9,7 +9,6 @@ use Rattle.core_world.specs.declared.task.Task.TheVariants.{Put}
 use Rattle.core_world.specs.Locks.{hold_count}
 use Rattle.core_world.specs.Trees.Calls.{steps_of, is_object, is_value, may_act}
 use Rattle.core_world.specs.Trees.Operations.{lone_purpose, put_plan, put_steps, answer}
-use Rattle.core_world.specs.Trees.Plans.{Purpose}
 use Rattle.core_world.specs.Trees.Todo.{Todo, done, ◌>>=◌, ask}
 use Rattle.core_world.specs.Words.Shape.{slots_of}
 use Rattle.core_calls.proofs.OtherCallsSay.{put_says}
