@@ -1,7 +1,12 @@
 -- What the conditions of a call give its code.
-use Rattle.std.proofs.Common.{◌≡◌, ℕ, ◌+◌, ◌<◌, ◌≤◌, ◌==◌, ◌&&◌, Bool, true, false, length, nat_lt, refl, arith, ltb-true}
+use Rattle.std.proofs.Common.{◌≡◌, ℕ, ◌<◌, ◌≤◌, ◌&&◌, Bool, true, false, length, refl, arith, ltb-true}
+use Rattle.std.proofs.lemmas.Float.{T_from_true}
+use Rattle.std.specs.Int.Signed.{le_z_yes}
+use Rattle.plain_monitor.specs.declared.entry.Value.{Value}
+use Rattle.plain_monitor.specs.declared.entry.Value.TheVariants.{Nil, Int, Ref}
+use Rattle.plain_monitor.specs.ValueWords.{IsSpellable}
 use Rattle.core_world.specs.declared.task.Task.{Task}
-use Rattle.core_world.specs.Trees.Calls.{is_object}
+use Rattle.core_world.specs.Trees.Calls.{is_object, is_value}
 use Rattle.core_world.specs.Words.Shape.{Shape}
 use Rattle.heap_table.specs.Resting.{MayOperate}
 use Rattle.heap_table.specs.Seen.{HeapSeen, PassSeen}
@@ -21,3 +26,9 @@ object_there s o b e = ltb-true o (length s.objects) (first_of (is_object s o) b
 -- and the log has room for an entry
 pub room_one : (h : HeapSeen) (p : PassSeen) (t : Task) → MayOperate h p t → length p.known.log < p.limit
 room_one h p t c = let room = c.room in omega (arith, room)
+
+-- a value that may stand in a slot has its word
+pub spellable : (s : Shape) (v : Value) → length s.objects ≤ 4096 → is_value s v ≡ true → IsSpellable v
+spellable s Nil few e = tt
+spellable s (Int i) few e = (le_z_yes (T_from_true _ (first_of _ _ e)), le_z_yes (T_from_true _ (second_of _ _ e)))
+spellable s (Ref o) few e = let here = ltb-true o (length s.objects) e in omega (arith, here, few)

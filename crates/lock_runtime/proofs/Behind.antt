@@ -1,5 +1,5 @@
 -- What is due behind a part, whether it makes steps or none.
-use Rattle.std.proofs.Common.{◌≡◌, ℕ, ◌<◌, Bool, true, false, if◌then◌else◌, List, length, Result, Ok, Err, sym, ap, subst}
+use Rattle.std.proofs.Common.{◌≡◌, ◌<◌, Bool, true, false, if◌then◌else◌, List, length, Ok, Err, sym, ap, subst}
 use Rattle.plain_monitor.specs.declared.entry.Logged.{Logged}
 use Rattle.core_world.specs.declared.task.Task.{Task}
 use Rattle.core_world.specs.Due.{IsDue}
@@ -46,3 +46,8 @@ module _ {A E : Type 0} (h : HeapSeen) (p : PassSeen) (refuses : Bool) (err : E)
 pub going_first : {A E : Type 0} (t : Task) (refuses : Bool) (err : E) (d : Todo A) → IsCallOf t d → IsCallOf t (if refuses then done (Err err) else (d >>= answer))
 going_first t true err d first = tt
 going_first {A = A} {E = E} t false err d first = first_then t d (answer {A = A} {E = E}) first (λ a. tt)
+
+-- and that of the arm that a test chooses
+pub arm_first : {A : Type 0} (t : Task) (b : Bool) (x y : Todo A) → IsCallOf t x → IsCallOf t y → IsCallOf t (if b then x else y)
+arm_first t true x y one two = one
+arm_first t false x y one two = two

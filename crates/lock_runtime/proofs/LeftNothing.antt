@@ -1,9 +1,8 @@
 -- An exit that finds a monitor has left nothing: its thread's log and own words are as they were.
-use Rattle.std.proofs.Common.{◌≡◌, ℕ, ◌==◌, Bool, true, false, cond, if◌then◌else◌, Option, Some, None, refl, ap, ◌∙◌}
+use Rattle.std.proofs.Common.{◌≡◌, ℕ, ◌==◌, Bool, true, false, if◌then◌else◌, Option, Some, None, refl, ap}
 use Rattle.mark_word.specs.declared.mark.MarkForm.{MarkForm}
 use Rattle.mark_word.specs.declared.mark.MarkForm.TheVariants.{Inflating, Neutral, Anonymous, Biased, Locked, Inflated, Marked}
 use Rattle.mark_word.specs.Mark.{read_mark}
-use Rattle.core_world.specs.declared.answer.StackOut.{StackOut}
 use Rattle.core_world.specs.declared.answer.StackOut.TheVariants.{Left, Monitor, Not}
 use Rattle.core_world.specs.declared.answer.Why.TheVariants as why
 use Rattle.core_world.specs.declared.name.Name.TheVariants.{Mark, Displaced}
@@ -11,9 +10,9 @@ use Rattle.core_world.specs.Due.{Runs}
 use Rattle.core_world.specs.Locks.{hold_count}
 use Rattle.core_world.specs.Steps.{known_after}
 use Rattle.core_world.specs.Threads.Known.{Known, Local, local_of}
-use Rattle.core_world.specs.Trees.LockSteps.{raise_stamp_plan, leave_steps, leave_plan, let_go_plan, clear_steps, stack_exit_by, stack_exit_at, stack_exit_record, stack_exit_steps, raise_steps}
+use Rattle.core_world.specs.Trees.LockSteps.{raise_stamp_plan, leave_steps, let_go_plan, clear_steps, stack_exit_at, stack_exit_record, stack_exit_steps}
 use Rattle.core_world.specs.Trees.Plans.{Purpose, load, top_place, next_stamp, done_with}
-use Rattle.core_world.specs.Trees.Todo.{Todo, done, never, step, ◌>>=◌, ask}
+use Rattle.core_world.specs.Trees.Todo.{Todo, done, ◌>>=◌, ask}
 use Rattle.core_world.specs.Words.Shape.{Shape}
 use Rattle.core_world.specs.Trees.BiasSteps.{bias_exit_steps}
 use Rattle.core_world.specs.Trees.Operations.{exit_going}

@@ -21,7 +21,8 @@ pub fn get(heap: &Heap, pass: &mut Pass, object: u32, slot: u32) -> Result<Value
     requires { MayOperate heap.now pass.old (Get object slot) }
     ensures rests { Rests heap.now pass.new }
     ensures run { HasRun heap.now (get_steps (start_now heap.now pass.old) object slot) pass.old pass.new result }
-    ensures says { Tells pass.old.known pass.new.known (λ ms. GetSays (start_now heap.now pass.old) object slot ms result) }
+    ensures says { Tells pass.old.known pass.new.known
+        (λ ms. GetSays (start_now heap.now pass.old) object slot ms result) }
 {
     if pass.held(object) == 0 {
         return Err(Unguarded);
@@ -43,7 +44,8 @@ pub fn put(
 ) -> Result<(), Unguarded>
     requires { MayOperate heap.now pass.old (Put object slot value) }
     ensures rests { Rests heap.now pass.new }
-    ensures run { HasRun heap.now (put_steps (start_now heap.now pass.old) object slot value) pass.old pass.new result }
+    ensures run { HasRun heap.now (put_steps (start_now heap.now pass.old) object slot value)
+        pass.old pass.new result }
     ensures says { Tells pass.old.known pass.new.known
         (λ ms. PutSays (start_now heap.now pass.old) object slot value ms result) }
 {
@@ -87,8 +89,8 @@ fn ending_entry(ending: Ending) -> Entry
     }
 }
 
-/// Ends the thread, which has no holds: logs how it ended, and says so in its waiting word. It may be stopped and resumed
-/// afterwards.
+/// Ends the thread, which has no holds: logs how it ended, and says so in its waiting word. It may be stopped and
+/// resumed afterwards.
 pub fn finish(heap: &Heap, pass: &mut Pass, ending: Ending)
     requires { MayOperate heap.now pass.old (Finish ending) }
     ensures rests { Rests heap.now pass.new }

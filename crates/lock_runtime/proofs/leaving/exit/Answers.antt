@@ -1,4 +1,4 @@
-use Rattle.std.proofs.Common.{◌≡◌, ◌<◌, ◌==◌, Bool, true, false, Ok, Err, refl, sym, ap, ◌∙◌, subst, eq-eqb, ne_eqb}
+use Rattle.std.proofs.Common.{◌≡◌, ◌==◌, false, Ok, refl, sym, ap, ◌∙◌, subst, ne_eqb}
 use Rattle.core_world.specs.declared.task.Task.TheVariants.{Exit}
 use Rattle.core_world.specs.declared.task.Op.TheVariants as op
 use Rattle.core_world.specs.Locks.{hold_count}

@@ -1,11 +1,9 @@
-use Rattle.std.proofs.Common.{◌≡◌, ◌<◌, Bool, true, false, if◌then◌else◌, refl, sym, ap, ◌∙◌, subst}
-use Rattle.core_world.specs.declared.answer.Turn.{Turn}
+use Rattle.std.proofs.Common.{◌<◌, Bool, true, false, if◌then◌else◌, sym, subst}
 use Rattle.core_world.specs.declared.answer.Turn.TheVariants.{Done}
 use Rattle.core_world.specs.Locks.{hold_count}
 use Rattle.core_world.specs.Threads.Known.{Local, local_of}
 use Rattle.core_world.specs.Trees.BiasSteps.{bias_exit_steps}
 use Rattle.core_world.specs.Trees.Plans.{done_with}
-use Rattle.core_world.specs.Trees.Todo.{Todo}
 use Rattle.core_world.proofs.CallRests.{part_due}
 use Rattle.heap_table.specs.Parts.{IsDueOn, HasRun}
 use Rattle.heap_table.proofs.Parts.{in_turn, ends}

@@ -1,4 +1,4 @@
-use Rattle.std.proofs.Common.{◌≡◌, ◌<◌, refl, sym, ap, ◌∙◌, subst}
+use Rattle.std.proofs.Common.{◌<◌, sym, subst}
 use Rattle.core_world.specs.declared.answer.StackOut.{StackOut}
 use Rattle.core_world.specs.declared.answer.StackOut.TheVariants.{Left, Monitor, Not}
 use Rattle.core_world.specs.declared.answer.Turn.{Turn}
@@ -9,7 +9,6 @@ use Rattle.core_world.specs.Trees.LockSteps.{stack_exit_steps}
 use Rattle.core_world.specs.Trees.MonitorSteps.{monitor_exit_steps}
 use Rattle.core_world.specs.Trees.Operations.{exit_at}
 use Rattle.core_world.specs.Trees.Plans.{done_with}
-use Rattle.core_world.specs.Trees.Todo.{Todo}
 use Rattle.core_world.proofs.CallRests.{part_due}
 use Rattle.heap_table.specs.Parts.{IsDueOn, HasRun}
 use Rattle.heap_table.proofs.Parts.{in_turn, ends}

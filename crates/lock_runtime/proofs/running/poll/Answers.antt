@@ -1,4 +1,4 @@
-use Rattle.std.proofs.Common.{◌≡◌, refl, subst}
+use Rattle.std.proofs.Common.{refl, subst}
 use Rattle.core_world.specs.declared.task.Task.TheVariants.{Poll}
 use Rattle.core_world.specs.Trees.Calls.{steps_of, side_purpose}
 use Rattle.core_world.specs.Trees.Plans.{Purpose}

@@ -1,4 +1,4 @@
-use Rattle.std.proofs.Common.{◌≡◌, refl, subst}
+use Rattle.std.proofs.Common.{refl, subst}
 use Rattle.core_world.specs.declared.task.Task.TheVariants.{Resume}
 use Rattle.core_world.specs.Threads.Known.{local_of}
 use Rattle.core_world.specs.Trees.Calls.{steps_of, side_purpose}

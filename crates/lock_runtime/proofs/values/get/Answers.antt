@@ -1,1 +1,71 @@
+use Rattle.std.proofs.Common.{◌≡◌, ◌==◌, false, Result, Ok, Err, refl, sym, ap, ◌∙◌, subst, ne_eqb}
+use Rattle.plain_monitor.specs.declared.entry.Value.{Value}
+use Rattle.plain_monitor.specs.ValueWords.{read_value}
+use Rattle.core_world.specs.declared.answer.Unguarded.{Unguarded}
+use Rattle.core_world.specs.declared.task.Task.TheVariants.{Get}
+use Rattle.core_world.specs.Locks.{hold_count}
+use Rattle.core_world.specs.Trees.Calls.{steps_of}
+use Rattle.core_world.specs.Trees.Operations.{lone_purpose, get_plan, get_steps, value_found, answer}
+use Rattle.core_world.specs.Trees.Plans.{Purpose}
+use Rattle.core_world.specs.Trees.Todo.{Todo, done, ◌>>=◌, ask}
+use Rattle.core_calls.proofs.OtherCallsSay.{get_says}
+use Rattle.core_calls.proofs.Runs.{tells}
+use Rattle.heap_table.specs.Parts.{HasRun}
+use Rattle.heap_table.specs.Resting.{start_now}
+use Rattle.heap_table.specs.Stepping.{CanStep, HasStepped}
+use Rattle.heap_table.proofs.Arms.{due_else, run_else}
+use Rattle.heap_table.proofs.Parts.{can, last_step}
+use Rattle.heap_table.proofs.Resting.{whole_due, behind}
+use Rattle.lock_runtime.proofs.Begins.{room_one}
+use Rattle.lock_runtime.proofs.Behind.{arm_first}
 use Rattle.lock_runtime.proofs.values.get.Goals as goal
+
+pub log_get-word-requires : goal.log_get-word-requires
+unfolding steps_of
+log_get-word-requires c =
+    let a = c.args in
+    let h = a.heap.now in
+    let p = a.pass.now in
+    let t = Get a.object a.slot in
+    let plan = get_plan (lone_purpose t) a.object a.slot in
+    let none = hold_count a.object p.known.holds == 0 in
+    let no : none ≡ false = ap (λ n. n == 0) (sym c.held.ensures.held) ∙ ne_eqb _ _ c.if-held-eq0.false in
+    let loads : Todo (Result Value Unguarded) = ask plan >>= (λ found. answer (value_found (read_value found))) in
+    let due = whole_due h p t c.requires.call (get_steps (start_now h p) a.object a.slot) refl in
+    let on = due_else h p none (done (Err (record {}))) loads t due no in
+    subst (λ (x : Purpose). CanStep h p (get_plan x a.object a.slot)) (sym c.alone-why.ensures)
+    (can h p t plan _ on refl c.requires.call.rests.is_of (room_one h p t c.requires) refl)
+
+pub returns-clause-run : goal.returns-clause-run
+returns-clause-run c =
+    let a = c.args in
+    let h = a.heap.now in
+    let p = a.pass.now in
+    let q = c.log_get-word.new.pass in
+    let t = Get a.object a.slot in
+    let plan = get_plan (lone_purpose t) a.object a.slot in
+    let none = hold_count a.object p.known.holds == 0 in
+    let no : none ≡ false = ap (λ n. n == 0) (sym c.held.ensures.held) ∙ ne_eqb _ _ c.if-held-eq0.false in
+    let loads : Todo (Result Value Unguarded) = ask plan >>= (λ found. answer (value_found (read_value found))) in
+    let word = c.log_get-word.result in
+    let made = subst (λ (x : Purpose). HasStepped h p q (get_plan x a.object a.slot) word) c.alone-why.ensures c.log_get-word.ensures in
+    run_else h p none (done (Err (record {}))) loads q (Ok c.value_of_word.result) no
+    (last_step h p q plan _ word (Ok c.value_of_word.result) made refl (ap (λ (v : Value). done (Ok v)) (sym c.value_of_word.ensures)))
+
+pub returns-clause-rests : goal.returns-clause-rests
+unfolding steps_of
+returns-clause-rests c =
+    let a = c.args in
+    let h = a.heap.now in
+    let p = a.pass.now in
+    let t = Get a.object a.slot in
+    let plan = get_plan (lone_purpose t) a.object a.slot in
+    let loads : Todo (Result Value Unguarded) = ask plan >>= (λ found. answer (value_found (read_value found))) in
+    behind h p t c.requires.call (get_steps (start_now h p) a.object a.slot) refl
+    (arm_first t (hold_count a.object p.known.holds == 0) (done (Err (record {}))) loads tt refl) c.log_get-word.new.pass (Ok c.value_of_word.result)
+    (returns-clause-run c)
+
+pub returns-clause-says : goal.returns-clause-says
+returns-clause-says c =
+    let a = c.args in
+    tells (get_says (start_now a.heap.now a.pass.now) a.object a.slot) (HasRun.ran (returns-clause-run c))
