@@ -18,7 +18,7 @@ use heap_table::{Heap, Pass, Purpose, mark_of_word};
 use mark_word::MarkForm;
 use object_monitor::{inflate, monitor_enter};
 use plain_monitor::Path;
-use crate::stub::Revocation;
+use revoke_walk::Revocation;
 use stack_lock::{free_place, stack_enter};
 
 // Another thread has the lock by a record: it is inflated, and entered by the monitor.

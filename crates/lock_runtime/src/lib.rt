@@ -11,7 +11,6 @@ mod leaving;
 mod purposes;
 mod revoking;
 mod running;
-mod stub;
 mod values;
 
 pub use entering::enter;

@@ -9,7 +9,7 @@ ghost use Rattle.lock_runtime.specs.Parts.{reached_revocation, unbias_first};
 use bias_lock::{bias_drop, stage_after};
 use core_world::{BiasTry, Turn, Why};
 use heap_table::{Heap, Pass, Purpose};
-use crate::stub::{Revocation, revoke_at_safepoint};
+use revoke_walk::{Revocation, revoke_at_safepoint};
 use safepoint::{release_to, safepoint};
 
 // The thread has its safepoint: the object's bias is revoked, and the safepoint ends.
@@ -21,10 +21,17 @@ fn revoke_reached(heap: &Heap, pass: &mut Pass, why: &Purpose, revocation: &Revo
     ensures { HasRun heap.now (reached_revocation heap.now.heap.shape pass.old.known.thread why.now revocation.now)
         pass.old pass.new result }
 {
-    let outcome = revoke_at_safepoint(heap, pass, why, revocation);
-    let stage = stage_after(outcome.1, revocation.object);
+    let outcome = revoke_at_safepoint(
+        heap,
+        pass,
+        why,
+        revocation.object,
+        revocation.rebias,
+        revocation.moment,
+    );
+    let stage = stage_after(outcome.took, revocation.object);
     release_to(heap, pass, why, stage);
-    Turn::Done(outcome.1)
+    Turn::Done(outcome.took)
 }
 
 /// Revokes the object's bias at a safepoint of the thread's own, whose request stands already or is made. It answers
@@ -85,7 +92,7 @@ fn unbias_first(heap: &Heap, pass: &mut Pass, why: &Purpose, bias: &Revocation) 
         BiasTry::Unbiased { .. } => Turn::Done(()),
         BiasTry::Valid { .. } => revoked(heap, pass, why, bias, false),
         BiasTry::Raced { expected, found } => Turn::Pending(Why::Raced { expected, found }),
-        BiasTry::Took(_) => unreachable!(),
+        BiasTry::Took(_path) => unreachable!(),
     }
 }
 

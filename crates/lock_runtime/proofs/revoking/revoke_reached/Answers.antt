@@ -3,6 +3,7 @@ use Rattle.core_world.specs.declared.answer.Turn.{Turn}
 use Rattle.core_world.specs.declared.answer.Turn.TheVariants.{Done}
 use Rattle.core_world.specs.declared.stage.Stage.{Stage}
 use Rattle.core_world.specs.Threads.Known.{Local, Known, local_of}
+use Rattle.core_world.specs.Threads.Stages.{Revocation}
 use Rattle.core_world.specs.Trees.BiasSteps.{stage_after}
 use Rattle.core_world.specs.Trees.Plans.{done_with}
 use Rattle.core_world.specs.Trees.RevocationSteps.{RevocationOutcome, revoke_at_safepoint_steps}
@@ -24,7 +25,8 @@ revoke_at_safepoint-outcome-requires-clause-due c =
     let b = a.revocation.now in
     let t = a.pass.now.known.thread in
     let next : RevocationOutcome → Todo (Turn Bool) = λ outcome. release_to (stage_after outcome.took b.object) e t >>= (λ _. done_with outcome.took) in
-    part_due h.heap.shape h.heap.start h.heap.biasing a.pass.now.known e.task (revoke_at_safepoint_steps h.heap.shape t e b) next c.requires.due
+    subst (λ (x : Revocation). IsDueOn h a.pass.now e.task (revoke_at_safepoint_steps h.heap.shape t e x)) (sym c.revocation.view_is)
+    (part_due h.heap.shape h.heap.start h.heap.biasing a.pass.now.known e.task (revoke_at_safepoint_steps h.heap.shape t e b) next c.requires.due)
 
 pub release_to-requires-clause-due : goal.release_to-requires-clause-due
 release_to-requires-clause-due c =
@@ -35,15 +37,16 @@ release_to-requires-clause-due c =
     let p = a.pass.now in
     let t = p.known.thread in
     let q = c.revoke_at_safepoint-outcome.new.pass in
-    let took = c.revoke_at_safepoint-outcome.result.1 in
-    let outcome : RevocationOutcome = record { verdict = c.revoke_at_safepoint-outcome.result.0; took = took } in
+    let outcome : RevocationOutcome = c.revoke_at_safepoint-outcome.result in
+    let took = outcome.took in
     let d = revoke_at_safepoint_steps h.heap.shape t e b in
     let next : RevocationOutcome → Todo (Turn Bool) = λ outcome. release_to (stage_after outcome.took b.object) e t >>= (λ _. done_with outcome.took) in
-    let ran = c.revoke_at_safepoint-outcome.ensures in
+    let ran = subst (λ (x : Revocation). HasRun h (revoke_at_safepoint_steps h.heap.shape t e x) p q outcome) c.revocation.view_is c.revoke_at_safepoint-outcome.ensures in
     let due = next_part h p q e.task d next outcome c.requires.due refl ran in
     let thread : q.known.thread ≡ t = ap (λ (x : Local). x.thread) (aside h d p q outcome (at_safepoint e b h.heap.shape t) ran).local in
     let one = part_due h.heap.shape h.heap.start h.heap.biasing q.known e.task (release_to (stage_after took b.object) e t) (λ _. done_with took) due in
-    subst (IsDueOn h q e.task) (λ i. release_to (sym c.stage_after-stage.ensures i) e (sym thread i)) one
+    let stage : c.stage_after-stage.result ≡ stage_after took b.object = c.stage_after-stage.ensures ∙ (λ i. stage_after took (c.revocation.view_is i).object) in
+    subst (IsDueOn h q e.task) (λ i. release_to (sym stage i) e (sym thread i)) one
 
 pub returns : goal.returns
 returns c =
@@ -55,11 +58,12 @@ returns c =
     let t = p.known.thread in
     let q = c.revoke_at_safepoint-outcome.new.pass in
     let r = c.release_to.new.pass in
-    let took = c.revoke_at_safepoint-outcome.result.1 in
-    let outcome : RevocationOutcome = record { verdict = c.revoke_at_safepoint-outcome.result.0; took = took } in
+    let outcome : RevocationOutcome = c.revoke_at_safepoint-outcome.result in
+    let took = outcome.took in
     let d = revoke_at_safepoint_steps h.heap.shape t e b in
     let next : RevocationOutcome → Todo (Turn Bool) = λ outcome. release_to (stage_after outcome.took b.object) e t >>= (λ _. done_with outcome.took) in
-    let ran = c.revoke_at_safepoint-outcome.ensures in
+    let ran = subst (λ (x : Revocation). HasRun h (revoke_at_safepoint_steps h.heap.shape t e x) p q outcome) c.revocation.view_is c.revoke_at_safepoint-outcome.ensures in
     let thread : q.known.thread ≡ t = ap (λ (x : Local). x.thread) (aside h d p q outcome (at_safepoint e b h.heap.shape t) ran).local in
-    let released = subst (λ (x : Todo (Unit {0})). HasRun h x q r tt) (λ i. release_to (c.stage_after-stage.ensures i) e (thread i)) c.release_to.ensures in
+    let stage : c.stage_after-stage.result ≡ stage_after took b.object = c.stage_after-stage.ensures ∙ (λ i. stage_after took (c.revocation.view_is i).object) in
+    let released = subst (λ (x : Todo (Unit {0})). HasRun h x q r tt) (λ i. release_to (stage i) e (thread i)) c.release_to.ensures in
     in_turn h p q r d next outcome (Done took) ran (in_turn h q r r (release_to (stage_after took b.object) e t) (λ _. done_with took) tt (Done took) released (ends h r (Done took) released.heap))

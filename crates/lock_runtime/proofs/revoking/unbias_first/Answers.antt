@@ -15,7 +15,6 @@ use Rattle.heap_table.specs.Parts.{IsDueOn, HasRun}
 use Rattle.heap_table.specs.Resting.{start_now}
 use Rattle.heap_table.proofs.Parts.{in_turn, ends}
 use Rattle.heap_table.proofs.Ruled.{not_due}
-use Rattle.bias_lock.specs.Kept.{IsKeptUnlessTook}
 use Rattle.lock_runtime.proofs.Behind.{next_part}
 use Rattle.lock_runtime.proofs.revoking.unbias_first.Goals as goal
 
@@ -46,7 +45,7 @@ revoked-requires-clause-due c =
     let d = bias_drop_steps e (class_of h.heap.shape b.object) b.object in
     let next : BiasTry → Todo (Turn (Unit {0})) = λ tried. unbias_tried tried h.heap.shape e k b in
     let ran = subst (λ (x : Todo BiasTry). HasRun h x p q (Valid c.in-Valid.mark)) (λ i. bias_drop_steps e (class i) (ob i)) (subst (λ (x : BiasTry). HasRun h (bias_drop_steps e c.class_of-class.result c.bias.inside.object) p q x) c.in-Valid.is c.bias_drop.ensures.run) in
-    let thread : q.known.thread ≡ p.known.thread = ap (λ (x : Local). x.thread) (subst (λ (x : BiasTry). IsKeptUnlessTook x (local_of p.known) (local_of q.known)) c.in-Valid.is c.bias_drop.ensures.kept) in
+    let thread : q.known.thread ≡ p.known.thread = ap (λ (x : Local). x.thread) c.bias_drop.ensures.kept in
     subst (λ t. IsDueOn h q e.task (revoked_steps h.heap.shape t false e b)) (sym thread)
     (next_part h p q e.task d next (Valid c.in-Valid.mark) c.requires.due refl ran)
 
@@ -63,8 +62,8 @@ unreachable-requires c =
     let class : c.class_of-class.result ≡ class_of h.heap.shape b.object = c.class_of-class.ensures.class ∙ (λ i. class_of (c.shape.ensures i) (ob i)) in
     let d = bias_drop_steps e (class_of h.heap.shape b.object) b.object in
     let next : BiasTry → Todo (Turn (Unit {0})) = λ tried. unbias_tried tried h.heap.shape e k b in
-    let ran = subst (λ (x : Todo BiasTry). HasRun h x p q (Took c.in-Took.arg)) (λ i. bias_drop_steps e (class i) (ob i)) (subst (λ (x : BiasTry). HasRun h (bias_drop_steps e c.class_of-class.result c.bias.inside.object) p q x) c.in-Took.is c.bias_drop.ensures.run) in
-    not_due h q e.task (next (Took c.in-Took.arg)) ran.heap (next_part h p q e.task d next (Took c.in-Took.arg) c.requires.due refl ran) refl
+    let ran = subst (λ (x : Todo BiasTry). HasRun h x p q (Took c.in-Took._path)) (λ i. bias_drop_steps e (class i) (ob i)) (subst (λ (x : BiasTry). HasRun h (bias_drop_steps e c.class_of-class.result c.bias.inside.object) p q x) c.in-Took.is c.bias_drop.ensures.run) in
+    not_due h q e.task (next (Took c.in-Took._path)) ran.heap (next_part h p q e.task d next (Took c.in-Took._path) c.requires.due refl ran) refl
 
 pub returns-in-Unbiased : goal.returns-in-Unbiased
 returns-in-Unbiased c =
@@ -114,6 +113,6 @@ returns-in-Valid c =
     let next : BiasTry → Todo (Turn (Unit {0})) = λ tried. unbias_tried tried h.heap.shape e k b in
     let ran = subst (λ (x : Todo BiasTry). HasRun h x p q (Valid c.in-Valid.mark)) (λ i. bias_drop_steps e (class i) (ob i)) (subst (λ (x : BiasTry). HasRun h (bias_drop_steps e c.class_of-class.result c.bias.inside.object) p q x) c.in-Valid.is c.bias_drop.ensures.run) in
     let r = c.revoked.new.pass in
-    let thread : q.known.thread ≡ p.known.thread = ap (λ (x : Local). x.thread) (subst (λ (x : BiasTry). IsKeptUnlessTook x (local_of p.known) (local_of q.known)) c.in-Valid.is c.bias_drop.ensures.kept) in
+    let thread : q.known.thread ≡ p.known.thread = ap (λ (x : Local). x.thread) c.bias_drop.ensures.kept in
     let rest = subst (λ t. HasRun h (revoked_steps h.heap.shape t false e b) q r c.revoked.result) thread c.revoked.ensures in
     in_turn h p q r d next (Valid c.in-Valid.mark) c.revoked.result ran rest
