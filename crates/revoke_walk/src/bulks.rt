@@ -16,7 +16,13 @@ use heap_table::{Heap, Pass, Purpose, is_biased};
 use mark_word::{MarkForm, encode};
 
 // The thread takes the new bias in this epoch, where the object's mark is still biased. It answers whether it did.
-fn take_bias(heap: &Heap, pass: &mut Pass, why: &Purpose, revocation: &Revocation, epoch: u8) -> bool
+fn take_bias(
+    heap: &Heap,
+    pass: &mut Pass,
+    why: &Purpose,
+    revocation: &Revocation,
+    epoch: u8,
+) -> bool
     requires heap { IsOf heap.now pass.old }
     requires epoch { epoch < 4 }
     requires due { IsDueOn heap.now pass.old why.now.task
@@ -52,7 +58,14 @@ fn rebias(heap: &Heap, pass: &mut Pass, why: &Purpose, revocation: &Revocation, 
     ensures { HasRun heap.now (rebiased_steps why.now revocation.now epoch pass.old.known.thread)
         pass.old pass.new result }
 {
-    revoke(heap, pass, why, revocation, revocation.object, revocation.rebias);
+    revoke(
+        heap,
+        pass,
+        why,
+        revocation,
+        revocation.object,
+        revocation.rebias,
+    );
     if revocation.rebias {
         return take_bias(heap, pass, why, revocation, epoch);
     }
@@ -104,7 +117,14 @@ fn raise_epoch(
         epoch: next,
         age: 0,
     });
-    store_one(heap, pass, why, revocation, Name::Prototype { class }, prototype);
+    store_one(
+        heap,
+        pass,
+        why,
+        revocation,
+        Name::Prototype { class },
+        prototype,
+    );
     renew_class(heap, pass, why, revocation, class, next)
 }
 
