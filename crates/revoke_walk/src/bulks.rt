@@ -4,7 +4,8 @@ ghost use Rattle.core_world.specs.Trees.RevocationSteps.{take_bias_steps, bulk_r
 ghost use Rattle.core_world.specs.Trees.RevocationSteps.{store_steps, revoke_steps};
 ghost use Rattle.heap_table.specs.Parts.{IsDueOn, HasRun};
 ghost use Rattle.heap_table.specs.Seen.{IsOf};
-ghost use Rattle.revoke_walk.specs.RevokeParts.{renewed_steps, rebiased_steps, raised_steps, unbiased_steps, neutral_steps};
+ghost use Rattle.revoke_walk.specs.RevokeParts.{renewed_steps, rebiased_steps, raised_steps};
+ghost use Rattle.revoke_walk.specs.RevokeParts.{unbiased_steps, neutral_steps};
 
 use crate::revocation::Revocation;
 use crate::revokes::revoke;
@@ -180,8 +181,8 @@ fn end_epochs(heap: &Heap, pass: &mut Pass, why: &Purpose, revocation: &Revocati
     unbias_class(heap, pass, why, revocation, class)
 }
 
-/// Revokes the biases of all objects of the class: its prototype becomes neutral, and so does the mark of each of its
-/// objects that a lock record names, or it is locked by its first record. Then the object's own bias is revoked.
+/// Revokes the biases of all objects of the class: its prototype becomes neutral, so that no bias to it is valid, and
+/// the biases of its objects that lock records name are revoked one by one. Then the object's own bias is revoked.
 pub fn bulk_revoke(heap: &Heap, pass: &mut Pass, why: &Purpose, revocation: &Revocation, class: u32)
     requires heap { IsOf heap.now pass.old }
     requires object { revocation.now.object < length heap.now.heap.shape.objects }
