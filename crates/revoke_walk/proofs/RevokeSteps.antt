@@ -1,5 +1,5 @@
 -- The steps of a revocation: lists of stores, and of which call they are.
-use Rattle.std.proofs.Common.{◌≡◌, ℕ, ◌+◌, ◌<◌, ◌≤◌, ◌==◌, ◌++◌, Bool, true, false, cond, if◌then◌else◌, List, [], ◌∷◌, length, drop, get_or, Option, Some, None, refl, sym, ap, ◌∙◌}
+use Rattle.std.proofs.Common.{◌≡◌, ℕ, ◌+◌, ◌<◌, ◌≤◌, ◌==◌, ◌++◌, Bool, true, false, cond, if◌then◌else◌, List, [], ◌∷◌, length, drop, get_or, Option, Some, None, refl, ap, ◌∙◌}
 use Rattle.std.proofs.lemmas.List.{drop_more, drop_all}
 use Rattle.mark_word.specs.declared.mark.MarkForm.{MarkForm}
 use Rattle.mark_word.specs.declared.mark.MarkForm.TheVariants.{Inflating, Neutral, Anonymous, Biased, Locked, Inflated, Marked}
@@ -8,11 +8,11 @@ use Rattle.mark_word.specs.Mark.{mark_of, read_mark}
 use Rattle.core_world.specs.declared.name.Name.TheVariants.{Mark, Hold}
 use Rattle.core_world.specs.declared.plan.Own.TheVariants as own
 use Rattle.core_world.specs.Locks.{hold_count}
-use Rattle.core_world.specs.RevocationRules.{Write, write, record_writes, revoke_biased, with_epoch, store_where, object_held}
+use Rattle.core_world.specs.RevocationRules.{Write, write, record_writes, revoke_biased, object_held}
 use Rattle.core_world.specs.Threads.Stages.{Revocation}
 use Rattle.core_world.specs.Trees.Plans.{Purpose}
 use Rattle.core_world.specs.Trees.RevocationSteps.{look, revoke_plan, store_steps, revoke_at, revoke_steps, visit_held}
-use Rattle.core_world.specs.Trees.Todo.{Todo, done, never, step, ◌>>=◌, all_from, each_from}
+use Rattle.core_world.specs.Trees.Todo.{Todo, done, step, ◌>>=◌, all_from, each_from}
 use Rattle.core_world.specs.Words.Forms.{is_biased, is_biased_form}
 use Rattle.core_world.specs.Words.Shape.{Shape, class_of}
 use Rattle.revoke_walk.specs.declared.visit.Visit.{Visit}

@@ -1,12 +1,10 @@
 -- The words that a revocation finds and stores have the forms that words of the heap have.
-use Rattle.std.proofs.Common.{◌≡◌, ℕ, ◌+◌, ◌<◌, ◌≤◌, ◌==◌, ◌&&◌, nat_lt, Bool, true, false, cond, length, Option, Some, None, refl, sym, ap, ◌∙◌, subst, inl, inr, arith, eq-eqb}
+use Rattle.std.proofs.Common.{◌≡◌, ℕ, ◌<◌, ◌≤◌, ◌==◌, Bool, true, false, cond, length, Option, Some, None, refl, sym, ap, ◌∙◌, subst, inl, inr, arith, eq-eqb}
 use Rattle.std.proofs.lemmas.Bool.Decides.{nat_tests}
 use Rattle.mark_word.specs.declared.mark.MarkForm.{MarkForm}
 use Rattle.mark_word.specs.declared.mark.MarkForm.TheVariants.{Inflating, Neutral, Anonymous, Biased, Locked, Inflated, Marked}
 use Rattle.mark_word.specs.Mark.{mark_of, read_mark}
 use Rattle.mark_word.proofs.ReadingMarks.{read_mark-spells}
-use Rattle.core_world.specs.declared.act.Act.TheVariants.{Store}
-use Rattle.core_world.specs.declared.name.Name.{Name}
 use Rattle.core_world.specs.declared.name.Name.TheVariants.{Mark}
 use Rattle.core_world.specs.declared.plan.Own.TheVariants as own
 use Rattle.core_world.specs.declared.plan.StepPlan.{StepPlan}

@@ -1,7 +1,7 @@
 -- Loops over parts: what is left after some rounds is due, and who runs it has run the whole.
-use Rattle.std.proofs.Common.{◌≡◌, ℕ, zero, suc, ◌+◌, ◌-◌, ◌<◌, List, [], ◌∷◌, ◌++◌, refl, sym, ap, ◌∙◌, subst, arith}
+use Rattle.std.proofs.Common.{◌≡◌, ℕ, zero, suc, ◌+◌, ◌-◌, ◌<◌, List, [], ◌∷◌, ◌++◌, refl, sym, ap, subst, arith}
 use Rattle.core_world.specs.declared.task.Task.{Task}
-use Rattle.core_world.specs.Trees.Todo.{Todo, done, never, step, ◌>>=◌, all_from, each_from}
+use Rattle.core_world.specs.Trees.Todo.{Todo, done, ◌>>=◌, all_from, each_from}
 use Rattle.core_world.proofs.CallRests.{part_due}
 use Rattle.heap_table.specs.Parts.{IsDueOn, HasRun}
 use Rattle.heap_table.specs.Seen.{HeapSeen, PassSeen, IsOf}

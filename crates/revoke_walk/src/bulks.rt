@@ -4,7 +4,8 @@ ghost use Rattle.core_world.specs.Trees.RevocationSteps.{take_bias_steps, bulk_r
 ghost use Rattle.core_world.specs.Trees.RevocationSteps.{store_steps, revoke_steps};
 ghost use Rattle.heap_table.specs.Parts.{IsDueOn, HasRun};
 ghost use Rattle.heap_table.specs.Seen.{IsOf};
-ghost use Rattle.revoke_walk.specs.RevokeParts.{renewed_steps, rebiased_steps, raised_steps, unbiased_steps, neutral_steps};
+ghost use Rattle.revoke_walk.specs.RevokeParts.{renewed_steps, rebiased_steps, raised_steps};
+ghost use Rattle.revoke_walk.specs.RevokeParts.{unbiased_steps, neutral_steps};
 
 use crate::revocation::Revocation;
 use crate::revokes::revoke;
@@ -16,7 +17,13 @@ use heap_table::{Heap, Pass, Purpose, is_biased};
 use mark_word::{MarkForm, encode};
 
 // The thread takes the new bias in this epoch, where the object's mark is still biased. It answers whether it did.
-fn take_bias(heap: &Heap, pass: &mut Pass, why: &Purpose, revocation: &Revocation, epoch: u8) -> bool
+fn take_bias(
+    heap: &Heap,
+    pass: &mut Pass,
+    why: &Purpose,
+    revocation: &Revocation,
+    epoch: u8,
+) -> bool
     requires heap { IsOf heap.now pass.old }
     requires epoch { epoch < 4 }
     requires due { IsDueOn heap.now pass.old why.now.task
@@ -52,7 +59,14 @@ fn rebias(heap: &Heap, pass: &mut Pass, why: &Purpose, revocation: &Revocation, 
     ensures { HasRun heap.now (rebiased_steps why.now revocation.now epoch pass.old.known.thread)
         pass.old pass.new result }
 {
-    revoke(heap, pass, why, revocation, revocation.object, revocation.rebias);
+    revoke(
+        heap,
+        pass,
+        why,
+        revocation,
+        revocation.object,
+        revocation.rebias,
+    );
     if revocation.rebias {
         return take_bias(heap, pass, why, revocation, epoch);
     }
@@ -104,7 +118,14 @@ fn raise_epoch(
         epoch: next,
         age: 0,
     });
-    store_one(heap, pass, why, revocation, Name::Prototype { class }, prototype);
+    store_one(
+        heap,
+        pass,
+        why,
+        revocation,
+        Name::Prototype { class },
+        prototype,
+    );
     renew_class(heap, pass, why, revocation, class, next)
 }
 
@@ -160,8 +181,8 @@ fn end_epochs(heap: &Heap, pass: &mut Pass, why: &Purpose, revocation: &Revocati
     unbias_class(heap, pass, why, revocation, class)
 }
 
-/// Revokes the biases of all objects of the class: its prototype becomes neutral, and so does the mark of each of its
-/// objects that a lock record names, or it is locked by its first record. Then the object's own bias is revoked.
+/// Revokes the biases of all objects of the class: its prototype becomes neutral, so that no bias to it is valid, and
+/// the biases of its objects that lock records name are revoked one by one. Then the object's own bias is revoked.
 pub fn bulk_revoke(heap: &Heap, pass: &mut Pass, why: &Purpose, revocation: &Revocation, class: u32)
     requires heap { IsOf heap.now pass.old }
     requires object { revocation.now.object < length heap.now.heap.shape.objects }

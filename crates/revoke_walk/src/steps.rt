@@ -13,13 +13,7 @@ use heap_table::{Heap, Pass, Purpose};
 
 /// A load. It answers the word that it found.
 #[inline(always)]
-pub fn look(
-    heap: &Heap,
-    pass: &mut Pass,
-    why: &Purpose,
-    revocation: &Revocation,
-    at: Name,
-) -> u64
+pub fn look(heap: &Heap, pass: &mut Pass, why: &Purpose, revocation: &Revocation, at: Name) -> u64
     requires { CanStep heap.now pass.old (load_plan why.now (revocation_stage revocation.now) at) }
     ensures { HasStepped heap.now pass.old pass.new (load_plan why.now (revocation_stage revocation.now) at) result }
 {

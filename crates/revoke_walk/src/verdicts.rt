@@ -14,7 +14,7 @@ use core_world::{Name, Own, Stage};
 use heap_table::{Heap, Pass, Purpose};
 use lock_policy::{Verdict, decide};
 
-// The verdict on a class with this count, and its new count. No count above 40 rises, so that each fits its word.
+// The verdict on a class with this count, and its new count. A count above 40 stays, and its verdict is `Single`.
 fn verdict_on(count: u64, last: u64, now: u64) -> (Verdict, u64)
     ensures { result ≡ decided count last now }
 {
@@ -106,10 +106,10 @@ fn decide_and_revoke(
 /// The class's count of revocations is stored anew, and the thread counts the verdict, which the answer has. `Single`:
 /// the object's bias alone is revoked, so that it is locked by the records that its biased thread has of it, or neutral
 /// where there are none. `BulkRebias`: the class gets its next epoch, which makes the biases of its objects invalid but
-/// for those that lock records name; the object is left without a bias to a thread, or locked by records. Where `rebias`
-/// is true and the object isn't locked, it is biased to this thread then, and `took` is true; else `took` is false.
-/// `BulkRevoke`: the class's prototype becomes neutral, and the biases of all its objects that lock records name are
-/// revoked, and the object's.
+/// for those of the objects that lock records name; then the object's bias is revoked, and where `rebias` is true and
+/// no record locks it, it is biased to this thread and `took` is true. `BulkRevoke`: the class's prototype becomes
+/// neutral, and the biases of its objects that lock records name are revoked, and the object's. Where no new bias is
+/// given, `took` is false.
 pub fn revoke_at_safepoint(
     heap: &Heap,
     pass: &mut Pass,

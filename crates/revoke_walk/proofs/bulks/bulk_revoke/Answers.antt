@@ -1,4 +1,4 @@
-use Rattle.std.proofs.Common.{◌≡◌, ◌∷◌, [], ℕ, refl, sym, ap, subst}
+use Rattle.std.proofs.Common.{◌≡◌, ◌∷◌, [], ℕ, sym, ap, subst}
 use Rattle.core_world.specs.declared.name.Name.TheVariants.{LastBulk}
 use Rattle.core_world.specs.RevocationRules.{write}
 use Rattle.core_world.specs.Threads.Stages.{Revocation}

@@ -1,4 +1,4 @@
-use Rattle.std.proofs.Common.{◌≡◌, ◌∷◌, [], refl, sym, subst}
+use Rattle.std.proofs.Common.{◌∷◌, []}
 use Rattle.mark_word.specs.declared.mark.MarkForm.TheVariants.{Neutral}
 use Rattle.mark_word.specs.Mark.{mark_of}
 use Rattle.core_world.specs.declared.name.Name.TheVariants.{Prototype}

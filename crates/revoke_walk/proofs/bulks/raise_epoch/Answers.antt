@@ -1,4 +1,4 @@
-use Rattle.std.proofs.Common.{◌≡◌, ◌+◌, ◌%◌, ◌∷◌, [], ℕ, refl, sym, subst}
+use Rattle.std.proofs.Common.{◌+◌, ◌%◌, ◌∷◌, [], ℕ, sym, subst}
 use Rattle.mark_word.specs.declared.mark.MarkForm.TheVariants.{Anonymous}
 use Rattle.mark_word.specs.Mark.{mark_of}
 use Rattle.core_world.specs.declared.name.Name.TheVariants.{Prototype}

@@ -1,7 +1,7 @@
-use Rattle.std.proofs.Common.{◌≡◌, ℕ, Bool, true, false, if◌then◌else◌, Some, refl, sym, ap, ◌∙◌, subst}
+use Rattle.std.proofs.Common.{◌≡◌, ℕ, Bool, true, false, if◌then◌else◌, Some, sym, ap, ◌∙◌, subst}
 use Rattle.core_world.specs.Threads.Stages.{Revocation}
 use Rattle.core_world.specs.Trees.RevocationSteps.{revoke_steps, take_bias_steps}
-use Rattle.core_world.specs.Trees.Todo.{Todo, done, ◌>>=◌}
+use Rattle.core_world.specs.Trees.Todo.{Todo, done}
 use Rattle.heap_table.specs.Parts.{IsDueOn, HasRun}
 use Rattle.heap_table.proofs.Arms.{due_then, run_then, run_else}
 use Rattle.heap_table.proofs.Parts.{in_turn, ends}

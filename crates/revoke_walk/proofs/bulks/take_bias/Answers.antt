@@ -1,4 +1,4 @@
-use Rattle.std.proofs.Common.{◌≡◌, ◌∷◌, [], ℕ, Bool, true, false, not, is_none, Option, Some, refl, sym, ap, ◌∙◌, subst}
+use Rattle.std.proofs.Common.{◌≡◌, ◌∷◌, [], ℕ, Bool, true, not, is_none, Some, refl, sym, ap, ◌∙◌, subst}
 use Rattle.mark_word.specs.declared.mark.MarkForm.TheVariants.{Biased}
 use Rattle.mark_word.specs.Mark.{mark_of}
 use Rattle.core_world.specs.declared.name.Name.TheVariants.{Mark}

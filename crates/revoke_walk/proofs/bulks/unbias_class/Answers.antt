@@ -1,4 +1,4 @@
-use Rattle.std.proofs.Common.{◌≡◌, ℕ, false, refl, sym, ap, subst}
+use Rattle.std.proofs.Common.{◌≡◌, ℕ, false, sym, ap, subst}
 use Rattle.core_world.specs.Threads.Stages.{Revocation}
 use Rattle.core_world.specs.Trees.RevocationSteps.{walk_steps, revoke_steps}
 use Rattle.core_world.specs.Trees.Todo.{Todo}

@@ -1,4 +1,4 @@
-use Rattle.std.proofs.Common.{◌≡◌, ◌+◌, ◌∷◌, ◌++◌, [], ℕ, List, length, take, set, refl, sym, ap, ◌∙◌, subst, arith, add-one}
+use Rattle.std.proofs.Common.{◌≡◌, ◌+◌, ℕ, List, take, refl, sym, ◌∙◌, subst, arith}
 use Rattle.std.proofs.lemmas.List.{take_all, take_more_set, length-set}
 use Rattle.core_world.specs.declared.name.Name.TheVariants.{Hold}
 use Rattle.core_world.specs.Trees.Plans.{load_plan}
@@ -6,7 +6,6 @@ use Rattle.core_world.specs.Trees.RevocationSteps.{revocation_stage, look}
 use Rattle.core_world.specs.Trees.Todo.{Todo, done}
 use Rattle.heap_table.specs.Parts.{HasRun}
 use Rattle.heap_table.proofs.Parts.{can, last_step}
-use Rattle.revoke_walk.specs.RevokeParts.{holds_steps}
 use Rattle.revoke_walk.proofs.Rounds.{Answered, none_answered, next_asked, next_answered, all_answered}
 use Rattle.revoke_walk.proofs.revokes.load_holds.Goals as goal
 
@@ -37,11 +36,10 @@ loop-i-preserved c =
     let q = c.look.new.pass in
     let n = c.look.result in
     let run : HasRun a.heap.now (f l.i) l.pass q n = last_step a.heap.now l.pass q plan done n n c.look.ensures refl refl in
-    let many = l.invariant.0 in
-    (
+    let many = l.invariant.0 in (
       length-set l.holds l.i n ∙ many,
       subst (λ (xs : List ℕ). Answered a.heap.now a.pass.now e.task 64 f (l.i + 1) xs q) (sym (take_more_set l.holds l.i n (omega (arith, many, c.loop-i-test.true))))
-      (next_answered a.heap.now a.pass.now e.task 64 f l.i (take l.i l.holds) l.pass q n so_far (omega (arith, c.loop-i-test.true)) (refl, λ m. tt) run),
+          (next_answered a.heap.now a.pass.now e.task 64 f l.i (take l.i l.holds) l.pass q n so_far (omega (arith, c.loop-i-test.true)) (refl, λ m. tt) run),
     )
 
 pub returns : goal.returns

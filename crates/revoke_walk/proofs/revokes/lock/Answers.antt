@@ -1,16 +1,15 @@
-use Rattle.std.proofs.Common.{rules, ◌≡◌, ◌+◌, ◌<◌, ◌≤◌, ◌^◌, ◌∷◌, [], ℕ, List, length, get_or, refl, sym, ap, ◌∙◌, subst, arith}
+use Rattle.std.proofs.Common.{rules, ◌≡◌, ◌<◌, ◌≤◌, ◌∷◌, [], ℕ, length, get_or, sym, ap, ◌∙◌, subst, arith}
 use Rattle.mark_word.specs.declared.mark.MarkForm.TheVariants.{Locked}
 use Rattle.mark_word.specs.Mark.{mark_of}
 use Rattle.core_world.specs.declared.name.Name.TheVariants.{Mark}
-use Rattle.core_world.specs.RevocationRules.{Write, write, first_place}
+use Rattle.core_world.specs.RevocationRules.{write, first_place}
 use Rattle.core_world.specs.Trees.RevocationSteps.{store_steps}
 use Rattle.core_world.specs.Trees.Todo.{Todo}
 use Rattle.heap_table.specs.Parts.{IsDueOn, HasRun}
-use Rattle.heap_table.proofs.Ruled.{few_objects}
 use Rattle.revoke_walk.specs.RevokeParts.{record_write, record_steps, mark_locked}
 use Rattle.revoke_walk.proofs.RevokeSteps.{records_left, record_first, records_none, stores_of}
 use Rattle.revoke_walk.proofs.RevokeWords.{in_limits, locked_place}
-use Rattle.revoke_walk.proofs.Rounds.{Round, first_round, round_due, next_round}
+use Rattle.revoke_walk.proofs.Rounds.{first_round, round_due, next_round}
 use Rattle.revoke_walk.proofs.revokes.lock.Goals as goal
 
 pub loop-i-init : goal.loop-i-init

@@ -1,8 +1,8 @@
-use Rattle.std.proofs.Common.{◌≡◌, ℕ, Bool, false, Some, refl, sym, ap, subst}
+use Rattle.std.proofs.Common.{◌≡◌, ℕ, false, Some, sym, ap, subst}
 use Rattle.lock_policy.specs.declared.policy.Verdict.{Verdict}
 use Rattle.core_world.specs.Threads.Stages.{Revocation}
 use Rattle.core_world.specs.Trees.RevocationSteps.{revoke_steps, bulk_revoke_steps, verdict_steps}
-use Rattle.core_world.specs.Trees.Todo.{Todo, done}
+use Rattle.core_world.specs.Trees.Todo.{done}
 use Rattle.heap_table.specs.Parts.{IsDueOn, HasRun}
 use Rattle.heap_table.proofs.Parts.{in_turn, ends}
 use Rattle.revoke_walk.proofs.Behind.{front_due}

@@ -7,7 +7,7 @@ use Rattle.core_world.specs.declared.plan.StepPlan.{StepPlan}
 use Rattle.core_world.specs.Threads.Stages.{Revocation}
 use Rattle.core_world.specs.Trees.Plans.{with_own}
 use Rattle.core_world.specs.Trees.RevocationSteps.{revoke_plan, verdict_steps, decided_steps, RevocationOutcome}
-use Rattle.core_world.specs.Trees.Todo.{Todo, done, ◌>>=◌}
+use Rattle.core_world.specs.Trees.Todo.{Todo, done}
 use Rattle.heap_table.specs.Parts.{IsDueOn, HasRun}
 use Rattle.heap_table.specs.StepPlans.{store_plan}
 use Rattle.heap_table.specs.Stepping.{CanStep, HasStepped}

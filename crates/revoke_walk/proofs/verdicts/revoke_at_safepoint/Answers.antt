@@ -1,4 +1,4 @@
-use Rattle.std.proofs.Common.{◌≡◌, ℕ, Bool, true, false, Option, Some, None, refl, sym, ap, ◌∙◌, subst}
+use Rattle.std.proofs.Common.{◌≡◌, ℕ, true, false, Some, refl, sym, ap, ◌∙◌, subst}
 use Rattle.mark_word.specs.Mark.{read_mark}
 use Rattle.core_world.specs.declared.name.Name.TheVariants.{Mark, Prototype, Revocations, LastBulk}
 use Rattle.core_world.specs.Locks.{is_valid_bias}

@@ -1,4 +1,4 @@
-use Rattle.std.proofs.Common.{◌≡◌, ℕ, Option, Some, None, refl, sym, ap, ◌∙◌, subst}
+use Rattle.std.proofs.Common.{◌≡◌, Option, Some, None, refl, sym, ap, ◌∙◌, subst}
 use Rattle.mark_word.specs.declared.mark.MarkForm.{MarkForm}
 use Rattle.mark_word.specs.Mark.{read_mark}
 use Rattle.mark_word.proofs.ReadingMarks.{read_mark-spells}
@@ -6,7 +6,7 @@ use Rattle.core_world.specs.declared.name.Name.TheVariants.{Mark}
 use Rattle.core_world.specs.Clauses.WordForms.{IsMark}
 use Rattle.core_world.specs.Trees.Plans.{load_plan}
 use Rattle.core_world.specs.Trees.RevocationSteps.{revocation_stage}
-use Rattle.core_world.specs.Trees.Todo.{Todo, done}
+use Rattle.core_world.specs.Trees.Todo.{Todo}
 use Rattle.heap_table.specs.Parts.{IsDueOn, HasRun}
 use Rattle.heap_table.proofs.Parts.{can, rest_due, stepped, ends}
 use Rattle.revoke_walk.specs.RevokeParts.{visit_form}

@@ -1,10 +1,10 @@
-use Rattle.std.proofs.Common.{◌≡◌, ◌==◌, ◌<◌, length, ℕ, Bool, true, false, cond, Option, Some, None, refl, sym, ap, ◌∙◌, subst, eq-eqb, ne_eqb}
+use Rattle.std.proofs.Common.{◌≡◌, ◌==◌, ◌<◌, length, ℕ, true, false, Option, Some, refl, sym, ap, ◌∙◌, subst, eq-eqb, ne_eqb}
 use Rattle.mark_word.specs.Hold.{read_hold}
 use Rattle.core_world.specs.declared.name.Name.TheVariants.{Hold}
 use Rattle.core_world.specs.RevocationRules.{object_held}
 use Rattle.core_world.specs.Trees.Plans.{load_plan}
 use Rattle.core_world.specs.Trees.RevocationSteps.{revocation_stage, visit_held}
-use Rattle.core_world.specs.Trees.Todo.{Todo, done}
+use Rattle.core_world.specs.Trees.Todo.{done}
 use Rattle.core_world.specs.Words.Shape.{Shape, class_of}
 use Rattle.heap_table.specs.Parts.{IsDueOn, HasRun}
 use Rattle.heap_table.proofs.Arms.{due_then, run_then, run_else}
