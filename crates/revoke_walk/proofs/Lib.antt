@@ -1,3 +1,4 @@
+mod Turns
 mod Standing
 mod StandLoop
 mod Later
