@@ -15,6 +15,7 @@ mod draws;
 mod ends;
 mod entries;
 mod heap;
+mod holds;
 mod keeps;
 mod mirror;
 mod opening;
@@ -37,8 +38,6 @@ pub use ends::{Closed, close};
 pub use heap::Heap;
 pub use pass::Pass;
 pub use purpose::Purpose;
-pub use reads::{
-    hash_of_word, is_biased, mark_of_word, owner_of_word, safe_of_word, wait_of_word,
-};
+pub use reads::{hash_of_word, is_biased, mark_of_word, owner_of_word, safe_of_word, wait_of_word};
 pub use shape::{HeapShape, no_two_names_have_one_place, words_of_two_groups_lie_apart};
 pub use shots::{Cell, Shot};
