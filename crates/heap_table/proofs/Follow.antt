@@ -120,7 +120,7 @@ pub follow_hit : (s : Shape) (start : ℕ) (p : StepPlan) (n : ℕ) (k : Known) 
     → l.stand ≡ stand_after p.at p.act (word_after p.act n) m.thread m.stand
     → l.kept ≡ kept_after p.own n m.kept
     → l.saved ≡ saved_after p.own n m.saved
-    → ((k : Known) → k.holds ≡ m.holds → l.holds ≡ holds_after p.at p.act k)
+    → ((k : Known) → k.holds ≡ m.holds.words → l.holds.words ≡ holds_after p.at p.act k)
     → ((k : Known) → k.thread ≡ m.thread → k.wait ≡ m.wait → l.wait ≡ wait_after p.at p.act k)
     → ((k : Known) → k.published ≡ m.published → l.published ≡ published_after p.at p.act k)
     → l.unfinished ≡ unfinished_after p.note n p.after

@@ -3,6 +3,7 @@ pub mod Knows
 pub mod Allowed
 pub mod Seats
 pub mod Reading
+pub mod Held
 pub mod Follow
 pub mod Stamps
 pub mod AtLast

@@ -6,15 +6,12 @@ use Rattle.mark_word.specs.declared.mark.MarkForm.{MarkForm}
 use Rattle.mark_word.specs.declared.safe.SafeForm.{SafeForm}
 use Rattle.mark_word.specs.Mark.{SpellsMark, read_mark}
 use Rattle.mark_word.specs.Safe.{SpellsSafe, read_safe}
-use Rattle.mark_word.specs.declared.hold.HoldForm.{HoldForm}
-use Rattle.mark_word.specs.Hold.{SpellsHold, read_hold}
 use Rattle.mark_word.specs.declared.owner.OwnerForm.{OwnerForm}
 use Rattle.mark_word.specs.Owner.{SpellsOwner, read_owner}
 use Rattle.mark_word.specs.declared.wait.WaitForm.{WaitForm}
 use Rattle.mark_word.specs.Wait.{SpellsWait, read_wait}
 use Rattle.mark_word.proofs.ReadingOwners.{read_owner-owner_of, read_owner-spells}
 use Rattle.mark_word.proofs.ReadingWaits.{read_wait-wait_of, read_wait-spells}
-use Rattle.mark_word.proofs.ReadingHolds.{read_hold-hold_of, read_hold-spells}
 use Rattle.mark_word.proofs.ReadingMarks.{read_mark-mark_of, read_mark-spells}
 use Rattle.mark_word.proofs.ReadingSafepoints.{read_safe-safe_of, read_safe-spells}
 use Rattle.plain_monitor.specs.declared.entry.Value.{Value}
@@ -39,9 +36,6 @@ safe_read word r = read_ok (read_safe word) (λ f. SpellsSafe f word) r (λ f h.
 
 pub value_read_as : (word : ℕ) (r : Result Value BadWord) → IfOk r (λ v. SpellsValue v word) → OnErr r ((v : Value) → SpellsValue v word → ⊥) → result_ok r ≡ read_value word
 value_read_as word r = read_ok (read_value word) (λ v. SpellsValue v word) r (λ v h. ap read_value (word_of-only v word h) ∙ read_value-word_of v h.0) (λ v e. read_value-spells word v e)
-
-pub hold_read : (word : ℕ) (r : Result HoldForm BadMark) → IfOk r (λ f. SpellsHold f word) → OnErr r ((f : HoldForm) → SpellsHold f word → ⊥) → result_ok r ≡ read_hold word
-hold_read word r = read_ok (read_hold word) (λ f. SpellsHold f word) r (λ f h. ap read_hold h.1 ∙ read_hold-hold_of f h.0) (λ f e. read_hold-spells word f e)
 
 pub owner_read : (word : ℕ) (r : Result OwnerForm BadMark) → IfOk r (λ f. SpellsOwner f word) → OnErr r ((f : OwnerForm) → SpellsOwner f word → ⊥) → result_ok r ≡ read_owner word
 owner_read word r = read_ok (read_owner word) (λ f. SpellsOwner f word) r (λ f h. ap read_owner h.1 ∙ read_owner-owner_of f h.0) (λ f e. read_owner-spells word f e)

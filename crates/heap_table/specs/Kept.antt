@@ -38,7 +38,7 @@ pub record Follows (m : Mirror) (k : Known) : Type 0 where
   pub halted : k.halted ≡ m.stand.halted
   pub kept : k.kept ≡ m.kept
   pub saved : k.saved ≡ m.saved
-  pub holds : k.holds ≡ m.holds
+  pub holds : k.holds ≡ m.holds.words
   pub wait : k.wait ≡ m.wait
   pub published : k.published ≡ m.published
   pub unfinished : k.unfinished ≡ m.unfinished

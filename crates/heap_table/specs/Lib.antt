@@ -3,6 +3,7 @@ pub mod Firsts
 pub mod Cells
 pub mod Drafts
 pub mod Tallies
+pub mod Held
 pub mod Kept
 pub mod Ruled
 pub mod Openings

@@ -7,6 +7,7 @@ ghost use Rattle.plain_monitor.specs.History.{last_stamp};
 ghost use Rattle.heap_table.specs.Kept.{HasRoom, StampFits, entry_after, looked, left, stand_after};
 ghost use Rattle.heap_table.specs.Layout.{IsPlaced};
 
+use crate::holds::Holds;
 use crate::reads::{hash_of_word, safe_of_word, value_of_word};
 use core_world::{Act, Name, Note, Own, Unfinished};
 use mark_word::SafeForm;
@@ -210,13 +211,13 @@ pub fn published_next(at: Name, act: &Act, published: u64) -> u64
 
 /// What it last stored in its hold words.
 #[inline(always)]
-pub fn store_hold(holds: &mut [u64; 64], at: Name, act: &Act)
+pub fn store_hold(holds: &mut Holds, at: Name, act: &Act)
     requires { IsPlaced at }
-    ensures { (k : Known) → k.holds ≡ holds.old → holds.new ≡ holds_after at act.now k }
+    ensures { (k : Known) → k.holds ≡ holds.old.words → holds.new.words ≡ holds_after at act.now k }
 {
     if let Name::Hold { thread: _, place } = at {
         if let Act::Store { word } = *act {
-            holds[place as usize] = word;
+            holds.store(place, word);
         }
     }
 }

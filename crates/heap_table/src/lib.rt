@@ -15,6 +15,7 @@ mod draws;
 mod ends;
 mod entries;
 mod heap;
+mod holds;
 mod keeps;
 mod mirror;
 mod opening;

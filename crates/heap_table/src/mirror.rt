@@ -11,6 +11,7 @@ use crate::afters::{
 };
 use crate::counts::{ClassCounts, NO_COUNTS, count_next};
 use crate::draws::{Drawing, draw_next};
+use crate::holds::Holds;
 use crate::shots::Shots;
 use core_world::{Own, StepPlan, Unfinished, apply};
 use plain_monitor::Logged;
@@ -30,7 +31,7 @@ pub struct Mirror {
     pub stand: Stand,
     pub kept: Option<u64>,
     pub saved: u64,
-    pub holds: [u64; 64],
+    pub holds: Holds,
     pub wait: u64,
     pub published: u64,
     pub unfinished: Option<Unfinished>,
@@ -110,7 +111,7 @@ impl Mirror {
             },
             kept: None,
             saved: 0,
-            holds: [0; 64],
+            holds: Holds::new(),
             wait: 0,
             published: 0,
             unfinished: None,

@@ -10,7 +10,6 @@ ghost use Rattle.heap_table.specs.Tallies.{counts_shown};
 
 use crate::counts::ClassCounts;
 use crate::mirror::Mirror;
-use crate::reads::{held_of, holds_of, place_of};
 use crate::rule::Place;
 use crate::shots::{Cell, Shot};
 use core_world::Unfinished;
@@ -83,7 +82,7 @@ impl Pass {
         ensures held { result ≡ hold_count object self.now.known.holds }
         ensures few { result ≤ 64 }
     {
-        held_of(&self.mirror.holds, object)
+        self.mirror.holds.held(object)
     }
 
     /// How many holds the thread has, by its hold words.
@@ -91,14 +90,14 @@ impl Pass {
         ensures holds { result ≡ all_holds self.now.known.holds }
         ensures few { result ≤ 64 }
     {
-        holds_of(&self.mirror.holds)
+        self.mirror.holds.count()
     }
 
     /// The thread's 64 hold words, as it last stored them.
     pub fn hold_words(&self) -> &[u64; 64]
         ensures { result.now ≡ self.now.known.holds }
     {
-        &self.mirror.holds
+        &self.mirror.holds.words
     }
 
     /// The first place with this hold word, or 64 where none has it.
@@ -107,7 +106,7 @@ impl Pass {
         ensures few { result ≤ 64 }
         ensures all { length self.now.known.holds ≡ 64 }
     {
-        place_of(&self.mirror.holds, word)
+        self.mirror.holds.place_of(word)
     }
 
     /// What the thread last stored in its waiting word.

@@ -1,0 +1,121 @@
+//! A thread's hold words, as it last stored them.
+ghost use Rattle.std.specs.Prelude.{◌≡◌, ◌≢◌, ◌-◌, ◌<◌, ◌≤◌, ◌==◌, length, slice_index, slice_set, replicate};
+ghost use Rattle.core_world.specs.Threads.Stages.{one_if};
+ghost use Rattle.core_world.specs.Words.Forms.{names};
+ghost use Rattle.heap_table.specs.Held.{IsEmptyFrom};
+
+/// Step from one object to the next in a hold word: from bit 7.
+const OBJECT: u64 = 1 << 7;
+/// The number of objects.
+const OBJECTS: u32 = 1 << 15;
+/// The most holds on one object.
+const DEEPEST: u64 = 64;
+
+/// The hold words, and one past the last place that is not empty, so that a question looks at the places in use alone.
+#[derive(Drop)]
+pub struct Holds {
+    pub words: [u64; 64],
+    pub used: u32,
+    pub ghost within: { used ≤ 64 },
+    pub ghost rest: { IsEmptyFrom used words },
+    pub ghost tight: { 0 < used → slice_index words (used - 1) ≢ 0 },
+}
+
+// Whether the hold word has this object: the word of its number raised by one, with a depth from 1 to 64 below it. The
+// tests have no branch between them, and all that is reckoned of the object is the same for each word.
+#[inline(always)]
+fn names(object: u32, word: u64) -> bool
+    ensures { result ≡ names object word }
+{
+    let none = (object as u64 + 1) * OBJECT;
+    (object < OBJECTS) & (none < word) & (word <= none + DEEPEST)
+}
+
+// 1 where the test holds, and else 0.
+#[inline(always)]
+fn one_if(test: bool) -> u32
+    ensures value { result ≡ one_if test }
+    ensures few { result ≤ 1 }
+{
+    if test { 1 } else { 0 }
+}
+
+// One past the last place below `reach` that is not empty, where all from there on are empty.
+#[inline(always)]
+fn last_used(words: &[u64; 64], reach: u32) -> u32
+    requires within { reach ≤ 64 }
+    requires rest { IsEmptyFrom reach words.now }
+    ensures within { result ≤ 64 }
+    ensures rest { IsEmptyFrom result words.now }
+    ensures tight { 0 < result → slice_index words.now (result - 1) ≢ 0 }
+{
+    let mut used = reach;
+    while used > 0 && words[used as usize - 1] == 0 {
+        used -= 1;
+    }
+    used
+}
+
+impl Holds {
+    ghost use Rattle.std.specs.List.{position_or_len};
+    ghost use Rattle.core_world.specs.Locks.{hold_count};
+    ghost use Rattle.heap_table.specs.Kept.{all_holds};
+
+    /// No hold.
+    pub fn new() -> Holds
+        ensures { result.words ≡ replicate 64 0 }
+    {
+        Holds {
+            words: [0; 64],
+            used: 0,
+        }
+    }
+
+    /// The place has this word.
+    #[inline(always)]
+    pub fn store(&mut self, place: u32, word: u64)
+        requires { place < 64 }
+        ensures { self.new.words ≡ slice_set self.old.words place word }
+    {
+        self.words[place as usize] = word;
+        self.used = last_used(&self.words, self.used.max(place + 1));
+    }
+
+    /// How many of the words name the object.
+    pub fn held(&self, object: u32) -> u32
+        ensures held { result ≡ hold_count object self.now.words }
+        ensures few { result ≤ 64 }
+    {
+        let mut held = 0;
+        for i in 0..self.used as usize {
+            held += one_if(names(object, self.words[i]));
+        }
+        held
+    }
+
+    /// The first place with this word, or 64.
+    pub fn place_of(&self, word: u64) -> u32
+        ensures place { result ≡ position_or_len (λ h. h == word) self.now.words }
+        ensures few { result ≤ 64 }
+        ensures all { length self.now.words ≡ 64 }
+    {
+        for i in 0..self.used as usize {
+            if self.words[i] == word {
+                return i as u32;
+            }
+        }
+        if word == 0 { self.used } else { 64 }
+    }
+
+    /// How many of the words are not empty.
+    pub fn count(&self) -> u32
+        ensures holds { result ≡ all_holds self.now.words }
+        ensures few { result ≤ 64 }
+    {
+        let mut count = 0;
+        for i in 0..self.used as usize {
+            count += one_if(self.words[i] != 0);
+        }
+        count
+    }
+}
