@@ -12,8 +12,10 @@ mod purposes;
 mod revoking;
 mod running;
 mod values;
+mod waiting;
 
 pub use entering::enter;
 pub use leaving::exit;
 pub use running::{poll, resume, stop};
 pub use values::{finish, get, print, put};
+pub use waiting::{notify, notify_all, wait};
