@@ -8,9 +8,8 @@ ghost use Rattle.heap_table.specs.Parts.{IsDueOn, HasRun};
 ghost use Rattle.heap_table.specs.Seen.{IsOf};
 ghost use Rattle.bias_lock.specs.Parts.{prototype_drop};
 
-use crate::words::class_epoch;
 use core_world::{BiasTry, Name, Stage};
-use heap_table::{Heap, Pass, Purpose, is_biased, mark_of_word};
+use heap_table::{Heap, Pass, Purpose, class_epoch, is_biased, mark_of_word};
 use mark_word::{MarkForm, encode};
 
 /// Exchanges the biased mark for this neutral one. `Unbiased` has the neutral mark, which stands now. `Raced` has the

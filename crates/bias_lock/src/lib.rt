@@ -14,7 +14,6 @@ mod enters;
 mod exits;
 #[cfg(test)]
 mod tests;
-mod words;
 
 pub use afters::{bias_after, stage_after};
 pub use drops::bias_drop;

@@ -14,6 +14,9 @@ use Rattle.mark_word.proofs.ReadingOwners.{read_owner-owner_of, read_owner-spell
 use Rattle.mark_word.proofs.ReadingWaits.{read_wait-wait_of, read_wait-spells}
 use Rattle.mark_word.proofs.ReadingMarks.{read_mark-mark_of, read_mark-spells}
 use Rattle.mark_word.proofs.ReadingSafepoints.{read_safe-safe_of, read_safe-spells}
+use Rattle.mark_word.specs.declared.hold.HoldForm.{HoldForm}
+use Rattle.mark_word.specs.Hold.{SpellsHold, read_hold}
+use Rattle.mark_word.proofs.ReadingHolds.{read_hold-hold_of, read_hold-spells}
 use Rattle.plain_monitor.specs.declared.entry.Value.{Value}
 use Rattle.plain_monitor.specs.declared.refusal.BadWord.{BadWord}
 use Rattle.plain_monitor.specs.ValueWords.{SpellsValue, read_value}
@@ -42,3 +45,6 @@ owner_read word r = read_ok (read_owner word) (λ f. SpellsOwner f word) r (λ f
 
 pub wait_read : (word : ℕ) (r : Result WaitForm BadMark) → IfOk r (λ f. SpellsWait f word) → OnErr r ((f : WaitForm) → SpellsWait f word → ⊥) → result_ok r ≡ read_wait word
 wait_read word r = read_ok (read_wait word) (λ f. SpellsWait f word) r (λ f h. ap read_wait h.1 ∙ read_wait-wait_of f h.0) (λ f e. read_wait-spells word f e)
+
+pub hold_read : (word : ℕ) (r : Result HoldForm BadMark) → IfOk r (λ f. SpellsHold f word) → OnErr r ((f : HoldForm) → SpellsHold f word → ⊥) → result_ok r ≡ read_hold word
+hold_read word r = read_ok (read_hold word) (λ f. SpellsHold f word) r (λ f h. ap read_hold h.1 ∙ read_hold-hold_of f h.0) (λ f e. read_hold-spells word f e)

@@ -21,10 +21,10 @@ pub struct Holds {
     pub ghost tight: { 0 < used → slice_index words (used - 1) ≢ 0 },
 }
 
-// Whether the hold word has this object: the word of its number raised by one, with a depth from 1 to 64 below it. The
-// tests have no branch between them, and all that is reckoned of the object is the same for each word.
+/// Whether the hold word names this object: the word of its number raised by one, with a depth from 1 to 64 below it. The
+/// tests have no branch between them, and all that is reckoned of the object is the same for each word.
 #[inline(always)]
-fn names(object: u32, word: u64) -> bool
+pub fn names(object: u32, word: u64) -> bool
     ensures { result ≡ names object word }
 {
     let none = (object as u64 + 1) * OBJECT;

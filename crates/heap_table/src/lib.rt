@@ -36,10 +36,12 @@ mod walks;
 pub use counts::ClassCounts;
 pub use ends::{Closed, close};
 pub use heap::Heap;
+pub use holds::names;
 pub use pass::Pass;
 pub use purpose::Purpose;
 pub use reads::{
-    hash_of_word, is_biased, mark_of_word, owner_of_word, safe_of_word, value_of_word, wait_of_word,
+    class_epoch, hash_of_word, hold_of_word, is_biased, mark_of_word, owner_of_word, safe_of_word,
+    value_of_word, wait_of_word,
 };
 pub use shape::{HeapShape, no_two_names_have_one_place, words_of_two_groups_lie_apart};
 pub use shots::{Cell, Shot};

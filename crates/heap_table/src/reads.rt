@@ -1,16 +1,16 @@
 //! What words say, as the definitions read them.
 ghost use Rattle.std.specs.Prelude.{◌≡◌};
+ghost use Rattle.mark_word.specs.Hold.{read_hold};
 ghost use Rattle.mark_word.specs.Mark.{read_mark};
 ghost use Rattle.mark_word.specs.Safe.{read_safe};
 ghost use Rattle.plain_monitor.specs.ValueWords.{read_value};
 ghost use Rattle.mark_word.specs.Owner.{read_owner};
 ghost use Rattle.mark_word.specs.Wait.{read_wait};
-ghost use Rattle.core_world.specs.Words.Forms.{hash_in, is_biased, is_halted};
+ghost use Rattle.core_world.specs.Words.Forms.{epoch_in, hash_in, is_biased, is_halted};
 ghost use Rattle.core_world.specs.Trees.Operations.{value_found};
 
-use mark_word::{
-    MarkForm, OwnerForm, SafeForm, WaitForm, decode, decode_owner, decode_safe, decode_wait,
-};
+use mark_word::{HoldForm, MarkForm, OwnerForm, SafeForm, WaitForm};
+use mark_word::{decode, decode_hold, decode_owner, decode_safe, decode_wait};
 use plain_monitor::{Value, word_value};
 
 /// What a mark says.
@@ -34,6 +34,19 @@ pub fn is_biased(mark: u64) -> bool
     }
 }
 
+/// The epoch of a prototype, where it is biased, which it is to no thread.
+pub fn class_epoch(prototype: u64) -> Option<u8>
+    ensures { result ≡ epoch_in prototype }
+{
+    match mark_of_word(prototype) {
+        Some(form) => match form {
+            MarkForm::Anonymous { epoch, .. } => Some(epoch),
+            _ => None,
+        },
+        None => None,
+    }
+}
+
 /// Who owns a monitor, by its owner word.
 pub fn owner_of_word(word: u64) -> Option<OwnerForm>
     ensures { result ≡ read_owner word }
@@ -52,6 +65,13 @@ fn value_read(word: u64) -> Option<Value>
     ensures { result ≡ read_value word }
 {
     word_value(word).ok()
+}
+
+/// What a hold word says.
+pub fn hold_of_word(word: u64) -> Option<HoldForm>
+    ensures { result ≡ read_hold word }
+{
+    decode_hold(word).ok()
 }
 
 /// What the safepoint word says.

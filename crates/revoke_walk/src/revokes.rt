@@ -10,9 +10,9 @@ ghost use Rattle.revoke_walk.specs.RevokeParts.{holds_steps, record_steps, locke
 
 use crate::revocation::Revocation;
 use crate::steps::{look, store_one};
-use crate::words::{first_place, free_mark, held_of, names};
+use crate::words::{first_place, free_mark, held_of};
 use core_world::Name;
-use heap_table::{Heap, Pass, Purpose, mark_of_word};
+use heap_table::{Heap, Pass, Purpose, mark_of_word, names};
 use mark_word::{HoldForm, MarkForm, encode, encode_hold};
 
 // The hold words of the thread.

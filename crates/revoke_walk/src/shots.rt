@@ -17,44 +17,16 @@ ghost use Rattle.revoke_walk.specs.ShotParts.{look_at_length, look_at_lengths};
 ghost use Rattle.core_world.specs.declared.name.Name.TheVariants as name;
 
 use core_world::{Name, Own, Stage};
-use heap_table::{Cell, Heap, Pass, Purpose, mark_of_word, owner_of_word};
-use mark_word::{HoldForm, MarkForm, OwnerForm, decode_hold};
-
-fn hold_of_word(word: u64) -> Option<HoldForm>
-    ensures { result ≡ read_hold word }
-{
-    decode_hold(word).ok()
-}
-
-// 1 where the hold word names the object, and else 0.
-fn names(object: u32, word: u64) -> u32
-    ensures value { result ≡ one_if (names object word) }
-    ensures few { result ≤ 1 }
-{
-    match hold_of_word(word) {
-        Some(form) => match form {
-            HoldForm::Holds { object: of, .. } => {
-                if of == object {
-                    1
-                } else {
-                    0
-                }
-            }
-            HoldForm::Empty => 0,
-        },
-        None => 0,
-    }
-}
+use crate::words::one_if;
+use heap_table::{Cell, Heap, Pass, Purpose, class_epoch, mark_of_word, names, owner_of_word};
+use mark_word::{MarkForm, OwnerForm};
 
 // Whether a bias of this epoch is valid, by the prototype of its class.
 fn is_valid(prototype: u64, epoch: u8) -> bool
     ensures { result ≡ has_epoch (epoch_in prototype) epoch }
 {
-    match mark_of_word(prototype) {
-        Some(form) => match form {
-            MarkForm::Anonymous { epoch: valid, .. } => valid == epoch,
-            _ => false,
-        },
+    match class_epoch(prototype) {
+        Some(valid) => valid == epoch,
         None => false,
     }
 }
@@ -79,7 +51,7 @@ fn look_at_hold(
 {
     let at = Name::Hold { thread, place };
     let word = heap.load(pass, why, Stage::Calm, at);
-    names(object, word)
+    one_if(names(object, word))
 }
 
 // How many of the thread's hold words name the object.

@@ -9,9 +9,8 @@ use crate::bulks::{bulk_rebias, bulk_revoke};
 use crate::outcome::Outcome;
 use crate::revocation::Revocation;
 use crate::revokes::revoke;
-use crate::words::class_epoch;
 use core_world::{Name, Own, Stage};
-use heap_table::{Heap, Pass, Purpose};
+use heap_table::{Heap, Pass, Purpose, class_epoch};
 use lock_policy::{Verdict, decide};
 
 // The verdict on a class with this count, and its new count. A count above 40 stays, and its verdict is `Single`.

@@ -3,33 +3,12 @@ ghost use Rattle.std.specs.Prelude.{◌≡◌, ◌≤◌, ◌<◌, ◌^◌, ◌=
 ghost use Rattle.mark_word.specs.declared.mark.MarkForm.TheVariants.{Neutral, Anonymous};
 ghost use Rattle.mark_word.specs.Mark.{mark_of};
 ghost use Rattle.mark_word.specs.Hold.{read_hold};
-ghost use Rattle.core_world.specs.Words.Forms.{epoch_in, names};
 ghost use Rattle.core_world.specs.Locks.{hold_count};
 ghost use Rattle.core_world.specs.RevocationRules.{object_held, first_place};
 ghost use Rattle.core_world.specs.Threads.Stages.{one_if};
 
-use heap_table::mark_of_word;
-use mark_word::{HoldForm, MarkForm, decode_hold, encode_hold};
-
-/// The epoch of a prototype, where it is biased, which it is to no thread.
-pub fn class_epoch(prototype: u64) -> Option<u8>
-    ensures { result ≡ epoch_in prototype }
-{
-    match mark_of_word(prototype) {
-        Some(form) => match form {
-            MarkForm::Anonymous { epoch, .. } => Some(epoch),
-            _ => None,
-        },
-        None => None,
-    }
-}
-
-// What a hold word says.
-fn hold_of_word(word: u64) -> Option<HoldForm>
-    ensures { result ≡ read_hold word }
-{
-    decode_hold(word).ok()
-}
+use heap_table::{hold_of_word, names};
+use mark_word::{HoldForm, encode_hold};
 
 /// The object that a hold word names.
 pub fn object_of_hold(word: u64) -> Option<u32>
@@ -41,18 +20,8 @@ pub fn object_of_hold(word: u64) -> Option<u32>
     }
 }
 
-/// Whether a hold word names the object.
-pub fn names(object: u32, word: u64) -> bool
-    ensures { result ≡ names object word }
-{
-    match hold_of_word(word) {
-        Some(HoldForm::Holds { object: of, .. }) => of == object,
-        _ => false,
-    }
-}
-
-// 1 where the test holds, and else 0.
-fn one_if(test: bool) -> u32
+/// 1 where the test holds, and else 0.
+pub fn one_if(test: bool) -> u32
     ensures value { result ≡ one_if test }
     ensures few { result ≤ 1 }
 {

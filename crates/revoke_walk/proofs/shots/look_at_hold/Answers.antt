@@ -21,4 +21,4 @@ pub returns-clause-held : goal.returns-clause-held
 returns-clause-held c = λ l later.
     let a = c.args in
     let word = load_settled a.heap.now a.pass.now c.load-word.new.pass a.why.now (Hold a.thread a.place) c.load-word.result c.requires.heap c.requires.reached c.load-word.ensures l later in
-    ap (λ n. one_if (names a.object n)) word ∙ sym c.names.ensures.value
+    ap (λ n. one_if (names a.object n)) word ∙ sym (c.one_if.ensures.value ∙ ap one_if c.names.ensures)
