@@ -5,3 +5,4 @@ pub mod Entered
 pub mod Asides
 pub mod Revoked
 pub mod KeptAmid
+pub mod Looked

@@ -8,6 +8,7 @@
 
 mod entering;
 mod leaving;
+mod looking;
 mod purposes;
 mod revoking;
 mod running;
@@ -15,5 +16,6 @@ mod values;
 
 pub use entering::enter;
 pub use leaving::exit;
+pub use looking::check_stuck;
 pub use running::{poll, resume, stop};
 pub use values::{finish, get, print, put};

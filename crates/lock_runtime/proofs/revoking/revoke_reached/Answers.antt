@@ -45,7 +45,7 @@ release_to-requires-clause-due c =
     let due = next_part h p q e.task d next outcome c.requires.due refl ran in
     let thread : q.known.thread ≡ t = ap (λ (x : Local). x.thread) (aside h d p q outcome (at_safepoint e b h.heap.shape t) ran).local in
     let one = part_due h.heap.shape h.heap.start h.heap.biasing q.known e.task (release_to (stage_after took b.object) e t) (λ _. done_with took) due in
-    let stage : c.stage_after-stage.result ≡ stage_after took b.object = c.stage_after-stage.ensures ∙ (λ i. stage_after took (c.revocation.view_is i).object) in
+    let stage : c.stage_after-stage.result ≡ stage_after took b.object = c.stage_after-stage.ensures ∙ (λ i. stage_after (c.outcome.view_is i).took (c.revocation.view_is i).object) in
     subst (IsDueOn h q e.task) (λ i. release_to (sym stage i) e (sym thread i)) one
 
 pub returns : goal.returns
@@ -64,6 +64,6 @@ returns c =
     let next : RevocationOutcome → Todo (Turn Bool) = λ outcome. release_to (stage_after outcome.took b.object) e t >>= (λ _. done_with outcome.took) in
     let ran = subst (λ (x : Revocation). HasRun h (revoke_at_safepoint_steps h.heap.shape t e x) p q outcome) c.revocation.view_is c.revoke_at_safepoint-outcome.ensures in
     let thread : q.known.thread ≡ t = ap (λ (x : Local). x.thread) (aside h d p q outcome (at_safepoint e b h.heap.shape t) ran).local in
-    let stage : c.stage_after-stage.result ≡ stage_after took b.object = c.stage_after-stage.ensures ∙ (λ i. stage_after took (c.revocation.view_is i).object) in
+    let stage : c.stage_after-stage.result ≡ stage_after took b.object = c.stage_after-stage.ensures ∙ (λ i. stage_after (c.outcome.view_is i).took (c.revocation.view_is i).object) in
     let released = subst (λ (x : Todo (Unit {0})). HasRun h x q r tt) (λ i. release_to (stage i) e (thread i)) c.release_to.ensures in
     in_turn h p q r d next outcome (Done took) ran (in_turn h q r r (release_to (stage_after took b.object) e t) (λ _. done_with took) tt (Done took) released (ends h r (Done took) released.heap))
