@@ -7,6 +7,7 @@
 #![tactic(auto)]
 
 mod entering;
+mod hashing;
 mod leaving;
 mod looking;
 mod purposes;
@@ -15,6 +16,7 @@ mod running;
 mod values;
 
 pub use entering::enter;
+pub use hashing::hash;
 pub use leaving::exit;
 pub use looking::check_stuck;
 pub use running::{poll, resume, stop};

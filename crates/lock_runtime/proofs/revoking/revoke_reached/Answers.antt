@@ -66,4 +66,5 @@ returns c =
     let thread : q.known.thread ≡ t = ap (λ (x : Local). x.thread) (aside h d p q outcome (at_safepoint e b h.heap.shape t) ran).local in
     let stage : c.stage_after-stage.result ≡ stage_after took b.object = c.stage_after-stage.ensures ∙ (λ i. stage_after (c.outcome.view_is i).took (c.revocation.view_is i).object) in
     let released = subst (λ (x : Todo (Unit {0})). HasRun h x q r tt) (λ i. release_to (stage i) e (thread i)) c.release_to.ensures in
-    in_turn h p q r d next outcome (Done took) ran (in_turn h q r r (release_to (stage_after took b.object) e t) (λ _. done_with took) tt (Done took) released (ends h r (Done took) released.heap))
+    let whole = in_turn h p q r d next outcome (Done took) ran (in_turn h q r r (release_to (stage_after took b.object) e t) (λ _. done_with took) tt (Done took) released (ends h r (Done took) released.heap)) in
+    subst (λ (x : RevocationOutcome). HasRun h (d >>= next) p r (Done x.took)) (sym c.outcome.view_is) whole
