@@ -8,3 +8,5 @@ pub mod KeptAmid
 pub mod Looked
 pub mod UnbiasAside
 pub mod Hashed
+pub mod Reached
+pub mod Dumped

@@ -18,6 +18,6 @@ mod values;
 pub use entering::enter;
 pub use hashing::hash;
 pub use leaving::exit;
-pub use looking::check_stuck;
+pub use looking::{check_stuck, dump};
 pub use running::{poll, resume, stop};
 pub use values::{finish, get, print, put};
