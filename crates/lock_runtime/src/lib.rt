@@ -7,7 +7,9 @@
 #![tactic(auto)]
 
 mod entering;
+mod hashing;
 mod leaving;
+mod looking;
 mod purposes;
 mod revoking;
 mod running;
@@ -15,7 +17,9 @@ mod values;
 mod waiting;
 
 pub use entering::enter;
+pub use hashing::hash;
 pub use leaving::exit;
+pub use looking::{check_stuck, dump};
 pub use running::{poll, resume, stop};
 pub use values::{finish, get, print, put};
 pub use waiting::{notify, notify_all, wait};
