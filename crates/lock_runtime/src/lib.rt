@@ -6,11 +6,15 @@
 //! steps. None takes memory, none waits, and none tries again.
 #![tactic(auto)]
 
+#[cfg(test)]
+mod asked;
 mod entering;
 mod leaving;
 mod purposes;
 mod revoking;
 mod running;
+#[cfg(test)]
+mod tests;
 mod values;
 
 pub use entering::enter;

@@ -1,0 +1,6 @@
+//! What two threads of one heap answer, log and leave, call by call.
+
+mod biased;
+mod calls;
+mod last;
+mod stacked;
