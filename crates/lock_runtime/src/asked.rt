@@ -1,8 +1,7 @@
 //! For the tests: whether a call may begin, asked as the test runs.
-ghost use Rattle.std.specs.Prelude.{◌≡◌, ◌+◌, ◌≤◌, ◌&&◌, ◌||◌, not, is_none, nat_lt, nat_le, length, true};
+ghost use Rattle.std.specs.Prelude.{◌≡◌, ◌==◌, ◌+◌, ◌≤◌, ◌&&◌, ◌||◌, not, is_none, nat_lt, nat_le, length, true};
 ghost use Rattle.std.specs.List.{list_all};
 ghost use Rattle.core_world.specs.Clauses.Lengths.{log_limit};
-ghost use Rattle.core_world.specs.Clauses.Safepoints.{ends};
 ghost use Rattle.core_world.specs.Trees.Calls.{is_object, is_value, may_operate, may_begin};
 ghost use Rattle.core_world.specs.Trees.Operations.{same_op, goes_on_with};
 ghost use Rattle.core_world.specs.Words.Forms.{says_ended};
@@ -42,12 +41,12 @@ fn goes_on(pass: &Pass, op: Op, object: u32) -> bool
 // Whether the thread runs, or asks for a safepoint for the operation that goes on, and leaves nothing else unfinished.
 fn stands(pass: &Pass, going: bool) -> bool
     ensures { result ≡ (not pass.now.known.checking
-        && ((pass.now.known.running || (pass.now.known.requesting && going))
-        && (is_none pass.now.known.unfinished || going))) }
+        && (pass.now.known.running || (pass.now.known.requesting && going))
+        && (is_none pass.now.known.unfinished || going)) }
 {
     let runs = pass.running() || (pass.requesting() && going);
     let free = pass.unfinished().is_none() || going;
-    !pass.checking() && (runs && free)
+    !pass.checking() && runs && free
 }
 
 // Whether the thread ended, by its waiting word.
@@ -74,7 +73,10 @@ fn may_operate(heap: &Heap, pass: &Pass, going: bool) -> bool
     requires { Rests heap.now pass.now }
     ensures { result ≡ true → may_operate pass.now.known going ≡ true }
 {
-    stands(pass, going) && !said_ended(pass) && is_short(pass)
+    if said_ended(pass) {
+        return false;
+    }
+    stands(pass, going) && is_short(pass)
 }
 
 fn is_object(heap: &Heap, object: u32) -> bool

@@ -1,5 +1,5 @@
 //! Heaps with biases.
-ghost use Rattle.std.specs.Prelude.{◌≡◌};
+ghost use Rattle.std.specs.Prelude.{◌<◌};
 ghost use Rattle.heap_table.specs.Resting.{Rests};
 
 use crate::tests::calls::{

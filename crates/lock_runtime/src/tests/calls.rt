@@ -1,5 +1,5 @@
 //! A heap of two threads, and whole calls on it. `None` where a call may not begin.
-ghost use Rattle.std.specs.Prelude.{◌≡◌, ◌∷◌, [], IfOk, All, ◌<◌, length};
+ghost use Rattle.std.specs.Prelude.{IfOk};
 ghost use Rattle.heap_table.specs.Fresh.{IsFresh};
 ghost use Rattle.heap_table.specs.Resting.{Rests};
 

@@ -1,5 +1,5 @@
 //! The words, logs and counts of a heap that was closed.
-ghost use Rattle.std.specs.Prelude.{◌≡◌};
+ghost use Rattle.std.specs.Prelude.{◌≡◌, true, false};
 ghost use Rattle.heap_table.specs.Resting.{Rests};
 
 use heap_table::{Closed, Heap, Pass, close};

@@ -1,5 +1,4 @@
 //! Heaps without biases: locks by records and by monitors.
-ghost use Rattle.std.specs.Prelude.{◌≡◌};
 ghost use Rattle.heap_table.specs.Resting.{Rests};
 
 use crate::tests::calls::{
