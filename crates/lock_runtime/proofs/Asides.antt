@@ -9,6 +9,8 @@ use Rattle.lock_policy.specs.declared.policy.Verdict.{Verdict}
 use Rattle.lock_policy.specs.declared.policy.Verdict.TheVariants.{Single, BulkRebias, BulkRevoke}
 use Rattle.lock_policy.specs.Policy.{decided}
 use Rattle.core_world.specs.declared.act.Act.TheVariants.{Store}
+use Rattle.core_world.specs.declared.answer.BiasTry.{BiasTry}
+use Rattle.core_world.specs.declared.answer.BiasTry.TheVariants.{Took, Unbiased, Valid, Raced}
 use Rattle.core_world.specs.declared.answer.Turn.{Turn}
 use Rattle.core_world.specs.declared.answer.Turn.TheVariants.{Done, Pending}
 use Rattle.core_world.specs.declared.answer.Why.TheVariants as why
@@ -18,15 +20,16 @@ use Rattle.core_world.specs.declared.plan.Own.TheVariants as own
 use Rattle.core_world.specs.declared.stage.Stage.{Stage}
 use Rattle.core_world.specs.Locks.{is_valid_bias, hold_count}
 use Rattle.core_world.specs.RevocationRules.{Write, write, raised_form, with_epoch, store_where, object_held, biased_word, revoke_biased, record_writes, first_place}
+use Rattle.core_world.specs.Threads.Known.{Start}
 use Rattle.core_world.specs.Threads.Stages.{Revocation}
 use Rattle.core_world.specs.Words.Forms.{epoch_in, is_biased, is_still, names, hold_word}
 use Rattle.core_world.specs.Words.Shape.{Shape, class_of}
-use Rattle.core_world.specs.Trees.Operations.{and_then, revocation_steps}
+use Rattle.core_world.specs.Trees.Operations.{and_then, revocation_steps, revoked_steps, unbias_tried, unbias_steps}
 use Rattle.core_world.specs.Trees.Plans.{Purpose, done_with, pending_for, load}
 use Rattle.core_world.specs.Trees.RevocationSteps.{look, store_steps, revoke_at, revoke_steps, visit_held, walk_steps, take_bias_steps, next_epoch, bulk_rebias_steps, bulk_revoke_steps, verdict_steps, decided_steps, revoke_at_safepoint_steps}
 use Rattle.core_world.specs.Trees.SafepointSteps.{has_requester, request_swap_steps, request_steps, reached_steps, then_reached, safepoint_steps, release_to, reached_word}
 use Rattle.core_world.specs.Trees.Todo.{Todo, done, never, ◌>>=◌, each_from, all_from}
-use Rattle.core_world.specs.Trees.BiasSteps.{stage_after}
+use Rattle.core_world.specs.Trees.BiasSteps.{stage_after, unbias_swap_steps, bias_drop_at, bias_drop_by, bias_drop_steps}
 use Rattle.lock_runtime.specs.Parts.{reached_revocation}
 use Rattle.heap_table.proofs.Aside.{AreAside, IsAside, leaves_own_words, either_aside, then_aside, all_aside, each_aside}
 
@@ -179,3 +182,45 @@ module _ (e : Purpose) (b : Revocation) where
 
   pub revocation_aside : (s : Shape) (t : ℕ) (requesting : Bool) → AreAside (revocation_steps s t requesting e b)
   revocation_aside s t requesting = then_aside (safepoint_steps e t requesting) _ (safepoint_aside e t requesting) (behind_safepoint s t)
+
+-- THE END OF A BIAS
+drop_swap : (e : Purpose) (o mark neutral : ℕ) → AreAside (unbias_swap_steps e o mark neutral)
+drop_swap e o mark neutral = (record { quiet = refl; words = refl; keeps = refl }, λ found. either_aside (found == mark) _ _ tt tt)
+
+drop_at : (f : Option MarkForm) (epoch : ℕ) (e : Purpose) (o mark : ℕ) → AreAside (bias_drop_at f epoch e o mark)
+drop_at (Some (Biased t old age)) epoch e o mark = either_aside (old == epoch) _ _ tt (drop_swap e o mark (mark_of (Neutral 0 0)))
+drop_at (Some (Anonymous old age)) epoch e o mark = drop_swap e o mark (mark_of (Neutral 0 0))
+drop_at None epoch e o mark = tt
+drop_at (Some Inflating) epoch e o mark = tt
+drop_at (Some (Neutral hash age)) epoch e o mark = tt
+drop_at (Some (Locked t p)) epoch e o mark = tt
+drop_at (Some (Inflated m)) epoch e o mark = tt
+drop_at (Some Marked) epoch e o mark = tt
+
+drop_by : (epoch : Option ℕ) (e : Purpose) (o mark prototype : ℕ) → AreAside (bias_drop_by epoch e o mark prototype)
+drop_by None e o mark prototype = drop_swap e o mark prototype
+drop_by (Some epoch) e o mark prototype = drop_at (read_mark mark) epoch e o mark
+
+drop : (e : Purpose) (c o : ℕ) → AreAside (bias_drop_steps e c o)
+drop e c o = (
+  record { quiet = refl; words = refl; keeps = refl },
+  λ mark. either_aside (is_biased mark) _ _ (record { quiet = refl; words = refl; keeps = refl }, λ prototype. drop_by (epoch_in prototype) e o mark prototype) tt,
+)
+
+revoked_turn : (turn : Turn Bool) → AreAside (and_then turn (λ _. done_with (tt {0})))
+revoked_turn (Done took) = tt
+revoked_turn (Pending cause) = tt
+
+revoked : (s : Shape) (t : ℕ) (requesting : Bool) (e : Purpose) (b : Revocation) → AreAside (revoked_steps s t requesting e b)
+revoked s t requesting e b = then_aside (revocation_steps s t requesting e b) _ (revocation_aside e b s t requesting) revoked_turn
+
+tried : (try : BiasTry) (s : Shape) (e : Purpose) (k : Start) (b : Revocation) → AreAside (unbias_tried try s e k b)
+tried (Took path) s e k b = tt
+tried (Unbiased mark) s e k b = tt
+tried (Valid mark) s e k b = revoked s k.local.thread false e b
+tried (Raced expected found) s e k b = tt
+
+pub unbias_aside : (s : Shape) (e : Purpose) (k : Start) (b : Revocation) → AreAside (unbias_steps s e k b)
+unbias_aside s e k b =
+    either_aside k.requesting _ _ (revoked s k.local.thread true e b)
+    (then_aside (bias_drop_steps e (class_of s b.object) b.object) _ (drop e (class_of s b.object) b.object) (λ try. tried try s e k b))

@@ -6,3 +6,5 @@ pub mod Asides
 pub mod Revoked
 pub mod KeptAmid
 pub mod Enters
+pub mod Unbiased
+pub mod Waits

@@ -16,8 +16,10 @@ mod running;
 #[cfg(test)]
 mod tests;
 mod values;
+mod waiting;
 
 pub use entering::enter;
 pub use leaving::exit;
 pub use running::{poll, resume, stop};
 pub use values::{finish, get, print, put};
+pub use waiting::{notify, notify_all, wait};

@@ -1,0 +1,82 @@
+use Rattle.std.proofs.Common.{◌≡◌, ◌==◌, true, false, Ok, Err, Option, refl, sym, ap, ◌∙◌, subst, eq-eqb, ne_eqb}
+use Rattle.core_world.specs.declared.task.Op.TheVariants as op
+use Rattle.core_world.specs.declared.task.Task.TheVariants.{NotifyAll}
+use Rattle.core_world.specs.Locks.{hold_count}
+use Rattle.core_world.specs.Trees.Calls.{steps_of}
+use Rattle.core_world.specs.Trees.Operations.{notify_all_going, notify_all_steps}
+use Rattle.core_world.specs.Trees.Plans.{Purpose, purpose}
+use Rattle.core_calls.proofs.Runs.{tells}
+use Rattle.core_calls.proofs.WaitCallsSay.{notify_all_says}
+use Rattle.core_calls.proofs.WhoIsWoken.{notify_all_wakes}
+use Rattle.heap_table.specs.Parts.{IsDueOn, HasRun}
+use Rattle.heap_table.specs.Resting.{start_now}
+use Rattle.heap_table.proofs.Resting.{whole_due, behind}
+use Rattle.lock_runtime.proofs.Behind.{going_due, going_run, going_first}
+use Rattle.lock_runtime.proofs.Waits.{first_to_notify_all, refused_run}
+use Rattle.lock_runtime.proofs.waiting.notify_all.Goals as goal
+
+pub returns-then-held-eq0-clause-wakes : goal.returns-then-held-eq0-clause-wakes
+returns-then-held-eq0-clause-wakes c =
+    let a = c.args in
+    let h = a.heap.now in
+    let p = a.pass.now in
+    let s = h.heap.shape in
+    let k = start_now h p in
+    let e = purpose (NotifyAll a.object a.now) op.NotifyAll a.object in
+    let none = hold_count a.object p.known.holds == 0 in
+    let without : none ≡ true = eq-eqb _ _ (sym c.held.ensures.held ∙ c.if-held-eq0.true) in
+    tells (notify_all_wakes s k a.object a.now) (refused_run h p none (record {}) (notify_all_going s e k a.object a.now) without c.requires.call.rests.is_of).ran
+
+pub notify_all_held-requires-clause-due : goal.notify_all_held-requires-clause-due
+unfolding steps_of
+notify_all_held-requires-clause-due c =
+    let a = c.args in
+    let h = a.heap.now in
+    let p = a.pass.now in
+    let s = h.heap.shape in
+    let k = start_now h p in
+    let t = NotifyAll a.object a.now in
+    let none = hold_count a.object p.known.holds == 0 in
+    let no : none ≡ false = ap (λ n. n == 0) (sym c.held.ensures.held) ∙ ne_eqb _ _ c.if-held-eq0.false in
+    let due = whole_due h p t c.requires.call (notify_all_steps s k a.object a.now) refl in
+    subst (λ (x : Purpose). IsDueOn h p x.task (notify_all_going s x k a.object a.now)) (sym c.unfinished-why.ensures)
+    (going_due h p none (record {}) (notify_all_going s (purpose t op.NotifyAll a.object) k a.object a.now) no t due)
+
+pub returns-clause-run : goal.returns-clause-run
+returns-clause-run c =
+    let a = c.args in
+    let h = a.heap.now in
+    let p = a.pass.now in
+    let q = c.notify_all_held.new.pass in
+    let s = h.heap.shape in
+    let k = start_now h p in
+    let e = purpose (NotifyAll a.object a.now) op.NotifyAll a.object in
+    let none = hold_count a.object p.known.holds == 0 in
+    let no : none ≡ false = ap (λ n. n == 0) (sym c.held.ensures.held) ∙ ne_eqb _ _ c.if-held-eq0.false in
+    let run = subst (λ (x : Purpose). HasRun h (notify_all_going s x k a.object a.now) p q c.notify_all_held.result) c.unfinished-why.ensures c.notify_all_held.ensures in
+    going_run h p none (record {}) (notify_all_going s e k a.object a.now) no q c.notify_all_held.result run
+
+pub returns-clause-rests : goal.returns-clause-rests
+unfolding steps_of
+returns-clause-rests c =
+    let a = c.args in
+    let h = a.heap.now in
+    let p = a.pass.now in
+    let s = h.heap.shape in
+    let k = start_now h p in
+    let t = NotifyAll a.object a.now in
+    let e = purpose t op.NotifyAll a.object in
+    let none = hold_count a.object p.known.holds == 0 in
+    behind h p t c.requires.call (notify_all_steps s k a.object a.now) refl
+    (going_first t none (record {}) (notify_all_going s e k a.object a.now) (first_to_notify_all s e k a.object a.now)) c.notify_all_held.new.pass (Ok c.notify_all_held.result)
+    (returns-clause-run c)
+
+pub returns-clause-says : goal.returns-clause-says
+returns-clause-says c =
+    let a = c.args in
+    tells (notify_all_says a.heap.now.heap.shape (start_now a.heap.now a.pass.now) a.object a.now) (HasRun.ran (returns-clause-run c))
+
+pub returns-clause-wakes : goal.returns-clause-wakes
+returns-clause-wakes c =
+    let a = c.args in
+    tells (notify_all_wakes a.heap.now.heap.shape (start_now a.heap.now a.pass.now) a.object a.now) (HasRun.ran (returns-clause-run c))

@@ -1,0 +1,319 @@
+//! The calls that wait on an object, and that notify those who do.
+ghost use Rattle.std.specs.Prelude.{◌≡◌, ◌+◌, ◌<◌, ◌≤◌, length, Some};
+ghost use Rattle.core_world.specs.declared.task.Task.TheVariants.{Wait, Notify, NotifyAll};
+ghost use Rattle.core_world.specs.Threads.Known.{local_of};
+ghost use Rattle.core_world.specs.Trees.Operations.{wait_beginning, wait_going, wait_steps};
+ghost use Rattle.core_world.specs.Trees.Operations.{notify_at, notify_going, notify_steps};
+ghost use Rattle.core_world.specs.Trees.Operations.{notify_all_at, notify_all_going, notify_all_steps};
+ghost use Rattle.core_world.specs.Words.Forms.{waits_on};
+ghost use Rattle.core_calls.specs.CallsSay.{WaitSays, NotifySays, NotifyAllSays};
+ghost use Rattle.core_calls.specs.Paths.{Tells};
+ghost use Rattle.core_calls.specs.Woken.{IfDone, Wakes, WakesAll};
+ghost use Rattle.heap_table.specs.Parts.{IsDueOn, HasRun};
+ghost use Rattle.heap_table.specs.Resting.{MayOperate, Rests, start_now};
+ghost use Rattle.heap_table.specs.Seen.{IsOf};
+ghost use Rattle.lock_runtime.specs.WaitParts.{inflated_wait, letting_go, marked_notify, marked_notify_all};
+
+use crate::purposes::unfinished;
+use crate::revoking::unbias;
+use core_world::{IllegalMonitorState, Name, Op, Stage, Task, Turn, Why};
+use heap_table::{Heap, Pass, Purpose, mark_of_word, wait_of_word};
+use mark_word::{MarkForm, WaitForm};
+use object_monitor::{inflate, monitor_notify, monitor_notify_all, monitor_resume, monitor_wait, publish};
+use plain_monitor::Entry;
+use revoke_walk::Revocation;
+
+// Whether this waiting word says that its thread waits on the object, notified or not.
+fn waits_on(word: u64, object: u32) -> bool
+    ensures { result ≡ waits_on word object }
+{
+    match wait_of_word(word) {
+        Some(form) => match form {
+            WaitForm::Waiting { object: on, .. } => on == object,
+            _ => false,
+        },
+        None => false,
+    }
+}
+
+// The thread owns the object's monitor: it logs the Wait, lets go, and looks whether it was notified.
+fn let_go(heap: &Heap, pass: &mut Pass, why: &Purpose, object: u32, monitor: u32) -> Turn<()>
+    requires heap { IsOf heap.now pass.old }
+    requires object { object < length heap.now.heap.shape.objects }
+    requires due { IsDueOn heap.now pass.old why.now.task
+        (letting_go why.now (local_of pass.old.known) object monitor) }
+    requires room { length pass.old.known.log + 2 ≤ pass.old.limit }
+    ensures { HasRun heap.now (letting_go why.now (local_of pass.old.known) object monitor)
+        pass.old pass.new result }
+{
+    let saved = monitor_wait(heap, pass, why, object, monitor);
+    monitor_resume(heap, pass, why, saved, object)
+}
+
+// The object's mark has no bias pattern: the object gets a monitor, if it has none.
+fn wait_inflated(heap: &Heap, pass: &mut Pass, why: &Purpose, object: u32) -> Turn<()>
+    requires heap { IsOf heap.now pass.old }
+    requires object { object < length heap.now.heap.shape.objects }
+    requires due { IsDueOn heap.now pass.old why.now.task
+        (inflated_wait why.now pass.old.known.kept (local_of pass.old.known) object) }
+    requires room { length pass.old.known.log + 2 ≤ pass.old.limit }
+    ensures { HasRun heap.now (inflated_wait why.now pass.old.known.kept (local_of pass.old.known) object)
+        pass.old pass.new result }
+{
+    match inflate(heap, pass, why, object) {
+        Turn::Done(monitor) => let_go(heap, pass, why, object, monitor),
+        Turn::Pending(cause) => Turn::Pending(cause),
+    }
+}
+
+// The thread has a hold on the object, and has not let it go.
+fn wait_anew(heap: &Heap, pass: &mut Pass, why: &Purpose, object: u32, now: u64) -> Turn<()>
+    requires heap { IsOf heap.now pass.old }
+    requires object { object < length heap.now.heap.shape.objects }
+    requires due { IsDueOn heap.now pass.old why.now.task
+        (wait_beginning heap.now.heap.shape why.now (start_now heap.now pass.old) object now) }
+    requires room { length pass.old.known.log + 2 ≤ pass.old.limit }
+    ensures { HasRun heap.now
+        (wait_beginning heap.now.heap.shape why.now (start_now heap.now pass.old) object now)
+        pass.old pass.new result }
+{
+    let bias = Revocation {
+        object,
+        rebias: false,
+        moment: now,
+    };
+    match unbias(heap, pass, why, &bias) {
+        Turn::Done(()) => wait_inflated(heap, pass, why, object),
+        Turn::Pending(cause) => Turn::Pending(cause),
+    }
+}
+
+// The thread has a hold on the object, which it has let go where its waiting word says so.
+fn wait_held(heap: &Heap, pass: &mut Pass, why: &Purpose, object: u32, now: u64) -> Turn<()>
+    requires heap { IsOf heap.now pass.old }
+    requires object { object < length heap.now.heap.shape.objects }
+    requires due { IsDueOn heap.now pass.old why.now.task
+        (wait_going heap.now.heap.shape why.now (start_now heap.now pass.old) object now) }
+    requires room { length pass.old.known.log + 2 ≤ pass.old.limit }
+    ensures { HasRun heap.now (wait_going heap.now.heap.shape why.now (start_now heap.now pass.old) object now)
+        pass.old pass.new result }
+{
+    if waits_on(pass.wait_word(), object) {
+        let saved = pass.saved();
+        return monitor_resume(heap, pass, why, saved, object);
+    }
+    wait_anew(heap, pass, why, object, now)
+}
+
+/// Waits on the object: lets go of it, with all holds, until another thread notifies this one. `now` is the moment for the
+/// policy of bulk operations. The same call goes on with a wait that is unfinished.
+///
+/// `Done(())` says that the thread was notified and has its holds again: the Resume is logged, behind the Wait where this
+/// call let go, and nothing is unfinished.
+/// Pending, the wait stays unfinished. Where the thread has not let go, nothing is logged: `Raced { expected, found }` says
+/// that an exchange of this call missed; `Inflating` that the loaded mark was 0; `Stopping { word }` that the thread's
+/// request for a safepoint stands, and that by `word` another thread runs still; `Requested { word }` that by `word` another
+/// thread has a request. Where it has let go, in this call, which logged the Wait, or in an earlier one:
+/// `NotNotified { word }` says that the thread's waiting word, which is `word`, tells of no notify; `Owned { word }` that the
+/// thread was notified, and that the owner word of the object's monitor, which is `word`, names another thread.
+/// `IllegalMonitorState` comes exactly where the thread has no hold on the object; then no step is made.
+pub fn wait(heap: &Heap, pass: &mut Pass, object: u32, now: u64) -> Result<Turn<()>, IllegalMonitorState>
+    requires { MayOperate heap.now pass.old (Wait object now) }
+    ensures rests { Rests heap.now pass.new }
+    ensures run { HasRun heap.now (wait_steps heap.now.heap.shape (start_now heap.now pass.old) object now)
+        pass.old pass.new result }
+    ensures says { Tells pass.old.known pass.new.known (λ ms. WaitSays (start_now heap.now pass.old) object ms result) }
+{
+    if pass.held(object) == 0 {
+        return Err(IllegalMonitorState);
+    }
+    let why = unfinished(Task::Wait { object, now }, Op::Wait, object);
+    Ok(wait_held(heap, pass, &why, object, now))
+}
+
+// The object's mark has this form, and no bias pattern.
+fn notify_by(heap: &Heap, pass: &mut Pass, why: &Purpose, object: u32, form: MarkForm) -> Turn<Option<u32>>
+    requires heap { IsOf heap.now pass.old }
+    requires object { object < length heap.now.heap.shape.objects }
+    requires due { IsDueOn heap.now pass.old why.now.task
+        (notify_at (Some form) heap.now.heap.shape why.now (local_of pass.old.known) object) }
+    requires room { length pass.old.known.log < pass.old.limit }
+    ensures { HasRun heap.now
+        (notify_at (Some form) heap.now.heap.shape why.now (local_of pass.old.known) object)
+        pass.old pass.new result }
+{
+    match form {
+        MarkForm::Inflating => Turn::Pending(Why::Inflating),
+        MarkForm::Locked { .. } => {
+            let woken = None;
+            publish(heap, pass, why, Entry::Notify { object, woken });
+            Turn::Done(woken)
+        }
+        MarkForm::Inflated { .. } => Turn::Done(monitor_notify(heap, pass, why, object)),
+        _ => unreachable!(),
+    }
+}
+
+// The object's mark has no bias pattern.
+fn notify_marked(heap: &Heap, pass: &mut Pass, why: &Purpose, object: u32) -> Turn<Option<u32>>
+    requires heap { IsOf heap.now pass.old }
+    requires object { object < length heap.now.heap.shape.objects }
+    requires due { IsDueOn heap.now pass.old why.now.task
+        (marked_notify heap.now.heap.shape why.now (local_of pass.old.known) object) }
+    requires room { length pass.old.known.log < pass.old.limit }
+    ensures { HasRun heap.now (marked_notify heap.now.heap.shape why.now (local_of pass.old.known) object)
+        pass.old pass.new result }
+{
+    let mark = heap.load(pass, why, Stage::Calm, Name::Mark { object });
+    match mark_of_word(mark) {
+        Some(form) => notify_by(heap, pass, why, object, form),
+        None => unreachable!(),
+    }
+}
+
+// The thread has a hold on the object.
+fn notify_held(heap: &Heap, pass: &mut Pass, why: &Purpose, object: u32, now: u64) -> Turn<Option<u32>>
+    requires heap { IsOf heap.now pass.old }
+    requires object { object < length heap.now.heap.shape.objects }
+    requires due { IsDueOn heap.now pass.old why.now.task
+        (notify_going heap.now.heap.shape why.now (start_now heap.now pass.old) object now) }
+    requires room { length pass.old.known.log < pass.old.limit }
+    ensures { HasRun heap.now
+        (notify_going heap.now.heap.shape why.now (start_now heap.now pass.old) object now)
+        pass.old pass.new result }
+{
+    let bias = Revocation {
+        object,
+        rebias: false,
+        moment: now,
+    };
+    match unbias(heap, pass, why, &bias) {
+        Turn::Done(()) => notify_marked(heap, pass, why, object),
+        Turn::Pending(cause) => Turn::Pending(cause),
+    }
+}
+
+/// Notifies the thread that has waited on the object longest: the one with the smallest stamp, and at equal stamps with
+/// the smallest number. `now` is the moment for the policy of bulk operations.
+///
+/// `Done(Some(thread))` says which thread was notified, and `Done(None)` that none waited, as where a lock record has the
+/// lock: the Notify is logged with this answer, and nothing is unfinished.
+/// Pending, nobody is notified and nothing logged, and the notify stays unfinished: `Raced { expected, found }` says that
+/// an exchange of this call missed; `Inflating` that the loaded mark was 0; `Stopping { word }` that the thread's request
+/// for a safepoint stands, and that by `word` another thread runs still; `Requested { word }` that by `word` another thread
+/// has a request.
+/// `IllegalMonitorState` comes exactly where the thread has no hold on the object; then no step is made.
+pub fn notify(
+    heap: &Heap,
+    pass: &mut Pass,
+    object: u32,
+    now: u64,
+) -> Result<Turn<Option<u32>>, IllegalMonitorState>
+    requires { MayOperate heap.now pass.old (Notify object now) }
+    ensures rests { Rests heap.now pass.new }
+    ensures run { HasRun heap.now (notify_steps heap.now.heap.shape (start_now heap.now pass.old) object now)
+        pass.old pass.new result }
+    ensures says { Tells pass.old.known pass.new.known
+        (λ ms. NotifySays (start_now heap.now pass.old) object ms result) }
+    ensures wakes { Tells pass.old.known pass.new.known
+        (λ ms. IfDone (Wakes heap.now.heap.shape object) ms result) }
+{
+    if pass.held(object) == 0 {
+        return Err(IllegalMonitorState);
+    }
+    let why = unfinished(Task::Notify { object, now }, Op::Notify, object);
+    Ok(notify_held(heap, pass, &why, object, now))
+}
+
+// The object's mark has this form, and no bias pattern.
+fn notify_all_by(heap: &Heap, pass: &mut Pass, why: &Purpose, object: u32, form: MarkForm) -> Turn<u32>
+    requires heap { IsOf heap.now pass.old }
+    requires object { object < length heap.now.heap.shape.objects }
+    requires due { IsDueOn heap.now pass.old why.now.task
+        (notify_all_at (Some form) heap.now.heap.shape why.now (local_of pass.old.known) object) }
+    requires room { length pass.old.known.log < pass.old.limit }
+    ensures { HasRun heap.now
+        (notify_all_at (Some form) heap.now.heap.shape why.now (local_of pass.old.known) object)
+        pass.old pass.new result }
+{
+    match form {
+        MarkForm::Inflating => Turn::Pending(Why::Inflating),
+        MarkForm::Locked { .. } => {
+            publish(heap, pass, why, Entry::NotifyAll { object, woken: 0 });
+            Turn::Done(0)
+        }
+        MarkForm::Inflated { .. } => Turn::Done(monitor_notify_all(heap, pass, why, object)),
+        _ => unreachable!(),
+    }
+}
+
+// The object's mark has no bias pattern.
+fn notify_all_marked(heap: &Heap, pass: &mut Pass, why: &Purpose, object: u32) -> Turn<u32>
+    requires heap { IsOf heap.now pass.old }
+    requires object { object < length heap.now.heap.shape.objects }
+    requires due { IsDueOn heap.now pass.old why.now.task
+        (marked_notify_all heap.now.heap.shape why.now (local_of pass.old.known) object) }
+    requires room { length pass.old.known.log < pass.old.limit }
+    ensures { HasRun heap.now (marked_notify_all heap.now.heap.shape why.now (local_of pass.old.known) object)
+        pass.old pass.new result }
+{
+    let mark = heap.load(pass, why, Stage::Calm, Name::Mark { object });
+    match mark_of_word(mark) {
+        Some(form) => notify_all_by(heap, pass, why, object, form),
+        None => unreachable!(),
+    }
+}
+
+// The thread has a hold on the object.
+fn notify_all_held(heap: &Heap, pass: &mut Pass, why: &Purpose, object: u32, now: u64) -> Turn<u32>
+    requires heap { IsOf heap.now pass.old }
+    requires object { object < length heap.now.heap.shape.objects }
+    requires due { IsDueOn heap.now pass.old why.now.task
+        (notify_all_going heap.now.heap.shape why.now (start_now heap.now pass.old) object now) }
+    requires room { length pass.old.known.log < pass.old.limit }
+    ensures { HasRun heap.now
+        (notify_all_going heap.now.heap.shape why.now (start_now heap.now pass.old) object now)
+        pass.old pass.new result }
+{
+    let bias = Revocation {
+        object,
+        rebias: false,
+        moment: now,
+    };
+    match unbias(heap, pass, why, &bias) {
+        Turn::Done(()) => notify_all_marked(heap, pass, why, object),
+        Turn::Pending(cause) => Turn::Pending(cause),
+    }
+}
+
+/// Notifies each thread that waits on the object, the one that has waited longest first. `now` is the moment for the policy
+/// of bulk operations.
+///
+/// `Done(woken)` says how many there were, which is 0 where a lock record has the lock: each is notified, the NotifyAll of
+/// so many is logged, and nothing is unfinished.
+/// Pending, nobody is notified and nothing logged, and the notify stays unfinished: `Raced { expected, found }` says that
+/// an exchange of this call missed; `Inflating` that the loaded mark was 0; `Stopping { word }` that the thread's request
+/// for a safepoint stands, and that by `word` another thread runs still; `Requested { word }` that by `word` another thread
+/// has a request.
+/// `IllegalMonitorState` comes exactly where the thread has no hold on the object; then no step is made.
+pub fn notify_all(
+    heap: &Heap,
+    pass: &mut Pass,
+    object: u32,
+    now: u64,
+) -> Result<Turn<u32>, IllegalMonitorState>
+    requires { MayOperate heap.now pass.old (NotifyAll object now) }
+    ensures rests { Rests heap.now pass.new }
+    ensures run { HasRun heap.now (notify_all_steps heap.now.heap.shape (start_now heap.now pass.old) object now)
+        pass.old pass.new result }
+    ensures says { Tells pass.old.known pass.new.known
+        (λ ms. NotifyAllSays (start_now heap.now pass.old) object ms result) }
+    ensures wakes { Tells pass.old.known pass.new.known
+        (λ ms. IfDone (WakesAll heap.now.heap.shape object) ms result) }
+{
+    if pass.held(object) == 0 {
+        return Err(IllegalMonitorState);
+    }
+    let why = unfinished(Task::NotifyAll { object, now }, Op::NotifyAll, object);
+    Ok(notify_all_held(heap, pass, &why, object, now))
+}
