@@ -8,3 +8,6 @@ pub mod KeptAmid
 pub mod Enters
 pub mod Unbiased
 pub mod Waits
+pub mod Looked
+pub mod UnbiasAside
+pub mod Hashed

@@ -9,7 +9,9 @@
 #[cfg(test)]
 mod asked;
 mod entering;
+mod hashing;
 mod leaving;
+mod looking;
 mod purposes;
 mod revoking;
 mod running;
@@ -19,7 +21,9 @@ mod values;
 mod waiting;
 
 pub use entering::enter;
+pub use hashing::hash;
 pub use leaving::exit;
+pub use looking::check_stuck;
 pub use running::{poll, resume, stop};
 pub use values::{finish, get, print, put};
 pub use waiting::{notify, notify_all, wait};

@@ -2,6 +2,7 @@ mod Behind
 mod Rounds
 mod RevokeSteps
 mod RevokeWords
+mod Turns
 mod Standing
 mod StandLoop
 mod Later

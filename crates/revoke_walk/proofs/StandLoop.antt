@@ -1,5 +1,5 @@
 -- A loop over the threads, of which each is looked at.
-use Rattle.std.proofs.Common.{◌≡◌, ℕ, zero, suc, ◌+◌, ◌<◌, ◌&&◌, Bool, List, ◌∷◌, Option, refl, sym, ap, ◌∙◌, subst, arith}
+use Rattle.std.proofs.Common.{◌≡◌, ℕ, suc, ◌+◌, ◌&&◌, Bool, List, ◌∷◌, Option, refl, sym, ap, ◌∙◌, subst}
 use Rattle.mark_word.specs.Wait.{read_wait}
 use Rattle.core_world.specs.declared.name.Name.TheVariants.{Waiting}
 use Rattle.core_world.specs.Trees.LookSteps.{look_at_wait}
@@ -12,15 +12,6 @@ use Rattle.heap_table.proofs.Loops.{HasCome, each_next, comes_on, comes_as}
 use Rattle.heap_table.proofs.Parts.{part_then, ends}
 use Rattle.revoke_walk.specs.StandParts.{look_at_thread, stands_with, still_from}
 use Rattle.revoke_walk.proofs.Standing.{all_with}
-
--- where fewer than n turns were made, one more is left
-pub one_more : (i m n : ℕ) → i + m ≡ n → i < n → (j : ℕ) × (m ≡ suc j)
-one_more i zero n all less = absurd (omega (arith, all, less))
-one_more i (suc j) n all less = (j, refl)
-
-pub no_more : (i m n : ℕ) → i + m ≡ n → (i < n → ⊥) → m ≡ 0
-no_more i zero n all most = refl
-no_more i (suc m) n all most = absurd (most (omega (arith, all)))
 
 -- behind the last thread all were looked at
 pub all_looked : (h : HeapSeen) (o p : PassSeen) (e : Purpose) (d : Todo Bool) (i m : ℕ) (live still : Bool) → m ≡ 0 → IsOf h p → HasCome h d o (still_from e i m live still) p

@@ -14,7 +14,7 @@ use Rattle.revoke_walk.specs.ShotParts.{held_below, look_at_hold}
 use Rattle.revoke_walk.proofs.Cells.{count_more}
 use Rattle.revoke_walk.proofs.Later.{later_than}
 use Rattle.revoke_walk.proofs.Parting.{part_is_due, parts_due, parts_come}
-use Rattle.revoke_walk.proofs.StandLoop.{one_more, no_more}
+use Rattle.revoke_walk.proofs.Turns.{one_more, no_more}
 use Rattle.revoke_walk.proofs.shots.look_at_holds.Goals as goal
 
 pub look_at_hold-held-requires-clause-due : goal.look_at_hold-held-requires-clause-due

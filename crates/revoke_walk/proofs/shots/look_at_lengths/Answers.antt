@@ -11,7 +11,7 @@ use Rattle.revoke_walk.specs.ShotParts.{IsLater, lengths_below, length_of, look_
 use Rattle.revoke_walk.proofs.Cells.{words_more}
 use Rattle.revoke_walk.proofs.Later.{later_than}
 use Rattle.revoke_walk.proofs.Parting.{part_is_due, parts_due, parts_come, bare, bare_of, bare_run, drafted, shot_of_run}
-use Rattle.revoke_walk.proofs.StandLoop.{one_more, no_more}
+use Rattle.revoke_walk.proofs.Turns.{one_more, no_more}
 use Rattle.revoke_walk.proofs.shots.look_at_lengths.Goals as goal
 
 pub look_at_length-entries-requires-clause-due : goal.look_at_length-entries-requires-clause-due

@@ -14,7 +14,7 @@ use Rattle.revoke_walk.specs.ShotParts.{IsLater, cells_below, cell_of, look_at_c
 use Rattle.revoke_walk.proofs.Cells.{cells_more, take_all}
 use Rattle.revoke_walk.proofs.Later.{later_than}
 use Rattle.revoke_walk.proofs.Parting.{part_is_due, parts_due, parts_come, bare, bare_of, bare_run, drafted, shot_of_run}
-use Rattle.revoke_walk.proofs.StandLoop.{one_more, no_more}
+use Rattle.revoke_walk.proofs.Turns.{one_more, no_more}
 use Rattle.revoke_walk.proofs.shots.look_at_objects.Goals as goal
 
 pub look_at_cell-cell-requires-clause-due : goal.look_at_cell-cell-requires-clause-due

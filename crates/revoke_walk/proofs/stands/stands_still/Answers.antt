@@ -5,7 +5,8 @@ use Rattle.heap_table.specs.Parts.{IsDueOn, HasRun}
 use Rattle.heap_table.proofs.Loops.{HasCome, nothing_yet}
 use Rattle.revoke_walk.specs.StandParts.{stands_with, still_from}
 use Rattle.revoke_walk.proofs.Standing.{goes_with, ended_with}
-use Rattle.revoke_walk.proofs.StandLoop.{one_more, no_more, all_looked, one_due, others_due, others_come}
+use Rattle.revoke_walk.proofs.StandLoop.{all_looked, one_due, others_due, others_come}
+use Rattle.revoke_walk.proofs.Turns.{one_more, no_more}
 use Rattle.revoke_walk.proofs.stands.stands_still.Goals.{in-Some+then-still, in-Some+else-still, in_default}
 use Rattle.revoke_walk.proofs.stands.stands_still.Goals as goal
 

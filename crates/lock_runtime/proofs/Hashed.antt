@@ -1,0 +1,68 @@
+-- Hashes: the draws of a thread are few, and its next one is what its call takes.
+use Rattle.std.proofs.Common.{◌≡◌, ℕ, ◌+◌, ◌≤◌, List, [], ◌∷◌, Option, Some, None, length, refl, sym, ap, ◌∙◌, subst, arith, inl, inr}
+use Rattle.plain_monitor.specs.Objects.{PlainObject}
+use Rattle.plain_monitor.specs.declared.entry.Logged.{Logged}
+use Rattle.core_world.specs.declared.answer.Turn.{Turn}
+use Rattle.core_world.specs.declared.answer.Turn.TheVariants.{Done, Pending}
+use Rattle.core_world.specs.Clauses.Draws.{Draw, draw_in, drawn_by, draws_in}
+use Rattle.core_world.specs.Threads.Known.{Known, Start, draw_of}
+use Rattle.core_world.specs.Trees.HashSteps.{hash_header_steps}
+use Rattle.core_world.specs.Trees.Operations.{and_then, no_bias, unbias_steps}
+use Rattle.core_world.specs.Trees.Plans.{Purpose}
+use Rattle.core_world.specs.Valid.{Fits, IsRevoking, IsValid}
+use Rattle.core_world.specs.World.{World}
+use Rattle.core_world.specs.Words.Shape.{Shape}
+use Rattle.core_world.proofs.KnowledgeParts.{by_equal}
+use Rattle.core_steps.specs.Logic.{Stands}
+use Rattle.core_steps.proofs.LawRules.{home, valid_here}
+use Rattle.heap_table.specs.Resting.{start_now}
+use Rattle.heap_table.specs.Seen.{HeapSeen, PassSeen, IsOf}
+use Rattle.heap_table.proofs.Aside.{StartsAlike}
+use Rattle.heap_table.proofs.Resting.{IsCallOf}
+use Rattle.lock_runtime.specs.HashParts.{hash_unbiased, hash_going}
+use Rattle.lock_runtime.proofs.Behind.{first_then}
+use Rattle.lock_runtime.proofs.UnbiasAside.{first_unbias}
+
+-- FEW DRAWS. A log has no more draws than entries.
+one_drawn : (d : Option Draw) → drawn_by d ≤ 1
+one_drawn None = omega arith
+one_drawn (Some d) = omega arith
+
+draws_few : (log : List Logged) → draws_in log ≤ length log
+draws_few [] = omega arith
+draws_few (l ∷ log) = omega (arith, one_drawn (draw_in l.entry), draws_few log)
+
+record Few (k : Known) : Type 0 where
+  draws : k.draws ≤ length k.log
+  log : length k.log ≤ 400066
+
+fit_few : (w : World) (P : List PlainObject) (t : ℕ) → Fits w P → Few (w.known t)
+fit_few w P t fits = record { draws = omega (arith, fits.draws.counted t, draws_few (w.known t).log); log = fits.lengths.few t }
+
+-- a revocation under way draws and logs nothing
+valid_few : (w : World) (P : List PlainObject) (t : ℕ) → IsValid w P → Few (w.known t)
+valid_few w P t (inl fits) = fit_few w P t fits
+valid_few w P t (inr s) = by_equal t s.requester
+    (λ e. subst (λ u. Few (w.known u)) (sym e) (subst Few (sym s.knows) (let few = fit_few s.before P s.requester s.fits in record { draws = few.draws; log = few.log })))
+    (λ d. subst Few (sym (s.others t d)) (fit_few s.before P t s.fits))
+
+pub few_draws : (h : HeapSeen) (p : PassSeen) → IsOf h p → p.known.draws ≤ 400066
+few_draws h p is_of =
+    let r = is_of.real in
+    let stands : Stands h.heap p.known = record { world = r.world; objects = r.sound.valid.objects; is_of = r.is_of; knows = r.knew; within = is_of.within; valid = r.sound.valid.is } in
+    let few = home h.heap p.known stands (λ s y. Few y) (valid_few r.world r.sound.valid.objects p.known.thread (valid_here h.heap p.known stands)) in
+    omega (arith, few.draws, few.log)
+
+-- THE NEXT DRAW is the one of the pass's generator
+pub hash_alike : (h : HeapSeen) (p q : PassSeen) (e : Purpose) (o : ℕ) → StartsAlike p.known q.known → hash_unbiased e (start_now h p) o ≡ hash_unbiased e (start_now h q) o
+hash_alike h p q e o alike = λ i.
+    hash_header_steps e (sym alike.local i) (sym alike.kept i)
+    (record { number = sym alike.draws i + 1; value = draw_of h.heap.start (sym alike.local i).thread (sym alike.draws i + 1) }) o
+
+-- its first step is one of its call
+pub first_hash : (s : Shape) (e : Purpose) (k : Start) (o now : ℕ) → IsCallOf e.task (hash_going s e k o now)
+first_hash s e k o now = first_then e.task (unbias_steps s e k (no_bias o now)) (λ turn. and_then turn (λ _. hash_unbiased e k o)) (first_unbias s e k (no_bias o now)) behind
+  where
+    behind : (turn : Turn (Unit {0})) → IsCallOf e.task (and_then turn (λ _. hash_unbiased e k o))
+    behind (Done x) = refl
+    behind (Pending cause) = tt

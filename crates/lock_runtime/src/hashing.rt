@@ -1,0 +1,71 @@
+//! The call that hashes an object.
+ghost use Rattle.std.specs.Prelude.{◌≡◌, ◌<◌, length};
+ghost use Rattle.core_world.specs.declared.task.Task.TheVariants.{Hash};
+ghost use Rattle.core_world.specs.Trees.Operations.{hash_steps};
+ghost use Rattle.core_calls.specs.Paths.{Tells};
+ghost use Rattle.core_calls.specs.CallsSay.{HashSays};
+ghost use Rattle.heap_table.specs.Parts.{IsDueOn, HasRun};
+ghost use Rattle.heap_table.specs.Resting.{MayOperate, Rests, start_now};
+ghost use Rattle.heap_table.specs.Seen.{IsOf};
+ghost use Rattle.lock_runtime.specs.HashParts.{hash_unbiased, hash_going};
+
+use crate::purposes::unfinished;
+use crate::revoking::unbias;
+use core_world::{Op, Task, Turn};
+use heap_table::{Heap, Pass, Purpose};
+use identity_hash::header_hash;
+use revoke_walk::Revocation;
+
+// The object's mark has no bias pattern: the hash is found in its header, or drawn.
+fn hash_unbiased(heap: &Heap, pass: &mut Pass, why: &Purpose, object: u32) -> Turn<u32>
+    requires heap { IsOf heap.now pass.old }
+    requires object { object < length heap.now.heap.shape.objects }
+    requires due { IsDueOn heap.now pass.old why.now.task (hash_unbiased why.now (start_now heap.now pass.old) object) }
+    requires room { length pass.old.known.log < pass.old.limit }
+    ensures { HasRun heap.now (hash_unbiased why.now (start_now heap.now pass.old) object) pass.old pass.new result }
+{
+    let number = pass.draws() as u32 + 1;
+    let value = pass.draw();
+    header_hash(heap, pass, why, number, value, object)
+}
+
+// The object's bias is ended first, if it has one.
+fn hash_going(heap: &Heap, pass: &mut Pass, why: &Purpose, object: u32, now: u64) -> Turn<u32>
+    requires heap { IsOf heap.now pass.old }
+    requires object { object < length heap.now.heap.shape.objects }
+    requires due { IsDueOn heap.now pass.old why.now.task
+        (hash_going heap.now.heap.shape why.now (start_now heap.now pass.old) object now) }
+    requires room { length pass.old.known.log < pass.old.limit }
+    ensures { HasRun heap.now (hash_going heap.now.heap.shape why.now (start_now heap.now pass.old) object now)
+        pass.old pass.new result }
+{
+    let bias = Revocation {
+        object,
+        rebias: false,
+        moment: now,
+    };
+    match unbias(heap, pass, why, &bias) {
+        Turn::Done(()) => hash_unbiased(heap, pass, why, object),
+        Turn::Pending(cause) => Turn::Pending(cause),
+    }
+}
+
+/// The object's identity hash: the one that it has, or else the thread's next draw, which becomes its hash. `now` is the
+/// moment for the policy of bulk operations: a bias of the object is ended first.
+///
+/// `Done(hash)` says that the object has this hash: the Hash is logged, as found in a header or with the number of the
+/// thread's draw, and nothing is unfinished. Pending, nothing is logged, no draw is spent, and the hash stays unfinished:
+/// `Raced { expected, found }` says that an exchange of this call found another word than the one expected, and
+/// `Inflating` that the loaded mark was 0, as another thread is inflating the lock; `Stopping { word }` that the thread's
+/// request for a safepoint stands, and that by `word` another thread runs still; `Requested { word }` that by `word`
+/// another thread has a request.
+pub fn hash(heap: &Heap, pass: &mut Pass, object: u32, now: u64) -> Turn<u32>
+    requires { MayOperate heap.now pass.old (Hash object now) }
+    ensures rests { Rests heap.now pass.new }
+    ensures run { HasRun heap.now (hash_steps heap.now.heap.shape (start_now heap.now pass.old) object now)
+        pass.old pass.new result }
+    ensures says { Tells pass.old.known pass.new.known (λ ms. HashSays (start_now heap.now pass.old) object ms result) }
+{
+    let why = unfinished(Task::Hash { object, now }, Op::Hash, object);
+    hash_going(heap, pass, &why, object, now)
+}
