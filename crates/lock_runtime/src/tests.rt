@@ -2,5 +2,7 @@
 
 mod biased;
 mod calls;
+mod hashed;
 mod last;
 mod stacked;
+mod waiting;

@@ -156,6 +156,76 @@ pub fn finish(heap: &Heap, pass: &mut Pass, ending: Ending) -> bool
     }
 }
 
+pub fn wait(
+    heap: &Heap,
+    pass: &mut Pass,
+    object: u32,
+    now: u64,
+) -> Option<Result<Turn<()>, IllegalMonitorState>>
+    requires { Rests heap.now pass.old }
+    ensures { Rests heap.now pass.new }
+{
+    if may_make(heap, pass, Task::Wait { object, now }) {
+        Some(crate::wait(heap, pass, object, now))
+    } else {
+        None
+    }
+}
+
+pub fn notify(
+    heap: &Heap,
+    pass: &mut Pass,
+    object: u32,
+    now: u64,
+) -> Option<Result<Turn<Option<u32>>, IllegalMonitorState>>
+    requires { Rests heap.now pass.old }
+    ensures { Rests heap.now pass.new }
+{
+    if may_make(heap, pass, Task::Notify { object, now }) {
+        Some(crate::notify(heap, pass, object, now))
+    } else {
+        None
+    }
+}
+
+pub fn notify_all(
+    heap: &Heap,
+    pass: &mut Pass,
+    object: u32,
+    now: u64,
+) -> Option<Result<Turn<u32>, IllegalMonitorState>>
+    requires { Rests heap.now pass.old }
+    ensures { Rests heap.now pass.new }
+{
+    if may_make(heap, pass, Task::NotifyAll { object, now }) {
+        Some(crate::notify_all(heap, pass, object, now))
+    } else {
+        None
+    }
+}
+
+pub fn check_stuck(heap: &Heap, pass: &mut Pass) -> Option<Turn<bool>>
+    requires { Rests heap.now pass.old }
+    ensures { Rests heap.now pass.new }
+{
+    if may_call(heap, pass, Task::Check) {
+        Some(crate::check_stuck(heap, pass))
+    } else {
+        None
+    }
+}
+
+pub fn hash(heap: &Heap, pass: &mut Pass, object: u32, now: u64) -> Option<Turn<u32>>
+    requires { Rests heap.now pass.old }
+    ensures { Rests heap.now pass.new }
+{
+    if may_make(heap, pass, Task::Hash { object, now }) {
+        Some(crate::hash(heap, pass, object, now))
+    } else {
+        None
+    }
+}
+
 /// What a call answers that is done, or pending.
 pub const DONE: Option<Turn<()>> = Some(Turn::Done(()));
 
