@@ -11,3 +11,4 @@ pub mod Waits
 pub mod Looked
 pub mod UnbiasAside
 pub mod Hashed
+pub mod Asked

@@ -6,3 +6,4 @@ mod hashed;
 mod last;
 mod stacked;
 mod waiting;
+mod workers;
