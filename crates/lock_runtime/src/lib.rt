@@ -6,6 +6,8 @@
 //! steps. None takes memory, none waits, and none tries again.
 #![tactic(auto)]
 
+#[cfg(test)]
+mod asked;
 mod entering;
 mod hashing;
 mod leaving;
@@ -13,6 +15,8 @@ mod looking;
 mod purposes;
 mod revoking;
 mod running;
+#[cfg(test)]
+mod tests;
 mod values;
 mod waiting;
 

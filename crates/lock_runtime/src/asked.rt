@@ -1,0 +1,178 @@
+//! For the tests: whether a call may begin, asked as the test runs.
+ghost use Rattle.std.specs.Prelude.{◌≡◌, ◌==◌, ◌+◌, ◌≤◌, ◌&&◌, ◌||◌, not, is_none, nat_lt, nat_le, length, true};
+ghost use Rattle.std.specs.List.{list_all};
+ghost use Rattle.core_world.specs.Clauses.Lengths.{log_limit};
+ghost use Rattle.core_world.specs.Trees.Calls.{is_object, is_value, may_operate, may_begin};
+ghost use Rattle.core_world.specs.Trees.Operations.{same_op, goes_on_with};
+ghost use Rattle.core_world.specs.Words.Forms.{says_ended};
+ghost use Rattle.core_world.specs.Words.Shape.{slots_of};
+ghost use Rattle.heap_table.specs.Resting.{Rests, MayCall, MayOperate};
+
+use core_world::{Op, Task};
+use heap_table::{Heap, Pass, wait_of_word};
+use mark_word::WaitForm;
+use plain_monitor::Value;
+
+fn same_op(one: Op, other: Op) -> bool
+    ensures { result ≡ same_op one other }
+{
+    match (one, other) {
+        (Op::Enter, Op::Enter) => true,
+        (Op::Exit, Op::Exit) => true,
+        (Op::Wait, Op::Wait) => true,
+        (Op::Notify, Op::Notify) => true,
+        (Op::NotifyAll, Op::NotifyAll) => true,
+        (Op::Hash, Op::Hash) => true,
+        (Op::Dump, Op::Dump) => true,
+        _ => false,
+    }
+}
+
+// Whether this operation on the object is unfinished.
+fn goes_on(pass: &Pass, op: Op, object: u32) -> bool
+    ensures { result ≡ goes_on_with op object pass.now.known.unfinished }
+{
+    match pass.unfinished() {
+        None => false,
+        Some(unfinished) => same_op(unfinished.op, op) && unfinished.object == object,
+    }
+}
+
+// Whether the thread runs, or asks for a safepoint for the operation that goes on, and leaves nothing else unfinished.
+fn stands(pass: &Pass, going: bool) -> bool
+    ensures { result ≡ (not pass.now.known.checking
+        && (pass.now.known.running || (pass.now.known.requesting && going))
+        && (is_none pass.now.known.unfinished || going)) }
+{
+    let runs = pass.running() || (pass.requesting() && going);
+    let free = pass.unfinished().is_none() || going;
+    !pass.checking() && runs && free
+}
+
+// Whether the thread ended, by its waiting word.
+fn said_ended(pass: &Pass) -> bool
+    ensures { result ≡ says_ended pass.now.known.wait }
+{
+    match wait_of_word(pass.wait_word()) {
+        Some(form) => match form {
+            WaitForm::Ended => true,
+            _ => false,
+        },
+        None => false,
+    }
+}
+
+// Whether the log may have two entries more, in any heap.
+fn is_short(pass: &Pass) -> bool
+    ensures { result ≡ nat_le (length pass.now.known.log + 2) log_limit }
+{
+    pass.log().len() <= 400064
+}
+
+fn may_operate(heap: &Heap, pass: &Pass, going: bool) -> bool
+    requires { Rests heap.now pass.now }
+    ensures { result ≡ true → may_operate pass.now.known going ≡ true }
+{
+    if said_ended(pass) {
+        return false;
+    }
+    stands(pass, going) && is_short(pass)
+}
+
+fn is_object(heap: &Heap, object: u32) -> bool
+    ensures { result ≡ is_object heap.now.heap.shape object }
+{
+    (object as usize) < heap.shape().objects()
+}
+
+fn is_slot(heap: &Heap, object: u32, slot: u32) -> bool
+    ensures { result ≡ (is_object heap.now.heap.shape object && nat_lt slot (slots_of heap.now.heap.shape object)) }
+{
+    is_object(heap, object) && slot < heap.shape().slots_of(object)
+}
+
+fn is_value(heap: &Heap, value: Value) -> bool
+    ensures { result ≡ is_value heap.now.heap.shape value }
+{
+    match value {
+        Value::Nil => true,
+        Value::Int(number) => Value::LEAST <= number && number <= Value::GREATEST,
+        Value::Ref(object) => is_object(heap, object),
+    }
+}
+
+fn may_take(heap: &Heap, pass: &Pass, op: Op, object: u32) -> bool
+    requires { Rests heap.now pass.now }
+    ensures { result ≡ true → (is_object heap.now.heap.shape object
+        && may_operate pass.now.known (goes_on_with op object pass.now.known.unfinished)) ≡ true }
+{
+    is_object(heap, object) && may_operate(heap, pass, goes_on(pass, op, object))
+}
+
+fn may_finish(heap: &Heap, pass: &Pass) -> bool
+    requires { Rests heap.now pass.now }
+    ensures { result ≡ true → (list_all (λ h. h == 0) pass.now.known.holds && may_operate pass.now.known false) ≡ true }
+{
+    pass.holds() == 0 && may_operate(heap, pass, false)
+}
+
+fn may_check(pass: &Pass) -> bool {
+    if pass.requesting() {
+        pass.checking()
+    } else {
+        pass.running()
+    }
+}
+
+// Whether the call of this task may begin.
+fn may_begin(heap: &Heap, pass: &Pass, task: Task) -> bool
+    requires { Rests heap.now pass.now }
+    ensures { result ≡ true → may_begin heap.now.heap.shape heap.now.heap.biasing pass.now.known task ≡ true }
+{
+    match task {
+        Task::Enter { object, .. } => may_take(heap, pass, Op::Enter, object),
+        Task::Exit { object } => may_take(heap, pass, Op::Exit, object),
+        Task::Wait { object, .. } => may_take(heap, pass, Op::Wait, object),
+        Task::Notify { object, .. } => may_take(heap, pass, Op::Notify, object),
+        Task::NotifyAll { object, .. } => may_take(heap, pass, Op::NotifyAll, object),
+        Task::Hash { object, .. } => may_take(heap, pass, Op::Hash, object),
+        Task::Get { object, slot } => is_slot(heap, object, slot) && may_operate(heap, pass, false),
+        Task::Put {
+            object,
+            slot,
+            value,
+        } => {
+            is_slot(heap, object, slot) && is_value(heap, value) && may_operate(heap, pass, false)
+        }
+        Task::Print { value } => is_value(heap, value) && may_operate(heap, pass, false),
+        Task::Dump => may_operate(heap, pass, goes_on(pass, Op::Dump, 0)),
+        Task::Finish { .. } => may_finish(heap, pass),
+        Task::Poll => pass.running(),
+        Task::Stop => pass.running(),
+        Task::Resume => !pass.running() && !pass.requesting(),
+        Task::Check => !said_ended(pass) && may_check(pass),
+        _ => false,
+    }
+}
+
+fn has_room(pass: &Pass) -> bool
+    ensures { result ≡ true → length pass.now.known.log + 2 ≤ pass.now.limit }
+{
+    pass.room() >= 2
+}
+
+/// Whether a call of this task may begin that makes no operation.
+pub fn may_call(heap: &Heap, pass: &Pass, task: Task) -> bool
+    requires { Rests heap.now pass.now }
+    ensures { result ≡ true → MayCall heap.now pass.now task }
+{
+    may_begin(heap, pass, task)
+}
+
+/// Whether an operation of this task may begin.
+pub fn may_make(heap: &Heap, pass: &Pass, task: Task) -> bool
+    requires { Rests heap.now pass.now }
+    ensures { result ≡ true → MayOperate heap.now pass.now task }
+{
+    may_call(heap, pass, task) && has_room(pass)
+}

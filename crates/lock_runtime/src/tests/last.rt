@@ -1,0 +1,118 @@
+//! The words, logs and counts of a heap that was closed.
+ghost use Rattle.std.specs.Prelude.{◌≡◌, true, false};
+ghost use Rattle.heap_table.specs.Resting.{Rests};
+
+use heap_table::{Closed, Heap, Pass, close};
+use plain_monitor::{List, Logged};
+use std::alloc::Global;
+
+// Whether the heap may be closed with these passes.
+fn may_close(heap: &Heap, first: &Pass, second: &Pass) -> bool
+    ensures { result ≡ true → (heap.now.heap.shape.threads ≡ 2)
+        × ((first.now.known.thread ≡ 0) × (second.now.known.thread ≡ 1))
+        × ((first.now.known.running ≡ false) × (second.now.known.running ≡ false))
+        × ((first.now.known.requesting ≡ false) × (second.now.known.requesting ≡ false)) }
+{
+    let running = first.running() || second.running();
+    let requesting = first.requesting() || second.requesting();
+    let threads = first.thread() == 0 && second.thread() == 1;
+    heap.shape().threads() == 2 && threads && !running && !requesting
+}
+
+/// What is left of the heap. `None` where a thread runs or has a request, or memory is wanting.
+pub fn closed(alloc: Global, heap: Heap, first: Pass, second: Pass) -> Option<Closed>
+    requires { Rests heap first × Rests heap second }
+{
+    if !may_close(&heap, &first, &second) {
+        return None;
+    }
+    let Ok(mut passes) = Vec::with_capacity(alloc, 2) else {
+        return None;
+    };
+    passes.push_reserved(first);
+    passes.push_reserved(second);
+    Some(close(heap, List::of(passes)))
+}
+
+fn word(closed: &Closed, at: usize) -> Option<u64> {
+    match closed.words().items().get(at) {
+        Some(word) => Some(*word),
+        None => None,
+    }
+}
+
+pub fn mark(closed: &Closed, object: u32) -> Option<u64> {
+    if (object as usize) < closed.shape().objects() {
+        word(closed, closed.shape().mark_at(object))
+    } else {
+        None
+    }
+}
+
+pub fn stamp(closed: &Closed, object: u32) -> Option<u64> {
+    if (object as usize) < closed.shape().objects() {
+        word(closed, closed.shape().stamp_at(object))
+    } else {
+        None
+    }
+}
+
+pub fn prototype(closed: &Closed, class: u32) -> Option<u64> {
+    if class < closed.shape().classes() {
+        word(closed, closed.shape().prototype_at(class))
+    } else {
+        None
+    }
+}
+
+pub fn count(closed: &Closed, class: u32) -> Option<u64> {
+    if class < closed.shape().classes() {
+        word(closed, closed.shape().count_at(class))
+    } else {
+        None
+    }
+}
+
+pub fn displaced(closed: &Closed, thread: u32, place: u32) -> Option<u64> {
+    if thread < closed.shape().threads() && place < 64 {
+        word(closed, closed.shape().displaced_at(thread, place))
+    } else {
+        None
+    }
+}
+
+pub fn waiting(closed: &Closed, thread: u32) -> Option<u64> {
+    if thread < closed.shape().threads() {
+        word(closed, closed.shape().wait_at(thread))
+    } else {
+        None
+    }
+}
+
+/// The words of the monitor: its header, owner, recursions and object.
+pub fn monitor(closed: &Closed, monitor: u32) -> Option<[u64; 4]> {
+    let shape = closed.shape();
+    if (monitor as usize) < shape.objects() {
+        Some([
+            word(closed, shape.header_at(monitor))?,
+            word(closed, shape.owner_at(monitor))?,
+            word(closed, shape.recursions_at(monitor))?,
+            word(closed, shape.object_at(monitor))?,
+        ])
+    } else {
+        None
+    }
+}
+
+/// Whether the entries have these stamps, in order.
+pub fn has_stamps(log: &[Logged], stamps: &[u64]) -> bool {
+    if log.len() != stamps.len() {
+        return false;
+    }
+    for (logged, stamp) in log.iter().zip(stamps) {
+        if logged.stamp != *stamp {
+            return false;
+        }
+    }
+    true
+}
