@@ -21,7 +21,7 @@ use Rattle.heap_table.proofs.Aside.{StartsAlike}
 use Rattle.heap_table.proofs.Resting.{IsCallOf}
 use Rattle.lock_runtime.specs.HashParts.{hash_unbiased, hash_going}
 use Rattle.lock_runtime.proofs.Behind.{first_then}
-use Rattle.lock_runtime.proofs.UnbiasAside.{first_unbias}
+use Rattle.lock_runtime.proofs.Unbiased.{first_unbias}
 
 -- FEW DRAWS. A log has no more draws than entries.
 one_drawn : (d : Option Draw) → drawn_by d ≤ 1

@@ -9,7 +9,6 @@ pub mod Enters
 pub mod Unbiased
 pub mod Waits
 pub mod Looked
-pub mod UnbiasAside
 pub mod Hashed
 pub mod Reached
 pub mod Dumped

@@ -11,7 +11,8 @@ use Rattle.heap_table.proofs.Parts.{in_turn, ends}
 use Rattle.lock_runtime.specs.HashParts.{hash_unbiased}
 use Rattle.lock_runtime.proofs.Behind.{next_part}
 use Rattle.lock_runtime.proofs.Hashed.{hash_alike}
-use Rattle.lock_runtime.proofs.UnbiasAside.{unbias_aside, first_unbias}
+use Rattle.lock_runtime.proofs.Asides.{unbias_aside}
+use Rattle.lock_runtime.proofs.Unbiased.{first_unbias}
 use Rattle.lock_runtime.proofs.hashing.hash_going.Goals as goal
 
 pub unbias-requires-clause-due : goal.unbias-requires-clause-due
