@@ -1,5 +1,5 @@
 -- A dump whose safepoint is done has reached it: its release, which is to come, finds the word of a reached safepoint.
-use Rattle.std.proofs.Common.{◌≡◌, ◌⊎◌, ℕ, zero, suc, ◌+◌, ◌<◌, ◌==◌, ◌||◌, ◌&&◌, Bool, true, false, cond, if◌then◌else◌, Option, Some, None, length, inl, inr, refl, sym, ap, ◌∙◌, subst, eq-eqb, eqb-true, arith}
+use Rattle.std.proofs.Common.{◌≡◌, ℕ, zero, suc, ◌+◌, ◌<◌, ◌==◌, ◌||◌, ◌&&◌, Bool, true, false, cond, if◌then◌else◌, Option, Some, None, length, inl, inr, refl, sym, ap, ◌∙◌, subst, eq-eqb, eqb-true, arith}
 use Rattle.mark_word.specs.declared.mark.MarkForm.{MarkForm}
 use Rattle.mark_word.specs.declared.mark.MarkForm.TheVariants.{Inflating, Neutral, Anonymous, Biased, Locked, Inflated, Marked}
 use Rattle.mark_word.specs.declared.owner.OwnerForm.{OwnerForm}
@@ -8,13 +8,11 @@ use Rattle.mark_word.specs.Mark.{read_mark}
 use Rattle.mark_word.specs.Owner.{read_owner}
 use Rattle.mark_word.proofs.ReadingSafepoints.{read_safe-safe_of}
 use Rattle.plain_monitor.specs.Monitor.{is_thread}
-use Rattle.core_world.specs.declared.act.Act.{Act}
-use Rattle.core_world.specs.declared.act.Act.TheVariants.{Load, Swap}
+use Rattle.core_world.specs.declared.act.Act.TheVariants.{Load}
 use Rattle.core_world.specs.declared.name.Name.{Name}
 use Rattle.core_world.specs.declared.name.Name.TheVariants as name
 use Rattle.core_world.specs.declared.answer.Turn.{Turn}
-use Rattle.core_world.specs.declared.answer.Turn.TheVariants.{Done, Pending}
-use Rattle.core_world.specs.declared.answer.Why.{Why}
+use Rattle.core_world.specs.declared.answer.Turn.TheVariants.{Done}
 use Rattle.core_world.specs.declared.answer.Why.TheVariants as why
 use Rattle.core_world.specs.declared.plan.StepPlan.{StepPlan}
 use Rattle.core_world.specs.declared.stage.Stage.TheVariants.{Calm}
@@ -28,18 +26,18 @@ use Rattle.plain_monitor.specs.declared.entry.Entry.TheVariants as entry
 use Rattle.core_world.specs.Trees.Calls.{steps_of}
 use Rattle.core_world.specs.Trees.Operations.{and_then}
 use Rattle.core_world.specs.Trees.WaitSteps.{publish_steps}
-use Rattle.core_world.specs.Trees.LookSteps.{look_at_holds, look_at_owner, look_behind, look_at_objects, keep_shot_plan, take_shot_steps}
+use Rattle.core_world.specs.Trees.LookSteps.{look_at_holds, look_at_owner, look_behind, look_at_objects, take_shot_steps}
 use Rattle.core_world.specs.Trees.Plans.{Purpose, load, done_with, pending_for}
-use Rattle.core_world.specs.Trees.SafepointSteps.{has_requester, reached_word, reached_steps, then_reached, request_plan, request_steps, request_swap_steps, release_plan, release_safepoint, safepoint_steps}
+use Rattle.core_world.specs.Trees.SafepointSteps.{has_requester, reached_word, reached_steps, then_reached, request_plan, request_swap_steps, release_plan, release_safepoint, safepoint_steps}
 use Rattle.core_world.specs.Trees.Todo.{Todo, done, never, step, ◌>>=◌, ask, after_answer, all_from, is_over}
 use Rattle.core_world.specs.Words.Acts.{hits, word_after}
 use Rattle.core_world.specs.Words.Forms.{asks_in, epoch_in, is_still, requester_form}
 use Rattle.core_world.specs.Words.Names.{same_name, with_word}
-use Rattle.core_world.specs.Words.Shape.{Shape, class_of}
+use Rattle.core_world.specs.Words.Shape.{Shape}
 use Rattle.core_world.specs.World.{World}
 use Rattle.core_world.proofs.CallRests.{gone_rest, begun_rest}
 use Rattle.core_world.proofs.Naming.{same_named}
-use Rattle.core_steps.specs.Logic.{Heap, heap_of, Stands, Was, Doing}
+use Rattle.core_steps.specs.Logic.{Heap, heap_of, Stands, Doing}
 use Rattle.core_steps.specs.Sound.{Finishes}
 use Rattle.core_steps.proofs.SafeWords.{asks_is, few_threads}
 use Rattle.heap_table.specs.Seen.{HeapSeen, PassSeen, IsOf}
@@ -294,9 +292,9 @@ begins_safepoint e t true = refl
 begins_safepoint e t false = refl
 
 -- so it is with a dump
-pub dump_reached : (h : HeapSeen) (p q : PassSeen) (e : Purpose) (k : Local) (number : ℕ) (requesting : Bool) → IsDueOn h p e.task (numbered_dump h.heap.shape requesting e k number)
+pub dump_is_reached : (h : HeapSeen) (p q : PassSeen) (e : Purpose) (k : Local) (number : ℕ) (requesting : Bool) → IsDueOn h p e.task (numbered_dump h.heap.shape requesting e k number)
     → HasRun h (safepoint_steps e k.thread requesting) p q (Done tt) → q.known.thread ≡ k.thread → q.known.reached ≡ true
-dump_reached h p q e k number requesting due run thread =
+dump_is_reached h p q e k number requesting due run thread =
     let s = h.heap.shape in
     let next : Turn (Unit {0}) → Todo (Turn ℕ) = λ turn. and_then turn (λ _. reached_dump s e k number) in
     let told : Unit {0} → Todo (Turn ℕ) = λ _. publish_steps (entry.Dump number) e k >>= (λ _. done_with number) in

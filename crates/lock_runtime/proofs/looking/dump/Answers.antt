@@ -15,9 +15,8 @@ use Rattle.heap_table.specs.Parts.{IsDueOn}
 use Rattle.heap_table.specs.Resting.{start_now}
 use Rattle.heap_table.proofs.Resting.{whole_due}
 use Rattle.lock_runtime.specs.LookParts.{HasDumped, numbered_dump}
-use Rattle.lock_runtime.proofs.Begins.{room_one}
 use Rattle.lock_runtime.proofs.Behind.{going_due, going_run, going_first}
-use Rattle.lock_runtime.proofs.Dumped.{bare, run_of, dumped_of, dumped_rests, first_dump, few_shots}
+use Rattle.lock_runtime.proofs.Dumped.{bare, run_of, dumped_of, dumped_rests, first_dump}
 use Rattle.lock_runtime.proofs.looking.dump.Goals as goal
 
 pub dump_asking-requires-clause-due : goal.dump_asking-requires-clause-due
