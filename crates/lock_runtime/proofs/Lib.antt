@@ -12,3 +12,5 @@ pub mod Looked
 pub mod UnbiasAside
 pub mod Hashed
 pub mod Asked
+pub mod Reached
+pub mod Dumped

@@ -23,7 +23,7 @@ mod waiting;
 pub use entering::enter;
 pub use hashing::hash;
 pub use leaving::exit;
-pub use looking::check_stuck;
+pub use looking::{check_stuck, dump};
 pub use running::{poll, resume, stop};
 pub use values::{finish, get, print, put};
 pub use waiting::{notify, notify_all, wait};

@@ -1,18 +1,24 @@
 //! Calls that look at all threads and objects at a safepoint: a check whether the run is stuck, and a dump.
-ghost use Rattle.std.specs.Prelude.{◌≡◌};
-ghost use Rattle.core_world.specs.declared.task.Task.TheVariants.{Check};
-ghost use Rattle.core_world.specs.Trees.Operations.{check_ending, check_steps};
+ghost use Rattle.std.specs.Prelude.{◌≡◌, ◌+◌, ◌<◌, ℕ, length, true, Ok};
+ghost use Rattle.core_world.specs.declared.task.Task.TheVariants.{Check, Dump};
+ghost use Rattle.core_world.specs.declared.answer.Turn.TheVariants as turn;
+ghost use Rattle.core_world.specs.Threads.Known.{local_of};
+ghost use Rattle.core_world.specs.Trees.Operations.{check_ending, check_steps, dump_steps};
 ghost use Rattle.core_calls.specs.Paths.{Tells};
-ghost use Rattle.core_calls.specs.CallsSay.{CheckSays};
+ghost use Rattle.core_calls.specs.CallsSay.{CheckSays, DumpSays};
 ghost use Rattle.core_calls.specs.Stuck.{CheckFinds};
 ghost use Rattle.heap_table.specs.Parts.{IsDueOn, HasRun};
-ghost use Rattle.heap_table.specs.Resting.{MayCall, Rests, start_now};
+ghost use Rattle.heap_table.specs.Resting.{MayCall, MayOperate, Rests, start_now};
 ghost use Rattle.heap_table.specs.Seen.{IsOf};
 ghost use Rattle.lock_runtime.specs.LookParts.{checking, reached_check, check_going};
+ghost use Rattle.lock_runtime.specs.LookParts.{HasDumped, told_dump, reached_dump, numbered_dump};
 
-use core_world::{Task, Turn};
+use crate::purposes::unfinished;
+use core_world::{Op, Task, TooManyDumps, Turn};
 use heap_table::{Heap, Pass, Purpose};
-use revoke_walk::stands_still;
+use object_monitor::publish;
+use plain_monitor::Entry;
+use revoke_walk::{stands_still, take_shot};
 use safepoint::{halt, release, safepoint};
 
 // The thread's safepoint ends: by the halt where the run stands still, and else by the release.
@@ -88,4 +94,79 @@ pub fn check_stuck(heap: &Heap, pass: &mut Pass) -> Turn<bool>
     let why = checking(pass);
     let requesting = pass.requesting();
     check_asking(heap, pass, &why, requesting)
+}
+
+// The shot is kept: the safepoint ends, and the dump of this number is logged.
+fn tell_dump(heap: &Heap, pass: &mut Pass, why: &Purpose, number: u32) -> Turn<u32>
+    requires heap { IsOf heap.now pass.old }
+    requires due { IsDueOn heap.now pass.old why.now.task (told_dump why.now (local_of pass.old.known) number) }
+    requires room { length pass.old.known.log < pass.old.limit }
+    ensures { HasRun heap.now (told_dump why.now (local_of pass.old.known) number) pass.old pass.new result }
+{
+    release(heap, pass, why);
+    publish(heap, pass, why, Entry::Dump { number });
+    Turn::Done(number)
+}
+
+// The thread has its safepoint.
+fn dump_reached(heap: &Heap, pass: &mut Pass, why: &Purpose, number: u32) -> Turn<u32>
+    requires heap { IsOf heap.now pass.old }
+    requires reached { pass.old.known.reached ≡ true }
+    requires due { IsDueOn heap.now pass.old why.now.task
+        (reached_dump heap.now.heap.shape why.now (local_of pass.old.known) number) }
+    requires room { length pass.old.known.log < pass.old.limit }
+    ensures { HasDumped heap.now (reached_dump heap.now.heap.shape why.now (local_of pass.old.known) number)
+        pass.old pass.new result }
+{
+    take_shot(heap, pass, why);
+    tell_dump(heap, pass, why, number)
+}
+
+// A dump asks for a safepoint, or goes on with the one that it asked for.
+fn dump_asking(
+    heap: &Heap,
+    pass: &mut Pass,
+    why: &Purpose,
+    number: u32,
+    requesting: bool,
+) -> Turn<u32>
+    requires heap { IsOf heap.now pass.old }
+    requires due { IsDueOn heap.now pass.old why.now.task
+        (numbered_dump heap.now.heap.shape requesting why.now (local_of pass.old.known) number) }
+    requires room { length pass.old.known.log < pass.old.limit }
+    ensures { HasDumped heap.now
+        (numbered_dump heap.now.heap.shape requesting why.now (local_of pass.old.known) number)
+        pass.old pass.new result }
+{
+    match safepoint(heap, pass, why, requesting) {
+        Turn::Done(()) => dump_reached(heap, pass, why, number),
+        Turn::Pending(cause) => Turn::Pending(cause),
+    }
+}
+
+/// Takes a shot of all locks and logs at a safepoint of the thread's own, which is over then: for each object who has its
+/// lock and how often, and the length of each thread's log.
+///
+/// `Done(number)` says that the pass has one more shot, the last of `Pass::shots`, and that this is its number, from 1:
+/// the Dump is logged, behind the shot, and nothing is unfinished. Pending, no shot is taken and nothing logged, and the
+/// dump stays unfinished: `Stopping { word }` says that the thread's request for a safepoint stands, and that by `word`
+/// another thread runs still; `Requested { word }` that by `word`, which was loaded or found by the exchange, another
+/// thread has a request; `Raced { expected, found }` that the exchange of the request found another word with none.
+/// `TooManyDumps` comes exactly where the thread has 4 shots; then no step is made. The draft of the pass is lost.
+pub fn dump(heap: &Heap, pass: &mut Pass) -> Result<Turn<u32>, TooManyDumps>
+    requires { MayOperate heap.now pass.old Dump }
+    ensures rests { Rests heap.now pass.new }
+    ensures run { HasDumped heap.now (dump_steps heap.now.heap.shape (start_now heap.now pass.old))
+        pass.old pass.new result }
+    ensures says { Tells pass.old.known pass.new.known (λ ms. DumpSays (start_now heap.now pass.old) ms result) }
+    ensures shots { (number : ℕ) → result ≡ Ok (turn.Done number)
+        → length pass.new.known.shots ≡ length pass.old.known.shots + 1 }
+{
+    let taken = pass.shots().len();
+    if taken == 4 {
+        return Err(TooManyDumps);
+    }
+    let why = unfinished(Task::Dump, Op::Dump, 0);
+    let requesting = pass.requesting();
+    Ok(dump_asking(heap, pass, &why, taken as u32 + 1, requesting))
 }

@@ -1,0 +1,80 @@
+-- Dumps: runs whatever became of the pass's draft of a shot.
+use Rattle.std.proofs.Common.{◌≡◌, ℕ, zero, suc, ◌+◌, ◌<◌, ◌≤◌, ◌==◌, Bool, true, false, if◌then◌else◌, [], length, Option, Some, None, Result, Ok, Err, refl, sym, ap, ◌∙◌, subst, arith}
+use Rattle.mark_word.specs.Mark.{read_mark}
+use Rattle.core_world.specs.declared.name.Name.TheVariants as name
+use Rattle.core_world.specs.declared.task.Task.{Task}
+use Rattle.core_world.specs.Trees.LookSteps.{look_behind, look_at_objects, take_shot_steps}
+use Rattle.core_world.specs.Trees.Operations.{answer}
+use Rattle.core_world.specs.Trees.Plans.{Purpose, load}
+use Rattle.core_world.specs.Trees.Todo.{Todo, done, ◌>>=◌, ask, all_from}
+use Rattle.core_world.specs.Threads.Known.{Local}
+use Rattle.core_world.specs.Words.Shape.{Shape}
+use Rattle.core_locks.proofs.ValidShots.{valid_shots}
+use Rattle.core_steps.specs.Logic.{Stands}
+use Rattle.core_steps.proofs.LawRules.{home, valid_here}
+use Rattle.revoke_walk.specs.ShotParts.{HasShot}
+use Rattle.heap_table.specs.Parts.{HasRun}
+use Rattle.heap_table.specs.Seen.{HeapSeen, PassSeen, IsOf}
+use Rattle.heap_table.specs.Resting.{MayCall, Rests, start_now}
+use Rattle.heap_table.proofs.Resting.{IsCallOf, behind}
+use Rattle.core_world.specs.Trees.Calls.{steps_of, end}
+use Rattle.lock_runtime.specs.LookParts.{HasDumped, numbered_dump}
+use Rattle.lock_runtime.proofs.Behind.{first_then}
+
+-- the pass without its draft
+abbrev pub bare : PassSeen → PassSeen
+bare p = record p { cut = []; cells = [] }
+
+module _ {A : Type 0} (h : HeapSeen) (d : Todo A) (p q : PassSeen) (a : A) where
+  pub dumped_of : HasRun h d (bare p) (bare q) a → HasDumped h d p q a
+  dumped_of run = record {
+    heap = record { table = run.heap.table; within = run.heap.within; classes = run.heap.classes; first = run.heap.first; threads = run.heap.threads; objects = run.heap.objects; real = run.heap.real };
+    limit = run.limit;
+    ran = run.ran;
+  }
+
+  pub run_of : HasDumped h d p q a → HasRun h d (bare p) (bare q) a
+  run_of run = record {
+    heap = record { table = run.heap.table; within = run.heap.within; classes = run.heap.classes; first = run.heap.first; threads = run.heap.threads; objects = run.heap.objects; real = run.heap.real };
+    limit = run.limit;
+    cut = refl;
+    cells = refl;
+    ran = run.ran;
+  }
+
+  pub bare_run : HasRun h d p q a → HasRun h d (bare p) (bare q) a
+  bare_run run = run_of (record { heap = run.heap; limit = run.limit; ran = run.ran })
+
+pub of_shot : (h : HeapSeen) (d : Todo (Unit {0})) (p q : PassSeen) → HasShot h d p q → HasRun h d (bare p) (bare q) tt
+of_shot h d p q run = run_of h d p q tt (record { heap = run.heap; limit = run.limit; ran = run.ran })
+
+-- and behind such a run of a whole call its thread rests
+pub dumped_rests : {A : Type 0} (h : HeapSeen) (p q : PassSeen) (t : Task) (c : MayCall h p t) (d : Todo A) (a : A) → steps_of h.heap.shape t (start_now h p) ≡ (d >>= end) → IsCallOf t d
+    → HasDumped h d p q a → Rests h q
+dumped_rests h p q t c d a is first run =
+    let i = c.rests.is_of in
+    let bare_of : IsOf h (bare p) = record { table = i.table; within = i.within; classes = i.classes; first = i.first; threads = i.threads; objects = i.objects; real = i.real } in
+    let over = (behind h (bare p) t (record { rests = record { is_of = bare_of; over = c.rests.over }; may = c.may }) d is first (bare q) a (run_of h d p q a run)).over in
+    record { is_of = run.heap; over = over }
+
+-- FIRST STEPS
+all_first : (t : Task) (i n : ℕ) (f : ℕ → Todo (Unit {0})) → ((j : ℕ) → IsCallOf t (f j)) → IsCallOf t (all_from i n f)
+all_first t i zero f each = tt
+all_first t i (suc n) f each = first_then t (f i) _ (each i) (λ _. all_first t (i + 1) n f each)
+
+pub first_shot : (e : Purpose) (s : Shape) → IsCallOf e.task (take_shot_steps e s)
+first_shot e s = first_then e.task (look_at_objects e s) _
+    (all_first e.task 0 (length s.objects) (λ o. ask (load e (name.Mark o)) >>= (λ mark. look_behind (read_mark mark) e s o)) (λ o. refl))
+    (λ _. first_then e.task (all_from 0 s.threads (λ t. ask (load e (name.Length t)) >>= (λ _. done tt))) _
+        (all_first e.task 0 s.threads (λ t. ask (load e (name.Length t)) >>= (λ _. done tt)) (λ t. refl)) (λ _. refl))
+
+pub first_dump : (s : Shape) (requesting : Bool) (e : Purpose) (k : Local) (number : ℕ) → IsCallOf e.task (numbered_dump s requesting e k number)
+first_dump s true e k number = refl
+first_dump s false e k number = refl
+
+-- A thread takes at most 4 shots.
+pub few_shots : (h : HeapSeen) (p : PassSeen) → IsOf h p → length p.known.shots ≤ 4
+few_shots h p is_of =
+    let r = is_of.real in
+    let stands : Stands h.heap p.known = record { world = r.world; objects = r.sound.valid.objects; is_of = r.is_of; knows = r.knew; within = is_of.within; valid = r.sound.valid.is } in
+    home h.heap p.known stands (λ s y. length y.shots ≤ 4) ((valid_shots r.world r.sound.valid.objects (valid_here h.heap p.known stands)).few p.known.thread)

@@ -1,0 +1,307 @@
+-- A dump whose safepoint is done has reached it: its release, which is to come, finds the word of a reached safepoint.
+use Rattle.std.proofs.Common.{◌≡◌, ◌⊎◌, ℕ, zero, suc, ◌+◌, ◌<◌, ◌==◌, ◌||◌, ◌&&◌, Bool, true, false, cond, if◌then◌else◌, Option, Some, None, length, inl, inr, refl, sym, ap, ◌∙◌, subst, eq-eqb, eqb-true, arith}
+use Rattle.mark_word.specs.declared.mark.MarkForm.{MarkForm}
+use Rattle.mark_word.specs.declared.mark.MarkForm.TheVariants.{Inflating, Neutral, Anonymous, Biased, Locked, Inflated, Marked}
+use Rattle.mark_word.specs.declared.owner.OwnerForm.{OwnerForm}
+use Rattle.mark_word.specs.declared.owner.OwnerForm.TheVariants.{Free, ByThread, ByRecord}
+use Rattle.mark_word.specs.Mark.{read_mark}
+use Rattle.mark_word.specs.Owner.{read_owner}
+use Rattle.mark_word.proofs.ReadingSafepoints.{read_safe-safe_of}
+use Rattle.plain_monitor.specs.Monitor.{is_thread}
+use Rattle.core_world.specs.declared.act.Act.{Act}
+use Rattle.core_world.specs.declared.act.Act.TheVariants.{Load, Swap}
+use Rattle.core_world.specs.declared.name.Name.{Name}
+use Rattle.core_world.specs.declared.name.Name.TheVariants as name
+use Rattle.core_world.specs.declared.answer.Turn.{Turn}
+use Rattle.core_world.specs.declared.answer.Turn.TheVariants.{Done, Pending}
+use Rattle.core_world.specs.declared.answer.Why.{Why}
+use Rattle.core_world.specs.declared.answer.Why.TheVariants as why
+use Rattle.core_world.specs.declared.plan.StepPlan.{StepPlan}
+use Rattle.core_world.specs.declared.stage.Stage.TheVariants.{Calm}
+use Rattle.core_world.specs.Due.{Runs}
+use Rattle.core_world.specs.Locks.{has_epoch}
+use Rattle.core_world.specs.Steps.{asks_after, is_idle, known_after, known_hit, known_miss, rest_of_call, world_after}
+use Rattle.core_world.specs.Threads.AtRest.{AtRest}
+use Rattle.core_world.specs.Threads.Known.{Known, Local, start_of}
+use Rattle.core_world.specs.declared.task.Task.{Task}
+use Rattle.plain_monitor.specs.declared.entry.Entry.TheVariants as entry
+use Rattle.core_world.specs.Trees.Calls.{steps_of}
+use Rattle.core_world.specs.Trees.Operations.{and_then}
+use Rattle.core_world.specs.Trees.WaitSteps.{publish_steps}
+use Rattle.core_world.specs.Trees.LookSteps.{look_at_holds, look_at_owner, look_behind, look_at_objects, keep_shot_plan, take_shot_steps}
+use Rattle.core_world.specs.Trees.Plans.{Purpose, load, done_with, pending_for}
+use Rattle.core_world.specs.Trees.SafepointSteps.{has_requester, reached_word, reached_steps, then_reached, request_plan, request_steps, request_swap_steps, release_plan, release_safepoint, safepoint_steps}
+use Rattle.core_world.specs.Trees.Todo.{Todo, done, never, step, ◌>>=◌, ask, after_answer, all_from, is_over}
+use Rattle.core_world.specs.Words.Acts.{hits, word_after}
+use Rattle.core_world.specs.Words.Forms.{asks_in, epoch_in, is_still, requester_form}
+use Rattle.core_world.specs.Words.Names.{same_name, with_word}
+use Rattle.core_world.specs.Words.Shape.{Shape, class_of}
+use Rattle.core_world.specs.World.{World}
+use Rattle.core_world.proofs.CallRests.{gone_rest, begun_rest}
+use Rattle.core_world.proofs.Naming.{same_named}
+use Rattle.core_steps.specs.Logic.{Heap, heap_of, Stands, Was, Doing}
+use Rattle.core_steps.specs.Sound.{Finishes}
+use Rattle.core_steps.proofs.SafeWords.{asks_is, few_threads}
+use Rattle.heap_table.specs.Seen.{HeapSeen, PassSeen, IsOf}
+use Rattle.heap_table.specs.Parts.{IsDueOn, HasRun}
+use Rattle.heap_table.proofs.Loops.{binds}
+use Rattle.heap_table.proofs.Knows.{same_thread, told_here}
+use Rattle.lock_runtime.specs.LookParts.{reached_dump, numbered_dump}
+
+-- LOADS alone
+abbrev pub AreLoads : {A : Type 0} → Todo A → Type 0
+AreLoads (done a) = Unit {0}
+AreLoads never = Unit {0}
+AreLoads (step p f) = (p.act ≡ Load) × ((n : ℕ) → AreLoads (f n))
+
+loads_then : {A B : Type 0} (d : Todo A) (g : A → Todo B) → AreLoads d → ((a : A) → AreLoads (g a)) → AreLoads (d >>= g)
+loads_then (done a) g one two = two a
+loads_then never g one two = tt
+loads_then (step p f) g one two = (one.0, λ n. loads_then (f n) g (one.1 n) two)
+
+all_loads : (i n : ℕ) (f : ℕ → Todo (Unit {0})) → ((j : ℕ) → AreLoads (f j)) → AreLoads (all_from i n f)
+all_loads i zero f each = tt
+all_loads i (suc n) f each = loads_then (f i) _ (each i) (λ _. all_loads (i + 1) n f each)
+
+module _ (e : Purpose) (s : Shape) where
+  hold_loads : (t : ℕ) → AreLoads (look_at_holds e t)
+  hold_loads t = all_loads 0 64 (λ p. ask (load e (name.Hold t p)) >>= (λ _. done tt)) (λ p. (refl, λ n. tt))
+
+  owner_loads : (f : Option OwnerForm) → AreLoads (look_at_owner f e)
+  owner_loads (Some (ByThread thread)) = hold_loads thread
+  owner_loads (Some (ByRecord thread place)) = hold_loads thread
+  owner_loads (Some Free) = tt
+  owner_loads None = tt
+
+  either_loads : (b : Bool) (x y : Todo (Unit {0})) → AreLoads x → AreLoads y → AreLoads (if b then x else y)
+  either_loads true x y one two = one
+  either_loads false x y one two = two
+
+  mark_loads : (f : Option MarkForm) (o : ℕ) → AreLoads (look_behind f e s o)
+  mark_loads (Some (Biased thread epoch age)) o = (refl, λ n. either_loads (has_epoch (epoch_in n) epoch) _ _ (hold_loads thread) tt)
+  mark_loads (Some (Locked thread place)) o = hold_loads thread
+  mark_loads (Some (Inflated monitor)) o = (refl, λ n. owner_loads (read_owner n))
+  mark_loads None o = tt
+  mark_loads (Some Inflating) o = tt
+  mark_loads (Some (Neutral hash age)) o = tt
+  mark_loads (Some (Anonymous epoch age)) o = tt
+  mark_loads (Some Marked) o = tt
+
+  pub shot_loads : AreLoads (take_shot_steps e s)
+  shot_loads = loads_then (look_at_objects e s) _ (all_loads 0 (length s.objects) (λ o. ask (load e (name.Mark o)) >>= (λ mark. look_behind (read_mark mark) e s o)) (λ o. (refl, λ mark. mark_loads (read_mark mark) o)))
+      (λ _. loads_then (all_from 0 s.threads (λ t. ask (load e (name.Length t)) >>= (λ _. done tt))) _
+          (all_loads 0 s.threads (λ t. ask (load e (name.Length t)) >>= (λ _. done tt)) (λ t. (refl, λ n. tt))) (λ _. (refl, λ n. tt)))
+
+-- A load leaves the word of the safepoint and the request.
+word_stays : (at m : Name) (f : Name → ℕ) → with_word at (f at) f m ≡ f m
+word_stays at m f = cases (same_name m at) refl
+  where
+    cases : (b : Bool) → same_name m at ≡ b → cond b (f at) (f m) ≡ f m
+    cases true same = ap f (sym (same_named m at same))
+    cases false other = refl
+
+asks_as_before : (at : Name) (word : ℕ) (k : Known) → asks_after at Load word k ≡ k.requesting
+asks_as_before name.Safepoint word k = refl
+asks_as_before _ word k = refl
+
+load_asks : (s : Shape) (start : ℕ) (p : StepPlan) (n : ℕ) (k : Known) → p.act ≡ Load → (known_after s start p n k).requesting ≡ k.requesting
+load_asks s start p n k is =
+    (λ i. (cond (hits (is i) n) (known_hit s start p n k) (known_miss s start p n k)).requesting)
+    ∙ (λ i. asks_after p.at (is i) (word_after (is i) n) k) ∙ asks_as_before p.at n k
+
+-- WHERE A THREAD STANDS in the middle of its call: this is left of it, in a world with this safepoint word, and so its request stands or doesn't.
+record At (heap : Heap) (word : ℕ) (asks : Bool) (t : ℕ) (d : Todo (Unit {0})) (k : Known) : Type 0 where
+  stands : Stands heap k
+  found : stands.world.words name.Safepoint ≡ word
+  requesting : k.requesting ≡ asks
+  thread : k.thread ≡ t
+  left : rest_of_call heap.shape k ≡ d
+  does : Finishes heap false d k
+
+module _ (heap : Heap) (word : ℕ) (asks : Bool) (t : ℕ) where
+  busy : (plan : StepPlan) (f : ℕ → Todo (Unit {0})) (k : Known) → rest_of_call heap.shape k ≡ step plan f → is_idle heap.shape k ≡ false
+  unfolding is_idle
+  busy plan f k left = ap is_over left
+
+  stands_behind : (plan : StepPlan) (f : ℕ → Todo (Unit {0})) (k : Known) (at : At heap word asks t (step plan f) k)
+      → Stands heap (known_after heap.shape heap.start plan (at.stands.world.words plan.at) k)
+  stands_behind plan f k at =
+      let v = at.stands in
+      let w : World = v.world in
+      let n = w.words plan.at in
+      let whole = (at.does.by.0 (busy plan f k at.left)).by v in
+      let now : (world_after plan k.thread w).known k.thread ≡ known_after heap.shape heap.start plan n k =
+      told_here k.thread (known_after w.shape w.start plan n (w.known k.thread)) w.known ∙ (λ i. known_after (v.is_of i).shape (v.is_of i).start plan n (v.knows i)) in
+      let same = same_thread heap.shape heap.start plan n k in
+      record {
+        world = world_after plan k.thread w;
+        objects = whole.objects;
+        is_of = v.is_of;
+        knows = subst (λ u. (world_after plan k.thread w).known u ≡ known_after heap.shape heap.start plan n k) (sym same) now;
+        within = subst (λ u. u < heap.shape.threads) (sym same) v.within;
+        valid = whole.is;
+      }
+
+  load_on : (plan : StepPlan) (f : ℕ → Todo (Unit {0})) (k : Known) → plan.act ≡ Load → At heap word asks t (step plan f) k
+      → (n : ℕ) × At heap word asks t (f n) (known_after heap.shape heap.start plan n k)
+  unfolding stands_behind
+  load_on plan f k is at =
+      let v = at.stands in
+      let w : World = v.world in
+      let n = w.words plan.at in
+      let not_over = busy plan f k at.left in
+      (n, record {
+        stands = stands_behind plan f k at;
+        found = (λ i. with_word plan.at (word_after (is i) n) w.words name.Safepoint) ∙ word_stays plan.at name.Safepoint w.words ∙ at.found;
+        requesting = load_asks heap.shape heap.start plan n k is ∙ at.requesting;
+        thread = same_thread heap.shape heap.start plan n k ∙ at.thread;
+        left = gone_rest heap.shape heap.start k plan n not_over ∙ ap (λ z. after_answer z n) at.left;
+        does = record { by = at.does.by.1 n not_over (record { stands = v; found = refl }) };
+      })
+
+  loads_on : {A : Type 0} (d : Todo A) (g : A → Todo (Unit {0})) (k : Known) → AreLoads d → At heap word asks t (d >>= g) k → (a : A) × (l : Known) × At heap word asks t (g a) l
+  loads_on (done a) g k loads at = (a, k, at)
+  loads_on never g k loads at = absurd at.does.by
+  loads_on (step p f) g k loads at =
+      let x = load_on p (λ n. f n >>= g) k loads.0 at in
+      loads_on (f x.0) g (known_after heap.shape heap.start p x.0 k) (loads.1 x.0) x.1
+
+  -- a release that is to come finds the word of a reached safepoint
+  release_finds : (e : Purpose) (g : Unit {0} → Todo (Unit {0})) (k : Known) → At heap word asks t (release_safepoint e t >>= g) k → word ≡ reached_word t
+  release_finds e g k at = sym at.found ∙ cases (n == reached_word t) refl (at.does.by.1 n (busy plan _ k at.left) (record { stands = at.stands; found = refl }))
+    where
+      n : ℕ
+      n = at.stands.world.words name.Safepoint
+
+      plan : StepPlan
+      plan = release_plan (record e { check = false }) Calm t
+
+      after : Bool → Todo (Unit {0})
+      after b = (if b then done tt else never) >>= g
+
+      cases : (b : Bool) → (n == reached_word t) ≡ b → Doing heap false (after b) (known_after heap.shape heap.start plan n k) (λ fresh a l. AtRest heap.shape l) → n ≡ reached_word t
+      cases true is does = eqb-true n (reached_word t) is
+      cases false other does = absurd does
+
+reached_asks : (t : ℕ) → t < 32 → asks_in (reached_word t) t ≡ true
+reached_asks t low = ap (λ z. is_thread (requester_form z) t) (read_safe-safe_of (record { running = 0; requester = Some t; halted = false }) (omega arith, low)) ∙ eq-eqb t t refl
+
+-- so its request stands
+asks_at : (heap : Heap) (word : ℕ) (asks : Bool) (t : ℕ) (e : Purpose) (g : Unit {0} → Todo (Unit {0})) (k : Known) → At heap word asks t (release_safepoint e t >>= g) k → asks ≡ true
+asks_at heap word asks t e g k at =
+    let low = subst (λ u. u < 32) at.thread (few_threads heap k at.stands) in
+    let is : asks_in word t ≡ asks = ap (asks_in word) (sym at.thread) ∙ asks_is heap k word at.stands at.found ∙ at.requesting in
+    sym is ∙ ap (λ n. asks_in n t) (release_finds heap word asks t e g k at) ∙ reached_asks t low
+
+-- a pass whose next steps are these loads, and then the release of its safepoint
+pub still_asks : {A : Type 0} (h : HeapSeen) (q : PassSeen) (t : ℕ) (d : Todo A) (e : Purpose) (g : Unit {0} → Todo (Unit {0})) → IsOf h q → q.known.thread ≡ t → AreLoads d
+    → rest_of_call h.heap.shape q.known ≡ (d >>= (λ _. release_safepoint e t >>= g)) → q.known.requesting ≡ true
+still_asks h q t d e g is_of thread loads left =
+    let r = is_of.real in
+    let k = q.known in
+    let within : k.thread < r.world.shape.threads = subst (λ (z : Heap). k.thread < z.shape.threads) (sym r.is_of) is_of.within in
+    let goes : Finishes h.heap false (rest_of_call h.heap.shape k) k = subst (λ (z : Heap). Finishes z false (rest_of_call z.shape k) k) r.is_of
+    (subst (λ (x : Known). Finishes (heap_of r.world) false (rest_of_call r.world.shape x) x) r.knew (r.sound.goes_on k.thread within)) in
+    let stands : Stands h.heap k = record { world = r.world; objects = r.sound.valid.objects; is_of = r.is_of; knows = r.knew; within = is_of.within; valid = r.sound.valid.is } in
+    let word = r.world.words name.Safepoint in
+    let here : At h.heap word k.requesting t (d >>= (λ _. release_safepoint e t >>= g)) k = record {
+      stands = stands;
+      found = refl;
+      requesting = refl;
+      thread = thread;
+      left = left;
+      does = subst (λ (x : Todo (Unit {0})). Finishes h.heap false x k) left goes;
+    } in
+    let there = loads_on h.heap word k.requesting t d (λ _. release_safepoint e t >>= g) k loads here in
+    asks_at h.heap word k.requesting t e g there.1 there.2
+
+-- A SAFEPOINT THAT IS DONE: its last step saw that no thread runs.
+module _ (s : Shape) (start : ℕ) (e : Purpose) (l : Known) where
+  by_look : (k : Known) → Runs s start (reached_steps e) k l (Done tt) → l.requesting ≡ true → l.reached ≡ true
+  by_look k run asks = cases (is_still run.0) refl run.1
+    where
+      m : Known
+      m = known_after s start (load e name.Safepoint) run.0 k
+
+      both : (a b : Bool) → b ≡ true → (a || b) ≡ true
+      both true b is = refl
+      both false b is = is
+
+      cases : (b : Bool) → is_still run.0 ≡ b → Runs s start (if b then done_with (tt {0}) else pending_for (why.Stopping run.0)) m l (Done tt) → l.reached ≡ true
+      cases true still ran =
+          let asked : k.requesting ≡ true = sym (ap (λ (x : Known). x.requesting) ran.0) ∙ asks in
+          ap (λ (x : Known). x.reached) ran.0 ∙ both k.reached (k.requesting && is_still run.0) (λ i. asked i && still i)
+      cases false goes ran = let is = ran.1 in absurd (cc is)
+
+  by_swap : (t word : ℕ) (k : Known) → Runs s start (request_swap_steps e t word >>= then_reached e) k l (Done tt) → l.requesting ≡ true → l.reached ≡ true
+  by_swap t word k run asks = cases (run.0 == word) run.1
+    where
+      m : Known
+      m = known_after s start (request_plan e t word) run.0 k
+
+      missed : (b : Bool) → Runs s start ((if b then pending_for (why.Requested run.0) else pending_for (why.Raced word run.0)) >>= then_reached e) m l (Done tt) → ⊥
+      missed true ran = let is = ran.1 in absurd (cc is)
+      missed false ran = let is = ran.1 in absurd (cc is)
+
+      cases : (b : Bool)
+          → Runs s start ((if b then done_with (tt {0}) else if has_requester run.0 then pending_for (why.Requested run.0) else pending_for (why.Raced word run.0)) >>= then_reached e) m l (Done tt)
+          → l.reached ≡ true
+      cases true ran = by_look m ran asks
+      cases false ran = absurd (missed (has_requester run.0) ran)
+
+  pub done_reached : (t : ℕ) (requesting : Bool) (k : Known) → Runs s start (safepoint_steps e t requesting) k l (Done tt) → l.requesting ≡ true → l.reached ≡ true
+  done_reached t true k run asks = by_look k run asks
+  done_reached t false k run asks = cases (has_requester run.0) run.1
+    where
+      m : Known
+      m = known_after s start (load (record e { check = false }) name.Safepoint) run.0 k
+
+      cases : (b : Bool) → Runs s start ((if b then pending_for (why.Requested run.0) else request_swap_steps e t run.0) >>= then_reached e) m l (Done tt) → l.reached ≡ true
+      cases true ran = let is = ran.1 in absurd (cc is)
+      cases false ran = by_swap t run.0 m ran asks
+
+-- WHAT IS LEFT of a call behind a part of it that makes a step
+rest_along : {A : Type 0} (s : Shape) (start : ℕ) (d : Todo A) (after : A → Todo (Unit {0})) (k l : Known) (a : A) → rest_of_call s k ≡ (d >>= after) → Runs s start d k l a → rest_of_call s l ≡ after a
+unfolding is_idle
+rest_along s start (done b) after k l a left run = ap (rest_of_call s) run.0 ∙ left ∙ ap after (sym run.1)
+rest_along s start never after k l a left run = absurd run
+rest_along s start (step p f) after k l a left run =
+    rest_along s start (f run.0) after (known_after s start p run.0 k) l a (gone_rest s start k p run.0 (ap is_over left) ∙ ap (λ z. after_answer z run.0) left) run.1
+
+abbrev BeginsBy : {A : Type 0} → Todo A → Task → Type 0
+BeginsBy (step p f) t = p.task ≡ t
+BeginsBy _ t = ⊥
+
+left_behind : {A B : Type 0} (h : HeapSeen) (p q : PassSeen) (t : Task) (d : Todo A) (g : A → Todo B) (a : A) → BeginsBy d t → IsDueOn h p t (d >>= g) → HasRun h d p q a
+    → (after : B → Todo (Unit {0})) × (rest_of_call h.heap.shape q.known ≡ (g a >>= after))
+left_behind h p q t (done b) g a first due run = absurd first
+left_behind h p q t never g a first due run = absurd first
+left_behind {A = A} {B = B} h p q t (step plan f) g a first due run =
+    let s = h.heap.shape in
+    let start = h.heap.start in
+    let n = run.ran.by.0 in
+    let after : A → Todo (Unit {0}) = λ x. g x >>= due.after in
+    elim due.is [
+      | inl left ↦ (due.after, rest_along s start (step plan f) after p.known q.known a (left ∙ binds (step plan f) g due.after) run.ran.by)
+      | inr b ↦ (due.after, rest_along s start (f n) after (known_after s start plan n p.known) q.known a
+          (begun_rest s start p.known plan n b.over
+          ∙ ap (λ (x : Task). after_answer (steps_of s x (start_of start p.known)) n) first
+          ∙ ap (λ z. after_answer z n) (b.is ∙ binds (step plan f) g due.after)) run.ran.by.1)
+    ]
+
+begins_safepoint : (e : Purpose) (t : ℕ) (requesting : Bool) → BeginsBy (safepoint_steps e t requesting) e.task
+begins_safepoint e t true = refl
+begins_safepoint e t false = refl
+
+-- so it is with a dump
+pub dump_reached : (h : HeapSeen) (p q : PassSeen) (e : Purpose) (k : Local) (number : ℕ) (requesting : Bool) → IsDueOn h p e.task (numbered_dump h.heap.shape requesting e k number)
+    → HasRun h (safepoint_steps e k.thread requesting) p q (Done tt) → q.known.thread ≡ k.thread → q.known.reached ≡ true
+dump_reached h p q e k number requesting due run thread =
+    let s = h.heap.shape in
+    let next : Turn (Unit {0}) → Todo (Turn ℕ) = λ turn. and_then turn (λ _. reached_dump s e k number) in
+    let told : Unit {0} → Todo (Turn ℕ) = λ _. publish_steps (entry.Dump number) e k >>= (λ _. done_with number) in
+    let left = left_behind h p q e.task (safepoint_steps e k.thread requesting) next (Done tt) (begins_safepoint e k.thread requesting) due run in
+    let rest = left.1 ∙ binds (take_shot_steps e s) (λ _. release_safepoint e k.thread >>= told) left.0
+        ∙ (λ i. take_shot_steps e s >>= (λ _. binds (release_safepoint e k.thread) told left.0 i)) in
+    done_reached s h.heap.start e q.known k.thread requesting p.known run.ran.by
+    (still_asks h q k.thread (take_shot_steps e s) e (λ u. told u >>= left.0) run.heap thread (shot_loads e s) rest)
