@@ -11,6 +11,6 @@ pub mod Waits
 pub mod Looked
 pub mod UnbiasAside
 pub mod Hashed
-pub mod Asked
+pub mod MayBegin
 pub mod Reached
 pub mod Dumped
