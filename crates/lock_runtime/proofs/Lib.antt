@@ -13,3 +13,4 @@ pub mod Hashed
 pub mod Reached
 pub mod Dumped
 pub mod Asked
+pub mod MayBegin

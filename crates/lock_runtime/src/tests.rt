@@ -2,6 +2,7 @@
 
 mod biased;
 mod calls;
+mod dumped;
 mod hashed;
 mod last;
 mod stacked;

@@ -4,7 +4,7 @@ ghost use Rattle.heap_table.specs.Fresh.{IsFresh};
 ghost use Rattle.heap_table.specs.Resting.{Rests};
 
 use crate::asked::{may_call, may_make};
-use core_world::{IllegalMonitorState, Task, TooDeep, Turn, Unguarded, Why};
+use core_world::{IllegalMonitorState, Task, TooDeep, TooManyDumps, Turn, Unguarded, Why};
 use heap_table::{Heap, HeapShape, Pass};
 use plain_monitor::{Ending, NoMemory, Path, Value};
 use std::alloc::Global;
@@ -221,6 +221,17 @@ pub fn hash(heap: &Heap, pass: &mut Pass, object: u32, now: u64) -> Option<Turn<
 {
     if may_make(heap, pass, Task::Hash { object, now }) {
         Some(crate::hash(heap, pass, object, now))
+    } else {
+        None
+    }
+}
+
+pub fn dump(heap: &Heap, pass: &mut Pass) -> Option<Result<Turn<u32>, TooManyDumps>>
+    requires { Rests heap.now pass.old }
+    ensures { Rests heap.now pass.new }
+{
+    if may_make(heap, pass, Task::Dump) {
+        Some(crate::dump(heap, pass))
     } else {
         None
     }

@@ -10,6 +10,7 @@ use std::thread::{Threads, join};
 
 // How often each thread enters, and how many calls it may make for that.
 const ENTERS: u32 = 300;
+
 const TRIES: u32 = 50000000;
 
 // One call more, by a thread that is inside the object or not. It answers whether the thread is inside then.
