@@ -12,5 +12,4 @@ pub mod Looked
 pub mod Hashed
 pub mod Reached
 pub mod Dumped
-pub mod Asked
 pub mod MayBegin

@@ -1,5 +1,5 @@
 -- For the tests: what a call asks, where its conditions are looked at as the test runs.
-use Rattle.std.proofs.Common.{◌≡◌, ℕ, ◌+◌, ◌==◌, ◌≤◌, ◌&&◌, ◌||◌, not, cond, is_none, nat_le, Bool, true, false, List, [], ◌∷◌, length, refl, arith}
+use Rattle.std.proofs.Common.{◌≡◌, ℕ, ◌+◌, ◌==◌, ◌≤◌, ◌&&◌, ◌||◌, not, cond, is_none, nat_le, Bool, true, false, List, [], ◌∷◌, length, refl, sym, ◌∙◌, arith}
 use Rattle.std.specs.List.{list_all}
 use Rattle.core_world.specs.Clauses.Lengths.{log_limit}
 use Rattle.core_world.specs.Clauses.Safepoints.{ends}
@@ -31,14 +31,12 @@ also a b e f = λ i. e i && f i
 -- a thread without holds has none at any place
 no_holds : (i : ℕ) (hs : List ℕ) → count_where (λ p h. not (h == 0)) i hs ≡ 0 → list_all (λ h. h == 0) hs ≡ true
 no_holds i [] e = refl
-no_holds i (h ∷ hs) e = one (h == 0) refl
+no_holds i (h ∷ hs) e = one (h == 0) refl e (no_holds (i + 1) hs)
   where
-    one : (b : Bool) → (h == 0) ≡ b → list_all (λ h. h == 0) (h ∷ hs) ≡ true
-    one true is = let rest = no_holds (i + 1) hs (left is) in λ j. is j && rest j
-      where
-        left : (h == 0) ≡ true → count_where (λ p h. not (h == 0)) (i + 1) hs ≡ 0
-        left is = (λ j. one_if (not (is (~ j))) + count_where (λ p h. not (h == 0)) (i + 1) hs) ∙ e
-    one false is = absurd (cc)
+    one : (b : Bool) → (h == 0) ≡ b → one_if (not b) + count_where (λ p h. not (h == 0)) (i + 1) hs ≡ 0
+        → (count_where (λ p h. not (h == 0)) (i + 1) hs ≡ 0 → list_all (λ h. h == 0) hs ≡ true) → ((h == 0) && list_all (λ h. h == 0) hs) ≡ true
+    one true is none rest = λ j. is j && rest none j
+    one false is none rest = absurd (omega (arith, none))
 
 pub none_held : (hs : List ℕ) → all_holds hs ≡ 0 → list_all (λ h. h == 0) hs ≡ true
 none_held hs e = no_holds 0 hs e
