@@ -62,7 +62,7 @@ pub first_shot : (e : Purpose) (s : Shape) → IsCallOf e.task (take_shot_steps 
 first_shot e s = first_then e.task (look_at_objects e s) _
     (all_first e.task 0 (length s.objects) (λ o. ask (load e (name.Mark o)) >>= (λ mark. look_behind (read_mark mark) e s o)) (λ o. refl))
     (λ _. first_then e.task (all_from 0 s.threads (λ t. ask (load e (name.Length t)) >>= (λ _. done tt))) _
-        (all_first e.task 0 s.threads (λ t. ask (load e (name.Length t)) >>= (λ _. done tt)) (λ t. refl)) (λ _. refl))
+    (all_first e.task 0 s.threads (λ t. ask (load e (name.Length t)) >>= (λ _. done tt)) (λ t. refl)) (λ _. refl))
 
 pub first_dump : (s : Shape) (requesting : Bool) (e : Purpose) (k : Local) (number : ℕ) → IsCallOf e.task (numbered_dump s requesting e k number)
 first_dump s true e k number = refl

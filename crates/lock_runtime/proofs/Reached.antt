@@ -88,7 +88,7 @@ module _ (e : Purpose) (s : Shape) where
   pub shot_loads : AreLoads (take_shot_steps e s)
   shot_loads = loads_then (look_at_objects e s) _ (all_loads 0 (length s.objects) (λ o. ask (load e (name.Mark o)) >>= (λ mark. look_behind (read_mark mark) e s o)) (λ o. (refl, λ mark. mark_loads (read_mark mark) o)))
       (λ _. loads_then (all_from 0 s.threads (λ t. ask (load e (name.Length t)) >>= (λ _. done tt))) _
-          (all_loads 0 s.threads (λ t. ask (load e (name.Length t)) >>= (λ _. done tt)) (λ t. (refl, λ n. tt))) (λ _. (refl, λ n. tt)))
+      (all_loads 0 s.threads (λ t. ask (load e (name.Length t)) >>= (λ _. done tt)) (λ t. (refl, λ n. tt))) (λ _. (refl, λ n. tt)))
 
 -- A load leaves the word of the safepoint and the request.
 word_stays : (at m : Name) (f : Name → ℕ) → with_word at (f at) f m ≡ f m
@@ -147,15 +147,17 @@ module _ (heap : Heap) (word : ℕ) (asks : Bool) (t : ℕ) where
       let v = at.stands in
       let w : World = v.world in
       let n = w.words plan.at in
-      let not_over = busy plan f k at.left in
-      (n, record {
-        stands = stands_behind plan f k at;
-        found = (λ i. with_word plan.at (word_after (is i) n) w.words name.Safepoint) ∙ word_stays plan.at name.Safepoint w.words ∙ at.found;
-        requesting = load_asks heap.shape heap.start plan n k is ∙ at.requesting;
-        thread = same_thread heap.shape heap.start plan n k ∙ at.thread;
-        left = gone_rest heap.shape heap.start k plan n not_over ∙ ap (λ z. after_answer z n) at.left;
-        does = record { by = at.does.by.1 n not_over (record { stands = v; found = refl }) };
-      })
+      let not_over = busy plan f k at.left in (
+        n,
+        record {
+          stands = stands_behind plan f k at;
+          found = (λ i. with_word plan.at (word_after (is i) n) w.words name.Safepoint) ∙ word_stays plan.at name.Safepoint w.words ∙ at.found;
+          requesting = load_asks heap.shape heap.start plan n k is ∙ at.requesting;
+          thread = same_thread heap.shape heap.start plan n k ∙ at.thread;
+          left = gone_rest heap.shape heap.start k plan n not_over ∙ ap (λ z. after_answer z n) at.left;
+          does = record { by = at.does.by.1 n not_over (record { stands = v; found = refl }) };
+        },
+      )
 
   loads_on : {A : Type 0} (d : Todo A) (g : A → Todo (Unit {0})) (k : Known) → AreLoads d → At heap word asks t (d >>= g) k → (a : A) × (l : Known) × At heap word asks t (g a) l
   loads_on (done a) g k loads at = (a, k, at)
@@ -281,10 +283,13 @@ left_behind {A = A} {B = B} h p q t (step plan f) g a first due run =
     let after : A → Todo (Unit {0}) = λ x. g x >>= due.after in
     elim due.is [
       | inl left ↦ (due.after, rest_along s start (step plan f) after p.known q.known a (left ∙ binds (step plan f) g due.after) run.ran.by)
-      | inr b ↦ (due.after, rest_along s start (f n) after (known_after s start plan n p.known) q.known a
-          (begun_rest s start p.known plan n b.over
-          ∙ ap (λ (x : Task). after_answer (steps_of s x (start_of start p.known)) n) first
-          ∙ ap (λ z. after_answer z n) (b.is ∙ binds (step plan f) g due.after)) run.ran.by.1)
+      | inr b ↦ (
+        due.after,
+        rest_along s start (f n) after (known_after s start plan n p.known) q.known a
+            (begun_rest s start p.known plan n b.over
+            ∙ ap (λ (x : Task). after_answer (steps_of s x (start_of start p.known)) n) first
+            ∙ ap (λ z. after_answer z n) (b.is ∙ binds (step plan f) g due.after)) run.ran.by.1,
+      )
     ]
 
 begins_safepoint : (e : Purpose) (t : ℕ) (requesting : Bool) → BeginsBy (safepoint_steps e t requesting) e.task
@@ -300,6 +305,6 @@ dump_is_reached h p q e k number requesting due run thread =
     let told : Unit {0} → Todo (Turn ℕ) = λ _. publish_steps (entry.Dump number) e k >>= (λ _. done_with number) in
     let left = left_behind h p q e.task (safepoint_steps e k.thread requesting) next (Done tt) (begins_safepoint e k.thread requesting) due run in
     let rest = left.1 ∙ binds (take_shot_steps e s) (λ _. release_safepoint e k.thread >>= told) left.0
-        ∙ (λ i. take_shot_steps e s >>= (λ _. binds (release_safepoint e k.thread) told left.0 i)) in
+    ∙ (λ i. take_shot_steps e s >>= (λ _. binds (release_safepoint e k.thread) told left.0 i)) in
     done_reached s h.heap.start e q.known k.thread requesting p.known run.ran.by
     (still_asks h q k.thread (take_shot_steps e s) e (λ u. told u >>= left.0) run.heap thread (shot_loads e s) rest)
