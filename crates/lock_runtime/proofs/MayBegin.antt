@@ -35,7 +35,10 @@ no_holds i (h ∷ hs) e = one (h == 0) refl e (no_holds (i + 1) hs)
   where
     one : (b : Bool) → (h == 0) ≡ b → one_if (not b) + count_where (λ p h. not (h == 0)) (i + 1) hs ≡ 0
         → (count_where (λ p h. not (h == 0)) (i + 1) hs ≡ 0 → list_all (λ h. h == 0) hs ≡ true) → ((h == 0) && list_all (λ h. h == 0) hs) ≡ true
-    one true is none rest = λ j. is j && rest none j
+    one true is none rest =
+        let left : count_where (λ p h. not (h == 0)) (i + 1) hs ≡ 0 = omega (arith, none) in
+        let all = rest left in
+        λ j. is j && all j
     one false is none rest = absurd (omega (arith, none))
 
 pub none_held : (hs : List ℕ) → all_holds hs ≡ 0 → list_all (λ h. h == 0) hs ≡ true
