@@ -1,5 +1,6 @@
 -- For the tests: what a call asks, where its conditions are looked at as the test runs.
-use Rattle.std.proofs.Common.{◌≡◌, ℕ, ◌+◌, ◌==◌, ◌≤◌, ◌&&◌, ◌||◌, not, cond, is_none, nat_le, Bool, true, false, List, [], ◌∷◌, length, refl, arith}
+use Rattle.std.proofs.Common.{◌≡◌, ℕ, ◌+◌, ◌==◌, ◌≤◌, ◌&&◌, ◌||◌, not, cond, is_none, nat_le, Bool, true, false, List, [], ◌∷◌, length, refl, sym, ap, ◌∙◌, arith}
+use Rattle.std.proofs.lemmas.Bool.{eqb-true}
 use Rattle.std.specs.List.{list_all}
 use Rattle.core_world.specs.Clauses.Lengths.{log_limit}
 use Rattle.core_world.specs.Clauses.Safepoints.{ends}
@@ -34,11 +35,8 @@ no_holds i [] e = refl
 no_holds i (h ∷ hs) e = one (h == 0) refl
   where
     one : (b : Bool) → (h == 0) ≡ b → list_all (λ h. h == 0) (h ∷ hs) ≡ true
-    one true is = let rest = no_holds (i + 1) hs (left is) in λ j. is j && rest j
-      where
-        left : (h == 0) ≡ true → count_where (λ p h. not (h == 0)) (i + 1) hs ≡ 0
-        left is = (λ j. one_if (not (is (~ j))) + count_where (λ p h. not (h == 0)) (i + 1) hs) ∙ e
-    one false is = absurd (cc)
+    one true is = let rest = no_holds (i + 1) hs (omega (arith, e)) in λ j. is j && rest j
+    one false is = let held : one_if (not (h == 0)) ≡ 1 = ap (λ b. one_if (not b)) is in absurd (omega (arith, e, held))
 
-pub none_held : (hs : List ℕ) → all_holds hs ≡ 0 → list_all (λ h. h == 0) hs ≡ true
-none_held hs e = no_holds 0 hs e
+pub none_held : (hs : List ℕ) (n : ℕ) → n ≡ all_holds hs → (n == 0) ≡ true → list_all (λ h. h == 0) hs ≡ true
+none_held hs n all zero_too = no_holds 0 hs (sym all ∙ eqb-true n 0 zero_too)

@@ -1,5 +1,5 @@
 //! For the tests: whether a call may begin, asked as the test runs.
-ghost use Rattle.std.specs.Prelude.{◌≡◌, ◌==◌, ◌+◌, ◌≤◌, ◌&&◌, ◌||◌, not, is_none, nat_lt, nat_le, length, true};
+ghost use Rattle.std.specs.Prelude.{◌≡◌, ◌==◌, ◌+◌, ◌≤◌, ◌&&◌, ◌||◌, not, is_none, nat_lt, nat_le, length, true, false};
 ghost use Rattle.std.specs.List.{list_all};
 ghost use Rattle.core_world.specs.Clauses.Lengths.{log_limit};
 ghost use Rattle.core_world.specs.Trees.Calls.{is_object, is_value, may_operate, may_begin};
@@ -109,11 +109,17 @@ fn may_take(heap: &Heap, pass: &Pass, op: Op, object: u32) -> bool
     is_object(heap, object) && may_operate(heap, pass, goes_on(pass, op, object))
 }
 
+fn holds_nothing(pass: &Pass) -> bool
+    ensures { result ≡ true → list_all (λ h. h == 0) pass.now.known.holds ≡ true }
+{
+    pass.holds() == 0
+}
+
 fn may_finish(heap: &Heap, pass: &Pass) -> bool
     requires { Rests heap.now pass.now }
     ensures { result ≡ true → (list_all (λ h. h == 0) pass.now.known.holds && may_operate pass.now.known false) ≡ true }
 {
-    pass.holds() == 0 && may_operate(heap, pass, false)
+    holds_nothing(pass) && may_operate(heap, pass, false)
 }
 
 fn may_check(pass: &Pass) -> bool {
