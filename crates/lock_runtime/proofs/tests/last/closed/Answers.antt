@@ -13,16 +13,16 @@ pub close-requires-clause-order : goal.close-requires-clause-order
 close-requires-clause-order c =
     let two : c.of.result ≡ c.args.first ∷ c.args.second ∷ [] = search rules in
     let may = c.may_close.ensures c.if-may_close.true in
-    subst (λ (ps : List PassSeen). InOrder 0 (knowns ps) × (length ps ≡ c.args.heap.heap.shape.threads)) (sym two) ((may.1.0.0, (may.1.0.1, tt)), sym may.0)
+    subst (λ (ps : List PassSeen). InOrder 0 (knowns ps) × (length ps ≡ c.args.heap.heap.shape.threads)) (sym two) ((may.1.0, (may.1.1, tt)), sym may.0)
 
 pub close-requires-clause-stopped : goal.close-requires-clause-stopped
 close-requires-clause-stopped c =
     let two : c.of.result ≡ c.args.first ∷ c.args.second ∷ [] = search rules in
     let may = c.may_close.ensures c.if-may_close.true in
-    subst (All (λ p. p.known.running ≡ false)) (sym two) (both (λ p. p.known.running ≡ false) c.args.first c.args.second may.1.1.0.0 may.1.1.0.1)
+    subst (All (λ p. p.known.running ≡ false)) (sym two) (both (λ p. p.known.running ≡ false) c.args.first c.args.second may.2.0 may.2.1)
 
 pub close-requires-clause-quiet : goal.close-requires-clause-quiet
 close-requires-clause-quiet c =
     let two : c.of.result ≡ c.args.first ∷ c.args.second ∷ [] = search rules in
     let may = c.may_close.ensures c.if-may_close.true in
-    inl (subst (All (λ p. p.known.requesting ≡ false)) (sym two) (both (λ p. p.known.requesting ≡ false) c.args.first c.args.second may.1.1.1.0 may.1.1.1.1))
+    inl (subst (All (λ p. p.known.requesting ≡ false)) (sym two) (both (λ p. p.known.requesting ≡ false) c.args.first c.args.second may.3.0 may.3.1))
