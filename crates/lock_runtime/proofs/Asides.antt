@@ -132,9 +132,9 @@ module _ (e : Purpose) (b : Revocation) where
     record { quiet = refl; words = refl; keeps = refl },
     λ n. then_aside (store_steps e b (raised_form epoch c)) _ (stores e b (raised_form epoch c) (raised epoch c))
         (λ _. then_aside (walk_steps s c e b (λ o mark. store_steps e b (store_where (Mark o) (with_epoch (read_mark mark) (next_epoch epoch))))) _
-            (walk s c (λ o mark. store_steps e b (store_where (Mark o) (with_epoch (read_mark mark) (next_epoch epoch))))
-                (λ o mark. stores e b (store_where (Mark o) (with_epoch (read_mark mark) (next_epoch epoch))) (where_mark o (with_epoch (read_mark mark) (next_epoch epoch)))))
-            (λ _. then_aside (revoke_steps e b b.object b.rebias) _ (one b.object b.rebias) (λ _. either_aside b.rebias _ _ (take (next_epoch epoch) t) tt))),
+        (walk s c (λ o mark. store_steps e b (store_where (Mark o) (with_epoch (read_mark mark) (next_epoch epoch))))
+        (λ o mark. stores e b (store_where (Mark o) (with_epoch (read_mark mark) (next_epoch epoch))) (where_mark o (with_epoch (read_mark mark) (next_epoch epoch)))))
+        (λ _. then_aside (revoke_steps e b b.object b.rebias) _ (one b.object b.rebias) (λ _. either_aside b.rebias _ _ (take (next_epoch epoch) t) tt))),
   )
 
   bulk_revoke : (s : Shape) (c : ℕ) → AreAside (bulk_revoke_steps s c e b)
