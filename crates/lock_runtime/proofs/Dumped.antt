@@ -1,17 +1,13 @@
 -- Dumps: runs whatever became of the pass's draft of a shot.
-use Rattle.std.proofs.Common.{◌≡◌, ℕ, zero, suc, ◌+◌, ◌<◌, ◌≤◌, ◌==◌, Bool, true, false, if◌then◌else◌, [], length, Option, Some, None, Result, Ok, Err, refl, sym, ap, ◌∙◌, subst, arith}
+use Rattle.std.proofs.Common.{◌≡◌, ℕ, zero, suc, ◌+◌, Bool, true, false, [], length, refl}
 use Rattle.mark_word.specs.Mark.{read_mark}
 use Rattle.core_world.specs.declared.name.Name.TheVariants as name
 use Rattle.core_world.specs.declared.task.Task.{Task}
 use Rattle.core_world.specs.Trees.LookSteps.{look_behind, look_at_objects, take_shot_steps}
-use Rattle.core_world.specs.Trees.Operations.{answer}
 use Rattle.core_world.specs.Trees.Plans.{Purpose, load}
 use Rattle.core_world.specs.Trees.Todo.{Todo, done, ◌>>=◌, ask, all_from}
 use Rattle.core_world.specs.Threads.Known.{Local}
 use Rattle.core_world.specs.Words.Shape.{Shape}
-use Rattle.core_locks.proofs.ValidShots.{valid_shots}
-use Rattle.core_steps.specs.Logic.{Stands}
-use Rattle.core_steps.proofs.LawRules.{home, valid_here}
 use Rattle.revoke_walk.specs.ShotParts.{HasShot}
 use Rattle.heap_table.specs.Parts.{HasRun}
 use Rattle.heap_table.specs.Seen.{HeapSeen, PassSeen, IsOf}
@@ -66,15 +62,8 @@ pub first_shot : (e : Purpose) (s : Shape) → IsCallOf e.task (take_shot_steps 
 first_shot e s = first_then e.task (look_at_objects e s) _
     (all_first e.task 0 (length s.objects) (λ o. ask (load e (name.Mark o)) >>= (λ mark. look_behind (read_mark mark) e s o)) (λ o. refl))
     (λ _. first_then e.task (all_from 0 s.threads (λ t. ask (load e (name.Length t)) >>= (λ _. done tt))) _
-        (all_first e.task 0 s.threads (λ t. ask (load e (name.Length t)) >>= (λ _. done tt)) (λ t. refl)) (λ _. refl))
+    (all_first e.task 0 s.threads (λ t. ask (load e (name.Length t)) >>= (λ _. done tt)) (λ t. refl)) (λ _. refl))
 
 pub first_dump : (s : Shape) (requesting : Bool) (e : Purpose) (k : Local) (number : ℕ) → IsCallOf e.task (numbered_dump s requesting e k number)
 first_dump s true e k number = refl
 first_dump s false e k number = refl
-
--- A thread takes at most 4 shots.
-pub few_shots : (h : HeapSeen) (p : PassSeen) → IsOf h p → length p.known.shots ≤ 4
-few_shots h p is_of =
-    let r = is_of.real in
-    let stands : Stands h.heap p.known = record { world = r.world; objects = r.sound.valid.objects; is_of = r.is_of; knows = r.knew; within = is_of.within; valid = r.sound.valid.is } in
-    home h.heap p.known stands (λ s y. length y.shots ≤ 4) ((valid_shots r.world r.sound.valid.objects (valid_here h.heap p.known stands)).few p.known.thread)

@@ -1,5 +1,5 @@
 -- Hashes: the draws of a thread are few, and its next one is what its call takes.
-use Rattle.std.proofs.Common.{◌≡◌, ℕ, ◌+◌, ◌≤◌, List, [], ◌∷◌, Option, Some, None, length, refl, sym, ap, ◌∙◌, subst, arith, inl, inr}
+use Rattle.std.proofs.Common.{◌≡◌, ℕ, ◌+◌, ◌≤◌, List, [], ◌∷◌, Option, Some, None, length, refl, sym, subst, arith, inl, inr}
 use Rattle.plain_monitor.specs.Objects.{PlainObject}
 use Rattle.plain_monitor.specs.declared.entry.Logged.{Logged}
 use Rattle.core_world.specs.declared.answer.Turn.{Turn}
@@ -9,7 +9,7 @@ use Rattle.core_world.specs.Threads.Known.{Known, Start, draw_of}
 use Rattle.core_world.specs.Trees.HashSteps.{hash_header_steps}
 use Rattle.core_world.specs.Trees.Operations.{and_then, no_bias, unbias_steps}
 use Rattle.core_world.specs.Trees.Plans.{Purpose}
-use Rattle.core_world.specs.Valid.{Fits, IsRevoking, IsValid}
+use Rattle.core_world.specs.Valid.{Fits, IsValid}
 use Rattle.core_world.specs.World.{World}
 use Rattle.core_world.specs.Words.Shape.{Shape}
 use Rattle.core_world.proofs.KnowledgeParts.{by_equal}

@@ -1,36 +1,28 @@
 -- Checks and dumps: the thread that a run is of, and first steps.
-use Rattle.std.proofs.Common.{◌≡◌, ℕ, zero, suc, ◌+◌, Bool, true, false, ◌&&◌, cond, Option, refl, ap, ◌∙◌}
+use Rattle.std.proofs.Common.{◌≡◌, ℕ, zero, suc, Bool, true, false, ◌&&◌, Option, refl, ap, ◌∙◌}
 use Rattle.core_world.specs.declared.name.Name.TheVariants.{Waiting}
-use Rattle.core_world.specs.declared.plan.StepPlan.{StepPlan}
 use Rattle.core_world.specs.Due.{Runs}
-use Rattle.core_world.specs.Steps.{known_after, known_hit, known_miss}
+use Rattle.core_world.specs.Steps.{known_after}
 use Rattle.core_world.specs.Threads.Known.{Known}
 use Rattle.core_world.specs.Trees.LookSteps.{look_at_wait, some_live, none_goes_on, stands_still_steps}
 use Rattle.core_world.specs.Trees.Plans.{Purpose, load}
 use Rattle.core_world.specs.Trees.Todo.{Todo, done, never, step, ◌>>=◌, ask, each_from}
-use Rattle.core_world.specs.Words.Acts.{hits}
 use Rattle.core_world.specs.Words.Shape.{Shape}
 use Rattle.mark_word.specs.Wait.{read_wait}
 use Rattle.heap_table.specs.Parts.{HasRun}
 use Rattle.heap_table.specs.Seen.{HeapSeen, PassSeen}
+use Rattle.heap_table.proofs.Knows.{same_thread}
 use Rattle.heap_table.proofs.Resting.{IsCallOf}
 use Rattle.lock_runtime.specs.LookParts.{check_going}
 
 -- a run is of one thread
-step_thread : (s : Shape) (start : ℕ) (p : StepPlan) (n : ℕ) (k : Known) → (known_after s start p n k).thread ≡ k.thread
-step_thread s start p n k = cases (hits p.act n)
-  where
-    cases : (b : Bool) → (cond b (known_hit s start p n k) (known_miss s start p n k)).thread ≡ k.thread
-    cases true = refl
-    cases false = refl
+steps_thread : {A : Type 0} (s : Shape) (start : ℕ) (d : Todo A) (k l : Known) (a : A) → Runs s start d k l a → l.thread ≡ k.thread
+steps_thread s start (done b) k l a run = ap (λ (x : Known). x.thread) run.0
+steps_thread s start never k l a run = absurd run
+steps_thread s start (step p f) k l a run = steps_thread s start (f run.0) (known_after s start p run.0 k) l a run.1 ∙ same_thread s start p run.0 k
 
-run_thread : {A : Type 0} (s : Shape) (start : ℕ) (d : Todo A) (k l : Known) (a : A) → Runs s start d k l a → l.thread ≡ k.thread
-run_thread s start (done b) k l a run = ap (λ (x : Known). x.thread) run.0
-run_thread s start never k l a run = absurd run
-run_thread s start (step p f) k l a run = run_thread s start (f run.0) (known_after s start p run.0 k) l a run.1 ∙ step_thread s start p run.0 k
-
-pub same_thread : {A : Type 0} (h : HeapSeen) (d : Todo A) (p q : PassSeen) (a : A) → HasRun h d p q a → q.known.thread ≡ p.known.thread
-same_thread h d p q a run = run_thread h.heap.shape h.heap.start d p.known q.known a run.ran.by
+pub run_thread : {A : Type 0} (h : HeapSeen) (d : Todo A) (p q : PassSeen) (a : A) → HasRun h d p q a → q.known.thread ≡ p.known.thread
+run_thread h d p q a run = steps_thread h.heap.shape h.heap.start d p.known q.known a run.ran.by
 
 -- FIRST STEPS are of their call
 pub first_look : (e : Purpose) (s : Shape) → IsCallOf e.task (stands_still_steps e s)

@@ -1,5 +1,5 @@
 -- A dump whose safepoint is done has reached it: its release, which is to come, finds the word of a reached safepoint.
-use Rattle.std.proofs.Common.{◌≡◌, ◌⊎◌, ℕ, zero, suc, ◌+◌, ◌<◌, ◌==◌, ◌||◌, ◌&&◌, Bool, true, false, cond, if◌then◌else◌, Option, Some, None, length, inl, inr, refl, sym, ap, ◌∙◌, subst, eq-eqb, eqb-true, arith}
+use Rattle.std.proofs.Common.{◌≡◌, ℕ, zero, suc, ◌+◌, ◌<◌, ◌==◌, ◌||◌, ◌&&◌, Bool, true, false, cond, if◌then◌else◌, Option, Some, None, length, inl, inr, refl, sym, ap, ◌∙◌, subst, eq-eqb, eqb-true, arith}
 use Rattle.mark_word.specs.declared.mark.MarkForm.{MarkForm}
 use Rattle.mark_word.specs.declared.mark.MarkForm.TheVariants.{Inflating, Neutral, Anonymous, Biased, Locked, Inflated, Marked}
 use Rattle.mark_word.specs.declared.owner.OwnerForm.{OwnerForm}
@@ -8,13 +8,11 @@ use Rattle.mark_word.specs.Mark.{read_mark}
 use Rattle.mark_word.specs.Owner.{read_owner}
 use Rattle.mark_word.proofs.ReadingSafepoints.{read_safe-safe_of}
 use Rattle.plain_monitor.specs.Monitor.{is_thread}
-use Rattle.core_world.specs.declared.act.Act.{Act}
-use Rattle.core_world.specs.declared.act.Act.TheVariants.{Load, Swap}
+use Rattle.core_world.specs.declared.act.Act.TheVariants.{Load}
 use Rattle.core_world.specs.declared.name.Name.{Name}
 use Rattle.core_world.specs.declared.name.Name.TheVariants as name
 use Rattle.core_world.specs.declared.answer.Turn.{Turn}
-use Rattle.core_world.specs.declared.answer.Turn.TheVariants.{Done, Pending}
-use Rattle.core_world.specs.declared.answer.Why.{Why}
+use Rattle.core_world.specs.declared.answer.Turn.TheVariants.{Done}
 use Rattle.core_world.specs.declared.answer.Why.TheVariants as why
 use Rattle.core_world.specs.declared.plan.StepPlan.{StepPlan}
 use Rattle.core_world.specs.declared.stage.Stage.TheVariants.{Calm}
@@ -28,18 +26,18 @@ use Rattle.plain_monitor.specs.declared.entry.Entry.TheVariants as entry
 use Rattle.core_world.specs.Trees.Calls.{steps_of}
 use Rattle.core_world.specs.Trees.Operations.{and_then}
 use Rattle.core_world.specs.Trees.WaitSteps.{publish_steps}
-use Rattle.core_world.specs.Trees.LookSteps.{look_at_holds, look_at_owner, look_behind, look_at_objects, keep_shot_plan, take_shot_steps}
+use Rattle.core_world.specs.Trees.LookSteps.{look_at_holds, look_at_owner, look_behind, look_at_objects, take_shot_steps}
 use Rattle.core_world.specs.Trees.Plans.{Purpose, load, done_with, pending_for}
-use Rattle.core_world.specs.Trees.SafepointSteps.{has_requester, reached_word, reached_steps, then_reached, request_plan, request_steps, request_swap_steps, release_plan, release_safepoint, safepoint_steps}
+use Rattle.core_world.specs.Trees.SafepointSteps.{has_requester, reached_word, reached_steps, then_reached, request_plan, request_swap_steps, release_plan, release_safepoint, safepoint_steps}
 use Rattle.core_world.specs.Trees.Todo.{Todo, done, never, step, ◌>>=◌, ask, after_answer, all_from, is_over}
 use Rattle.core_world.specs.Words.Acts.{hits, word_after}
 use Rattle.core_world.specs.Words.Forms.{asks_in, epoch_in, is_still, requester_form}
 use Rattle.core_world.specs.Words.Names.{same_name, with_word}
-use Rattle.core_world.specs.Words.Shape.{Shape, class_of}
+use Rattle.core_world.specs.Words.Shape.{Shape}
 use Rattle.core_world.specs.World.{World}
 use Rattle.core_world.proofs.CallRests.{gone_rest, begun_rest}
 use Rattle.core_world.proofs.Naming.{same_named}
-use Rattle.core_steps.specs.Logic.{Heap, heap_of, Stands, Was, Doing}
+use Rattle.core_steps.specs.Logic.{Heap, heap_of, Stands, Doing}
 use Rattle.core_steps.specs.Sound.{Finishes}
 use Rattle.core_steps.proofs.SafeWords.{asks_is, few_threads}
 use Rattle.heap_table.specs.Seen.{HeapSeen, PassSeen, IsOf}
@@ -90,7 +88,7 @@ module _ (e : Purpose) (s : Shape) where
   pub shot_loads : AreLoads (take_shot_steps e s)
   shot_loads = loads_then (look_at_objects e s) _ (all_loads 0 (length s.objects) (λ o. ask (load e (name.Mark o)) >>= (λ mark. look_behind (read_mark mark) e s o)) (λ o. (refl, λ mark. mark_loads (read_mark mark) o)))
       (λ _. loads_then (all_from 0 s.threads (λ t. ask (load e (name.Length t)) >>= (λ _. done tt))) _
-          (all_loads 0 s.threads (λ t. ask (load e (name.Length t)) >>= (λ _. done tt)) (λ t. (refl, λ n. tt))) (λ _. (refl, λ n. tt)))
+      (all_loads 0 s.threads (λ t. ask (load e (name.Length t)) >>= (λ _. done tt)) (λ t. (refl, λ n. tt))) (λ _. (refl, λ n. tt)))
 
 -- A load leaves the word of the safepoint and the request.
 word_stays : (at m : Name) (f : Name → ℕ) → with_word at (f at) f m ≡ f m
@@ -149,15 +147,17 @@ module _ (heap : Heap) (word : ℕ) (asks : Bool) (t : ℕ) where
       let v = at.stands in
       let w : World = v.world in
       let n = w.words plan.at in
-      let not_over = busy plan f k at.left in
-      (n, record {
-        stands = stands_behind plan f k at;
-        found = (λ i. with_word plan.at (word_after (is i) n) w.words name.Safepoint) ∙ word_stays plan.at name.Safepoint w.words ∙ at.found;
-        requesting = load_asks heap.shape heap.start plan n k is ∙ at.requesting;
-        thread = same_thread heap.shape heap.start plan n k ∙ at.thread;
-        left = gone_rest heap.shape heap.start k plan n not_over ∙ ap (λ z. after_answer z n) at.left;
-        does = record { by = at.does.by.1 n not_over (record { stands = v; found = refl }) };
-      })
+      let not_over = busy plan f k at.left in (
+        n,
+        record {
+          stands = stands_behind plan f k at;
+          found = (λ i. with_word plan.at (word_after (is i) n) w.words name.Safepoint) ∙ word_stays plan.at name.Safepoint w.words ∙ at.found;
+          requesting = load_asks heap.shape heap.start plan n k is ∙ at.requesting;
+          thread = same_thread heap.shape heap.start plan n k ∙ at.thread;
+          left = gone_rest heap.shape heap.start k plan n not_over ∙ ap (λ z. after_answer z n) at.left;
+          does = record { by = at.does.by.1 n not_over (record { stands = v; found = refl }) };
+        },
+      )
 
   loads_on : {A : Type 0} (d : Todo A) (g : A → Todo (Unit {0})) (k : Known) → AreLoads d → At heap word asks t (d >>= g) k → (a : A) × (l : Known) × At heap word asks t (g a) l
   loads_on (done a) g k loads at = (a, k, at)
@@ -283,10 +283,13 @@ left_behind {A = A} {B = B} h p q t (step plan f) g a first due run =
     let after : A → Todo (Unit {0}) = λ x. g x >>= due.after in
     elim due.is [
       | inl left ↦ (due.after, rest_along s start (step plan f) after p.known q.known a (left ∙ binds (step plan f) g due.after) run.ran.by)
-      | inr b ↦ (due.after, rest_along s start (f n) after (known_after s start plan n p.known) q.known a
-          (begun_rest s start p.known plan n b.over
-          ∙ ap (λ (x : Task). after_answer (steps_of s x (start_of start p.known)) n) first
-          ∙ ap (λ z. after_answer z n) (b.is ∙ binds (step plan f) g due.after)) run.ran.by.1)
+      | inr b ↦ (
+        due.after,
+        rest_along s start (f n) after (known_after s start plan n p.known) q.known a
+            (begun_rest s start p.known plan n b.over
+            ∙ ap (λ (x : Task). after_answer (steps_of s x (start_of start p.known)) n) first
+            ∙ ap (λ z. after_answer z n) (b.is ∙ binds (step plan f) g due.after)) run.ran.by.1,
+      )
     ]
 
 begins_safepoint : (e : Purpose) (t : ℕ) (requesting : Bool) → BeginsBy (safepoint_steps e t requesting) e.task
@@ -294,14 +297,14 @@ begins_safepoint e t true = refl
 begins_safepoint e t false = refl
 
 -- so it is with a dump
-pub dump_reached : (h : HeapSeen) (p q : PassSeen) (e : Purpose) (k : Local) (number : ℕ) (requesting : Bool) → IsDueOn h p e.task (numbered_dump h.heap.shape requesting e k number)
+pub dump_is_reached : (h : HeapSeen) (p q : PassSeen) (e : Purpose) (k : Local) (number : ℕ) (requesting : Bool) → IsDueOn h p e.task (numbered_dump h.heap.shape requesting e k number)
     → HasRun h (safepoint_steps e k.thread requesting) p q (Done tt) → q.known.thread ≡ k.thread → q.known.reached ≡ true
-dump_reached h p q e k number requesting due run thread =
+dump_is_reached h p q e k number requesting due run thread =
     let s = h.heap.shape in
     let next : Turn (Unit {0}) → Todo (Turn ℕ) = λ turn. and_then turn (λ _. reached_dump s e k number) in
     let told : Unit {0} → Todo (Turn ℕ) = λ _. publish_steps (entry.Dump number) e k >>= (λ _. done_with number) in
     let left = left_behind h p q e.task (safepoint_steps e k.thread requesting) next (Done tt) (begins_safepoint e k.thread requesting) due run in
     let rest = left.1 ∙ binds (take_shot_steps e s) (λ _. release_safepoint e k.thread >>= told) left.0
-        ∙ (λ i. take_shot_steps e s >>= (λ _. binds (release_safepoint e k.thread) told left.0 i)) in
+    ∙ (λ i. take_shot_steps e s >>= (λ _. binds (release_safepoint e k.thread) told left.0 i)) in
     done_reached s h.heap.start e q.known k.thread requesting p.known run.ran.by
     (still_asks h q k.thread (take_shot_steps e s) e (λ u. told u >>= left.0) run.heap thread (shot_loads e s) rest)

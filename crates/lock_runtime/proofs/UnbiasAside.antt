@@ -1,5 +1,5 @@
 -- The end of a bias leaves what its call takes of its thread's knowledge.
-use Rattle.std.proofs.Common.{◌≡◌, ℕ, ◌==◌, Bool, true, false, if◌then◌else◌, Option, Some, None, refl}
+use Rattle.std.proofs.Common.{ℕ, ◌==◌, Bool, true, false, Option, Some, None, refl}
 use Rattle.mark_word.specs.declared.mark.MarkForm.{MarkForm}
 use Rattle.mark_word.specs.declared.mark.MarkForm.TheVariants.{Inflating, Neutral, Anonymous, Biased, Locked, Inflated, Marked}
 use Rattle.mark_word.specs.Mark.{mark_of, read_mark}
@@ -14,7 +14,7 @@ use Rattle.core_world.specs.Words.Shape.{Shape, class_of}
 use Rattle.core_world.specs.Trees.BiasSteps.{bias_drop_at, bias_drop_by, bias_drop_steps, unbias_swap_steps}
 use Rattle.core_world.specs.Trees.Operations.{and_then, revocation_steps, revoked_steps, unbias_steps, unbias_tried}
 use Rattle.core_world.specs.Trees.Plans.{Purpose, done_with}
-use Rattle.core_world.specs.Trees.Todo.{Todo, ◌>>=◌}
+use Rattle.core_world.specs.Trees.Todo.{◌>>=◌}
 use Rattle.heap_table.proofs.Aside.{AreAside, either_aside, then_aside}
 use Rattle.heap_table.proofs.Resting.{IsCallOf}
 use Rattle.lock_runtime.proofs.Asides.{revocation_aside}

@@ -152,7 +152,8 @@ fn dump_asking(
 /// dump stays unfinished: `Stopping { word }` says that the thread's request for a safepoint stands, and that by `word`
 /// another thread runs still; `Requested { word }` that by `word`, which was loaded or found by the exchange, another
 /// thread has a request; `Raced { expected, found }` that the exchange of the request found another word with none.
-/// `TooManyDumps` comes exactly where the thread has 4 shots; then no step is made. The draft of the pass is lost.
+/// `TooManyDumps` comes exactly where the thread has 4 shots; then no step is made. No clause says what becomes of the
+/// pass's draft of a shot.
 pub fn dump(heap: &Heap, pass: &mut Pass) -> Result<Turn<u32>, TooManyDumps>
     requires { MayOperate heap.now pass.old Dump }
     ensures rests { Rests heap.now pass.new }

@@ -1,8 +1,8 @@
-use Rattle.std.proofs.Common.{◌≡◌, ℕ, ◌+◌, ◌%◌, ◌^◌, ◌<◌, refl, sym, ap, ◌∙◌, subst, arith}
+use Rattle.std.proofs.Common.{◌≡◌, ℕ, ◌+◌, sym, ap, ◌∙◌, subst, arith}
 use Rattle.lock_policy.specs.Draws.{nth_value}
 use Rattle.core_world.specs.declared.answer.Turn.{Turn}
 use Rattle.core_world.specs.Threads.Known.{local_of, draw_of}
-use Rattle.core_world.specs.Trees.HashSteps.{NextDraw, hash_header_steps}
+use Rattle.core_world.specs.Trees.HashSteps.{hash_header_steps}
 use Rattle.core_world.specs.Trees.Todo.{Todo}
 use Rattle.heap_table.specs.Parts.{IsDueOn, HasRun}
 use Rattle.lock_runtime.proofs.Hashed.{few_draws}

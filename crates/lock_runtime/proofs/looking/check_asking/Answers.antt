@@ -1,4 +1,4 @@
-use Rattle.std.proofs.Common.{◌≡◌, Bool, sym, subst}
+use Rattle.std.proofs.Common.{Bool, sym, subst}
 use Rattle.core_world.specs.declared.answer.Turn.{Turn}
 use Rattle.core_world.specs.declared.answer.Turn.TheVariants.{Done, Pending}
 use Rattle.core_world.specs.Trees.Operations.{and_then}
@@ -9,7 +9,7 @@ use Rattle.heap_table.specs.Parts.{IsDueOn, HasRun}
 use Rattle.heap_table.proofs.Parts.{in_turn, ends}
 use Rattle.lock_runtime.specs.LookParts.{reached_check}
 use Rattle.lock_runtime.proofs.Behind.{next_part}
-use Rattle.lock_runtime.proofs.Looked.{same_thread}
+use Rattle.lock_runtime.proofs.Looked.{run_thread}
 use Rattle.lock_runtime.proofs.Revoked.{first_safepoint}
 use Rattle.lock_runtime.proofs.looking.check_asking.Goals as goal
 
@@ -33,7 +33,7 @@ check_reached-requires-clause-due c =
     let d = safepoint_steps e t a.requesting in
     let next : Turn (Unit {0}) → Todo (Turn Bool) = λ turn. and_then turn (λ _. reached_check h.heap.shape t e) in
     let ran = subst (λ (x : Turn (Unit {0})). HasRun h d p q x) c.in-Done.is c.safepoint.ensures in
-    subst (λ u. IsDueOn h q e.task (reached_check h.heap.shape u e)) (sym (same_thread h d p q (Done tt) ran))
+    subst (λ u. IsDueOn h q e.task (reached_check h.heap.shape u e)) (sym (run_thread h d p q (Done tt) ran))
     (next_part h p q e.task d next (Done tt) c.requires.due (first_safepoint e t a.requesting) ran)
 
 pub returns-in-Done : goal.returns-in-Done
@@ -48,7 +48,7 @@ returns-in-Done c =
     let d = safepoint_steps e t a.requesting in
     let next : Turn (Unit {0}) → Todo (Turn Bool) = λ turn. and_then turn (λ _. reached_check h.heap.shape t e) in
     let ran = subst (λ (x : Turn (Unit {0})). HasRun h d p q x) c.in-Done.is c.safepoint.ensures in
-    let rest = subst (λ u. HasRun h (reached_check h.heap.shape u e) q r c.check_reached.result) (same_thread h d p q (Done tt) ran) c.check_reached.ensures in
+    let rest = subst (λ u. HasRun h (reached_check h.heap.shape u e) q r c.check_reached.result) (run_thread h d p q (Done tt) ran) c.check_reached.ensures in
     in_turn h p q r d next (Done tt) c.check_reached.result ran rest
 
 pub returns-in-Pending : goal.returns-in-Pending

@@ -1,4 +1,4 @@
-use Rattle.std.proofs.Common.{◌≡◌, Bool, sym, subst}
+use Rattle.std.proofs.Common.{Bool, sym, subst}
 use Rattle.core_world.specs.declared.answer.Turn.{Turn}
 use Rattle.core_world.specs.Trees.LookSteps.{stands_still_steps}
 use Rattle.core_world.specs.Trees.Operations.{check_ending}
@@ -7,7 +7,7 @@ use Rattle.core_world.proofs.CallRests.{part_due}
 use Rattle.heap_table.specs.Parts.{IsDueOn, HasRun}
 use Rattle.heap_table.proofs.Parts.{in_turn}
 use Rattle.lock_runtime.proofs.Behind.{next_part}
-use Rattle.lock_runtime.proofs.Looked.{same_thread, first_look}
+use Rattle.lock_runtime.proofs.Looked.{run_thread, first_look}
 use Rattle.lock_runtime.proofs.looking.check_reached.Goals as goal
 
 pub stands_still-still-requires-clause-due : goal.stands_still-still-requires-clause-due
@@ -32,7 +32,7 @@ end_check-requires-clause-due c =
     let next : Bool → Todo (Turn Bool) = λ still. check_ending still e t in
     let ran = c.stands_still-still.ensures in
     let due = next_part h p q e.task d next still c.requires.due (first_look e h.heap.shape) ran in
-    subst (λ u. IsDueOn h q e.task (check_ending still e u)) (sym (same_thread h d p q still ran)) due
+    subst (λ u. IsDueOn h q e.task (check_ending still e u)) (sym (run_thread h d p q still ran)) due
 
 pub returns : goal.returns
 returns c =
@@ -47,5 +47,5 @@ returns c =
     let d = stands_still_steps e h.heap.shape in
     let next : Bool → Todo (Turn Bool) = λ still. check_ending still e t in
     let ran = c.stands_still-still.ensures in
-    let rest = subst (λ u. HasRun h (check_ending still e u) q r c.end_check.result) (same_thread h d p q still ran) c.end_check.ensures in
+    let rest = subst (λ u. HasRun h (check_ending still e u) q r c.end_check.result) (run_thread h d p q still ran) c.end_check.ensures in
     in_turn h p q r d next still c.end_check.result ran rest

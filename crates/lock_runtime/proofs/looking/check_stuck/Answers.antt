@@ -1,4 +1,4 @@
-use Rattle.std.proofs.Common.{◌≡◌, Bool, refl, sym, subst}
+use Rattle.std.proofs.Common.{Bool, refl, sym, subst}
 use Rattle.core_world.specs.declared.task.Task.TheVariants.{Check}
 use Rattle.core_world.specs.Trees.Calls.{steps_of}
 use Rattle.core_world.specs.Trees.Plans.{Purpose}

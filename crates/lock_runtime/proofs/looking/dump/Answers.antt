@@ -15,9 +15,8 @@ use Rattle.heap_table.specs.Parts.{IsDueOn}
 use Rattle.heap_table.specs.Resting.{start_now}
 use Rattle.heap_table.proofs.Resting.{whole_due}
 use Rattle.lock_runtime.specs.LookParts.{HasDumped, numbered_dump}
-use Rattle.lock_runtime.proofs.Begins.{room_one}
 use Rattle.lock_runtime.proofs.Behind.{going_due, going_run, going_first}
-use Rattle.lock_runtime.proofs.Dumped.{bare, run_of, dumped_of, dumped_rests, first_dump, few_shots}
+use Rattle.lock_runtime.proofs.Dumped.{bare, run_of, dumped_of, dumped_rests, first_dump}
 use Rattle.lock_runtime.proofs.looking.dump.Goals as goal
 
 pub dump_asking-requires-clause-due : goal.dump_asking-requires-clause-due
@@ -53,8 +52,8 @@ returns-clause-run c =
     let why = c.unfinished-why.result in
     let d = numbered_dump s p.known.requesting e l (length p.known.shots + 1) in
     let run : HasDumped h d p q out = subst (λ (x : Purpose). HasDumped h (numbered_dump s p.known.requesting x l (length p.known.shots + 1)) p q out) c.unfinished-why.ensures
-        (subst (λ (b : Bool). HasDumped h (numbered_dump s b why l (length p.known.shots + 1)) p q out) c.requesting-requesting.ensures
-        (subst (λ (x : List DumpShot). HasDumped h (numbered_dump s c.requesting-requesting.result why l (length x + 1)) p q out) c.shots-taken.ensures c.dump_asking.ensures)) in
+    (subst (λ (b : Bool). HasDumped h (numbered_dump s b why l (length p.known.shots + 1)) p q out) c.requesting-requesting.ensures
+    (subst (λ (x : List DumpShot). HasDumped h (numbered_dump s c.requesting-requesting.result why l (length x + 1)) p q out) c.shots-taken.ensures c.dump_asking.ensures)) in
     dumped_of h (dump_steps s (start_now h p)) p q (Ok out) (going_run h (bare p) full (record {}) d no (bare q) out (run_of h d p q out run))
 
 pub returns-clause-rests : goal.returns-clause-rests

@@ -1,4 +1,4 @@
-use Rattle.std.proofs.Common.{◌≡◌, ℕ, Bool, sym, ap, subst}
+use Rattle.std.proofs.Common.{◌≡◌, ℕ, sym, ap, subst}
 use Rattle.core_world.specs.declared.answer.Turn.{Turn}
 use Rattle.core_world.specs.declared.answer.Turn.TheVariants.{Done, Pending}
 use Rattle.core_world.specs.Threads.Known.{Local, local_of}
@@ -13,7 +13,7 @@ use Rattle.lock_runtime.specs.LookParts.{HasDumped, reached_dump, numbered_dump}
 use Rattle.lock_runtime.proofs.Asides.{safepoint_aside}
 use Rattle.lock_runtime.proofs.Behind.{next_part}
 use Rattle.lock_runtime.proofs.Dumped.{bare, bare_run, dumped_of, run_of}
-use Rattle.lock_runtime.proofs.Reached.{dump_reached}
+use Rattle.lock_runtime.proofs.Reached.{dump_is_reached}
 use Rattle.lock_runtime.proofs.Revoked.{first_safepoint}
 use Rattle.lock_runtime.proofs.looking.dump_asking.Goals as goal
 
@@ -37,7 +37,7 @@ dump_reached-requires-clause-reached c =
     let d = safepoint_steps e l.thread a.requesting in
     let ran = subst (λ (x : Turn (Unit {0})). HasRun h d p q x) c.in-Done.is c.safepoint.ensures in
     let thread : q.known.thread ≡ l.thread = ap (λ (x : Local). x.thread) (aside h d p q (Done tt) (safepoint_aside e l.thread a.requesting) ran).local in
-    dump_reached h p q e l a.number a.requesting c.requires.due ran thread
+    dump_is_reached h p q e l a.number a.requesting c.requires.due ran thread
 
 pub dump_reached-requires-clause-due : goal.dump_reached-requires-clause-due
 dump_reached-requires-clause-due c =
