@@ -1,10 +1,9 @@
 -- A revocation leaves what its call takes of its thread's knowledge; an attempt on a bias leaves what the thread keeps.
-use Rattle.std.proofs.Common.{◌≡◌, ℕ, ◌+◌, ◌==◌, ◌&&◌, Bool, true, false, cond, if◌then◌else◌, not, Option, Some, None, List, [], ◌∷◌, ◌++◌, refl, ap, ◌∙◌}
+use Rattle.std.proofs.Common.{◌≡◌, ℕ, ◌+◌, ◌==◌, Bool, true, false, if◌then◌else◌, Option, Some, None, List, [], ◌∷◌, ◌++◌, refl}
 use Rattle.mark_word.specs.declared.mark.MarkForm.{MarkForm}
 use Rattle.mark_word.specs.declared.mark.MarkForm.TheVariants.{Inflating, Neutral, Anonymous, Biased, Locked, Inflated, Marked}
 use Rattle.mark_word.specs.Mark.{mark_of, read_mark}
 use Rattle.mark_word.specs.Hold.{read_hold}
-use Rattle.mark_word.specs.Safe.{read_safe}
 use Rattle.lock_policy.specs.declared.policy.Verdict.{Verdict}
 use Rattle.lock_policy.specs.declared.policy.Verdict.TheVariants.{Single, BulkRebias, BulkRevoke}
 use Rattle.lock_policy.specs.Policy.{decided}
@@ -13,10 +12,7 @@ use Rattle.core_world.specs.declared.answer.BiasTry.{BiasTry}
 use Rattle.core_world.specs.declared.answer.BiasTry.TheVariants.{Took, Unbiased, Valid, Raced}
 use Rattle.core_world.specs.declared.answer.Turn.{Turn}
 use Rattle.core_world.specs.declared.answer.Turn.TheVariants.{Done, Pending}
-use Rattle.core_world.specs.declared.answer.Why.TheVariants as why
-use Rattle.core_world.specs.declared.name.Name.{Name}
-use Rattle.core_world.specs.declared.name.Name.TheVariants.{Safepoint, Prototype, LastBulk, Mark, Hold, Displaced}
-use Rattle.core_world.specs.declared.plan.Own.TheVariants as own
+use Rattle.core_world.specs.declared.name.Name.TheVariants.{Mark, Hold, Displaced}
 use Rattle.core_world.specs.declared.stage.Stage.{Stage}
 use Rattle.core_world.specs.Locks.{is_valid_bias, hold_count}
 use Rattle.core_world.specs.RevocationRules.{Write, write, raised_form, with_epoch, store_where, object_held, biased_word, revoke_biased, record_writes, first_place}
@@ -25,13 +21,13 @@ use Rattle.core_world.specs.Threads.Stages.{Revocation}
 use Rattle.core_world.specs.Words.Forms.{epoch_in, is_biased, is_still, names, hold_word}
 use Rattle.core_world.specs.Words.Shape.{Shape, class_of}
 use Rattle.core_world.specs.Trees.Operations.{and_then, revocation_steps, revoked_steps, unbias_tried, unbias_steps}
-use Rattle.core_world.specs.Trees.Plans.{Purpose, done_with, pending_for, load}
+use Rattle.core_world.specs.Trees.Plans.{Purpose, done_with}
 use Rattle.core_world.specs.Trees.RevocationSteps.{look, store_steps, revoke_at, revoke_steps, visit_held, walk_steps, take_bias_steps, next_epoch, bulk_rebias_steps, bulk_revoke_steps, verdict_steps, decided_steps, revoke_at_safepoint_steps}
 use Rattle.core_world.specs.Trees.SafepointSteps.{has_requester, request_swap_steps, request_steps, reached_steps, then_reached, safepoint_steps, release_to, reached_word}
-use Rattle.core_world.specs.Trees.Todo.{Todo, done, never, ◌>>=◌, each_from, all_from}
+use Rattle.core_world.specs.Trees.Todo.{Todo, ◌>>=◌, each_from, all_from}
 use Rattle.core_world.specs.Trees.BiasSteps.{stage_after, unbias_swap_steps, bias_drop_at, bias_drop_by, bias_drop_steps}
 use Rattle.lock_runtime.specs.Parts.{reached_revocation}
-use Rattle.heap_table.proofs.Aside.{AreAside, IsAside, leaves_own_words, either_aside, then_aside, all_aside, each_aside}
+use Rattle.heap_table.proofs.Aside.{AreAside, leaves_own_words, either_aside, then_aside, all_aside, each_aside}
 
 -- THE SAFEPOINT
 reached : (e : Purpose) → AreAside (reached_steps e)
@@ -132,9 +128,9 @@ module _ (e : Purpose) (b : Revocation) where
     record { quiet = refl; words = refl; keeps = refl },
     λ n. then_aside (store_steps e b (raised_form epoch c)) _ (stores e b (raised_form epoch c) (raised epoch c))
         (λ _. then_aside (walk_steps s c e b (λ o mark. store_steps e b (store_where (Mark o) (with_epoch (read_mark mark) (next_epoch epoch))))) _
-            (walk s c (λ o mark. store_steps e b (store_where (Mark o) (with_epoch (read_mark mark) (next_epoch epoch))))
-                (λ o mark. stores e b (store_where (Mark o) (with_epoch (read_mark mark) (next_epoch epoch))) (where_mark o (with_epoch (read_mark mark) (next_epoch epoch)))))
-            (λ _. then_aside (revoke_steps e b b.object b.rebias) _ (one b.object b.rebias) (λ _. either_aside b.rebias _ _ (take (next_epoch epoch) t) tt))),
+        (walk s c (λ o mark. store_steps e b (store_where (Mark o) (with_epoch (read_mark mark) (next_epoch epoch))))
+        (λ o mark. stores e b (store_where (Mark o) (with_epoch (read_mark mark) (next_epoch epoch))) (where_mark o (with_epoch (read_mark mark) (next_epoch epoch)))))
+        (λ _. then_aside (revoke_steps e b b.object b.rebias) _ (one b.object b.rebias) (λ _. either_aside b.rebias _ _ (take (next_epoch epoch) t) tt))),
   )
 
   bulk_revoke : (s : Shape) (c : ℕ) → AreAside (bulk_revoke_steps s c e b)

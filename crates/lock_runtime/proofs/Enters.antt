@@ -43,10 +43,10 @@ module _ (h : HeapSeen) (p : PassSeen) (o now : ℕ) (call : MayCall h p (Enter 
     where
       cases : (b : Bool) → goes_on_with op.Enter o p.known.unfinished ≡ b → HasRun h (full_steps (start_now h p) o) p p (Err (record {}))
       cases true goes = absurd (
-        not_due h p (Enter o now) (full_steps (start_now h p) o) call.rests.is_of
-        (due_then h p (free_place p.known.holds == 64) (full_steps (start_now h p) o) going (Enter o now) due full)
-        (ap if_full goes)
-      )
+          not_due h p (Enter o now) (full_steps (start_now h p) o) call.rests.is_of
+          (due_then h p (free_place p.known.holds == 64) (full_steps (start_now h p) o) going (Enter o now) due full)
+          (ap if_full goes)
+          )
       cases false stays = run_else h p (goes_on_with op.Enter o p.known.unfinished) never (done (Err (record {}))) p (Err (record {})) stays (ends h p (Err (record {})) call.rests.is_of)
 
   module _ (room : (free_place p.known.holds == 64) ≡ false) where
@@ -62,7 +62,7 @@ module _ (h : HeapSeen) (p : PassSeen) (o now : ℕ) (call : MayCall h p (Enter 
     entered q turn run =
         run_else h p (free_place p.known.holds == 64) (full_steps (start_now h p) o) going q (Ok turn) room
         (in_turn h p q q (enter_going h.heap.shape (purpose (Enter o now) op.Enter o) (start_now h p) (record { object = o; rebias = true; now = now }))
-            (answer {A = Turn Path} {E = TooDeep}) turn (Ok turn) run (ends h q (Ok turn) run.heap))
+        (answer {A = Turn Path} {E = TooDeep}) turn (Ok turn) run (ends h q (Ok turn) run.heap))
 
 -- its first step is one of its call
 by_request : (s : Shape) (e : Purpose) (k : Start) (b : Revocation) (r : Bool) → IsCallOf e.task (if r then enter_revoked s true e k b else enter_first s e k b)

@@ -1,5 +1,6 @@
 -- For the tests: what a call asks, where its conditions are looked at as the test runs.
-use Rattle.std.proofs.Common.{◌≡◌, ℕ, ◌+◌, ◌==◌, ◌≤◌, ◌&&◌, ◌||◌, not, cond, is_none, nat_le, Bool, true, false, List, [], ◌∷◌, length, refl, sym, ◌∙◌, arith}
+use Rattle.std.proofs.Common.{◌≡◌, ℕ, ◌+◌, ◌==◌, ◌≤◌, ◌&&◌, ◌||◌, not, cond, is_none, nat_le, Bool, true, false, List, [], ◌∷◌, length, refl, sym, ap, ◌∙◌, arith}
+use Rattle.std.proofs.lemmas.Bool.{eqb-true}
 use Rattle.std.specs.List.{list_all}
 use Rattle.core_world.specs.Clauses.Lengths.{log_limit}
 use Rattle.core_world.specs.Clauses.Safepoints.{ends}
@@ -25,21 +26,21 @@ pub operates : (h : HeapSeen) (p : PassSeen) (going : Bool) → Rests h p
     → says_ended p.known.wait ≡ false → nat_le (length p.known.log + 2) log_limit ≡ true → may_operate p.known going ≡ true
 operates h p going rests stand said short = let open_still = not_ended h p rests said in λ i. stand i && not (open_still i) && short i
 
-pub also : (a b : Bool) → a ≡ true → b ≡ true → (a && b) ≡ true
-also a b e f = λ i. e i && f i
+pub checks : (h : HeapSeen) (p : PassSeen) (stand : Bool) → Rests h p → says_ended p.known.wait ≡ false → stand ≡ true → (not (ends p.known.log) && stand) ≡ true
+checks h p stand rests said is = let open_still = not_ended h p rests said in λ i. not (open_still i) && is i
 
 -- a thread without holds has none at any place
 no_holds : (i : ℕ) (hs : List ℕ) → count_where (λ p h. not (h == 0)) i hs ≡ 0 → list_all (λ h. h == 0) hs ≡ true
 no_holds i [] e = refl
-no_holds i (h ∷ hs) e = one (h == 0) refl e (no_holds (i + 1) hs)
+no_holds i (h ∷ hs) e =
+    let whole : one_if (not (h == 0)) + count_where (λ p h. not (h == 0)) (i + 1) hs ≡ 0 = e in
+    one (h == 0) refl (no_holds (i + 1) hs (omega (arith, whole)))
   where
-    one : (b : Bool) → (h == 0) ≡ b → one_if (not b) + count_where (λ p h. not (h == 0)) (i + 1) hs ≡ 0
-        → (count_where (λ p h. not (h == 0)) (i + 1) hs ≡ 0 → list_all (λ h. h == 0) hs ≡ true) → ((h == 0) && list_all (λ h. h == 0) hs) ≡ true
-    one true is none rest =
-        let left : count_where (λ p h. not (h == 0)) (i + 1) hs ≡ 0 = omega (arith, none) in
-        let all = rest left in
-        λ j. is j && all j
-    one false is none rest = absurd (omega (arith, none))
+    one : (b : Bool) → (h == 0) ≡ b → list_all (λ h. h == 0) hs ≡ true → list_all (λ h. h == 0) (h ∷ hs) ≡ true
+    one true is rest = λ j. is j && rest j
+    one false is rest =
+        let whole : one_if (not (h == 0)) + count_where (λ p h. not (h == 0)) (i + 1) hs ≡ 0 = e in
+        let held : one_if (not (h == 0)) ≡ 1 = ap (λ b. one_if (not b)) is in absurd (omega (arith, whole, held))
 
-pub none_held : (hs : List ℕ) → all_holds hs ≡ 0 → list_all (λ h. h == 0) hs ≡ true
-none_held hs e = no_holds 0 hs e
+pub none_held : (hs : List ℕ) (n : ℕ) → n ≡ all_holds hs → (n == 0) ≡ true → list_all (λ h. h == 0) hs ≡ true
+none_held hs n all zero_too = no_holds 0 hs (sym all ∙ eqb-true n 0 zero_too)

@@ -1,5 +1,5 @@
 -- A thread that lets go logs one entry. By which marks no notify comes to an end, and what whole waits and notifies begin with.
-use Rattle.std.proofs.Common.{◌≡◌, ℕ, ◌+◌, ◌==◌, Bool, true, false, cond, if◌then◌else◌, List, [], ◌∷◌, ◌++◌, Option, Some, None, Result, Ok, Err, length, length-append, refl, sym, ap, ◌∙◌, subst}
+use Rattle.std.proofs.Common.{◌≡◌, ℕ, ◌+◌, Bool, true, false, cond, if◌then◌else◌, List, [], ◌∷◌, Some, Err, length, length-append, refl, ap, ◌∙◌}
 use Rattle.mark_word.specs.declared.mark.MarkForm.{MarkForm}
 use Rattle.mark_word.specs.declared.mark.MarkForm.TheVariants.{Inflating, Neutral, Anonymous, Biased, Locked, Inflated, Marked}
 use Rattle.plain_monitor.specs.declared.entry.Entry.TheVariants as entry
@@ -15,7 +15,7 @@ use Rattle.core_world.specs.Trees.WaitSteps.{monitor_wait_steps, monitor_resume_
 use Rattle.core_world.specs.Words.Acts.{hits}
 use Rattle.core_world.specs.Words.Forms.{waits_on}
 use Rattle.core_world.specs.Words.Shape.{Shape}
-use Rattle.core_calls.specs.Paths.{Says, Leaves}
+use Rattle.core_calls.specs.Paths.{Says}
 use Rattle.core_calls.proofs.Runs.{tells, did, did_one}
 use Rattle.core_calls.proofs.WaitsSay.{LetGo, monitor_wait_says}
 use Rattle.heap_table.specs.Parts.{HasRun}

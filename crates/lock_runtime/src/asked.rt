@@ -1,7 +1,8 @@
 //! For the tests: whether a call may begin, asked as the test runs.
-ghost use Rattle.std.specs.Prelude.{◌≡◌, ◌==◌, ◌+◌, ◌≤◌, ◌&&◌, ◌||◌, not, is_none, nat_lt, nat_le, length, true};
+ghost use Rattle.std.specs.Prelude.{◌≡◌, ◌==◌, ◌+◌, ◌≤◌, ◌&&◌, ◌||◌, not, is_none, nat_lt, nat_le, length, if◌then◌else◌, true, false};
 ghost use Rattle.std.specs.List.{list_all};
 ghost use Rattle.core_world.specs.Clauses.Lengths.{log_limit};
+ghost use Rattle.core_world.specs.declared.task.Task.TheVariants.{Check};
 ghost use Rattle.core_world.specs.Trees.Calls.{is_object, is_value, may_operate, may_begin};
 ghost use Rattle.core_world.specs.Trees.Operations.{same_op, goes_on_with};
 ghost use Rattle.core_world.specs.Words.Forms.{says_ended};
@@ -109,19 +110,38 @@ fn may_take(heap: &Heap, pass: &Pass, op: Op, object: u32) -> bool
     is_object(heap, object) && may_operate(heap, pass, goes_on(pass, op, object))
 }
 
+fn holds_nothing(pass: &Pass) -> bool
+    ensures { result ≡ true → list_all (λ h. h == 0) pass.now.known.holds ≡ true }
+{
+    pass.holds() == 0
+}
+
 fn may_finish(heap: &Heap, pass: &Pass) -> bool
     requires { Rests heap.now pass.now }
     ensures { result ≡ true → (list_all (λ h. h == 0) pass.now.known.holds && may_operate pass.now.known false) ≡ true }
 {
-    pass.holds() == 0 && may_operate(heap, pass, false)
+    holds_nothing(pass) && may_operate(heap, pass, false)
 }
 
-fn may_check(pass: &Pass) -> bool {
+// Whether the thread runs, or asks for a safepoint for a check.
+fn asks_to_check(pass: &Pass) -> bool
+    ensures { result ≡ (if pass.now.known.requesting then pass.now.known.checking else pass.now.known.running) }
+{
     if pass.requesting() {
         pass.checking()
     } else {
         pass.running()
     }
+}
+
+fn may_check(heap: &Heap, pass: &Pass) -> bool
+    requires { Rests heap.now pass.now }
+    ensures { result ≡ true → may_begin heap.now.heap.shape heap.now.heap.biasing pass.now.known Check ≡ true }
+{
+    if said_ended(pass) {
+        return false;
+    }
+    asks_to_check(pass)
 }
 
 // Whether the call of this task may begin.
@@ -150,7 +170,7 @@ fn may_begin(heap: &Heap, pass: &Pass, task: Task) -> bool
         Task::Poll => pass.running(),
         Task::Stop => pass.running(),
         Task::Resume => !pass.running() && !pass.requesting(),
-        Task::Check => !said_ended(pass) && may_check(pass),
+        Task::Check => may_check(heap, pass),
         _ => false,
     }
 }

@@ -13,7 +13,12 @@ use revoke_walk::{Revocation, revoke_at_safepoint};
 use safepoint::{release_to, safepoint};
 
 // The thread has its safepoint: the object's bias is revoked, and the safepoint ends.
-fn revoke_reached(heap: &Heap, pass: &mut Pass, why: &Purpose, revocation: &Revocation) -> Turn<bool>
+fn revoke_reached(
+    heap: &Heap,
+    pass: &mut Pass,
+    why: &Purpose,
+    revocation: &Revocation,
+) -> Turn<bool>
     requires heap { IsOf heap.now pass.old }
     requires object { revocation.now.object < length heap.now.heap.shape.objects }
     requires due { IsDueOn heap.now pass.old why.now.task

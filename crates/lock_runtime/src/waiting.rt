@@ -19,11 +19,13 @@ use crate::revoking::unbias;
 use core_world::{IllegalMonitorState, Name, Op, Stage, Task, Turn, Why};
 use heap_table::{Heap, Pass, Purpose, mark_of_word, wait_of_word};
 use mark_word::{MarkForm, WaitForm};
-use object_monitor::{inflate, monitor_notify, monitor_notify_all, monitor_resume, monitor_wait, publish};
+use object_monitor::{
+    inflate, monitor_notify, monitor_notify_all, monitor_resume, monitor_wait, publish,
+};
 use plain_monitor::Entry;
 use revoke_walk::Revocation;
 
-// Whether this waiting word says that its thread waits on the object, notified or not.
+// Whether this waiting word says that its thread waits on the object.
 fn waits_on(word: u64, object: u32) -> bool
     ensures { result ≡ waits_on word object }
 {
@@ -88,7 +90,7 @@ fn wait_anew(heap: &Heap, pass: &mut Pass, why: &Purpose, object: u32, now: u64)
     }
 }
 
-// The thread has a hold on the object, which it has let go where its waiting word says so.
+// The thread has a hold on the object. Where the waiting word that it last stored says so, it has let go already.
 fn wait_held(heap: &Heap, pass: &mut Pass, why: &Purpose, object: u32, now: u64) -> Turn<()>
     requires heap { IsOf heap.now pass.old }
     requires object { object < length heap.now.heap.shape.objects }
@@ -105,24 +107,31 @@ fn wait_held(heap: &Heap, pass: &mut Pass, why: &Purpose, object: u32, now: u64)
     wait_anew(heap, pass, why, object, now)
 }
 
-/// Waits on the object: lets go of it, with all holds, until another thread notifies this one. `now` is the moment for the
-/// policy of bulk operations. The same call goes on with a wait that is unfinished.
+/// Waits on the object: lets its monitor go, with all recursions, until another thread notifies this one. `now` is the
+/// moment for the policy of bulk operations. The same call goes on with a wait that is unfinished.
 ///
-/// `Done(())` says that the thread was notified and has its holds again: the Resume is logged, behind the Wait where this
-/// call let go, and nothing is unfinished.
-/// Pending, the wait stays unfinished. Where the thread has not let go, nothing is logged: `Raced { expected, found }` says
-/// that an exchange of this call missed; `Inflating` that the loaded mark was 0; `Stopping { word }` that the thread's
-/// request for a safepoint stands, and that by `word` another thread runs still; `Requested { word }` that by `word` another
-/// thread has a request. Where it has let go, in this call, which logged the Wait, or in an earlier one:
-/// `NotNotified { word }` says that the thread's waiting word, which is `word`, tells of no notify; `Owned { word }` that the
-/// thread was notified, and that the owner word of the object's monitor, which is `word`, names another thread.
+/// `Done(())` says that the thread was notified, and owns the monitor again with the recursions that it had: the
+/// Resume is logged, behind the Wait where this call let go, and nothing is unfinished.
+/// Pending, the wait stays unfinished. Where the thread has not let go, nothing is logged: `Raced { expected, found }`
+/// says that an exchange of this call missed; `Inflating` that the loaded mark was 0; `Stopping { word }` that the
+/// thread's request for a safepoint stands, and that by `word` another thread runs still; `Requested { word }` that by
+/// `word` another thread has a request. Where it has let go, in this call, which logged the Wait, or in an earlier
+/// one: `NotNotified { word }` says that the thread's waiting word, which is `word`, tells of no notify;
+/// `Owned { word }` that the thread was notified, and that the owner word of the object's monitor, which is `word`,
+/// names another thread.
 /// `IllegalMonitorState` comes exactly where the thread has no hold on the object; then no step is made.
-pub fn wait(heap: &Heap, pass: &mut Pass, object: u32, now: u64) -> Result<Turn<()>, IllegalMonitorState>
+pub fn wait(
+    heap: &Heap,
+    pass: &mut Pass,
+    object: u32,
+    now: u64,
+) -> Result<Turn<()>, IllegalMonitorState>
     requires { MayOperate heap.now pass.old (Wait object now) }
     ensures rests { Rests heap.now pass.new }
     ensures run { HasRun heap.now (wait_steps heap.now.heap.shape (start_now heap.now pass.old) object now)
         pass.old pass.new result }
-    ensures says { Tells pass.old.known pass.new.known (λ ms. WaitSays (start_now heap.now pass.old) object ms result) }
+    ensures says { Tells pass.old.known pass.new.known
+        (λ ms. WaitSays (start_now heap.now pass.old) object ms result) }
 {
     if pass.held(object) == 0 {
         return Err(IllegalMonitorState);
@@ -132,7 +141,13 @@ pub fn wait(heap: &Heap, pass: &mut Pass, object: u32, now: u64) -> Result<Turn<
 }
 
 // The object's mark has this form, and no bias pattern.
-fn notify_by(heap: &Heap, pass: &mut Pass, why: &Purpose, object: u32, form: MarkForm) -> Turn<Option<u32>>
+fn notify_by(
+    heap: &Heap,
+    pass: &mut Pass,
+    why: &Purpose,
+    object: u32,
+    form: MarkForm,
+) -> Turn<Option<u32>>
     requires heap { IsOf heap.now pass.old }
     requires object { object < length heap.now.heap.shape.objects }
     requires due { IsDueOn heap.now pass.old why.now.task
@@ -172,7 +187,13 @@ fn notify_marked(heap: &Heap, pass: &mut Pass, why: &Purpose, object: u32) -> Tu
 }
 
 // The thread has a hold on the object.
-fn notify_held(heap: &Heap, pass: &mut Pass, why: &Purpose, object: u32, now: u64) -> Turn<Option<u32>>
+fn notify_held(
+    heap: &Heap,
+    pass: &mut Pass,
+    why: &Purpose,
+    object: u32,
+    now: u64,
+) -> Turn<Option<u32>>
     requires heap { IsOf heap.now pass.old }
     requires object { object < length heap.now.heap.shape.objects }
     requires due { IsDueOn heap.now pass.old why.now.task
@@ -193,15 +214,15 @@ fn notify_held(heap: &Heap, pass: &mut Pass, why: &Purpose, object: u32, now: u6
     }
 }
 
-/// Notifies the thread that has waited on the object longest: the one with the smallest stamp, and at equal stamps with
-/// the smallest number. `now` is the moment for the policy of bulk operations.
+/// Notifies the thread that has waited on the object longest: the one with the smallest stamp, and at equal stamps
+/// with the smallest number. `now` is the moment for the policy of bulk operations.
 ///
-/// `Done(Some(thread))` says which thread was notified, and `Done(None)` that none waited, as where a lock record has the
-/// lock: the Notify is logged with this answer, and nothing is unfinished.
-/// Pending, nobody is notified and nothing logged, and the notify stays unfinished: `Raced { expected, found }` says that
-/// an exchange of this call missed; `Inflating` that the loaded mark was 0; `Stopping { word }` that the thread's request
-/// for a safepoint stands, and that by `word` another thread runs still; `Requested { word }` that by `word` another thread
-/// has a request.
+/// `Done(Some(thread))` says which thread was notified, and `Done(None)` that none waited, as where a lock record has
+/// the lock: the Notify is logged with this answer, and nothing is unfinished.
+/// Pending, nobody is notified and nothing logged, and the notify stays unfinished: `Raced { expected, found }` says
+/// that an exchange of this call missed; `Inflating` that the loaded mark was 0; `Stopping { word }` that the thread's
+/// request for a safepoint stands, and that by `word` another thread runs still; `Requested { word }` that by `word`
+/// another thread has a request.
 /// `IllegalMonitorState` comes exactly where the thread has no hold on the object; then no step is made.
 pub fn notify(
     heap: &Heap,
@@ -226,7 +247,13 @@ pub fn notify(
 }
 
 // The object's mark has this form, and no bias pattern.
-fn notify_all_by(heap: &Heap, pass: &mut Pass, why: &Purpose, object: u32, form: MarkForm) -> Turn<u32>
+fn notify_all_by(
+    heap: &Heap,
+    pass: &mut Pass,
+    why: &Purpose,
+    object: u32,
+    form: MarkForm,
+) -> Turn<u32>
     requires heap { IsOf heap.now pass.old }
     requires object { object < length heap.now.heap.shape.objects }
     requires due { IsDueOn heap.now pass.old why.now.task
@@ -286,15 +313,15 @@ fn notify_all_held(heap: &Heap, pass: &mut Pass, why: &Purpose, object: u32, now
     }
 }
 
-/// Notifies each thread that waits on the object, the one that has waited longest first. `now` is the moment for the policy
-/// of bulk operations.
+/// Notifies each thread that waits on the object, the one that has waited longest first. `now` is the moment for the
+/// policy of bulk operations.
 ///
-/// `Done(woken)` says how many there were, which is 0 where a lock record has the lock: each is notified, the NotifyAll of
-/// so many is logged, and nothing is unfinished.
-/// Pending, nobody is notified and nothing logged, and the notify stays unfinished: `Raced { expected, found }` says that
-/// an exchange of this call missed; `Inflating` that the loaded mark was 0; `Stopping { word }` that the thread's request
-/// for a safepoint stands, and that by `word` another thread runs still; `Requested { word }` that by `word` another thread
-/// has a request.
+/// `Done(woken)` says how many there were, which is 0 where a lock record has the lock: each is notified, the
+/// NotifyAll of so many is logged, and nothing is unfinished.
+/// Pending, nobody is notified and nothing logged, and the notify stays unfinished: `Raced { expected, found }` says
+/// that an exchange of this call missed; `Inflating` that the loaded mark was 0; `Stopping { word }` that the thread's
+/// request for a safepoint stands, and that by `word` another thread runs still; `Requested { word }` that by `word`
+/// another thread has a request.
 /// `IllegalMonitorState` comes exactly where the thread has no hold on the object; then no step is made.
 pub fn notify_all(
     heap: &Heap,

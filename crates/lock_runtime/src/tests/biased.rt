@@ -123,11 +123,19 @@ fn five_rounds(heap: &Heap, p0: &mut Pass, p1: &mut Pass) -> bool
     requires { Rests heap.now p0.old × Rests heap.now p1.old }
     ensures { Rests heap.now p0.new × Rests heap.now p1.new }
 {
-    first_round(heap, p0, p1)
-        && round(heap, p0, p1, 1)
-        && round(heap, p0, p1, 2)
-        && round(heap, p0, p1, 3)
-        && round(heap, p0, p1, 4)
+    if !first_round(heap, p0, p1) {
+        return false;
+    }
+    if !round(heap, p0, p1, 1) {
+        return false;
+    }
+    if !round(heap, p0, p1, 2) {
+        return false;
+    }
+    if !round(heap, p0, p1, 3) {
+        return false;
+    }
+    round(heap, p0, p1, 4)
 }
 
 #[test]

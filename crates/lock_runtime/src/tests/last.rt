@@ -23,15 +23,15 @@ fn may_close(heap: &Heap, first: &Pass, second: &Pass) -> bool
 pub fn closed(alloc: Global, heap: Heap, first: Pass, second: Pass) -> Option<Closed>
     requires { Rests heap first × Rests heap second }
 {
-    if !may_close(&heap, &first, &second) {
-        return None;
+    if may_close(&heap, &first, &second) {
+        let Ok(mut passes) = Vec::with_capacity(alloc, 2) else {
+            return None;
+        };
+        passes.push_reserved(first);
+        passes.push_reserved(second);
+        return Some(close(heap, List::of(passes)));
     }
-    let Ok(mut passes) = Vec::with_capacity(alloc, 2) else {
-        return None;
-    };
-    passes.push_reserved(first);
-    passes.push_reserved(second);
-    Some(close(heap, List::of(passes)))
+    None
 }
 
 fn word(closed: &Closed, at: usize) -> Option<u64> {

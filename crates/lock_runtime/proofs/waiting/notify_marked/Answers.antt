@@ -1,8 +1,8 @@
-use Rattle.std.proofs.Common.{◌≡◌, ℕ, Option, Some, None, refl, sym, ap, ◌∙◌, subst}
+use Rattle.std.proofs.Common.{◌≡◌, Option, Some, refl, sym, ap, ◌∙◌, subst}
 use Rattle.mark_word.specs.declared.mark.MarkForm.{MarkForm}
 use Rattle.mark_word.specs.Mark.{read_mark}
 use Rattle.core_world.specs.declared.name.Name.TheVariants.{Mark}
-use Rattle.core_world.specs.Threads.Known.{Known, Local, local_of}
+use Rattle.core_world.specs.Threads.Known.{Local, local_of}
 use Rattle.core_world.specs.Trees.Operations.{notify_at}
 use Rattle.core_world.specs.Trees.Plans.{load}
 use Rattle.heap_table.specs.Parts.{IsDueOn}

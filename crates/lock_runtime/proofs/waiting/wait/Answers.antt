@@ -1,4 +1,4 @@
-use Rattle.std.proofs.Common.{◌≡◌, ◌==◌, true, false, Ok, Err, Option, refl, sym, ap, ◌∙◌, subst, eq-eqb, ne_eqb}
+use Rattle.std.proofs.Common.{◌≡◌, ◌==◌, false, Ok, refl, sym, ap, ◌∙◌, subst, ne_eqb}
 use Rattle.core_world.specs.declared.task.Op.TheVariants as op
 use Rattle.core_world.specs.declared.task.Task.TheVariants.{Wait}
 use Rattle.core_world.specs.Locks.{hold_count}

@@ -1,4 +1,4 @@
-use Rattle.std.proofs.Common.{◌≡◌, ℕ, Bool, true, false, refl, sym, ap, ◌∙◌, subst}
+use Rattle.std.proofs.Common.{◌≡◌, true, sym, ap, ◌∙◌, subst}
 use Rattle.core_world.specs.Trees.Operations.{wait_beginning}
 use Rattle.core_world.specs.Trees.WaitSteps.{monitor_resume_steps}
 use Rattle.core_world.specs.Words.Forms.{waits_on}
