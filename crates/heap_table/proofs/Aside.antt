@@ -13,7 +13,7 @@ use Rattle.core_world.specs.declared.plan.Own.TheVariants as own
 use Rattle.core_world.specs.declared.plan.StepPlan.{StepPlan}
 use Rattle.core_world.specs.Due.{Runs}
 use Rattle.core_world.specs.Steps.{known_after, known_hit, known_miss, holds_after, wait_after, kept_after, saved_after, shots_after, log_after, draws_after}
-use Rattle.core_world.specs.Threads.Known.{Known, DumpShot, Local, local_of}
+use Rattle.core_world.specs.Threads.Known.{Known, Local, local_of}
 use Rattle.core_world.specs.Trees.Todo.{Todo, done, never, step, ◌>>=◌, all_from, each_from}
 use Rattle.core_world.specs.Words.Acts.{hits}
 use Rattle.core_world.specs.Words.Shape.{Shape}

@@ -1,11 +1,9 @@
 -- Parts made one after another: what is due of them, and the run that a loop has made.
-use Rattle.std.proofs.Common.{◌≡◌, ℕ, zero, suc, ◌+◌, List, [], ◌∷◌, refl, sym, ap, ◌∙◌, subst}
-use Rattle.core_world.specs.declared.plan.StepPlan.{StepPlan}
-use Rattle.core_world.specs.declared.task.Task.{Task}
+use Rattle.std.proofs.Common.{◌≡◌, ℕ, suc, ◌+◌, List, ◌∷◌, refl, ◌∙◌, subst}
 use Rattle.core_world.specs.Trees.Todo.{Todo, done, never, step, ◌>>=◌, all_from, each_from}
-use Rattle.heap_table.specs.Parts.{IsDueOn, HasRun}
+use Rattle.heap_table.specs.Parts.{HasRun}
 use Rattle.heap_table.specs.Seen.{HeapSeen, PassSeen}
-use Rattle.heap_table.proofs.Parts.{in_turn, part_then}
+use Rattle.heap_table.proofs.Parts.{in_turn}
 
 -- the order of brackets doesn't matter, nor an end behind the end
 pub binds : {A B C : Type 0} (d : Todo A) (g : A → Todo B) (h : B → Todo C) → ((d >>= g) >>= h) ≡ (d >>= (λ a. g a >>= h))

@@ -1,8 +1,6 @@
 -- A call by a thread that rests is due from its beginning, and behind it the thread rests.
 use Rattle.std.proofs.Common.{◌≡◌, ℕ, ◌<◌, ◌&&◌, true, Result, Ok, Err, IfOk, refl, sym, ap, ◌∙◌, subst, inr}
-use Rattle.core_world.specs.declared.plan.StepPlan.{StepPlan}
 use Rattle.core_world.specs.declared.task.Task.{Task}
-use Rattle.core_world.specs.Due.{Begins}
 use Rattle.core_world.specs.Steps.{is_idle}
 use Rattle.core_world.specs.Threads.AtRest.{AtRest}
 use Rattle.core_world.specs.Threads.Known.{Known}

@@ -1,5 +1,5 @@
 -- A thread between two calls, and what its next call asks.
-use Rattle.std.specs.Prelude.{◌≡◌, ℕ, ◌+◌, ◌≤◌, true, length}
+use Rattle.std.specs.Prelude.{◌≡◌, ◌+◌, ◌≤◌, true, length}
 use Rattle.core_world.specs.declared.task.Task.{Task}
 use Rattle.core_world.specs.Steps.{is_idle}
 use Rattle.core_world.specs.Threads.Known.{Start, start_of}

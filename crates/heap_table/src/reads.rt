@@ -9,8 +9,10 @@ ghost use Rattle.mark_word.specs.Wait.{read_wait};
 ghost use Rattle.core_world.specs.Words.Forms.{epoch_in, hash_in, is_biased, is_halted};
 ghost use Rattle.core_world.specs.Trees.Operations.{value_found};
 
-use mark_word::{HoldForm, MarkForm, OwnerForm, SafeForm, WaitForm};
-use mark_word::{decode, decode_hold, decode_owner, decode_safe, decode_wait};
+use mark_word::{
+    HoldForm, MarkForm, OwnerForm, SafeForm, WaitForm, decode, decode_hold, decode_owner,
+    decode_safe, decode_wait,
+};
 use plain_monitor::{Value, word_value};
 
 /// What a mark says.

@@ -1,6 +1,5 @@
 -- Enters: by which marks none comes to an end, and that they take of their thread's knowledge its own words, its log and the monitor that it keeps.
-use Rattle.std.proofs.Common.{◌≡◌, ℕ, ◌==◌, Bool, true, false, if◌then◌else◌, Option, Some, None, refl, sym, ap, ◌∙◌}
-use Rattle.plain_monitor.specs.declared.entry.Path.{Path}
+use Rattle.std.proofs.Common.{◌≡◌, ℕ, ◌==◌, if◌then◌else◌, Option, Some, None, refl}
 use Rattle.mark_word.specs.declared.mark.MarkForm.{MarkForm}
 use Rattle.mark_word.specs.declared.mark.MarkForm.TheVariants.{Inflating, Neutral, Anonymous, Biased, Locked, Inflated, Marked}
 use Rattle.mark_word.specs.Mark.{read_mark}
@@ -12,7 +11,7 @@ use Rattle.core_world.specs.Trees.LockSteps.{stack_enter_steps}
 use Rattle.core_world.specs.Trees.MonitorSteps.{inflate_steps, monitor_enter_steps}
 use Rattle.core_world.specs.Trees.Operations.{and_then, enter_at, enter_monitor_steps, enter_unbiased}
 use Rattle.core_world.specs.Trees.Plans.{Purpose}
-use Rattle.core_world.specs.Trees.Todo.{Todo, never, ◌>>=◌}
+use Rattle.core_world.specs.Trees.Todo.{never, ◌>>=◌}
 
 pub never_entered : (f : MarkForm) (e : Purpose) (k : Start) (o mark : ℕ) → (f ≡ Inflating → ⊥) → ((hash age : ℕ) → f ≡ Neutral hash age → ⊥)
     → ((t p : ℕ) → f ≡ Locked t p → ⊥) → ((m : ℕ) → f ≡ Inflated m → ⊥) → enter_at (Some f) e k o mark ≡ never

@@ -1,5 +1,5 @@
 -- Whole enters: refused, and not.
-use Rattle.std.proofs.Common.{◌≡◌, ℕ, ◌==◌, Bool, true, false, if◌then◌else◌, Result, Ok, Err, refl, sym, ap, ◌∙◌, subst}
+use Rattle.std.proofs.Common.{◌≡◌, ℕ, ◌==◌, Bool, true, false, if◌then◌else◌, Result, Ok, Err, refl, ap}
 use Rattle.plain_monitor.specs.declared.entry.Path.{Path}
 use Rattle.core_world.specs.declared.answer.TooDeep.{TooDeep}
 use Rattle.core_world.specs.declared.answer.Turn.{Turn}
@@ -7,19 +7,18 @@ use Rattle.core_world.specs.declared.task.Op.TheVariants as op
 use Rattle.core_world.specs.declared.task.Task.TheVariants.{Enter}
 use Rattle.core_world.specs.Threads.Known.{Start}
 use Rattle.core_world.specs.Threads.Stages.{Revocation}
-use Rattle.core_world.specs.Trees.BiasSteps.{bias_enter_steps}
 use Rattle.core_world.specs.Trees.Calls.{steps_of}
-use Rattle.core_world.specs.Trees.Operations.{goes_on_with, full_steps, enter_steps, enter_going, enter_revoked, enter_tried, answer}
+use Rattle.core_world.specs.Trees.Operations.{goes_on_with, full_steps, enter_steps, enter_going, enter_revoked, answer}
 use Rattle.core_world.specs.Trees.Plans.{Purpose, purpose, free_place}
 use Rattle.core_world.specs.Trees.Todo.{Todo, done, never, ◌>>=◌}
-use Rattle.core_world.specs.Words.Shape.{Shape, class_of}
+use Rattle.core_world.specs.Words.Shape.{Shape}
 use Rattle.core_world.proofs.CallRests.{part_due}
 use Rattle.heap_table.specs.Parts.{IsDueOn, HasRun}
-use Rattle.heap_table.specs.Resting.{MayCall, Rests, start_now}
+use Rattle.heap_table.specs.Resting.{MayCall, start_now}
 use Rattle.heap_table.specs.Seen.{HeapSeen, PassSeen}
 use Rattle.heap_table.proofs.Arms.{due_then, due_else, run_then, run_else}
 use Rattle.heap_table.proofs.Parts.{in_turn, ends}
-use Rattle.heap_table.proofs.Resting.{IsCallOf, whole_due, behind}
+use Rattle.heap_table.proofs.Resting.{IsCallOf, whole_due}
 use Rattle.heap_table.proofs.Ruled.{not_due}
 use Rattle.lock_runtime.specs.Parts.{enter_first}
 use Rattle.lock_runtime.proofs.Behind.{first_then}

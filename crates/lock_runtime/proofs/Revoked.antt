@@ -1,17 +1,14 @@
 -- The trees of revocations and of attempts on a bias: their first steps, and what they take of their thread's knowledge.
-use Rattle.std.proofs.Common.{◌≡◌, ℕ, Bool, true, false, refl, sym, ap, ◌∙◌}
-use Rattle.plain_monitor.specs.declared.entry.Path.{Path}
-use Rattle.core_world.specs.declared.answer.BiasTry.{BiasTry}
-use Rattle.core_world.specs.declared.answer.BiasTry.TheVariants.{Took, Unbiased, Valid, Raced}
+use Rattle.std.proofs.Common.{◌≡◌, ℕ, Bool, true, false, refl}
 use Rattle.core_world.specs.declared.answer.Turn.{Turn}
 use Rattle.core_world.specs.Threads.Known.{Start}
 use Rattle.core_world.specs.Threads.Stages.{Revocation}
 use Rattle.core_world.specs.Words.Shape.{Shape}
 use Rattle.core_world.specs.Trees.BiasSteps.{bias_after_steps}
-use Rattle.core_world.specs.Trees.Operations.{and_then, revocation_steps, revoked_steps, enter_revoked, enter_unbiased}
-use Rattle.core_world.specs.Trees.Plans.{Purpose, done_with}
+use Rattle.core_world.specs.Trees.Operations.{and_then, revocation_steps, revoked_steps, enter_revoked}
+use Rattle.core_world.specs.Trees.Plans.{Purpose}
 use Rattle.core_world.specs.Trees.SafepointSteps.{safepoint_steps}
-use Rattle.core_world.specs.Trees.Todo.{Todo, ◌>>=◌}
+use Rattle.core_world.specs.Trees.Todo.{◌>>=◌}
 use Rattle.heap_table.proofs.Resting.{IsCallOf}
 use Rattle.lock_runtime.specs.Parts.{enter_again}
 use Rattle.lock_runtime.proofs.Entered.{unbiased_alike}

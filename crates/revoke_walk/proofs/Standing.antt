@@ -46,6 +46,7 @@ all_with live still = let a = or_false live in let b = and_true still in λ i. d
     or_false : (b : Bool) → (b || false) ≡ b
     or_false true = refl
     or_false false = refl
+
     and_true : (b : Bool) → (b && true) ≡ b
     and_true true = refl
     and_true false = refl

@@ -16,8 +16,8 @@ ghost use Rattle.revoke_walk.specs.ShotParts.{look_at_hold, look_at_bias, look_a
 ghost use Rattle.revoke_walk.specs.ShotParts.{look_at_length, look_at_lengths};
 ghost use Rattle.core_world.specs.declared.name.Name.TheVariants as name;
 
-use core_world::{Name, Own, Stage};
 use crate::words::one_if;
+use core_world::{Name, Own, Stage};
 use heap_table::{Cell, Heap, Pass, Purpose, class_epoch, mark_of_word, names, owner_of_word};
 use mark_word::{MarkForm, OwnerForm};
 
@@ -132,13 +132,7 @@ fn look_at_bias(
 }
 
 // The owner word of the object's monitor has this form.
-fn look_at_owner(
-    heap: &Heap,
-    pass: &mut Pass,
-    why: &Purpose,
-    object: u32,
-    form: OwnerForm,
-) -> Cell
+fn look_at_owner(heap: &Heap, pass: &mut Pass, why: &Purpose, object: u32, form: OwnerForm) -> Cell
     requires heap { IsOf heap.now pass.old }
     requires due { IsDueOn heap.now pass.old why.now.task (look_at_owner (Some form) why.now) }
     requires reached { pass.old.known.reached ≡ true }
@@ -174,13 +168,7 @@ fn look_at_monitor(heap: &Heap, pass: &mut Pass, why: &Purpose, object: u32, mon
 }
 
 // The object's mark has this form.
-fn look_behind(
-    heap: &Heap,
-    pass: &mut Pass,
-    why: &Purpose,
-    object: u32,
-    form: MarkForm,
-) -> Cell
+fn look_behind(heap: &Heap, pass: &mut Pass, why: &Purpose, object: u32, form: MarkForm) -> Cell
     requires heap { IsOf heap.now pass.old }
     requires object { object < length heap.now.heap.shape.objects }
     requires due { IsDueOn heap.now pass.old why.now.task (look_behind (Some form) why.now heap.now.heap.shape object) }

@@ -1,6 +1,5 @@
-use Rattle.std.proofs.Common.{◌≡◌, ◌==◌, true, false, Ok, Err, refl, sym, ap, ◌∙◌, subst, eq-eqb, ne_eqb}
+use Rattle.std.proofs.Common.{◌≡◌, ◌==◌, true, false, Ok, refl, sym, ap, ◌∙◌, subst, eq-eqb, ne_eqb}
 use Rattle.core_world.specs.declared.task.Task.TheVariants.{Enter}
-use Rattle.core_world.specs.Threads.Stages.{Revocation}
 use Rattle.core_world.specs.Trees.Calls.{steps_of}
 use Rattle.core_world.specs.Trees.Operations.{enter_going, enter_steps}
 use Rattle.core_world.specs.Trees.Plans.{Purpose, free_place}

@@ -1,4 +1,4 @@
-use Rattle.std.proofs.Common.{◌≡◌, ℕ, Bool, true, false, refl, sym, ap, ◌∙◌, subst}
+use Rattle.std.proofs.Common.{refl, sym, subst}
 use Rattle.core_world.specs.declared.answer.BiasTry.{BiasTry}
 use Rattle.core_world.specs.declared.answer.BiasTry.TheVariants.{Took, Unbiased, Valid, Raced}
 use Rattle.core_world.specs.declared.answer.Turn.{Turn}
@@ -6,25 +6,19 @@ use Rattle.core_world.specs.declared.answer.Turn.TheVariants.{Done, Pending}
 use Rattle.core_world.specs.declared.answer.Why.TheVariants as why
 use Rattle.plain_monitor.specs.declared.entry.Path.{Path}
 use Rattle.mark_word.specs.Mark.{read_mark}
-use Rattle.core_world.specs.Threads.Known.{Local, local_of}
-use Rattle.core_world.specs.Threads.Stages.{Revocation}
-use Rattle.core_world.specs.Trees.BiasSteps.{bias_enter_steps, bias_after_steps}
-use Rattle.core_world.specs.Trees.Operations.{and_then, enter_at, enter_tried, enter_unbiased, enter_revoked, revocation_steps}
+use Rattle.core_world.specs.Threads.Known.{local_of}
+use Rattle.core_world.specs.Trees.BiasSteps.{bias_after_steps}
+use Rattle.core_world.specs.Trees.Operations.{enter_unbiased}
 use Rattle.core_world.specs.Trees.Todo.{Todo}
-use Rattle.core_world.specs.Words.Shape.{Shape, class_of}
 use Rattle.core_world.proofs.CallRests.{part_due}
 use Rattle.heap_table.specs.Parts.{IsDueOn, HasRun}
 use Rattle.heap_table.specs.Resting.{start_now}
-use Rattle.heap_table.proofs.Aside.{aside, room_aside}
 use Rattle.heap_table.proofs.Parts.{in_turn, ends}
 use Rattle.heap_table.proofs.Ruled.{not_due}
 use Rattle.bias_lock.specs.Kept.{IsKeptUnlessTook}
-use Rattle.lock_runtime.specs.Parts.{enter_again}
-use Rattle.lock_runtime.proofs.Asides.{revocation_aside}
 use Rattle.lock_runtime.proofs.Behind.{next_part, room_kept}
-use Rattle.lock_runtime.proofs.Entered.{enters_alike, unbiased_alike}
-use Rattle.lock_runtime.proofs.KeptAmid.{keeps, enter_keeps, after_keeps}
-use Rattle.lock_runtime.proofs.Revoked.{first_revocation, revoked_alike, again_alike}
+use Rattle.lock_runtime.proofs.Entered.{enters_alike}
+use Rattle.lock_runtime.proofs.KeptAmid.{keeps, after_keeps}
 use Rattle.lock_runtime.proofs.entering.enter_again.Goals as goal
 
 pub bias_after-requires-clause-due : goal.bias_after-requires-clause-due

@@ -1,4 +1,4 @@
-use Rattle.std.proofs.Common.{◌≡◌, Some}
+use Rattle.std.proofs.Common.{Some}
 use Rattle.plain_monitor.specs.declared.entry.Path.{Path}
 use Rattle.core_world.specs.declared.answer.Turn.{Turn}
 use Rattle.core_world.specs.Trees.Operations.{enter_at}

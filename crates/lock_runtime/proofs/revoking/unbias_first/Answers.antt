@@ -1,15 +1,15 @@
-use Rattle.std.proofs.Common.{◌≡◌, ℕ, Bool, true, false, refl, sym, ap, ◌∙◌, subst}
+use Rattle.std.proofs.Common.{◌≡◌, false, refl, sym, ap, ◌∙◌, subst}
 use Rattle.core_world.specs.declared.answer.BiasTry.{BiasTry}
 use Rattle.core_world.specs.declared.answer.BiasTry.TheVariants.{Took, Unbiased, Valid, Raced}
 use Rattle.core_world.specs.declared.answer.Turn.{Turn}
 use Rattle.core_world.specs.declared.answer.Turn.TheVariants.{Done, Pending}
 use Rattle.core_world.specs.declared.answer.Why.TheVariants as why
-use Rattle.core_world.specs.Threads.Known.{Local, local_of}
+use Rattle.core_world.specs.Threads.Known.{Local}
 use Rattle.core_world.specs.Threads.Stages.{Revocation}
 use Rattle.core_world.specs.Trees.BiasSteps.{bias_drop_steps}
 use Rattle.core_world.specs.Trees.Operations.{unbias_tried, revoked_steps}
 use Rattle.core_world.specs.Trees.Todo.{Todo}
-use Rattle.core_world.specs.Words.Shape.{Shape, class_of}
+use Rattle.core_world.specs.Words.Shape.{class_of}
 use Rattle.core_world.proofs.CallRests.{part_due}
 use Rattle.heap_table.specs.Parts.{IsDueOn, HasRun}
 use Rattle.heap_table.specs.Resting.{start_now}

@@ -21,8 +21,12 @@ loop-thread-init c =
     record {
       heap = c.requires.heap;
       all = same;
-      left = (n, omega arith, subst (IsDueOn h a.pass.now e.task) tree c.requires.due,
-          subst (λ (d : Todo Bool). HasCome h (stands_still_steps e h.heap.shape) a.pass.now d a.pass.now) tree (nothing_yet h (stands_still_steps e h.heap.shape) a.pass.now));
+      left = (
+        n,
+        omega arith,
+        subst (IsDueOn h a.pass.now e.task) tree c.requires.due,
+        subst (λ (d : Todo Bool). HasCome h (stands_still_steps e h.heap.shape) a.pass.now d a.pass.now) tree (nothing_yet h (stands_still_steps e h.heap.shape) a.pass.now),
+      );
     }
 
 pub look_at_thread-requires-clause-due : goal.look_at_thread-requires-clause-due
