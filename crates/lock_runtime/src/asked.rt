@@ -1,5 +1,6 @@
 //! For the tests: whether a call may begin, asked as the test runs.
-ghost use Rattle.std.specs.Prelude.{◌≡◌, ◌==◌, ◌+◌, ◌≤◌, ◌&&◌, ◌||◌, not, is_none, nat_lt, nat_le, length, if◌then◌else◌, true, false};
+ghost use Rattle.std.specs.Prelude.{◌≡◌, ◌==◌, ◌+◌, ◌≤◌, ◌&&◌, ◌||◌, not, nat_lt, nat_le, if◌then◌else◌, true, false};
+ghost use Rattle.std.specs.Prelude.{is_none, length};
 ghost use Rattle.std.specs.List.{list_all};
 ghost use Rattle.core_world.specs.Clauses.Lengths.{log_limit};
 ghost use Rattle.core_world.specs.declared.task.Task.TheVariants.{Check};

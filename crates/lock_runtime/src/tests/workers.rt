@@ -9,7 +9,7 @@ use std::test::Fail;
 use std::thread::{Threads, join};
 
 // How often each thread enters, and how many calls it may make for that.
-const ENTERS: u32 = 300;
+const ENTERS: u32 = 900;
 
 const TRIES: u32 = 50000000;
 
@@ -133,8 +133,8 @@ fn two_workers_exclude_each_other(rt: HostRuntime) -> Result<(), Fail> {
         let (heap, first, second) = begin(rt.alloc(), biasing)?;
         let (first, second) = work_both(&rt, &heap, first, second);
         assert!(rt; !first.running() && !second.running());
-        assert_eq!(rt; first.log().len(), 600);
-        assert_eq!(rt; second.log().len(), 600);
+        assert_eq!(rt; first.log().len(), 1800);
+        assert_eq!(rt; second.log().len(), 1800);
         assert!(rt; exclude(first.log(), second.log()));
     }
     Ok(())
