@@ -1,10 +1,10 @@
 -- What a thread knows behind its step.
-use Rattle.std.proofs.Common.{◌≡◌, ℕ, ◌<◌, eq-eqb, ne_eqb, ◌≢◌, Bool, true, false, cond, refl, sym, ap, ◌∙◌, subst}
+use Rattle.std.proofs.Common.{◌≡◌, ℕ, ◌<◌, eq-eqb, ne_eqb, ◌≢◌, Bool, true, false, List, ◌∷◌, cond, refl, sym, ap, ◌∙◌, subst}
 use Rattle.core_world.specs.declared.plan.StepPlan.{StepPlan}
 use Rattle.core_world.specs.Due.{IsNext}
 use Rattle.core_world.specs.There.{IsThere}
 use Rattle.core_world.specs.Words.Acts.{hits}
-use Rattle.core_world.specs.Threads.Known.{Known}
+use Rattle.core_world.specs.Threads.Known.{Known, StepMade}
 use Rattle.core_world.specs.Words.Shape.{Shape}
 use Rattle.core_world.specs.Steps.{known_after, known_hit, known_miss, world_after}
 use Rattle.core_world.specs.Steps.{rest_of_call}
@@ -12,7 +12,7 @@ use Rattle.core_world.specs.World.{World, with_known}
 use Rattle.core_steps.specs.Logic.{Heap, Was}
 use Rattle.core_steps.specs.Reached.{comes}
 use Rattle.core_steps.proofs.ReachedWorlds.{sound_comes, known_step_there}
-use Rattle.heap_table.specs.Ruled.{IsReal, Stepped}
+use Rattle.heap_table.specs.Ruled.{known_behind, WereMade, IsReal, Stepped}
 
 pub same_thread : (s : Shape) (start : ℕ) (p : StepPlan) (n : ℕ) (k : Known) → (known_after s start p n k).thread ≡ k.thread
 same_thread s start p n k = cases (hits p.act n)
@@ -37,18 +37,31 @@ goes_on heap k p n l was within is =
     let a = sound_comes (world_after p k.thread w) k.thread was.sound_after (subst (λ (h : Heap). k.thread < h.shape.threads) (sym was.is_of) within) in
     (λ i. comes (rest_of_call (sym was.is_of i).shape ((is ∙ sym now) i))) ∙ a
 
+-- the step is the newest one of its thread
+one_more : (s : Shape) (start : ℕ) (p : StepPlan) (n : ℕ) (k : Known) → (known_after s start p n k).steps ≡ record { plan = p; found = n } ∷ k.steps
+one_more s start p n k = cases (hits p.act n)
+  where
+    cases : (b : Bool) → (cond b (known_hit s start p n k) (known_miss s start p n k)).steps ≡ record { plan = p; found = n } ∷ k.steps
+    cases true = refl
+    cases false = refl
+
 -- and its thread knows what the step makes of its knowledge
-pub real_after : (heap : Heap) (k : Known) (p : StepPlan) (n : ℕ) (l : Known) → Stepped heap k p n → l ≡ known_after heap.shape heap.start p n k → IsReal heap l
-real_after heap k p n l was is =
+pub real_after : (heap : Heap) (k : Known) (p : StepPlan) (n : ℕ) (l : Known) → IsReal heap k → Stepped heap k p n → l ≡ known_after heap.shape heap.start p n k → IsReal heap l
+real_after heap k p n l real was is =
     let w : World = was.world in
     let now : (world_after p k.thread w).known k.thread ≡ known_after heap.shape heap.start p n k =
     told_here k.thread (known_after w.shape w.start p (w.words p.at) (w.known k.thread)) w.known
     ∙ λ i. known_after (was.is_of i).shape (was.is_of i).start p (was.was_there i) (was.knew i) in
+    let t : (known_after heap.shape heap.start p n k).thread ≡ k.thread = same_thread heap.shape heap.start p n k in
+    let steps : (known_after heap.shape heap.start p n k).steps ≡ record { plan = p; found = n } ∷ k.steps = one_more heap.shape heap.start p n k in
+    let before : known_behind heap k.thread (record { plan = p; found = n } ∷ k.steps) ≡ known_after heap.shape heap.start p n k = ap (known_after heap.shape heap.start p n) (sym real.is) in
     subst (IsReal heap) (sym is) (record {
       world = world_after p k.thread w;
       is_of = was.is_of;
       sound = was.sound_after;
-      knew = subst (λ t. (world_after p k.thread w).known t ≡ known_after heap.shape heap.start p n k) (sym (same_thread heap.shape heap.start p n k)) now;
+      knew = subst (λ t. (world_after p k.thread w).known t ≡ known_after heap.shape heap.start p n k) (sym t) now;
+      is = sym before ∙ λ i. known_behind heap (sym t i) (sym steps i);
+      made = subst (λ (x : ℕ × List StepMade). WereMade heap x.0 x.1) (λ i. (sym t i, sym steps i)) (subst (λ (b : Known). Stepped heap b p n) real.is was, real.made);
     })
 
 -- the heap has the word of the next step, and its thread a place for the shot that it takes

@@ -13,7 +13,7 @@ use Rattle.core_world.specs.declared.plan.StepPlan.{StepPlan}
 use Rattle.core_world.specs.declared.stage.Stage.TheVariants.{Calm}
 use Rattle.core_world.specs.declared.task.Task.TheVariants.{Poll}
 use Rattle.core_world.specs.Due.{IsNext}
-use Rattle.core_world.specs.Threads.Known.{Known}
+use Rattle.core_world.specs.Threads.Known.{Known, StepMade}
 use Rattle.core_world.specs.Opening.{first_known}
 use Rattle.core_world.specs.Steps.{known_after, world_after}
 use Rattle.core_world.specs.World.{World}
@@ -33,13 +33,6 @@ pub record MayStep (heap : Heap) (k : Known) (p : StepPlan) : Type 0 where
   pub next : IsNext heap.shape heap.start heap.biasing k p
   pub at : IsIn heap.shape p.at
 
--- There was a sound world of this heap in which the thread knew k.
-pub record IsReal (heap : Heap) (k : Known) : Type 0 where
-  pub world : World
-  pub is_of : heap_of world ≡ heap
-  pub sound : Sound world
-  pub knew : world.known k.thread ≡ k
-
 -- There was a sound world of this heap in which the thread knew k and the found word stood there, and the step made a
 -- sound world of it.
 pub record Stepped (heap : Heap) (k : Known) (p : StepPlan) (found : ℕ) : Type 0 where
@@ -49,6 +42,25 @@ pub record Stepped (heap : Heap) (k : Known) (p : StepPlan) (found : ℕ) : Type
   pub knew : world.known k.thread ≡ k
   pub was_there : world.words p.at ≡ found
   pub sound_after : Sound (world_after p k.thread world)
+
+-- what thread t knows of a heap behind these steps of its own, the newest first
+abbrev pub known_behind : Heap → ℕ → List StepMade → Known
+known_behind heap t [] = first_known t
+known_behind heap t (m ∷ ms) = known_after heap.shape heap.start m.plan m.found (known_behind heap t ms)
+
+-- each of these steps was made in a sound world, in which its thread knew what the steps before it had told, and found the word that stood there
+abbrev pub WereMade : Heap → ℕ → List StepMade → Type 0
+WereMade heap t [] = Unit {0}
+WereMade heap t (m ∷ ms) = Stepped heap (known_behind heap t ms) m.plan m.found × WereMade heap t ms
+
+-- There was a sound world of this heap in which the thread knew k; and it came to know it by its own steps, each in such a world.
+pub record IsReal (heap : Heap) (k : Known) : Type 0 where
+  pub world : World
+  pub is_of : heap_of world ≡ heap
+  pub sound : Sound world
+  pub knew : world.known k.thread ≡ k
+  pub is : k ≡ known_behind heap k.thread k.steps
+  pub made : WereMade heap k.thread k.steps
 
 abbrev pub no_heap : Heap
 no_heap = record { shape = record { threads = 0; classes = 0; objects = [] }; start = 0; biasing = false }

@@ -51,7 +51,7 @@ returns c =
         first = fixed.2 ∙ ap (λ (p : PassSeen). p.first) view ∙ c.requires.heap.first ∙ ap (λ (n : ℕ). (h.start + n) % 2 ^ 32) (sym t);
         threads = fixed.3 ∙ ap (λ (p : PassSeen). p.threads) view ∙ c.requires.heap.threads;
         objects = fixed.4 ∙ ap (λ (p : PassSeen). p.objects) view ∙ c.requires.heap.objects;
-        real = real_after h k c.args.plan c.step-found.result _ stepped known;
+        real = real_after h k c.args.plan c.step-found.result _ c.requires.heap.real stepped known;
       };
       limit = fixed.0 ∙ ap (λ (p : PassSeen). p.limit) view;
       draft = subst (λ (p : PassSeen). IsLeft c.args.plan.own p.cut p.cells c.follow.new.self.shots.draft.cut.items (cells_shown c.follow.new.self.shots.draft.cells.items)) view c.follow.ensures.draft;
