@@ -9,6 +9,8 @@ ghost use Rattle.heap_table.specs.Parts.{IsDueOn, HasRun};
 ghost use Rattle.heap_table.specs.Resting.{MayOperate, Rests, start_now};
 ghost use Rattle.heap_table.specs.Seen.{IsOf};
 ghost use Rattle.lock_runtime.specs.Parts.{enter_again, enter_first};
+ghost use Rattle.lock_runtime.specs.Standing.{StandsOrSame};
+ghost use Rattle.lock_runtime.specs.Others.{PendsOrRefused};
 
 use crate::purposes::unfinished;
 use crate::revoking::revocation;
@@ -177,6 +179,8 @@ pub fn enter(heap: &Heap, pass: &mut Pass, object: u32, now: u64) -> Result<Turn
     ensures run { HasRun heap.now (enter_steps heap.now.heap.shape (start_now heap.now pass.old) object now)
         pass.old pass.new result }
     ensures says { Tells pass.old.known pass.new.known (λ ms. EnterSays (start_now heap.now pass.old) object ms result) }
+    ensures stands { StandsOrSame pass.old.known pass.new.known result }
+    ensures others { PendsOrRefused pass.old.known.thread result }
 {
     if free_place(pass) == 64 {
         return Err(TooDeep);

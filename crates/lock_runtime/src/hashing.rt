@@ -8,6 +8,8 @@ ghost use Rattle.heap_table.specs.Parts.{IsDueOn, HasRun};
 ghost use Rattle.heap_table.specs.Resting.{MayOperate, Rests, start_now};
 ghost use Rattle.heap_table.specs.Seen.{IsOf};
 ghost use Rattle.lock_runtime.specs.HashParts.{hash_unbiased, hash_going};
+ghost use Rattle.lock_runtime.specs.Standing.{StandsBehind};
+ghost use Rattle.lock_runtime.specs.Others.{PendsForAnother};
 
 use crate::purposes::unfinished;
 use crate::revoking::unbias;
@@ -65,6 +67,8 @@ pub fn hash(heap: &Heap, pass: &mut Pass, object: u32, now: u64) -> Turn<u32>
     ensures run { HasRun heap.now (hash_steps heap.now.heap.shape (start_now heap.now pass.old) object now)
         pass.old pass.new result }
     ensures says { Tells pass.old.known pass.new.known (λ ms. HashSays (start_now heap.now pass.old) object ms result) }
+    ensures stands { StandsBehind pass.new.known result }
+    ensures others { PendsForAnother pass.old.known.thread result }
 {
     let why = unfinished(Task::Hash { object, now }, Op::Hash, object);
     hash_going(heap, pass, &why, object, now)

@@ -10,6 +10,8 @@ ghost use Rattle.heap_table.specs.Parts.{IsDueOn, HasRun};
 ghost use Rattle.heap_table.specs.Resting.{MayOperate, Rests, start_now};
 ghost use Rattle.heap_table.specs.Seen.{IsOf};
 ghost use Rattle.lock_runtime.specs.Parts.{exit_unbiased};
+ghost use Rattle.lock_runtime.specs.Standing.{StandsOrSame};
+ghost use Rattle.lock_runtime.specs.Refusals.{IsRefusedUnheld};
 
 use crate::purposes::unfinished;
 use bias_lock::bias_exit;
@@ -63,6 +65,8 @@ pub fn exit(heap: &Heap, pass: &mut Pass, object: u32) -> Result<Turn<()>, Illeg
     ensures rests { Rests heap.now pass.new }
     ensures run { HasRun heap.now (exit_steps (start_now heap.now pass.old) object) pass.old pass.new result }
     ensures says { Tells pass.old.known pass.new.known (λ ms. ExitSays (start_now heap.now pass.old) object ms result) }
+    ensures stands { StandsOrSame pass.old.known pass.new.known result }
+    ensures owner { IsRefusedUnheld pass.old.known.log object result }
 {
     if pass.held(object) == 0 {
         return Err(IllegalMonitorState);

@@ -12,6 +12,9 @@ ghost use Rattle.heap_table.specs.Resting.{MayCall, MayOperate, Rests, start_now
 ghost use Rattle.heap_table.specs.Seen.{IsOf};
 ghost use Rattle.lock_runtime.specs.LookParts.{checking, reached_check, check_going};
 ghost use Rattle.lock_runtime.specs.LookParts.{HasDumped, told_dump, reached_dump, numbered_dump};
+ghost use Rattle.lock_runtime.specs.Standing.{StandsOrSame, StandsBehindCheck};
+ghost use Rattle.lock_runtime.specs.Others.{PendsForAnother, PendsOrRefused};
+ghost use Rattle.lock_runtime.specs.Shots.{HasShots};
 
 use crate::purposes::unfinished;
 use core_world::{Op, Task, TooManyDumps, Turn};
@@ -90,6 +93,8 @@ pub fn check_stuck(heap: &Heap, pass: &mut Pass) -> Turn<bool>
         pass.old pass.new result }
     ensures says { Tells pass.old.known pass.new.known (λ ms. CheckSays (start_now heap.now pass.old) ms result) }
     ensures finds { Tells pass.old.known pass.new.known (λ ms. CheckFinds heap.now.heap.shape ms result) }
+    ensures stands { StandsBehindCheck pass.new.known result }
+    ensures others { PendsForAnother pass.old.known.thread result }
 {
     let why = checking(pass);
     let requesting = pass.requesting();
@@ -160,8 +165,9 @@ pub fn dump(heap: &Heap, pass: &mut Pass) -> Result<Turn<u32>, TooManyDumps>
     ensures run { HasDumped heap.now (dump_steps heap.now.heap.shape (start_now heap.now pass.old))
         pass.old pass.new result }
     ensures says { Tells pass.old.known pass.new.known (λ ms. DumpSays (start_now heap.now pass.old) ms result) }
-    ensures shots { (number : ℕ) → result ≡ Ok (turn.Done number)
-        → length pass.new.known.shots ≡ length pass.old.known.shots + 1 }
+    ensures shots { HasShots pass.old.known.shots pass.new.known.shots result }
+    ensures stands { StandsOrSame pass.old.known pass.new.known result }
+    ensures others { PendsOrRefused pass.old.known.thread result }
 {
     let taken = pass.shots().len();
     if taken == 4 {

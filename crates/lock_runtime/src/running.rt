@@ -7,6 +7,8 @@ ghost use Rattle.core_calls.specs.Paths.{Tells};
 ghost use Rattle.core_calls.specs.CallsSay.{PollSays, StopSays, ResumeSays};
 ghost use Rattle.heap_table.specs.Parts.{HasRun};
 ghost use Rattle.heap_table.specs.Resting.{MayCall, Rests, start_now};
+ghost use Rattle.lock_runtime.specs.Standing.{IsRunning, HasStopped, StandsBehindResume};
+ghost use Rattle.lock_runtime.specs.Others.{PendsForAnother};
 
 use crate::purposes::aside;
 use core_world::{Task, Turn};
@@ -22,6 +24,8 @@ pub fn poll(heap: &Heap, pass: &mut Pass) -> Turn<()>
     ensures run { HasRun heap.now (poll_steps (side_purpose Poll (start_now heap.now pass.old)))
         pass.old pass.new result }
     ensures says { Tells pass.old.known pass.new.known (λ ms. PollSays (start_now heap.now pass.old) ms result) }
+    ensures stands { IsRunning pass.new.known }
+    ensures others { PendsForAnother pass.old.known.thread result }
 {
     let why = aside(pass, Task::Poll);
     safepoint::poll(heap, pass, &why)
@@ -36,6 +40,7 @@ pub fn stop(heap: &Heap, pass: &mut Pass)
     ensures run { HasRun heap.now (stop_steps (side_purpose Stop (start_now heap.now pass.old))
         (start_now heap.now pass.old).local) pass.old pass.new result }
     ensures says { Tells pass.old.known pass.new.known (λ ms. StopSays (start_now heap.now pass.old) ms result) }
+    ensures stands { HasStopped pass.new.known }
 {
     let why = aside(pass, Task::Stop);
     safepoint::stop(heap, pass, &why)
@@ -52,6 +57,8 @@ pub fn resume(heap: &Heap, pass: &mut Pass) -> Turn<()>
     ensures run { HasRun heap.now (resume_steps (side_purpose Resume (start_now heap.now pass.old))
         (start_now heap.now pass.old).local) pass.old pass.new result }
     ensures says { Tells pass.old.known pass.new.known (λ ms. ResumeSays (start_now heap.now pass.old) ms result) }
+    ensures stands { StandsBehindResume pass.new.known result }
+    ensures others { PendsForAnother pass.old.known.thread result }
 {
     let why = aside(pass, Task::Resume);
     safepoint::resume(heap, pass, &why)

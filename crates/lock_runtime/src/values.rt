@@ -1,11 +1,15 @@
 //! Calls that make one entry at once: slots, prints and the end of a thread.
-ghost use Rattle.std.specs.Prelude.{◌≡◌};
+ghost use Rattle.std.specs.Prelude.{◌≡◌, true, Ok};
 ghost use Rattle.core_world.specs.declared.task.Task.TheVariants.{Get, Put, Print, Finish};
 ghost use Rattle.core_world.specs.Trees.Operations.{get_steps, put_steps, print_steps, finish_steps, ending_entry};
 ghost use Rattle.core_calls.specs.Paths.{Tells};
 ghost use Rattle.core_calls.specs.CallsSay.{GetSays, PutSays, PrintSays, FinishSays};
 ghost use Rattle.heap_table.specs.Parts.{HasRun};
 ghost use Rattle.heap_table.specs.Resting.{MayOperate, Rests, start_now};
+ghost use Rattle.lock_runtime.specs.Standing.{IsRunning, RunsOrSame};
+ghost use Rattle.lock_runtime.specs.Refusals.{IsRefusedUnheld};
+ghost use Rattle.plain_monitor.specs.declared.entry.Value.{Value};
+ghost use Rattle.core_world.specs.Trees.Calls.{is_value};
 
 use crate::purposes::alone;
 use core_world::{Name, Stage, Task, Unguarded};
@@ -23,6 +27,9 @@ pub fn get(heap: &Heap, pass: &mut Pass, object: u32, slot: u32) -> Result<Value
     ensures run { HasRun heap.now (get_steps (start_now heap.now pass.old) object slot) pass.old pass.new result }
     ensures says { Tells pass.old.known pass.new.known
         (λ ms. GetSays (start_now heap.now pass.old) object slot ms result) }
+    ensures stands { RunsOrSame pass.old.known pass.new.known result }
+    ensures owner { IsRefusedUnheld pass.old.known.log object result }
+    ensures value { (v : Value) → result ≡ Ok v → is_value heap.now.heap.shape v ≡ true }
 {
     if pass.held(object) == 0 {
         return Err(Unguarded);
@@ -48,6 +55,8 @@ pub fn put(
         pass.old pass.new result }
     ensures says { Tells pass.old.known pass.new.known
         (λ ms. PutSays (start_now heap.now pass.old) object slot value ms result) }
+    ensures stands { RunsOrSame pass.old.known pass.new.known result }
+    ensures owner { IsRefusedUnheld pass.old.known.log object result }
 {
     if pass.held(object) == 0 {
         return Err(Unguarded);
@@ -73,6 +82,7 @@ pub fn print(heap: &Heap, pass: &mut Pass, value: Value)
     ensures rests { Rests heap.now pass.new }
     ensures run { HasRun heap.now (print_steps (start_now heap.now pass.old) value) pass.old pass.new result }
     ensures says { Tells pass.old.known pass.new.known (λ ms. PrintSays value ms result) }
+    ensures stands { IsRunning pass.new.known }
 {
     let why = alone(Task::Print { value });
     publish(heap, pass, &why, Entry::Print { value })
@@ -96,6 +106,7 @@ pub fn finish(heap: &Heap, pass: &mut Pass, ending: Ending)
     ensures rests { Rests heap.now pass.new }
     ensures run { HasRun heap.now (finish_steps (start_now heap.now pass.old) ending) pass.old pass.new result }
     ensures says { Tells pass.old.known pass.new.known (λ ms. FinishSays ending ms result) }
+    ensures stands { IsRunning pass.new.known }
 {
     let why = alone(Task::Finish { ending });
     publish(heap, pass, &why, ending_entry(ending));

@@ -13,6 +13,9 @@ ghost use Rattle.heap_table.specs.Parts.{IsDueOn, HasRun};
 ghost use Rattle.heap_table.specs.Resting.{MayOperate, Rests, start_now};
 ghost use Rattle.heap_table.specs.Seen.{IsOf};
 ghost use Rattle.lock_runtime.specs.WaitParts.{inflated_wait, letting_go, marked_notify, marked_notify_all};
+ghost use Rattle.lock_runtime.specs.Standing.{StandsOrSame};
+ghost use Rattle.lock_runtime.specs.Others.{PendsOrRefused};
+ghost use Rattle.lock_runtime.specs.Refusals.{IsRefusedUnheld};
 
 use crate::purposes::unfinished;
 use crate::revoking::unbias;
@@ -132,6 +135,9 @@ pub fn wait(
         pass.old pass.new result }
     ensures says { Tells pass.old.known pass.new.known
         (λ ms. WaitSays (start_now heap.now pass.old) object ms result) }
+    ensures stands { StandsOrSame pass.old.known pass.new.known result }
+    ensures others { PendsOrRefused pass.old.known.thread result }
+    ensures owner { IsRefusedUnheld pass.old.known.log object result }
 {
     if pass.held(object) == 0 {
         return Err(IllegalMonitorState);
@@ -238,6 +244,9 @@ pub fn notify(
         (λ ms. NotifySays (start_now heap.now pass.old) object ms result) }
     ensures wakes { Tells pass.old.known pass.new.known
         (λ ms. IfDone (Wakes heap.now.heap.shape object) ms result) }
+    ensures stands { StandsOrSame pass.old.known pass.new.known result }
+    ensures others { PendsOrRefused pass.old.known.thread result }
+    ensures owner { IsRefusedUnheld pass.old.known.log object result }
 {
     if pass.held(object) == 0 {
         return Err(IllegalMonitorState);
@@ -337,6 +346,9 @@ pub fn notify_all(
         (λ ms. NotifyAllSays (start_now heap.now pass.old) object ms result) }
     ensures wakes { Tells pass.old.known pass.new.known
         (λ ms. IfDone (WakesAll heap.now.heap.shape object) ms result) }
+    ensures stands { StandsOrSame pass.old.known pass.new.known result }
+    ensures others { PendsOrRefused pass.old.known.thread result }
+    ensures owner { IsRefusedUnheld pass.old.known.log object result }
 {
     if pass.held(object) == 0 {
         return Err(IllegalMonitorState);
