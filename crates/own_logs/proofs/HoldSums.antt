@@ -38,7 +38,11 @@ sum_front (suc n) f = let a = sum_front n f in omega (arith, a)
 -- the sum of a list is that of its elements
 sum_is : (xs : List ℕ) → sum xs ≡ sum_below (length xs) (λ i. slice_index xs i)
 sum_is [] = refl
-sum_is (x ∷ xs) = let a = sum_by-cons (λ y. y) x xs in let b = sum_is xs in let c = sum_front (length xs) (λ i. slice_index (x ∷ xs) i) in omega (arith, a, b, c)
+sum_is (x ∷ xs) =
+    let a = sum_by-cons (λ y. y) x xs in
+    let b = sum_is xs in
+    let c = sum_front (length xs) (λ i. slice_index (x ∷ xs) i) in
+    omega (arith, a, b, c)
 
 -- none of the numbers below n is o where that isn't below n, and else one is
 none_at : (n o : ℕ) → n ≤ o → sum_below n (λ i. one_if (o == i)) ≡ 0
@@ -59,7 +63,8 @@ one_at (suc n) o h = elim (cases_eq o n) [
 one_word : (s : Shape) (h : ℕ) → IsHold s (read_hold h) → sum_below (length s.objects) (λ o. one_if (names o h)) ≡ one_if (not (h == 0))
 one_word s h is = by_form (read_hold h) refl is
   where
-    by_form : (f : Option HoldForm) → read_hold h ≡ f → IsHold s f → sum_below (length s.objects) (λ o. one_if (names_form f o)) ≡ one_if (not (h == 0))
+    by_form : (f : Option HoldForm) → read_hold h ≡ f → IsHold s f
+        → sum_below (length s.objects) (λ o. one_if (names_form f o)) ≡ one_if (not (h == 0))
     by_form None e i = absurd i
     by_form (Some Empty) e i =
         let zero_is : h ≡ 0 = (read_hold-spells h Empty e).1 in
@@ -83,15 +88,18 @@ pub all_counted : (s : Shape) (hs holds : List ℕ) → ((p : ℕ) → IsHold s 
     → ((o : ℕ) → o < length s.objects → slice_index holds o ≡ hold_count o hs) → count_where (λ p h. not (h == 0)) 0 hs ≡ sum holds
 all_counted s hs holds is count each =
     all_named s 0 hs is
-    ∙ sym (sum_is holds ∙ ap (λ n. sum_below n (λ i. slice_index holds i)) count ∙ sum_same (length s.objects) (λ i. slice_index holds i) (λ o. hold_count o hs) each)
+    ∙ sym (sum_is holds ∙ ap (λ n. sum_below n (λ i. slice_index holds i)) count
+    ∙ sum_same (length s.objects) (λ i. slice_index holds i) (λ o. hold_count o hs) each)
 
 -- FULL AND EMPTY. Where no place is free, no word is empty
-pub none_free : (i : ℕ) (hs : List ℕ) → position_or_len (λ h. h == 0) hs ≡ length hs → count_where (λ p h. not (h == 0)) i hs ≡ length hs
+pub none_free : (i : ℕ) (hs : List ℕ) → position_or_len (λ h. h == 0) hs ≡ length hs
+    → count_where (λ p h. not (h == 0)) i hs ≡ length hs
 none_free i [] e = refl
 none_free i (h ∷ hs) e = cases (h == 0) (none_free (i + 1) hs) e
   where
     cases : (b : Bool) → (position_or_len (λ h. h == 0) hs ≡ length hs → count_where (λ p h. not (h == 0)) (i + 1) hs ≡ length hs)
-        → cond (not b) (1 + position_or_len (λ h. h == 0) hs) 0 ≡ suc (length hs) → one_if (not b) + count_where (λ p h. not (h == 0)) (i + 1) hs ≡ suc (length hs)
+        → cond (not b) (1 + position_or_len (λ h. h == 0) hs) 0 ≡ suc (length hs)
+        → one_if (not b) + count_where (λ p h. not (h == 0)) (i + 1) hs ≡ suc (length hs)
     cases true ih g = absurd (omega (arith, g))
     cases false ih g = let a = ih (omega (arith, g)) in omega (arith, a)
 

@@ -25,7 +25,8 @@ module _ (s : Shape) (k : Known) (z : Settled s k) where
   -- in the middle of nothing it has no hold words besides those of its log
   stands : AtRest s k → (o : ℕ) → hold_count o k.holds ≡ holds_by_monitor (monitor_of z.objects o) k.thread
   stands rest o =
-      let number = subst (λ (x : Known). hold_count o x.holds ≡ holds_by_monitor (monitor_of z.objects o) k.thread + hold_words_ahead x.stage o) z.knew (z.fits.holds.number k.thread o) in
+      let by_log = holds_by_monitor (monitor_of z.objects o) k.thread in
+      let number = subst (λ (x : Known). hold_count o x.holds ≡ by_log + hold_words_ahead x.stage o) z.knew (z.fits.holds.number k.thread o) in
       let none = ap (λ stage. hold_words_ahead stage o) rest.calm in
       omega (arith, number, none)
 

@@ -12,7 +12,8 @@ use Rattle.heap_table.specs.Seen.{HeapSeen, PassSeen}
 use Rattle.heap_table.proofs.Resting.{at_rest}
 use Rattle.own_logs.proofs.Settled.{settled}
 
-as_many : (t : ℕ) (log : List Logged) (shots : List DumpShot) (unfinished : Option Unfinished) → (IsUnfinished unfinished op.Dump 0 → length shots ≡ length (dumps_from 0 log))
+as_many : (t : ℕ) (log : List Logged) (shots : List DumpShot) (unfinished : Option Unfinished)
+    → (IsUnfinished unfinished op.Dump 0 → length shots ≡ length (dumps_from 0 log))
     → AreOfDumps t log shots unfinished → length shots ≡ length (dumps_from 0 log)
 as_many t log shots unfinished rest (inl is) = sym (length-map shots _) ∙ ap (λ (x : List (ℕ × ℕ)). length x) is
 as_many t log shots unfinished rest (inr is) = rest is.1

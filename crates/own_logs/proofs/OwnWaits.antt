@@ -64,7 +64,8 @@ stored_says word own o (inr s) h =
     inr (told word o s.0 (in_range own s.0 s.1) s.2 ∙ eq-eqb s.0 o i)
 
 -- and who has a word that says so stored that it waits, where it stored of no object that it was notified
-said_stored : (word own o : ℕ) → IsStored word own → says_notified own o ≡ false → (waits_on word o ≡ true) ⊎ (says_notified word o ≡ true) → waits_on own o ≡ true
+said_stored : (word own o : ℕ) → IsStored word own → says_notified own o ≡ false
+    → (waits_on word o ≡ true) ⊎ (says_notified word o ≡ true) → waits_on own o ≡ true
 said_stored word own o (inl same) untold (inl h) = ap (λ x. waits_on x o) (sym same) ∙ h
 said_stored word own o (inl same) untold (inr h) = let n = ap (λ x. says_notified x o) (sym same) ∙ h in absurd (cc (n, untold))
 said_stored word own o (inr s) untold (inl h) = let n = untold_waits word o s.0 (in_range own s.0 s.1) s.2 in absurd (cc (n, h))

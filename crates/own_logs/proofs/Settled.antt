@@ -1,5 +1,6 @@
--- For a thread that rests there is a world in which all clauses hold and the thread knew what it knows: the sound world in which it knew it; or, where a
--- bias was being revoked there, the world before the first store. The thread was not the one that revoked it, which is in the middle of that.
+-- For a thread that rests there is a world in which all clauses hold and the thread knew what it knows: the sound world in
+-- which it knew it, or, where a bias was being revoked there, the world before the first store. The thread was not the one
+-- that revoked it, which was in the middle of that.
 use Rattle.std.proofs.Common.{◌≡◌, ◌≢◌, ℕ, ◌<◌, List, sym, ap, ◌∙◌, subst, arith, inl, inr}
 use Rattle.plain_monitor.specs.History.{log_of}
 use Rattle.plain_monitor.specs.Objects.{PlainObject}
@@ -32,7 +33,8 @@ not_requester w P s t calm e =
     let some = ap (λ u. revocation_in (w.known u).stage) e ∙ s.its_revocation in
     absurd (cc (none, some))
 
-settled_in : (s : Shape) (w : World) (P : List PlainObject) (k : Known) → IsValid w P → w.shape ≡ s → w.known k.thread ≡ k → k.stage ≡ Calm → Settled s k
+settled_in : (s : Shape) (w : World) (P : List PlainObject) (k : Known) → IsValid w P → w.shape ≡ s → w.known k.thread ≡ k
+    → k.stage ≡ Calm → Settled s k
 settled_in s w P k (inl fits) shape knew calm = record { world = w; objects = P; fits = fits; shape = shape; knew = knew }
 settled_in s w P k (inr r) shape knew calm =
     let other = not_requester w P r k.thread (ap (λ (z : Known). z.stage) knew ∙ calm) in

@@ -1,5 +1,5 @@
--- Who stands among those who wait or were called after a step on a plain monitor: a wait adds its own thread, a resume takes its own away, and
--- every other step leaves all as they were.
+-- Who stands among those who wait or were called after a step on a plain monitor: a wait adds its own thread, a resume
+-- takes its own away, and every other step leaves all as they were.
 use Rattle.std.proofs.Common.{◌≡◌, ℕ, ◌+◌, ◌==◌, ◌&&◌, ◌||◌, ◌-◌, nat_le, not, eq-eqb, ne_eqb, cond, is_none, Bool, true, false, List, [], ◌∷◌, ◌++◌, Option, Some, None, refl, sym, ap, ◌∙◌, subst, arith, inl, inr}
 use Rattle.std.proofs.Math.Bool.{or-false, and-true, and-false}
 use Rattle.std.proofs.lemmas.Bool.{cases_eq}
@@ -43,7 +43,8 @@ listed_joined : (ps qs : List (ℕ × ℕ)) (t : ℕ) → is_listed (ps ++ qs) t
 listed_joined [] qs t = refl
 listed_joined (p ∷ ps) qs t = at_head (p.0 == t) (listed_joined ps qs t)
   where
-    at_head : (b : Bool) → is_listed (ps ++ qs) t ≡ (is_listed ps t || is_listed qs t) → (b || is_listed (ps ++ qs) t) ≡ ((b || is_listed ps t) || is_listed qs t)
+    at_head : (b : Bool) → is_listed (ps ++ qs) t ≡ (is_listed ps t || is_listed qs t)
+        → (b || is_listed (ps ++ qs) t) ≡ ((b || is_listed ps t) || is_listed qs t)
     at_head true ih = refl
     at_head false ih = ih
 
@@ -60,13 +61,17 @@ unlisted (p ∷ ps) t h = at_head (p.0 == t) h (unlisted ps t)
     at_head false g ih = ih (omega (arith, g))
 
 -- STEPS
+-- the monitor once a thread from outside has taken it
+abbrev taken : PlainMonitor → ℕ → PlainMonitor
+taken m u = record m { owner = Some u; count = 1 }
+
 pub enter_awaits : (m n : PlainMonitor) (u t : ℕ) → enter m u ≡ Some n → awaits n t ≡ awaits m t
 enter_awaits m n u t h = by_owner (owns m u) h
   where
-    by_owner : (b : Bool) → cond b (Some (record m { count = m.count + 1 })) (only_if (is_none m.owner && is_outside m u) (record m { owner = Some u; count = 1 })) ≡ Some n
+    by_owner : (b : Bool) → cond b (Some (record m { count = m.count + 1 })) (only_if (is_none m.owner && is_outside m u) (taken m u)) ≡ Some n
         → awaits n t ≡ awaits m t
     by_owner true g = ap (λ (k : PlainMonitor). awaits k t) (sym (same_Some (record m { count = m.count + 1 }) n g))
-    by_owner false g = ap (λ (k : PlainMonitor). awaits k t) (sym (cond_some (is_none m.owner && is_outside m u) (record m { owner = Some u; count = 1 }) n g).1)
+    by_owner false g = ap (λ (k : PlainMonitor). awaits k t) (sym (cond_some (is_none m.owner && is_outside m u) (taken m u) n g).1)
 
 pub exit_awaits : (m n : PlainMonitor) (u t : ℕ) → exit m u ≡ Some n → awaits n t ≡ awaits m t
 exit_awaits m n u t h = ap (λ (k : PlainMonitor). awaits k t) (sym (cond_some (owns m u) _ n h).1) ∙ by_count (nat_le m.count 1)
@@ -89,7 +94,8 @@ owner_awaits_nothing m u s own =
     let c = unlisted m.called u (omega (arith, one, in_presence)) in
     λ i. w i || c i
 
-resumed_awaits : (m n : PlainMonitor) (u t : ℕ) (c : Option ℕ) → IsSound n → resumed m u c ≡ Some n → awaits n t ≡ (awaits m t && not (u == t))
+resumed_awaits : (m n : PlainMonitor) (u t : ℕ) (c : Option ℕ) → IsSound n → resumed m u c ≡ Some n
+    → awaits n t ≡ (awaits m t && not (u == t))
 resumed_awaits m n u t None s h = absurd (cc h)
 resumed_awaits m n u t (Some k) s h =
     let after : PlainMonitor = record { owner = Some u; count = k; waits = m.waits; called = without m.called u } in
@@ -98,7 +104,8 @@ resumed_awaits m n u t (Some k) s h =
       | inl same ↦
           let own : (u == u) ≡ true = eq-eqb u u refl in
           let gone : awaits n u ≡ false = owner_awaits_nothing n u s (ap (λ (x : PlainMonitor). owns x u) (sym is) ∙ own) in
-          subst (λ v. awaits n v ≡ (awaits m v && not (u == v))) (sym same) (gone ∙ sym (ap (λ b. awaits m u && not b) own ∙ and-false (awaits m u)))
+          subst (λ v. awaits n v ≡ (awaits m v && not (u == v))) (sym same)
+          (gone ∙ sym (ap (λ b. awaits m u && not b) own ∙ and-false (awaits m u)))
       | inr other ↦
           let d : (u == t) ≡ false = ne_eqb u t (λ q. other (sym q)) in
           ap (λ (x : PlainMonitor). awaits x t) (sym is)
@@ -109,7 +116,8 @@ resumed_awaits m n u t (Some k) s h =
 pub resume_awaits : (m n : PlainMonitor) (u t : ℕ) → IsSound m → resume m u ≡ Some n → awaits n t ≡ (awaits m t && not (u == t))
 resume_awaits m n u t s h = resumed_awaits m n u t (count_of m.called u) (resume_sound m n u s h) h
 
-calls_awaits : (m n : PlainMonitor) (t : ℕ) (ws : List (ℕ × ℕ)) (woken : Option ℕ) → m.waits ≡ ws → calls m ws woken ≡ Some n → awaits n t ≡ awaits m t
+calls_awaits : (m n : PlainMonitor) (t : ℕ) (ws : List (ℕ × ℕ)) (woken : Option ℕ) → m.waits ≡ ws → calls m ws woken ≡ Some n
+    → awaits n t ≡ awaits m t
 calls_awaits m n t [] None e h = ap (λ k. awaits k t) (sym (same_Some m n h))
 calls_awaits m n t [] (Some u) e h = absurd (cc h)
 calls_awaits m n t (p ∷ ps) None e h = absurd (cc h)

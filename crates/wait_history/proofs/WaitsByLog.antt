@@ -1,5 +1,5 @@
--- A thread stands among those who wait on an object or were called from it exactly where by its own log it waits there, after every history that
--- the objects take.
+-- After every history that the objects take, a thread stands among those who wait on an object or were called from it
+-- exactly where by its own log it waits there.
 use Rattle.std.proofs.Common.{◌≡◌, ℕ, zero, suc, ◌==◌, ◌&&◌, ◌||◌, not, eq-eqb, ne_eqb, cond, Bool, true, false, List, [], ◌∷◌, slice_get, slice_set, slice_index_or, Option, Some, None, refl, sym, ap, ◌∙◌, subst, inl, inr}
 use Rattle.std.proofs.Math.Bool.{or-true, or-false, and-true, and-false}
 use Rattle.std.proofs.lemmas.Bool.{cases_eq}
@@ -63,12 +63,15 @@ module _ (x y : PlainObject) (u t : ℕ) where
   Unchanged n = awaits n t ≡ awaits x.monitor t
 
   at_object : (e : Entry) → IsSound x.monitor → take_at x u e ≡ Some y → Waits u t e (awaits x.monitor t) (awaits y.monitor t)
-  at_object (entry.Enter o p) s h = monitor_kept (Told (entry.Enter o p)) x y (enter x.monitor u) (λ n g. same_waits (u == t) _ _ (enter_awaits x.monitor n u t g)) h
-  at_object (entry.Exit o) s h = monitor_kept (Told (entry.Exit o)) x y (exit x.monitor u) (λ n g. same_waits (u == t) _ _ (exit_awaits x.monitor n u t g)) h
-  at_object (entry.Wait o) s h = monitor_kept (Told (entry.Wait o)) x y (wait x.monitor u) (λ n g. begun (u == t) _ _ (wait_awaits x.monitor n u t g)) h
-  at_object (entry.Resume o) s h = monitor_kept (Told (entry.Resume o)) x y (resume x.monitor u) (λ n g. ended (u == t) _ _ (resume_awaits x.monitor n u t s g)) h
-  at_object (entry.Notify o w) s h = monitor_kept (Told (entry.Notify o w)) x y (notify x.monitor u w) (λ n g. same_waits (u == t) _ _ (notify_awaits x.monitor n u t w g)) h
-  at_object (entry.NotifyAll o w) s h = monitor_kept (Told (entry.NotifyAll o w)) x y (notify_all x.monitor u w) (λ n g. same_waits (u == t) _ _ (notify_all_awaits x.monitor n u t w g)) h
+  at_object (entry.Enter o p) s h = same_waits (u == t) _ _ (monitor_kept Unchanged x y (enter x.monitor u) (λ n. enter_awaits x.monitor n u t) h)
+  at_object (entry.Exit o) s h = same_waits (u == t) _ _ (monitor_kept Unchanged x y (exit x.monitor u) (λ n. exit_awaits x.monitor n u t) h)
+  at_object (entry.Wait o) s h =
+      monitor_kept (Told (entry.Wait o)) x y (wait x.monitor u) (λ n g. begun (u == t) _ _ (wait_awaits x.monitor n u t g)) h
+  at_object (entry.Resume o) s h =
+      monitor_kept (Told (entry.Resume o)) x y (resume x.monitor u) (λ n g. ended (u == t) _ _ (resume_awaits x.monitor n u t s g)) h
+  at_object (entry.Notify o w) s h = same_waits (u == t) _ _ (monitor_kept Unchanged x y (notify x.monitor u w) (λ n. notify_awaits x.monitor n u t w) h)
+  at_object (entry.NotifyAll o w) s h =
+      same_waits (u == t) _ _ (monitor_kept Unchanged x y (notify_all x.monitor u w) (λ n. notify_all_awaits x.monitor n u t w) h)
   at_object (entry.Get o i v) s h = same_waits (u == t) _ _ (only_kept Unchanged x x y _ refl refl h)
   at_object (entry.Put o i v) s h = same_waits (u == t) _ _ (only_kept Unchanged x (record x { slots = slice_set x.slots i v }) y _ refl refl h)
   at_object (entry.Hash o v d) s h = same_waits (u == t) _ _ (hash_kept Unchanged x y (hashed x.hash v) refl h)
@@ -120,7 +123,8 @@ step_awaits P Q u t e sound h i = by_name (named e) refl h
     unnamed : (named e ≡ Some i → ⊥) → awaits_at P i t ≡ cond (u == t) (waits_after e (awaits_at P i t) i) (awaits_at P i t)
     unnamed other = same_waits (u == t) _ _ refl ∙ ap (λ x. cond (u == t) x (awaits_at P i t)) (sym (log_else e (awaits_at P i t) i other))
 
-    by_name : (a : Option ℕ) → named e ≡ a → take_named P u e a ≡ Some Q → awaits_at Q i t ≡ cond (u == t) (waits_after e (awaits_at P i t) i) (awaits_at P i t)
+    by_name : (a : Option ℕ) → named e ≡ a → take_named P u e a ≡ Some Q
+        → awaits_at Q i t ≡ cond (u == t) (waits_after e (awaits_at P i t) i) (awaits_at P i t)
     by_name None n g = ap (λ (R : List PlainObject). awaits_at R i t) (sym (same_Some P Q g)) ∙ unnamed (λ s. absurd (cc (n, s)))
     by_name (Some o) n g =
         let k = taken_at P Q u e o g in
@@ -159,13 +163,15 @@ new_awaits (x ∷ shape) t zero = refl
 new_awaits (x ∷ shape) t (suc o) = new_awaits shape t o
 
 -- at all object numbers, where one that isn't there is new
-pub waits_by_log : (shape : List (ℕ × ℕ)) (logs : List (List Logged)) (objects : List PlainObject) (t o : ℕ) → LegalObjects shape logs → objects_after shape logs ≡ Some objects
+pub waits_by_log : (shape : List (ℕ × ℕ)) (logs : List (List Logged)) (objects : List PlainObject) (t o : ℕ)
+    → LegalObjects shape logs → objects_after shape logs ≡ Some objects
     → waits_by false (log_of logs t) o ≡ awaits (slice_index_or objects o (new_object 0)).monitor t
 waits_by_log shape logs objects t o legal h =
     sym (all_await (order logs) (new_objects shape) objects t (new_sound shape) h o
-    ∙ ap (λ a. waits_by a (of_thread t (order logs)) o) (new_awaits shape t o) ∙ ap (λ (log : List Logged). waits_by false log o) (thread_kept logs t legal.rises))
+    ∙ ap (λ a. waits_by a (of_thread t (order logs)) o) (new_awaits shape t o)
+    ∙ ap (λ (log : List Logged). waits_by false log o) (thread_kept logs t legal.rises))
 
-pub object_waits_by_log : (shape : List (ℕ × ℕ)) (logs : List (List Logged)) (objects : List PlainObject) (t o : ℕ) (x : PlainObject) → LegalObjects shape logs → objects_after shape logs ≡ Some objects
-    → slice_get objects o ≡ Some x → waits_by false (log_of logs t) o ≡ awaits x.monitor t
+pub object_waits_by_log : (shape : List (ℕ × ℕ)) (logs : List (List Logged)) (objects : List PlainObject) (t o : ℕ) (x : PlainObject)
+    → LegalObjects shape logs → objects_after shape logs ≡ Some objects → slice_get objects o ≡ Some x → waits_by false (log_of logs t) o ≡ awaits x.monitor t
 object_waits_by_log shape logs objects t o x legal h is =
     waits_by_log shape logs objects t o legal h ∙ ap (λ (z : PlainObject). awaits z.monitor t) (get_or_from_slice_get objects o x (new_object 0) is)
