@@ -1,6 +1,6 @@
 //! Laws of threads that rest on a heap. The functions do nothing.
 
-ghost use Rattle.std.specs.Prelude.{◌≡◌, ◌==◌, ◌<◌, ℕ, true, false, List, length, slice_index, sum};
+ghost use Rattle.std.specs.Prelude.{◌≡◌, ◌==◌, ◌<◌, ℕ, true, false, List, length, sum};
 ghost use Rattle.std.specs.List.{list_all};
 ghost use Rattle.core_world.specs.Locks.{hold_count};
 ghost use Rattle.core_world.specs.Shots.{dumps_from};
