@@ -14,7 +14,7 @@ ghost use Rattle.wait_history.specs.WaitsByLog.{waits_by};
 ghost use Rattle.own_logs.specs.HoldsByLog.{AreHolds};
 
 /// A thread that rests has as many hold words for an object as it holds it by its own log. So the number of its hold words that aren't
-/// empty is the sum of these holds over all objects; it has no free place exactly where these are 64, and only empty words where
+/// empty is the sum of these holds over all objects; a place is free where these are fewer than 64, and all words are empty where
 /// there are none.
 pub fn holds_at_rest_follow_from_the_own_log()
     ensures number { (h : HeapSeen) (p : PassSeen) (o : ℕ) → Rests h p → o < length h.heap.shape.objects
