@@ -1,5 +1,6 @@
 -- What holds of a pass, and of the state of its thread, between two calls.
-use Rattle.std.specs.Prelude.{◌≡◌, ℕ, ◌+◌, ◌*◌, ◌≤◌, true, false, length}
+use Rattle.std.specs.Prelude.{◌≡◌, ℕ, ◌+◌, ◌*◌, ◌≤◌, true, false, length, Option, is_some}
+use Rattle.core_world.specs.declared.task.Unfinished.{Unfinished}
 use Rattle.heap_table.specs.Resting.{Rests}
 use Rattle.heap_table.specs.Seen.{HeapSeen, PassSeen}
 use Rattle.object_program.specs.Program.{ProgramText, shape_of}
@@ -21,6 +22,13 @@ pub record IsHeapOf (h : HeapSeen) (p : ProgramText) : Type 0 where
 abbrev pub state_by : HeapSeen → ProgramText → PassSeen → FrameSeen → ThreadState
 state_by h p pass frame = next_state p pass.known.thread (counts_from 0 (length h.heap.shape.objects) pass.known.holds) frame
 
+-- an operation is unfinished, which is this one, and the frame stands before it
+pub record StandsFor (frame : FrameSeen) (unfinished asked : Option Unfinished) : Type 0 where
+  pub live : has_ended frame ≡ false
+  pub before : is_some frame.mode ≡ true
+  pub some : is_some unfinished ≡ true
+  pub is : unfinished ≡ asked
+
 -- The pass rests, its log follows the code of its thread and leads to where the frame stands, and the operation that is unfinished, if any, is
 -- the one that the thread asks next. The log has room for all that the thread may still log.
 pub record IsOn (h : HeapSeen) (p : ProgramText) (fuel : ℕ) (pass : PassSeen) (frame : FrameSeen) : Type 0 where
@@ -31,7 +39,7 @@ pub record IsOn (h : HeapSeen) (p : ProgramText) (fuel : ℕ) (pass : PassSeen) 
   pub limit : pass.limit ≡ 2 * fuel + 66
   pub spent : frame.fuel ≤ fuel
   pub unfinished : IsAtMost pass.known.unfinished (unfinished_of (ask (state_by h p pass frame)))
-  -- its request stands for that operation, or for a check, which a thread that has ended doesn't make
+  -- its request stands for that operation, which its frame stands before, or for a check, which a thread that has ended doesn't make
   pub asks : pass.known.requesting ≡ true → pass.known.checking ≡ false
-      → (has_ended frame ≡ false) × (pass.known.unfinished ≡ unfinished_of (ask (state_by h p pass frame)))
+      → StandsFor frame pass.known.unfinished (unfinished_of (ask (state_by h p pass frame)))
   pub checks : pass.known.checking ≡ true → has_ended frame ≡ false

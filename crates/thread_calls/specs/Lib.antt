@@ -1,3 +1,4 @@
 pub mod Asked
 pub mod Between
 pub mod Advances
+pub mod Made

@@ -5,10 +5,11 @@
 //! code, and its unfinished operation is the one that the thread asks next.
 #![tactic(auto)]
 
-mod advance;
 mod asks;
 mod calls;
 mod laws;
+mod makes;
+mod next;
 
-pub use advance::advance;
 pub use laws::unused_passes_are_on;
+pub use next::advance;

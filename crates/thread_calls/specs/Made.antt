@@ -1,0 +1,77 @@
+-- What a thread makes of its pass by one call.
+use Rattle.std.specs.Prelude.{◌≡◌, ℕ, ◌+◌, ◌<◌, ◌≤◌, ◌++◌, ◌∷◌, [], Bool, true, false, length, Option, None}
+use Rattle.core_calls.specs.CallsSay.{is_full}
+use Rattle.core_world.specs.declared.answer.Turn.{Turn}
+use Rattle.core_world.specs.declared.answer.Turn.TheVariants.{Done, Pending}
+use Rattle.core_world.specs.declared.answer.Why.{Why}
+use Rattle.core_world.specs.declared.task.Task.TheVariants as task
+use Rattle.core_world.specs.declared.task.Unfinished.{Unfinished}
+use Rattle.heap_table.specs.Resting.{Rests, MayOperate, start_now}
+use Rattle.heap_table.specs.Seen.{HeapSeen, PassSeen}
+use Rattle.lock_runtime.specs.Standing.{IsRunning, StandsBehind}
+use Rattle.plain_history.specs.HeldByLog.{held_by, nothing_held}
+use Rattle.plain_machine.specs.Asking.{is_call}
+use Rattle.plain_machine.specs.declared.call.Call.{Call}
+use Rattle.plain_machine.specs.declared.call.Call.TheVariants as call
+use Rattle.plain_monitor.specs.declared.entry.Entry.{Entry}
+use Rattle.plain_monitor.specs.declared.entry.Logged.{Logged}
+use Rattle.thread_calls.specs.Advances.{HasPended}
+use Rattle.thread_calls.specs.Asked.{unfinished_of_call}
+use Rattle.thread_frame.specs.Frames.{FrameSeen, frame_behind_call}
+use Rattle.thread_logs.specs.Followed.{HasValue}
+
+-- WHEN IT MAY. The thread holds the object by its own log.
+abbrev pub Holds : PassSeen → ℕ → Type 0
+Holds p o = 1 ≤ held_by nothing_held p.known.log o
+
+-- a call on the heap that may begin, at whatever moment, and isn't refused; a wait is not one of these, since it makes two entries
+abbrev pub MayMake : HeapSeen → PassSeen → Call → Type 0
+MayMake h p (call.Enter o) = ((now : ℕ) → MayOperate h p (task.Enter o now)) × (is_full (start_now h p) o ≡ false)
+MayMake h p (call.Exit o) = MayOperate h p (task.Exit o) × Holds p o
+MayMake h p (call.Wait o) = ⊥
+MayMake h p (call.Notify o) = ((now : ℕ) → MayOperate h p (task.Notify o now)) × Holds p o
+MayMake h p (call.NotifyAll o) = ((now : ℕ) → MayOperate h p (task.NotifyAll o now)) × Holds p o
+MayMake h p (call.Get x o k) = MayOperate h p (task.Get o k) × Holds p o
+MayMake h p (call.Put o k v) = MayOperate h p (task.Put o k v) × Holds p o
+MayMake h p (call.Hash x o) = (now : ℕ) → MayOperate h p (task.Hash o now)
+MayMake h p (call.Print v) = MayOperate h p (task.Print v)
+MayMake h p (call.Dump n) = MayOperate h p task.Dump × (n ≡ length p.known.shots + 1) × (n ≤ 4)
+
+-- WHAT IT LEAVES. The pass was p, and is q: it rests again, on the same heap and with as much room.
+pub record IsBehind (h : HeapSeen) (p q : PassSeen) : Type 0 where
+  pub rests : Rests h q
+  pub limit : q.limit ≡ p.limit
+  pub thread : q.known.thread ≡ p.known.thread
+  pub unchecked : q.known.checking ≡ false
+
+-- it logged this entry, nothing is unfinished, and the thread runs
+pub record HasLogged (h : HeapSeen) (p q : PassSeen) (e : Entry) : Type 0 where
+  pub behind : IsBehind h p q
+  pub stamp : ℕ
+  pub log : q.known.log ≡ p.known.log ++ record { stamp = stamp; entry = e } ∷ []
+  pub unfinished : q.known.unfinished ≡ None
+  pub runs : IsRunning q.known
+
+-- it was pending for this, logged nothing, and left this unfinished
+pub record HasLeft (h : HeapSeen) (p q : PassSeen) (u : Option Unfinished) (why : Why) : Type 0 where
+  pub behind : IsBehind h p q
+  pub log : q.known.log ≡ p.known.log
+  pub unfinished : q.known.unfinished ≡ u
+  pub stands : StandsBehind {Bool} q.known (Pending why)
+  pub pended : HasPended h q why
+
+-- an entry that is the call, with a value that may stand beside so many objects
+pub record IsEntryOf (objects : ℕ) (c : Call) (e : Entry) : Type 0 where
+  pub is : is_call c e ≡ true
+  pub value : HasValue objects e
+
+-- the call was made, and tells a frame the same as this entry: whether a hash was drawn is in the log alone
+pub record HasTold (h : HeapSeen) (p q : PassSeen) (c : Call) (e : Entry) : Type 0 where
+  pub logged : Entry
+  pub is : HasLogged h p q logged
+  pub of : IsEntryOf (length h.heap.shape.objects) c logged
+  pub same : (f : FrameSeen) → frame_behind_call f c e ≡ frame_behind_call f c logged
+
+abbrev pub HasMade : HeapSeen → PassSeen → PassSeen → Call → Turn Entry → Type 0
+HasMade h p q c (Done e) = HasTold h p q c e
+HasMade h p q c (Pending why) = HasLeft h p q (unfinished_of_call c) why

@@ -1,0 +1,121 @@
+//! The entries that a thread makes while it waits or unwinds.
+
+ghost use Rattle.std.specs.Prelude.{◌≡◌, length, Some};
+ghost use Rattle.core_world.specs.Trees.Operations.{ending_entry};
+ghost use Rattle.plain_machine.specs.Asking.{held_from};
+ghost use Rattle.plain_machine.specs.declared.call.Mode.TheVariants.{Unwinding, Waiting};
+ghost use Rattle.thread_calls.specs.Advances.{HasAdvanced, MayAdvance};
+ghost use Rattle.thread_calls.specs.Between.{IsHeapOf};
+ghost use Rattle.thread_frame.specs.Sights.{counts_from};
+
+use core_world::Turn;
+use heap_table::{Heap, Pass};
+use lock_runtime as runtime;
+use object_program::Program;
+use plain_machine::Asked;
+use plain_monitor::{Ending, Entry};
+use run_io::{Clock, moment};
+use thread_frame::Frame;
+
+// The least of so many objects that the thread holds.
+fn least_held(pass: &Pass, objects: u32) -> Option<u32>
+    ensures { result ≡ held_from 0 (counts_from 0 objects pass.now.known.holds) }
+{
+    for object in 0..objects {
+        if pass.held(object) >= 1 {
+            return Some(object);
+        }
+    }
+    None
+}
+
+// The entry with which a thread ends so.
+fn ending_entry(ending: Ending) -> Entry
+    ensures { result ≡ ending_entry ending }
+{
+    match ending {
+        Ending::Trap { fault, index } => Entry::Trap { fault, index },
+        Ending::Spent => Entry::Spent,
+        Ending::Done => Entry::Done,
+    }
+}
+
+/// Goes on with the thread's wait on the object.
+pub(crate) fn resume<C: Clock>(
+    program: &Program,
+    heap: &Heap,
+    clock: &C,
+    tick: u32,
+    fuel: u32,
+    pass: &mut Pass,
+    frame: &mut Frame,
+    object: u32,
+) -> Turn<bool>
+    requires heap { IsHeapOf heap.now program.now }
+    requires may { MayAdvance heap.now program.now fuel pass.old frame.old }
+    requires at { frame.old.mode ≡ Some (Waiting object) }
+    ensures { HasAdvanced heap.now program.now fuel pass.old pass.new frame.old frame.new result }
+{
+    match runtime::wait(heap, pass, object, moment(clock.now(), tick)) {
+        Ok(turn) => match turn {
+            Turn::Done(()) => {
+                frame.follow(Asked::Resumes { object }, &Entry::Resume { object });
+                Turn::Done(true)
+            }
+            Turn::Pending(why) => Turn::Pending(why),
+        },
+        Err(_) => unreachable!(),
+    }
+}
+
+/// Leaves the least object that the thread holds, or ends the thread, which holds none.
+pub(crate) fn unwind(
+    program: &Program,
+    heap: &Heap,
+    fuel: u32,
+    pass: &mut Pass,
+    frame: &mut Frame,
+    ending: Ending,
+) -> Turn<bool>
+    requires heap { IsHeapOf heap.now program.now }
+    requires may { MayAdvance heap.now program.now fuel pass.old frame.old }
+    requires at { frame.old.mode ≡ Some (Unwinding ending) }
+    ensures { HasAdvanced heap.now program.now fuel pass.old pass.new frame.old frame.new result }
+{
+    match least_held(pass, heap.shape().objects() as u32) {
+        Some(object) => leave(program, heap, fuel, pass, frame, ending, object),
+        None => {
+            runtime::finish(heap, pass, ending);
+            frame.follow(Asked::Ends { ending }, &ending_entry(ending));
+            Turn::Done(false)
+        }
+    }
+}
+
+// Leaves this object, as the thread ends so.
+fn leave(
+    program: &Program,
+    heap: &Heap,
+    fuel: u32,
+    pass: &mut Pass,
+    frame: &mut Frame,
+    ending: Ending,
+    object: u32,
+) -> Turn<bool>
+    requires heap { IsHeapOf heap.now program.now }
+    requires may { MayAdvance heap.now program.now fuel pass.old frame.old }
+    requires at { frame.old.mode ≡ Some (Unwinding ending) }
+    requires least { held_from 0 (counts_from 0 (length heap.now.heap.shape.objects) pass.old.known.holds) ≡ Some object }
+    ensures { HasAdvanced heap.now program.now fuel pass.old pass.new frame.old frame.new result }
+{
+    match runtime::exit(heap, pass, object) {
+        Ok(turn) => match turn {
+            Turn::Done(()) => {
+                frame.follow(Asked::Leaves { object }, &Entry::Exit { object });
+                Turn::Done(false)
+            }
+            Turn::Pending(why) => Turn::Pending(why),
+        },
+        Err(_) => unreachable!(),
+    }
+}

@@ -1,0 +1,176 @@
+//! The calls that make one entry each, by their passes.
+
+ghost use Rattle.std.specs.Prelude.{◌≡◌, ◌+◌, ◌≤◌, length, false};
+ghost use Rattle.core_calls.specs.CallsSay.{is_full};
+ghost use Rattle.core_world.specs.declared.task.Task.TheVariants as task;
+ghost use Rattle.heap_table.specs.Resting.{MayOperate, start_now};
+ghost use Rattle.plain_machine.specs.declared.call.Call.TheVariants as call;
+ghost use Rattle.thread_calls.specs.Made.{HasMade, Holds, MayMake};
+
+use core_world::Turn;
+use heap_table::{Heap, Pass};
+use lock_runtime as runtime;
+use plain_machine::Call;
+use plain_monitor::{Entry, Value};
+use run_io::{Clock, moment};
+
+// An enter, which is not refused, since the thread has fewer than 64 holds.
+fn enter(heap: &Heap, pass: &mut Pass, object: u32, now: u64) -> Turn<Entry>
+    requires may { MayOperate heap.now pass.old (task.Enter object now) }
+    requires room { is_full (start_now heap.now pass.old) object ≡ false }
+    ensures { HasMade heap.now pass.old pass.new (call.Enter object) result }
+{
+    match runtime::enter(heap, pass, object, now) {
+        Ok(turn) => match turn {
+            Turn::Done(path) => Turn::Done(Entry::Enter { object, path }),
+            Turn::Pending(why) => Turn::Pending(why),
+        },
+        Err(_) => unreachable!(),
+    }
+}
+
+// An exit of an object that the thread holds.
+fn exit(heap: &Heap, pass: &mut Pass, object: u32) -> Turn<Entry>
+    requires may { MayOperate heap.now pass.old (task.Exit object) }
+    requires holds { Holds pass.old object }
+    ensures { HasMade heap.now pass.old pass.new (call.Exit object) result }
+{
+    match runtime::exit(heap, pass, object) {
+        Ok(turn) => match turn {
+            Turn::Done(()) => Turn::Done(Entry::Exit { object }),
+            Turn::Pending(why) => Turn::Pending(why),
+        },
+        Err(_) => unreachable!(),
+    }
+}
+
+// A notify, on an object that the thread holds.
+fn notify(heap: &Heap, pass: &mut Pass, object: u32, now: u64) -> Turn<Entry>
+    requires may { MayOperate heap.now pass.old (task.Notify object now) }
+    requires holds { Holds pass.old object }
+    ensures { HasMade heap.now pass.old pass.new (call.Notify object) result }
+{
+    match runtime::notify(heap, pass, object, now) {
+        Ok(turn) => match turn {
+            Turn::Done(woken) => Turn::Done(Entry::Notify { object, woken }),
+            Turn::Pending(why) => Turn::Pending(why),
+        },
+        Err(_) => unreachable!(),
+    }
+}
+
+// A notify of all, on an object that the thread holds.
+fn notify_all(heap: &Heap, pass: &mut Pass, object: u32, now: u64) -> Turn<Entry>
+    requires may { MayOperate heap.now pass.old (task.NotifyAll object now) }
+    requires holds { Holds pass.old object }
+    ensures { HasMade heap.now pass.old pass.new (call.NotifyAll object) result }
+{
+    match runtime::notify_all(heap, pass, object, now) {
+        Ok(turn) => match turn {
+            Turn::Done(woken) => Turn::Done(Entry::NotifyAll { object, woken }),
+            Turn::Pending(why) => Turn::Pending(why),
+        },
+        Err(_) => unreachable!(),
+    }
+}
+
+// A get from a slot of an object that the thread holds, for this local.
+fn get(heap: &Heap, pass: &mut Pass, local: u32, object: u32, slot: u32) -> Turn<Entry>
+    requires may { MayOperate heap.now pass.old (task.Get object slot) }
+    requires holds { Holds pass.old object }
+    ensures { HasMade heap.now pass.old pass.new (call.Get local object slot) result }
+{
+    match runtime::get(heap, pass, object, slot) {
+        Ok(value) => Turn::Done(Entry::Get {
+            object,
+            slot,
+            value,
+        }),
+        Err(_) => unreachable!(),
+    }
+}
+
+// A put into a slot of an object that the thread holds.
+fn put(heap: &Heap, pass: &mut Pass, object: u32, slot: u32, value: Value) -> Turn<Entry>
+    requires may { MayOperate heap.now pass.old (task.Put object slot value) }
+    requires holds { Holds pass.old object }
+    ensures { HasMade heap.now pass.old pass.new (call.Put object slot value) result }
+{
+    match runtime::put(heap, pass, object, slot, value) {
+        Ok(()) => Turn::Done(Entry::Put {
+            object,
+            slot,
+            value,
+        }),
+        Err(_) => unreachable!(),
+    }
+}
+
+// A hash, for this local. Whether it was drawn is in the log alone: no frame asks for that.
+fn hash(heap: &Heap, pass: &mut Pass, local: u32, object: u32, now: u64) -> Turn<Entry>
+    requires may { MayOperate heap.now pass.old (task.Hash object now) }
+    ensures { HasMade heap.now pass.old pass.new (call.Hash local object) result }
+{
+    match runtime::hash(heap, pass, object, now) {
+        Turn::Done(value) => Turn::Done(Entry::Hash {
+            object,
+            value,
+            drawn: None,
+        }),
+        Turn::Pending(why) => Turn::Pending(why),
+    }
+}
+
+// A print.
+fn print(heap: &Heap, pass: &mut Pass, value: Value) -> Turn<Entry>
+    requires may { MayOperate heap.now pass.old (task.Print value) }
+    ensures { HasMade heap.now pass.old pass.new (call.Print value) result }
+{
+    runtime::print(heap, pass, value);
+    Turn::Done(Entry::Print { value })
+}
+
+// The thread's dump with this number.
+fn dump(heap: &Heap, pass: &mut Pass, number: u32) -> Turn<Entry>
+    requires may { MayOperate heap.now pass.old task.Dump }
+    requires number { number ≡ length pass.old.known.shots + 1 }
+    requires room { number ≤ 4 }
+    ensures { HasMade heap.now pass.old pass.new (call.Dump number) result }
+{
+    match runtime::dump(heap, pass) {
+        Ok(turn) => match turn {
+            Turn::Done(number) => Turn::Done(Entry::Dump { number }),
+            Turn::Pending(why) => Turn::Pending(why),
+        },
+        Err(_) => unreachable!(),
+    }
+}
+
+/// Makes the call, which may begin and isn't refused. Calls that take a moment get the clock's time now, by `tick`.
+pub(crate) fn make<C: Clock>(heap: &Heap, clock: &C, tick: u32, pass: &mut Pass, call: Call) -> Turn<Entry>
+    requires { MayMake heap.now pass.old call }
+    ensures { HasMade heap.now pass.old pass.new call result }
+{
+    match call {
+        Call::Enter { object } => enter(heap, pass, object, moment(clock.now(), tick)),
+        Call::Exit { object } => exit(heap, pass, object),
+        Call::Wait { .. } => unreachable!(),
+        Call::Notify { object } => notify(heap, pass, object, moment(clock.now(), tick)),
+        Call::NotifyAll { object } => notify_all(heap, pass, object, moment(clock.now(), tick)),
+        Call::Get {
+            local,
+            object,
+            slot,
+        } => get(heap, pass, local, object, slot),
+        Call::Put {
+            object,
+            slot,
+            value,
+        } => put(heap, pass, object, slot, value),
+        Call::Hash { local, object } => {
+            hash(heap, pass, local, object, moment(clock.now(), tick))
+        }
+        Call::Print { value } => print(heap, pass, value),
+        Call::Dump { number } => dump(heap, pass, number),
+    }
+}
