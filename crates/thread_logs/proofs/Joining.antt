@@ -1,0 +1,264 @@
+-- Objects and threads together are the machine.
+use Rattle.std.proofs.Common.{◌≡◌, ℕ, zero, suc, ◌+◌, ◌<◌, ◌≤◌, List, [], ◌∷◌, length, map, slice_get, slice_set, Option, Some, None, IsSome, option_map, option_and_then, refl, sym, ap, ◌∙◌, subst, arith}
+use Rattle.std.specs.List.{AllByRecursion}
+use Rattle.std.proofs.lemmas.List.{length-map}
+use Rattle.std.proofs.lemmas.Option.{none-some, same_Some}
+use Rattle.plain_monitor.specs.declared.entry.Entry.{Entry}
+use Rattle.plain_monitor.specs.declared.entry.Logged.{Logged}
+use Rattle.plain_monitor.specs.Objects.{PlainObject, new_objects, take_entry}
+use Rattle.plain_monitor.specs.Order.{order}
+use Rattle.plain_monitor.specs.History.{RisesAbove, objects_after, log_of}
+use Rattle.plain_history.specs.Joined.{run_log, both, take_joined, take_all_joined, EachTakesItsLog}
+use Rattle.plain_history.proofs.Joined.{first_some}
+use Rattle.object_program.specs.Program.{ProgramText, shape_of}
+use Rattle.plain_machine.specs.Thread.{ThreadState}
+use Rattle.plain_machine.specs.Asking.{thread_after}
+use Rattle.plain_machine.specs.Machine.{PlainMachine, new_machine, code_of, take, moved}
+use Rattle.plain_machine.specs.Legal.{IsLegal, behind_all, machine_after}
+use Rattle.thread_logs.specs.Coded.{Coded, coded_step}
+use Rattle.thread_logs.specs.Followed.{Follows, HaveFollowed}
+
+abbrev with_code : ProgramText → ℕ → ThreadState → Coded
+with_code p t s = record { program = p; code = code_of p t; state = s }
+
+-- the states of the threads from t on, with their code
+abbrev coded : ProgramText → ℕ → List ThreadState → List Coded
+coded p t [] = []
+coded p t (s ∷ ss) = with_code p t s ∷ coded p (t + 1) ss
+
+get_coded : (p : ProgramText) (t i : ℕ) (ss : List ThreadState)
+    → slice_get (coded p t ss) i ≡ option_map (with_code p (t + i)) (slice_get ss i)
+get_coded p t i [] = refl
+get_coded p t zero (s ∷ ss) = ap (λ (n : ℕ). Some (with_code p n s)) (omega arith)
+get_coded p t (suc i) (s ∷ ss) =
+    let e : t + 1 + i ≡ t + suc i = omega arith in
+    get_coded p (t + 1) i ss ∙ ap (λ (n : ℕ). option_map (with_code p n) (slice_get ss i)) e
+
+set_coded : (p : ProgramText) (t i : ℕ) (ss : List ThreadState) (s : ThreadState)
+    → slice_set (coded p t ss) i (with_code p (t + i) s) ≡ coded p t (slice_set ss i s)
+set_coded p t i [] s = refl
+set_coded p t zero (x ∷ ss) s = ap (λ (n : ℕ). with_code p n s ∷ coded p (t + 1) ss) (omega arith)
+set_coded p t (suc i) (x ∷ ss) s =
+    let e : t + suc i ≡ t + 1 + i = omega arith in
+    let there = ap (λ (n : ℕ). slice_set (coded p (t + 1) ss) i (with_code p n s)) e in
+    ap (λ xs. with_code p t x ∷ xs) (there ∙ set_coded p (t + 1) i ss s)
+
+length_coded : (p : ProgramText) (t : ℕ) (ss : List ThreadState) → length (coded p t ss) ≡ length ss
+length_coded p t [] = refl
+length_coded p t (s ∷ ss) = let h = length_coded p (t + 1) ss in omega (arith, h)
+
+states_of : (p : ProgramText) (t : ℕ) (ss : List ThreadState) → map (λ (c : Coded). c.state) (coded p t ss) ≡ ss
+states_of p t [] = refl
+states_of p t (s ∷ ss) = ap (λ xs. s ∷ xs) (states_of p (t + 1) ss)
+
+-- the same from thread 0 on
+get_first : (p : ProgramText) (t : ℕ) (ss : List ThreadState)
+    → slice_get (coded p 0 ss) t ≡ option_map (with_code p t) (slice_get ss t)
+get_first p t ss =
+    let z : 0 + t ≡ t = omega arith in
+    get_coded p 0 t ss ∙ ap (λ (n : ℕ). option_map (with_code p n) (slice_get ss t)) z
+
+set_first : (p : ProgramText) (t : ℕ) (ss : List ThreadState) (s : ThreadState)
+    → slice_set (coded p 0 ss) t (with_code p t s) ≡ coded p 0 (slice_set ss t s)
+set_first p t ss s =
+    let z : t ≡ 0 + t = omega arith in
+    ap (λ (n : ℕ). slice_set (coded p 0 ss) t (with_code p n s)) z ∙ set_coded p 0 t ss s
+
+-- the states with their code behind an entry that led the one of thread t to this one
+abbrev set_after : PlainMachine → ℕ → Coded → List Coded
+set_after m t after = slice_set (coded m.program 0 m.threads) t after
+
+-- the same where thread t is in this state before the entry
+abbrev taken_by : PlainMachine → ℕ → Entry → Option Coded → Option (List Coded)
+taken_by m t e before = option_and_then (λ c. option_map (set_after m t) (coded_step c e)) before
+
+-- both parts of a machine
+abbrev parts : PlainMachine → List PlainObject × List Coded
+parts m = (m.objects, coded m.program 0 m.threads)
+
+moved_parts : (m : PlainMachine) (t : ℕ) (a : Option ThreadState) (o : Option (List PlainObject))
+    → both o (option_map (set_after m t) (option_map (with_code m.program t) a)) ≡ option_map parts (moved m t a o)
+moved_parts m t None None = refl
+moved_parts m t None (Some x) = refl
+moved_parts m t (Some n) None = refl
+moved_parts m t (Some n) (Some x) = ap (λ xs. Some (x, xs)) (set_first m.program t m.threads n)
+
+nothing_moved : (o : Option (List PlainObject)) → both {B = List Coded} o None ≡ None
+nothing_moved None = refl
+nothing_moved (Some x) = refl
+
+take_at : (m : PlainMachine) (t : ℕ) (e : Entry) (r : Option ThreadState)
+    → both (take_entry m.objects t e) (taken_by m t e (option_map (with_code m.program t) r))
+    ≡ option_map parts
+    (option_and_then (λ s. moved m t (thread_after m.program (code_of m.program t) s e) (take_entry m.objects t e)) r)
+take_at m t e None = nothing_moved (take_entry m.objects t e)
+take_at m t e (Some s) = moved_parts m t (thread_after m.program (code_of m.program t) s e) (take_entry m.objects t e)
+
+take_parts : (m : PlainMachine) (t : ℕ) (e : Entry)
+    → take_joined coded_step m.objects (coded m.program 0 m.threads) t e ≡ option_map parts (take m t e)
+take_parts m t e =
+    ap (λ r. both (take_entry m.objects t e) (taken_by m t e r)) (get_first m.program t m.threads)
+    ∙ take_at m t e (slice_get m.threads t)
+
+-- both parts behind these entries
+abbrev joined_on : List (ℕ × Logged) → List PlainObject × List Coded → Option (List PlainObject × List Coded)
+joined_on xs p = take_all_joined coded_step p.0 p.1 xs
+
+behind_parts : (m : PlainMachine) (xs : List (ℕ × Logged))
+    → take_all_joined coded_step m.objects (coded m.program 0 m.threads) xs ≡ option_map parts (behind_all m xs)
+behind_parts m [] = refl
+behind_parts m (x ∷ xs) =
+    ap (option_and_then (joined_on xs)) (take_parts m x.0 x.1.entry) ∙ onward (take m x.0 x.1.entry) (λ n. behind_parts n xs)
+  where
+    onward : (r : Option PlainMachine) → ((n : PlainMachine) → joined_on xs (parts n) ≡ option_map parts (behind_all n xs))
+        → option_and_then (joined_on xs) (option_map parts r) ≡ option_map parts (option_and_then (λ n. behind_all n xs) r)
+    onward None h = refl
+    onward (Some n) h = h n
+
+-- one thread's log leads to the same state with the code beside it
+run_coded : (p : ProgramText) (t : ℕ) (log : List Logged) (s final : ThreadState)
+    → run_log (thread_after p (code_of p t)) s log ≡ Some final
+    → run_log coded_step (with_code p t s) log ≡ Some (with_code p t final)
+run_coded p t [] s final h = ap (option_map (with_code p t)) h
+run_coded p t (l ∷ log) s final h =
+    let step = thread_after p (code_of p t) in
+    let a = first_some (λ n. run_log step n log) (step s l.entry) final h in
+    rw a.1 (run_coded p t log a.0 final a.2)
+
+-- what a value that a function made came from
+record Came {A B : Type 0} (f : A → B) (r : Option A) (y : B) : Type 0 where
+  from : A
+  here : r ≡ Some from
+  is : f from ≡ y
+
+came : {A B : Type 0} (f : A → B) (r : Option A) (y : B) → option_map f r ≡ Some y → Came f r y
+came f None y e = absurd (none-some y e)
+came f (Some x) y e = record { from = x; here = refl; is = same_Some (f x) y e }
+
+-- a list whose elements are told by their places, from place k on
+record IsListOf {A : Type 0} (P : ℕ → A → Type 0) (k n : ℕ) : Type 0 where
+  items : List A
+  count : length items ≡ n
+  each : (i : ℕ) (x : A) → slice_get items i ≡ Some x → P (k + i) x
+
+list_of : {A : Type 0} (P : ℕ → A → Type 0) (k n : ℕ) → ((i : ℕ) → i < k + n → (x : A) × P i x) → IsListOf P k n
+list_of P k zero f = record { items = []; count = refl; each = λ i x e. absurd (none-some x e) }
+list_of P k (suc n) f =
+    let here = f k (omega arith) in
+    let rest = list_of P (k + 1) n (λ i l. f i (omega (arith, l))) in
+    let count = rest.count in
+    record { items = here.0 ∷ rest.items; count = omega (arith, count); each = each here.0 here.1 rest }
+  where
+    each : (y : _) → P k y → (rest : IsListOf P (k + 1) n) → (i : ℕ) (x : _) → slice_get (y ∷ rest.items) i ≡ Some x
+        → P (k + i) x
+    each y h rest zero x e =
+        let z : k ≡ k + 0 = omega arith in
+        subst (λ (j : ℕ). P j x) z (subst (P k) (same_Some y x e) h)
+    each y h rest (suc i) x e =
+        let z : k + 1 + i ≡ k + suc i = omega arith in
+        subst (λ (j : ℕ). P j x) z (rest.each i x e)
+
+module _ (p : ProgramText) (fuel : ℕ) (logs : List (List Logged)) (h : HaveFollowed p fuel logs) where
+  abbrev threads : List ThreadState
+  threads = (new_machine p fuel).threads
+
+  abbrev IsFinal : ℕ → ThreadState → Type 0
+  IsFinal t s = Follows p fuel t (log_of logs t) s
+
+  finals : IsListOf IsFinal 0 (length p.threads)
+  finals = list_of IsFinal 0 (length p.threads) (λ t l. let f = h.each t (omega (arith, l)) in (f.now, f.follows))
+
+  final_at : (t : ℕ) (s : ThreadState) → slice_get finals.items t ≡ Some s → IsFinal t s
+  final_at t s e = let z : 0 + t ≡ t = omega arith in subst (λ (k : ℕ). IsFinal k s) z (finals.each t s e)
+
+  abbrev states : List Coded
+  states = coded p 0 threads
+
+  lasts : List Coded
+  lasts = coded p 0 finals.items
+
+  as_many : length states ≡ length p.threads
+  as_many = length_coded p 0 threads ∙ length-map p.threads _
+
+  enough : length logs ≤ length states
+  enough = omega (arith, h.count, as_many)
+
+  own : (t : ℕ) (s final : Coded) → slice_get states t ≡ Some s → slice_get lasts t ≡ Some final
+      → run_log coded_step s (log_of logs t) ≡ Some final
+  unfolding lasts
+  own t s final e f =
+      let a = came (with_code p t) (slice_get threads t) s (sym (get_first p t threads) ∙ e) in
+      let b = came (with_code p t) (slice_get finals.items t) final (sym (get_first p t finals.items) ∙ f) in
+      let last = final_at t b.from b.here in
+      let first : last.first ≡ a.from = same_Some _ _ (sym last.there ∙ a.here) in
+      let leads = ap (λ x. run_log (thread_after p (code_of p t)) x (log_of logs t)) (sym first) ∙ last.leads in
+      let runs = run_coded p t (log_of logs t) a.from b.from leads in
+      ap (λ x. run_log coded_step x (log_of logs t)) (sym a.is) ∙ runs ∙ ap Some b.is
+
+  takes : EachTakesItsLog coded_step states lasts logs
+  unfolding lasts
+  takes = record { threads = length_coded p 0 finals.items ∙ finals.count ∙ sym as_many; own = own }
+
+  -- the machine behind the logs
+  record IsBehind : Type 0 where
+    machine : PlainMachine
+    is : machine_after p fuel logs ≡ Some machine
+    objects : objects_after (shape_of p) logs ≡ Some machine.objects
+    threads_are : machine.threads ≡ finals.items
+
+  behind : (after : List PlainObject) → objects_after (shape_of p) logs ≡ Some after
+      → take_all_joined coded_step (new_objects (shape_of p)) states (order logs) ≡ Some (after, lasts) → IsBehind
+  unfolding lasts
+  behind after o e =
+      let both_there = sym (behind_parts (new_machine p fuel) (order logs)) ∙ e in
+      let c = came parts (machine_after p fuel logs) (after, lasts) both_there in
+      let m = c.from in
+      let same : coded m.program 0 m.threads ≡ coded p 0 finals.items =
+      ap (λ (x : List PlainObject × List Coded). x.1) c.is in
+      let states_same = ap (map (λ (c : Coded). c.state)) same in
+      record {
+        machine = m;
+        is = c.here;
+        objects = o ∙ ap (λ (x : List PlainObject × List Coded). Some x.0) (sym c.is);
+        threads_are = sym (states_of m.program 0 m.threads) ∙ states_same ∙ states_of p 0 finals.items;
+      }
+
+-- the law by which objects and threads that take all take it together
+abbrev pub Law : Type 0
+Law =
+    (shape : List (ℕ × ℕ)) (logs : List (List Logged)) (after : List PlainObject) (before finals : List Coded)
+    → AllByRecursion (RisesAbove 0) logs → length logs ≤ length before → objects_after shape logs ≡ Some after
+    → EachTakesItsLog coded_step before finals logs
+    → take_all_joined coded_step (new_objects shape) before (order logs) ≡ Some (after, finals)
+
+module _ (law : Law) (p : ProgramText) (fuel : ℕ) (logs : List (List Logged)) where
+  there : (h : HaveFollowed p fuel logs) (r : Option (List PlainObject)) → objects_after (shape_of p) logs ≡ r
+      → IsSome r → IsBehind p fuel logs h
+  there h None e s = absurd (cc s)
+  there h (Some after) e s =
+      let by_logs = law (shape_of p) logs after (states p fuel logs h) (lasts p fuel logs h) h.objects.rises in
+      behind p fuel logs h after e (by_logs (enough p fuel logs h) e (takes p fuel logs h))
+
+  now : (h : HaveFollowed p fuel logs) → IsBehind p fuel logs h
+  now h = there h (objects_after (shape_of p) logs) refl h.objects.taken
+
+  pub legal : HaveFollowed p fuel logs → IsLegal p fuel logs
+  legal h = record { rises = h.objects.rises; taken = subst IsSome (sym (now h).is) refl }
+
+  module _ (m : PlainMachine) (h : HaveFollowed p fuel logs) (at : machine_after p fuel logs ≡ Some m) where
+    same : (now h).machine ≡ m
+    same = same_Some _ _ (sym (now h).is ∙ at)
+
+    pub objects_are : objects_after (shape_of p) logs ≡ Some m.objects
+    objects_are = (now h).objects ∙ ap (λ (x : PlainMachine). Some x.objects) same
+
+    finals_are : m.threads ≡ (finals p fuel logs h).items
+    finals_are = ap (λ (x : PlainMachine). x.threads) (sym same) ∙ (now h).threads_are
+
+    pub threads_count : length m.threads ≡ length p.threads
+    threads_count = ap length finals_are ∙ (finals p fuel logs h).count
+
+    pub each_follows : (t : ℕ) (s : ThreadState) → slice_get m.threads t ≡ Some s → Follows p fuel t (log_of logs t) s
+    each_follows t s e =
+        let there = ap (λ (xs : List ThreadState). slice_get xs t) (sym finals_are) in
+        final_at p fuel logs h t s (there ∙ e)
