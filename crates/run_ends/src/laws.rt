@@ -1,6 +1,6 @@
 //! Laws of a heap's end. The functions do nothing.
 
-ghost use Rattle.std.specs.Prelude.{◌≡◌, ◌⊎◌, ◌<◌, ℕ, true, List, None, slice_get, slice_index};
+ghost use Rattle.std.specs.Prelude.{◌≡◌, ℕ, true, List, slice_get, slice_index};
 ghost use Rattle.core_world.specs.declared.task.Op.TheVariants as op;
 ghost use Rattle.core_world.specs.Clauses.Safepoints.{IsUnfinished};
 ghost use Rattle.core_world.specs.Threads.Known.{Known};
