@@ -1,0 +1,4 @@
+pub mod LastWorlds
+pub mod Draws
+pub mod Shots
+pub mod Stuck

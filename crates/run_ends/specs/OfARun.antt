@@ -12,7 +12,6 @@ use Rattle.core_world.specs.Locks.{monitor_of}
 use Rattle.core_world.specs.Shots.{IsRightShot, IsNoLater, places_of, dumps_from}
 use Rattle.core_world.specs.Threads.AtRest.{AtRest}
 use Rattle.core_world.specs.Threads.Known.{Known, DumpShot}
-use Rattle.core_world.specs.Words.Shape.{Shape}
 use Rattle.core_steps.specs.Logic.{Heap}
 use Rattle.heap_table.specs.Seen.{LastWorld, InOrder}
 
@@ -36,19 +35,22 @@ abbrev pub unfinished_in : Option Known → Option Unfinished
 unfinished_in None = None
 unfinished_in (Some k) = k.unfinished
 
--- the draws of each thread are those of its generator, in their order; and of the hashes of an object that has any, just one was drawn
+-- the draws of each thread are those of its generator, in their order; and of the hashes of an object that has any,
+-- just one was drawn
 pub record HasDraws (start : ℕ) (logs : List (List Logged)) : Type 0 where
   pub drawn : (t : ℕ) → AreDraws (first_draw start t) 0 (log_of logs t)
   pub one : (o t : ℕ) → has_hash o (log_of logs t) ≡ true → all_draws o logs ≡ 1
 
--- each shot is right over the logs, each thread has one for each dump that it logged, and of any two one was made no later than the other
+-- each shot is right over the logs, each thread has one for each dump that it logged, and of any two one was made no
+-- later than the other
 pub record HasShots (shape : List (ℕ × ℕ)) (logs : List (List Logged)) (shots : List (List DumpShot)) : Type 0 where
   pub right : (t : ℕ) → AllByRecursion (IsRightShot shape logs) (shots_at shots t)
   pub dumps : (t : ℕ) → places_of t (shots_at shots t) ≡ dumps_from 0 (log_of logs t)
-  pub ordered : (t u i j : ℕ) (a b : DumpShot) → slice_get (shots_at shots t) i ≡ Some a → slice_get (shots_at shots u) j ≡ Some b
-      → IsNoLater a b ⊎ IsNoLater b a
+  pub ordered : (t u i j : ℕ) (a b : DumpShot) → slice_get (shots_at shots t) i ≡ Some a
+      → slice_get (shots_at shots u) j ≡ Some b → IsNoLater a b ⊎ IsNoLater b a
 
--- some thread has not ended, and each that has not waits, or asks for a monitor that another thread has, by the plain objects behind the logs
+-- some thread has not ended, and each that has not waits, or asks for a monitor that another thread has, by the plain
+-- objects behind the logs
 pub record IsStuckEnd (shape : List (ℕ × ℕ)) (threads : ℕ) (ks : List Known) : Type 0 where
   pub objects : List PlainObject
   pub taken : objects_after shape (logs_in ks) ≡ Some objects

@@ -1,0 +1,2 @@
+pub mod HandoverText
+pub mod HandoverProgram

@@ -1,0 +1,60 @@
+//! What the handover program declares.
+
+ghost use Rattle.std.specs.Prelude.{◌≡◌, IsTrue, IfOk};
+ghost use Rattle.object_program.specs.Name.{is_name};
+ghost use Rattle.made_program.specs.HandoverProgram as spec;
+
+use object_program::{ClassDef, Name, ObjectDef};
+use plain_monitor::List;
+use std::alloc::{AllocError, Global};
+
+/// A name of these bytes.
+pub fn name(bytes: &[u8]) -> Name
+    requires { IsTrue (is_name bytes.now) }
+    ensures { result ≡ bytes.now }
+{
+    match Name::new(bytes) {
+        Some(name) => name,
+        None => unreachable!(),
+    }
+}
+
+/// The class of the items and the class of the flag.
+pub fn classes(alloc: Global) -> Result<List<ClassDef>, AllocError>
+    ensures { IfOk result (λ all. all ≡ spec.classes) }
+{
+    let all = [
+        ClassDef {
+            name: name(b"Item"),
+            slots: 0,
+        },
+        ClassDef {
+            name: name(b"Flag"),
+            slots: 1,
+        },
+    ];
+    Ok(List::of(Vec::from_slice(alloc, &all)?))
+}
+
+/// The items, and the flag behind them.
+pub fn objects(alloc: Global, items: u32) -> Result<List<ObjectDef>, AllocError>
+    ensures { IfOk result (λ all. all ≡ spec.objects items) }
+{
+    let all = [
+        ObjectDef {
+            name: name(b"items"),
+            class: 0,
+            first: 0,
+            size: items,
+            array: true,
+        },
+        ObjectDef {
+            name: name(b"flag"),
+            class: 1,
+            first: items,
+            size: 1,
+            array: false,
+        },
+    ];
+    Ok(List::of(Vec::from_slice(alloc, &all)?))
+}

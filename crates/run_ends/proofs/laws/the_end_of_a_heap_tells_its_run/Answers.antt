@@ -1,0 +1,16 @@
+use Rattle.run_ends.proofs.Draws.{has_draws}
+use Rattle.run_ends.proofs.Shots.{has_shots}
+use Rattle.run_ends.proofs.Stuck.{is_stuck, no_hash_open}
+use Rattle.run_ends.proofs.laws.the_end_of_a_heap_tells_its_run.Goals as goal
+
+pub returns-clause-draws : goal.returns-clause-draws
+returns-clause-draws c = has_draws
+
+pub returns-clause-shots : goal.returns-clause-shots
+returns-clause-shots c = has_shots
+
+pub returns-clause-stuck : goal.returns-clause-stuck
+returns-clause-stuck c = is_stuck
+
+pub returns-clause-unfinished : goal.returns-clause-unfinished
+returns-clause-unfinished c = λ heap words ks t o e halted h. no_hash_open heap words ks e halted t o h
