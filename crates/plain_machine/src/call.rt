@@ -2,7 +2,8 @@
 
 use plain_monitor::{Ending, Value};
 
-/// The call that a running thread stands before, with what its code and its locals give.
+/// The call that a running thread stands before, with what its code and its locals give. Objects, the slots of an
+/// object and the locals of a thread have numbers from 0.
 #[derive(Clone, Copy, Debug, PartialEq, Eq)]
 pub enum Call {
     Enter {
@@ -39,12 +40,13 @@ pub enum Call {
     Print {
         value: Value,
     },
+    /// The thread's dump with this number, from 1 to 4.
     Dump {
         number: u32,
     },
 }
 
-/// Where a thread is.
+/// Where a thread is: before a call, in a wait, on the way to its end, or there.
 #[derive(Clone, Copy, Debug, PartialEq, Eq)]
 pub enum Mode {
     /// It runs, and stands before this call.
@@ -53,6 +55,7 @@ pub enum Mode {
     Waiting { object: u32 },
     /// It leaves all its holds, and then ends so.
     Unwinding { ending: Ending },
+    /// It has left all its holds and ended so.
     Ended { ending: Ending },
 }
 
@@ -63,7 +66,7 @@ pub enum Asked {
     Calls { call: Call },
     /// To have the monitor again that it waited on.
     Resumes { object: u32 },
-    /// An exit of a hold that it ends with.
+    /// An exit of a hold that it ends with: of the held object with the least number.
     Leaves { object: u32 },
     /// Its end.
     Ends { ending: Ending },

@@ -7,7 +7,7 @@ ghost use Rattle.plain_machine.specs.Machine.{code_of};
 
 use object_program::{Code, ObjectDef, Program};
 
-/// The instructions of thread t.
+/// The instructions of thread t, where threads have numbers from 0; at most 4096.
 #[tactic(auto, using(crate::proofs::Codes::codes))]
 pub fn code_of(program: &Program, t: u32) -> &[Code]
     requires { t < length program.now.threads }
@@ -17,7 +17,7 @@ pub fn code_of(program: &Program, t: u32) -> &[Code]
     program.threads.items()[t as usize].code.items()
 }
 
-/// The slots of an object of this class.
+/// How many slots an object of this class has; where there is no such class, 0.
 pub fn slots_of_class(program: &Program, class: u32) -> u32
     ensures { result ≡ slots_of_class program.now.classes class }
 {

@@ -4,16 +4,16 @@ ghost use Rattle.std.specs.Prelude.{◌≡◌, ◌<◌, ◌+ℤ◌, ◌-ℤ◌, 
 ghost use Rattle.plain_machine.specs.Thread.{combines, computes, first_of, element, is_element};
 ghost use Rattle.plain_machine.specs.Next.{meant, IsReadyNext};
 
+use crate::actor::Actor;
 use crate::step::{Next, fault};
-use crate::thread::Thread;
 use object_program::Program;
 use plain_monitor::{Fault, Value};
 
 /// x becomes the sum of two numbers.
-pub fn add(thread: &Thread, x: u32, y: Value, z: Value) -> Next
-    requires { thread.now.place < 4096 }
-    ensures next { combines thread.now x (λ a b. a +ℤ b) y z ≡ meant thread.now result }
-    ensures ready { IsReadyNext thread.now result }
+pub fn add<T: Actor>(thread: &T, x: u32, y: Value, z: Value) -> Next
+    requires { (T.state thread.now).place < 4096 }
+    ensures next { combines (T.state thread.now) x (λ a b. a +ℤ b) y z ≡ meant (T.state thread.now) result }
+    ensures ready { IsReadyNext (T.state thread.now) result }
 {
     match (y, z) {
         (Value::Int(y), Value::Int(z)) => compute(thread, x, sum(y, z)),
@@ -22,10 +22,10 @@ pub fn add(thread: &Thread, x: u32, y: Value, z: Value) -> Next
 }
 
 /// x becomes the difference of two numbers.
-pub fn sub(thread: &Thread, x: u32, y: Value, z: Value) -> Next
-    requires { thread.now.place < 4096 }
-    ensures next { combines thread.now x (λ a b. a -ℤ b) y z ≡ meant thread.now result }
-    ensures ready { IsReadyNext thread.now result }
+pub fn sub<T: Actor>(thread: &T, x: u32, y: Value, z: Value) -> Next
+    requires { (T.state thread.now).place < 4096 }
+    ensures next { combines (T.state thread.now) x (λ a b. a -ℤ b) y z ≡ meant (T.state thread.now) result }
+    ensures ready { IsReadyNext (T.state thread.now) result }
 {
     match (y, z) {
         (Value::Int(y), Value::Int(z)) => compute(thread, x, difference(y, z)),
@@ -34,10 +34,10 @@ pub fn sub(thread: &Thread, x: u32, y: Value, z: Value) -> Next
 }
 
 /// x becomes the product of two numbers.
-pub fn mul(thread: &Thread, x: u32, y: Value, z: Value) -> Next
-    requires { thread.now.place < 4096 }
-    ensures next { combines thread.now x (λ a b. a *ℤ b) y z ≡ meant thread.now result }
-    ensures ready { IsReadyNext thread.now result }
+pub fn mul<T: Actor>(thread: &T, x: u32, y: Value, z: Value) -> Next
+    requires { (T.state thread.now).place < 4096 }
+    ensures next { combines (T.state thread.now) x (λ a b. a *ℤ b) y z ≡ meant (T.state thread.now) result }
+    ensures ready { IsReadyNext (T.state thread.now) result }
 {
     match (y, z) {
         (Value::Int(y), Value::Int(z)) => compute(thread, x, product(y, z)),
@@ -64,10 +64,10 @@ fn product(y: i64, z: i64) -> i128
 }
 
 /// x becomes the number, where a value may be it.
-fn compute(thread: &Thread, x: u32, z: i128) -> Next
-    requires { thread.now.place < 4096 }
-    ensures next { computes thread.now x z ≡ meant thread.now result }
-    ensures ready { IsReadyNext thread.now result }
+fn compute<T: Actor>(thread: &T, x: u32, z: i128) -> Next
+    requires { (T.state thread.now).place < 4096 }
+    ensures next { computes (T.state thread.now) x z ≡ meant (T.state thread.now) result }
+    ensures ready { IsReadyNext (T.state thread.now) result }
 {
     if z < i128::from(Value::LEAST) || z > i128::from(Value::GREATEST) {
         return fault(thread, Fault::Overflow);
@@ -89,10 +89,11 @@ pub fn first_object(program: &Program, n: u32) -> u32
 }
 
 /// x refers to element i of declaration n.
-pub fn element(program: &Program, thread: &Thread, x: u32, n: u32, i: Value) -> Next
-    requires { thread.now.place < 4096 }
-    ensures next { element thread.now x (slice_get program.now.objects n) i ≡ meant thread.now result }
-    ensures ready { IsReadyNext thread.now result }
+pub fn element<T: Actor>(program: &Program, thread: &T, x: u32, n: u32, i: Value) -> Next
+    requires { (T.state thread.now).place < 4096 }
+    ensures next { element (T.state thread.now) x (slice_get program.now.objects n) i
+        ≡ meant (T.state thread.now) result }
+    ensures ready { IsReadyNext (T.state thread.now) result }
 {
     let Value::Int(i) = i else {
         return fault(thread, Fault::NotInt);

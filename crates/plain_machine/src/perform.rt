@@ -7,18 +7,19 @@ ghost use Rattle.plain_machine.specs.Ready.{HasRoomFor};
 ghost use Rattle.plain_machine.specs.declared.call.Call.TheVariants as call;
 ghost use Rattle.plain_monitor.specs.declared.entry.Fault.TheVariants as fault;
 
+use crate::actor::Actor;
 use crate::call::Call;
 use crate::code::slots_of;
 use crate::step::{Next, fault};
-use crate::thread::Thread;
 use object_program::Program;
 use plain_monitor::{Fault, Value};
 
 /// An enter, of at most 64 holds.
-pub fn enter(thread: &Thread, value: Value) -> Next
-    requires { thread.now.place < 4096 }
-    ensures next { on_object thread.now value (enters thread.now) ≡ meant thread.now result }
-    ensures ready { IsReadyNext thread.now result }
+pub fn enter<T: Actor>(thread: &T, value: Value) -> Next
+    requires { (T.state thread.now).place < 4096 }
+    ensures next { on_object (T.state thread.now) value (enters (T.state thread.now))
+        ≡ meant (T.state thread.now) result }
+    ensures ready { IsReadyNext (T.state thread.now) result }
 {
     let Value::Ref(object) = value else {
         return fault(thread, Fault::NotRef);
@@ -32,11 +33,11 @@ pub fn enter(thread: &Thread, value: Value) -> Next
 }
 
 /// What only the owner may do: a thread that has no hold on the object faults.
-fn owner_only(thread: &Thread, object: u32, otherwise: Fault, call: Call) -> Next
-    requires place { thread.now.place < 4096 }
-    requires room { HasRoomFor thread.now call }
-    ensures next { owner_only thread.now object otherwise (Calls call) ≡ meant thread.now result }
-    ensures ready { IsReadyNext thread.now result }
+fn owner_only<T: Actor>(thread: &T, object: u32, otherwise: Fault, call: Call) -> Next
+    requires place { (T.state thread.now).place < 4096 }
+    requires room { HasRoomFor (T.state thread.now) call }
+    ensures next { owner_only (T.state thread.now) object otherwise (Calls call) ≡ meant (T.state thread.now) result }
+    ensures ready { IsReadyNext (T.state thread.now) result }
 {
     if thread.holds(object) < 1 {
         return fault(thread, otherwise);
@@ -45,12 +46,12 @@ fn owner_only(thread: &Thread, object: u32, otherwise: Fault, call: Call) -> Nex
 }
 
 /// An exit.
-pub fn exit(thread: &Thread, value: Value) -> Next
-    requires { thread.now.place < 4096 }
-    ensures next { on_object thread.now value
-        (λ o. owner_only thread.now o fault.IllegalMonitorState (Calls (call.Exit o)))
-        ≡ meant thread.now result }
-    ensures ready { IsReadyNext thread.now result }
+pub fn exit<T: Actor>(thread: &T, value: Value) -> Next
+    requires { (T.state thread.now).place < 4096 }
+    ensures next { on_object (T.state thread.now) value
+        (λ o. owner_only (T.state thread.now) o fault.IllegalMonitorState (Calls (call.Exit o)))
+        ≡ meant (T.state thread.now) result }
+    ensures ready { IsReadyNext (T.state thread.now) result }
 {
     match value {
         Value::Ref(object) => {
@@ -66,12 +67,12 @@ pub fn exit(thread: &Thread, value: Value) -> Next
 }
 
 /// A wait.
-pub fn wait(thread: &Thread, value: Value) -> Next
-    requires { thread.now.place < 4096 }
-    ensures next { on_object thread.now value
-        (λ o. owner_only thread.now o fault.IllegalMonitorState (Calls (call.Wait o)))
-        ≡ meant thread.now result }
-    ensures ready { IsReadyNext thread.now result }
+pub fn wait<T: Actor>(thread: &T, value: Value) -> Next
+    requires { (T.state thread.now).place < 4096 }
+    ensures next { on_object (T.state thread.now) value
+        (λ o. owner_only (T.state thread.now) o fault.IllegalMonitorState (Calls (call.Wait o)))
+        ≡ meant (T.state thread.now) result }
+    ensures ready { IsReadyNext (T.state thread.now) result }
 {
     match value {
         Value::Ref(object) => {
@@ -87,12 +88,12 @@ pub fn wait(thread: &Thread, value: Value) -> Next
 }
 
 /// A notify.
-pub fn notify(thread: &Thread, value: Value) -> Next
-    requires { thread.now.place < 4096 }
-    ensures next { on_object thread.now value
-        (λ o. owner_only thread.now o fault.IllegalMonitorState (Calls (call.Notify o)))
-        ≡ meant thread.now result }
-    ensures ready { IsReadyNext thread.now result }
+pub fn notify<T: Actor>(thread: &T, value: Value) -> Next
+    requires { (T.state thread.now).place < 4096 }
+    ensures next { on_object (T.state thread.now) value
+        (λ o. owner_only (T.state thread.now) o fault.IllegalMonitorState (Calls (call.Notify o)))
+        ≡ meant (T.state thread.now) result }
+    ensures ready { IsReadyNext (T.state thread.now) result }
 {
     match value {
         Value::Ref(object) => {
@@ -108,12 +109,12 @@ pub fn notify(thread: &Thread, value: Value) -> Next
 }
 
 /// A notify of all.
-pub fn notify_all(thread: &Thread, value: Value) -> Next
-    requires { thread.now.place < 4096 }
-    ensures next { on_object thread.now value
-        (λ o. owner_only thread.now o fault.IllegalMonitorState (Calls (call.NotifyAll o)))
-        ≡ meant thread.now result }
-    ensures ready { IsReadyNext thread.now result }
+pub fn notify_all<T: Actor>(thread: &T, value: Value) -> Next
+    requires { (T.state thread.now).place < 4096 }
+    ensures next { on_object (T.state thread.now) value
+        (λ o. owner_only (T.state thread.now) o fault.IllegalMonitorState (Calls (call.NotifyAll o)))
+        ≡ meant (T.state thread.now) result }
+    ensures ready { IsReadyNext (T.state thread.now) result }
 {
     match value {
         Value::Ref(object) => {
@@ -129,11 +130,11 @@ pub fn notify_all(thread: &Thread, value: Value) -> Next
 }
 
 /// What reads or writes slot k of an object.
-fn on_slot(program: &Program, thread: &Thread, object: u32, k: u32, call: Call) -> Next
-    requires place { thread.now.place < 4096 }
-    requires room { HasRoomFor thread.now call }
-    ensures next { on_slot program.now thread.now object k call ≡ meant thread.now result }
-    ensures ready { IsReadyNext thread.now result }
+fn on_slot<T: Actor>(program: &Program, thread: &T, object: u32, k: u32, call: Call) -> Next
+    requires place { (T.state thread.now).place < 4096 }
+    requires room { HasRoomFor (T.state thread.now) call }
+    ensures next { on_slot program.now (T.state thread.now) object k call ≡ meant (T.state thread.now) result }
+    ensures ready { IsReadyNext (T.state thread.now) result }
 {
     if k >= slots_of(program, object) {
         return fault(thread, Fault::Range);
@@ -142,11 +143,12 @@ fn on_slot(program: &Program, thread: &Thread, object: u32, k: u32, call: Call) 
 }
 
 /// A read of slot k into x.
-pub fn get(program: &Program, thread: &Thread, x: u32, value: Value, k: u32) -> Next
-    requires { thread.now.place < 4096 }
-    ensures next { on_object thread.now value (λ o. on_slot program.now thread.now o k (call.Get x o k))
-        ≡ meant thread.now result }
-    ensures ready { IsReadyNext thread.now result }
+pub fn get<T: Actor>(program: &Program, thread: &T, x: u32, value: Value, k: u32) -> Next
+    requires { (T.state thread.now).place < 4096 }
+    ensures next { on_object (T.state thread.now) value
+        (λ o. on_slot program.now (T.state thread.now) o k (call.Get x o k))
+        ≡ meant (T.state thread.now) result }
+    ensures ready { IsReadyNext (T.state thread.now) result }
 {
     let Value::Ref(object) = value else {
         return fault(thread, Fault::NotRef);
@@ -160,12 +162,12 @@ pub fn get(program: &Program, thread: &Thread, x: u32, value: Value, k: u32) -> 
 }
 
 /// A write of a value to slot k.
-pub fn put(program: &Program, thread: &Thread, value: Value, k: u32, written: Value) -> Next
-    requires { thread.now.place < 4096 }
-    ensures next { on_object thread.now value
-        (λ o. on_slot program.now thread.now o k (call.Put o k written))
-        ≡ meant thread.now result }
-    ensures ready { IsReadyNext thread.now result }
+pub fn put<T: Actor>(program: &Program, thread: &T, value: Value, k: u32, written: Value) -> Next
+    requires { (T.state thread.now).place < 4096 }
+    ensures next { on_object (T.state thread.now) value
+        (λ o. on_slot program.now (T.state thread.now) o k (call.Put o k written))
+        ≡ meant (T.state thread.now) result }
+    ensures ready { IsReadyNext (T.state thread.now) result }
 {
     let Value::Ref(object) = value else {
         return fault(thread, Fault::NotRef);
@@ -179,10 +181,11 @@ pub fn put(program: &Program, thread: &Thread, value: Value, k: u32, written: Va
 }
 
 /// A wish for the object's hash.
-pub fn hash(thread: &Thread, x: u32, value: Value) -> Next
-    requires { thread.now.place < 4096 }
-    ensures next { on_object thread.now value (λ o. Calls (call.Hash x o)) ≡ meant thread.now result }
-    ensures ready { IsReadyNext thread.now result }
+pub fn hash<T: Actor>(thread: &T, x: u32, value: Value) -> Next
+    requires { (T.state thread.now).place < 4096 }
+    ensures next { on_object (T.state thread.now) value (λ o. Calls (call.Hash x o))
+        ≡ meant (T.state thread.now) result }
+    ensures ready { IsReadyNext (T.state thread.now) result }
 {
     match value {
         Value::Ref(object) => Next::Calls {
@@ -193,10 +196,10 @@ pub fn hash(thread: &Thread, x: u32, value: Value) -> Next
 }
 
 /// A print of the value.
-pub fn print(thread: &Thread, value: Value) -> Next
-    requires { thread.now.place < 4096 }
-    ensures next { Calls (call.Print value) ≡ meant thread.now result }
-    ensures ready { IsReadyNext thread.now result }
+pub fn print<T: Actor>(thread: &T, value: Value) -> Next
+    requires { (T.state thread.now).place < 4096 }
+    ensures next { Calls (call.Print value) ≡ meant (T.state thread.now) result }
+    ensures ready { IsReadyNext (T.state thread.now) result }
 {
     Next::Calls {
         call: Call::Print { value },
@@ -204,10 +207,10 @@ pub fn print(thread: &Thread, value: Value) -> Next
 }
 
 /// A dump, of at most 4.
-pub fn dump(thread: &Thread) -> Next
-    requires { thread.now.place < 4096 }
-    ensures next { dumps_next thread.now ≡ meant thread.now result }
-    ensures ready { IsReadyNext thread.now result }
+pub fn dump<T: Actor>(thread: &T) -> Next
+    requires { (T.state thread.now).place < 4096 }
+    ensures next { dumps_next (T.state thread.now) ≡ meant (T.state thread.now) result }
+    ensures ready { IsReadyNext (T.state thread.now) result }
 {
     if thread.dumps() >= 4 {
         return fault(thread, Fault::TooManyDumps);

@@ -5,33 +5,38 @@ ghost use Rattle.plain_machine.specs.Thread.{step_of, faults};
 ghost use Rattle.plain_machine.specs.Running.{instruction_at};
 ghost use Rattle.plain_machine.specs.Next.{meant, IsReadyNext};
 
+use crate::actor::Actor;
 use crate::call::Call;
 use crate::compute::{add, element, first_object, mul, sub};
 use crate::jump::{jump, jump_below, jump_equal};
 use crate::perform::{dump, enter, exit, get, hash, notify, notify_all, print, put, wait};
-use crate::thread::Thread;
 use object_program::{Code, Program};
 use plain_monitor::{Ending, Fault, Value};
 
-/// What an instruction leads to.
+/// What an instruction leads to. Locals have numbers from 0. A place is how many instructions stand before it, and may be
+/// behind the last one, where the thread is done.
 #[derive(Clone, Copy)]
 pub enum Next {
     /// The local becomes the value, and the thread goes on behind the instruction.
     Sets { local: u32, value: Value },
-    /// The thread goes on behind this many instructions.
+    /// The thread goes on at this place.
     Jumps { place: u32 },
     /// The thread stands before the call.
     Calls { call: Call },
-    /// The thread ends so.
+    /// The thread makes no call more: it leaves its holds and ends so.
     Stops { ending: Ending },
 }
 
-/// What the instruction that the thread is at leads to. Behind the last one a thread is done.
-pub fn look(program: &Program, code: &[Code], thread: &Thread) -> Next
+/// What the instruction that the thread is at leads to, where `code` has the thread's instructions. Behind the last
+/// one a thread is done. The thread is only read: whoever keeps it makes of it what the answer says.
+///
+/// The answer stands for the step that the language gives. Where it sets a local or calls, the thread is at an
+/// instruction, and a thread that enters has fewer than 64 holds.
+pub fn look<T: Actor>(program: &Program, code: &[Code], thread: &T) -> Next
     requires { length code.now ≤ 4096 }
-    ensures next { step_of program.now thread.now (instruction_at code.now thread.now.place)
-        ≡ meant thread.now result }
-    ensures ready { IsReadyNext thread.now result }
+    ensures next { step_of program.now (T.state thread.now) (instruction_at code.now (T.state thread.now).place)
+        ≡ meant (T.state thread.now) result }
+    ensures ready { IsReadyNext (T.state thread.now) result }
 {
     match code.get(thread.place() as usize) {
         Some(instruction) => next_at(program, thread, *instruction),
@@ -42,10 +47,10 @@ pub fn look(program: &Program, code: &[Code], thread: &Thread) -> Next
 }
 
 /// What this instruction leads to.
-fn next_at(program: &Program, thread: &Thread, instruction: Code) -> Next
-    requires { thread.now.place < 4096 }
-    ensures next { step_of program.now thread.now instruction ≡ meant thread.now result }
-    ensures ready { IsReadyNext thread.now result }
+fn next_at<T: Actor>(program: &Program, thread: &T, instruction: Code) -> Next
+    requires { (T.state thread.now).place < 4096 }
+    ensures next { step_of program.now (T.state thread.now) instruction ≡ meant (T.state thread.now) result }
+    ensures ready { IsReadyNext (T.state thread.now) result }
 {
     match instruction {
         Code::Set { x, v } => Next::Sets {
@@ -80,10 +85,10 @@ fn next_at(program: &Program, thread: &Thread, instruction: Code) -> Next
 }
 
 /// A fault at the instruction that the thread is at.
-pub fn fault(thread: &Thread, fault: Fault) -> Next
-    requires { thread.now.place < 4096 }
-    ensures next { faults thread.now fault ≡ meant thread.now result }
-    ensures ready { IsReadyNext thread.now result }
+pub fn fault<T: Actor>(thread: &T, fault: Fault) -> Next
+    requires { (T.state thread.now).place < 4096 }
+    ensures next { faults (T.state thread.now) fault ≡ meant (T.state thread.now) result }
+    ensures ready { IsReadyNext (T.state thread.now) result }
 {
     Next::Stops {
         ending: Ending::Trap {

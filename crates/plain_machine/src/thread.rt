@@ -5,6 +5,7 @@ ghost use Rattle.plain_machine.specs.Thread.{ThreadState, local, with_local, beh
 ghost use Rattle.plain_machine.specs.Asking.{holds_more, holds_less, ask, held_from, unwinds};
 ghost use Rattle.plain_machine.specs.Ready.{unrun, IsReady, IsReadyToAsk, IsUnwinding};
 
+use crate::actor::Actor;
 use crate::call::{Asked, Mode};
 use plain_monitor::{Ending, NoMemory, Value};
 use std::alloc::Global;
@@ -53,13 +54,6 @@ impl Thread {
         })
     }
 
-    /// How many instructions stand before the one that it is at.
-    pub fn place(&self) -> u32
-        ensures { result ≡ self.now.place }
-    {
-        self.place
-    }
-
     /// How many instructions it may still pay for.
     pub fn fuel(&self) -> u32
         ensures { result ≡ self.now.fuel }
@@ -72,33 +66,6 @@ impl Thread {
         ensures { result ≡ self.now.mode }
     {
         self.mode
-    }
-
-    /// How many holds it has in all.
-    pub fn depth(&self) -> u32
-        ensures { result ≡ sum self.now.holds }
-    {
-        self.depth
-    }
-
-    /// How often it holds the object.
-    pub fn holds(&self, object: u32) -> u32
-        ensures { result ≡ holds_of self.now object }
-    {
-        match self.holds.get(object as usize) {
-            Some(held) => *held,
-            None => 0,
-        }
-    }
-
-    /// What the local is; nil where there is no such local.
-    pub fn local(&self, x: u32) -> Value
-        ensures { result ≡ local self.now x }
-    {
-        match self.locals.get(x as usize) {
-            Some(value) => *value,
-            None => Value::Nil,
-        }
     }
 
     /// x becomes the value, where there is such a local.
@@ -125,13 +92,6 @@ impl Thread {
         ensures { self.new ≡ record self.old { place = place } }
     {
         self.place = place;
-    }
-
-    /// How many dumps it has made.
-    pub fn dumps(&self) -> u32
-        ensures { result ≡ self.now.dumps }
-    {
-        self.dumps
     }
 
     /// It has made this many dumps.
@@ -189,6 +149,36 @@ impl Thread {
             Mode::Unwinding { ending } => Some(unwinding(&self.holds, ending)),
             Mode::Ended { .. } => None,
         }
+    }
+}
+
+impl Actor for Thread {
+    ghost state = { λ s. s };
+
+    fn place(&self) -> u32 {
+        self.place
+    }
+
+    fn local(&self, x: u32) -> Value {
+        match self.locals.get(x as usize) {
+            Some(value) => *value,
+            None => Value::Nil,
+        }
+    }
+
+    fn holds(&self, object: u32) -> u32 {
+        match self.holds.get(object as usize) {
+            Some(held) => *held,
+            None => 0,
+        }
+    }
+
+    fn depth(&self) -> u32 {
+        self.depth
+    }
+
+    fn dumps(&self) -> u32 {
+        self.dumps
     }
 }
 
