@@ -1,7 +1,7 @@
 -- Lists of numbers, element by element, and how often a thread holds objects behind an entry.
-use Rattle.std.proofs.Common.{◌≡◌, ◌≢◌, ℕ, zero, suc, ◌+◌, ◌-◌, ◌<◌, ◌≤◌, ◌==◌, if◌then◌else◌, eq-eqb, ne_eqb, Bool, true, false, List, [], ◌∷◌, ◌++◌, length, sum, slice_index, refl, sym, ap, ◌∙◌, arith, inl, inr}
+use Rattle.std.proofs.Common.{◌≡◌, ◌≢◌, ℕ, zero, suc, ◌+◌, ◌-◌, ◌<◌, ◌≤◌, ◌==◌, if◌then◌else◌, eq-eqb, ne_eqb, ltb-true, ltb-false, nat_lt, Bool, true, false, List, [], ◌∷◌, ◌++◌, length, sum, slice_index, refl, sym, ap, ◌∙◌, arith, inl, inr}
 use Rattle.std.proofs.lemmas.Bool.{cases_eq}
-use Rattle.std.proofs.lemmas.List.{ext_get_or}
+use Rattle.std.proofs.lemmas.List.{ext_get_or, get_or_past}
 use Rattle.std.proofs.lemmas.List.Sums.{sum_by-cons}
 use Rattle.plain_monitor.specs.declared.entry.Entry.{Entry}
 use Rattle.plain_monitor.specs.declared.entry.Entry.TheVariants.{Enter, Exit}
@@ -75,17 +75,56 @@ held_same (Enter object path) f g o h = ap (λ n. n + (if object == o then 1 els
 held_same (Exit object) f g o h = ap (λ n. n - (if object == o then 1 else 0)) h
 held_same e f g o h = h
 
-if_one : (b : Bool) → (if b then 1 else 0) ≤ 1
-if_one true = omega arith
-if_one false = omega arith
+abbrev one : Bool → ℕ
+one b = if b then 1 else 0
 
-if_other : (o i : ℕ) → i ≢ o → (if o == i then 1 else 0) ≡ 0
-if_other o i d = ap (λ b. if b then 1 else 0) (ne_eqb o i (λ e. d (sym e)))
+one_most : (b : Bool) → one b ≤ 1
+one_most true = omega arith
+one_most false = omega arith
+
+one_other : (o i : ℕ) → i ≢ o → one (o == i) ≡ 0
+one_other o i d = ap one (ne_eqb o i (λ e. d (sym e)))
+
+one_here : (o : ℕ) → one (o == o) ≡ 1
+one_here o = ap one (eq-eqb o o refl)
 
 -- the holds of a list are those of another behind the entry
-pub AreBehind : Entry → List ℕ → List ℕ → Type 0
-AreBehind e a b = (length a ≡ length b) × ((i : ℕ) → i < length a → slice_index a i ≡ held_after e (λ j. slice_index b j) i)
+pub record AreBehind (e : Entry) (a b : List ℕ) : Type 0 where
+  pub count : length a ≡ length b
+  pub each : (i : ℕ) → i < length a → slice_index a i ≡ held_after e (λ j. slice_index b j) i
 
-pub sum_behind : (e : Entry) (a b : List ℕ) → length a ≡ length b
-    → ((i : ℕ) → i < length a → slice_index a i ≡ held_after e (λ j. slice_index b j) i) → sum a ≤ sum b + 1
-sum_behind = ?
+-- an enter is one hold more at most, and every other entry none
+pub sum_behind : (e : Entry) (a b : List ℕ) → AreBehind e a b → sum a ≤ sum b + 1
+sum_behind (Enter object path) a b h = cases (nat_lt object (length a)) refl
+  where
+    past : slice_index a object ≡ 0 → slice_index a object ≤ slice_index b object + 1
+    past z = omega (arith, z)
+
+    cases : (w : Bool) → nat_lt object (length a) ≡ w → sum a ≤ sum b + 1
+    cases true w =
+        let l : object < length a = ltb-true object (length a) w in
+        sum_more object a b h.count (λ i l d. let e = h.each i l in let z = one_other object i d in omega (arith, e, z))
+        (let e = h.each object l in let m = one_most (object == object) in omega (arith, e, m))
+    cases false w =
+        let l : length a ≤ object = ltb-false object (length a) w in
+        sum_more object a b h.count (λ i l d. let e = h.each i l in let z = one_other object i d in omega (arith, e, z))
+        (past (get_or_past a object 0 l))
+sum_behind (Exit object) a b h = let l = sum_fewer a b h.count (λ i l. let e = h.each i l in omega (arith, e)) in omega (arith, l)
+sum_behind e a b h = let l = sum_fewer a b h.count (λ i l. let e = h.each i l in omega (arith, e)) in omega (arith, l)
+
+-- an exit of a held object is one less
+pub sum_left : (object : ℕ) (a b : List ℕ) → AreBehind (Exit object) a b → object < length a → 1 ≤ slice_index b object → sum a + 1 ≤ sum b
+sum_left object a b h l held =
+    sum_less object a b h.count l (λ i l d. let e = h.each i l in omega (arith, e))
+    (let e = h.each object l in let z = one_here object in omega (arith, e, z, held))
+
+-- one that is neither changes nothing
+abbrev pub keeps : Entry → Bool
+keeps (Enter object path) = false
+keeps (Exit object) = false
+keeps e = true
+
+pub sum_kept : (e : Entry) (a b : List ℕ) → keeps e ≡ true → AreBehind e a b → sum a ≤ sum b
+sum_kept (Enter object path) a b k h = absurd (cc k)
+sum_kept (Exit object) a b k h = absurd (cc k)
+sum_kept e a b k h = sum_fewer a b h.count (λ i l. let e = h.each i l in omega (arith, e))

@@ -1,2 +1,6 @@
-pub mod Below
 pub mod Counts
+pub mod Shapes
+pub mod Framed
+pub mod May
+pub mod Values
+pub mod Behind

@@ -57,7 +57,7 @@ pub record HasLeft (h : HeapSeen) (p q : PassSeen) (u : Option Unfinished) (why 
   pub behind : IsBehind h p q
   pub log : q.known.log ≡ p.known.log
   pub unfinished : q.known.unfinished ≡ u
-  pub stands : StandsBehind {Bool} q.known (Pending why)
+  pub stands : StandsBehind {A = Bool} q.known (Pending why)
   pub pended : HasPended h q why
 
 -- an entry that is the call, with a value that may stand beside so many objects

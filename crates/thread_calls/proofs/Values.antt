@@ -1,0 +1,25 @@
+-- Values that may stand beside a heap's objects.
+use Rattle.std.proofs.Common.{◌≡◌, ℕ, ◌<◌, lt-ltb, ltb-true, true, length, arith, refl}
+use Rattle.std.proofs.lemmas.Int.{ints}
+use Rattle.plain_monitor.specs.declared.entry.Value.{Value}
+use Rattle.plain_monitor.specs.declared.entry.Value.TheVariants.{Nil, Int, Ref}
+use Rattle.plain_monitor.specs.Numbers.{IsInRange, is_in_range}
+use Rattle.core_world.specs.Trees.Calls.{is_value}
+use Rattle.heap_table.specs.Seen.{HeapSeen}
+use Rattle.plain_machine.specs.ReachedThread.{IsValueOf}
+
+range_test : (z : _) → IsInRange z → is_in_range z ≡ true
+range_test z r = let a = r.0 in let b = r.1 in grind (arith, ints)
+
+in_range : (z : _) → is_in_range z ≡ true → IsInRange z
+in_range z r = grind (arith, ints)
+
+pub value_is : (h : HeapSeen) (n : ℕ) (v : Value) → length h.heap.shape.objects ≡ n → IsValueOf n v → is_value h.heap.shape v ≡ true
+value_is h n Nil e is = refl
+value_is h n (Int z) e is = range_test z is.1
+value_is h n (Ref o) e is = let l = is.0 in lt-ltb o (length h.heap.shape.objects) (omega (arith, l, e))
+
+pub value_of : (h : HeapSeen) (v : Value) → is_value h.heap.shape v ≡ true → IsValueOf (length h.heap.shape.objects) v
+value_of h Nil is = (tt, tt)
+value_of h (Int z) is = (tt, in_range z is)
+value_of h (Ref o) is = (ltb-true o (length h.heap.shape.objects) is, tt)

@@ -1,0 +1,48 @@
+use Rattle.std.proofs.Common.{◌≡◌, ◌==◌, eq-eqb, false, true, Bool, [], ◌∷◌, Ok, Err, None, refl, sym, ap, ◌∙◌, subst, arith}
+use Rattle.core_world.specs.declared.answer.Turn.{Turn}
+use Rattle.core_world.specs.declared.answer.Turn.TheVariants.{Done, Pending}
+use Rattle.core_world.specs.declared.task.Op.TheVariants as op
+use Rattle.core_world.specs.declared.task.Task.TheVariants as task
+use Rattle.core_world.specs.Trees.Operations.{notify_steps}
+use Rattle.plain_monitor.specs.declared.entry.Entry.TheVariants as entry
+use Rattle.core_calls.specs.CallsSay.{NotifySays}
+use Rattle.heap_table.specs.Resting.{start_now}
+use Rattle.thread_calls.specs.Advances.{RanFrom}
+use Rattle.thread_calls.specs.Asked.{unfinished_on}
+use Rattle.thread_calls.proofs.Behind.{came, came_dumped, turn_done, turn_left, logged}
+use Rattle.thread_calls.proofs.makes.notify.Goals as goal
+
+pub notify-requires-clause-stub : goal.notify-requires-clause-stub
+notify-requires-clause-stub c = ?
+
+pub unreachable-requires : goal.unreachable-requires
+unreachable-requires c = let none = c.in-Err.ensures.owner in let one = c.requires.holds in absurd (omega (arith, none, one))
+
+pub returns-in-Done : goal.returns-in-Done
+returns-in-Done c =
+    let a = c.args in
+    let h = a.heap.now in
+    let k = a.pass.now in
+    let q = c.notify.new.pass in
+    let e = c.in-Ok.ensures in
+    let x = c.in-Done.woken in
+    let entry = entry.Notify a.object x in
+    let is : c.in-Ok.turn ≡ Done x = c.in-Done.is in
+    record {
+      logged = entry;
+      is = turn_done h k q (came e.rests e.run) (λ ms z. NotifySays (start_now h k) a.object ms (Ok z)) c.in-Ok.turn e.says e.stands x entry is (λ ms z. z.1);
+      of = record { is = eq-eqb _ _ refl; value = tt };
+      same = λ f. refl;
+    }
+
+pub returns-in-Pending : goal.returns-in-Pending
+returns-in-Pending c =
+    let a = c.args in
+    let h = a.heap.now in
+    let k = a.pass.now in
+    let q = c.notify.new.pass in
+    let e = c.in-Ok.ensures in
+    let why = c.in-Pending.why in
+    let is : c.in-Ok.turn ≡ Pending why = c.in-Pending.is in
+    let ran = subst (λ z. RanFrom h (notify_steps h.heap.shape (start_now h k) a.object a.now) k q (Ok (z))) is e.run.ran in
+    turn_left h k q (came e.rests e.run) (λ ms z. NotifySays (start_now h k) a.object ms (Ok z)) c.in-Ok.turn e.says e.stands (unfinished_on op.Notify a.object) why is (λ ms z. z.1.0) (k, task.Notify a.object a.now, ran)

@@ -1,0 +1,36 @@
+use Rattle.std.proofs.Common.{◌≡◌, ◌==◌, eq-eqb, eqb-true, ◌+◌, ◌<◌, ◌^◌, false, true, Bool, List, [], ◌∷◌, length, Ok, Err, None, refl, sym, ap, ◌∙◌, subst, arith}
+use Rattle.std.proofs.lemmas.Bool.{and_from}
+use Rattle.core_world.specs.declared.answer.Turn.{Turn}
+use Rattle.core_world.specs.declared.answer.Turn.TheVariants.{Done, Pending}
+use Rattle.core_world.specs.declared.task.Op.TheVariants as op
+use Rattle.core_world.specs.declared.task.Task.TheVariants as task
+use Rattle.core_world.specs.Trees.Operations.{hash_steps, dump_steps}
+use Rattle.core_world.specs.Threads.Known.{StepMade}
+use Rattle.plain_monitor.specs.declared.entry.Entry.TheVariants as entry
+use Rattle.core_calls.specs.CallsSay.{GetSays, PutSays, PrintSays, HashSays, DumpSays}
+use Rattle.core_calls.specs.Paths.{Leaves, Tells}
+use Rattle.heap_table.specs.Resting.{start_now}
+use Rattle.plain_machine.proofs.ReachedStanding.{same_itself}
+use Rattle.thread_calls.specs.Advances.{RanFrom}
+use Rattle.thread_calls.specs.Asked.{unfinished_on}
+use Rattle.thread_calls.proofs.Behind.{came, came_dumped, turn_done, turn_left, logged, tells_so, tells_at}
+use Rattle.thread_calls.proofs.Values.{value_of}
+use Rattle.thread_calls.proofs.makes.print.Goals as goal
+
+pub print-requires-clause-stub : goal.print-requires-clause-stub
+print-requires-clause-stub c = ?
+
+pub returns : goal.returns
+returns c =
+    let a = c.args in
+    let h = a.heap.now in
+    let k = a.pass.now in
+    let q = c.print.new.pass in
+    let e = c.print.ensures in
+    let entry = entry.Print a.value in
+    record {
+      logged = entry;
+      is = logged h k q (came e.rests e.run) entry e.says e.stands;
+      of = record { is = same_itself a.value; value = tt };
+      same = λ f. refl;
+    }
