@@ -4,3 +4,4 @@ pub mod Framed
 pub mod May
 pub mod Values
 pub mod Behind
+pub mod Advanced

@@ -1,5 +1,5 @@
 -- What a thread makes of its pass by one call.
-use Rattle.std.specs.Prelude.{◌≡◌, ℕ, ◌+◌, ◌<◌, ◌≤◌, ◌++◌, ◌∷◌, [], Bool, true, false, length, Option, None}
+use Rattle.std.specs.Prelude.{◌≡◌, ℕ, ◌+◌, ◌<◌, ◌≤◌, ◌++◌, ◌∷◌, [], Bool, true, false, length, Option, None, is_some}
 use Rattle.core_calls.specs.CallsSay.{is_full}
 use Rattle.core_world.specs.declared.answer.Turn.{Turn}
 use Rattle.core_world.specs.declared.answer.Turn.TheVariants.{Done, Pending}
@@ -74,4 +74,4 @@ pub record HasTold (h : HeapSeen) (p q : PassSeen) (c : Call) (e : Entry) : Type
 
 abbrev pub HasMade : HeapSeen → PassSeen → PassSeen → Call → Turn Entry → Type 0
 HasMade h p q c (Done e) = HasTold h p q c e
-HasMade h p q c (Pending why) = HasLeft h p q (unfinished_of_call c) why
+HasMade h p q c (Pending why) = HasLeft h p q (unfinished_of_call c) why × (is_some (unfinished_of_call c) ≡ true)

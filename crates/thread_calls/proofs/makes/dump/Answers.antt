@@ -53,4 +53,4 @@ returns-in-Pending c =
     let why = c.in-Pending.why in
     let is : c.in-Ok.turn ≡ Pending why = c.in-Pending.is in
     let ran = subst (λ z. RanFrom h (dump_steps h.heap.shape (start_now h k)) k q (Ok (z))) is e.run.ran in
-    turn_left h k q (came_dumped e.rests e.run) (λ ms z. DumpSays (start_now h k) ms (Ok z)) c.in-Ok.turn e.says e.stands (unfinished_on op.Dump 0) why is (λ ms z. z.1.0) (k, task.Dump, ran)
+    (turn_left h k q (came_dumped e.rests e.run) (λ ms z. DumpSays (start_now h k) ms (Ok z)) c.in-Ok.turn e.says e.stands (unfinished_on op.Dump 0) why is (λ ms z. z.1.0) (k, task.Dump, ran), refl)

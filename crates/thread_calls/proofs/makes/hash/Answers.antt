@@ -44,5 +44,5 @@ returns-in-Pending c =
     let q = c.hash.new.pass in
     let e = c.in-Pending.ensures in
     let why = c.in-Pending.why in
-    turn_left h k q (came e.rests e.run) (λ ms z. HashSays (start_now h k) a.object ms z) (Pending why) e.says e.stands
-    (unfinished_on op.Hash a.object) why refl (λ ms z. z.0) (k, task.Hash a.object a.now, e.run.ran)
+    (turn_left h k q (came e.rests e.run) (λ ms z. HashSays (start_now h k) a.object ms z) (Pending why) e.says e.stands
+    (unfinished_on op.Hash a.object) why refl (λ ms z. z.0) (k, task.Hash a.object a.now, e.run.ran), refl)

@@ -45,4 +45,4 @@ returns-in-Pending c =
     let why = c.in-Pending.why in
     let is : c.in-Ok.turn ≡ Pending why = c.in-Pending.is in
     let ran = subst (λ z. RanFrom h (notify_steps h.heap.shape (start_now h k) a.object a.now) k q (Ok (z))) is e.run.ran in
-    turn_left h k q (came e.rests e.run) (λ ms z. NotifySays (start_now h k) a.object ms (Ok z)) c.in-Ok.turn e.says e.stands (unfinished_on op.Notify a.object) why is (λ ms z. z.1.0) (k, task.Notify a.object a.now, ran)
+    (turn_left h k q (came e.rests e.run) (λ ms z. NotifySays (start_now h k) a.object ms (Ok z)) c.in-Ok.turn e.says e.stands (unfinished_on op.Notify a.object) why is (λ ms z. z.1.0) (k, task.Notify a.object a.now, ran), refl)

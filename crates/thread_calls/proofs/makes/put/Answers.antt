@@ -34,6 +34,6 @@ returns c =
     record {
       logged = entry;
       is = logged h k q (came e.rests e.run) entry (tells_so e.says (λ ms z. z.1.0)) e.stands;
-      of = record { is = and_from _ _ (and_from _ _ (eq-eqb _ _ refl) (eq-eqb _ _ refl)) (same_itself a.value); value = tt };
+      of = record { is = and_from _ _ (and_from _ _ (eq-eqb a.object a.object refl) (eq-eqb a.slot a.slot refl)) (same_itself a.value); value = tt };
       same = λ f. refl;
     }
