@@ -61,17 +61,6 @@ call_mode : (f : FrameSeen) (c : Call) (e : Entry) → ((o : ℕ) → c ≡ call
 call_mode f (call.Wait o) e other = absurd (other o refl)
 call_mode f c e other = refl
 
--- TWO ENTRIES
-two_entries : (a b : Entry) (new : List Logged) → map (λ (x : Logged). x.entry) new ≡ a ∷ b ∷ []
-    → (s : ℕ) × (t : ℕ) × (new ≡ record { stamp = s; entry = a } ∷ record { stamp = t; entry = b } ∷ [])
-two_entries a b [] h = absurd (cc h)
-two_entries a b (x ∷ []) h = absurd (cc h)
-two_entries a b (x ∷ y ∷ []) h =
-    let first : x.entry ≡ a = cc h in
-    let second : y.entry ≡ b = cc h in
-    (x.stamp, y.stamp, λ i. record { stamp = x.stamp; entry = first i } ∷ record { stamp = y.stamp; entry = second i } ∷ [])
-two_entries a b (x ∷ y ∷ z ∷ zs) h = absurd (cc h)
-
 -- the entry of an ending
 fits_end : (g : Ending) → fits (Ends g) (ending_entry g) ≡ true
 fits_end (ending.Trap f i) = and_from (fault_number f == fault_number f) (i == i) (eq-eqb _ _ refl) (eq-eqb i i refl)
@@ -89,11 +78,11 @@ end_keeps ending.Spent = refl
 end_keeps ending.Done = refl
 
 -- what a pending call leaves, whatever it logged
-record IsLeftWith (h : HeapSeen) (k q : PassSeen) (u : Option Unfinished) (why : Why) : Type 0 where
-  behind : IsBehind h k q
-  unfinished : q.known.unfinished ≡ u
-  stands : StandsBehind {A = Bool} q.known (Pending why)
-  pended : HasPended h q why
+pub record IsLeftWith (h : HeapSeen) (k q : PassSeen) (u : Option Unfinished) (why : Why) : Type 0 where
+  pub behind : IsBehind h k q
+  pub unfinished : q.known.unfinished ≡ u
+  pub stands : StandsBehind {A = Bool} q.known (Pending why)
+  pub pended : HasPended h q why
 
 module _ (h : HeapSeen) (p : ProgramText) (fuel : ℕ) (k : PassSeen) (f : FrameSeen) (of : IsHeapOf h p) (may : MayAdvance h p fuel k f) where
   abbrev t : ℕ
@@ -105,7 +94,7 @@ module _ (h : HeapSeen) (p : ProgramText) (fuel : ℕ) (k : PassSeen) (f : Frame
   abbrev counts : List ℕ
   counts = counts_from 0 (length h.heap.shape.objects) k.known.holds
 
-  framed : IsFramed p fuel t k.known.log counts f
+  pub framed : IsFramed p fuel t k.known.log counts f
   framed = framed_by h p of fuel k may.on.rests f may.on.follows may.on.values
 
   -- A FRAME THAT STANDS BEFORE SOMETHING is its thread
@@ -115,7 +104,7 @@ module _ (h : HeapSeen) (p : ProgramText) (fuel : ℕ) (k : PassSeen) (f : Frame
   mode_is : (m : Mode) → f.mode ≡ Some m → s.mode ≡ m
   mode_is m e = ap (λ (x : ThreadState). x.mode) (stands_as m e) ∙ ap shown_mode e
 
-  fuel_is : (m : Mode) → f.mode ≡ Some m → s.fuel ≡ f.fuel
+  pub fuel_is : (m : Mode) → f.mode ≡ Some m → s.fuel ≡ f.fuel
   fuel_is m e = ap (λ (x : ThreadState). x.fuel) (stands_as m e)
 
   holds_are : (m : Mode) → f.mode ≡ Some m → s.holds ≡ counts
@@ -141,7 +130,7 @@ module _ (h : HeapSeen) (p : ProgramText) (fuel : ℕ) (k : PassSeen) (f : Frame
   asks_end g e least = asks_unwind g None e least
 
   -- it waits by its word exactly where its frame does
-  waits_are : (o : ℕ) (m : Mode) → f.mode ≡ Some m → lets_go (start_now h k) o ≡ not (waits_on m o)
+  pub waits_are : (o : ℕ) (m : Mode) → f.mode ≡ Some m → lets_go (start_now h k) o ≡ not (waits_on m o)
   waits_are o m e =
       let by_log = own_waits h k o may.on.rests in
       let by_state = waits_told p fuel t o k.known.log s may.on.follows in
@@ -149,7 +138,7 @@ module _ (h : HeapSeen) (p : ProgramText) (fuel : ℕ) (k : PassSeen) (f : Frame
 
   module _ (q : PassSeen) where
     -- ONE TURN, done or pending
-    turn_over : (g : FrameSeen) (done : Bool) (holds : List ℕ) → IsFramed p fuel t q.known.log holds g → IsBehind h k q → q.known.unfinished ≡ None
+    pub turn_over : (g : FrameSeen) (done : Bool) (holds : List ℕ) → IsFramed p fuel t q.known.log holds g → IsBehind h k q → q.known.unfinished ≡ None
         → IsRunning q.known → g.fuel ≤ f.fuel → HasSpent h q f g (Done done) → rank_of g + sum holds < rank_of f + sum counts
         → HasAdvanced h p fuel k q f g (Done done)
     turn_over g done holds is b none runs fewer spent falls =
@@ -164,7 +153,7 @@ module _ (h : HeapSeen) (p : ProgramText) (fuel : ℕ) (k : PassSeen) (f : Frame
           fallen = omega (arith, before, after, falls);
         }
 
-    turn_waits : (g : FrameSeen) (why : Why) (holds : List ℕ) (u : Option Unfinished) → IsFramed p fuel t q.known.log holds g → IsLeftWith h k q u why
+    pub turn_waits : (g : FrameSeen) (why : Why) (holds : List ℕ) (u : Option Unfinished) → IsFramed p fuel t q.known.log holds g → IsLeftWith h k q u why
         → u ≡ unfinished_of (ask (next_state p t holds g)) → is_some u ≡ true → is_some g.mode ≡ true → has_ended g ≡ false
         → unspent f ≡ unspent g → g.fuel ≤ f.fuel → HasAdvanced h p fuel k q f g (Pending why)
     turn_waits g why holds u is l asked some before live spent fewer =
@@ -183,7 +172,7 @@ module _ (h : HeapSeen) (p : ProgramText) (fuel : ℕ) (k : PassSeen) (f : Frame
           fallen = tt;
         }
 
-    at_log : (log : List Logged) (holds : List ℕ) (g : FrameSeen) → q.known.log ≡ log → IsFramed p fuel t log holds g → IsFramed p fuel t q.known.log holds g
+    pub at_log : (log : List Logged) (holds : List ℕ) (g : FrameSeen) → q.known.log ≡ log → IsFramed p fuel t log holds g → IsFramed p fuel t q.known.log holds g
     at_log log holds g e is = subst (λ (x : List Logged). IsFramed p fuel t x holds g) (sym e) is
 
     -- pending with its log as it was

@@ -5,3 +5,4 @@ pub mod May
 pub mod Values
 pub mod Behind
 pub mod Advanced
+pub mod Waited

@@ -1,0 +1,46 @@
+use Rattle.std.proofs.Common.{◌≡◌, true, Ok, Err, refl, sym, ap, ◌∙◌, subst, arith}
+use Rattle.core_world.specs.declared.answer.Turn.TheVariants.{Done, Pending}
+use Rattle.plain_machine.specs.declared.call.Asked.TheVariants.{Resumes}
+use Rattle.plain_machine.proofs.ReachedAsked.{asked_of}
+use Rattle.thread_calls.specs.Advances.{HasAdvanced}
+use Rattle.thread_calls.specs.Between.{state_by}
+use Rattle.thread_calls.proofs.Advanced.{asks_resume}
+use Rattle.thread_calls.proofs.Behind.{came}
+use Rattle.thread_calls.proofs.May.{may_wait, thread_is}
+use Rattle.thread_calls.proofs.Waited.{resume_done, resume_left}
+use Rattle.thread_calls.proofs.asks.resume.Goals as goal
+
+pub wait-requires-clause-stub : goal.wait-requires-clause-stub
+wait-requires-clause-stub g c = ?
+
+pub wait-requires-clause-may : goal.wait-requires-clause-may
+wait-requires-clause-may g c =
+    let a = c.args in
+    let r = c.requires in
+    let asks = asks_resume a.heap.now a.program.now a.fuel a.pass.now a.frame.now r.heap r.may a.object r.at in
+    let s = state_by a.heap.now a.program.now a.pass.now a.frame.now in
+    let there = (asked_of a.program.now s (Resumes a.object) (thread_is a.heap.now a.program.now a.fuel a.pass.now a.frame.now r.heap r.may) asks).there in
+    may_wait a.heap.now a.program.now a.fuel a.pass.now a.frame.now r.heap r.may (Resumes a.object) a.object c.moment.result asks refl there
+
+pub unreachable-requires : goal.unreachable-requires
+unreachable-requires g c =
+    ?
+
+pub returns-in-Done : goal.returns-in-Done
+returns-in-Done g c =
+    let a = c.args in
+    let r = c.requires in
+    let q = c.wait.new.pass in
+    let e = c.in-Ok.ensures in
+    subst (λ f. HasAdvanced a.heap.now a.program.now a.fuel a.pass.now q a.frame.now f (Done true)) (sym c.follow.ensures)
+    (resume_done a.heap.now a.program.now a.fuel a.pass.now a.frame.now r.heap r.may a.object c.moment.result q (came e.rests e.run) c.in-Ok.turn
+    e.says e.stands e.run.ran c.in-Done.field-0 r.at c.in-Done.is)
+
+pub returns-in-Pending : goal.returns-in-Pending
+returns-in-Pending g c =
+    let a = c.args in
+    let r = c.requires in
+    let q = c.wait.new.pass in
+    let e = c.in-Ok.ensures in
+    resume_left a.heap.now a.program.now a.fuel a.pass.now a.frame.now r.heap r.may a.object c.moment.result q (came e.rests e.run) c.in-Ok.turn
+    e.says e.stands e.run.ran c.in-Pending.why r.at c.in-Pending.is
