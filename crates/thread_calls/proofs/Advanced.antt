@@ -101,7 +101,7 @@ module _ (h : HeapSeen) (p : ProgramText) (fuel : ℕ) (k : PassSeen) (f : Frame
   stands_as : (m : Mode) → f.mode ≡ Some m → s ≡ state_in (locals_of p t) counts f
   stands_as m e = ap (λ x. led_on p (code_of p t) x (state_in (locals_of p t) counts f)) e
 
-  mode_is : (m : Mode) → f.mode ≡ Some m → s.mode ≡ m
+  pub mode_is : (m : Mode) → f.mode ≡ Some m → s.mode ≡ m
   mode_is m e = ap (λ (x : ThreadState). x.mode) (stands_as m e) ∙ ap shown_mode e
 
   pub fuel_is : (m : Mode) → f.mode ≡ Some m → s.fuel ≡ f.fuel

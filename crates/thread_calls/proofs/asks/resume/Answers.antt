@@ -1,11 +1,14 @@
 use Rattle.std.proofs.Common.{◌≡◌, true, Ok, Err, refl, sym, ap, ◌∙◌, subst, arith}
 use Rattle.core_world.specs.declared.answer.Turn.TheVariants.{Done, Pending}
 use Rattle.plain_machine.specs.declared.call.Asked.TheVariants.{Resumes}
+use Rattle.plain_machine.specs.declared.call.Mode.TheVariants.{Waiting}
 use Rattle.plain_machine.proofs.ReachedAsked.{asked_of}
 use Rattle.thread_calls.specs.Advances.{HasAdvanced}
 use Rattle.thread_calls.specs.Between.{state_by}
-use Rattle.thread_calls.proofs.Advanced.{asks_resume}
+use Rattle.thread_calls.proofs.Advanced.{asks_resume, mode_is}
 use Rattle.thread_calls.proofs.Behind.{came}
+use Rattle.thread_calls.proofs.Kept.{waits_held}
+use Rattle.thread_logs.proofs.Standing.{holds_told}
 use Rattle.thread_calls.proofs.May.{may_wait, thread_is}
 use Rattle.thread_calls.proofs.Waited.{resume_done, resume_left}
 use Rattle.thread_calls.proofs.asks.resume.Goals as goal
@@ -24,7 +27,20 @@ wait-requires-clause-may g c =
 
 pub unreachable-requires : goal.unreachable-requires
 unreachable-requires g c =
-    ?
+    let a = c.args in
+    let r = c.requires in
+    let p = a.program.now in
+    let k = a.pass.now in
+    let on = r.may.on in
+    let t = k.known.thread in
+    let s = state_by a.heap.now p k a.frame.now in
+    let asks = asks_resume a.heap.now p a.fuel k a.frame.now r.heap r.may a.object r.at in
+    let there = (asked_of p s (Resumes a.object) (thread_is a.heap.now p a.fuel k a.frame.now r.heap r.may) asks).there in
+    let mode = mode_is a.heap.now p a.fuel k a.frame.now r.heap r.may (Waiting a.object) r.at in
+    let one = waits_held p t r.heap.program a.fuel a.object k.known.log s on.values on.follows mode in
+    let told = holds_told p a.fuel t a.object k.known.log s on.follows there in
+    let none = c.in-Err.ensures.owner in
+    absurd (omega (arith, one, told, none))
 
 pub returns-in-Done : goal.returns-in-Done
 returns-in-Done g c =
