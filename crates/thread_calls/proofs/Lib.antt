@@ -1,6 +1,7 @@
 pub mod Counts
 pub mod Shapes
 pub mod Framed
+pub mod Least
 pub mod Kept
 pub mod May
 pub mod Values

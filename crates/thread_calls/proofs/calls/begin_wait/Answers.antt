@@ -1,0 +1,69 @@
+use Rattle.std.proofs.Common.{◌≡◌, true, false, Ok, Err, refl, sym, ap, ◌∙◌, subst, arith}
+use Rattle.core_world.specs.declared.answer.Turn.TheVariants.{Done, Pending}
+use Rattle.plain_monitor.specs.declared.entry.Entry.TheVariants as entry
+use Rattle.plain_machine.specs.declared.call.Asked.TheVariants.{Calls, Resumes}
+use Rattle.plain_machine.specs.declared.call.Call.TheVariants as call
+use Rattle.plain_machine.proofs.ReachedAsked.{asked_of}
+use Rattle.thread_frame.specs.Frames.{frame_behind}
+use Rattle.thread_calls.specs.Advances.{HasAdvanced}
+use Rattle.thread_calls.specs.Between.{state_by}
+use Rattle.thread_calls.proofs.Advanced.{asks_call}
+use Rattle.thread_calls.proofs.Behind.{came}
+use Rattle.thread_calls.proofs.May.{may_wait, held_is, thread_is}
+use Rattle.thread_calls.proofs.Waited.{wait_done, wait_left, wait_let_go}
+use Rattle.thread_calls.proofs.calls.begin_wait.Goals as goal
+
+pub wait-requires-clause-stub : goal.wait-requires-clause-stub
+wait-requires-clause-stub g c = ?
+
+pub wait-requires-clause-may : goal.wait-requires-clause-may
+wait-requires-clause-may g c =
+    let a = c.args in
+    let r = c.requires in
+    let w = call.Wait a.object in
+    let asks = asks_call a.heap.now a.program.now a.fuel a.pass.now a.frame.now r.heap r.may w r.at in
+    let s = state_by a.heap.now a.program.now a.pass.now a.frame.now in
+    let paid = asked_of a.program.now s (Calls w) (thread_is a.heap.now a.program.now a.fuel a.pass.now a.frame.now r.heap r.may) asks in
+    may_wait a.heap.now a.program.now a.fuel a.pass.now a.frame.now r.heap r.may (Calls w) a.object c.moment.result asks refl paid.call.0
+
+pub unreachable-requires : goal.unreachable-requires
+unreachable-requires g c =
+    let a = c.args in
+    let r = c.requires in
+    let w = call.Wait a.object in
+    let asks = asks_call a.heap.now a.program.now a.fuel a.pass.now a.frame.now r.heap r.may w r.at in
+    let s = state_by a.heap.now a.program.now a.pass.now a.frame.now in
+    let paid = asked_of a.program.now s (Calls w) (thread_is a.heap.now a.program.now a.fuel a.pass.now a.frame.now r.heap r.may) asks in
+    let one = held_is a.heap.now a.program.now a.fuel a.pass.now a.frame.now r.heap r.may a.object paid.call in
+    let none = c.in-Err.ensures.owner in
+    absurd (omega (arith, one, none))
+
+pub returns-in-Done : goal.returns-in-Done
+returns-in-Done g c =
+    let a = c.args in
+    let r = c.requires in
+    let q = c.wait.new.pass in
+    let e = c.in-Ok.ensures in
+    let moved = c.follow-in-Done.ensures ∙ ap (λ f. frame_behind f (Resumes a.object) (entry.Resume a.object)) c.follow.ensures in
+    subst (λ f. HasAdvanced a.heap.now a.program.now a.fuel a.pass.now q a.frame.now f (Done true)) (sym moved)
+    (wait_done a.heap.now a.program.now a.fuel a.pass.now a.frame.now r.heap r.may a.object c.moment.result q (came e.rests e.run) c.in-Ok.turn
+    e.says e.stands e.run.ran c.in-Done.field-0 r.at c.in-Done.is)
+
+pub returns-then-has_let_go : goal.returns-then-has_let_go
+returns-then-has_let_go g c =
+    let a = c.args in
+    let r = c.requires in
+    let q = c.wait.new.pass in
+    let e = c.in-Ok.ensures in
+    subst (λ f. HasAdvanced a.heap.now a.program.now a.fuel a.pass.now q a.frame.now f (Pending c.in-Pending.why)) (sym c.follow-then-has_let_go.ensures)
+    (wait_let_go a.heap.now a.program.now a.fuel a.pass.now a.frame.now r.heap r.may a.object c.moment.result q (came e.rests e.run) c.in-Ok.turn
+    e.says e.stands e.run.ran c.in-Pending.why r.at c.in-Pending.is (sym c.has_let_go.ensures ∙ c.if-has_let_go.true))
+
+pub returns-else-has_let_go : goal.returns-else-has_let_go
+returns-else-has_let_go g c =
+    let a = c.args in
+    let r = c.requires in
+    let q = c.wait.new.pass in
+    let e = c.in-Ok.ensures in
+    wait_left a.heap.now a.program.now a.fuel a.pass.now a.frame.now r.heap r.may a.object c.moment.result q (came e.rests e.run) c.in-Ok.turn
+    e.says e.stands e.run.ran c.in-Pending.why r.at c.in-Pending.is (sym c.has_let_go.ensures ∙ c.if-has_let_go.false)

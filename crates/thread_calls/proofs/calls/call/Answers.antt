@@ -1,0 +1,34 @@
+use Rattle.std.proofs.Common.{◌≡◌, true, refl, sym, ap, ◌∙◌, subst}
+use Rattle.core_world.specs.declared.answer.Turn.TheVariants.{Done}
+use Rattle.plain_machine.specs.declared.call.Mode.TheVariants.{Calling}
+use Rattle.thread_calls.specs.Advances.{HasAdvanced}
+use Rattle.thread_calls.specs.Asked.{unfinished_of, unfinished_of_call}
+use Rattle.thread_calls.proofs.Advanced.{asks_call, call_done, still_waits}
+use Rattle.thread_calls.proofs.May.{may_make}
+use Rattle.thread_calls.proofs.calls.call.Goals as goal
+
+pub make-requires : goal.make-requires
+make-requires g c =
+    let a = c.args in
+    let r = c.requires in
+    let asks = asks_call a.heap.now a.program.now a.fuel a.pass.now a.frame.now r.heap r.may a.call r.at in
+    may_make a.heap.now a.program.now a.fuel a.pass.now a.frame.now r.heap r.may a.call asks (λ o e. c.in_default.not-Wait o e)
+
+pub returns-in-Done : goal.returns-in-Done
+returns-in-Done g c =
+    let a = c.args in
+    let r = c.requires in
+    let q = c.make.new.pass in
+    subst (λ f. HasAdvanced a.heap.now a.program.now a.fuel a.pass.now q a.frame.now f (Done true)) (sym c.follow.ensures)
+    (call_done a.heap.now a.program.now a.fuel a.pass.now a.frame.now r.heap r.may q a.call c.in-Done.entry r.at (λ o e. c.in_default.not-Wait o e)
+    c.in-Done.ensures)
+
+pub returns-in-Pending : goal.returns-in-Pending
+returns-in-Pending g c =
+    let a = c.args in
+    let r = c.requires in
+    let q = c.make.new.pass in
+    let e = c.in-Pending.ensures in
+    let asks = asks_call a.heap.now a.program.now a.fuel a.pass.now a.frame.now r.heap r.may a.call r.at in
+    still_waits a.heap.now a.program.now a.fuel a.pass.now a.frame.now r.heap r.may q c.in-Pending.why (Calling a.call) (unfinished_of_call a.call) r.at e.0
+    (sym (ap unfinished_of asks)) e.1
