@@ -8,3 +8,4 @@ pub mod Values
 pub mod Behind
 pub mod Advanced
 pub mod Waited
+pub mod Walked

@@ -1,0 +1,139 @@
+-- How a thread and its pass stand behind a local instruction, which leaves its pass.
+use Rattle.std.proofs.Common.{◌≡◌, ℕ, ◌+◌, ◌*◌, ◌<◌, ◌≤◌, Bool, true, false, List, length, Option, Some, None, is_some, refl, sym, ap, ◌∙◌, subst, arith, inl, inr}
+use Rattle.core_world.specs.declared.answer.Turn.{Turn}
+use Rattle.core_world.specs.declared.answer.Turn.TheVariants.{Done, Pending}
+use Rattle.heap_table.specs.Seen.{HeapSeen, PassSeen}
+use Rattle.lock_runtime.specs.Standing.{IsRunning}
+use Rattle.object_program.specs.Program.{ProgramText}
+use Rattle.plain_machine.specs.declared.call.Mode.{Mode}
+use Rattle.plain_machine.specs.declared.call.Mode.TheVariants.{Calling, Waiting, Unwinding, Ended}
+use Rattle.plain_machine.specs.Asking.{ask}
+use Rattle.plain_machine.specs.Thread.{ThreadState}
+use Rattle.thread_frame.specs.declared.walk.Walked.TheVariants.{Ran, Arrived, Spent}
+use Rattle.thread_frame.specs.Frames.{FrameSeen, next_state, has_ended, is_ended_mode, is_in_wait, unspent, rank_of, mode_rank}
+use Rattle.thread_frame.specs.Sights.{counts_from, AreOf}
+use Rattle.thread_frame.specs.Walking.{HasWalked, IsBehindLocal}
+use Rattle.thread_logs.specs.Followed.{Follows}
+use Rattle.thread_calls.specs.Advances.{HasAdvanced, HasFallen, HasSpent, MayAdvance}
+use Rattle.thread_calls.specs.Asked.{unfinished_of, IsAtMost}
+use Rattle.thread_calls.specs.Between.{IsHeapOf, IsOn, state_by}
+use Rattle.thread_calls.proofs.Framed.{counts_are, counts_count, sum_holds}
+
+-- a mode in the middle of local instructions, or at an end
+record IsLow (m : Option Mode) : Type 0 where
+  wait : is_in_wait m ≡ 0
+  rank : mode_rank m ≤ 2
+
+behind_local : (m : Option Mode) → IsBehindLocal m → IsLow m
+behind_local None b = record { wait = refl; rank = omega arith }
+behind_local (Some (Unwinding g)) b = record { wait = refl; rank = omega arith }
+behind_local (Some (Calling c)) b = absurd b
+behind_local (Some (Waiting o)) b = absurd b
+behind_local (Some (Ended g)) b = absurd b
+
+none_before : (m : Option Mode) → m ≡ None → is_some m ≡ true → ⊥
+none_before m e s = let z = ap is_some e in absurd (cc (z, s))
+
+-- from a frame that has as much left and to do
+same_spent : (h : HeapSeen) (q : PassSeen) (f g e : FrameSeen) (turn : Turn Bool) → unspent f ≡ unspent g → HasSpent h q g e turn → HasSpent h q f e turn
+same_spent h q f g e (Done true) s x = s ∙ x
+same_spent h q f g e (Done false) s x = s ∙ x
+same_spent h q f g e (Pending why) s x = (s ∙ x.0, x.1, x.2)
+
+same_fallen : (k q : PassSeen) (f g e : FrameSeen) (turn : Turn Bool) → rank_of f ≡ rank_of g → HasFallen k q g e turn → HasFallen k q f e turn
+same_fallen k q f g e (Done b) s x = omega (arith, s, x)
+same_fallen k q f g e (Pending why) s x = tt
+
+module _ (h : HeapSeen) (p : ProgramText) (fuel : ℕ) (k : PassSeen) (f : FrameSeen) (of : IsHeapOf h p) (may : MayAdvance h p fuel k f) where
+  abbrev t : ℕ
+  t = k.known.thread
+
+  abbrev counts : List ℕ
+  counts = counts_from 0 (length h.heap.shape.objects) k.known.holds
+
+  pub are_of : AreOf (length h.heap.shape.objects) k.known.holds
+  are_of = sum_holds h p of fuel k may.on.rests counts (counts_count h p of fuel k may.on.rests) (counts_are h p of fuel k may.on.rests)
+
+  pub is_within : t < length p.threads
+  is_within = omega (arith, may.on.rests.is_of.within, of.threads)
+
+  module _ (local : f.mode ≡ None) (g : FrameSeen) (leads : next_state p t counts g ≡ next_state p t counts f) where
+    quiet : k.known.requesting ≡ false
+    quiet = cases k.known.requesting refl
+      where
+        cases : (b : Bool) → k.known.requesting ≡ b → k.known.requesting ≡ false
+        cases true r = absurd (none_before f.mode local (may.on.asks r may.unchecked).before)
+        cases false r = r
+
+    runs : k.known.running ≡ true
+    runs = elim may.goes [ | inl r ↦ r | inr r ↦ absurd (cc (r, quiet)) ]
+
+    is_running : IsRunning k.known
+    is_running = record { runs = runs; asks = quiet }
+
+    moved : g.fuel ≤ f.fuel → IsOn h p fuel k g
+    moved fewer =
+        record {
+          rests = may.on.rests;
+          follows = subst (Follows p fuel t k.known.log) (sym leads) may.on.follows;
+          values = may.on.values;
+          few = may.on.few;
+          limit = may.on.limit;
+          spent = omega (arith, fewer, may.on.spent);
+          unfinished = subst (λ (s : ThreadState). IsAtMost k.known.unfinished (unfinished_of (ask s))) (sym leads) may.on.unfinished;
+          asks = λ r c. absurd (cc (r, quiet));
+          checks = λ c. absurd (cc (c, may.unchecked));
+        }
+
+    pub ran : HasWalked f g Ran → HasAdvanced h p fuel k k f g (Done true)
+    ran w =
+        let low = behind_local g.mode w.1 in
+        let paid = w.0 in
+        let v = ap is_in_wait local in
+        let r = ap mode_rank local in
+        record {
+          on = moved (omega (arith, paid));
+          unchecked = may.unchecked;
+          thread = refl;
+          stands = is_running;
+          spent = omega (arith, paid, v, low.wait);
+          fallen = omega (arith, paid, r, low.rank);
+        }
+
+    pub spent : HasWalked f g Spent → HasAdvanced h p fuel k k f g (Done false)
+    spent w =
+        let same = w.0 in
+        let v = ap is_in_wait local in
+        let r = ap mode_rank local in
+        let x = ap is_in_wait w.2 in
+        let y = ap mode_rank w.2 in
+        record {
+          on = moved (omega (arith, same));
+          unchecked = may.unchecked;
+          thread = refl;
+          stands = is_running;
+          spent = omega (arith, same, v, x);
+          fallen = omega (arith, same, r, y);
+        }
+
+    pub arrived : HasWalked f g Arrived → MayAdvance h p fuel k g
+    arrived w =
+        let same = w.0 in
+        record { on = moved (omega (arith, same)); unchecked = may.unchecked; goes = inl runs; live = ap is_ended_mode w.1.1 }
+
+    pub from_there : (q : PassSeen) (e : FrameSeen) (turn : Turn Bool) → HasWalked f g Arrived → HasAdvanced h p fuel k q g e turn
+        → HasAdvanced h p fuel k q f e turn
+    from_there q e turn w a =
+        let same = w.0 in
+        let v = ap is_in_wait local in
+        let r = ap mode_rank local in
+        let x = ap is_in_wait w.1.1 in
+        let y = ap mode_rank w.1.1 in
+        record {
+          on = a.on;
+          unchecked = a.unchecked;
+          thread = a.thread;
+          stands = a.stands;
+          spent = same_spent h q f g e turn (omega (arith, same, v, x)) a.spent;
+          fallen = same_fallen k q f g e turn (omega (arith, same, r, y)) a.fallen;
+        }
