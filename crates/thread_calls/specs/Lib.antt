@@ -2,3 +2,4 @@ pub mod Asked
 pub mod Between
 pub mod Advances
 pub mod Made
+pub mod Least

@@ -2,31 +2,62 @@
 
 ghost use Rattle.std.specs.Prelude.{◌≡◌, length, Some};
 ghost use Rattle.core_world.specs.Trees.Operations.{ending_entry};
+ghost use Rattle.heap_table.specs.Resting.{Rests};
+ghost use Rattle.mark_word.specs.Hold.{read_hold};
 ghost use Rattle.plain_machine.specs.Asking.{held_from};
 ghost use Rattle.plain_machine.specs.declared.call.Mode.TheVariants.{Unwinding, Waiting};
 ghost use Rattle.thread_calls.specs.Advances.{HasAdvanced, MayAdvance};
 ghost use Rattle.thread_calls.specs.Between.{IsHeapOf};
+ghost use Rattle.thread_calls.specs.Least.{lesser, object_in};
 ghost use Rattle.thread_frame.specs.Sights.{counts_from};
 
 use core_world::Turn;
-use heap_table::{Heap, Pass};
+use heap_table::{Heap, Pass, hold_of_word};
 use lock_runtime as runtime;
+use mark_word::HoldForm;
 use object_program::Program;
 use plain_machine::Asked;
 use plain_monitor::{Ending, Entry};
 use run_io::{Clock, moment};
 use thread_frame::Frame;
 
-// The least of so many objects that the thread holds.
-fn least_held(pass: &Pass, objects: u32) -> Option<u32>
-    ensures { result ≡ held_from 0 (counts_from 0 objects pass.now.known.holds) }
+// The object that the hold word names.
+fn object_in(word: u64) -> Option<u32>
+    ensures { result ≡ object_in (read_hold word) }
 {
-    for object in 0..objects {
-        if pass.held(object) >= 1 {
-            return Some(object);
-        }
+    match hold_of_word(word) {
+        Some(form) => match form {
+            HoldForm::Holds { object, .. } => Some(object),
+            HoldForm::Empty => None,
+        },
+        None => None,
     }
-    None
+}
+
+// The lesser of two numbers, where there are two.
+fn lesser(one: Option<u32>, other: Option<u32>) -> Option<u32>
+    ensures { result ≡ lesser one other }
+{
+    match one {
+        None => other,
+        Some(a) => match other {
+            None => Some(a),
+            Some(b) => Some(a.min(b)),
+        },
+    }
+}
+
+// The least object that the thread holds, by one look at its hold words.
+fn least_held(heap: &Heap, pass: &Pass) -> Option<u32>
+    requires { Rests heap.now pass.now }
+    ensures { result ≡ held_from 0 (counts_from 0 (length heap.now.heap.shape.objects) pass.now.known.holds) }
+{
+    let words = pass.hold_words();
+    let mut least = None;
+    for word in words {
+        least = lesser(least, object_in(*word));
+    }
+    least
 }
 
 // The entry with which a thread ends so.
@@ -82,7 +113,7 @@ pub(crate) fn unwind(
     requires at { frame.old.mode ≡ Some (Unwinding ending) }
     ensures { HasAdvanced heap.now program.now fuel pass.old pass.new frame.old frame.new result }
 {
-    match least_held(pass, heap.shape().objects() as u32) {
+    match least_held(heap, pass) {
         Some(object) => leave(program, heap, fuel, pass, frame, ending, object),
         None => {
             runtime::finish(heap, pass, ending);

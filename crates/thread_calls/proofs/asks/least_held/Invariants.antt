@@ -1,8 +1,6 @@
-use Rattle.std.proofs.Common.{◌≡◌}
-use Rattle.plain_machine.specs.Asking.{held_from}
-use Rattle.thread_frame.specs.Sights.{counts_from}
-use Rattle.thread_calls.proofs.Least.{least_from}
+use Rattle.std.proofs.Common.{◌≡◌, drop}
+use Rattle.thread_calls.specs.Least.{least_in, lesser}
 use Rattle.thread_calls.proofs.asks.least_held.Given as goal
 
-abbrev pub invariant-loop-object : goal.invariant-loop-object
-invariant-loop-object l = least_from l.object l.objects l.pass.known.holds ≡ held_from 0 (counts_from 0 l.objects l.pass.known.holds)
+abbrev pub invariant-loop-word : goal.invariant-loop-word
+invariant-loop-word l = lesser l.least (least_in (drop l.word-index l.words)) ≡ least_in l.words

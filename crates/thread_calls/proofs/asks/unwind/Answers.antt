@@ -1,12 +1,9 @@
-use Rattle.std.proofs.Common.{◌≡◌, false, length, None, refl, sym, ap, ◌∙◌, subst}
+use Rattle.std.proofs.Common.{◌≡◌, false, sym, ap, ◌∙◌, subst}
 use Rattle.core_world.specs.declared.answer.Turn.TheVariants.{Done}
 use Rattle.core_world.specs.Trees.Operations.{ending_entry}
-use Rattle.core_world.specs.Words.Shape.{Shape}
-use Rattle.plain_machine.specs.Asking.{held_from}
 use Rattle.plain_machine.specs.declared.call.Asked.TheVariants.{Ends}
 use Rattle.plain_machine.proofs.ReachedAsked.{asked_of}
 use Rattle.thread_frame.specs.Frames.{frame_behind}
-use Rattle.thread_frame.specs.Sights.{counts_from}
 use Rattle.thread_calls.specs.Advances.{HasAdvanced}
 use Rattle.thread_calls.specs.Asked.{unfinished_of}
 use Rattle.thread_calls.specs.Between.{state_by}
@@ -22,8 +19,7 @@ pub finish-requires-clause-may : goal.finish-requires-clause-may
 finish-requires-clause-may c =
     let a = c.args in
     let r = c.requires in
-    let many = c.objects.ensures ∙ ap (λ (s : Shape). length s.objects) c.shape.ensures in
-    let least = ap (λ n. held_from 0 (counts_from 0 n a.pass.now.known.holds)) (sym many) ∙ sym c.least_held.ensures ∙ c.in-None.is in
+    let least = sym c.least_held.ensures ∙ c.in-None.is in
     let asks = asks_end a.heap.now a.program.now a.fuel a.pass.now a.frame.now r.heap r.may a.ending r.at least in
     let s = state_by a.heap.now a.program.now a.pass.now a.frame.now in
     let last = asked_of a.program.now s (Ends a.ending) (thread_is a.heap.now a.program.now a.fuel a.pass.now a.frame.now r.heap r.may) asks in
@@ -37,8 +33,7 @@ returns-in-None c =
     let k = a.pass.now in
     let q = c.finish.new.pass in
     let e = c.finish.ensures in
-    let many = c.objects.ensures ∙ ap (λ (s : Shape). length s.objects) c.shape.ensures in
-    let least = ap (λ n. held_from 0 (counts_from 0 n k.known.holds)) (sym many) ∙ sym c.least_held.ensures ∙ c.in-None.is in
+    let least = sym c.least_held.ensures ∙ c.in-None.is in
     let moved = c.follow.ensures ∙ ap (λ x. frame_behind a.frame.now (Ends a.ending) x) c.ending_entry.ensures in
     let one = logged h k q (came e.rests e.run) (ending_entry a.ending) e.says e.stands in
     subst (λ f. HasAdvanced h a.program.now a.fuel k q a.frame.now f (Done false)) (sym moved)
