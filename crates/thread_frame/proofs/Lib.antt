@@ -1,0 +1,6 @@
+pub mod Runs
+pub mod Lists
+pub mod Starts
+pub mod Moves
+pub mod Seen
+pub mod Walks

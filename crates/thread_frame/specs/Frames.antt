@@ -1,5 +1,5 @@
 -- A thread of a program between two of its entries, apart from its holds: its pass knows those.
-use Rattle.std.specs.Prelude.{◌≡◌, ℕ, pos, zero, suc, ◌+◌, ◌-◌, ◌*◌, ◌<◌, Bool, true, false, List, [], ◌∷◌, length, map, replicate, take, slice_index_or, slice_set, Option, Some, None}
+use Rattle.std.specs.Prelude.{◌≡◌, ℕ, pos, ◌+◌, ◌-◌, ◌*◌, ◌<◌, Bool, true, false, List, [], length, map, replicate, take, slice_index_or, slice_set, Option, Some, None}
 use Rattle.plain_monitor.specs.declared.entry.Ending.TheVariants.{Done}
 use Rattle.plain_monitor.specs.declared.entry.Entry.{Entry}
 use Rattle.plain_monitor.specs.declared.entry.Entry.TheVariants as entry
@@ -102,9 +102,11 @@ abbrev pub has_ended : FrameSeen → Bool
 has_ended f = is_ended_mode f.mode
 
 -- a thread that stands before a call is at an instruction, of which a thread has at most 4,096
-abbrev pub IsAtInstruction : FrameSeen → Type 0
-IsAtInstruction f = at f.mode
-  where
-    at : Option Mode → Type 0
-    at (Some (Calling c)) = f.place < 4096
-    at mode = Unit {0}
+abbrev pub IsAtInstruction : ℕ → Option Mode → Type 0
+IsAtInstruction place (Some (Calling c)) = place < 4096
+IsAtInstruction place mode = Unit {0}
+
+-- a thread that is asked for a call stands before it
+abbrev pub StandsBefore : Option Mode → Asked → Type 0
+StandsBefore mode (Calls c) = mode ≡ Some (Calling c)
+StandsBefore mode a = Unit {0}

@@ -1,8 +1,9 @@
 //! A thread's place, locals, fuel and dumps.
 
-ghost use Rattle.std.specs.Prelude.{◌≡◌, ◌<◌, Some};
-ghost use Rattle.plain_machine.specs.declared.call.Mode.{Mode};
-ghost use Rattle.thread_frame.specs.Frames.{first_frame, frame_behind, has_ended};
+ghost use Rattle.std.specs.Prelude.{◌≡◌, slice_index_or, slice_set};
+ghost use Rattle.plain_machine.specs.declared.call.Asked.TheVariants.{Calls};
+ghost use Rattle.plain_monitor.specs.declared.entry.Value.TheVariants.{Nil};
+ghost use Rattle.thread_frame.specs.Frames.{first_frame, frame_answered, frame_behind, frame_behind_call, has_ended, IsAtInstruction, StandsBefore};
 
 use plain_machine::{Asked, Call, Mode};
 use plain_monitor::{Entry, Value};
@@ -28,7 +29,9 @@ impl Model for Frame {
     // a thread before a call stands at an instruction
     ghost use Rattle.thread_frame.specs.Frames.{IsAtInstruction};
 
-    ghost invariant = { IsAtInstruction };
+    ghost invariant = { λ f. IsAtInstruction f.place f.mode };
+
+    ghost inverse = { λ f. record { place = f.place; locals = f.locals; fuel = f.fuel; dumps = f.dumps; mode = f.mode } };
 }
 
 impl Frame {
@@ -66,10 +69,106 @@ impl Frame {
         matches!(self.mode, Some(Mode::Ended { .. }))
     }
 
+    /// How many instructions stand before the one that it is at.
+    #[inline]
+    pub(crate) fn place(&self) -> u32
+        ensures { result ≡ self.now.place }
+    {
+        self.place
+    }
+
+    /// What the local is; nil where there is no such local.
+    #[inline]
+    pub(crate) fn local(&self, x: u32) -> Value
+        ensures { result ≡ slice_index_or self.now.locals x Nil }
+    {
+        match self.locals.get(x as usize) {
+            Some(value) => *value,
+            None => Value::Nil,
+        }
+    }
+
+    /// How many dumps it has made.
+    #[inline]
+    pub(crate) fn dumps(&self) -> u32
+        ensures { result ≡ self.now.dumps }
+    {
+        self.dumps
+    }
+
     /// Moves on behind an entry that is what it asked.
     pub fn follow(&mut self, asked: Asked, entry: &Entry)
+        requires { StandsBefore self.old.mode asked }
         ensures { self.new ≡ frame_behind self.old asked entry.now }
     {
-        todo!()
+        match asked {
+            Asked::Calls { call } => self.follow_call(call, entry),
+            Asked::Resumes { .. } => self.mode = None,
+            Asked::Leaves { .. } => {}
+            Asked::Ends { ending } => self.mode = Some(Mode::Ended { ending }),
+        }
+    }
+
+    // Moves on behind this call, which is paid for.
+    fn follow_call(&mut self, call: Call, entry: &Entry)
+        requires { StandsBefore self.old.mode (Calls call) }
+        ensures { self.new ≡ frame_behind_call self.old call entry.now }
+    {
+        let place = self.place + 1;
+        let fuel = self.fuel.saturating_sub(1);
+        if let Call::Wait { object } = call {
+            return self.stand(place, fuel, Some(Mode::Waiting { object }));
+        }
+        self.answer(call, entry);
+        self.stand(place, fuel, None);
+    }
+
+    // What the call's answer makes of it.
+    fn answer(&mut self, call: Call, entry: &Entry)
+        ensures { self.new ≡ frame_answered self.old call entry.now }
+    {
+        match call {
+            Call::Get { local, .. } => {
+                if let Entry::Get { value, .. } = entry {
+                    self.set_local(local, *value);
+                }
+            }
+            Call::Hash { local, .. } => {
+                if let Entry::Hash { value, .. } = entry {
+                    self.set_local(local, Value::Int(i64::from(*value)));
+                }
+            }
+            Call::Dump { number } => self.dumps = number,
+            Call::Enter { .. }
+            | Call::Exit { .. }
+            | Call::Wait { .. }
+            | Call::Notify { .. }
+            | Call::NotifyAll { .. }
+            | Call::Put { .. }
+            | Call::Print { .. } => {}
+        }
+    }
+
+    /// x becomes the value, where there is such a local.
+    #[inline]
+    pub(crate) fn set_local(&mut self, x: u32, value: Value)
+        ensures { self.new ≡ record self.old { locals = slice_set self.old.locals x value } }
+    {
+        let locals = &mut self.locals;
+        if x as usize >= locals.len() {
+            return;
+        }
+        locals[x as usize] = value;
+    }
+
+    /// It is at this place, has this much fuel, and stands before this.
+    #[inline]
+    pub(crate) fn stand(&mut self, place: u32, fuel: u32, mode: Option<Mode>)
+        requires { IsAtInstruction place mode }
+        ensures { self.new ≡ record self.old { place = place; fuel = fuel; mode = mode } }
+    {
+        self.place = place;
+        self.fuel = fuel;
+        self.mode = mode;
     }
 }

@@ -1,1 +1,54 @@
 //! What an instruction sees.
+
+ghost use Rattle.thread_frame.specs.Frames.{state_in};
+ghost use Rattle.thread_frame.specs.Sights.{counts_from, AreOf};
+
+use crate::frame::Frame;
+use heap_table::Pass;
+use plain_machine::Actor;
+use plain_monitor::Value;
+
+/// A frame of a thread that declares so many locals, and the thread's pass, on a heap of so many objects.
+#[derive(Clone, Copy)]
+pub(crate) struct Sight<'a> {
+    pub frame: &'a Frame,
+    pub pass: &'a Pass,
+    pub objects: u32,
+    pub locals: u32,
+    pub ghost counted: { AreOf objects pass.now.known.holds },
+}
+
+impl Actor for Sight<'_> {
+    ghost state = { λ s. state_in s.locals (counts_from 0 s.objects s.pass.now.known.holds) s.frame.now };
+
+    #[inline]
+    fn place(&self) -> u32 {
+        self.frame.place()
+    }
+
+    #[inline]
+    fn local(&self, x: u32) -> Value {
+        if x < self.locals {
+            return self.frame.local(x);
+        }
+        Value::Nil
+    }
+
+    #[inline]
+    fn holds(&self, object: u32) -> u32 {
+        if object < self.objects {
+            return self.pass.held(object);
+        }
+        0
+    }
+
+    #[inline]
+    fn depth(&self) -> u32 {
+        self.pass.holds()
+    }
+
+    #[inline]
+    fn dumps(&self) -> u32 {
+        self.frame.dumps()
+    }
+}

@@ -1,13 +1,20 @@
 //! Local instructions.
 
 ghost use Rattle.std.specs.Prelude.{◌≡◌, ◌<◌, length, None};
-ghost use Rattle.thread_frame.specs.Frames.{next_state, unspent};
+ghost use Rattle.plain_machine.specs.Machine.{code_of};
+ghost use Rattle.plain_machine.specs.Next.{meant};
+ghost use Rattle.plain_machine.specs.Running.{instruction_at};
+ghost use Rattle.plain_machine.specs.Thread.{step_of};
+ghost use Rattle.thread_frame.specs.Frames.{locals_of, next_state, state_in};
 ghost use Rattle.thread_frame.specs.Sights.{counts_from, AreOf};
-ghost use Rattle.thread_frame.specs.Walking.{HasWalked};
+ghost use Rattle.thread_frame.specs.Walking.{frame_moved, HasWalked, IsPlacedFor};
 
 use crate::frame::Frame;
+use crate::sight::Sight;
 use heap_table::Pass;
 use object_program::Program;
+use plain_machine::{Mode, Next, code_of, look};
+use plain_monitor::Ending;
 
 /// What a thread in the middle of its local instructions came to.
 #[derive(Clone, Copy, Debug, PartialEq, Eq)]
@@ -27,10 +34,73 @@ impl Frame {
         requires thread { pass.now.known.thread < length program.now.threads }
         requires local { self.old.mode ≡ None }
         requires holds { AreOf objects pass.now.known.holds }
-        ensures leads { next_state program.now pass.now.known.thread (counts_from 0 objects pass.now.known.holds) self.new
-            ≡ next_state program.now pass.now.known.thread (counts_from 0 objects pass.now.known.holds) self.old }
+        ensures leads { let holds = counts_from 0 objects pass.now.known.holds in
+            next_state program.now pass.now.known.thread holds self.new
+            ≡ next_state program.now pass.now.known.thread holds self.old }
         ensures walked { HasWalked self.old self.new result }
     {
-        todo!()
+        if self.fuel() == 0 {
+            let place = self.place();
+            let ending = Ending::Spent;
+            self.stand(place, 0, Some(Mode::Unwinding { ending }));
+            return Walked::Spent;
+        }
+        let next = self.sees(program, pass, objects);
+        self.make(next)
     }
+
+    // What the instruction that it is at leads to.
+    #[inline]
+    fn sees(&self, program: &Program, pass: &Pass, objects: u32) -> Next
+        requires thread { pass.now.known.thread < length program.now.threads }
+        requires holds { AreOf objects pass.now.known.holds }
+        ensures next { let t = pass.now.known.thread in
+            let s = state_in (locals_of program.now t) (counts_from 0 objects pass.now.known.holds) self.now in
+            step_of program.now s (instruction_at (code_of program.now t) self.now.place) ≡ meant s result }
+        ensures placed { IsPlacedFor self.now.place result }
+    {
+        let thread = pass.thread();
+        let sight = Sight {
+            frame: self,
+            pass,
+            objects,
+            locals: locals_of(program, thread),
+        };
+        look(program, code_of(program, thread), &sight)
+    }
+
+    // Behind the instruction, which is paid for unless it calls.
+    #[inline]
+    fn make(&mut self, next: Next) -> Walked
+        requires local { self.old.mode ≡ None }
+        requires fuel { 0 < self.old.fuel }
+        requires placed { IsPlacedFor self.old.place next }
+        ensures moved { self.new ≡ frame_moved self.old next }
+        ensures walked { HasWalked self.old self.new result }
+    {
+        let place = self.place();
+        let fuel = self.fuel();
+        match next {
+            Next::Sets { local, value } => {
+                self.set_local(local, value);
+                self.stand(place + 1, fuel - 1, None);
+            }
+            Next::Jumps { place } => self.stand(place, fuel - 1, None),
+            Next::Calls { call } => {
+                self.stand(place, fuel, Some(Mode::Calling { call }));
+                return Walked::Arrived;
+            }
+            Next::Stops { ending } => self.stand(place, fuel - 1, Some(Mode::Unwinding { ending })),
+        }
+        Walked::Ran
+    }
+}
+
+/// How many locals thread t declares.
+#[inline]
+fn locals_of(program: &Program, t: u32) -> u32
+    requires { t < length program.now.threads }
+    ensures { result ≡ locals_of program.now t }
+{
+    program.threads.items()[t as usize].locals.items().len() as u32
 }
