@@ -1,5 +1,5 @@
--- A dump that is done keeps one shot.
-use Rattle.std.proofs.Common.{◌≡◌, ℕ, zero, suc, ◌+◌, ◌*◌, ◌==◌, cond, Bool, true, false, List, [], ◌∷◌, length, Option, Some, None, Result, Ok, Err, refl, ap, ◌∙◌, arith, length-append}
+-- A dump that is done keeps one shot, and any other keeps none.
+use Rattle.std.proofs.Common.{◌≡◌, ℕ, zero, suc, ◌+◌, ◌*◌, ◌==◌, cond, Bool, true, false, List, [], ◌∷◌, length, Option, Some, None, Result, Ok, Err, refl, sym, ap, ◌∙◌, subst, arith, ◌++◌}
 use Rattle.mark_word.specs.declared.mark.MarkForm.{MarkForm}
 use Rattle.mark_word.specs.declared.mark.MarkForm.TheVariants.{Inflating, Neutral, Anonymous, Biased, Locked, Inflated, Marked}
 use Rattle.mark_word.specs.declared.owner.OwnerForm.{OwnerForm}
@@ -15,18 +15,19 @@ use Rattle.core_world.specs.declared.task.Op.TheVariants as op
 use Rattle.core_world.specs.declared.task.Task.TheVariants as task
 use Rattle.core_world.specs.declared.answer.TooManyDumps.{TooManyDumps}
 use Rattle.core_world.specs.declared.answer.Turn.{Turn}
+use Rattle.core_world.specs.declared.answer.Why.{Why}
 use Rattle.core_world.specs.declared.answer.Turn.TheVariants.{Done, Pending}
 use Rattle.core_world.specs.Words.Acts.{hits}
 use Rattle.core_world.specs.Due.{Ran}
 use Rattle.core_world.specs.Words.Forms.{epoch_in, is_still}
-use Rattle.core_world.specs.Threads.Known.{Known, StepMade, Start}
+use Rattle.core_world.specs.Threads.Known.{Known, StepMade, Start, DumpShot}
 use Rattle.core_world.specs.Trees.LookSteps.{look_at_holds, look_at_owner, look_behind, look_at_objects, take_shot_steps}
 use Rattle.core_world.specs.Trees.Operations.{and_then, answer, dump_going, dump_steps}
 use Rattle.core_world.specs.Locks.{has_epoch}
 use Rattle.core_world.specs.Trees.Plans.{Purpose, load, done_with}
 use Rattle.core_world.specs.Trees.SafepointSteps.{has_requester, reached_word, request_steps, reached_steps, then_reached, safepoint_steps, release_safepoint}
 use Rattle.core_world.specs.Words.Shape.{Shape}
-use Rattle.core_world.specs.Steps.{shots_after, known_hit, known_miss}
+use Rattle.core_world.specs.Steps.{shot_of, shots_after, known_hit, known_miss}
 use Rattle.core_world.specs.Trees.Todo.{Todo, done, never, step, ◌>>=◌, ask}
 use Rattle.core_world.specs.Trees.WaitSteps.{publish_steps}
 use Rattle.core_calls.specs.Paths.{made, Always, known_along}
@@ -122,13 +123,12 @@ module _ (s : Shape) (k : Start) where
   dumping = working task.Dump (unfinished_on op.Dump 0)
 
   abbrev TurnKeeps : List StepMade → Turn ℕ → Type 0
-  TurnKeeps ms (Done number) = kept_shots ms ≡ 1
-  TurnKeeps ms (Pending why) = Unit {0}
+  TurnKeeps ms (Done number) = (number ≡ k.shots + 1) × (kept_shots ms ≡ 1)
+  TurnKeeps ms (Pending why) = kept_shots ms ≡ 0
 
   abbrev Keeps : List StepMade → Result (Turn ℕ) TooManyDumps → Type 0
-  Keeps ms (Ok (Done number)) = kept_shots ms ≡ 1
-  Keeps ms (Ok (Pending why)) = Unit {0}
-  Keeps ms (Err e) = Unit {0}
+  Keeps ms (Ok turn) = TurnKeeps ms turn
+  Keeps ms (Err e) = kept_shots ms ≡ 0
 
   abbrev tells : Todo (Turn ℕ)
   tells = publish_steps (entry.Dump (k.shots + 1)) dumping k.local >>= λ _. done_with (k.shots + 1)
@@ -140,7 +140,7 @@ module _ (s : Shape) (k : Start) where
   shoots _ = take_shot_steps dumping s >>= λ _. releases
 
   told_keeps : (ms : List StepMade) → kept_shots ms ≡ 1 → Always TurnKeeps ms tells
-  told_keeps ms h = λ n. omega (arith, h)
+  told_keeps ms h = λ n. (refl, omega (arith, h))
 
   shoots_keeps : (ms : List StepMade) → kept_shots ms ≡ 0 → Always TurnKeeps ms (shoots tt)
   shoots_keeps ms h =
@@ -149,36 +149,68 @@ module _ (s : Shape) (k : Start) where
 
   reached_keeps : (turn : Turn (Unit {0})) (ms : List StepMade) → kept_shots ms ≡ 0 → Always TurnKeeps ms (and_then turn shoots)
   reached_keeps (Done x) ms h = shoots_keeps ms h
-  reached_keeps (Pending why) ms h = tt
+  reached_keeps (Pending why) ms h = h
 
   going_keeps : Always TurnKeeps [] (dump_going s dumping k)
   going_keeps =
       always_then (λ ms _. kept_shots ms ≡ 0) TurnKeeps (safepoint_steps dumping k.local.thread k.requesting) (λ turn. and_then turn shoots) []
       (none_kept 0 [] (safe_plain dumping k.local.thread k.requesting) refl) (λ ms turn h. reached_keeps turn ms h)
 
-  answer_keeps : (ms : List StepMade) (turn : Turn ℕ) → TurnKeeps ms turn → Keeps ms (Ok turn)
-  answer_keeps ms (Done number) h = h
-  answer_keeps ms (Pending why) h = tt
-
   dump_keeps : Always Keeps [] (dump_steps s k)
-  dump_keeps = either_way Keeps [] (k.shots == 4) _ _ (λ many. tt) (λ room. always_then TurnKeeps Keeps (dump_going s dumping k) answer [] going_keeps answer_keeps)
+  dump_keeps = either_way Keeps [] (k.shots == 4) _ _ (λ many. refl) (λ room. always_then TurnKeeps Keeps (dump_going s dumping k) answer [] going_keeps (λ ms turn so. so))
 
--- the thread's shots grow by those
-own_shots : (s : Shape) (k : Known) (o : Own) → length (shots_after o s k) ≡ one_shot o + length k.shots
-own_shots s k own.TakeShot = length-append k.shots _ ∙ omega arith
-own_shots s k _ = omega arith
+-- so the thread's shots grow by one, or stay as they are
+abbrev Grown : List DumpShot → List DumpShot → Type 0
+Grown before after = (shot : DumpShot) × (after ≡ before ++ shot ∷ []) × (shot.number ≡ length before + 1)
+
+record Grows (n : ℕ) (before after : List DumpShot) : Type 0 where
+  none : n ≡ 0 → after ≡ before
+  one : n ≡ 1 → Grown before after
+
+kept_as_before : (n m : ℕ) (before after later : List DumpShot) → n ≡ m → later ≡ after → Grows m before after → Grows n before later
+kept_as_before n m before after later same is g =
+    record { none = λ z. is ∙ g.none (sym same ∙ z); one = λ z. subst (λ (x : List DumpShot). Grown before x) (sym is) (g.one (sym same ∙ z)) }
 
 module _ (s : Shape) (start : ℕ) where
-  step_shots : (p : StepPlan) (n : ℕ) (k : Known) (b : Bool) → length (cond b (known_hit s start p n k) (known_miss s start p n k)).shots ≡ cond b (one_shot p.own) 0 + length k.shots
-  step_shots p n k true = own_shots s k p.own
-  step_shots p n k false = omega arith
+  own_grows : (k : Known) (o : Own) (n : ℕ) (before : List DumpShot) → Grows n before k.shots → Grows (one_shot o + n) before (shots_after o s k)
+  own_grows k own.TakeShot n before g = record {
+    none = λ z. absurd (omega (arith, z));
+    one = λ z.
+        let same = g.none (omega (arith, z)) in
+        (shot_of s k, ap (λ (x : List DumpShot). x ++ shot_of s k ∷ []) same, ap (λ (x : List DumpShot). length x + 1) same);
+  }
+  own_grows k own.Same n before g = kept_as_before (0 + n) n before k.shots k.shots (omega arith) refl g
+  own_grows k own.Claim n before g = kept_as_before (0 + n) n before k.shots k.shots (omega arith) refl g
+  own_grows k own.Spend n before g = kept_as_before (0 + n) n before k.shots k.shots (omega arith) refl g
+  own_grows k own.Save n before g = kept_as_before (0 + n) n before k.shots k.shots (omega arith) refl g
+  own_grows k (own.CountVerdict class verdict reset) n before g = kept_as_before (0 + n) n before k.shots k.shots (omega arith) refl g
 
-  shots_along : (ms : List StepMade) (k : Known) → length (known_along s start ms k).shots ≡ kept_shots ms + length k.shots
-  shots_along [] k = omega arith
-  shots_along (m ∷ ms) k = omega (arith, step_shots m.plan m.found (known_along s start ms k) (hits m.plan.act m.found), shots_along ms k)
+  step_grows : (p : StepPlan) (w n : ℕ) (k : Known) (b : Bool) (before : List DumpShot) → Grows n before k.shots → Grows (cond b (one_shot p.own) 0 + n) before (cond b (known_hit s start p w k) (known_miss s start p w k)).shots
+  step_grows p w n k true before g = own_grows k p.own n before g
+  step_grows p w n k false before g = kept_as_before (0 + n) n before k.shots k.shots (omega arith) refl g
 
-  pub dump_shoots : (shape : Shape) (k : Start) (number : ℕ) (before now : Known) → Ran s start (dump_steps shape k) before now (Ok (Done number)) → length now.shots ≡ length before.shots + 1
-  dump_shoots shape k number before now ran =
-      let follows = knows ran in
-      let one : kept_shots follows.steps ≡ 1 = on_path (Keeps shape k) (dump_steps shape k) [] follows.steps (Ok (Done number)) (dump_keeps shape k) follows.path in
-      ap (λ (x : Known). length x.shots) follows.known ∙ omega (arith, shots_along follows.steps before, one)
+  grows_along : (ms : List StepMade) (k : Known) → Grows (kept_shots ms) k.shots (known_along s start ms k).shots
+  grows_along [] k = record { none = λ _. refl; one = λ z. absurd (omega (arith, z)) }
+  grows_along (m ∷ ms) k = step_grows m.plan m.found (kept_shots ms) (known_along s start ms k) (hits m.plan.act m.found) k.shots (grows_along ms k)
+
+  -- A dump that is done keeps the shot of its number; any other leaves the shots.
+  module _ (shape : Shape) (k : Start) (before now : Known) where
+    along : (a : Result (Turn ℕ) TooManyDumps) → Ran s start (dump_steps shape k) before now a → (ms : List StepMade) × Keeps shape k ms a × Grows (kept_shots ms) before.shots now.shots
+    along a ran =
+        let f = knows ran in (
+          f.steps,
+          on_path (Keeps shape k) (dump_steps shape k) [] f.steps a (dump_keeps shape k) f.path,
+          subst (λ (x : Known). Grows (kept_shots f.steps) before.shots x.shots) (sym f.known) (grows_along f.steps before),
+        )
+
+    pub dump_shoots : (number : ℕ) → length before.shots ≡ k.shots → Ran s start (dump_steps shape k) before now (Ok (Done number)) → (shot : DumpShot) × (now.shots ≡ before.shots ++ shot ∷ []) × (shot.number ≡ number)
+    dump_shoots number same ran =
+        let x = along (Ok (Done number)) ran in
+        let one = x.2.one x.1.1 in
+        (one.0, one.1, one.2 ∙ ap (λ n. n + 1) same ∙ sym x.1.0)
+
+    pub dump_pends : (why : Why) → Ran s start (dump_steps shape k) before now (Ok (Pending why)) → now.shots ≡ before.shots
+    dump_pends why ran = let x = along (Ok (Pending why)) ran in x.2.none x.1
+
+    pub dump_refuses : (e : TooManyDumps) → Ran s start (dump_steps shape k) before now (Err e) → now.shots ≡ before.shots
+    dump_refuses e ran = let x = along (Err e) ran in x.2.none x.1
