@@ -35,7 +35,7 @@ look_below f (suc n) = cases (runs_form (Some f) n) refl (look_below f n)
         → ((u : ℕ) × (runs_form (Some f) u ≡ true)) ⊎ ((u : ℕ) → u < suc n → runs_form (Some f) u ≡ false)
     cases b is (inl found) = inl found
     cases true is (inr none) = inl (n, is)
-    cases false is (inr none) = inr (λ u low. elim (cases_lt u n) [ | inl less ↦ none u less | inr more ↦ let same : u ≡ n = omega (arith, low, more) in ap (runs_form (Some f)) same ∙ is ])
+    cases false is (inr none) = inr (λ u low. elim (cases_lt u n) [ inl less ↦ none u less | inr more ↦ let same : u ≡ n = omega (arith, low, more) in ap (runs_form (Some f)) same ∙ is ])
 
 some_runs : (f : SafeForm) → IsSafeInRange f → (f.running == 0) ≡ false → (u : ℕ) × (runs_form (Some f) u ≡ true)
 some_runs f range moves = elim (look_below f 32) [

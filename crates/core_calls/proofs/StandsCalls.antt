@@ -35,7 +35,7 @@ use Rattle.core_world.specs.Trees.SafepointSteps.{stop_steps, resume_steps, poll
 use Rattle.core_world.specs.Trees.Todo.{Todo, done, ◌>>=◌, ask}
 use Rattle.core_world.specs.Trees.WaitSteps.{monitor_wait_steps, monitor_resume_steps, publish_steps}
 use Rattle.core_calls.specs.Paths.{Always}
-use Rattle.core_calls.specs.Stands.{Stand, IsGoing, IsOff, IsHeld, FoundTrue, stand_behind, StandsSo, TurnStands, ResultStands, RunsBehind, ResumeStands, CheckStands, begun, stopped}
+use Rattle.core_calls.specs.Stands.{Stand, IsGoing, IsOff, IsHeld, FoundTrue, stand_behind, StandsSo, TurnStands, ResultStands, RunsBehind, PollStands, ResumeStands, CheckStands, begun, stopped}
 use Rattle.core_calls.proofs.Paths.{always_then, always_so, either_way}
 use Rattle.core_calls.proofs.OperationsSay.{then_says}
 use Rattle.core_calls.proofs.Stays.{Stay, Whatever, Aside, OutAside, Known, stay_done, stay_never, stay_step, stay_either, stay_then, stay_next, stay_so, aside_stands}
@@ -239,10 +239,12 @@ module _ (k : Start) (low : k.local.thread < 32) where
 
     -- a wait that has let go asks for no safepoint
     pub wait_stands : (o now : ℕ) → (waits_on k.local.wait o ≡ true → k.requesting ≡ false) → StandsSo k.local.thread (begun k) (wait_steps s k o now) (ResultStands k.local.thread)
-    wait_stands o now gone = record { by = refused_or (hold_count o k.local.holds == 0) (record {}) (wait_going s e k o now)
-        (either_way Turns [] (waits_on k.local.wait o) _ _
-        (λ waits. aside_goes (monitor_resume_steps e k.local.thread k.saved o) [] (monitor_resume_stays e k.local.thread k.saved o) (going_first (gone waits)))
-        (λ _. unbiased_then e (no_bias o now) _ (waits_stays e k o))) }
+    wait_stands o now gone = record {
+      by = refused_or (hold_count o k.local.holds == 0) (record {}) (wait_going s e k o now)
+          (either_way Turns [] (waits_on k.local.wait o) _ _
+          (λ waits. aside_goes (monitor_resume_steps e k.local.thread k.saved o) [] (monitor_resume_stays e k.local.thread k.saved o) (going_first (gone waits)))
+          (λ _. unbiased_then e (no_bias o now) _ (waits_stays e k o)));
+    }
       where
         e : Purpose
         e = purpose (task.Wait o now) op.Wait o
@@ -267,12 +269,14 @@ module _ (k : Start) (low : k.local.thread < 32) where
 
     -- DUMP AND CHECK
     pub dump_stands : StandsSo k.local.thread (begun k) (dump_steps s k) (ResultStands k.local.thread)
-    dump_stands = record { by = refused_or (k.shots == 4) (record {}) (dump_going s e k)
-        (safely Turns e k.requesting shoots [] held_first going_first
-        (λ ms. after_any Turns (take_shot_steps e s) (λ _. releases) ms (shot_stays e s)
-        (λ ms _. always_then Released Turns (release_safepoint e k.local.thread) (λ _. tells) ms (release_stands k.local.thread low (begun k) Calm e ms)
-        (λ ms _ so n found. so found.1)))
-        (λ ms why so. so)) }
+    dump_stands = record {
+      by = refused_or (k.shots == 4) (record {}) (dump_going s e k)
+          (safely Turns e k.requesting shoots [] held_first going_first
+          (λ ms. after_any Turns (take_shot_steps e s) (λ _. releases) ms (shot_stays e s)
+          (λ ms _. always_then Released Turns (release_safepoint e k.local.thread) (λ _. tells) ms (release_stands k.local.thread low (begun k) Calm e ms)
+          (λ ms _ so n found. so found.1)))
+          (λ ms why so. so));
+    }
       where
         e : Purpose
         e = purpose task.Dump op.Dump 0
@@ -304,7 +308,7 @@ module _ (k : Start) (low : k.local.thread < 32) where
 
   -- CALLS THAT ASK FOR NO SAFEPOINT
   module _ (none : k.requesting ≡ false) where
-    pub poll_call_stands : StandsSo k.local.thread (begun k) (poll_steps (side_purpose task.Poll k)) (TurnStands k.local.thread)
+    pub poll_call_stands : StandsSo k.local.thread (begun k) (poll_steps (side_purpose task.Poll k)) (PollStands k.local.thread)
     poll_call_stands = record { by = poll_stands k.local.thread low (begun k) (side_purpose task.Poll k) [] (going_first none) }
 
     pub stop_call_stands : StandsSo k.local.thread (begun k) (stop_steps (side_purpose task.Stop k) k.local) (λ b _. IsOff b)

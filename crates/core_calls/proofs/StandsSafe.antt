@@ -12,7 +12,7 @@ use Rattle.core_world.specs.Trees.Plans.{Purpose}
 use Rattle.core_world.specs.Trees.Todo.{Todo}
 use Rattle.core_world.specs.Trees.SafepointSteps.{has_requester, running_too, requested_by, reached_word, released_word, halted_word, stop_steps, bar, unless, resume_swap_steps, resume_steps, poll_steps, request_swap_steps, request_steps, reached_steps, then_reached, safepoint_steps, release_to, halt_steps}
 use Rattle.core_calls.specs.Paths.{Always}
-use Rattle.core_calls.specs.Stands.{Stand, IsGoing, IsOff, IsHeld, IsTrueOf, FoundTrue, stand_behind, PendsSo, TurnStands, ResumeStands}
+use Rattle.core_calls.specs.Stands.{Stand, IsGoing, IsOff, IsHeld, IsTrueOf, FoundTrue, stand_behind, PendsSo, PollStands, ResumeStands}
 use Rattle.core_calls.proofs.Paths.{always_then, either_way}
 use Rattle.core_calls.proofs.Others.{other_asks, other_runs, stand_in, released_going, halted_off, requested_held, resumed_going, stopped_off}
 
@@ -84,9 +84,9 @@ module _ (t : ℕ) (low : t < 32) (b : Stand) where
       (λ miss. tt)
 
   -- POLL, STOP AND RESUME
-  pub poll_stands : (e : Purpose) (ms : List StepMade) → (FoundTrue t b ms → IsGoing (stand_behind t ms b)) → Always (So (TurnStands t)) ms (poll_steps e)
+  pub poll_stands : (e : Purpose) (ms : List StepMade) → (FoundTrue t b ms → IsGoing (stand_behind t ms b)) → Always (So (PollStands t)) ms (poll_steps e)
   poll_stands e ms going = λ word.
-      either_way (So (TurnStands t)) _ (has_requester word) _ _
+      either_way (So (PollStands t)) _ (has_requester word) _ _
       (λ other found. (going found.1, other_asks t word other ((found.0 refl).asks ∙ (going found.1).asks)))
       (λ none found. going found.1)
 

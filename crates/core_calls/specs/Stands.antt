@@ -87,6 +87,11 @@ abbrev pub RunsBehind : {A E : Type 0} → Stand → Result A E → Type 0
 RunsBehind b (Ok a) = IsGoing b
 RunsBehind b (Err e) = Unit {0}
 
+-- a poll leaves the thread running
+abbrev pub PollStands : ℕ → Stand → Turn (Unit {0}) → Type 0
+PollStands t b (Done x) = IsGoing b
+PollStands t b (Pending why) = IsGoing b × IsOfAnother t why
+
 -- a resume sets the thread running, or leaves it stopped
 abbrev pub ResumeStands : ℕ → Stand → Turn (Unit {0}) → Type 0
 ResumeStands t b (Done x) = IsGoing b

@@ -14,7 +14,7 @@ ghost use Rattle.core_world.specs.Trees.Operations.{get_steps, put_steps, print_
 ghost use Rattle.core_world.specs.Trees.SafepointSteps.{poll_steps, stop_steps, resume_steps};
 ghost use Rattle.core_calls.specs.Paths.{known_along};
 ghost use Rattle.core_calls.specs.Stands.{IsGoing, IsOff, StandsSo, stand_of, stand_behind, begun, stopped};
-ghost use Rattle.core_calls.specs.Stands.{TurnStands, ResultStands, RunsBehind, ResumeStands, CheckStands};
+ghost use Rattle.core_calls.specs.Stands.{TurnStands, ResultStands, RunsBehind, PollStands, ResumeStands, CheckStands};
 
 /// Behind an operation that may ask for a safepoint its thread runs, unless it is pending for running threads: then its request stands. It
 /// is pending for those, or for a request, by another thread. As it begins its thread asks, or it runs. A wait that has let go asks for
@@ -53,7 +53,7 @@ pub fn short_operations_leave_their_thread_running()
 /// stuck leaves its thread stopped; else its thread runs, unless its request stands.
 pub fn calls_at_the_safepoint_word_tell_how_their_thread_stands()
     ensures poll { (k : Start) → k.local.thread < 32 → k.requesting ≡ false
-        → StandsSo k.local.thread (begun k) (poll_steps (side_purpose task.Poll k)) (TurnStands k.local.thread) }
+        → StandsSo k.local.thread (begun k) (poll_steps (side_purpose task.Poll k)) (PollStands k.local.thread) }
     ensures stop { (k : Start) → k.local.thread < 32 → k.requesting ≡ false
         → StandsSo k.local.thread (begun k) (stop_steps (side_purpose task.Stop k) k.local) (λ b _. IsOff b) }
     ensures resume { (k : Start) → k.local.thread < 32
