@@ -1,0 +1,5 @@
+pub mod Settled
+pub mod HoldSums
+pub mod OwnHolds
+pub mod OwnWaits
+pub mod OwnShots

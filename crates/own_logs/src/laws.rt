@@ -1,6 +1,6 @@
 //! Laws of threads that rest on a heap. The functions do nothing.
 
-ghost use Rattle.std.specs.Prelude.{◌≡◌, ◌==◌, ◌<◌, ℕ, true, false, List, length, slice_index, sum};
+ghost use Rattle.std.specs.Prelude.{◌≡◌, ◌==◌, ◌<◌, ℕ, true, false, List, length, sum};
 ghost use Rattle.std.specs.List.{list_all};
 ghost use Rattle.core_world.specs.Locks.{hold_count};
 ghost use Rattle.core_world.specs.Shots.{dumps_from};
@@ -14,7 +14,7 @@ ghost use Rattle.wait_history.specs.WaitsByLog.{waits_by};
 ghost use Rattle.own_logs.specs.HoldsByLog.{AreHolds};
 
 /// A thread that rests has as many hold words for an object as it holds it by its own log. So the number of its hold words that aren't
-/// empty is the sum of these holds over all objects; it has no free place exactly where these are 64, and only empty words where
+/// empty is the sum of these holds over all objects; a place is free where these are fewer than 64, and all words are empty where
 /// there are none.
 pub fn holds_at_rest_follow_from_the_own_log()
     ensures number { (h : HeapSeen) (p : PassSeen) (o : ℕ) → Rests h p → o < length h.heap.shape.objects

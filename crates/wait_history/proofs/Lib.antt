@@ -1,0 +1,2 @@
+pub mod WaitSteps
+pub mod WaitsByLog

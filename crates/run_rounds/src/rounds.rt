@@ -1,0 +1,141 @@
+//! Rounds of turns.
+
+ghost use Rattle.std.specs.Prelude.{◌≡◌, ◌≤◌, ◌<◌, ◌×◌, map, length, true, false};
+ghost use Rattle.thread_calls.specs.Between.{IsHeapOf};
+ghost use Rattle.thread_interp.specs.Runners.{IsRunner, IsSame};
+ghost use Rattle.run_rounds.specs.Rounds.{AreRunners, AreOver, have_ended, runners_in};
+
+use crate::seats::Seat;
+use core_world::{Turn, Why};
+use heap_table::Heap;
+use object_program::Program;
+use run_io::{Clock, Gate};
+use std::sync::Wait;
+use std::thread;
+use std::thread::Threads;
+use thread_interp::Runner;
+
+// Whether all threads have ended.
+fn have_ended(seats: &[Seat]) -> bool
+    ensures { result ≡ have_ended (runners_in seats.now) }
+{
+    for seat in seats {
+        if !seat.runner.has_ended() {
+            return false;
+        }
+    }
+    true
+}
+
+// Whether no turn of the last round did an instruction.
+fn stand_still(seats: &[Seat]) -> bool {
+    for seat in seats {
+        if seat.instructions > 0 {
+            return false;
+        }
+    }
+    true
+}
+
+// Each has a turn, on some worker.
+fn round<R: Threads + Sync, C: Clock + Sync, G: Gate + Sync>(
+    rt: &R,
+    program: &Program,
+    heap: &Heap,
+    fuel: u32,
+    seats: &mut [Seat],
+    workers: u32,
+    quantum: u32,
+    clock: &C,
+    tick: u32,
+    gate: &G,
+)
+    requires workers { 1 ≤ workers }
+    requires quantum { 1 ≤ quantum }
+    requires program { IsHeapOf heap.now program.now }
+    requires runners { AreRunners heap.now program.now fuel (runners_in seats.old) }
+    ensures runners { AreRunners heap.now program.now fuel (runners_in seats.new) }
+    ensures count { length seats.new ≡ length seats.old }
+{
+    thread::for_each_mut(
+        rt,
+        seats,
+        workers as usize,
+        &|_: usize, seat: &mut Seat|
+            requires { IsHeapOf heap.now program.now × IsRunner heap.now program.now seat.now.runner
+                × (seat.now.runner.pass.known.checking ≡ false) × (1 ≤ quantum) }
+            ensures { IsRunner heap.entry.now program.entry.now seat.exit.now.runner × IsSame seat.entry.now.runner seat.exit.now.runner
+                × (seat.exit.now.runner.pass.known.checking ≡ false) }
+        { seat.go(program, heap, clock, tick, gate, quantum) },
+    );
+}
+
+// Whether the run is stuck, by a check of this runner. One that other threads have to stop for is made again.
+fn check<R: Wait>(rt: &R, program: &Program, heap: &Heap, runner: &mut Runner) -> bool
+    requires program { IsHeapOf heap.now program.now }
+    requires runner { IsRunner heap.now program.now runner.old }
+    requires free { (runner.old.pass.known.requesting ≡ false) × (runner.old.pass.known.checking ≡ false) }
+    requires live { Rattle.thread_frame.specs.Frames.has_ended runner.old.frame ≡ false }
+    ensures runner { IsRunner heap.now program.now runner.new }
+    ensures unchecked { runner.new.pass.known.checking ≡ false }
+    ensures same { IsSame runner.old runner.new }
+    ensures halted { result ≡ true → runner.new.pass.known.halted ≡ true }
+{
+    for _ in rt.forever() {
+        match runner.check(program, heap) {
+            Turn::Done(stuck) => return stuck,
+            Turn::Pending(Why::Stopping { .. }) => {}
+            Turn::Pending(_) => return false,
+        }
+    }
+    unreachable!()
+}
+
+// The live runner of the least number that asks for no safepoint makes a check, where there is one.
+fn check_first<R: Wait>(rt: &R, program: &Program, heap: &Heap, fuel: u32, seats: &mut [Seat]) -> bool
+    requires program { IsHeapOf heap.now program.now }
+    requires runners { AreRunners heap.now program.now fuel (runners_in seats.old) }
+    ensures runners { AreRunners heap.now program.now fuel (runners_in seats.new) }
+    ensures count { length seats.new ≡ length seats.old }
+    ensures halted { result ≡ true → AreOver (runners_in seats.new) true }
+{
+    for seat in seats.iter_mut() {
+        if !seat.runner.has_ended() && !seat.runner.requesting() {
+            return check(rt, program, heap, &mut seat.runner);
+        }
+    }
+    false
+}
+
+/// Rounds until all threads have ended, or a check halts the run: it answers whether one did.
+pub fn rounds<R: Threads + Wait + Sync, C: Clock + Sync, G: Gate + Sync>(
+    rt: &R,
+    program: &Program,
+    heap: &Heap,
+    fuel: u32,
+    seats: &mut [Seat],
+    workers: u32,
+    quantum: u32,
+    clock: &C,
+    tick: u32,
+    gate: &G,
+) -> bool
+    requires workers { 1 ≤ workers }
+    requires quantum { 1 ≤ quantum }
+    requires program { IsHeapOf heap.now program.now }
+    requires runners { AreRunners heap.now program.now fuel (runners_in seats.old) }
+    ensures runners { AreRunners heap.now program.now fuel (runners_in seats.new) }
+    ensures count { length seats.new ≡ length seats.old }
+    ensures over { AreOver (runners_in seats.new) result }
+{
+    for _ in rt.forever() {
+        if have_ended(seats) {
+            return false;
+        }
+        round(rt, program, heap, fuel, seats, workers, quantum, clock, tick, gate);
+        if stand_still(seats) && check_first(rt, program, heap, fuel, seats) {
+            return true;
+        }
+    }
+    unreachable!()
+}

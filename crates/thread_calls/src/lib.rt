@@ -1,0 +1,14 @@
+//! The calls that a thread of a program makes on its heap, one at a time.
+//!
+//! `advance` executes the instruction that the thread is at: a local one by its frame, and one that makes an entry by the call of
+//! `lock_runtime`; or it makes the next entry of a thread that waits or unwinds. Between two calls the pass's log follows the thread's
+//! code, and its unfinished operation is the one that the thread asks next.
+#![tactic(auto)]
+
+mod advance;
+mod asks;
+mod calls;
+mod laws;
+
+pub use advance::advance;
+pub use laws::unused_passes_are_on;

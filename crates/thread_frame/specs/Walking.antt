@@ -1,0 +1,22 @@
+-- What a look at a local instruction makes of a frame.
+use Rattle.std.specs.Prelude.{◌≡◌, ◌+◌, ℕ, Option, Some, None}
+use Rattle.plain_machine.specs.declared.call.Call.{Call}
+use Rattle.plain_machine.specs.declared.call.Mode.{Mode}
+use Rattle.plain_machine.specs.declared.call.Mode.TheVariants.{Calling, Unwinding}
+use Rattle.plain_monitor.specs.declared.entry.Ending.{Ending}
+use Rattle.plain_monitor.specs.declared.entry.Ending.TheVariants.{Spent as Without}
+use Rattle.thread_frame.specs.declared.walk.Walked.{Walked}
+use Rattle.thread_frame.specs.declared.walk.Walked.TheVariants.{Ran, Arrived, Spent}
+use Rattle.thread_frame.specs.Frames.{FrameSeen}
+
+-- in the middle of its local instructions, or at its end
+abbrev pub IsBehindLocal : Option Mode → Type 0
+IsBehindLocal None = Unit {0}
+IsBehindLocal (Some (Unwinding g)) = Unit {0}
+IsBehindLocal (Some _) = ⊥
+
+-- it paid for one instruction; it stands before a call; or it ends for want of fuel
+abbrev pub HasWalked : FrameSeen → FrameSeen → Walked → Type 0
+HasWalked f g Ran = (f.fuel ≡ g.fuel + 1) × IsBehindLocal g.mode
+HasWalked f g Arrived = (g.fuel ≡ f.fuel) × ((c : Call) × (g.mode ≡ Some (Calling c)))
+HasWalked f g Spent = (g.fuel ≡ f.fuel) × (f.fuel ≡ 0) × (g.mode ≡ Some (Unwinding Without))

@@ -1,0 +1,1 @@
+//! What an instruction sees.

@@ -1,0 +1,3 @@
+pub mod Runners
+pub mod Moves
+pub mod Checks

@@ -1,0 +1,117 @@
+//! A pass and the state of its thread.
+ghost use Rattle.std.specs.Prelude.{◌≡◌, ◌+◌, ◌*◌, ◌≤◌, ℕ, false, true};
+ghost use Rattle.core_world.specs.Threads.Known.{Known};
+ghost use Rattle.heap_table.specs.Seen.{HeapSeen};
+ghost use Rattle.lock_runtime.specs.Standing.{StandsBehindCheck};
+ghost use Rattle.object_program.specs.Program.{ProgramText};
+ghost use Rattle.thread_frame.specs.Frames.{first_frame, has_ended};
+ghost use Rattle.thread_interp.specs.Checks.{StandsAfterCheck};
+ghost use Rattle.thread_interp.specs.Moves.{HasMoved};
+ghost use Rattle.thread_calls.specs.Between.{IsHeapOf};
+ghost use Rattle.thread_interp.specs.Runners.{RunnerSeen, IsRunner, IsSame};
+
+use crate::moved::Moved;
+use core_world::Turn;
+use heap_table::{Heap, Pass};
+use object_program::Program;
+use run_io::{Clock, Gate};
+use std::marker::Model;
+use thread_frame::Frame;
+
+/// A thread of a program on a heap.
+#[derive(Drop)]
+pub struct Runner {
+    pass: Pass,
+    frame: Frame,
+    fuel: u32,
+}
+
+impl Model for Runner {
+    ghost use Rattle.thread_interp.specs.Runners.{RunnerSeen};
+
+    ghost Value = { RunnerSeen };
+
+    ghost view = { λ r. record { pass = r.pass; frame = r.frame; fuel = r.fuel } };
+}
+
+impl Runner {
+    /// The runner of a pass on which no call was made yet, for a thread that may execute so many instructions: at most 200,000. The
+    /// pass's log has room for what so many may log. It takes no memory.
+    pub fn new(pass: Pass, fuel: u32) -> Runner
+        ensures { result ≡ record { pass = pass; frame = first_frame fuel; fuel = fuel } }
+    {
+        let frame = Frame::new(fuel);
+        Runner { pass, frame, fuel }
+    }
+
+    /// A turn of the thread: it goes on by at most `quantum` instructions.
+    ///
+    /// The gate is visited first, and the thread set running where it is stopped. Before each instruction, and each exit of a thread that
+    /// unwinds, it polls where it runs. The turn ends behind so many instructions, at the thread's end, or where a call is pending; behind
+    /// it the thread is stopped, or its request for a safepoint stands. Each call that takes a moment gets the clock's time then, by `tick`.
+    pub fn turn<C: Clock, G: Gate>(
+        &mut self,
+        program: &Program,
+        heap: &Heap,
+        clock: &C,
+        tick: u32,
+        gate: &G,
+        quantum: u32,
+    ) -> Moved
+        requires heap { IsHeapOf heap.now program.now }
+        requires runner { IsRunner heap.now program.now self.old }
+        requires unchecked { self.old.pass.known.checking ≡ false }
+        requires live { has_ended self.old.frame ≡ false }
+        requires quantum { 1 ≤ quantum }
+        ensures runner { IsRunner heap.now program.now self.new }
+        ensures unchecked { self.new.pass.known.checking ≡ false }
+        ensures same { IsSame self.old self.new }
+        ensures moved { HasMoved heap.now quantum self.old self.new result }
+    {
+        gate.visit(self.pass.thread());
+        crate::turn::turn(program, heap, clock, tick, &mut self.pass, &mut self.frame, self.fuel, quantum)
+    }
+
+    /// Looks at a safepoint whether the run is stuck, as `check_stuck`: the thread is set running before it where it is stopped, and
+    /// stopped behind it where it runs. The thread's log and what it stands before stay as they are.
+    pub fn check(&mut self, program: &Program, heap: &Heap) -> Turn<bool>
+        requires heap { IsHeapOf heap.now program.now }
+        requires runner { IsRunner heap.now program.now self.old }
+        requires free { self.old.pass.known.requesting ≡ self.old.pass.known.checking }
+        requires live { has_ended self.old.frame ≡ false }
+        ensures runner { IsRunner heap.now program.now self.new }
+        ensures same { IsSame self.old self.new }
+        ensures frame { self.new.frame ≡ self.old.frame }
+        ensures stands { StandsAfterCheck self.new.pass.known result }
+    {
+        crate::turn::check(program, heap, &mut self.pass, &self.frame, self.fuel)
+    }
+
+    /// Whether the thread has ended.
+    pub fn has_ended(&self) -> bool
+        ensures { result ≡ has_ended self.now.frame }
+    {
+        self.frame.has_ended()
+    }
+
+    /// Whether the thread's request for a safepoint stands.
+    pub fn requesting(&self) -> bool
+        ensures { result ≡ self.now.pass.known.requesting }
+    {
+        self.pass.requesting()
+    }
+
+    /// Whether a check of the thread is unfinished.
+    pub fn checking(&self) -> bool
+        ensures { result ≡ self.now.pass.known.checking }
+    {
+        self.pass.checking()
+    }
+
+    /// The pass.
+    pub fn into_pass(self) -> Pass
+        ensures { result ≡ self.pass }
+    {
+        self.pass
+    }
+}

@@ -1,0 +1,155 @@
+//! Turns of a thread, and its checks.
+
+ghost use Rattle.std.specs.Prelude.{◌≡◌, ◌≤◌, ◌⊎◌, false, true};
+ghost use Rattle.lock_runtime.specs.Standing.{IsStopped};
+ghost use Rattle.thread_calls.specs.Advances.{HasAdvanced, MayAdvance, HasPended};
+ghost use Rattle.thread_calls.specs.Between.{IsHeapOf, IsOn};
+ghost use Rattle.thread_frame.specs.Frames.{has_ended};
+ghost use Rattle.thread_interp.specs.Checks.{StandsAfterCheck};
+ghost use Rattle.thread_interp.specs.Moves.{HasMoved};
+ghost use Rattle.thread_interp.specs.Running.{IsReady, HasGone, HasReached};
+ghost use Rattle.thread_interp.specs.Runners.{IsRunner, runner_of};
+
+use crate::moved::{Moved, RunState};
+use core_world::Turn;
+use heap_table::{Heap, Pass};
+use lock_runtime::{check_stuck, poll, resume, stop};
+use object_program::Program;
+use run_io::Clock;
+use thread_calls::advance;
+use thread_frame::Frame;
+
+// Sets the thread running, unless its request for a safepoint stands.
+fn set_running(program: &Program, heap: &Heap, fuel: u32, pass: &mut Pass, frame: &Frame) -> Turn<()>
+    requires on { IsOn heap.now program.now fuel pass.old frame.now }
+    requires still { pass.old.known.running ≡ false }
+    ensures { IsReady heap.now program.now fuel pass.old pass.new frame.now result }
+{
+    if pass.requesting() {
+        return Turn::Done(());
+    }
+    resume(heap, pass)
+}
+
+// Polls where the thread runs, and then goes on by one instruction or entry.
+fn step<C: Clock>(
+    program: &Program,
+    heap: &Heap,
+    clock: &C,
+    tick: u32,
+    fuel: u32,
+    pass: &mut Pass,
+    frame: &mut Frame,
+) -> Turn<bool>
+    requires heap { IsHeapOf heap.now program.now }
+    requires may { MayAdvance heap.now program.now fuel pass.old frame.old }
+    ensures { HasAdvanced heap.now program.now fuel pass.old pass.new frame.old frame.new result }
+{
+    if pass.running() {
+        if let Turn::Pending(why) = poll(heap, pass) {
+            return Turn::Pending(why);
+        }
+    }
+    advance(program, heap, clock, tick, fuel, pass, frame)
+}
+
+// Goes on by at most so many instructions.
+fn go_on<C: Clock>(
+    program: &Program,
+    heap: &Heap,
+    clock: &C,
+    tick: u32,
+    fuel: u32,
+    pass: &mut Pass,
+    frame: &mut Frame,
+    quantum: u32,
+) -> Moved
+    requires heap { IsHeapOf heap.now program.now }
+    requires may { MayAdvance heap.now program.now fuel pass.old frame.old }
+    ensures { HasGone heap.now program.now fuel quantum pass.old pass.new frame.old frame.new result }
+{
+    let mut instructions = 0;
+    loop {
+        if frame.has_ended() {
+            return Moved {
+                instructions,
+                state: RunState::Ended,
+            };
+        }
+        if instructions == quantum {
+            return Moved {
+                instructions,
+                state: RunState::Live,
+            };
+        }
+        match step(program, heap, clock, tick, fuel, pass, frame) {
+            Turn::Done(true) => instructions += 1,
+            Turn::Done(false) => {}
+            Turn::Pending(why) => {
+                return Moved {
+                    instructions,
+                    state: RunState::Blocked(why),
+                };
+            }
+        }
+    }
+}
+
+// Stops the thread where it runs.
+fn set_still(program: &Program, heap: &Heap, fuel: u32, pass: &mut Pass, frame: &Frame)
+    requires on { IsOn heap.now program.now fuel pass.old frame.now }
+    ensures { HasReached heap.now program.now fuel pass.old pass.new frame.now }
+{
+    if pass.running() {
+        stop(heap, pass);
+    }
+}
+
+/// A turn of the thread.
+pub fn turn<C: Clock>(
+    program: &Program,
+    heap: &Heap,
+    clock: &C,
+    tick: u32,
+    pass: &mut Pass,
+    frame: &mut Frame,
+    fuel: u32,
+    quantum: u32,
+) -> Moved
+    requires heap { IsHeapOf heap.now program.now }
+    requires runner { IsRunner heap.now program.now (runner_of pass.old frame.old fuel) }
+    requires unchecked { pass.old.known.checking ≡ false }
+    requires live { has_ended frame.old ≡ false }
+    ensures runner { IsRunner heap.now program.now (runner_of pass.new frame.new fuel) }
+    ensures unchecked { pass.new.known.checking ≡ false }
+    ensures thread { pass.new.known.thread ≡ pass.old.known.thread }
+    ensures moved { HasMoved heap.now quantum (runner_of pass.old frame.old fuel) (runner_of pass.new frame.new fuel) result }
+{
+    let moved = match set_running(program, heap, fuel, pass, frame) {
+        Turn::Done(()) => go_on(program, heap, clock, tick, fuel, pass, frame, quantum),
+        Turn::Pending(why) => Moved {
+            instructions: 0,
+            state: RunState::Blocked(why),
+        },
+    };
+    set_still(program, heap, fuel, pass, frame);
+    moved
+}
+
+/// A check of the thread.
+pub fn check(program: &Program, heap: &Heap, pass: &mut Pass, frame: &Frame, fuel: u32) -> Turn<bool>
+    requires heap { IsHeapOf heap.now program.now }
+    requires runner { IsRunner heap.now program.now (runner_of pass.old frame.now fuel) }
+    requires free { pass.old.known.requesting ≡ pass.old.known.checking }
+    requires live { has_ended frame.now ≡ false }
+    ensures runner { IsRunner heap.now program.now (runner_of pass.new frame.now fuel) }
+    ensures thread { pass.new.known.thread ≡ pass.old.known.thread }
+    ensures stands { StandsAfterCheck pass.new.known result }
+{
+    if let Turn::Pending(why) = set_running(program, heap, fuel, pass, frame) {
+        return Turn::Pending(why);
+    }
+    let stuck = check_stuck(heap, pass);
+    set_still(program, heap, fuel, pass, frame);
+    stuck
+}
