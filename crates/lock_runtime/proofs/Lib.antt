@@ -17,3 +17,4 @@ pub mod Stands
 pub mod StandsBefore
 pub mod StandsCalls
 pub mod GetsValue
+pub mod Refused

@@ -37,11 +37,12 @@ asks_going false true false e stopped asks = absurd (cc e)
 asks_going running false going e stopped asks = absurd (cc asks)
 
 not_true : (b : Bool) → (b ≡ true → ⊥) → b ≡ false
-not_true true no = absurd (no refl)
-not_true false no = refl
+not_true true h = absurd (h refl)
+not_true false h = refl
 
 -- an exit asks for no safepoint, nor does a wait that has let go
-exit_asks : (s : Shape) (k : Known) (op : Op) (on o : ℕ) → (same_op op op.Exit && (on == o)) ≡ true → MayAsk s k (Some (record { op = op; object = on })) → ⊥
+exit_asks : (s : Shape) (k : Known) (which : Op) (on o : ℕ) → (same_op which op.Exit && (on == o)) ≡ true
+    → MayAsk s k (Some (record { op = which; object = on })) → ⊥
 exit_asks s k op.Exit on o e asks = asks
 exit_asks s k op.Enter on o e asks = absurd (cc e)
 exit_asks s k op.Wait on o e asks = absurd (cc e)
@@ -50,7 +51,8 @@ exit_asks s k op.NotifyAll on o e asks = absurd (cc e)
 exit_asks s k op.Hash on o e asks = absurd (cc e)
 exit_asks s k op.Dump on o e asks = absurd (cc e)
 
-wait_asks : (s : Shape) (k : Known) (op : Op) (on o : ℕ) → (same_op op op.Wait && (on == o)) ≡ true → waits_on k.wait o ≡ true → MayAsk s k (Some (record { op = op; object = on })) → ⊥
+wait_asks : (s : Shape) (k : Known) (which : Op) (on o : ℕ) → (same_op which op.Wait && (on == o)) ≡ true → waits_on k.wait o ≡ true
+    → MayAsk s k (Some (record { op = which; object = on })) → ⊥
 wait_asks s k op.Wait on o e waits asks = true≢false (sym waits ∙ ap (waits_on k.wait) (sym (eqb-true on o e)) ∙ asks.0)
 wait_asks s k op.Enter on o e waits asks = absurd (cc e)
 wait_asks s k op.Exit on o e waits asks = absurd (cc e)

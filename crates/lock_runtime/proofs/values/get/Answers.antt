@@ -22,6 +22,7 @@ use Rattle.lock_runtime.proofs.StandsCalls.{get_leaves}
 use Rattle.core_world.specs.Words.Shape.{slots_of}
 use Rattle.lock_runtime.proofs.GetsValue.{slot_value}
 use Rattle.lock_runtime.proofs.StandsBefore.{act_runs}
+use Rattle.lock_runtime.proofs.Refused.{unheld, held}
 use Rattle.lock_runtime.proofs.values.get.Goals as goal
 
 pub log_get-word-requires : goal.log_get-word-requires
@@ -99,3 +100,13 @@ returns-clause-value c v is =
     let same : c.value_of_word.result ≡ v = cc (is) in
     subst (λ (x : Value). is_value s x ≡ true) (sym c.value_of_word.ensures ∙ same)
     (slot_value h.heap p.known plan a.object a.slot word refl made.stepped c.requires.call.rests.is_of.within (act_runs s p.known (at_rest h p c.requires.call.rests) may) low)
+
+pub returns-then-held-eq0-clause-owner : goal.returns-then-held-eq0-clause-owner
+returns-then-held-eq0-clause-owner c =
+    let a = c.args in
+    unheld a.heap.now a.pass.now c.requires.call.rests a.object (sym c.held.ensures.held ∙ c.if-held-eq0.true)
+
+pub returns-clause-owner : goal.returns-clause-owner
+returns-clause-owner c =
+    let a = c.args in
+    held a.heap.now a.pass.now c.requires.call.rests a.object (ap (λ n. n == 0) (sym c.held.ensures.held) ∙ ne_eqb _ _ c.if-held-eq0.false)
