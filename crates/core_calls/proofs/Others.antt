@@ -1,5 +1,5 @@
 -- What the safepoint word says of other threads, and of a thread that changes it.
-use Rattle.std.proofs.Common.{◌≡◌, ◌≢◌, ◌⊎◌, ℕ, zero, suc, ◌-◌, ◌^◌, ◌<◌, ◌≤◌, ◌==◌, Bool, true, false, Option, Some, None, refl, sym, ap, ◌∙◌, subst, inl, inr, eq-eqb, true≢false, arith}
+use Rattle.std.proofs.Common.{◌≡◌, ◌⊎◌, ℕ, zero, suc, ◌-◌, ◌^◌, ◌<◌, ◌==◌, Bool, true, false, Option, Some, None, refl, sym, ap, ◌∙◌, inl, inr, eq-eqb, true≢false, arith}
 use Rattle.std.proofs.lemmas.Bool.{cases_lt}
 use Rattle.std.proofs.lemmas.Nat.{pow_below}
 use Rattle.std.proofs.lemmas.Nat.Bits.{bit_at-zero, bit_at-pow_same, bit_at_above}
@@ -35,7 +35,12 @@ look_below f (suc n) = cases (runs_form (Some f) n) refl (look_below f n)
         → ((u : ℕ) × (runs_form (Some f) u ≡ true)) ⊎ ((u : ℕ) → u < suc n → runs_form (Some f) u ≡ false)
     cases b is (inl found) = inl found
     cases true is (inr none) = inl (n, is)
-    cases false is (inr none) = inr (λ u low. elim (cases_lt u n) [ inl less ↦ none u less | inr more ↦ let same : u ≡ n = omega (arith, low, more) in ap (runs_form (Some f)) same ∙ is ])
+    cases false is (inr none) =
+        inr (λ u low. elim (cases_lt u n) [
+          | inl less ↦ none u less
+          | inr more ↦ let same : u ≡ n = omega (arith, low, more) in ap (runs_form
+              (Some f)) same ∙ is
+        ])
 
 some_runs : (f : SafeForm) → IsSafeInRange f → (f.running == 0) ≡ false → (u : ℕ) × (runs_form (Some f) u ≡ true)
 some_runs f range moves = elim (look_below f 32) [
@@ -46,7 +51,8 @@ some_runs f range moves = elim (look_below f 32) [
   ]))) ∙ moves))
 ]
 
-pub other_runs : (t word : ℕ) (f : SafeForm) → read_safe word ≡ Some f → is_still word ≡ false → runs_in word t ≡ false → IsOfAnother t (Stopping word)
+pub other_runs : (t word : ℕ) (f : SafeForm) → read_safe word ≡ Some f → is_still word ≡ false → runs_in word t ≡ false
+    → IsOfAnother t (Stopping word)
 other_runs t word f spells moves mine =
     let found = some_runs f (read_safe-spells word f spells).0 (ap still_form (sym spells) ∙ moves) in
     let runs : runs_in word found.0 ≡ true = ap (λ z. runs_form z found.0) spells ∙ found.1 in
@@ -78,8 +84,13 @@ module _ (t : ℕ) (low : t < 32) where
     -- behind its request
     pub requested_held : runs_in word t ≡ true → IsHeld (stand_in (requested_by (read_safe word) t) t)
     requested_held runs =
-        let reads = ap (λ z. read_safe (requested_by z t)) spells ∙ read_safe-safe_of (record f { running = f.running - 2 ^ t; requester = Some t }) ((without_range f t range low).0, low) in
-        record { runs = ap (λ z. runs_form z t) reads ∙ without_mine f t range low (bit true runs); asks = ap (λ z. is_thread (requester_form z) t) reads ∙ eq-eqb t t refl }
+        let reads = ap (λ z. read_safe (requested_by z t)) spells ∙ read_safe-safe_of (record f { running = f.running - 2 ^ t; requester = Some t })
+        ((without_range f t range low).0, low) in
+        record {
+          runs = ap (λ z. runs_form z t) reads ∙ without_mine f t range low (bit true runs);
+          asks = ap (λ z. is_thread
+              (requester_form z) t) reads ∙ eq-eqb t t refl;
+        }
 
     -- behind a resume
     pub resumed_going : runs_in word t ≡ false → asks_in word t ≡ false → IsGoing (stand_in (running_too (read_safe word) t) t)

@@ -50,7 +50,8 @@ kept_shots (m ∷ ms) = cond (hits m.plan.act m.found) (one_shot m.plan.own) 0 +
 record IsPlain (p : StepPlan) : Type 0 where
   none : one_shot p.own ≡ 0
 
-plain : {A : Type 0} {rest : A → ℕ} {p : StepPlan} {f : ℕ → Todo A} {n : ℕ} → one_shot p.own ≡ 0 → ((w : ℕ) → Spend IsPlain rest n (f w)) → Spend IsPlain rest (suc n) (step p f)
+plain : {A : Type 0} {rest : A → ℕ} {p : StepPlan} {f : ℕ → Todo A} {n : ℕ} → one_shot p.own ≡ 0 → ((w : ℕ) → Spend IsPlain rest n (f w))
+    → Spend IsPlain rest (suc n) (step p f)
 plain none h = spend_step (record { none = none }) h
 
 still_kept : (p : StepPlan) (n z : ℕ) (ms : List StepMade) → one_shot p.own ≡ 0 → kept_shots ms ≡ z → kept_shots (made p n ∷ ms) ≡ z
@@ -60,13 +61,15 @@ still_kept p n z ms none h = by_hit (hits p.act n)
     by_hit true = omega (arith, none, h)
     by_hit false = omega (arith, h)
 
-plainly : {A : Type 0} (rest : A → ℕ) (d : Todo A) (n z : ℕ) (ms : List StepMade) → Spends IsPlain rest n d → kept_shots ms ≡ z → Always (λ ms _. kept_shots ms ≡ z) ms d
+plainly : {A : Type 0} (rest : A → ℕ) (d : Todo A) (n z : ℕ) (ms : List StepMade) → Spends IsPlain rest n d → kept_shots ms ≡ z
+    → Always (λ ms _. kept_shots ms ≡ z) ms d
 plainly rest (done a) n z ms h s = s
 plainly rest never n z ms h s = tt
 plainly rest (step p f) zero z ms h s = absurd h
 plainly rest (step p f) (suc n) z ms h s = λ w. plainly rest (f w) n z (made p w ∷ ms) (h.1 w) (still_kept p w z ms h.0.none s)
 
-none_kept : {A : Type 0} {rest : A → ℕ} {d : Todo A} {n : ℕ} (z : ℕ) (ms : List StepMade) → Spend IsPlain rest n d → kept_shots ms ≡ z → Always (λ ms _. kept_shots ms ≡ z) ms d
+none_kept : {A : Type 0} {rest : A → ℕ} {d : Todo A} {n : ℕ} (z : ℕ) (ms : List StepMade) → Spend IsPlain rest n d → kept_shots ms ≡ z
+    → Always (λ ms _. kept_shots ms ≡ z) ms d
 none_kept {A} {rest} {d} {n} z ms h s = plainly rest d n z ms h.by s
 
 module _ (e : Purpose) where
@@ -83,7 +86,8 @@ module _ (e : Purpose) where
   owner_plain None = spend_done (omega arith)
 
   behind_plain : (s : Shape) (o : ℕ) (form : Option MarkForm) → Spend IsPlain (λ _. 0) 65 (look_behind form e s o)
-  behind_plain s o (Some (Biased thread epoch age)) = plain {n = 64} refl (λ prototype. spend_either (has_epoch (epoch_in prototype) epoch) (holds_plain thread) (spend_done (omega arith)))
+  behind_plain s o (Some (Biased thread epoch age)) =
+      plain {n = 64} refl (λ prototype. spend_either (has_epoch (epoch_in prototype) epoch) (holds_plain thread) (spend_done (omega arith)))
   behind_plain s o (Some (Locked thread place)) = spend_more (omega arith) (holds_plain thread)
   behind_plain s o (Some (Inflated monitor)) = plain {n = 64} refl (λ owner. owner_plain (read_owner owner))
   behind_plain s o (Some Inflating) = spend_done (omega arith)
@@ -106,7 +110,9 @@ module _ (e : Purpose) where
   reached_plain = plain {n = 0} refl (λ word. spend_either (is_still word) (spend_done (omega arith)) (spend_done (omega arith)))
 
   request_plain : (t : ℕ) → Spend IsPlain (λ _. 0) 2 (request_steps e t)
-  request_plain t = plain {n = 1} refl (λ word. spend_either (has_requester word) (spend_done (omega arith)) (plain {n = 0} refl (λ n. spend_either (n == word) (spend_done (omega arith)) (spend_either (has_requester n) (spend_done (omega arith)) (spend_done (omega arith))))))
+  request_plain t =
+      plain {n = 1} refl (λ word. spend_either (has_requester word) (spend_done (omega arith)) (plain {n = 0} refl (λ n. spend_either (n == word)
+      (spend_done (omega arith)) (spend_either (has_requester n) (spend_done (omega arith)) (spend_done (omega arith))))))
 
   then_plain : (turn : Turn (Unit {0})) → Spend IsPlain (λ _. 0) 1 (then_reached e turn)
   then_plain (Done x) = reached_plain
@@ -145,7 +151,8 @@ module _ (s : Shape) (k : Start) where
   shoots_keeps : (ms : List StepMade) → kept_shots ms ≡ 0 → Always TurnKeeps ms (shoots tt)
   shoots_keeps ms h =
       always_then (λ ms _. kept_shots ms ≡ 1) TurnKeeps (take_shot_steps dumping s) (λ _. releases) ms (shot_kept dumping s ms h) (λ ms _ h.
-      always_then (λ ms _. kept_shots ms ≡ 1) TurnKeeps (release_safepoint dumping k.local.thread) (λ _. tells) ms (none_kept 1 ms (release_plain dumping k.local.thread) h) (λ ms _ h. told_keeps ms h))
+      always_then (λ ms _. kept_shots ms ≡ 1) TurnKeeps (release_safepoint dumping k.local.thread) (λ _. tells) ms (none_kept 1 ms
+      (release_plain dumping k.local.thread) h) (λ ms _ h. told_keeps ms h))
 
   reached_keeps : (turn : Turn (Unit {0})) (ms : List StepMade) → kept_shots ms ≡ 0 → Always TurnKeeps ms (and_then turn shoots)
   reached_keeps (Done x) ms h = shoots_keeps ms h
@@ -157,7 +164,9 @@ module _ (s : Shape) (k : Start) where
       (none_kept 0 [] (safe_plain dumping k.local.thread k.requesting) refl) (λ ms turn h. reached_keeps turn ms h)
 
   dump_keeps : Always Keeps [] (dump_steps s k)
-  dump_keeps = either_way Keeps [] (k.shots == 4) _ _ (λ many. refl) (λ room. always_then TurnKeeps Keeps (dump_going s dumping k) answer [] going_keeps (λ ms turn so. so))
+  dump_keeps =
+      either_way Keeps [] (k.shots == 4) _ _ (λ many. refl) (λ room. always_then TurnKeeps Keeps (dump_going s dumping k) answer [] going_keeps
+      (λ ms turn so. so))
 
 -- so the thread's shots grow by one, or stay as they are
 abbrev Grown : List DumpShot → List DumpShot → Type 0
@@ -185,7 +194,8 @@ module _ (s : Shape) (start : ℕ) where
   own_grows k own.Save n before g = kept_as_before (0 + n) n before k.shots k.shots (omega arith) refl g
   own_grows k (own.CountVerdict class verdict reset) n before g = kept_as_before (0 + n) n before k.shots k.shots (omega arith) refl g
 
-  step_grows : (p : StepPlan) (w n : ℕ) (k : Known) (b : Bool) (before : List DumpShot) → Grows n before k.shots → Grows (cond b (one_shot p.own) 0 + n) before (cond b (known_hit s start p w k) (known_miss s start p w k)).shots
+  step_grows : (p : StepPlan) (w n : ℕ) (k : Known) (b : Bool) (before : List DumpShot) → Grows n before k.shots
+      → Grows (cond b (one_shot p.own) 0 + n) before (cond b (known_hit s start p w k) (known_miss s start p w k)).shots
   step_grows p w n k true before g = own_grows k p.own n before g
   step_grows p w n k false before g = kept_as_before (0 + n) n before k.shots k.shots (omega arith) refl g
 
@@ -195,7 +205,8 @@ module _ (s : Shape) (start : ℕ) where
 
   -- A dump that is done keeps the shot of its number; any other leaves the shots.
   module _ (shape : Shape) (k : Start) (before now : Known) where
-    along : (a : Result (Turn ℕ) TooManyDumps) → Ran s start (dump_steps shape k) before now a → (ms : List StepMade) × Keeps shape k ms a × Grows (kept_shots ms) before.shots now.shots
+    along : (a : Result (Turn ℕ) TooManyDumps) → Ran s start (dump_steps shape k) before now a
+        → (ms : List StepMade) × Keeps shape k ms a × Grows (kept_shots ms) before.shots now.shots
     along a ran =
         let f = knows ran in (
           f.steps,
@@ -203,7 +214,8 @@ module _ (s : Shape) (start : ℕ) where
           subst (λ (x : Known). Grows (kept_shots f.steps) before.shots x.shots) (sym f.known) (grows_along f.steps before),
         )
 
-    pub dump_shoots : (number : ℕ) → length before.shots ≡ k.shots → Ran s start (dump_steps shape k) before now (Ok (Done number)) → (shot : DumpShot) × (now.shots ≡ before.shots ++ shot ∷ []) × (shot.number ≡ number)
+    pub dump_shoots : (number : ℕ) → length before.shots ≡ k.shots → Ran s start (dump_steps shape k) before now (Ok (Done number))
+        → (shot : DumpShot) × (now.shots ≡ before.shots ++ shot ∷ []) × (shot.number ≡ number)
     dump_shoots number same ran =
         let x = along (Ok (Done number)) ran in
         let one = x.2.one x.1.1 in

@@ -1,7 +1,7 @@
 -- How a thread stands behind each call.
-use Rattle.std.proofs.Common.{◌≡◌, ℕ, ◌+◌, ◌<◌, ◌==◌, cond, not, Bool, true, false, List, [], ◌∷◌, Option, Some, None, Result, Ok, Err, refl, ap}
+use Rattle.std.proofs.Common.{◌≡◌, ℕ, ◌+◌, ◌<◌, ◌==◌, cond, not, Bool, true, false, List, [], Option, Some, None, Result, Err, refl, ap}
 use Rattle.mark_word.specs.declared.mark.MarkForm.{MarkForm}
-use Rattle.mark_word.specs.declared.mark.MarkForm.TheVariants.{Inflating, Neutral, Anonymous, Biased, Locked, Inflated, Marked}
+use Rattle.mark_word.specs.declared.mark.MarkForm.TheVariants.{Inflating, Neutral, Locked, Inflated}
 use Rattle.mark_word.specs.Mark.{read_mark}
 use Rattle.plain_monitor.specs.declared.entry.Ending.{Ending}
 use Rattle.plain_monitor.specs.declared.entry.Entry.TheVariants as entry
@@ -25,17 +25,16 @@ use Rattle.core_world.specs.Words.Forms.{waits_on}
 use Rattle.core_world.specs.Words.Shape.{Shape, class_of}
 use Rattle.core_world.specs.Trees.BiasSteps.{bias_enter_steps, bias_drop_steps, stage_after, bias_after_steps}
 use Rattle.core_world.specs.Trees.Calls.{side_purpose}
-use Rattle.core_world.specs.Trees.HashSteps.{hash_header_steps}
 use Rattle.core_world.specs.Trees.LookSteps.{take_shot_steps, stands_still_steps}
 use Rattle.core_world.specs.Trees.MonitorSteps.{inflate_steps, monitor_enter_steps}
-use Rattle.core_world.specs.Trees.Operations.{and_then, answer, goes_on_with, revocation_steps, enter_monitor_steps, enter_at, enter_unbiased, enter_revoked, enter_tried, enter_going, full_steps, enter_steps, exit_at, exit_going, exit_steps, revoked_steps, unbias_tried, unbias_steps, no_bias, wait_beginning, wait_going, wait_steps, notify_at, notify_going, notify_steps, notify_all_at, notify_all_going, notify_all_steps, hash_steps, get_steps, put_steps, print_steps, finish_steps, dump_going, dump_steps, check_ending, check_steps}
+use Rattle.core_world.specs.Trees.Operations.{and_then, answer, goes_on_with, revocation_steps, enter_monitor_steps, enter_at, enter_unbiased, enter_revoked, enter_tried, enter_going, enter_steps, exit_at, exit_going, exit_steps, revoked_steps, unbias_tried, unbias_steps, no_bias, wait_going, wait_steps, notify_at, notify_going, notify_steps, notify_all_at, notify_all_going, notify_all_steps, hash_steps, get_steps, put_steps, print_steps, finish_steps, dump_going, dump_steps, check_ending, check_steps}
 use Rattle.core_world.specs.Trees.Plans.{Purpose, purpose, load, done_with, free_place}
 use Rattle.core_world.specs.Trees.RevocationSteps.{RevocationOutcome, revoke_at_safepoint_steps}
 use Rattle.core_world.specs.Trees.SafepointSteps.{stop_steps, resume_steps, poll_steps, safepoint_steps, release_to, release_safepoint, halt_steps}
 use Rattle.core_world.specs.Trees.Todo.{Todo, done, ◌>>=◌, ask}
 use Rattle.core_world.specs.Trees.WaitSteps.{monitor_wait_steps, monitor_resume_steps, publish_steps}
 use Rattle.core_calls.specs.Paths.{Always}
-use Rattle.core_calls.specs.Stands.{Stand, IsGoing, IsOff, IsHeld, FoundTrue, stand_behind, StandsSo, TurnStands, ResultStands, RunsBehind, PollStands, ResumeStands, CheckStands, begun, stopped}
+use Rattle.core_calls.specs.Stands.{IsGoing, IsOff, IsHeld, FoundTrue, stand_behind, StandsSo, TurnStands, ResultStands, RunsBehind, PollStands, ResumeStands, CheckStands, begun, stopped}
 use Rattle.core_calls.proofs.Paths.{always_then, always_so, either_way}
 use Rattle.core_calls.proofs.OperationsSay.{then_says}
 use Rattle.core_calls.proofs.Stays.{Stay, Whatever, Aside, OutAside, Known, stay_done, stay_never, stay_step, stay_either, stay_then, stay_next, stay_so, aside_stands}
@@ -52,7 +51,9 @@ on_aside (Pending why) f h go = stay_done h
 -- WHAT LEAVES THE SAFEPOINT WORD ALONE: an enter that revokes no bias,
 module _ (e : Purpose) (k : Start) (o : ℕ) where
   by_monitor_stays : Stay Aside (enter_monitor_steps e k o)
-  by_monitor_stays = stay_then (inflate_stays e o k.kept) (λ turn aside. on_aside turn (λ m. monitor_enter_steps e k.local o m) aside (monitor_enter_stays e k.local o))
+  by_monitor_stays =
+      stay_then (inflate_stays e o k.kept) (λ turn aside. on_aside turn (λ m. monitor_enter_steps e k.local o m) aside
+      (monitor_enter_stays e k.local o))
 
   enter_at_stays : (form : Option MarkForm) (mark : ℕ) → Stay Aside (enter_at form e k o mark)
   enter_at_stays (Some Inflating) mark = stay_done tt
@@ -77,11 +78,13 @@ module _ (e : Purpose) (k : Start) (o : ℕ) where
   exit_at_stays (Monitor number) h = stay_next (monitor_exit_stays e k.local o number) (stay_done tt)
 
   exit_going_stays : Stay Aside (exit_going e k.local o)
-  exit_going_stays = stay_then (bias_exit_stays e k.local o) (λ biased _. stay_either biased (stay_done tt) (stay_then (stack_exit_stays e k.local o) exit_at_stays))
+  exit_going_stays =
+      stay_then (bias_exit_stays e k.local o) (λ biased _. stay_either biased (stay_done tt) (stay_then (stack_exit_stays e k.local o) exit_at_stays))
 
   -- the end of a wait, and a wait that lets go,
   let_go_stays : (m : ℕ) → Stay Aside (monitor_wait_steps e k.local o m >>= λ saved. monitor_resume_steps e k.local.thread saved o)
-  let_go_stays m = stay_then {d = monitor_wait_steps e k.local o m} (monitor_wait_stays e k.local o m) (λ saved _. monitor_resume_stays e k.local.thread saved o)
+  let_go_stays m =
+      stay_then {d = monitor_wait_steps e k.local o m} (monitor_wait_stays e k.local o m) (λ saved _. monitor_resume_stays e k.local.thread saved o)
 
   abbrev lets : ℕ → Todo (Turn (Unit {0}))
   lets m = monitor_wait_steps e k.local o m >>= λ saved. monitor_resume_steps e k.local.thread saved o
@@ -139,13 +142,15 @@ module _ (k : Start) (low : k.local.thread < 32) where
   after_stay : {A B : Type 0} (P : List StepMade → B → Type 0) (d : Todo A) (f : A → Todo B) (ms : List StepMade) → Stay Whatever d → Goes ms
       → ((ms : List StepMade) (a : A) → Goes ms → Always P ms (f a)) → Always P ms (d >>= f)
   after_stay {A} P d f ms stay going more =
-      always_then (Known k.local.thread (begun k) IsGoing (Whatever {A = A})) P d f ms (stay_so k.local.thread (begun k) IsGoing (Whatever {A = A}) d ms stay going) (λ ms a x. more ms a x.1)
+      always_then (Known k.local.thread (begun k) IsGoing (Whatever {A = A})) P d f ms (stay_so k.local.thread (begun k) IsGoing
+      (Whatever {A = A}) d ms stay going) (λ ms a x. more ms a x.1)
 
   -- and where nothing is known of how the thread stands before it
   after_any : {A B : Type 0} (P : List StepMade → B → Type 0) (d : Todo A) (f : A → Todo B) (ms : List StepMade) → Stay Whatever d
       → ((ms : List StepMade) (a : A) → Always P ms (f a)) → Always P ms (d >>= f)
   after_any {A} P d f ms stay more =
-      always_then (Known k.local.thread (begun k) (λ _. Unit {0}) (Whatever {A = A})) P d f ms (stay_so k.local.thread (begun k) (λ _. Unit {0}) (Whatever {A = A}) d ms stay (λ _. tt)) (λ ms a _. more ms a)
+      always_then (Known k.local.thread (begun k) (λ _. Unit {0}) (Whatever {A = A})) P d f ms (stay_so k.local.thread (begun k) (λ _. Unit {0})
+      (Whatever {A = A}) d ms stay (λ _. tt)) (λ ms a _. more ms a)
 
   abbrev Safe : List StepMade → Turn (Unit {0}) → Type 0
   Safe = So k.local.thread low (begun k) (SafeStands k.local.thread low (begun k))
@@ -154,18 +159,23 @@ module _ (k : Start) (low : k.local.thread < 32) where
   Released = So k.local.thread low (begun k) (λ b _. IsGoing b)
 
   -- a safepoint whose steps then end it
-  safely : {A : Type 0} (Q : List StepMade → Turn A → Type 0) (e : Purpose) (requesting : Bool) (f : Unit {0} → Todo (Turn A)) (ms : List StepMade) → (requesting ≡ true → Holds ms) → (requesting ≡ false → Goes ms)
-      → ((ms : List StepMade) → Always Q ms (f tt)) → ((ms : List StepMade) → (why : Why) → Safe ms (Pending why) → Q ms (Pending why)) → Always Q ms (safepoint_steps e k.local.thread requesting >>= λ turn. and_then turn f)
+  safely : {A : Type 0} (Q : List StepMade → Turn A → Type 0) (e : Purpose) (requesting : Bool) (f : Unit {0} → Todo (Turn A)) (ms : List StepMade)
+      → (requesting ≡ true → Holds ms) → (requesting ≡ false → Goes ms)
+      → ((ms : List StepMade) → Always Q ms (f tt)) → ((ms : List StepMade) → (why : Why) → Safe ms (Pending why) → Q ms
+      (Pending why)) → Always Q ms (safepoint_steps e k.local.thread requesting >>= λ turn. and_then turn f)
   safely Q e requesting f ms held going more pends =
-      always_then Safe Q (safepoint_steps e k.local.thread requesting) (λ turn. and_then turn f) ms (safepoint_stands k.local.thread low (begun k) e requesting ms held going)
+      always_then Safe Q (safepoint_steps e k.local.thread requesting) (λ turn. and_then turn f) ms (safepoint_stands k.local.thread low
+      (begun k) e requesting ms held going)
       (λ ms turn so. then_says Safe Q turn f ms so (λ _ _. more ms) (λ why so. pends ms why so))
 
   -- an operation that is refused without a step, or answers
-  refused_or : {A E : Type 0} (refuses : Bool) (err : E) (d : Todo (Turn A)) → Always Turns [] d → Always Results [] (cond refuses (done (Err err)) (d >>= answer))
+  refused_or : {A E : Type 0} (refuses : Bool) (err : E) (d : Todo (Turn A)) → Always Turns [] d
+      → Always Results [] (cond refuses (done (Err err)) (d >>= answer))
   refused_or refuses err d so = either_way Results [] refuses _ _ (λ _ _. tt) (λ _. always_then Turns Results d answer [] so (λ ms turn so. so))
 
   module _ (s : Shape) where
-    revocation_stands : (requesting : Bool) (e : Purpose) (b : Revocation) (ms : List StepMade) → (requesting ≡ true → Holds ms) → (requesting ≡ false → Goes ms)
+    revocation_stands : (requesting : Bool) (e : Purpose) (b : Revocation) (ms : List StepMade) → (requesting ≡ true → Holds ms)
+        → (requesting ≡ false → Goes ms)
         → Always Turns ms (revocation_steps s k.local.thread requesting e b)
     revocation_stands requesting e b ms held going =
         safely Turns e requesting its_revocation ms held going
@@ -182,9 +192,11 @@ module _ (k : Start) (low : k.local.thread < 32) where
 
     -- ENTER
     module _ (e : Purpose) (b : Revocation) where
-      enter_revoked_stands : (requesting : Bool) (ms : List StepMade) → (requesting ≡ true → Holds ms) → (requesting ≡ false → Goes ms) → Always Turns ms (enter_revoked s requesting e k b)
+      enter_revoked_stands : (requesting : Bool) (ms : List StepMade) → (requesting ≡ true → Holds ms) → (requesting ≡ false → Goes ms)
+          → Always Turns ms (enter_revoked s requesting e k b)
       enter_revoked_stands requesting ms held going =
-          always_then Turns Turns (revocation_steps s k.local.thread requesting e b) (λ turn. and_then turn goes_on) ms (revocation_stands requesting e b ms held going)
+          always_then Turns Turns (revocation_steps s k.local.thread requesting e b) (λ turn. and_then turn goes_on) ms
+          (revocation_stands requesting e b ms held going)
           (λ ms turn so. then_says Turns Turns turn goes_on ms so (λ took go. aside_goes (goes_on took) ms (again_stays e k b.object took) go) (λ why so. so))
         where
           goes_on : Bool → Todo (Turn Path)
@@ -200,13 +212,16 @@ module _ (k : Start) (low : k.local.thread < 32) where
       enter_going_stands =
           either_way Turns [] k.requesting _ _
           (λ asks. enter_revoked_stands true [] (λ _. held_first asks) (λ no. absurd (cc no)))
-          (λ none. after_stay Turns (bias_enter_steps e k.local (class_of s b.object) b.object) (λ tried. enter_tried tried s e k b) [] (bias_enter_stays e k.local b.object (class_of s b.object)) (going_first none)
+          (λ none. after_stay Turns (bias_enter_steps e k.local (class_of s b.object) b.object) (λ tried. enter_tried tried s e k b) []
+          (bias_enter_stays e k.local b.object (class_of s b.object)) (going_first none)
           (λ ms tried going. enter_tried_stands tried ms going))
 
       -- UNBIAS
-      revoked_stands : (requesting : Bool) (ms : List StepMade) → (requesting ≡ true → Holds ms) → (requesting ≡ false → Goes ms) → Always Turns ms (revoked_steps s k.local.thread requesting e b)
+      revoked_stands : (requesting : Bool) (ms : List StepMade) → (requesting ≡ true → Holds ms) → (requesting ≡ false → Goes ms)
+          → Always Turns ms (revoked_steps s k.local.thread requesting e b)
       revoked_stands requesting ms held going =
-          always_then Turns Turns (revocation_steps s k.local.thread requesting e b) (λ turn. and_then turn (λ _. done_with tt)) ms (revocation_stands requesting e b ms held going)
+          always_then Turns Turns (revocation_steps s k.local.thread requesting e b) (λ turn. and_then turn (λ _. done_with tt)) ms
+          (revocation_stands requesting e b ms held going)
           (λ ms turn so. then_says Turns Turns turn (λ _. done_with tt) ms so (λ _ go. go) (λ why so. so))
 
       unbias_tried_stands : (tried : BiasTry) (ms : List StepMade) → Goes ms → Always Turns ms (unbias_tried tried s e k b)
@@ -219,7 +234,8 @@ module _ (k : Start) (low : k.local.thread < 32) where
       unbias_stands =
           either_way Turns [] k.requesting _ _
           (λ asks. revoked_stands true [] (λ _. held_first asks) (λ no. absurd (cc no)))
-          (λ none. after_stay Turns (bias_drop_steps e (class_of s b.object) b.object) (λ tried. unbias_tried tried s e k b) [] (bias_drop_stays e k.local b.object (class_of s b.object)) (going_first none)
+          (λ none. after_stay Turns (bias_drop_steps e (class_of s b.object) b.object) (λ tried. unbias_tried tried s e k b) []
+          (bias_drop_stays e k.local b.object (class_of s b.object)) (going_first none)
           (λ ms tried going. unbias_tried_stands tried ms going))
 
       -- and what follows where it is done
@@ -229,7 +245,12 @@ module _ (k : Start) (low : k.local.thread < 32) where
           (λ ms turn so. then_says Turns Turns turn (λ _. d) ms so (λ _ go. aside_goes d ms stay go) (λ why so. so))
 
     pub enter_stands : (o now : ℕ) → StandsSo k.local.thread (begun k) (enter_steps s k o now) (ResultStands k.local.thread)
-    enter_stands o now = record { by = either_way Results [] (free_place k.local.holds == 64) _ _ (λ _. either_way Results [] (goes_on_with op.Enter o k.unfinished) _ _ (λ _. tt) (λ _ _. tt)) (λ _. always_then Turns Results (enter_going s e k b) answer [] (enter_going_stands e b) (λ ms turn so. so)) }
+    enter_stands o now =
+        record {
+          by = either_way Results [] (free_place k.local.holds == 64) _ _ (λ _. either_way Results []
+              (goes_on_with op.Enter o k.unfinished) _ _ (λ _. tt) (λ _ _. tt)) (λ _. always_then Turns Results (enter_going s e k b) answer []
+              (enter_going_stands e b) (λ ms turn so. so));
+        }
       where
         e : Purpose
         e = purpose (task.Enter o now) op.Enter o
@@ -238,11 +259,13 @@ module _ (k : Start) (low : k.local.thread < 32) where
         b = record { object = o; rebias = true; now = now }
 
     -- a wait that has let go asks for no safepoint
-    pub wait_stands : (o now : ℕ) → (waits_on k.local.wait o ≡ true → k.requesting ≡ false) → StandsSo k.local.thread (begun k) (wait_steps s k o now) (ResultStands k.local.thread)
+    pub wait_stands : (o now : ℕ) → (waits_on k.local.wait o ≡ true → k.requesting ≡ false)
+        → StandsSo k.local.thread (begun k) (wait_steps s k o now) (ResultStands k.local.thread)
     wait_stands o now gone = record {
       by = refused_or (hold_count o k.local.holds == 0) (record {}) (wait_going s e k o now)
           (either_way Turns [] (waits_on k.local.wait o) _ _
-          (λ waits. aside_goes (monitor_resume_steps e k.local.thread k.saved o) [] (monitor_resume_stays e k.local.thread k.saved o) (going_first (gone waits)))
+          (λ waits. aside_goes (monitor_resume_steps e k.local.thread k.saved o) [] (monitor_resume_stays e k.local.thread k.saved o) (going_first
+          (gone waits)))
           (λ _. unbiased_then e (no_bias o now) _ (waits_stays e k o)));
     }
       where
@@ -250,19 +273,28 @@ module _ (k : Start) (low : k.local.thread < 32) where
         e = purpose (task.Wait o now) op.Wait o
 
     pub notify_call_stands : (o now : ℕ) → StandsSo k.local.thread (begun k) (notify_steps s k o now) (ResultStands k.local.thread)
-    notify_call_stands o now = record { by = refused_or (hold_count o k.local.holds == 0) (record {}) (notify_going s e k o now) (unbiased_then e (no_bias o now) _ (looks_stays e k o s)) }
+    notify_call_stands o now =
+        record {
+          by = refused_or (hold_count o k.local.holds == 0) (record {}) (notify_going s e k o now) (unbiased_then e (no_bias o now) _
+              (looks_stays e k o s));
+        }
       where
         e : Purpose
         e = purpose (task.Notify o now) op.Notify o
 
     pub notify_all_call_stands : (o now : ℕ) → StandsSo k.local.thread (begun k) (notify_all_steps s k o now) (ResultStands k.local.thread)
-    notify_all_call_stands o now = record { by = refused_or (hold_count o k.local.holds == 0) (record {}) (notify_all_going s e k o now) (unbiased_then e (no_bias o now) _ (looks_all_stays e k o s)) }
+    notify_all_call_stands o now =
+        record {
+          by = refused_or (hold_count o k.local.holds == 0) (record {}) (notify_all_going s e k o now) (unbiased_then e (no_bias o now) _
+              (looks_all_stays e k o s));
+        }
       where
         e : Purpose
         e = purpose (task.NotifyAll o now) op.NotifyAll o
 
     pub hash_stands : (o now : ℕ) → StandsSo k.local.thread (begun k) (hash_steps s k o now) (TurnStands k.local.thread)
-    hash_stands o now = record { by = unbiased_then e (no_bias o now) _ (hash_header_stays e (record { number = k.draws + 1; value = k.draw }) o k.local k.kept) }
+    hash_stands o now =
+        record { by = unbiased_then e (no_bias o now) _ (hash_header_stays e (record { number = k.draws + 1; value = k.draw }) o k.local k.kept) }
       where
         e : Purpose
         e = purpose (task.Hash o now) op.Hash o
@@ -294,11 +326,19 @@ module _ (k : Start) (low : k.local.thread < 32) where
     Checks = So k.local.thread low (begun k) (CheckStands k.local.thread)
 
     ending_stands : (e : Purpose) (stuck : Bool) (ms : List StepMade) → Always Checks ms (check_ending stuck e k.local.thread)
-    ending_stands e true ms = always_then (So k.local.thread low (begun k) (λ b _. IsOff b)) Checks (halt_steps e k.local.thread) (λ _. done_with true) ms (halt_stands k.local.thread low (begun k) e ms) (λ ms _ so. so)
-    ending_stands e false ms = always_then Released Checks (release_safepoint e k.local.thread) (λ _. done_with false) ms (release_stands k.local.thread low (begun k) Calm e ms) (λ ms _ so. so)
+    ending_stands e true ms =
+        always_then (So k.local.thread low (begun k) (λ b _. IsOff b)) Checks (halt_steps e k.local.thread) (λ _. done_with true) ms
+        (halt_stands k.local.thread low (begun k) e ms) (λ ms _ so. so)
+    ending_stands e false ms =
+        always_then Released Checks (release_safepoint e k.local.thread) (λ _. done_with false) ms (release_stands k.local.thread low
+        (begun k) Calm e ms) (λ ms _ so. so)
 
     pub check_stands : StandsSo k.local.thread (begun k) (check_steps s k) (CheckStands k.local.thread)
-    check_stands = record { by = safely Checks e k.requesting looks [] held_first going_first (λ ms. after_any Checks (stands_still_steps e s) (λ stuck. check_ending stuck e k.local.thread) ms (still_stays e s) (λ ms stuck. ending_stands e stuck ms)) (λ ms why so. so) }
+    check_stands =
+        record {
+          by = safely Checks e k.requesting looks [] held_first going_first (λ ms. after_any Checks (stands_still_steps e s)
+              (λ stuck. check_ending stuck e k.local.thread) ms (still_stays e s) (λ ms stuck. ending_stands e stuck ms)) (λ ms why so. so);
+        }
       where
         e : Purpose
         e = record { task = task.Check; unfinished = k.unfinished; check = true }
@@ -315,16 +355,28 @@ module _ (k : Start) (low : k.local.thread < 32) where
     stop_call_stands = record { by = stop_stands (side_purpose task.Stop k) k.local low (begun k) [] (going_first none) }
 
     pub exit_stands : (o : ℕ) → StandsSo k.local.thread (begun k) (exit_steps k o) (ResultStands k.local.thread)
-    exit_stands o = record { by = refused_or (hold_count o k.local.holds == 0) (record {}) (exit_going e k.local o) (aside_goes (exit_going e k.local o) [] (exit_going_stays e k o) (going_first none)) }
+    exit_stands o =
+        record {
+          by = refused_or (hold_count o k.local.holds == 0) (record {}) (exit_going e k.local o) (aside_goes (exit_going e k.local o) []
+              (exit_going_stays e k o) (going_first none));
+        }
       where
         e : Purpose
         e = purpose (task.Exit o) op.Exit o
 
     pub get_stands : (o slot : ℕ) → StandsSo k.local.thread (begun k) (get_steps k o slot) RunsBehind
-    get_stands o slot = record { by = either_way (So k.local.thread low (begun k) RunsBehind) [] (hold_count o k.local.holds == 0) _ _ (λ _ _. tt) (λ _ n _. going_first none tt) }
+    get_stands o slot =
+        record {
+          by = either_way (So k.local.thread low (begun k) RunsBehind) [] (hold_count o k.local.holds == 0) _ _ (λ _ _. tt)
+              (λ _ n _. going_first none tt);
+        }
 
     pub put_stands : (o slot : ℕ) (value : Value) → StandsSo k.local.thread (begun k) (put_steps k o slot value) RunsBehind
-    put_stands o slot value = record { by = either_way (So k.local.thread low (begun k) RunsBehind) [] (hold_count o k.local.holds == 0) _ _ (λ _ _. tt) (λ _ n _. going_first none tt) }
+    put_stands o slot value =
+        record {
+          by = either_way (So k.local.thread low (begun k) RunsBehind) [] (hold_count o k.local.holds == 0) _ _ (λ _ _. tt)
+              (λ _ n _. going_first none tt);
+        }
 
     pub print_stands : (value : Value) → StandsSo k.local.thread (begun k) (print_steps k value) (λ b _. IsGoing b)
     print_stands value = record { by = λ n _. going_first none tt }

@@ -1,5 +1,5 @@
 -- Trees that leave the safepoint word alone: none of their steps is on it but loads. So their thread stands behind them as it stood before.
-use Rattle.std.proofs.Common.{◌≡◌, ℕ, zero, suc, ◌+◌, cond, Bool, true, false, List, [], ◌∷◌, refl, sym, ap, ◌∙◌, subst}
+use Rattle.std.proofs.Common.{◌≡◌, ℕ, zero, suc, ◌+◌, cond, Bool, true, false, List, ◌∷◌, refl, sym, subst}
 use Rattle.core_world.specs.declared.act.Act.{Act}
 use Rattle.core_world.specs.declared.act.Act.TheVariants.{Load}
 use Rattle.core_world.specs.declared.name.Name.{Name}
@@ -15,7 +15,7 @@ use Rattle.core_world.specs.Words.Acts.{hits, word_after}
 use Rattle.core_world.specs.Threads.Known.{StepMade}
 use Rattle.core_world.specs.Trees.Todo.{Todo, done, never, step, ◌>>=◌, each_from, all_from}
 use Rattle.core_calls.specs.Paths.{made, Always}
-use Rattle.core_calls.specs.Stands.{Stand, IsGoing, IsTrueOf, FoundTrue, stand_by, stand_behind, TurnStands}
+use Rattle.core_calls.specs.Stands.{Stand, IsGoing, FoundTrue, stand_by, stand_behind, TurnStands}
 
 -- the step is on another word, or is a load
 abbrev pub IsApart : Name → Act → Type 0
@@ -51,7 +51,8 @@ OutAside (Monitor number) = Unit {0}
 OutAside (Not why) = IsAside why
 
 -- FROM PART TO PART
-bound : {A B : Type 0} (R : A → Type 0) (Q : B → Type 0) (d : Todo A) (f : A → Todo B) → Stays R d → ((a : A) → R a → Stays Q (f a)) → Stays Q (d >>= f)
+bound : {A B : Type 0} (R : A → Type 0) (Q : B → Type 0) (d : Todo A) (f : A → Todo B) → Stays R d → ((a : A) → R a → Stays Q (f a))
+    → Stays Q (d >>= f)
 bound R Q (done a) f h g = g a h
 bound R Q never f h g = tt
 bound R Q (step p x) f h g = (h.0, λ n. bound R Q (x n) f (h.1 n) g)
@@ -69,7 +70,8 @@ pub stay_either : {A : Type 0} {R : A → Type 0} {x y : Todo A} (b : Bool) → 
 stay_either true h g = h
 stay_either false h g = g
 
-pub stay_then : {A B : Type 0} {R : A → Type 0} {Q : B → Type 0} {d : Todo A} {f : A → Todo B} → Stay R d → ((a : A) → R a → Stay Q (f a)) → Stay Q (d >>= f)
+pub stay_then : {A B : Type 0} {R : A → Type 0} {Q : B → Type 0} {d : Todo A} {f : A → Todo B} → Stay R d → ((a : A) → R a → Stay Q (f a))
+    → Stay Q (d >>= f)
 stay_then {A} {B} {R} {Q} {d} {f} h g = record { by = bound R Q d f h.by (λ a r. (g a r).by) }
 
 -- the same where what follows is the same whatever the answer
@@ -94,7 +96,8 @@ either_stands : (c : Bool) (x b : Stand) → x ≡ b → cond c x b ≡ b
 either_stands true x b h = h
 either_stands false x b h = refl
 
-pub stands_on : (t : ℕ) (b : Stand) (p : StepPlan) (n : ℕ) (ms : List StepMade) → IsApart p.at p.act → stand_behind t (made p n ∷ ms) b ≡ stand_behind t ms b
+pub stands_on : (t : ℕ) (b : Stand) (p : StepPlan) (n : ℕ) (ms : List StepMade) → IsApart p.at p.act
+    → stand_behind t (made p n ∷ ms) b ≡ stand_behind t ms b
 stands_on t b p n ms h = either_stands (hits p.act n) _ (stand_behind t ms b) (stood_by t p.at p.act (word_after p.act n) (stand_behind t ms b) h)
 
 module _ {A : Type 0} (t : ℕ) (b : Stand) (Q : Stand → Type 0) (R : A → Type 0) where

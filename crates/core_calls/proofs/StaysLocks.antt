@@ -1,7 +1,7 @@
 -- The steps of locks, biases and monitors leave the safepoint word alone.
 use Rattle.std.proofs.Common.{ℕ, ◌==◌, Bool, Option, Some, None}
 use Rattle.mark_word.specs.declared.mark.MarkForm.{MarkForm}
-use Rattle.mark_word.specs.declared.mark.MarkForm.TheVariants.{Inflating, Neutral, Anonymous, Biased, Locked, Inflated, Marked}
+use Rattle.mark_word.specs.declared.mark.MarkForm.TheVariants.{Inflating, Neutral, Anonymous, Biased, Locked, Inflated}
 use Rattle.mark_word.specs.declared.owner.OwnerForm.{OwnerForm}
 use Rattle.mark_word.specs.declared.owner.OwnerForm.TheVariants.{Free, ByThread, ByRecord}
 use Rattle.mark_word.specs.Mark.{mark_of, read_mark}
@@ -34,7 +34,9 @@ module _ (e : Purpose) (k : Local) (o : ℕ) where
   again_stays = stay_step tt (λ _. stay_then (hold_stays StackAgain) (λ path _. stay_done tt))
 
   first_stays : (mark : ℕ) → Stay Aside (stack_first_steps e k o mark)
-  first_stays mark = stay_step tt (λ _. stay_step tt (λ found. stay_either (found == mark) (stay_then (hold_stays StackFirst) (λ path _. stay_done tt)) (stay_done tt)))
+  first_stays mark =
+      stay_step tt (λ _. stay_step tt (λ found. stay_either (found == mark) (stay_then (hold_stays StackFirst) (λ path _. stay_done tt))
+      (stay_done tt)))
 
   enter_at_stays : (form : Option MarkForm) (mark : ℕ) → Stay Aside (stack_enter_at form e k o mark)
   enter_at_stays (Some (Neutral hash age)) mark = first_stays mark
@@ -60,7 +62,9 @@ module _ (e : Purpose) (k : Local) (o : ℕ) where
   exit_at_stays _ header mark = stay_never
 
   exit_record_stays : Stay OutAside (stack_exit_record e k o)
-  exit_record_stays = stay_step tt (λ header. stay_either (header == 0) (stay_next leave_stays (stay_done tt)) (stay_step tt (λ mark. exit_at_stays (read_mark mark) header mark)))
+  exit_record_stays =
+      stay_step tt (λ header. stay_either (header == 0) (stay_next leave_stays (stay_done tt)) (stay_step tt (λ mark. exit_at_stays
+      (read_mark mark) header mark)))
 
   raise_stays : Stay Whatever (raise_steps e k o)
   raise_stays = stay_either (hold_count o k.holds == 1) (stay_step tt (λ _. stay_done tt)) (stay_done tt)
@@ -92,7 +96,9 @@ module _ (e : Purpose) (k : Local) (o : ℕ) where
   bias_by_stays _ mark prototype = stay_never
 
   pub bias_enter_stays : (c : ℕ) → Stay Whatever (bias_enter_steps e k c o)
-  bias_enter_stays c = stay_step tt (λ mark. stay_either (is_biased mark) (stay_step tt (λ prototype. bias_by_stays (read_mark prototype) mark prototype)) (stay_done tt))
+  bias_enter_stays c =
+      stay_step tt (λ mark. stay_either (is_biased mark) (stay_step tt (λ prototype. bias_by_stays (read_mark prototype) mark prototype))
+      (stay_done tt))
 
   pub bias_exit_stays : Stay Whatever (bias_exit_steps e k o)
   bias_exit_stays = stay_next raise_stays (stay_step tt (λ mark. stay_either (is_biased mark) (stay_next leave_stays (stay_done tt)) (stay_done tt)))
@@ -107,7 +113,9 @@ module _ (e : Purpose) (k : Local) (o : ℕ) where
   drop_by_stays (Some epoch) mark prototype = drop_at_stays (read_mark mark) epoch mark
 
   pub bias_drop_stays : (c : ℕ) → Stay Whatever (bias_drop_steps e c o)
-  bias_drop_stays c = stay_step tt (λ mark. stay_either (is_biased mark) (stay_step tt (λ prototype. drop_by_stays (epoch_in prototype) mark prototype)) (stay_done tt))
+  bias_drop_stays c =
+      stay_step tt (λ mark. stay_either (is_biased mark) (stay_step tt (λ prototype. drop_by_stays (epoch_in prototype) mark prototype))
+      (stay_done tt))
 
   after_at_stays : (form : Option MarkForm) → Stay Whatever (bias_after_at form e k o)
   after_at_stays (Some (Biased thread epoch age)) = stay_either (thread == k.thread) (took_stays BiasTaken) stay_never
@@ -124,7 +132,8 @@ module _ (e : Purpose) (o : ℕ) where
   locked_stays : (mark m thread place : ℕ) → Stay Aside (inflate_locked e o mark m thread place)
   locked_stays mark m thread place =
       stay_step tt (λ found. stay_either (found == mark)
-      (stay_step tt (λ header. stay_next (prepare_stays (Inflates o thread place) m header (owner_of (ByRecord thread place))) (stay_step tt (λ _. stay_done tt))))
+      (stay_step tt (λ header. stay_next (prepare_stays (Inflates o thread place) m header (owner_of (ByRecord thread place))) (stay_step tt
+      (λ _. stay_done tt))))
       (stay_done tt))
 
   neutral_stays : (mark m : ℕ) → Stay Aside (inflate_neutral e o mark m)
@@ -181,4 +190,5 @@ module _ (e : Purpose) (k : Local) (o : ℕ) where
 
   pub monitor_exit_stays : (m : ℕ) → Stay Whatever (monitor_exit_steps e k o m)
   monitor_exit_stays m =
-      stay_step tt (λ owner. stay_next (own_stays (read_owner owner) m) (stay_step tt (λ recursions. stay_either (recursions == 0) (release_stays m) (stay_step tt (λ _. leave_stays e k o)))))
+      stay_step tt (λ owner. stay_next (own_stays (read_owner owner) m) (stay_step tt (λ recursions. stay_either (recursions == 0) (release_stays m)
+      (stay_step tt (λ _. leave_stays e k o)))))

@@ -1,10 +1,10 @@
 -- The steps at a reached safepoint, which look at all threads and objects or revoke a bias, leave the safepoint word alone but for a load.
-use Rattle.std.proofs.Common.{ℕ, ◌+◌, ◌==◌, cond, if◌then◌else◌, Bool, true, false, List, [], ◌∷◌, ◌++◌, length, Option, Some, None}
+use Rattle.std.proofs.Common.{ℕ, ◌+◌, ◌==◌, if◌then◌else◌, Bool, true, false, List, [], ◌∷◌, ◌++◌, length, Option, Some, None}
 use Rattle.lock_policy.specs.declared.policy.Verdict.{Verdict}
 use Rattle.lock_policy.specs.declared.policy.Verdict.TheVariants.{Single, BulkRebias, BulkRevoke}
 use Rattle.lock_policy.specs.Policy.{decided}
 use Rattle.mark_word.specs.declared.mark.MarkForm.{MarkForm}
-use Rattle.mark_word.specs.declared.mark.MarkForm.TheVariants.{Inflating, Neutral, Anonymous, Biased, Locked, Inflated, Marked}
+use Rattle.mark_word.specs.declared.mark.MarkForm.TheVariants.{Neutral, Anonymous, Biased, Locked, Inflated}
 use Rattle.mark_word.specs.declared.owner.OwnerForm.{OwnerForm}
 use Rattle.mark_word.specs.declared.owner.OwnerForm.TheVariants.{Free, ByThread, ByRecord}
 use Rattle.mark_word.specs.declared.wait.WaitForm.{WaitForm}
@@ -42,7 +42,8 @@ module _ (e : Purpose) (s : Shape) where
   owner_stays None = stay_done tt
 
   behind_stays : (form : Option MarkForm) (o : ℕ) → Stay Whatever (look_behind form e s o)
-  behind_stays (Some (Biased thread epoch age)) o = stay_step tt (λ prototype. stay_either (has_epoch (epoch_in prototype) epoch) (holds_stay thread) (stay_done tt))
+  behind_stays (Some (Biased thread epoch age)) o =
+      stay_step tt (λ prototype. stay_either (has_epoch (epoch_in prototype) epoch) (holds_stay thread) (stay_done tt))
   behind_stays (Some (Locked thread place)) o = holds_stay thread
   behind_stays (Some (Inflated monitor)) o = stay_step tt (λ owner. owner_stays (read_owner owner))
   behind_stays _ o = stay_done tt
@@ -85,14 +86,19 @@ records_apart : (o t p : ℕ) (hs : List ℕ) → AreApart (record_writes o t p 
 records_apart o t p [] = tt
 records_apart o t p (h ∷ hs) = cases (names o h) (records_apart o t (p + 1) hs)
   where
-    cases : (b : Bool) → AreApart (record_writes o t (p + 1) hs) → AreApart ((if b then write (name.Displaced t p) (if h == hold_word o 1 then mark_of (Neutral 0 0) else 0) ∷ [] else []) ++ record_writes o t (p + 1) hs)
+    cases : (b : Bool) → AreApart (record_writes o t (p + 1) hs)
+        → AreApart ((if b then write (name.Displaced t p) (if h == hold_word o 1 then mark_of
+        (Neutral 0 0) else 0) ∷ [] else []) ++ record_writes o t (p + 1) hs)
     cases true more = (tt, more)
     cases false more = more
 
 revoked_apart : (o t : ℕ) (allowed : Bool) (hs : List ℕ) → AreApart (revoke_biased o t allowed hs)
 revoked_apart o t allowed hs = cases (hold_count o hs == 0)
   where
-    cases : (b : Bool) → AreApart (if b then write (name.Mark o) (mark_of (if allowed then Anonymous 0 0 else Neutral 0 0)) ∷ [] else record_writes o t 0 hs ++ write (name.Mark o) (mark_of (Locked t (first_place o hs))) ∷ [])
+    cases : (b : Bool)
+        → AreApart (if b then write (name.Mark o) (mark_of
+        (if allowed then Anonymous 0 0 else Neutral 0 0)) ∷ [] else record_writes o t 0 hs ++ write (name.Mark o) (mark_of (Locked t
+        (first_place o hs))) ∷ [])
     cases true = (tt, tt)
     cases false = apart_both (record_writes o t 0 hs) _ (records_apart o t 0 hs) (tt, tt)
 

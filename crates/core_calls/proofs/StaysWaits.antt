@@ -1,7 +1,7 @@
 -- The steps of waits, notifies and hashes leave the safepoint word alone.
-use Rattle.std.proofs.Common.{ℕ, ◌+◌, ◌==◌, cond, Bool, List, [], ◌∷◌, length, Option, Some, None}
+use Rattle.std.proofs.Common.{ℕ, ◌+◌, ◌==◌, List, [], ◌∷◌, Option, Some, None}
 use Rattle.mark_word.specs.declared.mark.MarkForm.{MarkForm}
-use Rattle.mark_word.specs.declared.mark.MarkForm.TheVariants.{Inflating, Neutral, Anonymous, Biased, Locked, Inflated, Marked}
+use Rattle.mark_word.specs.declared.mark.MarkForm.TheVariants.{Inflating, Neutral, Locked, Inflated}
 use Rattle.mark_word.specs.declared.owner.OwnerForm.{OwnerForm}
 use Rattle.mark_word.specs.declared.owner.OwnerForm.TheVariants.{Free, ByThread, ByRecord}
 use Rattle.mark_word.specs.declared.wait.WaitForm.{WaitForm}
@@ -10,24 +10,23 @@ use Rattle.mark_word.specs.Mark.{read_mark}
 use Rattle.mark_word.specs.Owner.{read_owner}
 use Rattle.mark_word.specs.Wait.{read_wait}
 use Rattle.plain_monitor.specs.declared.entry.Entry.{Entry}
-use Rattle.core_world.specs.declared.name.Name.{Name}
-use Rattle.core_world.specs.declared.name.Name.TheVariants.{Mark, Header, Displaced}
+use Rattle.core_world.specs.declared.name.Name.TheVariants.{Mark, Header}
 use Rattle.core_world.specs.declared.answer.Turn.{Turn}
 use Rattle.core_world.specs.declared.answer.Turn.TheVariants.{Done, Pending}
 use Rattle.core_world.specs.Words.Forms.{hash_in}
 use Rattle.core_world.specs.Threads.Known.{Local}
 use Rattle.core_world.specs.Trees.Plans.{Purpose}
-use Rattle.core_world.specs.Trees.Todo.{Todo}
-use Rattle.core_world.specs.Trees.WaitSteps.{log_wait_steps, monitor_wait_steps, resumed_steps, resume_owner_at, resume_owner_steps, resume_mark_at, resume_at, monitor_resume_steps, look_steps, waiters, by_age, publish_steps, notify_first, monitor_notify_steps, notify_each, notify_listed, monitor_notify_all_steps}
-use Rattle.core_world.specs.Trees.HashSteps.{NextDraw, draw_steps, hash_monitor_steps, hash_neutral_steps, hash_displaced_steps, hash_inflated, hash_inflate_steps, hash_unless, hash_mark_steps, hash_header_steps}
-use Rattle.core_calls.proofs.Stays.{Stay, Whatever, IsAside, Aside, stay_done, stay_never, stay_step, stay_either, stay_then, stay_next, stay_each}
+use Rattle.core_world.specs.Trees.WaitSteps.{monitor_wait_steps, resumed_steps, resume_owner_at, resume_mark_at, resume_at, monitor_resume_steps, look_steps, waiters, by_age, publish_steps, notify_first, monitor_notify_steps, notify_each, notify_listed, monitor_notify_all_steps}
+use Rattle.core_world.specs.Trees.HashSteps.{NextDraw, draw_steps, hash_monitor_steps, hash_displaced_steps, hash_inflated, hash_inflate_steps, hash_unless, hash_mark_steps, hash_header_steps}
+use Rattle.core_calls.proofs.Stays.{Stay, Whatever, Aside, stay_done, stay_never, stay_step, stay_either, stay_then, stay_next, stay_each}
 use Rattle.core_calls.proofs.StaysLocks.{inflate_stays, own_stays}
 
 -- WAITS
 module _ (e : Purpose) (k : Local) (o : ℕ) where
   pub monitor_wait_stays : (m : ℕ) → Stay Whatever (monitor_wait_steps e k o m)
   monitor_wait_stays m =
-      stay_step tt (λ owner. stay_next (own_stays e k o (read_owner owner) m) (stay_step tt (λ recursions. stay_step tt (λ _. stay_step tt (λ _. stay_step tt (λ _. stay_step tt (λ _. stay_done tt)))))))
+      stay_step tt (λ owner. stay_next (own_stays e k o (read_owner owner) m) (stay_step tt (λ recursions. stay_step tt (λ _. stay_step tt
+      (λ _. stay_step tt (λ _. stay_step tt (λ _. stay_done tt)))))))
 
   pub publish_stays : (entry : Entry) → Stay Whatever (publish_steps entry e k)
   publish_stays entry = stay_step tt (λ _. stay_done tt)
@@ -105,7 +104,8 @@ module _ (e : Purpose) (draw : NextDraw) (o : ℕ) where
     hash_mark_stays : (form : Option MarkForm) (mark : ℕ) → Stay Aside (hash_mark_steps form e k kept draw o mark)
     hash_mark_stays (Some Inflating) mark = stay_done tt
     hash_mark_stays (Some (Neutral hash age)) mark = stay_either (hash == 0) (mark_draw_stays mark) (stay_done tt)
-    hash_mark_stays (Some (Locked thread place)) mark = stay_either (thread == k.thread) (stay_then displaced_stays (λ found _. hash_unless_stays found)) (hash_inflate_stays kept)
+    hash_mark_stays (Some (Locked thread place)) mark =
+        stay_either (thread == k.thread) (stay_then displaced_stays (λ found _. hash_unless_stays found)) (hash_inflate_stays kept)
     hash_mark_stays (Some (Inflated monitor)) mark = hash_monitor_stays monitor
     hash_mark_stays _ mark = stay_never
 
