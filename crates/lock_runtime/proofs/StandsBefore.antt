@@ -1,5 +1,5 @@
 -- How a thread stands as a call begins.
-use Rattle.std.proofs.Common.{◌≡◌, ℕ, ◌==◌, ◌&&◌, ◌||◌, not, cond, Bool, true, false, Option, Some, None, refl, sym, ap, ◌∙◌, true≢false, eqb-true, is_none, nat_le, ◌+◌, length}
+use Rattle.std.proofs.Common.{◌≡◌, ℕ, ◌==◌, ◌&&◌, ◌||◌, not, cond, Bool, true, false, Option, Some, None, refl, sym, ap, ◌∙◌, true≢false, eqb-true, nat_le, ◌+◌, length}
 use Rattle.core_world.specs.declared.task.Op.{Op}
 use Rattle.core_world.specs.declared.task.Op.TheVariants as op
 use Rattle.core_world.specs.declared.task.Unfinished.{Unfinished}
@@ -13,7 +13,8 @@ use Rattle.core_world.specs.Words.Forms.{waits_on}
 use Rattle.core_world.specs.Words.Shape.{Shape}
 
 -- the conditions of an operation
-runs_or_asks : (checking running requesting going free ended room : Bool) → (not checking && (running || (requesting && going)) && free && not ended && room) ≡ true → (running || (requesting && going)) ≡ true
+runs_or_asks : (checking running requesting going free ended room : Bool)
+    → (not checking && (running || (requesting && going)) && free && not ended && room) ≡ true → (running || (requesting && going)) ≡ true
 runs_or_asks true running requesting going free ended room e = absurd (cc e)
 runs_or_asks false true requesting going free ended room e = refl
 runs_or_asks false false true true free ended room e = refl
@@ -24,13 +25,15 @@ no_check : (checking b free ended room : Bool) → (not checking && b && free &&
 no_check true b free ended room e = absurd (cc e)
 no_check false b free ended room e = refl
 
-runs_unless : (running requesting going : Bool) → (running || (requesting && going)) ≡ true → (requesting ≡ true → running ≡ false) → not requesting ≡ running
+runs_unless : (running requesting going : Bool) → (running || (requesting && going)) ≡ true → (requesting ≡ true → running ≡ false)
+    → not requesting ≡ running
 runs_unless true true going e stopped = absurd (cc (stopped refl))
 runs_unless true false going e stopped = refl
 runs_unless false true going e stopped = refl
 runs_unless false false going e stopped = absurd (cc e)
 
-asks_going : (running requesting going : Bool) → (running || (requesting && going)) ≡ true → (requesting ≡ true → running ≡ false) → requesting ≡ true → going ≡ true
+asks_going : (running requesting going : Bool) → (running || (requesting && going)) ≡ true → (requesting ≡ true → running ≡ false) → requesting ≡ true
+    → going ≡ true
 asks_going true true going e stopped asks = absurd (cc (stopped refl))
 asks_going false true true e stopped asks = refl
 asks_going false true false e stopped asks = absurd (cc e)
@@ -102,12 +105,14 @@ module _ (s : Shape) (k : Known) (rest : AtRest s k) where
   act_runs may = sym (stands_before false may) ∙ ap not (act_unasked may)
 
 -- a check begins where its thread runs, or asks for it
-check_stands : (ended requesting checking running : Bool) → (not ended && cond requesting checking running) ≡ true → (requesting ≡ true → running ≡ false) → not requesting ≡ running
+check_stands : (ended requesting checking running : Bool) → (not ended && cond requesting checking running) ≡ true
+    → (requesting ≡ true → running ≡ false) → not requesting ≡ running
 check_stands true requesting checking running e stopped = absurd (cc e)
 check_stands false true checking running e stopped = sym (stopped refl)
 check_stands false false checking running e stopped = sym e
 
-pub check_before : (s : Shape) (k : Known) → AtRest s k → (not (ends k.log) && cond k.requesting k.checking k.running) ≡ true → not k.requesting ≡ k.running
+pub check_before : (s : Shape) (k : Known) → AtRest s k → (not (ends k.log) && cond k.requesting k.checking k.running) ≡ true
+    → not k.requesting ≡ k.running
 check_before s k rest may = check_stands (ends k.log) k.requesting k.checking k.running may rest.stopped
 
 -- a resume begins where it does neither

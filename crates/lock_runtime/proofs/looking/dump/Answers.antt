@@ -1,9 +1,6 @@
-use Rattle.std.proofs.Common.{◌≡◌, ℕ, ◌+◌, ◌==◌, Bool, false, List, length, Result, Ok, refl, sym, ap, ◌∙◌, subst, ne_eqb}
-use Rattle.core_world.specs.declared.answer.TooManyDumps.{TooManyDumps}
-use Rattle.core_world.specs.declared.answer.Turn.{Turn}
+use Rattle.std.proofs.Common.{◌≡◌, ◌+◌, ◌==◌, Bool, false, List, length, Ok, refl, sym, ap, ◌∙◌, subst, ne_eqb}
 use Rattle.core_world.specs.declared.task.Op.TheVariants as op
 use Rattle.core_world.specs.declared.task.Task.TheVariants.{Dump}
-use Rattle.core_world.specs.Due.{Ran}
 use Rattle.core_world.specs.Threads.Known.{DumpShot, local_of}
 use Rattle.core_world.specs.Trees.Calls.{steps_of}
 use Rattle.core_world.specs.Trees.Operations.{dump_steps}
