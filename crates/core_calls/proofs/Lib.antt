@@ -23,3 +23,11 @@ pub mod WhoIsWoken
 pub mod WhoGoesOn
 pub mod Leaving
 pub mod ShotsKept
+pub mod Stays
+pub mod StaysLocks
+pub mod StaysLooks
+pub mod StaysWaits
+pub mod Others
+pub mod StandsSafe
+pub mod StandsCalls
+pub mod StandsKnown

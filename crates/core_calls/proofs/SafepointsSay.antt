@@ -22,13 +22,13 @@ module _ (e : Purpose) (t : ℕ) where
   -- a poll is done exactly where the word has no requester
   abbrev pub Polled : List StepMade → Turn (Unit {0}) → Type 0
   Polled ms (Done x) = Silent e ms × ((word : ℕ) × (has_requester word ≡ false) × Loaded Safepoint word ms)
-  Polled ms (Pending why) = Silent e ms × Caused of_polls t 0 why ms
+  Polled ms (Pending cause) = Silent e ms × Caused of_polls t 0 cause ms × ((word : ℕ) × (cause ≡ why.Requested word) × Loaded Safepoint word ms)
 
   pub poll_says : (ms : List StepMade) → Still ms → Always Polled ms (poll_steps e)
   poll_says ms h = λ word.
       let silent = now_silent e _ word ms refl refl refl refl h in
       either_way Polled _ (has_requester word) _ _
-      (λ asks. (silent, record { among = refl; cause = (asks, inl (refl, refl)) }))
+      (λ asks. (silent, record { among = refl; cause = (asks, inl (refl, refl)) }, (word, refl, inl (refl, refl, refl))))
       (λ none. (silent, (word, none, inl (refl, refl, refl))))
 
 module _ (e : Purpose) (k : Local) where

@@ -1,5 +1,5 @@
--- A dump that is done keeps one shot.
-use Rattle.std.proofs.Common.{◌≡◌, ℕ, zero, suc, ◌+◌, ◌*◌, ◌==◌, cond, Bool, true, false, List, [], ◌∷◌, length, Option, Some, None, Result, Ok, Err, refl, ap, ◌∙◌, arith, length-append}
+-- A dump that is done keeps one shot, and any other keeps none.
+use Rattle.std.proofs.Common.{◌≡◌, ℕ, zero, suc, ◌+◌, ◌*◌, ◌==◌, cond, Bool, true, false, List, [], ◌∷◌, length, Option, Some, None, Result, Ok, Err, refl, sym, ap, ◌∙◌, subst, arith, ◌++◌}
 use Rattle.mark_word.specs.declared.mark.MarkForm.{MarkForm}
 use Rattle.mark_word.specs.declared.mark.MarkForm.TheVariants.{Inflating, Neutral, Anonymous, Biased, Locked, Inflated, Marked}
 use Rattle.mark_word.specs.declared.owner.OwnerForm.{OwnerForm}
@@ -15,18 +15,19 @@ use Rattle.core_world.specs.declared.task.Op.TheVariants as op
 use Rattle.core_world.specs.declared.task.Task.TheVariants as task
 use Rattle.core_world.specs.declared.answer.TooManyDumps.{TooManyDumps}
 use Rattle.core_world.specs.declared.answer.Turn.{Turn}
+use Rattle.core_world.specs.declared.answer.Why.{Why}
 use Rattle.core_world.specs.declared.answer.Turn.TheVariants.{Done, Pending}
 use Rattle.core_world.specs.Words.Acts.{hits}
 use Rattle.core_world.specs.Due.{Ran}
 use Rattle.core_world.specs.Words.Forms.{epoch_in, is_still}
-use Rattle.core_world.specs.Threads.Known.{Known, StepMade, Start}
+use Rattle.core_world.specs.Threads.Known.{Known, StepMade, Start, DumpShot}
 use Rattle.core_world.specs.Trees.LookSteps.{look_at_holds, look_at_owner, look_behind, look_at_objects, take_shot_steps}
 use Rattle.core_world.specs.Trees.Operations.{and_then, answer, dump_going, dump_steps}
 use Rattle.core_world.specs.Locks.{has_epoch}
 use Rattle.core_world.specs.Trees.Plans.{Purpose, load, done_with}
 use Rattle.core_world.specs.Trees.SafepointSteps.{has_requester, reached_word, request_steps, reached_steps, then_reached, safepoint_steps, release_safepoint}
 use Rattle.core_world.specs.Words.Shape.{Shape}
-use Rattle.core_world.specs.Steps.{shots_after, known_hit, known_miss}
+use Rattle.core_world.specs.Steps.{shot_of, shots_after, known_hit, known_miss}
 use Rattle.core_world.specs.Trees.Todo.{Todo, done, never, step, ◌>>=◌, ask}
 use Rattle.core_world.specs.Trees.WaitSteps.{publish_steps}
 use Rattle.core_calls.specs.Paths.{made, Always, known_along}
@@ -49,7 +50,8 @@ kept_shots (m ∷ ms) = cond (hits m.plan.act m.found) (one_shot m.plan.own) 0 +
 record IsPlain (p : StepPlan) : Type 0 where
   none : one_shot p.own ≡ 0
 
-plain : {A : Type 0} {rest : A → ℕ} {p : StepPlan} {f : ℕ → Todo A} {n : ℕ} → one_shot p.own ≡ 0 → ((w : ℕ) → Spend IsPlain rest n (f w)) → Spend IsPlain rest (suc n) (step p f)
+plain : {A : Type 0} {rest : A → ℕ} {p : StepPlan} {f : ℕ → Todo A} {n : ℕ} → one_shot p.own ≡ 0 → ((w : ℕ) → Spend IsPlain rest n (f w))
+    → Spend IsPlain rest (suc n) (step p f)
 plain none h = spend_step (record { none = none }) h
 
 still_kept : (p : StepPlan) (n z : ℕ) (ms : List StepMade) → one_shot p.own ≡ 0 → kept_shots ms ≡ z → kept_shots (made p n ∷ ms) ≡ z
@@ -59,13 +61,15 @@ still_kept p n z ms none h = by_hit (hits p.act n)
     by_hit true = omega (arith, none, h)
     by_hit false = omega (arith, h)
 
-plainly : {A : Type 0} (rest : A → ℕ) (d : Todo A) (n z : ℕ) (ms : List StepMade) → Spends IsPlain rest n d → kept_shots ms ≡ z → Always (λ ms _. kept_shots ms ≡ z) ms d
+plainly : {A : Type 0} (rest : A → ℕ) (d : Todo A) (n z : ℕ) (ms : List StepMade) → Spends IsPlain rest n d → kept_shots ms ≡ z
+    → Always (λ ms _. kept_shots ms ≡ z) ms d
 plainly rest (done a) n z ms h s = s
 plainly rest never n z ms h s = tt
 plainly rest (step p f) zero z ms h s = absurd h
 plainly rest (step p f) (suc n) z ms h s = λ w. plainly rest (f w) n z (made p w ∷ ms) (h.1 w) (still_kept p w z ms h.0.none s)
 
-none_kept : {A : Type 0} {rest : A → ℕ} {d : Todo A} {n : ℕ} (z : ℕ) (ms : List StepMade) → Spend IsPlain rest n d → kept_shots ms ≡ z → Always (λ ms _. kept_shots ms ≡ z) ms d
+none_kept : {A : Type 0} {rest : A → ℕ} {d : Todo A} {n : ℕ} (z : ℕ) (ms : List StepMade) → Spend IsPlain rest n d → kept_shots ms ≡ z
+    → Always (λ ms _. kept_shots ms ≡ z) ms d
 none_kept {A} {rest} {d} {n} z ms h s = plainly rest d n z ms h.by s
 
 module _ (e : Purpose) where
@@ -82,7 +86,8 @@ module _ (e : Purpose) where
   owner_plain None = spend_done (omega arith)
 
   behind_plain : (s : Shape) (o : ℕ) (form : Option MarkForm) → Spend IsPlain (λ _. 0) 65 (look_behind form e s o)
-  behind_plain s o (Some (Biased thread epoch age)) = plain {n = 64} refl (λ prototype. spend_either (has_epoch (epoch_in prototype) epoch) (holds_plain thread) (spend_done (omega arith)))
+  behind_plain s o (Some (Biased thread epoch age)) =
+      plain {n = 64} refl (λ prototype. spend_either (has_epoch (epoch_in prototype) epoch) (holds_plain thread) (spend_done (omega arith)))
   behind_plain s o (Some (Locked thread place)) = spend_more (omega arith) (holds_plain thread)
   behind_plain s o (Some (Inflated monitor)) = plain {n = 64} refl (λ owner. owner_plain (read_owner owner))
   behind_plain s o (Some Inflating) = spend_done (omega arith)
@@ -105,7 +110,9 @@ module _ (e : Purpose) where
   reached_plain = plain {n = 0} refl (λ word. spend_either (is_still word) (spend_done (omega arith)) (spend_done (omega arith)))
 
   request_plain : (t : ℕ) → Spend IsPlain (λ _. 0) 2 (request_steps e t)
-  request_plain t = plain {n = 1} refl (λ word. spend_either (has_requester word) (spend_done (omega arith)) (plain {n = 0} refl (λ n. spend_either (n == word) (spend_done (omega arith)) (spend_either (has_requester n) (spend_done (omega arith)) (spend_done (omega arith))))))
+  request_plain t =
+      plain {n = 1} refl (λ word. spend_either (has_requester word) (spend_done (omega arith)) (plain {n = 0} refl (λ n. spend_either (n == word)
+      (spend_done (omega arith)) (spend_either (has_requester n) (spend_done (omega arith)) (spend_done (omega arith))))))
 
   then_plain : (turn : Turn (Unit {0})) → Spend IsPlain (λ _. 0) 1 (then_reached e turn)
   then_plain (Done x) = reached_plain
@@ -122,13 +129,12 @@ module _ (s : Shape) (k : Start) where
   dumping = working task.Dump (unfinished_on op.Dump 0)
 
   abbrev TurnKeeps : List StepMade → Turn ℕ → Type 0
-  TurnKeeps ms (Done number) = kept_shots ms ≡ 1
-  TurnKeeps ms (Pending why) = Unit {0}
+  TurnKeeps ms (Done number) = (number ≡ k.shots + 1) × (kept_shots ms ≡ 1)
+  TurnKeeps ms (Pending why) = kept_shots ms ≡ 0
 
   abbrev Keeps : List StepMade → Result (Turn ℕ) TooManyDumps → Type 0
-  Keeps ms (Ok (Done number)) = kept_shots ms ≡ 1
-  Keeps ms (Ok (Pending why)) = Unit {0}
-  Keeps ms (Err e) = Unit {0}
+  Keeps ms (Ok turn) = TurnKeeps ms turn
+  Keeps ms (Err e) = kept_shots ms ≡ 0
 
   abbrev tells : Todo (Turn ℕ)
   tells = publish_steps (entry.Dump (k.shots + 1)) dumping k.local >>= λ _. done_with (k.shots + 1)
@@ -140,45 +146,83 @@ module _ (s : Shape) (k : Start) where
   shoots _ = take_shot_steps dumping s >>= λ _. releases
 
   told_keeps : (ms : List StepMade) → kept_shots ms ≡ 1 → Always TurnKeeps ms tells
-  told_keeps ms h = λ n. omega (arith, h)
+  told_keeps ms h = λ n. (refl, omega (arith, h))
 
   shoots_keeps : (ms : List StepMade) → kept_shots ms ≡ 0 → Always TurnKeeps ms (shoots tt)
   shoots_keeps ms h =
       always_then (λ ms _. kept_shots ms ≡ 1) TurnKeeps (take_shot_steps dumping s) (λ _. releases) ms (shot_kept dumping s ms h) (λ ms _ h.
-      always_then (λ ms _. kept_shots ms ≡ 1) TurnKeeps (release_safepoint dumping k.local.thread) (λ _. tells) ms (none_kept 1 ms (release_plain dumping k.local.thread) h) (λ ms _ h. told_keeps ms h))
+      always_then (λ ms _. kept_shots ms ≡ 1) TurnKeeps (release_safepoint dumping k.local.thread) (λ _. tells) ms (none_kept 1 ms
+      (release_plain dumping k.local.thread) h) (λ ms _ h. told_keeps ms h))
 
   reached_keeps : (turn : Turn (Unit {0})) (ms : List StepMade) → kept_shots ms ≡ 0 → Always TurnKeeps ms (and_then turn shoots)
   reached_keeps (Done x) ms h = shoots_keeps ms h
-  reached_keeps (Pending why) ms h = tt
+  reached_keeps (Pending why) ms h = h
 
   going_keeps : Always TurnKeeps [] (dump_going s dumping k)
   going_keeps =
       always_then (λ ms _. kept_shots ms ≡ 0) TurnKeeps (safepoint_steps dumping k.local.thread k.requesting) (λ turn. and_then turn shoots) []
       (none_kept 0 [] (safe_plain dumping k.local.thread k.requesting) refl) (λ ms turn h. reached_keeps turn ms h)
 
-  answer_keeps : (ms : List StepMade) (turn : Turn ℕ) → TurnKeeps ms turn → Keeps ms (Ok turn)
-  answer_keeps ms (Done number) h = h
-  answer_keeps ms (Pending why) h = tt
-
   dump_keeps : Always Keeps [] (dump_steps s k)
-  dump_keeps = either_way Keeps [] (k.shots == 4) _ _ (λ many. tt) (λ room. always_then TurnKeeps Keeps (dump_going s dumping k) answer [] going_keeps answer_keeps)
+  dump_keeps =
+      either_way Keeps [] (k.shots == 4) _ _ (λ many. refl) (λ room. always_then TurnKeeps Keeps (dump_going s dumping k) answer [] going_keeps
+      (λ ms turn so. so))
 
--- the thread's shots grow by those
-own_shots : (s : Shape) (k : Known) (o : Own) → length (shots_after o s k) ≡ one_shot o + length k.shots
-own_shots s k own.TakeShot = length-append k.shots _ ∙ omega arith
-own_shots s k _ = omega arith
+-- so the thread's shots grow by one, or stay as they are
+abbrev Grown : List DumpShot → List DumpShot → Type 0
+Grown before after = (shot : DumpShot) × (after ≡ before ++ shot ∷ []) × (shot.number ≡ length before + 1)
+
+record Grows (n : ℕ) (before after : List DumpShot) : Type 0 where
+  none : n ≡ 0 → after ≡ before
+  one : n ≡ 1 → Grown before after
+
+kept_as_before : (n m : ℕ) (before after later : List DumpShot) → n ≡ m → later ≡ after → Grows m before after → Grows n before later
+kept_as_before n m before after later same is g =
+    record { none = λ z. is ∙ g.none (sym same ∙ z); one = λ z. subst (λ (x : List DumpShot). Grown before x) (sym is) (g.one (sym same ∙ z)) }
 
 module _ (s : Shape) (start : ℕ) where
-  step_shots : (p : StepPlan) (n : ℕ) (k : Known) (b : Bool) → length (cond b (known_hit s start p n k) (known_miss s start p n k)).shots ≡ cond b (one_shot p.own) 0 + length k.shots
-  step_shots p n k true = own_shots s k p.own
-  step_shots p n k false = omega arith
+  own_grows : (k : Known) (o : Own) (n : ℕ) (before : List DumpShot) → Grows n before k.shots → Grows (one_shot o + n) before (shots_after o s k)
+  own_grows k own.TakeShot n before g = record {
+    none = λ z. absurd (omega (arith, z));
+    one = λ z.
+        let same = g.none (omega (arith, z)) in
+        (shot_of s k, ap (λ (x : List DumpShot). x ++ shot_of s k ∷ []) same, ap (λ (x : List DumpShot). length x + 1) same);
+  }
+  own_grows k own.Same n before g = kept_as_before (0 + n) n before k.shots k.shots (omega arith) refl g
+  own_grows k own.Claim n before g = kept_as_before (0 + n) n before k.shots k.shots (omega arith) refl g
+  own_grows k own.Spend n before g = kept_as_before (0 + n) n before k.shots k.shots (omega arith) refl g
+  own_grows k own.Save n before g = kept_as_before (0 + n) n before k.shots k.shots (omega arith) refl g
+  own_grows k (own.CountVerdict class verdict reset) n before g = kept_as_before (0 + n) n before k.shots k.shots (omega arith) refl g
 
-  shots_along : (ms : List StepMade) (k : Known) → length (known_along s start ms k).shots ≡ kept_shots ms + length k.shots
-  shots_along [] k = omega arith
-  shots_along (m ∷ ms) k = omega (arith, step_shots m.plan m.found (known_along s start ms k) (hits m.plan.act m.found), shots_along ms k)
+  step_grows : (p : StepPlan) (w n : ℕ) (k : Known) (b : Bool) (before : List DumpShot) → Grows n before k.shots
+      → Grows (cond b (one_shot p.own) 0 + n) before (cond b (known_hit s start p w k) (known_miss s start p w k)).shots
+  step_grows p w n k true before g = own_grows k p.own n before g
+  step_grows p w n k false before g = kept_as_before (0 + n) n before k.shots k.shots (omega arith) refl g
 
-  pub dump_shoots : (shape : Shape) (k : Start) (number : ℕ) (before now : Known) → Ran s start (dump_steps shape k) before now (Ok (Done number)) → length now.shots ≡ length before.shots + 1
-  dump_shoots shape k number before now ran =
-      let follows = knows ran in
-      let one : kept_shots follows.steps ≡ 1 = on_path (Keeps shape k) (dump_steps shape k) [] follows.steps (Ok (Done number)) (dump_keeps shape k) follows.path in
-      ap (λ (x : Known). length x.shots) follows.known ∙ omega (arith, shots_along follows.steps before, one)
+  grows_along : (ms : List StepMade) (k : Known) → Grows (kept_shots ms) k.shots (known_along s start ms k).shots
+  grows_along [] k = record { none = λ _. refl; one = λ z. absurd (omega (arith, z)) }
+  grows_along (m ∷ ms) k = step_grows m.plan m.found (kept_shots ms) (known_along s start ms k) (hits m.plan.act m.found) k.shots (grows_along ms k)
+
+  -- A dump that is done keeps the shot of its number; any other leaves the shots.
+  module _ (shape : Shape) (k : Start) (before now : Known) where
+    along : (a : Result (Turn ℕ) TooManyDumps) → Ran s start (dump_steps shape k) before now a
+        → (ms : List StepMade) × Keeps shape k ms a × Grows (kept_shots ms) before.shots now.shots
+    along a ran =
+        let f = knows ran in (
+          f.steps,
+          on_path (Keeps shape k) (dump_steps shape k) [] f.steps a (dump_keeps shape k) f.path,
+          subst (λ (x : Known). Grows (kept_shots f.steps) before.shots x.shots) (sym f.known) (grows_along f.steps before),
+        )
+
+    pub dump_shoots : (number : ℕ) → length before.shots ≡ k.shots → Ran s start (dump_steps shape k) before now (Ok (Done number))
+        → (shot : DumpShot) × (now.shots ≡ before.shots ++ shot ∷ []) × (shot.number ≡ number)
+    dump_shoots number same ran =
+        let x = along (Ok (Done number)) ran in
+        let one = x.2.one x.1.1 in
+        (one.0, one.1, one.2 ∙ ap (λ n. n + 1) same ∙ sym x.1.0)
+
+    pub dump_pends : (why : Why) → Ran s start (dump_steps shape k) before now (Ok (Pending why)) → now.shots ≡ before.shots
+    dump_pends why ran = let x = along (Ok (Pending why)) ran in x.2.none x.1
+
+    pub dump_refuses : (e : TooManyDumps) → Ran s start (dump_steps shape k) before now (Err e) → now.shots ≡ before.shots
+    dump_refuses e ran = let x = along (Err e) ran in x.2.none x.1

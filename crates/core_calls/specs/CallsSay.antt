@@ -20,6 +20,7 @@ use Rattle.core_world.specs.declared.answer.StackOut.TheVariants.{Left, Monitor,
 use Rattle.core_world.specs.declared.answer.Turn.{Turn}
 use Rattle.core_world.specs.declared.answer.Turn.TheVariants.{Done, Pending}
 use Rattle.core_world.specs.declared.answer.Why.{Why}
+use Rattle.core_world.specs.declared.answer.Why.TheVariants.{Requested}
 use Rattle.core_world.specs.declared.answer.TooDeep.{TooDeep}
 use Rattle.core_world.specs.declared.answer.IllegalMonitorState.{IllegalMonitorState}
 use Rattle.core_world.specs.declared.answer.Unguarded.{Unguarded}
@@ -154,10 +155,11 @@ DumpSays k = ResultSays (k.shots == 4) (DumpTurnSays k)
 
 -- POLL, STOP, RESUME and CHECK log nothing, and leave the unfinished operation. So they leave the check, but for the check itself: that is
 -- unfinished where its request stands and isn't reached, and over after every other answer.
--- A poll is done exactly where the word that it loads has no requester.
+-- A poll is done exactly where the word that it loads has no requester, and else it is pending for the requester of that word.
 abbrev pub PollSays : Start → List StepMade → Turn (Unit {0}) → Type 0
 PollSays k ms (Done x) = Leaves [] k.unfinished k.checking ms × ((word : ℕ) × (has_requester word ≡ false) × Loaded Safepoint word ms)
-PollSays k ms (Pending why) = Leaves [] k.unfinished k.checking ms × Caused of_polls k.local.thread 0 why ms
+PollSays k ms (Pending why) =
+    Leaves [] k.unfinished k.checking ms × Caused of_polls k.local.thread 0 why ms × ((word : ℕ) × (why ≡ Requested word) × Loaded Safepoint word ms)
 
 -- The length of the log was published, and behind that the thread's bit was cleared.
 abbrev pub Stops : Start → List StepMade → Type 0

@@ -4,3 +4,4 @@ pub mod CallsSay
 pub mod Bounds
 pub mod Woken
 pub mod Stuck
+pub mod Stands

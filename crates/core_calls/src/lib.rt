@@ -9,6 +9,7 @@
 mod bounding;
 mod locking;
 mod running;
+mod standing;
 mod stopping;
 mod telling;
 mod waiting;
@@ -19,6 +20,10 @@ pub use locking::{
     stack_exit_logs_its_answer,
 };
 pub use running::{a_run_follows_a_path_of_its_tree, steps_make_of_knowledge_what_they_leave};
+pub use standing::{
+    a_thread_knows_how_it_stands, calls_at_the_safepoint_word_tell_how_their_thread_stands,
+    operations_leave_their_thread_running, short_operations_leave_their_thread_running,
+};
 pub use stopping::{
     check_answers_whether_any_thread_goes_on, check_logs_nothing, poll_logs_nothing,
     reached_logs_nothing, release_logs_nothing, request_logs_nothing, resume_logs_nothing,

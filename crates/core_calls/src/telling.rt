@@ -1,13 +1,14 @@
 //! Laws of the calls that tell of values, hashes, shots and ends.
-ghost use Rattle.std.specs.Prelude.{◌≡◌, ℕ, ◌+◌, length, Result, Ok};
+ghost use Rattle.std.specs.Prelude.{◌≡◌, ℕ, [], ◌∷◌, ◌++◌, length, Result, Ok};
 ghost use Rattle.plain_monitor.specs.declared.entry.Value.{Value};
 ghost use Rattle.plain_monitor.specs.declared.entry.Ending.{Ending};
 ghost use Rattle.core_world.specs.declared.answer.Turn.{Turn};
-ghost use Rattle.core_world.specs.declared.answer.Turn.TheVariants.{Done};
+ghost use Rattle.core_world.specs.declared.answer.Turn.TheVariants.{Done, Pending};
+ghost use Rattle.core_world.specs.declared.answer.Why.{Why};
 ghost use Rattle.core_world.specs.declared.answer.Unguarded.{Unguarded};
 ghost use Rattle.core_world.specs.declared.answer.TooManyDumps.{TooManyDumps};
 ghost use Rattle.core_world.specs.Words.Shape.{Shape};
-ghost use Rattle.core_world.specs.Threads.Known.{Known, Start};
+ghost use Rattle.core_world.specs.Threads.Known.{Known, Start, DumpShot};
 ghost use Rattle.core_world.specs.Trees.Operations.{hash_steps, get_steps, put_steps, print_steps, finish_steps, dump_steps};
 ghost use Rattle.core_world.specs.Due.{Ran};
 ghost use Rattle.core_calls.specs.Paths.{Says, Tells};
@@ -56,7 +57,7 @@ pub fn finish_logs_its_ending()
 {}
 
 /// A dump that is done logs its Dump with the number of the thread's next shot, and has released its safepoint; and
-/// the thread has one more shot. A pending one logs nothing and stays unfinished. It is
+/// the thread has one more shot, which has that number. A pending one logs nothing, keeps no shot and stays unfinished. It is
 /// refused, without a step, exactly where the thread has 4 shots.
 pub fn dump_logs_its_answer()
     ensures steps { (s : Shape) (k : Start) → Says (dump_steps s k) (DumpSays k) }
@@ -64,6 +65,10 @@ pub fn dump_logs_its_answer()
         → Ran shape start (dump_steps s k) before after a
         → Tells before after (λ ms. DumpSays k ms a) }
     ensures keeps { (s : Shape) (k : Start) (shape : Shape) (start number : ℕ) (before after : Known)
+        → length before.shots ≡ k.shots
         → Ran shape start (dump_steps s k) before after (Ok (Done number))
-        → length after.shots ≡ length before.shots + 1 }
+        → (shot : DumpShot) × (after.shots ≡ before.shots ++ shot ∷ []) × (shot.number ≡ number) }
+    ensures pends { (s : Shape) (k : Start) (shape : Shape) (start : ℕ) (before after : Known) (why : Why)
+        → Ran shape start (dump_steps s k) before after (Ok (Pending why))
+        → after.shots ≡ before.shots }
 {}

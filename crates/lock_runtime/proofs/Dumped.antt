@@ -1,12 +1,16 @@
 -- Dumps: runs whatever became of the pass's draft of a shot.
-use Rattle.std.proofs.Common.{◌≡◌, ℕ, zero, suc, ◌+◌, Bool, true, false, [], length, refl}
+use Rattle.std.proofs.Common.{◌≡◌, ℕ, zero, suc, ◌+◌, Bool, true, false, [], length, Result, Ok, Err, refl}
 use Rattle.mark_word.specs.Mark.{read_mark}
+use Rattle.core_world.specs.declared.answer.TooManyDumps.{TooManyDumps}
+use Rattle.core_world.specs.declared.answer.Turn.{Turn}
+use Rattle.core_world.specs.declared.answer.Turn.TheVariants.{Done, Pending}
 use Rattle.core_world.specs.declared.name.Name.TheVariants as name
 use Rattle.core_world.specs.declared.task.Task.{Task}
 use Rattle.core_world.specs.Trees.LookSteps.{look_behind, look_at_objects, take_shot_steps}
+use Rattle.core_world.specs.Trees.Operations.{dump_steps}
 use Rattle.core_world.specs.Trees.Plans.{Purpose, load}
 use Rattle.core_world.specs.Trees.Todo.{Todo, done, ◌>>=◌, ask, all_from}
-use Rattle.core_world.specs.Threads.Known.{Local}
+use Rattle.core_world.specs.Threads.Known.{Known, Local, start_of}
 use Rattle.core_world.specs.Words.Shape.{Shape}
 use Rattle.revoke_walk.specs.ShotParts.{HasShot}
 use Rattle.heap_table.specs.Parts.{HasRun}
@@ -14,7 +18,10 @@ use Rattle.heap_table.specs.Seen.{HeapSeen, PassSeen, IsOf}
 use Rattle.heap_table.specs.Resting.{MayCall, Rests, start_now}
 use Rattle.heap_table.proofs.Resting.{IsCallOf, behind}
 use Rattle.core_world.specs.Trees.Calls.{steps_of, end}
+use Rattle.core_world.specs.Due.{Ran}
+use Rattle.core_calls.proofs.ShotsKept.{dump_shoots, dump_pends, dump_refuses}
 use Rattle.lock_runtime.specs.LookParts.{HasDumped, numbered_dump}
+use Rattle.lock_runtime.specs.Shots.{HasShots}
 use Rattle.lock_runtime.proofs.Behind.{first_then}
 
 -- the pass without its draft
@@ -67,3 +74,9 @@ first_shot e s = first_then e.task (look_at_objects e s) _
 pub first_dump : (s : Shape) (requesting : Bool) (e : Purpose) (k : Local) (number : ℕ) → IsCallOf e.task (numbered_dump s requesting e k number)
 first_dump s true e k number = refl
 first_dump s false e k number = refl
+
+-- THE SHOTS behind a dump: one more, with the number that it answers, or the same
+pub dump_has_shots : (h : HeapSeen) (k l : Known) (r : Result (Turn ℕ) TooManyDumps) → Ran h.heap.shape h.heap.start (dump_steps h.heap.shape (start_of h.heap.start k)) k l r → HasShots k.shots l.shots r
+dump_has_shots h k l (Ok (Done number)) ran = dump_shoots h.heap.shape h.heap.start h.heap.shape (start_of h.heap.start k) k l number refl ran
+dump_has_shots h k l (Ok (Pending why)) ran = dump_pends h.heap.shape h.heap.start h.heap.shape (start_of h.heap.start k) k l why ran
+dump_has_shots h k l (Err e) ran = dump_refuses h.heap.shape h.heap.start h.heap.shape (start_of h.heap.start k) k l e ran

@@ -13,3 +13,8 @@ pub mod Hashed
 pub mod Reached
 pub mod Dumped
 pub mod MayBegin
+pub mod Stands
+pub mod StandsBefore
+pub mod StandsCalls
+pub mod GetsValue
+pub mod Refused

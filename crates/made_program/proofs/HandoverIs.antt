@@ -54,7 +54,8 @@ decimal_19 : decimal 19 ≡ codes "19"
 decimal_19 = rw (decimal_step 19 (omega arith) (omega arith), decimal_digit 1 (omega arith)) refl
 
 pub handover_written : (n : ℕ) → canonical (handover_program n) ≡ handover_text n
-handover_written n = rw (decimal_digit 0 (omega arith), decimal_digit 1 (omega arith), decimal_digit 2 (omega arith), decimal_19) refl
+handover_written n =
+    rw (decimal_digit 0 (omega arith), decimal_digit 1 (omega arith), decimal_digit 2 (omega arith), decimal_19) refl
 
 -- how long a text of these lines is
 abbrev total : List (List ℕ) → ℕ
@@ -64,16 +65,19 @@ total (line ∷ lines) = length line + 1 + total lines
 total_is : (lines : List (List ℕ)) → length (flat_map (λ line. line ++ 10 ∷ []) lines) ≡ total lines
 total_is [] = refl
 total_is (line ∷ lines) =
-    omega (arith, total_is lines, length-append (line ++ 10 ∷ []) (flat_map (λ line. line ++ 10 ∷ []) lines), length-append line (10 ∷ []))
+    let rest = flat_map (λ line. line ++ 10 ∷ []) lines in
+    omega (arith, total_is lines, length-append (line ++ 10 ∷ []) rest, length-append line (10 ∷ []))
 
 handover_short : (n : ℕ) → n ≤ 1500 → length (handover_text n) ≤ 1048576
 handover_short n few =
     let digits = length-decimal-le_succ n (omega arith) in
     subst (λ k. k ≤ 1048576) (sym (total_is (declared_lines n ++ first_lines n ++ second_lines n))) (omega arith)
 
-program_of-written : (n : ℕ) → IsProgram (handover_program n) → length (handover_text n) ≤ 1048576 → program_of (handover_text n) ≡ Ok (handover_program n)
+program_of-written : (n : ℕ) → IsProgram (handover_program n) → length (handover_text n) ≤ 1048576
+    → program_of (handover_text n) ≡ Ok (handover_program n)
 program_of-written n is =
-    subst (λ text. length text ≤ 1048576 → program_of text ≡ Ok (handover_program n)) (handover_written n) (program_of-canonical (handover_program n) is)
+    subst (λ text. length text ≤ 1048576 → program_of text ≡ Ok (handover_program n)) (handover_written n)
+    (program_of-canonical (handover_program n) is)
 
 pub handover_read : (n : ℕ) → 1 ≤ n → n ≤ 1500 → program_of (handover_text n) ≡ Ok (handover_program n)
 handover_read n some few = program_of-written n (handover_is_program n some few) (handover_short n few)

@@ -1,1 +1,2 @@
 pub mod HoldsByLog
+pub mod Stamps

@@ -8,8 +8,9 @@ use Rattle.plain_monitor.specs.History.{log_of}
 use Rattle.plain_monitor.specs.Objects.{PlainObject}
 use Rattle.plain_monitor.proofs.Lists.{all_at}
 use Rattle.plain_history.proofs.Joined.{get_within}
-use Rattle.core_world.specs.declared.name.Name.TheVariants.{Safepoint}
+use Rattle.core_world.specs.declared.name.Name.{Name}
 use Rattle.core_world.specs.Opening.{first_known}
+use Rattle.core_world.specs.There.{IsIn}
 use Rattle.core_world.specs.Threads.AtRest.{AtRest}
 use Rattle.core_world.specs.Threads.Known.{Known}
 use Rattle.core_world.specs.Threads.Stages.{revocation_in}
@@ -18,6 +19,7 @@ use Rattle.core_world.specs.Words.Shape.{Shape}
 use Rattle.core_world.specs.World.{World, logs, logs_from}
 use Rattle.core_steps.specs.Logic.{Heap, heap_of}
 use Rattle.core_steps.proofs.Wholes.{All as Whole, all_unless}
+use Rattle.heap_table.specs.Layout.{place_of}
 use Rattle.heap_table.specs.Seen.{InOrder}
 use Rattle.run_ends.specs.OfARun.{IsEnd, logs_in, shots_in, shots_at, unfinished_in}
 
@@ -74,13 +76,13 @@ pub unfinished_listed : (ks : List Known) (t : ℕ) (k : Known) → IsListed ks 
 unfinished_listed ks t k (inl h) = ap unfinished_in h
 unfinished_listed ks t k (inr h) = ap unfinished_in h.0 ∙ sym (ap (λ (x : Known). x.unfinished) h.1)
 
--- THE LAST WORLD. All clauses hold of it, the safepoint word is its own, and the threads know in it what is listed.
+-- THE LAST WORLD. All clauses hold of it, the words are its own, and the threads know in it what is listed.
 pub record Settled (heap : Heap) (words : List ℕ) (ks : List Known) : Type 0 where
   pub world : World
   pub objects : List PlainObject
   pub fits : Fits world objects
   pub is_of : heap_of world ≡ heap
-  pub safe : slice_index words 0 ≡ world.words Safepoint
+  pub words_are : (n : Name) → IsIn heap.shape n → slice_index words (place_of heap.shape n) ≡ world.words n
   pub listed : (t : ℕ) → IsListed ks t (world.known t)
   pub logs_are : logs world ≡ logs_in ks
 
@@ -132,7 +134,7 @@ module _ (heap : Heap) (words : List ℕ) (ks : List Known) (e : IsEnd heap word
         objects = e.last.sound.valid.objects;
         fits = whole.fits;
         is_of = e.last.is_of;
-        safe = e.last.words_are Safepoint tt;
+        words_are = e.last.words_are;
         listed = known_listed;
         logs_are = sym (logs_listed w.known 0 ks e.order e.last.knows
             ∙ ap (λ n. logs_from 0 n w.known) (e.all ∙ sym threads_are));

@@ -2,3 +2,4 @@ pub mod LastWorlds
 pub mod Draws
 pub mod Shots
 pub mod Stuck
+pub mod Prototypes

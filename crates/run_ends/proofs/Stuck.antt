@@ -4,6 +4,7 @@ use Rattle.std.specs.Prelude.{slice_get, slice_index}
 use Rattle.std.proofs.lemmas.Option.{same_Some}
 use Rattle.plain_monitor.specs.History.{log_of, objects_after}
 use Rattle.plain_monitor.proofs.Lists.{all_at}
+use Rattle.core_world.specs.declared.name.Name.TheVariants.{Safepoint}
 use Rattle.core_world.specs.declared.task.Op.{Op}
 use Rattle.core_world.specs.declared.task.Op.TheVariants as op
 use Rattle.core_world.specs.declared.task.Unfinished.{Unfinished}
@@ -33,7 +34,7 @@ module _ (heap : Heap) (words : List ℕ) (ks : List Known) (e : IsEnd heap word
 
   stuck_world : IsStuck s.world.shape.threads (λ t. ends (s.world.known t).log)
       (λ t. (s.world.known t).unfinished) (monitor_of s.objects)
-  stuck_world = (s.fits.safe.still (ap is_halted (sym s.safe) ∙ halted)).2
+  stuck_world = (s.fits.safe.still (ap is_halted (sym (s.words_are Safepoint tt)) ∙ halted)).2
 
   ends_listed : (t : ℕ) → ends (log_of (logs_in ks) t) ≡ ends (s.world.known t).log
   ends_listed t = ap ends (log_listed ks t (s.world.known t) (s.listed t))

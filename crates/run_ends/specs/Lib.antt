@@ -1,1 +1,2 @@
 pub mod OfARun
+pub mod Prototypes

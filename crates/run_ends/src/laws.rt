@@ -1,15 +1,19 @@
 //! Laws of a heap's end. The functions do nothing.
 
-ghost use Rattle.std.specs.Prelude.{◌≡◌, ℕ, true, List, slice_get, slice_index};
+ghost use Rattle.std.specs.Prelude.{◌≡◌, ◌<◌, ℕ, true, false, List, slice_get, slice_index};
+ghost use Rattle.core_world.specs.declared.name.Name.TheVariants.{Prototype};
 ghost use Rattle.core_world.specs.declared.task.Op.TheVariants as op;
 ghost use Rattle.core_world.specs.Clauses.Safepoints.{IsUnfinished};
 ghost use Rattle.core_world.specs.Threads.Known.{Known};
 ghost use Rattle.core_world.specs.Words.Forms.{is_halted};
 ghost use Rattle.core_steps.specs.Logic.{Heap};
+ghost use Rattle.heap_table.specs.BiasesAtEnd.{counted_by};
+ghost use Rattle.heap_table.specs.Layout.{place_of};
 ghost use Rattle.run_ends.specs.OfARun.{IsEnd, HasDraws, HasShots, IsStuckEnd, logs_in, shots_in, unfinished_in};
+ghost use Rattle.run_ends.specs.Prototypes.{prototype_by};
 
 /// Over the logs that a run leaves on a heap: whose draws the hashes are; that each shot is right; and where the
-/// safepoint word has the halt, that the run is stuck, so that a thread has nothing unfinished then but an enter or a wait.
+/// safepoint word has the halt, that the run is stuck, and that no thread has a Hash unfinished then.
 pub fn the_end_of_a_heap_tells_its_run()
     ensures draws { (heap : Heap) (words : List ℕ) (ks : List Known) → IsEnd heap words ks → HasDraws heap.start (logs_in ks) }
     ensures shots { (heap : Heap) (words : List ℕ) (ks : List Known) → IsEnd heap words ks
@@ -18,4 +22,15 @@ pub fn the_end_of_a_heap_tells_its_run()
         → IsStuckEnd heap.shape.objects heap.shape.threads ks }
     ensures unfinished { (heap : Heap) (words : List ℕ) (ks : List Known) (t o : ℕ) → IsEnd heap words ks
         → is_halted (slice_index words 0) ≡ true → IsUnfinished (unfinished_in (slice_get ks t)) op.Hash o → ⊥ }
+{}
+
+/// The last prototype of each class follows from the verdicts that the heap's threads counted. With biasing it is neutral
+/// where they counted a bulk revoke of the class; else it is biased to nobody, and its epoch is the number of their bulk
+/// rebiases of the class modulo 4. Without biasing it is neutral, which is the word 1.
+pub fn the_end_of_a_heap_tells_its_prototypes()
+    ensures biased { (heap : Heap) (words : List ℕ) (ks : List Known) (c : ℕ) → IsEnd heap words ks → c < heap.shape.classes
+        → heap.biasing ≡ true
+        → slice_index words (place_of heap.shape (Prototype c)) ≡ prototype_by heap.shape.threads (counted_by ks) c }
+    ensures plain { (heap : Heap) (words : List ℕ) (ks : List Known) (c : ℕ) → IsEnd heap words ks → c < heap.shape.classes
+        → heap.biasing ≡ false → slice_index words (place_of heap.shape (Prototype c)) ≡ 1 }
 {}

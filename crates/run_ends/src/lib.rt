@@ -2,9 +2,10 @@
 //!
 //! The last words of a heap and what its threads know then are those of a sound world. So the logs say whose draws the
 //! hashes are, each dump's shot is right over the logs as it cuts them, and where the halt is set the run is stuck.
+//! And the prototypes are those that the counted verdicts make.
 //! `specs/` has the definitions.
 #![tactic(auto)]
 
 mod laws;
 
-pub use laws::the_end_of_a_heap_tells_its_run;
+pub use laws::{the_end_of_a_heap_tells_its_prototypes, the_end_of_a_heap_tells_its_run};

@@ -8,7 +8,7 @@ use Rattle.run_words.specs.declared.words.Kind.{Kind}
 use Rattle.run_words.specs.declared.words.Kind.TheVariants.{Valued, Flag}
 use Rattle.run_words.specs.declared.options.Options.{Options}
 use Rattle.run_words.specs.declared.options.Command.{Command}
-use Rattle.run_words.specs.declared.options.Command.TheVariants.{Run, Check}
+use Rattle.run_words.specs.declared.options.Command.TheVariants.{Run, Check, Make}
 
 abbrev pub Text : Type 0
 Text = List ℕ
@@ -214,10 +214,16 @@ check_by v = if has_run_options v then None else check_values v
 abbrev pub check_of : List Text → Option Command
 check_of words = option_and_then check_by (values_in words)
 
+-- what is made takes one word, the number of its items
+abbrev pub make_of : List Text → Option Command
+make_of (items ∷ []) = option_map Make (number 1 1500 items)
+make_of words = None
+
 abbrev pub command_in : Text → List Text → Option Command
 command_in command words =
     if bytes_eq command (codes "run") then run_of words
     else if bytes_eq command (codes "check") then check_of words
+    else if bytes_eq command (codes "make") then make_of words
     else None
 
 abbrev pub command_of : List Text → Option Command

@@ -1,7 +1,8 @@
 //! The words of the command line, read as what they ask for.
 //!
 //! `read_words` answers exactly what `specs/Command.antt` accepts. A check of the words' shape goes first, so that no
-//! word gets a meaning that only `clap` gives it, as `--` does. Then `clap` parses, and its values are read.
+//! word gets a meaning that only `clap` gives it, as `--` does. Then `clap` parses, and its values are read. The one word
+//! behind `make` is no option and is read as it stands.
 #![tactic(auto)]
 
 ghost use Rattle.std.specs.Prelude.{◌≡◌, IfOk, Some, None, Err, map, string_bytes};
@@ -55,6 +56,8 @@ fn read_command(alloc: Global, command: &str, words: &[String]) -> Result<Comman
         read_run(alloc, words)
     } else if command == "check" {
         read_check(alloc, words)
+    } else if command == "make" {
+        read_make(words)
     } else {
         Err(WordsFault::Refused)
     }
@@ -79,6 +82,17 @@ fn read_check(alloc: Global, words: &[String]) -> Result<Command, WordsFault>
 {
     let values = read_values(alloc, words)?;
     options::check_by(values).ok_or(WordsFault::Refused)
+}
+
+/// What the words behind `make` ask for.
+fn read_make(words: &[String]) -> Result<Command, WordsFault>
+    ensures ok { IfOk result (λ c. spec.make_of (map (λ w. string_bytes w) words.now) ≡ Some c) }
+    ensures refused { result ≡ Err Refused → spec.make_of (map (λ w. string_bytes w) words.now) ≡ None }
+{
+    match words {
+        [items] => options::make_by(items.as_str()).ok_or(WordsFault::Refused),
+        _ => Err(WordsFault::Refused),
+    }
 }
 
 /// The values of the options that the words give, each as a text.

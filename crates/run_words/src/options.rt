@@ -4,6 +4,7 @@ ghost use Rattle.std.specs.Prelude.{◌≡◌, option_map};
 ghost use Rattle.run_words.specs.Clap as told;
 ghost use Rattle.run_words.specs.Command as spec;
 ghost use Rattle.run_words.specs.Number as numbers;
+ghost use Rattle.run_words.specs.declared.options.Command.TheVariants.{Make};
 
 use crate::numbers::number;
 
@@ -15,7 +16,7 @@ pub enum Command {
     /// To check a journal, where each thread has this much fuel, 1 to 200,000, and the generators of the identity hashes start
     /// from `start`.
     Check { fuel: u32, start: u32 },
-    /// To make a program with this many items, 1 to 1,500. No words ask for it today.
+    /// To make the program that hands over this many items, 1 to 1,500.
     Make { items: u32 },
 }
 
@@ -84,6 +85,14 @@ pub(crate) fn check_by(values: Values) -> Option<Command>
         fuel: fuel_of(&values)?,
         start: start_of(&values)?,
     })
+}
+
+/// The program that is asked for by this number of items, or `None` where the text says no number from 1 to 1,500.
+pub(crate) fn make_by(items: &str) -> Option<Command>
+    ensures { result ≡ option_map Make (numbers.number 1 1500 items.now) }
+{
+    let items = number(items, 1, 1_500)?;
+    Some(Command::Make { items })
 }
 
 /// The fuel of each thread.

@@ -96,10 +96,36 @@ fn checks_are_read(rt: HostRuntime) -> Result<(), Fail> {
 }
 
 #[test]
+fn numbers_of_items_are_read(rt: HostRuntime) -> Result<(), Fail> {
+    let accepted = [
+        ("biasrun make 1", 1),
+        ("biasrun make 40", 40),
+        ("biasrun make 0000000040", 40),
+        ("biasrun make 1500", 1_500),
+    ];
+    for (line, items) in accepted {
+        let command = read_line(rt.alloc(), line)?;
+        assert_eq!(rt; command, Some(Command::Make { items }), "at {line}");
+    }
+    Ok(())
+}
+
+#[test]
 fn other_words_are_refused(rt: HostRuntime) -> Result<(), Fail> {
     let refused = [
         "biasrun",
-        "biasrun make 5",
+        "biasrun make",
+        "biasrun make ",
+        "biasrun make 0",
+        "biasrun make 1501",
+        "biasrun make 5 5",
+        "biasrun make 00000000005",
+        "biasrun make --5",
+        "biasrun make --items=5",
+        "biasrun make -5",
+        "biasrun make +5",
+        "biasrun make 5x",
+        "biasrun 5 make",
         "biasrun run run",
         "biasrun --stats run",
         "biasrun RUN",

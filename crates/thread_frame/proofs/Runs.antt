@@ -1,8 +1,7 @@
 -- A run doesn't ask for the fuel and the mode that its thread has, and leaves the thread's holds as they are.
-use Rattle.std.proofs.Common.{◌≡◌, ℕ, zero, suc, ◌+ℤ◌, ◌-ℤ◌, ◌*ℤ◌, ℤ, Bool, true, false, if◌then◌else◌, List, slice_get, sum, nat_le, nat_lt, Option, refl, ap, sym, subst, ◌∙◌}
-use Rattle.plain_monitor.specs.declared.entry.Ending.TheVariants.{Spent, Done}
+use Rattle.std.proofs.Common.{◌≡◌, ℕ, zero, suc, ◌+ℤ◌, ◌-ℤ◌, ◌*ℤ◌, ℤ, Bool, true, false, if◌then◌else◌, List, slice_get, sum, nat_le, nat_lt, Option, refl, ap, sym, ◌∙◌}
 use Rattle.plain_monitor.specs.declared.entry.Fault.{Fault}
-use Rattle.plain_monitor.specs.declared.entry.Fault.TheVariants.{IllegalMonitorState, Unguarded, Range, Overflow, TooDeep, TooManyDumps}
+use Rattle.plain_monitor.specs.declared.entry.Fault.TheVariants.{IllegalMonitorState, Unguarded}
 use Rattle.plain_monitor.specs.declared.entry.Value.{Value}
 use Rattle.plain_monitor.specs.declared.entry.Value.TheVariants.{Nil, Int, Ref}
 use Rattle.plain_monitor.specs.Numbers.{is_in_range}
@@ -15,7 +14,7 @@ use Rattle.plain_machine.specs.declared.call.Call.{Call}
 use Rattle.plain_machine.specs.declared.call.Call.TheVariants as call
 use Rattle.plain_machine.specs.declared.call.Mode.{Mode}
 use Rattle.plain_machine.specs.Running.{instruction_at, after_step, run_on}
-use Rattle.plain_machine.specs.Thread.{ThreadState, Step, Goes, Calls, Stops, step_of, local, with_local, on_object, on_slot, enters, owner_only, computes, combines, faults, sets, holds_of, first_of, size_of, is_element, element, jumps_where, jumps_below, dumps_next}
+use Rattle.plain_machine.specs.Thread.{ThreadState, Step, Goes, Calls, Stops, step_of, local, on_object, on_slot, owner_only, computes, combines, holds_of, size_of, is_element, element, jumps_where, jumps_below}
 
 -- the same thread with other fuel, in another mode
 abbrev pub in_mode : ℕ → Mode → ThreadState → ThreadState

@@ -1,5 +1,5 @@
 -- A frame before its first instruction is the first state of its thread.
-use Rattle.std.proofs.Common.{◌≡◌, ℕ, zero, suc, ◌<◌, List, [], ◌∷◌, map, length, replicate, take, slice_get, slice_index_or, Some, refl, sym, ap, arith}
+use Rattle.std.proofs.Common.{◌≡◌, ℕ, zero, suc, ◌<◌, List, [], ◌∷◌, map, length, replicate, take, slice_get, slice_index_or, Some, sym, ap, arith}
 use Rattle.std.specs.List.{AllByRecursion}
 use Rattle.std.proofs.lemmas.List.{take-replicate}
 use Rattle.plain_monitor.specs.declared.entry.Ending.TheVariants.{Done}

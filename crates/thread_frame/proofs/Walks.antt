@@ -1,5 +1,5 @@
 -- An instruction that a frame executes leads to the same call or end.
-use Rattle.std.proofs.Common.{◌≡◌, ℕ, zero, suc, ◌+◌, ◌-◌, ◌<◌, List, take, slice_set, Option, Some, None, refl, ap, sym, ◌∙◌, arith}
+use Rattle.std.proofs.Common.{◌≡◌, ℕ, ◌-◌, ◌<◌, List, Option, Some, None, ap, sym, ◌∙◌}
 use Rattle.plain_monitor.specs.declared.entry.Ending.TheVariants.{Spent, Done}
 use Rattle.object_program.specs.declared.program.Code.{Code}
 use Rattle.object_program.specs.Program.{ProgramText}

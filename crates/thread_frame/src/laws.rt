@@ -5,11 +5,10 @@ ghost use Rattle.object_program.specs.Program.{ProgramText, objects_total};
 ghost use Rattle.object_program.specs.Valid.{IsProgram};
 ghost use Rattle.plain_machine.specs.Asking.{ask, behind_entry, fits};
 ghost use Rattle.plain_machine.specs.Machine.{code_of, new_machine};
-ghost use Rattle.plain_machine.specs.Thread.{ThreadState};
 ghost use Rattle.plain_machine.specs.declared.call.Asked.{Asked};
 ghost use Rattle.plain_machine.specs.declared.call.Mode.{Mode};
 ghost use Rattle.plain_monitor.specs.declared.entry.Entry.{Entry};
-ghost use Rattle.thread_frame.specs.Frames.{FrameSeen, first_frame, frame_behind, next_state, state_in, locals_of};
+ghost use Rattle.thread_frame.specs.Frames.{FrameSeen, first_frame, frame_behind, next_state};
 
 /// A frame before its first instruction is the first state of its thread, which holds nothing.
 pub fn first_frames_are_first_states()

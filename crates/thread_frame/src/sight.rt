@@ -1,6 +1,5 @@
 //! What an instruction sees.
 
-ghost use Rattle.std.specs.Prelude.{◌≡◌};
 ghost use Rattle.thread_frame.specs.Frames.{state_in};
 ghost use Rattle.thread_frame.specs.Sights.{counts_from, AreOf};
 

@@ -34,8 +34,9 @@ impl Frame {
         requires thread { pass.now.known.thread < length program.now.threads }
         requires local { self.old.mode ≡ None }
         requires holds { AreOf objects pass.now.known.holds }
-        ensures leads { next_state program.now pass.now.known.thread (counts_from 0 objects pass.now.known.holds) self.new
-            ≡ next_state program.now pass.now.known.thread (counts_from 0 objects pass.now.known.holds) self.old }
+        ensures leads { let holds = counts_from 0 objects pass.now.known.holds in
+            next_state program.now pass.now.known.thread holds self.new
+            ≡ next_state program.now pass.now.known.thread holds self.old }
         ensures walked { HasWalked self.old self.new result }
     {
         if self.fuel() == 0 {
@@ -53,10 +54,9 @@ impl Frame {
     fn sees(&self, program: &Program, pass: &Pass, objects: u32) -> Next
         requires thread { pass.now.known.thread < length program.now.threads }
         requires holds { AreOf objects pass.now.known.holds }
-        ensures next { step_of program.now
-            (state_in (locals_of program.now pass.now.known.thread) (counts_from 0 objects pass.now.known.holds) self.now)
-            (instruction_at (code_of program.now pass.now.known.thread) self.now.place)
-            ≡ meant (state_in (locals_of program.now pass.now.known.thread) (counts_from 0 objects pass.now.known.holds) self.now) result }
+        ensures next { let t = pass.now.known.thread in
+            let s = state_in (locals_of program.now t) (counts_from 0 objects pass.now.known.holds) self.now in
+            step_of program.now s (instruction_at (code_of program.now t) self.now.place) ≡ meant s result }
         ensures placed { IsPlacedFor self.now.place result }
     {
         let thread = pass.thread();

@@ -15,8 +15,8 @@ ghost use Rattle.wait_history.specs.WaitsByLog.{waits_by};
 ghost use Rattle.thread_logs.specs.Followed.{Follows, HasFollowed, HaveValues, ends_by, dumps_by};
 
 /// A thread's first state follows from an empty log, and its next one from one more entry that its code takes. It is what a thread of the
-/// program may be, where what it read are values of the program; and each entry uses up some of its work, so that its log is at most 2
-/// entries for each unit of fuel and one more, and what it holds besides.
+/// program may be, where what it read are values of the program; and each entry uses up some of its work: its log and the work that is left
+/// to it are together at most 2 for each unit of fuel and one more.
 pub fn threads_stay_theirs()
     ensures first { (p : ProgramText) (fuel t : ℕ) (s : ThreadState) → slice_get (new_machine p fuel).threads t ≡ Some s → Follows p fuel t [] s }
     ensures next { (p : ProgramText) (fuel t : ℕ) (log : List Logged) (l : Logged) (s after : ThreadState) → Follows p fuel t log s

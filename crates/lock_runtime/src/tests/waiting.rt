@@ -4,7 +4,7 @@ use crate::tests::calls::{
     resume, stop, wait,
 };
 use crate::tests::last::{closed, count, has_stamps, mark};
-use core_world::{Turn, Why};
+use core_world::{IllegalMonitorState, Turn, Why};
 use plain_monitor::{Ending, Path};
 use std::test::Fail;
 
@@ -47,6 +47,23 @@ fn a_notify_revokes_its_own_bias(rt: HostRuntime) -> Result<(), Fail> {
     };
     assert_eq!(rt; mark(&closed, 0), Some(4096));
     assert_eq!(rt; count(&closed, 0), Some(1));
+    Ok(())
+}
+
+#[test]
+fn a_thread_without_a_hold_may_not_wait_or_notify(rt: HostRuntime) -> Result<(), Fail> {
+    let (heap, mut p0, p1) = begin(rt.alloc(), true)?;
+    assert_eq!(rt; resume(&heap, &mut p0), DONE);
+    assert_eq!(rt; wait(&heap, &mut p0, 0, 1), Some(Err(IllegalMonitorState)));
+    assert_eq!(rt; notify(&heap, &mut p0, 0, 1), Some(Err(IllegalMonitorState)));
+    assert_eq!(rt; notify_all(&heap, &mut p0, 0, 1), Some(Err(IllegalMonitorState)));
+    assert!(rt; p0.log().is_empty());
+    assert!(rt; stop(&heap, &mut p0));
+    let Some(closed) = closed(rt.alloc(), heap, p0, p1) else {
+        panic!(rt; "both are stopped")
+    };
+    assert_eq!(rt; mark(&closed, 0), Some(5));
+    assert_eq!(rt; count(&closed, 0), Some(0));
     Ok(())
 }
 

@@ -9,6 +9,7 @@ use Rattle.heap_table.specs.Parts.{IsDueOn, HasRun}
 use Rattle.heap_table.specs.Resting.{start_now}
 use Rattle.heap_table.proofs.Resting.{behind}
 use Rattle.lock_runtime.proofs.Enters.{refused, placed, entered, first_to_enter}
+use Rattle.lock_runtime.proofs.StandsCalls.{enter_leaves}
 use Rattle.lock_runtime.proofs.entering.enter.Goals as goal
 
 pub returns-then-free_place-eq64-clause-run : goal.returns-then-free_place-eq64-clause-run
@@ -63,3 +64,15 @@ returns-clause-says c =
     let place : (free_place p.known.holds == 64) ≡ false = ap (λ n. n == 64) (sym c.free_place.ensures.place) ∙ ne_eqb _ _ c.if-free_place-eq64.false in
     let run = subst (λ (x : Purpose). HasRun h (enter_going h.heap.shape x (start_now h p) (record { object = a.object; rebias = true; now = a.now })) p q c.enter_placed.result) c.unfinished-why.ensures c.enter_placed.ensures in
     tells (enter_says h.heap.shape (start_now h p) a.object a.now) (entered h p a.object a.now c.requires.call place q c.enter_placed.result run).ran
+
+pub returns-clause-stands : goal.returns-clause-stands
+returns-clause-stands c =
+    let a = c.args in
+    let run = returns-clause-run c in
+    (enter_leaves a.heap.now a.pass.now c.enter_placed.new.pass run.heap c.requires.call.rests a.object a.now (Ok c.enter_placed.result) c.requires.call.may run.ran).0
+
+pub returns-clause-others : goal.returns-clause-others
+returns-clause-others c =
+    let a = c.args in
+    let run = returns-clause-run c in
+    (enter_leaves a.heap.now a.pass.now c.enter_placed.new.pass run.heap c.requires.call.rests a.object a.now (Ok c.enter_placed.result) c.requires.call.may run.ran).1

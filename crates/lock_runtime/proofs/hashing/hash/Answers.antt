@@ -12,6 +12,7 @@ use Rattle.heap_table.proofs.Resting.{whole_due, behind}
 use Rattle.lock_runtime.specs.HashParts.{hash_going}
 use Rattle.lock_runtime.proofs.Begins.{object_there, room_one}
 use Rattle.lock_runtime.proofs.Hashed.{first_hash}
+use Rattle.lock_runtime.proofs.StandsCalls.{hash_leaves}
 use Rattle.lock_runtime.proofs.hashing.hash.Goals as goal
 
 pub hash_going-requires-clause-object : goal.hash_going-requires-clause-object
@@ -55,3 +56,15 @@ returns-clause-says c =
     let a = c.args in
     let h = a.heap.now in
     tells (hash_says h.heap.shape (start_now h a.pass.now) a.object a.now) (HasRun.ran (returns-clause-run c))
+
+pub returns-clause-stands : goal.returns-clause-stands
+returns-clause-stands c =
+    let a = c.args in
+    let run = returns-clause-run c in
+    (hash_leaves a.heap.now a.pass.now c.hash_going.new.pass run.heap c.requires.call.rests a.object a.now c.hash_going.result c.requires.call.may run.ran).0
+
+pub returns-clause-others : goal.returns-clause-others
+returns-clause-others c =
+    let a = c.args in
+    let run = returns-clause-run c in
+    (hash_leaves a.heap.now a.pass.now c.hash_going.new.pass run.heap c.requires.call.rests a.object a.now c.hash_going.result c.requires.call.may run.ran).1

@@ -13,6 +13,8 @@ use Rattle.heap_table.specs.Resting.{start_now}
 use Rattle.heap_table.proofs.Resting.{whole_due, behind}
 use Rattle.lock_runtime.proofs.Behind.{going_due, going_run, going_first}
 use Rattle.lock_runtime.proofs.LeftNothing.{first_to_exit}
+use Rattle.lock_runtime.proofs.StandsCalls.{exit_leaves}
+use Rattle.lock_runtime.proofs.Refused.{unheld, held}
 use Rattle.lock_runtime.proofs.leaving.exit.Goals as goal
 
 pub leave_held-requires-clause-due : goal.leave_held-requires-clause-due
@@ -68,3 +70,19 @@ returns-clause-says c =
     let no : none ≡ false = ap (λ n. n == 0) (sym c.held.ensures.held) ∙ ne_eqb _ _ c.if-held-eq0.false in
     let run = subst (λ (x : Purpose). HasRun h (exit_going x l a.object) p q c.leave_held.result) c.unfinished-why.ensures c.leave_held.ensures in
     tells (exit_says (start_now h p) a.object) (going_run h p none (record {}) (exit_going e l a.object) no q c.leave_held.result run).ran
+
+pub returns-clause-stands : goal.returns-clause-stands
+returns-clause-stands c =
+    let a = c.args in
+    let run = returns-clause-run c in
+    (exit_leaves a.heap.now a.pass.now c.leave_held.new.pass run.heap c.requires.call.rests a.object (Ok c.leave_held.result) c.requires.call.may run.ran).0
+
+pub returns-then-held-eq0-clause-owner : goal.returns-then-held-eq0-clause-owner
+returns-then-held-eq0-clause-owner c =
+    let a = c.args in
+    unheld a.heap.now a.pass.now c.requires.call.rests a.object (sym c.held.ensures.held ∙ c.if-held-eq0.true)
+
+pub returns-clause-owner : goal.returns-clause-owner
+returns-clause-owner c =
+    let a = c.args in
+    held a.heap.now a.pass.now c.requires.call.rests a.object (ap (λ n. n == 0) (sym c.held.ensures.held) ∙ ne_eqb _ _ c.if-held-eq0.false)

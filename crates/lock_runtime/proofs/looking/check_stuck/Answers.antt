@@ -11,6 +11,7 @@ use Rattle.heap_table.specs.Resting.{start_now}
 use Rattle.heap_table.proofs.Resting.{whole_due, behind}
 use Rattle.lock_runtime.specs.LookParts.{checking, check_going}
 use Rattle.lock_runtime.proofs.Looked.{first_check}
+use Rattle.lock_runtime.proofs.StandsCalls.{check_leaves}
 use Rattle.lock_runtime.proofs.looking.check_stuck.Goals as goal
 
 pub check_asking-requires-clause-due : goal.check_asking-requires-clause-due
@@ -54,3 +55,15 @@ pub returns-clause-finds : goal.returns-clause-finds
 returns-clause-finds c =
     let h = c.args.heap.now in
     tells (check_finds h.heap.shape (start_now h c.args.pass.now)) (HasRun.ran (returns-clause-run c))
+
+pub returns-clause-stands : goal.returns-clause-stands
+returns-clause-stands c =
+    let a = c.args in
+    let run = returns-clause-run c in
+    (check_leaves a.heap.now a.pass.now c.check_asking.new.pass run.heap c.requires.rests c.check_asking.result c.requires.may run.ran).0
+
+pub returns-clause-others : goal.returns-clause-others
+returns-clause-others c =
+    let a = c.args in
+    let run = returns-clause-run c in
+    (check_leaves a.heap.now a.pass.now c.check_asking.new.pass run.heap c.requires.rests c.check_asking.result c.requires.may run.ran).1

@@ -1,22 +1,19 @@
-use Rattle.std.proofs.Common.{◌≡◌, ℕ, ◌+◌, ◌==◌, Bool, false, List, length, Result, Ok, refl, sym, ap, ◌∙◌, subst, ne_eqb}
-use Rattle.core_world.specs.declared.answer.TooManyDumps.{TooManyDumps}
-use Rattle.core_world.specs.declared.answer.Turn.{Turn}
+use Rattle.std.proofs.Common.{◌≡◌, ◌+◌, ◌==◌, Bool, false, List, length, Ok, refl, sym, ap, ◌∙◌, subst, ne_eqb}
 use Rattle.core_world.specs.declared.task.Op.TheVariants as op
 use Rattle.core_world.specs.declared.task.Task.TheVariants.{Dump}
-use Rattle.core_world.specs.Due.{Ran}
 use Rattle.core_world.specs.Threads.Known.{DumpShot, local_of}
 use Rattle.core_world.specs.Trees.Calls.{steps_of}
 use Rattle.core_world.specs.Trees.Operations.{dump_steps}
 use Rattle.core_world.specs.Trees.Plans.{Purpose, purpose}
 use Rattle.core_calls.proofs.OtherCallsSay.{dump_says}
 use Rattle.core_calls.proofs.Runs.{tells}
-use Rattle.core_calls.proofs.ShotsKept.{dump_shoots}
 use Rattle.heap_table.specs.Parts.{IsDueOn}
 use Rattle.heap_table.specs.Resting.{start_now}
 use Rattle.heap_table.proofs.Resting.{whole_due}
 use Rattle.lock_runtime.specs.LookParts.{HasDumped, numbered_dump}
 use Rattle.lock_runtime.proofs.Behind.{going_due, going_run, going_first}
-use Rattle.lock_runtime.proofs.Dumped.{bare, run_of, dumped_of, dumped_rests, first_dump}
+use Rattle.lock_runtime.proofs.Dumped.{dump_has_shots, bare, run_of, dumped_of, dumped_rests, first_dump}
+use Rattle.lock_runtime.proofs.StandsCalls.{dump_leaves}
 use Rattle.lock_runtime.proofs.looking.dump.Goals as goal
 
 pub dump_asking-requires-clause-due : goal.dump_asking-requires-clause-due
@@ -76,10 +73,20 @@ returns-clause-says c =
     tells (dump_says h.heap.shape (start_now h c.args.pass.now)) (HasDumped.ran (returns-clause-run c))
 
 pub returns-clause-shots : goal.returns-clause-shots
-returns-clause-shots c = λ number is.
+returns-clause-shots c =
     let h = c.args.heap.now in
     let p = c.args.pass.now in
     let q = c.dump_asking.new.pass in
-    let k = start_now h p in
-    let ran = subst (λ (x : Result (Turn ℕ) TooManyDumps). Ran h.heap.shape h.heap.start (dump_steps h.heap.shape k) p.known q.known x) is (HasDumped.ran (returns-clause-run c)) in
-    dump_shoots h.heap.shape h.heap.start h.heap.shape k number p.known q.known ran
+    dump_has_shots h p.known q.known (Ok c.dump_asking.result) (HasDumped.ran (returns-clause-run c))
+
+pub returns-clause-stands : goal.returns-clause-stands
+returns-clause-stands c =
+    let a = c.args in
+    let run = returns-clause-run c in
+    (dump_leaves a.heap.now a.pass.now c.dump_asking.new.pass run.heap c.requires.call.rests (Ok c.dump_asking.result) c.requires.call.may run.ran).0
+
+pub returns-clause-others : goal.returns-clause-others
+returns-clause-others c =
+    let a = c.args in
+    let run = returns-clause-run c in
+    (dump_leaves a.heap.now a.pass.now c.dump_asking.new.pass run.heap c.requires.call.rests (Ok c.dump_asking.result) c.requires.call.may run.ran).1

@@ -8,6 +8,7 @@ use Rattle.core_calls.proofs.Runs.{tells}
 use Rattle.heap_table.specs.Parts.{HasRun}
 use Rattle.heap_table.specs.Resting.{start_now}
 use Rattle.heap_table.proofs.Resting.{due_as, rests_as}
+use Rattle.lock_runtime.proofs.StandsCalls.{poll_leaves}
 use Rattle.lock_runtime.proofs.running.poll.Goals as goal
 
 pub poll-requires-clause-due : goal.poll-requires-clause-due
@@ -29,3 +30,15 @@ pub returns-clause-says : goal.returns-clause-says
 returns-clause-says c =
     let run = subst (λ (x : Purpose). HasRun c.args.heap.now (poll_steps x) c.args.pass.now c.poll.new.pass c.poll.result) c.aside-why.ensures c.poll.ensures in
     tells (poll_call_says (start_now c.args.heap.now c.args.pass.now)) run.ran
+
+pub returns-clause-stands : goal.returns-clause-stands
+returns-clause-stands c =
+    let a = c.args in
+    let run = returns-clause-run c in
+    (poll_leaves a.heap.now a.pass.now c.poll.new.pass run.heap c.requires.rests c.requires.may c.poll.result run.ran).0
+
+pub returns-clause-others : goal.returns-clause-others
+returns-clause-others c =
+    let a = c.args in
+    let run = returns-clause-run c in
+    (poll_leaves a.heap.now a.pass.now c.poll.new.pass run.heap c.requires.rests c.requires.may c.poll.result run.ran).1

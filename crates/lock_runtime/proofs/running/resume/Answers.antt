@@ -9,6 +9,7 @@ use Rattle.core_calls.proofs.Runs.{tells}
 use Rattle.heap_table.specs.Parts.{HasRun}
 use Rattle.heap_table.specs.Resting.{start_now}
 use Rattle.heap_table.proofs.Resting.{due_as, rests_as}
+use Rattle.lock_runtime.proofs.StandsCalls.{resume_leaves}
 use Rattle.lock_runtime.proofs.running.resume.Goals as goal
 
 pub resume-requires-clause-due : goal.resume-requires-clause-due
@@ -30,3 +31,15 @@ pub returns-clause-says : goal.returns-clause-says
 returns-clause-says c =
     let run = subst (λ (x : Purpose). HasRun c.args.heap.now (resume_steps x (local_of c.args.pass.now.known)) c.args.pass.now c.resume.new.pass c.resume.result) c.aside-why.ensures c.resume.ensures in
     tells (resume_call_says (start_now c.args.heap.now c.args.pass.now)) run.ran
+
+pub returns-clause-stands : goal.returns-clause-stands
+returns-clause-stands c =
+    let a = c.args in
+    let run = returns-clause-run c in
+    (resume_leaves a.heap.now a.pass.now c.resume.new.pass run.heap c.requires.rests c.resume.result c.requires.may run.ran).0
+
+pub returns-clause-others : goal.returns-clause-others
+returns-clause-others c =
+    let a = c.args in
+    let run = returns-clause-run c in
+    (resume_leaves a.heap.now a.pass.now c.resume.new.pass run.heap c.requires.rests c.resume.result c.requires.may run.ran).1

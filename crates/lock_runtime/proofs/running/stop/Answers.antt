@@ -9,6 +9,7 @@ use Rattle.core_calls.proofs.Runs.{tells}
 use Rattle.heap_table.specs.Parts.{HasRun}
 use Rattle.heap_table.specs.Resting.{start_now}
 use Rattle.heap_table.proofs.Resting.{due_as, rests_as}
+use Rattle.lock_runtime.proofs.StandsCalls.{stop_leaves}
 use Rattle.lock_runtime.proofs.running.stop.Goals as goal
 
 pub stop-requires-clause-due : goal.stop-requires-clause-due
@@ -30,3 +31,9 @@ pub returns-clause-says : goal.returns-clause-says
 returns-clause-says c =
     let run = subst (λ (x : Purpose). HasRun c.args.heap.now (stop_steps x (local_of c.args.pass.now.known)) c.args.pass.now c.stop.new.pass c.stop.result) c.aside-why.ensures c.stop.ensures in
     tells (stop_call_says (start_now c.args.heap.now c.args.pass.now)) run.ran
+
+pub returns-clause-stands : goal.returns-clause-stands
+returns-clause-stands c =
+    let a = c.args in
+    let run = returns-clause-run c in
+    stop_leaves a.heap.now a.pass.now c.stop.new.pass run.heap c.requires.rests c.requires.may run.ran

@@ -1,11 +1,12 @@
-use Rattle.std.proofs.Common.{◌≡◌, ◌+◌, length, refl, sym, ap, ◌∙◌, subst}
+use Rattle.std.proofs.Common.{◌≡◌, ◌+◌, ◌==◌, length, refl, sym, ap, ◌∙◌, subst}
+use Rattle.std.specs.List.{list_all}
 use Rattle.plain_monitor.specs.declared.entry.Entry.{Entry}
 use Rattle.core_world.specs.declared.name.Name.TheVariants.{Waiting}
 use Rattle.core_world.specs.declared.plan.StepPlan.{StepPlan}
 use Rattle.core_world.specs.declared.stage.Stage.TheVariants.{Calm}
 use Rattle.core_world.specs.declared.task.Task.TheVariants.{Finish}
 use Rattle.core_world.specs.Threads.Known.{Known, local_of}
-use Rattle.core_world.specs.Trees.Calls.{steps_of}
+use Rattle.core_world.specs.Trees.Calls.{steps_of, may_act}
 use Rattle.core_world.specs.Trees.Operations.{lone_purpose, ending_entry, store_ended_plan, finish_steps}
 use Rattle.core_world.specs.Trees.Plans.{Purpose}
 use Rattle.core_world.specs.Trees.Todo.{Todo, done, ◌>>=◌, ask}
@@ -19,6 +20,8 @@ use Rattle.heap_table.specs.StepPlans.{store_plan}
 use Rattle.heap_table.specs.Stepping.{CanStep, HasStepped}
 use Rattle.heap_table.proofs.Parts.{can, last_step, in_turn, part_then}
 use Rattle.heap_table.proofs.Resting.{whole_due, behind}
+use Rattle.lock_runtime.proofs.Begins.{second_of}
+use Rattle.lock_runtime.proofs.StandsCalls.{finish_leaves}
 use Rattle.lock_runtime.proofs.values.finish.Goals as goal
 
 pub publish-requires-clause-due : goal.publish-requires-clause-due
@@ -84,3 +87,12 @@ returns-clause-rests c =
 
 pub returns-clause-says : goal.returns-clause-says
 returns-clause-says c = tells (finish_says (start_now c.args.heap.now c.args.pass.now) c.args.ending) (HasRun.ran (returns-clause-run c))
+
+pub returns-clause-stands : goal.returns-clause-stands
+returns-clause-stands c =
+    let a = c.args in
+    let h = a.heap.now in
+    let p = a.pass.now in
+    let run = returns-clause-run c in
+    let may = second_of (list_all (λ h. h == 0) p.known.holds) (may_act p.known) c.requires.call.may in
+    finish_leaves h p c.store.new.pass run.heap c.requires.call.rests may a.ending run.ran

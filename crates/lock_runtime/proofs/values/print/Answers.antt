@@ -2,7 +2,7 @@ use Rattle.std.proofs.Common.{refl, subst}
 use Rattle.plain_monitor.specs.declared.entry.Entry.TheVariants as entry
 use Rattle.core_world.specs.declared.task.Task.TheVariants.{Print}
 use Rattle.core_world.specs.Threads.Known.{local_of}
-use Rattle.core_world.specs.Trees.Calls.{steps_of}
+use Rattle.core_world.specs.Trees.Calls.{steps_of, is_value, may_act}
 use Rattle.core_world.specs.Trees.Operations.{lone_purpose}
 use Rattle.core_world.specs.Trees.Plans.{Purpose}
 use Rattle.core_world.specs.Trees.WaitSteps.{publish_steps}
@@ -11,6 +11,8 @@ use Rattle.core_calls.proofs.Runs.{tells}
 use Rattle.heap_table.specs.Parts.{HasRun}
 use Rattle.heap_table.specs.Resting.{start_now}
 use Rattle.heap_table.proofs.Resting.{due_as, rests_as}
+use Rattle.lock_runtime.proofs.Begins.{second_of}
+use Rattle.lock_runtime.proofs.StandsCalls.{print_leaves}
 use Rattle.lock_runtime.proofs.values.print.Goals as goal
 
 pub publish-requires-clause-due : goal.publish-requires-clause-due
@@ -38,3 +40,11 @@ returns-clause-says c =
     let p = a.pass.now in
     let run = subst (λ (x : Purpose). HasRun h (publish_steps (entry.Print a.value) x (local_of p.known)) p c.publish.new.pass c.publish.result) c.alone-why.ensures c.publish.ensures in
     tells (print_says (start_now h p) a.value) run.ran
+
+pub returns-clause-stands : goal.returns-clause-stands
+returns-clause-stands c =
+    let a = c.args in
+    let h = a.heap.now in
+    let p = a.pass.now in
+    let run = subst (λ (x : Purpose). HasRun h (publish_steps (entry.Print a.value) x (local_of p.known)) p c.publish.new.pass c.publish.result) c.alone-why.ensures c.publish.ensures in
+    print_leaves h p c.publish.new.pass run.heap c.requires.call.rests (second_of (is_value h.heap.shape a.value) (may_act p.known) c.requires.call.may) a.value run.ran

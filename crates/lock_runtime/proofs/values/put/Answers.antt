@@ -23,6 +23,8 @@ use Rattle.heap_table.proofs.Resting.{whole_due, behind}
 use Rattle.heap_table.proofs.Ruled.{few_objects}
 use Rattle.lock_runtime.proofs.Begins.{room_one, spellable, first_of, second_of}
 use Rattle.lock_runtime.proofs.Behind.{arm_first}
+use Rattle.lock_runtime.proofs.StandsCalls.{put_leaves}
+use Rattle.lock_runtime.proofs.Refused.{unheld, held}
 use Rattle.lock_runtime.proofs.values.put.Goals as goal
 
 pub value_word-requires : goal.value_word-requires
@@ -89,3 +91,21 @@ pub returns-clause-says : goal.returns-clause-says
 returns-clause-says c =
     let a = c.args in
     tells (put_says (start_now a.heap.now a.pass.now) a.object a.slot a.value) (HasRun.ran (returns-clause-run c))
+
+pub returns-clause-stands : goal.returns-clause-stands
+returns-clause-stands c =
+    let a = c.args in
+    let run = returns-clause-run c in
+    let s = a.heap.now.heap.shape in
+    let may = second_of (is_object s a.object && nat_lt a.slot (slots_of s a.object) && is_value s a.value) (may_act a.pass.now.known) c.requires.call.may in
+    put_leaves a.heap.now a.pass.now c.log_store.new.pass run.heap c.requires.call.rests a.object a.slot may a.value (Ok (tt {0})) run.ran
+
+pub returns-then-held-eq0-clause-owner : goal.returns-then-held-eq0-clause-owner
+returns-then-held-eq0-clause-owner c =
+    let a = c.args in
+    unheld a.heap.now a.pass.now c.requires.call.rests a.object (sym c.held.ensures.held ∙ c.if-held-eq0.true)
+
+pub returns-clause-owner : goal.returns-clause-owner
+returns-clause-owner c =
+    let a = c.args in
+    held a.heap.now a.pass.now c.requires.call.rests a.object (ap (λ n. n == 0) (sym c.held.ensures.held) ∙ ne_eqb _ _ c.if-held-eq0.false)

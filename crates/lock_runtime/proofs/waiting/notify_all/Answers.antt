@@ -13,6 +13,8 @@ use Rattle.heap_table.specs.Resting.{start_now}
 use Rattle.heap_table.proofs.Resting.{whole_due, behind}
 use Rattle.lock_runtime.proofs.Behind.{going_due, going_run, going_first}
 use Rattle.lock_runtime.proofs.Waits.{first_to_notify_all, refused_run}
+use Rattle.lock_runtime.proofs.StandsCalls.{notify_all_leaves}
+use Rattle.lock_runtime.proofs.Refused.{unheld, held}
 use Rattle.lock_runtime.proofs.waiting.notify_all.Goals as goal
 
 pub returns-then-held-eq0-clause-wakes : goal.returns-then-held-eq0-clause-wakes
@@ -80,3 +82,25 @@ pub returns-clause-wakes : goal.returns-clause-wakes
 returns-clause-wakes c =
     let a = c.args in
     tells (notify_all_wakes a.heap.now.heap.shape (start_now a.heap.now a.pass.now) a.object a.now) (HasRun.ran (returns-clause-run c))
+
+pub returns-clause-stands : goal.returns-clause-stands
+returns-clause-stands c =
+    let a = c.args in
+    let run = returns-clause-run c in
+    (notify_all_leaves a.heap.now a.pass.now c.notify_all_held.new.pass run.heap c.requires.call.rests a.object a.now (Ok c.notify_all_held.result) c.requires.call.may run.ran).0
+
+pub returns-clause-others : goal.returns-clause-others
+returns-clause-others c =
+    let a = c.args in
+    let run = returns-clause-run c in
+    (notify_all_leaves a.heap.now a.pass.now c.notify_all_held.new.pass run.heap c.requires.call.rests a.object a.now (Ok c.notify_all_held.result) c.requires.call.may run.ran).1
+
+pub returns-then-held-eq0-clause-owner : goal.returns-then-held-eq0-clause-owner
+returns-then-held-eq0-clause-owner c =
+    let a = c.args in
+    unheld a.heap.now a.pass.now c.requires.call.rests a.object (sym c.held.ensures.held ∙ c.if-held-eq0.true)
+
+pub returns-clause-owner : goal.returns-clause-owner
+returns-clause-owner c =
+    let a = c.args in
+    held a.heap.now a.pass.now c.requires.call.rests a.object (ap (λ n. n == 0) (sym c.held.ensures.held) ∙ ne_eqb _ _ c.if-held-eq0.false)

@@ -1,0 +1,121 @@
+-- Trees that leave the safepoint word alone: none of their steps is on it but loads. So their thread stands behind them as it stood before.
+use Rattle.std.proofs.Common.{◌≡◌, ℕ, zero, suc, ◌+◌, cond, Bool, true, false, List, ◌∷◌, refl, sym, subst}
+use Rattle.core_world.specs.declared.act.Act.{Act}
+use Rattle.core_world.specs.declared.act.Act.TheVariants.{Load}
+use Rattle.core_world.specs.declared.name.Name.{Name}
+use Rattle.core_world.specs.declared.name.Name.TheVariants.{Safepoint}
+use Rattle.core_world.specs.declared.plan.StepPlan.{StepPlan}
+use Rattle.core_world.specs.declared.answer.StackOut.{StackOut}
+use Rattle.core_world.specs.declared.answer.StackOut.TheVariants.{Left, Monitor, Not}
+use Rattle.core_world.specs.declared.answer.Turn.{Turn}
+use Rattle.core_world.specs.declared.answer.Turn.TheVariants.{Done, Pending}
+use Rattle.core_world.specs.declared.answer.Why.{Why}
+use Rattle.core_world.specs.declared.answer.Why.TheVariants.{Stopping, Requested}
+use Rattle.core_world.specs.Words.Acts.{hits, word_after}
+use Rattle.core_world.specs.Threads.Known.{StepMade}
+use Rattle.core_world.specs.Trees.Todo.{Todo, done, never, step, ◌>>=◌, each_from, all_from}
+use Rattle.core_calls.specs.Paths.{made, Always}
+use Rattle.core_calls.specs.Stands.{Stand, IsGoing, FoundTrue, stand_by, stand_behind, TurnStands}
+
+-- the step is on another word, or is a load
+abbrev pub IsApart : Name → Act → Type 0
+IsApart Safepoint Load = Unit {0}
+IsApart Safepoint _ = ⊥
+IsApart _ act = Unit {0}
+
+abbrev Stays : {A : Type 0} → (A → Type 0) → Todo A → Type 0
+Stays R (done a) = R a
+Stays R never = Unit {0}
+Stays R (step p f) = IsApart p.at p.act × ((n : ℕ) → Stays R (f n))
+
+-- so is each step, and R holds of the answer
+pub record Stay {A : Type 0} (R : A → Type 0) (d : Todo A) : Type 0 where
+  pub by : Stays R d
+
+-- WHAT IS SAID OF ANSWERS: nothing; that a turn is done, or pending for something else than a safepoint; and the same of an exit from a lock record.
+abbrev pub Whatever : {A : Type 0} → A → Type 0
+Whatever a = Unit {0}
+
+abbrev pub IsAside : Why → Type 0
+IsAside (Stopping word) = ⊥
+IsAside (Requested word) = ⊥
+IsAside _ = Unit {0}
+
+abbrev pub Aside : {A : Type 0} → Turn A → Type 0
+Aside (Done a) = Unit {0}
+Aside (Pending why) = IsAside why
+
+abbrev pub OutAside : StackOut → Type 0
+OutAside Left = Unit {0}
+OutAside (Monitor number) = Unit {0}
+OutAside (Not why) = IsAside why
+
+-- FROM PART TO PART
+bound : {A B : Type 0} (R : A → Type 0) (Q : B → Type 0) (d : Todo A) (f : A → Todo B) → Stays R d → ((a : A) → R a → Stays Q (f a))
+    → Stays Q (d >>= f)
+bound R Q (done a) f h g = g a h
+bound R Q never f h g = tt
+bound R Q (step p x) f h g = (h.0, λ n. bound R Q (x n) f (h.1 n) g)
+
+pub stay_done : {A : Type 0} {R : A → Type 0} {a : A} → R a → Stay R (done a)
+stay_done h = record { by = h }
+
+pub stay_never : {A : Type 0} {R : A → Type 0} → Stay R never
+stay_never = record { by = tt }
+
+pub stay_step : {A : Type 0} {R : A → Type 0} {p : StepPlan} {f : ℕ → Todo A} → IsApart p.at p.act → ((n : ℕ) → Stay R (f n)) → Stay R (step p f)
+stay_step h g = record { by = (h, λ n. (g n).by) }
+
+pub stay_either : {A : Type 0} {R : A → Type 0} {x y : Todo A} (b : Bool) → Stay R x → Stay R y → Stay R (cond b x y)
+stay_either true h g = h
+stay_either false h g = g
+
+pub stay_then : {A B : Type 0} {R : A → Type 0} {Q : B → Type 0} {d : Todo A} {f : A → Todo B} → Stay R d → ((a : A) → R a → Stay Q (f a))
+    → Stay Q (d >>= f)
+stay_then {A} {B} {R} {Q} {d} {f} h g = record { by = bound R Q d f h.by (λ a r. (g a r).by) }
+
+-- the same where what follows is the same whatever the answer
+pub stay_next : {A B : Type 0} {R : A → Type 0} {Q : B → Type 0} {d : Todo A} {f : Todo B} → Stay R d → Stay Q f → Stay Q (d >>= λ _. f)
+stay_next {A} {B} {R} {Q} {d} {f} h g = record { by = bound R Q d (λ _. f) h.by (λ a r. g.by) }
+
+pub stay_all : {f : ℕ → Todo (Unit {0})} (i n : ℕ) → ((j : ℕ) → Stay Whatever (f j)) → Stay Whatever (all_from i n f)
+stay_all i zero h = stay_done tt
+stay_all {f} i (suc n) h = stay_next {d = f i} (h i) (stay_all (i + 1) n h)
+
+pub stay_each : {A : Type 0} {f : ℕ → Todo A} (i n : ℕ) → ((j : ℕ) → Stay Whatever (f j)) → Stay Whatever (each_from i n f)
+stay_each i zero h = stay_done tt
+stay_each {A} {f} i (suc n) h = stay_then {d = f i} (h i) (λ a _. stay_then {d = each_from (i + 1) n f} (stay_each (i + 1) n h) (λ xs _. stay_done tt))
+
+-- A STEP THAT IS APART leaves its thread standing as it stood.
+stood_by : (t : ℕ) (at : Name) (act : Act) (word : ℕ) (b : Stand) → IsApart at act → stand_by t at act word b ≡ b
+stood_by t Safepoint Load word b h = refl
+stood_by t Safepoint _ word b h = absurd h
+stood_by t _ act word b h = refl
+
+either_stands : (c : Bool) (x b : Stand) → x ≡ b → cond c x b ≡ b
+either_stands true x b h = h
+either_stands false x b h = refl
+
+pub stands_on : (t : ℕ) (b : Stand) (p : StepPlan) (n : ℕ) (ms : List StepMade) → IsApart p.at p.act
+    → stand_behind t (made p n ∷ ms) b ≡ stand_behind t ms b
+stands_on t b p n ms h = either_stands (hits p.act n) _ (stand_behind t ms b) (stood_by t p.at p.act (word_after p.act n) (stand_behind t ms b) h)
+
+module _ {A : Type 0} (t : ℕ) (b : Stand) (Q : Stand → Type 0) (R : A → Type 0) where
+  -- what is known of how the thread stands, for words that were true of it
+  abbrev pub Known : List StepMade → A → Type 0
+  Known ms a = R a × (FoundTrue t b ms → Q (stand_behind t ms b))
+
+  stays_so : (d : Todo A) (ms : List StepMade) → Stays R d → (FoundTrue t b ms → Q (stand_behind t ms b)) → Always Known ms d
+  stays_so (done a) ms h q = (h, q)
+  stays_so never ms h q = tt
+  stays_so (step p f) ms h q = λ n. stays_so (f n) (made p n ∷ ms) (h.1 n) (λ found. subst Q (sym (stands_on t b p n ms h.0)) (q found.1))
+
+  pub stay_so : (d : Todo A) (ms : List StepMade) → Stay R d → (FoundTrue t b ms → Q (stand_behind t ms b)) → Always Known ms d
+  stay_so d ms h q = stays_so d ms h.by q
+
+-- so a turn that is pending for nothing of a safepoint leaves its thread running
+pub aside_stands : {A : Type 0} (t : ℕ) (b : Stand) (turn : Turn A) → Aside turn → IsGoing b → TurnStands t b turn
+aside_stands t b (Done a) h going = going
+aside_stands t b (Pending (Stopping word)) h going = absurd h
+aside_stands t b (Pending (Requested word)) h going = absurd h
+aside_stands t b (Pending _) h going = (going, tt)

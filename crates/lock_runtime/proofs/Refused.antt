@@ -1,0 +1,18 @@
+-- A call is refused exactly where by its own log the thread has no hold: its hold words follow from its log.
+use Rattle.std.proofs.Common.{◌≡◌, ℕ, zero, suc, ◌≤◌, ◌==◌, false, sym, ◌∙◌, subst, arith}
+use Rattle.plain_history.specs.HeldByLog.{held_by, nothing_held}
+use Rattle.core_world.specs.Locks.{hold_count}
+use Rattle.heap_table.specs.Resting.{Rests}
+use Rattle.heap_table.specs.Seen.{HeapSeen, PassSeen}
+use Rattle.own_logs.proofs.OwnHolds.{own_number}
+
+some_held : (n : ℕ) → (n == 0) ≡ false → 1 ≤ n
+some_held zero e = absurd (cc e)
+some_held (suc n) e = omega arith
+
+module _ (h : HeapSeen) (p : PassSeen) (rests : Rests h p) (o : ℕ) where
+  pub unheld : hold_count o p.known.holds ≡ 0 → held_by nothing_held p.known.log o ≡ 0
+  unheld none = sym (own_number h p o rests) ∙ none
+
+  pub held : (hold_count o p.known.holds == 0) ≡ false → 1 ≤ held_by nothing_held p.known.log o
+  held some = subst (λ n. 1 ≤ n) (own_number h p o rests) (some_held (hold_count o p.known.holds) some)

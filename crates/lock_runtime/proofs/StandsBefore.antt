@@ -1,0 +1,122 @@
+-- How a thread stands as a call begins.
+use Rattle.std.proofs.Common.{◌≡◌, ℕ, ◌==◌, ◌&&◌, ◌||◌, not, cond, Bool, true, false, Option, Some, None, refl, sym, ap, ◌∙◌, true≢false, eqb-true, nat_le, ◌+◌, length}
+use Rattle.core_world.specs.declared.task.Op.{Op}
+use Rattle.core_world.specs.declared.task.Op.TheVariants as op
+use Rattle.core_world.specs.declared.task.Unfinished.{Unfinished}
+use Rattle.core_world.specs.Clauses.Lengths.{log_limit}
+use Rattle.core_world.specs.Clauses.Safepoints.{ends}
+use Rattle.core_world.specs.Threads.AtRest.{AtRest, MayAsk}
+use Rattle.core_world.specs.Threads.Known.{Known}
+use Rattle.core_world.specs.Trees.Calls.{may_operate, may_act, is_free_for}
+use Rattle.core_world.specs.Trees.Operations.{same_op, goes_on_with}
+use Rattle.core_world.specs.Words.Forms.{waits_on}
+use Rattle.core_world.specs.Words.Shape.{Shape}
+
+-- the conditions of an operation
+runs_or_asks : (checking running requesting going free ended room : Bool)
+    → (not checking && (running || (requesting && going)) && free && not ended && room) ≡ true → (running || (requesting && going)) ≡ true
+runs_or_asks true running requesting going free ended room e = absurd (cc e)
+runs_or_asks false true requesting going free ended room e = refl
+runs_or_asks false false true true free ended room e = refl
+runs_or_asks false false true false free ended room e = absurd (cc e)
+runs_or_asks false false false going free ended room e = absurd (cc e)
+
+no_check : (checking b free ended room : Bool) → (not checking && b && free && not ended && room) ≡ true → checking ≡ false
+no_check true b free ended room e = absurd (cc e)
+no_check false b free ended room e = refl
+
+runs_unless : (running requesting going : Bool) → (running || (requesting && going)) ≡ true → (requesting ≡ true → running ≡ false)
+    → not requesting ≡ running
+runs_unless true true going e stopped = absurd (cc (stopped refl))
+runs_unless true false going e stopped = refl
+runs_unless false true going e stopped = refl
+runs_unless false false going e stopped = absurd (cc e)
+
+asks_going : (running requesting going : Bool) → (running || (requesting && going)) ≡ true → (requesting ≡ true → running ≡ false) → requesting ≡ true
+    → going ≡ true
+asks_going true true going e stopped asks = absurd (cc (stopped refl))
+asks_going false true true e stopped asks = refl
+asks_going false true false e stopped asks = absurd (cc e)
+asks_going running false going e stopped asks = absurd (cc asks)
+
+not_true : (b : Bool) → (b ≡ true → ⊥) → b ≡ false
+not_true true h = absurd (h refl)
+not_true false h = refl
+
+-- an exit asks for no safepoint, nor does a wait that has let go
+exit_asks : (s : Shape) (k : Known) (which : Op) (on o : ℕ) → (same_op which op.Exit && (on == o)) ≡ true
+    → MayAsk s k (Some (record { op = which; object = on })) → ⊥
+exit_asks s k op.Exit on o e asks = asks
+exit_asks s k op.Enter on o e asks = absurd (cc e)
+exit_asks s k op.Wait on o e asks = absurd (cc e)
+exit_asks s k op.Notify on o e asks = absurd (cc e)
+exit_asks s k op.NotifyAll on o e asks = absurd (cc e)
+exit_asks s k op.Hash on o e asks = absurd (cc e)
+exit_asks s k op.Dump on o e asks = absurd (cc e)
+
+wait_asks : (s : Shape) (k : Known) (which : Op) (on o : ℕ) → (same_op which op.Wait && (on == o)) ≡ true → waits_on k.wait o ≡ true
+    → MayAsk s k (Some (record { op = which; object = on })) → ⊥
+wait_asks s k op.Wait on o e waits asks = true≢false (sym waits ∙ ap (waits_on k.wait) (sym (eqb-true on o e)) ∙ asks.0)
+wait_asks s k op.Enter on o e waits asks = absurd (cc e)
+wait_asks s k op.Exit on o e waits asks = absurd (cc e)
+wait_asks s k op.Notify on o e waits asks = absurd (cc e)
+wait_asks s k op.NotifyAll on o e waits asks = absurd (cc e)
+wait_asks s k op.Hash on o e waits asks = absurd (cc e)
+wait_asks s k op.Dump on o e waits asks = absurd (cc e)
+
+module _ (s : Shape) (k : Known) (rest : AtRest s k) where
+  -- a thread that runs asks for no safepoint
+  pub unasked : k.running ≡ true → k.requesting ≡ false
+  unasked runs = not_true k.requesting (λ asks. true≢false (sym runs ∙ rest.stopped asks))
+
+  module _ (going : Bool) (may : may_operate k going ≡ true) where
+    either : (k.running || (k.requesting && going)) ≡ true
+    either = runs_or_asks k.checking k.running k.requesting going (is_free_for k going) (ends k.log) (nat_le (length k.log + 2) log_limit) may
+
+    -- it runs, unless it asks
+    pub stands_before : not k.requesting ≡ k.running
+    stands_before = runs_unless k.running k.requesting going either rest.stopped
+
+    asking : k.requesting ≡ true → (going ≡ true) × MayAsk s k k.unfinished
+    asking asks = (
+      asks_going k.running k.requesting going either rest.stopped asks,
+      rest.asks asks (no_check k.checking (k.running || (k.requesting && going)) (is_free_for k going) (ends k.log) (nat_le (length k.log + 2) log_limit) may),
+    )
+
+  pub exit_unasked : (o : ℕ) → may_operate k (goes_on_with op.Exit o k.unfinished) ≡ true → k.requesting ≡ false
+  exit_unasked o may = not_true k.requesting (λ asks. let x = asking (goes_on_with op.Exit o k.unfinished) may asks in cases k.unfinished x.0 x.1)
+    where
+      cases : (u : Option Unfinished) → goes_on_with op.Exit o u ≡ true → MayAsk s k u → ⊥
+      cases None e a = absurd (cc e)
+      cases (Some u) e a = exit_asks s k u.op u.object o e a
+
+  pub wait_unasked : (o : ℕ) → may_operate k (goes_on_with op.Wait o k.unfinished) ≡ true → waits_on k.wait o ≡ true → k.requesting ≡ false
+  wait_unasked o may waits = not_true k.requesting (λ asks. let x = asking (goes_on_with op.Wait o k.unfinished) may asks in cases k.unfinished x.0 x.1)
+    where
+      cases : (u : Option Unfinished) → goes_on_with op.Wait o u ≡ true → MayAsk s k u → ⊥
+      cases None e a = absurd (cc e)
+      cases (Some u) e a = wait_asks s k u.op u.object o e waits a
+
+  pub act_unasked : may_act k ≡ true → k.requesting ≡ false
+  act_unasked may = not_true k.requesting (λ asks. absurd (cc ((asking false may asks).0)))
+
+  -- what makes its entry at once begins while its thread runs
+  pub act_runs : may_act k ≡ true → k.running ≡ true
+  act_runs may = sym (stands_before false may) ∙ ap not (act_unasked may)
+
+-- a check begins where its thread runs, or asks for it
+check_stands : (ended requesting checking running : Bool) → (not ended && cond requesting checking running) ≡ true
+    → (requesting ≡ true → running ≡ false) → not requesting ≡ running
+check_stands true requesting checking running e stopped = absurd (cc e)
+check_stands false true checking running e stopped = sym (stopped refl)
+check_stands false false checking running e stopped = sym e
+
+pub check_before : (s : Shape) (k : Known) → AtRest s k → (not (ends k.log) && cond k.requesting k.checking k.running) ≡ true
+    → not k.requesting ≡ k.running
+check_before s k rest may = check_stands (ends k.log) k.requesting k.checking k.running may rest.stopped
+
+-- a resume begins where it does neither
+pub resume_before : (running requesting : Bool) → (not running && not requesting) ≡ true → (running ≡ false) × (requesting ≡ false)
+resume_before true requesting e = absurd (cc e)
+resume_before false true e = absurd (cc e)
+resume_before false false e = (refl, refl)

@@ -1,0 +1,218 @@
+-- How a thread stands behind each call.
+use Rattle.std.proofs.Common.{◌≡◌, ℕ, ◌&&◌, not, cond, Bool, true, false, List, [], length, Option, Result, Ok, Err, sym, ap, ◌∙◌, subst}
+use Rattle.plain_monitor.specs.declared.entry.Ending.{Ending}
+use Rattle.plain_monitor.specs.declared.entry.Path.{Path}
+use Rattle.plain_monitor.specs.declared.entry.Value.{Value}
+use Rattle.core_world.specs.declared.answer.IllegalMonitorState.{IllegalMonitorState}
+use Rattle.core_world.specs.declared.answer.TooDeep.{TooDeep}
+use Rattle.core_world.specs.declared.answer.TooManyDumps.{TooManyDumps}
+use Rattle.core_world.specs.declared.answer.Turn.{Turn}
+use Rattle.core_world.specs.declared.answer.Turn.TheVariants.{Done, Pending}
+use Rattle.core_world.specs.declared.answer.Why.TheVariants as why
+use Rattle.core_world.specs.declared.answer.Unguarded.{Unguarded}
+use Rattle.core_world.specs.declared.task.Op.TheVariants as op
+use Rattle.core_world.specs.declared.task.Task.TheVariants as task
+use Rattle.core_world.specs.Clauses.Safepoints.{ends}
+use Rattle.core_world.specs.Due.{Ran}
+use Rattle.core_world.specs.Threads.AtRest.{AtRest}
+use Rattle.core_world.specs.Threads.Known.{Known, StepMade}
+use Rattle.core_world.specs.Trees.Calls.{is_object, may_act, may_operate, side_purpose}
+use Rattle.core_world.specs.Trees.Operations.{goes_on_with, enter_steps, exit_steps, wait_steps, notify_steps, notify_all_steps, hash_steps, get_steps, put_steps, print_steps, finish_steps, dump_steps, check_steps}
+use Rattle.core_world.specs.Trees.SafepointSteps.{poll_steps, stop_steps, resume_steps}
+use Rattle.core_world.specs.Trees.Todo.{Todo}
+use Rattle.core_calls.specs.Stands.{Stand, IsGoing, IsOff, RunsBehind, TurnStands, ResultStands, PollStands, ResumeStands, CheckStands, StandsSo, stand_of, begun}
+use Rattle.core_calls.specs.Paths.{Says}
+use Rattle.core_calls.proofs.EntersSay.{enter_says, exit_says}
+use Rattle.core_calls.proofs.Leaving.{check_halts}
+use Rattle.core_calls.proofs.OtherCallsSay.{get_says, put_says, dump_says}
+use Rattle.core_calls.proofs.WaitCallsSay.{wait_says, notify_says, notify_all_says}
+use Rattle.core_calls.proofs.StandsCalls.{enter_stands, exit_stands, wait_stands, notify_call_stands, notify_all_call_stands, hash_stands, dump_stands, check_stands, poll_call_stands, stop_call_stands, resume_call_stands, get_stands, put_stands, print_stands, finish_stands}
+use Rattle.heap_table.specs.Resting.{Rests, start_now}
+use Rattle.heap_table.specs.Seen.{HeapSeen, PassSeen, IsOf}
+use Rattle.heap_table.proofs.Resting.{at_rest}
+use Rattle.lock_runtime.specs.Standing.{IsRunning, HasStopped, StandsBehind, StandsOrSame, RunsOrSame, StandsBehindResume, StandsBehindCheck}
+use Rattle.lock_runtime.specs.Others.{PendsForAnother, PendsOrRefused}
+use Rattle.lock_runtime.proofs.Begins.{second_of}
+use Rattle.lock_runtime.proofs.Stands.{low, stands, operates, turn_behind, result_behind, refused_same}
+use Rattle.lock_runtime.proofs.StandsBefore.{unasked, stands_before, exit_unasked, wait_unasked, act_unasked, check_before, resume_before}
+
+module _ (h : HeapSeen) (p q : PassSeen) (of_q : IsOf h q) where
+  -- the run of a call
+  abbrev pub CallRan : {A : Type 0} → Todo A → A → Type 0
+  CallRan d a = Ran h.heap.shape h.heap.start d p.known q.known a
+
+  module _ (rests : Rests h p) where
+    rest : AtRest h.heap.shape p.known
+    rest = at_rest h p rests
+
+    -- behind an operation, by what is said of it
+    result_so : {A E : Type 0} (going : Bool) → may_operate p.known going ≡ true
+        → (d : Todo (Result (Turn A) E)) (r : Result (Turn A) E) (P : List StepMade → Result (Turn A) E → Type 0) → Says d P
+        → ((ms : List StepMade) (e : E) → P ms (Err e) → ms ≡ [])
+        → StandsSo p.known.thread (begun (start_now h p)) d (ResultStands p.known.thread) → CallRan d r
+        → StandsOrSame p.known q.known r × PendsOrRefused p.known.thread r
+    result_so going may d r P says none law ran =
+        result_behind h.heap.shape h.heap.start d p.known q.known r P says none ran
+        (operates h p q rests.is_of of_q d r ran (stands_before h.heap.shape p.known rest going may) (ResultStands p.known.thread) law)
+
+    -- and behind one that makes its entry at once
+    runs_so : {A E : Type 0} → may_act p.known ≡ true → (d : Todo (Result A E)) (r : Result A E) (P : List StepMade → Result A E → Type 0) → Says d P
+        → ((ms : List StepMade) (e : E) → P ms (Err e) → ms ≡ [])
+        → StandsSo p.known.thread (begun (start_now h p)) d RunsBehind → CallRan d r → RunsOrSame p.known q.known r
+    runs_so {A} {E} may d r P says none law ran =
+        cases r ran (operates h p q rests.is_of of_q d r ran (stands_before h.heap.shape p.known rest false may) RunsBehind law)
+      where
+        cases : (r : Result A E) → CallRan d r → RunsBehind (stand_of q.known) r → RunsOrSame p.known q.known r
+        cases (Ok a) ran so = record { runs = so.runs; asks = so.asks }
+        cases (Err e) ran so = refused_same h.heap.shape h.heap.start d p.known q.known e P says (λ ms x. none ms e x) ran
+
+    module _ (o : ℕ) where
+      module _ (now : ℕ) where
+        pub enter_leaves : (r : Result (Turn Path) TooDeep)
+            → (is_object h.heap.shape o && may_operate p.known (goes_on_with op.Enter o p.known.unfinished)) ≡ true
+            → CallRan (enter_steps h.heap.shape (start_now h p) o now) r → StandsOrSame p.known q.known r × PendsOrRefused p.known.thread r
+        enter_leaves r may ran =
+            result_so (goes_on_with op.Enter o p.known.unfinished) (second_of (is_object h.heap.shape o) _ may)
+            (enter_steps h.heap.shape (start_now h p) o now) r _ (enter_says h.heap.shape (start_now h p) o now) (λ ms e x. x.1)
+            (enter_stands (start_now h p) (low h p q rests.is_of of_q) h.heap.shape o now) ran
+
+        pub wait_leaves : (r : Result (Turn (Unit {0})) IllegalMonitorState)
+            → (is_object h.heap.shape o && may_operate p.known (goes_on_with op.Wait o p.known.unfinished)) ≡ true
+            → CallRan (wait_steps h.heap.shape (start_now h p) o now) r → StandsOrSame p.known q.known r × PendsOrRefused p.known.thread r
+        wait_leaves r both ran =
+            let may = second_of (is_object h.heap.shape o) _ both in
+            result_so (goes_on_with op.Wait o p.known.unfinished) may (wait_steps h.heap.shape (start_now h p) o now) r _
+            (wait_says h.heap.shape (start_now h p) o now) (λ ms e x. x.1)
+            (wait_stands (start_now h p) (low h p q rests.is_of of_q) h.heap.shape o now (wait_unasked h.heap.shape p.known rest o may)) ran
+
+        pub notify_leaves : (r : Result (Turn (Option ℕ)) IllegalMonitorState)
+            → (is_object h.heap.shape o && may_operate p.known (goes_on_with op.Notify o p.known.unfinished)) ≡ true
+            → CallRan (notify_steps h.heap.shape (start_now h p) o now) r → StandsOrSame p.known q.known r × PendsOrRefused p.known.thread r
+        notify_leaves r may ran =
+            result_so (goes_on_with op.Notify o p.known.unfinished) (second_of (is_object h.heap.shape o) _ may)
+            (notify_steps h.heap.shape (start_now h p) o now) r _ (notify_says h.heap.shape (start_now h p) o now) (λ ms e x. x.1)
+            (notify_call_stands (start_now h p) (low h p q rests.is_of of_q) h.heap.shape o now) ran
+
+        pub notify_all_leaves : (r : Result (Turn ℕ) IllegalMonitorState)
+            → (is_object h.heap.shape o && may_operate p.known (goes_on_with op.NotifyAll o p.known.unfinished)) ≡ true
+            → CallRan (notify_all_steps h.heap.shape (start_now h p) o now) r → StandsOrSame p.known q.known r × PendsOrRefused p.known.thread r
+        notify_all_leaves r may ran =
+            result_so (goes_on_with op.NotifyAll o p.known.unfinished) (second_of (is_object h.heap.shape o) _ may)
+            (notify_all_steps h.heap.shape (start_now h p) o now) r _ (notify_all_says h.heap.shape (start_now h p) o now) (λ ms e x. x.1)
+            (notify_all_call_stands (start_now h p) (low h p q rests.is_of of_q) h.heap.shape o now) ran
+
+        pub hash_leaves : (turn : Turn ℕ) → (is_object h.heap.shape o && may_operate p.known (goes_on_with op.Hash o p.known.unfinished)) ≡ true
+            → CallRan (hash_steps h.heap.shape (start_now h p) o now) turn → StandsBehind q.known turn × PendsForAnother p.known.thread turn
+        hash_leaves turn may ran =
+            let k = start_now h p in
+            turn_behind p.known.thread q.known turn
+            (operates h p q rests.is_of of_q (hash_steps h.heap.shape k o now) turn ran (stands_before h.heap.shape p.known rest
+            (goes_on_with op.Hash o p.known.unfinished) (second_of (is_object h.heap.shape o) _ may)) (TurnStands p.known.thread)
+            (hash_stands k (low h p q rests.is_of of_q) h.heap.shape o now))
+
+      pub exit_leaves : (r : Result (Turn (Unit {0})) IllegalMonitorState)
+          → (is_object h.heap.shape o && may_operate p.known (goes_on_with op.Exit o p.known.unfinished)) ≡ true
+          → CallRan (exit_steps (start_now h p) o) r → StandsOrSame p.known q.known r × PendsOrRefused p.known.thread r
+      exit_leaves r both ran =
+          let may = second_of (is_object h.heap.shape o) _ both in
+          result_so (goes_on_with op.Exit o p.known.unfinished) may (exit_steps (start_now h p) o) r _ (exit_says (start_now h p) o) (λ ms e x. x.1)
+          (exit_stands (start_now h p) (low h p q rests.is_of of_q) (exit_unasked h.heap.shape p.known rest o may) o) ran
+
+      module _ (slot : ℕ) (may : may_act p.known ≡ true) where
+        pub get_leaves : (r : Result Value Unguarded) → CallRan (get_steps (start_now h p) o slot) r → RunsOrSame p.known q.known r
+        get_leaves r ran =
+            runs_so may (get_steps (start_now h p) o slot) r _ (get_says (start_now h p) o slot) (λ ms e x. x.1)
+            (get_stands (start_now h p) (low h p q rests.is_of of_q) (act_unasked h.heap.shape p.known rest may) o slot) ran
+
+        pub put_leaves : (value : Value) (r : Result (Unit {0}) Unguarded) → CallRan (put_steps (start_now h p) o slot value) r
+            → RunsOrSame p.known q.known r
+        put_leaves value r ran =
+            runs_so may (put_steps (start_now h p) o slot value) r _ (put_says (start_now h p) o slot value) (λ ms e x. x.1)
+            (put_stands (start_now h p) (low h p q rests.is_of of_q) (act_unasked h.heap.shape p.known rest may) o slot value) ran
+
+    module _ (may : may_act p.known ≡ true) where
+      running : (d : Todo (Unit {0})) → StandsSo p.known.thread (begun (start_now h p)) d (λ b _. IsGoing b) → CallRan d tt → IsRunning q.known
+      running d law ran =
+          let g = operates h p q rests.is_of of_q d tt ran (stands_before h.heap.shape p.known rest false may) (λ b _. IsGoing b) law in
+          record { runs = g.runs; asks = g.asks }
+
+      pub print_leaves : (value : Value) → CallRan (print_steps (start_now h p) value) tt → IsRunning q.known
+      print_leaves value ran =
+          running (print_steps (start_now h p) value) (print_stands (start_now h p) (low h p q rests.is_of of_q)
+          (act_unasked h.heap.shape p.known rest may) value) ran
+
+      pub finish_leaves : (ending : Ending) → CallRan (finish_steps (start_now h p) ending) tt → IsRunning q.known
+      finish_leaves ending ran =
+          running (finish_steps (start_now h p) ending) (finish_stands (start_now h p) (low h p q rests.is_of of_q)
+          (act_unasked h.heap.shape p.known rest may) ending) ran
+
+    pub dump_leaves : (r : Result (Turn ℕ) TooManyDumps) → may_operate p.known (goes_on_with op.Dump 0 p.known.unfinished) ≡ true
+        → CallRan (dump_steps h.heap.shape (start_now h p)) r → StandsOrSame p.known q.known r × PendsOrRefused p.known.thread r
+    dump_leaves r may ran =
+        result_so (goes_on_with op.Dump 0 p.known.unfinished) may (dump_steps h.heap.shape (start_now h p)) r _ (dump_says h.heap.shape
+        (start_now h p)) (λ ms e x. x.1)
+        (dump_stands (start_now h p) (low h p q rests.is_of of_q) h.heap.shape) ran
+
+    -- AT THE SAFEPOINT WORD
+    module _ (runs : p.known.running ≡ true) where
+      before : not p.known.requesting ≡ p.known.running
+      before = ap not (unasked h.heap.shape p.known rest runs) ∙ sym runs
+
+      pub poll_leaves : (turn : Turn (Unit {0})) → CallRan (poll_steps (side_purpose task.Poll (start_now h p))) turn
+          → IsRunning q.known × PendsForAnother p.known.thread turn
+      poll_leaves turn ran =
+          by_turn turn (operates h p q rests.is_of of_q (poll_steps (side_purpose task.Poll (start_now h p))) turn ran before (PollStands p.known.thread)
+          (poll_call_stands (start_now h p) (low h p q rests.is_of of_q) (unasked h.heap.shape p.known rest runs)))
+        where
+          by_turn : (turn : Turn (Unit {0})) → PollStands p.known.thread (stand_of q.known) turn
+              → IsRunning q.known × PendsForAnother p.known.thread turn
+          by_turn (Done x) so = (record { runs = so.runs; asks = so.asks }, tt)
+          by_turn (Pending why) so = (record { runs = so.0.runs; asks = so.0.asks }, so.1)
+
+      -- its log is published whole
+      pub stop_leaves : CallRan (stop_steps (side_purpose task.Stop (start_now h p)) (start_now h p).local) tt → HasStopped q.known
+      stop_leaves ran =
+          let d = stop_steps (side_purpose task.Stop (start_now h p)) (start_now h p).local in
+          let off = operates h p q rests.is_of of_q d tt ran before (λ b _. IsOff b) (stop_call_stands (start_now h p) (low h p q rests.is_of of_q)
+          (unasked h.heap.shape p.known rest runs)) in
+          let last = ran.by.1.1.0 in
+          let log : q.known.log ≡ p.known.log = ap (λ (x : Known). x.log) last in
+          record { stopped = record { runs = off.runs; asks = off.asks }; published = ap (λ (x : Known). x.published) last ∙ ap length (sym log) }
+
+    pub check_leaves : (turn : Turn Bool) → (not (ends p.known.log) && cond p.known.requesting p.known.checking p.known.running) ≡ true
+        → CallRan (check_steps h.heap.shape (start_now h p)) turn
+        → StandsBehindCheck q.known turn × PendsForAnother p.known.thread turn
+    check_leaves turn may ran =
+        by_turn turn ran (operates h p q rests.is_of of_q (check_steps h.heap.shape (start_now h p)) turn ran
+        (check_before h.heap.shape p.known rest may) (CheckStands p.known.thread)
+        (check_stands (start_now h p) (low h p q rests.is_of of_q) h.heap.shape))
+      where
+        by_turn : (turn : Turn Bool) → CallRan (check_steps h.heap.shape (start_now h p)) turn → CheckStands p.known.thread (stand_of q.known) turn
+            → StandsBehindCheck q.known turn × PendsForAnother p.known.thread turn
+        by_turn (Done true) ran so = (
+          record {
+            stopped = record { runs = so.runs; asks = so.asks };
+            halted = check_halts h.heap.shape h.heap.start h.heap.shape
+                (start_now h p) p.known q.known ran;
+          },
+          tt,
+        )
+        by_turn (Done false) ran so = (record { runs = so.runs; asks = so.asks }, tt)
+        by_turn (Pending (why.Stopping word)) ran so = (record { runs = so.0.runs; asks = so.0.asks }, so.1)
+        by_turn (Pending _) ran so = (record { runs = so.0.runs; asks = so.0.asks }, so.1)
+
+    pub resume_leaves : (turn : Turn (Unit {0})) → (not p.known.running && not p.known.requesting) ≡ true
+        → CallRan (resume_steps (side_purpose task.Resume (start_now h p)) (start_now h p).local) turn
+        → StandsBehindResume q.known turn × PendsForAnother p.known.thread turn
+    resume_leaves turn may ran =
+        let off = resume_before p.known.running p.known.requesting may in
+        by_turn turn (stands h p q rests.is_of of_q (resume_steps (side_purpose task.Resume (start_now h p)) (start_now h p).local) turn ran
+        (ResumeStands p.known.thread)
+        (subst (λ (b : Stand). StandsSo p.known.thread b (resume_steps (side_purpose task.Resume (start_now h p)) (start_now h p).local)
+        (ResumeStands p.known.thread)) (λ i. record { running = sym off.0 i; asking = sym off.1 i })
+        (resume_call_stands (start_now h p) (low h p q rests.is_of of_q))))
+      where
+        by_turn : (turn : Turn (Unit {0})) → ResumeStands p.known.thread (stand_of q.known) turn
+            → StandsBehindResume q.known turn × PendsForAnother p.known.thread turn
+        by_turn (Done x) so = (record { runs = so.runs; asks = so.asks }, tt)
+        by_turn (Pending why) so = (record { runs = so.0.runs; asks = so.0.asks }, so.1)
