@@ -17,12 +17,9 @@ use Rattle.thread_calls.proofs.Behind.{came, turn_done, turn_left}
 use Rattle.thread_calls.proofs.May.{may_leave, held_is, thread_is}
 use Rattle.thread_calls.proofs.asks.leave.Goals as goal
 
-pub exit-requires-clause-stub : goal.exit-requires-clause-stub
-exit-requires-clause-stub c = ?
 
-
-pub exit-requires-clause-may : goal.exit-requires-clause-may
-exit-requires-clause-may c =
+pub exit-requires : goal.exit-requires
+exit-requires c =
     let a = c.args in
     let r = c.requires in
     let asks = asks_leave a.heap.now a.program.now a.fuel a.pass.now a.frame.now r.heap r.may a.ending a.object r.at r.least in

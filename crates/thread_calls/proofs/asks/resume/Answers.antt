@@ -13,11 +13,8 @@ use Rattle.thread_calls.proofs.May.{may_wait, thread_is}
 use Rattle.thread_calls.proofs.Waited.{resume_done, resume_left}
 use Rattle.thread_calls.proofs.asks.resume.Goals as goal
 
-pub wait-requires-clause-stub : goal.wait-requires-clause-stub
-wait-requires-clause-stub g c = ?
-
-pub wait-requires-clause-may : goal.wait-requires-clause-may
-wait-requires-clause-may g c =
+pub wait-requires : goal.wait-requires
+wait-requires g c =
     let a = c.args in
     let r = c.requires in
     let asks = asks_resume a.heap.now a.program.now a.fuel a.pass.now a.frame.now r.heap r.may a.object r.at in

@@ -12,11 +12,8 @@ use Rattle.thread_calls.proofs.Behind.{came, logged}
 use Rattle.thread_calls.proofs.May.{may_finish, thread_is}
 use Rattle.thread_calls.proofs.asks.unwind.Goals as goal
 
-pub finish-requires-clause-stub : goal.finish-requires-clause-stub
-finish-requires-clause-stub c = ?
-
-pub finish-requires-clause-may : goal.finish-requires-clause-may
-finish-requires-clause-may c =
+pub finish-requires : goal.finish-requires
+finish-requires c =
     let a = c.args in
     let r = c.requires in
     let least = sym c.least_held.ensures ∙ c.in-None.is in

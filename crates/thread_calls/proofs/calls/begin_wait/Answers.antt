@@ -13,11 +13,8 @@ use Rattle.thread_calls.proofs.May.{may_wait, held_is, thread_is}
 use Rattle.thread_calls.proofs.Waited.{wait_done, wait_left, wait_let_go}
 use Rattle.thread_calls.proofs.calls.begin_wait.Goals as goal
 
-pub wait-requires-clause-stub : goal.wait-requires-clause-stub
-wait-requires-clause-stub g c = ?
-
-pub wait-requires-clause-may : goal.wait-requires-clause-may
-wait-requires-clause-may g c =
+pub wait-requires : goal.wait-requires
+wait-requires g c =
     let a = c.args in
     let r = c.requires in
     let w = call.Wait a.object in

@@ -17,9 +17,6 @@ use Rattle.thread_calls.proofs.Behind.{came, came_dumped, turn_done, turn_left, 
 use Rattle.thread_calls.proofs.Values.{value_of}
 use Rattle.thread_calls.proofs.makes.dump.Goals as goal
 
-pub dump-requires-clause-stub : goal.dump-requires-clause-stub
-dump-requires-clause-stub c = ?
-
 pub unreachable-requires : goal.unreachable-requires
 unreachable-requires c =
     let four = eqb-true (length c.args.pass.now.known.shots) 4 c.in-Err.ensures.says.says.0 in

@@ -12,9 +12,6 @@ use Rattle.thread_calls.specs.Asked.{unfinished_on}
 use Rattle.thread_calls.proofs.Behind.{came, came_dumped, turn_done, turn_left, logged}
 use Rattle.thread_calls.proofs.makes.enter.Goals as goal
 
-pub enter-requires-clause-stub : goal.enter-requires-clause-stub
-enter-requires-clause-stub c = ?
-
 pub unreachable-requires : goal.unreachable-requires
 unreachable-requires c = let full = c.in-Err.ensures.says.says.0 in absurd (cc (full, c.requires.room))
 

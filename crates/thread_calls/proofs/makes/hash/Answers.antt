@@ -17,9 +17,6 @@ use Rattle.thread_calls.proofs.Behind.{came, came_dumped, turn_done, turn_left, 
 use Rattle.thread_calls.proofs.Values.{value_of}
 use Rattle.thread_calls.proofs.makes.hash.Goals as goal
 
-pub hash-requires-clause-stub : goal.hash-requires-clause-stub
-hash-requires-clause-stub c = ?
-
 pub returns-in-Done : goal.returns-in-Done
 returns-in-Done c =
     let a = c.args in

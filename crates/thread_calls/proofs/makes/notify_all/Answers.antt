@@ -12,9 +12,6 @@ use Rattle.thread_calls.specs.Asked.{unfinished_on}
 use Rattle.thread_calls.proofs.Behind.{came, came_dumped, turn_done, turn_left, logged}
 use Rattle.thread_calls.proofs.makes.notify_all.Goals as goal
 
-pub notify_all-requires-clause-stub : goal.notify_all-requires-clause-stub
-notify_all-requires-clause-stub c = ?
-
 pub unreachable-requires : goal.unreachable-requires
 unreachable-requires c = let none = c.in-Err.ensures.owner in let one = c.requires.holds in absurd (omega (arith, none, one))
 

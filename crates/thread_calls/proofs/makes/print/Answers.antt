@@ -17,9 +17,6 @@ use Rattle.thread_calls.proofs.Behind.{came, came_dumped, turn_done, turn_left, 
 use Rattle.thread_calls.proofs.Values.{value_of}
 use Rattle.thread_calls.proofs.makes.print.Goals as goal
 
-pub print-requires-clause-stub : goal.print-requires-clause-stub
-print-requires-clause-stub c = ?
-
 pub returns : goal.returns
 returns c =
     let a = c.args in

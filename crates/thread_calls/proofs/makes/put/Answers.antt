@@ -17,9 +17,6 @@ use Rattle.thread_calls.proofs.Behind.{came, came_dumped, turn_done, turn_left, 
 use Rattle.thread_calls.proofs.Values.{value_of}
 use Rattle.thread_calls.proofs.makes.put.Goals as goal
 
-pub put-requires-clause-stub : goal.put-requires-clause-stub
-put-requires-clause-stub c = ?
-
 pub unreachable-requires : goal.unreachable-requires
 unreachable-requires c = let none = c.in-Err.ensures.owner in let one = c.requires.holds in absurd (omega (arith, none, one))
 
