@@ -1,0 +1,6 @@
+pub mod Lists
+pub mod Seated
+pub mod StuckMachines
+pub mod Ending
+pub mod Over
+pub mod Closing

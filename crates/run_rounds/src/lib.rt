@@ -5,7 +5,7 @@
 #![tactic(auto)]
 
 mod rounds;
-mod run;
+mod runs;
 mod seats;
 
-pub use run::run;
+pub use runs::run;

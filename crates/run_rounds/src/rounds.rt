@@ -1,12 +1,13 @@
 //! Rounds of turns.
 
-ghost use Rattle.std.specs.Prelude.{◌≡◌, ◌≤◌, ◌<◌, ◌×◌, map, length, true, false};
+ghost use Rattle.std.specs.Prelude.{◌≡◌, ◌≤◌, ◌<◌, map, length, true, false};
 ghost use Rattle.thread_calls.specs.Between.{IsHeapOf};
+ghost use Rattle.thread_frame.specs.Frames.{has_ended};
 ghost use Rattle.thread_interp.specs.Runners.{IsRunner, IsSame};
 ghost use Rattle.run_rounds.specs.Rounds.{AreRunners, AreOver, have_ended, runners_in};
 
 use crate::seats::Seat;
-use core_world::{Turn, Why};
+use core_world::Turn;
 use heap_table::Heap;
 use object_program::Program;
 use run_io::{Clock, Gate};
@@ -75,33 +76,44 @@ fn check<R: Wait>(rt: &R, program: &Program, heap: &Heap, runner: &mut Runner) -
     requires program { IsHeapOf heap.now program.now }
     requires runner { IsRunner heap.now program.now runner.old }
     requires free { (runner.old.pass.known.requesting ≡ false) × (runner.old.pass.known.checking ≡ false) }
-    requires live { Rattle.thread_frame.specs.Frames.has_ended runner.old.frame ≡ false }
+    requires live { has_ended runner.old.frame ≡ false }
     ensures runner { IsRunner heap.now program.now runner.new }
     ensures unchecked { runner.new.pass.known.checking ≡ false }
     ensures same { IsSame runner.old runner.new }
     ensures halted { result ≡ true → runner.new.pass.known.halted ≡ true }
 {
     for _ in rt.forever() {
-        match runner.check(program, heap) {
-            Turn::Done(stuck) => return stuck,
-            Turn::Pending(Why::Stopping { .. }) => {}
-            Turn::Pending(_) => return false,
+        if let Turn::Done(stuck) = runner.check(program, heap) {
+            return stuck;
+        }
+        if !runner.checking() {
+            return false;
         }
     }
     unreachable!()
 }
 
-// The live runner of the least number that asks for no safepoint makes a check, where there is one.
-fn check_first<R: Wait>(rt: &R, program: &Program, heap: &Heap, fuel: u32, seats: &mut [Seat]) -> bool
+// After a round in which no turn did an instruction the live runner of the least number that asks for no safepoint makes a check, where
+// there is one.
+fn check_first<R: Wait>(
+    rt: &R,
+    program: &Program,
+    heap: &Heap,
+    fuel: u32,
+    seats: &mut [Seat],
+) -> bool
     requires program { IsHeapOf heap.now program.now }
     requires runners { AreRunners heap.now program.now fuel (runners_in seats.old) }
     ensures runners { AreRunners heap.now program.now fuel (runners_in seats.new) }
     ensures count { length seats.new ≡ length seats.old }
     ensures halted { result ≡ true → AreOver (runners_in seats.new) true }
 {
-    for seat in seats.iter_mut() {
-        if !seat.runner.has_ended() && !seat.runner.requesting() {
-            return check(rt, program, heap, &mut seat.runner);
+    if !stand_still(seats) {
+        return false;
+    }
+    for i in 0..seats.len() {
+        if !seats[i].runner.has_ended() && !seats[i].runner.requesting() {
+            return check(rt, program, heap, &mut seats[i].runner);
         }
     }
     false
@@ -132,8 +144,10 @@ pub fn rounds<R: Threads + Wait + Sync, C: Clock + Sync, G: Gate + Sync>(
         if have_ended(seats) {
             return false;
         }
-        round(rt, program, heap, fuel, seats, workers, quantum, clock, tick, gate);
-        if stand_still(seats) && check_first(rt, program, heap, fuel, seats) {
+        round(
+            rt, program, heap, fuel, seats, workers, quantum, clock, tick, gate,
+        );
+        if check_first(rt, program, heap, fuel, seats) {
             return true;
         }
     }

@@ -15,6 +15,8 @@ use std::alloc::Global;
 use std::sync::Wait;
 use std::thread::Threads;
 use thread_interp::Runner;
+use thread_logs::{a_log_tells_where_its_thread_stands, the_machine_is_what_the_logs_make_it};
+use wait_history::waits_follow_from_the_own_log;
 
 fn into_passes(seats: Vec<Seat>, mut passes: Vec<Pass>) -> Vec<Pass>
     requires empty { passes.items ≡ [] }
@@ -54,7 +56,21 @@ pub fn run<R: Threads + Wait + Sync, C: Clock + Sync, G: Gate + Sync>(
 {
     let passes = Vec::with_capacity(alloc, runners.items().len()).map_err(|_| NoMemory)?;
     let mut seats = seats(alloc, runners)?;
-    rounds(rt, program, &heap, fuel, seats.as_mut_slice(), workers, quantum, clock, tick, gate);
+    rounds(
+        rt,
+        program,
+        &heap,
+        fuel,
+        seats.as_mut_slice(),
+        workers,
+        quantum,
+        clock,
+        tick,
+        gate,
+    );
     let passes = into_passes(seats, passes);
+    the_machine_is_what_the_logs_make_it();
+    a_log_tells_where_its_thread_stands();
+    waits_follow_from_the_own_log();
     Ok(close(heap, List::of(passes)))
 }

@@ -1,0 +1,29 @@
+use Rattle.std.proofs.Common.{◌≡◌, ◌<◌, length, sym, ap, ◌∙◌, subst, refl, arith, slice_index_or}
+use Rattle.std.proofs.lemmas.Option.{slice_get_read, slice_get_within, slice_get-get_or, get_or_from_slice_get}
+use Rattle.run_rounds.specs.declared.seats.Seat.{Seat}
+use Rattle.run_rounds.specs.Rounds.{IsRunnerAt}
+use Rattle.run_rounds.proofs.Seated.{seat_at, runner_at, stays_at}
+use Rattle.run_rounds.proofs.rounds.round.Goals as goal
+
+-- each runner may have its turn
+pub for_each_mut-requires-clause-accepts : goal.for_each_mut-requires-clause-accepts
+for_each_mut-requires-clause-accepts g c κs within = λ i p lt e.
+    let at = c.requires.runners i p.now.runner (runner_at c.args.seats.now i p.now (slice_get_read c.args.seats.now (length c.args.seats.now) i p.now refl lt e)) in
+    (c.requires.program, at.runner, at.unchecked, c.requires.quantum)
+
+-- and stays the runner of its thread
+pub returns-clause-runners : goal.returns-clause-runners
+returns-clause-runners g c = λ t r e.
+    let before = c.args.seats.now in
+    let after = c.for_each_mut.new.s in
+    let q = seat_at after t r e in
+    let len : length after ≡ length before = c.for_each_mut.auto.s in
+    let inside = slice_get_within after t q.from q.here in
+    let lt : t < length before = omega (arith, inside, len) in
+    let x = slice_index_or before t q.from in
+    let at = c.requires.runners t x.runner (runner_at before t x (slice_get-get_or before t q.from lt)) in
+    let turn = (c.for_each_mut.ensures t q.from lt).1 in
+    let mine = subst (λ (z : Seat). IsRunnerAt c.args.heap.now c.args.program.now c.args.fuel t z.runner) (sym turn.argument_is) at in
+    let stays = stays_at c.args.heap.now c.args.program.now c.args.fuel t turn.argument.now.runner turn.after_call.now.runner mine turn.call.0 turn.call.1 turn.call.2 in
+    subst (IsRunnerAt c.args.heap.now c.args.program.now c.args.fuel t)
+    (ap (λ (z : Seat). z.runner) (turn.left ∙ get_or_from_slice_get after t q.from q.from q.here) ∙ q.is) stays
