@@ -13,8 +13,8 @@ use crate::perform::{dump, enter, exit, get, hash, notify, notify_all, print, pu
 use object_program::{Code, Program};
 use plain_monitor::{Ending, Fault, Value};
 
-/// What an instruction leads to. Locals have numbers from 0. A place is how many instructions stand before it, and may be
-/// behind the last one, where the thread is done.
+/// What an instruction leads to. Locals have numbers from 0. A place is how many instructions stand before it, and
+/// may be behind the last one, where the thread is done.
 #[derive(Clone, Copy)]
 pub enum Next {
     /// The local becomes the value, and the thread goes on behind the instruction.
@@ -23,7 +23,7 @@ pub enum Next {
     Jumps { place: u32 },
     /// The thread stands before the call.
     Calls { call: Call },
-    /// The thread makes no call more: it leaves its holds and ends so.
+    /// The thread leaves all its holds, and then ends so.
     Stops { ending: Ending },
 }
 
