@@ -1,0 +1,153 @@
+-- The law of biases, by the record of a run.
+use Rattle.std.proofs.Common.{◌≡◌, ℕ, zero, suc, ◌+◌, ◌*◌, ◌<◌, ◌≤◌, ◌==◌, if◌then◌else◌, Bool, true, false, List, [], ◌∷◌, ◌++◌, length, map, Option, Some, refl, sym, ap, ◌∙◌, subst, arith, inl, inr}
+use Rattle.std.specs.Prelude.{◌⊎◌, ◌^◌, slice_get, slice_index}
+use Rattle.std.specs.List.{AllByRecursion}
+use Rattle.std.proofs.lemmas.Bool.{cases_lt}
+use Rattle.std.proofs.lemmas.List.{get_or_past}
+use Rattle.plain_history.specs.EnterPaths.{entries_on, first_path, PathsFit}
+use Rattle.plain_history.specs.HeldByLog.{nothing_held}
+use Rattle.plain_monitor.specs.declared.entry.Logged.{Logged}
+use Rattle.plain_monitor.specs.declared.entry.Path.{Path}
+use Rattle.plain_monitor.specs.declared.entry.Path.TheVariants.{BiasTaken}
+use Rattle.plain_monitor.specs.History.{log_of}
+use Rattle.plain_monitor.specs.Order.{order}
+use Rattle.plain_monitor.proofs.Lists.{all_push}
+use Rattle.lock_policy.specs.declared.policy.Verdict.{Verdict}
+use Rattle.lock_policy.specs.declared.policy.Verdict.TheVariants.{Single, BulkRebias, BulkRevoke}
+use Rattle.core_counts.specs.BiasLaw.{summed}
+use Rattle.core_counts.specs.CountsAndVerdicts.{ClassFits, CountFits, sum_below, verdicts_on}
+use Rattle.core_counts.specs.OfARun.{IsHashLogged}
+use Rattle.core_world.specs.declared.name.Name.TheVariants.{Revocations}
+use Rattle.core_world.specs.Threads.Counts as known
+use Rattle.core_world.specs.Threads.Counts.{CountedVerdict, counts_of}
+use Rattle.core_world.specs.Threads.Known.{Known}
+use Rattle.core_world.specs.Words.Shape.{Shape}
+use Rattle.core_world.specs.Words.Shape as shape
+use Rattle.core_steps.specs.Logic.{Heap}
+use Rattle.heap_table.specs.BiasesAtEnd.{BiasesAtEnd, counted_by}
+use Rattle.heap_table.specs.declared.counts.ClassCounts.{ClassCounts}
+use Rattle.heap_table.specs.Layout.{place_of}
+use Rattle.heap_table.specs.Seen.{ClosedSeen}
+use Rattle.heap_table.specs.Tallies.{capped, capped_counts, counts_shown}
+use Rattle.lock_journal.specs.declared.record.ClassLine.{ClassLine}
+use Rattle.lock_journal.specs.declared.record.RunRecord.{RunRecord}
+use Rattle.object_program.specs.Program.{ProgramText, class_of, shape_of}
+use Rattle.object_program.specs.Valid.{IsProgram}
+use Rattle.run_rounds.specs.Outcome.{HasBiases as LeftBiases}
+use Rattle.program_run.specs.Biases.{HasBiases, IsIdle, IsLine, IsUnrevoked}
+use Rattle.program_run.specs.HeapFor.{shape_for}
+use Rattle.program_run.specs.Lines.{line_of, lines_below, total_on}
+use Rattle.program_run.proofs.Classes.{class_is}
+use Rattle.program_run.proofs.Counted.{capped_few, sum_few, sum_none, term_few, total_is}
+use Rattle.program_run.proofs.LinesBelow.{line_at}
+
+-- a count is set to 0 at most once for each verdict
+resets_few : (vs : List CountedVerdict) (k : ℕ) → (counts_of vs k).reset ≤ verdicts_on (counts_of vs k)
+resets_few [] k = omega arith
+resets_few (v ∷ vs) k = by_class (k == v.class) (resets_few vs k)
+  where
+    by_verdict : (verdict : Verdict) (reset : Bool) → (counts_of vs k).reset ≤ verdicts_on (counts_of vs k)
+        → (known.with_reset (known.with_verdict (counts_of vs k) verdict) reset).reset ≤ verdicts_on (known.with_reset (known.with_verdict (counts_of vs k) verdict) reset)
+    by_verdict Single true h = omega (arith, h)
+    by_verdict Single false h = omega (arith, h)
+    by_verdict BulkRebias true h = omega (arith, h)
+    by_verdict BulkRebias false h = omega (arith, h)
+    by_verdict BulkRevoke true h = omega (arith, h)
+    by_verdict BulkRevoke false h = omega (arith, h)
+
+    by_class : (b : Bool) → (counts_of vs k).reset ≤ verdicts_on (counts_of vs k)
+        → (if b then known.with_reset (known.with_verdict (counts_of vs k) v.verdict) v.reset else counts_of vs k).reset
+            ≤ verdicts_on (if b then known.with_reset (known.with_verdict (counts_of vs k) v.verdict) v.reset else counts_of vs k)
+    by_class true h = by_verdict v.verdict v.reset h
+    by_class false h = h
+
+module _ (heap : Heap) (c : ClosedSeen) (left : LeftBiases heap c) (same : c.heap ≡ heap)
+    (many : heap.shape.threads ≤ 16) (short : (t : ℕ) → length (log_of c.logs t) ≤ 6400016) where
+  abbrev counts : ℕ → ℕ → known.ClassCounts
+  counts t k = counts_of (counted_by left.knowns t) k
+
+  abbrev sums : ℕ → known.ClassCounts
+  sums k = summed heap.shape.threads (λ t. counts_of (counted_by left.knowns t)) k
+
+  -- no thread has counted many verdicts on a class
+  verdicts_few : (t k : ℕ) → t < heap.shape.threads → k < heap.shape.classes → verdicts_on (counts t k) ≤ 6400017
+  verdicts_few t k here within =
+      let all = left.biases.verdicts t here in
+      let one = term_few heap.shape.classes k (λ d. verdicts_on (counts t d)) within in
+      let log = short t in
+      omega (arith, all, one, log)
+
+  module _ (k : ℕ) (within : k < heap.shape.classes) (number : ClassCounts → ℕ) (f : known.ClassCounts → ℕ)
+      (shown : (x : known.ClassCounts) → f x ≤ verdicts_on x → verdicts_on x ≤ 6400017 → number (capped_counts x) ≡ f x)
+      (few : (t : ℕ) → f (counts t k) ≤ verdicts_on (counts t k)) where
+    -- a total of what the heap shows is what its threads counted
+    total_here : total_on number c.counts k ≡ sum_below heap.shape.threads (λ t. f (counts t k))
+    total_here =
+        ap (λ x. total_on number x k) left.counts
+        ∙ total_is number f heap.shape.classes k within left.knowns
+            (λ t h. let all = left.end.all in shown (counts t k) (few t) (verdicts_few t k (omega (arith, h, all)) within))
+        ∙ ap (λ n. sum_below n (λ t. f (counts t k))) left.end.all
+
+    total_capped : capped (total_on number c.counts k) ≡ sum_below heap.shape.threads (λ t. f (counts t k))
+    total_capped =
+        let total = total_here in
+        let low = sum_few heap.shape.threads (λ t. f (counts t k))
+            (λ t h. let one = few t in let verdicts = verdicts_few t k h within in omega (arith, one, verdicts)) in
+        capped_few (total_on number c.counts k) (omega (arith, total, low, many)) ∙ total
+
+  module _ (k : ℕ) (within : k < heap.shape.classes) where
+    single_is : (line_of c k).single ≡ (sums k).single
+    single_is = total_capped k within (λ n. n.single) (λ x. x.single) (λ x h g. omega (arith, h, g)) (λ t. omega arith)
+
+    rebias_is : (line_of c k).rebias ≡ (sums k).rebias
+    rebias_is = total_capped k within (λ n. n.rebias) (λ x. x.rebias) (λ x h g. omega (arith, h, g)) (λ t. omega arith)
+
+    pub revoke_is : (line_of c k).revoke ≡ (sums k).revoke
+    revoke_is = total_capped k within (λ n. n.revoke) (λ x. x.revoke) (λ x h g. omega (arith, h, g)) (λ t. omega arith)
+
+    reset_is : total_on (λ n. n.reset) c.counts k ≡ (sums k).reset
+    reset_is = total_here k within (λ n. n.reset) (λ x. x.reset) (λ x h g. omega (arith, h, g)) (λ t. resets_few (counted_by left.knowns t) k)
+
+    count_is : (line_of c k).count ≡ left.biases.count k
+    count_is = ap (λ (s : Shape). slice_index c.words (place_of s (Revocations k))) (λ i. (same i).shape) ∙ left.biases.words_are k within
+
+    pub fits : IsLine (total_on (λ n. n.reset) c.counts k) (line_of c k)
+    fits =
+        let count_now = count_is in
+        let single_now = single_is in
+        let rebias_now = rebias_is in
+        let revoke_now = revoke_is in
+        let reset_now = reset_is in
+        subst (λ (x : ClassLine × ℕ). CountFits x.0.count x.0.single x.0.rebias x.0.revoke x.1)
+        (λ i. (record { single = sym single_now i; rebias = sym rebias_now i; revoke = sym revoke_now i; count = sym count_now i; prototype = (line_of c k).prototype }, sym reset_now i))
+        (left.biases.biases.counts k)
+
+    idle : heap.biasing ≡ false → IsIdle (line_of c k)
+    idle none =
+        let nothing = left.biases.biases.uncounted none in
+        let single = single_is ∙ sum_none heap.shape.threads (λ t. (counts t k).single) (λ t. let z = nothing t k in omega (arith, z)) in
+        let rebias = rebias_is ∙ sum_none heap.shape.threads (λ t. (counts t k).rebias) (λ t. let z = nothing t k in omega (arith, z)) in
+        let revoke = revoke_is ∙ sum_none heap.shape.threads (λ t. (counts t k).revoke) (λ t. let z = nothing t k in omega (arith, z)) in
+        let few = fits.few in
+        (single, rebias, revoke, omega (arith, few, single, rebias, revoke))
+
+  pub all_idle : heap.biasing ≡ false → (n : ℕ) → n ≤ heap.shape.classes → AllByRecursion IsIdle (lines_below c n)
+  all_idle none zero h = tt
+  all_idle none (suc n) h =
+      all_push IsIdle (lines_below c n) (line_of c n) (all_idle none n (omega (arith, h))) (idle n (omega (arith, h)) none)
+
+  pub log_fits : (t : ℕ) → heap.shape.threads ≡ length c.logs → PathsFit nothing_held (log_of c.logs t)
+  log_fits t count = elim (cases_lt t heap.shape.threads) [
+    | inl here ↦ left.biases.biases.paths t here
+    | inr past ↦ subst (PathsFit nothing_held) (sym (get_or_past c.logs t [] (omega (arith, past, count)))) tt
+  ]
+
+-- each count of revocations is small
+pub small_here : (heap : Heap) (c : ClosedSeen) → LeftBiases heap c → c.heap ≡ heap → (k : ℕ) → k < c.heap.shape.classes
+    → slice_index c.words (place_of c.heap.shape (Revocations k)) < 2 ^ 32
+small_here heap c left same k within =
+    let here : k < heap.shape.classes = subst (λ (h : Heap). k < h.shape.classes) same within in
+    let at : slice_index c.words (place_of c.heap.shape (Revocations k)) ≡ left.biases.count k =
+        ap (λ (h : Heap). slice_index c.words (place_of h.shape (Revocations k))) same ∙ left.biases.words_are k here in
+    let few = (left.biases.biases.counts k).capped in
+    omega (arith, at, few)

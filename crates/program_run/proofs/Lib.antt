@@ -1,0 +1,9 @@
+pub mod Shaped
+pub mod Opened
+pub mod LinesBelow
+pub mod Cut
+pub mod Few
+pub mod Counted
+pub mod Classes
+pub mod Biased
+pub mod Told

@@ -1,0 +1,83 @@
+-- The passes of a heap that begins, and the runners on them.
+use Rattle.std.proofs.Common.{◌≡◌, ℕ, zero, suc, ◌+◌, ◌*◌, ◌<◌, ◌≤◌, List, [], ◌∷◌, length, map, Option, Some, refl, sym, ap, ◌∙◌, subst, arith}
+use Rattle.std.specs.Prelude.{slice_get}
+use Rattle.std.proofs.lemmas.Option.{none-some, same_Some}
+use Rattle.core_world.specs.Opening.{first_known, opening}
+use Rattle.core_steps.specs.Sound.{Sound}
+use Rattle.heap_table.specs.Fresh.{IsFresh}
+use Rattle.heap_table.specs.Resting.{Rests}
+use Rattle.heap_table.specs.Seen.{HeapSeen, PassSeen, first_pass, first_passes}
+use Rattle.heap_table.proofs.Resting.{fresh_rests}
+use Rattle.object_program.specs.Program.{ProgramText}
+use Rattle.run_rounds.specs.Rounds.{AreNew, AreRunners, IsRunnerAt}
+use Rattle.thread_calls.specs.Between.{IsHeapOf, IsOn}
+use Rattle.thread_frame.specs.Frames.{first_frame}
+use Rattle.thread_interp.specs.Runners.{RunnerSeen}
+use Rattle.program_run.specs.HeapFor.{runner_on}
+
+-- the law that is asked of unused passes
+abbrev pub Unused : Type 0
+Unused = (h : HeapSeen) (p : ProgramText) (fuel : ℕ) (pass : PassSeen) → IsHeapOf h p → Rests h pass
+    → pass.known ≡ first_known pass.known.thread → fuel ≤ 200000 → pass.limit ≡ 2 * fuel + 66 → IsOn h p fuel pass (first_frame fuel)
+
+-- the pass of a thread, as the heap begins, is fresh
+fresh : (h : HeapSeen) (limit t : ℕ) → Sound (opening h.heap.shape h.heap.start h.heap.biasing) → t < h.heap.shape.threads
+    → IsFresh h t (first_pass h limit t)
+fresh h limit t sound within =
+    record {
+      is_of = record {
+        table = refl;
+        within = within;
+        classes = refl;
+        first = refl;
+        threads = refl;
+        objects = refl;
+        real = record { world = opening h.heap.shape h.heap.start h.heap.biasing; is_of = refl; sound = sound; knew = refl; is = refl; made = tt };
+      };
+      knows = refl;
+    }
+
+-- which runner has a place
+runner_at : (h : HeapSeen) (limit fuel u n t : ℕ) (r : RunnerSeen) → slice_get (map (runner_on fuel) (first_passes h limit u n)) t ≡ Some r
+    → (t < n) × (runner_on fuel (first_pass h limit (u + t)) ≡ r)
+runner_at h limit fuel u zero t r e = absurd (none-some r e)
+runner_at h limit fuel u (suc n) zero r e =
+    let same : u + 0 ≡ u = omega arith in
+    (omega arith, ap (λ v. runner_on fuel (first_pass h limit v)) same ∙ same_Some (runner_on fuel (first_pass h limit u)) r e)
+runner_at h limit fuel u (suc n) (suc t) r e =
+    let others = runner_at h limit fuel (suc u) n t r e in
+    let less = others.0 in
+    let same : u + suc t ≡ suc u + t = omega arith in
+    (omega (arith, less), ap (λ v. runner_on fuel (first_pass h limit v)) same ∙ others.1)
+
+passes_many : (h : HeapSeen) (limit fuel u n : ℕ) → length (map (runner_on fuel) (first_passes h limit u n)) ≡ n
+passes_many h limit fuel u zero = refl
+passes_many h limit fuel u (suc n) = ap suc (passes_many h limit fuel (suc u) n)
+
+module _ (unused : Unused) (h : HeapSeen) (p : ProgramText) (fuel : ℕ) (is : IsHeapOf h p) (few : fuel ≤ 200000)
+    (sound : Sound (opening h.heap.shape h.heap.start h.heap.biasing)) where
+  abbrev seated : ℕ → RunnerSeen
+  seated t = runner_on fuel (first_pass h (2 * fuel + 66) t)
+
+  new_at : (t : ℕ) → t < h.heap.shape.threads → IsRunnerAt h p fuel t (seated t)
+  new_at t within =
+      let rests = fresh_rests h t (first_pass h (2 * fuel + 66) t) (fresh h (2 * fuel + 66) t sound within) in
+      record {
+        runner = record { on = unused h p fuel (first_pass h (2 * fuel + 66) t) is rests refl few refl; still = refl };
+        thread = refl;
+        fuel_is = refl;
+        unchecked = refl;
+      }
+
+  here : (t : ℕ) (r : RunnerSeen) → (t < h.heap.shape.threads) × (seated t ≡ r) → IsRunnerAt h p fuel t r
+  here t r at = subst (IsRunnerAt h p fuel t) at.1 (new_at t at.0)
+
+  pub are_new : AreNew h p fuel (map (runner_on fuel) (first_passes h (2 * fuel + 66) 0 h.heap.shape.threads))
+  are_new =
+      record {
+        runners = λ t r e.
+            let at = runner_at h (2 * fuel + 66) fuel 0 h.heap.shape.threads t r e in
+            let same : t ≡ 0 + t = omega arith in
+            here t r (at.0, ap seated same ∙ at.1);
+        count = passes_many h (2 * fuel + 66) fuel 0 h.heap.shape.threads;
+      }

@@ -1,0 +1,119 @@
+-- A run of a program, told by its record.
+use Rattle.std.proofs.Common.{◌≡◌, ℕ, zero, suc, ◌+◌, ◌<◌, ◌≤◌, Bool, true, false, List, [], ◌∷◌, length, map, Option, Some, refl, sym, ap, ◌∙◌, subst, arith, inl, inr}
+use Rattle.std.specs.Prelude.{◌⊎◌, slice_get, slice_index_or}
+use Rattle.std.specs.List.{AllByRecursion, list_any}
+use Rattle.plain_history.specs.HeldByLog.{nothing_held}
+use Rattle.plain_history.specs.EnterPaths.{entries_on, first_path, needs_bias, EndsStay, PathsFit}
+use Rattle.plain_monitor.specs.declared.entry.Logged.{Logged}
+use Rattle.plain_monitor.specs.declared.entry.Path.{Path}
+use Rattle.plain_monitor.specs.declared.entry.Path.TheVariants.{BiasTaken}
+use Rattle.plain_monitor.specs.History.{log_of}
+use Rattle.plain_monitor.specs.Order.{order}
+use Rattle.core_counts.specs.OfARun.{IsHashLogged}
+use Rattle.core_steps.specs.Logic.{Heap}
+use Rattle.heap_table.specs.Seen.{ClosedSeen}
+use Rattle.lock_journal.specs.declared.record.ClassLine.{ClassLine}
+use Rattle.lock_journal.specs.declared.record.RunRecord.{RunRecord}
+use Rattle.lock_journal.specs.declared.record.Shot.{Shot}
+use Rattle.object_program.specs.Program.{ProgramText, class_of, shape_of}
+use Rattle.object_program.specs.Valid.{IsProgram}
+use Rattle.plain_machine.specs.Legal.{IsLegal, machine_after}
+use Rattle.plain_machine.specs.Machine.{PlainMachine}
+use Rattle.run_ends.specs.OfARun.{HasDraws}
+use Rattle.run_rounds.specs.Outcome.{HasRun, IsOver, was_halted}
+use Rattle.program_run.specs.declared.settings.Settings.{Settings}
+use Rattle.program_run.specs.Biases.{HasBiases, IsIdle, IsLine, IsUnrevoked}
+use Rattle.program_run.specs.HeapFor.{heap_for}
+use Rattle.program_run.specs.Left.{IsOfClosed, shots_left}
+use Rattle.program_run.specs.Lines.{HasSmallCounts, line_of, lines_below, total_on}
+use Rattle.program_run.specs.Ran.{IsRan, IsRecordOf}
+use Rattle.program_run.specs.Shots.{AreRightShots}
+use Rattle.program_run.proofs.Biased.{all_idle, fits, log_fits, revoke_is, small_here}
+use Rattle.program_run.proofs.Classes.{class_is}
+use Rattle.program_run.proofs.Cut.{Fronts, Legals, TheirObjects, right_shots}
+use Rattle.program_run.proofs.Few.{First, Stay, UseUp, Begins, Works, log_few}
+use Rattle.program_run.proofs.LinesBelow.{line_at}
+
+pub small : (s : Settings) (p : ProgramText) (c : ClosedSeen) → HasRun (heap_for s p) p s.fuel c → HasSmallCounts c
+small s p c ran = small_here (heap_for s p) c ran.biases ran.heap_is
+
+module _ (fronts : Fronts) (legals : Legals) (theirs : TheirObjects) (first : First) (stay : Stay) (use_up : UseUp) (begins : Begins) (works : Works)
+    (s : Settings) (p : ProgramText) (r : RunRecord) (c : ClosedSeen) (is : IsProgram p) (few : s.fuel ≤ 200000)
+    (ran : HasRun (heap_for s p) p s.fuel c) (of : IsRecordOf s p r) (copy : IsOfClosed r c) where
+  abbrev heap : Heap
+  heap = heap_for s p
+
+  legal : IsLegal p s.fuel c.logs
+  legal = legals p s.fuel c.logs ran.followed
+
+  short : (t : ℕ) → length (log_of c.logs t) ≤ 6400016
+  short = log_few first stay use_up begins works p s.fuel is few c.logs legal
+
+  shots : AreRightShots p s.fuel r.logs r.shots
+  shots =
+      subst (λ (x : List (List Logged) × List (List Shot)). AreRightShots p s.fuel x.0 x.1) (λ i. (sym copy.logs i, sym copy.shots i))
+      (right_shots fronts legals theirs p s.fuel c.logs ran.followed c.shots ran.shots)
+
+  over : (m : PlainMachine) → machine_after p s.fuel r.logs ≡ Some m → IsOver m r.halted
+  over m e =
+      subst (IsOver m) (sym copy.halted)
+      (ran.over m (ap (machine_after p s.fuel) (sym copy.logs) ∙ e))
+
+  -- a line of the record is that of a class of the program
+  line_here : (k : ℕ) (line : ClassLine) → slice_get r.classes k ≡ Some line → (k < length p.classes) × (line_of c k ≡ line)
+  line_here k line e =
+      line_at c (length p.classes) k line
+      (ap (λ (x : List ClassLine). slice_get x k) (sym (copy.classes ∙ ap (λ (h : Heap). lines_below c h.shape.classes) ran.heap_is)) ∙ e)
+
+  counts : (k : ℕ) (line : ClassLine) → slice_get r.classes k ≡ Some line → IsLine (total_on (λ n. n.reset) c.counts k) line
+  counts k line e =
+      let at = line_here k line e in
+      subst (IsLine (total_on (λ n. n.reset) c.counts k)) at.1
+      (fits heap c ran.biases ran.heap_is is.threads_few short k at.0)
+
+  entered : r.bias ≡ true → (o : ℕ) (path : Path) → IsUnrevoked r (class_of r.program o)
+      → first_path (entries_on o (order r.logs)) ≡ Some path → (path ≡ BiasTaken) ⊎ IsHashLogged r.logs o
+  entered biased o path unrevoked e =
+      let k : ℕ = class_of r.program o in
+      let at = line_here k unrevoked.0 unrevoked.1 in
+      let class : (slice_index_or (shape_of p) o (0, 0)).0 ≡ k = class_is p is o ∙ ap (λ (x : ProgramText). class_of x o) (sym of.program) in
+      let within : (slice_index_or (shape_of p) o (0, 0)).0 < length p.classes = subst (λ n. n < length p.classes) (sym class) at.0 in
+      let none : (line_of c (slice_index_or (shape_of p) o (0, 0)).0).revoke ≡ 0 =
+          ap (λ n. (line_of c n).revoke) class ∙ ap (λ (x : ClassLine). x.revoke) at.1 ∙ unrevoked.2 in
+      subst (λ (x : List (List Logged)). (path ≡ BiasTaken) ⊎ IsHashLogged x o) (sym copy.logs)
+      (ran.biases.biases.biases.entered (sym of.bias ∙ biased) o path
+      (sym (revoke_is heap c ran.biases ran.heap_is is.threads_few short (slice_index_or (shape_of p) o (0, 0)).0 within) ∙ none)
+      (ap (λ (x : List (List Logged)). first_path (entries_on o (order x))) (sym copy.logs) ∙ e))
+
+  idle : r.bias ≡ false → AllByRecursion IsIdle r.classes
+  idle none =
+      subst (AllByRecursion IsIdle) (sym (copy.classes ∙ ap (λ (h : Heap). lines_below c h.shape.classes) ran.heap_is))
+      (all_idle heap c ran.biases ran.heap_is is.threads_few short (sym of.bias ∙ none) (length p.classes) (omega arith))
+
+  biases : HasBiases r c
+  biases =
+      record {
+        stays = λ o. subst (λ (x : List (List Logged)). EndsStay (entries_on o (order x))) (sym copy.logs) (ran.biases.biases.biases.stays o);
+        paths = λ t.
+            subst (λ (x : List (List Logged)). PathsFit nothing_held (log_of x t)) (sym copy.logs)
+            (log_fits heap c ran.biases ran.heap_is is.threads_few short t (sym ran.followed.count));
+        entered = entered;
+        counts = counts;
+        plain = λ none o.
+            ap (λ (x : List (List Logged)). list_any needs_bias (entries_on o (order x))) copy.logs
+            ∙ ran.biases.biases.biases.plain (sym of.bias ∙ none) o;
+        idle = idle;
+      }
+
+  pub told : IsRan s p r c
+  told =
+      record {
+        of = of;
+        closed = copy;
+        heap = ran.heap_is;
+        legal = subst (IsLegal p s.fuel) (sym copy.logs) legal;
+        over = over;
+        shots = shots;
+        draws = subst (HasDraws s.start) (sym copy.logs) ran.draws;
+        biases = biases;
+      }

@@ -1,0 +1,42 @@
+-- What the law of biases says of a run, by its record.
+use Rattle.std.specs.Prelude.{◌≡◌, ◌⊎◌, ℕ, Bool, true, false, List, slice_get, Some}
+use Rattle.std.specs.List.{AllByRecursion, list_any}
+use Rattle.core_counts.specs.CountsAndVerdicts.{CountFits}
+use Rattle.core_counts.specs.OfARun.{IsHashLogged}
+use Rattle.heap_table.specs.Seen.{ClosedSeen}
+use Rattle.lock_journal.specs.declared.record.ClassLine.{ClassLine}
+use Rattle.lock_journal.specs.declared.record.RunRecord.{RunRecord}
+use Rattle.object_program.specs.Program.{class_of}
+use Rattle.plain_history.specs.EnterPaths.{entries_on, first_path, needs_bias, EndsStay, PathsFit}
+use Rattle.plain_history.specs.HeldByLog.{nothing_held}
+use Rattle.plain_monitor.specs.declared.entry.Path.{Path}
+use Rattle.plain_monitor.specs.declared.entry.Path.TheVariants.{BiasTaken}
+use Rattle.plain_monitor.specs.History.{log_of}
+use Rattle.plain_monitor.specs.Order.{order}
+use Rattle.program_run.specs.Lines.{total_on}
+
+-- the class with this line wasn't revoked in bulk
+abbrev pub IsUnrevoked : RunRecord → ℕ → Type 0
+IsUnrevoked r k = (line : ClassLine) × (slice_get r.classes k ≡ Some line) × (line.revoke ≡ 0)
+
+-- the count of a class and the verdicts on it fit, where the count was so often set to 0
+abbrev pub IsLine : ℕ → ClassLine → Type 0
+IsLine resets line = CountFits line.count line.single line.rebias line.revoke resets
+
+-- no verdict was counted
+abbrev pub IsIdle : ClassLine → Type 0
+IsIdle line = (line.single ≡ 0) × (line.rebias ≡ 0) × (line.revoke ≡ 0) × (line.count ≡ 0)
+
+pub record HasBiases (r : RunRecord) (c : ClosedSeen) : Type 0 where
+  -- in the order of all logs no Enter with a bias path stands after one of its object with another path, or after a Wait, Notify or NotifyAll of it
+  pub stays : (o : ℕ) → EndsStay (entries_on o (order r.logs))
+  -- in each log the paths of a first hold stand exactly where the thread's count was 0 and the path isn't BiasOwn
+  pub paths : (t : ℕ) → PathsFit nothing_held (log_of r.logs t)
+  -- with biases, and where the class wasn't revoked in bulk, an object with an Enter has BiasTaken as its first path, or a Hash of it is logged
+  pub entered : r.bias ≡ true → (o : ℕ) (path : Path) → IsUnrevoked r (class_of r.program o)
+      → first_path (entries_on o (order r.logs)) ≡ Some path → (path ≡ BiasTaken) ⊎ IsHashLogged r.logs o
+  -- the count of each class fits the verdicts on it, and how often it was set to 0
+  pub counts : (k : ℕ) (line : ClassLine) → slice_get r.classes k ≡ Some line → IsLine (total_on (λ n. n.reset) c.counts k) line
+  -- without biases no Enter has a bias path, and no verdict is counted
+  pub plain : r.bias ≡ false → (o : ℕ) → list_any needs_bias (entries_on o (order r.logs)) ≡ false
+  pub idle : r.bias ≡ false → AllByRecursion IsIdle r.classes

@@ -1,0 +1,33 @@
+-- What holds of a run of a program, by the record and the closed heap that it leaves.
+use Rattle.std.specs.Prelude.{◌≡◌, Some}
+use Rattle.heap_table.specs.Seen.{ClosedSeen}
+use Rattle.lock_journal.specs.declared.record.RunRecord.{RunRecord}
+use Rattle.object_program.specs.Program.{ProgramText}
+use Rattle.plain_machine.specs.Legal.{IsLegal, machine_after}
+use Rattle.plain_machine.specs.Machine.{PlainMachine}
+use Rattle.run_ends.specs.OfARun.{HasDraws}
+use Rattle.run_rounds.specs.Outcome.{IsOver}
+use Rattle.program_run.specs.declared.settings.Settings.{Settings}
+use Rattle.program_run.specs.Biases.{HasBiases}
+use Rattle.program_run.specs.HeapFor.{heap_for}
+use Rattle.program_run.specs.Left.{IsOfClosed}
+use Rattle.program_run.specs.Shots.{AreRightShots}
+
+-- the record is of this program under these settings
+pub record IsRecordOf (s : Settings) (p : ProgramText) (r : RunRecord) : Type 0 where
+  pub program : r.program ≡ p
+  pub fuel : r.fuel ≡ s.fuel
+  pub start : r.start ≡ s.start
+  pub bias : r.bias ≡ s.bias
+
+-- The record is of this program and of this heap, which is the program's. The plain machine takes its logs, and is over behind them, as the halt
+-- says; the hashes are the threads' draws, the dumps' shots are right, and the law of biases holds.
+pub record IsRan (s : Settings) (p : ProgramText) (r : RunRecord) (c : ClosedSeen) : Type 0 where
+  pub of : IsRecordOf s p r
+  pub closed : IsOfClosed r c
+  pub heap : c.heap ≡ heap_for s p
+  pub legal : IsLegal p s.fuel r.logs
+  pub over : (m : PlainMachine) → machine_after p s.fuel r.logs ≡ Some m → IsOver m r.halted
+  pub shots : AreRightShots p s.fuel r.logs r.shots
+  pub draws : HasDraws s.start r.logs
+  pub biases : HasBiases r c

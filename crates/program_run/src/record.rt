@@ -1,0 +1,41 @@
+//! The record of a run, by what its heap has at the end.
+
+ghost use Rattle.std.specs.Prelude.{IfOk};
+ghost use Rattle.program_run.specs.Left.{IsOfClosed};
+ghost use Rattle.program_run.specs.Lines.{HasSmallCounts};
+ghost use Rattle.program_run.specs.Ran.{IsRecordOf};
+
+use crate::copies::{copy_logs, copy_shots};
+use crate::lines::class_lines;
+use crate::settings::Settings;
+use heap_table::Closed;
+use lock_journal::RunRecord;
+use object_program::Program;
+use plain_monitor::NoMemory;
+use std::alloc::Global;
+
+/// The record of a run of the program that left this heap.
+pub fn record_of(
+    alloc: Global,
+    program: Program,
+    settings: &Settings,
+    closed: &Closed,
+) -> Result<RunRecord, NoMemory>
+    requires { HasSmallCounts closed.now }
+    ensures of { IfOk result (IsRecordOf settings.now program) }
+    ensures closed { IfOk result (λ r. IsOfClosed r closed.now) }
+{
+    let logs = copy_logs(alloc, closed.logs().items()).map_err(|_| NoMemory)?;
+    let shots = copy_shots(alloc, closed.shots().items()).map_err(|_| NoMemory)?;
+    let classes = class_lines(alloc, closed).map_err(|_| NoMemory)?;
+    Ok(RunRecord {
+        program,
+        fuel: settings.fuel,
+        start: settings.start,
+        bias: settings.bias,
+        logs,
+        shots,
+        classes,
+        halted: closed.halted(),
+    })
+}

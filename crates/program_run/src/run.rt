@@ -1,0 +1,73 @@
+//! The run of a program.
+
+ghost use Rattle.std.specs.Prelude.{◌≤◌, IfOk};
+ghost use Rattle.run_rounds.specs.Outcome.{HasRun};
+ghost use Rattle.program_run.specs.HeapFor.{heap_for};
+ghost use Rattle.program_run.specs.Ran.{IsRan};
+
+use crate::laws::the_record_tells_the_run;
+use crate::opening::open;
+use crate::record::record_of;
+use crate::settings::{Ran, Settings};
+use heap_table::Closed;
+use object_program::Program;
+use plain_monitor::NoMemory;
+use run_io::{Clock, Gate};
+use std::alloc::Global;
+use std::sync::Wait;
+use std::thread::Threads;
+
+/// Runs the program, until all its threads have ended or no thread can go on.
+///
+/// The fuel is at most 200,000. The threads run on so many workers, each in turns of at most `quantum` instructions, and the clock tells
+/// the policy of biases the time, in ticks of so many units. The record's logs are legal for the program, and the machine under them is
+/// over; its hashes are the draws of the threads' generators, its shots are right, and the law of biases holds of it. Which of the legal
+/// runs it is the workers decide. It may wait for workers. Where memory is wanting it is `NoMemory`.
+pub fn run_program<R: Threads + Wait + Sync, C: Clock + Sync, G: Gate + Sync>(
+    rt: &R,
+    alloc: Global,
+    program: Program,
+    settings: &Settings,
+    clock: &C,
+    gate: &G,
+) -> Result<Ran, NoMemory>
+    requires fuel { settings.now.fuel ≤ 200000 }
+    requires workers { 1 ≤ settings.now.workers }
+    requires quantum { 1 ≤ settings.now.quantum }
+    ensures { IfOk result (λ ran. IsRan settings.now program ran.record ran.closed) }
+{
+    the_record_tells_the_run();
+    let closed = run_closed(rt, alloc, &program, settings, clock, gate)?;
+    let record = record_of(alloc, program, settings, &closed)?;
+    Ok(Ran { record, closed })
+}
+
+// The same, and no record is made of what it leaves.
+fn run_closed<R: Threads + Wait + Sync, C: Clock + Sync, G: Gate + Sync>(
+    rt: &R,
+    alloc: Global,
+    program: &Program,
+    settings: &Settings,
+    clock: &C,
+    gate: &G,
+) -> Result<Closed, NoMemory>
+    requires fuel { settings.now.fuel ≤ 200000 }
+    requires workers { 1 ≤ settings.now.workers }
+    requires quantum { 1 ≤ settings.now.quantum }
+    ensures { IfOk result (HasRun (heap_for settings.now program.now) program.now settings.now.fuel) }
+{
+    let (heap, runners) = open(alloc, program, settings)?;
+    run_rounds::run(
+        rt,
+        alloc,
+        program,
+        heap,
+        runners,
+        settings.fuel,
+        settings.workers,
+        settings.quantum,
+        clock,
+        settings.tick,
+        gate,
+    )
+}
