@@ -1,0 +1,4 @@
+pub mod Alive
+pub mod Asides
+pub mod Sides
+pub mod Turns

@@ -1,3 +1,4 @@
 pub mod Runners
 pub mod Moves
 pub mod Checks
+pub mod Running

@@ -10,7 +10,7 @@ use Rattle.heap_table.specs.Resting.{start_now}
 use Rattle.heap_table.specs.Seen.{HeapSeen, PassSeen}
 use Rattle.lock_runtime.specs.Standing.{IsAsking, IsStopped}
 use Rattle.thread_calls.specs.Advances.{RanFrom, HasPended}
-use Rattle.thread_frame.specs.Frames.{FrameSeen, unspent, has_ended}
+use Rattle.thread_frame.specs.Frames.{unspent, has_ended}
 use Rattle.thread_interp.specs.declared.moved.Moved.{Moved}
 use Rattle.thread_interp.specs.declared.moved.RunState.{RunState}
 use Rattle.thread_interp.specs.declared.moved.RunState.TheVariants.{Live, Blocked, Ended}
@@ -21,11 +21,15 @@ abbrev pub StandsAfter : Known → RunState → Type 0
 StandsAfter k (Blocked (Stopping word)) = IsAsking k
 StandsAfter k _ = IsStopped k
 
+-- the pass was p, and a stop of its thread made it q
+abbrev pub IsStopRun : HeapSeen → PassSeen → PassSeen → Type 0
+IsStopRun h p q = RanFrom h (stop_steps (side_purpose task.Stop (start_now h p)) (start_now h p).local) p q tt
+
 -- the last call was pending for this, but for a stop behind it
 abbrev pub PendedBeforeStop : HeapSeen → PassSeen → Why → Type 0
 PendedBeforeStop h q why =
     HasPended h q why
-    ⊎ ((p : PassSeen) × HasPended h p why × RanFrom h (stop_steps (side_purpose task.Stop (start_now h p)) (start_now h p).local) p q tt)
+    ⊎ ((p : PassSeen) × HasPended h p why × IsStopRun h p q)
 
 -- a turn that is live did as many instructions as it might; it has ended exactly where the thread has; and it is blocked where its last call was pending
 abbrev pub IsState : HeapSeen → ℕ → ℕ → RunnerSeen → RunState → Type 0

@@ -1,9 +1,5 @@
 //! A pass and the state of its thread.
-ghost use Rattle.std.specs.Prelude.{◌≡◌, ◌+◌, ◌*◌, ◌≤◌, ℕ, false, true};
-ghost use Rattle.core_world.specs.Threads.Known.{Known};
-ghost use Rattle.heap_table.specs.Seen.{HeapSeen};
-ghost use Rattle.lock_runtime.specs.Standing.{StandsBehindCheck};
-ghost use Rattle.object_program.specs.Program.{ProgramText};
+ghost use Rattle.std.specs.Prelude.{◌≡◌, ◌≤◌, false};
 ghost use Rattle.thread_frame.specs.Frames.{first_frame, has_ended};
 ghost use Rattle.thread_interp.specs.Checks.{StandsAfterCheck};
 ghost use Rattle.thread_interp.specs.Moves.{HasMoved};
@@ -69,7 +65,16 @@ impl Runner {
         ensures moved { HasMoved heap.now quantum self.old self.new result }
     {
         gate.visit(self.pass.thread());
-        crate::turn::turn(program, heap, clock, tick, &mut self.pass, &mut self.frame, self.fuel, quantum)
+        crate::turn::turn(
+            program,
+            heap,
+            clock,
+            tick,
+            &mut self.pass,
+            &mut self.frame,
+            self.fuel,
+            quantum,
+        )
     }
 
     /// Looks at a safepoint whether the run is stuck, as `check_stuck`: the thread is set running before it where it is stopped, and

@@ -1,13 +1,12 @@
 //! Turns of a thread, and its checks.
 
-ghost use Rattle.std.specs.Prelude.{◌≡◌, ◌≤◌, ◌⊎◌, false, true};
-ghost use Rattle.lock_runtime.specs.Standing.{IsStopped};
-ghost use Rattle.thread_calls.specs.Advances.{HasAdvanced, MayAdvance, HasPended};
+ghost use Rattle.std.specs.Prelude.{◌≡◌, ◌≤◌, false};
+ghost use Rattle.thread_calls.specs.Advances.{HasAdvanced, MayAdvance};
 ghost use Rattle.thread_calls.specs.Between.{IsHeapOf, IsOn};
 ghost use Rattle.thread_frame.specs.Frames.{has_ended};
 ghost use Rattle.thread_interp.specs.Checks.{StandsAfterCheck};
 ghost use Rattle.thread_interp.specs.Moves.{HasMoved};
-ghost use Rattle.thread_interp.specs.Running.{IsReady, HasGone, HasReached};
+ghost use Rattle.thread_interp.specs.Running.{IsReady, HasGone, IsStill};
 ghost use Rattle.thread_interp.specs.Runners.{IsRunner, runner_of};
 
 use crate::moved::{Moved, RunState};
@@ -20,7 +19,13 @@ use thread_calls::advance;
 use thread_frame::Frame;
 
 // Sets the thread running, unless its request for a safepoint stands.
-fn set_running(program: &Program, heap: &Heap, fuel: u32, pass: &mut Pass, frame: &Frame) -> Turn<()>
+fn set_running(
+    program: &Program,
+    heap: &Heap,
+    fuel: u32,
+    pass: &mut Pass,
+    frame: &Frame,
+) -> Turn<()>
     requires on { IsOn heap.now program.now fuel pass.old frame.now }
     requires still { pass.old.known.running ≡ false }
     ensures { IsReady heap.now program.now fuel pass.old pass.new frame.now result }
@@ -66,10 +71,23 @@ fn go_on<C: Clock>(
 ) -> Moved
     requires heap { IsHeapOf heap.now program.now }
     requires may { MayAdvance heap.now program.now fuel pass.old frame.old }
+    requires quantum { 1 ≤ quantum }
     ensures { HasGone heap.now program.now fuel quantum pass.old pass.new frame.old frame.new result }
 {
     let mut instructions = 0;
     loop {
+        let done = match step(program, heap, clock, tick, fuel, pass, frame) {
+            Turn::Done(done) => done,
+            Turn::Pending(why) => {
+                return Moved {
+                    instructions,
+                    state: RunState::Blocked(why),
+                };
+            }
+        };
+        if done {
+            instructions += 1;
+        }
         if frame.has_ended() {
             return Moved {
                 instructions,
@@ -82,23 +100,13 @@ fn go_on<C: Clock>(
                 state: RunState::Live,
             };
         }
-        match step(program, heap, clock, tick, fuel, pass, frame) {
-            Turn::Done(true) => instructions += 1,
-            Turn::Done(false) => {}
-            Turn::Pending(why) => {
-                return Moved {
-                    instructions,
-                    state: RunState::Blocked(why),
-                };
-            }
-        }
     }
 }
 
 // Stops the thread where it runs.
 fn set_still(program: &Program, heap: &Heap, fuel: u32, pass: &mut Pass, frame: &Frame)
     requires on { IsOn heap.now program.now fuel pass.old frame.now }
-    ensures { HasReached heap.now program.now fuel pass.old pass.new frame.now }
+    ensures { IsStill heap.now program.now fuel pass.old pass.new frame.now }
 {
     if pass.running() {
         stop(heap, pass);
@@ -120,24 +128,31 @@ pub fn turn<C: Clock>(
     requires runner { IsRunner heap.now program.now (runner_of pass.old frame.old fuel) }
     requires unchecked { pass.old.known.checking ≡ false }
     requires live { has_ended frame.old ≡ false }
+    requires quantum { 1 ≤ quantum }
     ensures runner { IsRunner heap.now program.now (runner_of pass.new frame.new fuel) }
     ensures unchecked { pass.new.known.checking ≡ false }
     ensures thread { pass.new.known.thread ≡ pass.old.known.thread }
     ensures moved { HasMoved heap.now quantum (runner_of pass.old frame.old fuel) (runner_of pass.new frame.new fuel) result }
 {
-    let moved = match set_running(program, heap, fuel, pass, frame) {
-        Turn::Done(()) => go_on(program, heap, clock, tick, fuel, pass, frame, quantum),
-        Turn::Pending(why) => Moved {
+    if let Turn::Pending(why) = set_running(program, heap, fuel, pass, frame) {
+        return Moved {
             instructions: 0,
             state: RunState::Blocked(why),
-        },
-    };
+        };
+    }
+    let moved = go_on(program, heap, clock, tick, fuel, pass, frame, quantum);
     set_still(program, heap, fuel, pass, frame);
     moved
 }
 
 /// A check of the thread.
-pub fn check(program: &Program, heap: &Heap, pass: &mut Pass, frame: &Frame, fuel: u32) -> Turn<bool>
+pub fn check(
+    program: &Program,
+    heap: &Heap,
+    pass: &mut Pass,
+    frame: &Frame,
+    fuel: u32,
+) -> Turn<bool>
     requires heap { IsHeapOf heap.now program.now }
     requires runner { IsRunner heap.now program.now (runner_of pass.old frame.now fuel) }
     requires free { pass.old.known.requesting ≡ pass.old.known.checking }

@@ -1,0 +1,372 @@
+-- The parts of a turn, and of a check, one behind the other.
+use Rattle.std.proofs.Common.{◌≡◌, ◌≢◌, ◌⊎◌, ℕ, ◌+◌, ◌<◌, ◌≤◌, not, ◌&&◌, if◌then◌else◌, Bool, true, false, refl, sym, ap, ◌∙◌, subst, arith, inl, inr, true≢false}
+use Rattle.core_world.specs.declared.answer.Turn.{Turn}
+use Rattle.core_world.specs.declared.answer.Turn.TheVariants.{Done, Pending}
+use Rattle.core_world.specs.declared.answer.Why.{Why}
+use Rattle.core_world.specs.declared.answer.Why.TheVariants.{Stopping}
+use Rattle.core_world.specs.declared.task.Task.TheVariants as task
+use Rattle.core_world.specs.Threads.Known.{Known, Start}
+use Rattle.core_world.specs.Trees.Calls.{side_purpose}
+use Rattle.core_world.specs.Trees.Operations.{check_steps}
+use Rattle.core_world.specs.Trees.SafepointSteps.{poll_steps, stop_steps, resume_steps}
+use Rattle.core_calls.specs.Paths.{Tells}
+use Rattle.core_calls.specs.CallsSay.{PollSays, StopSays, ResumeSays, CheckSays}
+use Rattle.core_calls.specs.Causes.{is_stopping}
+use Rattle.heap_table.specs.Kept.{all_holds}
+use Rattle.heap_table.specs.Parts.{HasRun}
+use Rattle.heap_table.specs.Resting.{Rests, MayCall, start_now}
+use Rattle.heap_table.specs.Seen.{HeapSeen, PassSeen}
+use Rattle.lock_runtime.specs.Standing.{IsRunning, IsStopped, IsAsking, HasStopped, StandsBehind, StandsBehindResume, StandsBehindCheck}
+use Rattle.object_program.specs.Program.{ProgramText}
+use Rattle.thread_calls.specs.Advances.{HasPended, HasSpent, HasFallen, HasAdvanced, MayAdvance}
+use Rattle.thread_calls.specs.Between.{IsOn}
+use Rattle.thread_frame.specs.Frames.{FrameSeen, unspent, has_ended}
+use Rattle.thread_interp.specs.declared.moved.Moved.{Moved}
+use Rattle.thread_interp.specs.declared.moved.RunState.{RunState}
+use Rattle.thread_interp.specs.declared.moved.RunState.TheVariants.{Live, Blocked, Ended}
+use Rattle.thread_interp.specs.Checks.{HasChecked, StandsAfterCheck}
+use Rattle.thread_interp.specs.Moves.{HasMoved, IsState, PendedBeforeStop, StandsAfter}
+use Rattle.thread_interp.specs.Running.{StandsReady, IsReady, IsGoing, IsGoneTo, StandsGone, HasGone, IsStill}
+use Rattle.thread_interp.specs.Runners.{IsRunner, runner_of}
+use Rattle.thread_interp.proofs.Alive.{log_goes_on}
+use Rattle.thread_interp.proofs.Asides.{IsBeside, still_on}
+use Rattle.thread_interp.proofs.Sides.{is_unfinished, poll_beside, poll_other, poll_holds, resume_beside, resume_other, stop_beside, check_beside}
+
+both : {b : Bool} {A : Type 0} → b ≡ true → b ≡ false → A
+both is not_so = absurd (true≢false (sym is ∙ not_so))
+
+-- SET RUNNING
+module _ (h : HeapSeen) (text : ProgramText) (fuel : ℕ) (p : PassSeen) (f : FrameSeen) (on : IsOn h text fuel p f) (still : p.known.running ≡ false) where
+  pub may_resume : p.known.requesting ≡ false → MayCall h p task.Resume
+  may_resume asks = record { rests = on.rests; may = λ i. not (still i) && not (asks i) }
+
+  -- its request stands already
+  pub ready_asking : p.known.requesting ≡ true → IsReady h text fuel p p f (Done tt)
+  ready_asking asks =
+      record { on = on; checking = refl; asking = refl; thread = refl; stands = inr (record { runs = still; asks = asks }) }
+
+  module _ (q : PassSeen) (asks : p.known.requesting ≡ false) (rests : Rests h q) where
+    abbrev start : Start
+    start = start_now h p
+
+    resumed_free : (turn : Turn (Unit {0})) → StandsBehindResume q.known turn → q.known.requesting ≡ false
+    resumed_free (Done x) stands = stands.asks
+    resumed_free (Pending why) stands = stands.asks
+
+    resumed_stands : (turn : Turn (Unit {0})) → HasRun h (resume_steps (side_purpose task.Resume start) start.local) p q turn
+        → Tells p.known q.known (λ ms. ResumeSays start ms turn) → StandsBehindResume q.known turn → StandsReady h q turn
+    resumed_stands (Done x) run says stands = inl stands
+    resumed_stands (Pending why) run says stands =
+        record { stopped = stands; other = resume_other h p q on.rests rests why says; pended = (p, task.Resume, run.ran) }
+
+    pub ready_resumed : (turn : Turn (Unit {0})) → HasRun h (resume_steps (side_purpose task.Resume start) start.local) p q turn
+        → Tells p.known q.known (λ ms. ResumeSays start ms turn) → StandsBehindResume q.known turn → IsReady h text fuel p q f turn
+    ready_resumed turn run says stands =
+        let is = resume_beside h p q on.rests rests turn run says in
+        let free = resumed_free turn stands in
+        record {
+          on = still_on h text p.known.checking p q f is fuel on (λ asked unchecked. both asked free) (λ checks. on.checks (sym is.checking ∙ checks));
+          checking = is.checking;
+          asking = free ∙ sym asks;
+          thread = is.thread;
+          stands = resumed_stands turn run says stands;
+        }
+
+-- A STEP, by way of a poll where the thread runs
+runs_behind : (k : Known) (why : Why) → is_stopping why ≡ false → IsRunning k → StandsBehind {A = Bool} k (Pending why)
+runs_behind k (Stopping word) other runs = absurd (cc other)
+runs_behind k why other runs = runs
+
+module _ (h : HeapSeen) (text : ProgramText) (fuel : ℕ) (p q : PassSeen) (f : FrameSeen) (may : MayAdvance h text fuel p f) (rests : Rests h q)
+    (turn : Turn (Unit {0})) (run : HasRun h (poll_steps (side_purpose task.Poll (start_now h p))) p q turn)
+    (says : Tells p.known q.known (λ ms. PollSays (start_now h p) ms turn)) (stands : IsRunning q.known) where
+  polled : IsBeside h p.known.checking p q
+  polled = poll_beside h p q may.on.rests rests turn run says
+
+  polled_unchecked : q.known.checking ≡ false
+  polled_unchecked = polled.checking ∙ may.unchecked
+
+  polled_on : IsOn h text fuel q f
+  polled_on = still_on h text p.known.checking p q f polled fuel may.on (λ asked unchecked. both asked stands.asks) (λ checks. both checks polled_unchecked)
+
+  pub may_advance : MayAdvance h text fuel q f
+  may_advance = record { on = polled_on; unchecked = polled_unchecked; goes = inl stands.runs; live = may.live }
+
+  pub poll_pended : (why : Why) → turn ≡ Pending why → HasAdvanced h text fuel p q f f (Pending why)
+  poll_pended why is =
+      let says_why = subst (λ (x : Turn (Unit {0})). Tells p.known q.known (λ ms. PollSays (start_now h p) ms x)) is says in
+      let run_why = subst (λ (x : Turn (Unit {0})). HasRun h (poll_steps (side_purpose task.Poll (start_now h p))) p q x) is run in
+      record {
+        on = polled_on;
+        unchecked = polled_unchecked;
+        thread = polled.thread;
+        stands = runs_behind q.known why (poll_other h p q may.on.rests rests why says_why) stands;
+        spent = (refl, may.live, (p, task.Poll, run_why.ran));
+        fallen = tt;
+      }
+
+  -- what is done behind the poll is done
+  pub advanced : (r : PassSeen) (g : FrameSeen) (next : Turn Bool) → HasAdvanced h text fuel q r f g next → HasAdvanced h text fuel p r f g next
+  advanced r g next did =
+      record {
+        on = did.on;
+        unchecked = did.unchecked;
+        thread = did.thread ∙ polled.thread;
+        stands = did.stands;
+        spent = did.spent;
+        fallen = falls next did.fallen;
+      }
+    where
+      falls : (next : Turn Bool) → HasFallen q r f g next → HasFallen p r f g next
+      falls (Done b) fell =
+          let same = ap all_holds (poll_holds h.heap.shape h.heap.start (side_purpose task.Poll (start_now h p)) p.known q.known turn run.ran) in
+          omega (arith, fell, same)
+      falls (Pending why) fell = tt
+
+below : (m n : ℕ) → m ≤ n → m ≢ n → m < n
+below m n most less = omega (arith, most, less)
+
+-- GOING ON. One more instruction was done, or none was.
+abbrev Counts : Bool → ℕ → ℕ → Type 0
+Counts b count now = ((b ≡ true) × (now ≡ count + 1)) ⊎ ((b ≡ false) × (now ≡ count))
+
+module _ (h : HeapSeen) (text : ProgramText) (fuel quantum : ℕ) (p q r : PassSeen) (f g g2 : FrameSeen) (count : ℕ)
+    (going : IsGoing h text fuel quantum p q f g count) where
+  -- the last call was pending
+  pub gone_blocked : (why : Why) → HasAdvanced h text fuel q r g g2 (Pending why)
+      → HasGone h text fuel quantum p r f g2 (record { instructions = count; state = Blocked why })
+  gone_blocked why did =
+      let e = did.spent.0 in
+      record {
+        on = did.on;
+        unchecked = did.unchecked;
+        thread = did.thread ∙ going.thread;
+        most = omega (arith, going.few);
+        spent = omega (arith, going.spent, e);
+        state = (did.spent.1, did.spent.2);
+        stands = standing why did.stands;
+      }
+    where
+      standing : (why : Why) → StandsBehind {A = Bool} r.known (Pending why) → StandsGone r.known (Blocked why)
+      standing (Stopping word) stands = stands
+      standing why stands = stands
+
+  -- or it was done, and the thread has done so many instructions now
+  module _ (b : Bool) (did : HasAdvanced h text fuel q r g g2 (Done b)) (now : ℕ) (counts : Counts b count now) where
+    spent_now : unspent f ≡ unspent g2 + now
+    spent_now = elim counts [
+      | inl one ↦
+          let spent : unspent g ≡ unspent g2 + 1 = subst (λ (x : Bool). HasSpent h r g g2 (Done x)) one.0 did.spent in
+          omega (arith, going.spent, spent, one.1)
+      | inr none ↦
+          let spent : unspent g ≡ unspent g2 = subst (λ (x : Bool). HasSpent h r g g2 (Done x)) none.0 did.spent in
+          omega (arith, going.spent, spent, none.1)
+    ]
+
+    most : now ≤ quantum
+    most = elim counts [ inl one ↦ omega (arith, going.few, one.1) | inr none ↦ omega (arith, going.few, none.1) ]
+
+    pub gone_ended : has_ended g2 ≡ true → HasGone h text fuel quantum p r f g2 (record { instructions = now; state = Ended })
+    gone_ended over =
+        record {
+          on = did.on;
+          unchecked = did.unchecked;
+          thread = did.thread ∙ going.thread;
+          most = most;
+          spent = spent_now;
+          state = over;
+          stands = did.stands;
+        }
+
+    pub gone_live : has_ended g2 ≡ false → now ≡ quantum → HasGone h text fuel quantum p r f g2 (record { instructions = now; state = Live })
+    gone_live live all =
+        record {
+          on = did.on;
+          unchecked = did.unchecked;
+          thread = did.thread ∙ going.thread;
+          most = most;
+          spent = spent_now;
+          state = (all, live);
+          stands = did.stands;
+        }
+
+    pub goes_on : has_ended g2 ≡ false → now ≢ quantum → IsGoing h text fuel quantum p r f g2 now
+    goes_on live less =
+        record {
+          may = record { on = did.on; unchecked = did.unchecked; goes = inl did.stands.runs; live = live };
+          thread = did.thread ∙ going.thread;
+          spent = spent_now;
+          few = below now quantum most less;
+        }
+
+-- STOPPED
+module _ (h : HeapSeen) (text : ProgramText) (fuel : ℕ) (p : PassSeen) (f : FrameSeen) (on : IsOn h text fuel p f) where
+  pub may_stop : p.known.running ≡ true → MayCall h p task.Stop
+  may_stop runs = record { rests = on.rests; may = runs }
+
+  pub still_kept : p.known.running ≡ false → IsStill h text fuel p p f
+  still_kept still = record { on = on; checking = refl; thread = refl; stands = inl (record { still = still; same = refl }) }
+
+  pub still_stopped : (q : PassSeen) → p.known.running ≡ true → Rests h q
+      → HasRun h (stop_steps (side_purpose task.Stop (start_now h p)) (start_now h p).local) p q tt
+      → Tells p.known q.known (λ ms. StopSays (start_now h p) ms tt) → HasStopped q.known → IsStill h text fuel p q f
+  still_stopped q runs rests run says stands =
+      let is = stop_beside h p q on.rests rests tt run says in
+      record {
+        on = still_on h text p.known.checking p q f is fuel on
+            (λ asked unchecked. both asked stands.stopped.asks) (λ checks. on.checks (sym is.checking ∙ checks));
+        checking = is.checking;
+        thread = is.thread;
+        stands = inr (record { ran_before = runs; stopped = stands.stopped; ran = run.ran });
+      }
+
+module _ (h : HeapSeen) (text : ProgramText) (fuel : ℕ) (p q : PassSeen) (f : FrameSeen) (is : IsStill h text fuel p q f) where
+  pub runs_no_more : q.known.running ≡ false
+  runs_no_more = elim is.stands [
+    | inl kept ↦ ap (λ (x : PassSeen). x.known.running) kept.same ∙ kept.still
+    | inr been ↦ been.stopped.runs
+  ]
+
+  -- a thread that ran was stopped, and one that didn't stands as it stood
+  was_stopped : IsRunning p.known → IsStopped q.known
+  was_stopped runs = elim is.stands [ inl kept ↦ both runs.runs kept.still | inr been ↦ been.stopped ]
+
+  stood : p.known.running ≡ false → q ≡ p
+  stood still = elim is.stands [ inl kept ↦ kept.same | inr been ↦ both been.ran_before still ]
+
+  -- A TURN that was blocked, behind its stop
+  pended_before : (why : Why) → HasPended h p why → PendedBeforeStop h q why
+  pended_before why pended = elim is.stands [
+    | inl kept ↦ inl (subst (λ (x : PassSeen). HasPended h x why) (sym kept.same) pended)
+    | inr been ↦ inr (p, pended, been.ran)
+  ]
+
+  stopped_state : (quantum count : ℕ) (state : RunState) → IsGoneTo h quantum count p f state → IsState h quantum count (runner_of q f fuel) state
+  stopped_state quantum count Live so = so
+  stopped_state quantum count (Blocked why) so = (so.0, pended_before why so.1)
+  stopped_state quantum count Ended so = so
+
+  asked_still : IsAsking p.known → IsAsking q.known
+  asked_still asks = subst (λ (x : PassSeen). IsAsking x.known) (sym (stood asks.runs)) asks
+
+  stopped_stands : (state : RunState) → StandsGone p.known state → StandsAfter q.known state
+  stopped_stands Live so = was_stopped so
+  stopped_stands (Blocked (Stopping word)) so = asked_still so
+  stopped_stands (Blocked why) so = was_stopped so
+  stopped_stands Ended so = was_stopped so
+
+  pub has_moved : (quantum : ℕ) (before ready : PassSeen) (first : FrameSeen) (m : Moved) → HasGone h text fuel quantum ready p first f m
+      → HasMoved h quantum (runner_of before first fuel) (runner_of q f fuel) m
+  has_moved quantum before ready first m gone =
+      record {
+        most = gone.most;
+        spent = gone.spent;
+        state = stopped_state quantum m.instructions m.state gone.state;
+        stands = stopped_stands m.state gone.stands;
+      }
+
+  pub is_runner : IsRunner h text (runner_of q f fuel)
+  is_runner = record { on = is.on; still = runs_no_more }
+
+  -- a stopped thread stays so
+  stopped_still : IsStopped p.known → IsStopped q.known
+  stopped_still stopped = subst (λ (x : PassSeen). IsStopped x.known) (sym (stood stopped.runs)) stopped
+
+  -- A CHECK, behind its stop
+  over : p.known.checking ≡ false → q.known.checking ≡ false
+  over unchecked = is.checking ∙ unchecked
+
+  pub has_checked : (turn : Turn Bool) → p.known.checking ≡ is_unfinished turn → StandsBehindCheck p.known turn → StandsAfterCheck q.known turn
+  has_checked (Done true) checking stands =
+      let same = stood stands.stopped.runs in (
+        record { stopped = stopped_still stands.stopped; halted = ap (λ (x : PassSeen). x.known.halted) same ∙ stands.halted },
+        record { stopped = stopped_still stands.stopped; over = over checking },
+      )
+  has_checked (Done false) checking stands = record { stopped = was_stopped stands; over = over checking }
+  has_checked (Pending (Stopping word)) checking stands = record { asking = asked_still stands; unfinished = is.checking ∙ checking }
+  has_checked (Pending why) checking stands = record { stopped = was_stopped stands; over = over checking }
+
+-- A TURN whose resume was pending
+module _ (h : HeapSeen) (text : ProgramText) (fuel quantum : ℕ) (p q : PassSeen) (f : FrameSeen) (live : has_ended f ≡ false)
+    (why : Why) (ready : IsReady h text fuel p q f (Pending why)) where
+  pub barred_moved : HasMoved h quantum (runner_of p f fuel) (runner_of q f fuel) (record { instructions = 0; state = Blocked why })
+  barred_moved =
+      record {
+        most = omega arith;
+        spent = omega arith;
+        state = (live, inl ready.stands.pended);
+        stands = standing why ready.stands.other ready.stands.stopped;
+      }
+    where
+      standing : (why : Why) → is_stopping why ≡ false → IsStopped q.known → StandsAfter q.known (Blocked why)
+      standing (Stopping word) other stopped = absurd (cc other)
+      standing why other stopped = stopped
+
+  pub barred_runner : IsRunner h text (runner_of q f fuel)
+  barred_runner = record { on = ready.on; still = ready.stands.stopped.runs }
+
+-- and one that may go on
+pub may_go : (h : HeapSeen) (text : ProgramText) (fuel : ℕ) (p q : PassSeen) (f : FrameSeen) (turn : Turn (Unit {0})) → p.known.checking ≡ false
+    → has_ended f ≡ false → IsReady h text fuel p q f turn → IsRunning q.known ⊎ IsAsking q.known → MayAdvance h text fuel q f
+may_go h text fuel p q f turn unchecked live ready stands =
+    record {
+      on = ready.on;
+      unchecked = ready.checking ∙ unchecked;
+      goes = elim stands [ inl runs ↦ inl runs.runs | inr asks ↦ inr asks.asks ];
+      live = live;
+    }
+
+-- A CHECK
+module _ (h : HeapSeen) (text : ProgramText) (fuel : ℕ) (p q : PassSeen) (f : FrameSeen) (free : p.known.requesting ≡ p.known.checking)
+    (live : has_ended f ≡ false) where
+  -- it may begin where its own request stands, and where the thread runs
+  pub may_check : (turn : Turn (Unit {0})) → IsReady h text fuel p q f turn → IsRunning q.known ⊎ IsAsking q.known → MayCall h q task.Check
+  may_check turn ready stands =
+      let none = log_goes_on h text fuel q f ready.on live in
+      record { rests = ready.on.rests; may = λ i. not (none i) && goes i }
+    where
+      goes : (if q.known.requesting then q.known.checking else q.known.running) ≡ true
+      goes = elim stands [
+        | inl runs ↦ ap (λ b. if b then q.known.checking else q.known.running) runs.asks ∙ runs.runs
+        | inr asks ↦
+            ap (λ b. if b then q.known.checking else q.known.running) asks.asks
+            ∙ ready.checking ∙ sym free ∙ sym ready.asking ∙ asks.asks
+      ]
+
+  -- a resume that was pending leaves no check unfinished
+  pub not_checked : (why : Why) → IsReady h text fuel p q f (Pending why) → StandsAfterCheck q.known (Pending why)
+  not_checked why ready = standing why ready.stands.other
+    where
+      checked : HasChecked q.known
+      checked = record {
+        stopped = ready.stands.stopped;
+        over = ready.checking ∙ sym free ∙ sym ready.asking ∙ ready.stands.stopped.asks;
+      }
+
+      standing : (why : Why) → is_stopping why ≡ false → StandsAfterCheck q.known (Pending why)
+      standing (Stopping word) other = absurd (cc other)
+      standing why other = checked
+
+-- behind it the pass and its frame still belong together
+module _ (h : HeapSeen) (text : ProgramText) (fuel : ℕ) (p q : PassSeen) (f : FrameSeen) (on : IsOn h text fuel p f) (live : has_ended f ≡ false)
+    (rests : Rests h q) (turn : Turn Bool) (run : HasRun h (check_steps h.heap.shape (start_now h p)) p q turn)
+    (says : Tells p.known q.known (λ ms. CheckSays (start_now h p) ms turn)) (stands : StandsBehindCheck q.known turn) where
+  is_checked : IsBeside h (is_unfinished turn) p q
+  is_checked = check_beside h p q on.rests rests turn run says
+
+  pub check_left : q.known.checking ≡ is_unfinished turn
+  check_left = is_checked.checking
+
+  pub check_thread : q.known.thread ≡ p.known.thread
+  check_thread = is_checked.thread
+
+  -- a request that stands behind it is the check's
+  asks_as_check : (turn : Turn Bool) → StandsBehindCheck q.known turn → q.known.checking ≡ is_unfinished turn
+      → q.known.requesting ≡ true → q.known.checking ≡ false → ⊥
+  asks_as_check (Done true) stands checking asked unchecked = both asked stands.stopped.asks
+  asks_as_check (Done false) stands checking asked unchecked = both asked stands.asks
+  asks_as_check (Pending (Stopping word)) stands checking asked unchecked = both checking unchecked
+  asks_as_check (Pending why) stands checking asked unchecked = both asked stands.asks
+
+  pub check_on : IsOn h text fuel q f
+  check_on = still_on h text (is_unfinished turn) p q f is_checked fuel on (asks_as_check turn stands check_left) (λ checks. live)

@@ -1,0 +1,59 @@
+use Rattle.std.proofs.Common.{◌∙◌}
+use Rattle.thread_interp.proofs.Turns.{may_check, not_checked, barred_runner, check_on, check_left, check_thread, has_checked, is_runner}
+use Rattle.thread_interp.proofs.turn.check.Goals as goal
+
+pub set_running-requires-clause-on : goal.set_running-requires-clause-on
+set_running-requires-clause-on c = c.requires.runner.on
+
+pub returns-in-Pending-clause-runner : goal.returns-in-Pending-clause-runner
+returns-in-Pending-clause-runner c =
+    let a = c.args in
+    barred_runner a.heap.now a.program.now a.fuel 0 a.pass.now c.set_running.new.pass a.frame.now c.requires.live c.in-Pending.why c.in-Pending.ensures
+
+pub returns-in-Pending-clause-thread : goal.returns-in-Pending-clause-thread
+returns-in-Pending-clause-thread c = c.set_running.ensures.thread
+
+pub returns-in-Pending-clause-stands : goal.returns-in-Pending-clause-stands
+returns-in-Pending-clause-stands c =
+    let a = c.args in
+    not_checked a.heap.now a.program.now a.fuel a.pass.now c.set_running.new.pass a.frame.now c.requires.free c.requires.live
+    c.in-Pending.why c.in-Pending.ensures
+
+pub check_stuck-stuck-requires : goal.check_stuck-stuck-requires
+check_stuck-stuck-requires c =
+    let a = c.args in
+    may_check a.heap.now a.program.now a.fuel a.pass.now c.set_running.new.pass a.frame.now c.requires.free c.requires.live
+    c.set_running.result c.set_running.ensures c.in_default.ensures.stands
+
+pub set_still-requires : goal.set_still-requires
+set_still-requires c =
+    let a = c.args in
+    let e = c.check_stuck-stuck.ensures in
+    record {
+      on = check_on a.heap.now a.program.now a.fuel c.set_running.new.pass c.check_stuck-stuck.new.pass a.frame.now
+          c.set_running.ensures.on c.requires.live e.rests c.check_stuck-stuck.result e.run e.says e.stands;
+    }
+
+pub returns-clause-runner : goal.returns-clause-runner
+returns-clause-runner c =
+    let a = c.args in
+    is_runner a.heap.now a.program.now a.fuel c.check_stuck-stuck.new.pass c.set_still.new.pass a.frame.now c.set_still.ensures
+
+pub returns-clause-thread : goal.returns-clause-thread
+returns-clause-thread c =
+    let a = c.args in
+    let e = c.check_stuck-stuck.ensures in
+    c.set_still.ensures.thread
+    ∙ check_thread a.heap.now a.program.now a.fuel c.set_running.new.pass c.check_stuck-stuck.new.pass a.frame.now
+    c.set_running.ensures.on c.requires.live e.rests c.check_stuck-stuck.result e.run e.says e.stands
+    ∙ c.set_running.ensures.thread
+
+pub returns-clause-stands : goal.returns-clause-stands
+returns-clause-stands c =
+    let a = c.args in
+    let e = c.check_stuck-stuck.ensures in
+    let left =
+    check_left a.heap.now a.program.now a.fuel c.set_running.new.pass c.check_stuck-stuck.new.pass a.frame.now
+    c.set_running.ensures.on c.requires.live e.rests c.check_stuck-stuck.result e.run e.says e.stands in
+    has_checked a.heap.now a.program.now a.fuel c.check_stuck-stuck.new.pass c.set_still.new.pass a.frame.now c.set_still.ensures
+    c.check_stuck-stuck.result left e.stands

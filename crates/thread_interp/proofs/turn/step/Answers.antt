@@ -1,0 +1,45 @@
+use Rattle.std.proofs.Common.{sym, ◌∙◌, subst}
+use Rattle.heap_table.specs.Seen.{PassSeen}
+use Rattle.thread_calls.specs.Advances.{MayAdvance, HasAdvanced}
+use Rattle.thread_interp.proofs.Turns.{may_advance, poll_pended, advanced}
+use Rattle.thread_interp.proofs.turn.step.Goals.{then-running+in_default, else-running}
+use Rattle.thread_interp.proofs.turn.step.Goals as goal
+
+pub poll-requires : goal.poll-requires
+poll-requires g c =
+    record { rests = c.requires.may.on.rests; may = sym c.running.ensures ∙ c.if-running.true }
+
+pub returns-in-Pending : goal.returns-in-Pending
+returns-in-Pending g c =
+    let a = c.args in
+    let e = c.poll.ensures in
+    poll_pended a.heap.now a.program.now a.fuel a.pass.now c.poll.new.pass a.frame.now c.requires.may e.rests
+    c.poll.result e.run e.says e.stands c.in-Pending.why c.in-Pending.is
+
+pub advance-requires-clause-may : goal.advance-requires-clause-may
+advance-requires-clause-may g c =
+    let a = c.args in
+    elim c.if-running.branch [
+      | then-running+in_default w ↦
+          let e = w.poll.ensures in
+          subst (λ (x : PassSeen). MayAdvance a.heap.now a.program.now a.fuel x a.frame.now) (sym w.pass-is)
+          (may_advance a.heap.now a.program.now a.fuel a.pass.now w.poll.new.pass a.frame.now c.requires.may e.rests
+          w.poll.result e.run e.says e.stands)
+      | else-running w ↦ subst (λ (x : PassSeen). MayAdvance a.heap.now a.program.now a.fuel x a.frame.now) (sym w.pass-is) c.requires.may
+    ]
+
+pub returns : goal.returns
+returns g c =
+    let a = c.args in
+    let q = c.advance.new.pass in
+    let f = c.advance.new.frame in
+    let did = c.advance.ensures in
+    elim c.if-running.branch [
+      | then-running+in_default w ↦
+          let e = w.poll.ensures in
+          advanced a.heap.now a.program.now a.fuel a.pass.now w.poll.new.pass a.frame.now c.requires.may e.rests
+          w.poll.result e.run e.says e.stands q f c.advance.result
+          (subst (λ (x : PassSeen). HasAdvanced a.heap.now a.program.now a.fuel x q a.frame.now f c.advance.result) w.pass-is did)
+      | else-running w ↦
+          subst (λ (x : PassSeen). HasAdvanced a.heap.now a.program.now a.fuel x q a.frame.now f c.advance.result) w.pass-is did
+    ]
