@@ -1,5 +1,5 @@
 -- What a run on workers leaves.
-use Rattle.std.specs.Prelude.{◌≡◌, ℕ, not, Bool, true, false, List, length, map, slice_index, Some}
+use Rattle.std.specs.Prelude.{◌≡◌, ℕ, not, Bool, true, false, List, map, slice_index, Some}
 use Rattle.std.specs.List.{list_all}
 use Rattle.core_steps.specs.Logic.{Heap}
 use Rattle.core_world.specs.Threads.Known.{Known}
