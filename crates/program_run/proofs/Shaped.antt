@@ -1,14 +1,13 @@
 -- The shape of a program's heap, by the slots of its classes and the classes of its objects.
 use Rattle.std.proofs.Common.{◌≡◌, ℕ, zero, suc, ◌+◌, ◌<◌, ◌≤◌, List, [], ◌∷◌, ◌++◌, length, map, replicate, refl, sym, ap, ◌∙◌, subst, arith, All}
-use Rattle.std.specs.Prelude.{slice_get, slice_index}
+use Rattle.std.specs.Prelude.{slice_index}
 use Rattle.std.proofs.lemmas.List.{length-append, length-map, length-replicate, map-append}
 use Rattle.std.proofs.lemmas.List.Elements.{All-append, All-from_recursion, All-nil, All-replicate}
-use Rattle.core_world.specs.Words.Shape.{Shape}
 use Rattle.heap_table.specs.Layout as layout
 use Rattle.object_program.specs.declared.program.ClassDef.{ClassDef}
 use Rattle.object_program.specs.declared.program.ObjectDef.{ObjectDef}
 use Rattle.object_program.specs.declared.program.ThreadDef.{ThreadDef}
-use Rattle.object_program.specs.Program.{ProgramText, shape_from, slots_in, slots_of_class, total_of}
+use Rattle.object_program.specs.Program.{ProgramText, shape_from, slots_of_class, total_of}
 use Rattle.object_program.specs.Valid.{AreObjects, IsProgram}
 use Rattle.plain_monitor.proofs.Lists.{all_map}
 use Rattle.program_run.specs.HeapFor.{classes_of, shape_for}
@@ -74,5 +73,5 @@ module _ (p : ProgramText) (is : IsProgram p) (threads : List ThreadDef) (slots 
   shape_is =
       let many : length slots ≡ length p.classes = ap length s ∙ length-map p.classes (λ (d : ClassDef). d.slots) in
       let objects : map (λ d. (d, slice_index slots d)) classes ≡ shape_from p.classes p.objects =
-          (λ i. map (λ d. (d, slice_index (s i) d)) (c i)) ∙ objects_are p.classes p.objects in
+      (λ i. map (λ d. (d, slice_index (s i) d)) (c i)) ∙ objects_are p.classes p.objects in
       λ i. record { threads = length (t i); classes = many i; objects = objects i }

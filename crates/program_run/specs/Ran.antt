@@ -1,5 +1,5 @@
 -- What holds of a run of a program, by the record and the closed heap that it leaves.
-use Rattle.std.specs.Prelude.{◌≡◌, Some}
+use Rattle.std.specs.Prelude.{◌≡◌, length, Some}
 use Rattle.heap_table.specs.Seen.{ClosedSeen}
 use Rattle.lock_journal.specs.declared.record.RunRecord.{RunRecord}
 use Rattle.object_program.specs.Program.{ProgramText}
@@ -20,12 +20,19 @@ pub record IsRecordOf (s : Settings) (p : ProgramText) (r : RunRecord) : Type 0 
   pub start : r.start ≡ s.start
   pub bias : r.bias ≡ s.bias
 
+-- it has a log and shots for each thread, and a line for each class
+pub record HasAll (p : ProgramText) (r : RunRecord) : Type 0 where
+  pub logs : length r.logs ≡ length p.threads
+  pub shots : length r.shots ≡ length p.threads
+  pub classes : length r.classes ≡ length p.classes
+
 -- The record is of this program and of this heap, which is the program's. The plain machine takes its logs, and is over behind them, as the halt
 -- says; the hashes are the threads' draws, the dumps' shots are right, and the law of biases holds.
 pub record IsRan (s : Settings) (p : ProgramText) (r : RunRecord) (c : ClosedSeen) : Type 0 where
   pub of : IsRecordOf s p r
   pub closed : IsOfClosed r c
   pub heap : c.heap ≡ heap_for s p
+  pub all : HasAll p r
   pub legal : IsLegal p s.fuel r.logs
   pub over : (m : PlainMachine) → machine_after p s.fuel r.logs ≡ Some m → IsOver m r.halted
   pub shots : AreRightShots p s.fuel r.logs r.shots
