@@ -1,5 +1,7 @@
 -- What holds of a run of a program, by the record and the closed heap that it leaves.
 use Rattle.std.specs.Prelude.{◌≡◌, length, Some}
+use Rattle.std.specs.List.{AllByRecursion}
+use Rattle.own_logs.specs.Stamps.{AreNext}
 use Rattle.heap_table.specs.Seen.{ClosedSeen}
 use Rattle.lock_journal.specs.declared.record.RunRecord.{RunRecord}
 use Rattle.object_program.specs.Program.{ProgramText}
@@ -37,4 +39,6 @@ pub record IsRan (s : Settings) (p : ProgramText) (r : RunRecord) (c : ClosedSee
   pub over : (m : PlainMachine) → machine_after p s.fuel r.logs ≡ Some m → IsOver m r.halted
   pub shots : AreRightShots p s.fuel r.logs r.shots
   pub draws : HasDraws s.start r.logs
+  -- an entry that takes no lock has the stamp next to the one before it in its log
+  pub stamps : AllByRecursion (AreNext 0) r.logs
   pub biases : HasBiases r c

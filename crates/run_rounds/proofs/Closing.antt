@@ -19,6 +19,9 @@ use Rattle.run_ends.specs.OfARun.{HasDraws, HasShots, IsEnd, logs_in, shots_in, 
 use Rattle.run_ends.proofs.Draws.{has_draws}
 use Rattle.run_ends.proofs.Shots.{has_shots}
 use Rattle.run_ends.proofs.Stuck.{no_hash_open}
+use Rattle.own_logs.specs.Stamps.{AreNext}
+use Rattle.own_logs.proofs.OwnStamps.{own_stamps}
+use Rattle.std.specs.List.{AllByRecursion}
 use Rattle.run_rounds.specs.Outcome.{HasRun}
 use Rattle.run_rounds.specs.Rounds.{AreRunners, AreOver}
 use Rattle.run_rounds.proofs.Ending.{passes, known_at, log_at, logs_are, not_live, all_of, own_follows, ended_at, is_end, have_followed, word_is_halted}
@@ -28,6 +31,10 @@ use Rattle.run_rounds.proofs.Over.{Laws, ends_alike, is_over}
 shots_are : (ps : List PassSeen) → shots_of ps ≡ shots_in (knowns ps)
 shots_are [] = refl
 shots_are (p ∷ ps) = ap (λ (l : List (List DumpShot)). p.known.shots ∷ l) (shots_are ps)
+
+stamps_are : (h : HeapSeen) (ps : List PassSeen) → All (IsOf h) ps → AllByRecursion (AreNext 0) (logs_of ps)
+stamps_are h [] all = tt
+stamps_are h (p ∷ ps) all = (own_stamps h p (all 0 p (omega arith)), stamps_are h ps (λ k d lt. all (suc k) d (omega (arith, lt))))
 
 counts_are : (h : HeapSeen) (ps : List PassSeen) → All (IsOf h) ps
     → counts_of_all ps ≡ map (λ (k : Known). counts_shown 0 h.heap.shape.classes k.counts) (knowns ps)
@@ -94,6 +101,7 @@ module _ (h : HeapSeen) (p : ProgramText) (fuel : ℕ) (rs : List RunnerSeen) (a
     shots = subst (λ (x : List (ℕ × ℕ) × List (List Logged) × List (List DumpShot)). HasShots x.0 x.1 x.2)
         (λ i. (of.objects i, sym logs_in_are i, sym (closed.shots ∙ shots_are (passes rs)) i))
         (has_shots h.heap c.words (knowns (passes rs)) end);
+    stamps = subst (AllByRecursion (AreNext 0)) (sym closed.logs) (stamps_are h (passes rs) (all_of h p fuel rs are));
     biases = record {
       knowns = knowns (passes rs);
       end = end;
