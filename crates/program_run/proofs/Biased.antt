@@ -1,5 +1,6 @@
 -- The law of biases, by the record of a run.
-use Rattle.std.proofs.Common.{◌≡◌, ℕ, zero, suc, ◌+◌, ◌*◌, ◌%◌, ◌<◌, ◌≤◌, ◌==◌, if◌then◌else◌, Bool, true, false, List, [], ◌∷◌, length, refl, sym, ap, ◌∙◌, subst, arith, inl, inr}
+use Rattle.std.proofs.Common.{◌≡◌, ℕ, zero, suc, ◌+◌, ◌*◌, ◌%◌, ◌<◌, ◌≤◌, ◌==◌, if◌then◌else◌}
+use Rattle.std.proofs.Common.{Bool, true, false, List, [], ◌∷◌, length, refl, sym, ap, ◌∙◌, subst, arith, inl, inr}
 use Rattle.std.specs.Prelude.{◌^◌, slice_index}
 use Rattle.std.specs.List.{AllByRecursion}
 use Rattle.std.proofs.lemmas.Bool.{cases_lt}
@@ -43,13 +44,18 @@ Plain = (heap : Heap) (words : List ℕ) (ks : List Known) (c : ℕ) → IsEnd h
     → slice_index words (place_of heap.shape (Prototype c)) ≡ 1
 
 -- the bulk verdicts of the threads are sums
-revokes_are : (n : ℕ) (counted : ℕ → List CountedVerdict) (k : ℕ) → bulk_revokes n counted k ≡ sum_below n (λ t. (counts_of (counted t) k).revoke)
+revokes_are : (n : ℕ) (counted : ℕ → List CountedVerdict) (k : ℕ)
+    → bulk_revokes n counted k ≡ sum_below n (λ t. (counts_of (counted t) k).revoke)
 revokes_are zero counted k = refl
 revokes_are (suc n) counted k = ap (λ m. m + (counts_of (counted n) k).revoke) (revokes_are n counted k)
 
-rebiases_are : (n : ℕ) (counted : ℕ → List CountedVerdict) (k : ℕ) → bulk_rebiases n counted k ≡ sum_below n (λ t. (counts_of (counted t) k).rebias)
+rebiases_are : (n : ℕ) (counted : ℕ → List CountedVerdict) (k : ℕ)
+    → bulk_rebiases n counted k ≡ sum_below n (λ t. (counts_of (counted t) k).rebias)
 rebiases_are zero counted k = refl
 rebiases_are (suc n) counted k = ap (λ m. m + (counts_of (counted n) k).rebias) (rebiases_are n counted k)
+
+abbrev one_more : known.ClassCounts → Verdict → Bool → known.ClassCounts
+one_more counts verdict reset = known.with_reset (known.with_verdict counts verdict) reset
 
 -- a count is set to 0 at most once for each verdict
 resets_few : (vs : List CountedVerdict) (k : ℕ) → (counts_of vs k).reset ≤ verdicts_on (counts_of vs k)
@@ -57,7 +63,7 @@ resets_few [] k = omega arith
 resets_few (v ∷ vs) k = by_class (k == v.class) (resets_few vs k)
   where
     by_verdict : (verdict : Verdict) (reset : Bool) → (counts_of vs k).reset ≤ verdicts_on (counts_of vs k)
-        → (known.with_reset (known.with_verdict (counts_of vs k) verdict) reset).reset ≤ verdicts_on (known.with_reset (known.with_verdict (counts_of vs k) verdict) reset)
+        → (one_more (counts_of vs k) verdict reset).reset ≤ verdicts_on (one_more (counts_of vs k) verdict reset)
     by_verdict Single true h = omega (arith, h)
     by_verdict Single false h = omega (arith, h)
     by_verdict BulkRebias true h = omega (arith, h)
@@ -66,8 +72,8 @@ resets_few (v ∷ vs) k = by_class (k == v.class) (resets_few vs k)
     by_verdict BulkRevoke false h = omega (arith, h)
 
     by_class : (b : Bool) → (counts_of vs k).reset ≤ verdicts_on (counts_of vs k)
-        → (if b then known.with_reset (known.with_verdict (counts_of vs k) v.verdict) v.reset else counts_of vs k).reset
-        ≤ verdicts_on (if b then known.with_reset (known.with_verdict (counts_of vs k) v.verdict) v.reset else counts_of vs k)
+        → (if b then one_more (counts_of vs k) v.verdict v.reset else counts_of vs k).reset
+        ≤ verdicts_on (if b then one_more (counts_of vs k) v.verdict v.reset else counts_of vs k)
     by_class true h = by_verdict v.verdict v.reset h
     by_class false h = h
 
@@ -116,10 +122,13 @@ module _ (heap : Heap) (c : ClosedSeen) (left : LeftBiases heap c) (same : c.hea
     revoke_is = total_capped k within (λ n. n.revoke) (λ x. x.revoke) (λ x h g. omega (arith, h, g)) (λ t. omega arith)
 
     reset_is : total_on (λ n. n.reset) c.counts k ≡ (sums k).reset
-    reset_is = total_here k within (λ n. n.reset) (λ x. x.reset) (λ x h g. omega (arith, h, g)) (λ t. resets_few (counted_by left.knowns t) k)
+    reset_is = total_here k within (λ n. n.reset) (λ x. x.reset) (λ x h g. omega (arith, h, g))
+        (λ t. resets_few (counted_by left.knowns t) k)
 
     count_is : (line_of c k).count ≡ left.biases.count k
-    count_is = ap (λ (s : Shape). slice_index c.words (place_of s (Revocations k))) (λ i. (same i).shape) ∙ left.biases.words_are k within
+    count_is =
+        ap (λ (s : Shape). slice_index c.words (place_of s (Revocations k))) (λ i. (same i).shape)
+        ∙ left.biases.words_are k within
 
     prototype_word : (line_of c k).prototype ≡ slice_index c.words (place_of heap.shape (Prototype k))
     prototype_word = ap (λ (s : Shape). slice_index c.words (place_of s (Prototype k))) (λ i. (same i).shape)
@@ -131,8 +140,8 @@ module _ (heap : Heap) (c : ClosedSeen) (left : LeftBiases heap c) (same : c.hea
         let rebias_now = rebias_is in
         let revoke_now = revoke_is in
         let reset_now = reset_is in
-        subst (λ (x : ClassLine × ℕ). CountFits x.0.count x.0.single x.0.rebias x.0.revoke x.1)
-        (λ i. (record { single = sym single_now i; rebias = sym rebias_now i; revoke = sym revoke_now i; count = sym count_now i; prototype = (line_of c k).prototype }, sym reset_now i))
+        subst (λ (x : ℕ × ℕ × ℕ × ℕ × ℕ). CountFits x.0 x.1 x.2 x.3 x.4)
+        (λ i. (sym count_now i, sym single_now i, sym rebias_now i, sym revoke_now i, sym reset_now i))
         (left.biases.biases.counts k)
 
     idle : heap.biasing ≡ false → IsIdle (line_of c k)
@@ -145,10 +154,11 @@ module _ (heap : Heap) (c : ClosedSeen) (left : LeftBiases heap c) (same : c.hea
         (single, rebias, revoke, omega (arith, few, single, rebias, revoke))
 
   -- what holds of the line of each class holds of all of them
-  pub all_lines : (P : ClassLine → Type 0) → ((k : ℕ) → k < heap.shape.classes → P (line_of c k)) → (n : ℕ) → n ≤ heap.shape.classes
-      → AllByRecursion P (lines_below c n)
+  pub all_lines : (P : ClassLine → Type 0) → ((k : ℕ) → k < heap.shape.classes → P (line_of c k))
+      → (n : ℕ) → n ≤ heap.shape.classes → AllByRecursion P (lines_below c n)
   all_lines P each zero h = tt
-  all_lines P each (suc n) h = all_push P (lines_below c n) (line_of c n) (all_lines P each n (omega (arith, h))) (each n (omega (arith, h)))
+  all_lines P each (suc n) h =
+      all_push P (lines_below c n) (line_of c n) (all_lines P each n (omega (arith, h))) (each n (omega (arith, h)))
 
   module _ (biased : Biased) (plain : Plain) (k : ℕ) (within : k < heap.shape.classes) where
     pub prototype_is : (b : Bool) → heap.biasing ≡ b → (line_of c k).prototype ≡ prototype_by b (line_of c k)

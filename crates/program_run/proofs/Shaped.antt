@@ -43,8 +43,10 @@ objects_are : (classes : List ClassDef) (ds : List ObjectDef)
 objects_are classes [] = refl
 objects_are classes (d ∷ ds) =
     let f : ℕ → ℕ × ℕ = λ c. (c, slice_index (slots_by classes) c) in
+    let of_one : map f (replicate d.size d.class) ≡ replicate d.size (d.class, slots_of_class classes d.class) =
+    map-replicate f d.size d.class ∙ ap (λ n. replicate d.size (d.class, n)) (slots_at classes d.class) in
     map-append f (replicate d.size d.class) (classes_of ds)
-    ∙ ap (λ (x : List (ℕ × ℕ)). x ++ map f (classes_of ds)) (map-replicate f d.size d.class ∙ ap (λ n. replicate d.size (d.class, n)) (slots_at classes d.class))
+    ∙ ap (λ (x : List (ℕ × ℕ)). x ++ map f (classes_of ds)) of_one
     ∙ ap (λ (x : List (ℕ × ℕ)). replicate d.size (d.class, slots_of_class classes d.class) ++ x) (objects_are classes ds)
 
 module _ (p : ProgramText) (is : IsProgram p) (threads : List ThreadDef) (slots classes : List ℕ)

@@ -27,17 +27,19 @@ IsLine resets line = CountFits line.count line.single line.rebias line.revoke re
 abbrev pub IsIdle : ClassLine → Type 0
 IsIdle line = (line.single ≡ 0) × (line.rebias ≡ 0) × (line.revoke ≡ 0) × (line.count ≡ 0)
 
--- the prototype's word: biased to nobody, with the number of bulk rebiases modulo 4 as its epoch; or neutral where there are no biases, or the
--- class was revoked in bulk
+-- the prototype's word: biased to nobody, with the number of bulk rebiases modulo 4 as its epoch; or neutral where there
+-- are no biases, or the class was revoked in bulk
 abbrev pub prototype_by : Bool → ClassLine → ℕ
 prototype_by bias line = if bias && (line.revoke == 0) then line.rebias % 4 * 256 + 5 else 1
 
 pub record HasBiases (r : RunRecord) (c : ClosedSeen) : Type 0 where
-  -- in the order of all logs no Enter with a bias path stands after one of its object with another path, or after a Wait, Notify or NotifyAll of it
+  -- in the order of all logs no Enter with a bias path stands after one of its object with another path, or after a Wait,
+  -- Notify or NotifyAll of it
   pub stays : (o : ℕ) → EndsStay (entries_on o (order r.logs))
   -- in each log the paths of a first hold stand exactly where the thread's count was 0 and the path isn't BiasOwn
   pub paths : (t : ℕ) → PathsFit nothing_held (log_of r.logs t)
-  -- with biases, and where the class wasn't revoked in bulk, an object with an Enter has BiasTaken as its first path, or a Hash of it is logged
+  -- with biases, and where the class wasn't revoked in bulk, an object with an Enter has BiasTaken as its first path, or a
+  -- Hash of it is logged
   pub entered : r.bias ≡ true → (o : ℕ) (path : Path) → IsUnrevoked r (class_of r.program o)
       → first_path (entries_on o (order r.logs)) ≡ Some path → (path ≡ BiasTaken) ⊎ IsHashLogged r.logs o
   -- the count of each class fits the verdicts on it, and how often it was set to 0

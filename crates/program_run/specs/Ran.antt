@@ -28,8 +28,8 @@ pub record HasAll (p : ProgramText) (r : RunRecord) : Type 0 where
   pub shots : length r.shots ≡ length p.threads
   pub classes : length r.classes ≡ length p.classes
 
--- The record is of this program and of this heap, which is the program's. The plain machine takes its logs, and is over behind them, as the halt
--- says; the hashes are the threads' draws, the dumps' shots are right, and the law of biases holds.
+-- The record is of this program and of this heap, which is the program's. The plain machine takes its logs, and is over
+-- behind them, as the halt says; the hashes are the threads' draws, the dumps' shots are right, and the law of biases holds.
 pub record IsRan (s : Settings) (p : ProgramText) (r : RunRecord) (c : ClosedSeen) : Type 0 where
   pub of : IsRecordOf s p r
   pub closed : IsOfClosed r c
