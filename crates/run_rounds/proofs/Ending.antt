@@ -7,6 +7,7 @@ use Rattle.std.proofs.lemmas.Option.{none-some, same_Some, slice_get_within, sli
 use Rattle.plain_monitor.specs.declared.entry.Logged.{Logged}
 use Rattle.plain_monitor.specs.History.{LegalObjects, log_of}
 use Rattle.plain_history.specs.Joined.{run_log}
+use Rattle.core_world.specs.declared.name.Name.TheVariants.{Safepoint}
 use Rattle.core_world.specs.Threads.AtRest.{AtRest}
 use Rattle.core_world.specs.Threads.Known.{Known}
 use Rattle.core_world.specs.Words.Forms.{is_halted}
@@ -155,7 +156,7 @@ module _ (h : HeapSeen) (p : ProgramText) (fuel : ℕ) (rs : List RunnerSeen) (a
     pub word_is_halted : (words : List ℕ) → IsEnd h.heap words (knowns (passes rs)) → KnowsHalt rs → is_halted (slice_index words 0) ≡ true
     word_is_halted words end (t, r, e, halt) =
         let s = settled h.heap words (knowns (passes rs)) end in
-        ap is_halted s.safe ∙ s.fits.safe.stopped t (knows s (s.listed t))
+        ap is_halted (s.words_are Safepoint tt) ∙ s.fits.safe.stopped t (knows s (s.listed t))
       where
         knows : (s : Settled h.heap words (knowns (passes rs))) → IsListed (knowns (passes rs)) t (s.world.known t)
             → (s.world.known t).halted ≡ true
