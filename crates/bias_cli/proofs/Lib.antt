@@ -1,3 +1,4 @@
+pub mod MadeItems
 pub mod Takes
 pub mod Texts
 pub mod CutShort

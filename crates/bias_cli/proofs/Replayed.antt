@@ -5,7 +5,7 @@ use Rattle.plain_machine.specs.Legal.{IsLegal}
 use Rattle.lock_journal.specs.declared.record.RunRecord.{RunRecord}
 use Rattle.run_words.specs.declared.options.Command.{Command}
 use Rattle.bias_cli.specs.declared.finish.Finish.{Finish}
-use Rattle.bias_cli.specs.Finish.{SourceSeen, SinkSeen, Due, Refuses, Runs, Checks, Meets, IsRun, IsGivenUp, IsFinish, due_of}
+use Rattle.bias_cli.specs.Finish.{SourceSeen, SinkSeen, Due, Tells, Runs, Checks, Meets, IsRun, IsGivenUp, IsFinish, due_of}
 
 -- what holds of a record that can be replayed
 record IsReplayed (r : RunRecord) : Type 0 where
@@ -14,7 +14,7 @@ record IsReplayed (r : RunRecord) : Type 0 where
 
 -- what was due was done, and left a record
 due_replayed : (before after : SinkSeen) (f : Finish) (r : RunRecord) (due : Due) → Meets before after f due → f.run ≡ Some r → IsReplayed r
-due_replayed before after f r (Refuses status text) met h = absurd (cc (h, met.0))
+due_replayed before after f r (Tells status text) met h = absurd (cc (h, met.0))
 due_replayed before after f r (Checks p fuel start lines) met h = absurd (cc (h, met.0))
 due_replayed before after f r (Runs o p) met h =
     let same : met.0 ≡ r = same_Some met.0 r (sym met.1 ∙ h) in

@@ -23,6 +23,7 @@ use Rattle.lock_journal.specs.RunText.{text_of_run, text_of_lines}
 use Rattle.run_words.specs.declared.options.Options.{Options}
 use Rattle.run_words.specs.declared.options.Command.{Command}
 use Rattle.run_words.specs.declared.options.Command.TheVariants.{Run, Check, Make}
+use Rattle.made_program.specs.HandoverText.{handover_text}
 use Rattle.bias_cli.specs.Refused.{refusal_text}
 use Rattle.lock_journal.specs.declared.record.RunRecord.{RunRecord}
 use Rattle.lock_journal.specs.declared.record.ClassLine.{ClassLine}
@@ -66,21 +67,25 @@ IsReading (Some most) before after Unread = ⊥
 IsReading (Some most) before after ReadFault = IsTrue (rose before.faults after.faults)
 IsReading (Some most) before after (Text bytes) = Took most before.left after.left bytes
 
--- what is due: a refusal with its status and text, a run of a program under options, or a check of a journal's lines, by the
--- program, the fuel and what the generators of hashes start from
+-- what is due: to tell a text with its status, where something is refused or a program is made; a run of a program under options; or a
+-- check of a journal's lines, by the program, the fuel and what the generators of hashes start from
 pub data Due : Type 0 where
-  Refuses : ℕ → List ℕ → Due
+  Tells : ℕ → List ℕ → Due
   Runs : Options → ProgramText → Due
   Checks : ProgramText → ℕ → ℕ → List (List ℕ) → Due
 
 abbrev pub words_refused : Due
-words_refused = Refuses 2 (codes "words refused\n")
+words_refused = Tells 2 (codes "words refused\n")
 
 abbrev pub read_fault : Due
-read_fault = Refuses 5 (codes "read fault\n")
+read_fault = Tells 5 (codes "read fault\n")
+
+-- the handover program for so many items
+abbrev pub program_made : ℕ → Due
+program_made items = Tells 0 (handover_text items)
 
 abbrev pub no_program : ProgramError → Due
-no_program e = Refuses 3 (refusal_text e)
+no_program e = Tells 3 (refusal_text e)
 
 -- a text that has no program is refused with its line and cause
 abbrev pub run_due : Options → Result ProgramText ProgramError → Due
@@ -94,19 +99,20 @@ journal_due fuel start lines (Err e) = no_program e
 -- the limit goes first, then the marker, then the program before it
 abbrev pub check_due : ℕ → ℕ → List ℕ → Due
 check_due fuel start bytes =
-    if nat_lt most_of_journal (length bytes) then Refuses 3 (codes "program: Limit\n")
+    if nat_lt most_of_journal (length bytes) then Tells 3 (codes "program: Limit\n")
     else if has_journal bytes then journal_due fuel start (journal_part bytes) (program_of (program_part bytes))
-    else Refuses 3 (codes "program: NoJournal\n")
+    else Tells 3 (codes "program: NoJournal\n")
 
--- what is due of the text that these words ask for
+-- what is due of the words and the text that they ask for; words that are not accepted, and words that ask for a program to be made,
+-- ask for none, and what is due of them is due whatever the text is
 abbrev pub text_due : Option Command → List ℕ → Due
 text_due None bytes = words_refused
 text_due (Some (Run o)) bytes = run_due o (program_of bytes)
 text_due (Some (Check fuel start)) bytes = check_due fuel start bytes
-text_due (Some (Make items)) bytes = words_refused
+text_due (Some (Make items)) bytes = program_made items
 
 abbrev pub due_of : Option Command → Reading → Due
-due_of c Unread = words_refused
+due_of c Unread = text_due c []
 due_of c ReadFault = read_fault
 due_of c (Text bytes) = text_due c bytes
 
@@ -176,7 +182,7 @@ pub record IsCheck (p : ProgramText) (fuel start : ℕ) (lines : List (List ℕ)
 
 -- what was due was done; only a run leaves a record
 abbrev pub Meets : SinkSeen → SinkSeen → Finish → Due → Type 0
-Meets before after finish (Refuses status text) = (finish.run ≡ None) × IsWritten before after finish.status status text
+Meets before after finish (Tells status text) = (finish.run ≡ None) × IsWritten before after finish.status status text
 Meets before after finish (Runs o p) = (r : RunRecord) × (finish.run ≡ Some r) × IsRun o p before after finish.status r
 Meets before after finish (Checks p fuel start lines) = (finish.run ≡ None) × IsCheck p fuel start lines before after finish.status
 

@@ -11,7 +11,7 @@ use run_io::Sink;
 ///
 /// | Status | Where |
 /// |---|---|
-/// | 0 | a program ran, and every thread came to its `end`; or a journal is legal |
+/// | 0 | a program ran, and every thread came to its `end`; or a journal is legal; or a program was made |
 /// | 1 | a program ran, some thread faulted or was spent, and the machine isn't stuck; or a line of a journal is no step, or a hash is bad |
 /// | 2 | the words are not accepted |
 /// | 3 | the text has no program, its line and cause are written; or no journal, or a line of it is unreadable |

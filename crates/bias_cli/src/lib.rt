@@ -1,5 +1,5 @@
 //! `biasrun`: runs a program of the object language and writes what it prints and how each of its threads ended; or checks a
-//! journal of one.
+//! journal of one; or makes one.
 //!
 //! `biasrun` is the top call. Its contract is over the words, the bytes read, the bytes written, the counts of faults and what
 //! it answers: `specs/Finish.antt` says what is due and what counts as done, and `lock_journal` what the text of a run is.
@@ -15,6 +15,7 @@ mod finish;
 mod hashes;
 mod input;
 mod laws;
+mod make;
 mod output;
 mod recording;
 mod refusal;
@@ -39,11 +40,14 @@ use std::thread::Threads;
 /// and writes to the sink the bytes of the run's text: what its threads print and dump, in stamped order, how each of them ended,
 /// and then, where the words ask for them, the lock statistics, the journal of all monitor calls, and a report of who waits for whom
 /// and how each object was locked and passed on. `check` reads a program with a journal of it, to the end or one byte past the
-/// limit of both, and writes whether the journal is a legal history of the program, and if not, from which line on it isn't.
+/// limit of both, and writes whether the journal is a legal history of the program, and if not, from which line on it isn't. `make`
+/// reads nothing, and writes the text of the handover program for the number of items that the words say
+/// (`made_program::handover`), which may be run then.
 ///
 /// `words[0]` is the program's name. Where the words are not accepted, a read fails, or the text has no program, that is what is
-/// written, and there is no record, nor is there one of a check (`Finish` has the statuses). At the first write that fails the
-/// writing stops, with a front of the text written and status 6. Want of memory comes only before the first byte is written.
+/// written, and there is no record, nor is there one of a check or of a program that is made (`Finish` has the statuses). At the
+/// first write that fails the writing stops, with a front of the text written and status 6. Want of memory comes only before the
+/// first byte is written.
 ///
 /// Today all threads of a program run in turns on the calling thread, by the plain machine: `rt`, `clock` and `gate` are not
 /// used yet, and no object is ever biased or inflated.
@@ -57,8 +61,8 @@ pub fn biasrun<R: Threads + Wait + Sync, S: Source, K: Sink, C: Clock + Sync, G:
     gate: &G,
 ) -> Finish
     // Either memory was wanting, with status 7 and nothing written; or the words, the text that was read and the run of the
-    // plain machine, or the check of a journal by it, say what is due, and that was written and answered, up to the first
-    // write that failed.
+    // plain machine, or the check of a journal by it, or the number of items of a program that is made, say what is due, and
+    // that was written and answered, up to the first write that failed.
     ensures { IsGivenUp (sink_seen (K.held sink.old) (K.faults sink.old)) (sink_seen (K.held sink.new) (K.faults sink.new)) result
         ⊎ IsFinish (accepted (map (λ w. string_bytes w) words.now))
         (source_seen (S.left source.old) (S.faults source.old)) (source_seen (S.left source.new) (S.faults source.new))

@@ -12,6 +12,7 @@ ghost use Rattle.bias_cli.specs.Report.{IsReportWhere};
 use crate::check::check_source;
 use crate::finish::{Finish, WRITE_FAILED, give_up, tell};
 use crate::input::{MOST_OF_PROGRAM, ReadError, read_text};
+use crate::make::make_program;
 use crate::recording::record_of;
 use crate::refusal::refusal_line;
 use crate::report::report_where;
@@ -40,7 +41,8 @@ pub(crate) fn run_words<S: Source, K: Sink>(
     match read_words(alloc, words) {
         Ok(Command::Run(options)) => run_source(alloc, &options, source, sink),
         Ok(Command::Check { fuel, start }) => check_source(alloc, fuel, start, source, sink),
-        Ok(Command::Make { .. }) | Err(WordsFault::Refused) => tell(sink, 2, b"words refused\n"),
+        Ok(Command::Make { items }) => make_program(alloc, items, sink),
+        Err(WordsFault::Refused) => tell(sink, 2, b"words refused\n"),
         Err(WordsFault::NoMemory) => give_up(),
     }
 }

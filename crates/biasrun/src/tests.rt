@@ -1,6 +1,7 @@
 //! Whole runs, from words and a text in memory to what a sink in memory holds.
 
 mod checks;
+mod makes;
 mod reports;
 mod rows;
 mod texts;

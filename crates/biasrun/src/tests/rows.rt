@@ -90,10 +90,9 @@ fn words_choose_what_is_written(rt: HostRuntime) -> Result<(), Fail> {
 
 #[test]
 fn what_cannot_run_is_refused(rt: HostRuntime) -> Result<(), Fail> {
-    let rows: [(&'static [&'static str], &'static str, u8, &str); 6] = [
+    let rows: [(&'static [&'static str], &'static str, u8, &str); 5] = [
         (&["walk"], ANSWER, 2, "words refused\n"),
         (&["run", "--workers", "0"], ANSWER, 2, "words refused\n"),
-        (&["make", "40"], "", 2, "words refused\n"),
         (RUN, ANSWER_FIVE_LINES, 3, "line 3: NoEnd\n"),
         (RUN, "", 3, "program: NoThread\n"),
         (RUN, "class C 17\n", 3, "line 1: BadNumber\n"),

@@ -1,0 +1,60 @@
+-- Words that ask for a program to be made say from 1 to 1,500 items.
+use Rattle.std.proofs.Common.{◌≡◌, ℕ, ◌≤◌, ◌&&◌, Bool, true, false, nat_le, if◌then◌else◌, List, [], ◌∷◌, Option, Some, None, option_map, option_and_then, refl, subst, arith}
+use Rattle.std.specs.Prelude.{codes}
+use Rattle.std.specs.Bool.{⊤}
+use Rattle.std.specs.Str.{bytes_eq}
+use Rattle.std.proofs.lemmas.Bool.{leb-true}
+use Rattle.run_words.specs.declared.options.Options.{Options}
+use Rattle.run_words.specs.declared.options.Command.{Command}
+use Rattle.run_words.specs.declared.options.Command.TheVariants.{Run, Check, Make}
+use Rattle.run_words.specs.Number.{is_number, within, number}
+use Rattle.run_words.specs.Command.{Text, Values, accepted, command_in, run_of, check_of, make_of, check_by, check_values, fuel_of, start_of, has_run_options, options_of, values_in}
+
+-- where a command makes a program, so many items
+abbrev IsFew : Option Command → Type 0
+IsFew None = ⊤
+IsFew (Some (Run o)) = ⊤
+IsFew (Some (Check fuel start)) = ⊤
+IsFew (Some (Make items)) = (1 ≤ items) × (items ≤ 1500)
+
+by_test : (b : Bool) (c d : Option Command) → IsFew c → IsFew d → IsFew (if b then c else d)
+by_test true c d few_c few_d = few_c
+by_test false c d few_c few_d = few_d
+
+of_run : (o : Option Options) → IsFew (option_map Run o)
+of_run None = tt
+of_run (Some o) = tt
+
+of_check : (fuel start : Option ℕ) → IsFew (option_and_then (λ f. option_and_then (λ s. Some (Check f s)) start) fuel)
+of_check None start = tt
+of_check (Some f) None = tt
+of_check (Some f) (Some s) = tt
+
+of_values : (v : Option Values) → IsFew (option_and_then check_by v)
+of_values None = tt
+of_values (Some v) = by_test (has_run_options v) None (check_values v) tt (of_check (fuel_of v) (start_of v))
+
+of_within : (n : ℕ) (least most : Bool) → nat_le 1 n ≡ least → nat_le n 1500 ≡ most → IsFew (option_map Make (if least && most then Some n else None))
+of_within n true true e f = (leb-true 1 n e, leb-true n 1500 f)
+of_within n true false e f = tt
+of_within n false most e f = tt
+
+of_number : (b : Bool) (n : ℕ) → IsFew (option_map Make (if b then within 1 1500 n else None))
+of_number true n = of_within n (nat_le 1 n) (nat_le n 1500) refl refl
+of_number false n = tt
+
+of_make : (words : List Text) → IsFew (make_of words)
+of_make [] = tt
+of_make (items ∷ []) = of_number (is_number items) _
+of_make (a ∷ b ∷ words) = tt
+
+of_words : (words : List Text) → IsFew (accepted words)
+of_words [] = tt
+of_words (program ∷ []) = tt
+of_words (program ∷ command ∷ words) =
+    by_test (bytes_eq command (codes "run")) _ _ (of_run (option_and_then options_of (values_in words)))
+    (by_test (bytes_eq command (codes "check")) _ _ (of_values (values_in words))
+    (by_test (bytes_eq command (codes "make")) _ _ (of_make words) tt))
+
+pub few_items : (words : List Text) (items : ℕ) → accepted words ≡ Some (Make items) → (1 ≤ items) × (items ≤ 1500)
+few_items words items e = subst IsFew e (of_words words)

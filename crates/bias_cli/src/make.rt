@@ -1,0 +1,37 @@
+//! Making a program: its text, of the number of its items alone.
+
+ghost use Rattle.std.specs.Prelude.{◌≡◌, ◌⊎◌, ◌≤◌, IfOk};
+ghost use Rattle.made_program.specs.HandoverText.{handover_text};
+ghost use Rattle.bias_cli.specs.Finish.{sink_seen, Meets, program_made, IsGivenUp};
+
+use crate::finish::{Finish, give_up, tell};
+use made_program::handover;
+use object_program::write_program;
+use plain_monitor::NoMemory;
+use run_io::Sink;
+use std::alloc::Global;
+
+/// Makes the handover program for this many items, and writes its text. It reads nothing.
+pub(crate) fn make_program<K: Sink>(alloc: Global, items: u32, sink: &mut K) -> Finish
+    requires some { 1 ≤ items }
+    requires few { items ≤ 1500 }
+    ensures { IsGivenUp (sink_seen (K.held sink.old) (K.faults sink.old)) (sink_seen (K.held sink.new) (K.faults sink.new)) result
+        ⊎ Meets (sink_seen (K.held sink.old) (K.faults sink.old)) (sink_seen (K.held sink.new) (K.faults sink.new)) result (program_made items) }
+{
+    match text_made(alloc, items) {
+        Ok(text) => tell(sink, 0, text.as_slice()),
+        Err(NoMemory) => give_up(),
+    }
+}
+
+/// The text of the handover program for this many items.
+fn text_made(alloc: Global, items: u32) -> Result<Vec<u8>, NoMemory>
+    requires some { 1 ≤ items }
+    requires few { items ≤ 1500 }
+    ensures { IfOk result (λ text. text.items ≡ handover_text items) }
+{
+    let program = handover(alloc, items)?;
+    let mut text = Vec::new(alloc);
+    write_program(&program, &mut text)?;
+    Ok(text)
+}
