@@ -1,16 +1,17 @@
 -- Words that ask for a program to be made say from 1 to 1,500 items.
-use Rattle.std.proofs.Common.{◌≡◌, ℕ, ◌≤◌, ◌&&◌, Bool, true, false, nat_le, if◌then◌else◌, List, [], ◌∷◌, Option, Some, None, option_map, option_and_then, refl, subst, arith}
+use Rattle.std.proofs.Common.{◌≡◌, ℕ, ◌≤◌, ◌&&◌, Bool, true, false, nat_le, if◌then◌else◌, List, [], ◌∷◌, Option, Some, None, option_map, option_and_then, refl, subst}
 use Rattle.std.specs.Prelude.{codes}
 use Rattle.std.specs.Bool.{⊤}
 use Rattle.std.specs.Str.{bytes_eq}
+use Rattle.std.specs.Str.Parse.{digits_value}
 use Rattle.std.proofs.lemmas.Bool.{leb-true}
 use Rattle.run_words.specs.declared.options.Options.{Options}
 use Rattle.run_words.specs.declared.options.Command.{Command}
 use Rattle.run_words.specs.declared.options.Command.TheVariants.{Run, Check, Make}
-use Rattle.run_words.specs.Number.{is_number, within, number}
-use Rattle.run_words.specs.Command.{Text, Values, accepted, command_in, run_of, check_of, make_of, check_by, check_values, fuel_of, start_of, has_run_options, options_of, values_in}
+use Rattle.run_words.specs.Number.{is_number, within}
+use Rattle.run_words.specs.Command.{Text, Values, accepted, make_of, check_by, check_values, fuel_of, start_of, has_run_options, options_of, values_in}
 
--- where a command makes a program, so many items
+-- where a command makes a program, the number of its items is in that range
 abbrev IsFew : Option Command → Type 0
 IsFew None = ⊤
 IsFew (Some (Run o)) = ⊤
@@ -45,7 +46,7 @@ of_number false n = tt
 
 of_make : (words : List Text) → IsFew (make_of words)
 of_make [] = tt
-of_make (items ∷ []) = of_number (is_number items) _
+of_make (items ∷ []) = of_number (is_number items) (digits_value 10 items)
 of_make (a ∷ b ∷ words) = tt
 
 of_words : (words : List Text) → IsFew (accepted words)
