@@ -1,5 +1,5 @@
 -- The record of a call is that of a legal run.
-use Rattle.std.proofs.Common.{◌≡◌, ◌⊎◌, length, Option, Some, None, ap, sym, ◌∙◌, inl, inr}
+use Rattle.std.proofs.Common.{◌≡◌, ◌⊎◌, length, Option, Some, ap, sym, ◌∙◌, inl, inr}
 use Rattle.std.proofs.lemmas.Option.{same_Some}
 use Rattle.plain_machine.specs.Legal.{IsLegal}
 use Rattle.lock_journal.specs.declared.record.RunRecord.{RunRecord}

@@ -17,7 +17,7 @@ use Rattle.core_world.specs.Trees.WaitSteps.{look_steps, waiters, by_age, notify
 use Rattle.core_world.specs.Trees.Operations.{and_then, answer, no_bias, unbias_steps, notify_at, notify_going, notify_steps, notify_all_at, notify_all_going, notify_all_steps}
 use Rattle.core_calls.specs.Paths.{made, Always, Says}
 use Rattle.core_calls.specs.Causes.{Loaded}
-use Rattle.core_calls.specs.Woken.{AllLoaded, IsLookedOver, oldest, Wakes, WakesAll, IfDone}
+use Rattle.core_calls.specs.Woken.{AllLoaded, IsLookedOver, oldest, WakesOldest, WakesEach, Wakes, WakesAll, IfDone}
 use Rattle.core_calls.proofs.Paths.{always_then, either_way}
 use Rattle.core_calls.proofs.OperationsSay.{then_says}
 use Rattle.core_calls.proofs.Waiters.{as_many}
@@ -60,9 +60,9 @@ module _ (s : Shape) (e : Purpose) (k : Local) (o : ℕ) where
   DoneWith P ms (Done a) = P ms a
   DoneWith P ms (Pending why) = Unit {0}
 
-  first_wakes : (waiting : List (ℕ × ℕ)) (ms : List StepMade) (l : IsLookedOver s o ms) → waiting ≡ by_age (waiters o 0 l.words) → Always (Wakes s o) ms (notify_first waiting e k o)
-  first_wakes [] ms l is = λ n. inr (looked_stays s o _ ms l, ap oldest is)
-  first_wakes (p ∷ ps) ms l is = λ n. inr (looked_stays s o _ ms l, ap oldest is)
+  first_wakes : (waiting : List (ℕ × ℕ)) (ms : List StepMade) (l : IsLookedOver s o ms) → waiting ≡ by_age (waiters o 0 l.words) → Always (WakesOldest s o) ms (notify_first waiting e k o)
+  first_wakes [] ms l is = λ n. (looked_stays s o _ ms l, ap oldest is)
+  first_wakes (p ∷ ps) ms l is = λ n. (looked_stays s o _ ms l, ap oldest is)
 
   -- the words of all threads are loaded behind the mark
   abbrev Behind : ℕ → List StepMade → List ℕ → Type 0
@@ -74,35 +74,42 @@ module _ (s : Shape) (e : Purpose) (k : Local) (o : ℕ) where
   abbrev over : (mark monitor : ℕ) (ms : List StepMade) (words : List ℕ) → read_mark mark ≡ Some (Inflated monitor) → Behind mark ms words → IsLookedOver s o ms
   over mark monitor ms words is h = record { mark = mark; monitor = monitor; says = is; loaded = h.0; words = words; all = h.1.0; each = h.1.1 }
 
+  -- behind a mark that names a monitor
+  pub monitor_wakes : (mark monitor : ℕ) (ms : List StepMade) → read_mark mark ≡ Some (Inflated monitor) → Loaded (Mark o) mark ms → Always (WakesOldest s o) ms (monitor_notify_steps e k s.threads o)
+  monitor_wakes mark monitor ms is loaded =
+      always_then (Behind mark) (WakesOldest s o) (look_steps e s.threads) (λ words. notify_first (by_age (waiters o 0 words)) e k o) ms (looks_behind mark ms loaded)
+      (λ ms words h. first_wakes (by_age (waiters o 0 words)) ms (over mark monitor ms words is h) refl)
+
   at_wakes : (form : Option MarkForm) (mark : ℕ) (ms : List StepMade) → read_mark mark ≡ form → Loaded (Mark o) mark ms → Always (DoneWith (Wakes s o)) ms (notify_at form s e k o)
   at_wakes (Some Inflating) mark ms is loaded = tt
   at_wakes (Some (Locked thread place)) mark ms is loaded = λ n. inl (record { mark = mark; thread = thread; place = place; says = is; loaded = inr loaded }, refl)
   at_wakes (Some (Inflated monitor)) mark ms is loaded =
-      always_then (Wakes s o) (DoneWith (Wakes s o)) (monitor_notify_steps e k s.threads o) (λ woken. done_with woken) ms
-      (always_then (Behind mark) (Wakes s o) (look_steps e s.threads) (λ words. notify_first (by_age (waiters o 0 words)) e k o) ms (looks_behind mark ms loaded)
-      (λ ms words h. first_wakes (by_age (waiters o 0 words)) ms (over mark monitor ms words is h) refl))
-      (λ ms woken h. h)
+      always_then (WakesOldest s o) (DoneWith (Wakes s o)) (monitor_notify_steps e k s.threads o) (λ woken. done_with woken) ms
+      (monitor_wakes mark monitor ms is loaded) (λ ms woken h. inr h)
   at_wakes (Some (Neutral hash age)) mark ms is loaded = tt
   at_wakes (Some (Anonymous epoch age)) mark ms is loaded = tt
   at_wakes (Some (Biased thread epoch age)) mark ms is loaded = tt
   at_wakes (Some Marked) mark ms is loaded = tt
   at_wakes None mark ms is loaded = tt
 
-  listed_wakes : (waiting : List (ℕ × ℕ)) (ms : List StepMade) (l : IsLookedOver s o ms) → waiting ≡ by_age (waiters o 0 l.words) → Always (WakesAll s o) ms (notify_listed waiting e k o)
-  listed_wakes [] ms l is = λ n. inr (looked_stays s o _ ms l, ap length is ∙ as_many (waiters o 0 l.words))
+  listed_wakes : (waiting : List (ℕ × ℕ)) (ms : List StepMade) (l : IsLookedOver s o ms) → waiting ≡ by_age (waiters o 0 l.words) → Always (WakesEach s o) ms (notify_listed waiting e k o)
+  listed_wakes [] ms l is = λ n. (looked_stays s o _ ms l, ap length is ∙ as_many (waiters o 0 l.words))
   listed_wakes (p ∷ ps) ms l is =
-      always_then (λ ms _. (r : IsLookedOver s o ms) × (r.words ≡ l.words)) (WakesAll s o) (notify_each (p ∷ ps) e o 0) (λ _. done (length (p ∷ ps))) ms
+      always_then (λ ms _. (r : IsLookedOver s o ms) × (r.words ≡ l.words)) (WakesEach s o) (notify_each (p ∷ ps) e o 0) (λ _. done (length (p ∷ ps))) ms
       (always_stays (λ ms. (r : IsLookedOver s o ms) × (r.words ≡ l.words)) (notify_each (p ∷ ps) e o 0) ms (λ m ms h. (looked_stays s o m ms h.0, h.1)) (l, refl))
-      (λ ms _ h. inr (h.0, ap length is ∙ as_many (waiters o 0 l.words) ∙ ap (λ words. length (waiters o 0 words)) (sym h.1)))
+      (λ ms _ h. (h.0, ap length is ∙ as_many (waiters o 0 l.words) ∙ ap (λ words. length (waiters o 0 words)) (sym h.1)))
+
+  pub monitor_wakes_all : (mark monitor : ℕ) (ms : List StepMade) → read_mark mark ≡ Some (Inflated monitor) → Loaded (Mark o) mark ms → Always (WakesEach s o) ms (monitor_notify_all_steps e k s.threads o)
+  monitor_wakes_all mark monitor ms is loaded =
+      always_then (Behind mark) (WakesEach s o) (look_steps e s.threads) (λ words. notify_listed (by_age (waiters o 0 words)) e k o) ms (looks_behind mark ms loaded)
+      (λ ms words h. listed_wakes (by_age (waiters o 0 words)) ms (over mark monitor ms words is h) refl)
 
   all_at_wakes : (form : Option MarkForm) (mark : ℕ) (ms : List StepMade) → read_mark mark ≡ form → Loaded (Mark o) mark ms → Always (DoneWith (WakesAll s o)) ms (notify_all_at form s e k o)
   all_at_wakes (Some Inflating) mark ms is loaded = tt
   all_at_wakes (Some (Locked thread place)) mark ms is loaded = λ n. inl (record { mark = mark; thread = thread; place = place; says = is; loaded = inr loaded }, refl)
   all_at_wakes (Some (Inflated monitor)) mark ms is loaded =
-      always_then (WakesAll s o) (DoneWith (WakesAll s o)) (monitor_notify_all_steps e k s.threads o) (λ woken. done_with woken) ms
-      (always_then (Behind mark) (WakesAll s o) (look_steps e s.threads) (λ words. notify_listed (by_age (waiters o 0 words)) e k o) ms (looks_behind mark ms loaded)
-      (λ ms words h. listed_wakes (by_age (waiters o 0 words)) ms (over mark monitor ms words is h) refl))
-      (λ ms woken h. h)
+      always_then (WakesEach s o) (DoneWith (WakesAll s o)) (monitor_notify_all_steps e k s.threads o) (λ woken. done_with woken) ms
+      (monitor_wakes_all mark monitor ms is loaded) (λ ms woken h. inr h)
   all_at_wakes (Some (Neutral hash age)) mark ms is loaded = tt
   all_at_wakes (Some (Anonymous epoch age)) mark ms is loaded = tt
   all_at_wakes (Some (Biased thread epoch age)) mark ms is loaded = tt

@@ -39,13 +39,19 @@ abbrev pub oldest : List (ℕ × ℕ) → Option ℕ
 oldest [] = None
 oldest (p ∷ ps) = Some p.0
 
--- Nobody waits where a record has the lock. Else the threads that wait on o are told by the words loaded: notify wakes the oldest of them,
--- notifyall as many as there are.
+-- The threads that wait on o are told by the words loaded: notify wakes the oldest of them, notifyall as many as there are.
+abbrev pub WakesOldest : Shape → ℕ → List StepMade → Option ℕ → Type 0
+WakesOldest s o ms woken = (l : IsLookedOver s o ms) × (woken ≡ oldest (by_age (waiters o 0 l.words)))
+
+abbrev pub WakesEach : Shape → ℕ → List StepMade → ℕ → Type 0
+WakesEach s o ms woken = (l : IsLookedOver s o ms) × (woken ≡ length (waiters o 0 l.words))
+
+-- nobody waits where a record has the lock
 abbrev pub Wakes : Shape → ℕ → List StepMade → Option ℕ → Type 0
-Wakes s o ms woken = (IsRecordLocked o ms × (woken ≡ None)) ⊎ ((l : IsLookedOver s o ms) × (woken ≡ oldest (by_age (waiters o 0 l.words))))
+Wakes s o ms woken = (IsRecordLocked o ms × (woken ≡ None)) ⊎ WakesOldest s o ms woken
 
 abbrev pub WakesAll : Shape → ℕ → List StepMade → ℕ → Type 0
-WakesAll s o ms woken = (IsRecordLocked o ms × (woken ≡ 0)) ⊎ ((l : IsLookedOver s o ms) × (woken ≡ length (waiters o 0 l.words)))
+WakesAll s o ms woken = (IsRecordLocked o ms × (woken ≡ 0)) ⊎ WakesEach s o ms woken
 
 -- so it is of a call that is done
 abbrev pub IfDone : {A : Type 0} → (List StepMade → A → Type 0) → List StepMade → Result (Turn A) IllegalMonitorState → Type 0

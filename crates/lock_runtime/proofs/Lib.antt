@@ -18,3 +18,5 @@ pub mod StandsBefore
 pub mod StandsCalls
 pub mod GetsValue
 pub mod Refused
+pub mod LockedPaths
+pub mod OwnLocks

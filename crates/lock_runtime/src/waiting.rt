@@ -8,11 +8,12 @@ ghost use Rattle.core_world.specs.Trees.Operations.{notify_all_at, notify_all_go
 ghost use Rattle.core_world.specs.Words.Forms.{waits_on};
 ghost use Rattle.core_calls.specs.CallsSay.{WaitSays, NotifySays, NotifyAllSays};
 ghost use Rattle.core_calls.specs.Paths.{Tells};
-ghost use Rattle.core_calls.specs.Woken.{IfDone, Wakes, WakesAll};
+ghost use Rattle.core_calls.specs.Woken.{IfDone};
 ghost use Rattle.heap_table.specs.Parts.{IsDueOn, HasRun};
 ghost use Rattle.heap_table.specs.Resting.{MayOperate, Rests, start_now};
 ghost use Rattle.heap_table.specs.Seen.{IsOf};
 ghost use Rattle.lock_runtime.specs.WaitParts.{inflated_wait, letting_go, marked_notify, marked_notify_all};
+ghost use Rattle.lock_runtime.specs.Locking.{OwnerWakes, OwnerWakesAll};
 ghost use Rattle.lock_runtime.specs.Standing.{StandsOrSame};
 ghost use Rattle.lock_runtime.specs.Others.{PendsOrRefused};
 ghost use Rattle.lock_runtime.specs.Refusals.{IsRefusedUnheld};
@@ -223,8 +224,8 @@ fn notify_held(
 /// Notifies the thread that has waited on the object longest: the one with the smallest stamp, and at equal stamps
 /// with the smallest number. `now` is the moment for the policy of bulk operations.
 ///
-/// `Done(Some(thread))` says which thread was notified, and `Done(None)` that none waited, as where a lock record has
-/// the lock: the Notify is logged with this answer, and nothing is unfinished.
+/// `Done(Some(thread))` says which thread was notified, and `Done(None)` that none waited, as where a lock record of
+/// this thread has the lock: the Notify is logged with this answer, and nothing is unfinished.
 /// Pending, nobody is notified and nothing logged, and the notify stays unfinished: `Raced { expected, found }` says
 /// that an exchange of this call missed; `Inflating` that the loaded mark was 0; `Stopping { word }` that the thread's
 /// request for a safepoint stands, and that by `word` another thread runs still; `Requested { word }` that by `word`
@@ -243,7 +244,7 @@ pub fn notify(
     ensures says { Tells pass.old.known pass.new.known
         (λ ms. NotifySays (start_now heap.now pass.old) object ms result) }
     ensures wakes { Tells pass.old.known pass.new.known
-        (λ ms. IfDone (Wakes heap.now.heap.shape object) ms result) }
+        (λ ms. IfDone (OwnerWakes pass.old.known.thread heap.now.heap.shape object) ms result) }
     ensures stands { StandsOrSame pass.old.known pass.new.known result }
     ensures others { PendsOrRefused pass.old.known.thread result }
     ensures owner { IsRefusedUnheld pass.old.known.log object result }
@@ -325,8 +326,8 @@ fn notify_all_held(heap: &Heap, pass: &mut Pass, why: &Purpose, object: u32, now
 /// Notifies each thread that waits on the object, the one that has waited longest first. `now` is the moment for the
 /// policy of bulk operations.
 ///
-/// `Done(woken)` says how many there were, which is 0 where a lock record has the lock: each is notified, the
-/// NotifyAll of so many is logged, and nothing is unfinished.
+/// `Done(woken)` says how many there were, which is 0 where a lock record of this thread has the lock: each is
+/// notified, the NotifyAll of so many is logged, and nothing is unfinished.
 /// Pending, nobody is notified and nothing logged, and the notify stays unfinished: `Raced { expected, found }` says
 /// that an exchange of this call missed; `Inflating` that the loaded mark was 0; `Stopping { word }` that the thread's
 /// request for a safepoint stands, and that by `word` another thread runs still; `Requested { word }` that by `word`
@@ -345,7 +346,7 @@ pub fn notify_all(
     ensures says { Tells pass.old.known pass.new.known
         (λ ms. NotifyAllSays (start_now heap.now pass.old) object ms result) }
     ensures wakes { Tells pass.old.known pass.new.known
-        (λ ms. IfDone (WakesAll heap.now.heap.shape object) ms result) }
+        (λ ms. IfDone (OwnerWakesAll pass.old.known.thread heap.now.heap.shape object) ms result) }
     ensures stands { StandsOrSame pass.old.known pass.new.known result }
     ensures others { PendsOrRefused pass.old.known.thread result }
     ensures owner { IsRefusedUnheld pass.old.known.log object result }

@@ -1,45 +1,61 @@
 -- The law of biases, by the record of a run.
-use Rattle.std.proofs.Common.{◌≡◌, ℕ, zero, suc, ◌+◌, ◌*◌, ◌<◌, ◌≤◌, ◌==◌, if◌then◌else◌, Bool, true, false, List, [], ◌∷◌, ◌++◌, length, map, Option, Some, refl, sym, ap, ◌∙◌, subst, arith, inl, inr}
-use Rattle.std.specs.Prelude.{◌⊎◌, ◌^◌, slice_get, slice_index}
+use Rattle.std.proofs.Common.{◌≡◌, ℕ, zero, suc, ◌+◌, ◌*◌, ◌%◌, ◌<◌, ◌≤◌, ◌==◌, if◌then◌else◌}
+use Rattle.std.proofs.Common.{Bool, true, false, List, [], ◌∷◌, length, refl, sym, ap, ◌∙◌, subst, arith, inl, inr}
+use Rattle.std.specs.Prelude.{◌^◌, slice_index}
 use Rattle.std.specs.List.{AllByRecursion}
 use Rattle.std.proofs.lemmas.Bool.{cases_lt}
 use Rattle.std.proofs.lemmas.List.{get_or_past}
-use Rattle.plain_history.specs.EnterPaths.{entries_on, first_path, PathsFit}
+use Rattle.plain_history.specs.EnterPaths.{PathsFit}
 use Rattle.plain_history.specs.HeldByLog.{nothing_held}
-use Rattle.plain_monitor.specs.declared.entry.Logged.{Logged}
-use Rattle.plain_monitor.specs.declared.entry.Path.{Path}
-use Rattle.plain_monitor.specs.declared.entry.Path.TheVariants.{BiasTaken}
 use Rattle.plain_monitor.specs.History.{log_of}
-use Rattle.plain_monitor.specs.Order.{order}
 use Rattle.plain_monitor.proofs.Lists.{all_push}
 use Rattle.lock_policy.specs.declared.policy.Verdict.{Verdict}
 use Rattle.lock_policy.specs.declared.policy.Verdict.TheVariants.{Single, BulkRebias, BulkRevoke}
 use Rattle.core_counts.specs.BiasLaw.{summed}
-use Rattle.core_counts.specs.CountsAndVerdicts.{ClassFits, CountFits, sum_below, verdicts_on}
-use Rattle.core_counts.specs.OfARun.{IsHashLogged}
-use Rattle.core_world.specs.declared.name.Name.TheVariants.{Revocations}
+use Rattle.core_counts.specs.CountsAndVerdicts.{CountFits, sum_below, verdicts_on}
+use Rattle.core_world.specs.declared.name.Name.TheVariants.{Prototype, Revocations}
+use Rattle.core_world.specs.Clauses.Classes.{bulk_rebiases, bulk_revokes}
 use Rattle.core_world.specs.Threads.Counts as known
 use Rattle.core_world.specs.Threads.Counts.{CountedVerdict, counts_of}
 use Rattle.core_world.specs.Threads.Known.{Known}
 use Rattle.core_world.specs.Words.Shape.{Shape}
 use Rattle.core_world.specs.Words.Shape as shape
 use Rattle.core_steps.specs.Logic.{Heap}
-use Rattle.heap_table.specs.BiasesAtEnd.{BiasesAtEnd, counted_by}
+use Rattle.heap_table.specs.BiasesAtEnd.{counted_by}
 use Rattle.heap_table.specs.declared.counts.ClassCounts.{ClassCounts}
 use Rattle.heap_table.specs.Layout.{place_of}
 use Rattle.heap_table.specs.Seen.{ClosedSeen}
-use Rattle.heap_table.specs.Tallies.{capped, capped_counts, counts_shown}
+use Rattle.heap_table.specs.Tallies.{capped, capped_counts}
 use Rattle.lock_journal.specs.declared.record.ClassLine.{ClassLine}
-use Rattle.lock_journal.specs.declared.record.RunRecord.{RunRecord}
-use Rattle.object_program.specs.Program.{ProgramText, class_of, shape_of}
-use Rattle.object_program.specs.Valid.{IsProgram}
+use Rattle.run_ends.specs.OfARun.{IsEnd}
+use Rattle.run_ends.specs.Prototypes as ends
 use Rattle.run_rounds.specs.Outcome.{HasBiases as LeftBiases}
-use Rattle.program_run.specs.Biases.{HasBiases, IsIdle, IsLine, IsUnrevoked}
-use Rattle.program_run.specs.HeapFor.{shape_for}
+use Rattle.program_run.specs.Biases.{IsIdle, IsLine, prototype_by}
 use Rattle.program_run.specs.Lines.{line_of, lines_below, total_on}
-use Rattle.program_run.proofs.Classes.{class_is}
 use Rattle.program_run.proofs.Counted.{capped_few, sum_few, sum_none, term_few, total_is}
-use Rattle.program_run.proofs.LinesBelow.{line_at}
+
+-- the laws that are asked of a heap's end
+abbrev pub Biased : Type 0
+Biased = (heap : Heap) (words : List ℕ) (ks : List Known) (c : ℕ) → IsEnd heap words ks → c < heap.shape.classes → heap.biasing ≡ true
+    → slice_index words (place_of heap.shape (Prototype c)) ≡ ends.prototype_by heap.shape.threads (counted_by ks) c
+
+abbrev pub Plain : Type 0
+Plain = (heap : Heap) (words : List ℕ) (ks : List Known) (c : ℕ) → IsEnd heap words ks → c < heap.shape.classes → heap.biasing ≡ false
+    → slice_index words (place_of heap.shape (Prototype c)) ≡ 1
+
+-- the bulk verdicts of the threads are sums
+revokes_are : (n : ℕ) (counted : ℕ → List CountedVerdict) (k : ℕ)
+    → bulk_revokes n counted k ≡ sum_below n (λ t. (counts_of (counted t) k).revoke)
+revokes_are zero counted k = refl
+revokes_are (suc n) counted k = ap (λ m. m + (counts_of (counted n) k).revoke) (revokes_are n counted k)
+
+rebiases_are : (n : ℕ) (counted : ℕ → List CountedVerdict) (k : ℕ)
+    → bulk_rebiases n counted k ≡ sum_below n (λ t. (counts_of (counted t) k).rebias)
+rebiases_are zero counted k = refl
+rebiases_are (suc n) counted k = ap (λ m. m + (counts_of (counted n) k).rebias) (rebiases_are n counted k)
+
+abbrev one_more : known.ClassCounts → Verdict → Bool → known.ClassCounts
+one_more counts verdict reset = known.with_reset (known.with_verdict counts verdict) reset
 
 -- a count is set to 0 at most once for each verdict
 resets_few : (vs : List CountedVerdict) (k : ℕ) → (counts_of vs k).reset ≤ verdicts_on (counts_of vs k)
@@ -47,7 +63,7 @@ resets_few [] k = omega arith
 resets_few (v ∷ vs) k = by_class (k == v.class) (resets_few vs k)
   where
     by_verdict : (verdict : Verdict) (reset : Bool) → (counts_of vs k).reset ≤ verdicts_on (counts_of vs k)
-        → (known.with_reset (known.with_verdict (counts_of vs k) verdict) reset).reset ≤ verdicts_on (known.with_reset (known.with_verdict (counts_of vs k) verdict) reset)
+        → (one_more (counts_of vs k) verdict reset).reset ≤ verdicts_on (one_more (counts_of vs k) verdict reset)
     by_verdict Single true h = omega (arith, h)
     by_verdict Single false h = omega (arith, h)
     by_verdict BulkRebias true h = omega (arith, h)
@@ -56,8 +72,8 @@ resets_few (v ∷ vs) k = by_class (k == v.class) (resets_few vs k)
     by_verdict BulkRevoke false h = omega (arith, h)
 
     by_class : (b : Bool) → (counts_of vs k).reset ≤ verdicts_on (counts_of vs k)
-        → (if b then known.with_reset (known.with_verdict (counts_of vs k) v.verdict) v.reset else counts_of vs k).reset
-            ≤ verdicts_on (if b then known.with_reset (known.with_verdict (counts_of vs k) v.verdict) v.reset else counts_of vs k)
+        → (if b then one_more (counts_of vs k) v.verdict v.reset else counts_of vs k).reset
+        ≤ verdicts_on (if b then one_more (counts_of vs k) v.verdict v.reset else counts_of vs k)
     by_class true h = by_verdict v.verdict v.reset h
     by_class false h = h
 
@@ -85,14 +101,14 @@ module _ (heap : Heap) (c : ClosedSeen) (left : LeftBiases heap c) (same : c.hea
     total_here =
         ap (λ x. total_on number x k) left.counts
         ∙ total_is number f heap.shape.classes k within left.knowns
-            (λ t h. let all = left.end.all in shown (counts t k) (few t) (verdicts_few t k (omega (arith, h, all)) within))
+        (λ t h. let all = left.end.all in shown (counts t k) (few t) (verdicts_few t k (omega (arith, h, all)) within))
         ∙ ap (λ n. sum_below n (λ t. f (counts t k))) left.end.all
 
     total_capped : capped (total_on number c.counts k) ≡ sum_below heap.shape.threads (λ t. f (counts t k))
     total_capped =
         let total = total_here in
         let low = sum_few heap.shape.threads (λ t. f (counts t k))
-            (λ t h. let one = few t in let verdicts = verdicts_few t k h within in omega (arith, one, verdicts)) in
+        (λ t h. let one = few t in let verdicts = verdicts_few t k h within in omega (arith, one, verdicts)) in
         capped_few (total_on number c.counts k) (omega (arith, total, low, many)) ∙ total
 
   module _ (k : ℕ) (within : k < heap.shape.classes) where
@@ -106,10 +122,16 @@ module _ (heap : Heap) (c : ClosedSeen) (left : LeftBiases heap c) (same : c.hea
     revoke_is = total_capped k within (λ n. n.revoke) (λ x. x.revoke) (λ x h g. omega (arith, h, g)) (λ t. omega arith)
 
     reset_is : total_on (λ n. n.reset) c.counts k ≡ (sums k).reset
-    reset_is = total_here k within (λ n. n.reset) (λ x. x.reset) (λ x h g. omega (arith, h, g)) (λ t. resets_few (counted_by left.knowns t) k)
+    reset_is = total_here k within (λ n. n.reset) (λ x. x.reset) (λ x h g. omega (arith, h, g))
+        (λ t. resets_few (counted_by left.knowns t) k)
 
     count_is : (line_of c k).count ≡ left.biases.count k
-    count_is = ap (λ (s : Shape). slice_index c.words (place_of s (Revocations k))) (λ i. (same i).shape) ∙ left.biases.words_are k within
+    count_is =
+        ap (λ (s : Shape). slice_index c.words (place_of s (Revocations k))) (λ i. (same i).shape)
+        ∙ left.biases.words_are k within
+
+    prototype_word : (line_of c k).prototype ≡ slice_index c.words (place_of heap.shape (Prototype k))
+    prototype_word = ap (λ (s : Shape). slice_index c.words (place_of s (Prototype k))) (λ i. (same i).shape)
 
     pub fits : IsLine (total_on (λ n. n.reset) c.counts k) (line_of c k)
     fits =
@@ -118,8 +140,8 @@ module _ (heap : Heap) (c : ClosedSeen) (left : LeftBiases heap c) (same : c.hea
         let rebias_now = rebias_is in
         let revoke_now = revoke_is in
         let reset_now = reset_is in
-        subst (λ (x : ClassLine × ℕ). CountFits x.0.count x.0.single x.0.rebias x.0.revoke x.1)
-        (λ i. (record { single = sym single_now i; rebias = sym rebias_now i; revoke = sym revoke_now i; count = sym count_now i; prototype = (line_of c k).prototype }, sym reset_now i))
+        subst (λ (x : ℕ × ℕ × ℕ × ℕ × ℕ). CountFits x.0 x.1 x.2 x.3 x.4)
+        (λ i. (sym count_now i, sym single_now i, sym rebias_now i, sym revoke_now i, sym reset_now i))
         (left.biases.biases.counts k)
 
     idle : heap.biasing ≡ false → IsIdle (line_of c k)
@@ -131,10 +153,26 @@ module _ (heap : Heap) (c : ClosedSeen) (left : LeftBiases heap c) (same : c.hea
         let few = fits.few in
         (single, rebias, revoke, omega (arith, few, single, rebias, revoke))
 
+  -- what holds of the line of each class holds of all of them
+  pub all_lines : (P : ClassLine → Type 0) → ((k : ℕ) → k < heap.shape.classes → P (line_of c k))
+      → (n : ℕ) → n ≤ heap.shape.classes → AllByRecursion P (lines_below c n)
+  all_lines P each zero h = tt
+  all_lines P each (suc n) h =
+      all_push P (lines_below c n) (line_of c n) (all_lines P each n (omega (arith, h))) (each n (omega (arith, h)))
+
+  module _ (biased : Biased) (plain : Plain) (k : ℕ) (within : k < heap.shape.classes) where
+    pub prototype_is : (b : Bool) → heap.biasing ≡ b → (line_of c k).prototype ≡ prototype_by b (line_of c k)
+    prototype_is true e =
+        let revoke : bulk_revokes heap.shape.threads (counted_by left.knowns) k ≡ (line_of c k).revoke =
+        revokes_are heap.shape.threads (counted_by left.knowns) k ∙ sym (revoke_is k within) in
+        let rebias : bulk_rebiases heap.shape.threads (counted_by left.knowns) k ≡ (line_of c k).rebias =
+        rebiases_are heap.shape.threads (counted_by left.knowns) k ∙ sym (rebias_is k within) in
+        prototype_word k within ∙ biased heap c.words left.knowns k left.end within e
+        ∙ (λ i. if revoke i == 0 then rebias i % 4 * 256 + 5 else 1)
+    prototype_is false e = prototype_word k within ∙ plain heap c.words left.knowns k left.end within e
+
   pub all_idle : heap.biasing ≡ false → (n : ℕ) → n ≤ heap.shape.classes → AllByRecursion IsIdle (lines_below c n)
-  all_idle none zero h = tt
-  all_idle none (suc n) h =
-      all_push IsIdle (lines_below c n) (line_of c n) (all_idle none n (omega (arith, h))) (idle n (omega (arith, h)) none)
+  all_idle none = all_lines IsIdle (λ k within. idle k within none)
 
   pub log_fits : (t : ℕ) → heap.shape.threads ≡ length c.logs → PathsFit nothing_held (log_of c.logs t)
   log_fits t count = elim (cases_lt t heap.shape.threads) [
@@ -148,6 +186,6 @@ pub small_here : (heap : Heap) (c : ClosedSeen) → LeftBiases heap c → c.heap
 small_here heap c left same k within =
     let here : k < heap.shape.classes = subst (λ (h : Heap). k < h.shape.classes) same within in
     let at : slice_index c.words (place_of c.heap.shape (Revocations k)) ≡ left.biases.count k =
-        ap (λ (h : Heap). slice_index c.words (place_of h.shape (Revocations k))) same ∙ left.biases.words_are k here in
+    ap (λ (h : Heap). slice_index c.words (place_of h.shape (Revocations k))) same ∙ left.biases.words_are k here in
     let few = (left.biases.biases.counts k).capped in
     omega (arith, at, few)

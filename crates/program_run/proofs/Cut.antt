@@ -1,6 +1,6 @@
 -- The machine of a program under the logs that a dump cuts.
 use Rattle.std.proofs.Common.{◌≡◌, ℕ, zero, suc, ◌<◌, ◌≤◌, List, [], ◌∷◌, length, map, take, Option, Some, None, refl, sym, ap, ◌∙◌, subst, arith, inl, inr}
-use Rattle.std.specs.Prelude.{◌⊎◌, slice_get, slice_index, slice_index_or, IsSome}
+use Rattle.std.specs.Prelude.{◌⊎◌, slice_get, slice_index, IsSome}
 use Rattle.std.specs.List.{AllByRecursion}
 use Rattle.std.proofs.lemmas.Option.{none-some, same_Some}
 use Rattle.plain_monitor.specs.declared.entry.Logged.{Logged}
@@ -17,7 +17,7 @@ use Rattle.thread_logs.specs.Followed.{HasFollowed, HaveFollowed}
 use Rattle.lock_journal.specs.declared.record.Cell.{Cell}
 use Rattle.lock_journal.specs.declared.record.Shot.{Shot}
 use Rattle.program_run.specs.Left.{cells_left, shot_left, shots_left}
-use Rattle.program_run.specs.Shots.{AreRightShots, IsRightShot, cell_in, cells_of, cut_logs, shots_of}
+use Rattle.program_run.specs.Shots.{AreRightShots, IsRightShot, cell_in, cut_logs, shots_of}
 
 pub the_some : {A : Type 0} (o : Option A) → IsSome o → (a : A) × (o ≡ Some a)
 the_some None h = absurd (cc h)
@@ -58,7 +58,8 @@ abbrev pub TheirObjects : Type 0
 TheirObjects = (p : ProgramText) (fuel : ℕ) (logs : List (List Logged)) (m : PlainMachine) → HaveFollowed p fuel logs
     → machine_after p fuel logs ≡ Some m → objects_after (shape_of p) logs ≡ Some m.objects
 
-module _ (fronts : Fronts) (legals : Legals) (theirs : TheirObjects) (p : ProgramText) (fuel : ℕ) (logs : List (List Logged)) (f : HaveFollowed p fuel logs) where
+module _ (fronts : Fronts) (legals : Legals) (theirs : TheirObjects)
+    (p : ProgramText) (fuel : ℕ) (logs : List (List Logged)) (f : HaveFollowed p fuel logs) where
   cut_follow : (s : DumpShot) → core.IsRightShot (shape_of p) logs s → HaveFollowed p fuel (core.cut_logs s.cut logs)
   cut_follow s h =
       record {
@@ -74,7 +75,8 @@ module _ (fronts : Fronts) (legals : Legals) (theirs : TheirObjects) (p : Progra
   right s h =
       let follow = cut_follow s h in
       let m = the_some (machine_after p fuel (core.cut_logs s.cut logs)) (legals p fuel (core.cut_logs s.cut logs) follow).taken in
-      let same : h.objects ≡ m.0.objects = same_Some h.objects m.0.objects (sym h.taken ∙ theirs p fuel (core.cut_logs s.cut logs) m.0 follow m.1) in
+      let taken = sym h.taken ∙ theirs p fuel (core.cut_logs s.cut logs) m.0 follow m.1 in
+      let same : h.objects ≡ m.0.objects = same_Some h.objects m.0.objects taken in
       record {
         threads = h.threads;
         within = h.within;
@@ -99,7 +101,8 @@ left_at [] i a e = absurd (none-some a e)
 left_at (s ∷ shots) zero a e = (s, refl, same_Some (shot_left s) a e)
 left_at (s ∷ shots) (suc i) a e = left_at shots i a e
 
-module _ (fronts : Fronts) (legals : Legals) (theirs : TheirObjects) (p : ProgramText) (fuel : ℕ) (logs : List (List Logged)) (f : HaveFollowed p fuel logs)
+module _ (fronts : Fronts) (legals : Legals) (theirs : TheirObjects)
+    (p : ProgramText) (fuel : ℕ) (logs : List (List Logged)) (f : HaveFollowed p fuel logs)
     (shots : List (List DumpShot)) (h : HasShots (shape_of p) logs shots) where
   shot_at : (t i : ℕ) (a : Shot) → slice_get (shots_of (map shots_left shots) t) i ≡ Some a
       → (s : DumpShot) × (slice_get (shots_at shots t) i ≡ Some s) × (shot_left s ≡ a)
@@ -116,13 +119,19 @@ module _ (fronts : Fronts) (legals : Legals) (theirs : TheirObjects) (p : Progra
         | inr more ↦ inr (λ v. subst (λ (z : Shot × Shot). slice_index z.1.cut v ≤ slice_index z.0.cut v) (λ l. (x.2 l, y.2 l)) (more v))
       ]
 
+  right_at : (t : ℕ) → AllByRecursion (IsRightShot p fuel logs) (shots_left (shots_at shots t))
+  right_at t =
+      all_map (IsRightShot p fuel logs) shot_left (shots_at shots t)
+      (all_weaker (core.IsRightShot (shape_of p) logs) (λ s. IsRightShot p fuel logs (shot_left s))
+      (right fronts legals theirs p fuel logs f) (shots_at shots t) (h.right t))
+
   pub right_shots : AreRightShots p fuel logs (map shots_left shots)
   right_shots =
       record {
         right = λ t.
-            subst (AllByRecursion (IsRightShot p fuel logs)) (sym (own_left shots t))
-            (all_map (IsRightShot p fuel logs) shot_left (shots_at shots t)
-            (all_weaker (core.IsRightShot (shape_of p) logs) (λ s. IsRightShot p fuel logs (shot_left s)) (right fronts legals theirs p fuel logs f) (shots_at shots t) (h.right t)));
-        dumps = λ t. ap (λ (x : List Shot). map (λ (s : Shot). (slice_index s.cut t, s.number)) x) (own_left shots t) ∙ places_left t (shots_at shots t) ∙ h.dumps t;
+            subst (AllByRecursion (IsRightShot p fuel logs)) (sym (own_left shots t)) (right_at t);
+        dumps = λ t.
+            ap (λ (x : List Shot). map (λ (s : Shot). (slice_index s.cut t, s.number)) x) (own_left shots t)
+            ∙ places_left t (shots_at shots t) ∙ h.dumps t;
         ordered = ordered_here;
       }

@@ -1,7 +1,7 @@
 -- The logs of a run are short: each entry uses up work of the machine.
-use Rattle.std.proofs.Common.{◌≡◌, ℕ, zero, suc, ◌+◌, ◌*◌, ◌<◌, ◌≤◌, ◌==◌, Bool, true, false, if◌then◌else◌, List, [], ◌∷◌, length, Option, Some, None, refl, sym, ap, ◌∙◌, subst, arith}
-use Rattle.std.specs.Prelude.{slice_get, option_and_then}
-use Rattle.std.proofs.lemmas.Option.{none-some, same_Some}
+use Rattle.std.proofs.Common.{◌≡◌, ℕ, suc, ◌+◌, ◌*◌, ◌<◌, ◌≤◌, ◌==◌, Bool, true, false, if◌then◌else◌, List, [], ◌∷◌, length, Some, refl, ap, subst, arith}
+use Rattle.std.specs.Prelude.{slice_get}
+use Rattle.std.proofs.lemmas.Option.{same_Some}
 use Rattle.plain_monitor.specs.declared.entry.Entry.{Entry}
 use Rattle.plain_monitor.specs.declared.entry.Logged.{Logged}
 use Rattle.plain_monitor.specs.History.{log_of}
@@ -71,8 +71,8 @@ module _ (first : First) (stay : Stay) (use_up : UseUp) (begins : Begins) (works
       let m = the_some (machine_after p fuel logs) legal.taken in
       let all = as_many stay use_up (new_machine p fuel) (order logs) m.0 (first p fuel is) m.1 in
       let work = work_few (new_machine p fuel).threads
-          (λ u s at. let w = works p fuel u [] s is tt (begins p fuel u s at) in omega (arith, w, few)) in
+      (λ u s at. let w = works p fuel u [] s is tt (begins p fuel u s at) in omega (arith, w, few)) in
       let own : length (log_of logs t) ≤ length (order logs) =
-          subst (λ (x : List Logged). length x ≤ length (order logs)) (thread_kept logs t legal.rises) (thread_few t (order logs)) in
+      subst (λ (x : List Logged). length x ≤ length (order logs)) (thread_kept logs t legal.rises) (thread_few t (order logs)) in
       let threads = threads_few in
       omega (arith, all, work, own, threads)

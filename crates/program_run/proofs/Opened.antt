@@ -1,5 +1,5 @@
 -- The passes of a heap that begins, and the runners on them.
-use Rattle.std.proofs.Common.{◌≡◌, ℕ, zero, suc, ◌+◌, ◌*◌, ◌<◌, ◌≤◌, List, [], ◌∷◌, length, map, Option, Some, refl, sym, ap, ◌∙◌, subst, arith}
+use Rattle.std.proofs.Common.{◌≡◌, ℕ, zero, suc, ◌+◌, ◌*◌, ◌<◌, ◌≤◌, length, map, Some, refl, ap, ◌∙◌, subst, arith}
 use Rattle.std.specs.Prelude.{slice_get}
 use Rattle.std.proofs.lemmas.Option.{none-some, same_Some}
 use Rattle.core_world.specs.Opening.{first_known, opening}
@@ -9,7 +9,7 @@ use Rattle.heap_table.specs.Resting.{Rests}
 use Rattle.heap_table.specs.Seen.{HeapSeen, PassSeen, first_pass, first_passes}
 use Rattle.heap_table.proofs.Resting.{fresh_rests}
 use Rattle.object_program.specs.Program.{ProgramText}
-use Rattle.run_rounds.specs.Rounds.{AreNew, AreRunners, IsRunnerAt}
+use Rattle.run_rounds.specs.Rounds.{AreNew, IsRunnerAt}
 use Rattle.thread_calls.specs.Between.{IsHeapOf, IsOn}
 use Rattle.thread_frame.specs.Frames.{first_frame}
 use Rattle.thread_interp.specs.Runners.{RunnerSeen}

@@ -1,14 +1,13 @@
 -- The shape of a program's heap, by the slots of its classes and the classes of its objects.
 use Rattle.std.proofs.Common.{◌≡◌, ℕ, zero, suc, ◌+◌, ◌<◌, ◌≤◌, List, [], ◌∷◌, ◌++◌, length, map, replicate, refl, sym, ap, ◌∙◌, subst, arith, All}
-use Rattle.std.specs.Prelude.{slice_get, slice_index}
+use Rattle.std.specs.Prelude.{slice_index}
 use Rattle.std.proofs.lemmas.List.{length-append, length-map, length-replicate, map-append}
 use Rattle.std.proofs.lemmas.List.Elements.{All-append, All-from_recursion, All-nil, All-replicate}
-use Rattle.core_world.specs.Words.Shape.{Shape}
 use Rattle.heap_table.specs.Layout as layout
 use Rattle.object_program.specs.declared.program.ClassDef.{ClassDef}
 use Rattle.object_program.specs.declared.program.ObjectDef.{ObjectDef}
 use Rattle.object_program.specs.declared.program.ThreadDef.{ThreadDef}
-use Rattle.object_program.specs.Program.{ProgramText, shape_from, slots_in, slots_of_class, total_of}
+use Rattle.object_program.specs.Program.{ProgramText, shape_from, slots_of_class, total_of}
 use Rattle.object_program.specs.Valid.{AreObjects, IsProgram}
 use Rattle.plain_monitor.proofs.Lists.{all_map}
 use Rattle.program_run.specs.HeapFor.{classes_of, shape_for}
@@ -44,8 +43,10 @@ objects_are : (classes : List ClassDef) (ds : List ObjectDef)
 objects_are classes [] = refl
 objects_are classes (d ∷ ds) =
     let f : ℕ → ℕ × ℕ = λ c. (c, slice_index (slots_by classes) c) in
+    let of_one : map f (replicate d.size d.class) ≡ replicate d.size (d.class, slots_of_class classes d.class) =
+    map-replicate f d.size d.class ∙ ap (λ n. replicate d.size (d.class, n)) (slots_at classes d.class) in
     map-append f (replicate d.size d.class) (classes_of ds)
-    ∙ ap (λ (x : List (ℕ × ℕ)). x ++ map f (classes_of ds)) (map-replicate f d.size d.class ∙ ap (λ n. replicate d.size (d.class, n)) (slots_at classes d.class))
+    ∙ ap (λ (x : List (ℕ × ℕ)). x ++ map f (classes_of ds)) of_one
     ∙ ap (λ (x : List (ℕ × ℕ)). replicate d.size (d.class, slots_of_class classes d.class) ++ x) (objects_are classes ds)
 
 module _ (p : ProgramText) (is : IsProgram p) (threads : List ThreadDef) (slots classes : List ℕ)
@@ -74,5 +75,5 @@ module _ (p : ProgramText) (is : IsProgram p) (threads : List ThreadDef) (slots 
   shape_is =
       let many : length slots ≡ length p.classes = ap length s ∙ length-map p.classes (λ (d : ClassDef). d.slots) in
       let objects : map (λ d. (d, slice_index slots d)) classes ≡ shape_from p.classes p.objects =
-          (λ i. map (λ d. (d, slice_index (s i) d)) (c i)) ∙ objects_are p.classes p.objects in
+      (λ i. map (λ d. (d, slice_index (s i) d)) (c i)) ∙ objects_are p.classes p.objects in
       λ i. record { threads = length (t i); classes = many i; objects = objects i }

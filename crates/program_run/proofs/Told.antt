@@ -1,9 +1,11 @@
 -- A run of a program, told by its record.
-use Rattle.std.proofs.Common.{◌≡◌, ℕ, zero, suc, ◌+◌, ◌<◌, ◌≤◌, Bool, true, false, List, [], ◌∷◌, length, map, Option, Some, refl, sym, ap, ◌∙◌, subst, arith, inl, inr}
+use Rattle.std.proofs.Common.{◌≡◌, ℕ, ◌<◌, ◌≤◌, Bool, true, false, List, length, Some, refl, sym, ap, ◌∙◌, subst, arith}
 use Rattle.std.specs.Prelude.{◌⊎◌, slice_get, slice_index_or}
 use Rattle.std.specs.List.{AllByRecursion, list_any}
 use Rattle.plain_history.specs.HeldByLog.{nothing_held}
+use Rattle.std.proofs.lemmas.List.{length-map}
 use Rattle.plain_history.specs.EnterPaths.{entries_on, first_path, needs_bias, EndsStay, PathsFit}
+use Rattle.own_logs.specs.Stamps.{AreNext}
 use Rattle.plain_monitor.specs.declared.entry.Logged.{Logged}
 use Rattle.plain_monitor.specs.declared.entry.Path.{Path}
 use Rattle.plain_monitor.specs.declared.entry.Path.TheVariants.{BiasTaken}
@@ -11,6 +13,7 @@ use Rattle.plain_monitor.specs.History.{log_of}
 use Rattle.plain_monitor.specs.Order.{order}
 use Rattle.core_counts.specs.OfARun.{IsHashLogged}
 use Rattle.core_steps.specs.Logic.{Heap}
+use Rattle.core_world.specs.Threads.Known.{DumpShot, Known}
 use Rattle.heap_table.specs.Seen.{ClosedSeen}
 use Rattle.lock_journal.specs.declared.record.ClassLine.{ClassLine}
 use Rattle.lock_journal.specs.declared.record.RunRecord.{RunRecord}
@@ -20,24 +23,25 @@ use Rattle.object_program.specs.Valid.{IsProgram}
 use Rattle.plain_machine.specs.Legal.{IsLegal, machine_after}
 use Rattle.plain_machine.specs.Machine.{PlainMachine}
 use Rattle.run_ends.specs.OfARun.{HasDraws}
-use Rattle.run_rounds.specs.Outcome.{HasRun, IsOver, was_halted}
+use Rattle.run_rounds.specs.Outcome.{HasRun, IsOver}
 use Rattle.program_run.specs.declared.settings.Settings.{Settings}
-use Rattle.program_run.specs.Biases.{HasBiases, IsIdle, IsLine, IsUnrevoked}
+use Rattle.program_run.specs.Biases.{HasBiases, IsIdle, IsLine, IsUnrevoked, prototype_by}
 use Rattle.program_run.specs.HeapFor.{heap_for}
 use Rattle.program_run.specs.Left.{IsOfClosed, shots_left}
 use Rattle.program_run.specs.Lines.{HasSmallCounts, line_of, lines_below, total_on}
-use Rattle.program_run.specs.Ran.{IsRan, IsRecordOf}
+use Rattle.program_run.specs.Ran.{HasAll, IsRan, IsRecordOf}
 use Rattle.program_run.specs.Shots.{AreRightShots}
-use Rattle.program_run.proofs.Biased.{all_idle, fits, log_fits, revoke_is, small_here}
+use Rattle.program_run.proofs.Biased.{Biased, Plain, all_idle, all_lines, fits, log_fits, prototype_is, revoke_is, small_here}
 use Rattle.program_run.proofs.Classes.{class_is}
 use Rattle.program_run.proofs.Cut.{Fronts, Legals, TheirObjects, right_shots}
 use Rattle.program_run.proofs.Few.{First, Stay, UseUp, Begins, Works, log_few}
-use Rattle.program_run.proofs.LinesBelow.{line_at}
+use Rattle.program_run.proofs.LinesBelow.{line_at, lines_many}
 
 pub small : (s : Settings) (p : ProgramText) (c : ClosedSeen) → HasRun (heap_for s p) p s.fuel c → HasSmallCounts c
 small s p c ran = small_here (heap_for s p) c ran.biases ran.heap_is
 
 module _ (fronts : Fronts) (legals : Legals) (theirs : TheirObjects) (first : First) (stay : Stay) (use_up : UseUp) (begins : Begins) (works : Works)
+    (biased_law : Biased) (plain_law : Plain)
     (s : Settings) (p : ProgramText) (r : RunRecord) (c : ClosedSeen) (is : IsProgram p) (few : s.fuel ≤ 200000)
     (ran : HasRun (heap_for s p) p s.fuel c) (of : IsRecordOf s p r) (copy : IsOfClosed r c) where
   abbrev heap : Heap
@@ -59,11 +63,14 @@ module _ (fronts : Fronts) (legals : Legals) (theirs : TheirObjects) (first : Fi
       subst (IsOver m) (sym copy.halted)
       (ran.over m (ap (machine_after p s.fuel) (sym copy.logs) ∙ e))
 
+  lines_are : r.classes ≡ lines_below c (length p.classes)
+  lines_are = copy.classes ∙ ap (λ (h : Heap). lines_below c h.shape.classes) ran.heap_is
+
   -- a line of the record is that of a class of the program
   line_here : (k : ℕ) (line : ClassLine) → slice_get r.classes k ≡ Some line → (k < length p.classes) × (line_of c k ≡ line)
   line_here k line e =
       line_at c (length p.classes) k line
-      (ap (λ (x : List ClassLine). slice_get x k) (sym (copy.classes ∙ ap (λ (h : Heap). lines_below c h.shape.classes) ran.heap_is)) ∙ e)
+      (ap (λ (x : List ClassLine). slice_get x k) (sym lines_are) ∙ e)
 
   counts : (k : ℕ) (line : ClassLine) → slice_get r.classes k ≡ Some line → IsLine (total_on (λ n. n.reset) c.counts k) line
   counts k line e =
@@ -79,7 +86,7 @@ module _ (fronts : Fronts) (legals : Legals) (theirs : TheirObjects) (first : Fi
       let class : (slice_index_or (shape_of p) o (0, 0)).0 ≡ k = class_is p is o ∙ ap (λ (x : ProgramText). class_of x o) (sym of.program) in
       let within : (slice_index_or (shape_of p) o (0, 0)).0 < length p.classes = subst (λ n. n < length p.classes) (sym class) at.0 in
       let none : (line_of c (slice_index_or (shape_of p) o (0, 0)).0).revoke ≡ 0 =
-          ap (λ n. (line_of c n).revoke) class ∙ ap (λ (x : ClassLine). x.revoke) at.1 ∙ unrevoked.2 in
+      ap (λ n. (line_of c n).revoke) class ∙ ap (λ (x : ClassLine). x.revoke) at.1 ∙ unrevoked.2 in
       subst (λ (x : List (List Logged)). (path ≡ BiasTaken) ⊎ IsHashLogged x o) (sym copy.logs)
       (ran.biases.biases.biases.entered (sym of.bias ∙ biased) o path
       (sym (revoke_is heap c ran.biases ran.heap_is is.threads_few short (slice_index_or (shape_of p) o (0, 0)).0 within) ∙ none)
@@ -87,8 +94,26 @@ module _ (fronts : Fronts) (legals : Legals) (theirs : TheirObjects) (first : Fi
 
   idle : r.bias ≡ false → AllByRecursion IsIdle r.classes
   idle none =
-      subst (AllByRecursion IsIdle) (sym (copy.classes ∙ ap (λ (h : Heap). lines_below c h.shape.classes) ran.heap_is))
+      subst (AllByRecursion IsIdle) (sym lines_are)
       (all_idle heap c ran.biases ran.heap_is is.threads_few short (sym of.bias ∙ none) (length p.classes) (omega arith))
+
+  prototypes : AllByRecursion (λ (line : ClassLine). line.prototype ≡ prototype_by r.bias line) r.classes
+  prototypes =
+      subst (λ (x : List ClassLine × Bool). AllByRecursion (λ (line : ClassLine). line.prototype ≡ prototype_by x.1 line) x.0)
+      (λ i. (sym lines_are i, sym of.bias i))
+      (all_lines heap c ran.biases ran.heap_is is.threads_few short (λ line. line.prototype ≡ prototype_by s.bias line)
+      (λ k within. prototype_is heap c ran.biases ran.heap_is is.threads_few short biased_law plain_law k within s.bias refl)
+      (length p.classes) (omega arith))
+
+  all : HasAll p r
+  all =
+      record {
+        logs = ap (λ (x : List (List Logged)). length x) copy.logs ∙ ran.followed.count;
+        shots =
+            ap (λ (x : List (List Shot)). length x) copy.shots ∙ length-map c.shots shots_left
+            ∙ ap (λ (x : List (List DumpShot)). length x) ran.biases.shots ∙ length-map ran.biases.knowns (λ (k : Known). k.shots) ∙ ran.biases.end.all;
+        classes = ap (λ (x : List ClassLine). length x) lines_are ∙ lines_many c (length p.classes);
+      }
 
   biases : HasBiases r c
   biases =
@@ -99,6 +124,7 @@ module _ (fronts : Fronts) (legals : Legals) (theirs : TheirObjects) (first : Fi
             (log_fits heap c ran.biases ran.heap_is is.threads_few short t (sym ran.followed.count));
         entered = entered;
         counts = counts;
+        prototypes = prototypes;
         plain = λ none o.
             ap (λ (x : List (List Logged)). list_any needs_bias (entries_on o (order x))) copy.logs
             ∙ ran.biases.biases.biases.plain (sym of.bias ∙ none) o;
@@ -111,9 +137,11 @@ module _ (fronts : Fronts) (legals : Legals) (theirs : TheirObjects) (first : Fi
         of = of;
         closed = copy;
         heap = ran.heap_is;
+        all = all;
         legal = subst (IsLegal p s.fuel) (sym copy.logs) legal;
         over = over;
         shots = shots;
         draws = subst (HasDraws s.start) (sym copy.logs) ran.draws;
+        stamps = subst (AllByRecursion (AreNext 0)) (sym copy.logs) ran.stamps;
         biases = biases;
       }

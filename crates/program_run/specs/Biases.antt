@@ -1,5 +1,5 @@
 -- What the law of biases says of a run, by its record.
-use Rattle.std.specs.Prelude.{◌≡◌, ◌⊎◌, ℕ, Bool, true, false, List, slice_get, Some}
+use Rattle.std.specs.Prelude.{◌≡◌, ◌⊎◌, ℕ, ◌+◌, ◌*◌, ◌%◌, ◌==◌, ◌&&◌, if◌then◌else◌, Bool, true, false, slice_get, Some}
 use Rattle.std.specs.List.{AllByRecursion, list_any}
 use Rattle.core_counts.specs.CountsAndVerdicts.{CountFits}
 use Rattle.core_counts.specs.OfARun.{IsHashLogged}
@@ -27,16 +27,24 @@ IsLine resets line = CountFits line.count line.single line.rebias line.revoke re
 abbrev pub IsIdle : ClassLine → Type 0
 IsIdle line = (line.single ≡ 0) × (line.rebias ≡ 0) × (line.revoke ≡ 0) × (line.count ≡ 0)
 
+-- the prototype's word: biased to nobody, with the number of bulk rebiases modulo 4 as its epoch; or neutral where there
+-- are no biases, or the class was revoked in bulk
+abbrev pub prototype_by : Bool → ClassLine → ℕ
+prototype_by bias line = if bias && (line.revoke == 0) then line.rebias % 4 * 256 + 5 else 1
+
 pub record HasBiases (r : RunRecord) (c : ClosedSeen) : Type 0 where
-  -- in the order of all logs no Enter with a bias path stands after one of its object with another path, or after a Wait, Notify or NotifyAll of it
+  -- in the order of all logs no Enter with a bias path stands after one of its object with another path, or after a Wait,
+  -- Notify or NotifyAll of it
   pub stays : (o : ℕ) → EndsStay (entries_on o (order r.logs))
   -- in each log the paths of a first hold stand exactly where the thread's count was 0 and the path isn't BiasOwn
   pub paths : (t : ℕ) → PathsFit nothing_held (log_of r.logs t)
-  -- with biases, and where the class wasn't revoked in bulk, an object with an Enter has BiasTaken as its first path, or a Hash of it is logged
+  -- with biases, and where the class wasn't revoked in bulk, an object with an Enter has BiasTaken as its first path, or a
+  -- Hash of it is logged
   pub entered : r.bias ≡ true → (o : ℕ) (path : Path) → IsUnrevoked r (class_of r.program o)
       → first_path (entries_on o (order r.logs)) ≡ Some path → (path ≡ BiasTaken) ⊎ IsHashLogged r.logs o
   -- the count of each class fits the verdicts on it, and how often it was set to 0
   pub counts : (k : ℕ) (line : ClassLine) → slice_get r.classes k ≡ Some line → IsLine (total_on (λ n. n.reset) c.counts k) line
+  pub prototypes : AllByRecursion (λ (line : ClassLine). line.prototype ≡ prototype_by r.bias line) r.classes
   -- without biases no Enter has a bias path, and no verdict is counted
   pub plain : r.bias ≡ false → (o : ℕ) → list_any needs_bias (entries_on o (order r.logs)) ≡ false
   pub idle : r.bias ≡ false → AllByRecursion IsIdle r.classes

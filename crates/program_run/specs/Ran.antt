@@ -1,5 +1,7 @@
 -- What holds of a run of a program, by the record and the closed heap that it leaves.
-use Rattle.std.specs.Prelude.{◌≡◌, Some}
+use Rattle.std.specs.Prelude.{◌≡◌, length, Some}
+use Rattle.std.specs.List.{AllByRecursion}
+use Rattle.own_logs.specs.Stamps.{AreNext}
 use Rattle.heap_table.specs.Seen.{ClosedSeen}
 use Rattle.lock_journal.specs.declared.record.RunRecord.{RunRecord}
 use Rattle.object_program.specs.Program.{ProgramText}
@@ -20,14 +22,23 @@ pub record IsRecordOf (s : Settings) (p : ProgramText) (r : RunRecord) : Type 0 
   pub start : r.start ≡ s.start
   pub bias : r.bias ≡ s.bias
 
--- The record is of this program and of this heap, which is the program's. The plain machine takes its logs, and is over behind them, as the halt
--- says; the hashes are the threads' draws, the dumps' shots are right, and the law of biases holds.
+-- it has a log and shots for each thread, and a line for each class
+pub record HasAll (p : ProgramText) (r : RunRecord) : Type 0 where
+  pub logs : length r.logs ≡ length p.threads
+  pub shots : length r.shots ≡ length p.threads
+  pub classes : length r.classes ≡ length p.classes
+
+-- The record is of this program and of this heap, which is the program's. The plain machine takes its logs, and is over
+-- behind them, as the halt says; the hashes are the threads' draws, the dumps' shots are right, and the law of biases holds.
 pub record IsRan (s : Settings) (p : ProgramText) (r : RunRecord) (c : ClosedSeen) : Type 0 where
   pub of : IsRecordOf s p r
   pub closed : IsOfClosed r c
   pub heap : c.heap ≡ heap_for s p
+  pub all : HasAll p r
   pub legal : IsLegal p s.fuel r.logs
   pub over : (m : PlainMachine) → machine_after p s.fuel r.logs ≡ Some m → IsOver m r.halted
   pub shots : AreRightShots p s.fuel r.logs r.shots
   pub draws : HasDraws s.start r.logs
+  -- an entry that takes no lock has the stamp next to the one before it in its log
+  pub stamps : AllByRecursion (AreNext 0) r.logs
   pub biases : HasBiases r c

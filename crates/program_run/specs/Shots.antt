@@ -39,8 +39,8 @@ IsNoLater a b = (u : ℕ) → slice_index a.cut u ≤ slice_index b.cut u
 abbrev pub shots_of : List (List Shot) → ℕ → List Shot
 shots_of shots t = slice_index_or shots t []
 
--- each shot is right; a thread's are of its dumps: each was made just before the dump, and has its number; and of any two one was made no later
--- than the other
+-- each shot is right; a thread's are of its dumps: each was made just before the dump, and has its number; and of any two
+-- one was made no later than the other
 pub record AreRightShots (p : ProgramText) (fuel : ℕ) (logs : List (List Logged)) (shots : List (List Shot)) : Type 0 where
   pub right : (t : ℕ) → AllByRecursion (IsRightShot p fuel logs) (shots_of shots t)
   pub dumps : (t : ℕ) → map (λ s. (slice_index s.cut t, s.number)) (shots_of shots t) ≡ dumps_from 0 (log_of logs t)

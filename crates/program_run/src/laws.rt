@@ -1,6 +1,6 @@
 //! Laws of a run's record. The functions do nothing.
 
-ghost use Rattle.std.specs.Prelude.{◌≡◌, ◌≤◌, ℕ};
+ghost use Rattle.std.specs.Prelude.{◌≤◌};
 ghost use Rattle.heap_table.specs.Seen.{ClosedSeen};
 ghost use Rattle.lock_journal.specs.declared.record.RunRecord.{RunRecord};
 ghost use Rattle.object_program.specs.Program.{ProgramText};
@@ -24,4 +24,5 @@ pub fn the_record_tells_the_run()
     thread_logs::threads_stay_theirs();
     plain_machine::machines_stay_reached();
     plain_machine::each_entry_uses_up_work();
+    run_ends::the_end_of_a_heap_tells_its_prototypes();
 }

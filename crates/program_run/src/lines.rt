@@ -1,9 +1,6 @@
 //! What happened to the biases of each class.
 
-ghost use Rattle.std.specs.Prelude.{◌≡◌, ◌<◌, ◌^◌, ℕ, slice_index, IfOk};
-ghost use Rattle.core_world.specs.declared.name.Name.TheVariants.{Revocations};
-ghost use Rattle.core_counts.specs.CountsAndVerdicts as fits;
-ghost use Rattle.heap_table.specs.Layout.{place_of};
+ghost use Rattle.std.specs.Prelude.{◌≡◌, ◌<◌, slice_index, IfOk};
 ghost use Rattle.program_run.specs.Lines.{counts_on, sums_on, raised, line_of, lines_below, HasSmallCounts};
 
 use heap_table::{ClassCounts, Closed};

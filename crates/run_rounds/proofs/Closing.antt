@@ -1,21 +1,17 @@
 -- What a heap is closed to, over the runners whose rounds are over.
-use Rattle.std.proofs.Common.{◌≡◌, ℕ, suc, ◌+◌, ◌<◌, ◌≤◌, Bool, true, false, not, List, [], ◌∷◌, length, map, Some, None, All, refl, sym, ap, ◌∙◌, subst, arith}
-use Rattle.std.specs.Prelude.{slice_get, slice_index}
+use Rattle.std.proofs.Common.{◌≡◌, ℕ, suc, Bool, true, false, not, List, [], ◌∷◌, length, map, None, All, refl, sym, ap, ◌∙◌, subst, arith}
 use Rattle.plain_monitor.specs.declared.entry.Logged.{Logged}
 use Rattle.plain_monitor.specs.History.{LegalObjects, log_of}
 use Rattle.core_world.specs.declared.task.Op.TheVariants as op
 use Rattle.core_world.specs.Clauses.Safepoints.{IsUnfinished, ends}
 use Rattle.core_world.specs.Threads.Known.{Known, DumpShot}
-use Rattle.core_world.specs.Words.Forms.{is_halted}
 use Rattle.core_steps.specs.Logic.{Heap}
-use Rattle.heap_table.specs.declared.counts.ClassCounts.{ClassCounts}
 use Rattle.heap_table.specs.BiasesAtEnd.{BiasesAtEnd}
 use Rattle.heap_table.specs.Seen.{HeapSeen, PassSeen, ClosedSeen, IsOf, LastWorld, knowns, logs_of, shots_of, counts_of_all}
 use Rattle.heap_table.specs.Tallies.{counts_shown}
 use Rattle.heap_table.proofs.Resting.{at_rest}
-use Rattle.object_program.specs.Program.{ProgramText, shape_of}
+use Rattle.object_program.specs.Program.{ProgramText}
 use Rattle.plain_machine.specs.Legal.{machine_after}
-use Rattle.plain_machine.specs.Machine.{PlainMachine}
 use Rattle.thread_calls.specs.Between.{IsHeapOf, state_by}
 use Rattle.thread_interp.specs.Runners.{RunnerSeen}
 use Rattle.thread_logs.specs.Followed.{HaveFollowed, ends_by}
@@ -23,7 +19,10 @@ use Rattle.run_ends.specs.OfARun.{HasDraws, HasShots, IsEnd, logs_in, shots_in, 
 use Rattle.run_ends.proofs.Draws.{has_draws}
 use Rattle.run_ends.proofs.Shots.{has_shots}
 use Rattle.run_ends.proofs.Stuck.{no_hash_open}
-use Rattle.run_rounds.specs.Outcome.{HasRun, HasBiases, IsOver}
+use Rattle.own_logs.specs.Stamps.{AreNext}
+use Rattle.own_logs.proofs.OwnStamps.{own_stamps}
+use Rattle.std.specs.List.{AllByRecursion}
+use Rattle.run_rounds.specs.Outcome.{HasRun}
 use Rattle.run_rounds.specs.Rounds.{AreRunners, AreOver}
 use Rattle.run_rounds.proofs.Ending.{passes, known_at, log_at, logs_are, not_live, all_of, own_follows, ended_at, is_end, have_followed, word_is_halted}
 use Rattle.run_rounds.proofs.Lists.{all_mapped}
@@ -33,6 +32,10 @@ shots_are : (ps : List PassSeen) → shots_of ps ≡ shots_in (knowns ps)
 shots_are [] = refl
 shots_are (p ∷ ps) = ap (λ (l : List (List DumpShot)). p.known.shots ∷ l) (shots_are ps)
 
+stamps_are : (h : HeapSeen) (ps : List PassSeen) → All (IsOf h) ps → AllByRecursion (AreNext 0) (logs_of ps)
+stamps_are h [] all = tt
+stamps_are h (p ∷ ps) all = (own_stamps h p (all 0 p (omega arith)), stamps_are h ps (λ k d lt. all (suc k) d (omega (arith, lt))))
+
 counts_are : (h : HeapSeen) (ps : List PassSeen) → All (IsOf h) ps
     → counts_of_all ps ≡ map (λ (k : Known). counts_shown 0 h.heap.shape.classes k.counts) (knowns ps)
 counts_are h [] all = refl
@@ -40,7 +43,8 @@ counts_are h (p ∷ ps) all =
     let here = (all 0 p (omega arith)).classes in
     λ i. counts_shown 0 (here i) p.known.counts ∷ counts_are h ps (λ k d lt. all (suc k) d (omega (arith, lt))) i
 
-more_verdicts : (heap : Heap) (words : List ℕ) (logs : List (List Logged)) (ks : List Known) → BiasesAtEnd 0 heap words logs ks → BiasesAtEnd 1 heap words logs ks
+more_verdicts : (heap : Heap) (words : List ℕ) (logs : List (List Logged)) (ks : List Known)
+    → BiasesAtEnd 0 heap words logs ks → BiasesAtEnd 1 heap words logs ks
 more_verdicts heap words logs ks b =
     record { count = b.count; words_are = b.words_are; biases = b.biases; verdicts = λ t lt. let few = b.verdicts t lt in omega (arith, few) }
 
@@ -53,7 +57,8 @@ pub record IsClosed (h : HeapSeen) (ps : List PassSeen) (c : ClosedSeen) : Type 
   pub counts : c.counts ≡ counts_of_all ps
   pub legal : LegalObjects h.heap.shape.objects c.logs
   pub biases : All (λ (p : PassSeen). p.known.unfinished ≡ None) ps → BiasesAtEnd 0 h.heap c.words c.logs (knowns ps)
-  pub biases_stuck : All (λ (p : PassSeen). (o : ℕ) → IsUnfinished p.known.unfinished op.Hash o → ⊥) ps → BiasesAtEnd 1 h.heap c.words c.logs (knowns ps)
+  pub biases_stuck : All (λ (p : PassSeen). (o : ℕ) → IsUnfinished p.known.unfinished op.Hash o → ⊥) ps
+      → BiasesAtEnd 1 h.heap c.words c.logs (knowns ps)
 
 module _ (h : HeapSeen) (p : ProgramText) (fuel : ℕ) (rs : List RunnerSeen) (are : AreRunners h p fuel rs) (of : IsHeapOf h p)
     (count : length rs ≡ h.heap.shape.threads) (c : ClosedSeen) (closed : IsClosed h (passes rs) c)
@@ -78,7 +83,8 @@ module _ (h : HeapSeen) (p : ProgramText) (fuel : ℕ) (rs : List RunnerSeen) (a
       ((at_rest h r.pass at.runner.on.rests).ended says).1)
 
   no_hash : AreOver rs true → All (λ (p : PassSeen). (o : ℕ) → IsUnfinished p.known.unfinished op.Hash o → ⊥) (passes rs)
-  no_hash halt = all_mapped (λ (p : PassSeen). (o : ℕ) → IsUnfinished p.known.unfinished op.Hash o → ⊥) (λ (r : RunnerSeen). r.pass) rs (λ t r e o left.
+  no_hash halt = all_mapped (λ (p : PassSeen). (o : ℕ) → IsUnfinished p.known.unfinished op.Hash o → ⊥)
+      (λ (r : RunnerSeen). r.pass) rs (λ t r e o left.
       no_hash_open h.heap c.words (knowns (passes rs)) end (word_is_halted h p fuel rs are of count c.words end halt) t o
       (ap unfinished_in (known_at rs t r e) ∙ left))
 
@@ -95,6 +101,7 @@ module _ (h : HeapSeen) (p : ProgramText) (fuel : ℕ) (rs : List RunnerSeen) (a
     shots = subst (λ (x : List (ℕ × ℕ) × List (List Logged) × List (List DumpShot)). HasShots x.0 x.1 x.2)
         (λ i. (of.objects i, sym logs_in_are i, sym (closed.shots ∙ shots_are (passes rs)) i))
         (has_shots h.heap c.words (knowns (passes rs)) end);
+    stamps = subst (AllByRecursion (AreNext 0)) (sym closed.logs) (stamps_are h (passes rs) (all_of h p fuel rs are));
     biases = record {
       knowns = knowns (passes rs);
       end = end;

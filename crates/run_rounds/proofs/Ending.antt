@@ -1,6 +1,6 @@
 -- What runners leave when their rounds are over: how their heap may be closed, and what the logs then are.
-use Rattle.std.proofs.Common.{◌≡◌, ◌⊎◌, ℕ, zero, suc, ◌+◌, ◌<◌, ◌≤◌, Bool, true, false, not, List, [], ◌∷◌, length, map, Option, Some, None, All, Any, refl, sym, ap, ◌∙◌, subst, arith, inl, inr}
-use Rattle.std.specs.Prelude.{slice_get, slice_index, slice_index_or}
+use Rattle.std.proofs.Common.{◌≡◌, ◌⊎◌, ℕ, suc, ◌+◌, ◌<◌, Bool, true, false, List, [], ◌∷◌, length, map, Option, Some, None, All, Any, refl, sym, ap, ◌∙◌, subst, arith, inl, inr}
+use Rattle.std.specs.Prelude.{slice_get, slice_index}
 use Rattle.std.specs.List.{AllByRecursion}
 use Rattle.std.proofs.lemmas.List.{length-map}
 use Rattle.std.proofs.lemmas.Option.{none-some, same_Some, slice_get_within, slice_get_cases, get_or_from_slice_get}
@@ -13,7 +13,7 @@ use Rattle.core_world.specs.Words.Forms.{is_halted}
 use Rattle.heap_table.specs.Seen.{HeapSeen, PassSeen, IsOf, LastWorld, InOrder, knowns, logs_of}
 use Rattle.heap_table.proofs.Resting.{at_rest}
 use Rattle.object_program.specs.declared.program.Code.{Code}
-use Rattle.object_program.specs.Program.{ProgramText, shape_of}
+use Rattle.object_program.specs.Program.{ProgramText}
 use Rattle.plain_machine.specs.declared.call.Mode.{Mode}
 use Rattle.plain_machine.specs.declared.call.Mode.TheVariants.{Calling, Waiting, Unwinding, Ended}
 use Rattle.plain_machine.specs.Asking.{thread_after}
@@ -23,10 +23,10 @@ use Rattle.thread_calls.specs.Between.{IsHeapOf, state_by}
 use Rattle.thread_frame.specs.Frames.{FrameSeen, has_ended, is_ended_mode, led_on, shown_mode, state_in, locals_of}
 use Rattle.thread_frame.specs.Sights.{counts_from}
 use Rattle.thread_interp.specs.Runners.{RunnerSeen}
-use Rattle.thread_logs.specs.Followed.{Follows, HasFollowed, HaveFollowed}
-use Rattle.run_ends.specs.OfARun.{IsEnd, logs_in, shots_in}
+use Rattle.thread_logs.specs.Followed.{Follows, HaveFollowed}
+use Rattle.run_ends.specs.OfARun.{IsEnd, logs_in}
 use Rattle.run_ends.proofs.LastWorlds.{Settled, IsListed, settled}
-use Rattle.run_rounds.specs.Rounds.{IsRunnerAt, AreRunners, AreOver, KnowsHalt, have_ended}
+use Rattle.run_rounds.specs.Rounds.{AreRunners, AreOver, KnowsHalt, have_ended}
 use Rattle.run_rounds.proofs.Lists.{Came, mapped_at, map_at, all_mapped, all_each, passes_at}
 
 -- LISTS OF RUNNERS.
@@ -36,17 +36,20 @@ passes rs = map (λ (r : RunnerSeen). r.pass) rs
 pub pass_at : (rs : List RunnerSeen) (t : ℕ) (r : RunnerSeen) → slice_get rs t ≡ Some r → slice_get (passes rs) t ≡ Some r.pass
 pass_at rs t r e = map_at (λ (r : RunnerSeen). r.pass) rs t r e
 
-pub known_at : (rs : List RunnerSeen) (t : ℕ) (r : RunnerSeen) → slice_get rs t ≡ Some r → slice_get (knowns (passes rs)) t ≡ Some r.pass.known
+pub known_at : (rs : List RunnerSeen) (t : ℕ) (r : RunnerSeen) → slice_get rs t ≡ Some r
+    → slice_get (knowns (passes rs)) t ≡ Some r.pass.known
 known_at rs t r e = map_at (λ (p : PassSeen). p.known) (passes rs) t r.pass (pass_at rs t r e)
 
-pub knower : (rs : List RunnerSeen) (t : ℕ) (k : Known) → slice_get (knowns (passes rs)) t ≡ Some k → Came (λ (r : RunnerSeen). r.pass.known) (slice_get rs t) k
+pub knower : (rs : List RunnerSeen) (t : ℕ) (k : Known) → slice_get (knowns (passes rs)) t ≡ Some k
+    → Came (λ (r : RunnerSeen). r.pass.known) (slice_get rs t) k
 knower rs t k e =
     let q = mapped_at (λ (p : PassSeen). p.known) (passes rs) t k e in
     let r = mapped_at (λ (r : RunnerSeen). r.pass) rs t q.from q.here in
     record { from = r.from; here = r.here; is = ap (λ (p : PassSeen). p.known) r.is ∙ q.is }
 
 pub log_at : (rs : List RunnerSeen) (t : ℕ) (r : RunnerSeen) → slice_get rs t ≡ Some r → log_of (logs_of (passes rs)) t ≡ r.pass.known.log
-log_at rs t r e = get_or_from_slice_get (logs_of (passes rs)) t r.pass.known.log [] (map_at (λ (p : PassSeen). p.known.log) (passes rs) t r.pass (pass_at rs t r e))
+log_at rs t r e =
+    get_or_from_slice_get (logs_of (passes rs)) t r.pass.known.log [] (map_at (λ (p : PassSeen). p.known.log) (passes rs) t r.pass (pass_at rs t r e))
 
 pub many : (rs : List RunnerSeen) → length (knowns (passes rs)) ≡ length rs
 many rs = length-map (passes rs) _ ∙ length-map rs _
@@ -62,20 +65,23 @@ in_order t (k ∷ ks) f =
     (omega (arith, here), in_order (t + 1) ks (λ i j e. let there = f (suc i) j e in omega (arith, there)))
 
 -- THREADS THAT HAVE ENDED.
-ended_mode : (p : ProgramText) (c : List Code) (s : ThreadState) (m : Option Mode) → is_ended_mode m ≡ true → is_live (led_on p c m (record s { mode = shown_mode m })) ≡ false
+ended_mode : (p : ProgramText) (c : List Code) (s : ThreadState) (m : Option Mode) → is_ended_mode m ≡ true
+    → is_live (led_on p c m (record s { mode = shown_mode m })) ≡ false
 ended_mode p c s None e = absurd (cc e)
 ended_mode p c s (Some (Calling x)) e = absurd (cc e)
 ended_mode p c s (Some (Waiting o)) e = absurd (cc e)
 ended_mode p c s (Some (Unwinding g)) e = absurd (cc e)
 ended_mode p c s (Some (Ended g)) e = refl
 
-pub not_live : (h : HeapSeen) (p : ProgramText) (pass : PassSeen) (f : FrameSeen) → has_ended f ≡ true → is_live (state_by h p pass f) ≡ false
+pub not_live : (h : HeapSeen) (p : ProgramText) (pass : PassSeen) (f : FrameSeen) → has_ended f ≡ true
+    → is_live (state_by h p pass f) ≡ false
 not_live h p pass f e =
     let holds = counts_from 0 (length h.heap.shape.objects) pass.known.holds in
     ended_mode p (code_of p pass.known.thread) (state_in (locals_of p pass.known.thread) holds f) f.mode e
 
 -- a log leads to one state
-pub same_state : (p : ProgramText) (fuel t : ℕ) (log : List Logged) (s u : ThreadState) → Follows p fuel t log s → Follows p fuel t log u → s ≡ u
+pub same_state : (p : ProgramText) (fuel t : ℕ) (log : List Logged) (s u : ThreadState) → Follows p fuel t log s
+    → Follows p fuel t log u → s ≡ u
 same_state p fuel t log s u f g =
     let first : f.first ≡ g.first = same_Some f.first g.first (sym f.there ∙ g.there) in
     same_Some s u (sym f.leads ∙ ap (λ x. run_log (thread_after p (code_of p t)) x log) first ∙ g.leads)
@@ -105,8 +111,10 @@ module _ (h : HeapSeen) (p : ProgramText) (fuel : ℕ) (rs : List RunnerSeen) (a
       by_request false q = q
       by_request true q = let live = ((are t r e).runner.on.asks q (are t r e).unchecked).live in absurd (cc (live, ended))
 
-  pub quiet : (b : Bool) → AreOver rs b → All (λ (p : PassSeen). p.known.requesting ≡ false) (passes rs) ⊎ Any (λ (p : PassSeen). p.known.halted ≡ true) (passes rs)
-  quiet false ended = inl (all_mapped (λ (p : PassSeen). p.known.requesting ≡ false) (λ (r : RunnerSeen). r.pass) rs (λ t r e. not_asking t r e (ended_at ended t r e)))
+  pub quiet : (b : Bool) → AreOver rs b
+      → All (λ (p : PassSeen). p.known.requesting ≡ false) (passes rs) ⊎ Any (λ (p : PassSeen). p.known.halted ≡ true) (passes rs)
+  quiet false ended = inl (all_mapped (λ (p : PassSeen). p.known.requesting ≡ false) (λ (r : RunnerSeen). r.pass) rs
+      (λ t r e. not_asking t r e (ended_at ended t r e)))
   quiet true (t, r, e, halt) =
       let there = pass_at rs t r e in
       inr (t, r.pass, slice_get_within (passes rs) t r.pass there, get_or_from_slice_get (passes rs) t r.pass r.pass there, halt)
@@ -118,11 +126,13 @@ module _ (h : HeapSeen) (p : ProgramText) (fuel : ℕ) (rs : List RunnerSeen) (a
       subst (AtRest h.heap.shape) r.is (at_rest h r.from.pass (are i r.from r.here).runner.on.rests))
 
   -- the log of each thread leads to where its runner stands
-  pub own_follows : (t : ℕ) (r : RunnerSeen) → slice_get rs t ≡ Some r → Follows p fuel t (log_of (logs_of (passes rs)) t) (state_by h p r.pass r.frame)
+  pub own_follows : (t : ℕ) (r : RunnerSeen) → slice_get rs t ≡ Some r
+      → Follows p fuel t (log_of (logs_of (passes rs)) t) (state_by h p r.pass r.frame)
   own_follows t r e =
       let at = are t r e in
       let s = state_by h p r.pass r.frame in
-      subst (λ (x : ℕ × ℕ × List Logged). Follows p x.0 x.1 x.2 s) (λ i. (at.fuel_is i, at.thread i, sym (log_at rs t r e) i)) at.runner.on.follows
+      subst (λ (x : ℕ × ℕ × List Logged). Follows p x.0 x.1 x.2 s)
+      (λ i. (at.fuel_is i, at.thread i, sym (log_at rs t r e) i)) at.runner.on.follows
 
   module _ (of : IsHeapOf h p) (count : length rs ≡ h.heap.shape.threads) where
     pub is_end : (words : List ℕ) → LastWorld h.heap words (knowns (passes rs)) → IsEnd h.heap words (knowns (passes rs))
@@ -147,6 +157,7 @@ module _ (h : HeapSeen) (p : ProgramText) (fuel : ℕ) (rs : List RunnerSeen) (a
         let s = settled h.heap words (knowns (passes rs)) end in
         ap is_halted s.safe ∙ s.fits.safe.stopped t (knows s (s.listed t))
       where
-        knows : (s : Settled h.heap words (knowns (passes rs))) → IsListed (knowns (passes rs)) t (s.world.known t) → (s.world.known t).halted ≡ true
+        knows : (s : Settled h.heap words (knowns (passes rs))) → IsListed (knowns (passes rs)) t (s.world.known t)
+            → (s.world.known t).halted ≡ true
         knows s (inl here) = ap (λ (k : Known). k.halted) (same_Some (s.world.known t) r.pass.known (sym here ∙ known_at rs t r e)) ∙ halt
         knows s (inr far) = absurd (none-some _ (sym far.0 ∙ known_at rs t r e))

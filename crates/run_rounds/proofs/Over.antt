@@ -1,5 +1,5 @@
 -- The machine under the logs of runners whose rounds are over: all its threads have ended, or it is stuck.
-use Rattle.std.proofs.Common.{◌≡◌, ◌⊎◌, ℕ, ◌+◌, ◌<◌, ◌||◌, Bool, true, false, not, List, [], ◌∷◌, length, Option, Some, None, refl, sym, ap, ◌∙◌, subst, arith, inl, inr, eqb-true}
+use Rattle.std.proofs.Common.{◌≡◌, ℕ, ◌||◌, Bool, true, false, not, List, [], ◌∷◌, length, Option, Some, None, refl, sym, ap, ◌∙◌, subst, arith, inl, inr, eqb-true}
 use Rattle.std.specs.Prelude.{slice_get, slice_index, slice_index_or, unwrap_or}
 use Rattle.std.specs.List.{list_all}
 use Rattle.std.proofs.lemmas.Option.{same_Some, slice_get_within, slice_get_cases, get_or_from_slice_get, unwrap_or-slice_get}
@@ -27,7 +27,7 @@ use Rattle.thread_calls.specs.Asked.{unfinished_of, IsAtMost}
 use Rattle.thread_calls.specs.Between.{IsHeapOf, state_by}
 use Rattle.thread_interp.specs.Runners.{RunnerSeen}
 use Rattle.thread_logs.specs.Followed.{Follows, HaveFollowed, is_end, ends_by}
-use Rattle.run_ends.specs.OfARun.{IsEnd, IsStuckEnd, logs_in, unfinished_in}
+use Rattle.run_ends.specs.OfARun.{IsEnd, logs_in, unfinished_in}
 use Rattle.run_ends.proofs.Stuck.{is_stuck as stuck_end}
 use Rattle.run_rounds.specs.Rounds.{AreRunners, AreOver}
 use Rattle.run_rounds.specs.Outcome.{IsOver}
@@ -37,7 +37,8 @@ use Rattle.run_rounds.proofs.StuckMachines.{Stands, stuck_machine}
 
 -- what is said of a program's threads and of its machine by their logs
 pub record Laws (p : ProgramText) (fuel : ℕ) (logs : List (List Logged)) : Type 0 where
-  pub objects : (m : PlainMachine) → HaveFollowed p fuel logs → machine_after p fuel logs ≡ Some m → objects_after (shape_of p) logs ≡ Some m.objects
+  pub objects : (m : PlainMachine) → HaveFollowed p fuel logs → machine_after p fuel logs ≡ Some m
+      → objects_after (shape_of p) logs ≡ Some m.objects
   pub threads : (m : PlainMachine) → HaveFollowed p fuel logs → machine_after p fuel logs ≡ Some m → length m.threads ≡ length p.threads
   pub each : (t : ℕ) (m : PlainMachine) (s : ThreadState) → HaveFollowed p fuel logs → machine_after p fuel logs ≡ Some m
       → slice_get m.threads t ≡ Some s → Follows p fuel t (log_of logs t) s
@@ -100,8 +101,10 @@ module _ (h : HeapSeen) (p : ProgramText) (fuel : ℕ) (rs : List RunnerSeen) (a
   follows : (t : ℕ) (s : ThreadState) → slice_get m.threads t ≡ Some s → Follows p fuel t (log_of logs t) s
   follows t s e = laws.each t m s followed after e
 
-  is_runners : (t : ℕ) (s : ThreadState) (e : slice_get m.threads t ≡ Some s) (r : RunnerSeen) → slice_get rs t ≡ Some r → s ≡ state_by h p r.pass r.frame
-  is_runners t s e r there = same_state p fuel t (log_of logs t) s (state_by h p r.pass r.frame) (follows t s e) (own_follows h p fuel rs are t r there)
+  is_runners : (t : ℕ) (s : ThreadState) (e : slice_get m.threads t ≡ Some s) (r : RunnerSeen) → slice_get rs t ≡ Some r
+      → s ≡ state_by h p r.pass r.frame
+  is_runners t s e r there =
+      same_state p fuel t (log_of logs t) s (state_by h p r.pass r.frame) (follows t s e) (own_follows h p fuel rs are t r there)
 
   all_ended : AreOver rs false → list_all (λ s. not (is_live s)) m.threads ≡ true
   all_ended over = all_pass (λ s. not (is_live s)) m.threads (λ t s e.
@@ -115,7 +118,8 @@ module _ (h : HeapSeen) (p : ProgramText) (fuel : ℕ) (rs : List RunnerSeen) (a
         let x = here.0 in
         let is : monitor_at m o ≡ x.monitor = ap (λ (y : PlainObject). y.monitor) (get_or_from_slice_get m.objects o x (new_object 0) here.2) in
         let own = laws.listed m.objects t o x followed.objects (laws.objects m followed after) here.2 in
-        waiting_mode s.mode o (laws.waits t o (log_of logs t) s (follows t s e) ∙ own ∙ sym (ap (λ (y : PlainMonitor). is_there y t) is) ∙ listed)
+        waiting_mode s.mode o
+        (laws.waits t o (log_of logs t) s (follows t s e) ∙ own ∙ sym (ap (λ (y : PlainMonitor). is_there y t) is) ∙ listed)
     | inr far ↦ absurd (cc (sym (ap (λ (y : PlainObject). is_there y.monitor t) (absent m.objects o far.1)) ∙ listed))
   ]
 
@@ -131,7 +135,8 @@ module _ (h : HeapSeen) (p : ProgramText) (fuel : ℕ) (rs : List RunnerSeen) (a
       let its = is_runners t s e r.0 r.1 in
       let most : IsAtMost r.0.pass.known.unfinished (unfinished_of (ask (state_by h p r.0.pass r.0.frame))) = (are t r.0 r.1).runner.on.unfinished in
       record {
-        over = laws.ends t (log_of logs t) s (follows t s e) ∙ sym (ends_alike (log_of logs t)) ∙ ap (λ (l : List (List Logged)). ends (log_of l t)) (sym (logs_are (passes rs)));
+        over = laws.ends t (log_of logs t) s (follows t s e) ∙ sym (ends_alike (log_of logs t))
+            ∙ ap (λ (l : List (List Logged)). ends (log_of l t)) (sym (logs_are (passes rs)));
         waits = waits t s e;
         most = subst (λ (x : Option Unfinished × ThreadState). IsAtMost x.0 (unfinished_of (ask x.1)))
             (λ i. (ap unfinished_in (sym (known_at rs t r.0 r.1)) i, sym its i)) most;

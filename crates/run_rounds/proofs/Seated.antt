@@ -1,5 +1,5 @@
 -- Runners of a heap by the seats that they stand in.
-use Rattle.std.proofs.Common.{◌≡◌, ℕ, ◌<◌, Bool, true, false, List, length, Some, refl, sym, ap, ◌∙◌, subst, inl, inr}
+use Rattle.std.proofs.Common.{◌≡◌, ℕ, true, false, List, Some, sym, ap, ◌∙◌, subst, inl, inr}
 use Rattle.std.specs.Prelude.{slice_get, slice_set}
 use Rattle.std.proofs.lemmas.Bool.{cases_eq}
 use Rattle.std.proofs.lemmas.Option.{same_Some}
@@ -16,7 +16,8 @@ use Rattle.run_rounds.specs.declared.seats.Seat.{Seat}
 use Rattle.run_rounds.specs.Rounds.{IsRunnerAt, AreRunners, runners_in}
 use Rattle.run_rounds.proofs.Lists.{Came, mapped_at, map_at}
 
-pub seat_at : (seats : List Seat) (t : ℕ) (r : RunnerSeen) → slice_get (runners_in seats) t ≡ Some r → Came (λ (s : Seat). s.runner) (slice_get seats t) r
+pub seat_at : (seats : List Seat) (t : ℕ) (r : RunnerSeen) → slice_get (runners_in seats) t ≡ Some r
+    → Came (λ (s : Seat). s.runner) (slice_get seats t) r
 seat_at seats t r e = mapped_at (λ (s : Seat). s.runner) seats t r e
 
 pub runner_at : (seats : List Seat) (t : ℕ) (s : Seat) → slice_get seats t ≡ Some s → slice_get (runners_in seats) t ≡ Some s.runner
@@ -37,7 +38,8 @@ stay_all h p fuel i seats s y are there runner same unchecked t r e =
     elim (cases_eq t i) [
       | inl is ↦
           let at = stays_at h p fuel i s.runner y.runner (are i s.runner (runner_at seats i s there)) runner same unchecked in
-          let here : y ≡ q.from = same_Some y q.from (sym (get_set_same seats i s y there) ∙ ap (slice_get (slice_set seats i y)) (sym is) ∙ q.here) in
+          let here : y ≡ q.from =
+          same_Some y q.from (sym (get_set_same seats i s y there) ∙ ap (slice_get (slice_set seats i y)) (sym is) ∙ q.here) in
           subst (λ (x : ℕ × RunnerSeen). IsRunnerAt h p fuel x.0 x.1) (λ j. (sym is j, (ap (λ (z : Seat). z.runner) here ∙ q.is) j)) at
       | inr other ↦
           subst (IsRunnerAt h p fuel t) q.is

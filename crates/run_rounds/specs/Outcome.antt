@@ -1,12 +1,13 @@
 -- What a run on workers leaves.
-use Rattle.std.specs.Prelude.{◌≡◌, ℕ, not, Bool, true, false, List, length, map, slice_index, Some}
-use Rattle.std.specs.List.{list_all}
+use Rattle.std.specs.Prelude.{◌≡◌, ℕ, not, Bool, true, false, List, map, slice_index, Some}
+use Rattle.std.specs.List.{AllByRecursion, list_all}
 use Rattle.core_steps.specs.Logic.{Heap}
 use Rattle.core_world.specs.Threads.Known.{Known}
 use Rattle.core_world.specs.Words.Forms.{is_halted}
 use Rattle.heap_table.specs.BiasesAtEnd.{BiasesAtEnd}
 use Rattle.heap_table.specs.Seen.{ClosedSeen}
 use Rattle.heap_table.specs.Tallies.{counts_shown}
+use Rattle.own_logs.specs.Stamps.{AreNext}
 use Rattle.object_program.specs.Program.{ProgramText, shape_of}
 use Rattle.plain_machine.specs.Legal.{machine_after}
 use Rattle.plain_machine.specs.Machine.{PlainMachine, is_live, is_stuck}
@@ -39,4 +40,6 @@ pub record HasRun (heap : Heap) (p : ProgramText) (fuel : ℕ) (c : ClosedSeen) 
   pub over : (m : PlainMachine) → machine_after p fuel c.logs ≡ Some m → IsOver m (was_halted c)
   pub draws : HasDraws heap.start c.logs
   pub shots : HasShots (shape_of p) c.logs c.shots
+  -- an entry that takes no lock has the stamp next to the one before it in its log
+  pub stamps : AllByRecursion (AreNext 0) c.logs
   pub biases : HasBiases heap c

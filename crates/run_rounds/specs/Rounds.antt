@@ -1,5 +1,5 @@
 -- Runners of one heap in the order of their threads, between two rounds.
-use Rattle.std.specs.Prelude.{◌≡◌, ℕ, ◌<◌, Bool, true, false, List, [], ◌∷◌, length, map, slice_get, Some}
+use Rattle.std.specs.Prelude.{◌≡◌, ℕ, Bool, true, false, List, length, map, slice_get, Some}
 use Rattle.std.specs.List.{list_all}
 use Rattle.heap_table.specs.Seen.{HeapSeen}
 use Rattle.object_program.specs.Program.{ProgramText}

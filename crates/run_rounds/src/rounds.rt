@@ -1,6 +1,6 @@
 //! Rounds of turns.
 
-ghost use Rattle.std.specs.Prelude.{◌≡◌, ◌≤◌, ◌<◌, map, length, true, false};
+ghost use Rattle.std.specs.Prelude.{◌≡◌, ◌≤◌, length, true, false};
 ghost use Rattle.thread_calls.specs.Between.{IsHeapOf};
 ghost use Rattle.thread_frame.specs.Frames.{has_ended};
 ghost use Rattle.thread_interp.specs.Runners.{IsRunner, IsSame};

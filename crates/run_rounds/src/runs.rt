@@ -1,6 +1,6 @@
 //! The run of a program's threads on workers.
 
-ghost use Rattle.std.specs.Prelude.{◌≡◌, ◌≤◌, [], map, length, IfOk, vec_len, vec_capacity};
+ghost use Rattle.std.specs.Prelude.{◌≡◌, ◌≤◌, [], map, IfOk, vec_len, vec_capacity};
 ghost use Rattle.thread_calls.specs.Between.{IsHeapOf};
 ghost use Rattle.run_rounds.specs.Outcome.{HasRun};
 ghost use Rattle.run_rounds.specs.Rounds.{AreNew, runners_in};

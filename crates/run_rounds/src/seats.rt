@@ -1,6 +1,6 @@
 //! Runners between two rounds.
 
-ghost use Rattle.std.specs.Prelude.{◌≡◌, ◌≤◌, ◌∷◌, [], IfOk, map, false, length};
+ghost use Rattle.std.specs.Prelude.{◌≡◌, ◌≤◌, IfOk, map, false};
 ghost use Rattle.thread_calls.specs.Between.{IsHeapOf};
 ghost use Rattle.thread_interp.specs.Runners.{IsRunner, IsSame};
 

@@ -1,52 +1,39 @@
 -- One entry more, or none: how a thread and its pass stand behind a call.
-use Rattle.std.proofs.Common.{◌≡◌, ℕ, ◌+◌, ◌-◌, ◌*◌, ◌<◌, ◌≤◌, ◌==◌, ◌&&◌, ◌||◌, not, cond, eq-eqb, ◌++◌, ◌∷◌, [], append_assoc, map, Bool, true, false, List, length, sum, slice_index, Option, Some, None, is_some, Result, Ok, Err, refl, sym, ap, ◌∙◌, subst, arith, inl, inr}
+use Rattle.std.proofs.Common.{◌≡◌, ℕ, ◌+◌, ◌-◌, ◌<◌, ◌≤◌, ◌==◌, not, eq-eqb, ◌++◌, ◌∷◌, [], Bool, true, false, List, length, sum, slice_index, Option, Some, None, is_some, refl, sym, ap, ◌∙◌, subst, arith, inl, inr}
 use Rattle.std.proofs.lemmas.Bool.{and_from}
 use Rattle.plain_monitor.specs.declared.entry.Entry.{Entry}
 use Rattle.plain_monitor.specs.declared.entry.Entry.TheVariants as entry
 use Rattle.plain_monitor.specs.declared.entry.Ending.{Ending}
 use Rattle.plain_monitor.specs.declared.entry.Ending.TheVariants as ending
 use Rattle.plain_monitor.specs.declared.entry.Logged.{Logged}
-use Rattle.plain_history.specs.HeldByLog.{held_by, nothing_held}
-use Rattle.wait_history.specs.WaitsByLog.{waits_by}
-use Rattle.core_calls.specs.CallsSay.{WaitSays, ExitSays, FinishSays, WaitTurnSays, lets_go, begins_with}
-use Rattle.core_calls.specs.Causes.{of_waits}
-use Rattle.core_calls.specs.Paths.{Leaves, Tells, Did}
-use Rattle.core_calls.proofs.Runs.{did, did_none, did_one}
-use Rattle.core_world.specs.declared.answer.Turn.{Turn}
+use Rattle.core_calls.specs.CallsSay.{lets_go}
 use Rattle.core_world.specs.declared.answer.Turn.TheVariants.{Done, Pending}
 use Rattle.core_world.specs.declared.answer.Why.{Why}
-use Rattle.core_world.specs.declared.task.Op.TheVariants as op
-use Rattle.core_world.specs.declared.task.Task.TheVariants as task
 use Rattle.core_world.specs.declared.task.Unfinished.{Unfinished}
-use Rattle.core_world.specs.Threads.Known.{Known, StepMade}
-use Rattle.core_world.specs.Trees.Operations.{ending_entry, wait_steps, exit_steps}
-use Rattle.core_world.specs.Words.Forms.{waits_on as waits_by_word}
-use Rattle.heap_table.specs.Kept.{all_holds}
+use Rattle.core_world.specs.Trees.Operations.{ending_entry}
 use Rattle.heap_table.specs.Resting.{start_now}
 use Rattle.heap_table.specs.Seen.{HeapSeen, PassSeen}
 use Rattle.lock_runtime.specs.Standing.{IsRunning, StandsBehind}
 use Rattle.own_logs.proofs.OwnWaits.{own_waits}
 use Rattle.object_program.specs.Program.{ProgramText, objects_total}
-use Rattle.plain_machine.specs.declared.call.Asked.{Asked}
 use Rattle.plain_machine.specs.declared.call.Asked.TheVariants.{Calls, Resumes, Leaves as Left, Ends}
 use Rattle.plain_machine.specs.declared.call.Call.{Call}
 use Rattle.plain_machine.specs.declared.call.Call.TheVariants as call
 use Rattle.plain_machine.specs.declared.call.Mode.{Mode}
-use Rattle.plain_machine.specs.declared.call.Mode.TheVariants.{Calling, Waiting, Unwinding, Ended}
+use Rattle.plain_machine.specs.declared.call.Mode.TheVariants.{Calling, Waiting, Unwinding}
 use Rattle.plain_machine.specs.Asking.{ask, ask_in, fits, held_from, unwinds, fault_number}
 use Rattle.plain_machine.specs.Machine.{code_of}
 use Rattle.plain_machine.specs.Ready.{waits_on}
 use Rattle.plain_machine.specs.Thread.{ThreadState}
 use Rattle.plain_machine.proofs.ReachedAsked.{asked_of}
-use Rattle.thread_frame.specs.Frames.{FrameSeen, frame_behind, frame_behind_call, next_state, state_in, led_on, locals_of, shown_mode, has_ended, is_ended_mode, is_in_wait, unspent, rank_of, mode_rank}
+use Rattle.thread_frame.specs.Frames.{FrameSeen, frame_behind, frame_behind_call, next_state, state_in, led_on, locals_of, shown_mode, has_ended, is_in_wait, unspent, rank_of, mode_rank}
 use Rattle.thread_frame.specs.Sights.{counts_from}
 use Rattle.thread_logs.specs.Followed.{HasValue}
 use Rattle.thread_logs.proofs.Standing.{waits_told}
-use Rattle.thread_calls.specs.Advances.{HasAdvanced, MayAdvance, HasPended, HasSpent, RanFrom}
-use Rattle.thread_calls.specs.Asked.{unfinished_of, unfinished_of_call, unfinished_on}
+use Rattle.thread_calls.specs.Advances.{HasAdvanced, MayAdvance, HasPended, HasSpent}
+use Rattle.thread_calls.specs.Asked.{unfinished_of}
 use Rattle.thread_calls.specs.Between.{IsHeapOf, state_by}
 use Rattle.thread_calls.specs.Made.{IsBehind, HasLogged, HasLeft, HasTold}
-use Rattle.thread_calls.proofs.Behind.{Came, logged, left, behind_did, tells_so, stands_same}
 use Rattle.thread_calls.proofs.Counts.{sum_behind, sum_left, sum_kept, keeps}
 use Rattle.thread_calls.proofs.Framed.{IsFramed, holds_with, framed_next, framed_by, holds_behind_entry, on_from, sum_holds}
 use Rattle.thread_calls.proofs.May.{thread_is}
@@ -172,7 +159,8 @@ module _ (h : HeapSeen) (p : ProgramText) (fuel : ℕ) (k : PassSeen) (f : Frame
           fallen = tt;
         }
 
-    pub at_log : (log : List Logged) (holds : List ℕ) (g : FrameSeen) → q.known.log ≡ log → IsFramed p fuel t log holds g → IsFramed p fuel t q.known.log holds g
+    pub at_log : (log : List Logged) (holds : List ℕ) (g : FrameSeen) → q.known.log ≡ log
+        → IsFramed p fuel t log holds g → IsFramed p fuel t q.known.log holds g
     at_log log holds g e is = subst (λ (x : List Logged). IsFramed p fuel t x holds g) (sym e) is
 
     -- pending with its log as it was
@@ -195,7 +183,8 @@ module _ (h : HeapSeen) (p : ProgramText) (fuel : ℕ) (k : PassSeen) (f : Frame
         let holds = holds_with p t counts f (Calls c) m.logged in
         let next = framed_next p fuel t k.known.log counts f of.program framed (Calling c) (Calls c) l mode asks m.of.is value in
         let is = at_log more holds g m.is.log (subst (IsFramed p fuel t more holds) (sym (m.same f)) next) in
-        let grows = sum_behind m.logged holds counts (holds_behind_entry p fuel t k.known.log counts f of.program framed (Calling c) (Calls c) l mode asks m.of.is value) in
+        let grows = sum_behind m.logged holds counts
+        (holds_behind_entry p fuel t k.known.log counts f of.program framed (Calling c) (Calls c) l mode asks m.of.is value) in
         let paid = (asked_of p s (Calls c) (thread_is h p fuel k f of may) asks).fuel in
         let same = fuel_is (Calling c) mode in
         let less = call_fuel f c e in
@@ -204,7 +193,8 @@ module _ (h : HeapSeen) (p : ProgramText) (fuel : ℕ) (k : PassSeen) (f : Frame
         let v = ap is_in_wait ran in
         let r = ap mode_rank mode in
         let z = ap mode_rank ran in
-        turn_over g true holds is m.is.behind m.is.unfinished m.is.runs (omega (arith, less)) (omega (arith, paid, same, less, w, v)) (omega (arith, paid, same, less, r, z, grows))
+        turn_over g true holds is m.is.behind m.is.unfinished m.is.runs (omega (arith, less))
+        (omega (arith, paid, same, less, w, v)) (omega (arith, paid, same, less, r, z, grows))
 
     -- A HOLD LEFT, AND THE END, of a thread that unwinds
     pub leave_done : (g : Ending) (o : ℕ) → f.mode ≡ Some (Unwinding g) → held_from 0 counts ≡ Some o → HasLogged h k q (entry.Exit o)
@@ -233,7 +223,8 @@ module _ (h : HeapSeen) (p : ProgramText) (fuel : ℕ) (k : PassSeen) (f : Frame
         let value = end_value (objects_total p) g in
         let next = framed_next p fuel t k.known.log counts f of.program framed (Unwinding g) (Ends g) l mode asks (fits_end g) value in
         let is = at_log (k.known.log ++ l ∷ []) holds over m.log next in
-        let stays = sum_kept e holds counts (end_keeps g) (holds_behind_entry p fuel t k.known.log counts f of.program framed (Unwinding g) (Ends g) l mode asks (fits_end g) value) in
+        let stays = sum_kept e holds counts (end_keeps g)
+        (holds_behind_entry p fuel t k.known.log counts f of.program framed (Unwinding g) (Ends g) l mode asks (fits_end g) value) in
         let w = ap is_in_wait mode in
         let r = ap mode_rank mode in
         turn_over over false holds is m.behind m.unfinished m.runs (omega arith) (omega (arith, w)) (omega (arith, r, stays))

@@ -1,6 +1,5 @@
 -- Lists of numbers, element by element, and how often a thread holds objects behind an entry.
-use Rattle.std.proofs.Common.{◌≡◌, ◌≢◌, ℕ, zero, suc, ◌+◌, ◌-◌, ◌<◌, ◌≤◌, ◌==◌, if◌then◌else◌, eq-eqb, ne_eqb, ltb-true, ltb-false, nat_lt, Bool, true, false, List, [], ◌∷◌, ◌++◌, length, sum, slice_index, refl, sym, ap, ◌∙◌, arith, inl, inr}
-use Rattle.std.proofs.lemmas.Bool.{cases_eq}
+use Rattle.std.proofs.Common.{◌≡◌, ◌≢◌, ℕ, zero, suc, ◌+◌, ◌-◌, ◌<◌, ◌≤◌, ◌==◌, if◌then◌else◌, eq-eqb, ne_eqb, ltb-true, ltb-false, nat_lt, Bool, true, false, List, [], ◌∷◌, ◌++◌, length, sum, slice_index, refl, sym, ap, ◌∙◌, arith}
 use Rattle.std.proofs.lemmas.List.{ext_get_or, get_or_past}
 use Rattle.std.proofs.lemmas.List.Sums.{sum_by-cons}
 use Rattle.plain_monitor.specs.declared.entry.Entry.{Entry}
@@ -26,9 +25,9 @@ pub are_counts : (n : ℕ) (words holds : List ℕ) → length holds ≡ n → (
     → holds ≡ counts_from 0 n words
 are_counts n words holds count each =
     ext_get_or 0 holds (counts_from 0 n words) (count ∙ sym (counts_length 0 n words)) (λ i l.
-      let within : i < n = omega (arith, l, count) in
-      let e : i ≡ 0 + i = omega arith in
-      each i within ∙ ap (λ o. hold_count o words) e ∙ sym (counts_at 0 n i words within))
+    let within : i < n = omega (arith, l, count) in
+    let e : i ≡ 0 + i = omega arith in
+    each i within ∙ ap (λ o. hold_count o words) e ∙ sym (counts_at 0 n i words within))
 
 -- SUMS of two lists of one length
 pub sum_fewer : (a b : List ℕ) → length a ≡ length b → ((i : ℕ) → i < length a → slice_index a i ≤ slice_index b i) → sum a ≤ sum b

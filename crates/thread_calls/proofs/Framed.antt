@@ -1,12 +1,10 @@
 -- A frame of a thread, and its pass, by the thread's log.
-use Rattle.std.proofs.Common.{◌≡◌, ℕ, ◌+◌, ◌*◌, ◌<◌, ◌≤◌, ◌++◌, ◌∷◌, [], Bool, true, false, List, length, replicate, sum, slice_index, Option, Some, None, option_and_then, is_some, refl, sym, ap, ◌∙◌, subst, arith, inl, inr}
-use Rattle.std.specs.List.{AllByRecursion}
+use Rattle.std.proofs.Common.{◌≡◌, ℕ, ◌+◌, ◌<◌, ◌≤◌, ◌++◌, ◌∷◌, [], true, List, length, sum, slice_index, Some, option_and_then, refl, sym, ap, ◌∙◌, subst, arith}
 use Rattle.plain_monitor.specs.declared.entry.Entry.{Entry}
 use Rattle.plain_monitor.specs.declared.entry.Logged.{Logged}
 use Rattle.plain_monitor.specs.Monitor.{only_if}
 use Rattle.plain_monitor.proofs.Lists.{all_push}
-use Rattle.plain_history.specs.HeldByLog.{held_after, held_by, nothing_held}
-use Rattle.core_world.specs.declared.task.Unfinished.{Unfinished}
+use Rattle.plain_history.specs.HeldByLog.{held_by, nothing_held}
 use Rattle.core_world.specs.Locks.{hold_count}
 use Rattle.heap_table.specs.Kept.{all_holds}
 use Rattle.heap_table.specs.Resting.{Rests}
@@ -21,7 +19,7 @@ use Rattle.plain_machine.specs.Asking.{ask, fits, behind_entry, thread_after}
 use Rattle.plain_machine.specs.Machine.{code_of}
 use Rattle.plain_machine.specs.ReachedThread.{IsThreadOf}
 use Rattle.plain_machine.specs.Thread.{ThreadState}
-use Rattle.thread_frame.specs.Frames.{FrameSeen, frame_behind, next_state, locals_of, has_ended}
+use Rattle.thread_frame.specs.Frames.{FrameSeen, frame_behind, next_state, locals_of}
 use Rattle.thread_frame.specs.Sights.{counts_from}
 use Rattle.thread_frame.proofs.Moves.{moves}
 use Rattle.thread_logs.specs.Followed.{Follows, HaveValues, HasValue}
@@ -55,7 +53,8 @@ module _ (p : ProgramText) (fuel t : ℕ) (log : List Logged) (holds : List ℕ)
   pub framed_thread : IsThreadOf p (next_state p t holds f)
   framed_thread = followed_thread p fuel t log (next_state p t holds f) valid is.values is.follows
 
-  module _ (m : Mode) (a : Asked) (l : Logged) (mode : f.mode ≡ Some m) (asks : ask (next_state p t holds f) ≡ Some a) (fit : fits a l.entry ≡ true) (value : HasValue (objects_total p) l.entry) where
+  module _ (m : Mode) (a : Asked) (l : Logged) (mode : f.mode ≡ Some m) (asks : ask (next_state p t holds f) ≡ Some a)
+      (fit : fits a l.entry ≡ true) (value : HasValue (objects_total p) l.entry) where
     pub framed_next : IsFramed p fuel t (log ++ l ∷ []) (holds_with p t holds f a l.entry) (frame_behind f a l.entry)
     framed_next =
         let s = next_state p t holds f in
@@ -79,9 +78,9 @@ module _ (p : ProgramText) (fuel t : ℕ) (log : List Logged) (holds : List ℕ)
         record {
           count = n.count ∙ sym is.count;
           each = λ i within.
-            let w : i < objects_total p = omega (arith, within, n.count) in
-            n.each i w ∙ held_more nothing_held log l i
-            ∙ held_same l.entry (held_by nothing_held log) (λ j. slice_index holds j) i (sym (is.each i w));
+              let w : i < objects_total p = omega (arith, within, n.count) in
+              n.each i w ∙ held_more nothing_held log l i
+              ∙ held_same l.entry (held_by nothing_held log) (λ j. slice_index holds j) i (sym (is.each i w));
         }
 
 -- BY A PASS. Its hold words are those of the frame's holds.

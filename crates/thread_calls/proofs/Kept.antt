@@ -1,5 +1,5 @@
 -- A thread that waits on an object holds it by its log.
-use Rattle.std.proofs.Common.{refl, ◌≡◌, ℕ, ◌-◌, ◌≤◌, ◌==◌, eqb-true, true, false, List, [], ◌∷◌, slice_index, Some, sym, ap, ◌∙◌, subst, eq-eqb}
+use Rattle.std.proofs.Common.{refl, ◌≡◌, ℕ, ◌-◌, ◌≤◌, eqb-true, true, List, [], ◌∷◌, slice_index, Some, ap, ◌∙◌, subst, eq-eqb}
 use Rattle.std.proofs.lemmas.Option.{same_Some}
 use Rattle.plain_monitor.specs.declared.entry.Entry.{Entry}
 use Rattle.plain_monitor.specs.declared.entry.Logged.{Logged}

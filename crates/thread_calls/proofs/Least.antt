@@ -1,5 +1,5 @@
 -- The least object that the hold words of a thread at rest name is the least that it holds.
-use Rattle.std.proofs.Common.{◌≡◌, ◌≢◌, ℕ, zero, suc, ◌+◌, ◌<◌, ◌≤◌, ◌==◌, min, nat_le, nat_lt, le-leb, ltb-true, ltb-false, eq-eqb, ne_eqb, if◌then◌else◌, Bool, true, false, List, [], ◌∷◌, length, slice_index, Option, Some, None, refl, sym, ap, ◌∙◌, subst, arith, inl, inr}
+use Rattle.std.proofs.Common.{◌≡◌, ℕ, zero, suc, ◌+◌, ◌<◌, ◌≤◌, ◌==◌, min, nat_le, nat_lt, le-leb, ltb-true, ltb-false, eq-eqb, ne_eqb, if◌then◌else◌, Bool, true, false, List, [], ◌∷◌, length, slice_index, Option, Some, None, refl, sym, ap, ◌∙◌, subst, arith, inl, inr}
 use Rattle.std.proofs.lemmas.Bool.{cases_eq}
 use Rattle.mark_word.specs.declared.hold.HoldForm.{HoldForm}
 use Rattle.mark_word.specs.declared.hold.HoldForm.TheVariants.{Empty, Holds}
@@ -119,7 +119,8 @@ forms h k rests j =
 
 pub least_is : (h : HeapSeen) (k : PassSeen) → Rests h k
     → least_in k.known.holds ≡ held_from 0 (counts_from 0 (length h.heap.shape.objects) k.known.holds)
-least_is h k rests = sym (held_is (length h.heap.shape.objects) k.known.holds (least_in k.known.holds) (all_words h.heap.shape 0 k.known.holds (forms h k rests)))
+least_is h k rests =
+    sym (held_is (length h.heap.shape.objects) k.known.holds (least_in k.known.holds) (all_words h.heap.shape 0 k.known.holds (forms h k rests)))
 
 pub places : (h : HeapSeen) (k : PassSeen) → Rests h k → length k.known.holds ≡ 64
 places h k rests = let z = settled h k rests in subst (λ (x : Known). length x.holds ≡ 64) z.knew (z.fits.holds.places k.known.thread)

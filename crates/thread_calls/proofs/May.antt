@@ -1,17 +1,10 @@
 -- A thread of a program may make the call that it asks, and isn't refused.
-use Rattle.std.proofs.Common.{◌≡◌, ◌⊎◌, ℕ, ◌+◌, ◌*◌, ◌<◌, ◌≤◌, ◌==◌, ◌&&◌, ◌||◌, not, nat_le, nat_lt, lt-ltb, le-leb, eq-eqb, Bool, true, false, List, [], ◌∷◌, length, sum, slice_index, Option, Some, None, is_some, is_none, refl, sym, ap, ◌∙◌, subst, arith, inl, inr}
-use Rattle.std.specs.List.{list_all}
-use Rattle.std.proofs.lemmas.Int.{ints}
+use Rattle.std.proofs.Common.{◌≡◌, ℕ, ◌+◌, ◌*◌, ◌<◌, ◌≤◌, ◌==◌, ◌&&◌, ◌||◌, not, nat_le, nat_lt, lt-ltb, le-leb, eq-eqb, Bool, true, false, List, [], ◌∷◌, length, sum, Option, Some, None, is_some, is_none, refl, sym, ap, ◌∙◌, arith, inl, inr}
 use Rattle.std.proofs.lemmas.Bool.{and_from, or_left, or_right, and_left}
 use Rattle.plain_monitor.specs.declared.entry.Entry.{Entry}
 use Rattle.plain_monitor.specs.declared.entry.Entry.TheVariants as entry
 use Rattle.plain_monitor.specs.declared.entry.Ending.{Ending}
 use Rattle.plain_monitor.specs.declared.entry.Logged.{Logged}
-use Rattle.plain_monitor.specs.declared.entry.Value.{Value}
-use Rattle.plain_monitor.specs.declared.entry.Value.TheVariants.{Nil, Int, Ref}
-use Rattle.plain_monitor.specs.Numbers.{IsInRange, is_in_range}
-use Rattle.plain_history.specs.HeldByLog.{held_by, nothing_held}
-use Rattle.core_calls.specs.CallsSay.{is_full}
 use Rattle.core_world.specs.declared.task.Op.{Op}
 use Rattle.core_world.specs.declared.task.Op.TheVariants as op
 use Rattle.core_world.specs.declared.task.Task.{Task}
@@ -20,36 +13,33 @@ use Rattle.core_world.specs.declared.task.Unfinished.{Unfinished}
 use Rattle.core_world.specs.Clauses.Lengths.{log_limit}
 use Rattle.core_world.specs.Clauses.Safepoints.{ends, is_ending}
 use Rattle.core_world.specs.Shots.{dumps_from, placed}
-use Rattle.core_world.specs.Threads.Known.{Known}
-use Rattle.core_world.specs.Trees.Calls.{is_object, is_value, may_begin, may_operate, is_free_for}
+use Rattle.core_world.specs.Trees.Calls.{is_object, may_begin, may_operate, is_free_for}
 use Rattle.core_world.specs.Trees.Operations.{goes_on_with, same_op}
-use Rattle.core_world.specs.Trees.Plans.{free_place}
-use Rattle.core_world.specs.Words.Shape.{Shape}
 use Rattle.core_world.specs.Words.Shape.{slots_of as slots_in_heap}
-use Rattle.heap_table.specs.Resting.{Rests, MayOperate, start_now}
+use Rattle.heap_table.specs.Resting.{MayOperate}
 use Rattle.heap_table.specs.Seen.{HeapSeen, PassSeen}
 use Rattle.own_logs.specs.HoldsByLog.{AreHolds}
 use Rattle.own_logs.proofs.OwnHolds.{own_full, own_none}
 use Rattle.own_logs.proofs.OwnShots.{own_shots}
 use Rattle.object_program.specs.Program.{ProgramText, objects_total, slots_of}
 use Rattle.plain_machine.specs.declared.call.Asked.{Asked}
-use Rattle.plain_machine.specs.declared.call.Asked.TheVariants.{Calls, Resumes, Leaves, Ends}
+use Rattle.plain_machine.specs.declared.call.Asked.TheVariants.{Calls, Leaves}
 use Rattle.plain_machine.specs.declared.call.Call.{Call}
 use Rattle.plain_machine.specs.declared.call.Call.TheVariants as call
 use Rattle.plain_machine.specs.declared.call.Mode.{Mode}
 use Rattle.plain_machine.specs.declared.call.Mode.TheVariants.{Calling, Waiting, Unwinding, Ended}
 use Rattle.plain_machine.specs.Asking.{ask, ask_in}
-use Rattle.plain_machine.specs.Machine.{is_live, ending_in}
-use Rattle.plain_machine.specs.ReachedThread.{IsThreadOf, IsCallOf, IsHeld, IsValueOf}
+use Rattle.plain_machine.specs.Machine.{is_live}
+use Rattle.plain_machine.specs.ReachedThread.{IsThreadOf, IsCallOf, IsHeld}
 use Rattle.plain_machine.specs.Thread.{ThreadState}
-use Rattle.plain_machine.specs.Work.{work_of, mode_work}
+use Rattle.plain_machine.specs.Work.{mode_work}
 use Rattle.plain_machine.proofs.ReachedAsked.{asked_of}
 use Rattle.thread_logs.specs.Followed.{ends_by, is_end, dumps_by, dumps_with}
 use Rattle.thread_logs.proofs.Logs.{followed_thread, followed_work}
 use Rattle.thread_logs.proofs.Standing.{holds_told, ends_told, dumps_told}
 use Rattle.thread_calls.specs.Advances.{MayAdvance}
-use Rattle.thread_calls.specs.Asked.{unfinished_of, unfinished_of_call, unfinished_on, IsAtMost}
-use Rattle.thread_calls.specs.Between.{IsHeapOf, StandsFor, state_by}
+use Rattle.thread_calls.specs.Asked.{unfinished_of, unfinished_on, IsAtMost}
+use Rattle.thread_calls.specs.Between.{IsHeapOf, state_by}
 use Rattle.thread_calls.specs.Made.{Holds, MayMake}
 use Rattle.thread_calls.proofs.Values.{value_is}
 use Rattle.thread_calls.proofs.Shapes.{as_many, same_slots}
@@ -165,7 +155,8 @@ module _ (h : HeapSeen) (p : ProgramText) (fuel : ℕ) (k : PassSeen) (f : _) (o
         goes : (k.known.running || (k.known.requesting && goes_on_with w o k.known.unfinished)) ≡ true
         goes = elim may.goes [
           | inl r ↦ or_left k.known.running (k.known.requesting && goes_on_with w o k.known.unfinished) r
-          | inr r ↦ or_right k.known.running (k.known.requesting && goes_on_with w o k.known.unfinished) (and_from k.known.requesting (goes_on_with w o k.known.unfinished) r
+          | inr r ↦ or_right k.known.running (k.known.requesting && goes_on_with w o k.known.unfinished)
+              (and_from k.known.requesting (goes_on_with w o k.known.unfinished) r
               (goes_self w o k.known.unfinished ((may.on.asks r may.unchecked).is ∙ is)))
         ]
 
@@ -200,16 +191,14 @@ module _ (h : HeapSeen) (p : ProgramText) (fuel : ℕ) (k : PassSeen) (f : _) (o
     pub may_finish : (g : Ending) → unfinished_of (ask s) ≡ None → sum s.holds ≡ 0 → MayOperate h k (task.Finish g)
     may_finish g is none = may_do (task.Finish g) (and_from _ _ (own_none h k s.holds may.on.rests are_held none) (act_ready is))
 
-  abbrev unfinished_call : (c : Call) → ask s ≡ Some (Calls c) → unfinished_of (ask s) ≡ unfinished_of_call c
-  unfinished_call c asks = ap unfinished_of asks
-
   pub slot_is : (o i : ℕ) → o < objects_total p → i < slots_of p o → nat_lt i (slots_in_heap h.heap.shape o) ≡ true
   slot_is o i l w = lt-ltb i (slots_in_heap h.heap.shape o) (omega (arith, w, same_slots h p o of l))
 
   may_make_of : (c : Call) → ask s ≡ Some (Calls c) → ((o : ℕ) → c ≡ call.Wait o → ⊥) → IsCallOf p s.holds s.dumps c → MayMake h k c
-  may_make_of (call.Enter o) asks other is =
-      (λ now. may_do _ asks (task.Enter o now) (may_on _ asks o op.Enter is.0 (ap unfinished_of asks)),
-       and_left _ _ (own_full h k s.holds may.on.rests are_held is.1))
+  may_make_of (call.Enter o) asks other is = (
+    λ now. may_do _ asks (task.Enter o now) (may_on _ asks o op.Enter is.0 (ap unfinished_of asks)),
+    and_left _ _ (own_full h k s.holds may.on.rests are_held is.1),
+  )
   may_make_of (call.Exit o) asks other is =
       (may_do _ asks (task.Exit o) (may_on _ asks o op.Exit is.0 (ap unfinished_of asks)), held_is o is)
   may_make_of (call.Wait o) asks other is = other o refl
@@ -217,11 +206,16 @@ module _ (h : HeapSeen) (p : ProgramText) (fuel : ℕ) (k : PassSeen) (f : _) (o
       (λ now. may_do _ asks (task.Notify o now) (may_on _ asks o op.Notify is.0 (ap unfinished_of asks)), held_is o is)
   may_make_of (call.NotifyAll o) asks other is =
       (λ now. may_do _ asks (task.NotifyAll o now) (may_on _ asks o op.NotifyAll is.0 (ap unfinished_of asks)), held_is o is)
-  may_make_of (call.Get x o i) asks other is =
-      (may_do _ asks (task.Get o i) (and_from _ _ (and_from _ _ (there_is o is.0.0) (slot_is o i is.0.0 is.1)) (act_ready _ asks (ap unfinished_of asks))), held_is o is.0)
-  may_make_of (call.Put o i v) asks other is =
-      (may_do _ asks (task.Put o i v) (and_from _ _ (and_from _ _ (and_from _ _ (there_is o is.0.0) (slot_is o i is.0.0 is.1))
-          (value_is h (objects_total p) v (as_many h p of) is.2)) (act_ready _ asks (ap unfinished_of asks))), held_is o is.0)
+  may_make_of (call.Get x o i) asks other is = (
+    may_do _ asks (task.Get o i) (and_from _ _ (and_from _ _ (there_is o is.0.0) (slot_is o i is.0.0 is.1))
+        (act_ready _ asks (ap unfinished_of asks))),
+    held_is o is.0,
+  )
+  may_make_of (call.Put o i v) asks other is = (
+    may_do _ asks (task.Put o i v) (and_from _ _ (and_from _ _ (and_from _ _ (there_is o is.0.0) (slot_is o i is.0.0 is.1))
+        (value_is h (objects_total p) v (as_many h p of) is.2)) (act_ready _ asks (ap unfinished_of asks))),
+    held_is o is.0,
+  )
   may_make_of (call.Hash x o) asks other is = λ now. may_do _ asks (task.Hash o now) (may_on _ asks o op.Hash is (ap unfinished_of asks))
   may_make_of (call.Print v) asks other is =
       may_do _ asks (task.Print v) (and_from _ _ (value_is h (objects_total p) v (as_many h p of) is) (act_ready _ asks (ap unfinished_of asks)))
@@ -235,7 +229,8 @@ module _ (h : HeapSeen) (p : ProgramText) (fuel : ℕ) (k : PassSeen) (f : _) (o
   may_make c asks other = may_make_of c asks other (asked_of p s (Calls c) thread_is asks).call
 
   -- a wait that it asks, or goes on with
-  pub may_wait : (a : Asked) (o now : ℕ) → ask s ≡ Some a → unfinished_of (Some a) ≡ unfinished_on op.Wait o → o < objects_total p → MayOperate h k (task.Wait o now)
+  pub may_wait : (a : Asked) (o now : ℕ) → ask s ≡ Some a → unfinished_of (Some a) ≡ unfinished_on op.Wait o → o < objects_total p
+      → MayOperate h k (task.Wait o now)
   may_wait a o now asks is l = may_do a asks (task.Wait o now) (may_on a asks o op.Wait l (ap unfinished_of asks ∙ is))
 
   pub may_leave : (o : ℕ) → ask s ≡ Some (Leaves o) → o < objects_total p → MayOperate h k (task.Exit o)

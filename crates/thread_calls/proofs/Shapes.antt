@@ -1,5 +1,5 @@
 -- The objects of a heap are those of its program.
-use Rattle.std.proofs.Common.{◌≡◌, ℕ, ◌+◌, ◌-◌, ◌<◌, ◌≤◌, ◌++◌, ◌∷◌, [], Bool, true, false, nat_le, nat_lt, ltb-true, ltb-false, List, length, replicate, slice_index_or, refl, sym, ap, ◌∙◌, arith}
+use Rattle.std.proofs.Common.{◌≡◌, ℕ, ◌+◌, ◌-◌, ◌<◌, ◌≤◌, ◌++◌, ◌∷◌, [], Bool, true, false, nat_le, nat_lt, ltb-true, ltb-false, List, length, replicate, slice_index_or, refl, ap, ◌∙◌, arith}
 use Rattle.std.proofs.lemmas.Bool.{and_from}
 use Rattle.std.proofs.lemmas.Bool.Decides.{nat_tests}
 use Rattle.std.proofs.lemmas.List.{length-append, length-replicate, get_or-replicate, get_or_append_left, get_or-append_right}
@@ -7,8 +7,8 @@ use Rattle.heap_table.specs.Seen.{HeapSeen}
 use Rattle.core_world.specs.Words.Shape.{slots_of as slots_in_heap}
 use Rattle.object_program.specs.declared.program.ClassDef.{ClassDef}
 use Rattle.object_program.specs.declared.program.ObjectDef.{ObjectDef}
-use Rattle.object_program.specs.Program.{ProgramText, total_of, objects_total, shape_from, shape_of, slots_of_class, slots_of, has_object, class_from}
-use Rattle.object_program.specs.Valid.{IsProgram, AreObjects}
+use Rattle.object_program.specs.Program.{ProgramText, total_of, objects_total, shape_from, slots_of_class, slots_of, has_object, class_from}
+use Rattle.object_program.specs.Valid.{AreObjects}
 use Rattle.thread_calls.specs.Between.{IsHeapOf}
 
 -- as many objects as the declarations stand for
@@ -48,7 +48,7 @@ shape_slots classes n k (d ∷ ds) o h l =
   where
     cases : (b : Bool) → nat_lt o d.size ≡ b
         → (d.size ≤ o → (slice_index_or (shape_from classes ds) (o - d.size) (0, 0)).1
-          ≡ slots_of_class classes (class_from ds (k + d.size + (o - d.size))))
+        ≡ slots_of_class classes (class_from ds (k + d.size + (o - d.size))))
         → (slice_index_or (shape_from classes (d ∷ ds)) o (0, 0)).1 ≡ slots_of_class classes (class_from (d ∷ ds) (k + o))
     cases true b ih =
         let w : o < d.size = ltb-true o d.size b in

@@ -1,5 +1,5 @@
 -- Values that may stand beside a heap's objects.
-use Rattle.std.proofs.Common.{◌≡◌, ℕ, ◌<◌, lt-ltb, ltb-true, true, length, arith, refl}
+use Rattle.std.proofs.Common.{◌≡◌, ℕ, lt-ltb, ltb-true, true, length, arith, refl}
 use Rattle.std.proofs.lemmas.Int.{ints}
 use Rattle.plain_monitor.specs.declared.entry.Value.{Value}
 use Rattle.plain_monitor.specs.declared.entry.Value.TheVariants.{Nil, Int, Ref}

@@ -1,11 +1,11 @@
 -- How a thread and its pass stand behind a wait.
-use Rattle.std.proofs.Common.{◌≡◌, ℕ, ◌+◌, ◌-◌, ◌*◌, ◌<◌, ◌≤◌, ◌==◌, not, cond, eq-eqb, ◌++◌, ◌∷◌, [], append_assoc, map, Bool, true, false, List, length, sum, Option, Some, None, Result, Ok, Err, refl, sym, ap, ◌∙◌, subst, arith}
+use Rattle.std.proofs.Common.{◌≡◌, ℕ, ◌≤◌, not, cond, eq-eqb, ◌++◌, ◌∷◌, [], append_assoc, map, Bool, true, false, List, length, sum, Option, Some, None, Ok, refl, sym, ap, ◌∙◌, subst, arith}
 use Rattle.plain_monitor.specs.declared.entry.Entry.{Entry}
 use Rattle.plain_monitor.specs.declared.entry.Entry.TheVariants as entry
 use Rattle.plain_monitor.specs.declared.entry.Logged.{Logged}
 use Rattle.core_calls.specs.CallsSay.{WaitSays, lets_go, begins_with}
 use Rattle.core_calls.specs.Causes.{of_waits}
-use Rattle.core_calls.specs.Paths.{Leaves, Tells, Did}
+use Rattle.core_calls.specs.Paths.{Leaves, Tells}
 use Rattle.core_calls.proofs.Runs.{did, did_one}
 use Rattle.core_world.specs.declared.answer.Turn.{Turn}
 use Rattle.core_world.specs.declared.answer.Turn.TheVariants.{Done, Pending}
@@ -13,7 +13,6 @@ use Rattle.core_world.specs.declared.answer.Why.{Why}
 use Rattle.core_world.specs.declared.task.Op.TheVariants as op
 use Rattle.core_world.specs.declared.task.Task.TheVariants as task
 use Rattle.core_world.specs.declared.task.Unfinished.{Unfinished}
-use Rattle.core_world.specs.Threads.Known.{StepMade}
 use Rattle.core_world.specs.Trees.Operations.{wait_steps}
 use Rattle.heap_table.specs.Resting.{start_now}
 use Rattle.heap_table.specs.Seen.{HeapSeen, PassSeen}
@@ -23,7 +22,7 @@ use Rattle.plain_machine.specs.declared.call.Asked.TheVariants.{Calls, Resumes}
 use Rattle.plain_machine.specs.declared.call.Call.TheVariants as call
 use Rattle.plain_machine.specs.declared.call.Mode.TheVariants.{Calling, Waiting}
 use Rattle.plain_machine.proofs.ReachedAsked.{asked_of}
-use Rattle.thread_frame.specs.Frames.{FrameSeen, frame_behind, next_state, is_in_wait, mode_rank}
+use Rattle.thread_frame.specs.Frames.{FrameSeen, frame_behind, is_in_wait, mode_rank}
 use Rattle.thread_frame.specs.Sights.{counts_from}
 use Rattle.thread_calls.specs.Advances.{HasAdvanced, MayAdvance, HasPended, RanFrom}
 use Rattle.thread_calls.specs.Asked.{unfinished_of, unfinished_on}
@@ -48,7 +47,8 @@ no_entries : (b : Bool) → cond {A = List Entry} b [] [] ≡ []
 no_entries true = refl
 no_entries false = refl
 
-module _ (h : HeapSeen) (p : ProgramText) (fuel : ℕ) (k : PassSeen) (f : FrameSeen) (of : IsHeapOf h p) (may : MayAdvance h p fuel k f) (o now : ℕ) (q : PassSeen)
+module _ (h : HeapSeen) (p : ProgramText) (fuel : ℕ) (k : PassSeen) (f : FrameSeen) (of : IsHeapOf h p) (may : MayAdvance h p fuel k f)
+    (o now : ℕ) (q : PassSeen)
     (c : Came h k q) (turn : Turn (Unit {0})) (tells : Tells k.known q.known (λ ms. WaitSays (start_now h k) o ms (Ok turn)))
     (stands : StandsBehind q.known turn) (ran : RanFrom h (wait_steps h.heap.shape (start_now h k) o now) k q (Ok turn)) where
   abbrev t : ℕ
@@ -83,7 +83,7 @@ module _ (h : HeapSeen) (p : ProgramText) (fuel : ℕ) (k : PassSeen) (f : Frame
       let next = framed_next p fuel t k.known.log counts f of.program before (Waiting o) (Resumes o) l mode asks (eq-eqb o o refl) tt in
       let is_now = at_log h p fuel k f of may q (k.known.log ++ l ∷ []) holds g m.log next in
       let stays = sum_kept (entry.Resume o) holds counts refl
-          (holds_behind_entry p fuel t k.known.log counts f of.program before (Waiting o) (Resumes o) l mode asks (eq-eqb o o refl) tt) in
+      (holds_behind_entry p fuel t k.known.log counts f of.program before (Waiting o) (Resumes o) l mode asks (eq-eqb o o refl) tt) in
       let w = ap is_in_wait mode in
       let r = ap mode_rank mode in
       turn_over h p fuel k f of may q g true holds is_now m.behind m.unfinished m.runs (omega arith) (omega (arith, w)) (omega (arith, r, stays))
@@ -91,7 +91,7 @@ module _ (h : HeapSeen) (p : ProgramText) (fuel : ℕ) (k : PassSeen) (f : Frame
   pub resume_left : (why : Why) → f.mode ≡ Some (Waiting o) → turn ≡ Pending why → HasAdvanced h p fuel k q f f (Pending why)
   resume_left why mode is =
       let none = tells_so (told (Pending why) is) (λ ms z.
-          subst (λ es. Leaves es waiting false ms) (ap (λ b. cond (of_waits why) (begins_with b o []) []) (goes_on mode) ∙ no_entries (of_waits why)) z.1.0) in
+      subst (λ es. Leaves es waiting false ms) (ap (λ b. cond (of_waits why) (begins_with b o []) []) (goes_on mode) ∙ no_entries (of_waits why)) z.1.0) in
       let l = left h k q c waiting why none (stands_same (Unit {0}) q.known why (subst (StandsBehind q.known) is stands)) (pended why is) in
       still_waits h p fuel k f of may q why (Waiting o) waiting mode l (sym (ap unfinished_of (asks_resume h p fuel k f of may o mode))) refl
 
@@ -103,7 +103,7 @@ module _ (h : HeapSeen) (p : ProgramText) (fuel : ℕ) (k : PassSeen) (f : Frame
       → HasAdvanced h p fuel k q f f (Pending why)
   wait_left why mode is kept =
       let none = tells_so (told (Pending why) is) (λ ms z.
-          subst (λ b. Leaves (cond b (begins_with (lets_go (start_now h k) o) o []) []) waiting false ms) kept z.1.0) in
+      subst (λ b. Leaves (cond b (begins_with (lets_go (start_now h k) o) o []) []) waiting false ms) kept z.1.0) in
       let l = left h k q c waiting why none (stands_same (Unit {0}) q.known why (subst (StandsBehind q.known) is stands)) (pended why is) in
       let asks = asks_call h p fuel k f of may (call.Wait o) mode in
       still_waits h p fuel k f of may q why (Calling (call.Wait o)) waiting mode l (sym (ap unfinished_of asks)) refl
@@ -132,7 +132,8 @@ module _ (h : HeapSeen) (p : ProgramText) (fuel : ℕ) (k : PassSeen) (f : Frame
 
     paid : 1 ≤ f.fuel
     paid =
-        let one = (asked_of p (state_by h p k f) (Calls (call.Wait o)) (thread_is h p fuel k f of may) (asks_call h p fuel k f of may (call.Wait o) mode)).fuel in
+        let asks = asks_call h p fuel k f of may (call.Wait o) mode in
+        let one = (asked_of p (state_by h p k f) (Calls (call.Wait o)) (thread_is h p fuel k f of may) asks).fuel in
         let same = fuel_is h p fuel k f of may (Calling (call.Wait o)) mode in
         omega (arith, one, same)
 
@@ -140,8 +141,8 @@ module _ (h : HeapSeen) (p : ProgramText) (fuel : ℕ) (k : PassSeen) (f : Frame
       → HasAdvanced h p fuel k q f (frame_behind f (Calls (call.Wait o)) (entry.Wait o)) (Pending why)
   wait_let_go why mode is gone =
       let one = tells_so (told (Pending why) is) (λ ms z.
-          subst (λ b. Leaves (cond b (begins_with true o []) []) waiting false ms) gone
-          (subst (λ b. Leaves (cond (of_waits why) (begins_with b o []) []) waiting false ms) (begins mode) z.1.0)) in
+      subst (λ b. Leaves (cond b (begins_with true o []) []) waiting false ms) gone
+      (subst (λ b. Leaves (cond (of_waits why) (begins_with b o []) []) waiting false ms) (begins mode) z.1.0)) in
       let d = did (entry.Wait o ∷ []) waiting false k.known q.known one in
       let e = did_one (entry.Wait o) waiting false k.known q.known d in
       let g = waits mode e.0 in
@@ -150,8 +151,12 @@ module _ (h : HeapSeen) (p : ProgramText) (fuel : ℕ) (k : PassSeen) (f : Frame
       let w = ap is_in_wait mode in
       let one_paid = paid mode e.0 in
       turn_waits h p fuel k f of may q g why holds waiting is_now
-      (record { behind = behind_did h k q c d; unfinished = d.unfinished;
-          stands = stands_same (Unit {0}) q.known why (subst (StandsBehind q.known) is stands); pended = pended why is })
+      (record {
+        behind = behind_did h k q c d;
+        unfinished = d.unfinished;
+        stands = stands_same (Unit {0}) q.known why (subst (StandsBehind q.known) is stands);
+        pended = pended why is;
+      })
       refl refl refl refl (omega (arith, w, one_paid)) (omega arith)
 
   -- and behind the Resume, in the same call
@@ -165,7 +170,7 @@ module _ (h : HeapSeen) (p : ProgramText) (fuel : ℕ) (k : PassSeen) (f : Frame
       let l : Logged = record { stamp = e.1; entry = entry.Resume o } in
       let more = k.known.log ++ w ∷ [] in
       let log : q.known.log ≡ more ++ l ∷ [] =
-          d.log ∙ ap (λ (z : List Logged). k.known.log ++ z) e.2 ∙ sym (append_assoc k.known.log (w ∷ []) (l ∷ [])) in
+      d.log ∙ ap (λ (z : List Logged). k.known.log ++ z) e.2 ∙ sym (append_assoc k.known.log (w ∷ []) (l ∷ [])) in
       let mid = waits mode e.0 in
       let held = kept mode e.0 in
       let g = frame_behind mid (Resumes o) (entry.Resume o) in
@@ -173,7 +178,7 @@ module _ (h : HeapSeen) (p : ProgramText) (fuel : ℕ) (k : PassSeen) (f : Frame
       let next = framed_next p fuel t more held mid of.program (lets mode e.0) (Waiting o) (Resumes o) l refl refl (eq-eqb o o refl) tt in
       let is_now = at_log h p fuel k f of may q (more ++ l ∷ []) holds g log next in
       let stays = sum_kept (entry.Resume o) holds held refl
-          (holds_behind_entry p fuel t more held mid of.program (lets mode e.0) (Waiting o) (Resumes o) l refl refl (eq-eqb o o refl) tt) in
+      (holds_behind_entry p fuel t more held mid of.program (lets mode e.0) (Waiting o) (Resumes o) l refl refl (eq-eqb o o refl) tt) in
       let before = lets_stay mode e.0 in
       let one_paid = paid mode e.0 in
       let v = ap is_in_wait mode in

@@ -1,5 +1,5 @@
 -- How a thread and its pass stand behind a local instruction, which leaves its pass.
-use Rattle.std.proofs.Common.{◌≡◌, ℕ, ◌+◌, ◌*◌, ◌<◌, ◌≤◌, Bool, true, false, List, length, Option, Some, None, is_some, refl, sym, ap, ◌∙◌, subst, arith, inl, inr}
+use Rattle.std.proofs.Common.{◌≡◌, ℕ, ◌<◌, ◌≤◌, Bool, true, false, List, length, Option, Some, None, is_some, refl, sym, ap, ◌∙◌, subst, arith, inl, inr}
 use Rattle.core_world.specs.declared.answer.Turn.{Turn}
 use Rattle.core_world.specs.declared.answer.Turn.TheVariants.{Done, Pending}
 use Rattle.heap_table.specs.Seen.{HeapSeen, PassSeen}
@@ -10,13 +10,13 @@ use Rattle.plain_machine.specs.declared.call.Mode.TheVariants.{Calling, Waiting,
 use Rattle.plain_machine.specs.Asking.{ask}
 use Rattle.plain_machine.specs.Thread.{ThreadState}
 use Rattle.thread_frame.specs.declared.walk.Walked.TheVariants.{Ran, Arrived, Spent}
-use Rattle.thread_frame.specs.Frames.{FrameSeen, next_state, has_ended, is_ended_mode, is_in_wait, unspent, rank_of, mode_rank}
+use Rattle.thread_frame.specs.Frames.{FrameSeen, next_state, is_ended_mode, is_in_wait, unspent, rank_of, mode_rank}
 use Rattle.thread_frame.specs.Sights.{counts_from, AreOf}
 use Rattle.thread_frame.specs.Walking.{HasWalked, IsBehindLocal}
 use Rattle.thread_logs.specs.Followed.{Follows}
 use Rattle.thread_calls.specs.Advances.{HasAdvanced, HasFallen, HasSpent, MayAdvance}
 use Rattle.thread_calls.specs.Asked.{unfinished_of, IsAtMost}
-use Rattle.thread_calls.specs.Between.{IsHeapOf, IsOn, state_by}
+use Rattle.thread_calls.specs.Between.{IsHeapOf, IsOn}
 use Rattle.thread_calls.proofs.Framed.{counts_are, counts_count, sum_holds}
 
 -- a mode in the middle of local instructions, or at an end
@@ -66,7 +66,7 @@ module _ (h : HeapSeen) (p : ProgramText) (fuel : ℕ) (k : PassSeen) (f : Frame
         cases false r = r
 
     runs : k.known.running ≡ true
-    runs = elim may.goes [ | inl r ↦ r | inr r ↦ absurd (cc (r, quiet)) ]
+    runs = elim may.goes [ inl r ↦ r | inr r ↦ absurd (cc (r, quiet)) ]
 
     is_running : IsRunning k.known
     is_running = record { runs = runs; asks = quiet }

@@ -5,7 +5,6 @@ use Rattle.core_world.specs.declared.answer.Turn.TheVariants.{Done, Pending}
 use Rattle.core_world.specs.declared.answer.Why.{Why}
 use Rattle.core_world.specs.declared.task.Task.{Task}
 use Rattle.core_world.specs.declared.task.Task.TheVariants as task
-use Rattle.core_world.specs.Threads.Known.{Known}
 use Rattle.core_world.specs.Trees.Calls.{side_purpose}
 use Rattle.core_world.specs.Trees.Operations.{enter_steps, exit_steps, wait_steps, notify_steps, notify_all_steps, hash_steps, dump_steps}
 use Rattle.core_world.specs.Trees.SafepointSteps.{poll_steps, resume_steps}

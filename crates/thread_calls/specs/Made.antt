@@ -1,5 +1,5 @@
 -- What a thread makes of its pass by one call.
-use Rattle.std.specs.Prelude.{◌≡◌, ℕ, ◌+◌, ◌<◌, ◌≤◌, ◌++◌, ◌∷◌, [], Bool, true, false, length, Option, None, is_some}
+use Rattle.std.specs.Prelude.{◌≡◌, ℕ, ◌+◌, ◌≤◌, ◌++◌, ◌∷◌, [], Bool, true, false, length, Option, None, is_some}
 use Rattle.core_calls.specs.CallsSay.{is_full}
 use Rattle.core_world.specs.declared.answer.Turn.{Turn}
 use Rattle.core_world.specs.declared.answer.Turn.TheVariants.{Done, Pending}
@@ -14,7 +14,6 @@ use Rattle.plain_machine.specs.Asking.{is_call}
 use Rattle.plain_machine.specs.declared.call.Call.{Call}
 use Rattle.plain_machine.specs.declared.call.Call.TheVariants as call
 use Rattle.plain_monitor.specs.declared.entry.Entry.{Entry}
-use Rattle.plain_monitor.specs.declared.entry.Logged.{Logged}
 use Rattle.thread_calls.specs.Advances.{HasPended}
 use Rattle.thread_calls.specs.Asked.{unfinished_of_call}
 use Rattle.thread_frame.specs.Frames.{FrameSeen, frame_behind_call}

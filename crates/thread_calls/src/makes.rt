@@ -147,7 +147,13 @@ fn dump(heap: &Heap, pass: &mut Pass, number: u32) -> Turn<Entry>
 }
 
 /// Makes the call, which may begin and isn't refused. Calls that take a moment get the clock's time now, by `tick`.
-pub(crate) fn make<C: Clock>(heap: &Heap, clock: &C, tick: u32, pass: &mut Pass, call: Call) -> Turn<Entry>
+pub(crate) fn make<C: Clock>(
+    heap: &Heap,
+    clock: &C,
+    tick: u32,
+    pass: &mut Pass,
+    call: Call,
+) -> Turn<Entry>
     requires { MayMake heap.now pass.old call }
     ensures { HasMade heap.now pass.old pass.new call result }
 {

@@ -213,7 +213,8 @@ module _ (h : HeapSeen) (text : ProgramText) (fuel : ℕ) (p : PassSeen) (f : Fr
   still_stopped q runs rests run says stands =
       let is = stop_beside h p q on.rests rests tt run says in
       record {
-        on = still_on h text p.known.checking p q f is fuel on (λ asked unchecked. both asked stands.stopped.asks) (λ checks. on.checks (sym is.checking ∙ checks));
+        on = still_on h text p.known.checking p q f is fuel on
+            (λ asked unchecked. both asked stands.stopped.asks) (λ checks. on.checks (sym is.checking ∙ checks));
         checking = is.checking;
         thread = is.thread;
         stands = inr (record { ran_before = runs; stopped = stands.stopped; ran = run.ran });

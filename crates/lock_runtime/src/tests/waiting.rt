@@ -55,8 +55,14 @@ fn a_thread_without_a_hold_may_not_wait_or_notify(rt: HostRuntime) -> Result<(),
     let (heap, mut p0, p1) = begin(rt.alloc(), true)?;
     assert_eq!(rt; resume(&heap, &mut p0), DONE);
     assert_eq!(rt; wait(&heap, &mut p0, 0, 1), Some(Err(IllegalMonitorState)));
-    assert_eq!(rt; notify(&heap, &mut p0, 0, 1), Some(Err(IllegalMonitorState)));
-    assert_eq!(rt; notify_all(&heap, &mut p0, 0, 1), Some(Err(IllegalMonitorState)));
+    assert_eq!(rt;
+        notify(&heap, &mut p0, 0, 1),
+        Some(Err(IllegalMonitorState))
+    );
+    assert_eq!(rt;
+        notify_all(&heap, &mut p0, 0, 1),
+        Some(Err(IllegalMonitorState))
+    );
     assert!(rt; p0.log().is_empty());
     assert!(rt; stop(&heap, &mut p0));
     let Some(closed) = closed(rt.alloc(), heap, p0, p1) else {

@@ -7,13 +7,16 @@ use Rattle.core_world.specs.Trees.Operations.{notify_all_going, notify_all_steps
 use Rattle.core_world.specs.Trees.Plans.{Purpose, purpose}
 use Rattle.core_calls.proofs.Runs.{tells}
 use Rattle.core_calls.proofs.WaitCallsSay.{notify_all_says}
-use Rattle.core_calls.proofs.WhoIsWoken.{notify_all_wakes}
+use Rattle.core_calls.specs.Woken.{WakesEach}
 use Rattle.heap_table.specs.Parts.{IsDueOn, HasRun}
 use Rattle.heap_table.specs.Resting.{start_now}
 use Rattle.heap_table.proofs.Resting.{whole_due, behind}
 use Rattle.lock_runtime.proofs.Behind.{going_due, going_run, going_first}
 use Rattle.lock_runtime.proofs.Waits.{first_to_notify_all, refused_run}
 use Rattle.lock_runtime.proofs.StandsCalls.{notify_all_leaves}
+use Rattle.lock_runtime.proofs.LockedPaths.{notify_all_paths}
+use Rattle.lock_runtime.proofs.Looked.{run_thread}
+use Rattle.lock_runtime.proofs.OwnLocks.{notify_all_goes, owner_tells}
 use Rattle.lock_runtime.proofs.Refused.{unheld, held}
 use Rattle.lock_runtime.proofs.waiting.notify_all.Goals as goal
 
@@ -27,7 +30,7 @@ returns-then-held-eq0-clause-wakes c =
     let e = purpose (NotifyAll a.object a.now) op.NotifyAll a.object in
     let none = hold_count a.object p.known.holds == 0 in
     let without : none ≡ true = eq-eqb _ _ (sym c.held.ensures.held ∙ c.if-held-eq0.true) in
-    tells (notify_all_wakes s k a.object a.now) (refused_run h p none (record {}) (notify_all_going s e k a.object a.now) without c.requires.call.rests.is_of).ran
+    tells (notify_all_paths s k a.object a.now) (refused_run h p none (record {}) (notify_all_going s e k a.object a.now) without c.requires.call.rests.is_of).ran
 
 pub notify_all_held-requires-clause-due : goal.notify_all_held-requires-clause-due
 unfolding steps_of
@@ -78,11 +81,6 @@ returns-clause-says c =
     let a = c.args in
     tells (notify_all_says a.heap.now.heap.shape (start_now a.heap.now a.pass.now) a.object a.now) (HasRun.ran (returns-clause-run c))
 
-pub returns-clause-wakes : goal.returns-clause-wakes
-returns-clause-wakes c =
-    let a = c.args in
-    tells (notify_all_wakes a.heap.now.heap.shape (start_now a.heap.now a.pass.now) a.object a.now) (HasRun.ran (returns-clause-run c))
-
 pub returns-clause-stands : goal.returns-clause-stands
 returns-clause-stands c =
     let a = c.args in
@@ -104,3 +102,17 @@ pub returns-clause-owner : goal.returns-clause-owner
 returns-clause-owner c =
     let a = c.args in
     held a.heap.now a.pass.now c.requires.call.rests a.object (ap (λ n. n == 0) (sym c.held.ensures.held) ∙ ne_eqb _ _ c.if-held-eq0.false)
+
+pub returns-clause-wakes : goal.returns-clause-wakes
+returns-clause-wakes c =
+    let a = c.args in
+    let h = a.heap.now in
+    let p = a.pass.now in
+    let s = h.heap.shape in
+    let k = start_now h p in
+    let run = returns-clause-run c in
+    owner_tells h p c.notify_all_held.new.pass c.requires.call.rests.is_of run.heap
+    (run_thread h (notify_all_steps s k a.object a.now) p c.notify_all_held.new.pass (Ok c.notify_all_held.result) run) a.object (returns-clause-owner c)
+    (purpose (NotifyAll a.object a.now) op.NotifyAll a.object) (notify_all_goes a.object) 0 (WakesEach s a.object)
+    c.notify_all_held.result (returns-clause-stands c)
+    (tells (notify_all_paths s k a.object a.now) run.ran)

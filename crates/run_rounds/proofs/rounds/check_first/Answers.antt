@@ -1,4 +1,4 @@
-use Rattle.std.proofs.Common.{◌≡◌, ◌<◌, length, sym, ap, ◌∙◌, subst, refl, arith, slice_index_or, slice_set}
+use Rattle.std.proofs.Common.{◌≡◌, ◌<◌, length, sym, ap, ◌∙◌, arith, slice_index_or, slice_set}
 use Rattle.std.proofs.lemmas.Option.{same_Some, slice_get-get_or}
 use Rattle.plain_monitor.proofs.Lists.{get_set_same}
 use Rattle.run_rounds.specs.declared.seats.Seat.{Seat}
@@ -22,8 +22,11 @@ check-requires-clause-free g c =
     let d = c.index-seats-i-then-not-requesting.result in
     let s = slice_index_or seats i d in
     let e = c.index-seats-i-then-not-has_ended.result in
-    let same : s ≡ slice_index_or seats i e = same_Some s (slice_index_or seats i e) (sym (slice_get-get_or seats i d lt) ∙ slice_get-get_or seats i e lt) in
-    (ap (λ (x : Seat). x.runner.pass.known.requesting) same ∙ sym c.requesting.ensures ∙ c.if-not-requesting.true, (c.loop-i.invariant.0 i s.runner (runner_at seats i s (slice_get-get_or seats i d lt))).unchecked)
+    let same : s ≡ slice_index_or seats i e =
+    same_Some s (slice_index_or seats i e) (sym (slice_get-get_or seats i d lt) ∙ slice_get-get_or seats i e lt) in (
+      ap (λ (x : Seat). x.runner.pass.known.requesting) same ∙ sym c.requesting.ensures ∙ c.if-not-requesting.true,
+      (c.loop-i.invariant.0 i s.runner (runner_at seats i s (slice_get-get_or seats i d lt))).unchecked,
+    )
 
 -- the runner that made the check stands in its seat again
 pub returns-then-not-requesting-clause-runners : goal.returns-then-not-requesting-clause-runners

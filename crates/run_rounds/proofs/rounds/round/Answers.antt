@@ -8,7 +8,8 @@ use Rattle.run_rounds.proofs.rounds.round.Goals as goal
 -- each runner may have its turn
 pub for_each_mut-requires-clause-accepts : goal.for_each_mut-requires-clause-accepts
 for_each_mut-requires-clause-accepts g c κs within = λ i p lt e.
-    let at = c.requires.runners i p.now.runner (runner_at c.args.seats.now i p.now (slice_get_read c.args.seats.now (length c.args.seats.now) i p.now refl lt e)) in
+    let seats = c.args.seats.now in
+    let at = c.requires.runners i p.now.runner (runner_at seats i p.now (slice_get_read seats (length seats) i p.now refl lt e)) in
     (c.requires.program, at.runner, at.unchecked, c.requires.quantum)
 
 -- and stays the runner of its thread
@@ -24,6 +25,7 @@ returns-clause-runners g c = λ t r e.
     let at = c.requires.runners t x.runner (runner_at before t x (slice_get-get_or before t q.from lt)) in
     let turn = (c.for_each_mut.ensures t q.from lt).1 in
     let mine = subst (λ (z : Seat). IsRunnerAt c.args.heap.now c.args.program.now c.args.fuel t z.runner) (sym turn.argument_is) at in
-    let stays = stays_at c.args.heap.now c.args.program.now c.args.fuel t turn.argument.now.runner turn.after_call.now.runner mine turn.call.0 turn.call.1 turn.call.2 in
+    let stays = stays_at c.args.heap.now c.args.program.now c.args.fuel t turn.argument.now.runner turn.after_call.now.runner mine
+    turn.call.0 turn.call.1 turn.call.2 in
     subst (IsRunnerAt c.args.heap.now c.args.program.now c.args.fuel t)
     (ap (λ (z : Seat). z.runner) (turn.left ∙ get_or_from_slice_get after t q.from q.from q.here) ∙ q.is) stays

@@ -1,4 +1,4 @@
-use Rattle.std.proofs.Common.{◌≡◌, ℕ, ◌⊎◌, List, length, map, sym, ap, ◌∙◌, subst, All, Any, true, false}
+use Rattle.std.proofs.Common.{◌≡◌, ◌⊎◌, List, length, sym, ap, ◌∙◌, subst, All, Any, true, false}
 use Rattle.std.proofs.lemmas.List.{with_items_is, length-map}
 use Rattle.heap_table.specs.Seen.{PassSeen, IsOf, InOrder, knowns, logs_of}
 use Rattle.object_program.specs.Program.{shape_of}
@@ -11,40 +11,49 @@ use Rattle.run_rounds.proofs.runs.run.Goals as goal
 
 pub rounds-requires-clause-runners : goal.rounds-requires-clause-runners
 rounds-requires-clause-runners g c κs within =
-    subst (AreRunners c.args.heap c.args.program.now c.args.fuel) (sym (ap runners_in c.as_mut_slice.ensures.value ∙ c.in_ok-seats.ensures)) c.requires.runners.runners
+    subst (AreRunners c.args.heap c.args.program.now c.args.fuel) (sym (ap runners_in c.as_mut_slice.ensures.value ∙ c.in_ok-seats.ensures))
+    c.requires.runners.runners
 
 -- the passes are those of the runners, in their order
 pub close-requires-clause-passes : goal.close-requires-clause-passes
 close-requires-clause-passes g c =
     let seats = c.rounds.new.seats in
     let same : c.of.result ≡ passes (runners_in seats) = c.of.ensures ∙ c.into_passes-passes.ensures
-    ∙ ap (λ (s : List Seat). passes (runners_in s)) (with_items_is c.in_ok-seats.seats seats (c.rounds.ensures.count ∙ c.as_mut_slice.ensures.len)) in
+    ∙ ap (λ (s : List Seat). passes (runners_in s))
+    (with_items_is c.in_ok-seats.seats seats (c.rounds.ensures.count ∙ c.as_mut_slice.ensures.len)) in
     subst (All (IsOf c.args.heap)) (sym same) (all_of c.args.heap c.args.program.now c.args.fuel (runners_in seats) c.rounds.ensures.runners)
 
 pub close-requires-clause-order : goal.close-requires-clause-order
 close-requires-clause-order g c =
     let seats = c.rounds.new.seats in
     let same : c.of.result ≡ passes (runners_in seats) = c.of.ensures ∙ c.into_passes-passes.ensures
-    ∙ ap (λ (s : List Seat). passes (runners_in s)) (with_items_is c.in_ok-seats.seats seats (c.rounds.ensures.count ∙ c.as_mut_slice.ensures.len)) in
+    ∙ ap (λ (s : List Seat). passes (runners_in s))
+    (with_items_is c.in_ok-seats.seats seats (c.rounds.ensures.count ∙ c.as_mut_slice.ensures.len)) in
     let many : length (runners_in seats) ≡ c.args.heap.heap.shape.threads =
     length-map seats (λ (s : Seat). s.runner) ∙ c.rounds.ensures.count ∙ ap length c.as_mut_slice.ensures.value
     ∙ sym (length-map c.in_ok-seats.seats.items (λ (s : Seat). s.runner)) ∙ ap length c.in_ok-seats.ensures ∙ c.requires.runners.count in
-    subst (λ (ps : List PassSeen). InOrder 0 (knowns ps) × (length ps ≡ c.args.heap.heap.shape.threads)) (sym same)
-    (ordered c.args.heap c.args.program.now c.args.fuel (runners_in seats) c.rounds.ensures.runners, length-map (runners_in seats) (λ r. r.pass) ∙ many)
+    subst (λ (ps : List PassSeen). InOrder 0 (knowns ps) × (length ps ≡ c.args.heap.heap.shape.threads)) (sym same) (
+      ordered c.args.heap c.args.program.now c.args.fuel (runners_in seats) c.rounds.ensures.runners,
+      length-map (runners_in seats) (λ r. r.pass) ∙ many,
+    )
 
 pub close-requires-clause-stopped : goal.close-requires-clause-stopped
 close-requires-clause-stopped g c =
     let seats = c.rounds.new.seats in
     let same : c.of.result ≡ passes (runners_in seats) = c.of.ensures ∙ c.into_passes-passes.ensures
-    ∙ ap (λ (s : List Seat). passes (runners_in s)) (with_items_is c.in_ok-seats.seats seats (c.rounds.ensures.count ∙ c.as_mut_slice.ensures.len)) in
-    subst (All (λ (p : PassSeen). p.known.running ≡ false)) (sym same) (all_still c.args.heap c.args.program.now c.args.fuel (runners_in seats) c.rounds.ensures.runners)
+    ∙ ap (λ (s : List Seat). passes (runners_in s))
+    (with_items_is c.in_ok-seats.seats seats (c.rounds.ensures.count ∙ c.as_mut_slice.ensures.len)) in
+    subst (All (λ (p : PassSeen). p.known.running ≡ false)) (sym same)
+    (all_still c.args.heap c.args.program.now c.args.fuel (runners_in seats) c.rounds.ensures.runners)
 
 pub close-requires-clause-quiet : goal.close-requires-clause-quiet
 close-requires-clause-quiet g c =
     let seats = c.rounds.new.seats in
     let same : c.of.result ≡ passes (runners_in seats) = c.of.ensures ∙ c.into_passes-passes.ensures
-    ∙ ap (λ (s : List Seat). passes (runners_in s)) (with_items_is c.in_ok-seats.seats seats (c.rounds.ensures.count ∙ c.as_mut_slice.ensures.len)) in
-    subst (λ (ps : List PassSeen). All (λ (p : PassSeen). p.known.requesting ≡ false) ps ⊎ Any (λ (p : PassSeen). p.known.halted ≡ true) ps) (sym same)
+    ∙ ap (λ (s : List Seat). passes (runners_in s))
+    (with_items_is c.in_ok-seats.seats seats (c.rounds.ensures.count ∙ c.as_mut_slice.ensures.len)) in
+    subst (λ (ps : List PassSeen). All (λ (p : PassSeen). p.known.requesting ≡ false) ps ⊎ Any (λ (p : PassSeen). p.known.halted ≡ true) ps)
+    (sym same)
     (quiet c.args.heap c.args.program.now c.args.fuel (runners_in seats) c.rounds.ensures.runners c.rounds.result c.rounds.ensures.over)
 
 pub returns : goal.returns
@@ -53,7 +62,8 @@ returns g c =
     let p = c.args.program.now in
     let logs = logs_of (passes (runners_in seats)) in
     let same : c.of.result ≡ passes (runners_in seats) = c.of.ensures ∙ c.into_passes-passes.ensures
-    ∙ ap (λ (s : List Seat). passes (runners_in s)) (with_items_is c.in_ok-seats.seats seats (c.rounds.ensures.count ∙ c.as_mut_slice.ensures.len)) in
+    ∙ ap (λ (s : List Seat). passes (runners_in s))
+    (with_items_is c.in_ok-seats.seats seats (c.rounds.ensures.count ∙ c.as_mut_slice.ensures.len)) in
     let many : length (runners_in seats) ≡ c.args.heap.heap.shape.threads =
     length-map seats (λ (s : Seat). s.runner) ∙ c.rounds.ensures.count ∙ ap length c.as_mut_slice.ensures.value
     ∙ sym (length-map c.in_ok-seats.seats.items (λ (s : Seat). s.runner)) ∙ ap length c.in_ok-seats.ensures ∙ c.requires.runners.count in

@@ -1,4 +1,4 @@
-use Rattle.std.proofs.Common.{◌≡◌, ◌++◌, ◌≤◌, map, length, vec_len, vec_capacity}
+use Rattle.std.proofs.Common.{◌≡◌, ◌++◌, ◌≤◌, length, vec_len, vec_capacity}
 use Rattle.run_rounds.specs.Rounds.{runners_in}
 use Rattle.run_rounds.proofs.seats.seats.Given as goal
 

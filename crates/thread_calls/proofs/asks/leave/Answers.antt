@@ -1,5 +1,5 @@
-use Rattle.std.proofs.Common.{◌≡◌, false, true, [], ◌∷◌, Ok, Err, None, refl, sym, ap, ◌∙◌, subst, arith}
-use Rattle.core_world.specs.declared.answer.Turn.TheVariants.{Done, Pending}
+use Rattle.std.proofs.Common.{false, Ok, refl, sym, ap, subst, arith}
+use Rattle.core_world.specs.declared.answer.Turn.TheVariants.{Done}
 use Rattle.core_world.specs.declared.task.Op.TheVariants as op
 use Rattle.core_world.specs.declared.task.Task.TheVariants as task
 use Rattle.core_world.specs.Trees.Operations.{exit_steps}
@@ -16,7 +16,6 @@ use Rattle.thread_calls.proofs.Advanced.{asks_leave, leave_done, still_waits}
 use Rattle.thread_calls.proofs.Behind.{came, turn_done, turn_left}
 use Rattle.thread_calls.proofs.May.{may_leave, held_is, thread_is}
 use Rattle.thread_calls.proofs.asks.leave.Goals as goal
-
 
 pub exit-requires : goal.exit-requires
 exit-requires c =

@@ -1,5 +1,5 @@
-use Rattle.std.proofs.Common.{◌≡◌, true, Ok, Err, refl, sym, ap, ◌∙◌, subst, arith}
-use Rattle.core_world.specs.declared.answer.Turn.TheVariants.{Done, Pending}
+use Rattle.std.proofs.Common.{true, refl, sym, subst, arith}
+use Rattle.core_world.specs.declared.answer.Turn.TheVariants.{Done}
 use Rattle.plain_machine.specs.declared.call.Asked.TheVariants.{Resumes}
 use Rattle.plain_machine.specs.declared.call.Mode.TheVariants.{Waiting}
 use Rattle.plain_machine.proofs.ReachedAsked.{asked_of}

@@ -1,4 +1,4 @@
-use Rattle.std.proofs.Common.{◌≡◌, false, sym, ap, ◌∙◌, subst}
+use Rattle.std.proofs.Common.{false, sym, ap, ◌∙◌, subst}
 use Rattle.core_world.specs.declared.answer.Turn.TheVariants.{Done}
 use Rattle.core_world.specs.Trees.Operations.{ending_entry}
 use Rattle.plain_machine.specs.declared.call.Asked.TheVariants.{Ends}

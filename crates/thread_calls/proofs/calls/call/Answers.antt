@@ -1,4 +1,4 @@
-use Rattle.std.proofs.Common.{◌≡◌, true, refl, sym, ap, ◌∙◌, subst}
+use Rattle.std.proofs.Common.{true, sym, ap, subst}
 use Rattle.core_world.specs.declared.answer.Turn.TheVariants.{Done}
 use Rattle.plain_machine.specs.declared.call.Mode.TheVariants.{Calling}
 use Rattle.thread_calls.specs.Advances.{HasAdvanced}

@@ -1,4 +1,4 @@
-use Rattle.std.proofs.Common.{◌≡◌, ℕ, ◌+◌, ◌*◌, ◌<◌, ◌≤◌, [], true, false, List, length, replicate, slice_index, None, refl, sym, ap, ◌∙◌, subst, arith, inl}
+use Rattle.std.proofs.Common.{◌≡◌, ℕ, ◌<◌, [], false, List, length, replicate, slice_index, sym, ap, ◌∙◌, subst, arith, inl}
 use Rattle.std.proofs.lemmas.List.{length-replicate, get_or-replicate}
 use Rattle.core_world.specs.Threads.Known.{Known}
 use Rattle.plain_monitor.specs.declared.entry.Logged.{Logged}
@@ -9,7 +9,6 @@ use Rattle.thread_frame.proofs.Starts.{starts}
 use Rattle.thread_logs.specs.Followed.{Follows, HaveValues}
 use Rattle.thread_logs.proofs.Logs.{first_follows}
 use Rattle.thread_calls.proofs.Framed.{same_counts}
-use Rattle.thread_calls.proofs.May.{may_make, may_wait, may_leave, may_finish}
 use Rattle.thread_calls.proofs.laws.unused_passes_are_on.Goals as goal
 
 pub returns : goal.returns

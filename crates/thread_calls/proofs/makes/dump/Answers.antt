@@ -1,20 +1,15 @@
-use Rattle.std.proofs.Common.{◌≡◌, ◌==◌, eq-eqb, eqb-true, ◌+◌, ◌<◌, ◌^◌, false, true, Bool, List, [], ◌∷◌, length, Ok, Err, None, refl, sym, ap, ◌∙◌, subst, arith}
-use Rattle.std.proofs.lemmas.Bool.{and_from}
-use Rattle.core_world.specs.declared.answer.Turn.{Turn}
+use Rattle.std.proofs.Common.{◌≡◌, eq-eqb, eqb-true, length, Ok, refl, sym, ◌∙◌, subst, arith}
 use Rattle.core_world.specs.declared.answer.Turn.TheVariants.{Done, Pending}
 use Rattle.core_world.specs.declared.task.Op.TheVariants as op
 use Rattle.core_world.specs.declared.task.Task.TheVariants as task
-use Rattle.core_world.specs.Trees.Operations.{hash_steps, dump_steps}
-use Rattle.core_world.specs.Threads.Known.{StepMade}
+use Rattle.core_world.specs.Trees.Operations.{dump_steps}
 use Rattle.plain_monitor.specs.declared.entry.Entry.TheVariants as entry
-use Rattle.core_calls.specs.CallsSay.{GetSays, PutSays, PrintSays, HashSays, DumpSays}
-use Rattle.core_calls.specs.Paths.{Leaves, Tells}
+use Rattle.core_calls.specs.CallsSay.{DumpSays}
+use Rattle.core_calls.specs.Paths.{Tells}
 use Rattle.heap_table.specs.Resting.{start_now}
-use Rattle.plain_machine.proofs.ReachedStanding.{same_itself}
 use Rattle.thread_calls.specs.Advances.{RanFrom}
 use Rattle.thread_calls.specs.Asked.{unfinished_on}
-use Rattle.thread_calls.proofs.Behind.{came, came_dumped, turn_done, turn_left, logged, tells_so, tells_at}
-use Rattle.thread_calls.proofs.Values.{value_of}
+use Rattle.thread_calls.proofs.Behind.{came_dumped, turn_done, turn_left}
 use Rattle.thread_calls.proofs.makes.dump.Goals as goal
 
 pub unreachable-requires : goal.unreachable-requires
@@ -35,7 +30,8 @@ returns-in-Done c =
     let number : a.number ≡ x = c.requires.number ∙ sym told.says.1.0 in
     record {
       logged = entry.Dump x;
-      is = turn_done h k q (came_dumped e.rests e.run) (λ ms z. DumpSays (start_now h k) ms (Ok z)) c.in-Ok.turn e.says e.stands x (entry.Dump x) is (λ ms z. z.1.1);
+      is = turn_done h k q (came_dumped e.rests e.run) (λ ms z. DumpSays (start_now h k) ms (Ok z)) c.in-Ok.turn
+          e.says e.stands x (entry.Dump x) is (λ ms z. z.1.1);
       of = record { is = eq-eqb a.number x number; value = tt };
       same = λ f. refl;
     }
@@ -49,5 +45,8 @@ returns-in-Pending c =
     let e = c.in-Ok.ensures in
     let why = c.in-Pending.why in
     let is : c.in-Ok.turn ≡ Pending why = c.in-Pending.is in
-    let ran = subst (λ z. RanFrom h (dump_steps h.heap.shape (start_now h k)) k q (Ok (z))) is e.run.ran in
-    (turn_left h k q (came_dumped e.rests e.run) (λ ms z. DumpSays (start_now h k) ms (Ok z)) c.in-Ok.turn e.says e.stands (unfinished_on op.Dump 0) why is (λ ms z. z.1.0) (k, task.Dump, ran), refl)
+    let ran = subst (λ z. RanFrom h (dump_steps h.heap.shape (start_now h k)) k q (Ok (z))) is e.run.ran in (
+      turn_left h k q (came_dumped e.rests e.run) (λ ms z. DumpSays (start_now h k) ms (Ok z)) c.in-Ok.turn
+          e.says e.stands (unfinished_on op.Dump 0) why is (λ ms z. z.1.0) (k, task.Dump, ran),
+      refl,
+    )

@@ -1,20 +1,12 @@
-use Rattle.std.proofs.Common.{◌≡◌, ◌==◌, eq-eqb, eqb-true, ◌+◌, ◌<◌, ◌^◌, false, true, Bool, List, [], ◌∷◌, length, Ok, Err, None, refl, sym, ap, ◌∙◌, subst, arith}
-use Rattle.std.proofs.lemmas.Bool.{and_from}
-use Rattle.core_world.specs.declared.answer.Turn.{Turn}
-use Rattle.core_world.specs.declared.answer.Turn.TheVariants.{Done, Pending}
+use Rattle.std.proofs.Common.{eq-eqb, refl, arith}
+use Rattle.core_world.specs.declared.answer.Turn.TheVariants.{Pending}
 use Rattle.core_world.specs.declared.task.Op.TheVariants as op
 use Rattle.core_world.specs.declared.task.Task.TheVariants as task
-use Rattle.core_world.specs.Trees.Operations.{hash_steps, dump_steps}
-use Rattle.core_world.specs.Threads.Known.{StepMade}
 use Rattle.plain_monitor.specs.declared.entry.Entry.TheVariants as entry
-use Rattle.core_calls.specs.CallsSay.{GetSays, PutSays, PrintSays, HashSays, DumpSays}
-use Rattle.core_calls.specs.Paths.{Leaves, Tells}
+use Rattle.core_calls.specs.CallsSay.{HashSays}
 use Rattle.heap_table.specs.Resting.{start_now}
-use Rattle.plain_machine.proofs.ReachedStanding.{same_itself}
-use Rattle.thread_calls.specs.Advances.{RanFrom}
 use Rattle.thread_calls.specs.Asked.{unfinished_on}
-use Rattle.thread_calls.proofs.Behind.{came, came_dumped, turn_done, turn_left, logged, tells_so, tells_at}
-use Rattle.thread_calls.proofs.Values.{value_of}
+use Rattle.thread_calls.proofs.Behind.{came, turn_left, logged, tells_at}
 use Rattle.thread_calls.proofs.makes.hash.Goals as goal
 
 pub returns-in-Done : goal.returns-in-Done
@@ -40,6 +32,8 @@ returns-in-Pending c =
     let k = a.pass.now in
     let q = c.hash.new.pass in
     let e = c.in-Pending.ensures in
-    let why = c.in-Pending.why in
-    (turn_left h k q (came e.rests e.run) (λ ms z. HashSays (start_now h k) a.object ms z) (Pending why) e.says e.stands
-    (unfinished_on op.Hash a.object) why refl (λ ms z. z.0) (k, task.Hash a.object a.now, e.run.ran), refl)
+    let why = c.in-Pending.why in (
+      turn_left h k q (came e.rests e.run) (λ ms z. HashSays (start_now h k) a.object ms z) (Pending why) e.says e.stands
+          (unfinished_on op.Hash a.object) why refl (λ ms z. z.0) (k, task.Hash a.object a.now, e.run.ran),
+      refl,
+    )

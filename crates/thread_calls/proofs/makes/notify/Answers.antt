@@ -1,5 +1,4 @@
-use Rattle.std.proofs.Common.{◌≡◌, ◌==◌, eq-eqb, false, true, Bool, [], ◌∷◌, Ok, Err, None, refl, sym, ap, ◌∙◌, subst, arith}
-use Rattle.core_world.specs.declared.answer.Turn.{Turn}
+use Rattle.std.proofs.Common.{◌≡◌, eq-eqb, Ok, refl, subst, arith}
 use Rattle.core_world.specs.declared.answer.Turn.TheVariants.{Done, Pending}
 use Rattle.core_world.specs.declared.task.Op.TheVariants as op
 use Rattle.core_world.specs.declared.task.Task.TheVariants as task
@@ -9,7 +8,7 @@ use Rattle.core_calls.specs.CallsSay.{NotifySays}
 use Rattle.heap_table.specs.Resting.{start_now}
 use Rattle.thread_calls.specs.Advances.{RanFrom}
 use Rattle.thread_calls.specs.Asked.{unfinished_on}
-use Rattle.thread_calls.proofs.Behind.{came, came_dumped, turn_done, turn_left, logged}
+use Rattle.thread_calls.proofs.Behind.{came, turn_done, turn_left}
 use Rattle.thread_calls.proofs.makes.notify.Goals as goal
 
 pub unreachable-requires : goal.unreachable-requires
@@ -27,7 +26,8 @@ returns-in-Done c =
     let is : c.in-Ok.turn ≡ Done x = c.in-Done.is in
     record {
       logged = entry;
-      is = turn_done h k q (came e.rests e.run) (λ ms z. NotifySays (start_now h k) a.object ms (Ok z)) c.in-Ok.turn e.says e.stands x entry is (λ ms z. z.1);
+      is = turn_done h k q (came e.rests e.run) (λ ms z. NotifySays (start_now h k) a.object ms (Ok z)) c.in-Ok.turn
+          e.says e.stands x entry is (λ ms z. z.1);
       of = record { is = eq-eqb _ _ refl; value = tt };
       same = λ f. refl;
     }
@@ -41,5 +41,8 @@ returns-in-Pending c =
     let e = c.in-Ok.ensures in
     let why = c.in-Pending.why in
     let is : c.in-Ok.turn ≡ Pending why = c.in-Pending.is in
-    let ran = subst (λ z. RanFrom h (notify_steps h.heap.shape (start_now h k) a.object a.now) k q (Ok (z))) is e.run.ran in
-    (turn_left h k q (came e.rests e.run) (λ ms z. NotifySays (start_now h k) a.object ms (Ok z)) c.in-Ok.turn e.says e.stands (unfinished_on op.Notify a.object) why is (λ ms z. z.1.0) (k, task.Notify a.object a.now, ran), refl)
+    let ran = subst (λ z. RanFrom h (notify_steps h.heap.shape (start_now h k) a.object a.now) k q (Ok (z))) is e.run.ran in (
+      turn_left h k q (came e.rests e.run) (λ ms z. NotifySays (start_now h k) a.object ms (Ok z)) c.in-Ok.turn
+          e.says e.stands (unfinished_on op.Notify a.object) why is (λ ms z. z.1.0) (k, task.Notify a.object a.now, ran),
+      refl,
+    )

@@ -23,7 +23,7 @@ returns-in-Ran g c =
     let f = c.walk.new.self in
     let many = c.objects.ensures ∙ ap (λ (s : Shape). length s.objects) c.shape.ensures in
     let leads = subst (λ n. next_state a.program.now a.pass.now.known.thread (counts_from 0 n a.pass.now.known.holds) f
-        ≡ next_state a.program.now a.pass.now.known.thread (counts_from 0 n a.pass.now.known.holds) a.frame.now) many c.walk.ensures.leads in
+    ≡ next_state a.program.now a.pass.now.known.thread (counts_from 0 n a.pass.now.known.holds) a.frame.now) many c.walk.ensures.leads in
     ran a.heap.now a.program.now a.fuel a.pass.now a.frame.now r.heap r.may r.local f leads c.in-Ran.ensures.walked
 
 pub returns-in-Spent : goal.returns-in-Spent
@@ -33,7 +33,7 @@ returns-in-Spent g c =
     let f = c.walk.new.self in
     let many = c.objects.ensures ∙ ap (λ (s : Shape). length s.objects) c.shape.ensures in
     let leads = subst (λ n. next_state a.program.now a.pass.now.known.thread (counts_from 0 n a.pass.now.known.holds) f
-        ≡ next_state a.program.now a.pass.now.known.thread (counts_from 0 n a.pass.now.known.holds) a.frame.now) many c.walk.ensures.leads in
+    ≡ next_state a.program.now a.pass.now.known.thread (counts_from 0 n a.pass.now.known.holds) a.frame.now) many c.walk.ensures.leads in
     spent a.heap.now a.program.now a.fuel a.pass.now a.frame.now r.heap r.may r.local f leads c.in-Spent.ensures.walked
 
 pub go_on-requires-clause-may : goal.go_on-requires-clause-may
@@ -43,7 +43,7 @@ go_on-requires-clause-may g c =
     let f = c.walk.new.self in
     let many = c.objects.ensures ∙ ap (λ (s : Shape). length s.objects) c.shape.ensures in
     let leads = subst (λ n. next_state a.program.now a.pass.now.known.thread (counts_from 0 n a.pass.now.known.holds) f
-        ≡ next_state a.program.now a.pass.now.known.thread (counts_from 0 n a.pass.now.known.holds) a.frame.now) many c.walk.ensures.leads in
+    ≡ next_state a.program.now a.pass.now.known.thread (counts_from 0 n a.pass.now.known.holds) a.frame.now) many c.walk.ensures.leads in
     arrived a.heap.now a.program.now a.fuel a.pass.now a.frame.now r.heap r.may r.local f leads c.in-Arrived.ensures.walked
 
 pub returns-in-Some : goal.returns-in-Some
@@ -53,6 +53,6 @@ returns-in-Some g c =
     let f = c.walk.new.self in
     let many = c.objects.ensures ∙ ap (λ (s : Shape). length s.objects) c.shape.ensures in
     let leads = subst (λ n. next_state a.program.now a.pass.now.known.thread (counts_from 0 n a.pass.now.known.holds) f
-        ≡ next_state a.program.now a.pass.now.known.thread (counts_from 0 n a.pass.now.known.holds) a.frame.now) many c.walk.ensures.leads in
+    ≡ next_state a.program.now a.pass.now.known.thread (counts_from 0 n a.pass.now.known.holds) a.frame.now) many c.walk.ensures.leads in
     from_there a.heap.now a.program.now a.fuel a.pass.now a.frame.now r.heap r.may r.local f leads c.go_on.new.pass c.go_on.new.frame c.go_on.result
     c.in-Arrived.ensures.walked c.go_on.ensures

@@ -31,13 +31,15 @@ advance-requires-clause-may g c =
 pub returns : goal.returns
 returns g c =
     let a = c.args in
+    let q = c.advance.new.pass in
+    let f = c.advance.new.frame in
     let did = c.advance.ensures in
     elim c.if-running.branch [
       | then-running+in_default w ↦
           let e = w.poll.ensures in
           advanced a.heap.now a.program.now a.fuel a.pass.now w.poll.new.pass a.frame.now c.requires.may e.rests
-          w.poll.result e.run e.says e.stands c.advance.new.pass c.advance.new.frame c.advance.result
-          (subst (λ (x : PassSeen). HasAdvanced a.heap.now a.program.now a.fuel x c.advance.new.pass a.frame.now c.advance.new.frame c.advance.result) w.pass-is did)
+          w.poll.result e.run e.says e.stands q f c.advance.result
+          (subst (λ (x : PassSeen). HasAdvanced a.heap.now a.program.now a.fuel x q a.frame.now f c.advance.result) w.pass-is did)
       | else-running w ↦
-          subst (λ (x : PassSeen). HasAdvanced a.heap.now a.program.now a.fuel x c.advance.new.pass a.frame.now c.advance.new.frame c.advance.result) w.pass-is did
+          subst (λ (x : PassSeen). HasAdvanced a.heap.now a.program.now a.fuel x q a.frame.now f c.advance.result) w.pass-is did
     ]
