@@ -1,15 +1,7 @@
 pub mod MadeItems
+pub mod RunOptions
 pub mod Takes
 pub mod Texts
 pub mod CutShort
-pub mod LastStamps
-pub mod Logging
-pub mod Machines
-pub mod Owners
-pub mod Logs
-pub mod RightShots
-pub mod Own
-pub mod OwnPaths
-pub mod Draws
-pub mod Underway
+pub mod Under
 pub mod Replayed

@@ -14,17 +14,19 @@ record IsReplayed (r : RunRecord) : Type 0 where
 
 -- what was due was done, and left a record
 due_replayed : (before after : SinkSeen) (f : Finish) (r : RunRecord) (due : Due) → Meets before after f due → f.run ≡ Some r → IsReplayed r
-due_replayed before after f r (Tells status text) met h = absurd (cc (h, met.0))
-due_replayed before after f r (Checks p fuel start lines) met h = absurd (cc (h, met.0))
+due_replayed before after f r (Tells status text) met h = absurd (cc (h, met.0.0))
+due_replayed before after f r (Checks p fuel start lines) met h = absurd (cc (h, met.0.0))
 due_replayed before after f r (Runs o p) met h =
-    let same : met.0 ≡ r = same_Some met.0 r (sym met.1 ∙ h) in
-    let ran : IsRun o p before after f.status r = rw same at met.2 in
-    let of = ran.run.of in
-    record { legal = rw (of.program, of.fuel) ran.run.legal; threads = of.logs ∙ ap (λ q. length q.threads) (sym of.program) }
+    let same : met.0 ≡ r = same_Some met.0 r (sym met.2 ∙ h) in
+    let ran = (rw same at met.4).run.ran in
+    record {
+      legal = rw (ran.of.program, ran.of.fuel) ran.legal;
+      threads = ran.all.logs ∙ ap (λ q. length q.threads) (sym ran.of.program);
+    }
 
 replayed : (c : Option Command) (source_before source_after : SourceSeen) (sink_before sink_after : SinkSeen) (f : Finish) (r : RunRecord)
     → IsGivenUp sink_before sink_after f ⊎ IsFinish c source_before source_after sink_before sink_after f → f.run ≡ Some r → IsReplayed r
-replayed c sb sa kb ka f r (inl g) h = absurd (cc (h, g.run))
+replayed c sb sa kb ka f r (inl g) h = absurd (cc (h, g.left.0))
 replayed c sb sa kb ka f r (inr d) h = due_replayed kb ka f r (due_of c d.reading) d.met h
 
 pub replayed_legal : (c : Option Command) (source_before source_after : SourceSeen) (sink_before sink_after : SinkSeen) (f : Finish) (r : RunRecord)

@@ -1,22 +1,20 @@
 -- What a call of `biasrun` reads, writes and answers.
-use Rattle.std.specs.Prelude.{◌≡◌, ◌⊎◌, ℕ, Bool, true, false, not, nat_lt, if◌then◌else◌, List, [], ◌++◌, codes, length, replicate, IsTrue, Option, Some, None, Result, Ok, Err}
-use Rattle.std.specs.List.{list_any, list_all}
+use Rattle.std.specs.Prelude.{◌≡◌, ◌⊎◌, ℕ, Bool, true, false, nat_lt, if◌then◌else◌, List, [], ◌++◌, codes, length, IsTrue, Option, Some, None, Result, Ok, Err}
+use Rattle.std.specs.List.{list_any}
 use Rattle.run_io.specs.Faults.{rose}
 use Rattle.plain_monitor.specs.declared.entry.Ending.{Ending}
 use Rattle.plain_monitor.specs.declared.entry.Ending.TheVariants.{Done}
 use Rattle.object_program.specs.declared.error.ProgramError.{ProgramError}
 use Rattle.object_program.specs.Program.{ProgramText}
 use Rattle.object_program.specs.Refusal.{program_of}
-use Rattle.plain_machine.specs.Machine.{PlainMachine, ending_in, is_live, is_stuck}
-use Rattle.plain_machine.specs.Legal.{IsLegal, machine_after}
+use Rattle.plain_machine.specs.Machine.{PlainMachine, ending_in, is_stuck}
+use Rattle.plain_machine.specs.Legal.{machine_after}
 use Rattle.bias_check.specs.declared.answer.Checked.{Checked}
 use Rattle.bias_check.specs.declared.answer.CheckFault.{CheckFault}
 use Rattle.bias_check.specs.Parts.{has_journal, program_part, journal_part}
 use Rattle.bias_cli.specs.Input.{most_of_program, most_of_journal, Took}
 use Rattle.bias_cli.specs.Output.{Wrote, WroteFront}
-use Rattle.bias_cli.specs.Shots.{AreRightShots}
-use Rattle.bias_cli.specs.Own.{AreOwnLogs}
-use Rattle.bias_cli.specs.Drawn.{HaveDraws}
+use Rattle.bias_cli.specs.Asked.{settings_of}
 use Rattle.bias_cli.specs.Report.{IsReportWhere}
 use Rattle.bias_cli.specs.Verdict.{IsVerdict, verdict_status, verdict_text}
 use Rattle.lock_journal.specs.RunText.{text_of_run, text_of_lines}
@@ -26,7 +24,8 @@ use Rattle.run_words.specs.declared.options.Command.TheVariants.{Run, Check, Mak
 use Rattle.made_program.specs.HandoverText.{handover_text}
 use Rattle.bias_cli.specs.Refused.{refusal_text}
 use Rattle.lock_journal.specs.declared.record.RunRecord.{RunRecord}
-use Rattle.lock_journal.specs.declared.record.ClassLine.{ClassLine}
+use Rattle.heap_table.specs.Seen.{ClosedSeen}
+use Rattle.program_run.specs.Ran.{IsRan}
 use Rattle.bias_cli.specs.declared.finish.Finish.{Finish}
 
 -- what a source tells at one moment: the bytes that are left, where it tells that, and its count of faults
@@ -135,41 +134,17 @@ status_of m =
     else if list_any (λ s. is_cut_short (ending_in s.mode)) m.threads then 1
     else 0
 
--- either every thread has ended and the run isn't halted, or the machine is stuck and it is
-abbrev pub IsOver : PlainMachine → Bool → Type 0
-IsOver m false = list_all (λ s. not (is_live s)) m.threads ≡ true
-IsOver m true = is_stuck m ≡ true
-
--- a class whose biases nothing happened to, as long as no object is biased
-abbrev pub idle_class : ClassLine
-idle_class = record { single = 0; rebias = 0; revoke = 0; count = 0; prototype = 1 }
-
--- the record is of this program under these options; there are no biases yet
-pub record IsRecordOf (o : Options) (p : ProgramText) (r : RunRecord) : Type 0 where
-  pub program : r.program ≡ p
-  pub fuel : r.fuel ≡ o.fuel
-  pub start : r.start ≡ o.start
-  pub bias : r.bias ≡ o.bias
-  pub logs : length r.logs ≡ length p.threads
-  pub shots : length r.shots ≡ length p.threads
-  pub classes : r.classes ≡ replicate (length p.classes) idle_class
-
--- the machine takes the logged entries in stamped order, is this one behind them, and is over then; the shots are
--- right, and each thread's log is right by itself
-pub record IsRunOf (o : Options) (p : ProgramText) (r : RunRecord) (machine : PlainMachine) : Type 0 where
-  pub of : IsRecordOf o p r
-  pub legal : IsLegal p o.fuel r.logs
+-- a run of the program under these options left the record and the closed heap, and this is the machine under it: the one behind
+-- all logged entries in stamped order
+pub record IsRunOf (o : Options) (p : ProgramText) (r : RunRecord) (c : ClosedSeen) (machine : PlainMachine) : Type 0 where
+  pub ran : IsRan (settings_of o) p r c
   pub under : machine_after p o.fuel r.logs ≡ Some machine
-  pub over : IsOver machine r.halted
-  pub shots : AreRightShots p o.fuel r.logs r.shots
-  pub entries : AreOwnLogs p o.fuel r.logs
-  pub draws : HaveDraws o.start r.logs
 
 -- a run: its status is that of the machine under the record, and its text is written, and behind it the report where it is
 -- asked for
-pub record IsRun (o : Options) (p : ProgramText) (before after : SinkSeen) (status : ℕ) (r : RunRecord) : Type 0 where
+pub record IsRun (o : Options) (p : ProgramText) (before after : SinkSeen) (status : ℕ) (r : RunRecord) (c : ClosedSeen) : Type 0 where
   pub machine : PlainMachine
-  pub run : IsRunOf o p r machine
+  pub run : IsRunOf o p r c machine
   pub report : List (List ℕ)
   pub reported : IsReportWhere o.report r machine report
   pub written : IsWritten before after status (status_of machine) (text_of_run o.stats o.journal r machine ++ text_of_lines report)
@@ -180,16 +155,21 @@ pub record IsCheck (p : ProgramText) (fuel start : ℕ) (lines : List (List ℕ)
   pub verdict : IsVerdict p fuel start lines answer
   pub written : IsWritten before after status (verdict_status answer) (verdict_text p answer)
 
--- what was due was done; only a run leaves a record
-abbrev pub Meets : SinkSeen → SinkSeen → Finish → Due → Type 0
-Meets before after finish (Tells status text) = (finish.run ≡ None) × IsWritten before after finish.status status text
-Meets before after finish (Runs o p) = (r : RunRecord) × (finish.run ≡ Some r) × IsRun o p before after finish.status r
-Meets before after finish (Checks p fuel start lines) = (finish.run ≡ None) × IsCheck p fuel start lines before after finish.status
+-- there is neither a record nor a closed heap
+abbrev pub LeavesNothing : Finish → Type 0
+LeavesNothing finish = (finish.run ≡ None) × (finish.closed ≡ None)
 
--- memory was wanting: nothing was written, and there is no record
+-- what was due was done; only a run leaves a record, and the closed heap with it
+abbrev pub Meets : SinkSeen → SinkSeen → Finish → Due → Type 0
+Meets before after finish (Tells status text) = LeavesNothing finish × IsWritten before after finish.status status text
+Meets before after finish (Runs o p) =
+    (r : RunRecord) × (c : ClosedSeen) × (finish.run ≡ Some r) × (finish.closed ≡ Some c) × IsRun o p before after finish.status r c
+Meets before after finish (Checks p fuel start lines) = LeavesNothing finish × IsCheck p fuel start lines before after finish.status
+
+-- memory was wanting: nothing was written, and nothing is left
 pub record IsGivenUp (before after : SinkSeen) (finish : Finish) : Type 0 where
   pub status : finish.status ≡ 7
-  pub run : finish.run ≡ None
+  pub left : LeavesNothing finish
   pub wrote : Wrote before.held after.held []
 
 -- the source was read as the command asks, and what was due then was done; words that are not accepted are no command

@@ -1,11 +1,7 @@
 pub mod Input
 pub mod Output
 pub mod Refused
-pub mod Shots
-pub mod Own
-pub mod Drawn
-pub mod Turns
-pub mod Rooms
 pub mod Report
 pub mod Verdict
+pub mod Asked
 pub mod Finish

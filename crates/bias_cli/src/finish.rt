@@ -1,13 +1,14 @@
 //! What the top call answers.
 
-ghost use Rattle.std.specs.Prelude.{◌≡◌, None};
-ghost use Rattle.bias_cli.specs.Finish.{sink_seen, IsWritten};
+ghost use Rattle.std.specs.Prelude.{◌≡◌};
+ghost use Rattle.bias_cli.specs.Finish.{sink_seen, IsWritten, LeavesNothing};
 
 use crate::output::write_piece;
+use heap_table::Closed;
 use lock_journal::RunRecord;
 use run_io::Sink;
 
-/// What became of a call of `biasrun`: its exit status, and the record of its run where it ran a program.
+/// What became of a call of `biasrun`: its exit status, and where it ran a program, the record of the run and the closed heap.
 ///
 /// | Status | Where |
 /// |---|---|
@@ -20,38 +21,46 @@ use run_io::Sink;
 /// | 6 | a write failed, in place of any of the above |
 /// | 7 | memory was wanting, before the first byte was written; no contract says when that is |
 ///
-/// `run` is there exactly where the words ask for a run, the text has a program and the status isn't 7, with status 6 too.
+/// `run` and `closed` are there exactly where the words ask for a run, the text has a program and the status isn't 7, with status 6
+/// too.
 #[derive(Drop)]
 pub struct Finish {
     pub status: u8,
     pub run: Option<RunRecord>,
+    pub closed: Option<Closed>,
 }
 
 /// The status where a write failed.
 pub(crate) const WRITE_FAILED: u8 = 6;
 
-/// A call that has no record: it writes this text, and answers this status, or 6 where a write failed.
+/// A call that runs nothing: it writes this text, and answers this status, or 6 where a write failed.
 pub(crate) fn tell<K: Sink>(sink: &mut K, status: u8, text: &[u8]) -> Finish
-    ensures run { result.run ≡ None }
+    ensures left { LeavesNothing result }
     ensures written { IsWritten (sink_seen (K.held sink.old) (K.faults sink.old)) (sink_seen (K.held sink.new) (K.faults sink.new))
         result.status status text.now }
 {
     match write_piece(sink, text) {
-        Ok(()) => Finish { status, run: None },
-        Err(_) => Finish {
-            status: WRITE_FAILED,
-            run: None,
-        },
+        Ok(()) => status_alone(status),
+        Err(_) => status_alone(WRITE_FAILED),
     }
 }
 
 /// Want of memory. Nothing is written.
 pub(crate) fn give_up() -> Finish
     ensures status { result.status ≡ 7 }
-    ensures run { result.run ≡ None }
+    ensures left { LeavesNothing result }
+{
+    status_alone(7)
+}
+
+/// This status alone.
+fn status_alone(status: u8) -> Finish
+    ensures status { result.status ≡ status }
+    ensures left { LeavesNothing result }
 {
     Finish {
-        status: 7,
+        status,
         run: None,
+        closed: None,
     }
 }

@@ -9,25 +9,20 @@ ghost use Rattle.std.specs.Prelude.{◌≡◌, ◌⊎◌, map, string_bytes};
 ghost use Rattle.run_words.specs.Command.{accepted};
 ghost use Rattle.bias_cli.specs.Finish.{source_seen, sink_seen, IsGivenUp, IsFinish};
 
-mod appending;
 mod check;
 mod finish;
-mod hashes;
 mod input;
 mod laws;
 mod make;
 mod output;
-mod recording;
 mod refusal;
 mod report;
 mod run;
-mod shots;
-mod stamps;
 mod text;
-mod turns;
 mod verdict;
 
 pub use finish::Finish;
+pub use heap_table::{ClassCounts, Closed};
 pub use laws::records_can_be_replayed;
 pub use lock_journal::{Cell, ClassLine, Line, Lines, Merge, RunRecord, Shot, replay};
 use run_io::{Clock, Gate, Sink, Source};
@@ -49,8 +44,9 @@ use std::thread::Threads;
 /// first write that fails the writing stops, with a front of the text written and status 6. Want of memory comes only before the
 /// first byte is written.
 ///
-/// Today all threads of a program run in turns on the calling thread, by the plain machine: `rt`, `clock` and `gate` are not
-/// used yet, and no object is ever biased or inflated.
+/// A program is run on a heap by workers of `rt`, each of which runs one thread of the program at a time for as many instructions as a
+/// turn has (`program_run::run_program`). The clock tells the policy of biases the time. The gate is asked at each step and may let
+/// other workers go first. Which of the legal runs it is they decide.
 pub fn biasrun<R: Threads + Wait + Sync, S: Source, K: Sink, C: Clock + Sync, G: Gate + Sync>(
     rt: &R,
     alloc: Global,
@@ -60,16 +56,13 @@ pub fn biasrun<R: Threads + Wait + Sync, S: Source, K: Sink, C: Clock + Sync, G:
     clock: &C,
     gate: &G,
 ) -> Finish
-    // Either memory was wanting, with status 7 and nothing written; or the words, the text that was read and the run of the
-    // plain machine, or the check of a journal by it, or the number of items of a program that is made, say what is due, and
-    // that was written and answered, up to the first write that failed.
+    // Either memory was wanting, with status 7 and nothing written; or the words, the text that was read and the run that was made of
+    // it, or the check of a journal, or the number of items of a program that is made, say what is due, and that was written and
+    // answered, up to the first write that failed.
     ensures { IsGivenUp (sink_seen (K.held sink.old) (K.faults sink.old)) (sink_seen (K.held sink.new) (K.faults sink.new)) result
         ⊎ IsFinish (accepted (map (λ w. string_bytes w) words.now))
         (source_seen (S.left source.old) (S.faults source.old)) (source_seen (S.left source.new) (S.faults source.new))
         (sink_seen (K.held sink.old) (K.faults sink.old)) (sink_seen (K.held sink.new) (K.faults sink.new)) result }
 {
-    let _ = rt;
-    let _ = clock;
-    let _ = gate;
-    run::run_words(alloc, words, source, sink)
+    run::run_words(rt, alloc, words, source, sink, clock, gate)
 }

@@ -2,12 +2,13 @@
 
 mod checks;
 mod makes;
+mod meets;
 mod reports;
 mod rows;
 mod texts;
 
 use bias_cli::replay;
-use run_io::{FreeGate, MemorySink, MemorySource, StepClock};
+use run_io::{FreeGate, Gate, MemorySink, MemorySource, StepClock};
 use std::process::Abort;
 use std::sync::Wait;
 use std::test::Fail;
@@ -39,18 +40,28 @@ fn calling<'a>(words: &'a [&'a str], text: &'a str) -> Call<'a> {
     }
 }
 
-/// What became of a call: its status, whether it has a record, whether the machine behind the record is stuck, and what the sink
+/// What became of a call: its status, whether it has a record, and a closed heap, whether the machine behind the record is stuck, and what the sink
 /// holds then.
 #[derive(Drop)]
 struct Made {
     status: u8,
     has_record: bool,
+    has_closed: bool,
     is_stuck: bool,
     held: Vec<u8>,
 }
 
-/// Makes the call.
+/// Makes the call, by a gate that is always open.
 fn make<R: Threads + Wait + Abort + AllocGlobal + Sync>(rt: &R, call: Call) -> Result<Made, Fail> {
+    make_by(rt, call, &FreeGate)
+}
+
+/// Makes the call by this gate.
+fn make_by<R: Threads + Wait + Abort + AllocGlobal + Sync, G: Gate + Sync>(
+    rt: &R,
+    call: Call,
+    gate: &G,
+) -> Result<Made, Fail> {
     let mut words = vec![in rt.alloc(); String::from_str(rt.alloc(), "biasrun")?]?;
     for word in call.words {
         words.push(String::from_str(rt.alloc(), word)?)?;
@@ -71,7 +82,7 @@ fn make<R: Threads + Wait + Abort + AllocGlobal + Sync>(rt: &R, call: Call) -> R
         &mut source,
         &mut sink,
         &StepClock::new(1, 1),
-        &FreeGate,
+        gate,
     );
     bias_cli::records_can_be_replayed();
     let is_stuck = match &finish.run {
@@ -81,6 +92,7 @@ fn make<R: Threads + Wait + Abort + AllocGlobal + Sync>(rt: &R, call: Call) -> R
     Ok(Made {
         status: finish.status,
         has_record: finish.run.is_some(),
+        has_closed: finish.closed.is_some(),
         is_stuck,
         held: Vec::from_slice(rt.alloc(), sink.held())?,
     })
@@ -98,6 +110,31 @@ fn expect<R: Threads + Wait + Abort + AllocGlobal + Sync>(
     assert_eq!(rt; made.held.as_slice(), held.as_bytes(), "{held}");
     assert_eq!(rt; made.status, status, "{held}");
     assert_eq!(rt; made.has_record, has_record, "{held}");
+    assert_eq!(rt; made.has_closed, has_record, "{held}");
     assert_eq!(rt; made.is_stuck, status == 4, "{held}");
+    Ok(())
+}
+
+/// Makes the call, and compares its status, and how what was written begins and how it ends. What stands between, and may be two ways or
+/// more, is what the order of the threads' steps decides.
+fn expect_around<R: Threads + Wait + Abort + AllocGlobal + Sync>(
+    rt: &R,
+    call: Call,
+    status: u8,
+    front: &str,
+    backs: &[&str],
+) -> Result<(), Fail> {
+    let made = make(rt, call)?;
+    let held = made.held.as_slice();
+    assert!(rt; held.starts_with(front.as_bytes()), "{front}");
+    let mut ends = false;
+    for back in backs {
+        if held.ends_with(back.as_bytes()) {
+            ends = true;
+        }
+    }
+    assert!(rt; ends, "{front}");
+    assert_eq!(rt; made.status, status, "{front}");
+    assert_eq!(rt; made.is_stuck, status == 4, "{front}");
     Ok(())
 }

@@ -1,7 +1,7 @@
 //! Programs that are made, and what becomes of them.
 
 use crate::tests::texts::HANDOVER_40;
-use crate::tests::{Call, calling, expect, make};
+use crate::tests::{Call, calling, expect, expect_around, make};
 use std::test::Fail;
 
 const MAKE_40: &[&str] = &["make", "40"];
@@ -64,4 +64,19 @@ fn made_1500(rt: HostRuntime) -> Result<(), Fail> {
     };
     let held = "t1: 1500\nthread t1 done\nthread t2 done\n";
     expect(&rt, run, 0, true, held)
+}
+
+/// Of the 40 items, which the first thread has first, the second one takes 20 one by one and 20 more at once, when the class is biased
+/// anew, and after 40 the class has no biases any more.
+#[test]
+fn biases_of_forty_items(rt: HostRuntime) -> Result<(), Fail> {
+    let front =
+        "t1: 40\nthread t1 done\nthread t2 done\nclass Item single 38 rebias 1 revoke 1 count 40 prototype 1 enters 0 61 40 0 0 0\nclass Flag single ";
+    expect_around(
+        &rt,
+        calling(&["run", "--stats"], HANDOVER_40),
+        0,
+        front,
+        &["\n"],
+    )
 }

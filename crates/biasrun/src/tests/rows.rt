@@ -55,12 +55,24 @@ fn contending_threads_count_together(rt: HostRuntime) -> Result<(), Fail> {
 
 #[test]
 fn words_choose_what_is_written(rt: HostRuntime) -> Result<(), Fail> {
-    let rows: [(&'static [&'static str], &'static str, u8, &str); 5] = [
+    let rows: [(&'static [&'static str], &'static str, u8, &str); 7] = [
         (
             &["run", "--journal"],
             ANSWER,
             0,
+            "t1: 42\nthread t1 done\n@1 t1 enter a bias-taken\n@2 t1 print 42\n@3 t1 exit a\n@4 t1 done\n",
+        ),
+        (
+            &["run", "--journal", "--bias=off"],
+            ANSWER,
+            0,
             "t1: 42\nthread t1 done\n@1 t1 enter a stack-first\n@2 t1 print 42\n@3 t1 exit a\n@4 t1 done\n",
+        ),
+        (
+            &["run", "--stats"],
+            ANSWER,
+            0,
+            "t1: 42\nthread t1 done\nclass C single 0 rebias 0 revoke 0 count 0 prototype 5 enters 0 1 0 0 0 0\n",
         ),
         (
             &["run", "--stats", "--bias", "off"],

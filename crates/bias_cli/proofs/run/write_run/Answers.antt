@@ -1,15 +1,17 @@
-use Rattle.std.proofs.Common.{refl, inr}
+use Rattle.std.proofs.Common.{refl}
 use Rattle.bias_cli.proofs.run.write_run.Goals as goal
 
 pub returns : goal.returns
 returns g c p is = (
-  c.args.ran.run,
+  c.args.done.run,
+  c.args.done.closed,
+  refl,
   refl,
   record {
-    machine = c.args.ran.machine;
+    machine = c.args.done.machine;
     run = is;
-    report = c.args.ran.report.items;
+    report = c.args.done.report.items;
     reported = c.requires.reported;
-    written = inr (refl, c.in-Err.ensures.failed, rw c.deref.ensures.value at c.in-Err.ensures.front);
+    written = rw c.deref.ensures.value at c.write_done-status.ensures;
   },
 )
