@@ -1,5 +1,5 @@
 -- How a program is run by the options of a command.
-use Rattle.std.specs.Prelude.{ℕ, ◌≤◌}
+use Rattle.std.specs.Prelude.{◌≤◌}
 use Rattle.program_run.specs.declared.settings.Settings.{Settings}
 use Rattle.run_words.specs.declared.options.Options.{Options}
 
