@@ -5,6 +5,7 @@ mod makes;
 mod meets;
 mod reports;
 mod rows;
+mod settings;
 mod texts;
 
 use bias_cli::replay;

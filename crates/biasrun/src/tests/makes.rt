@@ -53,17 +53,19 @@ fn faults_end_the_writing(rt: HostRuntime) -> Result<(), Fail> {
     expect(&rt, second_write_fails, 6, false, "class Item 0")
 }
 
-/// The program for the most items runs to its end within the fuel that is there without words.
+/// The program for the most items runs to its end within the fuel that is there without words. Its items are biased as those of the
+/// program for 40 are.
 #[test]
 fn made_1500(rt: HostRuntime) -> Result<(), Fail> {
     let made = make(&rt, calling(&["make", "1500"], ""))?;
     assert_eq!(rt; made.status, 0);
     let run = Call {
         behind: made.held.as_slice(),
-        ..calling(&["run"], "")
+        ..calling(&["run", "--stats"], "")
     };
-    let held = "t1: 1500\nthread t1 done\nthread t2 done\n";
-    expect(&rt, run, 0, true, held)
+    let front =
+        "t1: 1500\nthread t1 done\nthread t2 done\nclass Item single 38 rebias 1 revoke 1 count 40 prototype 1 enters 0 2981 1500 0 0 0\nclass Flag single ";
+    expect_around(&rt, run, 0, front, &["\n"])
 }
 
 /// Of the 40 items, which the first thread has first, the second one takes 20 one by one and 20 more at once, when the class is biased
@@ -75,6 +77,21 @@ fn biases_of_forty_items(rt: HostRuntime) -> Result<(), Fail> {
     expect_around(
         &rt,
         calling(&["run", "--stats"], HANDOVER_40),
+        0,
+        front,
+        &["\n"],
+    )
+}
+
+/// Where time goes on by 25 seconds with each look at the clock, the count of a class decays behind a bulk rebias: the first thread takes
+/// 19 items back one by one, and the class is biased anew for the 20th, in place of a bulk revoke.
+#[test]
+fn biases_of_forty_items_as_time_goes_on(rt: HostRuntime) -> Result<(), Fail> {
+    let front =
+        "t1: 40\nthread t1 done\nthread t2 done\nclass Item single 38 rebias 2 revoke 0 count 20 prototype 517 enters 0 63 38 0 0 0\nclass Flag single ";
+    expect_around(
+        &rt,
+        calling(&["run", "--stats", "--tick", "25000"], HANDOVER_40),
         0,
         front,
         &["\n"],
