@@ -1,7 +1,7 @@
 //! Runs under other settings, of programs whose output no order of steps changes.
 
-use crate::tests::texts::{CROSSWISE, HAND_OVER, WAIT_FOREVER};
-use crate::tests::{calling, expect};
+use crate::tests::texts::{CONTENTION, CROSSWISE, HAND_OVER, WAIT_FOREVER};
+use crate::tests::{calling, expect, make};
 use std::test::Fail;
 
 /// As many workers, with biases and without, and turns of one instruction each.
@@ -27,6 +27,26 @@ fn settings_change_no_result(rt: HostRuntime) -> Result<(), Fail> {
             true,
             "thread t1 waiting on a\n",
         )?;
+    }
+    Ok(())
+}
+
+/// Two threads count to 2,000 together in each of 120 runs, in turns of few instructions, with biases and without; and the record of each
+/// run is replayed.
+#[test]
+fn contended_runs_lose_no_count(rt: HostRuntime) -> Result<(), Fail> {
+    let quanta: [&'static str; 6] = ["3", "5", "10", "20", "35", "50"];
+    let first = b"t1: 2000\nthread t1 done\nthread t2 done\n".as_slice();
+    let second = b"t2: 2000\nthread t1 done\nthread t2 done\n".as_slice();
+    for quantum in quanta {
+        for bias in ["on", "off"] {
+            let words: &[&str] = &["run", "--quantum", quantum, "--bias", bias];
+            for _ in 0..10 {
+                let made = make(&rt, calling(words, CONTENTION))?;
+                assert!(rt; made.held.as_slice() == first || made.held.as_slice() == second);
+                assert_eq!(rt; made.status, 0);
+            }
+        }
     }
     Ok(())
 }
