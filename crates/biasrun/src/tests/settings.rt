@@ -31,11 +31,11 @@ fn settings_change_no_result(rt: HostRuntime) -> Result<(), Fail> {
     Ok(())
 }
 
-/// Two threads count to 2,000 together in each of 120 runs, in turns of few instructions, with biases and without; and the record of each
+/// Two threads count to 2,000 together in each of 80 runs, in turns of few instructions, with biases and without; and the record of each
 /// run is replayed.
 #[test]
 fn contended_runs_lose_no_count(rt: HostRuntime) -> Result<(), Fail> {
-    let quanta: [&'static str; 6] = ["3", "5", "10", "20", "35", "50"];
+    let quanta: [&'static str; 4] = ["10", "20", "35", "50"];
     let first = b"t1: 2000\nthread t1 done\nthread t2 done\n".as_slice();
     let second = b"t2: 2000\nthread t1 done\nthread t2 done\n".as_slice();
     for quantum in quanta {
