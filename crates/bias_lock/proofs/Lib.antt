@@ -1,4 +1,3 @@
 mod Keeping
 mod Never
 mod Taking
-mod Tested

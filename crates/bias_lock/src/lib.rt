@@ -12,8 +12,6 @@ mod afters;
 mod drops;
 mod enters;
 mod exits;
-#[cfg(test)]
-mod tests;
 
 pub use afters::{bias_after, stage_after};
 pub use drops::bias_drop;

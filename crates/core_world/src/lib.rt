@@ -15,8 +15,6 @@ mod refused;
 mod shown;
 mod stage;
 mod task;
-#[cfg(test)]
-mod tests;
 
 pub use act::{Act, Effect, apply};
 pub use answer::{

@@ -10,8 +10,6 @@ pub mod AtLast
 pub mod Opens
 pub mod Legal
 pub mod Counting
-pub mod Resuming
-pub mod Walking
 pub mod Parts
 pub mod BiasesAtEnd
 pub mod Ruled

@@ -11,7 +11,6 @@ pub mod Seen
 pub mod StepPlans
 pub mod Stepping
 pub mod Fresh
-pub mod Walk
 pub mod Parts
 pub mod BiasesAtEnd
 pub mod Resting

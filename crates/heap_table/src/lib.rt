@@ -28,10 +28,6 @@ mod setting;
 mod shape;
 mod shots;
 mod steps;
-#[cfg(test)]
-mod tests;
-#[cfg(test)]
-mod walks;
 
 pub use counts::ClassCounts;
 pub use ends::{Closed, close};

@@ -12,7 +12,6 @@ pub mod Looked
 pub mod Hashed
 pub mod Reached
 pub mod Dumped
-pub mod MayBegin
 pub mod Stands
 pub mod StandsBefore
 pub mod StandsCalls

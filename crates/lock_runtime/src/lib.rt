@@ -6,8 +6,6 @@
 //! steps. None takes memory, none waits, and none tries again.
 #![tactic(auto)]
 
-#[cfg(test)]
-mod asked;
 mod entering;
 mod hashing;
 mod leaving;
@@ -15,8 +13,6 @@ mod looking;
 mod purposes;
 mod revoking;
 mod running;
-#[cfg(test)]
-mod tests;
 mod values;
 mod waiting;
 

@@ -1,4 +1,3 @@
 pub mod Forms
 pub mod Resumes
 pub mod Swaps
-pub mod Resting

@@ -11,8 +11,6 @@
 
 mod asking;
 mod running;
-#[cfg(test)]
-mod tests;
 mod words;
 
 pub use asking::{halt, reached, release, release_to, request, safepoint};

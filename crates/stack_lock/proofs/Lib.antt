@@ -1,4 +1,3 @@
 mod Never
 mod Room
 mod Seizing
-mod Tested

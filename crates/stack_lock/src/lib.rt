@@ -11,8 +11,6 @@
 mod enters;
 mod exits;
 mod places;
-#[cfg(test)]
-mod tests;
 mod words;
 
 pub use enters::{hold, stack_enter};

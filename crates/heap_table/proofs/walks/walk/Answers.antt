@@ -1,5 +1,0 @@
-use Rattle.heap_table.proofs.Walking.{is_still}
-use Rattle.heap_table.proofs.walks.walk.Goals as goal
-
-pub returns : goal.returns
-returns c = λ e. is_still _ _ (c.stop.ensures e)

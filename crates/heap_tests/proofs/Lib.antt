@@ -1,0 +1,5 @@
+mod Biased
+mod Recorded
+mod Resuming
+mod Stopping
+mod Walking

@@ -1,0 +1,3 @@
+pub mod Biased
+pub mod Recorded
+pub mod Walk

@@ -1,0 +1,40 @@
+//! What single acts make of words.
+
+use core_world::{Act, apply};
+use std::test::Fail;
+
+#[test]
+fn acts(rt: HostRuntime) -> Result<(), Fail> {
+    for (old, act, word, hit) in [
+        (9, Act::Load, 9, true),
+        (9, Act::Store { word: 4 }, 4, true),
+        (
+            5,
+            Act::Swap {
+                expected: 5,
+                word: 1029,
+            },
+            1029,
+            true,
+        ),
+        (
+            5,
+            Act::Swap {
+                expected: 1,
+                word: 1029,
+            },
+            5,
+            false,
+        ),
+        (7, Act::Raise { word: 4 }, 7, true),
+        (4, Act::Raise { word: 7 }, 7, true),
+        (3, Act::Mask { bits: 2 }, 2, true),
+        (1, Act::Count, 2, true),
+        (u64::MAX, Act::Count, 0, true),
+    ] {
+        let effect = apply(old, &act);
+        assert_eq!(rt; effect.word, word, "from {old}");
+        assert_eq!(rt; effect.hit, hit, "from {old}");
+    }
+    Ok(())
+}

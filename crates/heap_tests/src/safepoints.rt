@@ -1,0 +1,185 @@
+//! Two threads of one heap: one asks for a safepoint, and the other stops for it.
+ghost use Rattle.std.specs.Prelude.{◌≡◌, ◌&&◌, IfOk, false, is_none, not, None};
+ghost use Rattle.heap_table.specs.Fresh.{IsFresh};
+ghost use Rattle.heap_table.specs.Resting.{Rests};
+
+use core_world::{Task, Turn, Why};
+use heap_table::{Heap, HeapShape, Pass, Purpose};
+use plain_monitor::NoMemory;
+use std::alloc::Global;
+use std::test::Fail;
+
+// A heap of two threads and one object, without biases.
+fn fresh(alloc: Global) -> Result<(Heap, Pass, Pass), NoMemory>
+    ensures { IfOk result (λ r. IsFresh r.0 0 r.1 × IsFresh r.0 1 r.2) }
+{
+    let shape = HeapShape::of(alloc, 2, &[1], &[0])?;
+    let (heap, passes) = Heap::new(alloc, shape, 10, 7, false)?;
+    let mut passes = passes.into_vec();
+    let Some(second) = passes.pop() else {
+        return Err(NoMemory);
+    };
+    let Some(first) = passes.pop() else {
+        return Err(NoMemory);
+    };
+    Ok((heap, first, second))
+}
+
+fn begin(alloc: Global) -> Result<(Heap, Pass, Pass), NoMemory>
+    ensures { IfOk result (λ r. Rests r.0 r.1 × Rests r.0 r.2) }
+{
+    fresh(alloc)
+}
+
+// The purpose of a call that leaves as they are the unfinished operation and the check, and of one that leaves nothing
+// unfinished.
+fn aside(pass: &Pass, task: Task) -> Purpose
+    ensures { result ≡ record { task = task; unfinished = pass.now.known.unfinished; check = pass.now.known.checking } }
+{
+    Purpose {
+        task,
+        unfinished: pass.unfinished(),
+        check: pass.checking(),
+    }
+}
+
+fn alone(task: Task) -> Purpose
+    ensures { result ≡ record { task = task; unfinished = None; check = false } }
+{
+    Purpose {
+        task,
+        unfinished: None,
+        check: false,
+    }
+}
+
+// Whether nothing is unfinished.
+fn is_free(pass: &Pass) -> bool
+    ensures { result ≡ (is_none pass.now.known.unfinished && not pass.now.known.checking) }
+{
+    pass.unfinished().is_none() && !pass.checking()
+}
+
+// Whole calls. `None` where the call may not begin.
+fn poll(heap: &Heap, pass: &mut Pass) -> Option<Turn<()>>
+    requires { Rests heap.now pass.old }
+    ensures { Rests heap.now pass.new }
+{
+    if pass.running() {
+        let why = aside(pass, Task::Poll);
+        Some(safepoint::poll(heap, pass, &why))
+    } else {
+        None
+    }
+}
+
+fn stop(heap: &Heap, pass: &mut Pass) -> Option<()>
+    requires { Rests heap.now pass.old }
+    ensures { Rests heap.now pass.new }
+{
+    if pass.running() {
+        let why = aside(pass, Task::Stop);
+        safepoint::stop(heap, pass, &why);
+        Some(())
+    } else {
+        None
+    }
+}
+
+fn resume(heap: &Heap, pass: &mut Pass) -> Option<Turn<()>>
+    requires { Rests heap.now pass.old }
+    ensures { Rests heap.now pass.new }
+{
+    if pass.running() || pass.requesting() {
+        return None;
+    }
+    let why = aside(pass, Task::Resume);
+    Some(safepoint::resume(heap, pass, &why))
+}
+
+fn request(heap: &Heap, pass: &mut Pass) -> Option<Turn<()>>
+    requires { Rests heap.now pass.old }
+    ensures { Rests heap.now pass.new }
+{
+    if pass.running() && is_free(pass) {
+        Some(safepoint::request(heap, pass, &alone(Task::Request)))
+    } else {
+        None
+    }
+}
+
+fn reached(heap: &Heap, pass: &mut Pass) -> Option<Turn<()>>
+    requires { Rests heap.now pass.old }
+    ensures { Rests heap.now pass.new }
+{
+    if pass.requesting() && is_free(pass) {
+        Some(safepoint::reached(heap, pass, &alone(Task::Reached)))
+    } else {
+        None
+    }
+}
+
+fn release(heap: &Heap, pass: &mut Pass) -> Option<()>
+    requires { Rests heap.now pass.old }
+    ensures { Rests heap.now pass.new }
+{
+    if pass.reached() && is_free(pass) {
+        safepoint::release(heap, pass, &alone(Task::Release));
+        Some(())
+    } else {
+        None
+    }
+}
+
+const DONE: Option<Turn<()>> = Some(Turn::Done(()));
+
+fn requested(word: u64) -> Option<Turn<()>> {
+    Some(Turn::Pending(Why::Requested { word }))
+}
+
+#[test]
+fn a_thread_stops_for_another(rt: HostRuntime) -> Result<(), Fail> {
+    let (heap, mut first, mut second) = begin(rt.alloc())?;
+    assert!(rt; resume(&heap, &mut first) == DONE);
+    assert!(rt; resume(&heap, &mut second) == DONE);
+    assert!(rt; poll(&heap, &mut first) == DONE);
+    assert!(rt; request(&heap, &mut second) == DONE);
+    assert!(rt; !second.running() && second.requesting());
+
+    // The first thread runs still: bit 0, and the requester 1, as 2 in the field.
+    let word = 8589934593;
+    let stopping = Some(Turn::Pending(Why::Stopping { word }));
+    assert!(rt; reached(&heap, &mut second) == stopping);
+    assert!(rt; !second.reached());
+    assert!(rt; release(&heap, &mut second).is_none());
+    assert!(rt; poll(&heap, &mut first) == requested(word));
+    assert!(rt; request(&heap, &mut first) == requested(word));
+    assert!(rt; first.running());
+    assert!(rt; stop(&heap, &mut first).is_some());
+
+    assert!(rt; !first.running());
+    assert!(rt; reached(&heap, &mut second) == DONE);
+    assert!(rt; second.reached());
+    assert!(rt; resume(&heap, &mut first) == requested(8589934592));
+    assert!(rt; !first.running());
+
+    assert!(rt; release(&heap, &mut second).is_some());
+    assert!(rt; second.running() && !second.requesting());
+    assert!(rt; resume(&heap, &mut first) == DONE);
+    assert!(rt; first.running());
+    assert!(rt; poll(&heap, &mut second) == DONE);
+    Ok(())
+}
+
+#[test]
+fn a_lone_thread_has_its_safepoint_at_once(rt: HostRuntime) -> Result<(), Fail> {
+    let (heap, mut first, mut second) = begin(rt.alloc())?;
+    assert!(rt; poll(&heap, &mut first).is_none());
+    assert!(rt; resume(&heap, &mut first) == DONE);
+    assert!(rt; request(&heap, &mut first) == DONE);
+    assert!(rt; resume(&heap, &mut second) == requested(4294967296));
+    assert!(rt; reached(&heap, &mut first) == DONE);
+    assert!(rt; release(&heap, &mut first).is_some());
+    assert!(rt; resume(&heap, &mut second) == DONE);
+    Ok(())
+}

@@ -1,5 +1,0 @@
-use Rattle.lock_runtime.proofs.MayBegin.{none_held}
-use Rattle.lock_runtime.proofs.asked.holds_nothing.Goals as goal
-
-pub returns : goal.returns
-returns c = λ e. none_held c.args.pass.now.known.holds c.holds.result c.holds.ensures.holds e

@@ -1,0 +1,187 @@
+//! Heaps with biases.
+ghost use Rattle.std.specs.Prelude.{◌<◌};
+ghost use Rattle.heap_table.specs.Resting.{Rests};
+
+use crate::calls::{
+    DONE, LEFT, begin, enter, entered, exit, not_entered, pending, poll, resume, stop,
+};
+use crate::last::{closed, count, displaced, has_stamps, mark, monitor, prototype};
+use core_world::{Turn, Why};
+use heap_table::{Heap, Pass};
+use plain_monitor::Path;
+use std::process::Abort;
+use std::test::Fail;
+
+// The first thread has entered the first object three times, and both run.
+fn bias(rt: &impl Abort, heap: &Heap, p0: &mut Pass, p1: &mut Pass)
+    requires { Rests heap.now p0.old × Rests heap.now p1.old }
+    ensures { Rests heap.now p0.new × Rests heap.now p1.new }
+{
+    assert_eq!(rt; resume(heap, p0), DONE);
+    assert_eq!(rt; resume(heap, p1), DONE);
+    assert_eq!(rt; enter(heap, p0, 0, 1), entered(Path::BiasTaken));
+    assert_eq!(rt; enter(heap, p0, 0, 1), entered(Path::BiasOwn));
+    assert_eq!(rt; enter(heap, p0, 0, 1), entered(Path::BiasOwn));
+}
+
+// The first stops, and the second revokes the bias and stops.
+fn revoke(rt: &impl Abort, heap: &Heap, p0: &mut Pass, p1: &mut Pass)
+    requires { Rests heap.now p0.old × Rests heap.now p1.old }
+    ensures { Rests heap.now p0.new × Rests heap.now p1.new }
+{
+    bias(rt, heap, p0, p1);
+    assert!(rt; stop(heap, p0));
+    let owned = Why::Owned { word: 4096 };
+    assert_eq!(rt; enter(heap, p1, 0, 1), not_entered(owned));
+    assert!(rt; stop(heap, p1));
+}
+
+#[test]
+fn a_revoked_bias_stands_in_records(rt: HostRuntime) -> Result<(), Fail> {
+    let (heap, mut p0, mut p1) = begin(rt.alloc(), true)?;
+    revoke(&rt, &heap, &mut p0, &mut p1);
+    let Some(closed) = closed(rt.alloc(), heap, p0, p1) else {
+        panic!(rt; "both are stopped")
+    };
+    assert_eq!(rt; mark(&closed, 0), Some(10));
+    assert_eq!(rt; monitor(&closed, 0), Some([1, 4096, 0, 0]));
+    assert_eq!(rt; displaced(&closed, 0, 0), Some(1));
+    assert_eq!(rt; displaced(&closed, 0, 1), Some(0));
+    assert_eq!(rt; displaced(&closed, 0, 2), Some(0));
+    assert_eq!(rt; count(&closed, 0), Some(1));
+    Ok(())
+}
+
+#[test]
+fn a_revoked_lock_goes_to_the_next_by_the_monitor(rt: HostRuntime) -> Result<(), Fail> {
+    let (heap, mut p0, mut p1) = begin(rt.alloc(), true)?;
+    revoke(&rt, &heap, &mut p0, &mut p1);
+    assert_eq!(rt; resume(&heap, &mut p0), DONE);
+    assert_eq!(rt; exit(&heap, &mut p0, 0), LEFT);
+    assert_eq!(rt; exit(&heap, &mut p0, 0), LEFT);
+    assert_eq!(rt; exit(&heap, &mut p0, 0), LEFT);
+    assert!(rt; stop(&heap, &mut p0));
+    assert_eq!(rt; resume(&heap, &mut p1), DONE);
+    assert_eq!(rt; enter(&heap, &mut p1, 0, 1), entered(Path::MonitorFirst));
+    assert!(rt; has_stamps(p1.log(), &[7]));
+    Ok(())
+}
+
+#[test]
+fn a_revocation_waits_until_the_others_stop(rt: HostRuntime) -> Result<(), Fail> {
+    let (heap, mut p0, mut p1) = begin(rt.alloc(), true)?;
+    bias(&rt, &heap, &mut p0, &mut p1);
+    let word = 8589934593;
+    let stopping = Why::Stopping { word };
+    let owned = Why::Owned { word: 4096 };
+    assert_eq!(rt; enter(&heap, &mut p1, 0, 1), not_entered(stopping));
+    assert_eq!(rt; poll(&heap, &mut p0), pending(Why::Requested { word }));
+    assert!(rt; stop(&heap, &mut p0));
+    assert_eq!(rt; enter(&heap, &mut p1, 0, 1), not_entered(owned));
+    Ok(())
+}
+
+// Whether the stopped thread resumed, entered and left these objects at this moment, and stopped.
+fn visit(heap: &Heap, pass: &mut Pass, from: u32, to: u32, now: u64) -> bool
+    requires { Rests heap.now pass.old }
+    ensures { Rests heap.now pass.new }
+{
+    if resume(heap, pass) != DONE {
+        return false;
+    }
+    for object in from..to {
+        let Some(Ok(Turn::Done(_))) = enter(heap, pass, object, now) else {
+            return false;
+        };
+        if exit(heap, pass, object) != LEFT {
+            return false;
+        }
+    }
+    stop(heap, pass)
+}
+
+// Whether both threads visited the twenty objects of this round, from 0, the first thread first.
+fn round(heap: &Heap, p0: &mut Pass, p1: &mut Pass, round: u32) -> bool
+    requires rounds { round < 5 }
+    requires rest { Rests heap.now p0.old × Rests heap.now p1.old }
+    ensures { Rests heap.now p0.new × Rests heap.now p1.new }
+{
+    let now = 1 + 25000 * round as u64;
+    let from = 20 * round;
+    visit(heap, p0, from, from + 20, now) && visit(heap, p1, from, from + 20, now)
+}
+
+// Whether the first thread visited the last object, behind the first round.
+fn first_round(heap: &Heap, p0: &mut Pass, p1: &mut Pass) -> bool
+    requires { Rests heap.now p0.old × Rests heap.now p1.old }
+    ensures { Rests heap.now p0.new × Rests heap.now p1.new }
+{
+    round(heap, p0, p1, 0) && visit(heap, p0, 100, 101, 1)
+}
+
+fn five_rounds(heap: &Heap, p0: &mut Pass, p1: &mut Pass) -> bool
+    requires { Rests heap.now p0.old × Rests heap.now p1.old }
+    ensures { Rests heap.now p0.new × Rests heap.now p1.new }
+{
+    if !first_round(heap, p0, p1) {
+        return false;
+    }
+    if !round(heap, p0, p1, 1) {
+        return false;
+    }
+    if !round(heap, p0, p1, 2) {
+        return false;
+    }
+    if !round(heap, p0, p1, 3) {
+        return false;
+    }
+    round(heap, p0, p1, 4)
+}
+
+#[test]
+fn a_bias_has_the_epoch_of_its_class(rt: HostRuntime) -> Result<(), Fail> {
+    let (heap, mut p0, mut p1) = begin(rt.alloc(), true)?;
+    assert!(rt; first_round(&heap, &mut p0, &mut p1));
+    let Some(closed) = closed(rt.alloc(), heap, p0, p1) else {
+        panic!(rt; "both are stopped")
+    };
+    assert_eq!(rt; mark(&closed, 100), Some(1285));
+    Ok(())
+}
+
+#[test]
+fn the_epochs_of_a_class_begin_again(rt: HostRuntime) -> Result<(), Fail> {
+    let (heap, mut p0, mut p1) = begin(rt.alloc(), true)?;
+    assert!(rt; five_rounds(&heap, &mut p0, &mut p1));
+    let Some(closed) = closed(rt.alloc(), heap, p0, p1) else {
+        panic!(rt; "both are stopped")
+    };
+    assert_eq!(rt; prototype(&closed, 0), Some(261));
+    assert_eq!(rt; count(&closed, 0), Some(20));
+    Ok(())
+}
+
+#[test]
+fn a_bias_of_an_epoch_that_came_again_is_valid(rt: HostRuntime) -> Result<(), Fail> {
+    let (heap, mut p0, mut p1) = begin(rt.alloc(), true)?;
+    assert!(rt; five_rounds(&heap, &mut p0, &mut p1));
+    let now = 100001;
+    assert_eq!(rt; resume(&heap, &mut p0), DONE);
+    assert_eq!(rt; enter(&heap, &mut p0, 100, now), entered(Path::BiasOwn));
+    assert_eq!(rt; exit(&heap, &mut p0, 100), LEFT);
+    assert!(rt; stop(&heap, &mut p0));
+    assert_eq!(rt; resume(&heap, &mut p1), DONE);
+    assert_eq!(rt; enter(&heap, &mut p1, 100, now), entered(Path::StackFirst));
+    assert!(rt; stop(&heap, &mut p1));
+    let Some(counts) = p1.counts().first() else {
+        panic!(rt; "there is a class")
+    };
+    assert_eq!(rt; counts.single, 96);
+    assert_eq!(rt; counts.rebias, 5);
+    assert_eq!(rt; counts.revoke, 0);
+    let Some(closed) = closed(rt.alloc(), heap, p0, p1) else {
+        panic!(rt; "both are stopped")
+    };
+    assert_eq!(rt; count(&closed, 0), Some(21));
+    Ok(())
+}

@@ -1,0 +1,22 @@
+//! Tests of the runtime: what two threads of one heap answer, log and leave, call by call, and what two workers log that enter and
+//! leave one object. They stand in a crate of their own, so that `lock_runtime` isn't proved once more with them.
+#![tactic(auto)]
+
+#[cfg(test)]
+mod asked;
+#[cfg(test)]
+mod biased;
+#[cfg(test)]
+mod calls;
+#[cfg(test)]
+mod dumped;
+#[cfg(test)]
+mod hashed;
+#[cfg(test)]
+mod last;
+#[cfg(test)]
+mod stacked;
+#[cfg(test)]
+mod waiting;
+#[cfg(test)]
+mod workers;

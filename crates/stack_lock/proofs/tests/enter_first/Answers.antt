@@ -1,8 +1,0 @@
-use Rattle.stack_lock.proofs.Tested.{first_enters, first_again}
-use Rattle.stack_lock.proofs.tests.enter_first.Goals as goal
-
-pub enter-requires : goal.enter-requires
-enter-requires c = first_enters c.args.heap.now c.args.pass.now c.requires
-
-pub returns : goal.returns
-returns c = first_again c.args.heap.now c.args.pass.now c.enter.new.pass c.enter.result c.requires c.enter.ensures
