@@ -15,10 +15,11 @@ use Rattle.core_world.proofs.OpeningFits.{opening_fits}
 use Rattle.core_world.proofs.Readings.{no_told}
 use Rattle.core_counts.specs.BiasLaw.{WhollyValid}
 use Rattle.core_counts.proofs.Opening.{opening_meets}
+use Rattle.core_steps.specs.ExactStamps.{TakesExactly}
 use Rattle.core_steps.specs.Logic.{Heap, heap_of}
 use Rattle.core_steps.specs.Sound.{Finishes, Sound}
 use Rattle.core_steps.specs.Reached.{Comes, opens, moves, comes}
-use Rattle.core_steps.proofs.NextSteps.{stepping_sound, stepping_there, idle_rests}
+use Rattle.core_steps.proofs.NextSteps.{stepping_sound, stepping_there, stepping_stamps, idle_rests}
 use Rattle.core_steps.proofs.Resting.{rests}
 use Rattle.core_steps.proofs.Table.{calls_begin}
 
@@ -74,6 +75,10 @@ known_step_there heap k p next w is_of knows within sound =
     (subst (λ (z : Heap). k.thread < z.shape.threads) (sym is_of) within)
     sound
     (subst (λ (z : Heap). IsNext z.shape z.start z.biasing (w.known k.thread) p) (sym is_of) (subst (λ y. IsNext heap.shape heap.start heap.biasing y p) (sym knows) next))))
+
+-- and stamps a taking as the logs ask for
+pub next_step_exact : (w : World) (t : ℕ) (p : StepPlan) → t < w.shape.threads → Sound w → IsNext w.shape w.start w.biasing (w.known t) p → TakesExactly w t p
+next_step_exact w t p within = stepping_stamps w t p within (calls_begin (heap_of w) p.task)
 
 -- REACHED WORLDS
 -- a sound world of this heap

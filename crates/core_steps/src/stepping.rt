@@ -9,8 +9,9 @@ ghost use Rattle.core_world.specs.Opening.{opening};
 ghost use Rattle.core_world.specs.Words.Shape.{IsInLimits};
 ghost use Rattle.core_world.specs.Steps.{world_after, rest_of_call, is_idle};
 ghost use Rattle.core_world.specs.There.{IsThere};
-ghost use Rattle.core_world.specs.World.{World};
+ghost use Rattle.core_world.specs.World.{World, logs};
 ghost use Rattle.core_counts.specs.BiasLaw.{WhollyValid};
+ghost use Rattle.core_steps.specs.ExactStamps.{StampsAreExact, TakesExactly};
 ghost use Rattle.core_steps.specs.Logic.{Heap, heap_of};
 ghost use Rattle.core_steps.specs.Reached.{Comes, comes};
 ghost use Rattle.core_steps.specs.Sound.{Sound};
@@ -38,4 +39,16 @@ pub fn reached_worlds_are_valid()
     ensures valid { (heap : Heap) (w : World) → IsInLimits heap.shape → Comes heap w → WhollyValid w }
     ensures goes_on { (heap : Heap) (w : World) (t : ℕ) → IsInLimits heap.shape → Comes heap w → t < heap.shape.threads
         → comes (rest_of_call w.shape (w.known t)) ≡ true }
+{}
+
+/// In each world to which a heap comes every stamp in the logs is exact. That of an Enter or a Resume is one more than the greater of the
+/// last stamp before it in its own log and the last stamp below it with which a thread let go of the object, by a Wait or the exit of its
+/// only hold; every other entry has the next stamp of its own log. The thread that logs the entry knows its own log alone: the step finds
+/// the stamp in the object's word.
+pub fn stamps_of_reached_worlds_are_exact()
+    ensures takes { (w : World) (t : ℕ) (p : StepPlan) → t < w.shape.threads → Sound w
+        → IsNext w.shape w.start w.biasing (w.known t) p → TakesExactly w t p }
+    ensures kept { (w : World) (t : ℕ) (p : StepPlan) → t < w.shape.threads → Sound w
+        → IsNext w.shape w.start w.biasing (w.known t) p → StampsAreExact (logs w) → StampsAreExact (logs (world_after p t w)) }
+    ensures reached { (heap : Heap) (w : World) → IsInLimits heap.shape → Comes heap w → StampsAreExact (logs w) }
 {}
