@@ -16,7 +16,7 @@ use Rattle.core_world.specs.declared.plan.StepPlan.{StepPlan}
 use Rattle.core_world.specs.Clauses.Stamps.{bound_stamp}
 use Rattle.core_world.specs.Due.{IsNext}
 use Rattle.core_world.specs.Locks.{monitor_of, owner_at}
-use Rattle.core_world.specs.Opening.{first_known}
+use Rattle.core_world.specs.Opening.{opening, first_known}
 use Rattle.core_world.specs.Steps.{is_taking, stamp_by, with_entry, log_after, known_hit, known_miss, known_after, world_after}
 use Rattle.core_world.specs.Threads.Known.{Known}
 use Rattle.core_world.specs.Trees.Operations.{value_found}
@@ -35,7 +35,7 @@ use Rattle.core_locks.proofs.Prelude.{same_number}
 use Rattle.core_locks.proofs.RefutedOwning.{owned_where_legal}
 use Rattle.core_counts.specs.BiasLaw.{BiasLawHolds}
 use Rattle.core_steps.specs.ExactStamps.{StampsAreExact, StampsTaking, StampsNote, TakesExactly}
-use Rattle.core_steps.specs.Logic.{Heap}
+use Rattle.core_steps.specs.Logic.{Heap, heap_of}
 use Rattle.core_steps.specs.Reached.{Comes, opens, moves}
 use Rattle.core_steps.specs.Sound.{Sound}
 use Rattle.core_steps.proofs.LetGoes.{no_entries}
@@ -161,13 +161,25 @@ next_step_keeps_exact w t p within sound next was =
     stepping_exact w t p sound.valid.objects after.valid.objects within (forgotten BiasLawHolds w sound.valid.objects sound.valid.is)
     (forgotten BiasLawHolds (world_after p t w) after.valid.objects after.valid.is) (next_step_exact w t p within sound next) was
 
--- and in each world that a heap comes to, from empty logs on
+-- and by what the thread knows
+pub known_step_keeps_exact : (heap : Heap) (k : Known) (p : StepPlan) → IsNext heap.shape heap.start heap.biasing k p → (w : World) → heap_of w ≡ heap
+    → w.known k.thread ≡ k → k.thread < heap.shape.threads → Sound w → StampsAreExact (logs w) → StampsAreExact (logs (world_after p k.thread w))
+known_step_keeps_exact heap k p next w is_of knows within sound =
+    next_step_keeps_exact w k.thread p
+    (subst (λ (z : Heap). k.thread < z.shape.threads) (sym is_of) within)
+    sound
+    (subst (λ (z : Heap). IsNext z.shape z.start z.biasing (w.known k.thread) p) (sym is_of) (subst (λ y. IsNext heap.shape heap.start heap.biasing y p) (sym knows) next))
+
+-- REACHED WORLDS. The logs are empty at the opening.
 empty_logs : (u n t : ℕ) → log_of (logs_from u n first_known) t ≡ []
 empty_logs u zero t = refl
 empty_logs u (suc n) zero = refl
 empty_logs u (suc n) (suc t) = empty_logs (u + 1) n t
 
+pub opening_exact : (heap : Heap) → StampsAreExact (logs (opening heap.shape heap.start heap.biasing))
+opening_exact heap t before l later is = absurd (no_entries before later l (sym (empty_logs 0 heap.shape.threads t) ∙ is))
+
 pub reached_worlds_exact : (heap : Heap) (w : World) → IsInLimits heap.shape → Comes heap w → StampsAreExact (logs w)
-reached_worlds_exact heap w limits opens = λ t before y later is. absurd (no_entries before later y (sym (empty_logs 0 heap.shape.threads t) ∙ is))
+reached_worlds_exact heap w limits opens = opening_exact heap
 reached_worlds_exact heap w limits (moves v t p before within next) =
     next_step_keeps_exact v t p within (reached_worlds_sound heap v limits before) next (reached_worlds_exact heap v limits before)

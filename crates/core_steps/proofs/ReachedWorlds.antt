@@ -106,3 +106,11 @@ reached_worlds_come heap w t limits c within =
 
 pub reached_worlds_valid : (heap : Heap) (w : World) → IsInLimits heap.shape → Comes heap w → WhollyValid w
 reached_worlds_valid heap w limits c = (reached_worlds_sound heap w limits c).valid
+
+-- a step, by what its thread knows, leads on to one of them
+pub known_step_comes : (heap : Heap) (k : Known) (p : StepPlan) → IsNext heap.shape heap.start heap.biasing k p → (w : World) → heap_of w ≡ heap
+    → w.known k.thread ≡ k → k.thread < heap.shape.threads → Comes heap w → Comes heap (world_after p k.thread w)
+known_step_comes heap k p next w is_of knows within c =
+    moves w k.thread p c
+    (subst (λ (z : Heap). k.thread < z.shape.threads) (sym is_of) within)
+    (subst (λ (z : Heap). IsNext z.shape z.start z.biasing (w.known k.thread) p) (sym is_of) (subst (λ y. IsNext heap.shape heap.start heap.biasing y p) (sym knows) next))
