@@ -56,7 +56,7 @@ use Rattle.core_counts.proofs.EnterLogged.{enter_logged}
 use Rattle.core_counts.proofs.HoldStored.{hold_stored}
 use Rattle.core_counts.proofs.LoggedKinds as logged
 use Rattle.core_counts.proofs.QuietKinds as quiet
-use Rattle.core_steps.specs.ExactStamps.{StampsTaking, StampsNote, TakesExactly}
+use Rattle.core_steps.specs.Takings.{StampsTaking, StampsNote, TakesExactly}
 use Rattle.core_steps.specs.Logic.{Heap, Stands, Keeps}
 use Rattle.core_steps.proofs.There.{class_there, slot_there, limits_there, kept_there, inflated_there}
 use Rattle.core_steps.proofs.Wholes.{All, all_unless, stops_all, was_asked, not_calm, kept_whole}

@@ -17,7 +17,7 @@ use Rattle.core_world.proofs.CallRests.{begun_rest, gone_rest}
 use Rattle.core_world.proofs.KnowledgeParts.{by_equal, each_with_known}
 use Rattle.core_world.proofs.LookWhileRevoking.{forgotten}
 use Rattle.core_counts.specs.BiasLaw.{BiasLawHolds, WhollyValid}
-use Rattle.core_steps.specs.ExactStamps.{TakesExactly}
+use Rattle.core_steps.specs.Takings.{TakesExactly}
 use Rattle.core_steps.specs.Logic.{Heap, heap_of, Stands, Keeps, Was}
 use Rattle.core_steps.specs.Sound.{Finishes, BeginsWell, Sound}
 

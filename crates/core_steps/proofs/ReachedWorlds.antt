@@ -15,7 +15,7 @@ use Rattle.core_world.proofs.OpeningFits.{opening_fits}
 use Rattle.core_world.proofs.Readings.{no_told}
 use Rattle.core_counts.specs.BiasLaw.{WhollyValid}
 use Rattle.core_counts.proofs.Opening.{opening_meets}
-use Rattle.core_steps.specs.ExactStamps.{TakesExactly}
+use Rattle.core_steps.specs.Takings.{TakesExactly}
 use Rattle.core_steps.specs.Logic.{Heap, heap_of}
 use Rattle.core_steps.specs.Sound.{Finishes, Sound}
 use Rattle.core_steps.specs.Reached.{Comes, opens, moves, comes}

@@ -1,4 +1,5 @@
 pub mod ExactStamps
+pub mod Takings
 pub mod Logic
 pub mod Sound
 pub mod Reached
