@@ -11,7 +11,7 @@ use Rattle.plain_history.specs.Tied.{bound_to}
 use Rattle.plain_history.specs.HeldByLog.{held_by, nothing_held, LetsGoOf, HasLetGo, IsLastLetGo}
 use Rattle.core_world.specs.Steps.{stamp_by}
 use Rattle.core_world.proofs.KnowledgeParts.{by_equal}
-use Rattle.core_steps.specs.ExactStamps.{IsTakingStamp, IsExactStamp, StampsAreExact}
+use Rattle.plain_history.specs.ExactStamps.{IsTakingStamp, IsExactStamp, StampsAreExact}
 use Rattle.core_steps.specs.Takings.{StampsTaking}
 use Rattle.core_steps.proofs.LetGoes.{last_let_go, last_or_before, let_go_stays, let_go_was}
 

@@ -34,7 +34,7 @@ use Rattle.core_locks.proofs.LeavesStamps.{all_of_log}
 use Rattle.core_locks.proofs.Prelude.{same_number}
 use Rattle.core_locks.proofs.RefutedOwning.{owned_where_legal}
 use Rattle.core_counts.specs.BiasLaw.{BiasLawHolds}
-use Rattle.core_steps.specs.ExactStamps.{StampsAreExact}
+use Rattle.plain_history.specs.ExactStamps.{StampsAreExact}
 use Rattle.core_steps.specs.Takings.{StampsTaking, StampsNote, TakesExactly}
 use Rattle.core_steps.specs.Logic.{Heap, heap_of}
 use Rattle.core_steps.specs.Reached.{Comes, opens, moves}

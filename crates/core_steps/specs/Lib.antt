@@ -1,4 +1,3 @@
-pub mod ExactStamps
 pub mod Takings
 pub mod Logic
 pub mod Sound

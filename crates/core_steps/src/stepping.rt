@@ -11,7 +11,7 @@ ghost use Rattle.core_world.specs.Steps.{world_after, rest_of_call, is_idle};
 ghost use Rattle.core_world.specs.There.{IsThere};
 ghost use Rattle.core_world.specs.World.{World, logs};
 ghost use Rattle.core_counts.specs.BiasLaw.{WhollyValid};
-ghost use Rattle.core_steps.specs.ExactStamps.{StampsAreExact};
+ghost use Rattle.plain_history.specs.ExactStamps.{StampsAreExact};
 ghost use Rattle.core_steps.specs.Takings.{TakesExactly};
 ghost use Rattle.core_steps.specs.Logic.{Heap, heap_of};
 ghost use Rattle.core_steps.specs.Reached.{Comes, comes};
