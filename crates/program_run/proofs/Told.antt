@@ -4,8 +4,8 @@ use Rattle.std.specs.Prelude.{◌⊎◌, slice_get, slice_index_or}
 use Rattle.std.specs.List.{AllByRecursion, list_any}
 use Rattle.plain_history.specs.HeldByLog.{nothing_held}
 use Rattle.std.proofs.lemmas.List.{length-map}
+use Rattle.plain_history.specs.ExactStamps.{StampsAreExact}
 use Rattle.plain_history.specs.EnterPaths.{entries_on, first_path, needs_bias, EndsStay, PathsFit}
-use Rattle.own_logs.specs.Stamps.{AreNext}
 use Rattle.plain_monitor.specs.declared.entry.Logged.{Logged}
 use Rattle.plain_monitor.specs.declared.entry.Path.{Path}
 use Rattle.plain_monitor.specs.declared.entry.Path.TheVariants.{BiasTaken}
@@ -142,6 +142,6 @@ module _ (fronts : Fronts) (legals : Legals) (theirs : TheirObjects) (first : Fi
         over = over;
         shots = shots;
         draws = subst (HasDraws s.start) (sym copy.logs) ran.draws;
-        stamps = subst (AllByRecursion (AreNext 0)) (sym copy.logs) ran.stamps;
+        stamps = subst StampsAreExact (sym copy.logs) ran.stamps;
         biases = biases;
       }

@@ -1,10 +1,9 @@
 -- What holds of a run of a program, by the record and the closed heap that it leaves.
 use Rattle.std.specs.Prelude.{◌≡◌, length, Some}
-use Rattle.std.specs.List.{AllByRecursion}
-use Rattle.own_logs.specs.Stamps.{AreNext}
 use Rattle.heap_table.specs.Seen.{ClosedSeen}
 use Rattle.lock_journal.specs.declared.record.RunRecord.{RunRecord}
 use Rattle.object_program.specs.Program.{ProgramText}
+use Rattle.plain_history.specs.ExactStamps.{StampsAreExact}
 use Rattle.plain_machine.specs.Legal.{IsLegal, machine_after}
 use Rattle.plain_machine.specs.Machine.{PlainMachine}
 use Rattle.run_ends.specs.OfARun.{HasDraws}
@@ -29,7 +28,8 @@ pub record HasAll (p : ProgramText) (r : RunRecord) : Type 0 where
   pub classes : length r.classes ≡ length p.classes
 
 -- The record is of this program and of this heap, which is the program's. The plain machine takes its logs, and is over
--- behind them, as the halt says; the hashes are the threads' draws, the dumps' shots are right, and the law of biases holds.
+-- behind them, as the halt says; the hashes are the threads' draws, the dumps' shots are right, the stamps are exact, and
+-- the law of biases holds.
 pub record IsRan (s : Settings) (p : ProgramText) (r : RunRecord) (c : ClosedSeen) : Type 0 where
   pub of : IsRecordOf s p r
   pub closed : IsOfClosed r c
@@ -39,6 +39,7 @@ pub record IsRan (s : Settings) (p : ProgramText) (r : RunRecord) (c : ClosedSee
   pub over : (m : PlainMachine) → machine_after p s.fuel r.logs ≡ Some m → IsOver m r.halted
   pub shots : AreRightShots p s.fuel r.logs r.shots
   pub draws : HasDraws s.start r.logs
-  -- an entry that takes no lock has the stamp next to the one before it in its log
-  pub stamps : AllByRecursion (AreNext 0) r.logs
+  -- an entry that takes an object is stamped one above the greater of the last stamp of its log and the last one below its own
+  -- with which a thread let go of the object, and every other entry has the next stamp of its log
+  pub stamps : StampsAreExact r.logs
   pub biases : HasBiases r c

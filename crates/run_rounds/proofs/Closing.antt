@@ -11,6 +11,7 @@ use Rattle.heap_table.specs.Seen.{HeapSeen, PassSeen, ClosedSeen, IsOf, LastWorl
 use Rattle.heap_table.specs.Tallies.{counts_shown}
 use Rattle.heap_table.proofs.Resting.{at_rest}
 use Rattle.object_program.specs.Program.{ProgramText}
+use Rattle.plain_history.specs.ExactStamps.{StampsAreExact}
 use Rattle.plain_machine.specs.Legal.{machine_after}
 use Rattle.thread_calls.specs.Between.{IsHeapOf, state_by}
 use Rattle.thread_interp.specs.Runners.{RunnerSeen}
@@ -19,8 +20,6 @@ use Rattle.run_ends.specs.OfARun.{HasDraws, HasShots, IsEnd, logs_in, shots_in, 
 use Rattle.run_ends.proofs.Draws.{has_draws}
 use Rattle.run_ends.proofs.Shots.{has_shots}
 use Rattle.run_ends.proofs.Stuck.{no_hash_open}
-use Rattle.own_logs.specs.Stamps.{AreNext}
-use Rattle.own_logs.proofs.OwnStamps.{own_stamps}
 use Rattle.std.specs.List.{AllByRecursion}
 use Rattle.run_rounds.specs.Outcome.{HasRun}
 use Rattle.run_rounds.specs.Rounds.{AreRunners, AreOver}
@@ -31,10 +30,6 @@ use Rattle.run_rounds.proofs.Over.{Laws, ends_alike, is_over}
 shots_are : (ps : List PassSeen) → shots_of ps ≡ shots_in (knowns ps)
 shots_are [] = refl
 shots_are (p ∷ ps) = ap (λ (l : List (List DumpShot)). p.known.shots ∷ l) (shots_are ps)
-
-stamps_are : (h : HeapSeen) (ps : List PassSeen) → All (IsOf h) ps → AllByRecursion (AreNext 0) (logs_of ps)
-stamps_are h [] all = tt
-stamps_are h (p ∷ ps) all = (own_stamps h p (all 0 p (omega arith)), stamps_are h ps (λ k d lt. all (suc k) d (omega (arith, lt))))
 
 counts_are : (h : HeapSeen) (ps : List PassSeen) → All (IsOf h) ps
     → counts_of_all ps ≡ map (λ (k : Known). counts_shown 0 h.heap.shape.classes k.counts) (knowns ps)
@@ -56,6 +51,7 @@ pub record IsClosed (h : HeapSeen) (ps : List PassSeen) (c : ClosedSeen) : Type 
   pub shots : c.shots ≡ shots_of ps
   pub counts : c.counts ≡ counts_of_all ps
   pub legal : LegalObjects h.heap.shape.objects c.logs
+  pub stamps : StampsAreExact c.logs
   pub biases : All (λ (p : PassSeen). p.known.unfinished ≡ None) ps → BiasesAtEnd 0 h.heap c.words c.logs (knowns ps)
   pub biases_stuck : All (λ (p : PassSeen). (o : ℕ) → IsUnfinished p.known.unfinished op.Hash o → ⊥) ps
       → BiasesAtEnd 1 h.heap c.words c.logs (knowns ps)
@@ -101,7 +97,7 @@ module _ (h : HeapSeen) (p : ProgramText) (fuel : ℕ) (rs : List RunnerSeen) (a
     shots = subst (λ (x : List (ℕ × ℕ) × List (List Logged) × List (List DumpShot)). HasShots x.0 x.1 x.2)
         (λ i. (of.objects i, sym logs_in_are i, sym (closed.shots ∙ shots_are (passes rs)) i))
         (has_shots h.heap c.words (knowns (passes rs)) end);
-    stamps = subst (AllByRecursion (AreNext 0)) (sym closed.logs) (stamps_are h (passes rs) (all_of h p fuel rs are));
+    stamps = closed.stamps;
     biases = record {
       knowns = knowns (passes rs);
       end = end;

@@ -7,8 +7,8 @@ use Rattle.core_world.specs.Words.Forms.{is_halted}
 use Rattle.heap_table.specs.BiasesAtEnd.{BiasesAtEnd}
 use Rattle.heap_table.specs.Seen.{ClosedSeen}
 use Rattle.heap_table.specs.Tallies.{counts_shown}
-use Rattle.own_logs.specs.Stamps.{AreNext}
 use Rattle.object_program.specs.Program.{ProgramText, shape_of}
+use Rattle.plain_history.specs.ExactStamps.{StampsAreExact}
 use Rattle.plain_machine.specs.Legal.{machine_after}
 use Rattle.plain_machine.specs.Machine.{PlainMachine, is_live, is_stuck}
 use Rattle.run_ends.specs.OfARun.{HasDraws, HasShots, IsEnd, logs_in, shots_in}
@@ -33,13 +33,14 @@ pub record HasBiases (heap : Heap) (c : ClosedSeen) : Type 0 where
   pub biases : BiasesAtEnd 1 heap c.words c.logs knowns
 
 -- The heap was closed to this. Each thread's log follows its code, and the objects take them all; the machine under them is over, as the halt says;
--- the hashes are the threads' draws, the dumps' shots are right, and the law of biases holds.
+-- the hashes are the threads' draws, the dumps' shots are right, the stamps are exact, and the law of biases holds.
 pub record HasRun (heap : Heap) (p : ProgramText) (fuel : ℕ) (c : ClosedSeen) : Type 0 where
   pub heap_is : c.heap ≡ heap
   pub followed : HaveFollowed p fuel c.logs
   pub over : (m : PlainMachine) → machine_after p fuel c.logs ≡ Some m → IsOver m (was_halted c)
   pub draws : HasDraws heap.start c.logs
   pub shots : HasShots (shape_of p) c.logs c.shots
-  -- an entry that takes no lock has the stamp next to the one before it in its log
-  pub stamps : AllByRecursion (AreNext 0) c.logs
+  -- an entry that takes an object is stamped one above the greater of the last stamp of its log and the last one below its own
+  -- with which a thread let go of the object, and every other entry has the next stamp of its log
+  pub stamps : StampsAreExact c.logs
   pub biases : HasBiases heap c

@@ -74,6 +74,7 @@ returns g c =
       shots = c.close.ensures.shots;
       counts = c.close.ensures.counts;
       legal = c.close.ensures.legal;
+      stamps = c.close.ensures.stamps;
       biases = c.close.ensures.biases;
       biases_stuck = c.close.ensures.biases_stuck;
     } in
