@@ -5,3 +5,4 @@ pub mod Texts
 pub mod CutShort
 pub mod Under
 pub mod Replayed
+pub mod Statuses

@@ -5,7 +5,8 @@ use Rattle.plain_machine.specs.Legal.{IsLegal}
 use Rattle.lock_journal.specs.declared.record.RunRecord.{RunRecord}
 use Rattle.run_words.specs.declared.options.Command.{Command}
 use Rattle.bias_cli.specs.declared.finish.Finish.{Finish}
-use Rattle.bias_cli.specs.Finish.{SourceSeen, SinkSeen, Due, Tells, Runs, Checks, Meets, IsGivenUp, IsFinish, due_of}
+use Rattle.bias_cli.specs.Seen.{SourceSeen, SinkSeen}
+use Rattle.bias_cli.specs.Finish.{Due, Tells, Runs, Checks, Meets, IsGivenUp, IsFinish, due_of}
 
 -- what holds of a record that can be replayed
 record IsReplayed (r : RunRecord) : Type 0 where

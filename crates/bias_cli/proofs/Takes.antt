@@ -1,9 +1,9 @@
 -- Taking bytes from a source and putting them into a sink, piece by piece.
-use Rattle.std.proofs.Common.{◌≡◌, ℕ, zero, suc, ◌+◌, ◌≤◌, List, [], ◌∷◌, ◌++◌, length, take, drop, refl, ap, sym, ◌∙◌, arith, append_assoc, zero-add, Option, Some, length-drop}
+use Rattle.std.proofs.Common.{◌≡◌, ℕ, zero, suc, ◌+◌, ◌-◌, ◌≤◌, List, [], ◌∷◌, ◌++◌, length, take, drop, refl, ap, sym, ◌∙◌, arith, append_assoc, zero-add, Option, Some, length-drop}
 use Rattle.std.proofs.lemmas.List.{take-append-drop, drop-drop, take_all, drop_all}
 use Rattle.run_io.specs.Source.{IsAtEnd}
 use Rattle.run_io.specs.Sink.{Appends}
-use Rattle.bias_cli.specs.Input.{TookFirst, Took, TookMore}
+use Rattle.bias_cli.specs.Input.{TookFirst, Took, TookMore, TookSome}
 use Rattle.bias_cli.specs.Output.{Wrote, WroteFront}
 
 take_joined : (n m : ℕ) (xs : List ℕ) → take (n + m) xs ≡ take n xs ++ take m (drop n xs)
@@ -35,3 +35,8 @@ wrote_more n m h0 h1 h2 piece left is first more held e =
 
 pub wrote_front : (n : ℕ) (h0 h1 h2 : Option (List ℕ)) (piece : List ℕ) → Wrote h0 h1 (take n piece) → h2 ≡ h1 → WroteFront h0 h2 piece
 wrote_front n h0 h1 h2 piece first kept = (take n piece, drop n piece, sym (take-append-drop n piece), λ held e. kept ∙ first held e)
+
+-- further bytes behind the first, of which only some may have been kept
+pub took_some : (n most : ℕ) (l0 l1 l2 : Option (List ℕ)) (bs : List ℕ) → n ≤ most → TookFirst n l0 l1 bs → TookSome (most - n) l1 l2 → TookSome most l0 l2
+took_some n most l0 l1 l2 bs within first some left e =
+    let more = some (drop n left) (first left e).1 in (n + more.0, omega (arith, more.1), more.2 ∙ ap Some (drop-drop more.0 n left))

@@ -1,7 +1,8 @@
 -- What a call of `biasrun` reads, writes and answers.
-use Rattle.std.specs.Prelude.{◌≡◌, ◌⊎◌, ℕ, Bool, true, false, nat_lt, if◌then◌else◌, List, [], ◌++◌, codes, length, IsTrue, Option, Some, None, Result, Ok, Err}
+use Rattle.std.specs.Prelude.{◌≡◌, ◌⊎◌, ℕ, ◌+◌, Bool, true, false, nat_lt, if◌then◌else◌, List, [], ◌++◌, codes, length, IsTrue, Option, Some, None, Result, Ok, Err}
 use Rattle.std.specs.List.{list_any}
 use Rattle.run_io.specs.Faults.{rose}
+use Rattle.run_io.specs.declared.source.Source as of_source
 use Rattle.plain_monitor.specs.declared.entry.Ending.{Ending}
 use Rattle.plain_monitor.specs.declared.entry.Ending.TheVariants.{Done}
 use Rattle.object_program.specs.declared.error.ProgramError.{ProgramError}
@@ -12,7 +13,8 @@ use Rattle.plain_machine.specs.Legal.{machine_after}
 use Rattle.bias_check.specs.declared.answer.Checked.{Checked}
 use Rattle.bias_check.specs.declared.answer.CheckFault.{CheckFault}
 use Rattle.bias_check.specs.Parts.{has_journal, program_part, journal_part}
-use Rattle.bias_cli.specs.Input.{most_of_program, most_of_journal, Took}
+use Rattle.bias_cli.specs.Seen.{SourceSeen, SinkSeen}
+use Rattle.bias_cli.specs.Input.{most_of_program, most_of_journal, Took, TookSome}
 use Rattle.bias_cli.specs.Output.{Wrote, WroteFront}
 use Rattle.bias_cli.specs.Asked.{settings_of}
 use Rattle.bias_cli.specs.Report.{IsReportWhere}
@@ -28,28 +30,17 @@ use Rattle.heap_table.specs.Seen.{ClosedSeen}
 use Rattle.program_run.specs.Ran.{IsRan}
 use Rattle.bias_cli.specs.declared.finish.Finish.{Finish}
 
--- what a source tells at one moment: the bytes that are left, where it tells that, and its count of faults
-pub record SourceSeen : Type 0 where
-  pub left : Option (List ℕ)
-  pub faults : ℕ
-
--- what a sink tells at one moment: the bytes that it holds, where it tells that, and its count of faults
-pub record SinkSeen : Type 0 where
-  pub held : Option (List ℕ)
-  pub faults : ℕ
-
-abbrev pub source_seen : Option (List ℕ) → ℕ → SourceSeen
-source_seen left faults = record { left = left; faults = faults }
-
-abbrev pub sink_seen : Option (List ℕ) → ℕ → SinkSeen
-sink_seen held faults = record { held = held; faults = faults }
-
 -- how many bytes the text may have that the words ask to read, where they ask for one
 abbrev pub most_asked : Option Command → Option ℕ
 most_asked None = None
 most_asked (Some (Run o)) = Some most_of_program
 most_asked (Some (Check fuel start)) = Some most_of_journal
 most_asked (Some (Make items)) = None
+
+-- where no text is asked for, the source is as it was; else at most one byte more is taken of it than the text may have
+abbrev pub TakesAtMost : {S : Type 0} → of_source.Ghosts S → Option ℕ → S → S → Type 0
+TakesAtMost tells None before after = after ≡ before
+TakesAtMost tells (Some most) before after = TookSome (most + 1) (tells.left before) (tells.left after)
 
 -- what became of the source: it wasn't read, a read failed, or its text was read
 pub data Reading : Type 0 where
@@ -166,11 +157,11 @@ Meets before after finish (Runs o p) =
     (r : RunRecord) × (c : ClosedSeen) × (finish.run ≡ Some r) × (finish.closed ≡ Some c) × IsRun o p before after finish.status r c
 Meets before after finish (Checks p fuel start lines) = LeavesNothing finish × IsCheck p fuel start lines before after finish.status
 
--- memory was wanting: nothing was written, and nothing is left
-pub record IsGivenUp (before after : SinkSeen) (finish : Finish) : Type 0 where
+-- memory was wanting: nothing is left, and the sink is as it was
+pub record IsGivenUp {K : Type 0} (before after : K) (finish : Finish) : Type 0 where
   pub status : finish.status ≡ 7
   pub left : LeavesNothing finish
-  pub wrote : Wrote before.held after.held []
+  pub unwritten : after ≡ before
 
 -- the source was read as the command asks, and what was due then was done; words that are not accepted are no command
 pub record IsFinish (c : Option Command) (source_before source_after : SourceSeen) (sink_before sink_after : SinkSeen) (finish : Finish) : Type 0 where

@@ -1,5 +1,5 @@
 -- What reading a text takes from a source.
-use Rattle.std.specs.Prelude.{◌≡◌, ℕ, ◌+◌, List, ◌++◌, take, drop, Option, Some}
+use Rattle.std.specs.Prelude.{◌≡◌, ℕ, ◌+◌, ◌≤◌, List, ◌++◌, take, drop, Option, Some}
 
 -- the most bytes that a program's text may have, and a program with its journal
 abbrev pub most_of_program : ℕ
@@ -21,3 +21,7 @@ Took most left_before left_after bytes = TookFirst (most + 1) left_before left_a
 abbrev pub TookMore : ℕ → Option (List ℕ) → Option (List ℕ) → List ℕ → List ℕ → Type 0
 TookMore n left_before left_after bytes_before bytes_after =
     (left : List ℕ) → left_before ≡ Some left → (bytes_after ≡ bytes_before ++ take n left) × (left_after ≡ Some (drop n left))
+
+-- at most this many bytes are left no more, the first that the source had left, where it tells that
+abbrev pub TookSome : ℕ → Option (List ℕ) → Option (List ℕ) → Type 0
+TookSome most left_before left_after = (left : List ℕ) → left_before ≡ Some left → (n : ℕ) × (n ≤ most) × (left_after ≡ Some (drop n left))

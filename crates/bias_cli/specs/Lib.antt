@@ -1,3 +1,4 @@
+pub mod Seen
 pub mod Input
 pub mod Output
 pub mod Refused

@@ -4,7 +4,9 @@ ghost use Rattle.std.specs.Prelude.{◌⊎◌, ◌≤◌, length, Some};
 ghost use Rattle.object_program.specs.Refusal.{program_of};
 ghost use Rattle.run_words.specs.declared.options.Command.TheVariants.{Check};
 ghost use Rattle.bias_check.specs.Lines.{lines_of};
-ghost use Rattle.bias_cli.specs.Finish.{source_seen, sink_seen, Meets, Checks, check_due, journal_due, IsGivenUp, IsFinish};
+ghost use Rattle.bias_cli.specs.Seen.{source_seen, sink_seen};
+ghost use Rattle.bias_cli.specs.Input.{most_of_journal};
+ghost use Rattle.bias_cli.specs.Finish.{Meets, Checks, check_due, journal_due, IsGivenUp, IsFinish, TakesAtMost};
 
 use crate::finish::{Finish, give_up, tell};
 use crate::input::{MOST_OF_JOURNAL, ReadError, read_text};
@@ -23,10 +25,10 @@ pub(crate) fn check_source<S: Source, K: Sink>(
     source: &mut S,
     sink: &mut K,
 ) -> Finish
-    ensures { IsGivenUp (sink_seen (K.held sink.old) (K.faults sink.old)) (sink_seen (K.held sink.new) (K.faults sink.new)) result
-        ⊎ IsFinish (Some (Check fuel start))
-        (source_seen (S.left source.old) (S.faults source.old)) (source_seen (S.left source.new) (S.faults source.new))
-        (sink_seen (K.held sink.old) (K.faults sink.old)) (sink_seen (K.held sink.new) (K.faults sink.new)) result }
+    ensures over { IsGivenUp sink.old sink.new result ⊎ IsFinish (Some (Check fuel start))
+        (source_seen S.Source source.old) (source_seen S.Source source.new)
+        (sink_seen K.Sink sink.old) (sink_seen K.Sink sink.new) result }
+    ensures taken { TakesAtMost S.Source (Some most_of_journal) source.old source.new }
 {
     match read_text(alloc, source, MOST_OF_JOURNAL) {
         Ok(bytes) => check_text(alloc, fuel, start, bytes.as_slice(), sink),
@@ -37,8 +39,8 @@ pub(crate) fn check_source<S: Source, K: Sink>(
 
 /// Checks the journal in these bytes.
 fn check_text<K: Sink>(alloc: Global, fuel: u32, start: u32, bytes: &[u8], sink: &mut K) -> Finish
-    ensures { IsGivenUp (sink_seen (K.held sink.old) (K.faults sink.old)) (sink_seen (K.held sink.new) (K.faults sink.new)) result
-        ⊎ Meets (sink_seen (K.held sink.old) (K.faults sink.old)) (sink_seen (K.held sink.new) (K.faults sink.new)) result (check_due fuel start bytes.now) }
+    ensures { IsGivenUp sink.old sink.new result
+        ⊎ Meets (sink_seen K.Sink sink.old) (sink_seen K.Sink sink.new) result (check_due fuel start bytes.now) }
 {
     if bytes.len() > MOST_OF_JOURNAL {
         return tell(sink, 3, b"program: Limit\n");
@@ -52,8 +54,8 @@ fn check_text<K: Sink>(alloc: Global, fuel: u32, start: u32, bytes: &[u8], sink:
 /// Checks the journal of the program that stands before it.
 fn check_parts<K: Sink>(alloc: Global, fuel: u32, start: u32, parts: Parts, sink: &mut K) -> Finish
     requires { length parts.journal.now ≤ 67108864 }
-    ensures { IsGivenUp (sink_seen (K.held sink.old) (K.faults sink.old)) (sink_seen (K.held sink.new) (K.faults sink.new)) result
-        ⊎ Meets (sink_seen (K.held sink.old) (K.faults sink.old)) (sink_seen (K.held sink.new) (K.faults sink.new)) result
+    ensures { IsGivenUp sink.old sink.new result
+        ⊎ Meets (sink_seen K.Sink sink.old) (sink_seen K.Sink sink.new) result
         (journal_due fuel start (lines_of parts.entry.journal.now) (program_of parts.entry.program.now)) }
 {
     match read_program(alloc, parts.program) {
@@ -75,8 +77,8 @@ fn check_lines<K: Sink>(
     sink: &mut K,
 ) -> Finish
     requires { length lines.now ≤ 67108864 }
-    ensures { IsGivenUp (sink_seen (K.held sink.old) (K.faults sink.old)) (sink_seen (K.held sink.new) (K.faults sink.new)) result
-        ⊎ Meets (sink_seen (K.held sink.old) (K.faults sink.old)) (sink_seen (K.held sink.new) (K.faults sink.new)) result
+    ensures { IsGivenUp sink.old sink.new result
+        ⊎ Meets (sink_seen K.Sink sink.old) (sink_seen K.Sink sink.new) result
         (Checks program.now fuel start (lines_of lines.now)) }
 {
     match check_journal(alloc, program, fuel, start, lines) {

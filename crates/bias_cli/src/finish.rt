@@ -1,7 +1,8 @@
 //! What the top call answers.
 
 ghost use Rattle.std.specs.Prelude.{◌≡◌};
-ghost use Rattle.bias_cli.specs.Finish.{sink_seen, IsWritten, LeavesNothing};
+ghost use Rattle.bias_cli.specs.Seen.{sink_seen};
+ghost use Rattle.bias_cli.specs.Finish.{IsWritten, LeavesNothing};
 
 use crate::output::write_piece;
 use heap_table::Closed;
@@ -19,7 +20,7 @@ use run_io::Sink;
 /// | 4 | a program ran, and the machine behind the record is stuck |
 /// | 5 | a read failed |
 /// | 6 | a write failed, in place of any of the above |
-/// | 7 | memory was wanting, before the first byte was written; no contract says when that is |
+/// | 7 | memory was wanting, before the first write; no contract says when that is |
 ///
 /// `run` and `closed` are there exactly where the words ask for a run, the text has a program and the status isn't 7, with status 6
 /// too.
@@ -36,7 +37,7 @@ pub(crate) const WRITE_FAILED: u8 = 6;
 /// A call that runs nothing: it writes this text, and answers this status, or 6 where a write failed.
 pub(crate) fn tell<K: Sink>(sink: &mut K, status: u8, text: &[u8]) -> Finish
     ensures left { LeavesNothing result }
-    ensures written { IsWritten (sink_seen (K.held sink.old) (K.faults sink.old)) (sink_seen (K.held sink.new) (K.faults sink.new))
+    ensures written { IsWritten (sink_seen K.Sink sink.old) (sink_seen K.Sink sink.new)
         result.status status text.now }
 {
     match write_piece(sink, text) {

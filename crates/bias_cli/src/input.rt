@@ -1,9 +1,9 @@
 //! Reading a text from a source.
 
-ghost use Rattle.std.specs.Prelude.{◌≡◌, ℕ, ◌+◌, ◌<◌, ◌≤◌, length, vec_len, IfOk, IfErr, OnErr, OnOk, IsTrue, Err};
+ghost use Rattle.std.specs.Prelude.{◌≡◌, ℕ, ◌+◌, ◌-◌, ◌<◌, ◌≤◌, length, vec_len, IfOk, IfErr, OnErr, OnOk, IsTrue, Err};
 ghost use Rattle.run_io.specs.Faults.{rose};
 ghost use Rattle.run_io.specs.Source.{IsAtEnd};
-ghost use Rattle.bias_cli.specs.Input.{Took, TookMore};
+ghost use Rattle.bias_cli.specs.Input.{Took, TookMore, TookSome};
 
 use run_io::Source;
 use std::alloc::Global;
@@ -37,6 +37,7 @@ pub(crate) fn read_text<S: Source>(
     ensures counted { S.faults source.old ≤ S.faults source.new }
     ensures fault { (result ≡ Err ReadError.Fault) → IsTrue (rose (S.faults source.old) (S.faults source.new)) }
     ensures took { IfOk result (λ v. Took most (S.left source.old) (S.left source.new) v.items) }
+    ensures some { TookSome (most + 1) (S.left source.old) (S.left source.new) }
 {
     let mut bytes = Vec::new(alloc);
     while bytes.len() <= most {
@@ -60,6 +61,7 @@ fn read_piece<S: Source>(
     ensures more { IfOk result (λ n. vec_len bytes.new ≡ vec_len bytes.old + n) }
     ensures most { OnOk result (vec_len bytes.new ≤ most + 1) }
     ensures took { IfOk result (λ n. TookMore n (S.left source.old) (S.left source.new) bytes.old.items bytes.new.items) }
+    ensures some { TookSome (most + 1 - vec_len bytes.old) (S.left source.old) (S.left source.new) }
     ensures ended { IfOk result (λ n. n ≡ 0 → IsAtEnd (S.left source.old)) }
 {
     let mut buffer = [0u8; PIECE];

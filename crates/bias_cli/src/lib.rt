@@ -5,9 +5,10 @@
 //! it answers: `specs/Finish.antt` says what is due and what counts as done, and `lock_journal` what the text of a run is.
 #![tactic(auto)]
 
-ghost use Rattle.std.specs.Prelude.{◌≡◌, ◌⊎◌, map, string_bytes};
+ghost use Rattle.std.specs.Prelude.{◌≡◌, ◌≢◌, map, string_bytes};
 ghost use Rattle.run_words.specs.Command.{accepted};
-ghost use Rattle.bias_cli.specs.Finish.{source_seen, sink_seen, IsGivenUp, IsFinish};
+ghost use Rattle.bias_cli.specs.Seen.{source_seen, sink_seen};
+ghost use Rattle.bias_cli.specs.Finish.{most_asked, IsGivenUp, IsFinish, TakesAtMost};
 
 mod check;
 mod finish;
@@ -23,7 +24,7 @@ mod verdict;
 
 pub use finish::Finish;
 pub use heap_table::{ClassCounts, Closed};
-pub use laws::records_can_be_replayed;
+pub use laws::{records_can_be_replayed, status_7_is_want_of_memory};
 pub use lock_journal::{Cell, ClassLine, Line, Lines, Merge, RunRecord, Shot, replay};
 use run_io::{Clock, Gate, Sink, Source};
 pub use run_words::{Command, Options, WordsFault, read_words};
@@ -42,7 +43,7 @@ use std::thread::Threads;
 /// `words[0]` is the program's name. Where the words are not accepted, a read fails, or the text has no program, that is what is
 /// written, and there is no record, nor is there one of a check or of a program that is made (`Finish` has the statuses). At the
 /// first write that fails the writing stops, with a front of the text written and status 6. Want of memory comes only before the
-/// first byte is written.
+/// first write, and leaves the sink as it was. Of the source no more is taken than one byte past the limit.
 ///
 /// A program is run on a heap by workers of `rt`, each of which runs one thread of the program at a time for as many instructions as a
 /// turn has (`program_run::run_program`). The clock tells the policy of biases the time. The gate is asked at each step and may let
@@ -56,13 +57,18 @@ pub fn biasrun<R: Threads + Wait + Sync, S: Source, K: Sink, C: Clock + Sync, G:
     clock: &C,
     gate: &G,
 ) -> Finish
-    // Either memory was wanting, with status 7 and nothing written; or the words, the text that was read and the run that was made of
-    // it, or the check of a journal, or the number of items of a program that is made, say what is due, and that was written and
-    // answered, up to the first write that failed.
-    ensures { IsGivenUp (sink_seen (K.held sink.old) (K.faults sink.old)) (sink_seen (K.held sink.new) (K.faults sink.new)) result
-        ⊎ IsFinish (accepted (map (λ w. string_bytes w) words.now))
-        (source_seen (S.left source.old) (S.faults source.old)) (source_seen (S.left source.new) (S.faults source.new))
-        (sink_seen (K.held sink.old) (K.faults sink.old)) (sink_seen (K.held sink.new) (K.faults sink.new)) result }
+    // Memory was wanting: nothing is left, and the sink is as it was.
+    ensures given_up { result.status ≡ 7 → IsGivenUp sink.old sink.new result }
+    // The words, the text that was read and the run that was made of it, or the check of a journal, or the number of
+    // items of a program that is made, say what is due, and that was written and answered, up to the first write that
+    // failed.
+    ensures finished { result.status ≢ 7 →
+        IsFinish (accepted (map (λ w. string_bytes w) words.now))
+        (source_seen S.Source source.old) (source_seen S.Source source.new)
+        (sink_seen K.Sink sink.old) (sink_seen K.Sink sink.new) result }
+    // Words that ask for no text leave the source as it was, and no others take more of it than one byte past the limit.
+    ensures taken { TakesAtMost S.Source (most_asked (accepted (map (λ w. string_bytes w) words.now)))
+        source.old source.new }
 {
     run::run_words(rt, alloc, words, source, sink, clock, gate)
 }

@@ -2,7 +2,8 @@
 
 ghost use Rattle.std.specs.Prelude.{◌≡◌, ◌⊎◌, ◌≤◌, IfOk};
 ghost use Rattle.made_program.specs.HandoverText.{handover_text};
-ghost use Rattle.bias_cli.specs.Finish.{sink_seen, Meets, program_made, IsGivenUp};
+ghost use Rattle.bias_cli.specs.Seen.{sink_seen};
+ghost use Rattle.bias_cli.specs.Finish.{Meets, program_made, IsGivenUp};
 
 use crate::finish::{Finish, give_up, tell};
 use made_program::handover;
@@ -15,8 +16,8 @@ use std::alloc::Global;
 pub(crate) fn make_program<K: Sink>(alloc: Global, items: u32, sink: &mut K) -> Finish
     requires some { 1 ≤ items }
     requires few { items ≤ 1500 }
-    ensures { IsGivenUp (sink_seen (K.held sink.old) (K.faults sink.old)) (sink_seen (K.held sink.new) (K.faults sink.new)) result
-        ⊎ Meets (sink_seen (K.held sink.old) (K.faults sink.old)) (sink_seen (K.held sink.new) (K.faults sink.new)) result (program_made items) }
+    ensures { IsGivenUp sink.old sink.new result
+        ⊎ Meets (sink_seen K.Sink sink.old) (sink_seen K.Sink sink.new) result (program_made items) }
 {
     match text_made(alloc, items) {
         Ok(text) => tell(sink, 0, text.as_slice()),

@@ -8,7 +8,9 @@ ghost use Rattle.lock_journal.specs.LinesLeft.{IsShown};
 ghost use Rattle.lock_journal.specs.RunText.{text_of_run, text_of_lines};
 ghost use Rattle.run_words.specs.declared.options.Command.TheVariants.{Run};
 ghost use Rattle.bias_cli.specs.Asked.{settings_of, IsRunnable};
-ghost use Rattle.bias_cli.specs.Finish.{source_seen, sink_seen, Meets, Runs, run_due, status_of, IsGivenUp, IsFinish, IsRunOf, IsWritten};
+ghost use Rattle.bias_cli.specs.Input.{most_of_program};
+ghost use Rattle.bias_cli.specs.Seen.{source_seen, sink_seen};
+ghost use Rattle.bias_cli.specs.Finish.{most_asked, Meets, Runs, run_due, status_of, IsGivenUp, IsFinish, IsRunOf, IsWritten, TakesAtMost};
 ghost use Rattle.bias_cli.specs.Report.{IsReportWhere};
 
 use crate::check::check_source;
@@ -46,10 +48,11 @@ pub(crate) fn run_words<
     clock: &C,
     gate: &G,
 ) -> Finish
-    ensures { IsGivenUp (sink_seen (K.held sink.old) (K.faults sink.old)) (sink_seen (K.held sink.new) (K.faults sink.new)) result
-        ⊎ IsFinish (accepted (map (λ w. string_bytes w) words.now))
-        (source_seen (S.left source.old) (S.faults source.old)) (source_seen (S.left source.new) (S.faults source.new))
-        (sink_seen (K.held sink.old) (K.faults sink.old)) (sink_seen (K.held sink.new) (K.faults sink.new)) result }
+    ensures over { IsGivenUp sink.old sink.new result ⊎ IsFinish (accepted (map (λ w. string_bytes w) words.now))
+        (source_seen S.Source source.old) (source_seen S.Source source.new)
+        (sink_seen K.Sink sink.old) (sink_seen K.Sink sink.new) result }
+    ensures taken { TakesAtMost S.Source (most_asked (accepted (map (λ w. string_bytes w) words.now)))
+        source.old source.new }
 {
     match read_words(alloc, words) {
         Ok(Command::Run(options)) => run_source(rt, alloc, &options, source, sink, clock, gate),
@@ -71,10 +74,10 @@ fn run_source<R: Threads + Wait + Sync, S: Source, K: Sink, C: Clock + Sync, G: 
     gate: &G,
 ) -> Finish
     requires { IsRunnable options.now }
-    ensures { IsGivenUp (sink_seen (K.held sink.old) (K.faults sink.old)) (sink_seen (K.held sink.new) (K.faults sink.new)) result
-        ⊎ IsFinish (Some (Run options.now))
-        (source_seen (S.left source.old) (S.faults source.old)) (source_seen (S.left source.new) (S.faults source.new))
-        (sink_seen (K.held sink.old) (K.faults sink.old)) (sink_seen (K.held sink.new) (K.faults sink.new)) result }
+    ensures over { IsGivenUp sink.old sink.new result ⊎ IsFinish (Some (Run options.now))
+        (source_seen S.Source source.old) (source_seen S.Source source.new)
+        (sink_seen K.Sink sink.old) (sink_seen K.Sink sink.new) result }
+    ensures taken { TakesAtMost S.Source (Some most_of_program) source.old source.new }
 {
     match read_text(alloc, source, MOST_OF_PROGRAM) {
         Ok(bytes) => run_text(rt, alloc, options, bytes.as_slice(), sink, clock, gate),
@@ -94,8 +97,8 @@ fn run_text<R: Threads + Wait + Sync, K: Sink, C: Clock + Sync, G: Gate + Sync>(
     gate: &G,
 ) -> Finish
     requires { IsRunnable options.now }
-    ensures { IsGivenUp (sink_seen (K.held sink.old) (K.faults sink.old)) (sink_seen (K.held sink.new) (K.faults sink.new)) result
-        ⊎ Meets (sink_seen (K.held sink.old) (K.faults sink.old)) (sink_seen (K.held sink.new) (K.faults sink.new)) result
+    ensures { IsGivenUp sink.old sink.new result
+        ⊎ Meets (sink_seen K.Sink sink.old) (sink_seen K.Sink sink.new) result
         (run_due options.now (program_of bytes.now)) }
 {
     match read_program(alloc, bytes) {
@@ -118,8 +121,9 @@ fn run_and_write<R: Threads + Wait + Sync, K: Sink, C: Clock + Sync, G: Gate + S
     gate: &G,
 ) -> Finish
     requires { IsRunnable options.now }
-    ensures { IsGivenUp (sink_seen (K.held sink.old) (K.faults sink.old)) (sink_seen (K.held sink.new) (K.faults sink.new)) result
-        ⊎ Meets (sink_seen (K.held sink.old) (K.faults sink.old)) (sink_seen (K.held sink.new) (K.faults sink.new)) result (Runs options.now program) }
+    ensures { IsGivenUp sink.old sink.new result
+        ⊎ Meets (sink_seen K.Sink sink.old) (sink_seen K.Sink sink.new) result
+        (Runs options.now program) }
 {
     match run_of(rt, alloc, options, program, clock, gate) {
         Ok(done) => write_run(sink, options, done),
@@ -185,7 +189,7 @@ fn write_run<K: Sink>(sink: &mut K, options: &Options, done: Done) -> Finish
     requires shown { IsShown done.run done.machine }
     requires reported { IsReportWhere options.now.report done.run done.machine done.report.items }
     ensures { (p : ProgramText) → IsRunOf options.now p done.run done.closed done.machine
-        → Meets (sink_seen (K.held sink.old) (K.faults sink.old)) (sink_seen (K.held sink.new) (K.faults sink.new)) result (Runs options.now p) }
+        → Meets (sink_seen K.Sink sink.old) (sink_seen K.Sink sink.new) result (Runs options.now p) }
 {
     let Done {
         run,
@@ -210,7 +214,7 @@ fn write_done<K: Sink>(
     report: &[List<u8>],
 ) -> u8
     requires { IsShown run.now machine.now }
-    ensures { IsWritten (sink_seen (K.held sink.old) (K.faults sink.old)) (sink_seen (K.held sink.new) (K.faults sink.new)) result (status_of machine.now)
+    ensures { IsWritten (sink_seen K.Sink sink.old) (sink_seen K.Sink sink.new) result (status_of machine.now)
         (text_of_run options.now.stats options.now.journal run.now machine.now ++ text_of_lines report.now) }
 {
     let threads = run.program.threads.items().len() as u32;

@@ -1,13 +1,14 @@
 //! The program `biasrun`: the trusted edge between the top call and the process.
 //!
-//! The words are the program's arguments, its name first. The source is standard input, and the sink standard output; nothing is
-//! written to standard error. The process ends with the status that the top call answers.
+//! The words are the program's arguments, with an empty one for its name. The source is standard input, and the sink standard output;
+//! nothing is written to standard error. The process ends with the status that the top call answers.
 #![tactic(auto)]
 
 #[cfg(test)]
 mod tests;
 
 use run_io::{FreeGate, ReadSource, StepClock, WriteSink};
+use std::env::{Env, FillError};
 use std::process::ExitCode;
 use std::{env, io};
 
@@ -32,19 +33,37 @@ fn main(rt: HostRuntime) -> ExitCode {
     ExitCode::from(finish.status)
 }
 
-/// The arguments, the program's name first. Where one of them isn't UTF-8 there are none, and no words are accepted then. The
-/// error is want of memory.
-fn words_of(rt: &HostRuntime) -> io::Result<Vec<String>> {
+/// The arguments, with an empty word for the program's name, which is not looked at and may be no text. Where another one isn't UTF-8
+/// there are no words, and no words are not accepted. The error is want of memory.
+fn words_of<R: Env + AllocGlobal>(rt: &R) -> io::Result<Vec<String>> {
     match all_words(rt) {
         Err(error) if error.kind() == io::ErrorKind::InvalidData => Ok(Vec::new(rt.alloc())),
         words => words,
     }
 }
 
-fn all_words(rt: &HostRuntime) -> io::Result<Vec<String>> {
+fn all_words<R: Env + AllocGlobal>(rt: &R) -> io::Result<Vec<String>> {
     let mut words = Vec::new(rt.alloc());
-    for word in env::args(rt)? {
+    for word in env::args(&(Nameless(rt), rt.alloc()))? {
         words.push(word)?;
     }
     Ok(words)
+}
+
+/// An environment in which the program's name is empty.
+#[derive(Drop)]
+struct Nameless<'a, R>(&'a R);
+
+impl<R: Env> Env for Nameless<'_, R> {
+    fn arg(&self, i: usize, buf: &mut [u8]) -> Result<usize, FillError> {
+        if i == 0 { Ok(0) } else { self.0.arg(i, buf) }
+    }
+
+    fn var(&self, name: &str, buf: &mut [u8]) -> Result<usize, FillError> {
+        self.0.var(name, buf)
+    }
+
+    fn var_at(&self, i: usize, buf: &mut [u8]) -> Result<usize, FillError> {
+        self.0.var_at(i, buf)
+    }
 }

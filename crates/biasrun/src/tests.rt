@@ -1,5 +1,6 @@
 //! Whole runs, from words and a text in memory to what a sink in memory holds.
 
+mod arguments;
 mod checks;
 mod makes;
 mod meets;
