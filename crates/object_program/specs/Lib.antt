@@ -9,10 +9,5 @@ pub mod Line
 pub mod Reading
 pub mod Refusal
 pub mod Directory
-pub mod Left
-pub mod Labels
-pub mod Steps
-pub mod Spelled
-pub mod Signs
 pub mod Canonical
-pub mod Written
+pub mod inner

@@ -5,8 +5,8 @@ ghost use Rattle.object_program.specs.Name.{is_name};
 ghost use Rattle.object_program.specs.Number.{number_of, is_within};
 ghost use Rattle.object_program.specs.Program.{total_of};
 ghost use Rattle.object_program.specs.Reading.{operand, count_at, declared_objects, new_thread, labels_ahead};
-ghost use Rattle.object_program.specs.Left.{words_in, lines_ahead, left_length};
-ghost use Rattle.object_program.specs.Steps.{text_of, thread_of};
+ghost use Rattle.object_program.specs.inner.Left.{words_in, lines_ahead, left_length};
+ghost use Rattle.object_program.specs.inner.Steps.{text_of, thread_of};
 
 use crate::directory::Directory;
 use crate::labels::labels_ahead;

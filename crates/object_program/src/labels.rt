@@ -4,7 +4,7 @@ ghost use Rattle.std.specs.Prelude.{◌≡◌, ◌≤◌, ◌+◌, ◌==◌, if�
 ghost use Rattle.object_program.specs.Text.{words_of};
 ghost use Rattle.object_program.specs.Reading.{first_keyword, label_of, labels_on, labels_ahead, number_behind_line};
 ghost use Rattle.object_program.specs.Refusal.{is_closed};
-ghost use Rattle.object_program.specs.Left.{words_in, lines_ahead, left_length};
+ghost use Rattle.object_program.specs.inner.Left.{words_in, lines_ahead, left_length};
 
 use crate::directory::Directory;
 use crate::keyword::Keyword;

@@ -3,7 +3,7 @@
 ghost use Rattle.std.specs.Prelude.{◌≡◌, ◌≤◌, ℤ, ℕ, pos, nat_abs, ◌≤ℤ◌, int_le, ◌&&◌, Some, None, true, false, option_map, unwrap_or, MatchOption};
 ghost use Rattle.plain_monitor.specs.Numbers.{least_number, greatest_number};
 ghost use Rattle.object_program.specs.Number.{digits_of, number_of, is_within};
-ghost use Rattle.object_program.specs.Signs.{signed, has_size};
+ghost use Rattle.object_program.specs.inner.Signs.{signed, has_size};
 
 use crate::name::is_digit;
 use plain_monitor::Value;

@@ -4,8 +4,8 @@ ghost use Rattle.std.specs.Prelude.{◌≡◌, ◌⊎◌, ◌≤◌, ◌∷◌, 
 ghost use Rattle.object_program.specs.Line.{is_outside};
 ghost use Rattle.object_program.specs.Reading.{nothing, behind_keyword, behind_line};
 ghost use Rattle.object_program.specs.Refusal.{keyword_cause, line_cause, read_from, program_of, lines_of};
-ghost use Rattle.object_program.specs.Left.{words_in, lines_ahead, left_length};
-ghost use Rattle.object_program.specs.Steps.{before_of, text_of, HasAhead, HasAheadOf, IsStep, refusal};
+ghost use Rattle.object_program.specs.inner.Left.{words_in, lines_ahead, left_length};
+ghost use Rattle.object_program.specs.inner.Steps.{before_of, text_of, HasAhead, HasAheadOf, IsStep, refusal};
 ghost use Rattle.object_program.specs.Canonical.{canonical};
 ghost use Rattle.object_program.specs.Valid.{IsProgram};
 

@@ -5,8 +5,8 @@ ghost use Rattle.object_program.specs.Name.{is_name};
 ghost use Rattle.object_program.specs.Line.{is_instruction, operands_of};
 ghost use Rattle.object_program.specs.Reading.{operand, local_at, object_at, target_among, instruction_on};
 ghost use Rattle.object_program.specs.Refusal.{is_bad_number, some_operand};
-ghost use Rattle.object_program.specs.Left.{words_in};
-ghost use Rattle.object_program.specs.Steps.{text_of, thread_of, IsAheadOf};
+ghost use Rattle.object_program.specs.inner.Left.{words_in};
+ghost use Rattle.object_program.specs.inner.Steps.{text_of, thread_of, IsAheadOf};
 
 use crate::keyword::Keyword;
 use crate::name::name_of;

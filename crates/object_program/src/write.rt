@@ -4,7 +4,7 @@ ghost use Rattle.std.specs.Prelude.{◌≡◌, ◌+◌, ◌∷◌, ◌++◌, [],
 ghost use Rattle.std.specs.List.{flat_map, join_with_byte};
 ghost use Rattle.object_program.specs.Canonical.{canonical, program_lines, line_text, class_name, object_name, local_name, label_name, class_words, object_words, opening_words, local_words, label_words, instruction_words, labels_at, code_lines, thread_lines};
 ghost use Rattle.object_program.specs.Refusal.{program_of};
-ghost use Rattle.object_program.specs.Written.{BeginsWith, lines_text};
+ghost use Rattle.object_program.specs.inner.Written.{BeginsWith, lines_text};
 
 use crate::laws::canonical_texts_are_read_back;
 use crate::name::Name;
