@@ -2,6 +2,7 @@ pub mod Name
 pub mod NameView
 pub mod Text
 pub mod Number
+pub mod Limits
 pub mod Program
 pub mod ProgramView
 pub mod Valid

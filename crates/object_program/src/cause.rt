@@ -28,7 +28,9 @@ pub fn keyword_cause(
     later: Option<&[u8]>,
 ) -> Option<Why>
     requires { HasAheadOf reader.now.section (lines_ahead (option_copied later)) (words_in operands.now) keyword }
-    ensures { result ≡ keyword_cause (before_of reader.now) (lines_ahead (option_copied later.entry)) (words_in operands.now) (Some keyword) }
+    ensures { result
+        ≡ keyword_cause (before_of reader.now) (lines_ahead (option_copied later.entry)) (words_in operands.now)
+        (Some keyword) }
 {
     if !is_in_place(reader, keyword) {
         return Some(Why::UnknownWord);

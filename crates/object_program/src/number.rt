@@ -84,7 +84,8 @@ pub fn number_of(word: &[u8]) -> i64
 
 /// The number that the word is, where that is from 0 to 4,096, more than which nothing in a text counts; else 0.
 pub fn count_of(word: &[u8]) -> u32
-    ensures count { is_within (pos 0) (pos 4096) (number_of word.now) ≡ true → result ≡ nat_abs (unwrap_or (number_of word.now) (pos 0)) }
+    ensures count { is_within (pos 0) (pos 4096) (number_of word.now) ≡ true
+        → result ≡ nat_abs (unwrap_or (number_of word.now) (pos 0)) }
     ensures few { result ≤ 4096 }
 {
     match number_within(word, 0, 4096) {

@@ -112,7 +112,8 @@ pub fn instruction_on(
 pub fn with_local(section: Section, operands: &[u8]) -> Result<Section, NoMemory>
     requires name { is_name (operand (words_in operands.now) 0) ≡ true }
     requires room { length section.locals < 32 }
-    ensures thread { IfOk result (λ s. thread_of s ≡ record (thread_of section) { locals = section.locals ++ operand (words_in operands.now) 0 ∷ [] }) }
+    ensures thread { IfOk result (λ s. thread_of s
+        ≡ record (thread_of section) { locals = section.locals ++ operand (words_in operands.now) 0 ∷ [] }) }
     ensures labels { IfOk result (λ s. s.labels ≡ section.labels) }
 {
     let Section {
