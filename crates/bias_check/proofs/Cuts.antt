@@ -3,9 +3,9 @@ use Rattle.std.proofs.Common.{◌≡◌, ℕ, suc, ◌+◌, ◌<◌, ◌≤◌, 
 use Rattle.std.specs.Prelude.{option_map, position}
 use Rattle.std.specs.List.{position_or_len}
 use Rattle.std.proofs.lemmas.Bool.Decides.{nat_tests}
-use Rattle.bias_check.specs.Words.{before_last, unended}
+use Rattle.bias_check.specs.inner.Words.{before_last, unended}
 use Rattle.bias_check.specs.Lines.{lines_of}
-use Rattle.bias_check.specs.Table.{unbracketed}
+use Rattle.bias_check.specs.inner.Table.{unbracketed}
 
 cons_if : (x c b : ℕ) (front : List ℕ) (t : Bool) → option_map (λ bs. x ∷ bs) (if t then Some front else None) ≡ (if t then Some (x ∷ front) else None)
 cons_if x c b front true = refl

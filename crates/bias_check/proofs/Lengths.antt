@@ -4,7 +4,7 @@ use Rattle.std.proofs.lemmas.List.{length-map}
 use Rattle.object_program.specs.Program.{ProgramText}
 use Rattle.plain_machine.specs.Machine.{new_machine}
 use Rattle.plain_machine.specs.Running.{first_state}
-use Rattle.bias_check.specs.Marks.{drawers_to, new_drawer}
+use Rattle.bias_check.specs.inner.Marks.{drawers_to, new_drawer}
 
 pub length-drawers : (start n : ℕ) → length (drawers_to start n) ≡ n
 length-drawers start zero = refl

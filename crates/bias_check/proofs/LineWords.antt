@@ -30,7 +30,7 @@ use Rattle.lock_journal.specs.RunText.{journal_line, entry_text, newline, woken_
 use Rattle.bias_check.specs.declared.spelled.Verb.{Verb}
 use Rattle.bias_check.specs.declared.spelled.Verb.TheVariants as verb
 use Rattle.bias_check.specs.Lines.{IsEntryIn, Tells}
-use Rattle.bias_check.specs.Words.{words_of}
+use Rattle.bias_check.specs.inner.Words.{words_of}
 use Rattle.bias_check.proofs.Spellings.{verb_text}
 use Rattle.bias_check.proofs.ThreadsRead.{thread_name}
 use Rattle.bias_check.proofs.ObjectsRead.{stands, array_text, single_text, object_is_name}

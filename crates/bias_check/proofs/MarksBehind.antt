@@ -16,11 +16,11 @@ use Rattle.plain_monitor.specs.declared.entry.Logged.{Logged}
 use Rattle.object_program.specs.Program.{ProgramText, objects_total}
 use Rattle.bias_check.specs.Lines.{IsEntryIn}
 use Rattle.bias_check.specs.Hashes.{first_word, hash_in, hashes_of, is_draw, is_draw_of, draws_by, is_right, are_right, hash_fits}
-use Rattle.bias_check.specs.HashState.{HashState}
+use Rattle.bias_check.specs.inner.HashState.{HashState}
 use Rattle.bias_check.specs.declared.hashes.Mark.{Mark}
 use Rattle.bias_check.specs.declared.hashes.Mark.TheVariants.{Unseen}
 use Rattle.bias_check.specs.declared.hashes.Drawer.{Drawer}
-use Rattle.bias_check.specs.Marks.{new_drawer, drawers_to, new_hashes, drawer_next, gives, marked, marked_at, drawer_at, drawn_at, noted, is_bad}
+use Rattle.bias_check.specs.inner.Marks.{new_drawer, drawers_to, new_hashes, drawer_next, gives, marked, marked_at, drawer_at, drawn_at, noted, is_bad}
 use Rattle.bias_check.proofs.Lengths.{length-drawers}
 use Rattle.bias_check.proofs.MarksRun.{IsMark, draw_count, draw_right, mark_push, mark_tells}
 

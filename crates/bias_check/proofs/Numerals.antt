@@ -9,7 +9,7 @@ use Rattle.plain_monitor.specs.Numbers.{IsInRange, least_number, greatest_number
 use Rattle.object_program.specs.Number.{number_of, is_within}
 use Rattle.object_program.proofs.CanonicalNumbers.{number_of_signed}
 use Rattle.object_program.proofs.CanonicalNames.{same_bytes}
-use Rattle.bias_check.specs.Table.{int_in, count_in, count_below, stamp_in}
+use Rattle.bias_check.specs.inner.Table.{int_in, count_in, count_below, stamp_in}
 use Rattle.bias_check.proofs.Options.{and_then, mapped, where_true}
 use Rattle.bias_check.proofs.Spellings.{same_word}
 

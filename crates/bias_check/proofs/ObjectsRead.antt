@@ -11,8 +11,8 @@ use Rattle.object_program.specs.declared.program.ObjectDef.{ObjectDef}
 use Rattle.object_program.specs.Program.{ProgramText, total_of, objects_total, has_object, place_from, place_of}
 use Rattle.object_program.specs.Valid.{AreObjects, IsProgram}
 use Rattle.lock_journal.specs.Words.{element_text, object_text}
-use Rattle.bias_check.specs.Words.{before_last}
-use Rattle.bias_check.specs.Table.{names_of, declared_in, unbracketed, element_of, element_in, object_by, object_in}
+use Rattle.bias_check.specs.inner.Words.{before_last}
+use Rattle.bias_check.specs.inner.Table.{names_of, declared_in, unbracketed, element_of, element_in, object_by, object_in}
 use Rattle.bias_check.proofs.Options.{and_then, mapped, where_true}
 use Rattle.bias_check.proofs.Cuts.{first_at, last_byte}
 use Rattle.bias_check.proofs.Numerals.{below_is, below_read}

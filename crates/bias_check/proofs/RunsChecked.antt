@@ -8,15 +8,15 @@ use Rattle.plain_monitor.specs.declared.entry.Logged.{Logged}
 use Rattle.object_program.specs.Program.{ProgramText}
 use Rattle.object_program.specs.Valid.{IsProgram}
 use Rattle.plain_machine.specs.Machine.{PlainMachine, take}
-use Rattle.bias_check.specs.HashState.{HashState}
+use Rattle.bias_check.specs.inner.HashState.{HashState}
 use Rattle.bias_check.specs.declared.check.Check.{Check}
 use Rattle.bias_check.specs.declared.entries.EntryRead.{EntryRead}
 use Rattle.bias_check.specs.declared.entries.LineRead.{LineRead}
 use Rattle.bias_check.specs.Lines.{Tells, IsReadable}
 use Rattle.bias_check.specs.Steps.{IsAbove, IsStep, IsRun, last_of}
-use Rattle.bias_check.specs.Marks.{noted}
-use Rattle.bias_check.specs.Table.{names_of, read_line}
-use Rattle.bias_check.specs.Checking.{is_above, taken_by, taken, after, stepped, gone, next_check, checked_from}
+use Rattle.bias_check.specs.inner.Marks.{noted}
+use Rattle.bias_check.specs.inner.Table.{names_of, read_line}
+use Rattle.bias_check.specs.inner.Checking.{is_above, taken_by, taken, after, stepped, gone, next_check, checked_from}
 use Rattle.bias_check.proofs.Options.{and_then, mapped}
 use Rattle.bias_check.proofs.MarksBehind.{noted_all}
 use Rattle.bias_check.proofs.Rivals.{rival_refused}

@@ -10,7 +10,7 @@ use Rattle.plain_monitor.specs.declared.entry.Fault.TheVariants.{IllegalMonitorS
 use Rattle.lock_journal.specs.Words.{path_text, fault_text}
 use Rattle.bias_check.specs.declared.spelled.Verb.{Verb}
 use Rattle.bias_check.specs.declared.spelled.Verb.TheVariants as verb
-use Rattle.bias_check.specs.Spelled.{spelled, verbs, paths, faults}
+use Rattle.bias_check.specs.inner.Spelled.{spelled, verbs, paths, faults}
 
 abbrev pub verb_text : Verb → List ℕ
 verb_text verb.Enter = codes "enter"

@@ -11,7 +11,7 @@ use Rattle.object_program.specs.Valid.{is_among, AreNames, IsProgram}
 use Rattle.object_program.proofs.AllowedNames.{number_among-lt}
 use Rattle.object_program.proofs.CanonicalNames.{nth_is_among, number_among-nth}
 use Rattle.lock_journal.specs.Words.{name_of, thread_text}
-use Rattle.bias_check.specs.Table.{names_of, place_in, thread_in, declared_in}
+use Rattle.bias_check.specs.inner.Table.{names_of, place_in, thread_in, declared_in}
 use Rattle.bias_check.proofs.Options.{and_then, where_true}
 use Rattle.bias_check.proofs.Spellings.{same_word}
 

@@ -15,14 +15,14 @@ use Rattle.bias_check.specs.declared.answer.CheckFault.TheVariants.{Unreadable, 
 use Rattle.bias_check.specs.declared.check.Check.{Check}
 use Rattle.bias_check.specs.declared.hashes.Mark.{Mark}
 use Rattle.bias_check.specs.declared.hashes.Mark.TheVariants.{Unseen}
-use Rattle.bias_check.specs.HashState.{HashState}
+use Rattle.bias_check.specs.inner.HashState.{HashState}
 use Rattle.bias_check.specs.Lines.{Tells, IsReadable}
 use Rattle.bias_check.specs.Steps.{IsStep, IsRun, last_of}
 use Rattle.bias_check.specs.Hashes.{hash_fits}
-use Rattle.bias_check.specs.Marks.{new_hashes, is_bad}
-use Rattle.bias_check.specs.Table.{names_of}
+use Rattle.bias_check.specs.inner.Marks.{new_hashes, is_bad}
+use Rattle.bias_check.specs.inner.Table.{names_of}
 use Rattle.bias_check.specs.Answer.{IsFirstUnreadable, IsFirstWithoutStep, IsLeastBadHash, IsLegalRun, IsTrueOf}
-use Rattle.bias_check.specs.Checking.{first_check, checked_from, hash_verdict, verdict_of, answer_of}
+use Rattle.bias_check.specs.inner.Checking.{first_check, checked_from, hash_verdict, verdict_of, answer_of}
 use Rattle.bias_check.proofs.Cuts.{first_at, none_at}
 use Rattle.bias_check.proofs.MarksBehind.{noted_all, AreEntriesIn, all_behind, marks_tell, fits_beyond}
 use Rattle.bias_check.proofs.RunsChecked.{going, run_checked, all_readable, unread, HasRun, HasStop, Ends, ends}

@@ -20,7 +20,7 @@ use Rattle.lock_journal.specs.Words.{element_text, object_text, thread_text, val
 use Rattle.lock_journal.specs.RunText.{woken_text}
 use Rattle.bias_check.specs.declared.entries.ValueRead.{ValueRead}
 use Rattle.bias_check.specs.declared.entries.WokenRead.{WokenRead}
-use Rattle.bias_check.specs.Table.{names_of, int_in, object_in, thread_in, value_in, value_else, woken_in}
+use Rattle.bias_check.specs.inner.Table.{names_of, int_in, object_in, thread_in, value_in, value_else, woken_in}
 use Rattle.bias_check.proofs.Options.{mapped}
 use Rattle.bias_check.proofs.Spellings.{same_word}
 use Rattle.bias_check.proofs.Numerals.{IsInt, int_is, value_int_read}

@@ -8,6 +8,7 @@ use Rattle.plain_monitor.specs.declared.entry.Entry.{Entry}
 use Rattle.plain_monitor.specs.declared.entry.Entry.TheVariants.{Hash}
 use Rattle.plain_monitor.specs.declared.entry.Logged.{Logged}
 use Rattle.plain_monitor.specs.Monitor.{only_if}
+use Rattle.object_program.specs.Text.{is_empty}
 
 -- the first word of thread t's generator
 abbrev pub first_word : ℕ → ℕ → ℕ
@@ -51,12 +52,8 @@ are_right start o done [] = true
 are_right start o done (x ∷ xs) =
     (not (is_draw_of o x.1.entry) || is_right start x.0 (draws_by x.0 done) x.1.entry) && are_right start o (done ++ x ∷ []) xs
 
-abbrev pub has_none : List ℕ → Bool
-has_none [] = true
-has_none (v ∷ vs) = false
-
 -- the hashes of object o fit
 abbrev pub hash_fits : ℕ → List (ℕ × Logged) → ℕ → Bool
 hash_fits start xs o =
-    has_none (hashes_of o xs)
+    is_empty (hashes_of o xs)
     || (all_same (hashes_of o xs) && (count_by (λ x. is_draw_of o x.1.entry) xs == 1) && are_right start o [] xs)

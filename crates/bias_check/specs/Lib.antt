@@ -2,13 +2,7 @@ pub mod Lines
 pub mod Steps
 pub mod Hashes
 pub mod Answer
-pub mod HashState
-pub mod HashesView
-pub mod Marks
-pub mod Spelled
-pub mod Words
-pub mod Table
-pub mod Checking
 pub mod Logs
 pub mod Printed
 pub mod Parts
+pub mod inner

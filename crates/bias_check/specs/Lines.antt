@@ -5,7 +5,7 @@ use Rattle.plain_monitor.specs.declared.entry.Entry.{Entry}
 use Rattle.plain_monitor.specs.declared.entry.Entry.TheVariants.{Enter, Exit, Get, Put, Wait, Resume, Notify, NotifyAll, Hash, Print, Dump, Trap, Spent, Done}
 use Rattle.plain_monitor.specs.declared.entry.Logged.{Logged}
 use Rattle.object_program.specs.Program.{ProgramText, objects_total}
-use Rattle.plain_machine.specs.ReachedThread.{IsValueOf}
+use Rattle.plain_machine.specs.ReachedThread.{IsObject, IsValueOf}
 use Rattle.lock_journal.specs.RunText.{journal_line}
 
 -- the lines of a text, each with its line feed; bytes behind the last line feed are a line without one
@@ -16,9 +16,6 @@ lines_of (b ∷ bs) = if b == 10 then (b ∷ []) ∷ lines_of bs else onto_first
 -- a number of 32 bits
 abbrev pub IsWord : ℕ → Type 0
 IsWord n = n < 2 ^ 32
-
-abbrev pub IsObject : ProgramText → ℕ → Type 0
-IsObject p o = o < objects_total p
 
 -- an entry of the program: its objects, its threads and its values are the program's, and its numbers have 32 bits
 abbrev pub IsEntryIn : ProgramText → Entry → Type 0

@@ -8,8 +8,8 @@ ghost use Rattle.bias_check.specs.declared.answer.Checked.{Checked};
 ghost use Rattle.bias_check.specs.declared.answer.CheckFault.{CheckFault};
 ghost use Rattle.bias_check.specs.Answer.{state_of, IsTrueOf};
 ghost use Rattle.bias_check.specs.Lines.{lines_of};
-ghost use Rattle.bias_check.specs.Table.{names_of};
-ghost use Rattle.bias_check.specs.Checking.{is_above, taken, first_check, gone, stepped, checked_from, verdict_of, answer_of};
+ghost use Rattle.bias_check.specs.inner.Table.{names_of};
+ghost use Rattle.bias_check.specs.inner.Checking.{is_above, taken, first_check, gone, stepped, checked_from, verdict_of, answer_of};
 
 use crate::answer::{CheckFault, Checked, Reached};
 use crate::entries::{EntryRead, LineRead};

@@ -1,8 +1,8 @@
 //! What a line tells.
 
 ghost use Rattle.std.specs.Prelude.{◌≡◌, ◌<◌, length, option_copied, IfSome};
-ghost use Rattle.bias_check.specs.Words.{words_behind};
-ghost use Rattle.bias_check.specs.Table.{value_in, woken_in, none_told, one_told, two_told, three_told, four_told, told, read_line, sure, print_read, notify_read, get_read, put_read};
+ghost use Rattle.bias_check.specs.inner.Words.{words_behind};
+ghost use Rattle.bias_check.specs.inner.Table.{value_in, woken_in, none_told, one_told, two_told, three_told, four_told, told, read_line, sure, print_read, notify_read, get_read, put_read};
 
 use crate::lines::{ended, next_word};
 use crate::names::{Names, count_in, int_in, stamp_in};

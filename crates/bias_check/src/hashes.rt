@@ -2,7 +2,7 @@
 
 ghost use Rattle.std.specs.Prelude.{◌≡◌, ◌<◌, ◌≤◌, IfOk, OnOk, length, position, replicate};
 ghost use Rattle.object_program.specs.Program.{objects_total};
-ghost use Rattle.bias_check.specs.Marks.{new_drawer, drawer_next, gives, drawers_to, new_hashes, noted, marked_at, marked, first_mark, is_bad};
+ghost use Rattle.bias_check.specs.inner.Marks.{new_drawer, drawer_next, gives, drawers_to, new_hashes, noted, marked_at, marked, first_mark, is_bad};
 
 use lock_policy::Draw;
 use object_program::Program;
@@ -38,11 +38,11 @@ pub(crate) struct Hashes {
 }
 
 impl Model for Hashes {
-    ghost use Rattle.bias_check.specs.HashState.{HashState};
+    ghost use Rattle.bias_check.specs.inner.HashState.{HashState};
 
     ghost Value = { HashState };
 
-    ghost use Rattle.bias_check.specs.HashesView.{hash_state, IsSmall};
+    ghost use Rattle.bias_check.specs.inner.HashesView.{hash_state, IsSmall};
 
     ghost view = { hash_state };
 

@@ -2,7 +2,7 @@
 
 ghost use Rattle.std.specs.Prelude.{◌≡◌, ◌==◌, ◌+◌, ◌≤◌, [], ◌∷◌, ◌++◌, Some, None, length, position, MatchOption, option_copied};
 ghost use Rattle.bias_check.specs.Lines.{lines_of};
-ghost use Rattle.bias_check.specs.Words.{words_behind, unended};
+ghost use Rattle.bias_check.specs.inner.Words.{words_behind, unended};
 
 /// Where the first line feed stands.
 fn line_end(text: &[u8]) -> Option<usize>

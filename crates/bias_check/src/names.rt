@@ -1,7 +1,7 @@
 //! The names of a program, and the words that stand for numbers and names.
 
 ghost use Rattle.std.specs.Prelude.{◌≡◌, ◌<◌, ◌==◌, map, length, position, IfOk, IfSome, MatchOption, Some, None};
-ghost use Rattle.bias_check.specs.Table.{names_of, place_in, thread_in, declared_in, element_in, object_in, int_in, count_below, count_in, stamp_in, unbracketed};
+ghost use Rattle.bias_check.specs.inner.Table.{names_of, place_in, thread_in, declared_in, element_in, object_in, int_in, count_below, count_in, stamp_in, unbracketed};
 
 use itoa::Buffer;
 use object_program::{Directory, Name, ObjectDef, Program, number_within};

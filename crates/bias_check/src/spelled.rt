@@ -2,7 +2,7 @@
 
 ghost use Rattle.std.specs.Prelude.{◌≡◌};
 ghost use Rattle.std.specs.Str.{bytes_eq};
-ghost use Rattle.bias_check.specs.Spelled.{spelled, verbs, acts, faults, paths};
+ghost use Rattle.bias_check.specs.inner.Spelled.{spelled, verbs, acts, faults, paths};
 
 use plain_monitor::{Fault, Path};
 

@@ -6,7 +6,7 @@ use Rattle.plain_monitor.specs.declared.entry.Logged.{Logged}
 use Rattle.plain_monitor.specs.Order.{order}
 use Rattle.object_program.specs.Program.{ProgramText}
 use Rattle.lock_journal.specs.RunText.{is_enter_by}
-use Rattle.lock_journal.specs.Enters.{enters_in, enters_in_all, enters_of, count_at}
+use Rattle.lock_journal.specs.inner.Enters.{enters_in, enters_in_all, enters_of, count_at}
 use Rattle.lock_journal.proofs.EntersOfLogs.{enters_by-order}
 
 enter_by-few : (b : Bool) → (if b then 1 else 0) ≤ 1

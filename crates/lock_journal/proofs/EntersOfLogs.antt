@@ -5,7 +5,7 @@ use Rattle.plain_monitor.specs.declared.entry.Logged.{Logged}
 use Rattle.plain_monitor.specs.Order.{is_before, insert_ordered, ordered, with_threads, order}
 use Rattle.object_program.specs.Program.{ProgramText}
 use Rattle.lock_journal.specs.RunText.{enters_by}
-use Rattle.lock_journal.specs.Enters.{enter_by, enters_in, enters_in_all}
+use Rattle.lock_journal.specs.inner.Enters.{enter_by, enters_in, enters_in_all}
 
 enters_by-insert : (p : ProgramText) (c : ℕ) (path : Path) (x : ℕ × Logged) (ys : List (ℕ × Logged)) → enters_by p c path (insert_ordered x ys) ≡ enter_by p c path x.1.entry + enters_by p c path ys
 enters_by-insert p c path x [] = refl

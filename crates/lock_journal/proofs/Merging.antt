@@ -10,7 +10,8 @@ use Rattle.plain_monitor.specs.Order.{is_before, order}
 use Rattle.plain_monitor.specs.History.{RisesAbove, log_of}
 use Rattle.plain_monitor.proofs.Merging.{least_head_first, empty_order}
 use Rattle.lock_journal.proofs.Lists.{left_from, none_from}
-use Rattle.lock_journal.specs.Merging.{left_of, head_of, IsLeastHead, IsLeastOf, earlier}
+use Rattle.lock_journal.specs.Merging.{left_of}
+use Rattle.lock_journal.specs.inner.Heads.{head_of, IsLeastHead, IsLeastOf, earlier}
 
 -- all is left where nothing was given
 pub all_left : (logs : List (List Logged)) (n : ℕ) → left_of logs (replicate n 0) ≡ logs

@@ -9,7 +9,8 @@ use Rattle.lock_journal.specs.declared.record.RunRecord.{RunRecord}
 use Rattle.lock_journal.specs.declared.record.Shot.{Shot}
 use Rattle.lock_journal.specs.Merging.{left_of}
 use Rattle.lock_journal.specs.RunText.{printed}
-use Rattle.lock_journal.specs.LinesLeft.{printed_in, prints_left}
+use Rattle.lock_journal.specs.LinesLeft.{prints_left}
+use Rattle.lock_journal.specs.inner.LineTexts.{printed_in}
 
 printed-none : (p : ProgramText) (shots : List (List Shot)) (t : ℕ) (e : Entry) → printed_in e ≡ None → printed p shots t e ≡ []
 printed-none p shots t (entry.Print w) h = absurd cc

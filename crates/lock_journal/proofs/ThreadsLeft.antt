@@ -2,7 +2,8 @@
 use Rattle.std.proofs.Common.{◌≡◌, ℕ, zero, suc, ◌+◌, ◌<◌, List, [], ◌∷◌, length, drop, slice_get, Some, refl, arith}
 use Rattle.std.proofs.Math.Numerals.{add-one}
 use Rattle.plain_machine.specs.Machine.{PlainMachine}
-use Rattle.lock_journal.specs.LinesLeft.{thread_line, threads_left}
+use Rattle.lock_journal.specs.LinesLeft.{threads_left}
+use Rattle.lock_journal.specs.inner.LineTexts.{thread_line}
 
 -- the item at a place, and the list from there on
 record At {A : Type 0} (xs : List A) (n : ℕ) : Type 0 where

@@ -3,7 +3,8 @@
 ghost use Rattle.std.specs.Prelude.{◌≡◌, ◌+◌, ◌<◌, ◌∷◌, [], length, drop, IfSome, MatchBool, MatchOption};
 ghost use Rattle.object_program.specs.Program.{ProgramText};
 ghost use Rattle.lock_journal.specs.RunText.{cells_lines};
-ghost use Rattle.lock_journal.specs.LinesLeft.{cells_of, cells_left, held_line};
+ghost use Rattle.lock_journal.specs.LinesLeft.{cells_of, cells_left};
+ghost use Rattle.lock_journal.specs.inner.LineTexts.{held_line};
 
 use crate::line::Line;
 use crate::record::{Cell, RunRecord};

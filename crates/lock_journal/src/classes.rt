@@ -3,7 +3,7 @@
 ghost use Rattle.std.specs.Prelude.{◌≡◌, ◌+◌, ◌<◌, ◌≤◌, ◌++◌, ◌∷◌, [], length, decimal, slice_get, IfSome, MatchBool};
 ghost use Rattle.lock_journal.specs.RunText.{newline, class_name};
 ghost use Rattle.lock_journal.specs.LinesLeft.{classes_left};
-ghost use Rattle.lock_journal.specs.Enters.{class_start, counts_text};
+ghost use Rattle.lock_journal.specs.inner.Enters.{class_start, counts_text};
 
 use crate::enters::{PATHS, enters_of};
 use crate::line::Line;

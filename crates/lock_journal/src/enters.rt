@@ -5,7 +5,7 @@ ghost use Rattle.plain_monitor.specs.declared.entry.Path.{Path};
 ghost use Rattle.plain_monitor.specs.Order.{order};
 ghost use Rattle.object_program.specs.Program.{class_of, class_from, has_object};
 ghost use Rattle.lock_journal.specs.RunText.{path_number};
-ghost use Rattle.lock_journal.specs.Enters.{enter_by, enters_in, enters_of, count_at, AreAtMost};
+ghost use Rattle.lock_journal.specs.inner.Enters.{enter_by, enters_in, enters_of, count_at, AreAtMost};
 
 use crate::record::RunRecord;
 use object_program::{ObjectDef, Program};

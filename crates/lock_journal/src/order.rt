@@ -5,7 +5,8 @@ ghost use Rattle.std.specs.List.{AllByRecursion};
 ghost use Rattle.plain_monitor.specs.Order.{order};
 ghost use Rattle.plain_monitor.specs.History.{RisesAbove};
 ghost use Rattle.plain_monitor.specs.declared.entry.Logged.{Logged};
-ghost use Rattle.lock_journal.specs.Merging.{left_of, earlier, IsLeastOf};
+ghost use Rattle.lock_journal.specs.Merging.{left_of};
+ghost use Rattle.lock_journal.specs.inner.Heads.{earlier, IsLeastOf};
 
 use crate::record::RunRecord;
 use plain_monitor::{List, Logged};

@@ -3,7 +3,8 @@
 ghost use Rattle.std.specs.Prelude.{◌≡◌, ◌+◌, ◌≤◌, ◌++◌, ◌∷◌, [], length, MatchBool, MatchOption, IfNone};
 ghost use Rattle.std.specs.List.{AllByRecursion};
 ghost use Rattle.plain_monitor.specs.History.{RisesAbove};
-ghost use Rattle.lock_journal.specs.LinesLeft.{printed_in, print_line, dump_line, lines_of, cells_left, prints_left};
+ghost use Rattle.lock_journal.specs.LinesLeft.{cells_left, prints_left};
+ghost use Rattle.lock_journal.specs.inner.LineTexts.{printed_in, print_line, dump_line, lines_of};
 
 use crate::cells::Place;
 use crate::line::Line;

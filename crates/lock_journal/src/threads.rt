@@ -3,7 +3,8 @@
 ghost use Rattle.std.specs.Prelude.{◌≡◌, ◌+◌, ◌<◌, ◌≤◌, ◌++◌, ◌∷◌, [], length, MatchBool};
 ghost use Rattle.plain_machine.specs.Machine.{ending_of};
 ghost use Rattle.lock_journal.specs.RunText.{standing_text, state_text};
-ghost use Rattle.lock_journal.specs.LinesLeft.{thread_line, threads_left};
+ghost use Rattle.lock_journal.specs.LinesLeft.{threads_left};
+ghost use Rattle.lock_journal.specs.inner.LineTexts.{thread_line};
 
 use crate::line::Line;
 use crate::words::{push_ending, push_object, push_thread};

@@ -6,7 +6,7 @@ use Rattle.std.proofs.lemmas.List.Splits.{slice_split_first}
 use Rattle.std.proofs.lemmas.Bool.Decides.{nat_tests}
 use Rattle.std.proofs.lemmas.Grind.{common_steps}
 use Rattle.object_program.specs.Text.{without_return, is_blank, is_empty}
-use Rattle.object_program.specs.Left.{words_in, words_from}
+use Rattle.object_program.specs.inner.Left.{words_in, words_from}
 
 none_by : (b : Bool) (n m : ℕ) → ltb n m ≡ b → None ≡ cond b (Some n) None → m ≤ n
 none_by true n m e h = absurd (cc h)

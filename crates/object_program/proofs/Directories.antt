@@ -15,7 +15,8 @@ use Rattle.object_program.specs.Name.{is_name}
 use Rattle.object_program.specs.Reading.{number_among}
 use Rattle.object_program.specs.Valid.{is_among}
 use Rattle.object_program.proofs.AllowedNames.{number_among-lt}
-use Rattle.object_program.specs.Directory.{IsPlace, place_from, ArePlaces}
+use Rattle.object_program.specs.Directory.{IsPlace}
+use Rattle.object_program.specs.inner.Places.{place_from, ArePlaces}
 
 -- a word that isn't a name stands among no names
 pub not_among : (names : List (List ℕ)) (word : List ℕ) → AllByRecursion (λ n. is_name n ≡ true) names → is_name word ≡ false → is_among names word ≡ false

@@ -10,8 +10,8 @@ use Rattle.object_program.specs.Program.{ProgramText, total_of}
 use Rattle.object_program.specs.Line.{keyword_of, is_outside, is_instruction, operands_of}
 use Rattle.object_program.specs.Reading.{Before, operand, count_at, label_of, labels_ahead, instruction_on, behind_keyword, ends_section}
 use Rattle.object_program.specs.Refusal.{is_closed, is_end, passes_limit, keyword_cause}
-use Rattle.object_program.specs.Labels.{labels_from, labels_at}
-use Rattle.object_program.specs.Steps.{thread_of, HasAhead, HasAheadOf, IsAhead, IsAheadOf}
+use Rattle.object_program.specs.inner.Labels.{labels_from, labels_at}
+use Rattle.object_program.specs.inner.Steps.{thread_of, HasAhead, HasAheadOf, IsAhead, IsAheadOf}
 use Rattle.object_program.specs.declared.program.ThreadDef.{ThreadDef}
 use Rattle.object_program.specs.declared.program.Code.{Code}
 use Rattle.object_program.specs.declared.state.Section.{Section}

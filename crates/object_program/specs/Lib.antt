@@ -2,6 +2,7 @@ pub mod Name
 pub mod NameView
 pub mod Text
 pub mod Number
+pub mod Limits
 pub mod Program
 pub mod ProgramView
 pub mod Valid
@@ -9,10 +10,5 @@ pub mod Line
 pub mod Reading
 pub mod Refusal
 pub mod Directory
-pub mod Left
-pub mod Labels
-pub mod Steps
-pub mod Spelled
-pub mod Signs
 pub mod Canonical
-pub mod Written
+pub mod inner

@@ -18,7 +18,8 @@ spellings =
     ∷ (codes "put", Put) ∷ (codes "hash", Hash) ∷ (codes "print", Print) ∷ (codes "jump", Jump) ∷ (codes "jlt", Jlt)
     ∷ (codes "jeq", Jeq) ∷ (codes "dump", Dump) ∷ (codes "end", End) ∷ []
 
-abbrev pub spelled_among : List (List ℕ × Keyword) → List ℕ → Option Keyword
+-- what the first of these that is spelled so stands for
+abbrev pub spelled_among : {X : Type 0} → List (List ℕ × X) → List ℕ → Option X
 spelled_among [] word = None
 spelled_among (s ∷ ss) word = if bytes_eq s.0 word then Some s.1 else spelled_among ss word
 

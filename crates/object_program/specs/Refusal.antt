@@ -11,6 +11,7 @@ use Rattle.object_program.specs.declared.operand.Space.{Space}
 use Rattle.object_program.specs.declared.operand.Space.TheVariants.{Classes, Objects, Threads, Locals, Labels}
 use Rattle.object_program.specs.declared.operand.Operand.{Operand}
 use Rattle.object_program.specs.declared.operand.Operand.TheVariants.{New, Known, Number}
+use Rattle.object_program.specs.Limits.{most_bytes}
 use Rattle.object_program.specs.Reading.{Before, nothing, first_keyword, ends_section, section_labels, count_at, behind_line}
 use Rattle.object_program.specs.declared.program.ThreadDef.{ThreadDef}
 use Rattle.object_program.specs.declared.keyword.Keyword.{Keyword}
@@ -159,4 +160,4 @@ lines_of bytes = map without_return (raw_lines bytes)
 -- the program that a text has, or why and at which line it is refused
 abbrev pub program_of : List ℕ → Result ProgramText ProgramError
 program_of bytes =
-    if nat_lt 1048576 (length bytes) then Err (record { line = 0; why = Limit }) else finished (read_from 1 nothing (lines_of bytes))
+    if nat_lt most_bytes (length bytes) then Err (record { line = 0; why = Limit }) else finished (read_from 1 nothing (lines_of bytes))

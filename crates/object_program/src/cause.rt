@@ -6,8 +6,8 @@ ghost use Rattle.object_program.specs.Valid.{is_among};
 ghost use Rattle.object_program.specs.Line.{operands_of};
 ghost use Rattle.object_program.specs.Reading.{operand};
 ghost use Rattle.object_program.specs.Refusal.{names_before, is_bad_name, is_twice, is_bad_number, some_operand, passes_limit, opens_unclosed, is_in_place, keyword_cause};
-ghost use Rattle.object_program.specs.Left.{words_in, lines_ahead};
-ghost use Rattle.object_program.specs.Steps.{before_of, names_collected, is_unknown, fails, HasAheadOf};
+ghost use Rattle.object_program.specs.inner.Left.{words_in, lines_ahead};
+ghost use Rattle.object_program.specs.inner.Steps.{before_of, names_collected, is_unknown, fails, HasAheadOf};
 
 use crate::error::Why;
 use crate::keyword::Keyword;
@@ -28,7 +28,9 @@ pub fn keyword_cause(
     later: Option<&[u8]>,
 ) -> Option<Why>
     requires { HasAheadOf reader.now.section (lines_ahead (option_copied later)) (words_in operands.now) keyword }
-    ensures { result ≡ keyword_cause (before_of reader.now) (lines_ahead (option_copied later.entry)) (words_in operands.now) (Some keyword) }
+    ensures { result
+        ≡ keyword_cause (before_of reader.now) (lines_ahead (option_copied later.entry)) (words_in operands.now)
+        (Some keyword) }
 {
     if !is_in_place(reader, keyword) {
         return Some(Why::UnknownWord);

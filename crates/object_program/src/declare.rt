@@ -5,8 +5,8 @@ ghost use Rattle.object_program.specs.Name.{is_name};
 ghost use Rattle.object_program.specs.Number.{number_of, is_within};
 ghost use Rattle.object_program.specs.Program.{total_of};
 ghost use Rattle.object_program.specs.Reading.{operand, count_at, declared_objects, new_thread, labels_ahead};
-ghost use Rattle.object_program.specs.Left.{words_in, lines_ahead, left_length};
-ghost use Rattle.object_program.specs.Steps.{text_of, thread_of};
+ghost use Rattle.object_program.specs.inner.Left.{words_in, lines_ahead, IsOfText};
+ghost use Rattle.object_program.specs.inner.Steps.{text_of, thread_of};
 
 use crate::directory::Directory;
 use crate::labels::labels_ahead;
@@ -24,7 +24,10 @@ pub fn with_class(declared: Declared, operands: &[u8]) -> Result<Declared, NoMem
     requires slots { is_within (pos 0) (pos 4096) (number_of (operand (words_in operands.now) 1)) ≡ true }
     requires room { length declared.classes < 64 }
     ensures { IfOk result (λ d. text_of d
-        ≡ record (text_of declared) { classes = declared.classes ++ record { name = operand (words_in operands.now) 0; slots = count_at (words_in operands.now) 1 } ∷ [] }) }
+        ≡ record (text_of declared) {
+          classes = declared.classes
+              ++ record { name = operand (words_in operands.now) 0; slots = count_at (words_in operands.now) 1 } ∷ [];
+        }) }
 {
     let name = name_of(word_at(operands, 0));
     let slots = count_of(word_at(operands, 1));
@@ -54,7 +57,10 @@ pub fn with_objects(
     requires some { 1 ≤ size }
     requires room { total_of declared.objects + size ≤ 4096 }
     ensures { IfOk result (λ d. text_of d
-        ≡ record (text_of declared) { objects = declared.objects ++ declared_objects (text_of declared) (words_in operands.now) size array ∷ [] }) }
+        ≡ record (text_of declared) {
+          objects = declared.objects
+              ++ declared_objects (text_of declared) (words_in operands.now) size array ∷ [];
+        }) }
 {
     let name = name_of(word_at(operands, 0));
     let class = declared.classes.number_of(word_at(operands, 1));
@@ -105,7 +111,7 @@ pub fn new_section(
     later: Option<&[u8]>,
 ) -> Result<Section, NoMemory>
     requires name { is_name (operand (words_in operands.now) 0) ≡ true }
-    requires few { left_length (option_copied later) ≤ 1048577 }
+    requires few { IsOfText (option_copied later) }
     ensures thread { IfOk result (λ s. thread_of s ≡ new_thread (operand (words_in operands.now) 0)) }
     ensures labels { IfOk result (λ s. s.labels ≡ labels_ahead 1 (lines_ahead (option_copied later.entry))) }
 {

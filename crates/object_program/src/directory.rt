@@ -73,7 +73,7 @@ impl<T: Named + Drop> Model for Directory<T> {
 
     ghost Value = { List T };
 
-    ghost use Rattle.object_program.specs.Directory.{ArePlaces};
+    ghost use Rattle.object_program.specs.inner.Places.{ArePlaces};
 
     ghost view = { λ d. d.items.items };
 

@@ -4,7 +4,8 @@ ghost use Rattle.std.specs.Prelude.{◌≡◌, ◌≤◌, ◌+◌, ◌==◌, if�
 ghost use Rattle.object_program.specs.Text.{words_of};
 ghost use Rattle.object_program.specs.Reading.{first_keyword, label_of, labels_on, labels_ahead, number_behind_line};
 ghost use Rattle.object_program.specs.Refusal.{is_closed};
-ghost use Rattle.object_program.specs.Left.{words_in, lines_ahead, left_length};
+ghost use Rattle.object_program.specs.Limits.{most_bytes};
+ghost use Rattle.object_program.specs.inner.Left.{words_in, lines_ahead, IsOfText};
 
 use crate::directory::Directory;
 use crate::keyword::Keyword;
@@ -34,7 +35,7 @@ pub fn is_closed(lines: Option<&[u8]>) -> bool
 /// All labels of the section that these lines begin with, in their order. The lines have at most 1,048,576 bytes. Where memory
 /// is wanting, `NoMemory`.
 pub fn labels_ahead(alloc: Global, lines: Option<&[u8]>) -> Result<Directory<LabelDef>, NoMemory>
-    requires { left_length (option_copied lines) ≤ 1048577 }
+    requires { IsOfText (option_copied lines) }
     ensures { IfOk result (λ labels. labels ≡ labels_ahead 1 (lines_ahead (option_copied lines.entry))) }
 {
     let mut labels = Directory::new(alloc);
@@ -92,7 +93,7 @@ fn label_of(operands: &[u8], number: u32) -> Option<LabelDef>
 
 /// The number of the next instruction behind a line with this keyword.
 fn number_behind_line(number: u32, keyword: Option<Keyword>) -> u32
-    requires { number ≤ 1048577 }
+    requires { number ≤ most_bytes + 1 }
     ensures { result ≡ number_behind_line number keyword }
 {
     match keyword {

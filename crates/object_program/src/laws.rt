@@ -1,6 +1,7 @@
 //! Laws of the canonical text, which hold of all programs.
 
 ghost use Rattle.std.specs.Prelude.{◌≡◌, ◌≤◌, length, Ok};
+ghost use Rattle.object_program.specs.Limits.{most_bytes};
 ghost use Rattle.object_program.specs.Program.{ProgramText};
 ghost use Rattle.object_program.specs.Valid.{IsProgram};
 ghost use Rattle.object_program.specs.Refusal.{program_of};
@@ -8,5 +9,5 @@ ghost use Rattle.object_program.specs.Canonical.{canonical};
 
 /// The canonical text of a program is a text of this very program, unless it is too long to be one.
 pub fn canonical_texts_are_read_back()
-    ensures { (p : ProgramText) → IsProgram p → length (canonical p) ≤ 1048576 → program_of (canonical p) ≡ Ok p }
+    ensures { (p : ProgramText) → IsProgram p → length (canonical p) ≤ most_bytes → program_of (canonical p) ≡ Ok p }
 {}

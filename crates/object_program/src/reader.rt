@@ -4,8 +4,9 @@ ghost use Rattle.std.specs.Prelude.{◌≡◌, ◌⊎◌, ◌≤◌, ◌∷◌, 
 ghost use Rattle.object_program.specs.Line.{is_outside};
 ghost use Rattle.object_program.specs.Reading.{nothing, behind_keyword, behind_line};
 ghost use Rattle.object_program.specs.Refusal.{keyword_cause, line_cause, read_from, program_of, lines_of};
-ghost use Rattle.object_program.specs.Left.{words_in, lines_ahead, left_length};
-ghost use Rattle.object_program.specs.Steps.{before_of, text_of, HasAhead, HasAheadOf, IsStep, refusal};
+ghost use Rattle.object_program.specs.Limits.{most_bytes};
+ghost use Rattle.object_program.specs.inner.Left.{words_in, lines_ahead, IsOfText};
+ghost use Rattle.object_program.specs.inner.Steps.{before_of, text_of, HasAhead, HasAheadOf, IsStep, refusal};
 ghost use Rattle.object_program.specs.Canonical.{canonical};
 ghost use Rattle.object_program.specs.Valid.{IsProgram};
 
@@ -33,10 +34,12 @@ fn behind_keyword(
     operands: &[u8],
     later: Option<&[u8]>,
 ) -> Result<Reader, NoMemory>
-    requires clean { keyword_cause (before_of reader) (lines_ahead (option_copied later)) (words_in operands.now) (Some keyword) ≡ None }
+    requires clean { keyword_cause (before_of reader) (lines_ahead (option_copied later)) (words_in operands.now)
+        (Some keyword) ≡ None }
     requires ahead { HasAheadOf reader.section (lines_ahead (option_copied later)) (words_in operands.now) keyword }
-    requires few { left_length (option_copied later) ≤ 1048577 }
-    ensures behind { IfOk result (λ r. before_of r ≡ behind_keyword (before_of reader) (lines_ahead (option_copied later.entry)) (words_in operands.now) keyword) }
+    requires few { IsOfText (option_copied later) }
+    ensures behind { IfOk result (λ r. before_of r
+        ≡ behind_keyword (before_of reader) (lines_ahead (option_copied later.entry)) (words_in operands.now) keyword) }
     ensures ahead { IfOk result (λ r. HasAhead r.section (lines_ahead (option_copied later.entry))) }
 {
     if is_outside(keyword) {
@@ -78,10 +81,12 @@ fn behind_declaration(
     later: Option<&[u8]>,
 ) -> Result<Reader, NoMemory>
     requires outside { is_outside keyword ≡ true }
-    requires clean { keyword_cause (before_of reader) (lines_ahead (option_copied later)) (words_in operands.now) (Some keyword) ≡ None }
+    requires clean { keyword_cause (before_of reader) (lines_ahead (option_copied later)) (words_in operands.now)
+        (Some keyword) ≡ None }
     requires ahead { HasAheadOf reader.section (lines_ahead (option_copied later)) (words_in operands.now) keyword }
-    requires few { left_length (option_copied later) ≤ 1048577 }
-    ensures behind { IfOk result (λ r. before_of r ≡ behind_keyword (before_of reader) (lines_ahead (option_copied later.entry)) (words_in operands.now) keyword) }
+    requires few { IsOfText (option_copied later) }
+    ensures behind { IfOk result (λ r. before_of r
+        ≡ behind_keyword (before_of reader) (lines_ahead (option_copied later.entry)) (words_in operands.now) keyword) }
     ensures ahead { IfOk result (λ r. HasAhead r.section (lines_ahead (option_copied later.entry))) }
 {
     let Reader { declared, section } = reader;
@@ -115,8 +120,11 @@ fn keyword_line(
     later: Option<&[u8]>,
 ) -> Result<Reader, Why>
     requires ahead { HasAheadOf reader.section (lines_ahead (option_copied later)) (words_in operands.now) keyword }
-    requires few { left_length (option_copied later) ≤ 1048577 }
-    ensures step { IsStep result (keyword_cause (before_of reader) (lines_ahead (option_copied later.entry)) (words_in operands.now) (Some keyword)) (behind_keyword (before_of reader) (lines_ahead (option_copied later.entry)) (words_in operands.now) keyword) }
+    requires few { IsOfText (option_copied later) }
+    ensures step { IsStep result
+        (keyword_cause (before_of reader) (lines_ahead (option_copied later.entry)) (words_in operands.now)
+        (Some keyword))
+        (behind_keyword (before_of reader) (lines_ahead (option_copied later.entry)) (words_in operands.now) keyword) }
     ensures ahead { IfOk result (λ r. HasAhead r.section (lines_ahead (option_copied later.entry))) }
 {
     if let Some(why) = keyword_cause(&reader, keyword, operands, later) {
@@ -136,8 +144,10 @@ fn read_line(
     later: Option<&[u8]>,
 ) -> Result<Reader, Why>
     requires ahead { HasAhead reader.section (line.now ∷ lines_ahead (option_copied later)) }
-    requires few { left_length (option_copied later) ≤ 1048577 }
-    ensures step { IsStep result (line_cause (before_of reader) (lines_ahead (option_copied later.entry)) line.now) (behind_line (before_of reader) (lines_ahead (option_copied later.entry)) line.now) }
+    requires few { IsOfText (option_copied later) }
+    ensures step { IsStep result
+        (line_cause (before_of reader) (lines_ahead (option_copied later.entry)) line.now)
+        (behind_line (before_of reader) (lines_ahead (option_copied later.entry)) line.now) }
     ensures ahead { IfOk result (λ r. HasAhead r.section (lines_ahead (option_copied later.entry))) }
 {
     if !is_text(line) {
@@ -174,9 +184,10 @@ fn new_reader(alloc: Global) -> Reader
 ///
 /// The first line that has a cause, with its lowest-numbered cause. `NoMemory` at line 0 where an allocation fails.
 fn read_lines(alloc: Global, bytes: &[u8]) -> Result<Reader, ProgramError>
-    requires { length bytes.now ≤ 1048576 }
+    requires { length bytes.now ≤ most_bytes }
     ensures ok { IfOk result (λ r. read_from 1 nothing (lines_of bytes.now) ≡ Ok (before_of r)) }
-    ensures err { IfErr result (λ e. (read_from 1 nothing (lines_of bytes.now) ≡ Err e) ⊎ (e ≡ record { line = 0; why = Why.NoMemory })) }
+    ensures err { IfErr result (λ e. (read_from 1 nothing (lines_of bytes.now) ≡ Err e)
+        ⊎ (e ≡ record { line = 0; why = Why.NoMemory })) }
 {
     let mut reader = new_reader(alloc);
     let mut number = 1;
@@ -205,7 +216,7 @@ fn read_lines(alloc: Global, bytes: &[u8]) -> Result<Reader, ProgramError>
 pub fn read_program(alloc: Global, bytes: &[u8]) -> Result<Program, ProgramError>
     ensures ok { IfOk result (λ p. program_of bytes.now ≡ Ok p) }
     ensures err { IfErr result (λ e. (program_of bytes.now ≡ Err e) ⊎ (e ≡ record { line = 0; why = Why.NoMemory })) }
-    ensures again { IfOk result (λ p. length (canonical p) ≤ 1048576 → program_of (canonical p) ≡ Ok p) }
+    ensures again { IfOk result (λ p. length (canonical p) ≤ most_bytes → program_of (canonical p) ≡ Ok p) }
 {
     canonical_texts_are_read_back();
     if bytes.len() > BYTES {

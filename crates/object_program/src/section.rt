@@ -5,8 +5,8 @@ ghost use Rattle.object_program.specs.Name.{is_name};
 ghost use Rattle.object_program.specs.Line.{is_instruction, operands_of};
 ghost use Rattle.object_program.specs.Reading.{operand, local_at, object_at, target_among, instruction_on};
 ghost use Rattle.object_program.specs.Refusal.{is_bad_number, some_operand};
-ghost use Rattle.object_program.specs.Left.{words_in};
-ghost use Rattle.object_program.specs.Steps.{text_of, thread_of, IsAheadOf};
+ghost use Rattle.object_program.specs.inner.Left.{words_in};
+ghost use Rattle.object_program.specs.inner.Steps.{text_of, thread_of, IsAheadOf};
 
 use crate::keyword::Keyword;
 use crate::name::name_of;
@@ -112,7 +112,8 @@ pub fn instruction_on(
 pub fn with_local(section: Section, operands: &[u8]) -> Result<Section, NoMemory>
     requires name { is_name (operand (words_in operands.now) 0) ≡ true }
     requires room { length section.locals < 32 }
-    ensures thread { IfOk result (λ s. thread_of s ≡ record (thread_of section) { locals = section.locals ++ operand (words_in operands.now) 0 ∷ [] }) }
+    ensures thread { IfOk result (λ s. thread_of s
+        ≡ record (thread_of section) { locals = section.locals ++ operand (words_in operands.now) 0 ∷ [] }) }
     ensures labels { IfOk result (λ s. s.labels ≡ section.labels) }
 {
     let Section {

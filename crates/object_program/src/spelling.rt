@@ -5,7 +5,7 @@ ghost use Rattle.std.specs.Str.{bytes_eq};
 ghost use Rattle.object_program.specs.Line.{spelled_among, keyword_of, is_outside, is_instruction};
 ghost use Rattle.object_program.specs.Reading.{ends_section};
 ghost use Rattle.object_program.specs.Refusal.{is_end};
-ghost use Rattle.object_program.specs.Spelled.{declaring, computing, locking, remaining};
+ghost use Rattle.object_program.specs.inner.Spelled.{declaring, computing, locking, remaining};
 
 use crate::keyword::Keyword;
 

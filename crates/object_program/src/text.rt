@@ -3,7 +3,7 @@
 ghost use Rattle.std.specs.Prelude.{◌≡◌, ◌==◌, ◌<◌, true, false, position, ℕ, List, [], ◌∷◌, length, MatchOption, IfSome, option_copied};
 ghost use Rattle.std.specs.List.{list_all, before_first};
 ghost use Rattle.object_program.specs.Text.{raw_lines, without_return, is_text_byte};
-ghost use Rattle.object_program.specs.Left.{lines_left, words_in, words_from, words_behind};
+ghost use Rattle.object_program.specs.inner.Left.{lines_left, words_in, words_from, words_behind};
 ghost use Rattle.object_program.specs.Reading.{operand};
 ghost use Rattle.object_program.specs.Text.{is_blank};
 

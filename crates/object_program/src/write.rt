@@ -2,9 +2,10 @@
 
 ghost use Rattle.std.specs.Prelude.{◌≡◌, ◌+◌, ◌∷◌, ◌++◌, [], map, if◌then◌else◌, OnOk, OnErr, Ok, ◌≤◌, length};
 ghost use Rattle.std.specs.List.{flat_map, join_with_byte};
+ghost use Rattle.object_program.specs.Limits.{most_bytes};
 ghost use Rattle.object_program.specs.Canonical.{canonical, program_lines, line_text, class_name, object_name, local_name, label_name, class_words, object_words, opening_words, local_words, label_words, instruction_words, labels_at, code_lines, thread_lines};
 ghost use Rattle.object_program.specs.Refusal.{program_of};
-ghost use Rattle.object_program.specs.Written.{BeginsWith, lines_text};
+ghost use Rattle.object_program.specs.inner.Written.{BeginsWith, lines_text};
 
 use crate::laws::canonical_texts_are_read_back;
 use crate::name::Name;
@@ -17,7 +18,7 @@ use plain_monitor::NoMemory;
 pub fn write_program(program: &Program, out: &mut Vec<u8>) -> Result<(), NoMemory>
     ensures ok { OnOk result (out.new.items ≡ out.old.items ++ canonical program.now) }
     ensures err { OnErr result (out.new.items ≡ out.old.items) }
-    ensures read { length (canonical program.now) ≤ 1048576 → program_of (canonical program.now) ≡ Ok program.now }
+    ensures read { length (canonical program.now) ≤ most_bytes → program_of (canonical program.now) ≡ Ok program.now }
 {
     canonical_texts_are_read_back();
     // A look at a field tells the proof what holds of every `Program`.

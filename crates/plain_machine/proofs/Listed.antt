@@ -1,101 +1,51 @@
 -- The lists of a monitor's threads, through what entries do.
 use Rattle.std.proofs.Common.{◌≡◌, ◌≢◌, ℕ, ◌+◌, ◌-◌, ◌≤◌, Bool, true, false, nat_le, ◌==◌, if◌then◌else◌, List, [], ◌∷◌, ◌++◌, length, Option, Some, None, refl, sym, ap, arith, ◌∙◌}
-use Rattle.std.specs.List.{sum_by}
 use Rattle.std.proofs.lemmas.List.{length-append, append-nil}
-use Rattle.std.proofs.lemmas.List.Sums.{sum_by-append}
 use Rattle.std.proofs.lemmas.Bool.Decides.{nat_tests}
 use Rattle.std.proofs.lemmas.Option.{same_Some, cond_some, none-some}
 use Rattle.plain_monitor.specs.Monitor.{PlainMonitor, count_of, without, owns, enter, exit, wait, resumed, calls, notify, notify_all}
-use Rattle.plain_machine.specs.Sound.{tally, times, dues}
-
-sum_by-cons : (f : ℕ × ℕ → ℕ) (p : ℕ × ℕ) (ps : List (ℕ × ℕ)) → sum_by f (p ∷ ps) ≡ f p + sum_by f ps
-sum_by-cons f p ps = omega (arith, sum_by-append f (p ∷ []) ps)
-
--- a place of thread t weighs, and a place of another does not
-tally_yes : (w : ℕ × ℕ → ℕ) (p : ℕ × ℕ) (ps : List (ℕ × ℕ)) (t : ℕ) → (p.0 == t) ≡ true → tally w (p ∷ ps) t ≡ w p + tally w ps t
-tally_yes w p ps t e =
-    sum_by-cons (λ (q : ℕ × ℕ). if q.0 == t then w q else 0) p ps ∙ ap (λ b. (if b then w p else 0) + tally w ps t) e
-
-tally_no : (w : ℕ × ℕ → ℕ) (p : ℕ × ℕ) (ps : List (ℕ × ℕ)) (t : ℕ) → (p.0 == t) ≡ false → tally w (p ∷ ps) t ≡ tally w ps t
-tally_no w p ps t e =
-    let q : tally w (p ∷ ps) t ≡ 0 + tally w ps t =
-    sum_by-cons (λ (q : ℕ × ℕ). if q.0 == t then w q else 0) p ps ∙ ap (λ b. (if b then w p else 0) + tally w ps t) e in
-    omega arith
-
-without_yes : (p : ℕ × ℕ) (ps : List (ℕ × ℕ)) (t : ℕ) → (p.0 == t) ≡ true → without (p ∷ ps) t ≡ without ps t
-without_yes p ps t e = rw e refl
-
-without_no : (p : ℕ × ℕ) (ps : List (ℕ × ℕ)) (t : ℕ) → (p.0 == t) ≡ false → without (p ∷ ps) t ≡ p ∷ without ps t
-without_no p ps t e = rw e refl
-
-length_without_at : (p : ℕ × ℕ) (ps : List (ℕ × ℕ)) (t : ℕ) (b : Bool) → (p.0 == t) ≡ b → length (without ps t) + times ps t ≡ length ps
-    → length (without (p ∷ ps) t) + times (p ∷ ps) t ≡ length (p ∷ ps)
-length_without_at p ps t true e ih = omega (arith, ih, tally_yes (λ q. 1) p ps t e, ap length (without_yes p ps t e))
-length_without_at p ps t false e ih = omega (arith, ih, tally_no (λ q. 1) p ps t e, ap length (without_no p ps t e))
+use Rattle.plain_machine.specs.ReachedMonitor.{tally, times_in, counts_in}
+use Rattle.plain_machine.proofs.ReachedLists.{tally_joined, tally_none, tally_without, counted_times}
 
 -- what is taken out is as much as stood there
-pub length-without : (ps : List (ℕ × ℕ)) (t : ℕ) → length (without ps t) + times ps t ≡ length ps
+pub length-without : (ps : List (ℕ × ℕ)) (t : ℕ) → length (without ps t) + times_in ps t ≡ length ps
 length-without [] t = refl
-length-without (p ∷ ps) t = length_without_at p ps t (p.0 == t) refl (length-without ps t)
-
-tally_without_at : (w : ℕ × ℕ → ℕ) (p : ℕ × ℕ) (ps : List (ℕ × ℕ)) (t : ℕ) (b : Bool) → (p.0 == t) ≡ b → tally w (without ps t) t ≡ 0
-    → tally w (without (p ∷ ps) t) t ≡ 0
-tally_without_at w p ps t true e ih = ap (λ xs. tally w xs t) (without_yes p ps t e) ∙ ih
-tally_without_at w p ps t false e ih =
-    ap (λ xs. tally w xs t) (without_no p ps t e) ∙ tally_no w p (without ps t) t e ∙ ih
-
--- who is taken out stands there no more
-pub tally-without : (w : ℕ × ℕ → ℕ) (ps : List (ℕ × ℕ)) (t : ℕ) → tally w (without ps t) t ≡ 0
-tally-without w [] t = refl
-tally-without w (p ∷ ps) t = tally_without_at w p ps t (p.0 == t) refl (tally-without w ps t)
-
-sum_without_at : (f : ℕ × ℕ → ℕ) (p : ℕ × ℕ) (ps : List (ℕ × ℕ)) (t : ℕ) (b : Bool) → (p.0 == t) ≡ b → sum_by f (without ps t) ≤ sum_by f ps
-    → sum_by f (without (p ∷ ps) t) ≤ sum_by f (p ∷ ps)
-sum_without_at f p ps t true e ih = omega (arith, ih, sum_by-cons f p ps, ap (sum_by f) (without_yes p ps t e))
-sum_without_at f p ps t false e ih =
-    omega (arith, ih, sum_by-cons f p ps, sum_by-cons f p (without ps t), ap (sum_by f) (without_no p ps t e))
+length-without (p ∷ ps) t = go (p.0 == t) refl (length-without ps t)
+  where
+    go : (b : Bool) → (p.0 == t) ≡ b → length (without ps t) + times_in ps t ≡ length ps
+        → length (without (p ∷ ps) t) + times_in (p ∷ ps) t ≡ length (p ∷ ps)
+    go true e ih = rw e (omega (arith, ih))
+    go false e ih = rw e (omega (arith, ih))
 
 -- nothing is added
-sum-without : (f : ℕ × ℕ → ℕ) (ps : List (ℕ × ℕ)) (t : ℕ) → sum_by f (without ps t) ≤ sum_by f ps
-sum-without f [] t = omega arith
-sum-without f (p ∷ ps) t = sum_without_at f p ps t (p.0 == t) refl (sum-without f ps t)
+tally_less : (w : ℕ × ℕ → ℕ) (ps : List (ℕ × ℕ)) (t u : ℕ) → tally w (without ps t) u ≤ tally w ps u
+tally_less w [] t u = omega arith
+tally_less w (p ∷ ps) t u = go (p.0 == t) refl (tally_less w ps t u)
+  where
+    go : (b : Bool) → (p.0 == t) ≡ b → tally w (without ps t) u ≤ tally w ps u → tally w (without (p ∷ ps) t) u ≤ tally w (p ∷ ps) u
+    go true e ih = rw e (omega (arith, ih))
+    go false e ih = rw e (omega (arith, ih))
 
-dues_none_at : (p : ℕ × ℕ) (ps : List (ℕ × ℕ)) (t : ℕ) (b : Bool) → (p.0 == t) ≡ b → times (p ∷ ps) t ≡ 0
-    → (times ps t ≡ 0 → dues ps t ≡ 0) → dues (p ∷ ps) t ≡ 0
-dues_none_at p ps t true e h ih = let k = tally_yes (λ q. 1) p ps t e in absurd (omega arith)
-dues_none_at p ps t false e h ih =
-    let k = tally_no (λ q. 1) p ps t e in omega (arith, tally_no (λ q. q.1) p ps t e, ih (omega arith))
-
--- who stands nowhere has no counts
-pub dues_none : (ps : List (ℕ × ℕ)) (t : ℕ) → times ps t ≡ 0 → dues ps t ≡ 0
-dues_none [] t h = refl
-dues_none (p ∷ ps) t h = dues_none_at p ps t (p.0 == t) refl h (dues_none ps t)
+counted_due : (ps : List (ℕ × ℕ)) (t c : ℕ) → count_of ps t ≡ Some c → c ≤ counts_in ps t
+counted_due [] t c h = absurd (none-some c h)
+counted_due (p ∷ ps) t c h = go (p.0 == t) refl (counted_due ps t c)
+  where
+    go : (b : Bool) → (p.0 == t) ≡ b → (count_of ps t ≡ Some c → c ≤ counts_in ps t) → c ≤ counts_in (p ∷ ps) t
+    go true e ih = let is : p.1 ≡ c = same_Some p.1 c (rw e at h) in rw e (omega (arith, is))
+    go false e ih = let later = ih (rw e at h) in rw e (omega (arith, later))
 
 -- a thread that is found with a count stands in the list, and has that count
 pub record IsFound (ps : List (ℕ × ℕ)) (t c : ℕ) : Type 0 where
-  pub once : 1 ≤ times ps t
-  pub due : c ≤ dues ps t
-
-found_at : (p : ℕ × ℕ) (ps : List (ℕ × ℕ)) (t c : ℕ) (b : Bool) → (p.0 == t) ≡ b → count_of (p ∷ ps) t ≡ Some c
-    → (count_of ps t ≡ Some c → IsFound ps t c) → IsFound (p ∷ ps) t c
-found_at p ps t c true e h ih =
-    let q : p.1 ≡ c = same_Some p.1 c (rw e at h) in
-    record { once = omega (arith, tally_yes (λ q. 1) p ps t e); due = omega (arith, tally_yes (λ q. q.1) p ps t e) }
-found_at p ps t c false e h ih =
-    let f : IsFound ps t c = ih (rw e at h) in
-    record {
-      once = omega (arith, f.once, tally_no (λ q. 1) p ps t e);
-      due = omega (arith, f.due, tally_no (λ q. q.1) p ps t e);
-    }
+  pub once : 1 ≤ times_in ps t
+  pub due : c ≤ counts_in ps t
 
 pub found : (ps : List (ℕ × ℕ)) (t c : ℕ) → count_of ps t ≡ Some c → IsFound ps t c
-found [] t c h = absurd (none-some c h)
-found (p ∷ ps) t c h = found_at p ps t c (p.0 == t) refl h (found ps t c)
+found ps t c h = record { once = counted_times ps t c h; due = counted_due ps t c h }
 
 -- a thread stands no more often in the lists of n than in those of m, and has no more counts there
 pub record IsFewer (m n : PlainMonitor) (u : ℕ) : Type 0 where
-  pub once : times n.waits u + times n.called u ≤ times m.waits u + times m.called u
-  pub due : dues n.waits u + dues n.called u ≤ dues m.waits u + dues m.called u
+  pub once : times_in n.waits u + times_in n.called u ≤ times_in m.waits u + times_in m.called u
+  pub due : counts_in n.waits u + counts_in n.called u ≤ counts_in m.waits u + counts_in m.called u
 
 -- the lists stay as they are
 pub record HasSameLists (m n : PlainMonitor) : Type 0 where
@@ -147,7 +97,7 @@ lists_wait m n t s =
     record { waits = sym (ap (λ (z : PlainMonitor). z.waits) q.1); called = sym (ap (λ (z : PlainMonitor). z.called) q.1) }
 
 tally_push : (w : ℕ × ℕ → ℕ) (ps : List (ℕ × ℕ)) (p : ℕ × ℕ) (u : ℕ) → tally w (ps ++ p ∷ []) u ≡ tally w ps u + (if p.0 == u then w p else 0)
-tally_push w ps p u = omega (arith, sum_by-append (λ (q : ℕ × ℕ). if q.0 == u then w q else 0) ps (p ∷ []))
+tally_push w ps p u = omega (arith, tally_joined w ps (p ∷ []) u)
 
 tally_push_other : (w : ℕ × ℕ → ℕ) (ps : List (ℕ × ℕ)) (p : ℕ × ℕ) (u : ℕ) → (p.0 == u) ≡ false → tally w (ps ++ p ∷ []) u ≡ tally w ps u
 tally_push_other w ps p u e =
@@ -167,8 +117,8 @@ fewer_wait m n t c u h d =
 
 -- t stands there once more
 pub record StandsOnceMore (m n : PlainMonitor) (t c : ℕ) : Type 0 where
-  pub once : times n.waits t + times n.called t ≡ times m.waits t + times m.called t + 1
-  pub due : dues n.waits t + dues n.called t ≡ dues m.waits t + dues m.called t + c
+  pub once : times_in n.waits t + times_in n.called t ≡ times_in m.waits t + times_in m.called t + 1
+  pub due : counts_in n.waits t + counts_in n.called t ≡ counts_in m.waits t + counts_in m.called t + c
 
 pub once_more : (m n : PlainMonitor) (t c : ℕ) → HasLast m n t c → StandsOnceMore m n t c
 once_more m n t c h =
@@ -189,9 +139,9 @@ pub record HasMoved (m n : PlainMonitor) (ps : List (ℕ × ℕ)) : Type 0 where
 pub fewer_moved : (m n : PlainMonitor) (ps : List (ℕ × ℕ)) (u : ℕ) → HasMoved m n ps → IsFewer m n u
 fewer_moved m n ps u h = record {
   once =
-      rw (h.waits, h.called) (omega (arith, sum_by-append (λ (p : ℕ × ℕ). if p.0 == u then 1 else 0) ps n.waits, sum_by-append (λ (p : ℕ × ℕ). if p.0 == u then 1 else 0) m.called ps));
+      rw (h.waits, h.called) (omega (arith, tally_joined (λ p. 1) ps n.waits u, tally_joined (λ p. 1) m.called ps u));
   due =
-      rw (h.waits, h.called) (omega (arith, sum_by-append (λ (p : ℕ × ℕ). if p.0 == u then p.1 else 0) ps n.waits, sum_by-append (λ (p : ℕ × ℕ). if p.0 == u then p.1 else 0) m.called ps));
+      rw (h.waits, h.called) (omega (arith, tally_joined (λ p. p.1) ps n.waits u, tally_joined (λ p. p.1) m.called ps u));
 }
 
 pub length_moved : (m n : PlainMonitor) (ps : List (ℕ × ℕ)) → HasMoved m n ps → length n.waits + length n.called ≡ length m.waits + length m.called
@@ -244,22 +194,22 @@ lists_resumed m n t c s =
 
 pub fewer_out : (m n : PlainMonitor) (t u : ℕ) → IsOut m n t → IsFewer m n u
 fewer_out m n t u h = record {
-  once = rw (h.waits, h.called) (omega (arith, sum-without (λ (p : ℕ × ℕ). if p.0 == u then 1 else 0) m.called t));
-  due = rw (h.waits, h.called) (omega (arith, sum-without (λ (p : ℕ × ℕ). if p.0 == u then p.1 else 0) m.called t));
+  once = rw (h.waits, h.called) (omega (arith, tally_less (λ p. 1) m.called t u));
+  due = rw (h.waits, h.called) (omega (arith, tally_less (λ p. p.1) m.called t u));
 }
 
 -- who stood there once, among those who were called, stands there no more
 pub record IsGone (n : PlainMonitor) (t : ℕ) : Type 0 where
-  pub once : times n.waits t + times n.called t ≡ 0
-  pub due : dues n.waits t + dues n.called t ≡ 0
+  pub once : times_in n.waits t + times_in n.called t ≡ 0
+  pub due : counts_in n.waits t + counts_in n.called t ≡ 0
 
-pub gone_out : (m n : PlainMonitor) (t : ℕ) → times m.waits t ≡ 0 → IsOut m n t → IsGone n t
+pub gone_out : (m n : PlainMonitor) (t : ℕ) → times_in m.waits t ≡ 0 → IsOut m n t → IsGone n t
 gone_out m n t w h =
-    let none = tally-without (λ q. 1) m.called t in
+    let none = tally_without (λ q. 1) m.called t in
     record {
       once = rw (h.waits, h.called) (omega (arith, w, none));
-      due = rw (h.waits, h.called) (omega (arith, dues_none m.waits t w, tally-without (λ q. q.1) m.called t));
+      due = rw (h.waits, h.called) (omega (arith, tally_none (λ q. q.1) m.waits t w, tally_without (λ q. q.1) m.called t));
     }
 
-pub length_out : (m n : PlainMonitor) (t : ℕ) → 1 ≤ times m.called t → IsOut m n t → length n.waits + length n.called + 1 ≤ length m.waits + length m.called
+pub length_out : (m n : PlainMonitor) (t : ℕ) → 1 ≤ times_in m.called t → IsOut m n t → length n.waits + length n.called + 1 ≤ length m.waits + length m.called
 length_out m n t h q = rw (q.waits, q.called) (omega (arith, length-without m.called t))

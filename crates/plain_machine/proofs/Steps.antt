@@ -6,8 +6,10 @@ use Rattle.std.proofs.lemmas.Bool.{cases_eq}
 use Rattle.std.proofs.lemmas.Option.{none-some}
 use Rattle.plain_monitor.specs.Monitor.{PlainMonitor, count_of, enter, exit, wait, resume, resumed, notify, notify_all}
 use Rattle.plain_machine.specs.Thread.{ThreadState, holds_of}
-use Rattle.plain_machine.specs.Ready.{unrun, waits_on}
-use Rattle.plain_machine.specs.Sound.{thread_in, times, while_waiting, waiting_on, IsListed, AreListed, AreWaiting, IsBeside}
+use Rattle.plain_machine.specs.Ready.{waits_on}
+use Rattle.plain_machine.specs.inner.Kept.{unrun}
+use Rattle.plain_machine.specs.ReachedMonitor.{times_in}
+use Rattle.plain_machine.specs.inner.Sound.{thread_in, while_waiting, waiting_on, IsListed, AreListed, AreWaiting, IsBeside}
 use Rattle.plain_machine.proofs.Counted.{IsOwnedBy, owned_enter, owned_exit, owned_wait, owned_resumed, owned_notify, owned_notify_all, wait_owner, counted_same, counted_owned}
 use Rattle.plain_machine.proofs.Listed.{IsFewer, HasSomeMoved, fewer_same, length_same, lists_enter, lists_exit, lists_wait, fewer_wait, once_more, length_wait, fewer_moved, length_moved, moved_notify, moved_notify_all, lists_resumed, fewer_out, gone_out, length_out, found}
 
@@ -148,7 +150,7 @@ step_resumed r s t o m n (Some c) q e f h b k =
     let out = lists_resumed m n t c k in
     let once = while_yes r o 1 e in
     let due = while_yes r o (holds_of r o) e in
-    let alone : times m.waits t ≡ 0 = omega (arith, b.listed.once, at.once) in
+    let alone : times_in m.waits t ≡ 0 = omega (arith, b.listed.once, at.once) in
     let fits : c ≤ holds_of s o = omega (arith, b.listed.due, at.due, h) in
     let gone = gone_out m n t alone out in
     record {

@@ -7,8 +7,6 @@ pub mod Legal
 pub mod Ready
 pub mod ThreadView
 pub mod Next
-pub mod Takable
-pub mod Sound
 pub mod ObjectView
 pub mod MachineView
 pub mod Work
@@ -16,3 +14,4 @@ pub mod Reached
 pub mod ReachedMonitor
 pub mod ReachedThread
 pub mod ReachedEntry
+pub mod inner

@@ -1,7 +1,7 @@
 -- What contracts see of a `Machine`.
 use Rattle.plain_machine.specs.declared.machine.Machine.TheInside.{Inside}
 use Rattle.plain_machine.specs.Machine.{PlainMachine}
-use Rattle.plain_machine.specs.Sound.{IsSound}
+use Rattle.plain_machine.specs.inner.Sound.{IsSound}
 
 abbrev pub plain_machine : Inside → PlainMachine
 plain_machine a = record { program = a.program; objects = a.objects.items; threads = a.threads.items }

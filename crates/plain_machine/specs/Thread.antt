@@ -70,11 +70,6 @@ abbrev pub combines : ThreadState → ℕ → (ℤ → ℤ → ℤ) → Value �
 combines s x op (Int y) (Int z) = computes s x (op y z)
 combines s x op v w = faults s NotInt
 
--- the object that a value refers to
-abbrev pub referred : Value → Option ℕ
-referred (Ref o) = Some o
-referred v = None
-
 -- an instruction on the object of a reference
 abbrev pub on_object : ThreadState → Value → (ℕ → Step) → Step
 on_object s (Ref o) step = step o

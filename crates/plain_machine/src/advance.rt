@@ -3,7 +3,8 @@
 ghost use Rattle.std.specs.Prelude.{◌≡◌, ◌≤◌, ℕ, length};
 ghost use Rattle.plain_machine.specs.declared.call.Asked.TheVariants.{Calls};
 ghost use Rattle.plain_machine.specs.Asking.{answered, behind_call, behind_entry};
-ghost use Rattle.plain_machine.specs.Ready.{IsReady, IsReadyToAsk, IsReadyToCall, holds_behind, waits_on, waits_behind};
+ghost use Rattle.plain_machine.specs.Ready.{IsReadyToCall, waits_on};
+ghost use Rattle.plain_machine.specs.inner.Kept.{IsReady, IsReadyToAsk, holds_behind, waits_behind};
 
 use crate::call::{Asked, Call, Mode};
 use crate::run::run;

@@ -4,7 +4,7 @@ ghost use Rattle.std.specs.Prelude.{◌≡◌, ◌≤◌, ◌++◌, IfOk, OnOk, 
 ghost use Rattle.object_program.specs.Program.{shape_of, objects_total};
 ghost use Rattle.plain_monitor.specs.Objects.{new_object, new_objects};
 ghost use Rattle.plain_machine.specs.Running.{first_state};
-ghost use Rattle.plain_machine.specs.Sound.{IsKept, AreKept};
+ghost use Rattle.plain_machine.specs.inner.Sound.{IsKept, AreKept};
 
 use crate::code::slots_of_class;
 use crate::object::Object;

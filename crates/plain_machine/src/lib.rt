@@ -24,7 +24,7 @@ mod thread;
 
 pub use actor::Actor;
 pub use call::{Asked, Call, Mode};
-pub use code::{code_of, slots_of_class};
+pub use code::code_of;
 pub use laws::{
     a_machine_that_offers_nothing_is_over, each_entry_uses_up_work, machines_stay_reached,
     offered_entries_are_taken, paths_and_draws_change_nothing, reached_machines_are_in_range,

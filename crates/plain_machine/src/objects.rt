@@ -4,7 +4,7 @@ ghost use Rattle.std.specs.Prelude.{◌≡◌, OnOk, OnErr, Some, None};
 ghost use Rattle.plain_monitor.specs.Objects.{take_entry};
 ghost use Rattle.plain_monitor.specs.declared.entry.Path.TheVariants.{StackFirst};
 ghost use Rattle.plain_monitor.specs.declared.entry.Entry.TheVariants as entry;
-ghost use Rattle.plain_machine.specs.Takable.{IsTakable};
+ghost use Rattle.plain_machine.specs.inner.Takable.{IsTakable};
 
 use crate::object::Object;
 use plain_monitor::{Entry, Refused, Value};

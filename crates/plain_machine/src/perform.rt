@@ -1,9 +1,10 @@
 //! The instructions that call.
 
 ghost use Rattle.std.specs.Prelude.{◌≡◌, ◌<◌};
-ghost use Rattle.plain_machine.specs.Thread.{on_object, enters, owner_only, on_slot, dumps_next, Calls};
+ghost use Rattle.plain_machine.specs.Thread.{ThreadState, on_object, enters, owner_only, on_slot, dumps_next, Calls};
 ghost use Rattle.plain_machine.specs.Next.{meant, IsReadyNext};
 ghost use Rattle.plain_machine.specs.Ready.{HasRoomFor};
+ghost use Rattle.plain_machine.specs.inner.OwnerCalls.{owner_call};
 ghost use Rattle.plain_machine.specs.declared.call.Call.TheVariants as call;
 ghost use Rattle.plain_monitor.specs.declared.entry.Fault.TheVariants as fault;
 
@@ -45,85 +46,41 @@ fn owner_only<T: Actor>(thread: &T, object: u32, otherwise: Fault, call: Call) -
     Next::Calls { call }
 }
 
-/// An exit.
-pub fn exit<T: Actor>(thread: &T, value: Value) -> Next
-    requires { (T.state thread.now).place < 4096 }
-    ensures next { on_object (T.state thread.now) value
-        (λ o. owner_only (T.state thread.now) o fault.IllegalMonitorState (Calls (call.Exit o)))
-        ≡ meant (T.state thread.now) result }
-    ensures ready { IsReadyNext (T.state thread.now) result }
-{
-    match value {
-        Value::Ref(object) => {
-            owner_only(
-                thread,
-                object,
-                Fault::IllegalMonitorState,
-                Call::Exit { object },
-            )
+/// A call on an object that only its owner may make.
+#[derive(Clone, Copy)]
+pub enum OwnerCall {
+    Exit,
+    Wait,
+    Notify,
+    NotifyAll,
+}
+
+impl OwnerCall {
+    /// The call on this object.
+    fn on(self, object: u32) -> Call
+        ensures call { result ≡ owner_call self object }
+        ensures room { (s : ThreadState) → HasRoomFor s result }
+    {
+        match self {
+            OwnerCall::Exit => Call::Exit { object },
+            OwnerCall::Wait => Call::Wait { object },
+            OwnerCall::Notify => Call::Notify { object },
+            OwnerCall::NotifyAll => Call::NotifyAll { object },
         }
-        _ => fault(thread, Fault::NotRef),
     }
 }
 
-/// A wait.
-pub fn wait<T: Actor>(thread: &T, value: Value) -> Next
+/// An exit, a wait, a notify or a notify of all.
+pub fn of_owner<T: Actor>(thread: &T, value: Value, wish: OwnerCall) -> Next
     requires { (T.state thread.now).place < 4096 }
     ensures next { on_object (T.state thread.now) value
-        (λ o. owner_only (T.state thread.now) o fault.IllegalMonitorState (Calls (call.Wait o)))
+        (λ o. owner_only (T.state thread.now) o fault.IllegalMonitorState (Calls (owner_call wish o)))
         ≡ meant (T.state thread.now) result }
     ensures ready { IsReadyNext (T.state thread.now) result }
 {
     match value {
         Value::Ref(object) => {
-            owner_only(
-                thread,
-                object,
-                Fault::IllegalMonitorState,
-                Call::Wait { object },
-            )
-        }
-        _ => fault(thread, Fault::NotRef),
-    }
-}
-
-/// A notify.
-pub fn notify<T: Actor>(thread: &T, value: Value) -> Next
-    requires { (T.state thread.now).place < 4096 }
-    ensures next { on_object (T.state thread.now) value
-        (λ o. owner_only (T.state thread.now) o fault.IllegalMonitorState (Calls (call.Notify o)))
-        ≡ meant (T.state thread.now) result }
-    ensures ready { IsReadyNext (T.state thread.now) result }
-{
-    match value {
-        Value::Ref(object) => {
-            owner_only(
-                thread,
-                object,
-                Fault::IllegalMonitorState,
-                Call::Notify { object },
-            )
-        }
-        _ => fault(thread, Fault::NotRef),
-    }
-}
-
-/// A notify of all.
-pub fn notify_all<T: Actor>(thread: &T, value: Value) -> Next
-    requires { (T.state thread.now).place < 4096 }
-    ensures next { on_object (T.state thread.now) value
-        (λ o. owner_only (T.state thread.now) o fault.IllegalMonitorState (Calls (call.NotifyAll o)))
-        ≡ meant (T.state thread.now) result }
-    ensures ready { IsReadyNext (T.state thread.now) result }
-{
-    match value {
-        Value::Ref(object) => {
-            owner_only(
-                thread,
-                object,
-                Fault::IllegalMonitorState,
-                Call::NotifyAll { object },
-            )
+            owner_only(thread, object, Fault::IllegalMonitorState, wish.on(object))
         }
         _ => fault(thread, Fault::NotRef),
     }

@@ -2,7 +2,8 @@
 
 ghost use Rattle.std.specs.Prelude.{◌≡◌, ◌≤◌, ℕ, false, length};
 ghost use Rattle.plain_machine.specs.Running.{run_on};
-ghost use Rattle.plain_machine.specs.Ready.{IsReady, waits_on};
+ghost use Rattle.plain_machine.specs.Ready.{waits_on};
+ghost use Rattle.plain_machine.specs.inner.Kept.{IsReady};
 
 use crate::call::Mode;
 use crate::step::{Next, look};

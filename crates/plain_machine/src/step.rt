@@ -9,7 +9,7 @@ use crate::actor::Actor;
 use crate::call::Call;
 use crate::compute::{add, element, first_object, mul, sub};
 use crate::jump::{jump, jump_below, jump_equal};
-use crate::perform::{dump, enter, exit, get, hash, notify, notify_all, print, put, wait};
+use crate::perform::{OwnerCall, dump, enter, get, hash, of_owner, print, put};
 use object_program::{Code, Program};
 use plain_monitor::{Ending, Fault, Value};
 
@@ -66,10 +66,10 @@ fn next_at<T: Actor>(program: &Program, thread: &T, instruction: Code) -> Next
         },
         Code::Elem { x, n, i } => element(program, thread, x, n, thread.local(i)),
         Code::Enter { x } => enter(thread, thread.local(x)),
-        Code::Exit { x } => exit(thread, thread.local(x)),
-        Code::Wait { x } => wait(thread, thread.local(x)),
-        Code::Notify { x } => notify(thread, thread.local(x)),
-        Code::NotifyAll { x } => notify_all(thread, thread.local(x)),
+        Code::Exit { x } => of_owner(thread, thread.local(x), OwnerCall::Exit),
+        Code::Wait { x } => of_owner(thread, thread.local(x), OwnerCall::Wait),
+        Code::Notify { x } => of_owner(thread, thread.local(x), OwnerCall::Notify),
+        Code::NotifyAll { x } => of_owner(thread, thread.local(x), OwnerCall::NotifyAll),
         Code::Get { x, o, k } => get(program, thread, x, thread.local(o), k),
         Code::Put { o, k, x } => put(program, thread, thread.local(o), k, thread.local(x)),
         Code::Hash { x, o } => hash(thread, x, thread.local(o)),

@@ -3,7 +3,7 @@
 ghost use Rattle.std.specs.Prelude.{◌≡◌, ◌<◌, ◌^◌, IfOk, IfSome, sum, length};
 ghost use Rattle.plain_machine.specs.Thread.{ThreadState, local, with_local, behind, holds_of};
 ghost use Rattle.plain_machine.specs.Asking.{holds_more, holds_less, ask, held_from, unwinds};
-ghost use Rattle.plain_machine.specs.Ready.{unrun, IsReady, IsReadyToAsk, IsUnwinding};
+ghost use Rattle.plain_machine.specs.inner.Kept.{unrun, IsReady, IsReadyToAsk, IsUnwinding};
 
 use crate::actor::Actor;
 use crate::call::{Asked, Mode};

@@ -5,7 +5,7 @@ use Rattle.std.specs.Str.{bytes_eq}
 use Rattle.clap.specs.Walk.{Row, Rule, first_of, finished, settled, walk, walk_from, nothing_held, with_default}
 use Rattle.clap.specs.Simple.{matches_of}
 use Rattle.run_words.specs.Command.{Text, Given, Values, gathered, is_true, nothing_read, value_of, values_of, valued_names}
-use Rattle.run_words.specs.Clap.{run_app, values_found}
+use Rattle.run_words.specs.inner.Clap.{run_app, values_found}
 use Rattle.run_words.proofs.Rows.{valued, flag, rows_given, first_of_given, no_default, other_than_default, default_is_not_true}
 use Rattle.run_words.proofs.Rules.{run_rules}
 use Rattle.run_words.proofs.Walks.{Stands, walk_gathers, stands_at_first}

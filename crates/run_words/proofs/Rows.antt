@@ -13,7 +13,7 @@ use Rattle.clap.specs.declared.parser.matches.ValueSource.TheVariants.{DefaultVa
 use Rattle.clap.specs.declared.builder.action.ArgAction.TheVariants.{Set, SetTrue}
 use Rattle.clap.proofs.WalkLemmas.{find-map, list_any-map}
 use Rattle.run_words.specs.Command.{Text, Given, is_given, is_true, value_of}
-use Rattle.run_words.specs.Clap.{rule_named}
+use Rattle.run_words.specs.inner.Clap.{rule_named}
 
 -- the rules of an option with a value and of a flag, as the command has them when it is built
 abbrev pub valued : Text → Rule

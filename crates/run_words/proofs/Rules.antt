@@ -7,7 +7,7 @@ use Rattle.clap.specs.Walk.{Rule, arg_by_id, arg_by_long, has_long}
 use Rattle.clap.specs.Simple.{built, is_simple, names_of}
 use Rattle.run_words.specs.declared.words.Kind.TheVariants.{Valued, Flag}
 use Rattle.run_words.specs.Command.{Text, is_one_of, kind_of, valued_names, flag_names}
-use Rattle.run_words.specs.Clap.{run_app}
+use Rattle.run_words.specs.inner.Clap.{run_app}
 use Rattle.run_words.proofs.Rows.{valued, flag}
 
 abbrev pub run_rules : List Rule

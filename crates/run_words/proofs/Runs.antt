@@ -2,7 +2,7 @@
 use Rattle.std.proofs.Common.{◌≡◌, ◌∙◌, ◌<◌, true, false, List, [], ◌∷◌, length, map, refl, sym, ap, arith, Option, Some, None, option_map}
 use Rattle.std.specs.Prelude.{is_some}
 use Rattle.run_words.specs.Command.{Text, Given, Values, accepted, gathered, nothing_read, values_in, values_of}
-use Rattle.run_words.specs.Shape.{has_shape}
+use Rattle.run_words.specs.inner.Shape.{has_shape}
 use Rattle.run_words.proofs.Shapes.{is_some-gathered}
 
 none_given : (o : Option Given) → is_some o ≡ false → option_map values_of o ≡ None

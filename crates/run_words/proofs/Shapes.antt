@@ -9,7 +9,7 @@ use Rattle.clap.proofs.WalkLemmas.{list_any-map}
 use Rattle.run_words.specs.declared.words.Kind.{Kind}
 use Rattle.run_words.specs.declared.words.Kind.TheVariants.{Valued, Flag}
 use Rattle.run_words.specs.Command.{Text, Given, Reading, giving, gathered, after_word, after_word_in, after_met, met_parts, met_as, at_equals, behind_hyphen, is_given, is_one_of, nothing_read, kind_of, is_equals}
-use Rattle.run_words.specs.Shape.{Seen, seen_after, after_form, form_behind, waits_as, has_shape_from, has_shape}
+use Rattle.run_words.specs.inner.Shape.{Seen, seen_after, after_form, form_behind, waits_as, has_shape_from, has_shape}
 
 abbrev names_in : Given → List Text
 names_in = map (λ p. p.0)

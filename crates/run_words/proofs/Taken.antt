@@ -12,7 +12,7 @@ use Rattle.clap.proofs.TakesLemmas.{leaf_takes}
 use Rattle.run_words.specs.declared.words.Kind.{Kind}
 use Rattle.run_words.specs.declared.words.Kind.TheVariants.{Valued, Flag}
 use Rattle.run_words.specs.Command.{Text, Given, Reading, giving, gathered, after_word, after_word_in, after_met, met_parts, met_as, at_equals, behind_hyphen, is_given, kind_of, nothing_read}
-use Rattle.run_words.specs.Clap.{run_app}
+use Rattle.run_words.specs.inner.Clap.{run_app}
 use Rattle.run_words.proofs.Rows.{rows_given, has_row_given, use_valued, use_flag}
 use Rattle.run_words.proofs.Rules.{run_rules, valued_by_long, flag_by_long}
 use Rattle.run_words.proofs.Walks.{At, StandsAt, standing, hyphens, behind_hyphens, not_hyphens, long_by_text, long_of_value, short_of_value, value_is_not_hyphens, fresh_next, walk_steps, walk_gathers, stands_at_first}

@@ -1,4 +1,3 @@
 pub mod Number
 pub mod Command
-pub mod Shape
-pub mod Clap
+pub mod inner

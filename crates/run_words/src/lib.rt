@@ -6,7 +6,7 @@
 #![tactic(auto)]
 
 ghost use Rattle.std.specs.Prelude.{◌≡◌, IfOk, Some, None, Err, map, string_bytes};
-ghost use Rattle.run_words.specs.Clap as told;
+ghost use Rattle.run_words.specs.inner.Clap as told;
 ghost use Rattle.run_words.specs.Command as spec;
 ghost use Rattle.run_words.specs.declared.WordsFault.TheVariants.{Refused};
 

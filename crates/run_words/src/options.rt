@@ -1,7 +1,7 @@
 //! What the words ask for.
 
 ghost use Rattle.std.specs.Prelude.{◌≡◌, option_map};
-ghost use Rattle.run_words.specs.Clap as told;
+ghost use Rattle.run_words.specs.inner.Clap as told;
 ghost use Rattle.run_words.specs.Command as spec;
 ghost use Rattle.run_words.specs.Number as numbers;
 ghost use Rattle.run_words.specs.declared.options.Command.TheVariants.{Make};

@@ -3,7 +3,7 @@
 ghost use Rattle.std.specs.Prelude.{◌≡◌, IfOk, IfErr, Some, List, map, false, string_bytes};
 ghost use Rattle.clap.specs.Words.{app_of, found_of, first_value, kind_of, rule_of};
 ghost use Rattle.clap.specs.declared.error.kind.ErrorKind.TheVariants.{OutOfMemory};
-ghost use Rattle.run_words.specs.Clap as told;
+ghost use Rattle.run_words.specs.inner.Clap as told;
 ghost use Rattle.run_words.specs.Command as spec;
 
 use crate::options::Values;

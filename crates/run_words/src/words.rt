@@ -3,7 +3,7 @@
 ghost use Rattle.std.specs.Prelude.{◌≡◌, IfOk, map, option_map, string_bytes};
 ghost use Rattle.std.specs.List.{list_any, before_first};
 ghost use Rattle.run_words.specs.Command as spec;
-ghost use Rattle.run_words.specs.Shape as shape;
+ghost use Rattle.run_words.specs.inner.Shape as shape;
 
 use std::alloc::{AllocError, Global};
 

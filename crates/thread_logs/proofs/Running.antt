@@ -17,7 +17,8 @@ use Rattle.plain_machine.specs.declared.call.Mode.{Mode}
 use Rattle.plain_machine.specs.declared.call.Mode.TheVariants.{Calling}
 use Rattle.plain_machine.specs.Thread.{ThreadState, Step, Goes, Calls, Stops, step_of, local, on_object, on_slot, owner_only, enters, combines, faults, sets, holds_of, first_of, size_of, is_element, element, jumps_where, jumps_below}
 use Rattle.plain_machine.specs.Running.{instruction_at, after_step, run_on, first_state}
-use Rattle.plain_machine.specs.Ready.{unrun, waits_on}
+use Rattle.plain_machine.specs.Ready.{waits_on}
+use Rattle.plain_machine.specs.inner.Kept.{unrun}
 use Rattle.plain_machine.specs.Machine.{new_machine, is_live}
 
 -- a dump that a thread calls has the number behind those that it has made

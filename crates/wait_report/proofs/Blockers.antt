@@ -14,7 +14,7 @@ use Rattle.plain_machine.specs.Asking.{ask}
 use Rattle.plain_machine.specs.Machine.{PlainMachine, monitor_at, object_at, other_owner}
 use Rattle.plain_machine.specs.Offering.{offered, asked_offer, unless_owned, hash_offer}
 use Rattle.wait_report.specs.Waiting.{wish_of, WaitsFor}
-use Rattle.wait_report.specs.Walk.{blocker}
+use Rattle.wait_report.specs.inner.Walk.{blocker}
 
 -- another owner than u, where there is one
 record IsOther (owner : Option ℕ) (u w : ℕ) : Type 0 where

@@ -9,7 +9,7 @@ use Rattle.plain_machine.specs.Machine.{PlainMachine}
 use Rattle.wait_report.specs.declared.cycles.Link.{Link}
 use Rattle.wait_report.specs.declared.cycles.Cycle.{Cycle}
 use Rattle.wait_report.specs.Cycles.{next_thread, AreLinked, AreApart, IsCircle, IsCycleOf, IsCycle, first_thread, RiseFrom, AreCycles}
-use Rattle.wait_report.specs.Walk.{links_from, cycle_of, cycle_from, cycles_from}
+use Rattle.wait_report.specs.inner.Walk.{links_from, cycle_of, cycle_from, cycles_from}
 use Rattle.wait_report.proofs.Blockers.{waiting_within}
 use Rattle.wait_report.proofs.Walks.{IsWay, IsWayFrom, found_is_way, way_is_found, way_is_apart}
 

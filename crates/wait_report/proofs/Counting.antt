@@ -9,7 +9,7 @@ use Rattle.object_program.specs.declared.program.ObjectDef.{ObjectDef}
 use Rattle.object_program.specs.Program.{total_of}
 use Rattle.lock_journal.proofs.Lists.{left_from}
 use Rattle.wait_report.specs.declared.tallies.Tally.{Tally}
-use Rattle.wait_report.specs.Tallies.{new_tally, had_by, entered_by, tally_at, count_at, HasRoom, HaveRoom, behind_entry, behind_entries}
+use Rattle.wait_report.specs.inner.Tallies.{new_tally, had_by, entered_by, tally_at, count_at, HasRoom, HaveRoom, behind_entry, behind_entries}
 use Rattle.wait_report.proofs.Tallied.{length-behind_entry}
 use Rattle.wait_report.specs.Handovers.{is_handover}
 use Rattle.lock_journal.specs.RunText.{path_number}

@@ -11,7 +11,7 @@ use Rattle.plain_monitor.specs.declared.entry.Logged.{Logged}
 use Rattle.lock_journal.specs.RunText.{path_number}
 use Rattle.wait_report.specs.declared.tallies.Tally.{Tally}
 use Rattle.wait_report.specs.Counts.{paths, is_enter, is_enter_by, enters_by, is_entered}
-use Rattle.wait_report.specs.Tallies.{had_by, entered_by, count_at}
+use Rattle.wait_report.specs.inner.Tallies.{had_by, entered_by, count_at}
 use Rattle.wait_report.proofs.Tallied.{tally_on, tally_through}
 
 -- 1 for an enter of the object by this path

@@ -13,7 +13,7 @@ use Rattle.object_program.specs.Program.{ProgramText, objects_total, shape_of}
 use Rattle.wait_report.specs.declared.tallies.Tally.{Tally}
 use Rattle.wait_report.specs.Handovers.{monitor_of, handovers}
 use Rattle.wait_report.specs.Counts.{paths, enters_by, is_entered, count_of, counts_of}
-use Rattle.wait_report.specs.Tallies.{new_tally, behind_entries, is_counted, count_in, counts_from, count_at}
+use Rattle.wait_report.specs.inner.Tallies.{new_tally, behind_entries, is_counted, count_in, counts_from, count_at}
 use Rattle.wait_report.proofs.Tallied.{tally_through, through_at, length-behind_entries}
 use Rattle.wait_report.proofs.Takers.{through_handovers}
 use Rattle.wait_report.proofs.Entered.{through_adds, counts_are, any_counted}

@@ -9,7 +9,7 @@ use Rattle.plain_monitor.specs.Objects.{PlainObject, take_entry}
 use Rattle.plain_monitor.specs.History.{take_all}
 use Rattle.wait_report.specs.declared.tallies.Tally.{Tally}
 use Rattle.wait_report.specs.Handovers.{monitor_of, is_taking, takers_on, takers_from, is_handover, handovers_from}
-use Rattle.wait_report.specs.Tallies.{had_by, entered_by}
+use Rattle.wait_report.specs.inner.Tallies.{had_by, entered_by}
 use Rattle.wait_report.proofs.Tallied.{tally_on, tally_through}
 use Rattle.wait_report.proofs.Turns.{Keeps, Enters, TurnOf, Turns, named_turns, unnamed_turns}
 

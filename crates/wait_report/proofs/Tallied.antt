@@ -7,7 +7,7 @@ use Rattle.plain_monitor.specs.declared.entry.Entry.TheVariants.{Enter, Resume}
 use Rattle.plain_monitor.specs.declared.entry.Logged.{Logged}
 use Rattle.plain_monitor.proofs.Lists.{get_set_same, get_set_other}
 use Rattle.wait_report.specs.declared.tallies.Tally.{Tally}
-use Rattle.wait_report.specs.Tallies.{new_tally, had_by, entered_by, tally_at, behind_entry, behind_entries}
+use Rattle.wait_report.specs.inner.Tallies.{new_tally, had_by, entered_by, tally_at, behind_entry, behind_entries}
 
 -- the tally of object o behind an entry of thread t
 abbrev pub tally_on : ℕ → Tally → ℕ → Entry → Tally

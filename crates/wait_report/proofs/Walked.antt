@@ -5,7 +5,7 @@ use Rattle.plain_machine.specs.Machine.{PlainMachine}
 use Rattle.plain_machine.specs.Offering.{offered}
 use Rattle.wait_report.specs.declared.cycles.Link.{Link}
 use Rattle.wait_report.specs.declared.cycles.Cycle.{Cycle}
-use Rattle.wait_report.specs.Walk.{blocker, link, links_from, cycle_from, cycles_from}
+use Rattle.wait_report.specs.inner.Walk.{blocker, link, links_from, cycle_from, cycles_from}
 
 -- what is found from thread u on, behind these links
 abbrev pub found_behind : PlainMachine → ℕ → List Link → ℕ → ℕ → Option (List Link)

@@ -7,7 +7,7 @@ use Rattle.plain_machine.specs.Offering.{offered}
 use Rattle.wait_report.specs.declared.cycles.Link.{Link}
 use Rattle.wait_report.specs.Waiting.{WaitsFor}
 use Rattle.wait_report.specs.Cycles.{next_thread, AreLinked, AreApart}
-use Rattle.wait_report.specs.Walk.{blocker, link, links_on, links_from}
+use Rattle.wait_report.specs.inner.Walk.{blocker, link, links_on, links_from}
 use Rattle.wait_report.proofs.Blockers.{blocked_waits, waiting_blocks}
 
 -- links from x on that lead back to `first`, all but x above it

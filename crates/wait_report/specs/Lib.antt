@@ -1,6 +1,5 @@
 pub mod Waiting
 pub mod Cycles
-pub mod Walk
 pub mod Handovers
 pub mod Counts
-pub mod Tallies
+pub mod inner

@@ -4,7 +4,7 @@ ghost use Rattle.std.specs.Prelude.{◌≡◌, ◌≤◌, ◌<◌, ◌^◌, ◌+
 ghost use Rattle.plain_monitor.specs.Order.{order};
 ghost use Rattle.plain_machine.specs.Legal.{IsLegal};
 ghost use Rattle.wait_report.specs.Counts.{counts_of};
-ghost use Rattle.wait_report.specs.Tallies.{count_in, counts_from};
+ghost use Rattle.wait_report.specs.inner.Tallies.{count_in, counts_from};
 
 use crate::tallies::{Tally, count_entry, is_counted, new_tallies};
 use lock_journal::{Merge, RunRecord};

@@ -4,7 +4,7 @@ ghost use Rattle.std.specs.Prelude.{◌≡◌, ◌<◌, ◌≤◌, ◌+◌, ◌^
 ghost use Rattle.lock_journal.specs.RunText.{path_number};
 ghost use Rattle.object_program.specs.Program.{objects_total};
 ghost use Rattle.wait_report.specs.Handovers.{is_handover};
-ghost use Rattle.wait_report.specs.Tallies.{new_tally, had_by, entered_by, tally_at, count_at, behind_entry, HaveRoom, is_counted};
+ghost use Rattle.wait_report.specs.inner.Tallies.{new_tally, had_by, entered_by, tally_at, count_at, behind_entry, HaveRoom, is_counted};
 
 use object_program::Program;
 use plain_monitor::{Entry, NoMemory, Path};

@@ -2,7 +2,7 @@
 
 ghost use Rattle.std.specs.Prelude.{◌≡◌, IfOk, length};
 ghost use Rattle.plain_machine.specs.Offering.{offered};
-ghost use Rattle.wait_report.specs.Walk.{blocker, cycle_from};
+ghost use Rattle.wait_report.specs.inner.Walk.{blocker, cycle_from};
 
 use crate::cycles::{Cycle, Link};
 use plain_machine::{Machine, Offer};

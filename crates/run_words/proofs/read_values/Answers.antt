@@ -1,6 +1,6 @@
 use Rattle.std.proofs.Common.{map, rules}
 use Rattle.std.specs.Prelude.{string_bytes}
-use Rattle.run_words.specs.Clap.{values_held}
+use Rattle.run_words.specs.inner.Clap.{values_held}
 use Rattle.run_words.proofs.Runs.{values_of_no_shape, values_of_words}
 use Rattle.run_words.proofs.read_values.Goals as goal
 

@@ -1,7 +1,7 @@
 use Rattle.std.proofs.Common.{◌≡◌, ◌+◌, ◌≤◌, length}
 use Rattle.bias_check.specs.Lines.{lines_of}
-use Rattle.bias_check.specs.Table.{names_of}
-use Rattle.bias_check.specs.Checking.{first_check, checked_from}
+use Rattle.bias_check.specs.inner.Table.{names_of}
+use Rattle.bias_check.specs.inner.Checking.{first_check, checked_from}
 use Rattle.bias_check.proofs.check.answer.Given as goal
 
 abbrev pub invariant-loop-left : goal.invariant-loop-left

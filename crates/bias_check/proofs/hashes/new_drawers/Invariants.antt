@@ -1,5 +1,5 @@
 use Rattle.std.proofs.Common.{◌≡◌, ◌≤◌, length}
-use Rattle.bias_check.specs.Marks.{drawers_to}
+use Rattle.bias_check.specs.inner.Marks.{drawers_to}
 use Rattle.bias_check.proofs.hashes.new_drawers.Given as goal
 
 abbrev pub invariant-loop-t : goal.invariant-loop-t

@@ -1,5 +1,5 @@
 use Rattle.std.proofs.Common.{◌≡◌, ◌+◌, ◌*◌, ◌≤◌, ◌++◌, drop, length}
-use Rattle.lock_journal.specs.Enters.{counts_text}
+use Rattle.lock_journal.specs.inner.Enters.{counts_text}
 use Rattle.lock_journal.proofs.classes.push_counts.Given as goal
 
 -- what is written and what is to come are the whole

@@ -1,6 +1,6 @@
 use Rattle.std.proofs.Common.{◌≡◌, ◌+◌, drop}
 use Rattle.plain_monitor.specs.declared.entry.Path.{Path}
-use Rattle.lock_journal.specs.Enters.{enters_in, count_at}
+use Rattle.lock_journal.specs.inner.Enters.{enters_in, count_at}
 use Rattle.lock_journal.proofs.enters.count_log.Given as goal
 
 -- what was counted and what is to come are the whole

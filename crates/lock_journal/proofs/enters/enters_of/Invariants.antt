@@ -1,6 +1,6 @@
 use Rattle.std.proofs.Common.{◌≡◌, ◌+◌, ◌*◌, ◌^◌, ◌≤◌, drop, length}
 use Rattle.plain_monitor.specs.declared.entry.Path.{Path}
-use Rattle.lock_journal.specs.Enters.{enters_in_all, count_at}
+use Rattle.lock_journal.specs.inner.Enters.{enters_in_all, count_at}
 use Rattle.lock_journal.proofs.enters.enters_of.Given as goal
 
 -- what was counted and what is to come are the whole, and no log has more entries than memory

@@ -1,6 +1,6 @@
 use Rattle.std.proofs.Common.{◌≡◌, [], refl}
 use Rattle.std.proofs.lemmas.List.{get_or_read_under}
-use Rattle.lock_journal.specs.Merging.{head_of}
+use Rattle.lock_journal.specs.inner.Heads.{head_of}
 use Rattle.lock_journal.proofs.Merging.{least_step}
 use Rattle.lock_journal.proofs.order.least_head.Goals as goal
 

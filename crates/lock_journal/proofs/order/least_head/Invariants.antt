@@ -1,4 +1,4 @@
-use Rattle.lock_journal.specs.Merging.{IsLeastOf}
+use Rattle.lock_journal.specs.inner.Heads.{IsLeastOf}
 use Rattle.lock_journal.proofs.order.least_head.Given as goal
 
 -- the least head of the threads so far

@@ -1,5 +1,5 @@
 use Rattle.std.proofs.Common.{◌∙◌, sym, drop}
-use Rattle.object_program.specs.Steps.{fails}
+use Rattle.object_program.specs.inner.Steps.{fails}
 use Rattle.object_program.proofs.Operands.{some_operand-none}
 use Rattle.object_program.proofs.cause.some_operand.Goals as goal
 

@@ -1,7 +1,7 @@
 use Rattle.std.proofs.Common.{◌≡◌, drop}
 use Rattle.object_program.specs.Refusal.{some_operand}
-use Rattle.object_program.specs.Left.{words_in}
-use Rattle.object_program.specs.Steps.{fails}
+use Rattle.object_program.specs.inner.Left.{words_in}
+use Rattle.object_program.specs.inner.Steps.{fails}
 use Rattle.object_program.proofs.cause.some_operand.Given as goal
 
 -- the operands that are left decide

@@ -1,7 +1,7 @@
 use Rattle.std.proofs.Common.{◌≡◌}
 use Rattle.std.specs.Prelude.{option_copied}
 use Rattle.object_program.specs.Refusal.{is_closed}
-use Rattle.object_program.specs.Left.{lines_ahead, left_length}
+use Rattle.object_program.specs.inner.Left.{lines_ahead, left_length}
 use Rattle.object_program.proofs.labels.is_closed.Given as goal
 
 -- the lines that are left close the section as all do

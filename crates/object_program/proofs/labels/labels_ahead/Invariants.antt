@@ -1,7 +1,7 @@
 use Rattle.std.proofs.Common.{◌≡◌, ◌+◌, ◌≤◌, ◌++◌}
 use Rattle.std.specs.Prelude.{option_copied}
 use Rattle.object_program.specs.Reading.{labels_ahead}
-use Rattle.object_program.specs.Left.{lines_ahead, left_length}
+use Rattle.object_program.specs.inner.Left.{lines_ahead, left_length}
 use Rattle.object_program.proofs.labels.labels_ahead.Given as goal
 
 -- the labels so far and those of the lines that are left are all, and each line is counted once at most

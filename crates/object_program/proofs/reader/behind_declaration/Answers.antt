@@ -1,7 +1,7 @@
 use Rattle.std.proofs.Common.{refl}
 use Rattle.std.specs.Prelude.{option_copied}
-use Rattle.object_program.specs.Left.{words_in, lines_ahead}
-use Rattle.object_program.specs.Steps.{before_of}
+use Rattle.object_program.specs.inner.Left.{words_in, lines_ahead}
+use Rattle.object_program.specs.inner.Steps.{before_of}
 use Rattle.object_program.proofs.Lines.{array_counted}
 use Rattle.object_program.proofs.reader.behind_declaration.Goals as goal
 

@@ -1,8 +1,8 @@
 use Rattle.std.proofs.Common.{◌≡◌, false, sym, None, Some}
 use Rattle.std.specs.Prelude.{option_copied}
 use Rattle.object_program.specs.Refusal.{keyword_cause, passes_limit}
-use Rattle.object_program.specs.Left.{words_in, lines_ahead}
-use Rattle.object_program.specs.Steps.{before_of, text_of, thread_of, IsAheadOf}
+use Rattle.object_program.specs.inner.Left.{words_in, lines_ahead}
+use Rattle.object_program.specs.inner.Steps.{before_of, text_of, thread_of, IsAheadOf}
 use Rattle.object_program.specs.declared.keyword.Keyword.TheVariants.{Label}
 use Rattle.object_program.proofs.AllowedCause.{no_cause}
 use Rattle.object_program.proofs.Lines.{instruction_kind, instruction_room, next_label, behind_label, behind_instruction}

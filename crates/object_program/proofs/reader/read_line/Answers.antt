@@ -1,6 +1,6 @@
 use Rattle.std.proofs.Common.{sym}
 use Rattle.std.specs.Prelude.{option_copied}
-use Rattle.object_program.specs.Left.{words_in, lines_ahead}
+use Rattle.object_program.specs.inner.Left.{words_in, lines_ahead}
 use Rattle.object_program.proofs.Lines.{ahead_of}
 use Rattle.object_program.proofs.reader.read_line.Goals as goal
 

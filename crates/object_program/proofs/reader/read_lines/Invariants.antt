@@ -2,8 +2,8 @@ use Rattle.std.proofs.Common.{◌≡◌, ◌+◌, ◌≤◌}
 use Rattle.std.specs.Prelude.{option_copied}
 use Rattle.object_program.specs.Reading.{nothing}
 use Rattle.object_program.specs.Refusal.{read_from, lines_of}
-use Rattle.object_program.specs.Left.{lines_ahead, left_length}
-use Rattle.object_program.specs.Steps.{before_of, HasAhead}
+use Rattle.object_program.specs.inner.Left.{lines_ahead, left_length}
+use Rattle.object_program.specs.inner.Steps.{before_of, HasAhead}
 use Rattle.object_program.proofs.reader.read_lines.Given as goal
 
 -- the lines that are left decide, and each is counted

@@ -2,7 +2,7 @@ use Rattle.std.proofs.Common.{◌≡◌, ℕ, ◌==◌, false, nat_lt, List, len
 use Rattle.std.proofs.lemmas.Bool.Decides.{nat_tests}
 use Rattle.object_program.specs.Reading.{Before, nothing}
 use Rattle.object_program.specs.Refusal.{read_from, lines_of, program_of}
-use Rattle.object_program.specs.Steps.{before_of}
+use Rattle.object_program.specs.inner.Steps.{before_of}
 use Rattle.object_program.proofs.Allowed.{allowed_law}
 use Rattle.object_program.proofs.reader.read_program.Goals as goal
 

@@ -1,5 +1,5 @@
 use Rattle.std.proofs.Common.{◌≡◌, length}
-use Rattle.object_program.specs.Left.{words_in}
+use Rattle.object_program.specs.inner.Left.{words_in}
 use Rattle.object_program.proofs.text.next_word.Given as goal
 
 -- what is left has the words

@@ -1,5 +1,5 @@
 use Rattle.std.proofs.Common.{sym, ◌∙◌}
-use Rattle.object_program.specs.Left.{words_in}
+use Rattle.object_program.specs.inner.Left.{words_in}
 use Rattle.object_program.proofs.Cuts.{drop-tail}
 use Rattle.object_program.proofs.text.word_at.Goals as goal
 

@@ -1,5 +1,5 @@
 use Rattle.std.proofs.Common.{◌≡◌, drop}
-use Rattle.object_program.specs.Left.{words_in}
+use Rattle.object_program.specs.inner.Left.{words_in}
 use Rattle.object_program.proofs.text.word_at.Given as goal
 
 -- those are left that were not passed

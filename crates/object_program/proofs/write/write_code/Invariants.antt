@@ -1,6 +1,6 @@
 use Rattle.std.proofs.Common.{◌≡◌, ◌++◌, take}
 use Rattle.object_program.specs.Canonical.{code_lines}
-use Rattle.object_program.specs.Written.{lines_text}
+use Rattle.object_program.specs.inner.Written.{lines_text}
 use Rattle.object_program.proofs.write.write_code.Given as goal
 
 abbrev pub invariant-loop-i : goal.invariant-loop-i

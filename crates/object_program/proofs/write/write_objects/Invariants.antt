@@ -1,6 +1,6 @@
 use Rattle.std.proofs.Common.{◌≡◌, ◌++◌, map, take}
 use Rattle.object_program.specs.Canonical.{object_words}
-use Rattle.object_program.specs.Written.{lines_text}
+use Rattle.object_program.specs.inner.Written.{lines_text}
 use Rattle.object_program.proofs.write.write_objects.Given as goal
 
 abbrev pub invariant-loop-object : goal.invariant-loop-object

@@ -4,7 +4,7 @@ use Rattle.clap.specs.Words.{app_of, found_of, first_of, first_value, is_simple,
 use Rattle.clap.specs.Takes.{takes}
 use Rattle.clap.proofs.TakesLemmas.{passed_up}
 use Rattle.clap.proofs.WalkLemmas.{first_value-rows}
-use Rattle.run_words.specs.Clap.{run_app, values_found}
+use Rattle.run_words.specs.inner.Clap.{run_app, values_found}
 use Rattle.run_words.proofs.Rules.{run_is_simple}
 use Rattle.run_words.proofs.Taken.{takes_gathered}
 use Rattle.run_words.proofs.Parses.{values_found_alike, values_of_parse}

@@ -2,7 +2,7 @@ use Rattle.std.proofs.Common.{◌∙◌, ℕ, ◌+◌, List, [], map, drop, sym,
 use Rattle.std.specs.Borrow.{Bor}
 use Rattle.clap.specs.Words.{app_of}
 use Rattle.clap.specs.Simple.{with_rule}
-use Rattle.run_words.specs.Clap.{with_options}
+use Rattle.run_words.specs.inner.Clap.{with_options}
 use Rattle.run_words.proofs.Texts.{rest_at_index}
 use Rattle.run_words.proofs.parser.with_options.Goals as goal
 

@@ -1,6 +1,6 @@
 use Rattle.std.proofs.Common.{◌≡◌, map, drop}
 use Rattle.clap.specs.Words.{app_of}
-use Rattle.run_words.specs.Clap.{with_options}
+use Rattle.run_words.specs.inner.Clap.{with_options}
 use Rattle.run_words.proofs.parser.with_options.Given as goal
 
 -- The command with the options that are left is the command with all of them.

@@ -1,7 +1,7 @@
 use Rattle.std.proofs.Common.{◌≡◌, ◌∙◌, ◌+◌, map, drop, sym, ap, rules, arith, false, Some, None}
 use Rattle.std.specs.Prelude.{string_bytes}
 use Rattle.std.specs.Option.{option_map_or}
-use Rattle.run_words.specs.Shape.{Seen, has_shape_from, seen_after}
+use Rattle.run_words.specs.inner.Shape.{Seen, has_shape_from, seen_after}
 use Rattle.run_words.proofs.Texts.{rest_at_item}
 use Rattle.run_words.proofs.words.has_shape.Goals as goal
 

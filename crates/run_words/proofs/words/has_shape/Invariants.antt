@@ -1,6 +1,6 @@
 use Rattle.std.proofs.Common.{◌≡◌, map, drop}
 use Rattle.std.specs.Prelude.{string_bytes}
-use Rattle.run_words.specs.Shape.{has_shape, has_shape_from}
+use Rattle.run_words.specs.inner.Shape.{has_shape, has_shape_from}
 use Rattle.run_words.proofs.words.has_shape.Given as goal
 
 -- The words that are left have a shape behind the names so far just where all words have one.

@@ -8,7 +8,7 @@ use Rattle.plain_machine.specs.Machine.{new_machine}
 use Rattle.lock_journal.specs.Merging.{left_of}
 use Rattle.wait_report.specs.declared.counts.ObjectCount.{ObjectCount}
 use Rattle.wait_report.specs.declared.tallies.Tally.{Tally}
-use Rattle.wait_report.specs.Tallies.{behind_entry, behind_entries, HaveRoom, counts_from}
+use Rattle.wait_report.specs.inner.Tallies.{behind_entry, behind_entries, HaveRoom, counts_from}
 use Rattle.wait_report.proofs.Counting.{entry_on}
 use Rattle.wait_report.proofs.Few.{objects_take}
 use Rattle.wait_report.proofs.Listed.{all_listed}

@@ -2,7 +2,7 @@ use Rattle.std.proofs.Common.{◌≡◌, ◌≤◌, length, replicate, vec_len}
 use Rattle.plain_monitor.specs.Order.{order}
 use Rattle.object_program.specs.Program.{objects_total}
 use Rattle.lock_journal.specs.Merging.{left_of}
-use Rattle.wait_report.specs.Tallies.{new_tally, behind_entries, HaveRoom}
+use Rattle.wait_report.specs.inner.Tallies.{new_tally, behind_entries, HaveRoom}
 use Rattle.wait_report.proofs.counts.count_objects.Given as goal
 
 -- behind the entries that are left the tallies are those behind all, and they have room for these

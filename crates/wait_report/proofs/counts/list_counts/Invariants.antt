@@ -1,5 +1,5 @@
 use Rattle.std.proofs.Common.{◌≡◌, ◌++◌, drop}
-use Rattle.wait_report.specs.Tallies.{counts_from}
+use Rattle.wait_report.specs.inner.Tallies.{counts_from}
 use Rattle.wait_report.proofs.counts.list_counts.Given as goal
 
 -- the counts so far, and those of the objects that are left, are all

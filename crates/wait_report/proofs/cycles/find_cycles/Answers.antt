@@ -1,5 +1,5 @@
 use Rattle.std.proofs.Common.{◌≡◌, ◌-◌, ◌++◌, option_to_list, length, sym, ap, ◌∙◌, subst, arith, append-nil}
-use Rattle.wait_report.specs.Walk.{cycle_from, cycles_from}
+use Rattle.wait_report.specs.inner.Walk.{cycle_from, cycles_from}
 use Rattle.wait_report.specs.Cycles.{AreCycles}
 use Rattle.wait_report.proofs.Walked.{cycles_on}
 use Rattle.wait_report.proofs.Circles.{all_are_cycles}

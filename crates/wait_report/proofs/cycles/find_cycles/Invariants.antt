@@ -1,5 +1,5 @@
 use Rattle.std.proofs.Common.{◌≡◌, ◌-◌, ◌++◌}
-use Rattle.wait_report.specs.Walk.{cycles_from}
+use Rattle.wait_report.specs.inner.Walk.{cycles_from}
 use Rattle.wait_report.proofs.cycles.find_cycles.Given as goal
 
 -- the cycles so far, and those from here on, are all

@@ -1,6 +1,6 @@
 use Rattle.std.proofs.Common.{◌≡◌, ◌++◌, drop, replicate}
 use Rattle.object_program.specs.Program.{total_of}
-use Rattle.wait_report.specs.Tallies.{new_tally}
+use Rattle.wait_report.specs.inner.Tallies.{new_tally}
 use Rattle.wait_report.proofs.tallies.new_tallies.Given as goal
 
 -- the tallies so far, and those of the declarations that are left, are all

@@ -1,5 +1,5 @@
 use Rattle.std.proofs.Common.{◌≡◌, ◌++◌, replicate}
-use Rattle.wait_report.specs.Tallies.{new_tally}
+use Rattle.wait_report.specs.inner.Tallies.{new_tally}
 use Rattle.wait_report.proofs.tallies.push_new.Given as goal
 
 abbrev pub invariant-loop : goal.invariant-loop

@@ -1,7 +1,7 @@
 use Rattle.std.proofs.Common.{◌≡◌, ℕ, ◌-◌, ◌+◌, ◌++◌, [], ◌∷◌, Option, Some, None, option_map, sym, ap, ◌∙◌, arith}
 use Rattle.std.proofs.lemmas.Grind.{common_steps}
 use Rattle.plain_machine.specs.Offering.{offered}
-use Rattle.wait_report.specs.Walk.{blocker, link, cycle_of}
+use Rattle.wait_report.specs.inner.Walk.{blocker, link, cycle_of}
 use Rattle.wait_report.proofs.Walked.{found_behind, found_none, found_less, found_end, found_on}
 use Rattle.wait_report.proofs.walk.walk.Goals as goal
 

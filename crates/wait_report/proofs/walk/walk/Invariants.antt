@@ -1,5 +1,5 @@
 use Rattle.std.proofs.Common.{◌≡◌, ◌-◌, ◌++◌, option_map}
-use Rattle.wait_report.specs.Walk.{links_from}
+use Rattle.wait_report.specs.inner.Walk.{links_from}
 use Rattle.wait_report.proofs.walk.walk.Given as goal
 
 -- the links so far, and those that are found from here on, are all

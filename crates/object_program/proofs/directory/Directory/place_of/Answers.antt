@@ -1,7 +1,7 @@
 use Rattle.std.proofs.Common.{◌≡◌, false, map, ◌∙◌, arith}
 use Rattle.std.proofs.lemmas.Grind.{common_steps}
 use Rattle.object_program.specs.Name.{is_name}
-use Rattle.object_program.specs.Directory.{place_from}
+use Rattle.object_program.specs.inner.Places.{place_from}
 use Rattle.object_program.proofs.Directories.{not_among, place_is}
 use Rattle.object_program.proofs.directory.Directory.place_of.Goals as goal
 

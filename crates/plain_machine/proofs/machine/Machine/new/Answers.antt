@@ -1,6 +1,6 @@
 use Rattle.std.proofs.Common.{ℕ, length, ap, subst, ◌∙◌}
 use Rattle.std.proofs.lemmas.List.{length-map}
-use Rattle.plain_machine.specs.Sound.{AreKept}
+use Rattle.plain_machine.specs.inner.Sound.{AreKept}
 use Rattle.plain_machine.proofs.Starts.{beside_start}
 use Rattle.plain_machine.proofs.machine.Machine.new.Goals as goal
 

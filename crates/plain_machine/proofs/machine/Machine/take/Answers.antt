@@ -5,7 +5,7 @@ use Rattle.plain_machine.specs.Thread.{ThreadState}
 use Rattle.plain_machine.specs.Asking.{behind_entry}
 use Rattle.plain_machine.specs.Machine.{code_of}
 use Rattle.plain_machine.specs.MachineView.{plain_machine}
-use Rattle.plain_machine.specs.Ready.{holds_behind}
+use Rattle.plain_machine.specs.inner.Kept.{holds_behind}
 use Rattle.plain_machine.proofs.Behind.{IsAnswered, sound_behind, length_behind, same_read, takable}
 use Rattle.plain_machine.proofs.Taking.{taken}
 use Rattle.plain_machine.proofs.machine.Machine.take.Goals as goal

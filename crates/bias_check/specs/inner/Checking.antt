@@ -12,8 +12,8 @@ use Rattle.bias_check.specs.declared.answer.Checked.TheVariants.{Legal, NoStep, 
 use Rattle.bias_check.specs.declared.answer.CheckFault.{CheckFault}
 use Rattle.bias_check.specs.declared.answer.CheckFault.TheVariants.{Unreadable}
 use Rattle.bias_check.specs.Answer.{state_of}
-use Rattle.bias_check.specs.Marks.{new_hashes, noted, is_bad}
-use Rattle.bias_check.specs.Table.{read_line}
+use Rattle.bias_check.specs.inner.Marks.{new_hashes, noted, is_bad}
+use Rattle.bias_check.specs.inner.Table.{read_line}
 
 abbrev pub is_above : Option (ℕ × ℕ) → ℕ → ℕ → Bool
 is_above None stamp thread = true

@@ -4,7 +4,7 @@ use Rattle.object_program.specs.Program.{ProgramText}
 use Rattle.object_program.specs.Valid.{is_among}
 use Rattle.object_program.specs.Reading.{Before, ends_section}
 use Rattle.object_program.specs.Refusal.{names_before, is_bad_name, is_twice, is_bad_number, is_closed, is_end}
-use Rattle.object_program.specs.Labels.{labels_from, labels_at}
+use Rattle.object_program.specs.inner.Labels.{labels_from, labels_at}
 use Rattle.object_program.specs.declared.program.ThreadDef.{ThreadDef}
 use Rattle.object_program.specs.declared.operand.Space.{Space}
 use Rattle.object_program.specs.declared.operand.Space.TheVariants.{Labels}

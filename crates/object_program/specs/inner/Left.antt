@@ -1,6 +1,7 @@
 -- What is left of a text while it is read.
-use Rattle.std.specs.Prelude.{◌+◌, ◌==◌, ℕ, not, List, [], ◌∷◌, filter, length, map, Option, Some, None, if◌then◌else◌}
+use Rattle.std.specs.Prelude.{◌+◌, ◌≤◌, ◌==◌, ℕ, not, List, [], ◌∷◌, filter, length, map, Option, Some, None, if◌then◌else◌}
 use Rattle.std.specs.List.{slice_split}
+use Rattle.object_program.specs.Limits.{most_bytes}
 use Rattle.object_program.specs.Text.{raw_lines, without_return, is_blank, is_empty}
 
 -- the lines of what is left, with their carriage returns; behind the last line nothing is left
@@ -29,3 +30,7 @@ words_from part rest = if length part == 0 then words_behind rest else part ∷ 
 abbrev pub left_length : Option (List ℕ) → ℕ
 left_length None = 0
 left_length (Some text) = length text + 1
+
+-- what is left of a text of the greatest length
+abbrev pub IsOfText : Option (List ℕ) → Type 0
+IsOfText left = left_length left ≤ most_bytes + 1

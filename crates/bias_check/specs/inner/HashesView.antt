@@ -1,7 +1,7 @@
 -- What contracts see of `Hashes`.
 use Rattle.std.specs.Prelude.{◌≤◌, length}
 use Rattle.bias_check.specs.declared.hashes.Hashes.TheInside.{Inside}
-use Rattle.bias_check.specs.HashState.{HashState}
+use Rattle.bias_check.specs.inner.HashState.{HashState}
 
 abbrev pub hash_state : Inside → HashState
 hash_state a = record { marks = a.marks.items; drawers = a.drawers.items }

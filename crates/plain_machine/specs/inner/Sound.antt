@@ -1,11 +1,13 @@
 -- What is kept true of a machine, so that no count and no room of a monitor gives out.
-use Rattle.std.specs.Prelude.{◌≡◌, ℕ, ◌+◌, ◌≤◌, ◌==◌, if◌then◌else◌, List, length, sum, slice_index_or, Option, Some, None}
+use Rattle.std.specs.Prelude.{◌≡◌, ℕ, ◌+◌, ◌≤◌, if◌then◌else◌, List, length, sum, slice_index_or, Option, Some, None}
 use Rattle.std.specs.List.{All, sum_by}
 use Rattle.plain_monitor.specs.Monitor.{PlainMonitor}
 use Rattle.plain_machine.specs.Thread.{ThreadState, holds_of}
 use Rattle.plain_machine.specs.Machine.{PlainMachine}
-use Rattle.plain_machine.specs.Ready.{unrun, IsReady, waits_on}
-use Rattle.plain_machine.specs.Takable.{monitor_in}
+use Rattle.plain_machine.specs.ReachedMonitor.{times_in, counts_in}
+use Rattle.plain_machine.specs.Ready.{waits_on}
+use Rattle.plain_machine.specs.inner.Kept.{unrun, IsReady}
+use Rattle.plain_machine.specs.inner.Takable.{monitor_in}
 
 abbrev pub thread_in : List ThreadState → ℕ → ThreadState
 thread_in threads t = slice_index_or threads t (unrun 0 0 0)
@@ -19,17 +21,6 @@ owner_holds threads o (Some t) = holds_of (thread_in threads t) o
 abbrev pub IsCounted : List ThreadState → ℕ → PlainMonitor → Type 0
 IsCounted threads o m = m.count ≤ owner_holds threads o m.owner
 
--- the sum of what thread t's places in the list weigh
-abbrev pub tally : (ℕ × ℕ → ℕ) → List (ℕ × ℕ) → ℕ → ℕ
-tally weight ps t = sum_by (λ p. if p.0 == t then weight p else 0) ps
-
--- how often thread t stands in the list, and the sum of its counts there
-abbrev pub times : List (ℕ × ℕ) → ℕ → ℕ
-times ps t = tally (λ p. 1) ps t
-
-abbrev pub dues : List (ℕ × ℕ) → ℕ → ℕ
-dues ps t = tally (λ p. p.1) ps t
-
 -- the number, for a thread that waits on object o; 0 for each other
 abbrev pub while_waiting : ThreadState → ℕ → ℕ → ℕ
 while_waiting s o n = if waits_on s.mode o then n else 0
@@ -37,8 +28,8 @@ while_waiting s o n = if waits_on s.mode o then n else 0
 -- thread t, in this state, waits or was called at most once at object o, and only while it waits on it; it gets no higher count
 -- back than its holds
 pub record IsListed (s : ThreadState) (o t : ℕ) (m : PlainMonitor) : Type 0 where
-  pub once : times m.waits t + times m.called t ≤ while_waiting s o 1
-  pub due : dues m.waits t + dues m.called t ≤ while_waiting s o (holds_of s o)
+  pub once : times_in m.waits t + times_in m.called t ≤ while_waiting s o 1
+  pub due : counts_in m.waits t + counts_in m.called t ≤ while_waiting s o (holds_of s o)
 
 abbrev pub AreListed : List ThreadState → ℕ → PlainMonitor → Type 0
 AreListed threads o m = (t : ℕ) → IsListed (thread_in threads t) o t m

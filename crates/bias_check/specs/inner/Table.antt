@@ -19,8 +19,8 @@ use Rattle.bias_check.specs.declared.entries.EntryRead.{EntryRead}
 use Rattle.bias_check.specs.declared.entries.LineRead.{LineRead}
 use Rattle.bias_check.specs.declared.spelled.Verb.{Verb}
 use Rattle.bias_check.specs.declared.spelled.Verb.TheVariants as verb
-use Rattle.bias_check.specs.Spelled.{spelled, verbs, paths, faults}
-use Rattle.bias_check.specs.Words.{before_last, unended, words_of}
+use Rattle.bias_check.specs.inner.Spelled.{spelled, verbs, paths, faults}
+use Rattle.bias_check.specs.inner.Words.{before_last, unended, words_of}
 
 abbrev pub names_of : ProgramText → Names
 names_of p = record { threads = map (λ t. t.name) p.threads; objects = p.objects }

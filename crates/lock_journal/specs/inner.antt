@@ -1,0 +1,4 @@
+-- What only the private contracts of this crate cite: its own steps and invariants.
+pub mod Enters
+pub mod LineTexts
+pub mod Heads
