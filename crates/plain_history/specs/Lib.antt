@@ -5,3 +5,4 @@ pub mod Sound
 pub mod Joined
 pub mod HeldByLog
 pub mod EnterPaths
+pub mod ExactStamps
