@@ -1,0 +1,90 @@
+-- Which of a log's hashes are draws: the first of each object.
+use Rattle.std.proofs.Common.{◌≡◌, ℕ, zero, suc, ◌+◌, ◌==◌, not, ◌||◌, Bool, true, false, cond, eq-eqb, List, [], ◌∷◌, slice_get, Option, Some, None, is_some, refl, sym, ap, ◌∙◌, subst, arith}
+use Rattle.std.proofs.lemmas.Bool.{false≢true, or_parts, or_from, eqb-true}
+use Rattle.plain_monitor.specs.declared.entry.Entry.{Entry}
+use Rattle.plain_monitor.specs.declared.entry.Entry.TheVariants as entry
+use Rattle.plain_monitor.specs.declared.entry.Logged.{Logged}
+use Rattle.plain_history.specs.EnterPaths.{is_hash, has_hash}
+use Rattle.core_world.specs.Clauses.Draws.{Draw, draw_in, drawn_by, drawn_for, draws_for}
+use Rattle.lone_logs.specs.LoneRun.{NoneIsDrawnBehind, DrawsComeFirst}
+
+-- the objects of which a hash was logged, with this entry
+abbrev pub seen_with : Entry → (ℕ → Bool) → ℕ → Bool
+seen_with e seen o = is_hash o e || seen o
+
+-- a hash is drawn exactly where none of its object was seen before
+abbrev pub IsDrawnFirst : (ℕ → Bool) → Entry → Type 0
+IsDrawnFirst seen (entry.Hash o value drawn) = is_some drawn ≡ not (seen o)
+IsDrawnFirst seen e = Unit {0}
+
+abbrev pub AreDrawnFirst : (ℕ → Bool) → List Logged → Type 0
+AreDrawnFirst seen [] = Unit {0}
+AreDrawnFirst seen (l ∷ log) = IsDrawnFirst seen l.entry × AreDrawnFirst (seen_with l.entry seen) log
+
+-- what is left of a log has one draw for each object that was not seen, and none for one that was
+record HasOneLeft (seen : ℕ → Bool) (log : List Logged) : Type 0 where
+  one : (o : ℕ) → seen o ≡ false → has_hash o log ≡ true → draws_for o log ≡ 1
+  none : (o : ℕ) → seen o ≡ true → draws_for o log ≡ 0
+
+-- an entry that is no hash of the object draws none for it
+other_draws_none : (o : ℕ) (e : Entry) → is_hash o e ≡ false → drawn_for o (draw_in e) ≡ 0
+other_draws_none o (entry.Hash k v (Some n)) h = ap (λ b. cond b 1 0) h
+other_draws_none o (entry.Hash k v None) h = refl
+other_draws_none o e h = refl
+
+none_behind : (o : ℕ) (e : Entry) (log : List Logged) → is_hash o e ≡ true → NoneIsDrawnBehind e log → draws_for o log ≡ 0
+none_behind o (entry.Hash k v d) log h n = subst (λ (i : ℕ). draws_for i log ≡ 0) (eqb-true k o h) n
+none_behind o e log h n = absurd (false≢true h)
+
+left_with : (seen : ℕ → Bool) (l : Logged) (log : List Logged) → NoneIsDrawnBehind l.entry log → HasOneLeft seen (l ∷ log)
+    → HasOneLeft (seen_with l.entry seen) log
+left_with seen l log n h = record { one = one_left; none = none_left }
+  where
+    one_left : (o : ℕ) → seen_with l.entry seen o ≡ false → has_hash o log ≡ true → draws_for o log ≡ 1
+    one_left o s has =
+        let parts = or_parts (is_hash o l.entry) (seen o) s in
+        let nothing = other_draws_none o l.entry parts.0 in
+        let all = h.one o parts.1 (ap (λ b. b || has_hash o log) parts.0 ∙ has) in
+        omega (arith, nothing, all)
+
+    by_entry : (o : ℕ) (b : Bool) → is_hash o l.entry ≡ b → (b || seen o) ≡ true → draws_for o log ≡ 0
+    by_entry o true e s = none_behind o l.entry log e n
+    by_entry o false e s = let all = h.none o s in omega (arith, all)
+
+    none_left : (o : ℕ) → seen_with l.entry seen o ≡ true → draws_for o log ≡ 0
+    none_left o s = by_entry o (is_hash o l.entry) refl s
+
+drawn_first : (seen : ℕ → Bool) (l : Logged) (e : Entry) (log : List Logged) → l.entry ≡ e → NoneIsDrawnBehind e log → HasOneLeft seen (l ∷ log) → IsDrawnFirst seen e
+drawn_first seen l (entry.Hash o v d) log is n h = by_draw d is
+  where
+    here : (o == o) ≡ true
+    here = eq-eqb o o refl
+
+    by_seen : (b : Bool) (d : Option ℕ) → seen o ≡ b → l.entry ≡ entry.Hash o v d → is_some d ≡ not b
+    by_seen true None s at = refl
+    by_seen false (Some k) s at = refl
+    by_seen true (Some k) s at =
+        let none = h.none o s in
+        let draws : drawn_for o (draw_in l.entry) ≡ 1 = ap (λ x. drawn_for o (draw_in x)) at ∙ ap (λ b. cond b 1 0) here in
+        absurd (omega (arith, none, draws))
+    by_seen false None s at =
+        let hashes : has_hash o (l ∷ log) ≡ true = ap (λ x. is_hash o x || has_hash o log) at ∙ ap (λ b. b || has_hash o log) here in
+        let one = h.one o s hashes in
+        let draws : drawn_for o (draw_in l.entry) ≡ 0 = ap (λ x. drawn_for o (draw_in x)) at in
+        absurd (omega (arith, one, draws, n))
+
+    by_draw : (d : Option ℕ) → l.entry ≡ entry.Hash o v d → is_some d ≡ not (seen o)
+    by_draw d at = by_seen (seen o) d refl at
+drawn_first seen l e log is n h = tt
+
+are_drawn_first : (seen : ℕ → Bool) (log : List Logged) → DrawsComeFirst log → HasOneLeft seen log → AreDrawnFirst seen log
+are_drawn_first seen [] d h = tt
+are_drawn_first seen (l ∷ log) d h =
+    (drawn_first seen l l.entry log refl d.0 h, are_drawn_first (seen_with l.entry seen) log d.1 (left_with seen l log d.0 h))
+
+abbrev pub nothing_seen : ℕ → Bool
+nothing_seen o = false
+
+-- of a whole log
+pub drawn_at_first : (log : List Logged) → DrawsComeFirst log → ((o : ℕ) → has_hash o log ≡ true → draws_for o log ≡ 1) → AreDrawnFirst nothing_seen log
+drawn_at_first log d one = are_drawn_first nothing_seen log d (record { one = λ o s has. one o has; none = λ o s. absurd (false≢true s) })

@@ -1,0 +1,3 @@
+mod OneLog
+mod Drawing
+mod Hashed
