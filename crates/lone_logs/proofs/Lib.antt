@@ -1,3 +1,6 @@
 mod OneLog
 mod Drawing
 mod Hashed
+mod Fitting
+mod Ending
+mod OneWay
