@@ -1,12 +1,13 @@
 -- Which of a log's hashes are draws: the first of each object.
-use Rattle.std.proofs.Common.{◌≡◌, ℕ, zero, suc, ◌+◌, ◌==◌, not, ◌||◌, Bool, true, false, cond, eq-eqb, List, [], ◌∷◌, slice_get, Option, Some, None, is_some, refl, sym, ap, ◌∙◌, subst, arith}
-use Rattle.std.proofs.lemmas.Bool.{false≢true, or_parts, or_from, eqb-true}
+use Rattle.std.proofs.Common.{◌≡◌, ℕ, ◌==◌, not, ◌||◌, Bool, true, false, cond, eq-eqb, List, [], ◌∷◌, ◌++◌, Option, Some, None, is_some, refl, sym, ap, ◌∙◌, subst, arith}
+use Rattle.std.proofs.lemmas.Bool.{false≢true, or_parts, eqb-true}
 use Rattle.plain_monitor.specs.declared.entry.Entry.{Entry}
 use Rattle.plain_monitor.specs.declared.entry.Entry.TheVariants as entry
 use Rattle.plain_monitor.specs.declared.entry.Logged.{Logged}
 use Rattle.plain_history.specs.EnterPaths.{is_hash, has_hash}
-use Rattle.core_world.specs.Clauses.Draws.{Draw, draw_in, drawn_by, drawn_for, draws_for}
-use Rattle.lone_logs.specs.LoneRun.{NoneIsDrawnBehind, DrawsComeFirst}
+use Rattle.core_world.specs.Clauses.Draws.{draw_in, drawn_for, draws_for}
+use Rattle.core_world.specs.Threads.Stages.{one_if}
+use Rattle.lone_logs.specs.LoneRun.{DrawsComeFirst}
 
 -- the objects of which a hash was logged, with this entry
 abbrev pub seen_with : Entry → (ℕ → Bool) → ℕ → Bool
@@ -20,6 +21,56 @@ IsDrawnFirst seen e = Unit {0}
 abbrev pub AreDrawnFirst : (ℕ → Bool) → List Logged → Type 0
 AreDrawnFirst seen [] = Unit {0}
 AreDrawnFirst seen (l ∷ log) = IsDrawnFirst seen l.entry × AreDrawnFirst (seen_with l.entry seen) log
+
+-- behind a hash of an object the log has no draw for the object
+abbrev NoneIsDrawnBehind : Entry → List Logged → Type 0
+NoneIsDrawnBehind (entry.Hash o value drawn) later = draws_for o later ≡ 0
+NoneIsDrawnBehind e later = Unit {0}
+
+abbrev NoneAreDrawnBehind : List Logged → Type 0
+NoneAreDrawnBehind [] = Unit {0}
+NoneAreDrawnBehind (l ∷ log) = NoneIsDrawnBehind l.entry log × NoneAreDrawnBehind log
+
+-- no entry of these is a draw for the object
+abbrev HasNoDraw : ℕ → List Logged → Type 0
+HasNoDraw o log = (value number : ℕ) (before : List Logged) (l : Logged) (later : List Logged) → log ≡ before ++ l ∷ later
+    → l.entry ≡ entry.Hash o value (Some number) → ⊥
+
+draws_nothing : (o : ℕ) (e : Entry) → ((value number : ℕ) → e ≡ entry.Hash o value (Some number) → ⊥) → drawn_for o (draw_in e) ≡ 0
+draws_nothing o (entry.Hash k v (Some n)) h = by_object (k == o) refl
+  where
+    by_object : (b : Bool) → (k == o) ≡ b → one_if b ≡ 0
+    by_object true is = absurd (h v n (ap (λ i. entry.Hash i v (Some n)) (eqb-true k o is)))
+    by_object false is = refl
+draws_nothing o (entry.Hash k v None) h = refl
+draws_nothing o e h = refl
+
+no_draws : (o : ℕ) (log : List Logged) → HasNoDraw o log → draws_for o log ≡ 0
+no_draws o [] h = refl
+no_draws o (l ∷ log) h =
+    let here = draws_nothing o l.entry (λ v n is. h v n [] l log refl is) in
+    let rest = no_draws o log (λ v n before k later split is. h v n (l ∷ before) k later (ap (λ ls. l ∷ ls) split) is) in
+    omega (arith, here, rest)
+
+-- in a log draws come first
+abbrev ComeFirst : List Logged → Type 0
+ComeFirst log = (o value number : ℕ) (before : List Logged) (l : Logged) (later : List Logged) → log ≡ before ++ l ∷ later
+    → l.entry ≡ entry.Hash o value (Some number) → has_hash o before ≡ false
+
+none_drawn_behind : (l : Logged) (e : Entry) (log : List Logged) → l.entry ≡ e → ComeFirst (l ∷ log) → NoneIsDrawnBehind e log
+none_drawn_behind l (entry.Hash o v d) log is h =
+    no_draws o log (λ value number before k later split drawn.
+    let first = (or_parts (is_hash o l.entry) (has_hash o before) (h o value number (l ∷ before) k later (ap (λ ls. l ∷ ls) split) drawn)).0 in
+    false≢true (sym first ∙ ap (is_hash o) is ∙ eq-eqb o o refl))
+none_drawn_behind l e log is h = tt
+
+none_behind_each : (log : List Logged) → ComeFirst log → NoneAreDrawnBehind log
+none_behind_each [] h = tt
+none_behind_each (l ∷ log) h = (
+  none_drawn_behind l l.entry log refl h,
+  none_behind_each log (λ o v n before k later split is.
+      (or_parts (is_hash o l.entry) (has_hash o before) (h o v n (l ∷ before) k later (ap (λ ls. l ∷ ls) split) is)).1),
+)
 
 -- what is left of a log has one draw for each object that was not seen, and none for one that was
 record HasOneLeft (seen : ℕ → Bool) (log : List Logged) : Type 0 where
@@ -77,7 +128,7 @@ drawn_first seen l (entry.Hash o v d) log is n h = by_draw d is
     by_draw d at = by_seen (seen o) d refl at
 drawn_first seen l e log is n h = tt
 
-are_drawn_first : (seen : ℕ → Bool) (log : List Logged) → DrawsComeFirst log → HasOneLeft seen log → AreDrawnFirst seen log
+are_drawn_first : (seen : ℕ → Bool) (log : List Logged) → NoneAreDrawnBehind log → HasOneLeft seen log → AreDrawnFirst seen log
 are_drawn_first seen [] d h = tt
 are_drawn_first seen (l ∷ log) d h =
     (drawn_first seen l l.entry log refl d.0 h, are_drawn_first (seen_with l.entry seen) log d.1 (left_with seen l log d.0 h))
@@ -86,5 +137,8 @@ abbrev pub nothing_seen : ℕ → Bool
 nothing_seen o = false
 
 -- of a whole log
-pub drawn_at_first : (log : List Logged) → DrawsComeFirst log → ((o : ℕ) → has_hash o log ≡ true → draws_for o log ≡ 1) → AreDrawnFirst nothing_seen log
-drawn_at_first log d one = are_drawn_first nothing_seen log d (record { one = λ o s has. one o has; none = λ o s. absurd (false≢true s) })
+pub drawn_at_first : (log : List Logged) → DrawsComeFirst (log ∷ []) → ((o : ℕ) → has_hash o log ≡ true → draws_for o log ≡ 1)
+    → AreDrawnFirst nothing_seen log
+drawn_at_first log first one =
+    are_drawn_first nothing_seen log (none_behind_each log (first 0))
+    (record { one = λ o s has. one o has; none = λ o s. absurd (false≢true s) })

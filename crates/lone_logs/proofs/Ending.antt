@@ -1,17 +1,15 @@
 -- A machine that is over takes nothing more.
-use Rattle.std.proofs.Common.{◌≡◌, ◌⊎◌, inl, inr, ℕ, zero, suc, ◌+◌, ◌==◌, ◌&&◌, ◌||◌, not, cond, Bool, true, false, List, [], ◌∷◌, slice_get, slice_index_or, Option, Some, None, is_none, option_and_then, refl, sym, ap, ◌∙◌, subst, arith}
-use Rattle.std.specs.List.{list_all}
+use Rattle.std.proofs.Common.{◌≡◌, inl, inr, ℕ, ◌+◌, ◌==◌, ◌&&◌, ◌||◌, cond, Bool, true, false, List, [], ◌∷◌, slice_get, Option, Some, None, is_none, option_and_then, refl, sym, ap, ◌∙◌, subst, arith}
 use Rattle.std.proofs.lemmas.Bool.{and_parts, false≢true}
 use Rattle.std.proofs.lemmas.Option.{cond_some, same_Some, none-some, get_or_from_slice_get}
 use Rattle.plain_monitor.specs.declared.entry.Entry.{Entry}
 use Rattle.plain_monitor.specs.declared.entry.Entry.TheVariants as entry
-use Rattle.plain_monitor.specs.Monitor.{PlainMonitor, only_if, is_thread, owns, count_of, is_listed, is_outside, enter, resumed, resume}
+use Rattle.plain_monitor.specs.Monitor.{PlainMonitor, only_if, is_thread, count_of, is_listed, is_outside, enter, resumed, resume}
 use Rattle.plain_monitor.specs.Objects.{PlainObject, new_object, take_entry}
 use Rattle.plain_history.specs.Sound.{IsSound, times_listed}
 use Rattle.plain_history.proofs.Joined.{first_some}
 use Rattle.plain_history.proofs.SoundHistories.{AllSound, sound_at}
 use Rattle.plain_history.proofs.Swaps.{taken_at}
-use Rattle.plain_machine.specs.declared.call.Call.{Call}
 use Rattle.plain_machine.specs.declared.call.Call.TheVariants as call
 use Rattle.plain_machine.specs.declared.call.Asked.{Asked}
 use Rattle.plain_machine.specs.declared.call.Asked.TheVariants.{Calls, Resumes, Leaves, Ends}

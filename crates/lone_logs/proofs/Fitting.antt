@@ -1,5 +1,5 @@
 -- What an entry is that fits what a thread asks, and that two that the objects take are the same but for the path.
-use Rattle.std.proofs.Common.{◌≡◌, ◌⊎◌, ℕ, zero, suc, ◌+◌, ◌==◌, ◌&&◌, not, cond, Bool, true, false, eqb-true, List, [], ◌∷◌, length, slice_get, slice_index_or, Option, Some, None, is_some, refl, sym, ap, ◌∙◌, subst}
+use Rattle.std.proofs.Common.{◌≡◌, ℕ, ◌==◌, ◌&&◌, not, cond, Bool, true, false, eqb-true, List, [], ◌∷◌, length, slice_get, slice_index_or, Option, Some, None, is_some, refl, sym, ap, ◌∙◌, subst}
 use Rattle.std.proofs.lemmas.Bool.{and_parts, false≢true}
 use Rattle.std.proofs.lemmas.Option.{cond_some, same_Some}
 use Rattle.plain_monitor.specs.declared.entry.Value.{Value}
@@ -13,7 +13,6 @@ use Rattle.plain_monitor.specs.declared.entry.Path.{Path}
 use Rattle.plain_monitor.specs.Monitor.{PlainMonitor, owns, calls, notify, notify_all}
 use Rattle.plain_monitor.specs.Objects.{PlainObject, take_at, take_entry, same_value, has_value, hashed, with_monitor, with_hash}
 use Rattle.plain_history.proofs.Swaps.{TakenAt, taken_at}
-use Rattle.lock_policy.specs.Draws.{nth_value}
 use Rattle.core_world.specs.Clauses.Draws.{draw_in, IsNextDraw}
 use Rattle.plain_machine.specs.declared.call.Call.{Call}
 use Rattle.plain_machine.specs.declared.call.Call.TheVariants as call

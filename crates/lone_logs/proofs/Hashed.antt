@@ -1,5 +1,5 @@
 -- An object of which a hash was logged has one.
-use Rattle.std.proofs.Common.{◌≡◌, ◌≢◌, ℕ, ◌==◌, ◌&&◌, ◌||◌, nat_le, nat_lt, ◌^◌, Bool, true, false, eq-eqb, ne_eqb, List, [], ◌∷◌, slice_get, slice_set, slice_index_or, Option, Some, None, is_some, refl, sym, ap, ◌∙◌, subst, inl, inr}
+use Rattle.std.proofs.Common.{◌≡◌, ℕ, ◌==◌, ◌&&◌, ◌||◌, nat_le, nat_lt, ◌^◌, Bool, true, false, ne_eqb, List, slice_get, slice_set, Option, Some, None, is_some, refl, sym, ap, ◌∙◌, subst, inl, inr}
 use Rattle.std.proofs.lemmas.Bool.{cases_eq, false≢true}
 use Rattle.std.proofs.lemmas.Option.{cond_some, same_Some}
 use Rattle.plain_monitor.specs.declared.entry.Entry.{Entry}

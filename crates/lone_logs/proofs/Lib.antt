@@ -4,3 +4,4 @@ mod Hashed
 mod Fitting
 mod Ending
 mod OneWay
+mod Texts

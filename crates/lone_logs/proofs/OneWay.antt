@@ -1,31 +1,27 @@
 -- Two logs of one thread that lead from one machine to machines that are over are the same but for paths, and so are the machines.
-use Rattle.std.proofs.Common.{◌≡◌, ◌⊎◌, ℕ, zero, suc, ◌+◌, ◌||◌, Bool, true, false, List, [], ◌∷◌, map, length, Option, Some, None, option_and_then, refl, sym, ap, ◌∙◌, subst, arith}
-use Rattle.std.specs.List.{AllByRecursion}
+use Rattle.std.proofs.Common.{◌≡◌, ℕ, ◌+◌, ◌||◌, Bool, true, List, [], ◌∷◌, map, Some, refl, sym, ap, ◌∙◌, subst, arith}
 use Rattle.std.proofs.lemmas.Bool.{false≢true}
 use Rattle.std.proofs.lemmas.Option.{same_Some}
 use Rattle.plain_monitor.specs.declared.entry.Entry.{Entry}
 use Rattle.plain_monitor.specs.declared.entry.Entry.TheVariants as entry
 use Rattle.plain_monitor.specs.declared.entry.Logged.{Logged}
 use Rattle.plain_monitor.specs.declared.entry.Path.TheVariants.{StackFirst}
-use Rattle.plain_monitor.specs.Objects.{take_entry, named}
-use Rattle.plain_monitor.specs.Order.{order}
-use Rattle.plain_monitor.specs.History.{RisesAbove, log_of}
+use Rattle.plain_monitor.specs.Objects.{named}
 use Rattle.plain_history.specs.EnterPaths.{is_hash, has_hash}
-use Rattle.plain_history.specs.ExactStamps.{StampsAreExact}
 use Rattle.plain_history.proofs.Joined.{first_some}
 use Rattle.plain_history.proofs.SoundHistories.{AllSound, named_sound, new_sound}
-use Rattle.core_world.specs.Clauses.Draws.{AreDraws, draw_in, drawn_by, first_draw, draws_for, all_draws}
+use Rattle.core_world.specs.Clauses.Draws.{AreDraws, draw_in, drawn_by, first_draw, draws_for}
 use Rattle.object_program.specs.Program.{ProgramText, shape_of}
 use Rattle.plain_machine.specs.Asking.{ask, fits}
-use Rattle.plain_machine.specs.Legal.{behind_all, machine_after}
+use Rattle.plain_machine.specs.Legal.{behind_all}
 use Rattle.plain_machine.specs.Machine.{PlainMachine, new_machine, take}
 use Rattle.plain_machine.proofs.ReachedPaths.{path_changes_nothing}
-use Rattle.lone_logs.specs.LoneRun.{without_path, with_no_path, with_no_paths, AreSameButForPaths, DrawsComeFirst, IsOver, IsLoneRun}
+use Rattle.lone_logs.specs.LoneRun.{without_path, with_no_path, AreSameButForPaths, IsOver, IsLoneRun}
 use Rattle.lone_logs.proofs.Drawing.{seen_with, nothing_seen, AreDrawnFirst, drawn_at_first}
 use Rattle.lone_logs.proofs.Ending.{HasTaken, has_taken, over_takes_nothing}
 use Rattle.lone_logs.proofs.Fitting.{same_entry}
 use Rattle.lone_logs.proofs.Hashed.{HaveHashes, hashes_kept}
-use Rattle.lone_logs.proofs.OneLog.{of_first, order_of_one, IsOnly, only_log, CountsFrom, counted}
+use Rattle.lone_logs.proofs.OneLog.{of_first, order_of_one, only_log, CountsFrom, counted}
 
 -- what is known before some entries: the objects' monitors are sound, and who was seen has a hash
 record IsKnown (m : PlainMachine) (seen : ℕ → Bool) : Type 0 where
@@ -78,7 +74,7 @@ same_hash o (entry.Enter k path) = refl
 same_hash o e = refl
 
 module _ (e f : Entry) (same : without_path e ≡ without_path f) where
-  take_same : (m : PlainMachine) → take m 0 e ≡ take m 0 f
+  pub take_same : (m : PlainMachine) → take m 0 e ≡ take m 0 f
   take_same m = sym (same_take m e) ∙ ap (take m 0) same ∙ same_take m f
 
   draw_same : draw_in e ≡ draw_in f
@@ -159,7 +155,7 @@ run_goes_on p fuel start log m r =
     record {
       leads = ap (behind_all (new_machine p fuel)) (sym (order_of_one log r.rises.0)) ∙ r.under;
       over = r.over;
-      firsts = drawn_at_first log (r.drawn_first 0) one;
+      firsts = drawn_at_first log r.drawn_first one;
       draws = r.drawn 0;
       counts = counted log r.rises.0 r.exact;
     }

@@ -1,5 +1,5 @@
 -- A run of a program's only thread, by its log; and logs that are the same but for paths.
-use Rattle.std.specs.Prelude.{◌≡◌, ◌⊎◌, ℕ, not, true, List, [], ◌∷◌, map, length, Some}
+use Rattle.std.specs.Prelude.{◌≡◌, ◌⊎◌, ℕ, not, true, false, List, ◌∷◌, ◌++◌, map, length, Some}
 use Rattle.std.specs.List.{AllByRecursion, list_all}
 use Rattle.plain_monitor.specs.declared.entry.Entry.{Entry}
 use Rattle.plain_monitor.specs.declared.entry.Entry.TheVariants.{Enter, Hash}
@@ -8,7 +8,7 @@ use Rattle.plain_monitor.specs.declared.entry.Path.TheVariants.{StackFirst}
 use Rattle.plain_monitor.specs.History.{RisesAbove, log_of}
 use Rattle.plain_history.specs.EnterPaths.{has_hash}
 use Rattle.plain_history.specs.ExactStamps.{StampsAreExact}
-use Rattle.core_world.specs.Clauses.Draws.{AreDraws, first_draw, draws_for, all_draws}
+use Rattle.core_world.specs.Clauses.Draws.{AreDraws, first_draw, all_draws}
 use Rattle.object_program.specs.Program.{ProgramText}
 use Rattle.plain_machine.specs.Legal.{machine_after}
 use Rattle.plain_machine.specs.Machine.{PlainMachine, is_live, is_stuck}
@@ -30,15 +30,11 @@ abbrev pub AreSameButForPaths : List (List Logged) → List (List Logged) → Ty
 AreSameButForPaths logs others = with_no_paths logs ≡ with_no_paths others
 
 -- DRAWS
--- behind a hash of an object the log has no draw for the object
-abbrev pub NoneIsDrawnBehind : Entry → List Logged → Type 0
-NoneIsDrawnBehind (Hash o value drawn) later = draws_for o later ≡ 0
-NoneIsDrawnBehind e later = Unit {0}
-
--- a thread that draws the hash of an object has not seen one of it before
-abbrev pub DrawsComeFirst : List Logged → Type 0
-DrawsComeFirst [] = Unit {0}
-DrawsComeFirst (l ∷ log) = NoneIsDrawnBehind l.entry log × DrawsComeFirst log
+-- a thread that draws the hash of an object has logged no hash of the object before
+abbrev pub DrawsComeFirst : List (List Logged) → Type 0
+DrawsComeFirst logs =
+    (t o value number : ℕ) (before : List Logged) (l : Logged) (later : List Logged) → log_of logs t ≡ before ++ l ∷ later
+    → l.entry ≡ Hash o value (Some number) → has_hash o before ≡ false
 
 -- RUNS
 -- no thread can go on: the machine is stuck, or all its threads have ended
@@ -55,5 +51,5 @@ pub record IsLoneRun (p : ProgramText) (fuel start : ℕ) (logs : List (List Log
   pub over : IsOver m
   pub drawn : (t : ℕ) → AreDraws (first_draw start t) 0 (log_of logs t)
   pub one_drawn : (o t : ℕ) → has_hash o (log_of logs t) ≡ true → all_draws o logs ≡ 1
-  pub drawn_first : (t : ℕ) → DrawsComeFirst (log_of logs t)
+  pub drawn_first : DrawsComeFirst logs
   pub exact : StampsAreExact logs
