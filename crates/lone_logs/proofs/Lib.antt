@@ -1,0 +1,7 @@
+mod OneLog
+mod Drawing
+mod Hashed
+mod Fitting
+mod Ending
+mod OneWay
+mod Texts

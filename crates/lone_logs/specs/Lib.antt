@@ -1,0 +1,2 @@
+pub mod LoneRun
+pub mod Shots
