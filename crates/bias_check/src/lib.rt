@@ -15,8 +15,6 @@ mod lines;
 mod names;
 mod parts;
 mod spelled;
-#[cfg(test)]
-mod tests;
 
 pub use answer::{CheckFault, Checked, Reached};
 pub use check::check_journal;

@@ -14,8 +14,6 @@ mod order;
 mod prints;
 mod record;
 mod replaying;
-#[cfg(test)]
-mod tests;
 mod threads;
 mod words;
 

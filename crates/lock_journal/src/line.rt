@@ -103,22 +103,3 @@ impl Line {
         self.push(buffer.format(signed).as_bytes());
     }
 }
-
-#[cfg(test)]
-mod tests {
-    use super::*;
-
-    #[test]
-    fn numbers_are_written_in_digits(rt: HostRuntime) {
-        let mut line = Line::new();
-        line.push_signed(-2305843009213693952);
-        line.push(b" ");
-        line.push_signed(0);
-        line.push(b" ");
-        line.push_number(18446744073709551615);
-        assert_eq!(rt;
-            line.bytes(),
-            b"-2305843009213693952 0 18446744073709551615".as_slice()
-        );
-    }
-}

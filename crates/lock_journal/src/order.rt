@@ -118,6 +118,3 @@ fn earlier(least: Option<(u32, Logged)>, thread: u32, head: Option<Logged>) -> O
         _ => Some((thread, head)),
     }
 }
-
-#[cfg(test)]
-mod tests;

@@ -12,8 +12,6 @@ mod record;
 mod run;
 mod settings;
 mod shape;
-#[cfg(test)]
-mod tests;
 
 pub use run::run_program;
 pub use settings::{Ran, Settings};

@@ -13,8 +13,6 @@ ghost use Rattle.run_words.specs.declared.WordsFault.TheVariants.{Refused};
 mod numbers;
 mod options;
 mod parser;
-#[cfg(test)]
-mod tests;
 mod words;
 
 use options::Values;

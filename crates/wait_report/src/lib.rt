@@ -7,8 +7,6 @@
 mod counts;
 mod cycles;
 mod tallies;
-#[cfg(test)]
-mod tests;
 mod walk;
 
 pub use counts::{ObjectCount, count_objects};

@@ -55,9 +55,22 @@ fn contending_threads_count_together(rt: HostRuntime) -> Result<(), Fail> {
 
 #[test]
 fn words_choose_what_is_written(rt: HostRuntime) -> Result<(), Fail> {
-    let rows: [(&'static [&'static str], &'static str, u8, &str); 7] = [
+    let rows: [(&'static [&'static str], &'static str, u8, &str); 8] = [
         (
             &["run", "--journal"],
+            ANSWER,
+            0,
+            "t1: 42\nthread t1 done\n@1 t1 enter a bias-taken\n@2 t1 print 42\n@3 t1 exit a\n@4 t1 done\n",
+        ),
+        (
+            &[
+                "run",
+                "--journal",
+                "--fuel=100",
+                "--workers=2",
+                "--quantum=10",
+                "--tick=1",
+            ],
             ANSWER,
             0,
             "t1: 42\nthread t1 done\n@1 t1 enter a bias-taken\n@2 t1 print 42\n@3 t1 exit a\n@4 t1 done\n",

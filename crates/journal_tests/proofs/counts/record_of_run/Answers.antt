@@ -4,8 +4,8 @@ use Rattle.plain_monitor.specs.declared.entry.Logged.{Logged}
 use Rattle.object_program.specs.Program.{ProgramText}
 use Rattle.plain_machine.specs.Running.{run_on}
 use Rattle.plain_machine.specs.Legal.{IsLegal, machine_after}
-use Rattle.wait_report.specs.declared.tests.records.TheConstants.{CODE_OF_T1, CODE_OF_T2, LOG_OF_T1, LOG_OF_T2}
-use Rattle.wait_report.proofs.tests.records.record_of_run.Goals as goal
+use Rattle.journal_tests.specs.declared.counts.TheConstants.{CODE_OF_T1, CODE_OF_T2, LOG_OF_T1, LOG_OF_T2}
+use Rattle.journal_tests.proofs.counts.record_of_run.Goals as goal
 
 -- the program, and its logs
 abbrev two_threads : ProgramText

@@ -1,6 +1,6 @@
 //! Journals whose answers are known from outside.
 
-use crate::{CheckFault, Checked, Reached, check_journal};
+use bias_check::{CheckFault, Checked, Reached, check_journal};
 use object_program::read_program;
 use std::alloc::Global;
 use std::test::Fail;

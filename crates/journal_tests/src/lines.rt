@@ -6,10 +6,9 @@ ghost use Rattle.plain_monitor.specs.History.{RisesAbove};
 ghost use Rattle.object_program.specs.Name.{is_name};
 ghost use Rattle.object_program.specs.declared.program.Code.TheVariants.{End};
 
-use crate::line::Line;
-use crate::lines::Lines;
-use crate::record::{Cell, ClassLine, RunRecord, Shot};
-use object_program::{ClassDef, Code, Name, ObjectDef, Program, ThreadDef};
+use crate::names::name;
+use lock_journal::{Cell, ClassLine, Line, Lines, RunRecord, Shot};
+use object_program::{ClassDef, Code, ObjectDef, Program, ThreadDef};
 use plain_machine::Machine;
 use plain_monitor::{Entry, Fault, List, Logged, NoMemory, Path, Value};
 use std::alloc::{AllocError, Global};
@@ -94,6 +93,22 @@ const LOG_OF_T2: [Logged; 5] = [
     },
 ];
 
+/// A log that prints the least number and 0.
+const PRINTS: [Logged; 2] = [
+    Logged {
+        stamp: 1,
+        entry: Entry::Print {
+            value: Value::Int(-2305843009213693952),
+        },
+    },
+    Logged {
+        stamp: 2,
+        entry: Entry::Print {
+            value: Value::Int(0),
+        },
+    },
+];
+
 /// The owners at the dump of `t1`.
 const CELLS: [Cell; 4] = [
     Cell {
@@ -153,17 +168,6 @@ const LINES: [&str; 20] = [
     "@9 t1 fault Range at 7\n",
     "@10 t2 done\n",
 ];
-
-/// A name of these bytes.
-fn name(bytes: &[u8]) -> Name
-    requires { IsTrue (is_name bytes.now) }
-    ensures { result ≡ bytes.now }
-{
-    match Name::new(bytes) {
-        Some(name) => name,
-        None => unreachable!(),
-    }
-}
 
 /// A thread of this name that has nothing but its end.
 fn thread(alloc: Global, bytes: &[u8]) -> Result<ThreadDef, AllocError>
@@ -227,6 +231,16 @@ fn two_logs(alloc: Global) -> Result<List<List<Logged>>, AllocError>
     Ok(List::of(logs))
 }
 
+/// A log of two prints, of the least number and of 0.
+fn prints(alloc: Global) -> Result<List<List<Logged>>, AllocError>
+    ensures rising { IfOk result (AllByRecursion (RisesAbove 0)) }
+    ensures few { IfOk result (λ logs. length logs ≤ 16) }
+{
+    let mut logs = Vec::new(alloc);
+    logs.push(List::of(Vec::from_slice(alloc, &PRINTS)?))?;
+    Ok(List::of(logs))
+}
+
 /// One dump of the first thread, and none of the second.
 fn one_dump(alloc: Global) -> Result<List<List<Shot>>, AllocError> {
     let mut shots = Vec::new(alloc);
@@ -241,8 +255,10 @@ fn one_dump(alloc: Global) -> Result<List<List<Shot>>, AllocError> {
     Ok(List::of(threads))
 }
 
-/// The record of the run.
-fn small_run(alloc: Global) -> Result<RunRecord, AllocError>
+/// The record of a run with these logs.
+pub fn run_of(alloc: Global, logs: List<List<Logged>>) -> Result<RunRecord, AllocError>
+    requires rising { AllByRecursion (RisesAbove 0) logs }
+    requires few { length logs ≤ 16 }
     ensures rising { IfOk result (λ run. AllByRecursion (RisesAbove 0) run.logs) }
     ensures few { IfOk result (λ run. length run.logs ≤ 16) }
 {
@@ -251,7 +267,7 @@ fn small_run(alloc: Global) -> Result<RunRecord, AllocError>
         fuel: 100,
         start: 1,
         bias: true,
-        logs: two_logs(alloc)?,
+        logs,
         shots: one_dump(alloc)?,
         classes: List::of(Vec::from_slice(alloc, &CLASS_LINES)?),
         halted: false,
@@ -272,7 +288,7 @@ fn ended(alloc: Global, program: &Program) -> Result<Machine, NoMemory>
 
 #[test]
 fn lines_come_in_order(rt: HostRuntime) -> Result<(), Fail> {
-    let run = small_run(rt.alloc())?;
+    let run = run_of(rt.alloc(), two_logs(rt.alloc())?)?;
     let machine = ended(rt.alloc(), &run.program)?;
     let mut lines = Lines::new(true, true);
     let mut line = Line::new();
@@ -283,5 +299,21 @@ fn lines_come_in_order(rt: HostRuntime) -> Result<(), Fail> {
     assert!(rt; !lines.next(&run, &machine, &mut line));
     assert!(rt; !lines.next(&run, &machine, &mut line));
     assert_eq!(rt; line.bytes(), b"".as_slice());
+    Ok(())
+}
+
+#[test]
+fn numbers_are_written_in_digits(rt: HostRuntime) -> Result<(), Fail> {
+    let run = run_of(rt.alloc(), prints(rt.alloc())?)?;
+    let machine = ended(rt.alloc(), &run.program)?;
+    let mut lines = Lines::new(false, false);
+    let mut line = Line::new();
+    for expected in ["t1: -2305843009213693952\n", "t1: 0\n"] {
+        assert!(rt; lines.next(&run, &machine, &mut line), "before {expected}");
+        assert_eq!(rt; line.bytes(), expected.as_bytes());
+    }
+    let mut line = Line::new();
+    line.push_number(18446744073709551615);
+    assert_eq!(rt; line.bytes(), b"18446744073709551615".as_slice());
     Ok(())
 }

@@ -5,12 +5,13 @@ ghost use Rattle.plain_machine.specs.Legal.{IsLegal};
 ghost use Rattle.object_program.specs.Name.{is_name};
 ghost use Rattle.object_program.specs.declared.program.Code.{Code};
 
-use crate::count_objects;
+use crate::names::name;
 use lock_journal::RunRecord;
-use object_program::{ClassDef, Code, Name, ObjectDef, Program, ThreadDef};
+use object_program::{ClassDef, Code, ObjectDef, Program, ThreadDef};
 use plain_monitor::{Entry, List, Logged, Path};
 use std::alloc::{AllocError, Global};
 use std::test::Fail;
+use wait_report::count_objects;
 
 /// Thread `t1` enters object 0, waits on it, and leaves it once it was notified.
 const CODE_OF_T1: [Code; 5] = [
@@ -109,17 +110,6 @@ const LOG_OF_T2: [Logged; 8] = [
         entry: Entry::Done,
     },
 ];
-
-/// A name of these bytes.
-fn name(bytes: &[u8]) -> Name
-    requires { IsTrue (is_name bytes.now) }
-    ensures { result ≡ bytes.now }
-{
-    match Name::new(bytes) {
-        Some(name) => name,
-        None => unreachable!(),
-    }
-}
 
 /// A thread of this name with one local, `x`.
 fn thread(alloc: Global, bytes: &[u8], code: &[Code]) -> Result<ThreadDef, AllocError>

@@ -2,13 +2,13 @@
 
 ghost use Rattle.std.specs.Prelude.{◌≡◌, length, IfOk};
 
-use crate::{Cycle, find_cycles};
 use object_program::{Program, read_program};
 use plain_machine::{Machine, Offer};
 use plain_monitor::List;
 use std::alloc::Global;
 use std::process::Abort;
 use std::test::Fail;
+use wait_report::{Cycle, find_cycles};
 
 /// More rounds than any of these programs makes.
 const ROUNDS: usize = 50;

@@ -1,0 +1,56 @@
+//! The order of known logs.
+
+ghost use Rattle.std.specs.Prelude.{◌<◌, ◌≤◌, length, IfOk};
+ghost use Rattle.std.specs.List.{AllByRecursion};
+ghost use Rattle.plain_monitor.specs.History.{RisesAbove};
+
+use crate::lines::run_of;
+use lock_journal::Merge;
+use plain_monitor::{Entry, List, Logged};
+use std::alloc::{AllocError, Global};
+use std::test::Fail;
+
+/// A log of two entries with these stamps.
+fn two(alloc: Global, first: u64, second: u64) -> Result<List<Logged>, AllocError>
+    requires first { 0 < first }
+    requires second { first < second }
+    ensures { IfOk result (RisesAbove 0) }
+{
+    let mut log = Vec::new(alloc);
+    log.push(Logged {
+        stamp: first,
+        entry: Entry::Spent,
+    })?;
+    log.push(Logged {
+        stamp: second,
+        entry: Entry::Done,
+    })?;
+    Ok(List::of(log))
+}
+
+/// Two logs with one stamp in common, and an empty one.
+fn three_logs(alloc: Global) -> Result<List<List<Logged>>, AllocError>
+    ensures rising { IfOk result (AllByRecursion (RisesAbove 0)) }
+    ensures few { IfOk result (λ logs. length logs ≤ 16) }
+{
+    let mut logs = Vec::new(alloc);
+    logs.push(two(alloc, 1, 4)?)?;
+    logs.push(two(alloc, 2, 4)?)?;
+    logs.push(List::of(Vec::new(alloc)))?;
+    Ok(List::of(logs))
+}
+
+#[test]
+fn entries_come_by_stamp_and_thread(rt: HostRuntime) -> Result<(), Fail> {
+    let run = run_of(rt.alloc(), three_logs(rt.alloc())?)?;
+    let mut merge = Merge::new(&run);
+    for expected in [(0, 1), (1, 2), (0, 4), (1, 4)] {
+        let given = merge
+            .next(&run)
+            .map(|(thread, logged)| (thread, logged.stamp));
+        assert_eq!(rt; given, Some(expected));
+    }
+    assert!(rt; merge.next(&run).is_none());
+    assert!(rt; merge.next(&run).is_none());
+    Ok(())
+}

@@ -1,4 +1,0 @@
-//! Machines that stand still, and a record written by hand.
-
-mod records;
-mod standing;
