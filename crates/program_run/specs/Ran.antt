@@ -41,4 +41,4 @@ pub record IsRan (s : Settings) (p : ProgramText) (r : RunRecord) (c : ClosedSee
   pub draws : HasDraws s.start r.logs
   -- an entry that takes no lock has the stamp next to the one before it in its log
   pub stamps : AllByRecursion (AreNext 0) r.logs
-  pub biases : HasBiases r c
+  pub biases : HasBiases s.tick r c
