@@ -30,9 +30,11 @@ use Rattle.lock_journal.specs.declared.record.ClassLine.{ClassLine}
 use Rattle.run_ends.specs.OfARun.{IsEnd}
 use Rattle.run_ends.specs.Prototypes as ends
 use Rattle.run_rounds.specs.Outcome.{HasBiases as LeftBiases}
-use Rattle.program_run.specs.Biases.{IsIdle, IsLine, prototype_by}
+use Rattle.thread_calls.specs.Timed.{IsTimed}
+use Rattle.program_run.specs.Biases.{IsEven, IsIdle, IsLine, prototype_by}
 use Rattle.program_run.specs.Lines.{line_of, lines_below, total_on}
 use Rattle.program_run.proofs.Counted.{capped_few, sum_few, sum_none, term_few, total_is}
+use Rattle.program_run.proofs.Even.{none_reset, counted_timed}
 
 -- the laws that are asked of a heap's end
 abbrev pub Biased : Type 0
@@ -77,7 +79,7 @@ resets_few (v ∷ vs) k = by_class (k == v.class) (resets_few vs k)
     by_class true h = by_verdict v.verdict v.reset h
     by_class false h = h
 
-module _ (heap : Heap) (c : ClosedSeen) (left : LeftBiases heap c) (same : c.heap ≡ heap)
+module _ {tick : ℕ} (heap : Heap) (c : ClosedSeen) (left : LeftBiases heap tick c) (same : c.heap ≡ heap)
     (many : heap.shape.threads ≤ 16) (short : (t : ℕ) → length (log_of c.logs t) ≤ 6400016) where
   abbrev counts : ℕ → ℕ → known.ClassCounts
   counts t k = counts_of (counted_by left.knowns t) k
@@ -144,6 +146,14 @@ module _ (heap : Heap) (c : ClosedSeen) (left : LeftBiases heap c) (same : c.hea
         (λ i. (sym count_now i, sym single_now i, sym rebias_now i, sym revoke_now i, sym reset_now i))
         (left.biases.biases.counts k)
 
+    pub even : tick ≡ 0 → IsEven (line_of c k)
+    even still =
+        let timed = subst (λ n. AllByRecursion (IsTimed n) left.knowns) still left.timed in
+        let none : total_on (λ n. n.reset) c.counts k ≡ 0 =
+        reset_is ∙ sum_none heap.shape.threads (λ t. (counts t k).reset)
+        (λ t. none_reset (counted_by left.knowns t) k (counted_timed left.knowns t timed)) in
+        record { count = fits.even none; rebias = fits.rebias_once none; revoke = fits.revoke_once none }
+
     idle : heap.biasing ≡ false → IsIdle (line_of c k)
     idle none =
         let nothing = left.biases.biases.uncounted none in
@@ -181,9 +191,9 @@ module _ (heap : Heap) (c : ClosedSeen) (left : LeftBiases heap c) (same : c.hea
   ]
 
 -- each count of revocations is small
-pub small_here : (heap : Heap) (c : ClosedSeen) → LeftBiases heap c → c.heap ≡ heap → (k : ℕ) → k < c.heap.shape.classes
+pub small_here : {tick : ℕ} (heap : Heap) (c : ClosedSeen) → LeftBiases heap tick c → c.heap ≡ heap → (k : ℕ) → k < c.heap.shape.classes
     → slice_index c.words (place_of c.heap.shape (Revocations k)) < 2 ^ 32
-small_here heap c left same k within =
+small_here {tick} heap c left same k within =
     let here : k < heap.shape.classes = subst (λ (h : Heap). k < h.shape.classes) same within in
     let at : slice_index c.words (place_of c.heap.shape (Revocations k)) ≡ left.biases.count k =
     ap (λ (h : Heap). slice_index c.words (place_of h.shape (Revocations k))) same ∙ left.biases.words_are k here in

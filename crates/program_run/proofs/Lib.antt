@@ -7,3 +7,4 @@ pub mod Counted
 pub mod Classes
 pub mod Biased
 pub mod Told
+pub mod Even

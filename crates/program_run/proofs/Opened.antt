@@ -9,7 +9,7 @@ use Rattle.heap_table.specs.Resting.{Rests}
 use Rattle.heap_table.specs.Seen.{HeapSeen, PassSeen, first_pass, first_passes}
 use Rattle.heap_table.proofs.Resting.{fresh_rests}
 use Rattle.object_program.specs.Program.{ProgramText}
-use Rattle.run_rounds.specs.Rounds.{AreNew, IsRunnerAt}
+use Rattle.run_rounds.specs.Rounds.{AreNew, IsRunnerAt, IsUnused}
 use Rattle.thread_calls.specs.Between.{IsHeapOf, IsOn}
 use Rattle.thread_frame.specs.Frames.{first_frame}
 use Rattle.thread_interp.specs.Runners.{RunnerSeen}
@@ -79,5 +79,8 @@ module _ (unused : Unused) (h : HeapSeen) (p : ProgramText) (fuel : ℕ) (is : I
             let at = runner_at h (2 * fuel + 66) fuel 0 h.heap.shape.threads t r e in
             let same : t ≡ 0 + t = omega arith in
             here t r (at.0, ap seated same ∙ at.1);
+        unused = λ t r e.
+            subst (λ (x : RunnerSeen). IsUnused x.pass.known)
+            (runner_at h (2 * fuel + 66) fuel 0 h.heap.shape.threads t r e).1 (record { steps = refl; counts = refl });
         count = passes_many h (2 * fuel + 66) fuel 0 h.heap.shape.threads;
       }

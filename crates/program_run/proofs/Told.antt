@@ -25,25 +25,25 @@ use Rattle.plain_machine.specs.Machine.{PlainMachine}
 use Rattle.run_ends.specs.OfARun.{HasDraws}
 use Rattle.run_rounds.specs.Outcome.{HasRun, IsOver}
 use Rattle.program_run.specs.declared.settings.Settings.{Settings}
-use Rattle.program_run.specs.Biases.{HasBiases, IsIdle, IsLine, IsUnrevoked, prototype_by}
+use Rattle.program_run.specs.Biases.{HasBiases, IsEven, IsIdle, IsLine, IsUnrevoked, prototype_by}
 use Rattle.program_run.specs.HeapFor.{heap_for}
 use Rattle.program_run.specs.Left.{IsOfClosed, shots_left}
 use Rattle.program_run.specs.Lines.{HasSmallCounts, line_of, lines_below, total_on}
 use Rattle.program_run.specs.Ran.{HasAll, IsRan, IsRecordOf}
 use Rattle.program_run.specs.Shots.{AreRightShots}
-use Rattle.program_run.proofs.Biased.{Biased, Plain, all_idle, all_lines, fits, log_fits, prototype_is, revoke_is, small_here}
+use Rattle.program_run.proofs.Biased.{Biased, Plain, all_idle, all_lines, even, fits, log_fits, prototype_is, revoke_is, small_here}
 use Rattle.program_run.proofs.Classes.{class_is}
 use Rattle.program_run.proofs.Cut.{Fronts, Legals, TheirObjects, right_shots}
 use Rattle.program_run.proofs.Few.{First, Stay, UseUp, Begins, Works, log_few}
 use Rattle.program_run.proofs.LinesBelow.{line_at, lines_many}
 
-pub small : (s : Settings) (p : ProgramText) (c : ClosedSeen) → HasRun (heap_for s p) p s.fuel c → HasSmallCounts c
+pub small : (s : Settings) (p : ProgramText) (c : ClosedSeen) → HasRun (heap_for s p) p s.fuel s.tick c → HasSmallCounts c
 small s p c ran = small_here (heap_for s p) c ran.biases ran.heap_is
 
 module _ (fronts : Fronts) (legals : Legals) (theirs : TheirObjects) (first : First) (stay : Stay) (use_up : UseUp) (begins : Begins) (works : Works)
     (biased_law : Biased) (plain_law : Plain)
     (s : Settings) (p : ProgramText) (r : RunRecord) (c : ClosedSeen) (is : IsProgram p) (few : s.fuel ≤ 200000)
-    (ran : HasRun (heap_for s p) p s.fuel c) (of : IsRecordOf s p r) (copy : IsOfClosed r c) where
+    (ran : HasRun (heap_for s p) p s.fuel s.tick c) (of : IsRecordOf s p r) (copy : IsOfClosed r c) where
   abbrev heap : Heap
   heap = heap_for s p
 
@@ -92,6 +92,12 @@ module _ (fronts : Fronts) (legals : Legals) (theirs : TheirObjects) (first : Fi
       (sym (revoke_is heap c ran.biases ran.heap_is is.threads_few short (slice_index_or (shape_of p) o (0, 0)).0 within) ∙ none)
       (ap (λ (x : List (List Logged)). first_path (entries_on o (order x))) (sym copy.logs) ∙ e))
 
+  evens : s.tick ≡ 0 → AllByRecursion IsEven r.classes
+  evens still =
+      subst (AllByRecursion IsEven) (sym lines_are)
+      (all_lines heap c ran.biases ran.heap_is is.threads_few short IsEven
+      (λ k within. even heap c ran.biases ran.heap_is is.threads_few short k within still) (length p.classes) (omega arith))
+
   idle : r.bias ≡ false → AllByRecursion IsIdle r.classes
   idle none =
       subst (AllByRecursion IsIdle) (sym lines_are)
@@ -115,7 +121,7 @@ module _ (fronts : Fronts) (legals : Legals) (theirs : TheirObjects) (first : Fi
         classes = ap (λ (x : List ClassLine). length x) lines_are ∙ lines_many c (length p.classes);
       }
 
-  biases : HasBiases r c
+  biases : HasBiases s.tick r c
   biases =
       record {
         stays = λ o. subst (λ (x : List (List Logged)). EndsStay (entries_on o (order x))) (sym copy.logs) (ran.biases.biases.biases.stays o);
@@ -124,6 +130,7 @@ module _ (fronts : Fronts) (legals : Legals) (theirs : TheirObjects) (first : Fi
             (log_fits heap c ran.biases ran.heap_is is.threads_few short t (sym ran.followed.count));
         entered = entered;
         counts = counts;
+        even = evens;
         prototypes = prototypes;
         plain = λ none o.
             ap (λ (x : List (List Logged)). list_any needs_bias (entries_on o (order x))) copy.logs

@@ -1,5 +1,5 @@
 -- What the law of biases says of a run, by its record.
-use Rattle.std.specs.Prelude.{◌≡◌, ◌⊎◌, ℕ, ◌+◌, ◌*◌, ◌%◌, ◌==◌, ◌&&◌, if◌then◌else◌, Bool, true, false, slice_get, Some}
+use Rattle.std.specs.Prelude.{◌≡◌, ◌⊎◌, ℕ, ◌+◌, ◌*◌, ◌%◌, ◌==◌, ◌&&◌, min, nat_le, if◌then◌else◌, Bool, true, false, slice_get, Some}
 use Rattle.std.specs.List.{AllByRecursion, list_any}
 use Rattle.core_counts.specs.CountsAndVerdicts.{CountFits}
 use Rattle.core_counts.specs.OfARun.{IsHashLogged}
@@ -23,6 +23,17 @@ IsUnrevoked r k = (line : ClassLine) × (slice_get r.classes k ≡ Some line) ×
 abbrev pub IsLine : ℕ → ClassLine → Type 0
 IsLine resets line = CountFits line.count line.single line.rebias line.revoke resets
 
+-- all verdicts that were counted on the class
+abbrev pub verdicts_on : ClassLine → ℕ
+verdicts_on line = line.single + line.rebias + line.revoke
+
+-- The count was never set to 0: it is the number of verdicts, up to 41. The class was rebiased in bulk once where there are 20 or more
+-- of them, and revoked in bulk once where there are 40 or more.
+pub record IsEven (line : ClassLine) : Type 0 where
+  pub count : line.count ≡ min (verdicts_on line) 41
+  pub rebias : line.rebias ≡ (if nat_le 20 (verdicts_on line) then 1 else 0)
+  pub revoke : line.revoke ≡ (if nat_le 40 (verdicts_on line) then 1 else 0)
+
 -- no verdict was counted
 abbrev pub IsIdle : ClassLine → Type 0
 IsIdle line = (line.single ≡ 0) × (line.rebias ≡ 0) × (line.revoke ≡ 0) × (line.count ≡ 0)
@@ -32,7 +43,7 @@ IsIdle line = (line.single ≡ 0) × (line.rebias ≡ 0) × (line.revoke ≡ 0) 
 abbrev pub prototype_by : Bool → ClassLine → ℕ
 prototype_by bias line = if bias && (line.revoke == 0) then line.rebias % 4 * 256 + 5 else 1
 
-pub record HasBiases (r : RunRecord) (c : ClosedSeen) : Type 0 where
+pub record HasBiases (tick : ℕ) (r : RunRecord) (c : ClosedSeen) : Type 0 where
   -- in the order of all logs no Enter with a bias path stands after one of its object with another path, or after a Wait,
   -- Notify or NotifyAll of it
   pub stays : (o : ℕ) → EndsStay (entries_on o (order r.logs))
@@ -44,6 +55,8 @@ pub record HasBiases (r : RunRecord) (c : ClosedSeen) : Type 0 where
       → first_path (entries_on o (order r.logs)) ≡ Some path → (path ≡ BiasTaken) ⊎ IsHashLogged r.logs o
   -- the count of each class fits the verdicts on it, and how often it was set to 0
   pub counts : (k : ℕ) (line : ClassLine) → slice_get r.classes k ≡ Some line → IsLine (total_on (λ n. n.reset) c.counts k) line
+  -- where a tick has no length, the verdicts alone tell it
+  pub even : tick ≡ 0 → AllByRecursion IsEven r.classes
   pub prototypes : AllByRecursion (λ (line : ClassLine). line.prototype ≡ prototype_by r.bias line) r.classes
   -- without biases no Enter has a bias path, and no verdict is counted
   pub plain : r.bias ≡ false → (o : ℕ) → list_any needs_bias (entries_on o (order r.logs)) ≡ false

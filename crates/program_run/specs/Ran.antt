@@ -42,4 +42,4 @@ pub record IsRan (s : Settings) (p : ProgramText) (r : RunRecord) (c : ClosedSee
   -- an entry that takes an object is stamped one above the greater of the last stamp of its log and the last one below its own
   -- with which a thread let go of the object, and every other entry has the next stamp of its log
   pub stamps : StampsAreExact r.logs
-  pub biases : HasBiases r c
+  pub biases : HasBiases s.tick r c

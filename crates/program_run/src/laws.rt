@@ -15,8 +15,8 @@ ghost use Rattle.program_run.specs.Ran.{IsRecordOf, IsRan};
 /// The record that is copied from what a run leaves is a record of the run. The counts of its classes are small.
 pub fn the_record_tells_the_run()
     ensures record { (s : Settings) (p : ProgramText) (r : RunRecord) (c : ClosedSeen) → IsProgram p → s.fuel ≤ 200000
-        → HasRun (heap_for s p) p s.fuel c → IsRecordOf s p r → IsOfClosed r c → IsRan s p r c }
-    ensures small { (s : Settings) (p : ProgramText) (c : ClosedSeen) → HasRun (heap_for s p) p s.fuel c → HasSmallCounts c }
+        → HasRun (heap_for s p) p s.fuel s.tick c → IsRecordOf s p r → IsOfClosed r c → IsRan s p r c }
+    ensures small { (s : Settings) (p : ProgramText) (c : ClosedSeen) → HasRun (heap_for s p) p s.fuel s.tick c → HasSmallCounts c }
 {
     thread_logs::logs_that_follow_the_code_are_legal();
     thread_logs::the_machine_is_what_the_logs_make_it();

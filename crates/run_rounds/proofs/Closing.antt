@@ -1,10 +1,12 @@
 -- What a heap is closed to, over the runners whose rounds are over.
-use Rattle.std.proofs.Common.{◌≡◌, ℕ, suc, Bool, true, false, not, List, [], ◌∷◌, length, map, None, All, refl, sym, ap, ◌∙◌, subst, arith}
+use Rattle.std.proofs.Common.{◌≡◌, ℕ, suc, Bool, true, false, not, List, [], ◌∷◌, length, map, Some, None, All, refl, sym, ap, ◌∙◌, subst, arith}
+use Rattle.std.specs.Prelude.{slice_get}
 use Rattle.plain_monitor.specs.declared.entry.Logged.{Logged}
 use Rattle.plain_monitor.specs.History.{LegalObjects, log_of}
 use Rattle.core_world.specs.declared.task.Op.TheVariants as op
 use Rattle.core_world.specs.Clauses.Safepoints.{IsUnfinished, ends}
-use Rattle.core_world.specs.Threads.Known.{Known, DumpShot}
+use Rattle.core_world.specs.Threads.Counts.{CountedVerdict}
+use Rattle.core_world.specs.Threads.Known.{Known, StepMade, DumpShot}
 use Rattle.core_steps.specs.Logic.{Heap}
 use Rattle.heap_table.specs.BiasesAtEnd.{BiasesAtEnd}
 use Rattle.heap_table.specs.Seen.{HeapSeen, PassSeen, ClosedSeen, IsOf, LastWorld, knowns, logs_of, shots_of, counts_of_all}
@@ -14,6 +16,7 @@ use Rattle.object_program.specs.Program.{ProgramText}
 use Rattle.plain_history.specs.ExactStamps.{StampsAreExact}
 use Rattle.plain_machine.specs.Legal.{machine_after}
 use Rattle.thread_calls.specs.Between.{IsHeapOf, state_by}
+use Rattle.thread_calls.specs.Timed.{IsTimed, IsOnTime, IsCountedOnTime}
 use Rattle.thread_interp.specs.Runners.{RunnerSeen}
 use Rattle.thread_logs.specs.Followed.{HaveFollowed, ends_by}
 use Rattle.run_ends.specs.OfARun.{HasDraws, HasShots, IsEnd, logs_in, shots_in, unfinished_in}
@@ -22,7 +25,7 @@ use Rattle.run_ends.proofs.Shots.{has_shots}
 use Rattle.run_ends.proofs.Stuck.{no_hash_open}
 use Rattle.std.specs.List.{AllByRecursion}
 use Rattle.run_rounds.specs.Outcome.{HasRun}
-use Rattle.run_rounds.specs.Rounds.{AreRunners, AreOver}
+use Rattle.run_rounds.specs.Rounds.{AreRunners, AreTimed, IsUnused, AreOver}
 use Rattle.run_rounds.proofs.Ending.{passes, known_at, log_at, logs_are, not_live, all_of, own_follows, ended_at, is_end, have_followed, word_is_halted}
 use Rattle.run_rounds.proofs.Lists.{all_mapped}
 use Rattle.run_rounds.proofs.Over.{Laws, ends_alike, is_over}
@@ -37,6 +40,19 @@ counts_are h [] all = refl
 counts_are h (p ∷ ps) all =
     let here = (all 0 p (omega arith)).classes in
     λ i. counts_shown 0 (here i) p.known.counts ∷ counts_are h ps (λ k d lt. all (suc k) d (omega (arith, lt))) i
+
+-- a thread that made no call yet is timed, whatever a tick is
+pub new_timed : (tick : ℕ) (rs : List RunnerSeen) → ((t : ℕ) (r : RunnerSeen) → slice_get rs t ≡ Some r → IsUnused r.pass.known) → AreTimed tick rs
+new_timed tick rs unused t r e =
+    let none = unused t r e in
+    record {
+      calls = subst (AllByRecursion (λ (m : StepMade). IsOnTime tick m.plan.task)) (sym none.steps) tt;
+      counts = subst (AllByRecursion (λ (v : CountedVerdict). IsCountedOnTime tick v.reset)) (sym none.counts) tt;
+    }
+
+timed_are : (tick : ℕ) (rs : List RunnerSeen) → AreTimed tick rs → AllByRecursion (IsTimed tick) (knowns (passes rs))
+timed_are tick [] timed = tt
+timed_are tick (r ∷ rs) timed = (timed 0 r refl, timed_are tick rs (λ t x e. timed (suc t) x e))
 
 more_verdicts : (heap : Heap) (words : List ℕ) (logs : List (List Logged)) (ks : List Known)
     → BiasesAtEnd 0 heap words logs ks → BiasesAtEnd 1 heap words logs ks
@@ -58,7 +74,7 @@ pub record IsClosed (h : HeapSeen) (ps : List PassSeen) (c : ClosedSeen) : Type 
 
 module _ (h : HeapSeen) (p : ProgramText) (fuel : ℕ) (rs : List RunnerSeen) (are : AreRunners h p fuel rs) (of : IsHeapOf h p)
     (count : length rs ≡ h.heap.shape.threads) (c : ClosedSeen) (closed : IsClosed h (passes rs) c)
-    (laws : Laws p fuel (logs_of (passes rs))) (b : Bool) (over : AreOver rs b) where
+    (laws : Laws p fuel (logs_of (passes rs))) (b : Bool) (over : AreOver rs b) (tick : ℕ) (timed : AreTimed tick rs) where
   end : IsEnd h.heap c.words (knowns (passes rs))
   end = is_end h p fuel rs are of count c.words closed.world
 
@@ -88,7 +104,7 @@ module _ (h : HeapSeen) (p : ProgramText) (fuel : ℕ) (rs : List RunnerSeen) (a
   law_of_biases false ended = more_verdicts h.heap c.words c.logs (knowns (passes rs)) (closed.biases (none_left ended))
   law_of_biases true halt = closed.biases_stuck (no_hash halt)
 
-  pub has_run : HasRun h.heap p fuel c
+  pub has_run : HasRun h.heap p fuel tick c
   has_run = record {
     heap_is = closed.heap;
     followed = subst (HaveFollowed p fuel) (sym closed.logs) (have_followed h p fuel rs are of count legal);
@@ -105,5 +121,6 @@ module _ (h : HeapSeen) (p : ProgramText) (fuel : ℕ) (rs : List RunnerSeen) (a
       shots = closed.shots ∙ shots_are (passes rs);
       counts = closed.counts ∙ counts_are h (passes rs) (all_of h p fuel rs are);
       biases = law_of_biases b over;
+      timed = timed_are tick rs timed;
     };
   }

@@ -10,10 +10,11 @@ use Rattle.core_world.specs.declared.answer.Why.TheVariants as why
 use Rattle.core_world.specs.declared.answer.Turn.TheVariants.{Pending}
 use Rattle.heap_table.specs.Seen.{HeapSeen}
 use Rattle.object_program.specs.Program.{ProgramText}
+use Rattle.thread_calls.specs.Timed.{IsTimed, StaysTimed}
 use Rattle.thread_interp.specs.Checks.{StandsAfterCheck}
 use Rattle.thread_interp.specs.Runners.{RunnerSeen, IsRunner, IsSame}
 use Rattle.run_rounds.specs.declared.seats.Seat.{Seat}
-use Rattle.run_rounds.specs.Rounds.{IsRunnerAt, AreRunners, runners_in}
+use Rattle.run_rounds.specs.Rounds.{IsRunnerAt, AreRunners, AreTimed, runners_in}
 use Rattle.run_rounds.proofs.Lists.{Came, mapped_at, map_at}
 
 pub seat_at : (seats : List Seat) (t : ℕ) (r : RunnerSeen) → slice_get (runners_in seats) t ≡ Some r
@@ -55,3 +56,19 @@ still_asks k (why.Raced expected found) s unfinished = absurd (cc (s.over, unfin
 still_asks k why.Inflating s unfinished = absurd (cc (s.over, unfinished))
 still_asks k (why.Requested word) s unfinished = absurd (cc (s.over, unfinished))
 still_asks k why.Halted s unfinished = absurd (cc (s.over, unfinished))
+
+-- so are all timed where the calls of one were
+pub all_timed : (tick i : ℕ) (seats : List Seat) (s y : Seat) → AreTimed tick (runners_in seats) → slice_get seats i ≡ Some s
+    → StaysTimed tick s.runner.pass y.runner.pass → AreTimed tick (runners_in (slice_set seats i y))
+all_timed tick i seats s y are there stays t r e =
+    let q = seat_at (slice_set seats i y) t r e in
+    elim (cases_eq t i) [
+      | inl is ↦
+          let here : y ≡ q.from =
+          same_Some y q.from (sym (get_set_same seats i s y there) ∙ ap (slice_get (slice_set seats i y)) (sym is) ∙ q.here) in
+          subst (λ (x : RunnerSeen). IsTimed tick x.pass.known) (ap (λ (z : Seat). z.runner) here ∙ q.is)
+          (stays (are i s.runner (runner_at seats i s there)))
+      | inr other ↦
+          subst (λ (x : RunnerSeen). IsTimed tick x.pass.known) q.is
+          (are t q.from.runner (runner_at seats t q.from (sym (get_set_other seats i t y (λ f. other (sym f))) ∙ q.here)))
+    ]

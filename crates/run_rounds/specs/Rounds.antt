@@ -1,8 +1,10 @@
 -- Runners of one heap in the order of their threads, between two rounds.
-use Rattle.std.specs.Prelude.{◌≡◌, ℕ, Bool, true, false, List, length, map, slice_get, Some}
+use Rattle.std.specs.Prelude.{◌≡◌, ℕ, Bool, true, false, List, [], length, map, slice_get, Some}
 use Rattle.std.specs.List.{list_all}
+use Rattle.core_world.specs.Threads.Known.{Known}
 use Rattle.heap_table.specs.Seen.{HeapSeen}
 use Rattle.object_program.specs.Program.{ProgramText}
+use Rattle.thread_calls.specs.Timed.{IsTimed}
 use Rattle.thread_frame.specs.Frames.{has_ended}
 use Rattle.thread_interp.specs.Runners.{RunnerSeen, IsRunner}
 use Rattle.run_rounds.specs.declared.seats.Seat.{Seat}
@@ -21,9 +23,19 @@ AreRunners h p fuel rs = (t : ℕ) (r : RunnerSeen) → slice_get rs t ≡ Some 
 abbrev pub runners_in : List Seat → List RunnerSeen
 runners_in seats = map (λ (s : Seat). s.runner) seats
 
+-- the calls of each were given moments by ticks of so many units, and by these it counted resets
+abbrev pub AreTimed : ℕ → List RunnerSeen → Type 0
+AreTimed tick rs = (t : ℕ) (r : RunnerSeen) → slice_get rs t ≡ Some r → IsTimed tick r.pass.known
+
+-- no call was made yet by a thread that knows this
+pub record IsUnused (k : Known) : Type 0 where
+  pub steps : k.steps ≡ []
+  pub counts : k.counts ≡ []
+
 -- One for each thread, in the order of the threads, before its first turn.
 pub record AreNew (h : HeapSeen) (p : ProgramText) (fuel : ℕ) (rs : List RunnerSeen) : Type 0 where
   pub runners : AreRunners h p fuel rs
+  pub unused : (t : ℕ) (r : RunnerSeen) → slice_get rs t ≡ Some r → IsUnused r.pass.known
   pub count : length rs ≡ h.heap.shape.threads
 
 -- all their threads have ended

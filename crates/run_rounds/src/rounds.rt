@@ -1,10 +1,11 @@
 //! Rounds of turns.
 
-ghost use Rattle.std.specs.Prelude.{◌≡◌, ◌≤◌, length, true, false};
+ghost use Rattle.std.specs.Prelude.{◌≡◌, ◌≤◌, ℕ, length, true, false};
 ghost use Rattle.thread_calls.specs.Between.{IsHeapOf};
+ghost use Rattle.thread_calls.specs.Timed.{StaysTimed};
 ghost use Rattle.thread_frame.specs.Frames.{has_ended};
 ghost use Rattle.thread_interp.specs.Runners.{IsRunner, IsSame};
-ghost use Rattle.run_rounds.specs.Rounds.{AreRunners, AreOver, have_ended, runners_in};
+ghost use Rattle.run_rounds.specs.Rounds.{AreRunners, AreTimed, AreOver, have_ended, runners_in};
 
 use crate::seats::Seat;
 use core_world::Turn;
@@ -57,6 +58,7 @@ fn round<R: Threads + Sync, C: Clock + Sync, G: Gate + Sync>(
     requires runners { AreRunners heap.now program.now fuel (runners_in seats.old) }
     ensures runners { AreRunners heap.now program.now fuel (runners_in seats.new) }
     ensures count { length seats.new ≡ length seats.old }
+    ensures timed { AreTimed tick (runners_in seats.old) → AreTimed tick (runners_in seats.new) }
 {
     thread::for_each_mut(
         rt,
@@ -66,7 +68,8 @@ fn round<R: Threads + Sync, C: Clock + Sync, G: Gate + Sync>(
             requires { IsHeapOf heap.now program.now × IsRunner heap.now program.now seat.now.runner
                 × (seat.now.runner.pass.known.checking ≡ false) × (1 ≤ quantum) }
             ensures { IsRunner heap.entry.now program.entry.now seat.exit.now.runner × IsSame seat.entry.now.runner seat.exit.now.runner
-                × (seat.exit.now.runner.pass.known.checking ≡ false) }
+                × (seat.exit.now.runner.pass.known.checking ≡ false)
+                × StaysTimed tick seat.entry.now.runner.pass seat.exit.now.runner.pass }
         { seat.go(program, heap, clock, tick, gate, quantum) },
     );
 }
@@ -81,6 +84,7 @@ fn check<R: Wait>(rt: &R, program: &Program, heap: &Heap, runner: &mut Runner) -
     ensures unchecked { runner.new.pass.known.checking ≡ false }
     ensures same { IsSame runner.old runner.new }
     ensures halted { result ≡ true → runner.new.pass.known.halted ≡ true }
+    ensures timed { (tick : ℕ) → StaysTimed tick runner.old.pass runner.new.pass }
 {
     for _ in rt.forever() {
         if let Turn::Done(stuck) = runner.check(program, heap) {
@@ -107,6 +111,7 @@ fn check_first<R: Wait>(
     ensures runners { AreRunners heap.now program.now fuel (runners_in seats.new) }
     ensures count { length seats.new ≡ length seats.old }
     ensures halted { result ≡ true → AreOver (runners_in seats.new) true }
+    ensures timed { (tick : ℕ) → AreTimed tick (runners_in seats.old) → AreTimed tick (runners_in seats.new) }
 {
     if !stand_still(seats) {
         return false;
@@ -139,6 +144,7 @@ pub fn rounds<R: Threads + Wait + Sync, C: Clock + Sync, G: Gate + Sync>(
     ensures runners { AreRunners heap.now program.now fuel (runners_in seats.new) }
     ensures count { length seats.new ≡ length seats.old }
     ensures over { AreOver (runners_in seats.new) result }
+    ensures timed { AreTimed tick (runners_in seats.old) → AreTimed tick (runners_in seats.new) }
 {
     for _ in rt.forever() {
         if have_ended(seats) {

@@ -34,7 +34,7 @@ fn into_passes(seats: Vec<Seat>, mut passes: Vec<Pass>) -> Vec<Pass>
 /// The runners are those of this heap in the order of their threads, each as `Runner::new` gave it, all with one fuel. In each round every
 /// live runner has one turn of at most `quantum` instructions, on one of so many workers. It returns when all threads have ended, or when
 /// the run was halted because it is stuck, and it may wait for workers. Memory is taken before the first turn: `NoMemory` where it is
-/// wanting. The clock's counts are of `tick` units each.
+/// wanting. The clock's counts are of `tick` units each: a call that takes a moment is given the time after some count of ticks.
 pub fn run<R: Threads + Wait + Sync, C: Clock + Sync, G: Gate + Sync>(
     rt: &R,
     alloc: Global,
@@ -52,7 +52,7 @@ pub fn run<R: Threads + Wait + Sync, C: Clock + Sync, G: Gate + Sync>(
     requires quantum { 1 ≤ quantum }
     requires program { IsHeapOf heap program.now }
     requires runners { AreNew heap program.now fuel runners }
-    ensures { IfOk result (HasRun heap.heap program.now fuel) }
+    ensures { IfOk result (HasRun heap.heap program.now fuel tick) }
 {
     let passes = Vec::with_capacity(alloc, runners.items().len()).map_err(|_| NoMemory)?;
     let mut seats = seats(alloc, runners)?;

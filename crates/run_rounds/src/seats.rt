@@ -2,6 +2,7 @@
 
 ghost use Rattle.std.specs.Prelude.{◌≡◌, ◌≤◌, IfOk, map, false};
 ghost use Rattle.thread_calls.specs.Between.{IsHeapOf};
+ghost use Rattle.thread_calls.specs.Timed.{StaysTimed};
 ghost use Rattle.thread_interp.specs.Runners.{IsRunner, IsSame};
 
 use heap_table::Heap;
@@ -36,6 +37,7 @@ impl Seat {
         ensures runner { IsRunner heap.now program.now self.new.runner }
         ensures unchecked { self.new.runner.pass.known.checking ≡ false }
         ensures same { IsSame self.old.runner self.new.runner }
+        ensures timed { StaysTimed tick self.old.runner.pass self.new.runner.pass }
     {
         self.instructions = 0;
         if self.runner.has_ended() {

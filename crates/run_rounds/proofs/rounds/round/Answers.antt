@@ -1,5 +1,7 @@
 use Rattle.std.proofs.Common.{◌≡◌, ◌<◌, length, sym, ap, ◌∙◌, subst, refl, arith, slice_index_or}
 use Rattle.std.proofs.lemmas.Option.{slice_get_read, slice_get_within, slice_get-get_or, get_or_from_slice_get}
+use Rattle.thread_calls.specs.Timed.{IsTimed}
+use Rattle.thread_interp.specs.Runners.{RunnerSeen}
 use Rattle.run_rounds.specs.declared.seats.Seat.{Seat}
 use Rattle.run_rounds.specs.Rounds.{IsRunnerAt}
 use Rattle.run_rounds.proofs.Seated.{seat_at, runner_at, stays_at}
@@ -29,3 +31,19 @@ returns-clause-runners g c = λ t r e.
     turn.call.0 turn.call.1 turn.call.2 in
     subst (IsRunnerAt c.args.heap.now c.args.program.now c.args.fuel t)
     (ap (λ (z : Seat). z.runner) (turn.left ∙ get_or_from_slice_get after t q.from q.from q.here) ∙ q.is) stays
+
+-- its calls are given moments by ticks
+pub returns-clause-timed : goal.returns-clause-timed
+returns-clause-timed g c = λ timed t r e.
+    let before = c.args.seats.now in
+    let after = c.for_each_mut.new.s in
+    let q = seat_at after t r e in
+    let len : length after ≡ length before = c.for_each_mut.auto.s in
+    let inside = slice_get_within after t q.from q.here in
+    let lt : t < length before = omega (arith, inside, len) in
+    let x = slice_index_or before t q.from in
+    let at = timed t x.runner (runner_at before t x (slice_get-get_or before t q.from lt)) in
+    let turn = (c.for_each_mut.ensures t q.from lt).1 in
+    let mine = subst (λ (z : Seat). IsTimed c.args.tick z.runner.pass.known) (sym turn.argument_is) at in
+    subst (λ (z : RunnerSeen). IsTimed c.args.tick z.pass.known)
+    (ap (λ (z : Seat). z.runner) (turn.left ∙ get_or_from_slice_get after t q.from q.from q.here) ∙ q.is) (turn.call.3 mine)
