@@ -1,5 +1,5 @@
 -- The moments of the calls that a thread made, and the resets that it counted, by the length of a tick.
-use Rattle.std.specs.Prelude.{◌≡◌, ℕ, ◌+◌, ◌-◌, ◌*◌, ◌^◌, min, Bool, true, Some}
+use Rattle.std.specs.Prelude.{◌≡◌, ℕ, ◌+◌, ◌-◌, ◌*◌, ◌^◌, min, Bool, Some}
 use Rattle.std.specs.List.{AllByRecursion}
 use Rattle.core_calls.specs.Moments.{moment_of, IsDecidedAt}
 use Rattle.core_world.specs.declared.task.Task.{Task}
