@@ -59,16 +59,17 @@ pub fn biasrun<R: Threads + Wait + Sync, S: Source, K: Sink, C: Clock + Sync, G:
 ) -> Finish
     // Memory was wanting: nothing is left, and the sink is as it was.
     ensures given_up { result.status ≡ 7 → IsGivenUp sink.old sink.new result }
-    // The words, the text that was read and the run that was made of it, or the check of a journal, or the number of
-    // items of a program that is made, say what is due, and that was written and answered, up to the first write that
-    // failed.
+    // The words, the text that was read and the run that was made of it, or the check of a journal,
+    // or the number of items of a program that is made, say what is due, and that was written and
+    // answered, up to the first write that failed.
     ensures finished { result.status ≢ 7 →
         IsFinish (accepted (map (λ w. string_bytes w) words.now))
         (source_seen S.Source source.old) (source_seen S.Source source.new)
         (sink_seen K.Sink sink.old) (sink_seen K.Sink sink.new) result }
-    // Words that ask for no text leave the source as it was, and no others take more of it than one byte past the limit.
-    ensures taken { TakesAtMost S.Source (most_asked (accepted (map (λ w. string_bytes w) words.now)))
-        source.old source.new }
+    // Words that ask for no text leave the source as it was, and others take no more of it than one
+    // byte past the limit.
+    ensures taken { TakesAtMost S.Source
+        (most_asked (accepted (map (λ w. string_bytes w) words.now))) source.old source.new }
 {
     run::run_words(rt, alloc, words, source, sink, clock, gate)
 }

@@ -51,8 +51,8 @@ pub(crate) fn run_words<
     ensures over { IsGivenUp sink.old sink.new result ⊎ IsFinish (accepted (map (λ w. string_bytes w) words.now))
         (source_seen S.Source source.old) (source_seen S.Source source.new)
         (sink_seen K.Sink sink.old) (sink_seen K.Sink sink.new) result }
-    ensures taken { TakesAtMost S.Source (most_asked (accepted (map (λ w. string_bytes w) words.now)))
-        source.old source.new }
+    ensures taken { TakesAtMost S.Source
+        (most_asked (accepted (map (λ w. string_bytes w) words.now))) source.old source.new }
 {
     match read_words(alloc, words) {
         Ok(Command::Run(options)) => run_source(rt, alloc, &options, source, sink, clock, gate),
