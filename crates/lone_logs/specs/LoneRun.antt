@@ -33,17 +33,17 @@ AreSameButForPaths logs others = with_no_paths logs ≡ with_no_paths others
 -- a thread that draws the hash of an object has logged no hash of the object before
 abbrev pub DrawsComeFirst : List (List Logged) → Type 0
 DrawsComeFirst logs =
-    (t o value number : ℕ) (before : List Logged) (l : Logged) (later : List Logged) → log_of logs t ≡ before ++ l ∷ later
-    → l.entry ≡ Hash o value (Some number) → has_hash o before ≡ false
+    (t o value number : ℕ) (before : List Logged) (l : Logged) (later : List Logged)
+    → log_of logs t ≡ before ++ l ∷ later → l.entry ≡ Hash o value (Some number) → has_hash o before ≡ false
 
 -- RUNS
 -- no thread can go on: the machine is stuck, or all its threads have ended
 abbrev pub IsOver : PlainMachine → Type 0
 IsOver m = (is_stuck m ≡ true) ⊎ (list_all (λ s. not (is_live s)) m.threads ≡ true)
 
--- One thread's log is all that the run of the program has logged, and this is the machine behind it, which is over. The hashes are
--- the draws of the generators from this start: of an object's hashes one was drawn, the first of those that its thread logged. The
--- stamps are exact.
+-- One thread's log is all that the run of the program has logged, and this is the machine behind it, which is over. The
+-- hashes are the draws of the generators from this start: of an object's hashes one was drawn, the first of those that its
+-- thread logged. The stamps are exact.
 pub record IsLoneRun (p : ProgramText) (fuel start : ℕ) (logs : List (List Logged)) (m : PlainMachine) : Type 0 where
   pub one : length logs ≡ 1
   pub rises : AllByRecursion (RisesAbove 0) logs

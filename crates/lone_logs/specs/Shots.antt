@@ -29,7 +29,8 @@ pub record IsShotOf (p : ProgramText) (fuel : ℕ) (log : List Logged) (shot : S
   pub under : machine_after p fuel (take (front_of shot) log ∷ []) ≡ Some machine
   pub cells : shot.cells ≡ cells_of machine
 
--- each shot does, and the shots are of the log's dumps, in their order: each was made just before the dump, and has its number
+-- each shot does, and the shots are of the log's dumps, in their order: each was made just before the dump, and has its
+-- number
 pub record AreShotsOf (p : ProgramText) (fuel : ℕ) (log : List Logged) (shots : List Shot) : Type 0 where
   pub right : AllByRecursion (IsShotOf p fuel log) shots
   pub dumps : map (λ s. (front_of s, s.number)) shots ≡ dumps_from 0 log

@@ -18,8 +18,8 @@ pub fn stamps_of_one_thread_count_its_entries()
         → StampsAreExact logs → slice_get (log_of logs 0) i ≡ Some l → l.stamp ≡ i + 1 }
 {}
 
-/// Any two runs of a program of one thread, under one fuel and one start of the generators of hashes, log the same but for the paths
-/// of enters, and leave the same machine.
+/// Any two runs of a program of one thread, under one fuel and one start of the generators of hashes, log the same but
+/// for the paths of enters, and leave the same machine.
 pub fn one_thread_logs_one_way()
     ensures logs { (p : ProgramText) (fuel start : ℕ) (logs others : List (List Logged)) (m n : PlainMachine)
         → IsLoneRun p fuel start logs m → IsLoneRun p fuel start others n → AreSameButForPaths logs others }

@@ -1,7 +1,8 @@
-//! A program of one thread runs one way: what a run's contract says of its log leaves open by which path an enter goes, and nothing else.
+//! A program of one thread runs one way: what a run's contract says of its log leaves open by which path an enter goes,
+//! and nothing else.
 //!
-//! No heap is spoken of: these are laws of the plain machine, of draws, of stamps and of a run's text. The functions do nothing, and
-//! `specs/` has the definitions.
+//! No heap is spoken of: these are laws of the plain machine, of draws, of stamps and of a run's text. The functions do
+//! nothing, and `specs/` has the definitions.
 #![tactic(auto)]
 
 mod laws;
