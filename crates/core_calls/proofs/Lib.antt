@@ -31,3 +31,10 @@ pub mod Others
 pub mod StandsSafe
 pub mod StandsCalls
 pub mod StandsKnown
+pub mod Named
+pub mod NamedLocks
+pub mod NamedLooks
+pub mod NamedWaits
+pub mod NamedSafe
+pub mod NamedCalls
+pub mod Called

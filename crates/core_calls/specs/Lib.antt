@@ -5,3 +5,4 @@ pub mod Bounds
 pub mod Woken
 pub mod Stuck
 pub mod Stands
+pub mod Moments

@@ -1,5 +1,5 @@
-//! Laws of calls on the heap, by the trees of their steps alone: what each call logs and leaves unfinished, why it is pending, and how
-//! many steps it makes.
+//! Laws of calls on the heap, by the trees of their steps alone: what each call logs and leaves unfinished, why it is pending, how
+//! many steps it makes, and what it counts by its moment.
 //!
 //! A law is a public function with an empty body. No world is spoken of: a call's steps are a tree, with a branch for each word that
 //! a step may find, and a law holds along every path. So the code that makes a call's steps knows all this by following the
@@ -8,6 +8,7 @@
 
 mod bounding;
 mod locking;
+mod moments;
 mod running;
 mod standing;
 mod stopping;
@@ -19,6 +20,7 @@ pub use locking::{
     enter_logs_its_answer, exit_logs_its_answer, stack_enter_logs_its_answer,
     stack_exit_logs_its_answer,
 };
+pub use moments::{a_run_counts_by_the_moment_of_its_call, each_step_names_its_call};
 pub use running::{a_run_follows_a_path_of_its_tree, steps_make_of_knowledge_what_they_leave};
 pub use standing::{
     a_thread_knows_how_it_stands, calls_at_the_safepoint_word_tell_how_their_thread_stands,

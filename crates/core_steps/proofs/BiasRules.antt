@@ -49,7 +49,7 @@ module _ (heap : Heap) (k : Known) where
   rebiases_rule e o mark prototype epoch object may =
       keeps heap k (λ s y. MayRebias s y e o mark epoch × MayTakeBias s y e o mark prototype epoch) (λ t y. rebias_plan e t o mark epoch)
       (λ w P t within m valid. rebias_valid e o mark epoch w P t within m.0 valid)
-      (λ w P t within m v law. bias_taken w P t e o mark prototype epoch within m.1 v law) (λ t y h. refl) (λ s y a. a.1.runs) (λ v. (object, tt)) may
+      (λ w P t within m v law. bias_taken w P t e o mark prototype epoch within m.1 v law) (λ t y h. refl) (λ v. tt) (λ s y a. a.1.runs) (λ v. (object, tt)) may
 
   -- and for a mark without the bias pattern
   pub unbiases_rule : (e : Purpose) (o mark prototype neutral : ℕ) → o < length heap.shape.objects
@@ -58,7 +58,7 @@ module _ (heap : Heap) (k : Known) where
   unbiases_rule e o mark prototype neutral object may =
       keeps heap k (λ s y. MayUnbias s y e o mark neutral × MayDropBias s y e o mark prototype neutral) (λ t y. unbias_plan e o mark neutral)
       (λ w P t within m valid. drop_valid e o mark neutral w P t within m.0 valid)
-      (λ w P t within m v law. bias_dropped w P t e o mark prototype neutral within m.1 v law) (λ t y h. refl) (λ s y a. a.1.runs) (λ v. (object, tt)) may
+      (λ w P t within m v law. bias_dropped w P t e o mark prototype neutral within m.1 v law) (λ t y h. refl) (λ v. tt) (λ s y a. a.1.runs) (λ v. (object, tt)) may
 
   -- A REVOCATION: its first store, with which the law holds of the world before
   pub begins_revoking_rule : (e : Purpose) (b : Revocation) (verdict : Verdict) (reset : Bool) (at : Name) (word : ℕ)
@@ -66,6 +66,7 @@ module _ (heap : Heap) (k : Known) where
       → Keeps heap (revoke_plan e b (own.CountVerdict (class_of heap.shape b.object) verdict reset) at word) k
   begins_revoking_rule e b verdict reset at word there may = record {
     there = λ v. (there v, tt);
+    exact = λ v. tt;
     by = λ v.
         let a = calm_in_all heap k v (may v).reached (may v).calm in
         home heap k v (λ s y. MayBeginRevoking s y e k.thread b verdict reset at word
@@ -91,6 +92,7 @@ module _ (heap : Heap) (k : Known) where
       → (Stands heap k → MayGoOnRevoking heap.shape k e k.thread b at word) → Keeps heap (revoke_plan e b own.Same at word) k
   goes_on_revoking_rule e b at word there may = record {
     there = λ v. (there v, tt);
+    exact = λ v. tt;
     by = λ v. in_middle (λ v u. WhollyValid (world_after (revoke_plan e b own.Same at word) u v.world)) b
         (λ v s same law.
         let within = subst (λ u. u < v.world.shape.threads) (sym same) (inside heap k v) in
@@ -108,6 +110,7 @@ module _ (heap : Heap) (k : Known) where
       → Keeps heap (release_plan e (stage_after took b.object) k.thread) k
   ends_revoking_rule e b took may tells = record {
     there = λ v. (tt, tt);
+    exact = λ v. tt;
     by = λ v. in_middle (λ v u. WhollyValid (world_after (release_plan e (stage_after took b.object) u) u v.world)) b
         (λ v s same law.
         let m = away heap k v (λ z y. MayEndRevoking z y e k.thread b) (may v) in

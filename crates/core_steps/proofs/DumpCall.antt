@@ -216,7 +216,7 @@ module _ (heap : Heap) (me : ℕ) (here : Local) (shots : List DumpShot) (room :
       let p = keep_shot_plan dump_errand in
       let logged : length k.shots ≡ length (dumps_from 0 k.log) = r.carries.shots_logged refl in
       hitting heap false p _ k _ (λ n. refl)
-      (λ i. keeps_calm heap k (λ s y. MayKeepShot s y dump_errand) (λ t y. keep_shot_plan dump_errand) (keeps_shot dump_errand) (quiet.keeps_shot dump_errand) (λ t y h. refl) r.reached r.calm
+      (λ i. keeps_calm heap k (λ s y. MayKeepShot s y dump_errand) (λ t y. keep_shot_plan dump_errand) (keeps_shot dump_errand) (quiet.keeps_shot dump_errand) (λ t y h. refl) (λ v. tt) r.reached r.calm
       (λ v. (tt, subst (λ z. length z < 4) (sym d.shots_are) few))
       (λ v. record { reached = r.reached; calm = r.calm; dumps = sym r.mine; goes_on = r.mine; logged = logged; room = subst (λ z. length z < 4) (sym d.shots_are) few; saw = saw })) (λ n i was.
       let l = known_hit heap.shape heap.start p n k in

@@ -32,6 +32,7 @@ module _ (heap : Heap) (k : Known) where
       → Keeps heap (find_hash_plan e (at k.thread) o) k
   finding_rule May e at o found none biases runs there may = record {
     there = λ v. (there v, tt);
+    exact = λ v. tt;
     by = λ v.
         let a = away heap k v May (may v) in
         let all = runs_in_all heap k v (runs v) in
@@ -52,6 +53,7 @@ module _ (heap : Heap) (k : Known) where
       → Keeps heap (draw_plan e draw at o header) k
   drawing_rule May e draw at o header hit miss biases runs there may = record {
     there = λ v. (there v, tt);
+    exact = λ v. tt;
     by = λ v.
         let all = runs_in_all heap k v (runs v) in
         let plan = draw_plan e draw at o header in

@@ -1,13 +1,16 @@
 -- The laws of core_locks, with those of core_counts beside them, as rules of the logic: what the thread knows is enough. A few rules turn such a pair
 -- into one for its plan, whatever the laws are; behind them stand those on the safepoint word, the journal and lock records.
-use Rattle.std.proofs.Common.{◌≡◌, ℕ, ◌+◌, ◌<◌, ne_eqb, true, length, Some, None, refl, sym, ap, ◌∙◌, subst, inl}
+use Rattle.std.proofs.Common.{◌≡◌, ℕ, ◌+◌, ◌<◌, ne_eqb, true, List, length, Some, None, refl, sym, ap, ◌∙◌, subst, inl}
 use Rattle.mark_word.specs.Mark.{mark_of}
 use Rattle.mark_word.specs.declared.mark.MarkForm.TheVariants.{Locked}
 use Rattle.plain_monitor.specs.declared.entry.Entry.{Entry}
-use Rattle.plain_monitor.specs.declared.entry.Entry.TheVariants.{Put, Enter, Exit}
+use Rattle.plain_monitor.specs.declared.entry.Entry.TheVariants.{Put, Enter, Exit, Resume}
+use Rattle.plain_monitor.specs.declared.entry.Logged.{Logged}
 use Rattle.plain_monitor.specs.declared.entry.Path.{Path}
 use Rattle.plain_monitor.specs.declared.entry.Value.{Value}
+use Rattle.plain_monitor.specs.History.{last_stamp}
 use Rattle.core_world.specs.declared.name.Name.TheVariants as name
+use Rattle.core_world.specs.declared.plan.Note.TheVariants.{Quiet}
 use Rattle.core_world.specs.declared.plan.StepPlan.{StepPlan}
 use Rattle.core_world.specs.declared.stage.Stage.TheVariants.{Calm}
 use Rattle.core_world.specs.Words.Shape.{Shape, IsInLimits, class_of, monitor_count}
@@ -23,11 +26,12 @@ use Rattle.core_world.specs.Threads.Stages.{revocation_in}
 use Rattle.core_world.specs.Words.Forms.{requester_in}
 use Rattle.core_world.specs.Trees.WaitSteps.{publish_plan}
 use Rattle.core_world.specs.Valid.{IsValid}
+use Rattle.core_world.specs.World.{World, logs}
 use Rattle.core_world.proofs.LookWhileRevoking.{forgotten, look_valid_with, miss_valid_with}
 use Rattle.core_world.proofs.KnowledgeParts.{by_equal}
 use Rattle.core_locks.specs.Knowing.{KeepsValid, LogsFound, SawInflated}
 use Rattle.core_locks.specs.SafepointLaws.{MayStop, MayResume, MayRequest, MayRelease, MayHalt}
-use Rattle.core_locks.specs.JournalLaws.{MayGet, MayPut, get_entry, MayPublish, MayPublishLog, MayRaise, MayLogEnter, MayBeReady, MayEnd}
+use Rattle.core_locks.specs.JournalLaws.{MayGet, MayPut, get_entry, MayTell, MayPublish, MayPublishLog, MayRaise, MayLogEnter, MayBeReady, MayEnd}
 use Rattle.core_locks.specs.LockLaws.{MayDisplace, MaySeize, MayHold, MayLeave, MayClear, MayLetGo}
 use Rattle.core_locks.proofs.SafeStops.{stopping_valid, resuming_valid, requesting_valid}
 use Rattle.core_locks.proofs.SafeEnds.{releasing_valid, halting_valid}
@@ -39,6 +43,7 @@ use Rattle.core_locks.proofs.Seizes.{seizes}
 use Rattle.core_locks.proofs.HoldLaw.{stored_valid}
 use Rattle.core_locks.proofs.HoldCleared.{cleared_valid}
 use Rattle.core_locks.proofs.EnterLogs.{logging_an_enter}
+use Rattle.core_locks.proofs.TakenStamps.{enter_stamp}
 use Rattle.core_locks.proofs.ExitHolds.{exits_by_a_hold_word}
 use Rattle.core_locks.proofs.ExitMarks.{exits_by_the_mark, exit_misses}
 use Rattle.core_locks.proofs.RaiseStamps.{raising_valid}
@@ -51,9 +56,19 @@ use Rattle.core_counts.proofs.EnterLogged.{enter_logged}
 use Rattle.core_counts.proofs.HoldStored.{hold_stored}
 use Rattle.core_counts.proofs.LoggedKinds as logged
 use Rattle.core_counts.proofs.QuietKinds as quiet
+use Rattle.core_steps.specs.Takings.{StampsTaking, StampsNote, TakesExactly}
 use Rattle.core_steps.specs.Logic.{Heap, Stands, Keeps}
 use Rattle.core_steps.proofs.There.{class_there, slot_there, limits_there, kept_there, inflated_there}
 use Rattle.core_steps.proofs.Wholes.{All, all_unless, stops_all, was_asked, not_calm, kept_whole}
+
+-- A step that logs nothing takes nothing, nor does one that tells what others may see.
+quiet_exactly : (w : World) (t : ℕ) (p : StepPlan) → p.note ≡ Quiet → TakesExactly w t p
+quiet_exactly w t p quiet = subst (StampsNote (logs w) (w.words p.at) (last_stamp (w.known t).log)) (sym quiet) tt
+
+telling_takes_none : (s : Shape) (k : Known) (e : Entry) → MayTell s k e → (all : List (List Logged)) (found last : ℕ) → StampsTaking all found last e
+telling_takes_none s k (Enter o path) tells all found last = absurd tells
+telling_takes_none s k (Resume o) tells all found last = absurd tells
+telling_takes_none s k _ tells all found last = tt
 
 module _ (heap : Heap) (k : Known) where
   -- what holds of the world's shape and of what its thread knows, holds of these
@@ -101,14 +116,19 @@ module _ (heap : Heap) (k : Known) where
   abbrev pub Unrevoking : (ℕ → Known → StepPlan) → Type 0
   Unrevoking plan = (t : ℕ) (y : Known) → revocation_in y.stage ≡ None → revocation_in (plan t y).stage ≡ None
 
+  -- and whether it stamps a taking as the logs ask for; a plan that takes nothing does, by what it notes
+  abbrev pub Stamping : (ℕ → Known → StepPlan) → Type 0
+  Stamping plan = (v : Stands heap k) → TakesExactly v.world k.thread (plan k.thread k)
+
   -- A law of a step that leaves the plain objects, with that of the biases, as a rule for the plan that the thread's knowledge makes, where every
   -- clause holds. Its premise may use that there is such a world.
   pub keeps_in_all : (May : Shape → Known → Type 0) (plan : ℕ → Known → StepPlan) → KeepsValid (λ w t. May w.shape (w.known t)) (λ w t. plan t (w.known t))
-      → KeepsBiases (λ w t. May w.shape (w.known t)) (λ w t. plan t (w.known t)) → Unrevoking plan
+      → KeepsBiases (λ w t. May w.shape (w.known t)) (λ w t. plan t (w.known t)) → Unrevoking plan → Stamping plan
       → ((v : Stands heap k) → All v.world v.objects) → (Stands heap k → IsThere heap.shape k (plan k.thread k)) → (Stands heap k → May heap.shape k)
       → Keeps heap (plan k.thread k) k
-  keeps_in_all May plan law biases unrevoking all there may = record {
+  keeps_in_all May plan law biases unrevoking exact all there may = record {
     there = there;
+    exact = exact;
     by = λ v.
         let a = all v in
         home v (λ s y. May s y → WhollyValid (world_after (plan k.thread y) k.thread v.world))
@@ -118,20 +138,21 @@ module _ (heap : Heap) (k : Known) where
 
   -- of a thread that runs
   pub keeps : (May : Shape → Known → Type 0) (plan : ℕ → Known → StepPlan) → KeepsValid (λ w t. May w.shape (w.known t)) (λ w t. plan t (w.known t))
-      → KeepsBiases (λ w t. May w.shape (w.known t)) (λ w t. plan t (w.known t)) → Unrevoking plan
+      → KeepsBiases (λ w t. May w.shape (w.known t)) (λ w t. plan t (w.known t)) → Unrevoking plan → Stamping plan
       → ((s : Shape) (y : Known) → May s y → y.running ≡ true) → (Stands heap k → IsThere heap.shape k (plan k.thread k)) → (Stands heap k → May heap.shape k)
       → Keeps heap (plan k.thread k) k
-  keeps May plan law biases unrevoking runs there may = keeps_in_all May plan law biases unrevoking (λ v. runs_in_all v (runs heap.shape k (may v))) there may
+  keeps May plan law biases unrevoking exact runs there may = keeps_in_all May plan law biases unrevoking exact (λ v. runs_in_all v (runs heap.shape k (may v))) there may
 
   -- and one of a step that logs an entry, which may be made of the word that it finds; and by which the biases may ask for more
   pub enters_in_log_with : (May : Shape → Known → Type 0) (More : Known → Type 0) (plan : ℕ → Known → StepPlan) (entry : ℕ → Entry)
       → LogsFound (λ w t. May w.shape (w.known t)) (λ w t. plan t (w.known t)) entry
-      → KeepsBiases (λ w t. May w.shape (w.known t) × More (w.known t)) (λ w t. plan t (w.known t)) → Unrevoking plan
+      → KeepsBiases (λ w t. May w.shape (w.known t) × More (w.known t)) (λ w t. plan t (w.known t)) → Unrevoking plan → Stamping plan
       → ((s : Shape) (y : Known) → May s y → y.running ≡ true) → (Stands heap k → IsThere heap.shape k (plan k.thread k))
       → (Stands heap k → May heap.shape k × More k)
       → Keeps heap (plan k.thread k) k
-  enters_in_log_with May More plan entry law biases unrevoking runs there may = record {
+  enters_in_log_with May More plan entry law biases unrevoking exact runs there may = record {
     there = there;
+    exact = exact;
     by = λ v.
         let a = runs_in_all v (runs heap.shape k (may v).0) in
         home v (λ s y. May s y × More y → WhollyValid (world_after (plan k.thread y) k.thread v.world))
@@ -143,17 +164,18 @@ module _ (heap : Heap) (k : Known) where
 
   pub enters_in_log : (May : Shape → Known → Type 0) (plan : ℕ → Known → StepPlan) (entry : ℕ → Entry)
       → LogsFound (λ w t. May w.shape (w.known t)) (λ w t. plan t (w.known t)) entry
-      → KeepsBiases (λ w t. May w.shape (w.known t)) (λ w t. plan t (w.known t)) → Unrevoking plan
+      → KeepsBiases (λ w t. May w.shape (w.known t)) (λ w t. plan t (w.known t)) → Unrevoking plan → Stamping plan
       → ((s : Shape) (y : Known) → May s y → y.running ≡ true) → (Stands heap k → IsThere heap.shape k (plan k.thread k)) → (Stands heap k → May heap.shape k)
       → Keeps heap (plan k.thread k) k
-  enters_in_log May plan entry law biases unrevoking runs there may =
-      enters_in_log_with May (λ y. Unit {0}) plan entry law (λ w P t within m v biased. biases w P t within m.0 v biased) unrevoking runs there
+  enters_in_log May plan entry law biases unrevoking exact runs there may =
+      enters_in_log_with May (λ y. Unit {0}) plan entry law (λ w P t within m v biased. biases w P t within m.0 v biased) unrevoking exact runs there
       (λ v. (may v, tt))
 
   -- LOADS
   pub looks : (p : StepPlan) → IsLook k p → (Stands heap k → IsIn heap.shape p.at) → Keeps heap p k
   looks p look there = record {
     there = λ v. (there v, subst (λ o. HasPlace o (length k.shots)) (sym look.own) tt);
+    exact = λ v. quiet_exactly v.world k.thread p look.note;
     by = λ v. record {
       objects = v.objects;
       is =
@@ -165,12 +187,13 @@ module _ (heap : Heap) (k : Known) where
   -- THE SAFEPOINT WORD
   pub stops : (e : Purpose) → MayStop k e → Keeps heap (stop_plan e k.thread) k
   stops e may =
-      keeps (λ s y. MayStop y e) (λ t y. stop_plan e t) (stopping_valid e) (quiet.stops e) (λ t y h. refl) (λ s y a. a.runs) (λ v. (tt, tt))
+      keeps (λ s y. MayStop y e) (λ t y. stop_plan e t) (stopping_valid e) (quiet.stops e) (λ t y h. refl) (λ v. tt) (λ s y a. a.runs) (λ v. (tt, tt))
       (λ v. may)
 
   pub resumes : (e : Purpose) (word : ℕ) → MayResume k e word → Keeps heap (resume_plan e k.thread word) k
   resumes e word may = record {
     there = λ v. (tt, tt);
+    exact = λ v. tt;
     by = λ v.
         let m = away v (λ s y. MayResume y e word) may in
         by_equal (v.world.words name.Safepoint) word
@@ -190,43 +213,43 @@ module _ (heap : Heap) (k : Known) where
 
   pub requests : (e : Purpose) (word : ℕ) → MayRequest k e word → Keeps heap (request_plan e k.thread word) k
   requests e word may =
-      keeps (λ s y. MayRequest y e word) (λ t y. request_plan e t word) (requesting_valid e word) (quiet.requests e word) (λ t y h. refl)
+      keeps (λ s y. MayRequest y e word) (λ t y. request_plan e t word) (requesting_valid e word) (quiet.requests e word) (λ t y h. refl) (λ v. tt)
       (λ s y a. a.runs) (λ v. (tt, tt)) (λ v. may)
 
   -- at its reached safepoint, in the middle of nothing
   pub keeps_calm : (May : Shape → Known → Type 0) (plan : ℕ → Known → StepPlan) → KeepsValid (λ w t. May w.shape (w.known t)) (λ w t. plan t (w.known t))
-      → KeepsBiases (λ w t. May w.shape (w.known t)) (λ w t. plan t (w.known t)) → Unrevoking plan
+      → KeepsBiases (λ w t. May w.shape (w.known t)) (λ w t. plan t (w.known t)) → Unrevoking plan → Stamping plan
       → k.reached ≡ true → k.stage ≡ Calm → (Stands heap k → IsThere heap.shape k (plan k.thread k)) → (Stands heap k → May heap.shape k)
       → Keeps heap (plan k.thread k) k
-  keeps_calm May plan law biases unrevoking reached calm there may =
-      keeps_in_all May plan law biases unrevoking (λ v. calm_in_all v reached calm) there may
+  keeps_calm May plan law biases unrevoking exact reached calm there may =
+      keeps_in_all May plan law biases unrevoking exact (λ v. calm_in_all v reached calm) there may
 
   pub releases : (e : Purpose) → MayRelease k e → Keeps heap (release_plan e Calm k.thread) k
   releases e may =
-      keeps_calm (λ s y. MayRelease y e) (λ t y. release_plan e Calm t) (releasing_valid e) (quiet.releases e) (λ t y h. refl) may.reached may.calm
+      keeps_calm (λ s y. MayRelease y e) (λ t y. release_plan e Calm t) (releasing_valid e) (quiet.releases e) (λ t y h. refl) (λ v. tt) may.reached may.calm
       (λ v. (tt, tt)) (λ v. may)
 
   pub halts : (e : Purpose) → MayHalt heap.shape.threads k e → Keeps heap (halt_plan e k.thread) k
   halts e may =
-      keeps_calm (λ s y. MayHalt s.threads y e) (λ t y. halt_plan e t) (halting_valid e) (quiet.halts e) (λ t y h. refl) may.reached may.calm
+      keeps_calm (λ s y. MayHalt s.threads y e) (λ t y. halt_plan e t) (halting_valid e) (quiet.halts e) (λ t y h. refl) (λ v. tt) may.reached may.calm
       (λ v. (tt, tt)) (λ v. may)
 
   -- THE JOURNAL
   pub publishes_all : (e : Purpose) → MayPublishLog k e → Keeps heap (publish_log_plan e k.thread (length k.log)) k
   publishes_all e may =
-      keeps (λ s y. MayPublishLog y e) (λ t y. publish_log_plan e t (length y.log)) (publish_all_law e) (quiet.publishes_all e) (λ t y h. refl)
+      keeps (λ s y. MayPublishLog y e) (λ t y. publish_log_plan e t (length y.log)) (publish_all_law e) (quiet.publishes_all e) (λ t y h. refl) (λ v. tt)
       (λ s y a. a.runs) (λ v. (v.within, tt)) (λ v. may)
 
   pub gets : (e : Purpose) (o slot : ℕ) → (Stands heap k → MayGet heap.shape k e o slot) → Keeps heap (get_plan e o slot) k
   gets e o slot may =
       enters_in_log (λ s y. MayGet s y e o slot) (λ t y. get_plan e o slot) (get_entry o slot) (get_law e o slot) (logged.gets e o slot)
-      (λ t y h. refl) (λ s y a. a.touches.runs)
+      (λ t y h. refl) (λ v. tt) (λ s y a. a.touches.runs)
       (λ v. let a = (may v).touches in ((a.object, slot_there heap.shape o slot (limits v) a.object a.within), tt)) may
 
   pub puts : (e : Purpose) (o slot : ℕ) (value : Value) → (Stands heap k → MayPut heap.shape k o slot value) → Keeps heap (put_plan e o slot value) k
   puts e o slot value may =
       enters_in_log (λ s y. MayPut s y o slot value) (λ t y. put_plan e o slot value) (λ n. Put o slot value) (put_law e o slot value)
-      (logged.puts e o slot value) (λ t y h. refl) (λ s y a. a.touches.runs)
+      (logged.puts e o slot value) (λ t y h. refl) (λ v. tt) (λ s y a. a.touches.runs)
       (λ v. let a = (may v).touches in ((a.object, slot_there heap.shape o slot (limits v) a.object a.within), tt)) may
 
   -- a notify that wakes nobody has seen that the object has no bias
@@ -234,38 +257,40 @@ module _ (heap : Heap) (k : Known) where
       → Keeps heap (publish_plan e k.thread entry (length k.log + 1)) k
   publishes e entry may =
       enters_in_log_with (λ s y. MayPublish s y entry) (λ y. SawNone y entry) (λ t y. publish_plan e t entry (length y.log + 1)) (λ n. entry)
-      (publish_law e entry) (logged.publishes e entry) (λ t y h. refl) (λ s y a. a.runs) (λ v. (v.within, tt)) may
+      (publish_law e entry) (logged.publishes e entry) (λ t y h. refl) (λ v. telling_takes_none heap.shape k entry (may v).0.tells (logs v.world) _ _)
+      (λ s y a. a.runs) (λ v. (v.within, tt)) may
 
   pub raises : (e : Purpose) (o : ℕ) → o < length heap.shape.objects → (Stands heap k → MayRaise k e o)
       → Keeps heap (raise_stamp_plan e o (next_stamp (local_of k))) k
   raises e o object may =
       keeps (λ s y. MayRaise y e o) (λ t y. raise_stamp_plan e o (next_stamp (local_of y))) (raising_valid e o) (quiet.raises_stamp e o)
-      (λ t y h. refl) (λ s y a. a.runs) (λ v. (object, tt)) may
+      (λ t y h. refl) (λ v. tt) (λ s y a. a.runs) (λ v. (object, tt)) may
 
   pub logs_enter : (e : Purpose) (o p : ℕ) (path : Path) → (Stands heap k → MayLogEnter heap.shape k o p path) → Keeps heap (log_enter_plan e o path) k
   logs_enter e o p path may = enters_in_log (λ s y. MayLogEnter s y o p path) (λ t y. log_enter_plan e o path) (λ n. Enter o path) (logging_an_enter e o p path)
-      (λ w P t within m v law. enter_logged w P t o p path e within m v law) (λ t y h. refl) (λ s y a. a.runs) (λ v. ((may v).object, tt)) may
+      (λ w P t within m v law. enter_logged w P t o p path e within m v law) (λ t y h. refl)
+      (λ v s. enter_stamp v.world v.objects k.thread o p path s (inside v) (away v (λ z y. MayLogEnter z y o p path) (may v)) (valid_here v)) (λ s y a. a.runs) (λ v. ((may v).object, tt)) may
 
   pub readies : (e : Purpose) → (Stands heap k → MayBeReady k e) → Keeps heap (store_ready_plan e k.stage k.thread) k
   readies e may =
-      keeps (λ s y. MayBeReady y e) (λ t y. store_ready_plan e y.stage t) (ready_valid e) (quiet.says_ready e) (λ t y h. h) (λ s y a. a.runs)
+      keeps (λ s y. MayBeReady y e) (λ t y. store_ready_plan e y.stage t) (ready_valid e) (quiet.says_ready e) (λ t y h. h) (λ v. tt) (λ s y a. a.runs)
       (λ v. (v.within, tt)) may
 
   pub says_ended_rule : (e : Purpose) → (Stands heap k → MayEnd k e) → Keeps heap (store_ended_plan e k.thread) k
   says_ended_rule e may =
-      keeps (λ s y. MayEnd y e) (λ t y. store_ended_plan e t) (ended_valid e) (quiet.says_ended e) (λ t y h. refl) (λ s y a. a.runs)
+      keeps (λ s y. MayEnd y e) (λ t y. store_ended_plan e t) (ended_valid e) (quiet.says_ended e) (λ t y h. refl) (λ v. tt) (λ s y a. a.runs)
       (λ v. (v.within, tt)) may
 
   -- LOCK RECORDS
   pub displaces_rule : (e : Purpose) (p d : ℕ) → (Stands heap k → MayDisplace k e p) → Keeps heap (displace_plan e k.stage k.thread p d) k
   displaces_rule e p d may =
-      keeps (λ s y. MayDisplace y e p) (λ t y. displace_plan e y.stage t p d) (displaces e p d) (quiet.displaces e p d) (λ t y h. h) (λ s y a. a.runs)
+      keeps (λ s y. MayDisplace y e p) (λ t y. displace_plan e y.stage t p d) (displaces e p d) (quiet.displaces e p d) (λ t y h. h) (λ v. tt) (λ s y a. a.runs)
       (λ v. ((v.within, (may v).free.place), tt)) may
 
   pub seizes_rule : (e : Purpose) (o mark p : ℕ) → o < length heap.shape.objects → (Stands heap k → MaySeize k e o mark p)
       → Keeps heap (seize_plan e k.thread o mark p) k
   seizes_rule e o mark p object may =
-      keeps (λ s y. MaySeize y e o mark p) (λ t y. seize_plan e t o mark p) (seizes e o mark p) (quiet.seizes e o mark p) (λ t y h. refl)
+      keeps (λ s y. MaySeize y e o mark p) (λ t y. seize_plan e t o mark p) (seizes e o mark p) (quiet.seizes e o mark p) (λ t y h. refl) (λ v. tt)
       (λ s y a. a.runs) (λ v. (object, tt)) may
 
   pub holds_rule : (e : Purpose) (o d p : ℕ) (path : Path)
@@ -273,6 +298,7 @@ module _ (heap : Heap) (k : Known) where
       → Keeps heap (hold_plan e k.thread o d p path) k
   holds_rule e o d p path may = record {
     there = λ v. ((v.within, (may v).0.free.place), tt);
+    exact = λ v. tt;
     by = λ v.
         let a = runs_in_all v (may v).0.runs in
         home v (λ s y. MayHold s y e o d p × WentBefore heap.biasing s y o p path → WhollyValid (world_after (hold_plan e k.thread o d p path) k.thread v.world))
@@ -288,11 +314,11 @@ module _ (heap : Heap) (k : Known) where
       → Keeps heap (leave_plan e k.thread o p) k
   leaves_rule e o d p place may =
       enters_in_log (λ s y. MayLeave s y o d p) (λ t y. leave_plan e t o p) (λ n. Exit o) (exits_by_a_hold_word e o d p)
-      (logged.exits_by_hold e o d p) (λ t y h. refl) (λ s y a. a.runs) (λ v. ((v.within, place v), tt)) may
+      (logged.exits_by_hold e o d p) (λ t y h. refl) (λ v. tt) (λ s y a. a.runs) (λ v. ((v.within, place v), tt)) may
 
   pub clears_rule : (e : Purpose) (o p : ℕ) → (Stands heap k → p < 64) → (Stands heap k → MayClear k e o p) → Keeps heap (clear_plan e k.thread p) k
   clears_rule e o p place may =
-      keeps (λ s y. MayClear y e o p) (λ t y. clear_plan e t p) (cleared_valid e o p) (quiet.clears e o p) (λ t y h. refl) (λ s y a. a.runs)
+      keeps (λ s y. MayClear y e o p) (λ t y. clear_plan e t p) (cleared_valid e o p) (quiet.clears e o p) (λ t y h. refl) (λ v. tt) (λ s y a. a.runs)
       (λ v. ((v.within, place v), tt)) may
 
   -- whether the exchange hits or misses
@@ -300,6 +326,7 @@ module _ (heap : Heap) (k : Known) where
       → Keeps heap (let_go_plan e o (mark_of (Locked k.thread p)) header p) k
   lets_go_rule e o header stamp p may = record {
     there = λ v. ((may v).object, tt);
+    exact = λ v. tt;
     by = λ v.
         let a = away v (λ s y. MayLetGo s y o header stamp p) (may v) in
         let all = runs_in_all v (may v).runs in

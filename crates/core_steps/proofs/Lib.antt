@@ -43,6 +43,9 @@ pub mod WaitStarts
 pub mod WaitCalls
 pub mod Table
 pub mod ReachedWorlds
+pub mod LetGoes
+pub mod ExactLogs
+pub mod ExactWorlds
 pub mod Refuted
 pub mod RefutedStops
 pub mod SmallWorlds

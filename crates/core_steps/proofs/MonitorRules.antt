@@ -59,38 +59,38 @@ module _ (heap : Heap) (k : Known) where
 
   pub saves_rule : (e : Purpose) (o m : ℕ) → (Stands heap k → MayCount k e o m × (k.stage ≡ Calm)) → Keeps heap (save_count_plan e m) k
   saves_rule e o m may =
-      keeps heap k (λ s y. MaySaveCount y e o m) (λ t y. save_count_plan e m) (saves_count e o m) (quiet.saves_count e o m) (λ t y h. refl)
+      keeps heap k (λ s y. MaySaveCount y e o m) (λ t y. save_count_plan e m) (saves_count e o m) (quiet.saves_count e o m) (λ t y h. refl) (λ v. tt)
       (λ s y a. a.counts.runs)
       (λ v. let a = may v in (monitor_in_heap heap k o m a.0.runs a.0.inflated v, tt)) (λ v. let a = may v in record { counts = a.0; calm = a.1 })
 
   -- A NEW MONITOR is claimed, and its words are stored.
   pub claims_rule : (e : Purpose) → (Stands heap k → MayClaim k e) → Keeps heap (claim_plan e) k
   claims_rule e may =
-      keeps heap k (λ s y. MayClaim y e) (λ t y. claim_plan e) (claims_one e) (quiet.claims e) (λ t y h. refl) (λ s y a. a.runs) (λ v. (tt, tt)) may
+      keeps heap k (λ s y. MayClaim y e) (λ t y. claim_plan e) (claims_one e) (quiet.claims e) (λ t y h. refl) (λ v. tt) (λ s y a. a.runs) (λ v. (tt, tt)) may
 
   pub prepares_owner_rule : (e : Purpose) (m word : ℕ) → (Stands heap k → MayPrepareOwner heap.shape k e m word)
       → Keeps heap (prepare_plan e k.stage (name.Owner m) word) k
   prepares_owner_rule e m word may =
       keeps heap k (λ s y. MayPrepareOwner s y e m word) (λ t y. prepare_plan e y.stage (name.Owner m) word) (prepares_owner e m word)
-      (quiet.prepares_owner e m word) (λ t y h. h) (λ s y a. a.prepares.runs)
+      (quiet.prepares_owner e m word) (λ t y h. h) (λ v. tt) (λ s y a. a.prepares.runs)
       (λ v. let a = may v in (kept_in heap k m a.prepares.runs a.prepares.kept v, tt)) may
 
   pub prepares_recursions_rule : (e : Purpose) (m word : ℕ) → (Stands heap k → MayPrepare k e m)
       → Keeps heap (prepare_plan e k.stage (name.Recursions m) word) k
   prepares_recursions_rule e m word may =
       keeps heap k (λ s y. MayPrepare y e m) (λ t y. prepare_plan e y.stage (name.Recursions m) word) (prepares_recursions e m word)
-      (quiet.prepares_recursions e m word) (λ t y h. h) (λ s y a. a.runs) (λ v. let a = may v in (kept_in heap k m a.runs a.kept v, tt)) may
+      (quiet.prepares_recursions e m word) (λ t y h. h) (λ v. tt) (λ s y a. a.runs) (λ v. let a = may v in (kept_in heap k m a.runs a.kept v, tt)) may
 
   pub prepares_header_rule : (e : Purpose) (m word : ℕ) → (Stands heap k → MayPrepare k e m) → Keeps heap (prepare_plan e k.stage (name.Header m) word) k
   prepares_header_rule e m word may =
       keeps heap k (λ s y. MayPrepare y e m) (λ t y. prepare_plan e y.stage (name.Header m) word) (prepares_header e m word)
-      (quiet.prepares_header e m word) (λ t y h. h) (λ s y a. a.runs) (λ v. let a = may v in (kept_in heap k m a.runs a.kept v, tt)) may
+      (quiet.prepares_header e m word) (λ t y h. h) (λ v. tt) (λ s y a. a.runs) (λ v. let a = may v in (kept_in heap k m a.runs a.kept v, tt)) may
 
   pub prepares_object_rule : (e : Purpose) (m word : ℕ) → (Stands heap k → MayPrepareObject heap.shape k e m word)
       → Keeps heap (prepare_plan e k.stage (name.Object m) word) k
   prepares_object_rule e m word may =
       keeps heap k (λ s y. MayPrepareObject s y e m word) (λ t y. prepare_plan e y.stage (name.Object m) word) (prepares_object e m word)
-      (quiet.prepares_object e m word) (λ t y h. h) (λ s y a. a.prepares.runs)
+      (quiet.prepares_object e m word) (λ t y h. h) (λ v. tt) (λ s y a. a.prepares.runs)
       (λ v. let a = may v in (kept_in heap k m a.prepares.runs a.prepares.kept v, tt)) may
 
   -- INFLATION
@@ -98,69 +98,69 @@ module _ (heap : Heap) (k : Known) where
       → Keeps heap (inflate_plan e o mark u p) k
   inflates_rule e o mark u p object may =
       keeps heap k (λ s y. MayInflate y e o mark u p) (λ t y. inflate_plan e o mark u p) (inflates_locked e o mark u p) (quiet.inflates e o mark u p)
-      (λ t y h. refl) (λ s y a. a.runs) (λ v. (object, tt)) may
+      (λ t y h. refl) (λ v. tt) (λ s y a. a.runs) (λ v. (object, tt)) may
 
   pub names_rule : (e : Purpose) (o m u p h : ℕ) → (Stands heap k → MayName heap.shape k e o m u p h) → Keeps heap (name_plan e o m) k
   names_rule e o m u p h may =
-      keeps heap k (λ s y. MayName s y e o m u p h) (λ t y. name_plan e o m) (names_inflated e o m u p h) (quiet.names e o m u p h) (λ t y h. refl)
+      keeps heap k (λ s y. MayName s y e o m u p h) (λ t y. name_plan e o m) (names_inflated e o m u p h) (quiet.names e o m u p h) (λ t y h. refl) (λ v. tt)
       (λ s y a. a.runs) (λ v. ((may v).ready.object, tt)) may
 
   pub names_neutral_rule : (e : Purpose) (o mark m : ℕ) → (Stands heap k → MayNameNeutral heap.shape k e o mark m)
       → Keeps heap (name_neutral_plan e o mark m) k
   names_neutral_rule e o mark m may =
       keeps heap k (λ s y. MayNameNeutral s y e o mark m) (λ t y. name_neutral_plan e o mark m) (names_neutral e o mark m)
-      (quiet.names_neutral e o mark m) (λ t y h. refl) (λ s y a. a.runs) (λ v. ((may v).ready.object, tt)) may
+      (quiet.names_neutral e o mark m) (λ t y h. refl) (λ v. tt) (λ s y a. a.runs) (λ v. ((may v).ready.object, tt)) may
 
   -- THE OWNER WORD AND THE RECURSIONS
   pub grabs_rule : (e : Purpose) (o m : ℕ) → (Stands heap k → MayGrab k e o m) → Keeps heap (grab_plan e k.thread o m) k
   grabs_rule e o m may =
-      keeps heap k (λ s y. MayGrab y e o m) (λ t y. grab_plan e t o m) (grabs_free e o m) (quiet.grabs e o m) (λ t y h. refl) (λ s y a. a.runs)
+      keeps heap k (λ s y. MayGrab y e o m) (λ t y. grab_plan e t o m) (grabs_free e o m) (quiet.grabs e o m) (λ t y h. refl) (λ v. tt) (λ s y a. a.runs)
       (λ v. let a = may v in (monitor_in_heap heap k o m a.runs a.inflated v, tt)) may
 
   pub mans_rule : (e : Purpose) (o m p : ℕ) → (Stands heap k → MayTakeOver k e o m p) → Keeps heap (take_over_plan e k.thread o m) k
   mans_rule e o m p may =
-      keeps heap k (λ s y. MayTakeOver y e o m p) (λ t y. take_over_plan e t o m) (takes_over_own e o m p) (quiet.takes_over e o m p) (λ t y h. refl)
+      keeps heap k (λ s y. MayTakeOver y e o m p) (λ t y. take_over_plan e t o m) (takes_over_own e o m p) (quiet.takes_over e o m p) (λ t y h. refl) (λ v. tt)
       (λ s y a. a.runs) (λ v. let a = may v in (monitor_in_heap heap k o m a.runs a.inflated v, tt)) may
 
   pub raises_count_rule : (e : Purpose) (o m r : ℕ) → (Stands heap k → MayRaiseCount k e o m r) → Keeps heap (raise_count_plan e o m r) k
   raises_count_rule e o m r may =
       keeps heap k (λ s y. MayRaiseCount y e o m r) (λ t y. raise_count_plan e o m r) (raises_count e o m r) (quiet.raises_count e o m r)
-      (λ t y h. refl) (λ s y a. a.counts.runs) (λ v. let a = may v in (monitor_in_heap heap k o m a.counts.runs a.counts.inflated v, tt)) may
+      (λ t y h. refl) (λ v. tt) (λ s y a. a.counts.runs) (λ v. let a = may v in (monitor_in_heap heap k o m a.counts.runs a.counts.inflated v, tt)) may
 
   pub lowers_count_rule : (e : Purpose) (o m r : ℕ) → (Stands heap k → MayLowerCount k e o m r) → Keeps heap (lower_count_plan e o m r) k
   lowers_count_rule e o m r may =
       keeps heap k (λ s y. MayLowerCount y e o m r) (λ t y. lower_count_plan e o m r) (lowers_count e o m r) (quiet.lowers_count e o m r)
-      (λ t y h. refl) (λ s y a. a.counts.runs) (λ v. let a = may v in (monitor_in_heap heap k o m a.counts.runs a.counts.inflated v, tt)) may
+      (λ t y h. refl) (λ v. tt) (λ s y a. a.counts.runs) (λ v. let a = may v in (monitor_in_heap heap k o m a.counts.runs a.counts.inflated v, tt)) may
 
   pub resets_count_rule : (e : Purpose) (o m : ℕ) → (Stands heap k → MayResetCount k e o m) → Keeps heap (reset_count_plan e m) k
   resets_count_rule e o m may =
-      keeps heap k (λ s y. MayResetCount y e o m) (λ t y. reset_count_plan e m) (resets_count e o m) (quiet.resets_count e o m) (λ t y h. refl)
+      keeps heap k (λ s y. MayResetCount y e o m) (λ t y. reset_count_plan e m) (resets_count e o m) (quiet.resets_count e o m) (λ t y h. refl) (λ v. tt)
       (λ s y a. a.counts.runs) (λ v. let a = may v in (monitor_in_heap heap k o m a.counts.runs a.counts.inflated v, tt)) may
 
   pub frees_rule : (e : Purpose) (o m p stamp : ℕ) → (Stands heap k → MayFree heap.shape k o m stamp)
       → Keeps heap (free_plan e o m p) k
   frees_rule e o m p stamp may =
       enters_in_log heap k (λ s y. MayFree s y o m stamp) (λ t y. free_plan e o m p) (λ n. Exit o) (frees_owner e o m p stamp)
-      (logged.exits_by_monitor e o m p stamp) (λ t y h. refl) (λ s y a. a.runs)
+      (logged.exits_by_monitor e o m p stamp) (λ t y h. refl) (λ v. tt) (λ s y a. a.runs)
       (λ v. let a = may v in (monitor_in_heap heap k o m a.runs a.inflated v, tt)) may
 
   -- A WAIT lets go, and takes the monitor again.
   pub drops_rule : (e : Purpose) (o m : ℕ) → (Stands heap k → MayDrop k e o m) → Keeps heap (drop_plan e o m) k
   drops_rule e o m may =
-      keeps heap k (λ s y. MayDrop y e o m) (λ t y. drop_plan e o m) (drops_recursions e o m) (quiet.drops e o m) (λ t y h. refl) (λ s y a. a.runs)
+      keeps heap k (λ s y. MayDrop y e o m) (λ t y. drop_plan e o m) (drops_recursions e o m) (quiet.drops e o m) (λ t y h. refl) (λ v. tt) (λ s y a. a.runs)
       (λ v. let a = may v in (monitor_in_heap heap k o m a.runs a.inflated v, tt)) may
 
   pub quits_rule : (e : Purpose) (o m : ℕ) → (Stands heap k → MayQuit k e o m) → Keeps heap (quit_plan e m) k
   quits_rule e o m may =
-      keeps heap k (λ s y. MayQuit y e o m) (λ t y. quit_plan e m) (quits_monitor e o m) (quiet.quits e o m) (λ t y h. refl) (λ s y a. a.drops.runs)
+      keeps heap k (λ s y. MayQuit y e o m) (λ t y. quit_plan e m) (quits_monitor e o m) (quiet.quits e o m) (λ t y h. refl) (λ v. tt) (λ s y a. a.drops.runs)
       (λ v. let a = may v in (monitor_in_heap heap k o m a.drops.runs a.drops.inflated v, tt)) may
 
   pub regains_rule : (e : Purpose) (o m : ℕ) → (Stands heap k → MayRegain k e o m) → Keeps heap (regain_plan e k.thread o m) k
   regains_rule e o m may =
-      keeps heap k (λ s y. MayRegain y e o m) (λ t y. regain_plan e t o m) (regains_free e o m) (quiet.regains e o m) (λ t y h. refl)
+      keeps heap k (λ s y. MayRegain y e o m) (λ t y. regain_plan e t o m) (regains_free e o m) (quiet.regains e o m) (λ t y h. refl) (λ v. tt)
       (λ s y a. a.runs) (λ v. let a = may v in (monitor_in_heap heap k o m a.runs a.inflated v, tt)) may
 
   pub restores_rule : (e : Purpose) (o m word : ℕ) → (Stands heap k → MayRestore k e o m) → Keeps heap (restore_plan e o m word) k
   restores_rule e o m word may =
       keeps heap k (λ s y. MayRestore y e o m) (λ t y. restore_plan e o m word) (restores_recursions e o m word) (quiet.restores e o m word)
-      (λ t y h. refl) (λ s y a. a.runs) (λ v. let a = may v in (monitor_in_heap heap k o m a.runs a.inflated v, tt)) may
+      (λ t y h. refl) (λ v. tt) (λ s y a. a.runs) (λ v. let a = may v in (monitor_in_heap heap k o m a.runs a.inflated v, tt)) may

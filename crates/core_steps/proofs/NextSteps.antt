@@ -17,6 +17,7 @@ use Rattle.core_world.proofs.CallRests.{begun_rest, gone_rest}
 use Rattle.core_world.proofs.KnowledgeParts.{by_equal, each_with_known}
 use Rattle.core_world.proofs.LookWhileRevoking.{forgotten}
 use Rattle.core_counts.specs.BiasLaw.{BiasLawHolds, WhollyValid}
+use Rattle.core_steps.specs.Takings.{TakesExactly}
 use Rattle.core_steps.specs.Logic.{Heap, heap_of, Stands, Keeps, Was}
 use Rattle.core_steps.specs.Sound.{Finishes, BeginsWell, Sound}
 
@@ -116,3 +117,10 @@ stepping_sound w t p within begins sound next =
 pub stepping_there : (w : World) (t : ℕ) (p : StepPlan) → t < w.shape.threads → BeginsWell (heap_of w) p.task → Sound w
     → IsNext w.shape w.start w.biasing (w.known t) p → IsThere w.shape (w.known t) p
 stepping_there w t p within begins sound next = (goes w t p within begins sound next).keeps.there (stands_here w t within sound.valid)
+
+-- and it stamps a taking as the logs ask for
+pub stepping_stamps : (w : World) (t : ℕ) (p : StepPlan) → t < w.shape.threads → BeginsWell (heap_of w) p.task → Sound w
+    → IsNext w.shape w.start w.biasing (w.known t) p → TakesExactly w t p
+stepping_stamps w t p within begins sound next =
+    let number : (w.known t).thread ≡ t = number_is w sound.valid.objects t (forgotten BiasLawHolds w sound.valid.objects sound.valid.is) in
+    subst (λ u. TakesExactly w u p) number ((goes w t p within begins sound next).keeps.exact (stands_here w t within sound.valid))

@@ -15,10 +15,11 @@ use Rattle.core_world.proofs.OpeningFits.{opening_fits}
 use Rattle.core_world.proofs.Readings.{no_told}
 use Rattle.core_counts.specs.BiasLaw.{WhollyValid}
 use Rattle.core_counts.proofs.Opening.{opening_meets}
+use Rattle.core_steps.specs.Takings.{TakesExactly}
 use Rattle.core_steps.specs.Logic.{Heap, heap_of}
 use Rattle.core_steps.specs.Sound.{Finishes, Sound}
 use Rattle.core_steps.specs.Reached.{Comes, opens, moves, comes}
-use Rattle.core_steps.proofs.NextSteps.{stepping_sound, stepping_there, idle_rests}
+use Rattle.core_steps.proofs.NextSteps.{stepping_sound, stepping_there, stepping_stamps, idle_rests}
 use Rattle.core_steps.proofs.Resting.{rests}
 use Rattle.core_steps.proofs.Table.{calls_begin}
 
@@ -75,6 +76,10 @@ known_step_there heap k p next w is_of knows within sound =
     sound
     (subst (λ (z : Heap). IsNext z.shape z.start z.biasing (w.known k.thread) p) (sym is_of) (subst (λ y. IsNext heap.shape heap.start heap.biasing y p) (sym knows) next))))
 
+-- and stamps a taking as the logs ask for
+pub next_step_exact : (w : World) (t : ℕ) (p : StepPlan) → t < w.shape.threads → Sound w → IsNext w.shape w.start w.biasing (w.known t) p → TakesExactly w t p
+next_step_exact w t p within = stepping_stamps w t p within (calls_begin (heap_of w) p.task)
+
 -- REACHED WORLDS
 -- a sound world of this heap
 pub record SoundOf (heap : Heap) (w : World) : Type 0 where
@@ -101,3 +106,11 @@ reached_worlds_come heap w t limits c within =
 
 pub reached_worlds_valid : (heap : Heap) (w : World) → IsInLimits heap.shape → Comes heap w → WhollyValid w
 reached_worlds_valid heap w limits c = (reached_worlds_sound heap w limits c).valid
+
+-- a step, by what its thread knows, leads on to one of them
+pub known_step_comes : (heap : Heap) (k : Known) (p : StepPlan) → IsNext heap.shape heap.start heap.biasing k p → (w : World) → heap_of w ≡ heap
+    → w.known k.thread ≡ k → k.thread < heap.shape.threads → Comes heap w → Comes heap (world_after p k.thread w)
+known_step_comes heap k p next w is_of knows within c =
+    moves w k.thread p c
+    (subst (λ (z : Heap). k.thread < z.shape.threads) (sym is_of) within)
+    (subst (λ (z : Heap). IsNext z.shape z.start z.biasing (w.known k.thread) p) (sym is_of) (subst (λ y. IsNext heap.shape heap.start heap.biasing y p) (sym knows) next))

@@ -1,3 +1,4 @@
+pub mod Takings
 pub mod Logic
 pub mod Sound
 pub mod Reached

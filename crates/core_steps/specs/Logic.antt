@@ -9,6 +9,7 @@ use Rattle.core_world.specs.Trees.Todo.{Todo, done, never, step}
 use Rattle.core_world.specs.Steps.{is_idle, known_after, world_after}
 use Rattle.core_world.specs.World.{World}
 use Rattle.core_counts.specs.BiasLaw.{IsWhollyValid, WhollyValid}
+use Rattle.core_steps.specs.Takings.{TakesExactly}
 
 -- what no step changes
 pub record Heap : Type 0 where
@@ -28,10 +29,11 @@ pub record Stands (heap : Heap) (k : Known) : Type 0 where
   pub within : k.thread < heap.shape.threads
   pub valid : IsWhollyValid world objects
 
--- the step leads from every such world to a valid one, and is on a word of the heap
+-- the step leads from every such world to a valid one, is on a word of the heap, and stamps a taking as the logs ask for
 pub record Keeps (heap : Heap) (p : StepPlan) (k : Known) : Type 0 where
   pub by : (v : Stands heap k) → WhollyValid (world_after p k.thread v.world)
   pub there : Stands heap k → IsThere heap.shape k p
+  pub exact : (v : Stands heap k) → TakesExactly v.world k.thread p
 
 -- there was such a world, and the step found n
 pub record Was (heap : Heap) (p : StepPlan) (k : Known) (n : ℕ) : Type 0 where

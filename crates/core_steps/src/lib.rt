@@ -8,4 +8,6 @@ pub use refused::{
     no_displaced_word_after_the_exchange, no_hold_word_cleared_before_the_exchange,
     no_stop_between_steps_on_a_lock, no_stop_in_the_middle_of_a_lock,
 };
-pub use stepping::{next_steps_keep_worlds_sound, reached_worlds_are_valid};
+pub use stepping::{
+    next_steps_keep_worlds_sound, reached_worlds_are_valid, stamps_of_reached_worlds_are_exact,
+};

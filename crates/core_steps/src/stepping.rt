@@ -9,8 +9,10 @@ ghost use Rattle.core_world.specs.Opening.{opening};
 ghost use Rattle.core_world.specs.Words.Shape.{IsInLimits};
 ghost use Rattle.core_world.specs.Steps.{world_after, rest_of_call, is_idle};
 ghost use Rattle.core_world.specs.There.{IsThere};
-ghost use Rattle.core_world.specs.World.{World};
+ghost use Rattle.core_world.specs.World.{World, logs};
 ghost use Rattle.core_counts.specs.BiasLaw.{WhollyValid};
+ghost use Rattle.plain_history.specs.ExactStamps.{StampsAreExact};
+ghost use Rattle.core_steps.specs.Takings.{TakesExactly};
 ghost use Rattle.core_steps.specs.Logic.{Heap, heap_of};
 ghost use Rattle.core_steps.specs.Reached.{Comes, comes};
 ghost use Rattle.core_steps.specs.Sound.{Sound};
@@ -32,10 +34,30 @@ pub fn next_steps_keep_worlds_sound()
 {}
 
 /// The opening world is sound, and each world to which a heap comes from there is sound, and so valid. There no thread's call says that no valid world comes.
+/// The next step of any thread, which is a function of what the thread knows alone, leads on to such a world.
 pub fn reached_worlds_are_valid()
     ensures opening { (heap : Heap) → IsInLimits heap.shape → Sound (opening heap.shape heap.start heap.biasing) }
     ensures sound { (heap : Heap) (w : World) → IsInLimits heap.shape → Comes heap w → Sound w }
     ensures valid { (heap : Heap) (w : World) → IsInLimits heap.shape → Comes heap w → WhollyValid w }
     ensures goes_on { (heap : Heap) (w : World) (t : ℕ) → IsInLimits heap.shape → Comes heap w → t < heap.shape.threads
         → comes (rest_of_call w.shape (w.known t)) ≡ true }
+    ensures moves { (heap : Heap) (k : Known) (p : StepPlan) → IsNext heap.shape heap.start heap.biasing k p
+        → (w : World) → heap_of w ≡ heap → w.known k.thread ≡ k → k.thread < heap.shape.threads → Comes heap w
+        → Comes heap (world_after p k.thread w) }
+{}
+
+/// In each world to which a heap comes every stamp in the logs is exact. That of an Enter or a Resume is one more than the greater of the
+/// last stamp before it in its own log and the last stamp below it with which a thread let go of the object, by a Wait or the exit of its
+/// only hold; every other entry has the next stamp of its own log. The thread that logs the entry knows its own log alone: the step finds
+/// the stamp in the object's word.
+pub fn stamps_of_reached_worlds_are_exact()
+    ensures takes { (w : World) (t : ℕ) (p : StepPlan) → t < w.shape.threads → Sound w
+        → IsNext w.shape w.start w.biasing (w.known t) p → TakesExactly w t p }
+    ensures kept { (w : World) (t : ℕ) (p : StepPlan) → t < w.shape.threads → Sound w
+        → IsNext w.shape w.start w.biasing (w.known t) p → StampsAreExact (logs w) → StampsAreExact (logs (world_after p t w)) }
+    ensures known { (heap : Heap) (k : Known) (p : StepPlan) → IsNext heap.shape heap.start heap.biasing k p
+        → (w : World) → heap_of w ≡ heap → w.known k.thread ≡ k → k.thread < heap.shape.threads → Sound w
+        → StampsAreExact (logs w) → StampsAreExact (logs (world_after p k.thread w)) }
+    ensures opening { (heap : Heap) → StampsAreExact (logs (opening heap.shape heap.start heap.biasing)) }
+    ensures reached { (heap : Heap) (w : World) → IsInLimits heap.shape → Comes heap w → StampsAreExact (logs w) }
 {}

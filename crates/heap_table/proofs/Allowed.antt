@@ -16,7 +16,7 @@ use Rattle.core_world.specs.Words.Shape.{Shape}
 use Rattle.core_world.specs.Steps.{known_after, world_after}
 use Rattle.core_steps.specs.Logic.{Heap}
 use Rattle.core_steps.specs.Sound.{Sound}
-use Rattle.core_steps.proofs.ReachedWorlds.{known_step_sound}
+use Rattle.core_steps.proofs.ReachedWorlds.{known_step_sound, known_step_comes}
 use Rattle.core_world.specs.World.{with_known}
 use Rattle.core_world.proofs.Naming.{same_named}
 use Rattle.core_world.specs.There.{IsIn}
@@ -46,7 +46,7 @@ words_set shape ws f n x y here wide same at m there = cases (same_name m n) ref
 module _ {S : Type 0} where
   pub allows : (b : Heap) (p : StepPlan) (slots id : ℕ) (m : Known) (f : ℕ → ℕ) → MayStep b m p → ((n : ℕ) → f n ≡ word_after p.act n)
       → Allows {S = S} (Rules b) slots id (m ∷ [], []) (place_of b.shape p.at) f (λ n after. Told b p (m ∷ [], []) n after)
-  allows b p slots id m f may acts s (w, who, sh, sound) count at fits =
+  allows b p slots id m f may acts s (w, who, sh, sound, came) count at fits =
       let k : Known = m in
       let n : ℕ = slice_index s.words (place_of b.shape p.at) in
       let found : n ≡ w.words p.at = sh.words_are p.at may.at in
@@ -77,7 +77,7 @@ module _ {S : Type 0} where
         now ∷ [],
         keeps,
         tt,
-        (world_after p k.thread w, who, shows', sound'),
+        (world_after p k.thread w, who, shows', sound', known_step_comes b k p may.next w sh.is_of knew may.within came),
         (refl, record { world = w; is_of = sh.is_of; sound = sound; knew = knew; was_there = sym found; sound_after = sound' }),
       )
 

@@ -27,13 +27,14 @@ each_at P (x ∷ xs) zero k h e = let s : x ≡ k = cc in subst P s h.0
 each_at P (x ∷ xs) (suc i) k h e = each_at P xs i k h.1 e
 
 pub final : {S : Type 0} (b : Heap) (id : ℕ) (v : List Known) (ws copy : List ℕ) (xs : List S) (n : ℕ) → Final (Seen (Rules {S = S} b) id v) ws xs → n ≡ word_count b.shape → copy ≡ take n ws → LastWorld b copy v
-final b id v ws copy xs n ((s, ((w, who, sh, sound), at), words, count, slots)) e c =
+final b id v ws copy xs n ((s, ((w, who, sh, sound, came), at), words, count, slots)) e c =
     let same : copy ≡ s.words = c ∙ ap (take n) (sym words) ∙ take_all n s.words (omega (arith, sh.wide, e)) in
     let mine = sh.knows id v at in
     record {
       world = w;
       is_of = sh.is_of;
       sound = sound;
+      comes = came;
       words_are = λ m here. ap (λ (l : List ℕ). slice_index l (place_of b.shape m)) same ∙ sh.words_are m here;
       knows = λ i k there. (each_at (λ (k : Known). (w.known k.thread ≡ k) × (who k.thread ≡ id)) v i k mine.0 there).0;
     }

@@ -13,6 +13,7 @@ use Rattle.core_world.specs.Opening.{first_mark, first_word, first_known, openin
 use Rattle.core_world.specs.Words.Shape.{Shape, IsInLimits}
 use Rattle.core_world.specs.World.{World}
 use Rattle.core_steps.specs.Logic.{Heap}
+use Rattle.core_steps.specs.Reached.{opens as at_opening}
 use Rattle.core_steps.proofs.ReachedWorlds.{opening_sound}
 use Rattle.core_world.specs.There.{IsIn}
 use Rattle.heap_table.specs.Layout.{place_of, word_count}
@@ -165,6 +166,7 @@ opens {S} b ws is e = (
     knows = λ id v at. one id v at;
   },
   opening_sound (heap_in b) is,
+  at_opening,
 )
   where
     one : (id : ℕ) (v : List Known) → get_elem? (first_knowns 0 b.shape.threads ∷ []) id ≡ some v → Each (λ (k : Known). ((first_of (heap_in b)).known k.thread ≡ k) × (nobody_else k.thread ≡ id)) v × Differ v

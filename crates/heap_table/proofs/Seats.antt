@@ -47,7 +47,7 @@ when_apart a b x y e = ap (λ (c : Bool). cond c x y) (ne_eqb a b e)
 
 module _ {S : Type 0} (b : Heap) where
   pub splits : (id : ℕ) (k : Known) (ks : List Known) → Splits {S = S} (Rules b) id (k ∷ ks) ks (k ∷ [])
-  splits id k ks s (w, who, sh, sound) at =
+  splits id k ks s (w, who, sh, sound, came) at =
       let mine = sh.knows id (k ∷ ks) at in
       let new : ℕ = length (slice_set s.views id ks) in
       let who' : ℕ → ℕ = λ t. cond (t == k.thread) new (who t) in
@@ -68,10 +68,11 @@ module _ {S : Type 0} (b : Heap) where
           knows = λ j v e. ⊎_elim (λ h. old j v h) (λ (x : (k ∷ [] ≡ v) × (j ≡ new)). subst (Fits w who' j) x.0 (((mine.0.0.0, when_same k.thread k.thread new (who k.thread) refl ∙ sym x.1), tt), (tt, tt))) (at_end (slice_set s.views id ks) (k ∷ []) v j e);
         },
         sound,
+        came,
       )
 
   pub joins : (id other : ℕ) (v u : List Known) → Joins {S = S} (Rules b) id v other u (v ++ u) []
-  joins id other v u s (w, who, sh, sound) at apart there =
+  joins id other v u s (w, who, sh, sound, came) at apart there =
       let mine = sh.knows id v at in
       let theirs : Fits w who other u = ⊎_elim (λ (x : (other ≡ id) × (v ++ u ≡ u)). absurd (apart x.0)) (λ (x : (other ≢ id) × (get_elem? s.views other ≡ some u)). sh.knows other u x.1) (at_set s.views id other (v ++ u) u there) in
       let who' : ℕ → ℕ = λ t. cond (who t == other) id (who t) in
@@ -99,10 +100,11 @@ module _ {S : Type 0} (b : Heap) where
               (at_set (slice_set s.views id (v ++ u)) other j [] z e);
         },
         sound,
+        came,
       )
 
   pub comes : (slots i : ℕ) → Enters {S = S} (Rules b) slots i (λ n v. v ≡ [])
-  comes slots i s (w, who, sh, sound) count fits = (
+  comes slots i s (w, who, sh, sound, came) count fits = (
     [],
     (
       w,
@@ -114,6 +116,7 @@ module _ {S : Type 0} (b : Heap) where
         knows = λ j v e. ⊎_elim (λ h. sh.knows j v h) (λ (x : ([] ≡ v) × (j ≡ length s.views)). subst (Fits w who j) x.0 (tt, tt)) (at_end s.views [] v j e);
       },
       sound,
+      came,
     ),
     refl,
   )

@@ -18,6 +18,7 @@ use Rattle.core_world.specs.Opening.{first_known}
 use Rattle.core_world.specs.Steps.{known_after, world_after}
 use Rattle.core_world.specs.World.{World}
 use Rattle.core_steps.specs.Logic.{Heap, heap_of}
+use Rattle.core_steps.specs.Reached.{Comes}
 use Rattle.core_steps.specs.Sound.{Sound}
 use Rattle.heap_table.specs.declared.setting.Setting.{Setting}
 use Rattle.core_world.specs.There.{IsIn}
@@ -84,9 +85,9 @@ pub record Shows {S : Type 0} (heap : Heap) (s : State S (List Known)) (w : Worl
   pub words_are : (n : Name) → IsIn heap.shape n → slice_index s.words (place_of heap.shape n) ≡ w.words n
   pub knows : (id : ℕ) (v : List Known) → get_elem? s.views id ≡ some v → Each (λ (k : Known). (w.known k.thread ≡ k) × (who k.thread ≡ id)) v × Differ v
 
--- THE RULE: the table is a sound world.
+-- THE RULE: the table is a sound world, which the heap comes to.
 abbrev pub Rules : {S : Type 0} → Heap → State S (List Known) → Type 0
-Rules heap s = (w : World) × (who : ℕ → ℕ) × Shows heap s w who × Sound w
+Rules heap s = (w : World) × (who : ℕ → ℕ) × Shows heap s w who × Sound w × Comes heap w
 
 abbrev pub Ruled : {S : Type 0} → Setting → State S (List Known) → Type 0
 Ruled b s = Rules (heap_in b) s

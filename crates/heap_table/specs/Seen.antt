@@ -7,6 +7,7 @@ use Rattle.core_world.specs.Threads.Known.{Known, DumpShot}
 use Rattle.core_world.specs.Opening.{first_known}
 use Rattle.core_world.specs.World.{World}
 use Rattle.core_steps.specs.Logic.{Heap, heap_of}
+use Rattle.core_steps.specs.Reached.{Comes}
 use Rattle.core_steps.specs.Sound.{Sound}
 use Rattle.heap_table.specs.declared.counts.ClassCounts.{ClassCounts}
 use Rattle.core_world.specs.There.{IsIn}
@@ -76,11 +77,12 @@ abbrev pub InOrder : ℕ → List Known → Type 0
 InOrder t [] = Unit {0}
 InOrder t (k ∷ ks) = (k.thread ≡ t) × InOrder (t + 1) ks
 
--- the words and what these threads know are those of one sound world
+-- the words and what these threads know are those of one sound world, which the heap comes to
 pub record LastWorld (heap : Heap) (words : List ℕ) (ks : List Known) : Type 0 where
   pub world : World
   pub is_of : heap_of world ≡ heap
   pub sound : Sound world
+  pub comes : Comes heap world
   pub words_are : (n : Name) → IsIn heap.shape n → slice_index words (place_of heap.shape n) ≡ world.words n
   pub knows : (i : ℕ) (k : Known) → slice_get ks i ≡ Some k → world.known k.thread ≡ k
 

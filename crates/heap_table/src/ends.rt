@@ -1,6 +1,7 @@
 //! How a heap ends.
 ghost use Rattle.std.specs.Prelude.{◌≡◌, ◌⊎◌, ◌≤◌, ℕ, ◌<◌, List as ListOf, [], length, map, All, Any, true, false, Option, None, vec_capacity, slice_index};
 ghost use Rattle.plain_monitor.specs.History.{LegalObjects};
+ghost use Rattle.plain_history.specs.ExactStamps.{StampsAreExact};
 ghost use Rattle.core_world.specs.declared.task.Op.TheVariants as op;
 ghost use Rattle.core_world.specs.Clauses.Safepoints.{IsUnfinished};
 ghost use Rattle.core_world.specs.Words.Forms.{is_halted, runs_in, asks_in};
@@ -95,9 +96,9 @@ impl Closed {
 /// The end of a heap: its words and what its passes logged and counted. The passes are all passes of this heap, in the
 /// order of their threads. None runs, and none has a request that stands, which isn't asked where one of them knows the
 /// halt. The words are those of a sound world in which each thread knows what its pass knows, and by its safepoint word
-/// no thread runs or asks. Where no thread has a Hash unfinished, the law of biases holds of the logs, of what the passes
-/// counted, and of the classes' words: each thread has counted at most one verdict more than it has entries, and none
-/// more where nothing is unfinished. It takes no memory.
+/// no thread runs or asks. The logs are legal, and their stamps exact. Where no thread has a Hash unfinished, the law of
+/// biases holds of the logs, of what the passes counted, and of the classes' words: each thread has counted at most one
+/// verdict more than it has entries, and none more where nothing is unfinished. It takes no memory.
 pub fn close(heap: Heap, passes: List<Pass>) -> Closed
     requires passes { All (IsOf heap) passes }
     requires order { InOrder 0 (knowns passes) × (length passes ≡ heap.heap.shape.threads) }
@@ -109,6 +110,7 @@ pub fn close(heap: Heap, passes: List<Pass>) -> Closed
     ensures shots { result.shots ≡ shots_of passes }
     ensures counts { result.counts ≡ counts_of_all passes }
     ensures legal { LegalObjects heap.heap.shape.objects result.logs }
+    ensures stamps { StampsAreExact result.logs }
     ensures biases { All (λ p. p.known.unfinished ≡ None) passes
         → BiasesAtEnd 0 heap.heap result.words result.logs (knowns passes) }
     ensures biases_stuck { All (λ p. (o : ℕ) → IsUnfinished p.known.unfinished op.Hash o → ⊥) passes

@@ -1,4 +1,4 @@
-//! The rule of the table: the heap is a sound world.
+//! The rule of the table: it is a sound world, which the heap comes to.
 use crate::setting::Setting;
 use atomic_table::{Seat, Table, TableRule};
 use std::alloc::Global;

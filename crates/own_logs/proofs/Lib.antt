@@ -3,4 +3,3 @@ pub mod HoldSums
 pub mod OwnHolds
 pub mod OwnWaits
 pub mod OwnShots
-pub mod OwnStamps

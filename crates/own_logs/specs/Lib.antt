@@ -1,2 +1,1 @@
 pub mod HoldsByLog
-pub mod Stamps

@@ -8,11 +8,10 @@ ghost use Rattle.core_world.specs.Trees.Plans.{free_place};
 ghost use Rattle.core_world.specs.Words.Forms.{waits_on};
 ghost use Rattle.heap_table.specs.Kept.{all_holds};
 ghost use Rattle.heap_table.specs.Resting.{Rests};
-ghost use Rattle.heap_table.specs.Seen.{HeapSeen, PassSeen, IsOf};
+ghost use Rattle.heap_table.specs.Seen.{HeapSeen, PassSeen};
 ghost use Rattle.plain_history.specs.HeldByLog.{held_by, nothing_held};
 ghost use Rattle.wait_history.specs.WaitsByLog.{waits_by};
 ghost use Rattle.own_logs.specs.HoldsByLog.{AreHolds};
-ghost use Rattle.own_logs.specs.Stamps.{AreNext};
 
 /// A thread that rests has as many hold words for an object as it holds it by its own log. So the number of its hold words that aren't
 /// empty is the sum of these holds over all objects; a place is free where these are fewer than 64, and all words are empty where
@@ -37,11 +36,4 @@ pub fn waits_at_rest_follow_from_the_own_log()
 /// A thread that rests keeps as many shots as it has logged dumps.
 pub fn shots_at_rest_are_those_of_logged_dumps()
     ensures { (h : HeapSeen) (p : PassSeen) → Rests h p → length p.known.shots ≡ length (dumps_from 0 p.known.log) }
-{}
-
-/// In the log of a pass's thread, an entry that takes no lock has the stamp next to that of the entry before it, and as the
-/// first entry the stamp 1. An Enter or a Resume, which takes a lock, has a greater stamp than the entry before it, and as
-/// the first entry a stamp above 0. The thread need not rest.
-pub fn stamps_are_next_to_one_another()
-    ensures { (h : HeapSeen) (p : PassSeen) → IsOf h p → AreNext 0 p.known.log }
 {}

@@ -2,13 +2,12 @@
 //!
 //! A thread that rests has as many hold words for an object as its log has Enters of it that weren't left; its waiting word says that it
 //! waits exactly where its log does; and it keeps a shot for each dump that it logged. So a caller who knows the log knows these, whatever
-//! the words of the heap are. Whether it rests or not, the stamps of its log stand next to one another, but for those of entries that take
-//! a lock. The laws follow from the rule of the heap alone, and no call is spoken of.
+//! the words of the heap are. The laws follow from the rule of the heap alone, and no call is spoken of.
 #![tactic(auto)]
 
 mod laws;
 
 pub use laws::{
     holds_at_rest_follow_from_the_own_log, shots_at_rest_are_those_of_logged_dumps,
-    stamps_are_next_to_one_another, waits_at_rest_follow_from_the_own_log,
+    waits_at_rest_follow_from_the_own_log,
 };

@@ -9,15 +9,17 @@ ghost use Rattle.core_world.specs.Words.Forms.{is_halted};
 ghost use Rattle.core_steps.specs.Logic.{Heap};
 ghost use Rattle.heap_table.specs.BiasesAtEnd.{counted_by};
 ghost use Rattle.heap_table.specs.Layout.{place_of};
+ghost use Rattle.plain_history.specs.ExactStamps.{StampsAreExact};
 ghost use Rattle.run_ends.specs.OfARun.{IsEnd, HasDraws, HasShots, IsStuckEnd, logs_in, shots_in, unfinished_in};
 ghost use Rattle.run_ends.specs.Prototypes.{prototype_by};
 
-/// Over the logs that a run leaves on a heap: whose draws the hashes are; that each shot is right; and where the
-/// safepoint word has the halt, that the run is stuck, and that no thread has a Hash unfinished then.
+/// Over the logs that a run leaves on a heap: whose draws the hashes are; that each shot is right; that the stamps are
+/// exact; and where the safepoint word has the halt, that the run is stuck, and that no thread has a Hash unfinished then.
 pub fn the_end_of_a_heap_tells_its_run()
     ensures draws { (heap : Heap) (words : List ℕ) (ks : List Known) → IsEnd heap words ks → HasDraws heap.start (logs_in ks) }
     ensures shots { (heap : Heap) (words : List ℕ) (ks : List Known) → IsEnd heap words ks
         → HasShots heap.shape.objects (logs_in ks) (shots_in ks) }
+    ensures stamps { (heap : Heap) (words : List ℕ) (ks : List Known) → IsEnd heap words ks → StampsAreExact (logs_in ks) }
     ensures stuck { (heap : Heap) (words : List ℕ) (ks : List Known) → IsEnd heap words ks → is_halted (slice_index words 0) ≡ true
         → IsStuckEnd heap.shape.objects heap.shape.threads ks }
     ensures unfinished { (heap : Heap) (words : List ℕ) (ks : List Known) (t o : ℕ) → IsEnd heap words ks

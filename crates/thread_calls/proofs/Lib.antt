@@ -9,3 +9,4 @@ pub mod Behind
 pub mod Advanced
 pub mod Waited
 pub mod Walked
+pub mod OnTime

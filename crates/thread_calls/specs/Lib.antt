@@ -3,3 +3,4 @@ pub mod Between
 pub mod Advances
 pub mod Made
 pub mod Least
+pub mod Timed

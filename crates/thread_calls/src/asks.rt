@@ -1,6 +1,6 @@
 //! The entries that a thread makes while it waits or unwinds.
 
-ghost use Rattle.std.specs.Prelude.{◌≡◌, length, Some};
+ghost use Rattle.std.specs.Prelude.{◌≡◌, ℕ, length, Some};
 ghost use Rattle.core_world.specs.Trees.Operations.{ending_entry};
 ghost use Rattle.heap_table.specs.Resting.{Rests};
 ghost use Rattle.mark_word.specs.Hold.{read_hold};
@@ -9,6 +9,7 @@ ghost use Rattle.plain_machine.specs.declared.call.Mode.TheVariants.{Unwinding, 
 ghost use Rattle.thread_calls.specs.Advances.{HasAdvanced, MayAdvance};
 ghost use Rattle.thread_calls.specs.Between.{IsHeapOf};
 ghost use Rattle.thread_calls.specs.Least.{lesser, object_in};
+ghost use Rattle.thread_calls.specs.Timed.{StaysTimed};
 ghost use Rattle.thread_frame.specs.Sights.{counts_from};
 
 use core_world::Turn;
@@ -85,7 +86,8 @@ pub(crate) fn resume<C: Clock>(
     requires heap { IsHeapOf heap.now program.now }
     requires may { MayAdvance heap.now program.now fuel pass.old frame.old }
     requires at { frame.old.mode ≡ Some (Waiting object) }
-    ensures { HasAdvanced heap.now program.now fuel pass.old pass.new frame.old frame.new result }
+    ensures advanced { HasAdvanced heap.now program.now fuel pass.old pass.new frame.old frame.new result }
+    ensures timed { StaysTimed tick pass.old pass.new }
 {
     match runtime::wait(heap, pass, object, moment(clock.now(), tick)) {
         Ok(turn) => match turn {
@@ -111,7 +113,8 @@ pub(crate) fn unwind(
     requires heap { IsHeapOf heap.now program.now }
     requires may { MayAdvance heap.now program.now fuel pass.old frame.old }
     requires at { frame.old.mode ≡ Some (Unwinding ending) }
-    ensures { HasAdvanced heap.now program.now fuel pass.old pass.new frame.old frame.new result }
+    ensures advanced { HasAdvanced heap.now program.now fuel pass.old pass.new frame.old frame.new result }
+    ensures timed { (tick : ℕ) → StaysTimed tick pass.old pass.new }
 {
     match least_held(heap, pass) {
         Some(object) => leave(program, heap, fuel, pass, frame, ending, object),
@@ -137,7 +140,8 @@ fn leave(
     requires may { MayAdvance heap.now program.now fuel pass.old frame.old }
     requires at { frame.old.mode ≡ Some (Unwinding ending) }
     requires least { held_from 0 (counts_from 0 (length heap.now.heap.shape.objects) pass.old.known.holds) ≡ Some object }
-    ensures { HasAdvanced heap.now program.now fuel pass.old pass.new frame.old frame.new result }
+    ensures advanced { HasAdvanced heap.now program.now fuel pass.old pass.new frame.old frame.new result }
+    ensures timed { (tick : ℕ) → StaysTimed tick pass.old pass.new }
 {
     match runtime::exit(heap, pass, object) {
         Ok(turn) => match turn {

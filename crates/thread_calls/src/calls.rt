@@ -6,6 +6,7 @@ ghost use Rattle.plain_machine.specs.declared.call.Call.TheVariants as call;
 ghost use Rattle.plain_machine.specs.declared.call.Mode.TheVariants.{Calling};
 ghost use Rattle.thread_calls.specs.Advances.{HasAdvanced, MayAdvance};
 ghost use Rattle.thread_calls.specs.Between.{IsHeapOf};
+ghost use Rattle.thread_calls.specs.Timed.{StaysTimed};
 
 use crate::makes::make;
 use core_world::{Turn, Why};
@@ -31,7 +32,8 @@ pub(crate) fn call<C: Clock>(
     requires heap { IsHeapOf heap.now program.now }
     requires may { MayAdvance heap.now program.now fuel pass.old frame.old }
     requires at { frame.old.mode ≡ Some (Calling call) }
-    ensures { HasAdvanced heap.now program.now fuel pass.old pass.new frame.old frame.new result }
+    ensures advanced { HasAdvanced heap.now program.now fuel pass.old pass.new frame.old frame.new result }
+    ensures timed { StaysTimed tick pass.old pass.new }
 {
     if let Call::Wait { object } = call {
         return begin_wait(program, heap, clock, tick, fuel, pass, frame, object);
@@ -66,7 +68,8 @@ fn begin_wait<C: Clock>(
     requires heap { IsHeapOf heap.now program.now }
     requires may { MayAdvance heap.now program.now fuel pass.old frame.old }
     requires at { frame.old.mode ≡ Some (Calling (call.Wait object)) }
-    ensures { HasAdvanced heap.now program.now fuel pass.old pass.new frame.old frame.new result }
+    ensures advanced { HasAdvanced heap.now program.now fuel pass.old pass.new frame.old frame.new result }
+    ensures timed { StaysTimed tick pass.old pass.new }
 {
     let asked = Asked::Calls {
         call: Call::Wait { object },

@@ -2,10 +2,12 @@
 
 ghost use Rattle.std.specs.Prelude.{◌≡◌, ◌+◌, ◌≤◌, length, false};
 ghost use Rattle.core_calls.specs.CallsSay.{is_full};
+ghost use Rattle.core_calls.specs.Moments.{HasCalled};
 ghost use Rattle.core_world.specs.declared.task.Task.TheVariants as task;
 ghost use Rattle.heap_table.specs.Resting.{MayOperate, start_now};
 ghost use Rattle.plain_machine.specs.declared.call.Call.TheVariants as call;
 ghost use Rattle.thread_calls.specs.Made.{HasMade, Holds, MayMake};
+ghost use Rattle.thread_calls.specs.Timed.{StaysTimed};
 
 use core_world::Turn;
 use heap_table::{Heap, Pass};
@@ -18,7 +20,8 @@ use run_io::{Clock, moment};
 fn enter(heap: &Heap, pass: &mut Pass, object: u32, now: u64) -> Turn<Entry>
     requires may { MayOperate heap.now pass.old (task.Enter object now) }
     requires room { is_full (start_now heap.now pass.old) object ≡ false }
-    ensures { HasMade heap.now pass.old pass.new (call.Enter object) result }
+    ensures made { HasMade heap.now pass.old pass.new (call.Enter object) result }
+    ensures called { HasCalled (task.Enter object now) pass.old.known pass.new.known }
 {
     match runtime::enter(heap, pass, object, now) {
         Ok(turn) => match turn {
@@ -33,7 +36,8 @@ fn enter(heap: &Heap, pass: &mut Pass, object: u32, now: u64) -> Turn<Entry>
 fn exit(heap: &Heap, pass: &mut Pass, object: u32) -> Turn<Entry>
     requires may { MayOperate heap.now pass.old (task.Exit object) }
     requires holds { Holds pass.old object }
-    ensures { HasMade heap.now pass.old pass.new (call.Exit object) result }
+    ensures made { HasMade heap.now pass.old pass.new (call.Exit object) result }
+    ensures called { HasCalled (task.Exit object) pass.old.known pass.new.known }
 {
     match runtime::exit(heap, pass, object) {
         Ok(turn) => match turn {
@@ -48,7 +52,8 @@ fn exit(heap: &Heap, pass: &mut Pass, object: u32) -> Turn<Entry>
 fn notify(heap: &Heap, pass: &mut Pass, object: u32, now: u64) -> Turn<Entry>
     requires may { MayOperate heap.now pass.old (task.Notify object now) }
     requires holds { Holds pass.old object }
-    ensures { HasMade heap.now pass.old pass.new (call.Notify object) result }
+    ensures made { HasMade heap.now pass.old pass.new (call.Notify object) result }
+    ensures called { HasCalled (task.Notify object now) pass.old.known pass.new.known }
 {
     match runtime::notify(heap, pass, object, now) {
         Ok(turn) => match turn {
@@ -63,7 +68,8 @@ fn notify(heap: &Heap, pass: &mut Pass, object: u32, now: u64) -> Turn<Entry>
 fn notify_all(heap: &Heap, pass: &mut Pass, object: u32, now: u64) -> Turn<Entry>
     requires may { MayOperate heap.now pass.old (task.NotifyAll object now) }
     requires holds { Holds pass.old object }
-    ensures { HasMade heap.now pass.old pass.new (call.NotifyAll object) result }
+    ensures made { HasMade heap.now pass.old pass.new (call.NotifyAll object) result }
+    ensures called { HasCalled (task.NotifyAll object now) pass.old.known pass.new.known }
 {
     match runtime::notify_all(heap, pass, object, now) {
         Ok(turn) => match turn {
@@ -78,7 +84,8 @@ fn notify_all(heap: &Heap, pass: &mut Pass, object: u32, now: u64) -> Turn<Entry
 fn get(heap: &Heap, pass: &mut Pass, local: u32, object: u32, slot: u32) -> Turn<Entry>
     requires may { MayOperate heap.now pass.old (task.Get object slot) }
     requires holds { Holds pass.old object }
-    ensures { HasMade heap.now pass.old pass.new (call.Get local object slot) result }
+    ensures made { HasMade heap.now pass.old pass.new (call.Get local object slot) result }
+    ensures called { HasCalled (task.Get object slot) pass.old.known pass.new.known }
 {
     match runtime::get(heap, pass, object, slot) {
         Ok(value) => Turn::Done(Entry::Get {
@@ -94,7 +101,8 @@ fn get(heap: &Heap, pass: &mut Pass, local: u32, object: u32, slot: u32) -> Turn
 fn put(heap: &Heap, pass: &mut Pass, object: u32, slot: u32, value: Value) -> Turn<Entry>
     requires may { MayOperate heap.now pass.old (task.Put object slot value) }
     requires holds { Holds pass.old object }
-    ensures { HasMade heap.now pass.old pass.new (call.Put object slot value) result }
+    ensures made { HasMade heap.now pass.old pass.new (call.Put object slot value) result }
+    ensures called { HasCalled (task.Put object slot value) pass.old.known pass.new.known }
 {
     match runtime::put(heap, pass, object, slot, value) {
         Ok(()) => Turn::Done(Entry::Put {
@@ -109,7 +117,8 @@ fn put(heap: &Heap, pass: &mut Pass, object: u32, slot: u32, value: Value) -> Tu
 // A hash, for this local. Whether it was drawn is in the log alone: no frame asks for that.
 fn hash(heap: &Heap, pass: &mut Pass, local: u32, object: u32, now: u64) -> Turn<Entry>
     requires may { MayOperate heap.now pass.old (task.Hash object now) }
-    ensures { HasMade heap.now pass.old pass.new (call.Hash local object) result }
+    ensures made { HasMade heap.now pass.old pass.new (call.Hash local object) result }
+    ensures called { HasCalled (task.Hash object now) pass.old.known pass.new.known }
 {
     match runtime::hash(heap, pass, object, now) {
         Turn::Done(value) => Turn::Done(Entry::Hash {
@@ -124,7 +133,8 @@ fn hash(heap: &Heap, pass: &mut Pass, local: u32, object: u32, now: u64) -> Turn
 // A print.
 fn print(heap: &Heap, pass: &mut Pass, value: Value) -> Turn<Entry>
     requires may { MayOperate heap.now pass.old (task.Print value) }
-    ensures { HasMade heap.now pass.old pass.new (call.Print value) result }
+    ensures made { HasMade heap.now pass.old pass.new (call.Print value) result }
+    ensures called { HasCalled (task.Print value) pass.old.known pass.new.known }
 {
     runtime::print(heap, pass, value);
     Turn::Done(Entry::Print { value })
@@ -135,7 +145,8 @@ fn dump(heap: &Heap, pass: &mut Pass, number: u32) -> Turn<Entry>
     requires may { MayOperate heap.now pass.old task.Dump }
     requires number { number ≡ length pass.old.known.shots + 1 }
     requires room { number ≤ 4 }
-    ensures { HasMade heap.now pass.old pass.new (call.Dump number) result }
+    ensures made { HasMade heap.now pass.old pass.new (call.Dump number) result }
+    ensures called { HasCalled task.Dump pass.old.known pass.new.known }
 {
     match runtime::dump(heap, pass) {
         Ok(turn) => match turn {
@@ -155,7 +166,8 @@ pub(crate) fn make<C: Clock>(
     call: Call,
 ) -> Turn<Entry>
     requires { MayMake heap.now pass.old call }
-    ensures { HasMade heap.now pass.old pass.new call result }
+    ensures made { HasMade heap.now pass.old pass.new call result }
+    ensures timed { StaysTimed tick pass.old pass.new }
 {
     match call {
         Call::Enter { object } => enter(heap, pass, object, moment(clock.now(), tick)),

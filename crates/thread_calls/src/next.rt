@@ -3,6 +3,7 @@
 ghost use Rattle.std.specs.Prelude.{◌≡◌, None, Some};
 ghost use Rattle.thread_calls.specs.Advances.{HasAdvanced, MayAdvance};
 ghost use Rattle.thread_calls.specs.Between.{IsHeapOf};
+ghost use Rattle.thread_calls.specs.Timed.{StaysTimed};
 
 use crate::asks::{resume, unwind};
 use crate::calls::call;
@@ -29,7 +30,8 @@ pub fn advance<C: Clock>(
 ) -> Turn<bool>
     requires heap { IsHeapOf heap.now program.now }
     requires may { MayAdvance heap.now program.now fuel pass.old frame.old }
-    ensures { HasAdvanced heap.now program.now fuel pass.old pass.new frame.old frame.new result }
+    ensures advanced { HasAdvanced heap.now program.now fuel pass.old pass.new frame.old frame.new result }
+    ensures timed { StaysTimed tick pass.old pass.new }
 {
     match frame.mode() {
         None => walk(program, heap, clock, tick, fuel, pass, frame),
@@ -50,7 +52,8 @@ fn walk<C: Clock>(
     requires heap { IsHeapOf heap.now program.now }
     requires may { MayAdvance heap.now program.now fuel pass.old frame.old }
     requires local { frame.old.mode ≡ None }
-    ensures { HasAdvanced heap.now program.now fuel pass.old pass.new frame.old frame.new result }
+    ensures advanced { HasAdvanced heap.now program.now fuel pass.old pass.new frame.old frame.new result }
+    ensures timed { StaysTimed tick pass.old pass.new }
 {
     match frame.walk(program, pass, heap.shape().objects() as u32) {
         Walked::Ran => Turn::Done(true),
@@ -76,7 +79,8 @@ fn go_on<C: Clock>(
     requires heap { IsHeapOf heap.now program.now }
     requires may { MayAdvance heap.now program.now fuel pass.old frame.old }
     requires at { frame.old.mode ≡ Some mode }
-    ensures { HasAdvanced heap.now program.now fuel pass.old pass.new frame.old frame.new result }
+    ensures advanced { HasAdvanced heap.now program.now fuel pass.old pass.new frame.old frame.new result }
+    ensures timed { StaysTimed tick pass.old pass.new }
 {
     match mode {
         Mode::Calling { call: next } => call(program, heap, clock, tick, fuel, pass, frame, next),

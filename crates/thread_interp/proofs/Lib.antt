@@ -1,4 +1,5 @@
 pub mod Alive
 pub mod Asides
+pub mod CallsTimed
 pub mod Sides
 pub mod Turns

@@ -1,9 +1,10 @@
 //! A pass and the state of its thread.
-ghost use Rattle.std.specs.Prelude.{◌≡◌, ◌≤◌, false};
+ghost use Rattle.std.specs.Prelude.{◌≡◌, ◌≤◌, ℕ, false};
 ghost use Rattle.thread_frame.specs.Frames.{first_frame, has_ended};
 ghost use Rattle.thread_interp.specs.Checks.{StandsAfterCheck};
 ghost use Rattle.thread_interp.specs.Moves.{HasMoved};
 ghost use Rattle.thread_calls.specs.Between.{IsHeapOf};
+ghost use Rattle.thread_calls.specs.Timed.{StaysTimed};
 ghost use Rattle.thread_interp.specs.Runners.{RunnerSeen, IsRunner, IsSame};
 
 use crate::moved::Moved;
@@ -44,7 +45,8 @@ impl Runner {
     ///
     /// The gate is visited first, and the thread set running where it is stopped. Before each instruction, and each exit of a thread that
     /// unwinds, it polls where it runs. The turn ends behind so many instructions, at the thread's end, or where a call is pending; behind
-    /// it the thread is stopped, or its request for a safepoint stands. Each call that takes a moment gets the clock's time then, by `tick`.
+    /// it the thread is stopped, or its request for a safepoint stands. Each call that takes a moment gets the clock's time then, by `tick`:
+    /// the time after some count of ticks, from 1 on.
     pub fn turn<C: Clock, G: Gate>(
         &mut self,
         program: &Program,
@@ -63,6 +65,7 @@ impl Runner {
         ensures unchecked { self.new.pass.known.checking ≡ false }
         ensures same { IsSame self.old self.new }
         ensures moved { HasMoved heap.now quantum self.old self.new result }
+        ensures timed { StaysTimed tick self.old.pass self.new.pass }
     {
         gate.visit(self.pass.thread());
         crate::turn::turn(
@@ -88,6 +91,7 @@ impl Runner {
         ensures same { IsSame self.old self.new }
         ensures frame { self.new.frame ≡ self.old.frame }
         ensures stands { StandsAfterCheck self.new.pass.known result }
+        ensures timed { (tick : ℕ) → StaysTimed tick self.old.pass self.new.pass }
     {
         crate::turn::check(program, heap, &mut self.pass, &self.frame, self.fuel)
     }

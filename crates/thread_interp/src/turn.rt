@@ -1,8 +1,9 @@
 //! Turns of a thread, and its checks.
 
-ghost use Rattle.std.specs.Prelude.{◌≡◌, ◌≤◌, false};
+ghost use Rattle.std.specs.Prelude.{◌≡◌, ◌≤◌, ℕ, false};
 ghost use Rattle.thread_calls.specs.Advances.{HasAdvanced, MayAdvance};
 ghost use Rattle.thread_calls.specs.Between.{IsHeapOf, IsOn};
+ghost use Rattle.thread_calls.specs.Timed.{StaysTimed};
 ghost use Rattle.thread_frame.specs.Frames.{has_ended};
 ghost use Rattle.thread_interp.specs.Checks.{StandsAfterCheck};
 ghost use Rattle.thread_interp.specs.Moves.{HasMoved};
@@ -28,7 +29,8 @@ fn set_running(
 ) -> Turn<()>
     requires on { IsOn heap.now program.now fuel pass.old frame.now }
     requires still { pass.old.known.running ≡ false }
-    ensures { IsReady heap.now program.now fuel pass.old pass.new frame.now result }
+    ensures ready { IsReady heap.now program.now fuel pass.old pass.new frame.now result }
+    ensures timed { (tick : ℕ) → StaysTimed tick pass.old pass.new }
 {
     if pass.requesting() {
         return Turn::Done(());
@@ -48,7 +50,8 @@ fn step<C: Clock>(
 ) -> Turn<bool>
     requires heap { IsHeapOf heap.now program.now }
     requires may { MayAdvance heap.now program.now fuel pass.old frame.old }
-    ensures { HasAdvanced heap.now program.now fuel pass.old pass.new frame.old frame.new result }
+    ensures advanced { HasAdvanced heap.now program.now fuel pass.old pass.new frame.old frame.new result }
+    ensures timed { StaysTimed tick pass.old pass.new }
 {
     if pass.running() {
         if let Turn::Pending(why) = poll(heap, pass) {
@@ -72,7 +75,8 @@ fn go_on<C: Clock>(
     requires heap { IsHeapOf heap.now program.now }
     requires may { MayAdvance heap.now program.now fuel pass.old frame.old }
     requires quantum { 1 ≤ quantum }
-    ensures { HasGone heap.now program.now fuel quantum pass.old pass.new frame.old frame.new result }
+    ensures gone { HasGone heap.now program.now fuel quantum pass.old pass.new frame.old frame.new result }
+    ensures timed { StaysTimed tick pass.old pass.new }
 {
     let mut instructions = 0;
     loop {
@@ -106,7 +110,8 @@ fn go_on<C: Clock>(
 // Stops the thread where it runs.
 fn set_still(program: &Program, heap: &Heap, fuel: u32, pass: &mut Pass, frame: &Frame)
     requires on { IsOn heap.now program.now fuel pass.old frame.now }
-    ensures { IsStill heap.now program.now fuel pass.old pass.new frame.now }
+    ensures still { IsStill heap.now program.now fuel pass.old pass.new frame.now }
+    ensures timed { (tick : ℕ) → StaysTimed tick pass.old pass.new }
 {
     if pass.running() {
         stop(heap, pass);
@@ -133,6 +138,7 @@ pub fn turn<C: Clock>(
     ensures unchecked { pass.new.known.checking ≡ false }
     ensures thread { pass.new.known.thread ≡ pass.old.known.thread }
     ensures moved { HasMoved heap.now quantum (runner_of pass.old frame.old fuel) (runner_of pass.new frame.new fuel) result }
+    ensures timed { StaysTimed tick pass.old pass.new }
 {
     if let Turn::Pending(why) = set_running(program, heap, fuel, pass, frame) {
         return Moved {
@@ -160,6 +166,7 @@ pub fn check(
     ensures runner { IsRunner heap.now program.now (runner_of pass.new frame.now fuel) }
     ensures thread { pass.new.known.thread ≡ pass.old.known.thread }
     ensures stands { StandsAfterCheck pass.new.known result }
+    ensures timed { (tick : ℕ) → StaysTimed tick pass.old pass.new }
 {
     if let Turn::Pending(why) = set_running(program, heap, fuel, pass, frame) {
         return Turn::Pending(why);

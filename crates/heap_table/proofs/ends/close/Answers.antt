@@ -2,6 +2,7 @@ use Rattle.std.proofs.Common.{◌≡◌, ℕ, List, sym, ap, ◌∙◌, subst, a
 use Rattle.std.specs.Slots.{slots_items}
 use Rattle.plain_monitor.specs.declared.entry.Logged.{Logged}
 use Rattle.plain_monitor.specs.History.{LegalObjects}
+use Rattle.plain_history.specs.ExactStamps.{StampsAreExact}
 use Rattle.core_world.specs.Threads.Known.{Known}
 use Rattle.core_steps.specs.Logic.{Heap}
 use Rattle.atomic_table.specs.Table.{Me}
@@ -11,7 +12,7 @@ use Rattle.heap_table.specs.Seen.{HeapSeen, PassSeen, IsOf, AllOf, LastWorld, kn
 use Rattle.heap_table.proofs.AtLast.{copies, final_as, all_yielded, all_of}
 use Rattle.heap_table.specs.BiasesAtEnd.{BiasesAtEnd}
 use Rattle.heap_table.proofs.BiasesAtEnd.{biases_ended, biases_stuck}
-use Rattle.heap_table.proofs.Legal.{logs_legal_at_last, still_at_last}
+use Rattle.heap_table.proofs.Legal.{logs_legal_at_last, stamps_exact_at_last, still_at_last}
 use Rattle.heap_table.proofs.Seats.{comes, joins}
 use Rattle.heap_table.proofs.ends.close.Goals as goal
 
@@ -72,6 +73,11 @@ pub returns-clause-legal : goal.returns-clause-legal
 returns-clause-legal c =
     let logs = logs_legal_at_last c.args.heap.heap _ c.args.passes (returns-clause-world c) c.requires.order.0 c.requires.order.1 in
     subst (λ (l : List (List Logged)). LegalObjects c.args.heap.heap.shape.objects l) (sym (returns-clause-logs c)) logs
+
+pub returns-clause-stamps : goal.returns-clause-stamps
+returns-clause-stamps c =
+    let stamps = stamps_exact_at_last c.args.heap.heap _ c.args.passes (returns-clause-world c) c.requires.order.0 c.requires.order.1 in
+    subst StampsAreExact (sym (returns-clause-logs c)) stamps
 
 pub returns-clause-still : goal.returns-clause-still
 returns-clause-still c = still_at_last c.args.heap.heap _ c.args.passes (returns-clause-world c) c.requires.order.0 c.requires.order.1 c.requires.stopped c.requires.quiet

@@ -1,3 +1,4 @@
+use Rattle.heap_table.proofs.Legal.{exact_at_last}
 use Rattle.run_ends.proofs.Draws.{has_draws}
 use Rattle.run_ends.proofs.Shots.{has_shots}
 use Rattle.run_ends.proofs.Stuck.{is_stuck, no_hash_open}
@@ -8,6 +9,9 @@ returns-clause-draws c = has_draws
 
 pub returns-clause-shots : goal.returns-clause-shots
 returns-clause-shots c = has_shots
+
+pub returns-clause-stamps : goal.returns-clause-stamps
+returns-clause-stamps c = λ heap words ks e. exact_at_last heap words ks e.last e.order e.all
 
 pub returns-clause-stuck : goal.returns-clause-stuck
 returns-clause-stuck c = is_stuck

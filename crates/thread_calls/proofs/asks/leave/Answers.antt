@@ -7,6 +7,8 @@ use Rattle.plain_monitor.specs.declared.entry.Entry.TheVariants as entry
 use Rattle.plain_machine.specs.declared.call.Asked.TheVariants.{Leaves as Left}
 use Rattle.plain_machine.specs.declared.call.Mode.TheVariants.{Unwinding}
 use Rattle.plain_machine.proofs.ReachedAsked.{asked_of}
+use Rattle.core_calls.proofs.Called.{called}
+use Rattle.core_calls.proofs.NamedCalls.{exit_named}
 use Rattle.core_calls.specs.CallsSay.{ExitSays}
 use Rattle.heap_table.specs.Resting.{start_now}
 use Rattle.thread_calls.specs.Advances.{RanFrom, HasAdvanced}
@@ -15,6 +17,7 @@ use Rattle.thread_calls.specs.Between.{state_by}
 use Rattle.thread_calls.proofs.Advanced.{asks_leave, leave_done, still_waits}
 use Rattle.thread_calls.proofs.Behind.{came, turn_done, turn_left}
 use Rattle.thread_calls.proofs.May.{may_leave, held_is, thread_is}
+use Rattle.thread_calls.proofs.OnTime.{timed_still}
 use Rattle.thread_calls.proofs.asks.leave.Goals as goal
 
 pub exit-requires : goal.exit-requires
@@ -37,8 +40,8 @@ unreachable-requires c =
     let none = c.in-Err.ensures.owner in
     absurd (omega (arith, one, none))
 
-pub returns-in-Done : goal.returns-in-Done
-returns-in-Done c =
+pub returns-in-Done-clause-advanced : goal.returns-in-Done-clause-advanced
+returns-in-Done-clause-advanced c =
     let a = c.args in
     let r = c.requires in
     let h = a.heap.now in
@@ -50,8 +53,8 @@ returns-in-Done c =
     subst (λ g. HasAdvanced h a.program.now a.fuel k q a.frame.now g (Done false)) (sym c.follow.ensures)
     (leave_done h a.program.now a.fuel k a.frame.now r.heap r.may q a.ending a.object r.at r.least one)
 
-pub returns-in-Pending : goal.returns-in-Pending
-returns-in-Pending c =
+pub returns-in-Pending-clause-advanced : goal.returns-in-Pending-clause-advanced
+returns-in-Pending-clause-advanced c =
     let a = c.args in
     let r = c.requires in
     let h = a.heap.now in
@@ -65,3 +68,17 @@ returns-in-Pending c =
     (unfinished_on op.Exit a.object) why c.in-Pending.is (λ ms z. z.1.0) (k, task.Exit a.object, ran) in
     still_waits h a.program.now a.fuel k a.frame.now r.heap r.may q why (Unwinding a.ending) (unfinished_on op.Exit a.object) r.at one
     (sym (ap unfinished_of asks)) refl
+
+pub returns-in-Done-clause-timed : goal.returns-in-Done-clause-timed
+returns-in-Done-clause-timed c = λ tick.
+    let a = c.args in
+    let k = a.pass.now in
+    let q = c.exit.new.pass in
+    timed_still tick (task.Exit a.object) k.known q.known refl (called (exit_named (start_now a.heap.now k) a.object) c.in-Ok.ensures.run.ran)
+
+pub returns-in-Pending-clause-timed : goal.returns-in-Pending-clause-timed
+returns-in-Pending-clause-timed c = λ tick.
+    let a = c.args in
+    let k = a.pass.now in
+    let q = c.exit.new.pass in
+    timed_still tick (task.Exit a.object) k.known q.known refl (called (exit_named (start_now a.heap.now k) a.object) c.in-Ok.ensures.run.ran)

@@ -1,5 +1,9 @@
 use Rattle.std.proofs.Common.{true, refl, sym, subst, arith}
 use Rattle.core_world.specs.declared.answer.Turn.TheVariants.{Done}
+use Rattle.core_calls.proofs.Called.{called}
+use Rattle.core_calls.proofs.NamedCalls.{wait_named}
+use Rattle.core_world.specs.declared.task.Task.TheVariants as task
+use Rattle.heap_table.specs.Resting.{start_now}
 use Rattle.plain_machine.specs.declared.call.Asked.TheVariants.{Resumes}
 use Rattle.plain_machine.specs.declared.call.Mode.TheVariants.{Waiting}
 use Rattle.plain_machine.proofs.ReachedAsked.{asked_of}
@@ -10,6 +14,7 @@ use Rattle.thread_calls.proofs.Behind.{came}
 use Rattle.thread_calls.proofs.Kept.{waits_held}
 use Rattle.thread_logs.proofs.Standing.{holds_told}
 use Rattle.thread_calls.proofs.May.{may_wait, thread_is}
+use Rattle.thread_calls.proofs.OnTime.{timed_at}
 use Rattle.thread_calls.proofs.Waited.{resume_done, resume_left}
 use Rattle.thread_calls.proofs.asks.resume.Goals as goal
 
@@ -39,8 +44,8 @@ unreachable-requires g c =
     let none = c.in-Err.ensures.owner in
     absurd (omega (arith, one, told, none))
 
-pub returns-in-Done : goal.returns-in-Done
-returns-in-Done g c =
+pub returns-in-Done-clause-advanced : goal.returns-in-Done-clause-advanced
+returns-in-Done-clause-advanced g c =
     let a = c.args in
     let r = c.requires in
     let q = c.wait.new.pass in
@@ -49,11 +54,31 @@ returns-in-Done g c =
     (resume_done a.heap.now a.program.now a.fuel a.pass.now a.frame.now r.heap r.may a.object c.moment.result q (came e.rests e.run) c.in-Ok.turn
     e.says e.stands e.run.ran c.in-Done.field-0 r.at c.in-Done.is)
 
-pub returns-in-Pending : goal.returns-in-Pending
-returns-in-Pending g c =
+pub returns-in-Pending-clause-advanced : goal.returns-in-Pending-clause-advanced
+returns-in-Pending-clause-advanced g c =
     let a = c.args in
     let r = c.requires in
     let q = c.wait.new.pass in
     let e = c.in-Ok.ensures in
     resume_left a.heap.now a.program.now a.fuel a.pass.now a.frame.now r.heap r.may a.object c.moment.result q (came e.rests e.run) c.in-Ok.turn
     e.says e.stands e.run.ran c.in-Pending.why r.at c.in-Pending.is
+
+pub returns-in-Done-clause-timed : goal.returns-in-Done-clause-timed
+returns-in-Done-clause-timed g c =
+    let a = c.args in
+    let h = a.heap.now in
+    let k = a.pass.now in
+    let q = c.wait.new.pass in
+    let now = c.moment.result in
+    timed_at a.tick (task.Wait a.object now) k.known q.known now c.now.result refl c.moment.ensures
+    (called (wait_named h.heap.shape (start_now h k) a.object now) c.in-Ok.ensures.run.ran)
+
+pub returns-in-Pending-clause-timed : goal.returns-in-Pending-clause-timed
+returns-in-Pending-clause-timed g c =
+    let a = c.args in
+    let h = a.heap.now in
+    let k = a.pass.now in
+    let q = c.wait.new.pass in
+    let now = c.moment.result in
+    timed_at a.tick (task.Wait a.object now) k.known q.known now c.now.result refl c.moment.ensures
+    (called (wait_named h.heap.shape (start_now h k) a.object now) c.in-Ok.ensures.run.ran)

@@ -1,4 +1,8 @@
-use Rattle.std.proofs.Common.{false, sym, ap, ◌∙◌, subst}
+use Rattle.std.proofs.Common.{false, refl, sym, ap, ◌∙◌, subst}
+use Rattle.core_calls.proofs.Called.{called}
+use Rattle.core_calls.proofs.NamedCalls.{finish_named}
+use Rattle.core_world.specs.declared.task.Task.TheVariants as task
+use Rattle.heap_table.specs.Resting.{start_now}
 use Rattle.core_world.specs.declared.answer.Turn.TheVariants.{Done}
 use Rattle.core_world.specs.Trees.Operations.{ending_entry}
 use Rattle.plain_machine.specs.declared.call.Asked.TheVariants.{Ends}
@@ -10,6 +14,7 @@ use Rattle.thread_calls.specs.Between.{state_by}
 use Rattle.thread_calls.proofs.Advanced.{asks_end, end_done}
 use Rattle.thread_calls.proofs.Behind.{came, logged}
 use Rattle.thread_calls.proofs.May.{may_finish, thread_is}
+use Rattle.thread_calls.proofs.OnTime.{timed_still}
 use Rattle.thread_calls.proofs.asks.unwind.Goals as goal
 
 pub finish-requires : goal.finish-requires
@@ -22,8 +27,8 @@ finish-requires c =
     let last = asked_of a.program.now s (Ends a.ending) (thread_is a.heap.now a.program.now a.fuel a.pass.now a.frame.now r.heap r.may) asks in
     may_finish a.heap.now a.program.now a.fuel a.pass.now a.frame.now r.heap r.may (Ends a.ending) asks a.ending (ap unfinished_of asks) last.none
 
-pub returns-in-None : goal.returns-in-None
-returns-in-None c =
+pub returns-in-None-clause-advanced : goal.returns-in-None-clause-advanced
+returns-in-None-clause-advanced c =
     let a = c.args in
     let r = c.requires in
     let h = a.heap.now in
@@ -35,3 +40,10 @@ returns-in-None c =
     let one = logged h k q (came e.rests e.run) (ending_entry a.ending) e.says e.stands in
     subst (λ f. HasAdvanced h a.program.now a.fuel k q a.frame.now f (Done false)) (sym moved)
     (end_done h a.program.now a.fuel k a.frame.now r.heap r.may q a.ending r.at least one)
+
+pub returns-in-None-clause-timed : goal.returns-in-None-clause-timed
+returns-in-None-clause-timed c = λ tick.
+    let a = c.args in
+    let k = a.pass.now in
+    let q = c.finish.new.pass in
+    timed_still tick (task.Finish a.ending) k.known q.known refl (called (finish_named (start_now a.heap.now k) a.ending) c.finish.ensures.run.ran)

@@ -1,5 +1,9 @@
 use Rattle.std.proofs.Common.{true, refl, sym, ap, ◌∙◌, subst, arith}
 use Rattle.core_world.specs.declared.answer.Turn.TheVariants.{Done, Pending}
+use Rattle.core_calls.proofs.Called.{called}
+use Rattle.core_calls.proofs.NamedCalls.{wait_named}
+use Rattle.core_world.specs.declared.task.Task.TheVariants as task
+use Rattle.heap_table.specs.Resting.{start_now}
 use Rattle.plain_monitor.specs.declared.entry.Entry.TheVariants as entry
 use Rattle.plain_machine.specs.declared.call.Asked.TheVariants.{Calls, Resumes}
 use Rattle.plain_machine.specs.declared.call.Call.TheVariants as call
@@ -10,6 +14,7 @@ use Rattle.thread_calls.specs.Between.{state_by}
 use Rattle.thread_calls.proofs.Advanced.{asks_call}
 use Rattle.thread_calls.proofs.Behind.{came}
 use Rattle.thread_calls.proofs.May.{may_wait, held_is, thread_is}
+use Rattle.thread_calls.proofs.OnTime.{timed_at}
 use Rattle.thread_calls.proofs.Waited.{wait_done, wait_left, wait_let_go}
 use Rattle.thread_calls.proofs.calls.begin_wait.Goals as goal
 
@@ -35,8 +40,8 @@ unreachable-requires g c =
     let none = c.in-Err.ensures.owner in
     absurd (omega (arith, one, none))
 
-pub returns-in-Done : goal.returns-in-Done
-returns-in-Done g c =
+pub returns-in-Done-clause-advanced : goal.returns-in-Done-clause-advanced
+returns-in-Done-clause-advanced g c =
     let a = c.args in
     let r = c.requires in
     let q = c.wait.new.pass in
@@ -46,8 +51,8 @@ returns-in-Done g c =
     (wait_done a.heap.now a.program.now a.fuel a.pass.now a.frame.now r.heap r.may a.object c.moment.result q (came e.rests e.run) c.in-Ok.turn
     e.says e.stands e.run.ran c.in-Done.field-0 r.at c.in-Done.is)
 
-pub returns-then-has_let_go : goal.returns-then-has_let_go
-returns-then-has_let_go g c =
+pub returns-then-has_let_go-clause-advanced : goal.returns-then-has_let_go-clause-advanced
+returns-then-has_let_go-clause-advanced g c =
     let a = c.args in
     let r = c.requires in
     let q = c.wait.new.pass in
@@ -56,11 +61,41 @@ returns-then-has_let_go g c =
     (wait_let_go a.heap.now a.program.now a.fuel a.pass.now a.frame.now r.heap r.may a.object c.moment.result q (came e.rests e.run) c.in-Ok.turn
     e.says e.stands e.run.ran c.in-Pending.why r.at c.in-Pending.is (sym c.has_let_go.ensures ∙ c.if-has_let_go.true))
 
-pub returns-else-has_let_go : goal.returns-else-has_let_go
-returns-else-has_let_go g c =
+pub returns-else-has_let_go-clause-advanced : goal.returns-else-has_let_go-clause-advanced
+returns-else-has_let_go-clause-advanced g c =
     let a = c.args in
     let r = c.requires in
     let q = c.wait.new.pass in
     let e = c.in-Ok.ensures in
     wait_left a.heap.now a.program.now a.fuel a.pass.now a.frame.now r.heap r.may a.object c.moment.result q (came e.rests e.run) c.in-Ok.turn
     e.says e.stands e.run.ran c.in-Pending.why r.at c.in-Pending.is (sym c.has_let_go.ensures ∙ c.if-has_let_go.false)
+
+pub returns-in-Done-clause-timed : goal.returns-in-Done-clause-timed
+returns-in-Done-clause-timed g c =
+    let a = c.args in
+    let h = a.heap.now in
+    let k = a.pass.now in
+    let q = c.wait.new.pass in
+    let now = c.moment.result in
+    timed_at a.tick (task.Wait a.object now) k.known q.known now c.now.result refl c.moment.ensures
+    (called (wait_named h.heap.shape (start_now h k) a.object now) c.in-Ok.ensures.run.ran)
+
+pub returns-then-has_let_go-clause-timed : goal.returns-then-has_let_go-clause-timed
+returns-then-has_let_go-clause-timed g c =
+    let a = c.args in
+    let h = a.heap.now in
+    let k = a.pass.now in
+    let q = c.wait.new.pass in
+    let now = c.moment.result in
+    timed_at a.tick (task.Wait a.object now) k.known q.known now c.now.result refl c.moment.ensures
+    (called (wait_named h.heap.shape (start_now h k) a.object now) c.in-Ok.ensures.run.ran)
+
+pub returns-else-has_let_go-clause-timed : goal.returns-else-has_let_go-clause-timed
+returns-else-has_let_go-clause-timed g c =
+    let a = c.args in
+    let h = a.heap.now in
+    let k = a.pass.now in
+    let q = c.wait.new.pass in
+    let now = c.moment.result in
+    timed_at a.tick (task.Wait a.object now) k.known q.known now c.now.result refl c.moment.ensures
+    (called (wait_named h.heap.shape (start_now h k) a.object now) c.in-Ok.ensures.run.ran)

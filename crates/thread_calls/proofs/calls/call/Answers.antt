@@ -14,21 +14,21 @@ make-requires g c =
     let asks = asks_call a.heap.now a.program.now a.fuel a.pass.now a.frame.now r.heap r.may a.call r.at in
     may_make a.heap.now a.program.now a.fuel a.pass.now a.frame.now r.heap r.may a.call asks (λ o e. c.in_default.not-Wait o e)
 
-pub returns-in-Done : goal.returns-in-Done
-returns-in-Done g c =
+pub returns-in-Done-clause-advanced : goal.returns-in-Done-clause-advanced
+returns-in-Done-clause-advanced g c =
     let a = c.args in
     let r = c.requires in
     let q = c.make.new.pass in
     subst (λ f. HasAdvanced a.heap.now a.program.now a.fuel a.pass.now q a.frame.now f (Done true)) (sym c.follow.ensures)
     (call_done a.heap.now a.program.now a.fuel a.pass.now a.frame.now r.heap r.may q a.call c.in-Done.entry r.at (λ o e. c.in_default.not-Wait o e)
-    c.in-Done.ensures)
+    c.in-Done.ensures.made)
 
-pub returns-in-Pending : goal.returns-in-Pending
-returns-in-Pending g c =
+pub returns-in-Pending-clause-advanced : goal.returns-in-Pending-clause-advanced
+returns-in-Pending-clause-advanced g c =
     let a = c.args in
     let r = c.requires in
     let q = c.make.new.pass in
-    let e = c.in-Pending.ensures in
+    let e = c.in-Pending.ensures.made in
     let asks = asks_call a.heap.now a.program.now a.fuel a.pass.now a.frame.now r.heap r.may a.call r.at in
     still_waits a.heap.now a.program.now a.fuel a.pass.now a.frame.now r.heap r.may q c.in-Pending.why (Calling a.call) (unfinished_of_call a.call) r.at e.0
     (sym (ap unfinished_of asks)) e.1

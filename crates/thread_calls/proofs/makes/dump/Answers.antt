@@ -10,6 +10,8 @@ use Rattle.heap_table.specs.Resting.{start_now}
 use Rattle.thread_calls.specs.Advances.{RanFrom}
 use Rattle.thread_calls.specs.Asked.{unfinished_on}
 use Rattle.thread_calls.proofs.Behind.{came_dumped, turn_done, turn_left}
+use Rattle.core_calls.proofs.Called.{called}
+use Rattle.core_calls.proofs.NamedCalls.{dump_named}
 use Rattle.thread_calls.proofs.makes.dump.Goals as goal
 
 pub unreachable-requires : goal.unreachable-requires
@@ -17,8 +19,8 @@ unreachable-requires c =
     let four = eqb-true (length c.args.pass.now.known.shots) 4 c.in-Err.ensures.says.says.0 in
     absurd (omega (arith, four, c.requires.number, c.requires.room))
 
-pub returns-in-Done : goal.returns-in-Done
-returns-in-Done c =
+pub returns-in-Done-clause-made : goal.returns-in-Done-clause-made
+returns-in-Done-clause-made c =
     let a = c.args in
     let h = a.heap.now in
     let k = a.pass.now in
@@ -36,8 +38,8 @@ returns-in-Done c =
       same = λ f. refl;
     }
 
-pub returns-in-Pending : goal.returns-in-Pending
-returns-in-Pending c =
+pub returns-in-Pending-clause-made : goal.returns-in-Pending-clause-made
+returns-in-Pending-clause-made c =
     let a = c.args in
     let h = a.heap.now in
     let k = a.pass.now in
@@ -50,3 +52,17 @@ returns-in-Pending c =
           e.says e.stands (unfinished_on op.Dump 0) why is (λ ms z. z.1.0) (k, task.Dump, ran),
       refl,
     )
+
+pub returns-in-Done-clause-called : goal.returns-in-Done-clause-called
+returns-in-Done-clause-called c =
+    let a = c.args in
+    let h = a.heap.now in
+    let k = a.pass.now in
+    called (dump_named h.heap.shape (start_now h k)) c.in-Ok.ensures.run.ran
+
+pub returns-in-Pending-clause-called : goal.returns-in-Pending-clause-called
+returns-in-Pending-clause-called c =
+    let a = c.args in
+    let h = a.heap.now in
+    let k = a.pass.now in
+    called (dump_named h.heap.shape (start_now h k)) c.in-Ok.ensures.run.ran

@@ -1,15 +1,18 @@
 use Rattle.std.proofs.Common.{eq-eqb, refl, arith}
 use Rattle.std.proofs.lemmas.Bool.{and_from}
 use Rattle.plain_monitor.specs.declared.entry.Entry.TheVariants as entry
+use Rattle.heap_table.specs.Resting.{start_now}
 use Rattle.thread_calls.proofs.Behind.{came, logged, tells_so}
 use Rattle.thread_calls.proofs.Values.{value_of}
+use Rattle.core_calls.proofs.Called.{called}
+use Rattle.core_calls.proofs.NamedCalls.{get_named}
 use Rattle.thread_calls.proofs.makes.get.Goals as goal
 
 pub unreachable-requires : goal.unreachable-requires
 unreachable-requires c = let none = c.in-Err.ensures.owner in let one = c.requires.holds in absurd (omega (arith, none, one))
 
-pub returns : goal.returns
-returns c =
+pub returns-clause-made : goal.returns-clause-made
+returns-clause-made c =
     let a = c.args in
     let h = a.heap.now in
     let k = a.pass.now in
@@ -25,3 +28,10 @@ returns c =
       };
       same = λ f. refl;
     }
+
+pub returns-clause-called : goal.returns-clause-called
+returns-clause-called c =
+    let a = c.args in
+    let h = a.heap.now in
+    let k = a.pass.now in
+    called (get_named (start_now h k) a.object a.slot) c.in-Ok.ensures.run.ran

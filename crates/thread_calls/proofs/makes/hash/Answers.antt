@@ -7,10 +7,12 @@ use Rattle.core_calls.specs.CallsSay.{HashSays}
 use Rattle.heap_table.specs.Resting.{start_now}
 use Rattle.thread_calls.specs.Asked.{unfinished_on}
 use Rattle.thread_calls.proofs.Behind.{came, turn_left, logged, tells_at}
+use Rattle.core_calls.proofs.Called.{called}
+use Rattle.core_calls.proofs.NamedCalls.{hash_named}
 use Rattle.thread_calls.proofs.makes.hash.Goals as goal
 
-pub returns-in-Done : goal.returns-in-Done
-returns-in-Done c =
+pub returns-in-Done-clause-made : goal.returns-in-Done-clause-made
+returns-in-Done-clause-made c =
     let a = c.args in
     let h = a.heap.now in
     let k = a.pass.now in
@@ -25,8 +27,8 @@ returns-in-Done c =
       same = λ f. refl;
     }
 
-pub returns-in-Pending : goal.returns-in-Pending
-returns-in-Pending c =
+pub returns-in-Pending-clause-made : goal.returns-in-Pending-clause-made
+returns-in-Pending-clause-made c =
     let a = c.args in
     let h = a.heap.now in
     let k = a.pass.now in
@@ -37,3 +39,17 @@ returns-in-Pending c =
           (unfinished_on op.Hash a.object) why refl (λ ms z. z.0) (k, task.Hash a.object a.now, e.run.ran),
       refl,
     )
+
+pub returns-in-Done-clause-called : goal.returns-in-Done-clause-called
+returns-in-Done-clause-called c =
+    let a = c.args in
+    let h = a.heap.now in
+    let k = a.pass.now in
+    called (hash_named h.heap.shape (start_now h k) a.object a.now) c.in-Done.ensures.run.ran
+
+pub returns-in-Pending-clause-called : goal.returns-in-Pending-clause-called
+returns-in-Pending-clause-called c =
+    let a = c.args in
+    let h = a.heap.now in
+    let k = a.pass.now in
+    called (hash_named h.heap.shape (start_now h k) a.object a.now) c.in-Pending.ensures.run.ran

@@ -9,13 +9,15 @@ use Rattle.heap_table.specs.Resting.{start_now}
 use Rattle.thread_calls.specs.Advances.{RanFrom}
 use Rattle.thread_calls.specs.Asked.{unfinished_on}
 use Rattle.thread_calls.proofs.Behind.{came, turn_done, turn_left}
+use Rattle.core_calls.proofs.Called.{called}
+use Rattle.core_calls.proofs.NamedCalls.{notify_all_call_named}
 use Rattle.thread_calls.proofs.makes.notify_all.Goals as goal
 
 pub unreachable-requires : goal.unreachable-requires
 unreachable-requires c = let none = c.in-Err.ensures.owner in let one = c.requires.holds in absurd (omega (arith, none, one))
 
-pub returns-in-Done : goal.returns-in-Done
-returns-in-Done c =
+pub returns-in-Done-clause-made : goal.returns-in-Done-clause-made
+returns-in-Done-clause-made c =
     let a = c.args in
     let h = a.heap.now in
     let k = a.pass.now in
@@ -32,8 +34,8 @@ returns-in-Done c =
       same = λ f. refl;
     }
 
-pub returns-in-Pending : goal.returns-in-Pending
-returns-in-Pending c =
+pub returns-in-Pending-clause-made : goal.returns-in-Pending-clause-made
+returns-in-Pending-clause-made c =
     let a = c.args in
     let h = a.heap.now in
     let k = a.pass.now in
@@ -46,3 +48,17 @@ returns-in-Pending c =
           e.says e.stands (unfinished_on op.NotifyAll a.object) why is (λ ms z. z.1.0) (k, task.NotifyAll a.object a.now, ran),
       refl,
     )
+
+pub returns-in-Done-clause-called : goal.returns-in-Done-clause-called
+returns-in-Done-clause-called c =
+    let a = c.args in
+    let h = a.heap.now in
+    let k = a.pass.now in
+    called (notify_all_call_named h.heap.shape (start_now h k) a.object a.now) c.in-Ok.ensures.run.ran
+
+pub returns-in-Pending-clause-called : goal.returns-in-Pending-clause-called
+returns-in-Pending-clause-called c =
+    let a = c.args in
+    let h = a.heap.now in
+    let k = a.pass.now in
+    called (notify_all_call_named h.heap.shape (start_now h k) a.object a.now) c.in-Ok.ensures.run.ran

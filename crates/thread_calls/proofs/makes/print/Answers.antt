@@ -1,11 +1,14 @@
 use Rattle.std.proofs.Common.{refl}
 use Rattle.plain_monitor.specs.declared.entry.Entry.TheVariants as entry
 use Rattle.plain_machine.proofs.ReachedStanding.{same_itself}
+use Rattle.heap_table.specs.Resting.{start_now}
 use Rattle.thread_calls.proofs.Behind.{came, logged}
+use Rattle.core_calls.proofs.Called.{called}
+use Rattle.core_calls.proofs.NamedCalls.{print_named}
 use Rattle.thread_calls.proofs.makes.print.Goals as goal
 
-pub returns : goal.returns
-returns c =
+pub returns-clause-made : goal.returns-clause-made
+returns-clause-made c =
     let a = c.args in
     let h = a.heap.now in
     let k = a.pass.now in
@@ -18,3 +21,10 @@ returns c =
       of = record { is = same_itself a.value; value = tt };
       same = λ f. refl;
     }
+
+pub returns-clause-called : goal.returns-clause-called
+returns-clause-called c =
+    let a = c.args in
+    let h = a.heap.now in
+    let k = a.pass.now in
+    called (print_named (start_now h k) a.value) c.print.ensures.run.ran

@@ -2,14 +2,17 @@ use Rattle.std.proofs.Common.{eq-eqb, refl, arith}
 use Rattle.std.proofs.lemmas.Bool.{and_from}
 use Rattle.plain_monitor.specs.declared.entry.Entry.TheVariants as entry
 use Rattle.plain_machine.proofs.ReachedStanding.{same_itself}
+use Rattle.heap_table.specs.Resting.{start_now}
 use Rattle.thread_calls.proofs.Behind.{came, logged, tells_so}
+use Rattle.core_calls.proofs.Called.{called}
+use Rattle.core_calls.proofs.NamedCalls.{put_named}
 use Rattle.thread_calls.proofs.makes.put.Goals as goal
 
 pub unreachable-requires : goal.unreachable-requires
 unreachable-requires c = let none = c.in-Err.ensures.owner in let one = c.requires.holds in absurd (omega (arith, none, one))
 
-pub returns : goal.returns
-returns c =
+pub returns-clause-made : goal.returns-clause-made
+returns-clause-made c =
     let a = c.args in
     let h = a.heap.now in
     let k = a.pass.now in
@@ -22,3 +25,10 @@ returns c =
       of = record { is = and_from _ _ (and_from _ _ (eq-eqb a.object a.object refl) (eq-eqb a.slot a.slot refl)) (same_itself a.value); value = tt };
       same = λ f. refl;
     }
+
+pub returns-clause-called : goal.returns-clause-called
+returns-clause-called c =
+    let a = c.args in
+    let h = a.heap.now in
+    let k = a.pass.now in
+    called (put_named (start_now h k) a.object a.slot a.value) c.in-Ok.ensures.run.ran

@@ -16,8 +16,8 @@ walk-requires g c =
       holds = subst (λ n. AreOf n a.pass.now.known.holds) (sym many) (are_of a.heap.now a.program.now a.fuel a.pass.now a.frame.now r.heap r.may);
     }
 
-pub returns-in-Ran : goal.returns-in-Ran
-returns-in-Ran g c =
+pub returns-in-Ran-clause-advanced : goal.returns-in-Ran-clause-advanced
+returns-in-Ran-clause-advanced g c =
     let a = c.args in
     let r = c.requires in
     let f = c.walk.new.self in
@@ -26,8 +26,8 @@ returns-in-Ran g c =
     ≡ next_state a.program.now a.pass.now.known.thread (counts_from 0 n a.pass.now.known.holds) a.frame.now) many c.walk.ensures.leads in
     ran a.heap.now a.program.now a.fuel a.pass.now a.frame.now r.heap r.may r.local f leads c.in-Ran.ensures.walked
 
-pub returns-in-Spent : goal.returns-in-Spent
-returns-in-Spent g c =
+pub returns-in-Spent-clause-advanced : goal.returns-in-Spent-clause-advanced
+returns-in-Spent-clause-advanced g c =
     let a = c.args in
     let r = c.requires in
     let f = c.walk.new.self in
@@ -46,8 +46,8 @@ go_on-requires-clause-may g c =
     ≡ next_state a.program.now a.pass.now.known.thread (counts_from 0 n a.pass.now.known.holds) a.frame.now) many c.walk.ensures.leads in
     arrived a.heap.now a.program.now a.fuel a.pass.now a.frame.now r.heap r.may r.local f leads c.in-Arrived.ensures.walked
 
-pub returns-in-Some : goal.returns-in-Some
-returns-in-Some g c =
+pub returns-in-Some-clause-advanced : goal.returns-in-Some-clause-advanced
+returns-in-Some-clause-advanced g c =
     let a = c.args in
     let r = c.requires in
     let f = c.walk.new.self in
@@ -55,4 +55,4 @@ returns-in-Some g c =
     let leads = subst (λ n. next_state a.program.now a.pass.now.known.thread (counts_from 0 n a.pass.now.known.holds) f
     ≡ next_state a.program.now a.pass.now.known.thread (counts_from 0 n a.pass.now.known.holds) a.frame.now) many c.walk.ensures.leads in
     from_there a.heap.now a.program.now a.fuel a.pass.now a.frame.now r.heap r.may r.local f leads c.go_on.new.pass c.go_on.new.frame c.go_on.result
-    c.in-Arrived.ensures.walked c.go_on.ensures
+    c.in-Arrived.ensures.walked c.go_on.ensures.advanced

@@ -1,4 +1,5 @@
 use Rattle.std.proofs.Common.{◌∙◌}
+use Rattle.thread_interp.proofs.CallsTimed.{check_timed}
 use Rattle.thread_interp.proofs.Turns.{may_check, not_checked, barred_runner, check_on, check_left, check_thread, has_checked, is_runner}
 use Rattle.thread_interp.proofs.turn.check.Goals as goal
 
@@ -8,22 +9,22 @@ set_running-requires-clause-on c = c.requires.runner.on
 pub returns-in-Pending-clause-runner : goal.returns-in-Pending-clause-runner
 returns-in-Pending-clause-runner c =
     let a = c.args in
-    barred_runner a.heap.now a.program.now a.fuel 0 a.pass.now c.set_running.new.pass a.frame.now c.requires.live c.in-Pending.why c.in-Pending.ensures
+    barred_runner a.heap.now a.program.now a.fuel 0 a.pass.now c.set_running.new.pass a.frame.now c.requires.live c.in-Pending.why c.in-Pending.ensures.ready
 
 pub returns-in-Pending-clause-thread : goal.returns-in-Pending-clause-thread
-returns-in-Pending-clause-thread c = c.set_running.ensures.thread
+returns-in-Pending-clause-thread c = c.set_running.ensures.ready.thread
 
 pub returns-in-Pending-clause-stands : goal.returns-in-Pending-clause-stands
 returns-in-Pending-clause-stands c =
     let a = c.args in
     not_checked a.heap.now a.program.now a.fuel a.pass.now c.set_running.new.pass a.frame.now c.requires.free c.requires.live
-    c.in-Pending.why c.in-Pending.ensures
+    c.in-Pending.why c.in-Pending.ensures.ready
 
 pub check_stuck-stuck-requires : goal.check_stuck-stuck-requires
 check_stuck-stuck-requires c =
     let a = c.args in
     may_check a.heap.now a.program.now a.fuel a.pass.now c.set_running.new.pass a.frame.now c.requires.free c.requires.live
-    c.set_running.result c.set_running.ensures c.in_default.ensures.stands
+    c.set_running.result c.set_running.ensures.ready c.in_default.ensures.ready.stands
 
 pub set_still-requires : goal.set_still-requires
 set_still-requires c =
@@ -31,22 +32,22 @@ set_still-requires c =
     let e = c.check_stuck-stuck.ensures in
     record {
       on = check_on a.heap.now a.program.now a.fuel c.set_running.new.pass c.check_stuck-stuck.new.pass a.frame.now
-          c.set_running.ensures.on c.requires.live e.rests c.check_stuck-stuck.result e.run e.says e.stands;
+          c.set_running.ensures.ready.on c.requires.live e.rests c.check_stuck-stuck.result e.run e.says e.stands;
     }
 
 pub returns-clause-runner : goal.returns-clause-runner
 returns-clause-runner c =
     let a = c.args in
-    is_runner a.heap.now a.program.now a.fuel c.check_stuck-stuck.new.pass c.set_still.new.pass a.frame.now c.set_still.ensures
+    is_runner a.heap.now a.program.now a.fuel c.check_stuck-stuck.new.pass c.set_still.new.pass a.frame.now c.set_still.ensures.still
 
 pub returns-clause-thread : goal.returns-clause-thread
 returns-clause-thread c =
     let a = c.args in
     let e = c.check_stuck-stuck.ensures in
-    c.set_still.ensures.thread
+    c.set_still.ensures.still.thread
     ∙ check_thread a.heap.now a.program.now a.fuel c.set_running.new.pass c.check_stuck-stuck.new.pass a.frame.now
-    c.set_running.ensures.on c.requires.live e.rests c.check_stuck-stuck.result e.run e.says e.stands
-    ∙ c.set_running.ensures.thread
+    c.set_running.ensures.ready.on c.requires.live e.rests c.check_stuck-stuck.result e.run e.says e.stands
+    ∙ c.set_running.ensures.ready.thread
 
 pub returns-clause-stands : goal.returns-clause-stands
 returns-clause-stands c =
@@ -54,6 +55,15 @@ returns-clause-stands c =
     let e = c.check_stuck-stuck.ensures in
     let left =
     check_left a.heap.now a.program.now a.fuel c.set_running.new.pass c.check_stuck-stuck.new.pass a.frame.now
-    c.set_running.ensures.on c.requires.live e.rests c.check_stuck-stuck.result e.run e.says e.stands in
-    has_checked a.heap.now a.program.now a.fuel c.check_stuck-stuck.new.pass c.set_still.new.pass a.frame.now c.set_still.ensures
+    c.set_running.ensures.ready.on c.requires.live e.rests c.check_stuck-stuck.result e.run e.says e.stands in
+    has_checked a.heap.now a.program.now a.fuel c.check_stuck-stuck.new.pass c.set_still.new.pass a.frame.now c.set_still.ensures.still
     c.check_stuck-stuck.result left e.stands
+
+pub returns-in-Pending-clause-timed : goal.returns-in-Pending-clause-timed
+returns-in-Pending-clause-timed c = c.set_running.ensures.timed
+
+pub returns-clause-timed : goal.returns-clause-timed
+returns-clause-timed c = λ tick timed.
+    let e = c.check_stuck-stuck in
+    c.set_still.ensures.timed tick
+    (check_timed c.args.heap.now c.set_running.new.pass e.new.pass e.result e.ensures.run tick (c.set_running.ensures.timed tick timed))

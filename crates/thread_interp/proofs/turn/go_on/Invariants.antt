@@ -1,10 +1,11 @@
 use Rattle.thread_calls.specs.Advances.{rank_with}
+use Rattle.thread_calls.specs.Timed.{StaysTimed}
 use Rattle.thread_interp.specs.Running.{IsGoing}
 use Rattle.thread_interp.proofs.turn.go_on.Given as goal
 
 abbrev pub invariant-loop-done : goal.invariant-loop-done
 invariant-loop-done g l =
-    IsGoing l.heap l.program l.fuel l.quantum l.fn.pass l.pass l.fn.frame l.frame l.instructions
+    IsGoing l.heap l.program l.fuel l.quantum l.fn.pass l.pass l.fn.frame l.frame l.instructions × StaysTimed l.tick l.fn.pass l.pass
 
 -- each step makes this fall
 abbrev pub decreases-loop-done : goal.decreases-loop-done

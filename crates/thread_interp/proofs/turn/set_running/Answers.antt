@@ -1,3 +1,4 @@
+use Rattle.thread_interp.proofs.CallsTimed.{resume_timed}
 use Rattle.thread_interp.proofs.Turns.{may_resume, ready_asking, ready_resumed}
 use Rattle.std.proofs.Common.{sym, ◌∙◌}
 use Rattle.thread_interp.proofs.turn.set_running.Goals as goal
@@ -7,14 +8,17 @@ resume-requires c =
     let a = c.args in
     may_resume a.heap.now a.program.now a.fuel a.pass.now a.frame.now c.requires.on c.requires.still (sym c.requesting.ensures ∙ c.if-requesting.false)
 
-pub returns : goal.returns
-returns c =
+pub returns-clause-ready : goal.returns-clause-ready
+returns-clause-ready c =
     let a = c.args in
     let e = c.resume.ensures in
     ready_resumed a.heap.now a.program.now a.fuel a.pass.now a.frame.now c.requires.on c.requires.still c.resume.new.pass
     (sym c.requesting.ensures ∙ c.if-requesting.false) e.rests c.resume.result e.run e.says e.stands
 
-pub returns-then-requesting : goal.returns-then-requesting
-returns-then-requesting c =
+pub returns-then-requesting-clause-ready : goal.returns-then-requesting-clause-ready
+returns-then-requesting-clause-ready c =
     let a = c.args in
     ready_asking a.heap.now a.program.now a.fuel a.pass.now a.frame.now c.requires.on c.requires.still (sym c.requesting.ensures ∙ c.if-requesting.true)
+
+pub returns-clause-timed : goal.returns-clause-timed
+returns-clause-timed c = resume_timed c.args.heap.now c.args.pass.now c.resume.new.pass c.resume.result c.resume.ensures.run

@@ -1,6 +1,8 @@
 use Rattle.std.proofs.Common.{sym, ◌∙◌, subst}
 use Rattle.heap_table.specs.Seen.{PassSeen}
 use Rattle.thread_calls.specs.Advances.{MayAdvance, HasAdvanced}
+use Rattle.thread_calls.specs.Timed.{StaysTimed}
+use Rattle.thread_interp.proofs.CallsTimed.{poll_timed}
 use Rattle.thread_interp.proofs.Turns.{may_advance, poll_pended, advanced}
 use Rattle.thread_interp.proofs.turn.step.Goals.{then-running+in_default, else-running}
 use Rattle.thread_interp.proofs.turn.step.Goals as goal
@@ -9,8 +11,8 @@ pub poll-requires : goal.poll-requires
 poll-requires g c =
     record { rests = c.requires.may.on.rests; may = sym c.running.ensures ∙ c.if-running.true }
 
-pub returns-in-Pending : goal.returns-in-Pending
-returns-in-Pending g c =
+pub returns-in-Pending-clause-advanced : goal.returns-in-Pending-clause-advanced
+returns-in-Pending-clause-advanced g c =
     let a = c.args in
     let e = c.poll.ensures in
     poll_pended a.heap.now a.program.now a.fuel a.pass.now c.poll.new.pass a.frame.now c.requires.may e.rests
@@ -28,12 +30,12 @@ advance-requires-clause-may g c =
       | else-running w ↦ subst (λ (x : PassSeen). MayAdvance a.heap.now a.program.now a.fuel x a.frame.now) (sym w.pass-is) c.requires.may
     ]
 
-pub returns : goal.returns
-returns g c =
+pub returns-clause-advanced : goal.returns-clause-advanced
+returns-clause-advanced g c =
     let a = c.args in
     let q = c.advance.new.pass in
     let f = c.advance.new.frame in
-    let did = c.advance.ensures in
+    let did = c.advance.ensures.advanced in
     elim c.if-running.branch [
       | then-running+in_default w ↦
           let e = w.poll.ensures in
@@ -42,4 +44,20 @@ returns g c =
           (subst (λ (x : PassSeen). HasAdvanced a.heap.now a.program.now a.fuel x q a.frame.now f c.advance.result) w.pass-is did)
       | else-running w ↦
           subst (λ (x : PassSeen). HasAdvanced a.heap.now a.program.now a.fuel x q a.frame.now f c.advance.result) w.pass-is did
+    ]
+
+pub returns-in-Pending-clause-timed : goal.returns-in-Pending-clause-timed
+returns-in-Pending-clause-timed g c =
+    poll_timed c.args.heap.now c.args.pass.now c.poll.new.pass c.poll.result c.poll.ensures.run c.args.tick
+
+pub returns-clause-timed : goal.returns-clause-timed
+returns-clause-timed g c =
+    let a = c.args in
+    let q = c.advance.new.pass in
+    let did = c.advance.ensures.timed in
+    elim c.if-running.branch [
+      | then-running+in_default w ↦ λ timed.
+          subst (λ (x : PassSeen). StaysTimed a.tick x q) w.pass-is did
+          (poll_timed a.heap.now a.pass.now w.poll.new.pass w.poll.result w.poll.ensures.run a.tick timed)
+      | else-running w ↦ subst (λ (x : PassSeen). StaysTimed a.tick x q) w.pass-is did
     ]
