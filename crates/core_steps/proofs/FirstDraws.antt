@@ -82,7 +82,8 @@ find_hash o (l ∷ log) h = by_head (is_hash o l.entry) refl (λ g. find_hash o 
     by_head false e later g =
         let a = later g in (suc a.0, record { l = a.1.l; there = a.1.there; value = a.1.value; drawn = a.1.drawn; is = a.1.is })
 
-fits_draw : (w : World) (P : List PlainObject) (o t : ℕ) → Fits w P → has_hash o (log_of (logs w) t) ≡ true → all_draws o (logs w) ≡ 1
+-- an object with a logged hash has a hash, which isn't 0, and so one draw
+pub fits_draw : (w : World) (P : List PlainObject) (o t : ℕ) → Fits w P → has_hash o (log_of (logs w) t) ≡ true → all_draws o (logs w) ≡ 1
 fits_draw w P o t v h =
     let a = find_hash o (log_of (logs w) t) h in
     let is = (hashes_drawn w P v).says t a.0 o a.1.value a.1.drawn a.1.l a.1.there a.1.is in
