@@ -172,7 +172,7 @@ known_step_keeps_exact heap k p next w is_of knows within sound =
     (subst (λ (z : Heap). IsNext z.shape z.start z.biasing (w.known k.thread) p) (sym is_of) (subst (λ y. IsNext heap.shape heap.start heap.biasing y p) (sym knows) next))
 
 -- REACHED WORLDS. The logs are empty at the opening.
-empty_logs : (u n t : ℕ) → log_of (logs_from u n first_known) t ≡ []
+pub empty_logs : (u n t : ℕ) → log_of (logs_from u n first_known) t ≡ []
 empty_logs u zero t = refl
 empty_logs u (suc n) zero = refl
 empty_logs u (suc n) (suc t) = empty_logs (u + 1) n t

@@ -46,6 +46,7 @@ pub mod ReachedWorlds
 pub mod LetGoes
 pub mod ExactLogs
 pub mod ExactWorlds
+pub mod FirstDraws
 pub mod Refuted
 pub mod RefutedStops
 pub mod SmallWorlds

@@ -13,6 +13,7 @@ ghost use Rattle.core_world.specs.World.{World, logs};
 ghost use Rattle.core_counts.specs.BiasLaw.{WhollyValid};
 ghost use Rattle.plain_history.specs.ExactStamps.{StampsAreExact};
 ghost use Rattle.core_steps.specs.Takings.{TakesExactly};
+ghost use Rattle.core_steps.specs.FirstDraws.{DrawsComeFirst};
 ghost use Rattle.core_steps.specs.Logic.{Heap, heap_of};
 ghost use Rattle.core_steps.specs.Reached.{Comes, comes};
 ghost use Rattle.core_steps.specs.Sound.{Sound};
@@ -60,4 +61,13 @@ pub fn stamps_of_reached_worlds_are_exact()
         → StampsAreExact (logs w) → StampsAreExact (logs (world_after p k.thread w)) }
     ensures opening { (heap : Heap) → StampsAreExact (logs (opening heap.shape heap.start heap.biasing)) }
     ensures reached { (heap : Heap) (w : World) → IsInLimits heap.shape → Comes heap w → StampsAreExact (logs w) }
+{}
+
+/// In each world to which a heap comes, a thread that drew the hash of an object had logged no hash of the object before. So where one thread alone
+/// logs, its first hash of each object is the draw.
+pub fn draws_of_reached_worlds_come_first()
+    ensures kept { (w : World) (t : ℕ) (p : StepPlan) → t < w.shape.threads → Sound w
+        → IsNext w.shape w.start w.biasing (w.known t) p → DrawsComeFirst (logs w) → DrawsComeFirst (logs (world_after p t w)) }
+    ensures opening { (heap : Heap) → DrawsComeFirst (logs (opening heap.shape heap.start heap.biasing)) }
+    ensures reached { (heap : Heap) (w : World) → IsInLimits heap.shape → Comes heap w → DrawsComeFirst (logs w) }
 {}

@@ -18,6 +18,7 @@ use Rattle.core_world.specs.Valid.{Fits, IsRevoking}
 use Rattle.core_world.specs.Words.Shape.{Shape}
 use Rattle.core_world.specs.World.{World, logs, logs_from}
 use Rattle.core_steps.specs.Logic.{Heap, heap_of}
+use Rattle.core_steps.specs.Reached.{Comes}
 use Rattle.core_steps.proofs.Wholes.{All as Whole, all_unless}
 use Rattle.heap_table.specs.Layout.{place_of}
 use Rattle.heap_table.specs.Seen.{InOrder}
@@ -82,6 +83,7 @@ pub record Settled (heap : Heap) (words : List ℕ) (ks : List Known) : Type 0 w
   pub objects : List PlainObject
   pub fits : Fits world objects
   pub is_of : heap_of world ≡ heap
+  pub comes : Comes heap world
   pub words_are : (n : Name) → IsIn heap.shape n → slice_index words (place_of heap.shape n) ≡ world.words n
   pub listed : (t : ℕ) → IsListed ks t (world.known t)
   pub logs_are : logs world ≡ logs_in ks
@@ -134,6 +136,7 @@ module _ (heap : Heap) (words : List ℕ) (ks : List Known) (e : IsEnd heap word
         objects = e.last.sound.valid.objects;
         fits = whole.fits;
         is_of = e.last.is_of;
+        comes = e.last.comes;
         words_are = e.last.words_are;
         listed = known_listed;
         logs_are = sym (logs_listed w.known 0 ks e.order e.last.knows

@@ -12,6 +12,7 @@ use Rattle.core_world.specs.Locks.{monitor_of}
 use Rattle.core_world.specs.Shots.{IsRightShot, IsNoLater, places_of, dumps_from}
 use Rattle.core_world.specs.Threads.AtRest.{AtRest}
 use Rattle.core_world.specs.Threads.Known.{Known, DumpShot}
+use Rattle.core_steps.specs.FirstDraws.{DrawsComeFirst}
 use Rattle.core_steps.specs.Logic.{Heap}
 use Rattle.heap_table.specs.Seen.{LastWorld, InOrder}
 
@@ -35,11 +36,12 @@ abbrev pub unfinished_in : Option Known → Option Unfinished
 unfinished_in None = None
 unfinished_in (Some k) = k.unfinished
 
--- the draws of each thread are those of its generator, in their order; and of the hashes of an object that has any,
--- just one was drawn
+-- the draws of each thread are those of its generator, in their order; of the hashes of an object that has any, just one
+-- was drawn; and the thread that drew it had logged none of them before
 pub record HasDraws (start : ℕ) (logs : List (List Logged)) : Type 0 where
   pub drawn : (t : ℕ) → AreDraws (first_draw start t) 0 (log_of logs t)
   pub one : (o t : ℕ) → has_hash o (log_of logs t) ≡ true → all_draws o logs ≡ 1
+  pub first : DrawsComeFirst logs
 
 -- each shot is right over the logs, each thread has one for each dump that it logged, and of any two one was made no
 -- later than the other
