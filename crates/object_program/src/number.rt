@@ -6,6 +6,7 @@ ghost use Rattle.object_program.specs.Limits.{most_objects};
 ghost use Rattle.object_program.specs.Number.{digits_of, number_of, is_within};
 ghost use Rattle.object_program.specs.inner.Signs.{signed, has_size};
 
+use crate::limits::OBJECTS;
 use crate::name::is_digit;
 use plain_monitor::Value;
 
@@ -89,7 +90,7 @@ pub fn count_of(word: &[u8]) -> u32
         → result ≡ nat_abs (unwrap_or (number_of word.now) (pos 0)) }
     ensures few { result ≤ most_objects }
 {
-    match number_within(word, 0, 4096) {
+    match number_within(word, 0, OBJECTS as i64) {
         Some(number) => number as u32,
         None => 0,
     }
