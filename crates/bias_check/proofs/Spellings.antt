@@ -10,7 +10,8 @@ use Rattle.plain_monitor.specs.declared.entry.Fault.TheVariants.{IllegalMonitorS
 use Rattle.lock_journal.specs.Words.{path_text, fault_text}
 use Rattle.bias_check.specs.declared.spelled.Verb.{Verb}
 use Rattle.bias_check.specs.declared.spelled.Verb.TheVariants as verb
-use Rattle.bias_check.specs.inner.Spelled.{spelled, verbs, paths, faults}
+use Rattle.object_program.specs.Line.{spelled_among}
+use Rattle.bias_check.specs.inner.Spelled.{verbs, paths, faults}
 
 abbrev pub verb_text : Verb → List ℕ
 verb_text verb.Enter = codes "enter"
@@ -41,24 +42,24 @@ spelled_by {X} P s w x rest true e h here ih =
 spelled_by P s w x rest false e h here ih = ih h
 
 -- what holds of each spelling holds of the word that was found
-spelled_is : {X : Type 0} (P : List ℕ → X → Type 0) (table : List (List ℕ × X)) (w : List ℕ) (x : X) → AllByRecursion (λ s. P s.0 s.1) table → spelled table w ≡ Some x → P w x
+spelled_is : {X : Type 0} (P : List ℕ → X → Type 0) (table : List (List ℕ × X)) (w : List ℕ) (x : X) → AllByRecursion (λ s. P s.0 s.1) table → spelled_among table w ≡ Some x → P w x
 spelled_is P [] w x all h = absurd (cc h)
 spelled_is P (s ∷ ss) w x all h =
-    spelled_by P s w x (spelled ss w) (bytes_eq s.0 w) refl h all.0 (λ k. spelled_is P ss w x all.1 k)
+    spelled_by P s w x (spelled_among ss w) (bytes_eq s.0 w) refl h all.0 (λ k. spelled_is P ss w x all.1 k)
 
-pub verb_is : (w : List ℕ) (v : Verb) → spelled verbs w ≡ Some v → verb_text v ≡ w
+pub verb_is : (w : List ℕ) (v : Verb) → spelled_among verbs w ≡ Some v → verb_text v ≡ w
 verb_is w v h =
     spelled_is (λ (w : List ℕ) (v : Verb). verb_text v ≡ w) verbs w v (refl, (refl, (refl, (refl, (refl, (refl, (refl, (refl, (refl, (refl, (refl, (refl, (refl, (refl, tt)))))))))))))) h
 
-pub path_is : (w : List ℕ) (v : Path) → spelled paths w ≡ Some v → path_text v ≡ w
+pub path_is : (w : List ℕ) (v : Path) → spelled_among paths w ≡ Some v → path_text v ≡ w
 path_is w v h =
     spelled_is (λ (w : List ℕ) (v : Path). path_text v ≡ w) paths w v (refl, (refl, (refl, (refl, (refl, (refl, tt)))))) h
 
-pub fault_is : (w : List ℕ) (v : Fault) → spelled faults w ≡ Some v → fault_text v ≡ w
+pub fault_is : (w : List ℕ) (v : Fault) → spelled_among faults w ≡ Some v → fault_text v ≡ w
 fault_is w v h =
     spelled_is (λ (w : List ℕ) (v : Fault). fault_text v ≡ w) faults w v (refl, (refl, (refl, (refl, (refl, (refl, (refl, (refl, tt)))))))) h
 
-pub verb_read : (v : Verb) → spelled verbs (verb_text v) ≡ Some v
+pub verb_read : (v : Verb) → spelled_among verbs (verb_text v) ≡ Some v
 verb_read verb.Enter = refl
 verb_read verb.Exit = refl
 verb_read verb.Wait = refl
@@ -74,7 +75,7 @@ verb_read verb.Fault = refl
 verb_read verb.Spent = refl
 verb_read verb.Done = refl
 
-pub path_read : (v : Path) → spelled paths (path_text v) ≡ Some v
+pub path_read : (v : Path) → spelled_among paths (path_text v) ≡ Some v
 path_read BiasOwn = refl
 path_read BiasTaken = refl
 path_read StackFirst = refl
@@ -82,7 +83,7 @@ path_read StackAgain = refl
 path_read MonitorFirst = refl
 path_read MonitorAgain = refl
 
-pub fault_read : (v : Fault) → spelled faults (fault_text v) ≡ Some v
+pub fault_read : (v : Fault) → spelled_among faults (fault_text v) ≡ Some v
 fault_read IllegalMonitorState = refl
 fault_read Unguarded = refl
 fault_read NotRef = refl

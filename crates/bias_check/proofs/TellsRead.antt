@@ -17,7 +17,8 @@ use Rattle.bias_check.specs.declared.entries.ValueRead.{ValueRead}
 use Rattle.bias_check.specs.declared.entries.WokenRead.{WokenRead}
 use Rattle.bias_check.specs.declared.entries.EntryRead.{EntryRead}
 use Rattle.bias_check.specs.declared.entries.LineRead.{LineRead}
-use Rattle.bias_check.specs.inner.Spelled.{spelled, verbs, paths, faults}
+use Rattle.object_program.specs.Line.{spelled_among}
+use Rattle.bias_check.specs.inner.Spelled.{verbs, paths, faults}
 use Rattle.bias_check.specs.inner.Words.{unended, words_of}
 use Rattle.bias_check.specs.Lines.{IsEntryIn, Tells}
 use Rattle.bias_check.specs.inner.Table.{names_of, thread_in, object_in, count_in, stamp_in, value_in, woken_in, sure, print_read, notify_read, get_read, put_read, none_told, one_told, two_told, slot_told, three_told, four_told, told, read_words, read_line}
@@ -90,7 +91,7 @@ notify_is p a b o w object h = record {
 two_is : (p : ProgramText) (v : Verb) (a b : List ℕ) (r : EntryRead) → IsProgram p → two_told (names_of p) v a b ≡ Some r → ReadsEntry p v (a ∷ b ∷ []) r
 two_is p verb.Enter a b r h e =
     and_then _ (object_in (names_of p) a) r e (λ o some f.
-    mapped _ (spelled paths b) r f (λ path at same.
+    mapped _ (spelled_among paths b) r f (λ path at same.
     let object = object_is p a o h some in
     rw (← same) (only_one p verb.Enter (a ∷ b ∷ []) (Enter o path) (record { verb = refl; args = two_words _ _ _ _ object.text (path_is b path at); valid = object.within }))))
 two_is p verb.Notify a b r h e =
@@ -139,7 +140,7 @@ slot_is read p v a b c r h each e =
 
 fault_told_is : (p : ProgramText) (a b c : List ℕ) (r : EntryRead) (t : Bool) → bytes_eq (codes "at") b ≡ t → three_told (names_of p) verb.Fault a b c ≡ Some r → ReadsEntry p verb.Fault (a ∷ b ∷ c ∷ []) r
 fault_told_is p a b c r true t e =
-    and_then _ (spelled faults a) r (rw t at e) (λ fault some f.
+    and_then _ (spelled_among faults a) r (rw t at e) (λ fault some f.
     mapped _ (count_in c) r f (λ n at same.
     let count = count_is c n at in
     rw (← same) (only_one p verb.Fault (a ∷ b ∷ c ∷ []) (Trap fault n) (record { verb = refl; args = three_words _ _ _ _ _ _ (fault_is a fault some) (same_word (codes "at") b t) count.text; valid = omega (arith, count.high_is) }))))
@@ -214,7 +215,7 @@ words_are p line text (a ∷ b ∷ []) r h cut at e = absurd (cc e)
 words_are p line text (a ∷ b ∷ c ∷ ws) r h cut at e =
     and_then _ (stamp_in a) r e (λ stamp stamped f.
     and_then _ (thread_in (names_of p) b) r f (λ thread named g.
-    and_then _ (spelled verbs c) r g (λ v spelled_v i.
+    and_then _ (spelled_among verbs c) r g (λ v spelled_v i.
     mapped _ (told (names_of p) v ws) r i (λ read some same.
     let s = stamp_is a stamp stamped in
     let t = thread_is p b thread named in

@@ -2,7 +2,8 @@
 
 ghost use Rattle.std.specs.Prelude.{◌≡◌};
 ghost use Rattle.std.specs.Str.{bytes_eq};
-ghost use Rattle.bias_check.specs.inner.Spelled.{spelled, verbs, acts, faults, paths};
+ghost use Rattle.object_program.specs.Line.{spelled_among};
+ghost use Rattle.bias_check.specs.inner.Spelled.{verbs, acts, faults, paths};
 
 use plain_monitor::{Fault, Path};
 
@@ -34,7 +35,7 @@ pub(crate) fn is_word(spelling: &[u8], word: &[u8]) -> bool
 
 /// The verb that is spelled so.
 pub(crate) fn verb_of(word: &[u8]) -> Option<Verb>
-    ensures { result ≡ spelled verbs word.now }
+    ensures { result ≡ spelled_among verbs word.now }
 {
     if is_word(b"enter", word) {
         Some(Verb::Enter)
@@ -55,7 +56,7 @@ pub(crate) fn verb_of(word: &[u8]) -> Option<Verb>
 
 /// The verb, of those behind the first six, that is spelled so.
 fn act_of(word: &[u8]) -> Option<Verb>
-    ensures { result ≡ spelled acts word.now }
+    ensures { result ≡ spelled_among acts word.now }
 {
     if is_word(b"notify", word) {
         Some(Verb::Notify)
@@ -80,7 +81,7 @@ fn act_of(word: &[u8]) -> Option<Verb>
 
 /// The path that is spelled so.
 pub(crate) fn path_of(word: &[u8]) -> Option<Path>
-    ensures { result ≡ spelled paths word.now }
+    ensures { result ≡ spelled_among paths word.now }
 {
     if is_word(b"bias-own", word) {
         Some(Path::BiasOwn)
@@ -101,7 +102,7 @@ pub(crate) fn path_of(word: &[u8]) -> Option<Path>
 
 /// The fault that is spelled so.
 pub(crate) fn fault_of(word: &[u8]) -> Option<Fault>
-    ensures { result ≡ spelled faults word.now }
+    ensures { result ≡ spelled_among faults word.now }
 {
     if is_word(b"IllegalMonitorState", word) {
         Some(Fault::IllegalMonitorState)

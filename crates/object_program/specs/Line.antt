@@ -1,7 +1,8 @@
 -- The words that lines begin with, and the operands that each wants.
-use Rattle.std.specs.Prelude.{ℕ, pos, Bool, true, false, if◌then◌else◌, List, [], ◌∷◌, codes, Option, Some, None}
+use Rattle.std.specs.Prelude.{ℕ, ◌-◌, pos, Bool, true, false, if◌then◌else◌, List, [], ◌∷◌, codes, Option, Some, None}
 use Rattle.std.specs.Str.{bytes_eq}
 use Rattle.plain_monitor.specs.Numbers.{least_number, greatest_number}
+use Rattle.object_program.specs.Limits.{most_slots, most_objects}
 use Rattle.object_program.specs.declared.keyword.Keyword.{Keyword}
 use Rattle.object_program.specs.declared.keyword.Keyword.TheVariants.{Class, Object, Array, Thread, Local, Label, Set, Add, Sub, Mul, Ref, Elem, Enter, Exit, Wait, Notify, NotifyAll, Get, Put, Hash, Print, Jump, Jlt, Jeq, Dump, End}
 use Rattle.object_program.specs.declared.operand.Space.TheVariants.{Classes, Objects, Threads, Locals, Labels}
@@ -30,13 +31,13 @@ abbrev pub a_local : Operand
 a_local = Known Locals
 
 abbrev pub a_slot : Operand
-a_slot = Number (pos 0) (pos 15)
+a_slot = Number (pos 0) (pos (most_slots - 1))
 
 -- the operands of a line, in order
 abbrev pub operands_of : Keyword → List Operand
-operands_of Class = New Classes ∷ Number (pos 0) (pos 16) ∷ []
+operands_of Class = New Classes ∷ Number (pos 0) (pos most_slots) ∷ []
 operands_of Object = New Objects ∷ Known Classes ∷ []
-operands_of Array = New Objects ∷ Known Classes ∷ Number (pos 1) (pos 4096) ∷ []
+operands_of Array = New Objects ∷ Known Classes ∷ Number (pos 1) (pos most_objects) ∷ []
 operands_of Thread = New Threads ∷ []
 operands_of Local = New Locals ∷ []
 operands_of Label = New Labels ∷ []

@@ -11,7 +11,7 @@ use Rattle.object_program.specs.declared.operand.Space.{Space}
 use Rattle.object_program.specs.declared.operand.Space.TheVariants.{Classes, Objects, Threads, Locals, Labels}
 use Rattle.object_program.specs.declared.operand.Operand.{Operand}
 use Rattle.object_program.specs.declared.operand.Operand.TheVariants.{New, Known, Number}
-use Rattle.object_program.specs.Limits.{most_bytes}
+use Rattle.object_program.specs.Limits.{most_bytes, most_classes, most_objects, most_threads, most_locals, most_code}
 use Rattle.object_program.specs.Reading.{Before, nothing, first_keyword, ends_section, section_labels, count_at, behind_line}
 use Rattle.object_program.specs.declared.program.ThreadDef.{ThreadDef}
 use Rattle.object_program.specs.declared.keyword.Keyword.{Keyword}
@@ -74,18 +74,18 @@ some_operand test (o ∷ os) (w ∷ ws) = test o w || some_operand test os ws
 
 abbrev pub locals_full : Option ThreadDef → Bool
 locals_full None = false
-locals_full (Some t) = nat_le 32 (length t.locals)
+locals_full (Some t) = nat_le most_locals (length t.locals)
 
 abbrev pub code_full : Option ThreadDef → Bool
 code_full None = false
-code_full (Some t) = nat_le 4096 (length t.code)
+code_full (Some t) = nat_le most_code (length t.code)
 
--- the line would pass a limit: 64 classes, 4,096 objects, 16 threads, 32 locals and 4,096 instructions of a thread
+-- the line would pass a limit
 abbrev pub passes_limit : Before → List (List ℕ) → Keyword → Bool
-passes_limit b ws Class = nat_le 64 (length b.text.classes)
-passes_limit b ws Object = nat_lt 4096 (total_of b.text.objects + 1)
-passes_limit b ws Array = nat_lt 4096 (total_of b.text.objects + count_at ws 2)
-passes_limit b ws Thread = nat_le 16 (length b.text.threads)
+passes_limit b ws Class = nat_le most_classes (length b.text.classes)
+passes_limit b ws Object = nat_lt most_objects (total_of b.text.objects + 1)
+passes_limit b ws Array = nat_lt most_objects (total_of b.text.objects + count_at ws 2)
+passes_limit b ws Thread = nat_le most_threads (length b.text.threads)
 passes_limit b ws Local = locals_full b.section
 passes_limit b ws Label = false
 passes_limit b ws k = code_full b.section

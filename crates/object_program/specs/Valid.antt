@@ -3,6 +3,7 @@ use Rattle.std.specs.Prelude.{◌≡◌, ℕ, ◌+◌, ◌<◌, ◌≤◌, ◌==
 use Rattle.std.specs.List.{AllByRecursion, list_any}
 use Rattle.std.specs.Str.{bytes_eq}
 use Rattle.plain_monitor.specs.Numbers.{IsInRange}
+use Rattle.object_program.specs.Limits.{most_classes, most_slots, most_objects, most_threads, most_locals, most_code}
 use Rattle.object_program.specs.Name.{is_name}
 use Rattle.object_program.specs.Program.{ProgramText, total_of}
 use Rattle.object_program.specs.declared.program.ObjectDef.{ObjectDef}
@@ -31,7 +32,7 @@ AreObjects classes n (d ∷ ds) = IsObject classes n d × AreObjects classes (n 
 abbrev pub is_target : List LabelDef → ℕ → Bool
 is_target labels l = list_any (λ d. d.index == l) labels
 
--- the operands of an instruction: its locals are declared, its declaration of objects too, its slot is one of 16, its number
+-- the operands of an instruction: its locals are declared, its declaration of objects too, its slot is one that objects may have, its number
 -- is in range, and a label of its thread names its target
 abbrev pub IsInstruction : ℕ → ℕ → List LabelDef → Code → Type 0
 IsInstruction locals objects labels (Set x v) = (x < locals) × IsInRange v
@@ -45,8 +46,8 @@ IsInstruction locals objects labels (Exit x) = x < locals
 IsInstruction locals objects labels (Wait x) = x < locals
 IsInstruction locals objects labels (Notify x) = x < locals
 IsInstruction locals objects labels (NotifyAll x) = x < locals
-IsInstruction locals objects labels (Get x o k) = (x < locals) × (o < locals) × (k < 16)
-IsInstruction locals objects labels (Put o k x) = (o < locals) × (k < 16) × (x < locals)
+IsInstruction locals objects labels (Get x o k) = (x < locals) × (o < locals) × (k < most_slots)
+IsInstruction locals objects labels (Put o k x) = (o < locals) × (k < most_slots) × (x < locals)
 IsInstruction locals objects labels (Hash x o) = (x < locals) × (o < locals)
 IsInstruction locals objects labels (Print x) = x < locals
 IsInstruction locals objects labels (Jump l) = is_target labels l ≡ true
@@ -68,21 +69,21 @@ AreTargets code n (l ∷ ls) = (n ≤ l.index) × (l.index ≤ code) × AreTarge
 
 pub record IsThread (objects : ℕ) (t : ThreadDef) : Type 0 where
   pub locals : AreNames t.locals
-  pub locals_few : length t.locals ≤ 32
+  pub locals_few : length t.locals ≤ most_locals
   pub labels : AreNames (map (λ l. l.name) t.labels)
   pub targets : AreTargets (length t.code) 1 t.labels
   pub code : AllByRecursion (IsInstruction (length t.locals) objects t.labels) t.code
-  pub code_few : length t.code ≤ 4096
+  pub code_few : length t.code ≤ most_code
   pub ends : EndsOnce t.code
 
 pub record IsProgram (p : ProgramText) : Type 0 where
   pub class_names : AreNames (map (λ c. c.name) p.classes)
-  pub class_slots : AllByRecursion (λ c. c.slots ≤ 16) p.classes
-  pub classes_few : length p.classes ≤ 64
+  pub class_slots : AllByRecursion (λ c. c.slots ≤ most_slots) p.classes
+  pub classes_few : length p.classes ≤ most_classes
   pub object_names : AreNames (map (λ d. d.name) p.objects)
   pub objects : AreObjects (length p.classes) 0 p.objects
-  pub objects_few : total_of p.objects ≤ 4096
+  pub objects_few : total_of p.objects ≤ most_objects
   pub thread_names : AreNames (map (λ t. t.name) p.threads)
   pub threads : AllByRecursion (IsThread (length p.objects)) p.threads
   pub threads_some : 1 ≤ length p.threads
-  pub threads_few : length p.threads ≤ 16
+  pub threads_few : length p.threads ≤ most_threads

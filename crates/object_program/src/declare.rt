@@ -1,6 +1,7 @@
 //! What a line outside sections declares, where it has no cause of refusal.
 
 ghost use Rattle.std.specs.Prelude.{◌≡◌, ◌<◌, ◌≤◌, ◌+◌, pos, [], ◌∷◌, ◌++◌, length, true, IfOk, option_copied};
+ghost use Rattle.object_program.specs.Limits.{most_classes, most_objects};
 ghost use Rattle.object_program.specs.Name.{is_name};
 ghost use Rattle.object_program.specs.Number.{number_of, is_within};
 ghost use Rattle.object_program.specs.Program.{total_of};
@@ -21,8 +22,8 @@ use std::alloc::Global;
 /// With the class of a `class` line with these operands.
 pub fn with_class(declared: Declared, operands: &[u8]) -> Result<Declared, NoMemory>
     requires name { is_name (operand (words_in operands.now) 0) ≡ true }
-    requires slots { is_within (pos 0) (pos 4096) (number_of (operand (words_in operands.now) 1)) ≡ true }
-    requires room { length declared.classes < 64 }
+    requires slots { is_within (pos 0) (pos most_objects) (number_of (operand (words_in operands.now) 1)) ≡ true }
+    requires room { length declared.classes < most_classes }
     ensures { IfOk result (λ d. text_of d
         ≡ record (text_of declared) {
           classes = declared.classes
@@ -55,7 +56,7 @@ pub fn with_objects(
 ) -> Result<Declared, NoMemory>
     requires name { is_name (operand (words_in operands.now) 0) ≡ true }
     requires some { 1 ≤ size }
-    requires room { total_of declared.objects + size ≤ 4096 }
+    requires room { total_of declared.objects + size ≤ most_objects }
     ensures { IfOk result (λ d. text_of d
         ≡ record (text_of declared) {
           objects = declared.objects

@@ -4,6 +4,8 @@
 pub const BYTES: usize = 1_048_576;
 /// Classes of a program.
 pub const CLASSES: usize = 64;
+/// Slots of an object.
+pub const SLOTS: u32 = 16;
 /// Objects of a program.
 pub const OBJECTS: u32 = 4096;
 /// Threads of a program.

@@ -2,9 +2,11 @@
 
 ghost use Rattle.std.specs.Prelude.{◌≡◌, ◌≤◌, ℤ, ℕ, pos, nat_abs, ◌≤ℤ◌, int_le, ◌&&◌, Some, None, true, false, option_map, unwrap_or, MatchOption};
 ghost use Rattle.plain_monitor.specs.Numbers.{least_number, greatest_number};
+ghost use Rattle.object_program.specs.Limits.{most_objects};
 ghost use Rattle.object_program.specs.Number.{digits_of, number_of, is_within};
 ghost use Rattle.object_program.specs.inner.Signs.{signed, has_size};
 
+use crate::limits::OBJECTS;
 use crate::name::is_digit;
 use plain_monitor::Value;
 
@@ -84,11 +86,11 @@ pub fn number_of(word: &[u8]) -> i64
 
 /// The number that the word is, where that is from 0 to 4,096, more than which nothing in a text counts; else 0.
 pub fn count_of(word: &[u8]) -> u32
-    ensures count { is_within (pos 0) (pos 4096) (number_of word.now) ≡ true
+    ensures count { is_within (pos 0) (pos most_objects) (number_of word.now) ≡ true
         → result ≡ nat_abs (unwrap_or (number_of word.now) (pos 0)) }
-    ensures few { result ≤ 4096 }
+    ensures few { result ≤ most_objects }
 {
-    match number_within(word, 0, 4096) {
+    match number_within(word, 0, OBJECTS as i64) {
         Some(number) => number as u32,
         None => 0,
     }

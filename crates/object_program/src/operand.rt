@@ -4,6 +4,7 @@ ghost use Rattle.std.specs.Prelude.{◌≡◌};
 ghost use Rattle.object_program.specs.Line.{operands_of};
 
 use crate::keyword::Keyword;
+use crate::limits::{OBJECTS, SLOTS};
 use plain_monitor::Value;
 
 /// The spaces that names are declared in.
@@ -47,19 +48,22 @@ const LOCAL: Operand = Operand::Known(Space::Locals);
 
 const LABEL: Operand = Operand::Known(Space::Labels);
 
-const SLOT: Operand = Operand::Number(0, 15);
+const SLOT: Operand = Operand::Number(0, SLOTS as i64 - 1);
 
 /// The operands of a line with this keyword, in order.
 pub fn operands_of(keyword: Keyword) -> &'static [Operand]
     ensures { result.now ≡ operands_of keyword }
 {
     match keyword {
-        Keyword::Class => &[Operand::New(Space::Classes), Operand::Number(0, 16)],
+        Keyword::Class => &[
+            Operand::New(Space::Classes),
+            Operand::Number(0, SLOTS as i64),
+        ],
         Keyword::Object => &[Operand::New(Space::Objects), Operand::Known(Space::Classes)],
         Keyword::Array => &[
             Operand::New(Space::Objects),
             Operand::Known(Space::Classes),
-            Operand::Number(1, 4096),
+            Operand::Number(1, OBJECTS as i64),
         ],
         Keyword::Thread => &[Operand::New(Space::Threads)],
         Keyword::Local => &[Operand::New(Space::Locals)],

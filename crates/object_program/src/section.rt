@@ -1,6 +1,7 @@
 //! What a line of a section stands for, where it has no cause of refusal.
 
 ghost use Rattle.std.specs.Prelude.{◌≡◌, ◌<◌, ◌==◌, ℕ, List, [], ◌∷◌, ◌++◌, ◌+◌, take, length, true, false, IfOk};
+ghost use Rattle.object_program.specs.Limits.{most_locals, most_code};
 ghost use Rattle.object_program.specs.Name.{is_name};
 ghost use Rattle.object_program.specs.Line.{is_instruction, operands_of};
 ghost use Rattle.object_program.specs.Reading.{operand, local_at, object_at, target_among, instruction_on};
@@ -111,7 +112,7 @@ pub fn instruction_on(
 /// With the local of a `local` line with these operands. Where memory is wanting, `NoMemory`.
 pub fn with_local(section: Section, operands: &[u8]) -> Result<Section, NoMemory>
     requires name { is_name (operand (words_in operands.now) 0) ≡ true }
-    requires room { length section.locals < 32 }
+    requires room { length section.locals < most_locals }
     ensures thread { IfOk result (λ s. thread_of s
         ≡ record (thread_of section) { locals = section.locals ++ operand (words_in operands.now) 0 ∷ [] }) }
     ensures labels { IfOk result (λ s. s.labels ≡ section.labels) }
@@ -145,7 +146,7 @@ pub fn with_label(mut section: Section) -> Section
 
 /// With one more instruction. Where memory is wanting, `NoMemory`.
 pub fn with_code(mut section: Section, code: Code) -> Result<Section, NoMemory>
-    requires { length section.code.items < 4096 }
+    requires { length section.code.items < most_code }
     ensures thread { IfOk result (λ s. thread_of s ≡ record (thread_of section) { code = section.code.items ++ code ∷ [] }) }
     ensures labels { IfOk result (λ s. s.labels ≡ section.labels) }
 {

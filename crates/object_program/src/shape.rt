@@ -1,6 +1,7 @@
 //! The objects of a program, and a copy of it.
 
 ghost use Rattle.std.specs.Prelude.{◌≡◌, ◌<◌, ◌≤◌, length, IfOk};
+ghost use Rattle.object_program.specs.Limits.{most_objects};
 ghost use Rattle.object_program.specs.Program.{objects_total, class_of, slots_of, place_of, has_object, class_from, total_of, place_from};
 
 use crate::program::{ClassDef, ObjectDef, Program, ThreadDef};
@@ -68,7 +69,7 @@ fn has_object(object: &ObjectDef, o: u32) -> bool
 /// How many objects the declarations stand for.
 #[tactic(auto, using(crate::proofs::Shapes::total_step))]
 fn total_among(objects: &[ObjectDef]) -> u32
-    requires { total_of objects.now ≤ 4096 }
+    requires { total_of objects.now ≤ most_objects }
     ensures { result ≡ total_of objects.now }
 {
     let mut total = 0;
@@ -81,7 +82,7 @@ fn total_among(objects: &[ObjectDef]) -> u32
 /// The number of the declaration that stands for object `o`, and which element the object is.
 #[tactic(auto, using(crate::proofs::Shapes::place_step))]
 fn place_among(objects: &[ObjectDef], o: u32) -> (u32, u32)
-    requires { length objects.now ≤ 4096 }
+    requires { length objects.now ≤ most_objects }
     ensures { result ≡ place_from 0 objects.now o }
 {
     let mut number = 0;

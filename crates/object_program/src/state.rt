@@ -1,6 +1,7 @@
 //! What the reader knows between two lines.
 
 ghost use Rattle.std.specs.Prelude.{◌≡◌, ◌≤◌, length};
+ghost use Rattle.object_program.specs.Limits.{most_classes, most_objects, most_locals, most_code};
 ghost use Rattle.object_program.specs.Program.{total_of};
 
 use crate::directory::Directory;
@@ -16,10 +17,10 @@ pub struct Declared {
     /// How many objects the declarations stand for, at most 4,096.
     pub total: u32,
     pub threads: Directory<ThreadDef>,
-    ghost classes_few: { length classes ≤ 64 },
+    ghost classes_few: { length classes ≤ most_classes },
     ghost objects_few: { length objects ≤ total },
     ghost total_is: { total ≡ total_of objects },
-    ghost total_small: { total ≤ 4096 },
+    ghost total_small: { total ≤ most_objects },
 }
 
 /// The open section of a thread.
@@ -34,8 +35,8 @@ pub struct Section {
     pub declared: usize,
     /// At most 4,096.
     pub code: Vec<Code>,
-    ghost locals_few: { length locals ≤ 32 },
-    ghost code_few: { length code.items ≤ 4096 },
+    ghost locals_few: { length locals ≤ most_locals },
+    ghost code_few: { length code.items ≤ most_code },
 }
 
 /// What the lines so far have declared, and the section that is open.

@@ -19,7 +19,8 @@ use Rattle.bias_check.specs.declared.entries.EntryRead.{EntryRead}
 use Rattle.bias_check.specs.declared.entries.LineRead.{LineRead}
 use Rattle.bias_check.specs.declared.spelled.Verb.{Verb}
 use Rattle.bias_check.specs.declared.spelled.Verb.TheVariants as verb
-use Rattle.bias_check.specs.inner.Spelled.{spelled, verbs, paths, faults}
+use Rattle.object_program.specs.Line.{spelled_among}
+use Rattle.bias_check.specs.inner.Spelled.{verbs, paths, faults}
 use Rattle.bias_check.specs.inner.Words.{before_last, unended, words_of}
 
 abbrev pub names_of : ProgramText → Names
@@ -119,7 +120,7 @@ one_told t verb.Dump a = option_map (λ n. sure (Dump n)) (count_in a)
 one_told t v a = None
 
 abbrev pub two_told : Names → Verb → List ℕ → List ℕ → Option EntryRead
-two_told t verb.Enter a b = option_and_then (λ o. option_map (λ p. sure (Enter o p)) (spelled paths b)) (object_in t a)
+two_told t verb.Enter a b = option_and_then (λ o. option_map (λ p. sure (Enter o p)) (spelled_among paths b)) (object_in t a)
 two_told t verb.Notify a b = option_and_then (λ o. option_map (λ w. notify_read o w) (woken_in t b)) (object_in t a)
 two_told t verb.NotifyAll a b = option_and_then (λ o. option_map (λ n. sure (NotifyAll o n)) (count_in b)) (object_in t a)
 two_told t verb.Hash a b = option_and_then (λ o. option_map (λ n. sure (Hash o n None)) (count_in b)) (object_in t a)
@@ -133,7 +134,7 @@ abbrev pub three_told : Names → Verb → List ℕ → List ℕ → List ℕ �
 three_told t verb.Get a b c = slot_told get_read t a b c
 three_told t verb.Put a b c = slot_told put_read t a b c
 three_told t verb.Fault a b c =
-    if bytes_eq (codes "at") b then option_and_then (λ f. option_map (λ n. sure (Trap f n)) (count_in c)) (spelled faults a) else None
+    if bytes_eq (codes "at") b then option_and_then (λ f. option_map (λ n. sure (Trap f n)) (count_in c)) (spelled_among faults a) else None
 three_told t v a b c = None
 
 abbrev pub four_told : Names → Verb → List ℕ → List ℕ → List ℕ → List ℕ → Option EntryRead
@@ -152,7 +153,7 @@ told t v (a ∷ b ∷ c ∷ d ∷ e ∷ ws) = None
 
 abbrev pub words_told : Names → List ℕ → List ℕ → List ℕ → List (List ℕ) → Option LineRead
 words_told t first second third ws =
-    option_and_then (λ stamp. option_and_then (λ thread. option_and_then (λ v. option_map (λ e. record { stamp = stamp; thread = thread; entry = e }) (told t v ws)) (spelled verbs third)) (thread_in t second)) (stamp_in first)
+    option_and_then (λ stamp. option_and_then (λ thread. option_and_then (λ v. option_map (λ e. record { stamp = stamp; thread = thread; entry = e }) (told t v ws)) (spelled_among verbs third)) (thread_in t second)) (stamp_in first)
 
 abbrev pub read_words : Names → List (List ℕ) → Option LineRead
 read_words t [] = None
