@@ -30,7 +30,7 @@ use Rattle.core_locks.proofs.Drawing.{all_more}
 use Rattle.core_locks.proofs.DrawnLogs.{hashes_drawn}
 use Rattle.core_locks.proofs.PlainHashes.{above_after}
 use Rattle.core_counts.specs.BiasLaw.{BiasLawHolds}
-use Rattle.core_steps.specs.FirstDraws.{DrawsComeFirst}
+use Rattle.plain_history.specs.FirstDraws.{DrawsComeFirst}
 use Rattle.core_steps.specs.Logic.{Heap}
 use Rattle.core_steps.specs.Reached.{Comes, opens, moves}
 use Rattle.core_steps.specs.Sound.{Sound}

@@ -4,4 +4,3 @@ pub mod Sound
 pub mod Reached
 pub mod Weakened
 pub mod SmallWorlds
-pub mod FirstDraws

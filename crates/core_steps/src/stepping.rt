@@ -13,7 +13,7 @@ ghost use Rattle.core_world.specs.World.{World, logs};
 ghost use Rattle.core_counts.specs.BiasLaw.{WhollyValid};
 ghost use Rattle.plain_history.specs.ExactStamps.{StampsAreExact};
 ghost use Rattle.core_steps.specs.Takings.{TakesExactly};
-ghost use Rattle.core_steps.specs.FirstDraws.{DrawsComeFirst};
+ghost use Rattle.plain_history.specs.FirstDraws.{DrawsComeFirst};
 ghost use Rattle.core_steps.specs.Logic.{Heap, heap_of};
 ghost use Rattle.core_steps.specs.Reached.{Comes, comes};
 ghost use Rattle.core_steps.specs.Sound.{Sound};

@@ -7,7 +7,7 @@ use Rattle.plain_monitor.specs.declared.entry.Logged.{Logged}
 use Rattle.plain_history.specs.EnterPaths.{is_hash, has_hash}
 use Rattle.core_world.specs.Clauses.Draws.{draw_in, drawn_for, draws_for}
 use Rattle.core_world.specs.Threads.Stages.{one_if}
-use Rattle.lone_logs.specs.LoneRun.{DrawsComeFirst}
+use Rattle.plain_history.specs.FirstDraws.{DrawsComeFirst}
 
 -- the objects of which a hash was logged, with this entry
 abbrev pub seen_with : Entry → (ℕ → Bool) → ℕ → Bool

@@ -1,13 +1,14 @@
 -- A run of a program's only thread, by its log; and logs that are the same but for paths.
-use Rattle.std.specs.Prelude.{◌≡◌, ◌⊎◌, ℕ, not, true, false, List, ◌∷◌, ◌++◌, map, length, Some}
+use Rattle.std.specs.Prelude.{◌≡◌, ◌⊎◌, ℕ, not, true, false, List, map, length, Some}
 use Rattle.std.specs.List.{AllByRecursion, list_all}
 use Rattle.plain_monitor.specs.declared.entry.Entry.{Entry}
-use Rattle.plain_monitor.specs.declared.entry.Entry.TheVariants.{Enter, Hash}
+use Rattle.plain_monitor.specs.declared.entry.Entry.TheVariants.{Enter}
 use Rattle.plain_monitor.specs.declared.entry.Logged.{Logged}
 use Rattle.plain_monitor.specs.declared.entry.Path.TheVariants.{StackFirst}
 use Rattle.plain_monitor.specs.History.{RisesAbove, log_of}
 use Rattle.plain_history.specs.EnterPaths.{has_hash}
 use Rattle.plain_history.specs.ExactStamps.{StampsAreExact}
+use Rattle.plain_history.specs.FirstDraws.{DrawsComeFirst}
 use Rattle.core_world.specs.Clauses.Draws.{AreDraws, first_draw, all_draws}
 use Rattle.object_program.specs.Program.{ProgramText}
 use Rattle.plain_machine.specs.Legal.{machine_after}
@@ -28,13 +29,6 @@ with_no_paths logs = map (λ log. map with_no_path log) logs
 -- the same entries with the same stamps, but for the paths of enters
 abbrev pub AreSameButForPaths : List (List Logged) → List (List Logged) → Type 0
 AreSameButForPaths logs others = with_no_paths logs ≡ with_no_paths others
-
--- DRAWS
--- a thread that draws the hash of an object has logged no hash of the object before
-abbrev pub DrawsComeFirst : List (List Logged) → Type 0
-DrawsComeFirst logs =
-    (t o value number : ℕ) (before : List Logged) (l : Logged) (later : List Logged)
-    → log_of logs t ≡ before ++ l ∷ later → l.entry ≡ Hash o value (Some number) → has_hash o before ≡ false
 
 -- RUNS
 -- no thread can go on: the machine is stuck, or all its threads have ended

@@ -6,3 +6,4 @@ pub mod Joined
 pub mod HeldByLog
 pub mod EnterPaths
 pub mod ExactStamps
+pub mod FirstDraws

@@ -7,7 +7,7 @@ use Rattle.core_world.specs.Valid.{Fits}
 use Rattle.core_world.specs.World.{World, logs}
 use Rattle.core_locks.proofs.DrawnLogs.{hashes_drawn}
 use Rattle.core_world.specs.Words.Shape.{IsInLimits}
-use Rattle.core_steps.specs.FirstDraws.{DrawsComeFirst}
+use Rattle.plain_history.specs.FirstDraws.{DrawsComeFirst}
 use Rattle.core_steps.specs.Logic.{Heap}
 use Rattle.core_steps.proofs.FirstDraws.{fits_draw, reached_worlds_first}
 use Rattle.run_ends.specs.OfARun.{HasDraws, IsEnd, logs_in}

@@ -12,7 +12,7 @@ use Rattle.core_world.specs.Locks.{monitor_of}
 use Rattle.core_world.specs.Shots.{IsRightShot, IsNoLater, places_of, dumps_from}
 use Rattle.core_world.specs.Threads.AtRest.{AtRest}
 use Rattle.core_world.specs.Threads.Known.{Known, DumpShot}
-use Rattle.core_steps.specs.FirstDraws.{DrawsComeFirst}
+use Rattle.plain_history.specs.FirstDraws.{DrawsComeFirst}
 use Rattle.core_steps.specs.Logic.{Heap}
 use Rattle.heap_table.specs.Seen.{LastWorld, InOrder}
 
