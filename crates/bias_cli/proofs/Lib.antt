@@ -6,3 +6,4 @@ pub mod CutShort
 pub mod Under
 pub mod Replayed
 pub mod Statuses
+pub mod LoneRuns

@@ -1,12 +1,18 @@
 //! What follows from the contract of the top call.
 
-ghost use Rattle.std.specs.Prelude.{◌≡◌, ◌≢◌, ◌⊎◌, length, Option, Some};
+ghost use Rattle.std.specs.Prelude.{◌≡◌, ◌≢◌, ◌⊎◌, false, length, Option, Some};
+ghost use Rattle.heap_table.specs.Seen.{ClosedSeen};
+ghost use Rattle.object_program.specs.Program.{ProgramText};
 ghost use Rattle.plain_machine.specs.Legal.{IsLegal};
+ghost use Rattle.plain_machine.specs.Machine.{PlainMachine};
+ghost use Rattle.lock_journal.specs.RunText.{text_of_run};
 ghost use Rattle.lock_journal.specs.declared.record.RunRecord.{RunRecord};
+ghost use Rattle.lone_logs.specs.LoneRun.{AreSameButForPaths};
 ghost use Rattle.run_words.specs.declared.options.Command.{Command};
+ghost use Rattle.run_words.specs.declared.options.Options.{Options};
 ghost use Rattle.bias_cli.specs.declared.finish.Finish.{Finish};
 ghost use Rattle.bias_cli.specs.Seen.{SourceSeen, SinkSeen};
-ghost use Rattle.bias_cli.specs.Finish.{IsGivenUp, IsFinish};
+ghost use Rattle.bias_cli.specs.Finish.{IsGivenUp, IsFinish, IsRunOf, status_of};
 
 /// Status 7 says that memory was wanting, and no other call has it: what is due has a status from 0 to 5, and a failed write has 6.
 /// So by the two clauses of `biasrun` each call either was given up or did what was due.
@@ -34,4 +40,23 @@ pub fn records_can_be_replayed()
         → IsGivenUp sink_before sink_after finish
         ⊎ IsFinish c source_before source_after sink_before sink_after finish
         → finish.run ≡ Some r → length r.logs ≡ length r.program.threads }
+{}
+
+/// Of a program of one thread the contract determines what is written: any two runs of it, under one fuel and one start of the
+/// generators of hashes, log the same entries with the same stamps, but for the paths of enters, and leave the same machine. So they
+/// end with the same status, and write the same bytes where neither statistics, nor a journal, nor a report is asked for. How many
+/// workers there are, how long turns are, and whether there are biases may differ.
+pub fn one_thread_decides_what_is_written()
+    ensures logs { (o q : Options) (p : ProgramText) (r s : RunRecord) (c d : ClosedSeen) (m n : PlainMachine)
+        → length p.threads ≡ 1 → o.fuel ≡ q.fuel → o.start ≡ q.start
+        → IsRunOf o p r c m → IsRunOf q p s d n → AreSameButForPaths r.logs s.logs }
+    ensures machine { (o q : Options) (p : ProgramText) (r s : RunRecord) (c d : ClosedSeen) (m n : PlainMachine)
+        → length p.threads ≡ 1 → o.fuel ≡ q.fuel → o.start ≡ q.start
+        → IsRunOf o p r c m → IsRunOf q p s d n → m ≡ n }
+    ensures text { (o q : Options) (p : ProgramText) (r s : RunRecord) (c d : ClosedSeen) (m n : PlainMachine)
+        → length p.threads ≡ 1 → o.fuel ≡ q.fuel → o.start ≡ q.start
+        → IsRunOf o p r c m → IsRunOf q p s d n → text_of_run false false r m ≡ text_of_run false false s n }
+    ensures status { (o q : Options) (p : ProgramText) (r s : RunRecord) (c d : ClosedSeen) (m n : PlainMachine)
+        → length p.threads ≡ 1 → o.fuel ≡ q.fuel → o.start ≡ q.start
+        → IsRunOf o p r c m → IsRunOf q p s d n → status_of m ≡ status_of n }
 {}

@@ -24,7 +24,9 @@ mod verdict;
 
 pub use finish::Finish;
 pub use heap_table::{ClassCounts, Closed};
-pub use laws::{records_can_be_replayed, status_7_is_want_of_memory};
+pub use laws::{
+    one_thread_decides_what_is_written, records_can_be_replayed, status_7_is_want_of_memory,
+};
 pub use lock_journal::{Cell, ClassLine, Line, Lines, Merge, RunRecord, Shot, replay};
 use run_io::{Clock, Gate, Sink, Source};
 pub use run_words::{Command, Options, WordsFault, read_words};

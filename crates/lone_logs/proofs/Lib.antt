@@ -3,5 +3,5 @@ mod Drawing
 mod Hashed
 mod Fitting
 mod Ending
-mod OneWay
-mod Texts
+pub mod OneWay
+pub mod Texts

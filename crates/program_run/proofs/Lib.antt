@@ -8,3 +8,4 @@ pub mod Classes
 pub mod Biased
 pub mod Told
 pub mod Even
+pub mod Lone
