@@ -14,7 +14,7 @@ use Rattle.plain_machine.specs.Machine.{PlainMachine, new_machine, take as behin
 use Rattle.lock_journal.specs.declared.record.RunRecord.{RunRecord}
 use Rattle.lock_journal.specs.declared.record.Shot.{Shot}
 use Rattle.lock_journal.specs.RunText.{printed, shot_cells, cells_lines, thread_lines, text_of_lines, text_of_run}
-use Rattle.lock_journal.specs.LinesLeft.{dump_line}
+use Rattle.lock_journal.specs.inner.LineTexts.{dump_line}
 use Rattle.lone_logs.specs.LoneRun.{without_path, with_no_path, IsLoneRun}
 use Rattle.lone_logs.specs.Shots.{cells_of, front_of, IsShotOf, AreShotsOf, HasShotsOf}
 use Rattle.lone_logs.proofs.OneLog.{of_first, order_of_one, only_log}
