@@ -24,4 +24,5 @@ TookMore n left_before left_after bytes_before bytes_after =
 
 -- at most this many bytes are left no more, the first that the source had left, where it tells that
 abbrev pub TookSome : ℕ → Option (List ℕ) → Option (List ℕ) → Type 0
-TookSome most left_before left_after = (left : List ℕ) → left_before ≡ Some left → (n : ℕ) × (n ≤ most) × (left_after ≡ Some (drop n left))
+TookSome most left_before left_after =
+    (left : List ℕ) → left_before ≡ Some left → (n : ℕ) × (n ≤ most) × (left_after ≡ Some (drop n left))

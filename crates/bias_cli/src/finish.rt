@@ -22,8 +22,8 @@ use run_io::Sink;
 /// | 6 | a write failed, in place of any of the above |
 /// | 7 | memory was wanting, before the first write; no contract says when that is |
 ///
-/// `run` and `closed` are there exactly where the words ask for a run, the text has a program and the status isn't 7, with status 6
-/// too.
+/// `run` and `closed` are there exactly where the words ask for a run, no read failed, the text has a program and the status isn't 7,
+/// with status 6 too.
 #[derive(Drop)]
 pub struct Finish {
     pub status: u8,

@@ -45,11 +45,11 @@ use std::thread::Threads;
 /// `words[0]` is the program's name. Where the words are not accepted, a read fails, or the text has no program, that is what is
 /// written, and there is no record, nor is there one of a check or of a program that is made (`Finish` has the statuses). At the
 /// first write that fails the writing stops, with a front of the text written and status 6. Want of memory comes only before the
-/// first write, and leaves the sink as it was. Of the source no more is taken than one byte past the limit.
+/// first write, and leaves the sink as it was. Of the source, where it tells what is left, no more is taken than one byte past the limit.
 ///
 /// A program is run on a heap by workers of `rt`, each of which runs one thread of the program at a time for as many instructions as a
-/// turn has (`program_run::run_program`). The clock tells the policy of biases the time. The gate is asked at each step and may let
-/// other workers go first. Which of the legal runs it is they decide.
+/// turn has (`program_run::run_program`). The clock tells the policy of biases the time. The gate is visited at the start of each
+/// turn and may let other workers go first. Which of the legal runs it is they decide.
 pub fn biasrun<R: Threads + Wait + Sync, S: Source, K: Sink, C: Clock + Sync, G: Gate + Sync>(
     rt: &R,
     alloc: Global,
@@ -68,8 +68,8 @@ pub fn biasrun<R: Threads + Wait + Sync, S: Source, K: Sink, C: Clock + Sync, G:
         IsFinish (accepted (map (λ w. string_bytes w) words.now))
         (source_seen S.Source source.old) (source_seen S.Source source.new)
         (sink_seen K.Sink sink.old) (sink_seen K.Sink sink.new) result }
-    // Words that ask for no text leave the source as it was, and others take no more of it than one
-    // byte past the limit.
+    // Words that ask for no text leave the source as it was, and others take of what it had left,
+    // where it tells that, none but the first bytes, up to one past the limit.
     ensures taken { TakesAtMost S.Source
         (most_asked (accepted (map (λ w. string_bytes w) words.now))) source.old source.new }
 {

@@ -18,6 +18,6 @@ pub fn each_step_names_its_call()
 
 /// So a run whose steps are all of one call adds these to its thread's steps, and to its counts what they count by the moment of the call.
 pub fn a_run_counts_by_the_moment_of_its_call<A>()
-    ensures { (s : Shape) (start : ℕ) (t : Task) (d : Todo A) (k l : Known) (a : A) → Says d (λ ms _. AllByRecursion (IsStepOf t) ms)
-        → Ran s start d k l a → HasCalled t k l }
+    ensures { (s : Shape) (start : ℕ) (t : Task) (d : Todo A) (k l : Known) (a : A)
+        → Says d (λ ms _. AllByRecursion (IsStepOf t) ms) → Ran s start d k l a → HasCalled t k l }
 {}

@@ -55,7 +55,8 @@ pub fn stamps_of_reached_worlds_are_exact()
     ensures takes { (w : World) (t : ℕ) (p : StepPlan) → t < w.shape.threads → Sound w
         → IsNext w.shape w.start w.biasing (w.known t) p → TakesExactly w t p }
     ensures kept { (w : World) (t : ℕ) (p : StepPlan) → t < w.shape.threads → Sound w
-        → IsNext w.shape w.start w.biasing (w.known t) p → StampsAreExact (logs w) → StampsAreExact (logs (world_after p t w)) }
+        → IsNext w.shape w.start w.biasing (w.known t) p
+        → StampsAreExact (logs w) → StampsAreExact (logs (world_after p t w)) }
     ensures known { (heap : Heap) (k : Known) (p : StepPlan) → IsNext heap.shape heap.start heap.biasing k p
         → (w : World) → heap_of w ≡ heap → w.known k.thread ≡ k → k.thread < heap.shape.threads → Sound w
         → StampsAreExact (logs w) → StampsAreExact (logs (world_after p k.thread w)) }
@@ -67,7 +68,8 @@ pub fn stamps_of_reached_worlds_are_exact()
 /// logs, its first hash of each object is the draw.
 pub fn draws_of_reached_worlds_come_first()
     ensures kept { (w : World) (t : ℕ) (p : StepPlan) → t < w.shape.threads → Sound w
-        → IsNext w.shape w.start w.biasing (w.known t) p → DrawsComeFirst (logs w) → DrawsComeFirst (logs (world_after p t w)) }
+        → IsNext w.shape w.start w.biasing (w.known t) p
+        → DrawsComeFirst (logs w) → DrawsComeFirst (logs (world_after p t w)) }
     ensures opening { (heap : Heap) → DrawsComeFirst (logs (opening heap.shape heap.start heap.biasing)) }
     ensures reached { (heap : Heap) (w : World) → IsInLimits heap.shape → Comes heap w → DrawsComeFirst (logs w) }
 {}

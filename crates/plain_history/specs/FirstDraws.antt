@@ -8,5 +8,5 @@ use Rattle.plain_history.specs.EnterPaths.{has_hash}
 -- a thread that draws the hash of an object has logged no hash of the object before
 abbrev pub DrawsComeFirst : List (List Logged) → Type 0
 DrawsComeFirst logs =
-    (t o value number : ℕ) (before : List Logged) (l : Logged) (later : List Logged) → log_of logs t ≡ before ++ l ∷ later
-    → l.entry ≡ Hash o value (Some number) → has_hash o before ≡ false
+    (t o value number : ℕ) (before : List Logged) (l : Logged) (later : List Logged)
+    → log_of logs t ≡ before ++ l ∷ later → l.entry ≡ Hash o value (Some number) → has_hash o before ≡ false

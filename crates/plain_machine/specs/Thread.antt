@@ -1,5 +1,6 @@
--- The state of a thread, and what its instructions do to it. A thread that isn't the owner may not exit, wait or notify: that is
--- IllegalMonitorStateException of the Java Language Specification 8, 17.2. The rest of the language is this project's own.
+-- The state of a thread, and what its instructions do to it. A thread that isn't the owner may not wait or notify, which is the
+-- IllegalMonitorStateException of the Java Language Specification 8, 17.2, nor exit, by `monitorexit` of the Java Virtual Machine
+-- Specification 8. The rest of the language is this project's own.
 use Rattle.std.specs.Prelude.{ℕ, ℤ, pos, ◌+ℤ◌, ◌-ℤ◌, ◌*ℤ◌, int_lt, int_le, nat_abs, ◌+◌, ◌-◌, Bool, ◌&&◌, nat_le, nat_lt, if◌then◌else◌, List, sum, slice_get, slice_index, slice_index_or, slice_set, Option, Some, None}
 use Rattle.plain_monitor.specs.declared.entry.Value.{Value}
 use Rattle.plain_monitor.specs.declared.entry.Value.TheVariants.{Nil, Int, Ref}

@@ -16,7 +16,8 @@ ghost use Rattle.program_run.specs.Ran.{IsRecordOf, IsRan};
 pub fn the_record_tells_the_run()
     ensures record { (s : Settings) (p : ProgramText) (r : RunRecord) (c : ClosedSeen) → IsProgram p → s.fuel ≤ 200000
         → HasRun (heap_for s p) p s.fuel s.tick c → IsRecordOf s p r → IsOfClosed r c → IsRan s p r c }
-    ensures small { (s : Settings) (p : ProgramText) (c : ClosedSeen) → HasRun (heap_for s p) p s.fuel s.tick c → HasSmallCounts c }
+    ensures small { (s : Settings) (p : ProgramText) (c : ClosedSeen)
+        → HasRun (heap_for s p) p s.fuel s.tick c → HasSmallCounts c }
 {
     thread_logs::logs_that_follow_the_code_are_legal();
     thread_logs::the_machine_is_what_the_logs_make_it();

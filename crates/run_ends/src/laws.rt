@@ -19,7 +19,8 @@ pub fn the_end_of_a_heap_tells_its_run()
     ensures draws { (heap : Heap) (words : List ℕ) (ks : List Known) → IsEnd heap words ks → HasDraws heap.start (logs_in ks) }
     ensures shots { (heap : Heap) (words : List ℕ) (ks : List Known) → IsEnd heap words ks
         → HasShots heap.shape.objects (logs_in ks) (shots_in ks) }
-    ensures stamps { (heap : Heap) (words : List ℕ) (ks : List Known) → IsEnd heap words ks → StampsAreExact (logs_in ks) }
+    ensures stamps { (heap : Heap) (words : List ℕ) (ks : List Known) → IsEnd heap words ks
+        → StampsAreExact (logs_in ks) }
     ensures stuck { (heap : Heap) (words : List ℕ) (ks : List Known) → IsEnd heap words ks → is_halted (slice_index words 0) ≡ true
         → IsStuckEnd heap.shape.objects heap.shape.threads ks }
     ensures unfinished { (heap : Heap) (words : List ℕ) (ks : List Known) (t o : ℕ) → IsEnd heap words ks

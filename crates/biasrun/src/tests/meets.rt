@@ -3,8 +3,11 @@
 use crate::tests::texts::CONTENTION;
 use crate::tests::{calling, make_by};
 use run_io::Gate;
+use std::process::Abort;
+use std::sync::Wait;
 use std::sync::atomic::{AtomicBool, Ordering};
 use std::test::Fail;
+use std::thread::Threads;
 
 /// How often a thread looks whether the other one has come.
 const LOOKS: u32 = 100_000_000;
@@ -58,11 +61,20 @@ impl Gate for Meeting {
 /// With two workers a thread's turn may begin while another's is not over.
 #[test]
 fn two_threads_run_at_once(rt: HostRuntime) -> Result<(), Fail> {
+    meet(&rt, &["run", "--workers", "2"])?;
+    meet(&rt, &["run", "--workers", "2", "--bias", "off"])
+}
+
+/// A run with these words in which each of two threads sees the other one's flag.
+fn meet<R: Threads + Wait + Abort + AllocGlobal + Sync>(
+    rt: &R,
+    words: &[&str],
+) -> Result<(), Fail> {
     let gate = Meeting {
         first: Side::new(),
         second: Side::new(),
     };
-    let made = make_by(&rt, calling(&["run", "--workers", "2"], CONTENTION), &gate)?;
+    let made = make_by(rt, calling(words, CONTENTION), &gate)?;
     assert_eq!(rt; made.status, 0);
     assert!(rt; gate.first.saw.load(Ordering::SeqCst));
     assert!(rt; gate.second.saw.load(Ordering::SeqCst));

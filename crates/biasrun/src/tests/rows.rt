@@ -1,14 +1,16 @@
 //! Words, texts, and what is written.
 
+use crate::tests::settings::settings;
 use crate::tests::texts::{
-    ANSWER, ANSWER_FIVE_LINES, CONTENTION, CROSSWISE, DUMP, EXIT_TOO_OFTEN, HAND_OVER, HASH,
-    OVERFLOW, TOO_DEEP, UNGUARDED_GET, WAIT_FOREVER, WAIT_WITHOUT_HOLD,
+    ANSWER, ANSWER_FIVE_LINES, CROSSWISE, DUMP, EXIT_TOO_OFTEN, HAND_OVER, HASH, OVERFLOW,
+    TOO_DEEP, UNGUARDED_GET, WAIT_FOREVER, WAIT_WITHOUT_HOLD,
 };
 use crate::tests::{Call, calling, expect, make};
 use std::test::Fail;
 
 const RUN: &[&str] = &["run"];
 
+/// Programs whose output no order of steps changes, under each of the settings.
 #[test]
 fn programs_run(rt: HostRuntime) -> Result<(), Fail> {
     let rows: [(&'static str, u8, &str); 11] = [
@@ -37,19 +39,10 @@ fn programs_run(rt: HostRuntime) -> Result<(), Fail> {
         (DUMP, 0, "dump t1 1\na held by t1 2\nthread t1 done\n"),
     ];
     for (text, status, held) in rows {
-        expect(&rt, calling(RUN, text), status, true, held)?;
+        for words in settings() {
+            expect(&rt, calling(words, text), status, true, held)?;
+        }
     }
-    Ok(())
-}
-
-/// Two threads count to 2,000 together, and the last of them prints it.
-#[test]
-fn contending_threads_count_together(rt: HostRuntime) -> Result<(), Fail> {
-    let made = make(&rt, calling(RUN, CONTENTION))?;
-    let first = b"t1: 2000\nthread t1 done\nthread t2 done\n".as_slice();
-    let second = b"t2: 2000\nthread t1 done\nthread t2 done\n".as_slice();
-    assert!(rt; made.held.as_slice() == first || made.held.as_slice() == second);
-    assert_eq!(rt; made.status, 0);
     Ok(())
 }
 

@@ -1,35 +1,30 @@
-//! Runs under other settings, of programs whose output no order of steps changes.
+//! Settings under which programs are run, and many runs of two threads that contend.
 
-use crate::tests::texts::{CONTENTION, CROSSWISE, HAND_OVER, WAIT_FOREVER};
-use crate::tests::{calling, expect, make};
+use crate::tests::texts::CONTENTION;
+use crate::tests::{calling, make};
 use std::process::Abort;
 use std::sync::Wait;
 use std::test::Fail;
 use std::thread::Threads;
 
-/// As many workers, with biases and without, and turns of one instruction each.
-#[test]
-fn settings_change_no_result(rt: HostRuntime) -> Result<(), Fail> {
-    let settings: [&'static [&'static str]; 6] = [
+/// The arguments of `run` for other settings: one worker and four, with biases and without, and turns of one instruction each.
+pub fn settings() -> [&'static [&'static str]; 7] {
+    [
+        &["run"],
         &["run", "--workers", "1"],
         &["run", "--workers", "1", "--bias", "off"],
         &["run", "--workers", "4", "--bias", "off"],
         &["run", "--workers", "4", "--quantum", "1"],
         &["run", "--workers", "1", "--quantum", "1"],
         &["run", "--quantum", "1", "--bias", "off"],
-    ];
-    for words in settings {
-        let held = "t2: 7\nthread t1 done\nthread t2 done\n";
-        expect(&rt, calling(words, HAND_OVER), 0, true, held)?;
-        let stuck = "thread t1 blocked on b\nthread t2 blocked on a\n";
-        expect(&rt, calling(words, CROSSWISE), 4, true, stuck)?;
-        expect(
-            &rt,
-            calling(words, WAIT_FOREVER),
-            4,
-            true,
-            "thread t1 waiting on a\n",
-        )?;
+    ]
+}
+
+/// Two threads count to 2,000 together under each of the settings, and the last of them prints it.
+#[test]
+fn no_setting_loses_a_count(rt: HostRuntime) -> Result<(), Fail> {
+    for words in settings() {
+        count_together(&rt, words)?;
     }
     Ok(())
 }
@@ -64,15 +59,25 @@ fn contend<R: Threads + Wait + Abort + AllocGlobal + Sync>(
     bias: &'static str,
     quanta: [&'static str; 2],
 ) -> Result<(), Fail> {
-    let first = b"t1: 2000\nthread t1 done\nthread t2 done\n".as_slice();
-    let second = b"t2: 2000\nthread t1 done\nthread t2 done\n".as_slice();
     for quantum in quanta {
         let words: &[&str] = &["run", "--quantum", quantum, "--bias", bias];
         for _ in 0..30 {
-            let made = make(rt, calling(words, CONTENTION))?;
-            assert!(rt; made.held.as_slice() == first || made.held.as_slice() == second);
-            assert_eq!(rt; made.status, 0);
+            count_together(rt, words)?;
         }
     }
+    Ok(())
+}
+
+/// A run of the contention program with these words: both threads end, and the last prints what they counted.
+fn count_together<R: Threads + Wait + Abort + AllocGlobal + Sync>(
+    rt: &R,
+    words: &[&str],
+) -> Result<(), Fail> {
+    let first = b"t1: 2000\nthread t1 done\nthread t2 done\n".as_slice();
+    let second = b"t2: 2000\nthread t1 done\nthread t2 done\n".as_slice();
+    let made = make(rt, calling(words, CONTENTION))?;
+    assert!(rt; made.held.as_slice() == first || made.held.as_slice() == second);
+    assert_eq!(rt; made.status, 0);
+    assert!(rt; !made.is_stuck);
     Ok(())
 }
