@@ -10,7 +10,7 @@ use Rattle.run_words.specs.declared.options.Command.{Command}
 use Rattle.run_words.specs.declared.options.Command.TheVariants.{Run, Check, Make}
 use Rattle.run_words.specs.Number.{is_number, number, within}
 use Rattle.run_words.specs.Command.{Text, Values, accepted, check_by, check_values, fuel_of, has_run_options, make_of, options_of, read_or, start_of, switch, values_in}
-use Rattle.bias_cli.specs.Asked.{IsRunnable}
+use Rattle.bias_cli.specs.inner.Asked.{IsRunnable}
 
 -- where there is a number, it lies between these
 abbrev IsBetween : ℕ → ℕ → Option ℕ → Type 0

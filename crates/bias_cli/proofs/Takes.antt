@@ -3,7 +3,8 @@ use Rattle.std.proofs.Common.{◌≡◌, ℕ, zero, suc, ◌+◌, ◌-◌, ◌�
 use Rattle.std.proofs.lemmas.List.{take-append-drop, drop-drop, take_all, drop_all}
 use Rattle.run_io.specs.Source.{IsAtEnd}
 use Rattle.run_io.specs.Sink.{Appends}
-use Rattle.bias_cli.specs.Input.{TookFirst, Took, TookMore, TookSome}
+use Rattle.bias_cli.specs.Input.{TookFirst, Took, TookSome}
+use Rattle.bias_cli.specs.inner.Input.{TookMore}
 use Rattle.bias_cli.specs.Output.{Wrote, WroteFront}
 
 take_joined : (n m : ℕ) (xs : List ℕ) → take (n + m) xs ≡ take n xs ++ take m (drop n xs)

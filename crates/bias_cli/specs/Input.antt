@@ -1,5 +1,5 @@
 -- What reading a text takes from a source.
-use Rattle.std.specs.Prelude.{◌≡◌, ℕ, ◌+◌, ◌≤◌, List, ◌++◌, take, drop, Option, Some}
+use Rattle.std.specs.Prelude.{◌≡◌, ℕ, ◌+◌, ◌≤◌, List, take, drop, Option, Some}
 
 -- the most bytes that a program's text may have, and a program with its journal
 abbrev pub most_of_program : ℕ
@@ -16,11 +16,6 @@ TookFirst n left_before left_after bytes =
 -- a text that may have this many bytes is read to its end, or up to one byte more, so that a longer one is known
 abbrev pub Took : ℕ → Option (List ℕ) → Option (List ℕ) → List ℕ → Type 0
 Took most left_before left_after bytes = TookFirst (most + 1) left_before left_after bytes
-
--- n further bytes are read behind these
-abbrev pub TookMore : ℕ → Option (List ℕ) → Option (List ℕ) → List ℕ → List ℕ → Type 0
-TookMore n left_before left_after bytes_before bytes_after =
-    (left : List ℕ) → left_before ≡ Some left → (bytes_after ≡ bytes_before ++ take n left) × (left_after ≡ Some (drop n left))
 
 -- at most this many bytes are left no more, the first that the source had left, where it tells that
 abbrev pub TookSome : ℕ → Option (List ℕ) → Option (List ℕ) → Type 0

@@ -6,3 +6,4 @@ pub mod Report
 pub mod Verdict
 pub mod Asked
 pub mod Finish
+pub mod inner

@@ -3,7 +3,8 @@
 ghost use Rattle.std.specs.Prelude.{◌≡◌, ℕ, ◌+◌, ◌-◌, ◌<◌, ◌≤◌, length, vec_len, IfOk, IfErr, OnErr, OnOk, IsTrue, Err};
 ghost use Rattle.run_io.specs.Faults.{rose};
 ghost use Rattle.run_io.specs.Source.{IsAtEnd};
-ghost use Rattle.bias_cli.specs.Input.{Took, TookMore, TookSome};
+ghost use Rattle.bias_cli.specs.Input.{Took, TookSome};
+ghost use Rattle.bias_cli.specs.inner.Input.{TookMore};
 
 use run_io::Source;
 use std::alloc::Global;

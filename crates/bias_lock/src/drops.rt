@@ -6,7 +6,7 @@ ghost use Rattle.core_world.specs.Threads.Known.{local_of};
 ghost use Rattle.core_world.specs.Trees.BiasSteps.{unbias_swap_steps, bias_drop_at, bias_drop_by, bias_drop_steps};
 ghost use Rattle.heap_table.specs.Parts.{IsDueOn, HasRun};
 ghost use Rattle.heap_table.specs.Seen.{IsOf};
-ghost use Rattle.bias_lock.specs.Parts.{prototype_drop};
+ghost use Rattle.bias_lock.specs.inner.Parts.{prototype_drop};
 
 use core_world::{BiasTry, Name, Stage};
 use heap_table::{Heap, Pass, Purpose, class_epoch, is_biased, mark_of_word};

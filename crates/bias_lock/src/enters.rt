@@ -7,7 +7,7 @@ ghost use Rattle.core_world.specs.Trees.BiasSteps.{bias_enter_at, bias_enter_by,
 ghost use Rattle.heap_table.specs.Parts.{IsDueOn, HasRun};
 ghost use Rattle.heap_table.specs.Seen.{IsOf};
 ghost use Rattle.bias_lock.specs.Kept.{IsKeptUnlessTook};
-ghost use Rattle.bias_lock.specs.Parts.{prototype_enter};
+ghost use Rattle.bias_lock.specs.inner.Parts.{prototype_enter};
 
 use crate::drops::unbias;
 use core_world::{BiasTry, Name, Stage};

@@ -6,7 +6,7 @@ ghost use Rattle.core_world.specs.Trees.BiasSteps.{bias_exit_steps};
 ghost use Rattle.core_world.specs.Trees.Plans.{top_place};
 ghost use Rattle.heap_table.specs.Parts.{IsDueOn, HasRun};
 ghost use Rattle.heap_table.specs.Seen.{IsOf};
-ghost use Rattle.bias_lock.specs.Parts.{marked_exit};
+ghost use Rattle.bias_lock.specs.inner.Parts.{marked_exit};
 
 use core_world::{Name, Stage};
 use heap_table::{Heap, Pass, Purpose, is_biased};

@@ -5,3 +5,4 @@ pub mod Miscounts
 pub mod Moves
 pub mod Steps
 pub mod OfARun
+pub mod inner

@@ -6,8 +6,7 @@ use Rattle.plain_monitor.specs.declared.entry.Entry.TheVariants as entry
 use Rattle.plain_monitor.specs.declared.entry.Logged.{Logged}
 use Rattle.plain_monitor.specs.declared.entry.Path.{Path}
 use Rattle.plain_monitor.specs.declared.entry.Path.TheVariants.{BiasOwn, BiasTaken, StackFirst, StackAgain, MonitorFirst, MonitorAgain}
-use Rattle.plain_monitor.specs.History.{last_stamp}
-use Rattle.plain_monitor.specs.Objects.{PlainObject, take_entry}
+use Rattle.plain_monitor.specs.Objects.{PlainObject}
 use Rattle.plain_history.specs.Appending.{MayAppend}
 use Rattle.core_world.specs.declared.name.Name.{Name}
 use Rattle.core_world.specs.declared.name.Name.TheVariants.{Mark, Prototype, Revocations}
@@ -23,7 +22,7 @@ use Rattle.core_world.specs.Trees.Plans.{Purpose}
 use Rattle.core_world.specs.Clauses.Safepoints.{IsUnfinished}
 use Rattle.core_world.specs.Words.Shape.{Shape, class_of}
 use Rattle.core_world.specs.Threads.Stages.{path_into}
-use Rattle.core_world.specs.Steps.{counts_after, is_taking, log_after, unfinished_after, world_after}
+use Rattle.core_world.specs.Steps.{counts_after, log_after, unfinished_after, world_after}
 use Rattle.core_world.specs.Valid.{Fits, IsRevoking}
 use Rattle.core_world.specs.World.{World, logs}
 use Rattle.core_counts.specs.BiasLaw.{BiasLawHolds}
@@ -124,20 +123,6 @@ pub record LogsBeside (w : World) (at : Name) (v t : ℕ) (y : Logged) (l : Know
   pub left : (o : ℕ) → path_into l.stage o ≡ None
   pub ended : HasNone w y.entry
   pub leaves : LeavesBiases w at v
-
--- So, where it hits, thread t's step of a plan: it logs this entry, no Enter and no Resume, with the thread's next stamp, and the plain objects take it.
-pub record LogsTaken (w : World) (objects : List PlainObject) (t : ℕ) (p : StepPlan) (e : Entry) : Type 0 where
-  pub runs : (w.known t).running ≡ true
-  pub other : is_taking e ≡ false
-  pub log : log_after p.note (w.words p.at) (w.known t).log ≡ (w.known t).log ++ record { stamp = last_stamp (w.known t).log + 1; entry = e } ∷ []
-  pub own : (counts : List CountedVerdict) → counts_after p.own counts ≡ counts
-  pub operation : WorksFor (w.known t) e
-  pub calm : (o : ℕ) → path_into (w.known t).stage o ≡ None
-  pub left : (o : ℕ) → path_into p.stage o ≡ None
-  pub ended : HasNone w e
-  pub leaves : LeavesBiases w p.at (word_after p.act (w.words p.at))
-  pub now : List PlainObject
-  pub taken : take_entry objects t e ≡ Some now
 
 -- THE END OF A REVOCATION. What the stores of the revocation left of its object: where it gave its thread a new bias, that has it, and holds nothing
 -- of the object; and else no bias pattern.

@@ -26,7 +26,8 @@ use Rattle.core_world.proofs.OwnersShown.{inflated_form}
 use Rattle.core_locks.specs.SafepointLaws.{SeesEnded, SeesHeldUp}
 use Rattle.core_world.specs.Words.Shape.{monitor_count}
 use Rattle.core_steps.specs.Logic.{Heap, Does}
-use Rattle.core_steps.specs.Sound.{Finishes, BeginsWell}
+use Rattle.core_steps.specs.Sound.{Finishes}
+use Rattle.core_steps.specs.inner.Sound.{BeginsWell}
 use Rattle.core_steps.proofs.LawRules.{releases, halts}
 use Rattle.core_steps.proofs.SafepointLooks.{Reaches, Seeing, seeing_all, is_as_seen, fits_reached, keeps_look, saw_there, still_seen, Facts, each_does, going, found_formed}
 use Rattle.core_steps.proofs.Trees.{answers, chooses_then, follows, binds, hitting, finding}

@@ -44,7 +44,8 @@ use Rattle.core_world.specs.Clauses.WordForms.{IsMark, IsOwner}
 use Rattle.core_world.specs.declared.plan.StepPlan.{StepPlan}
 use Rattle.core_steps.proofs.There.{IsFormed, class_there}
 use Rattle.core_steps.specs.Logic.{Heap, Stands, Does}
-use Rattle.core_steps.specs.Sound.{Finishes, BeginsWell}
+use Rattle.core_steps.specs.Sound.{Finishes}
+use Rattle.core_steps.specs.inner.Sound.{BeginsWell}
 use Rattle.core_steps.proofs.Facts.{Untold, fits_here, ready_here}
 use Rattle.core_steps.proofs.LawRules.{home, keeps_calm, releases, publishes, limits, valid_here}
 use Rattle.core_steps.proofs.Requests.{Asks, Stood, BeginsSafepoint, safepoint_does}

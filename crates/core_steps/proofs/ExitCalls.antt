@@ -21,7 +21,8 @@ use Rattle.core_world.specs.Trees.Todo.{Todo, done, ask, ◌>>=◌}
 use Rattle.core_locks.specs.Knowing.{GoesOn}
 use Rattle.core_locks.specs.LockLaws.{HasRaised}
 use Rattle.core_steps.specs.Logic.{Heap, Does}
-use Rattle.core_steps.specs.Sound.{Finishes, BeginsWell}
+use Rattle.core_steps.specs.Sound.{Finishes}
+use Rattle.core_steps.specs.inner.Sound.{BeginsWell}
 use Rattle.core_steps.proofs.Facts.{Untold, Unwaiting, out_here, ready_here}
 use Rattle.core_steps.proofs.LawRules.{looks, raises, leaves_rule}
 use Rattle.core_steps.proofs.MonitorExits.{monitor_exit_does}

@@ -38,7 +38,8 @@ use Rattle.core_world.specs.Locks.{hold_count}
 use Rattle.core_locks.proofs.MarkHolds.{standing_names}
 use Rattle.core_steps.proofs.Places.{bottom_here}
 use Rattle.core_steps.specs.Logic.{Heap, Stands, Keeps, Does}
-use Rattle.core_steps.specs.Sound.{Finishes, BeginsWell}
+use Rattle.core_steps.specs.Sound.{Finishes}
+use Rattle.core_steps.specs.inner.Sound.{BeginsWell}
 use Rattle.core_steps.proofs.Facts.{fits_here, ready_here}
 use Rattle.core_steps.proofs.HashRules.{finds_mark_rule, finds_record_rule, finds_header_rule, draws_mark_rule, draws_header_rule}
 use Rattle.core_steps.proofs.Inflations.{SawNone, Unseen, Apart, form_found, inflate_does}

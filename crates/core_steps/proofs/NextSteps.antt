@@ -19,7 +19,8 @@ use Rattle.core_world.proofs.LookWhileRevoking.{forgotten}
 use Rattle.core_counts.specs.BiasLaw.{BiasLawHolds, WhollyValid}
 use Rattle.core_steps.specs.Takings.{TakesExactly}
 use Rattle.core_steps.specs.Logic.{Heap, heap_of, Stands, Keeps, Was}
-use Rattle.core_steps.specs.Sound.{Finishes, BeginsWell, Sound}
+use Rattle.core_steps.specs.Sound.{Finishes, Sound}
+use Rattle.core_steps.specs.inner.Sound.{BeginsWell}
 
 -- a thread of a valid world knows its number
 pub number_is : (w : World) (P : List PlainObject) (t : ℕ) → IsValid w P → (w.known t).thread ≡ t

@@ -30,7 +30,8 @@ use Rattle.core_locks.specs.JournalLaws.{SawNobody}
 use Rattle.core_locks.proofs.WaitOut.{ready_is_out}
 use Rattle.core_counts.specs.Steps.{SawUnbiased}
 use Rattle.core_steps.specs.Logic.{Heap, Stands, Does}
-use Rattle.core_steps.specs.Sound.{Finishes, BeginsWell}
+use Rattle.core_steps.specs.Sound.{Finishes}
+use Rattle.core_steps.specs.inner.Sound.{BeginsWell}
 use Rattle.core_steps.proofs.ExitFacts.{unopen}
 use Rattle.core_steps.proofs.Facts.{fits_here}
 use Rattle.core_steps.proofs.Inflations.{form_found}

@@ -18,7 +18,8 @@ use Rattle.core_world.specs.Trees.SafepointSteps.{has_requester, running_too, re
 use Rattle.core_world.specs.Trees.Todo.{Todo, ◌>>=◌}
 use Rattle.core_locks.proofs.LookOn.{may_look_safe}
 use Rattle.core_steps.specs.Logic.{Heap, Stands, Does}
-use Rattle.core_steps.specs.Sound.{Finishes, BeginsWell}
+use Rattle.core_steps.specs.Sound.{Finishes}
+use Rattle.core_steps.specs.inner.Sound.{BeginsWell}
 use Rattle.core_steps.proofs.LawRules.{looks, stops, resumes, requests, releases, publishes_all}
 use Rattle.core_steps.proofs.Resting.{Carries, carried, unasking, unchecking, rests, rests_asking}
 use Rattle.core_steps.proofs.SafeWords.{stopped_asks, resumed_asks, requested_runs, reached_there, released_asks, few_threads}

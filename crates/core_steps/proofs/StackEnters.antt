@@ -28,7 +28,8 @@ use Rattle.core_locks.specs.Knowing.{GoesOn}
 use Rattle.core_locks.specs.LockLaws.{Precedes}
 use Rattle.core_counts.specs.Steps.{WentBefore}
 use Rattle.core_steps.specs.Logic.{Heap, Stands, Keeps, Does}
-use Rattle.core_steps.specs.Sound.{Finishes, BeginsWell}
+use Rattle.core_steps.specs.Sound.{Finishes}
+use Rattle.core_steps.specs.inner.Sound.{BeginsWell}
 use Rattle.core_steps.proofs.Trees.{answers, chooses, follows, binds, hitting, swapping}
 use Rattle.core_steps.proofs.LawRules.{displaces_rule, seizes_rule, holds_rule, readies, logs_enter}
 use Rattle.core_steps.proofs.Facts.{Untold, Unwaiting, out_here, ready_entered, limits_here, Unbiased}

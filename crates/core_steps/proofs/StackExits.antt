@@ -31,7 +31,8 @@ use Rattle.core_locks.proofs.LookOn.{may_look}
 use Rattle.core_locks.proofs.HoldWays.{saw_displaced}
 use Rattle.core_locks.specs.Knowing.{GoesOn, IsOut, SawInflated}
 use Rattle.core_steps.specs.Logic.{Heap, Stands, Does}
-use Rattle.core_steps.specs.Sound.{Finishes, BeginsWell}
+use Rattle.core_steps.specs.Sound.{Finishes}
+use Rattle.core_steps.specs.inner.Sound.{BeginsWell}
 use Rattle.core_steps.proofs.Trees.{answers, chooses, chooses_then, hitting, swapping}
 use Rattle.core_steps.proofs.LawRules.{home, away, looks, raises, leaves_rule, clears_rule, lets_go_rule}
 use Rattle.core_steps.proofs.Facts.{Untold, Unwaiting, Unentering, fits_here, out_here, ready_here, Unbiased}

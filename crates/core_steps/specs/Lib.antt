@@ -4,3 +4,4 @@ pub mod Sound
 pub mod Reached
 pub mod Weakened
 pub mod SmallWorlds
+pub mod inner

@@ -1,23 +1,16 @@
 -- Sound worlds: valid, the law of biases among the clauses, and what is left of each thread's call keeps them valid up to its end, at which the thread is at rest.
-use Rattle.std.specs.Prelude.{◌≡◌, ℕ, ◌<◌, Bool, true, false}
-use Rattle.core_world.specs.declared.task.Task.{Task}
+use Rattle.std.specs.Prelude.{ℕ, ◌<◌, Bool, false}
 use Rattle.core_world.specs.Threads.AtRest.{AtRest}
-use Rattle.core_world.specs.Trees.Calls.{steps_of, may_begin}
-use Rattle.core_world.specs.Threads.Known.{Known, start_of}
+use Rattle.core_world.specs.Threads.Known.{Known}
 use Rattle.core_world.specs.Steps.{rest_of_call}
 use Rattle.core_world.specs.Trees.Todo.{Todo}
 use Rattle.core_world.specs.World.{World}
 use Rattle.core_counts.specs.BiasLaw.{WhollyValid}
-use Rattle.core_steps.specs.Logic.{Heap, heap_of, Stands, Does}
+use Rattle.core_steps.specs.Logic.{Heap, heap_of, Does}
 
 -- these steps of a call keep every valid world valid, and after the last of them the thread is at rest
 abbrev pub Finishes : Heap → Bool → Todo (Unit {0}) → Known → Type 0
 Finishes heap fresh d k = Does heap fresh d k (λ fresh a l. AtRest heap.shape l)
-
--- every call of this task that begins at rest does its steps and ends at rest
-pub record BeginsWell (heap : Heap) (task : Task) : Type 0 where
-  pub does : (k : Known) → Stands heap k → AtRest heap.shape k → may_begin heap.shape heap.biasing k task ≡ true
-      → Finishes heap true (steps_of heap.shape task (start_of heap.start k)) k
 
 -- The world is valid, and the law of biases holds. What is left of each thread's call does its steps up to its end at rest; where nothing is left, the thread is at rest.
 pub record Sound (w : World) : Type 0 where

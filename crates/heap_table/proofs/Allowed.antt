@@ -21,7 +21,8 @@ use Rattle.core_world.specs.World.{with_known}
 use Rattle.core_world.proofs.Naming.{same_named}
 use Rattle.core_world.specs.There.{IsIn}
 use Rattle.heap_table.specs.Layout.{place_of, word_count}
-use Rattle.heap_table.specs.Ruled.{MayStep, Each, Differ, Shows, Rules, Ruled, heap_in, only, Told}
+use Rattle.heap_table.specs.Ruled.{heap_in, only}
+use Rattle.heap_table.specs.inner.Ruled.{MayStep, Each, Differ, Shows, Rules, Ruled, Told}
 use Rattle.heap_table.specs.declared.setting.Setting.{Setting}
 use Rattle.heap_table.proofs.Places.{within, apart}
 use Rattle.heap_table.proofs.Knows.{same_thread, told_here, told_else}

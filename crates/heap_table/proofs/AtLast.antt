@@ -8,10 +8,12 @@ use Rattle.atomic_table.specs.Table.{Final, Seen}
 use Rattle.core_steps.specs.Logic.{Heap}
 use Rattle.core_world.specs.Threads.Known.{Known}
 use Rattle.heap_table.specs.Layout.{place_of, word_count}
-use Rattle.heap_table.specs.Ruled.{Each, Rules, Ruled, heap_in}
+use Rattle.heap_table.specs.Ruled.{heap_in}
+use Rattle.heap_table.specs.inner.Ruled.{Each, Rules, Ruled}
 use Rattle.heap_table.specs.declared.setting.Setting.{Setting}
 use Rattle.std.specs.List.{All}
-use Rattle.heap_table.specs.Seen.{HeapSeen, PassSeen, IsOf, AllOf, LastWorld}
+use Rattle.heap_table.specs.Seen.{HeapSeen, PassSeen, IsOf, LastWorld}
+use Rattle.heap_table.specs.inner.Seen.{AllOf}
 
 at_place : (xs : List ℕ) (i x : ℕ) → get_elem? xs i ≡ some x → (i < length xs) × (get_or xs i 0 ≡ x)
 at_place [] i x e = absurd (some-ne-none x (sym e))

@@ -23,14 +23,16 @@ use Rattle.core_world.specs.declared.plan.Own.TheVariants as own
 use Rattle.core_world.specs.Threads.Known.{DumpShot}
 use Rattle.core_world.specs.Steps.{shots_after}
 use Rattle.heap_table.specs.Cells.{cells_shown}
-use Rattle.heap_table.specs.Drafts.{IsDrafted, taken_after}
+use Rattle.heap_table.specs.Drafts.{IsDrafted}
+use Rattle.heap_table.specs.inner.Drafts.{taken_after}
 use Rattle.core_world.specs.Threads.Counts.{CountedVerdict}
 use Rattle.core_world.specs.Steps.{counts_after, draws_after}
 use Rattle.lock_policy.specs.Draws.{state_after}
 use Rattle.heap_table.specs.Tallies.{counts_shown}
 use Rattle.heap_table.specs.declared.afters.Stand.{Stand}
 use Rattle.heap_table.specs.declared.mirror.Mirror.{Mirror}
-use Rattle.heap_table.specs.Kept.{Follows, entry_after, with_any_entry, stand_after}
+use Rattle.heap_table.specs.Kept.{Follows}
+use Rattle.heap_table.specs.inner.Kept.{entry_after, with_any_entry, stand_after}
 
 pub log_is : (note : Note) (found : ℕ) (log : List Logged) → log_after note found log ≡ with_any_entry (entry_after note found) found log
 log_is Quiet found log = refl

@@ -18,11 +18,12 @@ use Rattle.core_steps.proofs.ReachedWorlds.{opening_sound}
 use Rattle.core_world.specs.There.{IsIn}
 use Rattle.heap_table.specs.Layout.{place_of, word_count}
 use Rattle.core_world.specs.Threads.Known.{Known}
-use Rattle.heap_table.specs.Firsts.{first_knowns}
-use Rattle.heap_table.specs.Openings.{copies, spread, object_words, opening_groups}
+use Rattle.heap_table.specs.inner.Firsts.{first_knowns}
+use Rattle.heap_table.specs.inner.Openings.{copies, spread, object_words, opening_groups}
 use Rattle.heap_table.specs.Kept.{Follows}
 use Rattle.heap_table.specs.declared.mirror.Mirror.{Mirror}
-use Rattle.heap_table.specs.Ruled.{Each, Differ, Ruled, heap_in, only, others}
+use Rattle.heap_table.specs.Ruled.{heap_in, only}
+use Rattle.heap_table.specs.inner.Ruled.{Each, Differ, Ruled, others}
 use Rattle.heap_table.specs.declared.setting.Setting.{Setting}
 use Rattle.heap_table.specs.Seen.{HeapSeen, PassSeen, first_pass, first_passes}
 

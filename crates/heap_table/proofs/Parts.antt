@@ -14,7 +14,8 @@ use Rattle.core_world.proofs.CallRests.{begun_rest, gone_rest, next_due, then_du
 use Rattle.core_steps.specs.Reached.{comes}
 use Rattle.heap_table.specs.Drafts.{IsDrafted, IsLeft}
 use Rattle.heap_table.specs.Kept.{HasRoom}
-use Rattle.heap_table.specs.Parts.{IsDueOn, HasRun, is_shot}
+use Rattle.heap_table.specs.Parts.{IsDueOn, HasRun}
+use Rattle.heap_table.specs.inner.Parts.{is_shot}
 use Rattle.heap_table.specs.Seen.{HeapSeen, PassSeen, IsOf}
 use Rattle.heap_table.specs.Stepping.{CanStep, HasStepped}
 

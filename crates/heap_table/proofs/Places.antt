@@ -6,7 +6,8 @@ use Rattle.core_world.specs.Words.Names.{kind_of, first_index, second_index, sam
 use Rattle.core_world.specs.Words.Shape.{Shape}
 use Rattle.core_world.proofs.Naming.{same_named}
 use Rattle.core_world.specs.There.{IsIn}
-use Rattle.heap_table.specs.Layout.{IsPlaced, group, many, place_of, word_count}
+use Rattle.heap_table.specs.Layout.{group, many, place_of, word_count}
+use Rattle.heap_table.specs.inner.Layout.{IsPlaced}
 
 -- where it lies in its group
 abbrev pub offset : Name → ℕ

@@ -8,7 +8,8 @@ use Rattle.atomic_table.proofs.Lists.{at_set}
 use Rattle.core_steps.specs.Logic.{Heap}
 use Rattle.core_world.specs.Threads.Known.{Known}
 use Rattle.core_world.specs.World.{World}
-use Rattle.heap_table.specs.Ruled.{Each, Differ, Rules, Ruled, heap_in, only, others}
+use Rattle.heap_table.specs.Ruled.{heap_in, only}
+use Rattle.heap_table.specs.inner.Ruled.{Each, Differ, Rules, Ruled, others}
 use Rattle.heap_table.specs.declared.setting.Setting.{Setting}
 use Rattle.heap_table.proofs.Allowed.{each_map}
 

@@ -14,7 +14,7 @@ use Rattle.core_world.specs.Clauses.Stamps.{entries}
 use Rattle.core_world.specs.Steps.{known_after, known_hit, known_miss, log_after, world_after, stamp_by}
 use Rattle.core_world.specs.Valid.{Fits, IsValid}
 use Rattle.core_world.specs.World.{World, logs_from}
-use Rattle.heap_table.specs.Kept.{StampFits}
+use Rattle.heap_table.specs.inner.Kept.{StampFits}
 use Rattle.core_world.proofs.LookWhileRevoking.{forgotten}
 use Rattle.core_counts.specs.BiasLaw.{BiasLawHolds}
 use Rattle.core_steps.specs.Logic.{Heap}

@@ -1,5 +1,5 @@
 -- Where each word lies.
-use Rattle.std.specs.Prelude.{ℕ, ◌+◌, ◌*◌, ◌<◌, List, length, map, slice_index}
+use Rattle.std.specs.Prelude.{ℕ, ◌+◌, ◌*◌, List, length, map, slice_index}
 use Rattle.core_world.specs.declared.name.Name.{Name}
 use Rattle.core_world.specs.declared.name.Name.TheVariants.{Safepoint, Prototype, Revocations, LastBulk, Mark, Stamp, Slot, Hold, Displaced, Waiting, Length, Owner, Recursions, Header, Object, Claim}
 use Rattle.core_world.specs.Words.Shape.{Shape}
@@ -68,8 +68,3 @@ group (Owner m) = 4
 group (Recursions m) = 4
 group (Header m) = 4
 group (Object m) = 4
-
--- a hold word has one of the 64 places
-abbrev pub IsPlaced : Name → Type 0
-IsPlaced (Hold t p) = p < 64
-IsPlaced _ = Unit {0}

@@ -1,12 +1,10 @@
 pub mod Layout
-pub mod Firsts
 pub mod Cells
 pub mod Drafts
 pub mod Tallies
 pub mod Held
 pub mod Kept
 pub mod Ruled
-pub mod Openings
 pub mod Seen
 pub mod StepPlans
 pub mod Stepping
@@ -14,3 +12,4 @@ pub mod Fresh
 pub mod Parts
 pub mod BiasesAtEnd
 pub mod Resting
+pub mod inner

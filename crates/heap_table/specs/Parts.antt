@@ -1,7 +1,5 @@
 -- What a part of a call asks of a pass, and what it does: its steps are due, and it makes them.
-use Rattle.std.specs.Prelude.{◌≡◌, Bool, true, false}
-use Rattle.core_world.specs.declared.plan.Own.{Own}
-use Rattle.core_world.specs.declared.plan.Own.TheVariants as own
+use Rattle.std.specs.Prelude.{◌≡◌}
 use Rattle.core_world.specs.declared.task.Task.{Task}
 use Rattle.core_world.specs.Due.{IsDue, Ran}
 use Rattle.core_world.specs.Trees.Todo.{Todo}
@@ -18,8 +16,3 @@ pub record HasRun {A : Type 0} (h : HeapSeen) (d : Todo A) (p q : PassSeen) (a :
   pub cut : q.cut ≡ p.cut
   pub cells : q.cells ≡ p.cells
   pub ran : Ran h.heap.shape h.heap.start d p.known q.known a
-
--- the step takes no shot
-abbrev pub is_shot : Own → Bool
-is_shot own.TakeShot = true
-is_shot _ = false

@@ -55,11 +55,6 @@ abbrev pub first_passes : HeapSeen → ℕ → ℕ → ℕ → List PassSeen
 first_passes h limit t zero = []
 first_passes h limit t (suc n) = first_pass h limit t ∷ first_passes h limit (suc t) n
 
--- passes of this heap
-abbrev pub AllOf : HeapSeen → List PassSeen → Type 0
-AllOf h [] = Unit {0}
-AllOf h (p ∷ ps) = (p.table ≡ h.table) × AllOf h ps
-
 abbrev pub knowns : List PassSeen → List Known
 knowns ps = map (λ (p : PassSeen). p.known) ps
 

@@ -4,8 +4,9 @@ ghost use Rattle.core_world.specs.Threads.Known.{Known};
 ghost use Rattle.core_world.specs.Steps.{kept_after, saved_after, unfinished_after, runs_after, asks_after, reached_after, halted_after, is_taking, stamp_by, holds_after, wait_after, published_after, log_after};
 ghost use Rattle.plain_monitor.specs.Monitor.{is_thread};
 ghost use Rattle.plain_monitor.specs.History.{last_stamp};
-ghost use Rattle.heap_table.specs.Kept.{HasRoom, StampFits, entry_after, looked, left, stand_after};
-ghost use Rattle.heap_table.specs.Layout.{IsPlaced};
+ghost use Rattle.heap_table.specs.Kept.{HasRoom};
+ghost use Rattle.heap_table.specs.inner.Kept.{StampFits, entry_after, looked, left, stand_after};
+ghost use Rattle.heap_table.specs.inner.Layout.{IsPlaced};
 
 use crate::holds::Holds;
 use crate::reads::{hash_of_word, safe_of_word, value_of_word};

@@ -3,7 +3,7 @@ ghost use Rattle.std.specs.Prelude.{◌≡◌, ◌+◌, ◌*◌, ◌-◌, ◌%�
 ghost use Rattle.core_world.specs.Opening.{opening};
 ghost use Rattle.core_world.specs.Words.Shape.{IsInLimits};
 ghost use Rattle.core_steps.specs.Sound.{Sound};
-ghost use Rattle.heap_table.specs.Firsts.{first_knowns};
+ghost use Rattle.heap_table.specs.inner.Firsts.{first_knowns};
 ghost use Rattle.heap_table.specs.Layout.{word_count};
 ghost use Rattle.heap_table.specs.Ruled.{heap_in};
 ghost use Rattle.heap_table.specs.Seen.{first_pass, first_passes};

@@ -13,7 +13,7 @@ pub trait Chosen {
 }
 
 impl Chosen for Brand {
-    ghost use Rattle.heap_table.specs.Ruled.{no_heap, no_plan};
+    ghost use Rattle.heap_table.specs.inner.Ruled.{no_heap, no_plan};
 
     ghost heap = { no_heap };
 
@@ -25,7 +25,7 @@ pub struct Does<C> {
 }
 
 impl<C: Chosen> Play<(), Knows> for Does<C> {
-    ghost use Rattle.heap_table.specs.Ruled.{Told};
+    ghost use Rattle.heap_table.specs.inner.Ruled.{Told};
 
     ghost then = { λ s me n after. Told C.heap C.plan me n after };
 }
@@ -34,7 +34,8 @@ impl<C: Chosen> Play<(), Knows> for Does<C> {
 pub struct First;
 
 impl Split<Knows> for First {
-    ghost use Rattle.heap_table.specs.Ruled.{only, others};
+    ghost use Rattle.heap_table.specs.Ruled.{only};
+    ghost use Rattle.heap_table.specs.inner.Ruled.{others};
     ghost use Rattle.std.specs.Prelude.{[], ◌∷◌};
 
     ghost left = { others };

@@ -2,7 +2,8 @@
 ghost use Rattle.std.specs.Prelude.{◌≡◌, ◌+◌, ◌^◌, ◌<◌, ◌≤◌, ℕ, IfOk, [], length, true, vec_capacity, vec_len};
 ghost use Rattle.heap_table.specs.Cells.{cells_shown};
 ghost use Rattle.core_world.specs.There.{HasPlace};
-ghost use Rattle.heap_table.specs.Drafts.{IsDrafted, IsLeft, taken_after};
+ghost use Rattle.heap_table.specs.Drafts.{IsDrafted, IsLeft};
+ghost use Rattle.heap_table.specs.inner.Drafts.{taken_after};
 ghost use Rattle.heap_table.specs.Tallies.{counts_shown};
 
 use crate::afters::{
@@ -78,8 +79,9 @@ impl Mirror {
     ghost use Rattle.core_world.specs.Opening.{first_known};
     ghost use Rattle.core_world.specs.Words.Shape.{Shape};
     ghost use Rattle.core_world.specs.Steps.{known_after, with_entry, stamp_by};
-    ghost use Rattle.heap_table.specs.Kept.{Follows, HasRoom, StampFits, EntryFits, with_any_entry, entry_after};
-    ghost use Rattle.heap_table.specs.Layout.{IsPlaced};
+    ghost use Rattle.heap_table.specs.Kept.{Follows, HasRoom};
+    ghost use Rattle.heap_table.specs.inner.Kept.{StampFits, EntryFits, with_any_entry, entry_after};
+    ghost use Rattle.heap_table.specs.inner.Layout.{IsPlaced};
 
     /// What the thread knows before its first step.
     pub fn new(

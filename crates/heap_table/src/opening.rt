@@ -2,7 +2,7 @@
 ghost use Rattle.std.specs.Prelude.{◌≡◌, ◌++◌, IfOk, length};
 ghost use Rattle.core_world.specs.Opening.{first_mark};
 ghost use Rattle.heap_table.specs.Layout.{word_count};
-ghost use Rattle.heap_table.specs.Openings.{copies, spread, opening_groups};
+ghost use Rattle.heap_table.specs.inner.Openings.{copies, spread, opening_groups};
 
 use crate::setting::Setting;
 use std::alloc::{AllocError, Global};

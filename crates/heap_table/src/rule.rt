@@ -19,8 +19,8 @@ impl Model for Knows {
 pub struct WorldIsSound;
 
 impl TableRule<(), Knows, Setting> for WorldIsSound {
-    ghost use Rattle.heap_table.specs.Firsts.{first_knowns};
-    ghost use Rattle.heap_table.specs.Ruled.{Ruled};
+    ghost use Rattle.heap_table.specs.inner.Firsts.{first_knowns};
+    ghost use Rattle.heap_table.specs.inner.Ruled.{Ruled};
 
     ghost holds = { Ruled };
 

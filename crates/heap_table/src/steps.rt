@@ -2,7 +2,8 @@
 ghost use Rattle.std.specs.Prelude.{◌≡◌, [], ◌∷◌};
 ghost use Rattle.core_world.specs.Steps.{known_after};
 ghost use Rattle.heap_table.specs.Layout.{word_count};
-ghost use Rattle.heap_table.specs.Ruled.{only, heap_in, MayStep, Stepped};
+ghost use Rattle.heap_table.specs.Ruled.{only, heap_in, Stepped};
+ghost use Rattle.heap_table.specs.inner.Ruled.{MayStep};
 
 use crate::choice::{Chosen, Does};
 use crate::rule::{Place, Words};

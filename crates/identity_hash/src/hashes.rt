@@ -3,7 +3,7 @@ ghost use Rattle.std.specs.Prelude.{◌≡◌, ◌<◌, length};
 ghost use Rattle.core_world.specs.Threads.Known.{local_of};
 ghost use Rattle.core_world.specs.Trees.HashSteps.{draw_steps, hash_monitor_steps, hash_displaced_steps};
 ghost use Rattle.core_world.specs.Trees.HashSteps.{hash_inflate_steps, hash_header_steps};
-ghost use Rattle.identity_hash.specs.Parts.{hash_owned_steps};
+ghost use Rattle.identity_hash.specs.inner.Parts.{hash_owned_steps};
 ghost use Rattle.heap_table.specs.Parts.{IsDueOn, HasRun};
 ghost use Rattle.heap_table.specs.Seen.{IsOf};
 

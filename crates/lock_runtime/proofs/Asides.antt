@@ -26,7 +26,7 @@ use Rattle.core_world.specs.Trees.RevocationSteps.{look, store_steps, revoke_at,
 use Rattle.core_world.specs.Trees.SafepointSteps.{has_requester, request_swap_steps, request_steps, reached_steps, then_reached, safepoint_steps, release_to, reached_word}
 use Rattle.core_world.specs.Trees.Todo.{Todo, ◌>>=◌, each_from, all_from}
 use Rattle.core_world.specs.Trees.BiasSteps.{stage_after, unbias_swap_steps, bias_drop_at, bias_drop_by, bias_drop_steps}
-use Rattle.lock_runtime.specs.Parts.{reached_revocation}
+use Rattle.lock_runtime.specs.inner.Parts.{reached_revocation}
 use Rattle.heap_table.proofs.Aside.{AreAside, leaves_own_words, either_aside, then_aside, all_aside, each_aside}
 
 -- THE SAFEPOINT

@@ -20,7 +20,8 @@ use Rattle.heap_table.proofs.Resting.{IsCallOf, behind}
 use Rattle.core_world.specs.Trees.Calls.{steps_of, end}
 use Rattle.core_world.specs.Due.{Ran}
 use Rattle.core_calls.proofs.ShotsKept.{dump_shoots, dump_pends, dump_refuses}
-use Rattle.lock_runtime.specs.LookParts.{HasDumped, numbered_dump}
+use Rattle.lock_runtime.specs.LookParts.{HasDumped}
+use Rattle.lock_runtime.specs.inner.LookParts.{numbered_dump}
 use Rattle.lock_runtime.specs.Shots.{HasShots}
 use Rattle.lock_runtime.proofs.Behind.{first_then}
 

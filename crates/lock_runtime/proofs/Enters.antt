@@ -20,7 +20,7 @@ use Rattle.heap_table.proofs.Arms.{due_then, due_else, run_then, run_else}
 use Rattle.heap_table.proofs.Parts.{in_turn, ends}
 use Rattle.heap_table.proofs.Resting.{IsCallOf, whole_due}
 use Rattle.heap_table.proofs.Ruled.{not_due}
-use Rattle.lock_runtime.specs.Parts.{enter_first}
+use Rattle.lock_runtime.specs.inner.Parts.{enter_first}
 use Rattle.lock_runtime.proofs.Behind.{first_then}
 
 module _ (h : HeapSeen) (p : PassSeen) (o now : ℕ) (call : MayCall h p (Enter o now)) where

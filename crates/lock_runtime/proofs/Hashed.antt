@@ -19,7 +19,7 @@ use Rattle.heap_table.specs.Resting.{start_now}
 use Rattle.heap_table.specs.Seen.{HeapSeen, PassSeen, IsOf}
 use Rattle.heap_table.proofs.Aside.{StartsAlike}
 use Rattle.heap_table.proofs.Resting.{IsCallOf}
-use Rattle.lock_runtime.specs.HashParts.{hash_unbiased, hash_going}
+use Rattle.lock_runtime.specs.inner.HashParts.{hash_unbiased, hash_going}
 use Rattle.lock_runtime.proofs.Behind.{first_then}
 use Rattle.lock_runtime.proofs.Unbiased.{first_unbias}
 

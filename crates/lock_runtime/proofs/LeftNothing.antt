@@ -19,7 +19,7 @@ use Rattle.core_world.specs.Trees.Operations.{exit_going}
 use Rattle.core_world.specs.Words.Forms.{is_biased}
 use Rattle.heap_table.specs.Parts.{HasRun}
 use Rattle.heap_table.proofs.Resting.{IsCallOf}
-use Rattle.lock_runtime.specs.Parts.{exit_unbiased}
+use Rattle.lock_runtime.specs.inner.Parts.{exit_unbiased}
 use Rattle.heap_table.specs.Seen.{HeapSeen, PassSeen}
 
 module _ (s : Shape) (start : ℕ) (e : Purpose) (m : ℕ) (l : Known) where

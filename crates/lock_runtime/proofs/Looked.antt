@@ -13,7 +13,7 @@ use Rattle.heap_table.specs.Parts.{HasRun}
 use Rattle.heap_table.specs.Seen.{HeapSeen, PassSeen}
 use Rattle.heap_table.proofs.Knows.{same_thread}
 use Rattle.heap_table.proofs.Resting.{IsCallOf}
-use Rattle.lock_runtime.specs.LookParts.{check_going}
+use Rattle.lock_runtime.specs.inner.LookParts.{check_going}
 
 -- a run is of one thread
 steps_thread : {A : Type 0} (s : Shape) (start : ℕ) (d : Todo A) (k l : Known) (a : A) → Runs s start d k l a → l.thread ≡ k.thread

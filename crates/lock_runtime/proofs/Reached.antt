@@ -44,7 +44,7 @@ use Rattle.heap_table.specs.Seen.{HeapSeen, PassSeen, IsOf}
 use Rattle.heap_table.specs.Parts.{IsDueOn, HasRun}
 use Rattle.heap_table.proofs.Loops.{binds}
 use Rattle.heap_table.proofs.Knows.{same_thread, told_here}
-use Rattle.lock_runtime.specs.LookParts.{reached_dump, numbered_dump}
+use Rattle.lock_runtime.specs.inner.LookParts.{reached_dump, numbered_dump}
 
 -- LOADS alone
 abbrev pub AreLoads : {A : Type 0} → Todo A → Type 0

@@ -10,7 +10,7 @@ use Rattle.core_world.specs.Trees.Plans.{Purpose}
 use Rattle.core_world.specs.Trees.SafepointSteps.{safepoint_steps}
 use Rattle.core_world.specs.Trees.Todo.{◌>>=◌}
 use Rattle.heap_table.proofs.Resting.{IsCallOf}
-use Rattle.lock_runtime.specs.Parts.{enter_again}
+use Rattle.lock_runtime.specs.inner.Parts.{enter_again}
 use Rattle.lock_runtime.proofs.Entered.{unbiased_alike}
 
 pub first_safepoint : (e : Purpose) (t : ℕ) (requesting : Bool) → IsCallOf e.task (safepoint_steps e t requesting)

@@ -23,7 +23,7 @@ use Rattle.heap_table.specs.Seen.{HeapSeen, PassSeen, IsOf}
 use Rattle.heap_table.proofs.Arms.{run_then}
 use Rattle.heap_table.proofs.Parts.{ends}
 use Rattle.heap_table.proofs.Resting.{IsCallOf}
-use Rattle.lock_runtime.specs.WaitParts.{inflated_wait, marked_notify, marked_notify_all}
+use Rattle.lock_runtime.specs.inner.WaitParts.{inflated_wait, marked_notify, marked_notify_all}
 use Rattle.lock_runtime.proofs.Behind.{arm_first}
 use Rattle.lock_runtime.proofs.Unbiased.{first_behind}
 

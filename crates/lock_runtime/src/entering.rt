@@ -8,7 +8,7 @@ ghost use Rattle.core_calls.specs.CallsSay.{EnterSays};
 ghost use Rattle.heap_table.specs.Parts.{IsDueOn, HasRun};
 ghost use Rattle.heap_table.specs.Resting.{MayOperate, Rests, start_now};
 ghost use Rattle.heap_table.specs.Seen.{IsOf};
-ghost use Rattle.lock_runtime.specs.Parts.{enter_again, enter_first};
+ghost use Rattle.lock_runtime.specs.inner.Parts.{enter_again, enter_first};
 ghost use Rattle.lock_runtime.specs.Standing.{StandsOrSame};
 ghost use Rattle.lock_runtime.specs.Others.{PendsOrRefused};
 

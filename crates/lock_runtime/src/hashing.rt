@@ -7,7 +7,7 @@ ghost use Rattle.core_calls.specs.CallsSay.{HashSays};
 ghost use Rattle.heap_table.specs.Parts.{IsDueOn, HasRun};
 ghost use Rattle.heap_table.specs.Resting.{MayOperate, Rests, start_now};
 ghost use Rattle.heap_table.specs.Seen.{IsOf};
-ghost use Rattle.lock_runtime.specs.HashParts.{hash_unbiased, hash_going};
+ghost use Rattle.lock_runtime.specs.inner.HashParts.{hash_unbiased, hash_going};
 ghost use Rattle.lock_runtime.specs.Standing.{StandsBehind};
 ghost use Rattle.lock_runtime.specs.Others.{PendsForAnother};
 

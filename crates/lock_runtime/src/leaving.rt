@@ -9,7 +9,7 @@ ghost use Rattle.core_calls.specs.CallsSay.{ExitSays};
 ghost use Rattle.heap_table.specs.Parts.{IsDueOn, HasRun};
 ghost use Rattle.heap_table.specs.Resting.{MayOperate, Rests, start_now};
 ghost use Rattle.heap_table.specs.Seen.{IsOf};
-ghost use Rattle.lock_runtime.specs.Parts.{exit_unbiased};
+ghost use Rattle.lock_runtime.specs.inner.Parts.{exit_unbiased};
 ghost use Rattle.lock_runtime.specs.Standing.{StandsOrSame};
 ghost use Rattle.lock_runtime.specs.Refusals.{IsRefusedUnheld};
 

@@ -4,7 +4,7 @@ ghost use Rattle.core_world.specs.Trees.Operations.{revocation_steps, revoked_st
 ghost use Rattle.heap_table.specs.Parts.{IsDueOn, HasRun};
 ghost use Rattle.heap_table.specs.Resting.{start_now};
 ghost use Rattle.heap_table.specs.Seen.{IsOf};
-ghost use Rattle.lock_runtime.specs.Parts.{reached_revocation, unbias_first};
+ghost use Rattle.lock_runtime.specs.inner.Parts.{reached_revocation, unbias_first};
 
 use bias_lock::{bias_drop, stage_after};
 use core_world::{BiasTry, Turn, Why};

@@ -12,7 +12,7 @@ ghost use Rattle.core_calls.specs.Woken.{IfDone};
 ghost use Rattle.heap_table.specs.Parts.{IsDueOn, HasRun};
 ghost use Rattle.heap_table.specs.Resting.{MayOperate, Rests, start_now};
 ghost use Rattle.heap_table.specs.Seen.{IsOf};
-ghost use Rattle.lock_runtime.specs.WaitParts.{inflated_wait, letting_go, marked_notify, marked_notify_all};
+ghost use Rattle.lock_runtime.specs.inner.WaitParts.{inflated_wait, letting_go, marked_notify, marked_notify_all};
 ghost use Rattle.lock_runtime.specs.Locking.{OwnerWakes, OwnerWakesAll};
 ghost use Rattle.lock_runtime.specs.Standing.{StandsOrSame};
 ghost use Rattle.lock_runtime.specs.Others.{PendsOrRefused};

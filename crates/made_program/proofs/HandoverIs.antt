@@ -9,7 +9,7 @@ use Rattle.object_program.specs.Canonical.{canonical}
 use Rattle.object_program.specs.Refusal.{program_of}
 use Rattle.object_program.proofs.CanonicalPrograms.{program_of-canonical}
 use Rattle.made_program.specs.HandoverText.{declared_lines, first_lines, second_lines, handover_text}
-use Rattle.made_program.specs.HandoverProgram.{first_thread, second_thread, handover_program}
+use Rattle.made_program.specs.inner.HandoverProgram.{first_thread, second_thread, handover_program}
 
 in_range : (n : ℕ) → n ≤ 1500 → IsInRange (pos n)
 in_range n few = (omega (arith, ints), omega (arith, ints))

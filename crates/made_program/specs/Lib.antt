@@ -1,2 +1,2 @@
 pub mod HandoverText
-pub mod HandoverProgram
+pub mod inner

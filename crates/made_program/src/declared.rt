@@ -2,7 +2,7 @@
 
 ghost use Rattle.std.specs.Prelude.{◌≡◌, IsTrue, IfOk};
 ghost use Rattle.object_program.specs.Name.{is_name};
-ghost use Rattle.made_program.specs.HandoverProgram as spec;
+ghost use Rattle.made_program.specs.inner.HandoverProgram as spec;
 
 use object_program::{ClassDef, Name, ObjectDef};
 use plain_monitor::List;

@@ -4,3 +4,4 @@ pub mod Owner
 pub mod Wait
 pub mod Hold
 pub mod Safe
+pub mod inner

@@ -57,8 +57,3 @@ abbrev pub IsBiasForm : MarkForm → Type 0
 IsBiasForm (Anonymous epoch age) = Unit {0}
 IsBiasForm (Biased thread epoch age) = Unit {0}
 IsBiasForm _ = ⊥
-
--- the form is neutral
-abbrev pub IsNeutralForm : MarkForm → Type 0
-IsNeutralForm (Neutral hash age) = Unit {0}
-IsNeutralForm _ = ⊥

@@ -1,7 +1,8 @@
 //! Mark words: an object's header, as `markOop.hpp` of OpenJDK 8 lays it out in 64 bits.
 
 ghost use Rattle.std.specs.Prelude.{◌≡◌, ℕ, ◌/◌, ◌%◌, ◌^◌, ◌<◌, ◌↔◌, IfOk, OnErr, IsTrue};
-ghost use Rattle.mark_word.specs.Mark.{IsMarkInRange, mark_of, SpellsMark, IsBiasForm, IsNeutralForm};
+ghost use Rattle.mark_word.specs.Mark.{IsMarkInRange, mark_of, SpellsMark, IsBiasForm};
+ghost use Rattle.mark_word.specs.inner.Mark.{IsNeutralForm};
 
 use crate::bad_mark::BadMark;
 use crate::record::{read_record, record_word};

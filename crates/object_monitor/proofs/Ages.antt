@@ -6,7 +6,7 @@ use Rattle.mark_word.specs.declared.wait.WaitForm.TheVariants.{Ready}
 use Rattle.mark_word.proofs.ReadingWaits.{read_wait-wait_of}
 use Rattle.core_world.specs.Trees.WaitSteps.{waiters, is_older, insert_waiter, by_age}
 use Rattle.core_world.specs.Words.Forms.{waits_form, waits_on, stamp_in}
-use Rattle.object_monitor.specs.NotifyParts.{first_of, older_of, oldest_with}
+use Rattle.object_monitor.specs.inner.NotifyParts.{first_of, older_of, oldest_with}
 
 -- THE FIRST. One more waiter is the first, or the one that was
 first_inserted : (p : ℕ × ℕ) (qs : List (ℕ × ℕ)) → first_of (insert_waiter p qs) ≡ older_of p (first_of qs)

@@ -16,7 +16,7 @@ use Rattle.heap_table.specs.StepPlans.{store_plan, log_store_plan}
 use Rattle.heap_table.specs.Stepping.{CanStep, HasStepped}
 use Rattle.heap_table.proofs.Loops.{HasCome, nothing_yet, comes_on, comes_as}
 use Rattle.heap_table.proofs.Parts.{can, rest_due, last_step}
-use Rattle.object_monitor.specs.NotifyParts.{first_of, notify_one, notify_those}
+use Rattle.object_monitor.specs.inner.NotifyParts.{first_of, notify_one, notify_those}
 use Rattle.object_monitor.proofs.Ages.{few_waiters, taken_of, first_and_others, others_than_first}
 
 -- THE TREES, by the oldest waiter

@@ -1,3 +1,1 @@
-pub mod ExitParts
-pub mod NotifyParts
-pub mod WaitParts
+pub mod inner

@@ -6,7 +6,7 @@ ghost use Rattle.core_world.specs.Trees.MonitorSteps.{own_steps, release_steps, 
 ghost use Rattle.core_world.specs.Trees.Plans.{top_place};
 ghost use Rattle.heap_table.specs.Parts.{IsDueOn, HasRun};
 ghost use Rattle.heap_table.specs.Seen.{IsOf};
-ghost use Rattle.object_monitor.specs.ExitParts.{lowered_exit, counted_exit};
+ghost use Rattle.object_monitor.specs.inner.ExitParts.{lowered_exit, counted_exit};
 
 use core_world::{Name, Stage};
 use heap_table::{Heap, Pass, Purpose, owner_of_word};

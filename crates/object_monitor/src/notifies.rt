@@ -5,7 +5,7 @@ ghost use Rattle.core_world.specs.Trees.WaitSteps.{look_steps, waiters, by_age};
 ghost use Rattle.core_world.specs.Trees.WaitSteps.{monitor_notify_steps, monitor_notify_all_steps};
 ghost use Rattle.heap_table.specs.Parts.{IsDueOn, HasRun};
 ghost use Rattle.heap_table.specs.Seen.{IsOf};
-ghost use Rattle.object_monitor.specs.NotifyParts.{first_of, older_of, oldest_with, notify_one, notify_those};
+ghost use Rattle.object_monitor.specs.inner.NotifyParts.{first_of, older_of, oldest_with, notify_one, notify_those};
 
 use crate::waits::publish;
 use core_world::{Name, Stage};

@@ -5,7 +5,7 @@ ghost use Rattle.core_world.specs.Trees.WaitSteps.{resumed_steps, resume_owner_a
 ghost use Rattle.core_world.specs.Trees.WaitSteps.{monitor_wait_steps, publish_steps};
 ghost use Rattle.heap_table.specs.Parts.{IsDueOn, HasRun};
 ghost use Rattle.heap_table.specs.Seen.{IsOf};
-ghost use Rattle.object_monitor.specs.WaitParts.{marked_resume, stamped_wait, quit_steps, owned_wait};
+ghost use Rattle.object_monitor.specs.inner.WaitParts.{marked_resume, stamped_wait, quit_steps, owned_wait};
 
 use crate::exits::own;
 use core_world::{Name, Own, Stage, Turn, Why};

@@ -1,6 +1,5 @@
 -- What contracts see of a `Name`: its bytes.
-use Rattle.std.specs.Prelude.{◌≡◌, ℕ, ◌-◌, ◌≤◌, List, ◌++◌, length, take, drop, replicate, IsTrue, refl}
-use Rattle.std.proofs.lemmas.List.{take-append-drop, length-take-le}
+use Rattle.std.specs.Prelude.{◌≡◌, ℕ, ◌-◌, ◌≤◌, List, length, take, drop, replicate, IsTrue}
 use Rattle.object_program.specs.declared.name.Name.TheInside.{Inside}
 use Rattle.object_program.specs.Name.{is_name}
 
@@ -12,13 +11,3 @@ pub record IsKept (a : Inside) : Type 0 where
   pub within : a.length ≤ length a.bytes
   pub name : IsTrue (is_name (name_bytes a))
   pub rest : drop a.length a.bytes ≡ replicate (32 - a.length) 0
-
--- the array that has these bytes in front
-abbrev pub name_inside : List ℕ → Inside
-name_inside bs = record { bytes = bs ++ replicate (32 - length bs) 0; length = length bs }
-
--- the bytes give the array back
-pub name_again : (a : Inside) → IsKept a → name_inside (name_bytes a) ≡ a
-name_again a h =
-    let n : length (take a.length a.bytes) ≡ a.length = length-take-le a.length a.bytes h.within in
-    rw (n, ← h.rest, take-append-drop a.length a.bytes) refl

@@ -6,3 +6,4 @@ pub mod Spelled
 pub mod Steps
 pub mod Written
 pub mod Places
+pub mod NameView

@@ -26,7 +26,8 @@ impl Model for Name {
 
     ghost Value = { List ℕ };
 
-    ghost use Rattle.object_program.specs.NameView.{name_bytes, IsKept, name_inside};
+    ghost use Rattle.object_program.specs.NameView.{name_bytes, IsKept};
+    ghost use Rattle.object_program.specs.inner.NameView.{name_inside};
 
     ghost view = { name_bytes };
 
@@ -34,7 +35,7 @@ impl Model for Name {
 
     ghost inverse = { name_inside };
 
-    ghost use Rattle.object_program.specs.NameView.{name_again};
+    ghost use Rattle.object_program.specs.inner.NameView.{name_again};
 
     ghost inverse_ok = { name_again };
 }

@@ -7,7 +7,8 @@ use Rattle.heap_table.specs.declared.counts.ClassCounts.{ClassCounts}
 use Rattle.heap_table.specs.Seen.{ClosedSeen}
 use Rattle.heap_table.specs.Tallies.{capped}
 use Rattle.lock_journal.specs.declared.record.ClassLine.{ClassLine}
-use Rattle.program_run.specs.Lines.{counts_on, line_of, lines_below, raised, sums_on, total_on}
+use Rattle.program_run.specs.Lines.{counts_on, line_of, lines_below, sums_on, total_on}
+use Rattle.program_run.specs.inner.Lines.{raised}
 
 total_more : (number : ClassCounts → ℕ) (xs : List (List ClassCounts)) (i : ℕ) (x : List ClassCounts) (k : ℕ) → i < length xs → x ≡ get_or xs i x
     → total_on number (take (i + 1) xs) k ≡ total_on number (take i xs) k + number (counts_on x k)

@@ -13,7 +13,7 @@ use Rattle.run_rounds.specs.Rounds.{AreNew, IsRunnerAt, IsUnused}
 use Rattle.thread_calls.specs.Between.{IsHeapOf, IsOn}
 use Rattle.thread_frame.specs.Frames.{first_frame}
 use Rattle.thread_interp.specs.Runners.{RunnerSeen}
-use Rattle.program_run.specs.HeapFor.{runner_on}
+use Rattle.program_run.specs.inner.HeapFor.{runner_on}
 
 -- the law that is asked of unused passes
 abbrev pub Unused : Type 0

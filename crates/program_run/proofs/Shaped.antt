@@ -10,7 +10,8 @@ use Rattle.object_program.specs.declared.program.ThreadDef.{ThreadDef}
 use Rattle.object_program.specs.Program.{ProgramText, shape_from, slots_of_class, total_of}
 use Rattle.object_program.specs.Valid.{AreObjects, IsProgram}
 use Rattle.plain_monitor.proofs.Lists.{all_map}
-use Rattle.program_run.specs.HeapFor.{classes_of, shape_for}
+use Rattle.program_run.specs.HeapFor.{shape_for}
+use Rattle.program_run.specs.inner.HeapFor.{classes_of}
 
 abbrev slots_by : List ClassDef → List ℕ
 slots_by classes = map (λ (c : ClassDef). c.slots) classes

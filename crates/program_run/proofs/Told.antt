@@ -28,7 +28,8 @@ use Rattle.program_run.specs.declared.settings.Settings.{Settings}
 use Rattle.program_run.specs.Biases.{HasBiases, IsEven, IsIdle, IsLine, IsUnrevoked, prototype_by}
 use Rattle.program_run.specs.HeapFor.{heap_for}
 use Rattle.program_run.specs.Left.{IsOfClosed, shots_left}
-use Rattle.program_run.specs.Lines.{HasSmallCounts, line_of, lines_below, total_on}
+use Rattle.program_run.specs.Lines.{line_of, lines_below, total_on}
+use Rattle.program_run.specs.inner.Lines.{HasSmallCounts}
 use Rattle.program_run.specs.Ran.{HasAll, IsRan, IsRecordOf}
 use Rattle.program_run.specs.Shots.{AreRightShots}
 use Rattle.program_run.proofs.Biased.{Biased, Plain, all_idle, all_lines, even, fits, log_fits, prototype_is, revoke_is, small_here}

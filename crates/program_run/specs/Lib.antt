@@ -4,3 +4,4 @@ pub mod Left
 pub mod Shots
 pub mod Biases
 pub mod Ran
+pub mod inner

@@ -1,5 +1,5 @@
 -- What happened to the biases of each class, by what a heap has at its end.
-use Rattle.std.specs.Prelude.{ℕ, zero, suc, ◌+◌, ◌^◌, ◌<◌, List, [], ◌∷◌, ◌++◌, slice_index, slice_index_or}
+use Rattle.std.specs.Prelude.{ℕ, zero, suc, ◌+◌, List, [], ◌∷◌, ◌++◌, slice_index, slice_index_or}
 use Rattle.std.specs.List.{sum_by}
 use Rattle.core_world.specs.declared.name.Name.TheVariants.{Prototype, Revocations}
 use Rattle.heap_table.specs.declared.counts.ClassCounts.{ClassCounts}
@@ -29,16 +29,6 @@ sums_on counts k =
       reset = capped (total_on (λ n. n.reset) counts k);
     }
 
--- the counts, raised by others
-abbrev pub raised : ClassCounts → ClassCounts → ClassCounts
-raised a b =
-    record {
-      single = capped (a.single + b.single);
-      rebias = capped (a.rebias + b.rebias);
-      revoke = capped (a.revoke + b.revoke);
-      reset = capped (a.reset + b.reset);
-    }
-
 -- the sums of the threads' counts, and the class's words
 abbrev pub line_of : ClosedSeen → ℕ → ClassLine
 line_of c k =
@@ -57,7 +47,3 @@ lines_below c (suc n) = lines_below c n ++ line_of c n ∷ []
 
 abbrev pub class_lines : ClosedSeen → List ClassLine
 class_lines c = lines_below c c.heap.shape.classes
-
--- the count of revocations of each class has 32 bits
-abbrev pub HasSmallCounts : ClosedSeen → Type 0
-HasSmallCounts c = (k : ℕ) → k < c.heap.shape.classes → slice_index c.words (place_of c.heap.shape (Revocations k)) < 2 ^ 32

@@ -9,7 +9,7 @@ ghost use Rattle.run_rounds.specs.Outcome.{HasRun};
 ghost use Rattle.program_run.specs.declared.settings.Settings.{Settings};
 ghost use Rattle.program_run.specs.HeapFor.{heap_for};
 ghost use Rattle.program_run.specs.Left.{IsOfClosed};
-ghost use Rattle.program_run.specs.Lines.{HasSmallCounts};
+ghost use Rattle.program_run.specs.inner.Lines.{HasSmallCounts};
 ghost use Rattle.program_run.specs.Ran.{IsRecordOf, IsRan};
 
 /// The record that is copied from what a run leaves is a record of the run. The counts of its classes are small.

@@ -1,7 +1,8 @@
 //! What happened to the biases of each class.
 
 ghost use Rattle.std.specs.Prelude.{◌≡◌, ◌<◌, slice_index, IfOk};
-ghost use Rattle.program_run.specs.Lines.{counts_on, sums_on, raised, line_of, lines_below, HasSmallCounts};
+ghost use Rattle.program_run.specs.Lines.{counts_on, sums_on, line_of, lines_below};
+ghost use Rattle.program_run.specs.inner.Lines.{raised, HasSmallCounts};
 
 use heap_table::{ClassCounts, Closed};
 use lock_journal::ClassLine;

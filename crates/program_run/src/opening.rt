@@ -3,7 +3,8 @@
 ghost use Rattle.std.specs.Prelude.{◌≡◌, ◌≤◌, map, IfOk};
 ghost use Rattle.run_rounds.specs.Rounds.{AreNew};
 ghost use Rattle.thread_calls.specs.Between.{IsHeapOf};
-ghost use Rattle.program_run.specs.HeapFor.{heap_for, runner_on};
+ghost use Rattle.program_run.specs.HeapFor.{heap_for};
+ghost use Rattle.program_run.specs.inner.HeapFor.{runner_on};
 
 use crate::settings::Settings;
 use crate::shape::heap_shape;

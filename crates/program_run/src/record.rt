@@ -2,7 +2,7 @@
 
 ghost use Rattle.std.specs.Prelude.{IfOk};
 ghost use Rattle.program_run.specs.Left.{IsOfClosed};
-ghost use Rattle.program_run.specs.Lines.{HasSmallCounts};
+ghost use Rattle.program_run.specs.inner.Lines.{HasSmallCounts};
 ghost use Rattle.program_run.specs.Ran.{IsRecordOf};
 
 use crate::copies::{copy_logs, copy_shots};

@@ -2,7 +2,8 @@
 
 ghost use Rattle.std.specs.Prelude.{◌≡◌, ◌++◌, map, replicate, IfOk, OnOk};
 ghost use Rattle.object_program.specs.Valid.{IsProgram};
-ghost use Rattle.program_run.specs.HeapFor.{classes_of, shape_for};
+ghost use Rattle.program_run.specs.HeapFor.{shape_for};
+ghost use Rattle.program_run.specs.inner.HeapFor.{classes_of};
 
 use heap_table::HeapShape;
 use object_program::Program;

@@ -19,7 +19,7 @@ use Rattle.heap_table.specs.Stepping.{HasStepped}
 use Rattle.heap_table.proofs.Aside.{AreAside, leaves_own_words, aside}
 use Rattle.heap_table.proofs.Parts.{last_step}
 use Rattle.heap_table.proofs.Knows.{was_of}
-use Rattle.revoke_walk.specs.ShotParts.{IsLater, IsSettled}
+use Rattle.revoke_walk.specs.inner.ShotParts.{IsLater, IsSettled}
 
 pub later_itself : (k : Known) → IsLater k k
 later_itself k = record { local = refl; reached = refl; saw = λ n v e. e }

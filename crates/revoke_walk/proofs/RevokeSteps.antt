@@ -17,7 +17,7 @@ use Rattle.core_world.specs.Words.Forms.{is_biased, is_biased_form}
 use Rattle.core_world.specs.Words.Shape.{Shape, class_of}
 use Rattle.revoke_walk.specs.declared.visit.Visit.{Visit}
 use Rattle.revoke_walk.specs.declared.visit.Visit.TheVariants.{Renew, Revoke}
-use Rattle.revoke_walk.specs.RevokeParts.{mark_locked, record_write, record_steps, visit_form, visit_by, place_steps, thread_steps}
+use Rattle.revoke_walk.specs.inner.RevokeParts.{mark_locked, record_write, record_steps, visit_form, visit_by, place_steps, thread_steps}
 use Rattle.revoke_walk.proofs.Behind.{AreOf, then_of, either_of, all_of, each_of}
 
 -- stores one after the other, in two parts

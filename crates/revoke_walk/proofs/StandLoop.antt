@@ -10,7 +10,7 @@ use Rattle.heap_table.specs.Parts.{IsDueOn, HasRun}
 use Rattle.heap_table.specs.Seen.{HeapSeen, PassSeen, IsOf}
 use Rattle.heap_table.proofs.Loops.{HasCome, each_next, comes_on, comes_as}
 use Rattle.heap_table.proofs.Parts.{part_then, ends}
-use Rattle.revoke_walk.specs.StandParts.{look_at_thread, stands_with, still_from}
+use Rattle.revoke_walk.specs.inner.StandParts.{look_at_thread, stands_with, still_from}
 use Rattle.revoke_walk.proofs.Standing.{all_with}
 
 -- behind the last thread all were looked at

@@ -5,7 +5,7 @@ use Rattle.mark_word.specs.declared.mark.MarkForm.TheVariants.{Inflating, Neutra
 use Rattle.core_world.specs.Trees.LookSteps.{look_at_monitor, none_goes_on}
 use Rattle.core_world.specs.Trees.Plans.{Purpose}
 use Rattle.core_world.specs.Trees.Todo.{never, done}
-use Rattle.revoke_walk.specs.StandParts.{stands_with}
+use Rattle.revoke_walk.specs.inner.StandParts.{stands_with}
 
 pub never_looked : (f : MarkForm) (e : Purpose) (t : ℕ) → ((m : ℕ) → f ≡ Inflated m → ⊥) → look_at_monitor (Some f) e t ≡ never
 never_looked Inflating e t inflated = refl

@@ -1,3 +1,2 @@
-pub mod RevokeParts
-pub mod StandParts
 pub mod ShotParts
+pub mod inner

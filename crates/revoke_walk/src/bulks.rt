@@ -4,8 +4,8 @@ ghost use Rattle.core_world.specs.Trees.RevocationSteps.{take_bias_steps, bulk_r
 ghost use Rattle.core_world.specs.Trees.RevocationSteps.{store_steps, revoke_steps};
 ghost use Rattle.heap_table.specs.Parts.{IsDueOn, HasRun};
 ghost use Rattle.heap_table.specs.Seen.{IsOf};
-ghost use Rattle.revoke_walk.specs.RevokeParts.{renewed_steps, rebiased_steps, raised_steps};
-ghost use Rattle.revoke_walk.specs.RevokeParts.{unbiased_steps, neutral_steps};
+ghost use Rattle.revoke_walk.specs.inner.RevokeParts.{renewed_steps, rebiased_steps, raised_steps};
+ghost use Rattle.revoke_walk.specs.inner.RevokeParts.{unbiased_steps, neutral_steps};
 
 use crate::revocation::Revocation;
 use crate::revokes::revoke;

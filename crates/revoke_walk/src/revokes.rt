@@ -6,7 +6,7 @@ ghost use Rattle.core_world.specs.Clauses.WordForms.{IsMark};
 ghost use Rattle.core_world.specs.Trees.RevocationSteps.{revoke_at, revoke_steps};
 ghost use Rattle.heap_table.specs.Parts.{IsDueOn, HasRun};
 ghost use Rattle.heap_table.specs.Seen.{IsOf};
-ghost use Rattle.revoke_walk.specs.RevokeParts.{holds_steps, record_steps, locked_steps};
+ghost use Rattle.revoke_walk.specs.inner.RevokeParts.{holds_steps, record_steps, locked_steps};
 
 use crate::revocation::Revocation;
 use crate::steps::{look, store_one};

@@ -10,10 +10,11 @@ ghost use Rattle.core_world.specs.Words.Forms.{epoch_in, names};
 ghost use Rattle.heap_table.specs.Parts.{IsDueOn, HasRun};
 ghost use Rattle.heap_table.specs.Seen.{IsOf};
 ghost use Rattle.mark_word.specs.Hold.{read_hold};
-ghost use Rattle.revoke_walk.specs.ShotParts.{HasShot, IsLater, IsSettled};
-ghost use Rattle.revoke_walk.specs.ShotParts.{held_in, owned_cell, cell_by, cell_at, cell_of, bias_lock, length_of};
-ghost use Rattle.revoke_walk.specs.ShotParts.{look_at_hold, look_at_bias, look_at_monitor, look_at_cell};
-ghost use Rattle.revoke_walk.specs.ShotParts.{look_at_length, look_at_lengths};
+ghost use Rattle.revoke_walk.specs.ShotParts.{HasShot};
+ghost use Rattle.revoke_walk.specs.inner.ShotParts.{IsLater, IsSettled};
+ghost use Rattle.revoke_walk.specs.inner.ShotParts.{held_in, owned_cell, cell_by, cell_at, cell_of, bias_lock, length_of};
+ghost use Rattle.revoke_walk.specs.inner.ShotParts.{look_at_hold, look_at_bias, look_at_monitor, look_at_cell};
+ghost use Rattle.revoke_walk.specs.inner.ShotParts.{look_at_length, look_at_lengths};
 ghost use Rattle.core_world.specs.declared.name.Name.TheVariants as name;
 
 use crate::words::one_if;

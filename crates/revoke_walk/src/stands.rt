@@ -4,7 +4,7 @@ ghost use Rattle.core_world.specs.Trees.LookSteps.{is_open_to, look_at_monitor, 
 ghost use Rattle.core_world.specs.Trees.LookSteps.{stands_still_steps};
 ghost use Rattle.heap_table.specs.Parts.{IsDueOn, HasRun};
 ghost use Rattle.heap_table.specs.Seen.{IsOf};
-ghost use Rattle.revoke_walk.specs.StandParts.{look_at_thread};
+ghost use Rattle.revoke_walk.specs.inner.StandParts.{look_at_thread};
 
 use core_world::{Name, Stage};
 use heap_table::{Heap, Pass, Purpose, mark_of_word, owner_of_word, wait_of_word};

@@ -5,7 +5,7 @@ ghost use Rattle.core_world.specs.Clauses.WordForms.{IsMark};
 ghost use Rattle.core_world.specs.Trees.RevocationSteps.{walk_steps};
 ghost use Rattle.heap_table.specs.Parts.{IsDueOn, HasRun};
 ghost use Rattle.heap_table.specs.Seen.{IsOf};
-ghost use Rattle.revoke_walk.specs.RevokeParts.{IsVisit, visit_form, visit_by, object_steps, place_steps, thread_steps};
+ghost use Rattle.revoke_walk.specs.inner.RevokeParts.{IsVisit, visit_form, visit_by, object_steps, place_steps, thread_steps};
 
 use crate::revocation::Revocation;
 use crate::revokes::revoke_form;

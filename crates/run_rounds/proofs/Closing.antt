@@ -25,7 +25,8 @@ use Rattle.run_ends.proofs.Shots.{has_shots}
 use Rattle.run_ends.proofs.Stuck.{no_hash_open}
 use Rattle.std.specs.List.{AllByRecursion}
 use Rattle.run_rounds.specs.Outcome.{HasRun}
-use Rattle.run_rounds.specs.Rounds.{AreRunners, AreTimed, IsUnused, AreOver}
+use Rattle.run_rounds.specs.Rounds.{AreRunners, IsUnused}
+use Rattle.run_rounds.specs.inner.Rounds.{AreTimed, AreOver}
 use Rattle.run_rounds.proofs.Ending.{passes, known_at, log_at, logs_are, not_live, all_of, own_follows, ended_at, is_end, have_followed, word_is_halted}
 use Rattle.run_rounds.proofs.Lists.{all_mapped}
 use Rattle.run_rounds.proofs.Over.{Laws, ends_alike, is_over}

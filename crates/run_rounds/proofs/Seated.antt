@@ -14,7 +14,8 @@ use Rattle.thread_calls.specs.Timed.{IsTimed, StaysTimed}
 use Rattle.thread_interp.specs.Checks.{StandsAfterCheck}
 use Rattle.thread_interp.specs.Runners.{RunnerSeen, IsRunner, IsSame}
 use Rattle.run_rounds.specs.declared.seats.Seat.{Seat}
-use Rattle.run_rounds.specs.Rounds.{IsRunnerAt, AreRunners, AreTimed, runners_in}
+use Rattle.run_rounds.specs.Rounds.{IsRunnerAt, AreRunners}
+use Rattle.run_rounds.specs.inner.Rounds.{AreTimed, runners_in}
 use Rattle.run_rounds.proofs.Lists.{Came, mapped_at, map_at}
 
 pub seat_at : (seats : List Seat) (t : ℕ) (r : RunnerSeen) → slice_get (runners_in seats) t ≡ Some r

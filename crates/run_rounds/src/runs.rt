@@ -3,7 +3,8 @@
 ghost use Rattle.std.specs.Prelude.{◌≡◌, ◌≤◌, [], map, IfOk, vec_len, vec_capacity};
 ghost use Rattle.thread_calls.specs.Between.{IsHeapOf};
 ghost use Rattle.run_rounds.specs.Outcome.{HasRun};
-ghost use Rattle.run_rounds.specs.Rounds.{AreNew, runners_in};
+ghost use Rattle.run_rounds.specs.Rounds.{AreNew};
+ghost use Rattle.run_rounds.specs.inner.Rounds.{runners_in};
 
 use crate::rounds::rounds;
 use crate::seats::{Seat, seats};

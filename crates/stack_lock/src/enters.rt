@@ -5,7 +5,7 @@ ghost use Rattle.core_world.specs.Trees.LockSteps.{log_enter_steps, hold_steps, 
 ghost use Rattle.core_world.specs.Trees.LockSteps.{stack_enter_at, stack_enter_steps};
 ghost use Rattle.heap_table.specs.Parts.{IsDueOn, HasRun};
 ghost use Rattle.heap_table.specs.Seen.{IsOf};
-ghost use Rattle.stack_lock.specs.Parts.{entered_by};
+ghost use Rattle.stack_lock.specs.inner.Parts.{entered_by};
 
 use crate::places::free_place;
 use crate::words::is_entering;

@@ -6,7 +6,8 @@ ghost use Rattle.core_world.specs.Trees.LockSteps.{raise_steps, stack_exit_by, s
 ghost use Rattle.core_world.specs.Trees.Plans.{top_place};
 ghost use Rattle.heap_table.specs.Parts.{IsDueOn, HasRun};
 ghost use Rattle.heap_table.specs.Seen.{IsOf};
-ghost use Rattle.stack_lock.specs.Parts.{leave_at, clear_at, marked_exit};
+ghost use Rattle.stack_lock.specs.Parts.{leave_at, clear_at};
+ghost use Rattle.stack_lock.specs.inner.Parts.{marked_exit};
 
 use crate::places::top_place;
 use core_world::{Name, StackOut, Stage, Why};

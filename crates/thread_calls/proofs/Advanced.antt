@@ -33,7 +33,7 @@ use Rattle.thread_logs.proofs.Standing.{waits_told}
 use Rattle.thread_calls.specs.Advances.{HasAdvanced, MayAdvance, HasPended, HasSpent}
 use Rattle.thread_calls.specs.Asked.{unfinished_of}
 use Rattle.thread_calls.specs.Between.{IsHeapOf, state_by}
-use Rattle.thread_calls.specs.Made.{IsBehind, HasLogged, HasLeft, HasTold}
+use Rattle.thread_calls.specs.inner.Made.{IsBehind, HasLogged, HasLeft, HasTold}
 use Rattle.thread_calls.proofs.Counts.{sum_behind, sum_left, sum_kept, keeps}
 use Rattle.thread_calls.proofs.Framed.{IsFramed, holds_with, framed_next, framed_by, holds_behind_entry, on_from, sum_holds}
 use Rattle.thread_calls.proofs.May.{thread_is}

@@ -21,7 +21,7 @@ use Rattle.heap_table.specs.Seen.{HeapSeen, PassSeen}
 use Rattle.lock_runtime.specs.LookParts.{HasDumped}
 use Rattle.lock_runtime.specs.Standing.{IsRunning, StandsBehind}
 use Rattle.thread_calls.specs.Advances.{HasPended}
-use Rattle.thread_calls.specs.Made.{IsBehind, HasLogged, HasLeft}
+use Rattle.thread_calls.specs.inner.Made.{IsBehind, HasLogged, HasLeft}
 
 -- a run leaves its thread's number
 step_thread : (s : Shape) (start : ℕ) (p : StepPlan) (n : ℕ) (k : Known) (b : Bool)

@@ -27,7 +27,7 @@ use Rattle.thread_logs.proofs.Logs.{next_follows, followed_thread}
 use Rattle.thread_logs.proofs.Standing.{holds_told}
 use Rattle.thread_calls.specs.Asked.{unfinished_of, IsAtMost}
 use Rattle.thread_calls.specs.Between.{IsHeapOf, IsOn, StandsFor, state_by}
-use Rattle.thread_calls.specs.Made.{IsBehind}
+use Rattle.thread_calls.specs.inner.Made.{IsBehind}
 use Rattle.thread_calls.proofs.Shapes.{as_many}
 use Rattle.thread_calls.proofs.Counts.{counts_length, counts_at, are_counts, held_more, held_same, AreBehind}
 

@@ -15,7 +15,7 @@ use Rattle.heap_table.specs.Seen.{HeapSeen, PassSeen}
 use Rattle.own_logs.proofs.Settled.{settled}
 use Rattle.plain_machine.specs.Asking.{held_from}
 use Rattle.thread_frame.specs.Sights.{counts_from}
-use Rattle.thread_calls.specs.Least.{least_in, lesser, object_in}
+use Rattle.thread_calls.specs.inner.Least.{least_in, lesser, object_in}
 
 pub lesser_thrice : (x y z : Option ℕ) → lesser x (lesser y z) ≡ lesser (lesser x y) z
 lesser_thrice None y z = refl

@@ -40,7 +40,7 @@ use Rattle.thread_logs.proofs.Standing.{holds_told, ends_told, dumps_told}
 use Rattle.thread_calls.specs.Advances.{MayAdvance}
 use Rattle.thread_calls.specs.Asked.{unfinished_of, unfinished_on, IsAtMost}
 use Rattle.thread_calls.specs.Between.{IsHeapOf, state_by}
-use Rattle.thread_calls.specs.Made.{Holds, MayMake}
+use Rattle.thread_calls.specs.inner.Made.{Holds, MayMake}
 use Rattle.thread_calls.proofs.Values.{value_is}
 use Rattle.thread_calls.proofs.Shapes.{as_many, same_slots}
 

@@ -8,7 +8,7 @@ ghost use Rattle.plain_machine.specs.Asking.{held_from};
 ghost use Rattle.plain_machine.specs.declared.call.Mode.TheVariants.{Unwinding, Waiting};
 ghost use Rattle.thread_calls.specs.Advances.{HasAdvanced, MayAdvance};
 ghost use Rattle.thread_calls.specs.Between.{IsHeapOf};
-ghost use Rattle.thread_calls.specs.Least.{lesser, object_in};
+ghost use Rattle.thread_calls.specs.inner.Least.{lesser, object_in};
 ghost use Rattle.thread_calls.specs.Timed.{StaysTimed};
 ghost use Rattle.thread_frame.specs.Sights.{counts_from};
 

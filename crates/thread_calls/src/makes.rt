@@ -6,7 +6,7 @@ ghost use Rattle.core_calls.specs.Moments.{HasCalled};
 ghost use Rattle.core_world.specs.declared.task.Task.TheVariants as task;
 ghost use Rattle.heap_table.specs.Resting.{MayOperate, start_now};
 ghost use Rattle.plain_machine.specs.declared.call.Call.TheVariants as call;
-ghost use Rattle.thread_calls.specs.Made.{HasMade, Holds, MayMake};
+ghost use Rattle.thread_calls.specs.inner.Made.{HasMade, Holds, MayMake};
 ghost use Rattle.thread_calls.specs.Timed.{StaysTimed};
 
 use core_world::Turn;

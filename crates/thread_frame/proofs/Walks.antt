@@ -12,7 +12,7 @@ use Rattle.plain_machine.specs.Running.{instruction_at, run_on}
 use Rattle.plain_machine.specs.Thread.{ThreadState, step_of, behind, with_local}
 use Rattle.plain_machine.proofs.Runs.{run_goes, run_calls, run_stops, run_spent}
 use Rattle.thread_frame.specs.Frames.{FrameSeen, state_in, led_on}
-use Rattle.thread_frame.specs.Walking.{frame_moved}
+use Rattle.thread_frame.specs.inner.Walking.{frame_moved}
 use Rattle.thread_frame.proofs.Lists.{take_set}
 use Rattle.thread_frame.proofs.Runs.{in_mode, run_same}
 

@@ -1,3 +1,4 @@
 pub mod Frames
 pub mod Sights
 pub mod Walking
+pub mod inner

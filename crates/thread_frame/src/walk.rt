@@ -7,7 +7,8 @@ ghost use Rattle.plain_machine.specs.Running.{instruction_at};
 ghost use Rattle.plain_machine.specs.Thread.{step_of};
 ghost use Rattle.thread_frame.specs.Frames.{locals_of, next_state, state_in};
 ghost use Rattle.thread_frame.specs.Sights.{counts_from, AreOf};
-ghost use Rattle.thread_frame.specs.Walking.{frame_moved, HasWalked, IsPlacedFor};
+ghost use Rattle.thread_frame.specs.Walking.{HasWalked};
+ghost use Rattle.thread_frame.specs.inner.Walking.{frame_moved, IsPlacedFor};
 
 use crate::frame::Frame;
 use crate::sight::Sight;

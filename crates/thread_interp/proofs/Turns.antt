@@ -26,8 +26,9 @@ use Rattle.thread_interp.specs.declared.moved.RunState.{RunState}
 use Rattle.thread_interp.specs.declared.moved.RunState.TheVariants.{Live, Blocked, Ended}
 use Rattle.thread_interp.specs.Checks.{HasChecked, StandsAfterCheck}
 use Rattle.thread_interp.specs.Moves.{HasMoved, IsState, PendedBeforeStop, StandsAfter}
-use Rattle.thread_interp.specs.Running.{StandsReady, IsReady, IsGoing, IsGoneTo, StandsGone, HasGone, IsStill}
-use Rattle.thread_interp.specs.Runners.{IsRunner, runner_of}
+use Rattle.thread_interp.specs.inner.Running.{StandsReady, IsReady, IsGoing, IsGoneTo, StandsGone, HasGone, IsStill}
+use Rattle.thread_interp.specs.Runners.{IsRunner}
+use Rattle.thread_interp.specs.inner.Runners.{runner_of}
 use Rattle.thread_interp.proofs.Alive.{log_goes_on}
 use Rattle.thread_interp.proofs.Asides.{IsBeside, still_on}
 use Rattle.thread_interp.proofs.Sides.{is_unfinished, poll_beside, poll_other, poll_holds, resume_beside, resume_other, stop_beside, check_beside}

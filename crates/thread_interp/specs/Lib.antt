@@ -1,4 +1,4 @@
 pub mod Runners
 pub mod Moves
 pub mod Checks
-pub mod Running
+pub mod inner

@@ -11,9 +11,6 @@ pub record RunnerSeen : Type 0 where
   -- how many instructions its thread may execute in all
   pub fuel : ℕ
 
-abbrev pub runner_of : PassSeen → FrameSeen → ℕ → RunnerSeen
-runner_of pass frame fuel = record { pass = pass; frame = frame; fuel = fuel }
-
 -- a runner of the heap and the program, between two turns: its thread doesn't run
 pub record IsRunner (h : HeapSeen) (p : ProgramText) (r : RunnerSeen) : Type 0 where
   pub on : IsOn h p r.fuel r.pass r.frame

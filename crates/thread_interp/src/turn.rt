@@ -7,8 +7,9 @@ ghost use Rattle.thread_calls.specs.Timed.{StaysTimed};
 ghost use Rattle.thread_frame.specs.Frames.{has_ended};
 ghost use Rattle.thread_interp.specs.Checks.{StandsAfterCheck};
 ghost use Rattle.thread_interp.specs.Moves.{HasMoved};
-ghost use Rattle.thread_interp.specs.Running.{IsReady, HasGone, IsStill};
-ghost use Rattle.thread_interp.specs.Runners.{IsRunner, runner_of};
+ghost use Rattle.thread_interp.specs.inner.Running.{IsReady, HasGone, IsStill};
+ghost use Rattle.thread_interp.specs.Runners.{IsRunner};
+ghost use Rattle.thread_interp.specs.inner.Runners.{runner_of};
 
 use crate::moved::{Moved, RunState};
 use core_world::Turn;

@@ -15,7 +15,7 @@ use Rattle.plain_machine.specs.Thread.{ThreadState}
 use Rattle.plain_machine.specs.Asking.{thread_after}
 use Rattle.plain_machine.specs.Machine.{PlainMachine, new_machine, code_of, take, moved}
 use Rattle.plain_machine.specs.Legal.{IsLegal, behind_all, machine_after}
-use Rattle.thread_logs.specs.Coded.{Coded, coded_step}
+use Rattle.thread_logs.specs.inner.Coded.{Coded, coded_step}
 use Rattle.thread_logs.specs.Followed.{Follows, HaveFollowed}
 
 abbrev with_code : ProgramText → ℕ → ThreadState → Coded

@@ -7,7 +7,7 @@ ghost use Rattle.plain_machine.specs.Machine.{PlainMachine};
 ghost use Rattle.plain_machine.specs.Thread.{ThreadState};
 ghost use Rattle.plain_monitor.specs.declared.entry.Logged.{Logged};
 ghost use Rattle.plain_monitor.specs.History.{objects_after, log_of};
-ghost use Rattle.thread_logs.specs.Coded.{Coded, coded_step};
+ghost use Rattle.thread_logs.specs.inner.Coded.{Coded, coded_step};
 ghost use Rattle.thread_logs.specs.Followed.{Follows, HaveFollowed};
 
 use plain_history::{ThreadStates, objects_and_threads_join};

@@ -6,7 +6,7 @@ use Rattle.core_world.specs.Trees.Plans.{load}
 use Rattle.core_world.specs.Trees.Todo.{done}
 use Rattle.heap_table.proofs.Parts.{can, rest_due, stepped, ends}
 use Rattle.heap_table.proofs.Arms.{due_then, run_then, run_else}
-use Rattle.bias_lock.specs.Parts.{prototype_drop}
+use Rattle.bias_lock.specs.inner.Parts.{prototype_drop}
 use Rattle.bias_lock.proofs.Keeping.{drop_keeps}
 use Rattle.bias_lock.proofs.drops.bias_drop.Goals as goal
 

@@ -8,7 +8,7 @@ use Rattle.core_world.specs.Trees.Todo.{done}
 use Rattle.heap_table.specs.Parts.{IsDueOn, HasRun}
 use Rattle.heap_table.proofs.Parts.{can, rest_due, stepped, ends}
 use Rattle.heap_table.proofs.Arms.{due_then, run_then, run_else}
-use Rattle.bias_lock.specs.Parts.{prototype_enter}
+use Rattle.bias_lock.specs.inner.Parts.{prototype_enter}
 use Rattle.bias_lock.proofs.Keeping.{enter_keeps}
 use Rattle.bias_lock.proofs.enters.bias_enter.Goals as goal
 

@@ -9,7 +9,7 @@ use Rattle.heap_table.specs.Parts.{IsDueOn, HasRun}
 use Rattle.heap_table.proofs.Parts.{in_turn}
 use Rattle.heap_table.proofs.Arms.{after_choice}
 use Rattle.heap_table.proofs.Ruled.{few_objects}
-use Rattle.bias_lock.specs.Parts.{marked_exit}
+use Rattle.bias_lock.specs.inner.Parts.{marked_exit}
 use Rattle.bias_lock.proofs.exits.bias_exit.Goals as goal
 
 pub top_place-place-requires-clause-object : goal.top_place-place-requires-clause-object

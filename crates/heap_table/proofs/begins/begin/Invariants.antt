@@ -1,5 +1,5 @@
 use Rattle.std.proofs.Common.{◌≡◌, ◌-◌, ◌≤◌, vec_capacity, vec_len, []}
-use Rattle.heap_table.specs.Firsts.{first_knowns}
+use Rattle.heap_table.specs.inner.Firsts.{first_knowns}
 use Rattle.heap_table.specs.Seen.{first_passes}
 use Rattle.heap_table.specs.Ruled.{heap_in}
 use Rattle.heap_table.proofs.begins.begin.Given as goal

@@ -8,7 +8,8 @@ use Rattle.core_steps.specs.Logic.{Heap}
 use Rattle.atomic_table.specs.Table.{Me}
 use Rattle.heap_table.specs.Layout.{word_count}
 use Rattle.heap_table.specs.Ruled.{heap_in}
-use Rattle.heap_table.specs.Seen.{HeapSeen, PassSeen, IsOf, AllOf, LastWorld, knowns, logs_of}
+use Rattle.heap_table.specs.Seen.{HeapSeen, PassSeen, IsOf, LastWorld, knowns, logs_of}
+use Rattle.heap_table.specs.inner.Seen.{AllOf}
 use Rattle.heap_table.proofs.AtLast.{copies, final_as, all_yielded, all_of}
 use Rattle.heap_table.specs.BiasesAtEnd.{BiasesAtEnd}
 use Rattle.heap_table.proofs.BiasesAtEnd.{biases_ended, biases_stuck}

@@ -1,7 +1,8 @@
 use Rattle.std.proofs.Common.{◌≡◌, ◌≤◌, length, take, vec_len, vec_capacity, ◌++◌, []}
 use Rattle.std.specs.Slots.{slots_items}
 use Rattle.heap_table.specs.Ruled.{heap_in}
-use Rattle.heap_table.specs.Seen.{AllOf, knowns, logs_of, shots_of, counts_of_all}
+use Rattle.heap_table.specs.Seen.{knowns, logs_of, shots_of, counts_of_all}
+use Rattle.heap_table.specs.inner.Seen.{AllOf}
 use Rattle.heap_table.proofs.ends.close.Given as goal
 
 abbrev pub invariant-loop-pass : goal.invariant-loop-pass

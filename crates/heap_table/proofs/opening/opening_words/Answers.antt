@@ -1,5 +1,5 @@
 use Rattle.std.proofs.Common.{◌+◌, ◌*◌, [], ◌∷◌, ◌++◌, ◌∙◌}
-use Rattle.heap_table.specs.Openings.{copies, class_words, object_words}
+use Rattle.heap_table.specs.inner.Openings.{copies, class_words, object_words}
 use Rattle.heap_table.proofs.Opens.{chained, opening_count}
 use Rattle.heap_table.proofs.opening.opening_words.Goals as goal
 

@@ -1,5 +1,5 @@
 use Rattle.std.proofs.Common.{◌≡◌, ◌++◌}
-use Rattle.heap_table.specs.Openings.{copies}
+use Rattle.heap_table.specs.inner.Openings.{copies}
 use Rattle.heap_table.proofs.opening.push_copies.Given as goal
 
 abbrev pub invariant-loop-i : goal.invariant-loop-i

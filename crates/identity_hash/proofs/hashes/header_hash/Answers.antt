@@ -9,7 +9,7 @@ use Rattle.core_world.specs.Threads.Known.{Local, local_of}
 use Rattle.core_world.specs.Trees.HashSteps.{NextDraw, find_hash_plan, hash_neutral_steps, hash_inflate_steps, hash_mark_steps}
 use Rattle.core_world.specs.Trees.Plans.{done_with}
 use Rattle.core_world.specs.Words.Forms.{hash_in, hash_form}
-use Rattle.identity_hash.specs.Parts.{hash_owned_steps}
+use Rattle.identity_hash.specs.inner.Parts.{hash_owned_steps}
 use Rattle.heap_table.specs.Parts.{IsDueOn, HasRun}
 use Rattle.heap_table.proofs.Parts.{can, rest_due, never_left, stepped, ends}
 use Rattle.heap_table.proofs.Arms.{due_then, due_else, run_then, run_else}

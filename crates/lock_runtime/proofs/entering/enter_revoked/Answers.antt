@@ -10,7 +10,7 @@ use Rattle.heap_table.specs.Parts.{IsDueOn, HasRun}
 use Rattle.heap_table.specs.Resting.{start_now}
 use Rattle.heap_table.proofs.Aside.{aside, room_aside}
 use Rattle.heap_table.proofs.Parts.{in_turn, ends}
-use Rattle.lock_runtime.specs.Parts.{enter_again}
+use Rattle.lock_runtime.specs.inner.Parts.{enter_again}
 use Rattle.lock_runtime.proofs.Asides.{revocation_aside}
 use Rattle.lock_runtime.proofs.Behind.{next_part}
 use Rattle.lock_runtime.proofs.Revoked.{first_revocation, again_alike}

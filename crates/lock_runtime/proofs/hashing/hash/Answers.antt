@@ -9,7 +9,7 @@ use Rattle.core_calls.proofs.WaitCallsSay.{hash_says}
 use Rattle.heap_table.specs.Parts.{IsDueOn, HasRun}
 use Rattle.heap_table.specs.Resting.{start_now}
 use Rattle.heap_table.proofs.Resting.{whole_due, behind}
-use Rattle.lock_runtime.specs.HashParts.{hash_going}
+use Rattle.lock_runtime.specs.inner.HashParts.{hash_going}
 use Rattle.lock_runtime.proofs.Begins.{object_there, room_one}
 use Rattle.lock_runtime.proofs.Hashed.{first_hash}
 use Rattle.lock_runtime.proofs.StandsCalls.{hash_leaves}

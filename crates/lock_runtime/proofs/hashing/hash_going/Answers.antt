@@ -8,7 +8,7 @@ use Rattle.heap_table.specs.Parts.{IsDueOn, HasRun}
 use Rattle.heap_table.specs.Resting.{start_now}
 use Rattle.heap_table.proofs.Aside.{aside, room_aside}
 use Rattle.heap_table.proofs.Parts.{in_turn, ends}
-use Rattle.lock_runtime.specs.HashParts.{hash_unbiased}
+use Rattle.lock_runtime.specs.inner.HashParts.{hash_unbiased}
 use Rattle.lock_runtime.proofs.Behind.{next_part}
 use Rattle.lock_runtime.proofs.Hashed.{hash_alike}
 use Rattle.lock_runtime.proofs.Asides.{unbias_aside}

@@ -7,7 +7,7 @@ use Rattle.core_world.specs.Trees.Plans.{done_with}
 use Rattle.core_world.proofs.CallRests.{part_due}
 use Rattle.heap_table.specs.Parts.{IsDueOn, HasRun}
 use Rattle.heap_table.proofs.Parts.{in_turn, ends}
-use Rattle.lock_runtime.specs.Parts.{exit_unbiased}
+use Rattle.lock_runtime.specs.inner.Parts.{exit_unbiased}
 use Rattle.lock_runtime.proofs.Behind.{next_part, room_kept}
 use Rattle.lock_runtime.proofs.LeftNothing.{first_under_bias}
 use Rattle.lock_runtime.proofs.leaving.leave_held.Goals as goal

@@ -7,7 +7,7 @@ use Rattle.core_world.specs.Trees.Todo.{Todo}
 use Rattle.core_world.proofs.CallRests.{part_due}
 use Rattle.heap_table.specs.Parts.{IsDueOn, HasRun}
 use Rattle.heap_table.proofs.Parts.{in_turn, ends}
-use Rattle.lock_runtime.specs.LookParts.{reached_check}
+use Rattle.lock_runtime.specs.inner.LookParts.{reached_check}
 use Rattle.lock_runtime.proofs.Behind.{next_part}
 use Rattle.lock_runtime.proofs.Looked.{run_thread}
 use Rattle.lock_runtime.proofs.Revoked.{first_safepoint}

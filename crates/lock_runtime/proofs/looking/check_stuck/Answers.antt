@@ -9,7 +9,7 @@ use Rattle.core_calls.proofs.WhoGoesOn.{check_finds}
 use Rattle.heap_table.specs.Parts.{IsDueOn, HasRun}
 use Rattle.heap_table.specs.Resting.{start_now}
 use Rattle.heap_table.proofs.Resting.{whole_due, behind}
-use Rattle.lock_runtime.specs.LookParts.{checking, check_going}
+use Rattle.lock_runtime.specs.inner.LookParts.{checking, check_going}
 use Rattle.lock_runtime.proofs.Looked.{first_check}
 use Rattle.lock_runtime.proofs.StandsCalls.{check_leaves}
 use Rattle.lock_runtime.proofs.looking.check_stuck.Goals as goal

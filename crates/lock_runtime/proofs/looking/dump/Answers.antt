@@ -10,7 +10,8 @@ use Rattle.core_calls.proofs.Runs.{tells}
 use Rattle.heap_table.specs.Parts.{IsDueOn}
 use Rattle.heap_table.specs.Resting.{start_now}
 use Rattle.heap_table.proofs.Resting.{whole_due}
-use Rattle.lock_runtime.specs.LookParts.{HasDumped, numbered_dump}
+use Rattle.lock_runtime.specs.LookParts.{HasDumped}
+use Rattle.lock_runtime.specs.inner.LookParts.{numbered_dump}
 use Rattle.lock_runtime.proofs.Behind.{going_due, going_run, going_first}
 use Rattle.lock_runtime.proofs.Dumped.{dump_has_shots, bare, run_of, dumped_of, dumped_rests, first_dump}
 use Rattle.lock_runtime.proofs.StandsCalls.{dump_leaves}

@@ -9,7 +9,8 @@ use Rattle.core_world.proofs.CallRests.{part_due}
 use Rattle.heap_table.specs.Parts.{IsDueOn, HasRun}
 use Rattle.heap_table.proofs.Aside.{aside}
 use Rattle.heap_table.proofs.Parts.{in_turn, ends}
-use Rattle.lock_runtime.specs.LookParts.{HasDumped, reached_dump, numbered_dump}
+use Rattle.lock_runtime.specs.LookParts.{HasDumped}
+use Rattle.lock_runtime.specs.inner.LookParts.{reached_dump, numbered_dump}
 use Rattle.lock_runtime.proofs.Asides.{safepoint_aside}
 use Rattle.lock_runtime.proofs.Behind.{next_part}
 use Rattle.lock_runtime.proofs.Dumped.{bare, bare_run, dumped_of, run_of}

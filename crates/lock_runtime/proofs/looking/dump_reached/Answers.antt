@@ -6,7 +6,7 @@ use Rattle.core_world.specs.Trees.Todo.{Todo}
 use Rattle.core_world.proofs.CallRests.{part_due}
 use Rattle.heap_table.specs.Parts.{IsDueOn, HasRun}
 use Rattle.heap_table.proofs.Parts.{in_turn}
-use Rattle.lock_runtime.specs.LookParts.{told_dump, reached_dump}
+use Rattle.lock_runtime.specs.inner.LookParts.{told_dump, reached_dump}
 use Rattle.lock_runtime.proofs.Behind.{next_part}
 use Rattle.lock_runtime.proofs.Dumped.{bare, bare_run, dumped_of, of_shot, first_shot}
 use Rattle.lock_runtime.proofs.looking.dump_reached.Goals as goal

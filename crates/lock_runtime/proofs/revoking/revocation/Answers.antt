@@ -9,7 +9,7 @@ use Rattle.core_world.proofs.CallRests.{part_due}
 use Rattle.heap_table.specs.Parts.{IsDueOn, HasRun}
 use Rattle.heap_table.proofs.Aside.{aside}
 use Rattle.heap_table.proofs.Parts.{in_turn, ends}
-use Rattle.lock_runtime.specs.Parts.{reached_revocation}
+use Rattle.lock_runtime.specs.inner.Parts.{reached_revocation}
 use Rattle.lock_runtime.proofs.Asides.{safepoint_aside}
 use Rattle.lock_runtime.proofs.Behind.{next_part}
 use Rattle.lock_runtime.proofs.Revoked.{first_safepoint}

@@ -12,7 +12,7 @@ use Rattle.core_world.proofs.CallRests.{part_due}
 use Rattle.heap_table.specs.Parts.{IsDueOn, HasRun}
 use Rattle.heap_table.proofs.Aside.{aside}
 use Rattle.heap_table.proofs.Parts.{in_turn, ends}
-use Rattle.lock_runtime.specs.Parts.{reached_revocation}
+use Rattle.lock_runtime.specs.inner.Parts.{reached_revocation}
 use Rattle.lock_runtime.proofs.Asides.{at_safepoint}
 use Rattle.lock_runtime.proofs.Behind.{next_part}
 use Rattle.lock_runtime.proofs.revoking.revoke_reached.Goals as goal

@@ -7,7 +7,7 @@ use Rattle.core_world.specs.Trees.Todo.{Todo}
 use Rattle.heap_table.specs.Parts.{IsDueOn, HasRun}
 use Rattle.heap_table.specs.Resting.{start_now}
 use Rattle.heap_table.proofs.Aside.{room_aside}
-use Rattle.lock_runtime.specs.WaitParts.{marked_notify_all}
+use Rattle.lock_runtime.specs.inner.WaitParts.{marked_notify_all}
 use Rattle.lock_runtime.proofs.Unbiased.{unbias_due, behind_due, behind_run, pending_run, alike_behind}
 use Rattle.lock_runtime.proofs.waiting.notify_all_held.Goals as goal
 

@@ -6,7 +6,7 @@ use Rattle.core_world.specs.Trees.Operations.{unbias_steps, no_bias}
 use Rattle.core_world.specs.Trees.Todo.{Todo}
 use Rattle.heap_table.specs.Parts.{IsDueOn, HasRun}
 use Rattle.heap_table.specs.Resting.{start_now}
-use Rattle.lock_runtime.specs.WaitParts.{inflated_wait}
+use Rattle.lock_runtime.specs.inner.WaitParts.{inflated_wait}
 use Rattle.lock_runtime.proofs.Unbiased.{unbias_due, behind_due, behind_run, pending_run, alike_behind, room_for_two}
 use Rattle.lock_runtime.proofs.waiting.wait_anew.Goals as goal
 

@@ -6,7 +6,7 @@ use Rattle.core_world.specs.Trees.Plans.{load}
 use Rattle.heap_table.specs.Parts.{IsDueOn, HasRun}
 use Rattle.heap_table.proofs.Parts.{can, rest_due, stepped}
 use Rattle.heap_table.proofs.Arms.{due_then, due_else, run_then, run_else}
-use Rattle.object_monitor.specs.ExitParts.{lowered_exit}
+use Rattle.object_monitor.specs.inner.ExitParts.{lowered_exit}
 use Rattle.object_monitor.proofs.exits.leave_owned.Goals as goal
 
 pub load-recursions-requires : goal.load-recursions-requires

@@ -10,7 +10,7 @@ use Rattle.core_world.proofs.CallRests.{part_due}
 use Rattle.heap_table.specs.Parts.{IsDueOn, HasRun}
 use Rattle.heap_table.proofs.Parts.{can, rest_due, stepped, in_turn}
 use Rattle.heap_table.proofs.Ruled.{few_objects, not_due}
-use Rattle.object_monitor.specs.ExitParts.{counted_exit}
+use Rattle.object_monitor.specs.inner.ExitParts.{counted_exit}
 use Rattle.object_monitor.proofs.OwningSteps.{after_owning}
 use Rattle.object_monitor.proofs.exits.monitor_exit.Goals as goal
 

@@ -7,7 +7,7 @@ use Rattle.core_world.proofs.CallRests.{part_due}
 use Rattle.heap_table.specs.Parts.{IsDueOn, HasRun}
 use Rattle.heap_table.proofs.Aside.{room_aside}
 use Rattle.heap_table.proofs.Parts.{in_turn}
-use Rattle.object_monitor.specs.NotifyParts.{first_of, notify_one}
+use Rattle.object_monitor.specs.inner.NotifyParts.{first_of, notify_one}
 use Rattle.object_monitor.proofs.Looking.{looks_aside, look_then}
 use Rattle.object_monitor.proofs.Waking.{first_notified}
 use Rattle.object_monitor.proofs.notifies.monitor_notify.Goals as goal

@@ -8,7 +8,7 @@ use Rattle.core_world.proofs.CallRests.{part_due}
 use Rattle.heap_table.specs.Parts.{IsDueOn, HasRun}
 use Rattle.heap_table.proofs.Aside.{room_aside}
 use Rattle.heap_table.proofs.Parts.{in_turn, ends}
-use Rattle.object_monitor.specs.NotifyParts.{first_of}
+use Rattle.object_monitor.specs.inner.NotifyParts.{first_of}
 use Rattle.object_monitor.proofs.Looking.{looks_aside, look_then}
 use Rattle.object_monitor.proofs.Waking.{some_listed, none_listed, none_to_notify, waiting}
 use Rattle.object_monitor.proofs.notifies.monitor_notify_all.Goals as goal

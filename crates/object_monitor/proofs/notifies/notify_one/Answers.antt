@@ -11,7 +11,7 @@ use Rattle.heap_table.specs.Parts.{IsDueOn, HasRun}
 use Rattle.heap_table.specs.StepPlans.{log_store_plan}
 use Rattle.heap_table.specs.Stepping.{CanStep, HasStepped}
 use Rattle.heap_table.proofs.Parts.{can, ends, in_turn, last_step}
-use Rattle.object_monitor.specs.NotifyParts.{notify_one}
+use Rattle.object_monitor.specs.inner.NotifyParts.{notify_one}
 use Rattle.object_monitor.proofs.notifies.notify_one.Goals as goal
 
 pub log_store-requires : goal.log_store-requires

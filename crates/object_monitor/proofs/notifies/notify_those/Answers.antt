@@ -1,6 +1,6 @@
 use Rattle.std.proofs.Common.{rules, ◌≡◌, ◌≤◌, length, Some, sym, ap, ◌∙◌, arith, length-set}
 use Rattle.core_world.specs.Words.Shape.{Shape}
-use Rattle.object_monitor.specs.NotifyParts.{first_of}
+use Rattle.object_monitor.specs.inner.NotifyParts.{first_of}
 use Rattle.object_monitor.proofs.Waking.{waiting, few_waiting, one_less, fewer, nobody, first_on_its_way, can_wake, woken_on, can_end, ended}
 use Rattle.object_monitor.proofs.notifies.notify_those.Goals as goal
 

@@ -1,5 +1,5 @@
 use Rattle.std.proofs.Common.{◌≡◌, length}
-use Rattle.object_monitor.specs.NotifyParts.{notify_those}
+use Rattle.object_monitor.specs.inner.NotifyParts.{notify_those}
 use Rattle.object_monitor.proofs.Waking.{Waking, waiting}
 use Rattle.object_monitor.proofs.notifies.notify_those.Given as goal
 

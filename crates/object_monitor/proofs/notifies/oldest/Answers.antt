@@ -1,6 +1,6 @@
 use Rattle.std.proofs.Common.{rules, ◌≡◌, ℕ, ◌+◌, ◌-◌, length, take, drop, get_or, sym, ap, ◌∙◌, arith}
 use Rattle.core_world.specs.Trees.WaitSteps.{waiters, by_age}
-use Rattle.object_monitor.specs.NotifyParts.{first_of, oldest_with}
+use Rattle.object_monitor.specs.inner.NotifyParts.{first_of, oldest_with}
 use Rattle.object_monitor.proofs.Ages.{one_down}
 use Rattle.object_monitor.proofs.notifies.oldest.Goals as goal
 

@@ -1,6 +1,6 @@
 use Rattle.std.proofs.Common.{◌≡◌, ◌≤◌, take, drop}
 use Rattle.core_world.specs.Trees.WaitSteps.{waiters, by_age}
-use Rattle.object_monitor.specs.NotifyParts.{first_of}
+use Rattle.object_monitor.specs.inner.NotifyParts.{first_of}
 use Rattle.object_monitor.proofs.notifies.oldest.Given as goal
 
 -- the oldest from the last thread down so far

@@ -13,7 +13,7 @@ use Rattle.heap_table.specs.Parts.{IsDueOn, HasRun}
 use Rattle.heap_table.specs.Stepping.{CanStep, HasStepped}
 use Rattle.heap_table.proofs.Parts.{can, rest_due, stepped, ends}
 use Rattle.heap_table.proofs.Ruled.{not_due}
-use Rattle.object_monitor.specs.WaitParts.{marked_resume}
+use Rattle.object_monitor.specs.inner.WaitParts.{marked_resume}
 use Rattle.object_monitor.proofs.Resuming.{never_resumed}
 use Rattle.object_monitor.proofs.waits.monitor_resume.Goals as goal
 

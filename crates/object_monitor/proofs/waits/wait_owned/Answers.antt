@@ -7,7 +7,7 @@ use Rattle.core_world.specs.Trees.WaitSteps.{save_count_plan}
 use Rattle.core_world.proofs.CallRests.{part_due}
 use Rattle.heap_table.specs.Parts.{IsDueOn, HasRun}
 use Rattle.heap_table.proofs.Parts.{can, rest_due, part_then}
-use Rattle.object_monitor.specs.WaitParts.{stamped_wait, quit_steps}
+use Rattle.object_monitor.specs.inner.WaitParts.{stamped_wait, quit_steps}
 use Rattle.object_monitor.proofs.waits.wait_owned.Goals as goal
 
 pub load_and_keep-recursions-requires : goal.load_and_keep-recursions-requires

@@ -5,7 +5,7 @@ use Rattle.core_steps.specs.Logic.{Heap}
 use Rattle.core_steps.specs.Sound.{Sound}
 use Rattle.heap_table.specs.Seen.{first_passes}
 use Rattle.run_rounds.specs.Rounds.{AreNew}
-use Rattle.program_run.specs.HeapFor.{runner_on}
+use Rattle.program_run.specs.inner.HeapFor.{runner_on}
 use Rattle.program_run.proofs.Opened.{are_new}
 use Rattle.program_run.proofs.opening.open.Goals as goal
 

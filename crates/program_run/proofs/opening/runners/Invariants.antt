@@ -1,5 +1,5 @@
 use Rattle.std.proofs.Common.{◌≡◌, ◌++◌, ◌≤◌, map, length, vec_len, vec_capacity}
-use Rattle.program_run.specs.HeapFor.{runner_on}
+use Rattle.program_run.specs.inner.HeapFor.{runner_on}
 use Rattle.program_run.proofs.opening.runners.Given as goal
 
 abbrev pub invariant-loop-pass : goal.invariant-loop-pass

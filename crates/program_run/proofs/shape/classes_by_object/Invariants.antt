@@ -1,5 +1,5 @@
 use Rattle.std.proofs.Common.{◌≡◌, take}
-use Rattle.program_run.specs.HeapFor.{classes_of}
+use Rattle.program_run.specs.inner.HeapFor.{classes_of}
 use Rattle.program_run.proofs.shape.classes_by_object.Given as goal
 
 abbrev pub invariant-loop-definition : goal.invariant-loop-definition

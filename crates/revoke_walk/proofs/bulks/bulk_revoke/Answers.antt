@@ -6,7 +6,7 @@ use Rattle.core_world.specs.Trees.RevocationSteps.{store_steps}
 use Rattle.core_world.specs.Trees.Todo.{Todo}
 use Rattle.heap_table.specs.Parts.{IsDueOn, HasRun}
 use Rattle.heap_table.proofs.Parts.{in_turn}
-use Rattle.revoke_walk.specs.RevokeParts.{neutral_steps}
+use Rattle.revoke_walk.specs.inner.RevokeParts.{neutral_steps}
 use Rattle.revoke_walk.proofs.Behind.{front_due, after_part}
 use Rattle.revoke_walk.proofs.RevokeSteps.{stores_of}
 use Rattle.revoke_walk.proofs.bulks.bulk_revoke.Goals as goal

@@ -6,7 +6,7 @@ use Rattle.core_world.specs.RevocationRules.{write}
 use Rattle.core_world.specs.Trees.RevocationSteps.{store_steps}
 use Rattle.core_world.specs.Trees.Todo.{Todo}
 use Rattle.heap_table.proofs.Parts.{in_turn}
-use Rattle.revoke_walk.specs.RevokeParts.{unbiased_steps}
+use Rattle.revoke_walk.specs.inner.RevokeParts.{unbiased_steps}
 use Rattle.revoke_walk.proofs.Behind.{front_due, after_part}
 use Rattle.revoke_walk.proofs.RevokeSteps.{stores_of}
 use Rattle.revoke_walk.proofs.bulks.end_epochs.Goals as goal

@@ -5,7 +5,7 @@ use Rattle.core_world.specs.Trees.Todo.{Todo}
 use Rattle.heap_table.specs.Parts.{IsDueOn, HasRun}
 use Rattle.heap_table.proofs.Parts.{in_turn}
 use Rattle.revoke_walk.specs.declared.visit.Visit.TheVariants.{Revoke}
-use Rattle.revoke_walk.specs.RevokeParts.{visit_by}
+use Rattle.revoke_walk.specs.inner.RevokeParts.{visit_by}
 use Rattle.revoke_walk.proofs.Behind.{front_due, after_part}
 use Rattle.revoke_walk.proofs.RevokeSteps.{walk_of}
 use Rattle.revoke_walk.proofs.bulks.unbias_class.Goals as goal

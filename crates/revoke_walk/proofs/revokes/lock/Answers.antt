@@ -6,7 +6,7 @@ use Rattle.core_world.specs.RevocationRules.{write, first_place}
 use Rattle.core_world.specs.Trees.RevocationSteps.{store_steps}
 use Rattle.core_world.specs.Trees.Todo.{Todo}
 use Rattle.heap_table.specs.Parts.{IsDueOn, HasRun}
-use Rattle.revoke_walk.specs.RevokeParts.{record_write, record_steps, mark_locked}
+use Rattle.revoke_walk.specs.inner.RevokeParts.{record_write, record_steps, mark_locked}
 use Rattle.revoke_walk.proofs.RevokeSteps.{records_left, record_first, records_none, stores_of}
 use Rattle.revoke_walk.proofs.RevokeWords.{in_limits, locked_place}
 use Rattle.revoke_walk.proofs.Rounds.{first_round, round_due, next_round}

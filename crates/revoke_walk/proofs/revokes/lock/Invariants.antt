@@ -1,4 +1,4 @@
-use Rattle.revoke_walk.specs.RevokeParts.{mark_locked}
+use Rattle.revoke_walk.specs.inner.RevokeParts.{mark_locked}
 use Rattle.revoke_walk.proofs.RevokeSteps.{records_left}
 use Rattle.revoke_walk.proofs.Rounds.{Round}
 use Rattle.revoke_walk.proofs.revokes.lock.Given as goal

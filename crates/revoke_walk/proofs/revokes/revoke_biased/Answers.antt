@@ -7,7 +7,7 @@ use Rattle.core_world.specs.Trees.Todo.{Todo}
 use Rattle.core_world.proofs.CallRests.{part_due}
 use Rattle.heap_table.specs.Parts.{IsDueOn, HasRun}
 use Rattle.heap_table.proofs.Parts.{in_turn}
-use Rattle.revoke_walk.specs.RevokeParts.{holds_steps}
+use Rattle.revoke_walk.specs.inner.RevokeParts.{holds_steps}
 use Rattle.revoke_walk.proofs.Behind.{after_part}
 use Rattle.revoke_walk.proofs.RevokeSteps.{holds_of, unheld_writes, held_writes}
 use Rattle.revoke_walk.proofs.revokes.revoke_biased.Goals as goal

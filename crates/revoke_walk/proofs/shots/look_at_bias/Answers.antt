@@ -10,7 +10,7 @@ use Rattle.core_world.specs.Words.Shape.{Shape, class_of}
 use Rattle.heap_table.specs.Stepping.{CanStep, HasStepped}
 use Rattle.heap_table.proofs.Arms.{due_then, run_then, run_else}
 use Rattle.heap_table.proofs.Parts.{can, rest_due, stepped, ends}
-use Rattle.revoke_walk.specs.ShotParts.{cell_by}
+use Rattle.revoke_walk.specs.inner.ShotParts.{cell_by}
 use Rattle.revoke_walk.proofs.Later.{load_later, load_settled, later_than}
 use Rattle.revoke_walk.proofs.shots.look_at_bias.Goals as goal
 

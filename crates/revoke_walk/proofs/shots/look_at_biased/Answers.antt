@@ -1,6 +1,6 @@
 use Rattle.std.proofs.Common.{◌≡◌, ◌==◌, cond, Bool, false, Some, None, ap, ◌∙◌, ne_eqb}
 use Rattle.core_world.specs.Locks.{owner_and_count_by}
-use Rattle.revoke_walk.specs.ShotParts.{held_in}
+use Rattle.revoke_walk.specs.inner.ShotParts.{held_in}
 use Rattle.revoke_walk.proofs.shots.look_at_biased.Goals as goal
 
 pub returns-else-count-eq0-clause-cell : goal.returns-else-count-eq0-clause-cell

@@ -6,7 +6,7 @@ use Rattle.core_world.specs.Trees.LookSteps.{look_behind}
 use Rattle.core_world.specs.Trees.Plans.{load}
 use Rattle.heap_table.specs.Parts.{IsDueOn}
 use Rattle.heap_table.proofs.Parts.{can, rest_due}
-use Rattle.revoke_walk.specs.ShotParts.{cell_at}
+use Rattle.revoke_walk.specs.inner.ShotParts.{cell_at}
 use Rattle.revoke_walk.proofs.Later.{load_later, load_settled, later_than}
 use Rattle.revoke_walk.proofs.shots.look_at_cell.Goals as goal
 

@@ -10,7 +10,7 @@ use Rattle.core_world.specs.Words.Forms.{names}
 use Rattle.heap_table.specs.Parts.{IsDueOn, HasRun}
 use Rattle.heap_table.proofs.Loops.{HasCome}
 use Rattle.heap_table.proofs.Parts.{ends}
-use Rattle.revoke_walk.specs.ShotParts.{held_below, look_at_hold}
+use Rattle.revoke_walk.specs.inner.ShotParts.{held_below, look_at_hold}
 use Rattle.revoke_walk.proofs.Cells.{count_more}
 use Rattle.revoke_walk.proofs.Later.{later_than}
 use Rattle.revoke_walk.proofs.Parting.{part_is_due, parts_due, parts_come}

@@ -7,7 +7,7 @@ use Rattle.heap_table.specs.Parts.{IsDueOn, HasRun}
 use Rattle.heap_table.specs.Seen.{PassSeen}
 use Rattle.heap_table.proofs.Loops.{HasCome}
 use Rattle.heap_table.proofs.Parts.{ends}
-use Rattle.revoke_walk.specs.ShotParts.{IsLater, lengths_below, length_of, look_at_length, look_at_lengths}
+use Rattle.revoke_walk.specs.inner.ShotParts.{IsLater, lengths_below, length_of, look_at_length, look_at_lengths}
 use Rattle.revoke_walk.proofs.Cells.{words_more}
 use Rattle.revoke_walk.proofs.Later.{later_than}
 use Rattle.revoke_walk.proofs.Parting.{part_is_due, parts_due, parts_come, bare, bare_of, bare_run, drafted, shot_of_run}

@@ -4,7 +4,7 @@ use Rattle.core_world.specs.Trees.Todo.{all_from}
 use Rattle.heap_table.specs.Parts.{IsDueOn}
 use Rattle.heap_table.specs.Seen.{IsOf}
 use Rattle.heap_table.proofs.Loops.{HasCome}
-use Rattle.revoke_walk.specs.ShotParts.{IsLater, IsSettled, cells_below, look_at_cell}
+use Rattle.revoke_walk.specs.inner.ShotParts.{IsLater, IsSettled, cells_below, look_at_cell}
 use Rattle.revoke_walk.proofs.Parting.{bare}
 use Rattle.revoke_walk.proofs.shots.look_at_objects.Given as goal
 

@@ -9,7 +9,7 @@ use Rattle.core_world.proofs.CallRests.{part_due, next_due}
 use Rattle.heap_table.specs.Parts.{IsDueOn, HasRun}
 use Rattle.heap_table.specs.Seen.{PassSeen}
 use Rattle.heap_table.proofs.Parts.{in_turn}
-use Rattle.revoke_walk.specs.ShotParts.{look_at_lengths}
+use Rattle.revoke_walk.specs.inner.ShotParts.{look_at_lengths}
 use Rattle.revoke_walk.proofs.Later.{later_itself}
 use Rattle.revoke_walk.proofs.Parting.{bare, bare_of, run_of_shot, shot_of_run, all_of_task, any_then}
 use Rattle.revoke_walk.proofs.shots.take_shot.Goals as goal

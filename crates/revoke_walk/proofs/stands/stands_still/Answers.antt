@@ -3,7 +3,7 @@ use Rattle.core_world.specs.Trees.LookSteps.{stands_still_steps}
 use Rattle.core_world.specs.Trees.Todo.{Todo}
 use Rattle.heap_table.specs.Parts.{IsDueOn, HasRun}
 use Rattle.heap_table.proofs.Loops.{HasCome, nothing_yet}
-use Rattle.revoke_walk.specs.StandParts.{stands_with, still_from}
+use Rattle.revoke_walk.specs.inner.StandParts.{stands_with, still_from}
 use Rattle.revoke_walk.proofs.Standing.{goes_with, ended_with}
 use Rattle.revoke_walk.proofs.StandLoop.{all_looked, one_due, others_due, others_come}
 use Rattle.revoke_walk.proofs.Turns.{one_more, no_more}

@@ -3,7 +3,7 @@ use Rattle.core_world.specs.Trees.LookSteps.{stands_still_steps}
 use Rattle.heap_table.specs.Parts.{IsDueOn}
 use Rattle.heap_table.specs.Seen.{IsOf}
 use Rattle.heap_table.proofs.Loops.{HasCome}
-use Rattle.revoke_walk.specs.StandParts.{still_from}
+use Rattle.revoke_walk.specs.inner.StandParts.{still_from}
 use Rattle.revoke_walk.proofs.stands.stands_still.Given as goal
 
 -- so many threads are left, and whoever looks at them has looked at all

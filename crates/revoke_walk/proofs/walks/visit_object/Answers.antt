@@ -9,7 +9,7 @@ use Rattle.core_world.specs.Trees.RevocationSteps.{revocation_stage}
 use Rattle.core_world.specs.Trees.Todo.{Todo}
 use Rattle.heap_table.specs.Parts.{IsDueOn, HasRun}
 use Rattle.heap_table.proofs.Parts.{can, rest_due, stepped, ends}
-use Rattle.revoke_walk.specs.RevokeParts.{visit_form}
+use Rattle.revoke_walk.specs.inner.RevokeParts.{visit_form}
 use Rattle.revoke_walk.proofs.RevokeSteps.{biased_or_not, none_visited}
 use Rattle.revoke_walk.proofs.RevokeWords.{found_formed}
 use Rattle.revoke_walk.proofs.walks.visit_object.Goals as goal

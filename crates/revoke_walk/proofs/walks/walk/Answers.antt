@@ -3,7 +3,7 @@ use Rattle.core_world.specs.Trees.Todo.{Todo, done}
 use Rattle.core_world.specs.Words.Shape.{Shape}
 use Rattle.heap_table.specs.Parts.{IsDueOn, HasRun}
 use Rattle.heap_table.proofs.Parts.{ends}
-use Rattle.revoke_walk.specs.RevokeParts.{thread_steps}
+use Rattle.revoke_walk.specs.inner.RevokeParts.{thread_steps}
 use Rattle.revoke_walk.proofs.RevokeSteps.{thread_of}
 use Rattle.revoke_walk.proofs.Rounds.{first_round, round_due, next_round, all_left, left_all, left_next, left_none}
 use Rattle.revoke_walk.proofs.walks.walk.Goals as goal

@@ -1,4 +1,4 @@
-use Rattle.revoke_walk.specs.RevokeParts.{thread_steps}
+use Rattle.revoke_walk.specs.inner.RevokeParts.{thread_steps}
 use Rattle.revoke_walk.proofs.Rounds.{Round, all_left}
 use Rattle.revoke_walk.proofs.walks.walk.Given as goal
 

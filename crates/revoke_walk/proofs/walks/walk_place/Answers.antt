@@ -9,7 +9,7 @@ use Rattle.core_world.specs.Words.Shape.{Shape, class_of}
 use Rattle.heap_table.specs.Parts.{IsDueOn, HasRun}
 use Rattle.heap_table.proofs.Arms.{due_then, run_then, run_else}
 use Rattle.heap_table.proofs.Parts.{can, rest_due, stepped, ends}
-use Rattle.revoke_walk.specs.RevokeParts.{visit_by, object_steps}
+use Rattle.revoke_walk.specs.inner.RevokeParts.{visit_by, object_steps}
 use Rattle.revoke_walk.proofs.RevokeWords.{found_formed, held_there}
 use Rattle.revoke_walk.proofs.walks.walk_place.Goals as goal
 

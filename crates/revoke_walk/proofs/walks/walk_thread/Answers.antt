@@ -2,7 +2,7 @@ use Rattle.std.proofs.Common.{◌≡◌, ℕ, sym, ap, ◌∙◌, subst, arith}
 use Rattle.core_world.specs.Trees.Todo.{Todo, done}
 use Rattle.heap_table.specs.Parts.{HasRun}
 use Rattle.heap_table.proofs.Parts.{ends}
-use Rattle.revoke_walk.specs.RevokeParts.{place_steps}
+use Rattle.revoke_walk.specs.inner.RevokeParts.{place_steps}
 use Rattle.revoke_walk.proofs.RevokeSteps.{place_of}
 use Rattle.revoke_walk.proofs.Rounds.{first_round, round_due, next_round, all_left, left_next, left_none}
 use Rattle.revoke_walk.proofs.walks.walk_thread.Goals as goal

@@ -1,5 +1,6 @@
 use Rattle.std.proofs.Common.{◌≡◌, ℕ, length}
-use Rattle.run_rounds.specs.Rounds.{AreRunners, AreTimed, runners_in}
+use Rattle.run_rounds.specs.Rounds.{AreRunners}
+use Rattle.run_rounds.specs.inner.Rounds.{AreTimed, runners_in}
 use Rattle.run_rounds.proofs.rounds.check_first.Given as goal
 
 abbrev pub invariant-loop-i : goal.invariant-loop-i

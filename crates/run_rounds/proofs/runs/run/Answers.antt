@@ -3,7 +3,8 @@ use Rattle.std.proofs.lemmas.List.{with_items_is, length-map}
 use Rattle.heap_table.specs.Seen.{PassSeen, IsOf, InOrder, knowns, logs_of}
 use Rattle.object_program.specs.Program.{shape_of}
 use Rattle.run_rounds.specs.declared.seats.Seat.{Seat}
-use Rattle.run_rounds.specs.Rounds.{AreRunners, AreTimed, runners_in}
+use Rattle.run_rounds.specs.Rounds.{AreRunners}
+use Rattle.run_rounds.specs.inner.Rounds.{AreTimed, runners_in}
 use Rattle.run_rounds.proofs.Closing.{IsClosed, has_run, new_timed}
 use Rattle.run_rounds.proofs.Ending.{passes, all_of, all_still, ordered, quiet}
 use Rattle.run_rounds.proofs.Over.{Laws}

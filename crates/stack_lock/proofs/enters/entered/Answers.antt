@@ -7,7 +7,7 @@ use Rattle.core_world.specs.Trees.LockSteps.{store_ready_plan, log_enter_steps}
 use Rattle.heap_table.specs.StepPlans.{store_plan}
 use Rattle.heap_table.specs.Stepping.{CanStep, HasStepped}
 use Rattle.heap_table.proofs.Parts.{can, rest_due}
-use Rattle.stack_lock.specs.Parts.{ready_steps}
+use Rattle.stack_lock.specs.inner.Parts.{ready_steps}
 use Rattle.heap_table.proofs.Arms.{due_then}
 use Rattle.stack_lock.proofs.enters.entered.Goals as goal
 

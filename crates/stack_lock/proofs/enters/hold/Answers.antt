@@ -11,7 +11,7 @@ use Rattle.plain_monitor.specs.declared.entry.Path.{Path}
 use Rattle.core_world.specs.Threads.Known.{Known}
 use Rattle.core_world.specs.Trees.Todo.{Todo}
 use Rattle.heap_table.specs.Parts.{IsDueOn, HasRun}
-use Rattle.stack_lock.specs.Parts.{entered_by}
+use Rattle.stack_lock.specs.inner.Parts.{entered_by}
 use Rattle.heap_table.proofs.Parts.{can, rest_due, stepped}
 use Rattle.stack_lock.proofs.Room.{room}
 use Rattle.heap_table.proofs.Ruled.{there, few_objects}

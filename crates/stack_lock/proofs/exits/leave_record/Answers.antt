@@ -12,7 +12,8 @@ use Rattle.core_world.proofs.CallRests.{part_due}
 use Rattle.heap_table.specs.Parts.{IsDueOn, HasRun}
 use Rattle.heap_table.specs.Stepping.{CanStep, HasStepped}
 use Rattle.heap_table.proofs.Parts.{can, rest_due, stepped, in_turn, ends}
-use Rattle.stack_lock.specs.Parts.{leave_at, marked_exit}
+use Rattle.stack_lock.specs.Parts.{leave_at}
+use Rattle.stack_lock.specs.inner.Parts.{marked_exit}
 use Rattle.heap_table.proofs.Arms.{due_then, due_else, run_then, run_else}
 use Rattle.stack_lock.proofs.exits.leave_record.Goals as goal
 

@@ -1,7 +1,7 @@
 use Rattle.std.proofs.Common.{◌+◌, ◌<◌, ◌≤◌, List, length, drop, get_or, ℕ, sym, ap, ◌∙◌, arith}
 use Rattle.std.proofs.lemmas.List.{at_drop_more, at_drop_all}
 use Rattle.mark_word.specs.Hold.{read_hold}
-use Rattle.thread_calls.specs.Least.{least_in, lesser, object_in}
+use Rattle.thread_calls.specs.inner.Least.{least_in, lesser, object_in}
 use Rattle.thread_calls.proofs.Least.{least_is, lesser_none, lesser_thrice, places}
 use Rattle.thread_calls.proofs.asks.least_held.Goals as goal
 

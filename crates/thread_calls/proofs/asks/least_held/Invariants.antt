@@ -1,5 +1,5 @@
 use Rattle.std.proofs.Common.{◌≡◌, drop}
-use Rattle.thread_calls.specs.Least.{least_in, lesser}
+use Rattle.thread_calls.specs.inner.Least.{least_in, lesser}
 use Rattle.thread_calls.proofs.asks.least_held.Given as goal
 
 abbrev pub invariant-loop-word : goal.invariant-loop-word

@@ -1,6 +1,6 @@
 use Rattle.std.proofs.Common.{refl, subst}
 use Rattle.core_world.specs.declared.task.Task.TheVariants as task
-use Rattle.thread_calls.specs.Made.{MayMake}
+use Rattle.thread_calls.specs.inner.Made.{MayMake}
 use Rattle.thread_calls.proofs.OnTime.{timed_at, timed_still}
 use Rattle.thread_calls.proofs.makes.make.Goals as goal
 

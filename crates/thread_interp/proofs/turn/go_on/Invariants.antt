@@ -1,6 +1,6 @@
 use Rattle.thread_calls.specs.Advances.{rank_with}
 use Rattle.thread_calls.specs.Timed.{StaysTimed}
-use Rattle.thread_interp.specs.Running.{IsGoing}
+use Rattle.thread_interp.specs.inner.Running.{IsGoing}
 use Rattle.thread_interp.proofs.turn.go_on.Given as goal
 
 abbrev pub invariant-loop-done : goal.invariant-loop-done

@@ -6,7 +6,8 @@ use Rattle.core_world.specs.There.{HasPlace}
 use Rattle.core_steps.specs.Logic.{Heap}
 use Rattle.heap_table.specs.Cells.{cells_shown}
 use Rattle.heap_table.specs.Drafts.{IsLeft}
-use Rattle.heap_table.specs.Ruled.{only, MayStep, Stepped}
+use Rattle.heap_table.specs.Ruled.{only, Stepped}
+use Rattle.heap_table.specs.inner.Ruled.{MayStep}
 use Rattle.heap_table.specs.Seen.{HeapSeen, PassSeen}
 use Rattle.heap_table.proofs.Knows.{same_thread, goes_on, is_there, real_after}
 use Rattle.heap_table.proofs.Places.{placed}

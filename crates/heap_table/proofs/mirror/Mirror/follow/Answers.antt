@@ -1,6 +1,6 @@
 use Rattle.std.proofs.Common.{refl, sym, ap, ◌∙◌}
 use Rattle.heap_table.proofs.Follow.{follow_hit}
-use Rattle.heap_table.specs.Kept.{stand_after}
+use Rattle.heap_table.specs.inner.Kept.{stand_after}
 use Rattle.heap_table.proofs.mirror.Mirror.follow.Goals as goal
 
 pub returns-then-effect-clause-follows : goal.returns-then-effect-clause-follows

@@ -1,0 +1,9 @@
+-- What only the private contracts of this crate cite: its own steps, states and invariants.
+pub mod Drafts
+pub mod Firsts
+pub mod Kept
+pub mod Layout
+pub mod Openings
+pub mod Parts
+pub mod Ruled
+pub mod Seen

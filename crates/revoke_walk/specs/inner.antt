@@ -1,0 +1,4 @@
+-- What only the private contracts of this crate cite: its own steps, states and invariants.
+pub mod RevokeParts
+pub mod ShotParts
+pub mod StandParts

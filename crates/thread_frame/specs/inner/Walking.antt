@@ -1,0 +1,20 @@
+-- What each outcome of an instruction makes of a frame, and where a frame may stand for it.
+use Rattle.std.specs.Prelude.{◌+◌, ◌-◌, ◌<◌, ℕ, slice_set, Some}
+use Rattle.plain_machine.specs.declared.call.Call.{Call}
+use Rattle.plain_machine.specs.declared.call.Mode.TheVariants.{Calling, Unwinding}
+use Rattle.plain_machine.specs.declared.step.Next.{Next}
+use Rattle.plain_machine.specs.declared.step.Next.TheVariants as next
+use Rattle.thread_frame.specs.Frames.{FrameSeen}
+
+-- the frame behind the instruction that it is at, by what this leads to
+abbrev pub frame_moved : FrameSeen → Next → FrameSeen
+frame_moved f (next.Sets x value) = record f { place = f.place + 1; locals = slice_set f.locals x value; fuel = f.fuel - 1 }
+frame_moved f (next.Jumps place) = record f { place = place; fuel = f.fuel - 1 }
+frame_moved f (next.Calls c) = record f { mode = Some (Calling c) }
+frame_moved f (next.Stops ending) = record f { fuel = f.fuel - 1; mode = Some (Unwinding ending) }
+
+-- a frame that sets a local or calls is at an instruction
+abbrev pub IsPlacedFor : ℕ → Next → Type 0
+IsPlacedFor place (next.Sets x value) = place < 4096
+IsPlacedFor place (next.Calls c) = place < 4096
+IsPlacedFor place n = Unit {0}
