@@ -5,8 +5,7 @@ use Rattle.plain_monitor.specs.declared.entry.Logged.{Logged}
 use Rattle.plain_monitor.specs.History.{LegalObjects, log_of}
 use Rattle.core_world.specs.declared.task.Op.TheVariants as op
 use Rattle.core_world.specs.Clauses.Safepoints.{IsUnfinished, ends}
-use Rattle.core_world.specs.Threads.Counts.{CountedVerdict}
-use Rattle.core_world.specs.Threads.Known.{Known, StepMade, DumpShot}
+use Rattle.core_world.specs.Threads.Known.{Known, DumpShot}
 use Rattle.core_steps.specs.Logic.{Heap}
 use Rattle.heap_table.specs.BiasesAtEnd.{BiasesAtEnd}
 use Rattle.heap_table.specs.Seen.{HeapSeen, PassSeen, ClosedSeen, IsOf, LastWorld, knowns, logs_of, shots_of, counts_of_all}
@@ -16,7 +15,7 @@ use Rattle.object_program.specs.Program.{ProgramText}
 use Rattle.plain_history.specs.ExactStamps.{StampsAreExact}
 use Rattle.plain_machine.specs.Legal.{machine_after}
 use Rattle.thread_calls.specs.Between.{IsHeapOf, state_by}
-use Rattle.thread_calls.specs.Timed.{IsTimed, IsOnTime, IsCountedOnTime}
+use Rattle.thread_calls.specs.Timed.{IsTimed}
 use Rattle.thread_interp.specs.Runners.{RunnerSeen}
 use Rattle.thread_logs.specs.Followed.{HaveFollowed, ends_by}
 use Rattle.run_ends.specs.OfARun.{HasDraws, HasShots, IsEnd, logs_in, shots_in, unfinished_in}
@@ -25,8 +24,8 @@ use Rattle.run_ends.proofs.Shots.{has_shots}
 use Rattle.run_ends.proofs.Stuck.{no_hash_open}
 use Rattle.std.specs.List.{AllByRecursion}
 use Rattle.run_rounds.specs.Outcome.{HasRun}
-use Rattle.run_rounds.specs.Rounds.{AreRunners, IsUnused}
-use Rattle.run_rounds.specs.inner.Rounds.{AreTimed, AreOver}
+use Rattle.run_rounds.specs.Rounds.{AreRunners, AreTimed}
+use Rattle.run_rounds.specs.inner.Rounds.{AreOver}
 use Rattle.run_rounds.proofs.Ending.{passes, known_at, log_at, logs_are, not_live, all_of, own_follows, ended_at, is_end, have_followed, word_is_halted}
 use Rattle.run_rounds.proofs.Lists.{all_mapped}
 use Rattle.run_rounds.proofs.Over.{Laws, ends_alike, is_over}
@@ -41,15 +40,6 @@ counts_are h [] all = refl
 counts_are h (p ∷ ps) all =
     let here = (all 0 p (omega arith)).classes in
     λ i. counts_shown 0 (here i) p.known.counts ∷ counts_are h ps (λ k d lt. all (suc k) d (omega (arith, lt))) i
-
--- a thread that made no call yet is timed, whatever a tick is
-pub new_timed : (tick : ℕ) (rs : List RunnerSeen) → ((t : ℕ) (r : RunnerSeen) → slice_get rs t ≡ Some r → IsUnused r.pass.known) → AreTimed tick rs
-new_timed tick rs unused t r e =
-    let none = unused t r e in
-    record {
-      calls = subst (AllByRecursion (λ (m : StepMade). IsOnTime tick m.plan.task)) (sym none.steps) tt;
-      counts = subst (AllByRecursion (λ (v : CountedVerdict). IsCountedOnTime tick v.reset)) (sym none.counts) tt;
-    }
 
 timed_are : (tick : ℕ) (rs : List RunnerSeen) → AreTimed tick rs → AllByRecursion (IsTimed tick) (knowns (passes rs))
 timed_are tick [] timed = tt

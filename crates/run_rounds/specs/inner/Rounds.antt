@@ -1,7 +1,6 @@
 -- Runners in their seats, and when rounds are over.
 use Rattle.std.specs.Prelude.{◌≡◌, ℕ, Bool, true, false, List, map, slice_get, Some}
 use Rattle.std.specs.List.{list_all}
-use Rattle.thread_calls.specs.Timed.{IsTimed}
 use Rattle.thread_frame.specs.Frames.{has_ended}
 use Rattle.thread_interp.specs.Runners.{RunnerSeen}
 use Rattle.run_rounds.specs.declared.seats.Seat.{Seat}
@@ -9,10 +8,6 @@ use Rattle.run_rounds.specs.declared.seats.Seat.{Seat}
 -- the runners that are seated
 abbrev pub runners_in : List Seat → List RunnerSeen
 runners_in seats = map (λ (s : Seat). s.runner) seats
-
--- the calls of each were given moments by ticks of so many units, and by these it counted resets
-abbrev pub AreTimed : ℕ → List RunnerSeen → Type 0
-AreTimed tick rs = (t : ℕ) (r : RunnerSeen) → slice_get rs t ≡ Some r → IsTimed tick r.pass.known
 
 -- all their threads have ended
 abbrev pub have_ended : List RunnerSeen → Bool
