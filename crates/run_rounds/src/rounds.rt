@@ -6,7 +6,7 @@ ghost use Rattle.thread_calls.specs.Timed.{StaysTimed};
 ghost use Rattle.thread_frame.specs.Frames.{has_ended};
 ghost use Rattle.thread_interp.specs.Runners.{IsRunner, IsSame};
 ghost use Rattle.run_rounds.specs.Rounds.{AreRunners, AreTimed};
-ghost use Rattle.run_rounds.specs.inner.Rounds.{AreOver, have_ended, runners_in};
+ghost use Rattle.run_rounds.specs.inner.Rounds.{AreOver, have_ended, runners_in, stand_still};
 
 use crate::seats::Seat;
 use core_world::Turn;
@@ -30,10 +30,12 @@ fn have_ended(seats: &[Seat]) -> bool
     true
 }
 
-// Whether no turn of the last round did an instruction.
-fn stand_still(seats: &[Seat]) -> bool {
+// Whether no seat's last turn did an instruction.
+fn stand_still(seats: &[Seat]) -> bool
+    ensures { result ≡ stand_still seats.now }
+{
     for seat in seats {
-        if seat.instructions > 0 {
+        if seat.instructions != 0 {
             return false;
         }
     }

@@ -1,5 +1,5 @@
 -- Runners in their seats, and when rounds are over.
-use Rattle.std.specs.Prelude.{◌≡◌, ℕ, Bool, true, false, List, map, slice_get, Some}
+use Rattle.std.specs.Prelude.{◌≡◌, ◌==◌, ℕ, Bool, true, false, List, map, slice_get, Some}
 use Rattle.std.specs.List.{list_all}
 use Rattle.thread_frame.specs.Frames.{has_ended}
 use Rattle.thread_interp.specs.Runners.{RunnerSeen}
@@ -8,6 +8,10 @@ use Rattle.run_rounds.specs.declared.seats.Seat.{Seat}
 -- the runners that are seated
 abbrev pub runners_in : List Seat → List RunnerSeen
 runners_in seats = map (λ (s : Seat). s.runner) seats
+
+-- no seat's last turn did an instruction
+abbrev pub stand_still : List Seat → Bool
+stand_still seats = list_all (λ (s : Seat). s.instructions == 0) seats
 
 -- all their threads have ended
 abbrev pub have_ended : List RunnerSeen → Bool
