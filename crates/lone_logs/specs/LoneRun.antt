@@ -1,5 +1,5 @@
 -- A run of a program's only thread, by its log; and logs that are the same but for paths.
-use Rattle.std.specs.Prelude.{◌≡◌, ◌⊎◌, ℕ, not, true, false, List, map, length, Some}
+use Rattle.std.specs.Prelude.{◌≡◌, ◌⊎◌, ℕ, not, true, List, map, length, Some}
 use Rattle.std.specs.List.{AllByRecursion, list_all}
 use Rattle.plain_monitor.specs.declared.entry.Entry.{Entry}
 use Rattle.plain_monitor.specs.declared.entry.Entry.TheVariants.{Enter}

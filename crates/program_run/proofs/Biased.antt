@@ -19,7 +19,6 @@ use Rattle.core_world.specs.Threads.Counts as known
 use Rattle.core_world.specs.Threads.Counts.{CountedVerdict, counts_of}
 use Rattle.core_world.specs.Threads.Known.{Known}
 use Rattle.core_world.specs.Words.Shape.{Shape}
-use Rattle.core_world.specs.Words.Shape as shape
 use Rattle.core_steps.specs.Logic.{Heap}
 use Rattle.heap_table.specs.BiasesAtEnd.{counted_by}
 use Rattle.heap_table.specs.declared.counts.ClassCounts.{ClassCounts}
