@@ -18,7 +18,8 @@ use Rattle.core_world.specs.Trees.LockSteps.{stack_enter_steps, stack_exit_steps
 use Rattle.core_world.specs.Trees.SafepointSteps.{released_word, halted_word, safepoint_steps, release_safepoint, halt_steps, stop_steps, resume_steps, poll_steps, request_steps, reached_steps}
 use Rattle.core_world.specs.Trees.LookSteps.{take_shot_steps, stands_still_steps}
 use Rattle.core_world.specs.Trees.WaitSteps.{publish_steps}
-use Rattle.core_world.specs.Trees.Operations.{and_then, answer, lone_purpose, get_steps, put_steps, print_steps, ending_entry, finish_steps, dump_going, dump_steps, check_ending, check_steps}
+use Rattle.plain_monitor.specs.Endings.{ending_entry}
+use Rattle.core_world.specs.Trees.Operations.{and_then, answer, lone_purpose, get_steps, put_steps, print_steps, finish_steps, dump_going, dump_steps, check_ending, check_steps}
 use Rattle.core_world.specs.Trees.Calls.{side_purpose}
 use Rattle.core_calls.specs.Paths.{Always, Says, Leaves}
 use Rattle.core_calls.specs.Causes.{Caused, CausedUnder, Overtaken, is_stopping, of_requests, of_safepoints}

@@ -30,7 +30,8 @@ use Rattle.core_world.specs.Threads.Known.{StepMade, Start}
 use Rattle.core_world.specs.Locks.{hold_count}
 use Rattle.core_world.specs.Trees.Plans.{free_place}
 use Rattle.core_world.specs.Trees.SafepointSteps.{has_requester, running_too, all_but, released_word, halted_word}
-use Rattle.core_world.specs.Trees.Operations.{goes_on_with, value_found, ending_entry}
+use Rattle.plain_monitor.specs.Endings.{ending_entry}
+use Rattle.core_world.specs.Trees.Operations.{goes_on_with, value_found}
 use Rattle.core_calls.specs.Paths.{Leaves}
 use Rattle.core_calls.specs.Causes.{Among, AmongBehind, Loaded, Put, Caused, CausedUnder, Overtaken, Requests, of_exchanges, of_safepoints, of_owners, of_waits, of_requests, of_polls, of_resumes, is_stopping}
 

@@ -18,7 +18,8 @@ use Rattle.core_world.specs.Trees.Calls.{steps_of, may_begin, may_act, is_object
 use Rattle.core_world.specs.Words.Forms.{says_notified, notified_form, says_ended, ended_form}
 use Rattle.core_world.specs.Threads.Known.{Known, start_of}
 use Rattle.core_world.specs.Locks.{hold_count}
-use Rattle.core_world.specs.Trees.Operations.{lone_purpose, ending_entry}
+use Rattle.core_world.specs.Trees.Operations.{lone_purpose}
+use Rattle.plain_monitor.specs.Endings.{ending_entry}
 use Rattle.core_world.specs.Clauses.Safepoints.{is_ending}
 use Rattle.core_world.specs.Words.Shape.{slots_of}
 use Rattle.core_locks.specs.JournalLaws.{MayTell, MayTouch, MayPut, MayPublish}

@@ -1,7 +1,7 @@
 //! Calls that make one entry at once: slots, prints and the end of a thread.
 ghost use Rattle.std.specs.Prelude.{◌≡◌, true, Ok};
 ghost use Rattle.core_world.specs.declared.task.Task.TheVariants.{Get, Put, Print, Finish};
-ghost use Rattle.core_world.specs.Trees.Operations.{get_steps, put_steps, print_steps, finish_steps, ending_entry};
+ghost use Rattle.core_world.specs.Trees.Operations.{get_steps, put_steps, print_steps, finish_steps};
 ghost use Rattle.core_calls.specs.Paths.{Tells};
 ghost use Rattle.core_calls.specs.CallsSay.{GetSays, PutSays, PrintSays, FinishSays};
 ghost use Rattle.heap_table.specs.Parts.{HasRun};
@@ -16,7 +16,7 @@ use core_world::{Name, Stage, Task, Unguarded};
 use heap_table::{Heap, Pass, value_of_word};
 use mark_word::{WaitForm, encode_wait};
 use object_monitor::publish;
-use plain_monitor::{Ending, Entry, Value, value_word};
+use plain_monitor::{Ending, Entry, Value, ending_entry, value_word};
 
 /// The value of the object's slot, by one load, which logs a Get with it.
 ///
@@ -86,17 +86,6 @@ pub fn print(heap: &Heap, pass: &mut Pass, value: Value)
 {
     let why = alone(Task::Print { value });
     publish(heap, pass, &why, Entry::Print { value })
-}
-
-// The entry with which a thread ends so.
-fn ending_entry(ending: Ending) -> Entry
-    ensures { result ≡ ending_entry ending }
-{
-    match ending {
-        Ending::Trap { fault, index } => Entry::Trap { fault, index },
-        Ending::Spent => Entry::Spent,
-        Ending::Done => Entry::Done,
-    }
 }
 
 /// Ends the thread, which has no holds: logs how it ended, and says so in its waiting word. It may be stopped and

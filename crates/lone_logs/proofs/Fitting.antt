@@ -19,7 +19,8 @@ use Rattle.plain_machine.specs.declared.call.Call.TheVariants as call
 use Rattle.plain_machine.specs.declared.call.Asked.{Asked}
 use Rattle.plain_machine.specs.declared.call.Asked.TheVariants.{Calls, Resumes, Leaves, Ends}
 use Rattle.plain_machine.specs.Asking.{fits, is_call, is_ending, is_resume, is_exit, fault_number}
-use Rattle.plain_machine.specs.Offering.{oldest, ending_entry}
+use Rattle.plain_machine.specs.Offering.{oldest}
+use Rattle.plain_monitor.specs.Endings.{ending_entry}
 use Rattle.plain_machine.proofs.ReachedObjects.{same_is}
 use Rattle.lone_logs.specs.LoneRun.{without_path}
 use Rattle.lone_logs.proofs.Drawing.{IsDrawnFirst}

@@ -18,7 +18,8 @@ use Rattle.plain_machine.specs.declared.offer.Offer.TheVariants as offer
 use Rattle.plain_machine.specs.Thread.{ThreadState}
 use Rattle.plain_machine.specs.Asking.{ask, fits, is_ending, fault_number, behind_entry, thread_after}
 use Rattle.plain_machine.specs.Machine.{PlainMachine, code_of, moved, take, object_at, monitor_at, slot_at, other_owner}
-use Rattle.plain_machine.specs.Offering.{unless_owned, hash_offer, oldest, ending_entry, asked_offer, offered}
+use Rattle.plain_monitor.specs.Endings.{ending_entry}
+use Rattle.plain_machine.specs.Offering.{unless_owned, hash_offer, oldest, asked_offer, offered}
 use Rattle.plain_machine.specs.ReachedMonitor.{waiting_on}
 use Rattle.plain_machine.specs.ReachedThread.{IsHeld}
 use Rattle.plain_machine.specs.Reached.{IsReached}

@@ -1,10 +1,9 @@
 -- What a thread may do next: its next entry, with what the objects answer, or why there is none.
 use Rattle.std.specs.Prelude.{ℕ, Bool, true, false, if◌then◌else◌, List, [], ◌∷◌, length, slice_get, Option, Some, None, option_and_then}
 use Rattle.plain_monitor.specs.declared.entry.Path.TheVariants.{StackFirst}
-use Rattle.plain_monitor.specs.declared.entry.Ending.{Ending}
-use Rattle.plain_monitor.specs.declared.entry.Ending.TheVariants as ending
 use Rattle.plain_monitor.specs.declared.entry.Entry.{Entry}
-use Rattle.plain_monitor.specs.declared.entry.Entry.TheVariants.{Enter, Exit, Get, Put, Wait, Resume, Notify, NotifyAll, Hash, Print, Dump, Trap, Spent, Done}
+use Rattle.plain_monitor.specs.declared.entry.Entry.TheVariants.{Enter, Exit, Get, Put, Wait, Resume, Notify, NotifyAll, Hash, Print, Dump}
+use Rattle.plain_monitor.specs.Endings.{ending_entry}
 use Rattle.plain_monitor.specs.Monitor.{PlainMonitor, is_listed}
 use Rattle.plain_machine.specs.declared.call.Call.{Call}
 use Rattle.plain_machine.specs.declared.call.Call.TheVariants as call
@@ -41,11 +40,6 @@ call_offer m t (call.Put o k v) = Next (Put o k v)
 call_offer m t (call.Hash x o) = hash_offer o (object_at m o).hash
 call_offer m t (call.Print v) = Next (Print v)
 call_offer m t (call.Dump n) = Next (Dump n)
-
-abbrev pub ending_entry : Ending → Entry
-ending_entry (ending.Trap fault index) = Trap fault index
-ending_entry ending.Spent = Spent
-ending_entry ending.Done = Done
 
 -- a thread that waits is offered nothing until it is notified
 abbrev pub resume_offer : PlainMonitor → ℕ → ℕ → Option ℕ → Offer

@@ -3,7 +3,7 @@
 ghost use Rattle.std.specs.Prelude.{◌≡◌, ◌<◌, if◌then◌else◌, length, OnOk, OnErr, IfOk, Some, None};
 ghost use Rattle.plain_machine.specs.Machine.{new_machine, take, object_at, monitor_at, slot_at, ending_of, ending_in, other_owner, wanted, is_blocked, is_waiting, is_barred, is_live, all_barred, is_stuck};
 ghost use Rattle.plain_machine.specs.declared.call.Call.TheVariants as call;
-ghost use Rattle.plain_machine.specs.Offering.{offered, call_offer, resume_offer, unless_owned, hash_offer, oldest, ending_entry};
+ghost use Rattle.plain_machine.specs.Offering.{offered, call_offer, resume_offer, unless_owned, hash_offer, oldest};
 ghost use Rattle.plain_monitor.specs.Monitor.{is_thread, is_listed};
 ghost use Rattle.std.specs.List.{list_any};
 
@@ -17,7 +17,7 @@ use crate::objects;
 use crate::offer::Offer;
 use crate::thread::Thread;
 use object_program::Program;
-use plain_monitor::{Ending, Entry, NoMemory, Path, Refused, Value};
+use plain_monitor::{Ending, Entry, NoMemory, Path, Refused, Value, ending_entry};
 use std::alloc::Global;
 use std::marker::Model;
 
@@ -335,17 +335,6 @@ fn hash_offer(object: u32, hash: Option<u32>) -> Offer
             drawn: None,
         }),
         None => Offer::NextHash { object },
-    }
-}
-
-/// The entry of an ending.
-fn ending_entry(ending: Ending) -> Entry
-    ensures { result ≡ ending_entry ending }
-{
-    match ending {
-        Ending::Trap { fault, index } => Entry::Trap { fault, index },
-        Ending::Spent => Entry::Spent,
-        Ending::Done => Entry::Done,
     }
 }
 

@@ -4,6 +4,7 @@
 //! logs, the histories that are legal, and which word spells which value. The types here are what logs are made of.
 #![tactic(auto)]
 
+mod endings;
 mod entry;
 mod laws;
 mod list;
@@ -14,6 +15,7 @@ mod tests;
 mod value_words;
 mod waiters;
 
+pub use endings::ending_entry;
 pub use entry::{Ending, Entry, Fault, Logged, Path, Value};
 pub use laws::{an_entry_above_all_comes_last, least_head_comes_first, order_keeps_each_log};
 pub use list::List;

@@ -10,7 +10,7 @@ use Rattle.core_calls.specs.CallsSay.{lets_go}
 use Rattle.core_world.specs.declared.answer.Turn.TheVariants.{Done, Pending}
 use Rattle.core_world.specs.declared.answer.Why.{Why}
 use Rattle.core_world.specs.declared.task.Unfinished.{Unfinished}
-use Rattle.core_world.specs.Trees.Operations.{ending_entry}
+use Rattle.plain_monitor.specs.Endings.{ending_entry}
 use Rattle.heap_table.specs.Resting.{start_now}
 use Rattle.heap_table.specs.Seen.{HeapSeen, PassSeen}
 use Rattle.lock_runtime.specs.Standing.{IsRunning, StandsBehind}

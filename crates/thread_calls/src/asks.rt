@@ -1,7 +1,6 @@
 //! The entries that a thread makes while it waits or unwinds.
 
 ghost use Rattle.std.specs.Prelude.{◌≡◌, ℕ, length, Some};
-ghost use Rattle.core_world.specs.Trees.Operations.{ending_entry};
 ghost use Rattle.heap_table.specs.Resting.{Rests};
 ghost use Rattle.mark_word.specs.Hold.{read_hold};
 ghost use Rattle.plain_machine.specs.Asking.{held_from};
@@ -18,7 +17,7 @@ use lock_runtime as runtime;
 use mark_word::HoldForm;
 use object_program::Program;
 use plain_machine::Asked;
-use plain_monitor::{Ending, Entry};
+use plain_monitor::{Ending, Entry, ending_entry};
 use run_io::{Clock, moment};
 use thread_frame::Frame;
 
@@ -59,17 +58,6 @@ fn least_held(heap: &Heap, pass: &Pass) -> Option<u32>
         least = lesser(least, object_in(*word));
     }
     least
-}
-
-// The entry with which a thread ends so.
-fn ending_entry(ending: Ending) -> Entry
-    ensures { result ≡ ending_entry ending }
-{
-    match ending {
-        Ending::Trap { fault, index } => Entry::Trap { fault, index },
-        Ending::Spent => Entry::Spent,
-        Ending::Done => Entry::Done,
-    }
 }
 
 /// Goes on with the thread's wait on the object.

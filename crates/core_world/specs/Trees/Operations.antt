@@ -8,10 +8,10 @@ use Rattle.mark_word.specs.Wait.{wait_of}
 use Rattle.plain_monitor.specs.declared.entry.Entry.{Entry}
 use Rattle.plain_monitor.specs.declared.entry.Entry.TheVariants as entry
 use Rattle.plain_monitor.specs.declared.entry.Ending.{Ending}
-use Rattle.plain_monitor.specs.declared.entry.Ending.TheVariants as ending
 use Rattle.plain_monitor.specs.declared.entry.Path.{Path}
 use Rattle.plain_monitor.specs.declared.entry.Value.{Value}
 use Rattle.plain_monitor.specs.declared.entry.Value.TheVariants.{Nil}
+use Rattle.plain_monitor.specs.Endings.{ending_entry}
 use Rattle.plain_monitor.specs.ValueWords.{word_of, read_value}
 use Rattle.core_world.specs.declared.act.Act.TheVariants.{Store}
 use Rattle.core_world.specs.declared.name.Name.TheVariants.{Mark, Slot, Waiting}
@@ -263,11 +263,6 @@ print_steps k value = publish_steps (entry.Print value) (lone_purpose (task.Prin
 -- the waiting word of thread t says that it has ended
 abbrev pub store_ended_plan : Purpose → ℕ → StepPlan
 store_ended_plan e t = store e (Waiting t) (wait_of Ended)
-
-abbrev pub ending_entry : Ending → Entry
-ending_entry (ending.Trap fault index) = entry.Trap fault index
-ending_entry ending.Spent = entry.Spent
-ending_entry ending.Done = entry.Done
 
 abbrev pub finish_steps : Start → Ending → Todo (Unit {0})
 finish_steps k how = do

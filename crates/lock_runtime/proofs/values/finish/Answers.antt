@@ -7,7 +7,8 @@ use Rattle.core_world.specs.declared.stage.Stage.TheVariants.{Calm}
 use Rattle.core_world.specs.declared.task.Task.TheVariants.{Finish}
 use Rattle.core_world.specs.Threads.Known.{Known, local_of}
 use Rattle.core_world.specs.Trees.Calls.{steps_of, may_act}
-use Rattle.core_world.specs.Trees.Operations.{lone_purpose, ending_entry, store_ended_plan, finish_steps}
+use Rattle.plain_monitor.specs.Endings.{ending_entry}
+use Rattle.core_world.specs.Trees.Operations.{lone_purpose, store_ended_plan, finish_steps}
 use Rattle.core_world.specs.Trees.Plans.{Purpose}
 use Rattle.core_world.specs.Trees.Todo.{Todo, done, ◌>>=◌, ask}
 use Rattle.core_world.specs.Trees.WaitSteps.{publish_plan, publish_steps}

@@ -4,7 +4,7 @@ use Rattle.core_calls.proofs.NamedCalls.{finish_named}
 use Rattle.core_world.specs.declared.task.Task.TheVariants as task
 use Rattle.heap_table.specs.Resting.{start_now}
 use Rattle.core_world.specs.declared.answer.Turn.TheVariants.{Done}
-use Rattle.core_world.specs.Trees.Operations.{ending_entry}
+use Rattle.plain_monitor.specs.Endings.{ending_entry}
 use Rattle.plain_machine.specs.declared.call.Asked.TheVariants.{Ends}
 use Rattle.plain_machine.proofs.ReachedAsked.{asked_of}
 use Rattle.thread_frame.specs.Frames.{frame_behind}
