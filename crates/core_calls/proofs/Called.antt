@@ -6,14 +6,14 @@ use Rattle.core_world.specs.declared.plan.Own.TheVariants.{CountVerdict}
 use Rattle.core_world.specs.declared.plan.StepPlan.{StepPlan}
 use Rattle.core_world.specs.declared.task.Task.{Task}
 use Rattle.core_world.specs.Due.{Ran}
-use Rattle.core_world.specs.Steps.{counts_after, known_hit, known_miss}
+use Rattle.core_world.specs.Steps.{counts_after, known_hit, known_miss, known_along}
 use Rattle.core_world.specs.Threads.Counts.{CountedVerdict}
 use Rattle.core_world.specs.Threads.Known.{Known, StepMade}
 use Rattle.core_world.specs.Trees.Todo.{Todo}
 use Rattle.core_world.specs.Words.Acts.{hits}
 use Rattle.core_world.specs.Words.Shape.{Shape}
 use Rattle.core_calls.specs.Moments.{moment_of, IsDecidedBy, CountsBy, IsStepOf, HasCalled}
-use Rattle.core_calls.specs.Paths.{Says, known_along}
+use Rattle.core_calls.specs.Paths.{Says}
 use Rattle.core_calls.proofs.Named.{Named, AllOf, named_says}
 use Rattle.core_calls.proofs.Runs.{knows, on_path}
 

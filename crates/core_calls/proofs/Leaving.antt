@@ -21,8 +21,7 @@ use Rattle.core_world.specs.Trees.Operations.{check_steps}
 use Rattle.core_world.specs.Trees.Plans.{Purpose, load, done_with, pending_for}
 use Rattle.core_world.specs.Words.Shape.{Shape}
 use Rattle.core_world.specs.Trees.SafepointSteps.{all_but, running_too, halted_word, bar, unless, stop_steps, resume_plan, resume_swap_steps, resume_steps}
-use Rattle.core_world.specs.Steps.{halted_after, known_after, known_hit, known_miss}
-use Rattle.core_calls.specs.Paths.{known_along}
+use Rattle.core_world.specs.Steps.{halted_after, known_after, known_hit, known_miss, known_along}
 use Rattle.core_calls.specs.Causes.{Put}
 use Rattle.core_calls.specs.CallsSay.{CheckSays}
 use Rattle.core_calls.proofs.OtherCallsSay.{check_says}

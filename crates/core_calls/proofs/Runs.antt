@@ -13,10 +13,10 @@ use Rattle.core_world.specs.Due.{Runs, Ran}
 use Rattle.core_world.specs.Words.Forms.{hash_in}
 use Rattle.core_world.specs.Threads.Known.{Known, StepMade, CallUnderway}
 use Rattle.core_world.specs.Words.Shape.{Shape}
-use Rattle.core_world.specs.Steps.{log_after, with_entry, unfinished_after, known_after, known_hit, known_miss, rest_of_call, left_of}
+use Rattle.core_world.specs.Steps.{log_after, with_entry, unfinished_after, known_after, known_hit, known_miss, rest_of_call, left_of, known_along}
 use Rattle.core_world.specs.Trees.Calls.{steps_of}
 use Rattle.core_world.specs.Trees.Todo.{Todo, done, never, step, after_answer, after_answers, head}
-use Rattle.core_calls.specs.Paths.{made, Always, Says, IsPath, known_along, Follows, noted, entries_of, left_unfinished, left_checking, Leaves, Tells, Did}
+use Rattle.core_calls.specs.Paths.{made, Always, Says, IsPath, Follows, noted, entries_of, left_unfinished, left_checking, Leaves, Tells, Did}
 use Rattle.core_calls.specs.Bounds.{IsWithin, most_steps}
 use Rattle.core_calls.proofs.CallsSpend.{call_within}
 

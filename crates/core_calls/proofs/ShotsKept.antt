@@ -27,10 +27,10 @@ use Rattle.core_world.specs.Locks.{has_epoch}
 use Rattle.core_world.specs.Trees.Plans.{Purpose, load, done_with}
 use Rattle.core_world.specs.Trees.SafepointSteps.{has_requester, reached_word, request_steps, reached_steps, then_reached, safepoint_steps, release_safepoint}
 use Rattle.core_world.specs.Words.Shape.{Shape}
-use Rattle.core_world.specs.Steps.{shot_of, shots_after, known_hit, known_miss}
+use Rattle.core_world.specs.Steps.{shot_of, shots_after, known_hit, known_miss, known_along}
 use Rattle.core_world.specs.Trees.Todo.{Todo, done, never, step, ◌>>=◌, ask}
 use Rattle.core_world.specs.Trees.WaitSteps.{publish_steps}
-use Rattle.core_calls.specs.Paths.{made, Always, known_along}
+use Rattle.core_calls.specs.Paths.{made, Always}
 use Rattle.core_calls.specs.CallsSay.{unfinished_on}
 use Rattle.core_calls.proofs.Paths.{always_then, either_way}
 use Rattle.core_calls.proofs.Spends.{Spends, Spend, spend_done, spend_never, spend_more, spend_step, spend_either, spend_then, spend_leaving, spend_all}

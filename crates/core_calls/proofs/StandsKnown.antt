@@ -8,9 +8,9 @@ use Rattle.core_world.specs.declared.plan.StepPlan.{StepPlan}
 use Rattle.core_world.specs.Words.Acts.{hits, word_after}
 use Rattle.core_world.specs.Words.Shape.{Shape}
 use Rattle.core_world.specs.Threads.Known.{Known, StepMade}
-use Rattle.core_world.specs.Steps.{runs_after, asks_after, known_hit, known_miss}
+use Rattle.core_world.specs.Steps.{runs_after, asks_after, known_hit, known_miss, known_along}
 use Rattle.core_world.specs.Trees.Todo.{Todo}
-use Rattle.core_calls.specs.Paths.{known_along, Follows}
+use Rattle.core_calls.specs.Paths.{Follows}
 use Rattle.core_calls.specs.Stands.{Stand, stand_by, stand_behind, FoundTrue, StandsSo, stand_of}
 use Rattle.core_calls.proofs.Runs.{on_path}
 

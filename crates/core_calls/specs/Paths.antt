@@ -13,7 +13,7 @@ use Rattle.core_world.specs.Words.Forms.{hash_in}
 use Rattle.core_world.specs.Threads.Known.{Known, StepMade}
 use Rattle.core_world.specs.Trees.Operations.{value_found}
 use Rattle.core_world.specs.Words.Shape.{Shape}
-use Rattle.core_world.specs.Steps.{unfinished_after, known_after}
+use Rattle.core_world.specs.Steps.{unfinished_after, known_along}
 use Rattle.core_world.specs.Trees.Todo.{Todo, done, never, step}
 
 abbrev pub made : StepPlan → ℕ → StepMade
@@ -61,11 +61,6 @@ pub record Leaves (es : List Entry) (u : Option Unfinished) (check : Bool) (ms :
   pub entries : entries_of ms ≡ es
   pub unfinished : (before : Option Unfinished) → left_unfinished ms before ≡ u
   pub checking : (before : Bool) → left_checking ms before ≡ check
-
--- what a thread that knew this knows after these steps, the newest first
-abbrev pub known_along : Shape → ℕ → List StepMade → Known → Known
-known_along s start [] k = k
-known_along s start (m ∷ ms) k = known_after s start m.plan m.found (known_along s start ms k)
 
 -- A thread that knew this makes the steps of a path through the tree, with its answer; and all that it knows then is what they make of it.
 pub record Follows {A : Type 0} (s : Shape) (start : ℕ) (d : Todo A) (k l : Known) (a : A) : Type 0 where

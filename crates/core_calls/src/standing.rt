@@ -4,6 +4,7 @@
 ghost use Rattle.std.specs.Prelude.{◌≡◌, ℕ, ◌<◌, true, false, List};
 ghost use Rattle.plain_monitor.specs.declared.entry.Ending.{Ending};
 ghost use Rattle.plain_monitor.specs.declared.entry.Value.{Value};
+ghost use Rattle.core_world.specs.Steps.{known_along};
 ghost use Rattle.core_world.specs.declared.task.Task.TheVariants as task;
 ghost use Rattle.core_world.specs.Threads.Known.{Known, StepMade, Start};
 ghost use Rattle.core_world.specs.Words.Forms.{waits_on};
@@ -12,7 +13,6 @@ ghost use Rattle.core_world.specs.Trees.Calls.{side_purpose};
 ghost use Rattle.core_world.specs.Trees.Operations.{enter_steps, exit_steps, wait_steps, notify_steps, notify_all_steps, hash_steps};
 ghost use Rattle.core_world.specs.Trees.Operations.{get_steps, put_steps, print_steps, finish_steps, dump_steps, check_steps};
 ghost use Rattle.core_world.specs.Trees.SafepointSteps.{poll_steps, stop_steps, resume_steps};
-ghost use Rattle.core_calls.specs.Paths.{known_along};
 ghost use Rattle.core_calls.specs.Stands.{IsGoing, IsOff, StandsSo, stand_of, stand_behind, begun, stopped};
 ghost use Rattle.core_calls.specs.Stands.{TurnStands, ResultStands, RunsBehind, PollStands, ResumeStands, CheckStands};
 

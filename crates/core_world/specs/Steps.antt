@@ -222,6 +222,11 @@ known_miss s start p n k =
 abbrev pub known_after : Shape → ℕ → StepPlan → ℕ → Known → Known
 known_after s start p n k = if hits p.act n then known_hit s start p n k else known_miss s start p n k
 
+-- what a thread that knew this knows after these steps, the newest first
+abbrev pub known_along : Shape → ℕ → List StepMade → Known → Known
+known_along s start [] k = k
+known_along s start (m ∷ ms) k = known_after s start m.plan m.found (known_along s start ms k)
+
 -- the world that this step of thread t makes
 abbrev pub world_after : StepPlan → ℕ → World → World
 world_after p t w = with_word_and_known p.at (word_after p.act (w.words p.at)) t (known_after w.shape w.start p (w.words p.at) (w.known t)) w

@@ -3,7 +3,7 @@ use Rattle.std.specs.Prelude.{◌≡◌, ℕ, List, [], ◌∷◌}
 use Rattle.core_world.specs.declared.plan.StepPlan.{StepPlan}
 use Rattle.core_world.specs.Threads.Known.{Known, StepMade}
 use Rattle.core_world.specs.Opening.{first_known}
-use Rattle.core_world.specs.Steps.{known_after, world_after}
+use Rattle.core_world.specs.Steps.{known_along, world_after}
 use Rattle.core_world.specs.World.{World}
 use Rattle.core_steps.specs.Logic.{Heap, heap_of}
 use Rattle.core_steps.specs.Sound.{Sound}
@@ -25,8 +25,7 @@ pub record Stepped (heap : Heap) (k : Known) (p : StepPlan) (found : ℕ) : Type
 
 -- what thread t knows of a heap behind these steps of its own, the newest first
 abbrev pub known_behind : Heap → ℕ → List StepMade → Known
-known_behind heap t [] = first_known t
-known_behind heap t (m ∷ ms) = known_after heap.shape heap.start m.plan m.found (known_behind heap t ms)
+known_behind heap t ms = known_along heap.shape heap.start ms (first_known t)
 
 -- each of these steps was made in a sound world, in which its thread knew what the steps before it had told, and found the word that stood there
 abbrev pub WereMade : Heap → ℕ → List StepMade → Type 0

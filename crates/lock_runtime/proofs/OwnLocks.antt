@@ -19,7 +19,7 @@ use Rattle.core_world.specs.declared.task.Op.TheVariants as op
 use Rattle.core_world.specs.declared.task.Unfinished.{Unfinished}
 use Rattle.core_world.specs.Clauses.Safepoints.{IsUnfinished}
 use Rattle.core_world.specs.Locks.{Lock, lock, holder, hold_count, holds_by_monitor, marks, monitor_of, owner_at, OnRecord, who}
-use Rattle.core_world.specs.Steps.{known_hit, known_miss, log_after, unfinished_after}
+use Rattle.core_world.specs.Steps.{known_hit, known_miss, log_after, unfinished_after, known_along}
 use Rattle.core_world.specs.Threads.Known.{Known, StepMade}
 use Rattle.core_world.specs.Threads.Stages.{bears}
 use Rattle.core_world.specs.Trees.Plans.{Purpose, load}
@@ -35,7 +35,7 @@ use Rattle.core_world.proofs.ObjectHolds.{thread_is, holds_by_monitor_is}
 use Rattle.core_world.proofs.OwnersShown.{lock_by_form, fits_running}
 use Rattle.core_counts.specs.BiasLaw.{BiasLawHolds}
 use Rattle.core_steps.specs.Logic.{Heap}
-use Rattle.core_calls.specs.Paths.{made, known_along, noted, entries_of, left_unfinished, Tells}
+use Rattle.core_calls.specs.Paths.{made, noted, entries_of, left_unfinished, Tells}
 use Rattle.core_calls.specs.Woken.{IfDone}
 use Rattle.core_calls.proofs.StandsKnown.{thread_along}
 use Rattle.heap_table.specs.Ruled.{known_behind, Stepped, WereMade}

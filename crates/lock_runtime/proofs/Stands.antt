@@ -9,7 +9,7 @@ use Rattle.core_world.specs.declared.name.Name.TheVariants.{Safepoint}
 use Rattle.core_world.specs.declared.plan.StepPlan.{StepPlan}
 use Rattle.core_world.specs.Clauses.WordForms.{IsSafepoint}
 use Rattle.core_world.specs.Due.{Ran}
-use Rattle.core_world.specs.Steps.{known_after}
+use Rattle.core_world.specs.Steps.{known_after, known_along}
 use Rattle.core_world.specs.Threads.Known.{Known, StepMade}
 use Rattle.core_world.specs.Trees.Todo.{Todo}
 use Rattle.core_world.specs.Valid.{FormsFit, SafepointFits}
@@ -18,7 +18,7 @@ use Rattle.core_world.specs.Words.Shape.{Shape}
 use Rattle.core_world.specs.World.{World}
 use Rattle.core_steps.specs.Logic.{Heap}
 use Rattle.core_steps.proofs.SafeWords.{few_threads}
-use Rattle.core_calls.specs.Paths.{Says, known_along}
+use Rattle.core_calls.specs.Paths.{Says}
 use Rattle.core_calls.specs.Stands.{Stand, IsTrueOf, FoundTrue, StandsSo, TurnStands, ResultStands, stand_of, stand_behind, begun}
 use Rattle.core_calls.proofs.Runs.{on_path, knows}
 use Rattle.core_calls.proofs.StandsKnown.{thread_along, stand_along, stands_known}
