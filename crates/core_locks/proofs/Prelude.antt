@@ -43,7 +43,7 @@ pub use Rattle.plain_monitor.proofs.Appending.{order_appended, last_more, comes_
 pub use Rattle.plain_history.specs.Tied.{bound_to}
 pub use Rattle.plain_history.specs.Stamps.{IsBounded}
 pub use Rattle.plain_history.proofs.Swaps.{bound_is_named, taken_at}
-pub use Rattle.plain_history.specs.Sound.{times_listed}
+pub use Rattle.plain_monitor.specs.Listed.{times_in}
 pub use Rattle.plain_history.proofs.HoldSteps.{never_counted}
 pub use Rattle.plain_history.specs.HeldByLog.{HasLetGo, held_by, nothing_held, LetsGoOf, IsLastLetGo}
 pub use Rattle.core_world.specs.declared.name.Name.{Name}

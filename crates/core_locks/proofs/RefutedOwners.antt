@@ -1,5 +1,5 @@
 -- Steps on the owner word and the recursions of a monitor that a mark names, which lead to no valid world.
-use Rattle.core_locks.proofs.Prelude.{◌≡◌, ◌≢◌, ℕ, ◌+◌, ◌<◌, ◌||◌, ne_eqb, true, List, Option, Some, None, refl, sym, ap, ◌∙◌, arith, read_mark, is_thread, is_listed, PlainObject, Mark, Owner, Recursions, StepPlan, Stage, Calm, Seizes, Grabs, Enters, Resumes, Exits, Waits, TakesOver, Ahead, Behind, Inflates, Notifies, Revokes, monitor_in, bears, recursions_ahead, recursions_behind, one_if, Known, World, with_word_and_known, Open, OnRecord, OwnedBy, lock, marks, displaced_words, owner_words, who, holder, hold_count, recursion_count, owner_at, notified_at, Purpose, with_stage, store, logging_plan, world_after, Fits, with_known_here, same_Some, thread_is, Inflated, OwnerForm, Free, ByThread, ByRecord, read_owner, owner_of, read_owner-owner_of, Exit, Takes, times_listed, Store, owner_lock, Valid, owner_zero, running_fits, lock_by_form, with_word_there, inflated_form, sound, never_counted, listed_count}
+use Rattle.core_locks.proofs.Prelude.{◌≡◌, ◌≢◌, ℕ, ◌+◌, ◌<◌, ◌||◌, ne_eqb, true, List, Option, Some, None, refl, sym, ap, ◌∙◌, arith, read_mark, is_thread, is_listed, PlainObject, Mark, Owner, Recursions, StepPlan, Stage, Calm, Seizes, Grabs, Enters, Resumes, Exits, Waits, TakesOver, Ahead, Behind, Inflates, Notifies, Revokes, monitor_in, bears, recursions_ahead, recursions_behind, one_if, Known, World, with_word_and_known, Open, OnRecord, OwnedBy, lock, marks, displaced_words, owner_words, who, holder, hold_count, recursion_count, owner_at, notified_at, Purpose, with_stage, store, logging_plan, world_after, Fits, with_known_here, same_Some, thread_is, Inflated, OwnerForm, Free, ByThread, ByRecord, read_owner, owner_of, read_owner-owner_of, Exit, Takes, times_in, Store, owner_lock, Valid, owner_zero, running_fits, lock_by_form, with_word_there, inflated_form, sound, never_counted, listed_count}
 use Rattle.core_locks.proofs.RefutedSilent.{same_objects, others_have}
 use Rattle.core_locks.proofs.RefutedSteps.{knows, hit, hit_fits}
 
@@ -45,7 +45,7 @@ owner_uncalled w P o t v own called =
     let s = sound w P v o in
     let one = s.once t in
     let present = ap one_if own in
-    let none : times_listed (notified_at P o) t ≡ 0 = omega (arith, one, present) in
+    let none : times_in (notified_at P o) t ≡ 0 = omega (arith, one, present) in
     absurd (omega (arith, never_counted (notified_at P o) t none, listed_count (notified_at P o) t s.called called))
 
 module _ (w : World) (P Q : List PlainObject) (o m t : ℕ) (l : Known) (silent : l.log ≡ (w.known t).log) (own : l.holds ≡ (w.known t).holds) (calm : (w.known t).stage ≡ Calm) (names : monitor_in (w.words (Mark o)) ≡ Some m)

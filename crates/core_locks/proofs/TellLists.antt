@@ -1,5 +1,5 @@
 -- Those who wait on an object, when the oldest of them is told; and their counts, when they go to those who were notified.
-use Rattle.core_locks.proofs.Prelude.{◌≡◌, ◌≢◌, ◌⊎◌, ℕ, zero, suc, ◌+◌, ◌≤◌, ◌==◌, ◌&&◌, ◌||◌, nat_lt, ne_eqb, Bool, true, false, cond, List, [], ◌∷◌, ◌++◌, length, Option, Some, None, refl, sym, ap, ◌∙◌, subst, arith, inl, inr, eqb-true, or-true, nat_tests, AllByRecursion, WaitForm, is_listed, count_of, times_listed, never_counted, waits_on, says_notified, stamp_in, waits_form, ended_form, notified_form, enters_form, or_zero, StandByStamps, AreNotified, StandsBefore, is_older, by_equal, same_number}
+use Rattle.core_locks.proofs.Prelude.{◌≡◌, ◌≢◌, ◌⊎◌, ℕ, zero, suc, ◌+◌, ◌≤◌, ◌==◌, ◌&&◌, ◌||◌, nat_lt, ne_eqb, Bool, true, false, cond, List, [], ◌∷◌, ◌++◌, length, Option, Some, None, refl, sym, ap, ◌∙◌, subst, arith, inl, inr, eqb-true, or-true, nat_tests, AllByRecursion, WaitForm, is_listed, count_of, times_in, never_counted, waits_on, says_notified, stamp_in, waits_form, ended_form, notified_form, enters_form, or_zero, StandByStamps, AreNotified, StandsBefore, is_older, by_equal, same_number}
 use Rattle.mark_word.specs.declared.wait.WaitForm.TheVariants as wait
 use Rattle.core_locks.proofs.LeavesLists.{told_same}
 
@@ -99,21 +99,21 @@ listed_join (p ∷ xs) ys z = ap (λ b. (p.0 == z) || b) (listed_join xs ys z) �
     assoc true b c = refl
     assoc false b c = refl
 
-times_join : (xs ys : List (ℕ × ℕ)) (z : ℕ) → times_listed (xs ++ ys) z ≡ times_listed xs z + times_listed ys z
+times_join : (xs ys : List (ℕ × ℕ)) (z : ℕ) → times_in (xs ++ ys) z ≡ times_in xs z + times_in ys z
 times_join [] ys z = omega arith
 times_join (p ∷ xs) ys z = omega (arith, times_join xs ys z)
 
 -- a list without z in front of another, and behind it
-count_front : (xs ys : List (ℕ × ℕ)) (z : ℕ) → times_listed xs z ≡ 0 → or_zero (count_of (xs ++ ys) z) ≡ or_zero (count_of ys z)
+count_front : (xs ys : List (ℕ × ℕ)) (z : ℕ) → times_in xs z ≡ 0 → or_zero (count_of (xs ++ ys) z) ≡ or_zero (count_of ys z)
 count_front [] ys z h = refl
 count_front (p ∷ xs) ys z h = at_head (p.0 == z) h (count_front xs ys z)
   where
-    at_head : (b : Bool) → cond b 1 0 + times_listed xs z ≡ 0 → (times_listed xs z ≡ 0 → or_zero (count_of (xs ++ ys) z) ≡ or_zero (count_of ys z))
+    at_head : (b : Bool) → cond b 1 0 + times_in xs z ≡ 0 → (times_in xs z ≡ 0 → or_zero (count_of (xs ++ ys) z) ≡ or_zero (count_of ys z))
         → or_zero (cond b (Some p.1) (count_of (xs ++ ys) z)) ≡ or_zero (count_of ys z)
     at_head true h ih = absurd (omega (arith, h))
     at_head false h ih = ih (omega (arith, h))
 
-count_back : (xs ys : List (ℕ × ℕ)) (z : ℕ) → times_listed ys z ≡ 0 → or_zero (count_of (xs ++ ys) z) ≡ or_zero (count_of xs z)
+count_back : (xs ys : List (ℕ × ℕ)) (z : ℕ) → times_in ys z ≡ 0 → or_zero (count_of (xs ++ ys) z) ≡ or_zero (count_of xs z)
 count_back [] ys z h = never_counted ys z h
 count_back (p ∷ xs) ys z h = at_head (p.0 == z) (count_back xs ys z h)
   where
@@ -122,14 +122,14 @@ count_back (p ∷ xs) ys z h = at_head (p.0 == z) (count_back xs ys z h)
     at_head false ih = ih
 
 -- each thread stands once, so the first of one list keep their counts behind another
-pub counts_move : (xs ys cs : List (ℕ × ℕ)) (z : ℕ) → times_listed (xs ++ ys) z + times_listed cs z ≤ 1
+pub counts_move : (xs ys cs : List (ℕ × ℕ)) (z : ℕ) → times_in (xs ++ ys) z + times_in cs z ≤ 1
     → or_zero (count_of ys z) + or_zero (count_of (cs ++ xs) z) ≡ or_zero (count_of (xs ++ ys) z) + or_zero (count_of cs z)
-counts_move xs ys cs z h = by_equal (times_listed xs z) 0
+counts_move xs ys cs z h = by_equal (times_in xs z) 0
     (λ e. let a = count_front xs ys z e in let b = count_back cs xs z e in omega (arith, a, b))
     (λ d.
     let join = times_join xs ys z in
-    let in_rest : times_listed ys z ≡ 0 = omega (arith, h, join, d) in
-    let in_others : times_listed cs z ≡ 0 = omega (arith, h, join, d) in
+    let in_rest : times_in ys z ≡ 0 = omega (arith, h, join, d) in
+    let in_others : times_in cs z ≡ 0 = omega (arith, h, join, d) in
     let a = count_back xs ys z in_rest in
     let b = count_front cs xs z in_others in
     let c = never_counted ys z in_rest in

@@ -1,5 +1,5 @@
 -- An owner tells the last of those whom its entry calls, and so logs its Notify or NotifyAll.
-use Rattle.core_locks.proofs.Prelude.{◌≡◌, ◌⊎◌, ℕ, ◌+◌, ◌<◌, ◌≤◌, ◌==◌, ◌||◌, max, ne_eqb, Bool, true, false, cond, List, [], ◌∷◌, ◌++◌, length, slice_set, Some, refl, sym, ap, ◌∙◌, subst, arith, inl, inr, same_Some, wait_of, Notified, PlainMonitor, is_thread, is_listed, count_of, PlainObject, take_entry, take_at, Logged, last_stamp, Entry, bound_to, bound_is_named, times_listed, Stamp, Waiting, StepPlan, Calm, waits_on, says_notified, inflation_in, with_word, Known, World, with_known, logs, holds_by_monitor, object_of, monitor_of, owner_at, hash_at, waits_at, notified_at, or_zero, SeenStays, Purpose, logging_plan, known_hit, seen_before, stamp_by, is_taking, Fits, StandByStamps, bound_stamp, Store, log_limit, with_known_else, header_stays, thread_is, sound, Logs, MayWake, IsOwnEntry}
+use Rattle.core_locks.proofs.Prelude.{◌≡◌, ◌⊎◌, ℕ, ◌+◌, ◌<◌, ◌≤◌, ◌==◌, ◌||◌, max, ne_eqb, Bool, true, false, cond, List, [], ◌∷◌, ◌++◌, length, slice_set, Some, refl, sym, ap, ◌∙◌, subst, arith, inl, inr, same_Some, wait_of, Notified, PlainMonitor, is_thread, is_listed, count_of, PlainObject, take_entry, take_at, Logged, last_stamp, Entry, bound_to, bound_is_named, times_in, Stamp, Waiting, StepPlan, Calm, waits_on, says_notified, inflation_in, with_word, Known, World, with_known, logs, holds_by_monitor, object_of, monitor_of, owner_at, hash_at, waits_at, notified_at, or_zero, SeenStays, Purpose, logging_plan, known_hit, seen_before, stamp_by, is_taking, Fits, StandByStamps, bound_stamp, Store, log_limit, with_known_else, header_stays, thread_is, sound, Logs, MayWake, IsOwnEntry}
 use Rattle.core_locks.proofs.Clauses.{Parts, parts_of, kept_locks, locks_stand, seen, forms, quiet, holds, owners, biases, records, recursions, waits, stamps, AllHold}
 use Rattle.core_locks.proofs.Steps.{noting, IsStep, next, stepped, step_fits, quiet_next, logs_next, holds_next}
 use Rattle.core_locks.proofs.OwnSeen.{seen_as}
@@ -111,7 +111,7 @@ module _ (w : World) (P : List PlainObject) (t : ℕ) (r : Purpose) (o u n : ℕ
   stands_same : (i : ℕ) → holds_by_monitor z.monitor i ≡ holds_by_monitor (monitor_of P o) i
   stands_same i =
       let once = (sound w P v o).once i in
-      let few : times_listed (M ++ W) i + times_listed (notified_at P o) i ≤ 1 = let b = ap (λ ps. times_listed ps i) a.split in omega (arith, once, b) in
+      let few : times_in (M ++ W) i + times_in (notified_at P o) i ≤ 1 = let b = ap (λ ps. times_in ps i) a.split in omega (arith, once, b) in
       let moves = counts_move M W (notified_at P o) i few in
       let c = ap (λ ps. or_zero (count_of ps i)) a.split in
       omega (arith, moves, c)

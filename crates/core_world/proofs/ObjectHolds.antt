@@ -5,7 +5,8 @@ use Rattle.std.specs.List.{AllByRecursion}
 use Rattle.mark_word.specs.Hold.{read_hold}
 use Rattle.plain_monitor.specs.Monitor.{PlainMonitor, is_thread, is_listed, count_of, owns}
 use Rattle.plain_monitor.specs.Objects.{PlainObject}
-use Rattle.plain_history.specs.Sound.{IsSound, HaveCounts, times_listed}
+use Rattle.plain_monitor.specs.Listed.{times_in}
+use Rattle.plain_history.specs.Sound.{IsSound, HaveCounts}
 use Rattle.plain_history.proofs.SoundSteps.{free_sound}
 use Rattle.plain_history.proofs.SoundHistories.{history_sound}
 use Rattle.plain_history.proofs.HoldSteps.{never_counted}
@@ -86,12 +87,12 @@ counted_is_listed ps t h = cases (is_listed ps t) refl
     cases false e = absurd (omega (arith, unlisted_count ps t e))
 
 -- the next lemma, by the test against the head
-listed_once_at_head : (ps : List (ℕ × ℕ)) (t : ℕ) (b : Bool) → (b || is_listed ps t) ≡ true → (is_listed ps t ≡ true → 1 ≤ times_listed ps t) → 1 ≤ one_if b + times_listed ps t
+listed_once_at_head : (ps : List (ℕ × ℕ)) (t : ℕ) (b : Bool) → (b || is_listed ps t) ≡ true → (is_listed ps t ≡ true → 1 ≤ times_in ps t) → 1 ≤ one_if b + times_in ps t
 listed_once_at_head ps t true h ih = omega arith
 listed_once_at_head ps t false h ih = let k = ih h in omega (arith, k)
 
 -- a thread that is listed is listed at least once
-listed_once : (ps : List (ℕ × ℕ)) (t : ℕ) → is_listed ps t ≡ true → 1 ≤ times_listed ps t
+listed_once : (ps : List (ℕ × ℕ)) (t : ℕ) → is_listed ps t ≡ true → 1 ≤ times_in ps t
 listed_once [] t h = absurd (cc h)
 listed_once (p ∷ ps) t h = listed_once_at_head ps t (p.0 == t) h (listed_once ps t)
 
@@ -105,8 +106,8 @@ owner_standing m t s e =
     let one = s.once t in
     let in_presence = ap one_if e in
     let in_standing = ap (λ b. cond b m.count 0) e in
-    let waits : times_listed m.waits t ≡ 0 = omega (arith, one, in_presence) in
-    let called : times_listed m.called t ≡ 0 = omega (arith, one, in_presence) in
+    let waits : times_in m.waits t ≡ 0 = omega (arith, one, in_presence) in
+    let called : times_in m.called t ≡ 0 = omega (arith, one, in_presence) in
     omega (arith, in_standing, never_counted m.waits t waits, never_counted m.called t called)
 
 -- who isn't the owner has the counts that it keeps

@@ -6,7 +6,8 @@ use Rattle.plain_monitor.specs.declared.entry.Entry.{Entry}
 use Rattle.plain_monitor.specs.declared.entry.Entry.TheVariants as entry
 use Rattle.plain_monitor.specs.Monitor.{PlainMonitor, only_if, is_thread, count_of, is_listed, is_outside, enter, resumed, resume}
 use Rattle.plain_monitor.specs.Objects.{PlainObject, new_object, take_entry}
-use Rattle.plain_history.specs.Sound.{IsSound, times_listed}
+use Rattle.plain_monitor.specs.Listed.{times_in}
+use Rattle.plain_history.specs.Sound.{IsSound}
 use Rattle.plain_history.proofs.Joined.{first_some}
 use Rattle.plain_history.proofs.SoundHistories.{AllSound, sound_at}
 use Rattle.plain_history.proofs.Swaps.{taken_at}
@@ -65,20 +66,20 @@ entered m n t h = by_owner (is_thread m.owner t) refl h
         unowned m t (no_owner m.owner (and_parts (is_none m.owner) (is_outside m t) test).0)
 
 -- a thread that has a count is listed
-listed_once : (ps : List (ℕ × ℕ)) (t k : ℕ) → count_of ps t ≡ Some k → (n : ℕ) × (times_listed ps t ≡ n + 1)
+listed_once : (ps : List (ℕ × ℕ)) (t k : ℕ) → count_of ps t ≡ Some k → (n : ℕ) × (times_in ps t ≡ n + 1)
 listed_once [] t k h = absurd (none-some k h)
 listed_once (p ∷ ps) t k h = by_head (p.0 == t) h (listed_once ps t k)
   where
-    by_head : (b : Bool) → cond b (Some p.1) (count_of ps t) ≡ Some k → (count_of ps t ≡ Some k → (n : ℕ) × (times_listed ps t ≡ n + 1))
-        → (n : ℕ) × (cond b 1 0 + times_listed ps t ≡ n + 1)
-    by_head true g rest = (times_listed ps t, omega arith)
+    by_head : (b : Bool) → cond b (Some p.1) (count_of ps t) ≡ Some k → (count_of ps t ≡ Some k → (n : ℕ) × (times_in ps t ≡ n + 1))
+        → (n : ℕ) × (cond b 1 0 + times_in ps t ≡ n + 1)
+    by_head true g rest = (times_in ps t, omega arith)
     by_head false g rest = let r = rest g in let is = r.1 in (r.0, omega (arith, is))
 
-unlisted : (ps : List (ℕ × ℕ)) (t : ℕ) → times_listed ps t ≡ 0 → is_listed ps t ≡ false
+unlisted : (ps : List (ℕ × ℕ)) (t : ℕ) → times_in ps t ≡ 0 → is_listed ps t ≡ false
 unlisted [] t h = refl
 unlisted (p ∷ ps) t h = by_head (p.0 == t) h (unlisted ps t)
   where
-    by_head : (b : Bool) → cond b 1 0 + times_listed ps t ≡ 0 → (times_listed ps t ≡ 0 → is_listed ps t ≡ false) → (b || is_listed ps t) ≡ false
+    by_head : (b : Bool) → cond b 1 0 + times_in ps t ≡ 0 → (times_in ps t ≡ 0 → is_listed ps t ≡ false) → (b || is_listed ps t) ≡ false
     by_head true g rest = absurd (omega (arith, g))
     by_head false g rest = rest (omega (arith, g))
 

@@ -5,7 +5,8 @@ use Rattle.std.proofs.lemmas.Bool.{cases_eq}
 use Rattle.std.proofs.lemmas.Bool.Decides.{nat_tests}
 use Rattle.std.proofs.lemmas.Option.{cond_some, same_Some}
 use Rattle.plain_monitor.specs.Monitor.{PlainMonitor, only_if, is_thread, owns, count_of, without, is_outside, enter, exit, wait, resumed, resume, calls, notify, notify_all}
-use Rattle.plain_history.specs.Sound.{IsSound, times_listed, presence}
+use Rattle.plain_monitor.specs.Listed.{times_in, presence}
+use Rattle.plain_history.specs.Sound.{IsSound}
 use Rattle.plain_history.specs.HeldByLog.{or_zero, holds_by_monitor}
 use Rattle.plain_history.proofs.SoundSteps.{both_true, owner_is, none_without}
 use Rattle.plain_history.proofs.Without.{without_others}
@@ -19,13 +20,13 @@ no_owner None h = refl
 no_owner (Some v) h = absurd (cc h)
 
 -- the next lemma, by the test against the head
-never_counted_at_head : (p : ℕ × ℕ) (ps : List (ℕ × ℕ)) (t : ℕ) (b : Bool) → cond b 1 0 + times_listed ps t ≡ 0 → (times_listed ps t ≡ 0 → or_zero (count_of ps t) ≡ 0)
+never_counted_at_head : (p : ℕ × ℕ) (ps : List (ℕ × ℕ)) (t : ℕ) (b : Bool) → cond b 1 0 + times_in ps t ≡ 0 → (times_in ps t ≡ 0 → or_zero (count_of ps t) ≡ 0)
     → or_zero (cond b (Some p.1) (count_of ps t)) ≡ 0
 never_counted_at_head p ps t true h ih = absurd (omega arith)
 never_counted_at_head p ps t false h ih = ih (omega arith)
 
 -- a thread that is listed no time keeps no count
-pub never_counted : (ps : List (ℕ × ℕ)) (t : ℕ) → times_listed ps t ≡ 0 → or_zero (count_of ps t) ≡ 0
+pub never_counted : (ps : List (ℕ × ℕ)) (t : ℕ) → times_in ps t ≡ 0 → or_zero (count_of ps t) ≡ 0
 never_counted [] t h = refl
 never_counted (p ∷ ps) t h = never_counted_at_head p ps t (p.0 == t) h (never_counted ps t)
 
@@ -65,8 +66,8 @@ enter_stands m n u t h = by_owner (owns m u) refl
 unkept : (m : PlainMonitor) (u : ℕ) → IsSound m → owns m u ≡ true → (kept m.waits u ≡ 0) × (kept m.called u ≡ 0)
 unkept m u s e =
     let one = s.once u in let in_presence = ap one_if e in
-    let a : times_listed m.waits u ≡ 0 = omega (arith, one, in_presence) in
-    let b : times_listed m.called u ≡ 0 = omega (arith, one, in_presence) in
+    let a : times_in m.waits u ≡ 0 = omega (arith, one, in_presence) in
+    let b : times_in m.called u ≡ 0 = omega (arith, one, in_presence) in
     (never_counted m.waits u a, never_counted m.called u b)
 
 pub exit_stands : (m n : PlainMonitor) (u t : ℕ) → IsSound m → exit m u ≡ Some n → holds_by_monitor n t ≡ holds_by_monitor m t - one_if (u == t)
@@ -107,7 +108,7 @@ exit_stands m n u t s h =
         at_more false e was = let f = ap (λ (q : Bool). cond q m.count 0) e in let j = ap (λ (q : Bool). cond q (m.count - 1) 0) e in let g = ap one_if e in omega (arith, was, f, g, j)
 
 -- a count that is appended to a list
-kept_end : (ps : List (ℕ × ℕ)) (p : ℕ × ℕ) (t : ℕ) → kept ps t ≡ 0 ⊎ ((p.0 == t) ≡ false) → times_listed ps t ≡ 0 ⊎ ((p.0 == t) ≡ false) → kept (ps ++ p ∷ []) t ≡ kept ps t + cond (p.0 == t) p.1 0
+kept_end : (ps : List (ℕ × ℕ)) (p : ℕ × ℕ) (t : ℕ) → kept ps t ≡ 0 ⊎ ((p.0 == t) ≡ false) → times_in ps t ≡ 0 ⊎ ((p.0 == t) ≡ false) → kept (ps ++ p ∷ []) t ≡ kept ps t + cond (p.0 == t) p.1 0
 kept_end [] p t h g = at (p.0 == t)
   where
     at : (b : Bool) → or_zero (cond b (Some p.1) None) ≡ 0 + cond b p.1 0
@@ -115,8 +116,8 @@ kept_end [] p t h g = at (p.0 == t)
     at false = omega arith
 kept_end (q ∷ ps) p t h g = at_head (q.0 == t) h g (kept_end ps p t)
   where
-    at_head : (b : Bool) → or_zero (cond b (Some q.1) (count_of ps t)) ≡ 0 ⊎ ((p.0 == t) ≡ false) → cond b 1 0 + times_listed ps t ≡ 0 ⊎ ((p.0 == t) ≡ false)
-        → (kept ps t ≡ 0 ⊎ ((p.0 == t) ≡ false) → times_listed ps t ≡ 0 ⊎ ((p.0 == t) ≡ false) → kept (ps ++ p ∷ []) t ≡ kept ps t + cond (p.0 == t) p.1 0)
+    at_head : (b : Bool) → or_zero (cond b (Some q.1) (count_of ps t)) ≡ 0 ⊎ ((p.0 == t) ≡ false) → cond b 1 0 + times_in ps t ≡ 0 ⊎ ((p.0 == t) ≡ false)
+        → (kept ps t ≡ 0 ⊎ ((p.0 == t) ≡ false) → times_in ps t ≡ 0 ⊎ ((p.0 == t) ≡ false) → kept (ps ++ p ∷ []) t ≡ kept ps t + cond (p.0 == t) p.1 0)
         → or_zero (cond b (Some q.1) (count_of (ps ++ p ∷ []) t)) ≡ or_zero (cond b (Some q.1) (count_of ps t)) + cond (p.0 == t) p.1 0
     at_head true x (inl y) ih = absurd (omega (arith, y))
     at_head true x (inr y) ih = let z = ap (λ (c : Bool). cond c p.1 0) y in omega (arith, z)
@@ -124,18 +125,18 @@ kept_end (q ∷ ps) p t h g = at_head (q.0 == t) h g (kept_end ps p t)
     at_head false x (inr y) ih = ih x (inr y)
 
 -- where the list has no count for the thread, or the new one is another's
-unlisted_or : (ps : List (ℕ × ℕ)) (p : ℕ × ℕ) (t : ℕ) → ((p.0 == t) ≡ true → times_listed ps t ≡ 0) → kept (ps ++ p ∷ []) t ≡ kept ps t + cond (p.0 == t) p.1 0
+unlisted_or : (ps : List (ℕ × ℕ)) (p : ℕ × ℕ) (t : ℕ) → ((p.0 == t) ≡ true → times_in ps t ≡ 0) → kept (ps ++ p ∷ []) t ≡ kept ps t + cond (p.0 == t) p.1 0
 unlisted_or ps p t h = by_test (p.0 == t) refl
   where
     by_test : (b : Bool) → (p.0 == t) ≡ b → kept (ps ++ p ∷ []) t ≡ kept ps t + cond (p.0 == t) p.1 0
     by_test true e = kept_end ps p t (inl (never_counted ps t (h e))) (inl (h e))
     by_test false e = kept_end ps p t (inr e) (inr e)
 
-kept_append : (ps qs : List (ℕ × ℕ)) (t : ℕ) → times_listed ps t + times_listed qs t ≤ 1 → kept (ps ++ qs) t ≡ kept ps t + kept qs t
+kept_append : (ps qs : List (ℕ × ℕ)) (t : ℕ) → times_in ps t + times_in qs t ≤ 1 → kept (ps ++ qs) t ≡ kept ps t + kept qs t
 kept_append [] qs t h = omega arith
 kept_append (p ∷ ps) qs t h = at_head (p.0 == t) h (kept_append ps qs t)
   where
-    at_head : (b : Bool) → cond b 1 0 + times_listed ps t + times_listed qs t ≤ 1 → (times_listed ps t + times_listed qs t ≤ 1 → kept (ps ++ qs) t ≡ kept ps t + kept qs t)
+    at_head : (b : Bool) → cond b 1 0 + times_in ps t + times_in qs t ≤ 1 → (times_in ps t + times_in qs t ≤ 1 → kept (ps ++ qs) t ≡ kept ps t + kept qs t)
         → or_zero (cond b (Some p.1) (count_of (ps ++ qs) t)) ≡ or_zero (cond b (Some p.1) (count_of ps t)) + kept qs t
     at_head true g ih = let z = never_counted qs t (omega (arith, g)) in omega (arith, z)
     at_head false g ih = ih (omega (arith, g))
@@ -145,8 +146,8 @@ wait_stands m n u t s h =
     let r = cond_some (owns m u) _ n h in
     let was = stands_by m (Some u) t (owner_is m.owner u r.0) in
     let one = s.once u in let in_presence = ap one_if r.0 in
-    let none : times_listed m.waits u ≡ 0 = omega (arith, one, in_presence) in
-    let more = unlisted_or m.waits (u, m.count) t (λ e. subst (λ v. times_listed m.waits v ≡ 0) (eqb-true u t e) none) in
+    let none : times_in m.waits u ≡ 0 = omega (arith, one, in_presence) in
+    let more = unlisted_or m.waits (u, m.count) t (λ e. subst (λ v. times_in m.waits v ≡ 0) (eqb-true u t e) none) in
     subst (λ (k : PlainMonitor). holds_by_monitor k t ≡ holds_by_monitor m t) r.1 (omega (arith, was, more))
 
 resumed_stands : (m n : PlainMonitor) (u t : ℕ) (c : Option ℕ) → count_of m.called u ≡ c → resumed m u c ≡ Some n → holds_by_monitor n t ≡ holds_by_monitor m t
@@ -174,16 +175,16 @@ calls_stands m n t (p ∷ ps) None e s h = absurd (cc h)
 calls_stands m n t (p ∷ ps) (Some u) e s h =
     let r = cond_some (p.0 == u) (record m { waits = ps; called = m.called ++ p ∷ [] }) n h in
     let one = s.once t in
-    let split = ap (λ ws. times_listed ws t) e in
+    let split = ap (λ ws. times_in ws t) e in
     let waits = ap (λ ws. kept ws t) e in
     subst (λ (x : PlainMonitor). holds_by_monitor x t ≡ holds_by_monitor m t) r.1 (by_test (p.0 == t) refl one split waits)
   where
-    by_test : (b : Bool) → (p.0 == t) ≡ b → presence m t ≤ 1 → times_listed m.waits t ≡ cond (p.0 == t) 1 0 + times_listed ps t → kept m.waits t ≡ or_zero (cond (p.0 == t) (Some p.1) (count_of ps t))
+    by_test : (b : Bool) → (p.0 == t) ≡ b → presence m t ≤ 1 → times_in m.waits t ≡ cond (p.0 == t) 1 0 + times_in ps t → kept m.waits t ≡ or_zero (cond (p.0 == t) (Some p.1) (count_of ps t))
         → cond (owns m t) m.count 0 + kept ps t + kept (m.called ++ p ∷ []) t ≡ cond (owns m t) m.count 0 + kept m.waits t + kept m.called t
     by_test true e one split waits =
         let g = ap one_if e in
-        let none : times_listed ps t ≡ 0 = omega (arith, one, split, g) in
-        let uncalled : times_listed m.called t ≡ 0 = omega (arith, one, split, g) in
+        let none : times_in ps t ≡ 0 = omega (arith, one, split, g) in
+        let uncalled : times_in m.called t ≡ 0 = omega (arith, one, split, g) in
         let more = unlisted_or m.called p t (λ x. uncalled) in
         let a = never_counted ps t none in let b = ap (λ (c : Bool). or_zero (cond c (Some p.1) (count_of ps t))) e in let d = ap (λ (c : Bool). cond c p.1 0) e in
         omega (arith, more, a, b, d, waits)

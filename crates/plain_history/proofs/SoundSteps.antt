@@ -3,20 +3,21 @@ use Rattle.std.proofs.Common.{◌≡◌, ℕ, ◌+◌, ◌-◌, ◌<◌, ◌≤�
 use Rattle.std.proofs.lemmas.Bool.Decides.{nat_tests}
 use Rattle.std.proofs.lemmas.Option.{cond_some, same_Some}
 use Rattle.plain_monitor.specs.Monitor.{PlainMonitor, free_monitor, is_thread, owns, count_of, is_listed, without, is_outside, enter, exit, wait, resume, calls, notify, notify_all}
-use Rattle.plain_history.specs.Sound.{times_listed, HaveCounts, IsSound}
+use Rattle.plain_monitor.specs.Listed.{times_in}
+use Rattle.plain_history.specs.Sound.{HaveCounts, IsSound}
 
 -- the monitor is sound at first
 pub free_sound : IsSound free_monitor
 free_sound = record { held = refl; waits = tt; called = tt; once = λ t. omega arith }
 
 -- the next lemma, by the test against the head
-never_listed_at_head : (p : ℕ × ℕ) (ps : List (ℕ × ℕ)) (t : ℕ) (b : Bool) → (p.0 == t) ≡ b → is_listed (p ∷ ps) t ≡ false → (is_listed ps t ≡ false → times_listed ps t ≡ 0)
-    → times_listed (p ∷ ps) t ≡ 0
+never_listed_at_head : (p : ℕ × ℕ) (ps : List (ℕ × ℕ)) (t : ℕ) (b : Bool) → (p.0 == t) ≡ b → is_listed (p ∷ ps) t ≡ false → (is_listed ps t ≡ false → times_in ps t ≡ 0)
+    → times_in (p ∷ ps) t ≡ 0
 never_listed_at_head p ps t true e h ih = absurd (cc (rw e at h))
 never_listed_at_head p ps t false e h ih = let k = ih (rw e at h) in rw e (omega (arith, k))
 
 -- a thread that is not listed is listed no time
-never_listed : (ps : List (ℕ × ℕ)) (t : ℕ) → is_listed ps t ≡ false → times_listed ps t ≡ 0
+never_listed : (ps : List (ℕ × ℕ)) (t : ℕ) → is_listed ps t ≡ false → times_in ps t ≡ 0
 never_listed [] t h = refl
 never_listed (p ∷ ps) t h = never_listed_at_head p ps t (p.0 == t) refl h (never_listed ps t)
 
@@ -31,16 +32,16 @@ counts_joined [] qs a b = b
 counts_joined (q ∷ ps) qs a b = (a.0, counts_joined ps qs a.1 b)
 
 -- a thread is listed in two lists as often as in the one and in the other
-times_joined : (ps qs : List (ℕ × ℕ)) (t : ℕ) → times_listed (ps ++ qs) t ≡ times_listed ps t + times_listed qs t
+times_joined : (ps qs : List (ℕ × ℕ)) (t : ℕ) → times_in (ps ++ qs) t ≡ times_in ps t + times_in qs t
 times_joined [] qs t = omega arith
 times_joined (p ∷ ps) qs t = omega (arith, times_joined ps qs t)
 
 -- how often a thread is listed where one is put at the end
-times_end : (ps : List (ℕ × ℕ)) (p : ℕ × ℕ) (t : ℕ) → times_listed (ps ++ p ∷ []) t ≡ times_listed ps t + cond (p.0 == t) 1 0
+times_end : (ps : List (ℕ × ℕ)) (p : ℕ × ℕ) (t : ℕ) → times_in (ps ++ p ∷ []) t ≡ times_in ps t + cond (p.0 == t) 1 0
 times_end ps p t = omega (arith, times_joined ps (p ∷ []) t)
 
 -- how often a thread is listed where one stands at the front
-times_front : (p : ℕ × ℕ) (ps : List (ℕ × ℕ)) (t : ℕ) → times_listed (p ∷ ps) t ≡ cond (p.0 == t) 1 0 + times_listed ps t
+times_front : (p : ℕ × ℕ) (ps : List (ℕ × ℕ)) (t : ℕ) → times_in (p ∷ ps) t ≡ cond (p.0 == t) 1 0 + times_in ps t
 times_front p ps t = refl
 
 -- both parts of a test that holds hold
@@ -58,9 +59,9 @@ abbrev pub monitor_of : Option ℕ → ℕ → List (ℕ × ℕ) → List (ℕ �
 monitor_of o c w k = record { owner = o; count = c; waits = w; called = k }
 
 -- a thread from outside becomes the owner: each still stands once
-enters_once : (t u : ℕ) (w k : List (ℕ × ℕ)) (b : Bool) → (t == u) ≡ b → times_listed w t ≡ 0 → times_listed k t ≡ 0 → times_listed w u + times_listed k u ≤ 1
-    → cond b 1 0 + times_listed w u + times_listed k u ≤ 1
-enters_once t u w k true e p q h = let same : t ≡ u = grind (arith, nat_tests, e) in omega (arith, ap (times_listed w) same, ap (times_listed k) same)
+enters_once : (t u : ℕ) (w k : List (ℕ × ℕ)) (b : Bool) → (t == u) ≡ b → times_in w t ≡ 0 → times_in k t ≡ 0 → times_in w u + times_in k u ≤ 1
+    → cond b 1 0 + times_in w u + times_in k u ≤ 1
+enters_once t u w k true e p q h = let same : t ≡ u = grind (arith, nat_tests, e) in omega (arith, ap (times_in w) same, ap (times_in k) same)
 enters_once t u w k false e p q h = omega arith
 
 -- an enter of a free monitor keeps it sound
@@ -156,23 +157,23 @@ pub notify_sound : (m n : PlainMonitor) (t : ℕ) (woken : Option ℕ) → IsSou
 notify_sound m n t woken s h = notify_by_owner m n t woken (owns m t) refl s h
 
 -- the next lemma, by the test against the head
-none_without_at_head : (p : ℕ × ℕ) (ps : List (ℕ × ℕ)) (t : ℕ) (b : Bool) → (p.0 == t) ≡ b → times_listed (without ps t) t ≡ 0 → times_listed (without (p ∷ ps) t) t ≡ 0
+none_without_at_head : (p : ℕ × ℕ) (ps : List (ℕ × ℕ)) (t : ℕ) (b : Bool) → (p.0 == t) ≡ b → times_in (without ps t) t ≡ 0 → times_in (without (p ∷ ps) t) t ≡ 0
 none_without_at_head p ps t true e ih = rw e ih
 none_without_at_head p ps t false e ih = rw (e, e) (omega (arith, ih))
 
 -- a thread that was taken out is listed no time
-pub none_without : (ps : List (ℕ × ℕ)) (t : ℕ) → times_listed (without ps t) t ≡ 0
+pub none_without : (ps : List (ℕ × ℕ)) (t : ℕ) → times_in (without ps t) t ≡ 0
 none_without [] t = refl
 none_without (p ∷ ps) t = none_without_at_head p ps t (p.0 == t) refl (none_without ps t)
 
 -- the next lemma, by the test against the head
-fewer_without_at_head : (p : ℕ × ℕ) (ps : List (ℕ × ℕ)) (t u : ℕ) (b : Bool) → (p.0 == t) ≡ b → times_listed (without ps t) u ≤ times_listed ps u
-    → times_listed (without (p ∷ ps) t) u ≤ times_listed (p ∷ ps) u
+fewer_without_at_head : (p : ℕ × ℕ) (ps : List (ℕ × ℕ)) (t u : ℕ) (b : Bool) → (p.0 == t) ≡ b → times_in (without ps t) u ≤ times_in ps u
+    → times_in (without (p ∷ ps) t) u ≤ times_in (p ∷ ps) u
 fewer_without_at_head p ps t u true e ih = rw e (omega arith)
 fewer_without_at_head p ps t u false e ih = rw e (omega arith)
 
 -- no thread is listed more often where one was taken out
-fewer_without : (ps : List (ℕ × ℕ)) (t u : ℕ) → times_listed (without ps t) u ≤ times_listed ps u
+fewer_without : (ps : List (ℕ × ℕ)) (t u : ℕ) → times_in (without ps t) u ≤ times_in ps u
 fewer_without [] t u = omega arith
 fewer_without (p ∷ ps) t u = fewer_without_at_head p ps t u (p.0 == t) refl (fewer_without ps t u)
 
@@ -188,22 +189,22 @@ counts_without (p ∷ ps) t a = counts_without_at_head p ps t (p.0 == t) refl a.
 
 -- the next lemma, by the test against the head
 counted_at_head : (p : ℕ × ℕ) (ps : List (ℕ × ℕ)) (t c : ℕ) (b : Bool) → (p.0 == t) ≡ b → 0 < p.1 → count_of (p ∷ ps) t ≡ Some c
-    → (count_of ps t ≡ Some c → (1 ≤ times_listed ps t) × (0 < c)) → (1 ≤ times_listed (p ∷ ps) t) × (0 < c)
+    → (count_of ps t ≡ Some c → (1 ≤ times_in ps t) × (0 < c)) → (1 ≤ times_in (p ∷ ps) t) × (0 < c)
 counted_at_head p ps t c true e h k ih = let r : p.1 ≡ c = same_Some _ _ (rw e at k) in (rw e (omega arith), omega arith)
 counted_at_head p ps t c false e h k ih = let r = ih (rw e at k) in rw e (omega (arith, r.0), r.1)
 
 -- a thread with a count is listed, and the count is above 0
-counted : (ps : List (ℕ × ℕ)) (t c : ℕ) → HaveCounts ps → count_of ps t ≡ Some c → (1 ≤ times_listed ps t) × (0 < c)
+counted : (ps : List (ℕ × ℕ)) (t c : ℕ) → HaveCounts ps → count_of ps t ≡ Some c → (1 ≤ times_in ps t) × (0 < c)
 counted [] t c a h = absurd (cc h)
 counted (p ∷ ps) t c a h = counted_at_head p ps t c (p.0 == t) refl a.0 h (counted ps t c a.1)
 
 -- a thread that was called becomes the owner: each still stands once
-resumes_once : (t u : ℕ) (w k : List (ℕ × ℕ)) (b : Bool) → (t == u) ≡ b → 1 ≤ times_listed k t → times_listed w u + times_listed k u ≤ 1
-    → cond b 1 0 + times_listed w u + times_listed (without k t) u ≤ 1
+resumes_once : (t u : ℕ) (w k : List (ℕ × ℕ)) (b : Bool) → (t == u) ≡ b → 1 ≤ times_in k t → times_in w u + times_in k u ≤ 1
+    → cond b 1 0 + times_in w u + times_in (without k t) u ≤ 1
 resumes_once t u w k true e p q =
     let same : t ≡ u = grind (arith, nat_tests, e) in
-    let none = ap (times_listed (without k t)) (sym same) ∙ none_without k t in
-    omega (arith, none, ap (times_listed k) same)
+    let none = ap (times_in (without k t)) (sym same) ∙ none_without k t in
+    omega (arith, none, ap (times_in k) same)
 resumes_once t u w k false e p q = omega (arith, fewer_without k t u)
 
 -- a free monitor stays sound where a thread that was called takes it

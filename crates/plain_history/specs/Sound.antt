@@ -1,16 +1,8 @@
 -- What holds of each monitor in a legal history.
-use Rattle.std.specs.Prelude.{◌≡◌, ℕ, ◌+◌, ◌<◌, ◌≤◌, ◌==◌, if◌then◌else◌, List, [], ◌∷◌, MatchOption}
+use Rattle.std.specs.Prelude.{◌≡◌, ℕ, ◌<◌, ◌≤◌, List, MatchOption}
 use Rattle.std.specs.List.{AllByRecursion}
-use Rattle.plain_monitor.specs.Monitor.{PlainMonitor, owns}
-
--- how often t is listed
-abbrev pub times_listed : List (ℕ × ℕ) → ℕ → ℕ
-times_listed [] t = 0
-times_listed (p ∷ ps) t = (if p.0 == t then 1 else 0) + times_listed ps t
-
--- how often t stands among the owner, those who wait and those who were called
-abbrev pub presence : PlainMonitor → ℕ → ℕ
-presence m t = (if owns m t then 1 else 0) + times_listed m.waits t + times_listed m.called t
+use Rattle.plain_monitor.specs.Listed.{presence}
+use Rattle.plain_monitor.specs.Monitor.{PlainMonitor}
 
 -- each count is above 0
 abbrev pub HaveCounts : List (ℕ × ℕ) → Type 0

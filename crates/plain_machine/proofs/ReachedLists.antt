@@ -6,7 +6,7 @@ use Rattle.std.proofs.lemmas.Option.{none-some, same_Some, slice_get-get_or}
 use Rattle.std.proofs.lemmas.List.{get_or_past}
 use Rattle.plain_monitor.specs.Monitor.{count_of, is_listed, without}
 use Rattle.plain_machine.specs.Reached.{AtEach}
-use Rattle.plain_machine.specs.ReachedMonitor.{tally, times_in, counts_in}
+use Rattle.plain_monitor.specs.Listed.{tally, times_in, counts_in}
 use Rattle.plain_monitor.proofs.Lists.{get_set_same, get_set_other}
 
 -- what two lists in a row weigh for t

@@ -4,7 +4,8 @@ use Rattle.std.specs.List.{AllByRecursion}
 use Rattle.std.proofs.lemmas.Bool.{cases_eq, false≢true, and_parts, not-true}
 use Rattle.std.proofs.lemmas.Option.{none-some, same_Some, cond_some}
 use Rattle.plain_monitor.specs.Monitor.{PlainMonitor, free_monitor, is_thread, owns, count_of, is_listed, is_outside, without, enter, exit, wait, resume, calls, notify, notify_all}
-use Rattle.plain_machine.specs.ReachedMonitor.{tally, times_in, counts_in, for_owner, times_listed, standing, IsPlaceOf, IsMonitorOf}
+use Rattle.plain_monitor.specs.Listed.{tally, times_in, counts_in}
+use Rattle.plain_machine.specs.ReachedMonitor.{for_owner, times_listed, standing, IsPlaceOf, IsMonitorOf}
 use Rattle.plain_monitor.proofs.Lists.{all_append, all_push}
 use Rattle.plain_machine.proofs.ReachedLists.{tally_joined, tally_unlisted, tally_without, tally_without_other, all_without, all_counted, counted_times, counted_once}
 
@@ -86,7 +87,7 @@ entered_free n t c w k l h out = record {
     parts : (not (is_listed w t) ≡ true) × (not (is_listed k t) ≡ true)
     parts = and_parts (not (is_listed w t)) (not (is_listed k t)) out
 
-    go : (u : ℕ) → (u ≡ t) ⊎ (u ≡ t → ⊥) → for_owner (Some t) 1 u + (times_in w u + times_in k u) ≤ 1
+    go : (u : ℕ) → (u ≡ t) ⊎ (u ≡ t → ⊥) → for_owner (Some t) 1 u + times_in w u + times_in k u ≤ 1
     go u (inl same) =
         let a : times_in w t ≡ 0 = tally_unlisted (λ p. 1) w t (not-true _ parts.0) in
         let b : times_in k t ≡ 0 = tally_unlisted (λ p. 1) k t (not-true _ parts.1) in
@@ -206,7 +207,7 @@ resumed_free n t c d w k e h = record {
     rest : (f : ℕ × ℕ → ℕ) (u : ℕ) → u ≢ t → tally f (without k t) u ≡ tally f k u
     rest f u other = tally_without_other f k t u other
 
-    go : (u : ℕ) → (u ≡ t) ⊎ (u ≡ t → ⊥) → for_owner (Some t) 1 u + (times_in w u + times_in (without k t) u) ≤ 1
+    go : (u : ℕ) → (u ≡ t) ⊎ (u ≡ t → ⊥) → for_owner (Some t) 1 u + times_in w u + times_in (without k t) u ≤ 1
     go u (inl same) = rw same (omega (arith, owner_own t 1, none (λ p. 1), here, once_own))
     go u (inr other) = let y = owner_other t 1 u other in let z = rest (λ p. 1) u other in let o = h.once u in omega (arith, y, z, o)
 

@@ -13,7 +13,8 @@ use Rattle.object_program.specs.Program.{slots_of}
 use Rattle.plain_machine.specs.Thread.{ThreadState, holds_of}
 use Rattle.plain_machine.specs.Machine.{PlainMachine, object_at, monitor_at, slot_at, other_owner}
 use Rattle.plain_machine.specs.Offering.{oldest}
-use Rattle.plain_machine.specs.ReachedMonitor.{times_in, counts_in, times_listed, standing, waiting_on, IsMonitorOf, StandsAt}
+use Rattle.plain_monitor.specs.Listed.{times_in, counts_in}
+use Rattle.plain_machine.specs.ReachedMonitor.{times_listed, standing, waiting_on, IsMonitorOf, StandsAt}
 use Rattle.plain_machine.specs.ReachedThread.{IsObject}
 use Rattle.plain_machine.specs.Reached.{HasSlots, IsHash, IsReached}
 use Rattle.plain_machine.proofs.ReachedLists.{tally_none, unlisted, tally_unlisted, times_counted}

@@ -1,23 +1,11 @@
 -- What holds of each monitor of a reached machine, and of a thread beside it.
-use Rattle.std.specs.Prelude.{◌≡◌, ℕ, ◌+◌, ◌<◌, ◌≤◌, ◌==◌, if◌then◌else◌, List, [], ◌∷◌, Option, Some, None}
+use Rattle.std.specs.Prelude.{◌≡◌, ℕ, ◌+◌, ◌<◌, ◌≤◌, ◌==◌, if◌then◌else◌, Option, Some, None}
 use Rattle.std.specs.List.{AllByRecursion}
+use Rattle.plain_monitor.specs.Listed.{times_in, counts_in, presence}
 use Rattle.plain_monitor.specs.Monitor.{PlainMonitor, is_thread}
 use Rattle.plain_machine.specs.declared.call.Mode.{Mode}
 use Rattle.plain_machine.specs.declared.call.Mode.TheVariants.{Waiting}
 use Rattle.plain_machine.specs.Thread.{ThreadState, holds_of}
-
--- what the places of t in the list weigh together
-abbrev pub tally : (ℕ × ℕ → ℕ) → List (ℕ × ℕ) → ℕ → ℕ
-tally weight [] t = 0
-tally weight (p ∷ ps) t = (if p.0 == t then weight p else 0) + tally weight ps t
-
--- how often t is listed
-abbrev pub times_in : List (ℕ × ℕ) → ℕ → ℕ
-times_in ps t = tally (λ p. 1) ps t
-
--- the counts that t is listed with, together
-abbrev pub counts_in : List (ℕ × ℕ) → ℕ → ℕ
-counts_in ps t = tally (λ p. p.1) ps t
 
 -- the number for the owner, and 0 for each other thread
 abbrev pub for_owner : Option ℕ → ℕ → ℕ → ℕ
@@ -45,7 +33,7 @@ pub record IsMonitorOf (n : ℕ) (m : PlainMonitor) : Type 0 where
   pub owner : IsOwnerOf n m.count m.owner
   pub waits : AllByRecursion (IsPlaceOf n) m.waits
   pub called : AllByRecursion (IsPlaceOf n) m.called
-  pub once : (t : ℕ) → for_owner m.owner 1 t + times_listed m t ≤ 1
+  pub once : (t : ℕ) → presence m t ≤ 1
 
 -- 1 where the thread waits on object o, and else 0
 abbrev pub waiting_on : Mode → ℕ → ℕ

@@ -5,7 +5,8 @@ use Rattle.std.proofs.Math.Bool.{or-false, and-true, and-false}
 use Rattle.std.proofs.lemmas.Bool.{cases_eq}
 use Rattle.std.proofs.lemmas.Option.{cond_some, same_Some}
 use Rattle.plain_monitor.specs.Monitor.{PlainMonitor, only_if, owns, count_of, is_listed, without, is_outside, enter, exit, wait, resumed, resume, calls, notify, notify_all}
-use Rattle.plain_history.specs.Sound.{IsSound, times_listed}
+use Rattle.plain_monitor.specs.Listed.{times_in}
+use Rattle.plain_history.specs.Sound.{IsSound}
 use Rattle.plain_history.proofs.HoldSteps.{one_if}
 use Rattle.plain_history.proofs.SoundSteps.{resume_sound}
 use Rattle.plain_history.proofs.Without.{without_others}
@@ -52,11 +53,11 @@ listed_end : (ps : List (ℕ × ℕ)) (p : ℕ × ℕ) (t : ℕ) → is_listed (
 listed_end ps p t = listed_joined ps (p ∷ []) t ∙ ap (λ b. is_listed ps t || b) (or-false (p.0 == t))
 
 -- a thread that is listed no time isn't listed
-unlisted : (ps : List (ℕ × ℕ)) (t : ℕ) → times_listed ps t ≡ 0 → is_listed ps t ≡ false
+unlisted : (ps : List (ℕ × ℕ)) (t : ℕ) → times_in ps t ≡ 0 → is_listed ps t ≡ false
 unlisted [] t h = refl
 unlisted (p ∷ ps) t h = at_head (p.0 == t) h (unlisted ps t)
   where
-    at_head : (b : Bool) → cond b 1 0 + times_listed ps t ≡ 0 → (times_listed ps t ≡ 0 → is_listed ps t ≡ false) → (b || is_listed ps t) ≡ false
+    at_head : (b : Bool) → cond b 1 0 + times_in ps t ≡ 0 → (times_in ps t ≡ 0 → is_listed ps t ≡ false) → (b || is_listed ps t) ≡ false
     at_head true g ih = absurd (omega (arith, g))
     at_head false g ih = ih (omega (arith, g))
 

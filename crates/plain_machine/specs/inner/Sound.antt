@@ -4,7 +4,7 @@ use Rattle.std.specs.List.{All, sum_by}
 use Rattle.plain_monitor.specs.Monitor.{PlainMonitor}
 use Rattle.plain_machine.specs.Thread.{ThreadState, holds_of}
 use Rattle.plain_machine.specs.Machine.{PlainMachine}
-use Rattle.plain_machine.specs.ReachedMonitor.{times_in, counts_in}
+use Rattle.plain_monitor.specs.Listed.{times_in, counts_in}
 use Rattle.plain_machine.specs.Ready.{waits_on}
 use Rattle.plain_machine.specs.inner.Kept.{unrun, IsReady}
 use Rattle.plain_machine.specs.inner.Takable.{monitor_in}
