@@ -1,5 +1,6 @@
 pub mod Lists
 pub mod Seated
+pub mod Shares
 pub mod StuckMachines
 pub mod Ending
 pub mod Over

@@ -6,9 +6,11 @@ ghost use Rattle.thread_calls.specs.Timed.{StaysTimed};
 ghost use Rattle.thread_frame.specs.Frames.{has_ended};
 ghost use Rattle.thread_interp.specs.Runners.{IsRunner, IsSame};
 ghost use Rattle.run_rounds.specs.Rounds.{AreRunners};
-ghost use Rattle.run_rounds.specs.inner.Rounds.{AreTimed, AreOver, have_ended, runners_in};
+ghost use Rattle.run_rounds.specs.inner.Rounds.{AreTimed, AreOver, have_ended, stand_still, runners_in};
+ghost use Rattle.run_rounds.specs.inner.Shares.{MayGoOn, HaveGoneOn};
 
 use crate::seats::Seat;
+use crate::shares::work;
 use core_world::Turn;
 use heap_table::Heap;
 use object_program::Program;
@@ -31,17 +33,28 @@ fn have_ended(seats: &[Seat]) -> bool
 }
 
 // Whether no turn of the last round did an instruction.
-fn stand_still(seats: &[Seat]) -> bool {
+fn stand_still(seats: &[Seat]) -> bool
+    ensures { result ≡ stand_still seats.now }
+{
     for seat in seats {
-        if seat.instructions > 0 {
+        if seat.moved {
             return false;
         }
     }
     true
 }
 
-// Each has a turn, on some worker.
-fn round<R: Threads + Sync, C: Clock + Sync, G: Gate + Sync>(
+// The next round begins: no turn of it has done an instruction.
+fn begin(seats: &mut [Seat])
+    ensures { runners_in seats.new ≡ runners_in seats.old }
+{
+    for i in 0..seats.len() {
+        seats[i].moved = false;
+    }
+}
+
+// Each worker has a share of the runners, and gives them turns until it can do no more for them.
+fn round<R: Threads + Wait + Sync, C: Clock + Sync, G: Gate + Sync>(
     rt: &R,
     program: &Program,
     heap: &Heap,
@@ -61,17 +74,18 @@ fn round<R: Threads + Sync, C: Clock + Sync, G: Gate + Sync>(
     ensures count { length seats.new ≡ length seats.old }
     ensures timed { AreTimed tick (runners_in seats.old) → AreTimed tick (runners_in seats.new) }
 {
-    thread::for_each_mut(
+    if seats.is_empty() {
+        return;
+    }
+    let size = seats.len().div_ceil(workers as usize);
+    thread::for_each_chunk_mut(
         rt,
         seats,
-        workers as usize,
-        &|_: usize, seat: &mut Seat|
-            requires { IsHeapOf heap.now program.now × IsRunner heap.now program.now seat.now.runner
-                × (seat.now.runner.pass.known.checking ≡ false) × (1 ≤ quantum) }
-            ensures { IsRunner heap.entry.now program.entry.now seat.exit.now.runner × IsSame seat.entry.now.runner seat.exit.now.runner
-                × (seat.exit.now.runner.pass.known.checking ≡ false)
-                × StaysTimed tick seat.entry.now.runner.pass seat.exit.now.runner.pass }
-        { seat.go(program, heap, clock, tick, gate, quantum) },
+        size,
+        &|_: usize, share: &mut [Seat]|
+            requires { IsHeapOf heap.now program.now × MayGoOn heap.now program.now share.now × (1 ≤ quantum) }
+            ensures { HaveGoneOn heap.entry.now program.entry.now tick share.entry.now share.exit.now }
+        { work(rt, program, heap, share, quantum, clock, tick, gate) },
     );
 }
 
@@ -151,6 +165,7 @@ pub fn rounds<R: Threads + Wait + Sync, C: Clock + Sync, G: Gate + Sync>(
         if have_ended(seats) {
             return false;
         }
+        begin(seats);
         round(
             rt, program, heap, fuel, seats, workers, quantum, clock, tick, gate,
         );

@@ -1,5 +1,5 @@
 -- Runners in their seats, and when rounds are over.
-use Rattle.std.specs.Prelude.{◌≡◌, ℕ, Bool, true, false, List, map, slice_get, Some}
+use Rattle.std.specs.Prelude.{◌≡◌, ℕ, not, Bool, true, false, List, map, slice_get, Some}
 use Rattle.std.specs.List.{list_all}
 use Rattle.thread_calls.specs.Timed.{IsTimed}
 use Rattle.thread_frame.specs.Frames.{has_ended}
@@ -17,6 +17,10 @@ AreTimed tick rs = (t : ℕ) (r : RunnerSeen) → slice_get rs t ≡ Some r → 
 -- all their threads have ended
 abbrev pub have_ended : List RunnerSeen → Bool
 have_ended rs = list_all (λ (r : RunnerSeen). has_ended r.frame) rs
+
+-- no turn of the last round did an instruction
+abbrev pub stand_still : List Seat → Bool
+stand_still seats = list_all (λ (s : Seat). not s.moved) seats
 
 -- one of them knows the halt
 abbrev pub KnowsHalt : List RunnerSeen → Type 0
