@@ -3,4 +3,5 @@ pub mod RunText
 pub mod Merging
 pub mod LineView
 pub mod LinesLeft
+pub mod MachineCells
 pub mod inner

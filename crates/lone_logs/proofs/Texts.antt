@@ -16,7 +16,8 @@ use Rattle.lock_journal.specs.declared.record.Shot.{Shot}
 use Rattle.lock_journal.specs.RunText.{printed, shot_cells, cells_lines, thread_lines, text_of_lines, text_of_run}
 use Rattle.lock_journal.specs.inner.LineTexts.{dump_line}
 use Rattle.lone_logs.specs.LoneRun.{without_path, with_no_path, IsLoneRun}
-use Rattle.lone_logs.specs.Shots.{cells_of, front_of, IsShotOf, AreShotsOf, HasShotsOf}
+use Rattle.lock_journal.specs.MachineCells.{cells_in}
+use Rattle.lone_logs.specs.Shots.{front_of, IsShotOf, AreShotsOf, HasShotsOf}
 use Rattle.lone_logs.proofs.OneLog.{of_first, order_of_one, only_log}
 use Rattle.lone_logs.proofs.OneWay.{take_same, same_runs}
 
@@ -95,7 +96,7 @@ module _ (p : ProgramText) (fuel : ℕ) (log other : List Logged) (rises : Rises
       subst (λ i. machine_after p fuel (take i log ∷ []) ≡ Some r.machine) h r.under in
       let machines : r.machine ≡ q.machine =
       same_Some r.machine q.machine (sym under ∙ same_machines p fuel (front_of b) log other rises rises_too same ∙ q.under) in
-      r.cells ∙ ap cells_of machines ∙ sym q.cells
+      r.cells ∙ ap cells_in machines ∙ sym q.cells
 
   same_cells : (shots more : List Shot) → AllByRecursion (IsShotOf p fuel log) shots → AllByRecursion (IsShotOf p fuel other) more
       → map place_of shots ≡ map place_of more → (i : ℕ) → shot_cells (slice_get shots i) ≡ shot_cells (slice_get more i)

@@ -2,22 +2,14 @@
 use Rattle.std.specs.Prelude.{◌≡◌, ℕ, List, [], ◌∷◌, map, take, slice_index, slice_index_or, Some}
 use Rattle.std.specs.List.{AllByRecursion}
 use Rattle.core_world.specs.Shots.{dumps_from}
-use Rattle.lock_journal.specs.declared.record.Cell.{Cell}
 use Rattle.lock_journal.specs.declared.record.RunRecord.{RunRecord}
 use Rattle.lock_journal.specs.declared.record.Shot.{Shot}
+use Rattle.lock_journal.specs.MachineCells.{cells_in}
 use Rattle.object_program.specs.Program.{ProgramText}
 use Rattle.plain_machine.specs.Legal.{machine_after}
 use Rattle.plain_machine.specs.Machine.{PlainMachine}
 use Rattle.plain_monitor.specs.declared.entry.Logged.{Logged}
 use Rattle.plain_monitor.specs.History.{log_of}
-use Rattle.plain_monitor.specs.Monitor.{PlainMonitor}
-
--- the owner of a monitor, and its count
-abbrev pub cell_in : PlainMonitor → Cell
-cell_in m = record { owner = m.owner; count = m.count }
-
-abbrev pub cells_of : PlainMachine → List Cell
-cells_of m = map (λ x. cell_in x.monitor) m.objects
 
 -- how much of the first thread's log the shot leaves
 abbrev pub front_of : Shot → ℕ
@@ -27,7 +19,7 @@ front_of shot = slice_index shot.cut 0
 pub record IsShotOf (p : ProgramText) (fuel : ℕ) (log : List Logged) (shot : Shot) : Type 0 where
   pub machine : PlainMachine
   pub under : machine_after p fuel (take (front_of shot) log ∷ []) ≡ Some machine
-  pub cells : shot.cells ≡ cells_of machine
+  pub cells : shot.cells ≡ cells_in machine
 
 -- each shot does, and the shots are of the log's dumps, in their order: each was made just before the dump, and has its
 -- number

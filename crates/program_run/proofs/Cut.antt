@@ -10,34 +10,29 @@ use Rattle.plain_monitor.proofs.Lists.{all_weaker, all_map}
 use Rattle.object_program.specs.Program.{ProgramText, shape_of}
 use Rattle.plain_machine.specs.Legal.{IsLegal, machine_after}
 use Rattle.plain_machine.specs.Machine.{PlainMachine}
+use Rattle.core_world.specs.Shots.{cut_logs}
 use Rattle.core_world.specs.Shots as core
 use Rattle.core_world.specs.Threads.Known.{DumpShot}
 use Rattle.run_ends.specs.OfARun.{HasShots, shots_at}
 use Rattle.thread_logs.specs.Followed.{HasFollowed, HaveFollowed}
 use Rattle.lock_journal.specs.declared.record.Cell.{Cell}
 use Rattle.lock_journal.specs.declared.record.Shot.{Shot}
+use Rattle.lock_journal.specs.MachineCells.{cell_in}
 use Rattle.program_run.specs.Left.{cells_left, shot_left, shots_left}
-use Rattle.program_run.specs.Shots.{AreRightShots, IsRightShot, cell_in, cut_logs, shots_of}
+use Rattle.program_run.specs.Shots.{AreRightShots, IsRightShot, shots_of}
 
 pub the_some : {A : Type 0} (o : Option A) → IsSome o → (a : A) × (o ≡ Some a)
 the_some None h = absurd (cc h)
 the_some (Some a) h = (a, refl)
 
--- where each log has its length, both say the same
-cut_same : (ns : List ℕ) (logs : List (List Logged)) → length ns ≡ length logs → core.cut_logs ns logs ≡ cut_logs ns logs
-cut_same [] [] e = refl
-cut_same [] (log ∷ logs) e = absurd (omega (arith, e))
-cut_same (n ∷ ns) [] e = refl
-cut_same (n ∷ ns) (log ∷ logs) e = ap (λ x. take n log ∷ x) (cut_same ns logs (omega (arith, e)))
-
-cut_long : (ns : List ℕ) (logs : List (List Logged)) → length ns ≡ length logs → length (core.cut_logs ns logs) ≡ length logs
+cut_long : (ns : List ℕ) (logs : List (List Logged)) → length ns ≡ length logs → length (cut_logs ns logs) ≡ length logs
 cut_long [] logs e = refl
 cut_long (n ∷ ns) [] e = refl
 cut_long (n ∷ ns) (log ∷ logs) e = ap suc (cut_long ns logs (omega (arith, e)))
 
 -- what is left of a log is its front
 cut_log : (ns : List ℕ) (logs : List (List Logged)) (t : ℕ) → t < length logs → length ns ≡ length logs
-    → log_of (core.cut_logs ns logs) t ≡ take (slice_index ns t) (log_of logs t)
+    → log_of (cut_logs ns logs) t ≡ take (slice_index ns t) (log_of logs t)
 cut_log [] logs t h e = absurd (omega (arith, h, e))
 cut_log (n ∷ ns) [] t h e = absurd (omega (arith, h))
 cut_log (n ∷ ns) (log ∷ logs) zero h e = refl
@@ -60,7 +55,7 @@ TheirObjects = (p : ProgramText) (fuel : ℕ) (logs : List (List Logged)) (m : P
 
 module _ (fronts : Fronts) (legals : Legals) (theirs : TheirObjects)
     (p : ProgramText) (fuel : ℕ) (logs : List (List Logged)) (f : HaveFollowed p fuel logs) where
-  cut_follow : (s : DumpShot) → core.IsRightShot (shape_of p) logs s → HaveFollowed p fuel (core.cut_logs s.cut logs)
+  cut_follow : (s : DumpShot) → core.IsRightShot (shape_of p) logs s → HaveFollowed p fuel (cut_logs s.cut logs)
   cut_follow s h =
       record {
         objects = h.legal;
@@ -74,14 +69,14 @@ module _ (fronts : Fronts) (legals : Legals) (theirs : TheirObjects)
   right : (s : DumpShot) → core.IsRightShot (shape_of p) logs s → IsRightShot p fuel logs (shot_left s)
   right s h =
       let follow = cut_follow s h in
-      let m = the_some (machine_after p fuel (core.cut_logs s.cut logs)) (legals p fuel (core.cut_logs s.cut logs) follow).taken in
-      let taken = sym h.taken ∙ theirs p fuel (core.cut_logs s.cut logs) m.0 follow m.1 in
+      let m = the_some (machine_after p fuel (cut_logs s.cut logs)) (legals p fuel (cut_logs s.cut logs) follow).taken in
+      let taken = sym h.taken ∙ theirs p fuel (cut_logs s.cut logs) m.0 follow m.1 in
       let same : h.objects ≡ m.0.objects = same_Some h.objects m.0.objects taken in
       record {
         threads = h.threads;
         within = h.within;
         machine = m.0;
-        under = ap (machine_after p fuel) (sym (cut_same s.cut logs h.threads)) ∙ m.1;
+        under = m.1;
         cells = ap cells_left h.cells ∙ cells_same h.objects ∙ ap (λ (xs : List PlainObject). map (λ (x : PlainObject). cell_in x.monitor) xs) same;
       }
 

@@ -1,6 +1,7 @@
 -- A run of a program of one thread is one of a log alone.
 use Rattle.std.proofs.Common.{◌≡◌, ℕ, Bool, true, false, List, [], ◌∷◌, length, take, slice_index, Some, refl, sym, ap, ◌∙◌, inl, inr, arith}
 use Rattle.std.specs.List.{AllByRecursion}
+use Rattle.core_world.specs.Shots.{cut_logs}
 use Rattle.heap_table.specs.Seen.{ClosedSeen}
 use Rattle.lock_journal.specs.declared.record.RunRecord.{RunRecord}
 use Rattle.lock_journal.specs.declared.record.Shot.{Shot}
@@ -15,7 +16,7 @@ use Rattle.plain_monitor.specs.History.{log_of}
 use Rattle.run_rounds.specs.Outcome.{IsOver}
 use Rattle.program_run.specs.declared.settings.Settings.{Settings}
 use Rattle.program_run.specs.Ran.{IsRan}
-use Rattle.program_run.specs.Shots.{IsRightShot, AreRightShots, cut_logs, shots_of}
+use Rattle.program_run.specs.Shots.{IsRightShot, AreRightShots, shots_of}
 
 -- one log is cut by one number
 cut_one : (cut : List ℕ) (logs : List (List Logged)) → length logs ≡ 1 → length cut ≡ length logs

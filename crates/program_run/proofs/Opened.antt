@@ -9,8 +9,9 @@ use Rattle.heap_table.specs.Resting.{Rests}
 use Rattle.heap_table.specs.Seen.{HeapSeen, PassSeen, first_pass, first_passes}
 use Rattle.heap_table.proofs.Resting.{fresh_rests}
 use Rattle.object_program.specs.Program.{ProgramText}
-use Rattle.run_rounds.specs.Rounds.{AreNew, IsRunnerAt, IsUnused}
+use Rattle.run_rounds.specs.Rounds.{AreReady, IsRunnerAt}
 use Rattle.thread_calls.specs.Between.{IsHeapOf, IsOn}
+use Rattle.thread_calls.specs.Timed.{IsTimed}
 use Rattle.thread_frame.specs.Frames.{first_frame}
 use Rattle.thread_interp.specs.Runners.{RunnerSeen}
 use Rattle.program_run.specs.inner.HeapFor.{runner_on}
@@ -54,7 +55,7 @@ passes_many : (h : HeapSeen) (limit fuel u n : ℕ) → length (map (runner_on f
 passes_many h limit fuel u zero = refl
 passes_many h limit fuel u (suc n) = ap suc (passes_many h limit fuel (suc u) n)
 
-module _ (unused : Unused) (h : HeapSeen) (p : ProgramText) (fuel : ℕ) (is : IsHeapOf h p) (few : fuel ≤ 200000)
+module _ (unused : Unused) (h : HeapSeen) (p : ProgramText) (fuel tick : ℕ) (is : IsHeapOf h p) (few : fuel ≤ 200000)
     (sound : Sound (opening h.heap.shape h.heap.start h.heap.biasing)) where
   abbrev seated : ℕ → RunnerSeen
   seated t = runner_on fuel (first_pass h (2 * fuel + 66) t)
@@ -72,15 +73,15 @@ module _ (unused : Unused) (h : HeapSeen) (p : ProgramText) (fuel : ℕ) (is : I
   here : (t : ℕ) (r : RunnerSeen) → (t < h.heap.shape.threads) × (seated t ≡ r) → IsRunnerAt h p fuel t r
   here t r at = subst (IsRunnerAt h p fuel t) at.1 (new_at t at.0)
 
-  pub are_new : AreNew h p fuel (map (runner_on fuel) (first_passes h (2 * fuel + 66) 0 h.heap.shape.threads))
-  are_new =
+  pub are_ready : AreReady h p fuel tick (map (runner_on fuel) (first_passes h (2 * fuel + 66) 0 h.heap.shape.threads))
+  are_ready =
       record {
         runners = λ t r e.
             let at = runner_at h (2 * fuel + 66) fuel 0 h.heap.shape.threads t r e in
             let same : t ≡ 0 + t = omega arith in
             here t r (at.0, ap seated same ∙ at.1);
-        unused = λ t r e.
-            subst (λ (x : RunnerSeen). IsUnused x.pass.known)
-            (runner_at h (2 * fuel + 66) fuel 0 h.heap.shape.threads t r e).1 (record { steps = refl; counts = refl });
+        timed = λ t r e.
+            subst (λ (x : RunnerSeen). IsTimed tick x.pass.known)
+            (runner_at h (2 * fuel + 66) fuel 0 h.heap.shape.threads t r e).1 (record { calls = tt; counts = tt });
         count = passes_many h (2 * fuel + 66) fuel 0 h.heap.shape.threads;
       }

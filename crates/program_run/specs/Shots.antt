@@ -1,28 +1,14 @@
 -- What a dump saw.
-use Rattle.std.specs.Prelude.{◌≡◌, ◌⊎◌, ℕ, ◌≤◌, List, [], ◌∷◌, length, map, take, slice_get, slice_index, slice_index_or, Some}
+use Rattle.std.specs.Prelude.{◌≡◌, ◌⊎◌, ℕ, ◌≤◌, List, [], length, map, slice_get, slice_index, slice_index_or, Some}
 use Rattle.std.specs.List.{AllByRecursion}
-use Rattle.core_world.specs.Shots.{dumps_from}
-use Rattle.lock_journal.specs.declared.record.Cell.{Cell}
+use Rattle.core_world.specs.Shots.{cut_logs, dumps_from}
 use Rattle.lock_journal.specs.declared.record.Shot.{Shot}
+use Rattle.lock_journal.specs.MachineCells.{cells_in}
 use Rattle.object_program.specs.Program.{ProgramText}
 use Rattle.plain_machine.specs.Legal.{machine_after}
 use Rattle.plain_machine.specs.Machine.{PlainMachine}
 use Rattle.plain_monitor.specs.declared.entry.Logged.{Logged}
 use Rattle.plain_monitor.specs.History.{log_of}
-use Rattle.plain_monitor.specs.Monitor.{PlainMonitor}
-
--- the owner of a monitor, and its count
-abbrev pub cell_in : PlainMonitor → Cell
-cell_in m = record { owner = m.owner; count = m.count }
-
-abbrev pub cells_of : PlainMachine → List Cell
-cells_of m = map (λ x. cell_in x.monitor) m.objects
-
--- the front of each log, of the length that stands in its place
-abbrev pub cut_logs : List ℕ → List (List Logged) → List (List Logged)
-cut_logs [] logs = []
-cut_logs (n ∷ ns) [] = []
-cut_logs (n ∷ ns) (log ∷ logs) = take n log ∷ cut_logs ns logs
 
 -- the shot cuts the logs where they were, and has the owner and the count of each object of the machine behind them
 pub record IsRightShot (p : ProgramText) (fuel : ℕ) (logs : List (List Logged)) (shot : Shot) : Type 0 where
@@ -30,7 +16,7 @@ pub record IsRightShot (p : ProgramText) (fuel : ℕ) (logs : List (List Logged)
   pub within : (u : ℕ) → slice_index shot.cut u ≤ length (log_of logs u)
   pub machine : PlainMachine
   pub under : machine_after p fuel (cut_logs shot.cut logs) ≡ Some machine
-  pub cells : shot.cells ≡ cells_of machine
+  pub cells : shot.cells ≡ cells_in machine
 
 -- one cuts each log no later than the other
 abbrev pub IsNoLater : Shot → Shot → Type 0

@@ -1,7 +1,7 @@
 //! The heap and the threads of a program before the first turn.
 
 ghost use Rattle.std.specs.Prelude.{◌≡◌, ◌≤◌, map, IfOk};
-ghost use Rattle.run_rounds.specs.Rounds.{AreNew};
+ghost use Rattle.run_rounds.specs.Rounds.{AreReady};
 ghost use Rattle.thread_calls.specs.Between.{IsHeapOf};
 ghost use Rattle.program_run.specs.HeapFor.{heap_for};
 ghost use Rattle.program_run.specs.inner.HeapFor.{runner_on};
@@ -23,7 +23,7 @@ pub fn open(
     requires fuel { settings.now.fuel ≤ 200000 }
     ensures heap { IfOk result (λ r. r.0.heap ≡ heap_for settings.now program.now) }
     ensures program { IfOk result (λ r. IsHeapOf r.0 program.now) }
-    ensures runners { IfOk result (λ r. AreNew r.0 program.now settings.now.fuel r.1) }
+    ensures runners { IfOk result (λ r. AreReady r.0 program.now settings.now.fuel settings.now.tick r.1) }
 {
     thread_calls::unused_passes_are_on();
     let shape = heap_shape(alloc, program)?;

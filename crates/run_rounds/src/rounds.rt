@@ -5,8 +5,8 @@ ghost use Rattle.thread_calls.specs.Between.{IsHeapOf};
 ghost use Rattle.thread_calls.specs.Timed.{StaysTimed};
 ghost use Rattle.thread_frame.specs.Frames.{has_ended};
 ghost use Rattle.thread_interp.specs.Runners.{IsRunner, IsSame};
-ghost use Rattle.run_rounds.specs.Rounds.{AreRunners};
-ghost use Rattle.run_rounds.specs.inner.Rounds.{AreTimed, AreOver, have_ended, stand_still, runners_in};
+ghost use Rattle.run_rounds.specs.Rounds.{AreRunners, AreTimed};
+ghost use Rattle.run_rounds.specs.inner.Rounds.{AreOver, have_ended, runners_in, stand_still};
 ghost use Rattle.run_rounds.specs.inner.Shares.{MayGoOn, HaveGoneOn};
 
 use crate::seats::Seat;

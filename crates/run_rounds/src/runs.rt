@@ -3,7 +3,7 @@
 ghost use Rattle.std.specs.Prelude.{◌≡◌, ◌≤◌, [], map, IfOk, vec_len, vec_capacity};
 ghost use Rattle.thread_calls.specs.Between.{IsHeapOf};
 ghost use Rattle.run_rounds.specs.Outcome.{HasRun};
-ghost use Rattle.run_rounds.specs.Rounds.{AreNew};
+ghost use Rattle.run_rounds.specs.Rounds.{AreReady};
 ghost use Rattle.run_rounds.specs.inner.Rounds.{runners_in};
 
 use crate::rounds::rounds;
@@ -32,11 +32,12 @@ fn into_passes(seats: Vec<Seat>, mut passes: Vec<Pass>) -> Vec<Pass>
 
 /// Runs the threads of a program on workers, and closes its heap.
 ///
-/// The runners are those of this heap in the order of their threads, each as `Runner::new` gave it of a pass on which no call was made, all
-/// with one fuel. In a round each of so many workers gives the live runners of its share turns of at most `quantum` instructions, one after
-/// the other, until they have ended or none of them gets on for some time. It returns when all threads have ended, or when the run was
-/// halted because it is stuck, and it may wait for workers. Memory is taken before the first turn: `NoMemory` where it is wanting. The
-/// clock's counts are of `tick` units each: a call that takes a moment is given the time after some count of ticks.
+/// The runners are those of this heap, one for each thread in the order of the threads, all with one fuel, and no check of theirs is
+/// unfinished: as `Runner::new` gives them, or behind turns of their own. In a round each of so many workers gives the live runners of its
+/// share turns of at most `quantum` instructions, one after the other, until they have ended or none of them gets on for some time. It
+/// returns when all threads have ended, or when the run was halted because it is stuck, and it may wait for workers. Memory is taken before
+/// the first turn: `NoMemory` where it is wanting. The clock's counts are of `tick` units each: a call that takes a moment is given the time
+/// after some count of ticks. So it must have been with the calls that were made before.
 pub fn run<R: Threads + Wait + Sync, C: Clock + Sync, G: Gate + Sync>(
     rt: &R,
     alloc: Global,
@@ -53,7 +54,7 @@ pub fn run<R: Threads + Wait + Sync, C: Clock + Sync, G: Gate + Sync>(
     requires workers { 1 ≤ workers }
     requires quantum { 1 ≤ quantum }
     requires program { IsHeapOf heap program.now }
-    requires runners { AreNew heap program.now fuel runners }
+    requires runners { AreReady heap program.now fuel tick runners }
     ensures { IfOk result (HasRun heap.heap program.now fuel tick) }
 {
     let passes = Vec::with_capacity(alloc, runners.items().len()).map_err(|_| NoMemory)?;

@@ -3,9 +3,9 @@ use Rattle.std.proofs.lemmas.List.{with_items_is, length-map}
 use Rattle.heap_table.specs.Seen.{PassSeen, IsOf, InOrder, knowns, logs_of}
 use Rattle.object_program.specs.Program.{shape_of}
 use Rattle.run_rounds.specs.declared.seats.Seat.{Seat}
-use Rattle.run_rounds.specs.Rounds.{AreRunners}
-use Rattle.run_rounds.specs.inner.Rounds.{AreTimed, runners_in}
-use Rattle.run_rounds.proofs.Closing.{IsClosed, has_run, new_timed}
+use Rattle.run_rounds.specs.Rounds.{AreRunners, AreTimed}
+use Rattle.run_rounds.specs.inner.Rounds.{runners_in}
+use Rattle.run_rounds.proofs.Closing.{IsClosed, has_run}
 use Rattle.run_rounds.proofs.Ending.{passes, all_of, all_still, ordered, quiet}
 use Rattle.run_rounds.proofs.Over.{Laws}
 use Rattle.run_rounds.proofs.runs.run.Goals as goal
@@ -91,4 +91,4 @@ returns g c =
     (subst (λ (ps : List PassSeen). IsClosed c.args.heap ps c.close.result) same closed) laws c.rounds.result c.rounds.ensures.over
     c.args.tick (c.rounds.ensures.timed
     (subst (AreTimed c.args.tick) (sym (ap runners_in c.as_mut_slice.ensures.value ∙ c.in_ok-seats.ensures))
-    (new_timed c.args.tick c.args.runners c.requires.runners.unused)))
+    c.requires.runners.timed))
