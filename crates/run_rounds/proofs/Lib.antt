@@ -1,5 +1,6 @@
 pub mod Lists
 pub mod Seated
+pub mod GoneOn
 pub mod StuckMachines
 pub mod Ending
 pub mod Over

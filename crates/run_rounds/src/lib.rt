@@ -1,11 +1,13 @@
 //! The threads of a program on workers.
 //!
-//! `run` gives each live runner one turn in each round, on some worker, and checks whether the run is stuck after a round in which no turn
-//! did an instruction. It returns when all threads have ended or the run was halted, and closes the heap.
+//! In each round of `run` each worker gives the runners of its share turns, one after the other, until they have ended or stand still. After a
+//! round in which no turn did an instruction it is checked whether the run is stuck. `run` returns when all threads have ended or the run was
+//! halted, and closes the heap.
 #![tactic(auto)]
 
 mod rounds;
 mod runs;
 mod seats;
+mod shares;
 
 pub use runs::run;

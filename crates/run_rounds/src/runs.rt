@@ -33,10 +33,11 @@ fn into_passes(seats: Vec<Seat>, mut passes: Vec<Pass>) -> Vec<Pass>
 /// Runs the threads of a program on workers, and closes its heap.
 ///
 /// The runners are those of this heap, one for each thread in the order of the threads, all with one fuel, and no check of theirs is
-/// unfinished: as `Runner::new` gives them, or behind turns of their own. In each round every live runner has one turn of at most `quantum`
-/// instructions, on one of so many workers. It returns when all threads have ended, or when the run was halted because it is stuck, and it
-/// may wait for workers. Memory is taken before the first turn: `NoMemory` where it is wanting. The clock's counts are of `tick` units each:
-/// a call that takes a moment is given the time after some count of ticks. So it must have been with the calls that were made before.
+/// unfinished: as `Runner::new` gives them, or behind turns of their own. In a round each of so many workers gives the live runners of its
+/// share turns of at most `quantum` instructions, one after the other, until they have ended or none of them gets on for some time. It
+/// returns when all threads have ended, or when the run was halted because it is stuck, and it may wait for workers. Memory is taken before
+/// the first turn: `NoMemory` where it is wanting. The clock's counts are of `tick` units each: a call that takes a moment is given the time
+/// after some count of ticks. So it must have been with the calls that were made before.
 pub fn run<R: Threads + Wait + Sync, C: Clock + Sync, G: Gate + Sync>(
     rt: &R,
     alloc: Global,
