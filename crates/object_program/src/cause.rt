@@ -1,18 +1,19 @@
 //! Why a line is refused: the lowest-numbered cause that it has.
 
-ghost use Rattle.std.specs.Prelude.{◌≡◌, ◌==◌, pos, true, false, not, Some, length, option_copied};
+ghost use Rattle.std.specs.Prelude.{◌≡◌, ◌==◌, pos, true, false, not, Some, length};
 ghost use Rattle.object_program.specs.Number.{number_of, is_within};
 ghost use Rattle.object_program.specs.Valid.{is_among};
 ghost use Rattle.object_program.specs.Line.{operands_of};
 ghost use Rattle.object_program.specs.Reading.{operand};
 ghost use Rattle.object_program.specs.Refusal.{names_before, is_bad_name, is_twice, is_bad_number, some_operand, passes_limit, opens_unclosed, is_in_place, keyword_cause};
-ghost use Rattle.object_program.specs.inner.Left.{words_in, lines_ahead};
+ghost use Rattle.object_program.specs.inner.Left.{words_in};
 ghost use Rattle.object_program.specs.inner.Steps.{before_of, names_collected, is_unknown, fails, HasAheadOf};
 
 use crate::error::Why;
 use crate::keyword::Keyword;
 use crate::labels::is_closed;
 use crate::limits::{CLASSES, CODE, LOCALS, OBJECTS, THREADS};
+use crate::lines::Lines;
 use crate::name::Name;
 use crate::number::{count_of, number_within};
 use crate::operand::{Operand, Space, Test, operands_of};
@@ -25,12 +26,10 @@ pub fn keyword_cause(
     reader: &Reader,
     keyword: Keyword,
     operands: &[u8],
-    later: Option<&[u8]>,
+    later: &Lines<'_>,
 ) -> Option<Why>
-    requires { HasAheadOf reader.now.section (lines_ahead (option_copied later)) (words_in operands.now) keyword }
-    ensures { result
-        ≡ keyword_cause (before_of reader.now) (lines_ahead (option_copied later.entry)) (words_in operands.now)
-        (Some keyword) }
+    requires { HasAheadOf reader.now.section later.now (words_in operands.now) keyword }
+    ensures { result ≡ keyword_cause (before_of reader.now) later.now (words_in operands.now) (Some keyword) }
 {
     if !is_in_place(reader, keyword) {
         return Some(Why::UnknownWord);
@@ -199,8 +198,8 @@ fn passes_limit(reader: &Reader, keyword: Keyword, operands: &[u8]) -> bool
 }
 
 /// Whether the line opens a section that isn't closed.
-fn opens_unclosed(keyword: Keyword, later: Option<&[u8]>) -> bool
-    ensures { result ≡ opens_unclosed (lines_ahead (option_copied later.entry)) keyword }
+fn opens_unclosed(keyword: Keyword, later: &Lines<'_>) -> bool
+    ensures { result ≡ opens_unclosed later.now keyword }
 {
     match keyword {
         Keyword::Thread => !is_closed(later),

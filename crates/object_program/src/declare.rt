@@ -1,16 +1,17 @@
 //! What a line outside sections declares, where it has no cause of refusal.
 
-ghost use Rattle.std.specs.Prelude.{◌≡◌, ◌<◌, ◌≤◌, ◌+◌, pos, [], ◌∷◌, ◌++◌, length, true, IfOk, option_copied};
+ghost use Rattle.std.specs.Prelude.{◌≡◌, ◌<◌, ◌≤◌, ◌+◌, pos, [], ◌∷◌, ◌++◌, length, true, IfOk};
 ghost use Rattle.object_program.specs.Limits.{most_classes, most_objects};
 ghost use Rattle.object_program.specs.Name.{is_name};
 ghost use Rattle.object_program.specs.Number.{number_of, is_within};
 ghost use Rattle.object_program.specs.Program.{total_of};
 ghost use Rattle.object_program.specs.Reading.{operand, count_at, declared_objects, new_thread, labels_ahead};
-ghost use Rattle.object_program.specs.inner.Left.{words_in, lines_ahead, IsOfText};
+ghost use Rattle.object_program.specs.inner.Left.{words_in};
 ghost use Rattle.object_program.specs.inner.Steps.{text_of, thread_of};
 
 use crate::directory::Directory;
 use crate::labels::labels_ahead;
+use crate::lines::Lines;
 use crate::name::name_of;
 use crate::number::count_of;
 use crate::program::{ClassDef, ObjectDef, ThreadDef};
@@ -105,16 +106,11 @@ pub fn with_thread(declared: Declared, thread: ThreadDef) -> Result<Declared, No
     })
 }
 
-/// The section that a `thread` line with these operands opens, with these lines behind it. They have at most 1,048,576 bytes.
-pub fn new_section(
-    alloc: Global,
-    operands: &[u8],
-    later: Option<&[u8]>,
-) -> Result<Section, NoMemory>
-    requires name { is_name (operand (words_in operands.now) 0) ≡ true }
-    requires few { IsOfText (option_copied later) }
+/// The section that a `thread` line with these operands opens, with these lines behind it.
+pub fn new_section(alloc: Global, operands: &[u8], later: &Lines<'_>) -> Result<Section, NoMemory>
+    requires { is_name (operand (words_in operands.now) 0) ≡ true }
     ensures thread { IfOk result (λ s. thread_of s ≡ new_thread (operand (words_in operands.now) 0)) }
-    ensures labels { IfOk result (λ s. s.labels ≡ labels_ahead 1 (lines_ahead (option_copied later.entry))) }
+    ensures labels { IfOk result (λ s. s.labels ≡ labels_ahead 1 later.now) }
 {
     let labels = labels_ahead(alloc, later)?;
     Ok(Section {

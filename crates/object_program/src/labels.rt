@@ -1,56 +1,50 @@
 //! The lines ahead of a section: where it ends, and its labels, which may stand on any of its lines.
 
-ghost use Rattle.std.specs.Prelude.{◌≡◌, ◌≤◌, ◌+◌, ◌==◌, if◌then◌else◌, ◌++◌, [], ◌∷◌, length, IfOk, option_copied, option_to_list};
+ghost use Rattle.std.specs.Prelude.{◌≡◌, ◌≤◌, ◌+◌, ◌==◌, if◌then◌else◌, ◌++◌, [], ◌∷◌, length, IfOk, option_to_list};
 ghost use Rattle.object_program.specs.Text.{words_of};
 ghost use Rattle.object_program.specs.Reading.{first_keyword, label_of, labels_on, labels_ahead, number_behind_line};
 ghost use Rattle.object_program.specs.Refusal.{is_closed};
 ghost use Rattle.object_program.specs.Limits.{most_bytes};
-ghost use Rattle.object_program.specs.inner.Left.{words_in, lines_ahead, IsOfText};
+ghost use Rattle.object_program.specs.inner.Left.{words_in};
 
 use crate::directory::Directory;
 use crate::keyword::Keyword;
+use crate::lines::Lines;
 use crate::name::Name;
 use crate::program::LabelDef;
 use crate::spelling::{ends_section, is_end, is_instruction, keyword_of};
-use crate::text::{drop_return, next_line, next_word, one_word, without_comment};
+use crate::text::{next_word, one_word, without_comment};
 use plain_monitor::NoMemory;
 use std::alloc::Global;
 
 /// Whether the section that these lines begin with is closed by its `end`.
-pub fn is_closed(lines: Option<&[u8]>) -> bool
-    ensures { result ≡ is_closed (lines_ahead (option_copied lines.entry)) }
+pub fn is_closed(lines: &Lines<'_>) -> bool
+    ensures { result ≡ is_closed lines.now }
 {
-    let mut left = lines;
-    'lines: while let Some(text) = left {
-        let (line, rest) = next_line(text);
-        let keyword = first_keyword(drop_return(line));
+    let mut left = lines.again();
+    'lines: while let Some(line) = left.next() {
+        let keyword = first_keyword(line);
         if ends_section(keyword) {
             return is_end(keyword);
         }
-        left = rest;
     }
     false
 }
 
-/// All labels of the section that these lines begin with, in their order. The lines have at most 1,048,576 bytes. Where memory
-/// is wanting, `NoMemory`.
-pub fn labels_ahead(alloc: Global, lines: Option<&[u8]>) -> Result<Directory<LabelDef>, NoMemory>
-    requires { IsOfText (option_copied lines) }
-    ensures { IfOk result (λ labels. labels ≡ labels_ahead 1 (lines_ahead (option_copied lines.entry))) }
+/// All labels of the section that these lines begin with, in their order. Where memory is wanting, `NoMemory`.
+pub fn labels_ahead(alloc: Global, lines: &Lines<'_>) -> Result<Directory<LabelDef>, NoMemory>
+    ensures { IfOk result (λ labels. labels ≡ labels_ahead 1 lines.now) }
 {
     let mut labels = Directory::new(alloc);
     let mut number: u32 = 1;
-    let mut left = lines;
-    'lines: while let Some(text) = left {
-        let (line, rest) = next_line(text);
-        let line = drop_return(line);
+    let mut left = lines.again();
+    'lines: while let Some(line) = left.next() {
         let keyword = first_keyword(line);
         if ends_section(keyword) {
             return Ok(labels);
         }
         labels = with_labels_on(labels, line, number)?;
         number = number_behind_line(number, keyword);
-        left = rest;
     }
     Ok(labels)
 }

@@ -12,6 +12,7 @@ mod keyword;
 mod labels;
 mod laws;
 mod limits;
+mod lines;
 mod name;
 mod number;
 mod operand;

@@ -1,18 +1,10 @@
-//! Lines and words.
+//! The words of a line.
 
 ghost use Rattle.std.specs.Prelude.{◌≡◌, ◌==◌, ◌<◌, true, false, position, ℕ, List, [], ◌∷◌, length, MatchOption, IfSome, option_copied};
 ghost use Rattle.std.specs.List.{list_all, before_first};
-ghost use Rattle.object_program.specs.Text.{raw_lines, without_return, is_text_byte};
-ghost use Rattle.object_program.specs.inner.Left.{lines_left, words_in, words_from, words_behind};
+ghost use Rattle.object_program.specs.Text.{is_text_byte, is_blank};
+ghost use Rattle.object_program.specs.inner.Left.{words_in, words_from, words_behind};
 ghost use Rattle.object_program.specs.Reading.{operand};
-ghost use Rattle.object_program.specs.Text.{is_blank};
-
-/// Where the first line feed stands.
-fn line_end(text: &[u8]) -> Option<usize>
-    ensures { result ≡ position (λ b. b == 10) text.now }
-{
-    text.iter().position(|b| *b == b'\n')
-}
 
 /// Where the comment starts.
 fn comment_start(line: &[u8]) -> Option<usize>
@@ -26,31 +18,6 @@ fn blank(text: &[u8]) -> Option<usize>
     ensures { result ≡ position is_blank text.now }
 {
     text.iter().position(|b| *b == b' ' || *b == b'\t')
-}
-
-/// The first line of a text, without its line feed, and what stands behind the line feed, or `None` where there is none.
-pub fn next_line(text: &[u8]) -> (&[u8], Option<&[u8]>)
-    ensures parts { raw_lines text.now ≡ result.0.now ∷ lines_left (option_copied result.1) }
-    ensures shorter { IfSome (option_copied result.1) (λ rest. length rest < length text.now) }
-{
-    match line_end(text) {
-        None => (text, None),
-        Some(end) => (&text[..end], Some(&text[end + 1..])),
-    }
-}
-
-/// The line without the carriage return at its end, if it has one.
-#[tactic(auto, using(crate::proofs::Cuts::without_return_last, crate::proofs::Cuts::without_return_empty))]
-pub fn drop_return(line: &[u8]) -> &[u8]
-    ensures { result.now ≡ without_return line.now }
-{
-    let Some((last, front)) = line.split_last() else {
-        return line;
-    };
-    if *last == b'\r' {
-        return front;
-    }
-    line
 }
 
 /// Whether each byte is a tab or printing ASCII.
