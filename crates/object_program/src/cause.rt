@@ -1,13 +1,13 @@
 //! Why a line is refused: the lowest-numbered cause that it has.
 
-ghost use Rattle.std.specs.Prelude.{◌≡◌, ◌==◌, pos, true, false, not, Some, length};
-ghost use Rattle.object_program.specs.Number.{number_of, is_within};
+ghost use Rattle.std.specs.Prelude.{◌≡◌, ◌==◌, true, false, Some, length};
 ghost use Rattle.object_program.specs.Valid.{is_among};
 ghost use Rattle.object_program.specs.Line.{operands_of};
 ghost use Rattle.object_program.specs.Reading.{operand};
-ghost use Rattle.object_program.specs.Refusal.{names_before, is_bad_name, is_twice, is_bad_number, some_operand, passes_limit, opens_unclosed, is_in_place, keyword_cause};
+ghost use Rattle.object_program.specs.Refusal.{names_before, is_bad_name, is_twice, is_bad_number, some_operand};
+ghost use Rattle.object_program.specs.Refusal.{passes_limit, opens_unclosed, is_in_place};
 ghost use Rattle.object_program.specs.inner.Left.{words_in};
-ghost use Rattle.object_program.specs.inner.Steps.{before_of, names_collected, is_unknown, fails, HasAheadOf};
+ghost use Rattle.object_program.specs.inner.Steps.{before_of, names_collected, is_unknown, fails, HasAheadOf, cause_of};
 
 use crate::error::Why;
 use crate::keyword::Keyword;
@@ -29,7 +29,7 @@ pub fn keyword_cause(
     later: &Lines<'_>,
 ) -> Option<Why>
     requires { HasAheadOf reader.now.section later.now (words_in operands.now) keyword }
-    ensures { result ≡ keyword_cause (before_of reader.now) later.now (words_in operands.now) (Some keyword) }
+    ensures { result ≡ cause_of reader.now later.now (words_in operands.now) keyword }
 {
     if !is_in_place(reader, keyword) {
         return Some(Why::UnknownWord);

@@ -1,11 +1,12 @@
 //! What a line outside sections declares, where it has no cause of refusal.
 
-ghost use Rattle.std.specs.Prelude.{◌≡◌, ◌<◌, ◌≤◌, ◌+◌, pos, [], ◌∷◌, ◌++◌, length, true, IfOk};
+ghost use Rattle.std.specs.Prelude.{◌≡◌, ◌<◌, ◌≤◌, ◌+◌, length, true, IfOk};
 ghost use Rattle.object_program.specs.Limits.{most_classes, most_objects};
 ghost use Rattle.object_program.specs.Name.{is_name};
-ghost use Rattle.object_program.specs.Number.{number_of, is_within};
 ghost use Rattle.object_program.specs.Program.{total_of};
-ghost use Rattle.object_program.specs.Reading.{operand, count_at, declared_objects, new_thread, labels_ahead};
+ghost use Rattle.object_program.specs.Reading.{operand, new_thread, labels_ahead};
+ghost use Rattle.object_program.specs.inner.Added.{class_added, objects_added, thread_added};
+ghost use Rattle.object_program.specs.inner.Signs.{is_count};
 ghost use Rattle.object_program.specs.inner.Left.{words_in};
 ghost use Rattle.object_program.specs.inner.Steps.{text_of, thread_of};
 
@@ -23,13 +24,9 @@ use std::alloc::Global;
 /// With the class of a `class` line with these operands.
 pub fn with_class(declared: Declared, operands: &[u8]) -> Result<Declared, NoMemory>
     requires name { is_name (operand (words_in operands.now) 0) ≡ true }
-    requires slots { is_within (pos 0) (pos most_objects) (number_of (operand (words_in operands.now) 1)) ≡ true }
+    requires slots { is_count (operand (words_in operands.now) 1) ≡ true }
     requires room { length declared.classes < most_classes }
-    ensures { IfOk result (λ d. text_of d
-        ≡ record (text_of declared) {
-          classes = declared.classes
-              ++ record { name = operand (words_in operands.now) 0; slots = count_at (words_in operands.now) 1 } ∷ [];
-        }) }
+    ensures { IfOk result (λ d. text_of d ≡ class_added (text_of declared) (words_in operands.now)) }
 {
     let name = name_of(word_at(operands, 0));
     let slots = count_of(word_at(operands, 1));
@@ -58,11 +55,7 @@ pub fn with_objects(
     requires name { is_name (operand (words_in operands.now) 0) ≡ true }
     requires some { 1 ≤ size }
     requires room { total_of declared.objects + size ≤ most_objects }
-    ensures { IfOk result (λ d. text_of d
-        ≡ record (text_of declared) {
-          objects = declared.objects
-              ++ declared_objects (text_of declared) (words_in operands.now) size array ∷ [];
-        }) }
+    ensures { IfOk result (λ d. text_of d ≡ objects_added (text_of declared) (words_in operands.now) size array) }
 {
     let name = name_of(word_at(operands, 0));
     let class = declared.classes.number_of(word_at(operands, 1));
@@ -89,7 +82,7 @@ pub fn with_objects(
 
 /// With one more thread.
 pub fn with_thread(declared: Declared, thread: ThreadDef) -> Result<Declared, NoMemory>
-    ensures { IfOk result (λ d. text_of d ≡ record (text_of declared) { threads = declared.threads ++ thread ∷ [] }) }
+    ensures { IfOk result (λ d. text_of d ≡ thread_added (text_of declared) thread) }
 {
     let Declared {
         classes,

@@ -1,10 +1,11 @@
 //! The lines ahead of a section: where it ends, and its labels, which may stand on any of its lines.
 
-ghost use Rattle.std.specs.Prelude.{◌≡◌, ◌≤◌, ◌+◌, ◌==◌, if◌then◌else◌, ◌++◌, [], ◌∷◌, length, IfOk, option_to_list};
+ghost use Rattle.std.specs.Prelude.{◌≡◌, ◌≤◌, ◌+◌, ◌++◌, IfOk, option_to_list};
 ghost use Rattle.object_program.specs.Text.{words_of};
-ghost use Rattle.object_program.specs.Reading.{first_keyword, label_of, labels_on, labels_ahead, number_behind_line};
+ghost use Rattle.object_program.specs.Reading.{first_keyword, label_of, labels_ahead, number_behind_line};
 ghost use Rattle.object_program.specs.Refusal.{is_closed};
 ghost use Rattle.object_program.specs.Limits.{most_bytes};
+ghost use Rattle.object_program.specs.inner.Labels.{labels_of_line};
 ghost use Rattle.object_program.specs.inner.Left.{words_in};
 
 use crate::directory::Directory;
@@ -55,7 +56,7 @@ fn with_labels_on(
     line: &[u8],
     number: u32,
 ) -> Result<Directory<LabelDef>, NoMemory>
-    ensures { IfOk result (λ d. d ≡ labels ++ labels_on number (words_of line.now) (first_keyword (words_of line.now))) }
+    ensures { IfOk result (λ d. d ≡ labels ++ labels_of_line number line.now) }
 {
     match label_on(line, number) {
         Some(label) => labels.with(label),
@@ -65,7 +66,7 @@ fn with_labels_on(
 
 /// The label that the line declares for the instruction with this number, if it declares one.
 fn label_on(line: &[u8], number: u32) -> Option<LabelDef>
-    ensures { labels_on number (words_of line.now) (first_keyword (words_of line.now)) ≡ option_to_list result }
+    ensures { labels_of_line number line.now ≡ option_to_list result }
 {
     let (word, operands) = next_word(without_comment(line))?;
     match keyword_of(word) {

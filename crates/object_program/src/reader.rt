@@ -2,11 +2,13 @@
 
 ghost use Rattle.std.specs.Prelude.{◌≡◌, ◌⊎◌, ◌≤◌, ◌∷◌, true, length, Some, None, Ok, Err, IfOk, IfErr};
 ghost use Rattle.object_program.specs.Line.{is_outside};
-ghost use Rattle.object_program.specs.Reading.{nothing, behind_keyword, behind_line};
-ghost use Rattle.object_program.specs.Refusal.{keyword_cause, line_cause, read_from, program_of, lines_of};
+ghost use Rattle.object_program.specs.Reading.{nothing};
+ghost use Rattle.object_program.specs.Refusal.{read_from, program_of, lines_of};
 ghost use Rattle.object_program.specs.Limits.{most_bytes};
 ghost use Rattle.object_program.specs.inner.Left.{words_in};
-ghost use Rattle.object_program.specs.inner.Steps.{before_of, text_of, HasAhead, HasAheadOf, IsStep, refusal};
+ghost use Rattle.object_program.specs.inner.Steps.{before_of, text_of, HasAhead, HasAheadOf};
+ghost use Rattle.object_program.specs.inner.Steps.{cause_of, IsBehindKeyword, IsKeywordStep, IsLineStep};
+ghost use Rattle.object_program.specs.inner.Steps.{no_memory, refusal};
 ghost use Rattle.object_program.specs.Canonical.{canonical};
 ghost use Rattle.object_program.specs.Valid.{IsProgram};
 
@@ -35,11 +37,9 @@ fn behind_keyword(
     operands: &[u8],
     later: &Lines<'_>,
 ) -> Result<Reader, NoMemory>
-    requires clean { keyword_cause (before_of reader) later.now (words_in operands.now)
-        (Some keyword) ≡ None }
+    requires clean { cause_of reader later.now (words_in operands.now) keyword ≡ None }
     requires ahead { HasAheadOf reader.section later.now (words_in operands.now) keyword }
-    ensures behind { IfOk result (λ r. before_of r
-        ≡ behind_keyword (before_of reader) later.now (words_in operands.now) keyword) }
+    ensures behind { IfOk result (IsBehindKeyword reader later.now (words_in operands.now) keyword) }
     ensures ahead { IfOk result (λ r. HasAhead r.section later.now) }
 {
     if is_outside(keyword) {
@@ -81,11 +81,9 @@ fn behind_declaration(
     later: &Lines<'_>,
 ) -> Result<Reader, NoMemory>
     requires outside { is_outside keyword ≡ true }
-    requires clean { keyword_cause (before_of reader) later.now (words_in operands.now)
-        (Some keyword) ≡ None }
+    requires clean { cause_of reader later.now (words_in operands.now) keyword ≡ None }
     requires ahead { HasAheadOf reader.section later.now (words_in operands.now) keyword }
-    ensures behind { IfOk result (λ r. before_of r
-        ≡ behind_keyword (before_of reader) later.now (words_in operands.now) keyword) }
+    ensures behind { IfOk result (IsBehindKeyword reader later.now (words_in operands.now) keyword) }
     ensures ahead { IfOk result (λ r. HasAhead r.section later.now) }
 {
     let Reader { declared, section } = reader;
@@ -119,10 +117,7 @@ fn keyword_line(
     later: &Lines<'_>,
 ) -> Result<Reader, Why>
     requires { HasAheadOf reader.section later.now (words_in operands.now) keyword }
-    ensures step { IsStep result
-        (keyword_cause (before_of reader) later.now (words_in operands.now)
-        (Some keyword))
-        (behind_keyword (before_of reader) later.now (words_in operands.now) keyword) }
+    ensures step { IsKeywordStep reader later.now (words_in operands.now) keyword result }
     ensures ahead { IfOk result (λ r. HasAhead r.section later.now) }
 {
     if let Some(why) = keyword_cause(&reader, keyword, operands, later) {
@@ -137,9 +132,7 @@ fn keyword_line(
 /// A line, between those before it and those behind it.
 fn read_line(alloc: Global, reader: Reader, line: &[u8], later: &Lines<'_>) -> Result<Reader, Why>
     requires { HasAhead reader.section (line.now ∷ later.now) }
-    ensures step { IsStep result
-        (line_cause (before_of reader) later.now line.now)
-        (behind_line (before_of reader) later.now line.now) }
+    ensures step { IsLineStep reader later.now line.now result }
     ensures ahead { IfOk result (λ r. HasAhead r.section later.now) }
 {
     if !is_text(line) {
@@ -178,8 +171,7 @@ fn new_reader(alloc: Global) -> Reader
 fn read_lines(alloc: Global, bytes: &[u8]) -> Result<Reader, ProgramError>
     requires { length bytes.now ≤ most_bytes }
     ensures ok { IfOk result (λ r. read_from 1 nothing (lines_of bytes.now) ≡ Ok (before_of r)) }
-    ensures err { IfErr result (λ e. (read_from 1 nothing (lines_of bytes.now) ≡ Err e)
-        ⊎ (e ≡ record { line = 0; why = Why.NoMemory })) }
+    ensures err { IfErr result (λ e. (read_from 1 nothing (lines_of bytes.now) ≡ Err e) ⊎ (e ≡ no_memory)) }
 {
     let mut reader = new_reader(alloc);
     let mut number = 1;

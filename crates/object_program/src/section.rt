@@ -1,13 +1,14 @@
 //! What a line of a section stands for, where it has no cause of refusal.
 
-ghost use Rattle.std.specs.Prelude.{◌≡◌, ◌<◌, ◌==◌, ℕ, List, [], ◌∷◌, ◌++◌, ◌+◌, take, length, true, false, IfOk};
+ghost use Rattle.std.specs.Prelude.{◌≡◌, ◌<◌, ◌==◌, ◌+◌, length, true, false, IfOk};
 ghost use Rattle.object_program.specs.Limits.{most_locals, most_code};
 ghost use Rattle.object_program.specs.Name.{is_name};
 ghost use Rattle.object_program.specs.Line.{is_instruction, operands_of};
-ghost use Rattle.object_program.specs.Reading.{operand, local_at, object_at, target_among, instruction_on};
+ghost use Rattle.object_program.specs.Reading.{operand, local_at, object_at, target_among};
 ghost use Rattle.object_program.specs.Refusal.{is_bad_number, some_operand};
+ghost use Rattle.object_program.specs.inner.Added.{local_added, code_added};
 ghost use Rattle.object_program.specs.inner.Left.{words_in};
-ghost use Rattle.object_program.specs.inner.Steps.{text_of, thread_of, IsAheadOf};
+ghost use Rattle.object_program.specs.inner.Steps.{text_of, thread_of, thread_to, IsInstructionOn};
 
 use crate::keyword::Keyword;
 use crate::name::name_of;
@@ -51,8 +52,7 @@ pub fn instruction_on(
     requires instruction { is_instruction keyword ≡ true }
     requires count { (length (words_in operands.now) == length (operands_of keyword)) ≡ true }
     requires numbers { some_operand is_bad_number (operands_of keyword) (words_in operands.now) ≡ false }
-    ensures { (later : List (List ℕ)) → IsAheadOf section.now later (words_in operands.now) keyword
-        → result ≡ instruction_on (text_of declared.now) (thread_of section.now) later (words_in operands.now) keyword }
+    ensures { IsInstructionOn declared.now section.now (words_in operands.now) keyword result }
 {
     let x = local_at(section, operands, 0);
     let y = local_at(section, operands, 1);
@@ -113,8 +113,7 @@ pub fn instruction_on(
 pub fn with_local(section: Section, operands: &[u8]) -> Result<Section, NoMemory>
     requires name { is_name (operand (words_in operands.now) 0) ≡ true }
     requires room { length section.locals < most_locals }
-    ensures thread { IfOk result (λ s. thread_of s
-        ≡ record (thread_of section) { locals = section.locals ++ operand (words_in operands.now) 0 ∷ [] }) }
+    ensures thread { IfOk result (λ s. thread_of s ≡ local_added (thread_of section) (words_in operands.now)) }
     ensures labels { IfOk result (λ s. s.labels ≡ section.labels) }
 {
     let Section {
@@ -137,7 +136,7 @@ pub fn with_local(section: Section, operands: &[u8]) -> Result<Section, NoMemory
 /// Behind the line of one more label.
 pub fn with_label(mut section: Section) -> Section
     requires { section.declared < length section.labels }
-    ensures thread { thread_of result ≡ record (thread_of section) { labels = take (section.declared + 1) section.labels } }
+    ensures thread { thread_of result ≡ thread_to section (section.declared + 1) }
     ensures labels { result.labels ≡ section.labels }
 {
     section.declared += 1;
@@ -147,7 +146,7 @@ pub fn with_label(mut section: Section) -> Section
 /// With one more instruction. Where memory is wanting, `NoMemory`.
 pub fn with_code(mut section: Section, code: Code) -> Result<Section, NoMemory>
     requires { length section.code.items < most_code }
-    ensures thread { IfOk result (λ s. thread_of s ≡ record (thread_of section) { code = section.code.items ++ code ∷ [] }) }
+    ensures thread { IfOk result (λ s. thread_of s ≡ code_added (thread_of section) code) }
     ensures labels { IfOk result (λ s. s.labels ≡ section.labels) }
 {
     match section.code.push(code) {

@@ -1,9 +1,9 @@
 //! The words of a line.
 
-ghost use Rattle.std.specs.Prelude.{◌≡◌, ◌==◌, ◌<◌, true, false, position, ℕ, List, [], ◌∷◌, length, MatchOption, IfSome, option_copied};
+ghost use Rattle.std.specs.Prelude.{◌≡◌, ◌==◌, ◌<◌, position, [], ◌∷◌, length, MatchOption, IfSome, option_copied};
 ghost use Rattle.std.specs.List.{list_all, before_first};
 ghost use Rattle.object_program.specs.Text.{is_text_byte, is_blank};
-ghost use Rattle.object_program.specs.inner.Left.{words_in, words_from, words_behind};
+ghost use Rattle.object_program.specs.inner.Left.{words_in, words_from, words_behind, IsOnlyWord};
 ghost use Rattle.object_program.specs.Reading.{operand};
 
 /// Where the comment starts.
@@ -88,8 +88,7 @@ pub fn has_no_word(text: &[u8]) -> bool
 
 /// The only word; `None` where there are none or more.
 pub fn one_word(text: &[u8]) -> Option<&[u8]>
-    ensures { MatchOption result ((length (words_in text.now) == 1) ≡ false)
-        (λ w. ((length (words_in text.now) == 1) ≡ true) × (operand (words_in text.now) 0 ≡ w.now)) }
+    ensures { IsOnlyWord (words_in text.now) (option_copied result) }
 {
     let Some((first, rest)) = next_word(text) else {
         return None;

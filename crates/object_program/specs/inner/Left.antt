@@ -1,7 +1,8 @@
 -- What is left of a text while it is read.
-use Rattle.std.specs.Prelude.{◌==◌, ℕ, not, List, [], ◌∷◌, filter, length, Option, Some, None, if◌then◌else◌}
+use Rattle.std.specs.Prelude.{◌≡◌, ◌==◌, ℕ, true, false, not, List, [], ◌∷◌, filter, length, Option, Some, None, MatchOption, if◌then◌else◌}
 use Rattle.std.specs.List.{slice_split}
 use Rattle.object_program.specs.Text.{is_blank, is_empty}
+use Rattle.object_program.specs.Reading.{operand}
 use Rattle.object_program.specs.Refusal.{lines_of}
 
 -- the lines of what is left; behind the last line nothing is left
@@ -21,3 +22,7 @@ words_behind (Some text) = words_in text
 -- the words of a line that begins with these bytes and a blank
 abbrev pub words_from : List ℕ → Option (List ℕ) → List (List ℕ)
 words_from part rest = if length part == 0 then words_behind rest else part ∷ words_behind rest
+
+-- the only one of these words, if they are no others
+abbrev pub IsOnlyWord : List (List ℕ) → Option (List ℕ) → Type 0
+IsOnlyWord ws only = MatchOption only ((length ws == 1) ≡ false) (λ w. ((length ws == 1) ≡ true) × (operand ws 0 ≡ w))
