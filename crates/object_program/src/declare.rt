@@ -7,7 +7,6 @@ ghost use Rattle.object_program.specs.Program.{total_of};
 ghost use Rattle.object_program.specs.Reading.{operand, new_thread, labels_ahead};
 ghost use Rattle.object_program.specs.inner.Added.{class_added, objects_added, thread_added};
 ghost use Rattle.object_program.specs.inner.Signs.{is_count};
-ghost use Rattle.object_program.specs.inner.Left.{words_in};
 ghost use Rattle.object_program.specs.inner.Steps.{text_of, thread_of};
 
 use crate::directory::Directory;
@@ -17,19 +16,19 @@ use crate::name::name_of;
 use crate::number::count_of;
 use crate::program::{ClassDef, ObjectDef, ThreadDef};
 use crate::state::{Declared, Section};
-use crate::text::word_at;
+use crate::words::Words;
 use plain_monitor::NoMemory;
 use std::alloc::Global;
 
 /// With the class of a `class` line with these operands.
-pub fn with_class(declared: Declared, operands: &[u8]) -> Result<Declared, NoMemory>
-    requires name { is_name (operand (words_in operands.now) 0) ≡ true }
-    requires slots { is_count (operand (words_in operands.now) 1) ≡ true }
+pub fn with_class(declared: Declared, operands: &Words<'_>) -> Result<Declared, NoMemory>
+    requires name { is_name (operand operands.now 0) ≡ true }
+    requires slots { is_count (operand operands.now 1) ≡ true }
     requires room { length declared.classes < most_classes }
-    ensures { IfOk result (λ d. text_of d ≡ class_added (text_of declared) (words_in operands.now)) }
+    ensures { IfOk result (λ d. text_of d ≡ class_added (text_of declared) operands.now) }
 {
-    let name = name_of(word_at(operands, 0));
-    let slots = count_of(word_at(operands, 1));
+    let name = name_of(operands.word(0));
+    let slots = count_of(operands.word(1));
     let Declared {
         classes,
         objects,
@@ -48,17 +47,17 @@ pub fn with_class(declared: Declared, operands: &[u8]) -> Result<Declared, NoMem
 /// With the objects of an `object` or an `array` line with these operands, as many as `size`.
 pub fn with_objects(
     declared: Declared,
-    operands: &[u8],
+    operands: &Words<'_>,
     size: u32,
     array: bool,
 ) -> Result<Declared, NoMemory>
-    requires name { is_name (operand (words_in operands.now) 0) ≡ true }
+    requires name { is_name (operand operands.now 0) ≡ true }
     requires some { 1 ≤ size }
     requires room { total_of declared.objects + size ≤ most_objects }
-    ensures { IfOk result (λ d. text_of d ≡ objects_added (text_of declared) (words_in operands.now) size array) }
+    ensures { IfOk result (λ d. text_of d ≡ objects_added (text_of declared) operands.now size array) }
 {
-    let name = name_of(word_at(operands, 0));
-    let class = declared.classes.number_of(word_at(operands, 1));
+    let name = name_of(operands.word(0));
+    let class = declared.classes.number_of(operands.word(1));
     let Declared {
         classes,
         objects,
@@ -100,14 +99,18 @@ pub fn with_thread(declared: Declared, thread: ThreadDef) -> Result<Declared, No
 }
 
 /// The section that a `thread` line with these operands opens, with these lines behind it.
-pub fn new_section(alloc: Global, operands: &[u8], later: &Lines<'_>) -> Result<Section, NoMemory>
-    requires { is_name (operand (words_in operands.now) 0) ≡ true }
-    ensures thread { IfOk result (λ s. thread_of s ≡ new_thread (operand (words_in operands.now) 0)) }
+pub fn new_section(
+    alloc: Global,
+    operands: &Words<'_>,
+    later: &Lines<'_>,
+) -> Result<Section, NoMemory>
+    requires { is_name (operand operands.now 0) ≡ true }
+    ensures thread { IfOk result (λ s. thread_of s ≡ new_thread (operand operands.now 0)) }
     ensures labels { IfOk result (λ s. s.labels ≡ labels_ahead 1 later.now) }
 {
     let labels = labels_ahead(alloc, later)?;
     Ok(Section {
-        name: name_of(word_at(operands, 0)),
+        name: name_of(operands.word(0)),
         locals: Directory::new(alloc),
         labels,
         declared: 0,

@@ -6,7 +6,6 @@ ghost use Rattle.object_program.specs.Reading.{first_keyword, label_of, labels_a
 ghost use Rattle.object_program.specs.Refusal.{is_closed};
 ghost use Rattle.object_program.specs.Limits.{most_bytes};
 ghost use Rattle.object_program.specs.inner.Labels.{labels_of_line};
-ghost use Rattle.object_program.specs.inner.Left.{words_in};
 
 use crate::directory::Directory;
 use crate::keyword::Keyword;
@@ -14,7 +13,7 @@ use crate::lines::Lines;
 use crate::name::Name;
 use crate::program::LabelDef;
 use crate::spelling::{ends_section, is_end, is_instruction, keyword_of};
-use crate::text::{next_word, one_word, without_comment};
+use crate::words::Words;
 use plain_monitor::NoMemory;
 use std::alloc::Global;
 
@@ -68,18 +67,19 @@ fn with_labels_on(
 fn label_on(line: &[u8], number: u32) -> Option<LabelDef>
     ensures { labels_of_line number line.now ≡ option_to_list result }
 {
-    let (word, operands) = next_word(without_comment(line))?;
+    let mut words = Words::of(line);
+    let word = words.next()?;
     match keyword_of(word) {
-        Some(Keyword::Label) => label_of(operands, number),
+        Some(Keyword::Label) => label_of(&words, number),
         _ => None,
     }
 }
 
 /// The label of a `label` line with these operands, if they are a name and nothing else.
-fn label_of(operands: &[u8], number: u32) -> Option<LabelDef>
-    ensures { label_of number (words_in operands.now) ≡ option_to_list result }
+fn label_of(operands: &Words<'_>, number: u32) -> Option<LabelDef>
+    ensures { label_of number operands.now ≡ option_to_list result }
 {
-    let name = Name::new(one_word(operands)?)?;
+    let name = Name::new(operands.only()?)?;
     Some(LabelDef {
         name,
         index: number,
@@ -101,6 +101,6 @@ fn number_behind_line(number: u32, keyword: Option<Keyword>) -> u32
 fn first_keyword(line: &[u8]) -> Option<Keyword>
     ensures { result ≡ first_keyword (words_of line.now) }
 {
-    let (word, _) = next_word(without_comment(line))?;
-    keyword_of(word)
+    let mut words = Words::of(line);
+    keyword_of(words.next()?)
 }

@@ -22,7 +22,7 @@ mod section;
 mod shape;
 mod spelling;
 mod state;
-mod text;
+mod words;
 mod write;
 
 pub use directory::{Directory, Named};

@@ -2,7 +2,8 @@
 
 ghost use Rattle.std.specs.Prelude.{◌≡◌, ◌+◌, ◌==◌, ◌≤◌, position, [], ◌∷◌, length, MatchOption, option_copied};
 ghost use Rattle.object_program.specs.Limits.{most_bytes};
-ghost use Rattle.object_program.specs.Text.{without_return};
+ghost use Rattle.std.specs.List.{list_all};
+ghost use Rattle.object_program.specs.Text.{without_return, is_text_byte};
 ghost use Rattle.object_program.specs.Refusal.{lines_of};
 ghost use Rattle.object_program.specs.inner.Left.{lines_left};
 
@@ -88,4 +89,12 @@ fn drop_return(line: &[u8]) -> &[u8]
         return front;
     }
     line
+}
+
+/// Whether each byte is a tab or printing ASCII.
+pub fn is_text(line: &[u8]) -> bool
+    ensures { result ≡ list_all is_text_byte line.now }
+{
+    line.iter()
+        .all(|b| *b == b'\t' || (b' ' <= *b && *b <= b'~'))
 }

@@ -5,7 +5,6 @@ ghost use Rattle.object_program.specs.Line.{is_outside};
 ghost use Rattle.object_program.specs.Reading.{nothing};
 ghost use Rattle.object_program.specs.Refusal.{read_from, program_of, lines_of};
 ghost use Rattle.object_program.specs.Limits.{most_bytes};
-ghost use Rattle.object_program.specs.inner.Left.{words_in};
 ghost use Rattle.object_program.specs.inner.Steps.{before_of, text_of, HasAhead, HasAheadOf};
 ghost use Rattle.object_program.specs.inner.Steps.{cause_of, IsBehindKeyword, IsKeywordStep, IsLineStep};
 ghost use Rattle.object_program.specs.inner.Steps.{no_memory, refusal};
@@ -19,13 +18,13 @@ use crate::error::{ProgramError, Why};
 use crate::keyword::Keyword;
 use crate::laws::canonical_texts_are_read_back;
 use crate::limits::BYTES;
-use crate::lines::Lines;
+use crate::lines::{Lines, is_text};
 use crate::number::count_of;
 use crate::program::{Code, Program};
 use crate::section::{closed, instruction_on, with_code, with_label, with_local};
 use crate::spelling::{is_outside, keyword_of};
 use crate::state::{Declared, Reader};
-use crate::text::{is_text, next_word, without_comment, word_at};
+use crate::words::Words;
 use plain_monitor::{List, NoMemory};
 use std::alloc::Global;
 
@@ -34,12 +33,12 @@ fn behind_keyword(
     alloc: Global,
     reader: Reader,
     keyword: Keyword,
-    operands: &[u8],
+    operands: &Words<'_>,
     later: &Lines<'_>,
 ) -> Result<Reader, NoMemory>
-    requires clean { cause_of reader later.now (words_in operands.now) keyword ≡ None }
-    requires ahead { HasAheadOf reader.section later.now (words_in operands.now) keyword }
-    ensures behind { IfOk result (IsBehindKeyword reader later.now (words_in operands.now) keyword) }
+    requires clean { cause_of reader later.now operands.now keyword ≡ None }
+    requires ahead { HasAheadOf reader.section later.now operands.now keyword }
+    ensures behind { IfOk result (IsBehindKeyword reader later.now operands.now keyword) }
     ensures ahead { IfOk result (λ r. HasAhead r.section later.now) }
 {
     if is_outside(keyword) {
@@ -77,13 +76,13 @@ fn behind_declaration(
     alloc: Global,
     reader: Reader,
     keyword: Keyword,
-    operands: &[u8],
+    operands: &Words<'_>,
     later: &Lines<'_>,
 ) -> Result<Reader, NoMemory>
     requires outside { is_outside keyword ≡ true }
-    requires clean { cause_of reader later.now (words_in operands.now) keyword ≡ None }
-    requires ahead { HasAheadOf reader.section later.now (words_in operands.now) keyword }
-    ensures behind { IfOk result (IsBehindKeyword reader later.now (words_in operands.now) keyword) }
+    requires clean { cause_of reader later.now operands.now keyword ≡ None }
+    requires ahead { HasAheadOf reader.section later.now operands.now keyword }
+    ensures behind { IfOk result (IsBehindKeyword reader later.now operands.now keyword) }
     ensures ahead { IfOk result (λ r. HasAhead r.section later.now) }
 {
     let Reader { declared, section } = reader;
@@ -97,7 +96,7 @@ fn behind_declaration(
             section,
         }),
         Keyword::Array => Ok(Reader {
-            declared: with_objects(declared, operands, count_of(word_at(operands, 2)), true)?,
+            declared: with_objects(declared, operands, count_of(operands.word(2)), true)?,
             section,
         }),
         Keyword::Thread => Ok(Reader {
@@ -113,11 +112,11 @@ fn keyword_line(
     alloc: Global,
     reader: Reader,
     keyword: Keyword,
-    operands: &[u8],
+    operands: &Words<'_>,
     later: &Lines<'_>,
 ) -> Result<Reader, Why>
-    requires { HasAheadOf reader.section later.now (words_in operands.now) keyword }
-    ensures step { IsKeywordStep reader later.now (words_in operands.now) keyword result }
+    requires { HasAheadOf reader.section later.now operands.now keyword }
+    ensures step { IsKeywordStep reader later.now operands.now keyword result }
     ensures ahead { IfOk result (λ r. HasAhead r.section later.now) }
 {
     if let Some(why) = keyword_cause(&reader, keyword, operands, later) {
@@ -138,13 +137,14 @@ fn read_line(alloc: Global, reader: Reader, line: &[u8], later: &Lines<'_>) -> R
     if !is_text(line) {
         return Err(Why::NotAscii);
     }
-    let Some((word, operands)) = next_word(without_comment(line)) else {
+    let mut words = Words::of(line);
+    let Some(word) = words.next() else {
         return Ok(reader);
     };
     let Some(keyword) = keyword_of(word) else {
         return Err(Why::UnknownWord);
     };
-    keyword_line(alloc, reader, keyword, operands, later)
+    keyword_line(alloc, reader, keyword, &words, later)
 }
 
 /// The state before the first line.

@@ -23,6 +23,6 @@ words_behind (Some text) = words_in text
 abbrev pub words_from : List ℕ → Option (List ℕ) → List (List ℕ)
 words_from part rest = if length part == 0 then words_behind rest else part ∷ words_behind rest
 
--- the only one of these words, if they are no others
+-- the word that these are, where they are only one
 abbrev pub IsOnlyWord : List (List ℕ) → Option (List ℕ) → Type 0
 IsOnlyWord ws only = MatchOption only ((length ws == 1) ≡ false) (λ w. ((length ws == 1) ≡ true) × (operand ws 0 ≡ w))
