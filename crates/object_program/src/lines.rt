@@ -1,8 +1,8 @@
 //! The lines of a text, one after another.
 
 ghost use Rattle.std.specs.Prelude.{◌≡◌, ◌+◌, ◌==◌, ◌≤◌, position, [], ◌∷◌, length, MatchOption, option_copied};
-ghost use Rattle.object_program.specs.Limits.{most_bytes};
 ghost use Rattle.std.specs.List.{list_all};
+ghost use Rattle.object_program.specs.Limits.{most_bytes};
 ghost use Rattle.object_program.specs.Text.{without_return, is_text_byte};
 ghost use Rattle.object_program.specs.Refusal.{lines_of};
 ghost use Rattle.object_program.specs.inner.Left.{lines_left};
@@ -12,7 +12,7 @@ use std::marker::Model;
 /// The lines of a text that are not read yet. Contracts see their list, without the carriage returns.
 #[derive(Drop)]
 pub struct Lines<'a> {
-    /// What stands behind the line feed of the line that was read last; behind the last line nothing.
+    /// What is left of the text; `None` where its last line is read.
     text: Option<&'a [u8]>,
 }
 

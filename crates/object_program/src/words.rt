@@ -11,7 +11,7 @@ use std::marker::Model;
 /// The words of a line that are not read yet. Contracts see their list.
 #[derive(Drop)]
 pub struct Words<'a> {
-    /// What stands behind the word that was read last, without the line's comment.
+    /// What is left of the line, without its comment.
     text: &'a [u8],
 }
 
