@@ -1,11 +1,14 @@
 -- A list cut at the first element that passes a test.
-use Rattle.std.proofs.Common.{◌≡◌, ℕ, ◌+◌, ◌<◌, ◌≤◌, ◌==◌, Bool, true, false, not, cond, if◌then◌else◌, ltb, List, [], ◌∷◌, ◌++◌, length, take, drop, filter, refl, ap, ◌∙◌, arith, Some, None, get_or, length-drop, add-one, drop-cons}
+use Rattle.std.proofs.Common.{◌≡◌, ℕ, ◌+◌, ◌<◌, ◌≤◌, ◌==◌, Bool, true, false, not, cond, if◌then◌else◌, ltb, List, [], ◌∷◌, ◌++◌, length, take, drop, filter, map, refl, ap, ◌∙◌, arith, Some, None, get_or, length-drop, add-one, drop-cons}
 use Rattle.std.specs.Prelude.{position}
 use Rattle.std.specs.List.{slice_split, position_or_len, before_first}
-use Rattle.std.proofs.lemmas.List.Splits.{slice_split_first}
+use Rattle.std.proofs.lemmas.List.{length-map}
+use Rattle.std.proofs.lemmas.List.Sums.{count_by-le-length}
+use Rattle.std.proofs.lemmas.List.Splits.{slice_split_first, length-slice_split}
 use Rattle.std.proofs.lemmas.Bool.Decides.{nat_tests}
 use Rattle.std.proofs.lemmas.Grind.{common_steps}
-use Rattle.object_program.specs.Text.{without_return, is_blank, is_empty}
+use Rattle.object_program.specs.Text.{raw_lines, without_return, is_blank, is_empty}
+use Rattle.object_program.specs.Refusal.{lines_of}
 use Rattle.object_program.specs.inner.Left.{words_in, words_from}
 
 none_by : (b : Bool) (n m : ℕ) → ltb n m ≡ b → None ≡ cond b (Some n) None → m ≤ n
@@ -79,6 +82,20 @@ without_return_last line front b e = rw e (return_behind front b)
 pub without_return_empty : (line : List ℕ) → length line ≡ 0 → without_return line ≡ line
 without_return_empty [] h = refl
 without_return_empty (b ∷ bs) h = absurd (omega arith)
+
+-- the first line of a text
+pub first_none : (text line : List ℕ) → None ≡ position (λ b. b == 10) text → line ≡ without_return text → lines_of text ≡ line ∷ []
+first_none text line h same = rw same (ap (map without_return) (cut_none (λ b. b == 10) text h))
+
+pub first_some : (text line : List ℕ) (i : ℕ) → Some i ≡ position (λ b. b == 10) text → line ≡ without_return (take i text)
+    → lines_of text ≡ line ∷ lines_of (drop (i + 1) text)
+first_some text line i h same = rw same (ap (map without_return) (cut_some (λ b. b == 10) text i 0 h))
+
+-- a text has at most one line more than it has bytes
+pub lines_few : (text : List ℕ) (n : ℕ) → length text ≤ n → length (lines_of text) ≤ n + 1
+lines_few text n h =
+    let feed : ℕ → Bool = λ b. b == 10 in
+    omega (arith, length-map (raw_lines text) without_return, length-slice_split feed text, count_by-le-length feed text)
 
 -- one more element is passed
 pub drop-tail : {X : Type 0} (xs : List X) (n : ℕ) (x : X) (rest : List X) → x ∷ rest ≡ drop n xs → rest ≡ drop (n + 1) xs

@@ -1,5 +1,5 @@
 -- Numbers as texts write them.
-use Rattle.std.specs.Prelude.{ℕ, ℤ, pos, neg_ℤ, int_le, ◌+◌, ◌-◌, ◌*◌, Bool, false, ◌&&◌, ◌==◌, nat_le, if◌then◌else◌, List, [], ◌∷◌, length, Option, Some, None, option_map}
+use Rattle.std.specs.Prelude.{◌≡◌, ℕ, ℤ, pos, neg_ℤ, int_le, ◌+◌, ◌-◌, ◌*◌, Bool, true, false, ◌&&◌, ◌==◌, nat_le, if◌then◌else◌, List, [], ◌∷◌, length, Option, Some, None, option_map, MatchOption}
 use Rattle.object_program.specs.Name.{is_digit}
 
 -- the number whose digits are those of n and then these
@@ -19,3 +19,8 @@ number_of (b ∷ bs) = if b == 45 then option_map (λ n. neg_ℤ (pos n)) (digit
 abbrev pub is_within : ℤ → ℤ → Option ℤ → Bool
 is_within low high None = false
 is_within low high (Some z) = int_le low z && int_le z high
+
+-- the number from low to high that the word is, if it is one
+abbrev pub IsNumberWithin : ℤ → ℤ → List ℕ → Option ℤ → Type 0
+IsNumberWithin low high word found =
+    MatchOption found (is_within low high (number_of word) ≡ false) (λ z. (is_within low high (number_of word) ≡ true) × (number_of word ≡ Some z))

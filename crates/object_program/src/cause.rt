@@ -1,42 +1,40 @@
 //! Why a line is refused: the lowest-numbered cause that it has.
 
-ghost use Rattle.std.specs.Prelude.{◌≡◌, ◌==◌, pos, true, false, not, Some, length, option_copied};
-ghost use Rattle.object_program.specs.Number.{number_of, is_within};
+ghost use Rattle.std.specs.Prelude.{◌≡◌, ◌==◌, true, false, Some, length};
 ghost use Rattle.object_program.specs.Valid.{is_among};
 ghost use Rattle.object_program.specs.Line.{operands_of};
 ghost use Rattle.object_program.specs.Reading.{operand};
-ghost use Rattle.object_program.specs.Refusal.{names_before, is_bad_name, is_twice, is_bad_number, some_operand, passes_limit, opens_unclosed, is_in_place, keyword_cause};
-ghost use Rattle.object_program.specs.inner.Left.{words_in, lines_ahead};
-ghost use Rattle.object_program.specs.inner.Steps.{before_of, names_collected, is_unknown, fails, HasAheadOf};
+ghost use Rattle.object_program.specs.Refusal.{names_before, is_bad_name, is_twice, is_bad_number, some_operand};
+ghost use Rattle.object_program.specs.Refusal.{passes_limit, opens_unclosed, is_in_place};
+ghost use Rattle.object_program.specs.inner.Steps.{before_of, names_collected, is_unknown, fails, HasAheadOf, cause_of};
 
 use crate::error::Why;
 use crate::keyword::Keyword;
 use crate::labels::is_closed;
 use crate::limits::{CLASSES, CODE, LOCALS, OBJECTS, THREADS};
+use crate::lines::Lines;
 use crate::name::Name;
 use crate::number::{count_of, number_within};
 use crate::operand::{Operand, Space, Test, operands_of};
 use crate::spelling::is_outside;
 use crate::state::Reader;
-use crate::text::{has_words, next_word, word_at};
+use crate::words::Words;
 
 /// The cause of a line with this keyword and these operands, with these lines behind it.
 pub fn keyword_cause(
     reader: &Reader,
     keyword: Keyword,
-    operands: &[u8],
-    later: Option<&[u8]>,
+    operands: &Words<'_>,
+    later: &Lines<'_>,
 ) -> Option<Why>
-    requires { HasAheadOf reader.now.section (lines_ahead (option_copied later)) (words_in operands.now) keyword }
-    ensures { result
-        ≡ keyword_cause (before_of reader.now) (lines_ahead (option_copied later.entry)) (words_in operands.now)
-        (Some keyword) }
+    requires { HasAheadOf reader.now.section later.now operands.now keyword }
+    ensures { result ≡ cause_of reader.now later.now operands.now keyword }
 {
     if !is_in_place(reader, keyword) {
         return Some(Why::UnknownWord);
     }
     let kinds = operands_of(keyword);
-    if !has_words(operands, kinds.len()) {
+    if !operands.count_is(kinds.len()) {
         return Some(Why::Operands);
     }
     if some_operand(Test::BadName, reader, kinds, operands) {
@@ -68,18 +66,17 @@ fn is_in_place(reader: &Reader, keyword: Keyword) -> bool
 }
 
 /// Whether some operand fails the test.
-fn some_operand(test: Test, reader: &Reader, kinds: &[Operand], operands: &[u8]) -> bool
-    ensures { result ≡ some_operand (λ o w. fails test reader.now o w) kinds.now (words_in operands.now) }
+fn some_operand(test: Test, reader: &Reader, kinds: &[Operand], operands: &Words<'_>) -> bool
+    ensures { result ≡ some_operand (λ o w. fails test reader.now o w) kinds.now operands.now }
 {
-    let mut left = operands;
+    let mut left = operands.again();
     for kind in kinds {
-        let Some((word, rest)) = next_word(left) else {
+        let Some(word) = left.next() else {
             return false;
         };
         if fails(test, reader, *kind, word) {
             return true;
         }
-        left = rest;
     }
     false
 }
@@ -175,16 +172,16 @@ fn is_collected(reader: &Reader, space: Space, word: &[u8]) -> bool
 }
 
 /// Whether the line would pass a limit.
-fn passes_limit(reader: &Reader, keyword: Keyword, operands: &[u8]) -> bool
-    requires numbers { some_operand is_bad_number (operands_of keyword) (words_in operands.now) ≡ false }
-    requires count { (length (words_in operands.now) == length (operands_of keyword)) ≡ true }
-    ensures { result ≡ passes_limit (before_of reader.now) (words_in operands.now) keyword }
+fn passes_limit(reader: &Reader, keyword: Keyword, operands: &Words<'_>) -> bool
+    requires numbers { some_operand is_bad_number (operands_of keyword) operands.now ≡ false }
+    requires count { (length operands.now == length (operands_of keyword)) ≡ true }
+    ensures { result ≡ passes_limit (before_of reader.now) operands.now keyword }
 {
     let declared = &reader.declared;
     match keyword {
         Keyword::Class => declared.classes.items().len() >= CLASSES,
         Keyword::Object => declared.total + 1 > OBJECTS,
-        Keyword::Array => declared.total + count_of(word_at(operands, 2)) > OBJECTS,
+        Keyword::Array => declared.total + count_of(operands.word(2)) > OBJECTS,
         Keyword::Thread => declared.threads.items().len() >= THREADS,
         Keyword::Local => match &reader.section {
             None => false,
@@ -199,8 +196,8 @@ fn passes_limit(reader: &Reader, keyword: Keyword, operands: &[u8]) -> bool
 }
 
 /// Whether the line opens a section that isn't closed.
-fn opens_unclosed(keyword: Keyword, later: Option<&[u8]>) -> bool
-    ensures { result ≡ opens_unclosed (lines_ahead (option_copied later.entry)) keyword }
+fn opens_unclosed(keyword: Keyword, later: &Lines<'_>) -> bool
+    ensures { result ≡ opens_unclosed later.now keyword }
 {
     match keyword {
         Keyword::Thread => !is_closed(later),

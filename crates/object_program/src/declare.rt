@@ -1,37 +1,34 @@
 //! What a line outside sections declares, where it has no cause of refusal.
 
-ghost use Rattle.std.specs.Prelude.{◌≡◌, ◌<◌, ◌≤◌, ◌+◌, pos, [], ◌∷◌, ◌++◌, length, true, IfOk, option_copied};
+ghost use Rattle.std.specs.Prelude.{◌≡◌, ◌<◌, ◌≤◌, ◌+◌, length, true, IfOk};
 ghost use Rattle.object_program.specs.Limits.{most_classes, most_objects};
 ghost use Rattle.object_program.specs.Name.{is_name};
-ghost use Rattle.object_program.specs.Number.{number_of, is_within};
 ghost use Rattle.object_program.specs.Program.{total_of};
-ghost use Rattle.object_program.specs.Reading.{operand, count_at, declared_objects, new_thread, labels_ahead};
-ghost use Rattle.object_program.specs.inner.Left.{words_in, lines_ahead, IsOfText};
+ghost use Rattle.object_program.specs.Reading.{operand, new_thread, labels_ahead};
+ghost use Rattle.object_program.specs.inner.Added.{class_added, objects_added, thread_added};
+ghost use Rattle.object_program.specs.inner.Signs.{is_count};
 ghost use Rattle.object_program.specs.inner.Steps.{text_of, thread_of};
 
 use crate::directory::Directory;
 use crate::labels::labels_ahead;
+use crate::lines::Lines;
 use crate::name::name_of;
 use crate::number::count_of;
 use crate::program::{ClassDef, ObjectDef, ThreadDef};
 use crate::state::{Declared, Section};
-use crate::text::word_at;
+use crate::words::Words;
 use plain_monitor::NoMemory;
 use std::alloc::Global;
 
 /// With the class of a `class` line with these operands.
-pub fn with_class(declared: Declared, operands: &[u8]) -> Result<Declared, NoMemory>
-    requires name { is_name (operand (words_in operands.now) 0) ≡ true }
-    requires slots { is_within (pos 0) (pos most_objects) (number_of (operand (words_in operands.now) 1)) ≡ true }
+pub fn with_class(declared: Declared, operands: &Words<'_>) -> Result<Declared, NoMemory>
+    requires name { is_name (operand operands.now 0) ≡ true }
+    requires slots { is_count (operand operands.now 1) ≡ true }
     requires room { length declared.classes < most_classes }
-    ensures { IfOk result (λ d. text_of d
-        ≡ record (text_of declared) {
-          classes = declared.classes
-              ++ record { name = operand (words_in operands.now) 0; slots = count_at (words_in operands.now) 1 } ∷ [];
-        }) }
+    ensures { IfOk result (λ d. text_of d ≡ class_added (text_of declared) operands.now) }
 {
-    let name = name_of(word_at(operands, 0));
-    let slots = count_of(word_at(operands, 1));
+    let name = name_of(operands.word(0));
+    let slots = count_of(operands.word(1));
     let Declared {
         classes,
         objects,
@@ -50,21 +47,17 @@ pub fn with_class(declared: Declared, operands: &[u8]) -> Result<Declared, NoMem
 /// With the objects of an `object` or an `array` line with these operands, as many as `size`.
 pub fn with_objects(
     declared: Declared,
-    operands: &[u8],
+    operands: &Words<'_>,
     size: u32,
     array: bool,
 ) -> Result<Declared, NoMemory>
-    requires name { is_name (operand (words_in operands.now) 0) ≡ true }
+    requires name { is_name (operand operands.now 0) ≡ true }
     requires some { 1 ≤ size }
     requires room { total_of declared.objects + size ≤ most_objects }
-    ensures { IfOk result (λ d. text_of d
-        ≡ record (text_of declared) {
-          objects = declared.objects
-              ++ declared_objects (text_of declared) (words_in operands.now) size array ∷ [];
-        }) }
+    ensures { IfOk result (λ d. text_of d ≡ objects_added (text_of declared) operands.now size array) }
 {
-    let name = name_of(word_at(operands, 0));
-    let class = declared.classes.number_of(word_at(operands, 1));
+    let name = name_of(operands.word(0));
+    let class = declared.classes.number_of(operands.word(1));
     let Declared {
         classes,
         objects,
@@ -88,7 +81,7 @@ pub fn with_objects(
 
 /// With one more thread.
 pub fn with_thread(declared: Declared, thread: ThreadDef) -> Result<Declared, NoMemory>
-    ensures { IfOk result (λ d. text_of d ≡ record (text_of declared) { threads = declared.threads ++ thread ∷ [] }) }
+    ensures { IfOk result (λ d. text_of d ≡ thread_added (text_of declared) thread) }
 {
     let Declared {
         classes,
@@ -105,20 +98,19 @@ pub fn with_thread(declared: Declared, thread: ThreadDef) -> Result<Declared, No
     })
 }
 
-/// The section that a `thread` line with these operands opens, with these lines behind it. They have at most 1,048,576 bytes.
+/// The section that a `thread` line with these operands opens, with these lines behind it.
 pub fn new_section(
     alloc: Global,
-    operands: &[u8],
-    later: Option<&[u8]>,
+    operands: &Words<'_>,
+    later: &Lines<'_>,
 ) -> Result<Section, NoMemory>
-    requires name { is_name (operand (words_in operands.now) 0) ≡ true }
-    requires few { IsOfText (option_copied later) }
-    ensures thread { IfOk result (λ s. thread_of s ≡ new_thread (operand (words_in operands.now) 0)) }
-    ensures labels { IfOk result (λ s. s.labels ≡ labels_ahead 1 (lines_ahead (option_copied later.entry))) }
+    requires { is_name (operand operands.now 0) ≡ true }
+    ensures thread { IfOk result (λ s. thread_of s ≡ new_thread (operand operands.now 0)) }
+    ensures labels { IfOk result (λ s. s.labels ≡ labels_ahead 1 later.now) }
 {
     let labels = labels_ahead(alloc, later)?;
     Ok(Section {
-        name: name_of(word_at(operands, 0)),
+        name: name_of(operands.word(0)),
         locals: Directory::new(alloc),
         labels,
         declared: 0,

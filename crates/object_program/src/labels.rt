@@ -1,56 +1,50 @@
 //! The lines ahead of a section: where it ends, and its labels, which may stand on any of its lines.
 
-ghost use Rattle.std.specs.Prelude.{◌≡◌, ◌≤◌, ◌+◌, ◌==◌, if◌then◌else◌, ◌++◌, [], ◌∷◌, length, IfOk, option_copied, option_to_list};
+ghost use Rattle.std.specs.Prelude.{◌≡◌, ◌≤◌, ◌+◌, ◌++◌, IfOk, option_to_list};
 ghost use Rattle.object_program.specs.Text.{words_of};
-ghost use Rattle.object_program.specs.Reading.{first_keyword, label_of, labels_on, labels_ahead, number_behind_line};
+ghost use Rattle.object_program.specs.Reading.{first_keyword, label_of, labels_ahead, number_behind_line};
 ghost use Rattle.object_program.specs.Refusal.{is_closed};
 ghost use Rattle.object_program.specs.Limits.{most_bytes};
-ghost use Rattle.object_program.specs.inner.Left.{words_in, lines_ahead, IsOfText};
+ghost use Rattle.object_program.specs.inner.Labels.{labels_of_line};
 
 use crate::directory::Directory;
 use crate::keyword::Keyword;
+use crate::lines::Lines;
 use crate::name::Name;
 use crate::program::LabelDef;
 use crate::spelling::{ends_section, is_end, is_instruction, keyword_of};
-use crate::text::{drop_return, next_line, next_word, one_word, without_comment};
+use crate::words::Words;
 use plain_monitor::NoMemory;
 use std::alloc::Global;
 
 /// Whether the section that these lines begin with is closed by its `end`.
-pub fn is_closed(lines: Option<&[u8]>) -> bool
-    ensures { result ≡ is_closed (lines_ahead (option_copied lines.entry)) }
+pub fn is_closed(lines: &Lines<'_>) -> bool
+    ensures { result ≡ is_closed lines.now }
 {
-    let mut left = lines;
-    'lines: while let Some(text) = left {
-        let (line, rest) = next_line(text);
-        let keyword = first_keyword(drop_return(line));
+    let mut left = lines.again();
+    'lines: while let Some(line) = left.next() {
+        let keyword = first_keyword(line);
         if ends_section(keyword) {
             return is_end(keyword);
         }
-        left = rest;
     }
     false
 }
 
-/// All labels of the section that these lines begin with, in their order. The lines have at most 1,048,576 bytes. Where memory
-/// is wanting, `NoMemory`.
-pub fn labels_ahead(alloc: Global, lines: Option<&[u8]>) -> Result<Directory<LabelDef>, NoMemory>
-    requires { IsOfText (option_copied lines) }
-    ensures { IfOk result (λ labels. labels ≡ labels_ahead 1 (lines_ahead (option_copied lines.entry))) }
+/// All labels of the section that these lines begin with, in their order. Where memory is wanting, `NoMemory`.
+pub fn labels_ahead(alloc: Global, lines: &Lines<'_>) -> Result<Directory<LabelDef>, NoMemory>
+    ensures { IfOk result (λ labels. labels ≡ labels_ahead 1 lines.now) }
 {
     let mut labels = Directory::new(alloc);
     let mut number: u32 = 1;
-    let mut left = lines;
-    'lines: while let Some(text) = left {
-        let (line, rest) = next_line(text);
-        let line = drop_return(line);
+    let mut left = lines.again();
+    'lines: while let Some(line) = left.next() {
         let keyword = first_keyword(line);
         if ends_section(keyword) {
             return Ok(labels);
         }
         labels = with_labels_on(labels, line, number)?;
         number = number_behind_line(number, keyword);
-        left = rest;
     }
     Ok(labels)
 }
@@ -61,7 +55,7 @@ fn with_labels_on(
     line: &[u8],
     number: u32,
 ) -> Result<Directory<LabelDef>, NoMemory>
-    ensures { IfOk result (λ d. d ≡ labels ++ labels_on number (words_of line.now) (first_keyword (words_of line.now))) }
+    ensures { IfOk result (λ d. d ≡ labels ++ labels_of_line number line.now) }
 {
     match label_on(line, number) {
         Some(label) => labels.with(label),
@@ -71,20 +65,21 @@ fn with_labels_on(
 
 /// The label that the line declares for the instruction with this number, if it declares one.
 fn label_on(line: &[u8], number: u32) -> Option<LabelDef>
-    ensures { labels_on number (words_of line.now) (first_keyword (words_of line.now)) ≡ option_to_list result }
+    ensures { labels_of_line number line.now ≡ option_to_list result }
 {
-    let (word, operands) = next_word(without_comment(line))?;
+    let mut words = Words::of(line);
+    let word = words.next()?;
     match keyword_of(word) {
-        Some(Keyword::Label) => label_of(operands, number),
+        Some(Keyword::Label) => label_of(&words, number),
         _ => None,
     }
 }
 
 /// The label of a `label` line with these operands, if they are a name and nothing else.
-fn label_of(operands: &[u8], number: u32) -> Option<LabelDef>
-    ensures { label_of number (words_in operands.now) ≡ option_to_list result }
+fn label_of(operands: &Words<'_>, number: u32) -> Option<LabelDef>
+    ensures { label_of number operands.now ≡ option_to_list result }
 {
-    let name = Name::new(one_word(operands)?)?;
+    let name = Name::new(operands.only()?)?;
     Some(LabelDef {
         name,
         index: number,
@@ -106,6 +101,6 @@ fn number_behind_line(number: u32, keyword: Option<Keyword>) -> u32
 fn first_keyword(line: &[u8]) -> Option<Keyword>
     ensures { result ≡ first_keyword (words_of line.now) }
 {
-    let (word, _) = next_word(without_comment(line))?;
-    keyword_of(word)
+    let mut words = Words::of(line);
+    keyword_of(words.next()?)
 }

@@ -12,6 +12,7 @@ mod keyword;
 mod labels;
 mod laws;
 mod limits;
+mod lines;
 mod name;
 mod number;
 mod operand;
@@ -21,7 +22,7 @@ mod section;
 mod shape;
 mod spelling;
 mod state;
-mod text;
+mod words;
 mod write;
 
 pub use directory::{Directory, Named};

@@ -1,10 +1,10 @@
 //! Numbers.
 
-ghost use Rattle.std.specs.Prelude.{◌≡◌, ◌≤◌, ℤ, ℕ, pos, nat_abs, ◌≤ℤ◌, int_le, ◌&&◌, Some, None, true, false, option_map, unwrap_or, MatchOption};
+ghost use Rattle.std.specs.Prelude.{◌≡◌, ◌≤◌, int_le, ◌&&◌, Some, None, true, option_map};
 ghost use Rattle.plain_monitor.specs.Numbers.{least_number, greatest_number};
 ghost use Rattle.object_program.specs.Limits.{most_objects};
-ghost use Rattle.object_program.specs.Number.{digits_of, number_of, is_within};
-ghost use Rattle.object_program.specs.inner.Signs.{signed, has_size};
+ghost use Rattle.object_program.specs.Number.{digits_of, number_of, is_within, IsNumberWithin};
+ghost use Rattle.object_program.specs.inner.Signs.{signed, has_size, is_count, count_in};
 
 use crate::limits::OBJECTS;
 use crate::name::is_digit;
@@ -60,8 +60,7 @@ fn is_between(number: i128, low: i64, high: i64) -> bool
 
 /// The number from `low` to `high` that the word is, if it is one.
 pub fn number_within(word: &[u8], low: i64, high: i64) -> Option<i64>
-    ensures { MatchOption result (is_within low high (number_of word.now) ≡ false)
-        (λ z. (is_within low high (number_of word.now) ≡ true) × (number_of word.now ≡ Some z)) }
+    ensures { IsNumberWithin low high word.now result }
 {
     let Some((negative, size)) = sign_and_size(word) else {
         return None;
@@ -86,8 +85,7 @@ pub fn number_of(word: &[u8]) -> i64
 
 /// The number that the word is, where that is from 0 to 4,096, more than which nothing in a text counts; else 0.
 pub fn count_of(word: &[u8]) -> u32
-    ensures count { is_within (pos 0) (pos most_objects) (number_of word.now) ≡ true
-        → result ≡ nat_abs (unwrap_or (number_of word.now) (pos 0)) }
+    ensures count { is_count word.now ≡ true → result ≡ count_in word.now }
     ensures few { result ≤ most_objects }
 {
     match number_within(word, 0, OBJECTS as i64) {

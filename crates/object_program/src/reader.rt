@@ -1,12 +1,13 @@
 //! The reader of programs: a pass over the lines, which looks ahead once at each `thread` line.
 
-ghost use Rattle.std.specs.Prelude.{◌≡◌, ◌⊎◌, ◌≤◌, ◌∷◌, true, length, Some, None, Ok, Err, IfOk, IfErr, option_copied};
+ghost use Rattle.std.specs.Prelude.{◌≡◌, ◌⊎◌, ◌≤◌, ◌∷◌, true, length, Some, None, Ok, Err, IfOk, IfErr};
 ghost use Rattle.object_program.specs.Line.{is_outside};
-ghost use Rattle.object_program.specs.Reading.{nothing, behind_keyword, behind_line};
-ghost use Rattle.object_program.specs.Refusal.{keyword_cause, line_cause, read_from, program_of, lines_of};
+ghost use Rattle.object_program.specs.Reading.{nothing};
+ghost use Rattle.object_program.specs.Refusal.{read_from, program_of, lines_of};
 ghost use Rattle.object_program.specs.Limits.{most_bytes};
-ghost use Rattle.object_program.specs.inner.Left.{words_in, lines_ahead, IsOfText};
-ghost use Rattle.object_program.specs.inner.Steps.{before_of, text_of, HasAhead, HasAheadOf, IsStep, refusal};
+ghost use Rattle.object_program.specs.inner.Steps.{before_of, text_of, HasAhead, HasAheadOf};
+ghost use Rattle.object_program.specs.inner.Steps.{cause_of, IsBehindKeyword, IsKeywordStep, IsLineStep};
+ghost use Rattle.object_program.specs.inner.Steps.{no_memory, refusal};
 ghost use Rattle.object_program.specs.Canonical.{canonical};
 ghost use Rattle.object_program.specs.Valid.{IsProgram};
 
@@ -17,12 +18,13 @@ use crate::error::{ProgramError, Why};
 use crate::keyword::Keyword;
 use crate::laws::canonical_texts_are_read_back;
 use crate::limits::BYTES;
+use crate::lines::{Lines, is_text};
 use crate::number::count_of;
 use crate::program::{Code, Program};
 use crate::section::{closed, instruction_on, with_code, with_label, with_local};
 use crate::spelling::{is_outside, keyword_of};
 use crate::state::{Declared, Reader};
-use crate::text::{drop_return, is_text, next_line, next_word, without_comment, word_at};
+use crate::words::Words;
 use plain_monitor::{List, NoMemory};
 use std::alloc::Global;
 
@@ -31,16 +33,13 @@ fn behind_keyword(
     alloc: Global,
     reader: Reader,
     keyword: Keyword,
-    operands: &[u8],
-    later: Option<&[u8]>,
+    operands: &Words<'_>,
+    later: &Lines<'_>,
 ) -> Result<Reader, NoMemory>
-    requires clean { keyword_cause (before_of reader) (lines_ahead (option_copied later)) (words_in operands.now)
-        (Some keyword) ≡ None }
-    requires ahead { HasAheadOf reader.section (lines_ahead (option_copied later)) (words_in operands.now) keyword }
-    requires few { IsOfText (option_copied later) }
-    ensures behind { IfOk result (λ r. before_of r
-        ≡ behind_keyword (before_of reader) (lines_ahead (option_copied later.entry)) (words_in operands.now) keyword) }
-    ensures ahead { IfOk result (λ r. HasAhead r.section (lines_ahead (option_copied later.entry))) }
+    requires clean { cause_of reader later.now operands.now keyword ≡ None }
+    requires ahead { HasAheadOf reader.section later.now operands.now keyword }
+    ensures behind { IfOk result (IsBehindKeyword reader later.now operands.now keyword) }
+    ensures ahead { IfOk result (λ r. HasAhead r.section later.now) }
 {
     if is_outside(keyword) {
         return behind_declaration(alloc, reader, keyword, operands, later);
@@ -77,17 +76,14 @@ fn behind_declaration(
     alloc: Global,
     reader: Reader,
     keyword: Keyword,
-    operands: &[u8],
-    later: Option<&[u8]>,
+    operands: &Words<'_>,
+    later: &Lines<'_>,
 ) -> Result<Reader, NoMemory>
     requires outside { is_outside keyword ≡ true }
-    requires clean { keyword_cause (before_of reader) (lines_ahead (option_copied later)) (words_in operands.now)
-        (Some keyword) ≡ None }
-    requires ahead { HasAheadOf reader.section (lines_ahead (option_copied later)) (words_in operands.now) keyword }
-    requires few { IsOfText (option_copied later) }
-    ensures behind { IfOk result (λ r. before_of r
-        ≡ behind_keyword (before_of reader) (lines_ahead (option_copied later.entry)) (words_in operands.now) keyword) }
-    ensures ahead { IfOk result (λ r. HasAhead r.section (lines_ahead (option_copied later.entry))) }
+    requires clean { cause_of reader later.now operands.now keyword ≡ None }
+    requires ahead { HasAheadOf reader.section later.now operands.now keyword }
+    ensures behind { IfOk result (IsBehindKeyword reader later.now operands.now keyword) }
+    ensures ahead { IfOk result (λ r. HasAhead r.section later.now) }
 {
     let Reader { declared, section } = reader;
     match keyword {
@@ -100,7 +96,7 @@ fn behind_declaration(
             section,
         }),
         Keyword::Array => Ok(Reader {
-            declared: with_objects(declared, operands, count_of(word_at(operands, 2)), true)?,
+            declared: with_objects(declared, operands, count_of(operands.word(2)), true)?,
             section,
         }),
         Keyword::Thread => Ok(Reader {
@@ -116,16 +112,12 @@ fn keyword_line(
     alloc: Global,
     reader: Reader,
     keyword: Keyword,
-    operands: &[u8],
-    later: Option<&[u8]>,
+    operands: &Words<'_>,
+    later: &Lines<'_>,
 ) -> Result<Reader, Why>
-    requires ahead { HasAheadOf reader.section (lines_ahead (option_copied later)) (words_in operands.now) keyword }
-    requires few { IsOfText (option_copied later) }
-    ensures step { IsStep result
-        (keyword_cause (before_of reader) (lines_ahead (option_copied later.entry)) (words_in operands.now)
-        (Some keyword))
-        (behind_keyword (before_of reader) (lines_ahead (option_copied later.entry)) (words_in operands.now) keyword) }
-    ensures ahead { IfOk result (λ r. HasAhead r.section (lines_ahead (option_copied later.entry))) }
+    requires { HasAheadOf reader.section later.now operands.now keyword }
+    ensures step { IsKeywordStep reader later.now operands.now keyword result }
+    ensures ahead { IfOk result (λ r. HasAhead r.section later.now) }
 {
     if let Some(why) = keyword_cause(&reader, keyword, operands, later) {
         return Err(why);
@@ -136,30 +128,23 @@ fn keyword_line(
     }
 }
 
-/// A line without its carriage return, between those before it and those behind it.
-fn read_line(
-    alloc: Global,
-    reader: Reader,
-    line: &[u8],
-    later: Option<&[u8]>,
-) -> Result<Reader, Why>
-    requires ahead { HasAhead reader.section (line.now ∷ lines_ahead (option_copied later)) }
-    requires few { IsOfText (option_copied later) }
-    ensures step { IsStep result
-        (line_cause (before_of reader) (lines_ahead (option_copied later.entry)) line.now)
-        (behind_line (before_of reader) (lines_ahead (option_copied later.entry)) line.now) }
-    ensures ahead { IfOk result (λ r. HasAhead r.section (lines_ahead (option_copied later.entry))) }
+/// A line, between those before it and those behind it.
+fn read_line(alloc: Global, reader: Reader, line: &[u8], later: &Lines<'_>) -> Result<Reader, Why>
+    requires { HasAhead reader.section (line.now ∷ later.now) }
+    ensures step { IsLineStep reader later.now line.now result }
+    ensures ahead { IfOk result (λ r. HasAhead r.section later.now) }
 {
     if !is_text(line) {
         return Err(Why::NotAscii);
     }
-    let Some((word, operands)) = next_word(without_comment(line)) else {
+    let mut words = Words::of(line);
+    let Some(word) = words.next() else {
         return Ok(reader);
     };
     let Some(keyword) = keyword_of(word) else {
         return Err(Why::UnknownWord);
     };
-    keyword_line(alloc, reader, keyword, operands, later)
+    keyword_line(alloc, reader, keyword, &words, later)
 }
 
 /// The state before the first line.
@@ -186,20 +171,17 @@ fn new_reader(alloc: Global) -> Reader
 fn read_lines(alloc: Global, bytes: &[u8]) -> Result<Reader, ProgramError>
     requires { length bytes.now ≤ most_bytes }
     ensures ok { IfOk result (λ r. read_from 1 nothing (lines_of bytes.now) ≡ Ok (before_of r)) }
-    ensures err { IfErr result (λ e. (read_from 1 nothing (lines_of bytes.now) ≡ Err e)
-        ⊎ (e ≡ record { line = 0; why = Why.NoMemory })) }
+    ensures err { IfErr result (λ e. (read_from 1 nothing (lines_of bytes.now) ≡ Err e) ⊎ (e ≡ no_memory)) }
 {
     let mut reader = new_reader(alloc);
     let mut number = 1;
-    let mut left = Some(bytes);
-    'lines: while let Some(text) = left {
-        let (line, later) = next_line(text);
-        match read_line(alloc, reader, drop_return(line), later) {
+    let mut left = Lines::of(bytes);
+    'lines: while let Some(line) = left.next() {
+        match read_line(alloc, reader, line, &left) {
             Ok(next) => reader = next,
             Err(why) => return Err(refusal(number, why)),
         }
         number += 1;
-        left = later;
     }
     Ok(reader)
 }

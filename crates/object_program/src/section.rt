@@ -1,41 +1,41 @@
 //! What a line of a section stands for, where it has no cause of refusal.
 
-ghost use Rattle.std.specs.Prelude.{◌≡◌, ◌<◌, ◌==◌, ℕ, List, [], ◌∷◌, ◌++◌, ◌+◌, take, length, true, false, IfOk};
+ghost use Rattle.std.specs.Prelude.{◌≡◌, ◌<◌, ◌==◌, ◌+◌, length, true, false, IfOk};
 ghost use Rattle.object_program.specs.Limits.{most_locals, most_code};
 ghost use Rattle.object_program.specs.Name.{is_name};
 ghost use Rattle.object_program.specs.Line.{is_instruction, operands_of};
-ghost use Rattle.object_program.specs.Reading.{operand, local_at, object_at, target_among, instruction_on};
+ghost use Rattle.object_program.specs.Reading.{operand, local_at, object_at, target_among};
 ghost use Rattle.object_program.specs.Refusal.{is_bad_number, some_operand};
-ghost use Rattle.object_program.specs.inner.Left.{words_in};
-ghost use Rattle.object_program.specs.inner.Steps.{text_of, thread_of, IsAheadOf};
+ghost use Rattle.object_program.specs.inner.Added.{local_added, code_added};
+ghost use Rattle.object_program.specs.inner.Steps.{text_of, thread_of, thread_to, IsInstructionOn};
 
 use crate::keyword::Keyword;
 use crate::name::name_of;
 use crate::number::{count_of, number_of};
 use crate::program::{Code, ThreadDef};
 use crate::state::{Declared, Section};
-use crate::text::word_at;
+use crate::words::Words;
 use plain_monitor::{List, NoMemory};
 
 /// The number of the local that operand `i` names.
-fn local_at(section: &Section, operands: &[u8], i: usize) -> u32
-    ensures { result ≡ local_at (thread_of section.now) (words_in operands.now) i }
+fn local_at(section: &Section, operands: &Words<'_>, i: usize) -> u32
+    ensures { result ≡ local_at (thread_of section.now) operands.now i }
 {
-    section.locals.number_of(word_at(operands, i))
+    section.locals.number_of(operands.word(i))
 }
 
 /// The number of the declaration of objects that operand `i` names.
-fn object_at(declared: &Declared, operands: &[u8], i: usize) -> u32
-    ensures { result ≡ object_at (text_of declared.now) (words_in operands.now) i }
+fn object_at(declared: &Declared, operands: &Words<'_>, i: usize) -> u32
+    ensures { result ≡ object_at (text_of declared.now) operands.now i }
 {
-    declared.objects.number_of(word_at(operands, i))
+    declared.objects.number_of(operands.word(i))
 }
 
 /// The number of the instruction that operand `i` names by its label; 0 where the section has no such label.
-fn target_at(section: &Section, operands: &[u8], i: usize) -> u32
-    ensures { result ≡ target_among section.now.labels (operand (words_in operands.now) i) }
+fn target_at(section: &Section, operands: &Words<'_>, i: usize) -> u32
+    ensures { result ≡ target_among section.now.labels (operand operands.now i) }
 {
-    match section.labels.place_of(word_at(operands, i)) {
+    match section.labels.place_of(operands.word(i)) {
         Some(place) => section.labels.items()[place].index,
         None => 0,
     }
@@ -46,13 +46,12 @@ pub fn instruction_on(
     declared: &Declared,
     section: &Section,
     keyword: Keyword,
-    operands: &[u8],
+    operands: &Words<'_>,
 ) -> Code
     requires instruction { is_instruction keyword ≡ true }
-    requires count { (length (words_in operands.now) == length (operands_of keyword)) ≡ true }
-    requires numbers { some_operand is_bad_number (operands_of keyword) (words_in operands.now) ≡ false }
-    ensures { (later : List (List ℕ)) → IsAheadOf section.now later (words_in operands.now) keyword
-        → result ≡ instruction_on (text_of declared.now) (thread_of section.now) later (words_in operands.now) keyword }
+    requires count { (length operands.now == length (operands_of keyword)) ≡ true }
+    requires numbers { some_operand is_bad_number (operands_of keyword) operands.now ≡ false }
+    ensures { IsInstructionOn declared.now section.now operands.now keyword result }
 {
     let x = local_at(section, operands, 0);
     let y = local_at(section, operands, 1);
@@ -60,7 +59,7 @@ pub fn instruction_on(
     match keyword {
         Keyword::Set => Code::Set {
             x,
-            v: number_of(word_at(operands, 1)),
+            v: number_of(operands.word(1)),
         },
         Keyword::Add => Code::Add { x, y, z },
         Keyword::Sub => Code::Sub { x, y, z },
@@ -82,11 +81,11 @@ pub fn instruction_on(
         Keyword::Get => Code::Get {
             x,
             o: y,
-            k: count_of(word_at(operands, 2)),
+            k: count_of(operands.word(2)),
         },
         Keyword::Put => Code::Put {
             o: x,
-            k: count_of(word_at(operands, 1)),
+            k: count_of(operands.word(1)),
             x: z,
         },
         Keyword::Hash => Code::Hash { x, o: y },
@@ -110,11 +109,10 @@ pub fn instruction_on(
 }
 
 /// With the local of a `local` line with these operands. Where memory is wanting, `NoMemory`.
-pub fn with_local(section: Section, operands: &[u8]) -> Result<Section, NoMemory>
-    requires name { is_name (operand (words_in operands.now) 0) ≡ true }
+pub fn with_local(section: Section, operands: &Words<'_>) -> Result<Section, NoMemory>
+    requires name { is_name (operand operands.now 0) ≡ true }
     requires room { length section.locals < most_locals }
-    ensures thread { IfOk result (λ s. thread_of s
-        ≡ record (thread_of section) { locals = section.locals ++ operand (words_in operands.now) 0 ∷ [] }) }
+    ensures thread { IfOk result (λ s. thread_of s ≡ local_added (thread_of section) operands.now) }
     ensures labels { IfOk result (λ s. s.labels ≡ section.labels) }
 {
     let Section {
@@ -124,7 +122,7 @@ pub fn with_local(section: Section, operands: &[u8]) -> Result<Section, NoMemory
         declared,
         code,
     } = section;
-    let locals = locals.with(name_of(word_at(operands, 0)))?;
+    let locals = locals.with(name_of(operands.word(0)))?;
     Ok(Section {
         name,
         locals,
@@ -137,7 +135,7 @@ pub fn with_local(section: Section, operands: &[u8]) -> Result<Section, NoMemory
 /// Behind the line of one more label.
 pub fn with_label(mut section: Section) -> Section
     requires { section.declared < length section.labels }
-    ensures thread { thread_of result ≡ record (thread_of section) { labels = take (section.declared + 1) section.labels } }
+    ensures thread { thread_of result ≡ thread_to section (section.declared + 1) }
     ensures labels { result.labels ≡ section.labels }
 {
     section.declared += 1;
@@ -147,7 +145,7 @@ pub fn with_label(mut section: Section) -> Section
 /// With one more instruction. Where memory is wanting, `NoMemory`.
 pub fn with_code(mut section: Section, code: Code) -> Result<Section, NoMemory>
     requires { length section.code.items < most_code }
-    ensures thread { IfOk result (λ s. thread_of s ≡ record (thread_of section) { code = section.code.items ++ code ∷ [] }) }
+    ensures thread { IfOk result (λ s. thread_of s ≡ code_added (thread_of section) code) }
     ensures labels { IfOk result (λ s. s.labels ≡ section.labels) }
 {
     match section.code.push(code) {

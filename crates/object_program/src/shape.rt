@@ -2,7 +2,8 @@
 
 ghost use Rattle.std.specs.Prelude.{◌≡◌, ◌<◌, ◌≤◌, length, IfOk};
 ghost use Rattle.object_program.specs.Limits.{most_objects};
-ghost use Rattle.object_program.specs.Program.{objects_total, class_of, slots_of, place_of, has_object, class_from, total_of, place_from};
+ghost use Rattle.object_program.specs.Program.{objects_total, class_of, slots_of, place_of, has_object};
+ghost use Rattle.object_program.specs.Program.{class_from, total_of, place_from};
 
 use crate::program::{ClassDef, ObjectDef, Program, ThreadDef};
 use plain_monitor::{List, NoMemory};

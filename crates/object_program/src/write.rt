@@ -1,11 +1,14 @@
 //! The canonical text of a program, written.
 
 ghost use Rattle.std.specs.Prelude.{◌≡◌, ◌+◌, ◌∷◌, ◌++◌, [], map, if◌then◌else◌, OnOk, OnErr, Ok, ◌≤◌, length};
-ghost use Rattle.std.specs.List.{flat_map, join_with_byte};
+ghost use Rattle.std.specs.List.{join_with_byte};
 ghost use Rattle.object_program.specs.Limits.{most_bytes};
-ghost use Rattle.object_program.specs.Canonical.{canonical, program_lines, line_text, class_name, object_name, local_name, label_name, class_words, object_words, opening_words, local_words, label_words, instruction_words, labels_at, code_lines, thread_lines};
+ghost use Rattle.object_program.specs.Canonical.{canonical, program_lines, line_text, class_name, object_name};
+ghost use Rattle.object_program.specs.Canonical.{local_name, label_name, class_words, object_words, local_words};
+ghost use Rattle.object_program.specs.Canonical.{label_words, thread_lines};
 ghost use Rattle.object_program.specs.Refusal.{program_of};
-ghost use Rattle.object_program.specs.inner.Written.{BeginsWith, lines_text};
+ghost use Rattle.object_program.specs.inner.Written.{BeginsWith, lines_text, objects_text, threads_text};
+ghost use Rattle.object_program.specs.inner.Written.{code_text, labels_text, instruction_text, step_text};
 
 use crate::laws::canonical_texts_are_read_back;
 use crate::name::Name;
@@ -118,7 +121,7 @@ fn write_objects(
     objects: &[ObjectDef],
     out: &mut Vec<u8>,
 ) -> Result<(), NoMemory>
-    ensures ok { OnOk result (out.new.items ≡ out.old.items ++ lines_text (map (object_words classes.now) objects.now)) }
+    ensures ok { OnOk result (out.new.items ≡ out.old.items ++ objects_text classes.now objects.now) }
     ensures err { OnErr result (BeginsWith out.old.items out.new.items) }
 {
     for object in objects {
@@ -161,7 +164,7 @@ fn write_threads(
     threads: &[ThreadDef],
     out: &mut Vec<u8>,
 ) -> Result<(), NoMemory>
-    ensures ok { OnOk result (out.new.items ≡ out.old.items ++ lines_text (flat_map (thread_lines objects.now) threads.now)) }
+    ensures ok { OnOk result (out.new.items ≡ out.old.items ++ threads_text objects.now threads.now) }
     ensures err { OnErr result (BeginsWith out.old.items out.new.items) }
 {
     for thread in threads {
@@ -215,7 +218,7 @@ fn write_code(
     code: &[Code],
     out: &mut Vec<u8>,
 ) -> Result<(), NoMemory>
-    ensures ok { OnOk result (out.new.items ≡ out.old.items ++ lines_text (code_lines objects.now thread.now 1 code.now)) }
+    ensures ok { OnOk result (out.new.items ≡ out.old.items ++ code_text objects.now thread.now code.now) }
     ensures err { OnErr result (BeginsWith out.old.items out.new.items) }
 {
     for (i, instruction) in code.iter().enumerate() {
@@ -233,8 +236,7 @@ fn write_step(
     code: Code,
     out: &mut Vec<u8>,
 ) -> Result<(), NoMemory>
-    ensures ok { OnOk result (out.new.items ≡ out.old.items
-        ++ (lines_text (map label_words (labels_at n thread.now.labels)) ++ line_text (instruction_words objects.now thread.now code))) }
+    ensures ok { OnOk result (out.new.items ≡ out.old.items ++ step_text objects.now thread.now n code) }
     ensures err { OnErr result (BeginsWith out.old.items out.new.items) }
 {
     write_labels(n, thread.labels.items(), out)?;
@@ -244,7 +246,7 @@ fn write_step(
 /// Writes the lines of those of these labels that name instruction `n`.
 #[tactic(auto, using(crate::proofs::Written::err_behind))]
 fn write_labels(n: usize, all: &[LabelDef], out: &mut Vec<u8>) -> Result<(), NoMemory>
-    ensures ok { OnOk result (out.new.items ≡ out.old.items ++ lines_text (map label_words (labels_at n all.now))) }
+    ensures ok { OnOk result (out.new.items ≡ out.old.items ++ labels_text n all.now) }
     ensures err { OnErr result (BeginsWith out.old.items out.new.items) }
 {
     for label in all {
@@ -271,7 +273,7 @@ fn write_instruction(
     code: Code,
     out: &mut Vec<u8>,
 ) -> Result<(), NoMemory>
-    ensures ok { OnOk result (out.new.items ≡ out.old.items ++ line_text (instruction_words objects.now thread.now code)) }
+    ensures ok { OnOk result (out.new.items ≡ out.old.items ++ instruction_text objects.now thread.now code) }
     ensures err { OnErr result (BeginsWith out.old.items out.new.items) }
 {
     let locals = thread.locals.items();

@@ -1,9 +1,14 @@
 -- The labels of an open section: those on its lines so far, and those on its lines ahead.
 use Rattle.std.specs.Prelude.{ℕ, ◌+◌, List, [], ◌∷◌, ◌++◌, length, Some, if◌then◌else◌}
-use Rattle.object_program.specs.Reading.{ends_section, labels_on, labels_ahead, number_behind_line}
+use Rattle.object_program.specs.Text.{words_of}
+use Rattle.object_program.specs.Reading.{first_keyword, ends_section, labels_on, labels_ahead, number_behind_line}
 use Rattle.object_program.specs.declared.program.ThreadDef.{ThreadDef}
 use Rattle.object_program.specs.declared.program.LabelDef.{LabelDef}
 use Rattle.object_program.specs.declared.keyword.Keyword.{Keyword}
+
+-- the label of this line, if it declares one, where the next instruction has number n
+abbrev pub labels_of_line : ℕ → List ℕ → List LabelDef
+labels_of_line n line = labels_on n (words_of line) (first_keyword (words_of line))
 
 -- all its labels, before these lines
 abbrev pub labels_from : ThreadDef → List (List ℕ) → List LabelDef

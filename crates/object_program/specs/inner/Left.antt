@@ -1,17 +1,14 @@
 -- What is left of a text while it is read.
-use Rattle.std.specs.Prelude.{◌+◌, ◌≤◌, ◌==◌, ℕ, not, List, [], ◌∷◌, filter, length, map, Option, Some, None, if◌then◌else◌}
+use Rattle.std.specs.Prelude.{◌≡◌, ◌==◌, ℕ, true, false, not, List, [], ◌∷◌, filter, length, Option, Some, None, MatchOption, if◌then◌else◌}
 use Rattle.std.specs.List.{slice_split}
-use Rattle.object_program.specs.Limits.{most_bytes}
-use Rattle.object_program.specs.Text.{raw_lines, without_return, is_blank, is_empty}
+use Rattle.object_program.specs.Text.{is_blank, is_empty}
+use Rattle.object_program.specs.Reading.{operand}
+use Rattle.object_program.specs.Refusal.{lines_of}
 
--- the lines of what is left, with their carriage returns; behind the last line nothing is left
+-- the lines of what is left; behind the last line nothing is left
 abbrev pub lines_left : Option (List ℕ) → List (List ℕ)
 lines_left None = []
-lines_left (Some text) = raw_lines text
-
--- the same lines without their carriage returns
-abbrev pub lines_ahead : Option (List ℕ) → List (List ℕ)
-lines_ahead left = map without_return (lines_left left)
+lines_left (Some text) = lines_of text
 
 -- the words of a line without a comment, or of what is left of it
 abbrev pub words_in : List ℕ → List (List ℕ)
@@ -26,11 +23,6 @@ words_behind (Some text) = words_in text
 abbrev pub words_from : List ℕ → Option (List ℕ) → List (List ℕ)
 words_from part rest = if length part == 0 then words_behind rest else part ∷ words_behind rest
 
--- what is left becomes less with each line
-abbrev pub left_length : Option (List ℕ) → ℕ
-left_length None = 0
-left_length (Some text) = length text + 1
-
--- what is left of a text of the greatest length
-abbrev pub IsOfText : Option (List ℕ) → Type 0
-IsOfText left = left_length left ≤ most_bytes + 1
+-- the word that these are, where they are only one
+abbrev pub IsOnlyWord : List (List ℕ) → Option (List ℕ) → Type 0
+IsOnlyWord ws only = MatchOption only ((length ws == 1) ≡ false) (λ w. ((length ws == 1) ≡ true) × (operand ws 0 ≡ w))

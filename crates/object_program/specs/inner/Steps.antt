@@ -2,10 +2,11 @@
 use Rattle.std.specs.Prelude.{◌≡◌, ◌⊎◌, ℕ, Bool, true, false, not, if◌then◌else◌, List, [], map, take, Option, Some, None, option_map, Result, Ok, Err}
 use Rattle.object_program.specs.Program.{ProgramText}
 use Rattle.object_program.specs.Valid.{is_among}
-use Rattle.object_program.specs.Reading.{Before, ends_section}
-use Rattle.object_program.specs.Refusal.{names_before, is_bad_name, is_twice, is_bad_number, is_closed, is_end}
+use Rattle.object_program.specs.Reading.{Before, ends_section, instruction_on, behind_keyword, behind_line}
+use Rattle.object_program.specs.Refusal.{names_before, is_bad_name, is_twice, is_bad_number, is_closed, is_end, keyword_cause, line_cause}
 use Rattle.object_program.specs.inner.Labels.{labels_from, labels_at}
 use Rattle.object_program.specs.declared.program.ThreadDef.{ThreadDef}
+use Rattle.object_program.specs.declared.program.Code.{Code}
 use Rattle.object_program.specs.declared.operand.Space.{Space}
 use Rattle.object_program.specs.declared.operand.Space.TheVariants.{Labels}
 use Rattle.object_program.specs.declared.operand.Operand.{Operand}
@@ -24,9 +25,13 @@ use Rattle.object_program.specs.declared.error.Why.TheVariants.{NoMemory}
 abbrev pub text_of : Declared → ProgramText
 text_of d = record { classes = d.classes; objects = d.objects; threads = d.threads }
 
--- the thread of an open section, as far as its lines go: the first of its labels stand on them
+-- the thread of an open section with the first n of its labels
+abbrev pub thread_to : Section → ℕ → ThreadDef
+thread_to s n = record { name = s.name; locals = s.locals; labels = take n s.labels; code = s.code.items }
+
+-- as far as its lines go: so many of its labels stand on them
 abbrev pub thread_of : Section → ThreadDef
-thread_of s = record { name = s.name; locals = s.locals; labels = take s.declared s.labels; code = s.code.items }
+thread_of s = thread_to s s.declared
 
 -- what the lines so far have declared
 abbrev pub before_of : Reader → Before
@@ -49,6 +54,11 @@ pub record IsAheadOf (s : Section) (later ws : List (List ℕ)) (k : Keyword) : 
 abbrev pub HasAheadOf : Option Section → List (List ℕ) → List (List ℕ) → Keyword → Type 0
 HasAheadOf None later ws k = Unit {0}
 HasAheadOf (Some s) later ws k = IsAheadOf s later ws k
+
+-- what a line with this keyword and these operands stands for
+abbrev pub IsInstructionOn : Declared → Section → List (List ℕ) → Keyword → Code → Type 0
+IsInstructionOn d s ws k code =
+    (later : List (List ℕ)) → IsAheadOf s later ws k → code ≡ instruction_on (text_of d) (thread_of s) later ws k
 
 -- the names of all labels of the open section
 abbrev pub label_names : Option Section → List (List ℕ)
@@ -76,7 +86,26 @@ abbrev pub IsStep : Result Reader Why → Option Why → Before → Type 0
 IsStep (Ok r) cause after = (cause ≡ None) × (before_of r ≡ after)
 IsStep (Err why) cause after = (cause ≡ Some why) ⊎ (why ≡ NoMemory)
 
--- a refusal of the line with this number; want of memory is no line's
+-- a line with this keyword and these operands, with these lines behind it: why it is refused, what stands behind it, and what
+-- reading it answers
+abbrev pub cause_of : Reader → List (List ℕ) → List (List ℕ) → Keyword → Option Why
+cause_of r later ws k = keyword_cause (before_of r) later ws (Some k)
+
+abbrev pub IsBehindKeyword : Reader → List (List ℕ) → List (List ℕ) → Keyword → Reader → Type 0
+IsBehindKeyword r later ws k behind = before_of behind ≡ behind_keyword (before_of r) later ws k
+
+abbrev pub IsKeywordStep : Reader → List (List ℕ) → List (List ℕ) → Keyword → Result Reader Why → Type 0
+IsKeywordStep r later ws k result = IsStep result (cause_of r later ws k) (behind_keyword (before_of r) later ws k)
+
+-- what reading any line answers
+abbrev pub IsLineStep : Reader → List (List ℕ) → List ℕ → Result Reader Why → Type 0
+IsLineStep r later line result = IsStep result (line_cause (before_of r) later line) (behind_line (before_of r) later line)
+
+-- a refusal for want of memory, which is no line's
+abbrev pub no_memory : ProgramError
+no_memory = record { line = 0; why = NoMemory }
+
+-- a refusal of the line with this number
 abbrev pub refusal : ℕ → Why → ProgramError
-refusal n NoMemory = record { line = 0; why = NoMemory }
+refusal n NoMemory = no_memory
 refusal n why = record { line = n; why = why }

@@ -1,16 +1,14 @@
 use Rattle.std.proofs.Common.{◌≡◌, false, sym, None, Some}
-use Rattle.std.specs.Prelude.{option_copied}
 use Rattle.object_program.specs.Refusal.{keyword_cause, passes_limit}
-use Rattle.object_program.specs.inner.Left.{words_in, lines_ahead}
 use Rattle.object_program.specs.inner.Steps.{before_of, text_of, thread_of, IsAheadOf}
 use Rattle.object_program.specs.declared.keyword.Keyword.TheVariants.{Label}
 use Rattle.object_program.proofs.AllowedCause.{no_cause}
-use Rattle.object_program.proofs.Lines.{instruction_kind, instruction_room, next_label, behind_label, behind_instruction}
+use Rattle.object_program.proofs.BehindLines.{instruction_kind, instruction_room, next_label, behind_label, behind_instruction}
 use Rattle.object_program.proofs.reader.behind_keyword.Goals as goal
 
 pub instruction_on-code-requires : goal.instruction_on-code-requires
 instruction_on-code-requires c =
-    let h = no_cause (before_of c.args.reader) (lines_ahead (option_copied c.args.later)) (words_in c.args.operands.now) c.args.keyword c.requires.clean in
+    let h = no_cause (before_of c.args.reader) c.args.later.now c.args.operands.now c.args.keyword c.requires.clean in
     record {
       instruction = instruction_kind c.args.keyword (sym c.if-is_outside.ensures) c.in_default-keyword.not-Local c.in_default-keyword.not-Label;
       count = h.count;
@@ -21,8 +19,8 @@ pub with_code-requires-in_default-keyword : goal.with_code-requires-in_default-k
 with_code-requires-in_default-keyword c =
     let p = text_of c.args.reader.declared in
     let s = c.in-Some.section in
-    let ws = words_in c.args.operands.now in
-    let h = no_cause (before_of c.args.reader) (lines_ahead (option_copied c.args.later)) ws c.args.keyword c.requires.clean in
+    let ws = c.args.operands.now in
+    let h = no_cause (before_of c.args.reader) c.args.later.now ws c.args.keyword c.requires.clean in
     let room : passes_limit (record { text = p; section = Some (thread_of s) }) ws c.args.keyword ≡ false = rw c.in-Some.is at h.limit in
     instruction_room p (thread_of s) ws c.args.keyword
     (instruction_kind c.args.keyword (sym c.if-is_outside.ensures) c.in_default-keyword.not-Local c.in_default-keyword.not-Label) room
@@ -31,8 +29,8 @@ pub returns-in-Label-clause-behind : goal.returns-in-Label-clause-behind
 returns-in-Label-clause-behind c =
     let p = text_of c.args.reader.declared in
     let s = c.in-Some.section in
-    let later = lines_ahead (option_copied c.args.later) in
-    let ws = words_in c.args.operands.now in
+    let later = c.args.later.now in
+    let ws = c.args.operands.now in
     let clean : keyword_cause (record { text = p; section = Some (thread_of s) }) later ws (Some Label) ≡ None = rw (c.in-Some.is, c.in-Label.is) at c.requires.clean in
     let ahead : IsAheadOf s later ws Label = rw (c.in-Some.is, c.in-Label.is) at c.requires.ahead in
     rw (c.in-Some.is, c.in-Label.is) (behind_label p s c.with_label.result later ws ahead (next_label p s later ws clean ahead) c.with_label.ensures.thread c.with_label.ensures.labels).behind
@@ -41,8 +39,8 @@ pub returns-in-Label-clause-ahead : goal.returns-in-Label-clause-ahead
 returns-in-Label-clause-ahead c =
     let p = text_of c.args.reader.declared in
     let s = c.in-Some.section in
-    let later = lines_ahead (option_copied c.args.later) in
-    let ws = words_in c.args.operands.now in
+    let later = c.args.later.now in
+    let ws = c.args.operands.now in
     let clean : keyword_cause (record { text = p; section = Some (thread_of s) }) later ws (Some Label) ≡ None = rw (c.in-Some.is, c.in-Label.is) at c.requires.clean in
     let ahead : IsAheadOf s later ws Label = rw (c.in-Some.is, c.in-Label.is) at c.requires.ahead in
     (behind_label p s c.with_label.result later ws ahead (next_label p s later ws clean ahead) c.with_label.ensures.thread c.with_label.ensures.labels).ahead
@@ -51,8 +49,8 @@ pub returns-in_ok-with_code-in_default-keyword : goal.returns-in_ok-with_code-in
 returns-in_ok-with_code-in_default-keyword c =
     let p = text_of c.args.reader.declared in
     let s = c.in-Some.section in
-    let later = lines_ahead (option_copied c.args.later) in
-    let ws = words_in c.args.operands.now in
+    let later = c.args.later.now in
+    let ws = c.args.operands.now in
     let ahead : IsAheadOf s later ws c.args.keyword = rw c.in-Some.is at c.requires.ahead in
     let r = c.in_ok-with_code-in_default-keyword.field-0 in
     let h = behind_instruction p s r later ws c.args.keyword c.instruction_on-code.result

@@ -1,12 +1,13 @@
 use Rattle.std.proofs.Common.{◌≡◌, ℕ, ◌==◌, false, nat_lt, List, length, Ok, refl, sym, arith}
 use Rattle.std.proofs.lemmas.Bool.Decides.{nat_tests}
+use Rattle.object_program.specs.Limits.{most_bytes}
 use Rattle.object_program.specs.Reading.{Before, nothing}
 use Rattle.object_program.specs.Refusal.{read_from, lines_of, program_of}
 use Rattle.object_program.specs.inner.Steps.{before_of}
 use Rattle.object_program.proofs.Allowed.{allowed_law}
 use Rattle.object_program.proofs.reader.read_program.Goals as goal
 
-program_is : (bytes : List ℕ) (b : Before) → nat_lt 1048576 (length bytes) ≡ false → read_from 1 nothing (lines_of bytes) ≡ Ok b
+program_is : (bytes : List ℕ) (b : Before) → nat_lt most_bytes (length bytes) ≡ false → read_from 1 nothing (lines_of bytes) ≡ Ok b
     → (length b.text.threads == 0) ≡ false → program_of bytes ≡ Ok b.text
 program_is bytes b few read some = rw (few, read, some) refl
 
@@ -14,6 +15,6 @@ pub program-requires : goal.program-requires
 program-requires c =
     let bytes = c.args.bytes.now in
     let b = before_of c.in_ok-declared.field-0 in
-    let few : nat_lt 1048576 (length bytes) ≡ false = grind (arith, nat_tests) in
+    let few : nat_lt most_bytes (length bytes) ≡ false = grind (arith, nat_tests) in
     let some : (length b.text.threads == 0) ≡ false = rw (← c.items.ensures) (sym c.if-is_empty.ensures) in
     allowed_law bytes b.text (program_is bytes b few c.in_ok-declared.ensures.ok some)

@@ -1,7 +1,7 @@
 use Rattle.std.proofs.Common.{arith}
 use Rattle.std.proofs.lemmas.Bool.Decides.{nat_tests}
 use Rattle.object_program.proofs.Cuts.{without_return_last}
-use Rattle.object_program.proofs.text.drop_return.Goals as goal
+use Rattle.object_program.proofs.lines.drop_return.Goals as goal
 
 pub returns-then-last-eq13 : goal.returns-then-last-eq13
 returns-then-last-eq13 c =

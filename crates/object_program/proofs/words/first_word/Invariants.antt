@@ -1,6 +1,6 @@
 use Rattle.std.proofs.Common.{◌≡◌, length}
 use Rattle.object_program.specs.inner.Left.{words_in}
-use Rattle.object_program.proofs.text.next_word.Given as goal
+use Rattle.object_program.proofs.words.first_word.Given as goal
 
 -- what is left has the words
 abbrev pub invariant-parts : goal.invariant-parts

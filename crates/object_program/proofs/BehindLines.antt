@@ -1,8 +1,9 @@
 -- What lines without a cause make of the reader's state.
-use Rattle.std.proofs.Common.{◌≡◌, ℕ, zero, suc, ◌+◌, ◌<◌, ◌≤◌, ◌==◌, true, false, if◌then◌else◌, List, [], ◌∷◌, ◌++◌, length, take, refl, sym, ap, ◌∙◌, arith, append_assoc, add-one, Option, Some, None, pos, nat_abs, unwrap_or, leb-false, ltb-false, ℤ}
+use Rattle.std.proofs.Common.{◌≡◌, ℕ, zero, suc, ◌+◌, ◌<◌, ◌≤◌, ◌==◌, true, false, if◌then◌else◌, List, [], ◌∷◌, ◌++◌, length, take, refl, sym, ap, ◌∙◌, arith, append_assoc, add-one, Option, Some, None, pos, leb-false, ltb-false, ℤ}
 use Rattle.std.proofs.lemmas.Bool.Decides.{nat_tests}
 use Rattle.std.proofs.lemmas.Int.{ints}
 use Rattle.std.proofs.lemmas.List.{length_push}
+use Rattle.object_program.specs.Limits.{most_objects, most_code}
 use Rattle.object_program.specs.Name.{is_name}
 use Rattle.object_program.specs.Text.{words_of}
 use Rattle.object_program.specs.Number.{number_of, is_within}
@@ -10,6 +11,7 @@ use Rattle.object_program.specs.Program.{ProgramText, total_of}
 use Rattle.object_program.specs.Line.{keyword_of, is_outside, is_instruction, operands_of}
 use Rattle.object_program.specs.Reading.{Before, operand, count_at, label_of, labels_ahead, instruction_on, behind_keyword, ends_section}
 use Rattle.object_program.specs.Refusal.{is_closed, is_end, passes_limit, keyword_cause}
+use Rattle.object_program.specs.inner.Signs.{is_count, count_in}
 use Rattle.object_program.specs.inner.Labels.{labels_from, labels_at}
 use Rattle.object_program.specs.inner.Steps.{thread_of, HasAhead, HasAheadOf, IsAhead, IsAheadOf}
 use Rattle.object_program.specs.declared.program.ThreadDef.{ThreadDef}
@@ -23,7 +25,7 @@ use Rattle.object_program.proofs.AllowedCause.{no_cause, operand_fine}
 use Rattle.object_program.proofs.AllowedOperands.{count_between}
 
 -- a number from 1 to 4,096 is one from 0
-wider : (o : Option ℤ) → is_within (pos 1) (pos 4096) o ≡ true → is_within (pos 0) (pos 4096) o ≡ true
+wider : (o : Option ℤ) → is_within (pos 1) (pos most_objects) o ≡ true → is_within (pos 0) (pos most_objects) o ≡ true
 wider None h = absurd (cc h)
 wider (Some z) h = grind (arith, ints)
 
@@ -31,15 +33,15 @@ wider (Some z) h = grind (arith, ints)
 pub record IsCounted (b : Before) (ws : List (List ℕ)) (n : ℕ) : Type 0 where
   pub same : n ≡ count_at ws 2
   pub some : 1 ≤ n
-  pub room : total_of b.text.objects + n ≤ 4096
+  pub room : total_of b.text.objects + n ≤ most_objects
 
 pub array_counted : (b : Before) (later ws : List (List ℕ)) (k : Keyword) (word : List ℕ) (n : ℕ) → k ≡ Array → keyword_cause b later ws (Some k) ≡ None
-    → word ≡ operand ws 2 → (is_within (pos 0) (pos 4096) (number_of word) ≡ true → n ≡ nat_abs (unwrap_or (number_of word) (pos 0))) → IsCounted b ws n
+    → word ≡ operand ws 2 → (is_count word ≡ true → n ≡ count_in word) → IsCounted b ws n
 array_counted b later ws k word n array clean same count =
     let h = no_cause b later ws Array (rw array at clean) in
-    let fine = operand_fine b later (operands_of Array) ws 2 (Number (pos 1) (pos 4096)) refl h.operands in
+    let fine = operand_fine b later (operands_of Array) ws 2 (Number (pos 1) (pos most_objects)) refl h.operands in
     let counted : n ≡ count_at ws 2 = (rw same at count) (wider (number_of (operand ws 2)) fine) in
-    let between = count_between 1 4096 ws 2 fine in
+    let between = count_between 1 most_objects ws 2 fine in
     let room = ltb-false _ _ h.limit in
     record { same = counted; some = omega arith; room = omega arith }
 
@@ -55,7 +57,7 @@ instruction_kind k h local label = refl
 
 -- and has room
 pub instruction_room : (p : ProgramText) (t : ThreadDef) (ws : List (List ℕ)) (k : Keyword) → is_instruction k ≡ true
-    → passes_limit (record { text = p; section = Some t }) ws k ≡ false → length t.code < 4096
+    → passes_limit (record { text = p; section = Some t }) ws k ≡ false → length t.code < most_code
 instruction_room p t ws Class i h = absurd (cc i)
 instruction_room p t ws Object i h = absurd (cc i)
 instruction_room p t ws Array i h = absurd (cc i)

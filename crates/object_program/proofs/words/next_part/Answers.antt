@@ -1,7 +1,7 @@
 use Rattle.std.proofs.Common.{arith}
 use Rattle.std.proofs.lemmas.Grind.{common_steps}
 use Rattle.object_program.proofs.Cuts.{words_none, words_some}
-use Rattle.object_program.proofs.text.next_part.Goals as goal
+use Rattle.object_program.proofs.words.next_part.Goals as goal
 
 pub returns-in-None-clause-words : goal.returns-in-None-clause-words
 returns-in-None-clause-words c = words_none c.args.text.now c.in-None.ensures

@@ -1,7 +1,7 @@
 use Rattle.std.proofs.Common.{◌==◌, arith, sym}
 use Rattle.std.proofs.lemmas.Grind.{common_steps}
 use Rattle.object_program.proofs.Cuts.{before_none, before_some}
-use Rattle.object_program.proofs.text.without_comment.Goals as goal
+use Rattle.object_program.proofs.words.without_comment.Goals as goal
 
 pub returns-in-None : goal.returns-in-None
 returns-in-None c = sym (before_none (λ b. b == 35) c.args.line.now c.in-None.ensures)
