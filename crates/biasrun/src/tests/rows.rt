@@ -191,7 +191,7 @@ fn cuts_change_nothing(rt: HostRuntime) -> Result<(), Fail> {
     expect_under_each(&rt, piece_by_piece, 0, true, "t1: 42\nthread t1 done\n")
 }
 
-/// Of a read that fails it is told, and a write that fails ends the writing.
+/// A read that fails leaves nothing but its line to be written, and a write that fails ends the writing.
 #[test]
 fn faults_end_a_call(rt: HostRuntime) -> Result<(), Fail> {
     let rows = [
