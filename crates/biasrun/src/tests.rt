@@ -7,7 +7,6 @@ mod meets;
 mod reports;
 mod rows;
 mod settings;
-mod texts;
 
 use bias_cli::replay;
 use run_io::{FreeGate, Gate, MemorySink, MemorySource, StepClock};

@@ -1,33 +1,29 @@
 //! Journals whose answers are known from outside.
 
 use bias_check::{CheckFault, Checked, Reached, check_journal};
+use example_programs::{ANSWER, HASH, WAIT_FOREVER};
 use object_program::read_program;
 use std::alloc::Global;
 use std::test::Fail;
 
-/// A thread that enters, prints and leaves.
-const PRINTS: &[u8] =
-    b"class C 1\nobject a C\nthread t1\nlocal o\nlocal v\nref o a\nset v 42\nenter o\nprint v\nexit o\nend\n";
-
-/// A thread that asks for a hash.
-const HASHES: &[u8] =
-    b"class C 1\nobject a C\nthread t1\nlocal o\nlocal v\nref o a\nhash v o\nprint v\nend\n";
-
-/// A thread that waits, and nobody wakes it.
-const WAITS: &[u8] =
-    b"class C 1\nobject a C\nthread t1\nlocal o\nref o a\nenter o\nwait o\nexit o\nend\n";
-
 /// Two threads, and an object that is named as no value is.
-const PAIR: &[u8] =
-    b"class C 1\nobject nil C\nthread t1\nlocal o\nprint o\nend\nthread t2\nlocal o\nref o nil\nprint o\nend\n";
+const PAIR: &str = "\
+class C 1
+object nil C
+thread t1
+local o
+print o
+end
+thread t2
+local o
+ref o nil
+print o
+end
+";
 
 /// The answer, with 1,000 units of fuel and generators from 1.
-fn answer(
-    alloc: Global,
-    program: &[u8],
-    lines: &[u8],
-) -> Result<Result<Checked, CheckFault>, Fail> {
-    let program = read_program(alloc, program)?;
+fn answer(alloc: Global, program: &str, lines: &[u8]) -> Result<Result<Checked, CheckFault>, Fail> {
+    let program = read_program(alloc, program.as_bytes())?;
     if lines.len() > 1000 {
         return Ok(Err(CheckFault::NoMemory));
     }
@@ -42,7 +38,7 @@ const ENDED: Checked = Checked::Legal {
 #[test]
 fn a_whole_run_is_legal(rt: HostRuntime) -> Result<(), Fail> {
     let lines = b"@1 t1 enter a stack-first\n@2 t1 print 42\n@3 t1 exit a\n@4 t1 done\n";
-    assert_eq!(rt; answer(rt.alloc(), PRINTS, lines)?, Ok(ENDED));
+    assert_eq!(rt; answer(rt.alloc(), ANSWER, lines)?, Ok(ENDED));
     Ok(())
 }
 
@@ -50,7 +46,7 @@ fn a_whole_run_is_legal(rt: HostRuntime) -> Result<(), Fail> {
 fn a_wait_that_is_not_asked_is_no_step(rt: HostRuntime) -> Result<(), Fail> {
     let lines = b"@1 t1 enter a stack-first\n@2 t1 print 42\n@3 t1 wait a\n@4 t1 done\n";
     let step = Checked::NoStep { line: 3 };
-    assert_eq!(rt; answer(rt.alloc(), PRINTS, lines)?, Ok(step));
+    assert_eq!(rt; answer(rt.alloc(), ANSWER, lines)?, Ok(step));
     Ok(())
 }
 
@@ -60,7 +56,7 @@ fn no_lines_are_legal(rt: HostRuntime) -> Result<(), Fail> {
         entries: 0,
         state: Reached::Open,
     };
-    assert_eq!(rt; answer(rt.alloc(), PRINTS, b"")?, Ok(open));
+    assert_eq!(rt; answer(rt.alloc(), ANSWER, b"")?, Ok(open));
     Ok(())
 }
 
@@ -68,10 +64,10 @@ fn no_lines_are_legal(rt: HostRuntime) -> Result<(), Fail> {
 fn a_line_of_no_entry_is_unreadable(rt: HostRuntime) -> Result<(), Fail> {
     let other = b"@1 t1 enter z stack-first\n@2 t1 print 42\n@3 t1 exit a\n@4 t1 done\n";
     let first = CheckFault::Unreadable { line: 1 };
-    assert_eq!(rt; answer(rt.alloc(), PRINTS, other)?, Err(first));
+    assert_eq!(rt; answer(rt.alloc(), ANSWER, other)?, Err(first));
     let cut = b"@1 t1 enter a stack-first\n@2 t1 print 42\n@3 t1 exit a\n@4 t1 done";
     let last = CheckFault::Unreadable { line: 4 };
-    assert_eq!(rt; answer(rt.alloc(), PRINTS, cut)?, Err(last));
+    assert_eq!(rt; answer(rt.alloc(), ANSWER, cut)?, Err(last));
     Ok(())
 }
 
@@ -79,7 +75,7 @@ fn a_line_of_no_entry_is_unreadable(rt: HostRuntime) -> Result<(), Fail> {
 fn a_hash_that_nobody_drew_is_bad(rt: HostRuntime) -> Result<(), Fail> {
     let lines = b"@1 t1 hash a 77\n@2 t1 print 77\n@3 t1 done\n";
     let bad = Checked::BadHash { object: 0 };
-    assert_eq!(rt; answer(rt.alloc(), HASHES, lines)?, Ok(bad));
+    assert_eq!(rt; answer(rt.alloc(), HASH, lines)?, Ok(bad));
     Ok(())
 }
 
@@ -90,7 +86,7 @@ fn a_thread_that_waits_for_ever_is_stuck(rt: HostRuntime) -> Result<(), Fail> {
         state: Reached::Stuck,
     };
     let lines = b"@1 t1 enter a monitor-first\n@2 t1 wait a\n";
-    assert_eq!(rt; answer(rt.alloc(), WAITS, lines)?, Ok(stuck));
+    assert_eq!(rt; answer(rt.alloc(), WAIT_FOREVER, lines)?, Ok(stuck));
     Ok(())
 }
 

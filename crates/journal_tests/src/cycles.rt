@@ -2,6 +2,7 @@
 
 ghost use Rattle.std.specs.Prelude.{◌≡◌, length, IfOk};
 
+use example_programs::WAIT_FOREVER;
 use object_program::{Program, read_program};
 use plain_machine::{Machine, Offer};
 use plain_monitor::List;
@@ -24,7 +25,15 @@ fn text(alloc: Global, objects: usize, pairs: &[(usize, usize)]) -> Result<Strin
     for (first, second) in pairs {
         let thread = *first;
         let line = format!(in alloc;
-            "thread t{thread}\nlocal x\nref x o{first}\nenter x\nref x o{second}\nenter x\nend\n"
+            "\
+thread t{thread}
+local x
+ref x o{first}
+enter x
+ref x o{second}
+enter x
+end
+"
         )?;
         text.push_str(line.as_str())?;
     }
@@ -82,8 +91,7 @@ fn crosswise_threads_are_a_cycle(rt: HostRuntime) -> Result<(), Fail> {
 
 #[test]
 fn a_wait_is_no_cycle(rt: HostRuntime) -> Result<(), Fail> {
-    let text = "class C 1\nobject a C\nthread t1\nlocal o\nref o a\nenter o\nwait o\nexit o\nend\n";
-    let cycles = cycles_of(rt.alloc(), text)?;
+    let cycles = cycles_of(rt.alloc(), WAIT_FOREVER)?;
     expect(&rt, cycles.items(), &[]);
     Ok(())
 }

@@ -1,11 +1,11 @@
-//! Tests of the reader and the writer: texts, and the program or the refusal that each has. They stand in a crate of their own, so
-//! that neither is proved once more with them.
+//! Tests of the reader, of the writer and of programs that are made: texts, and the program or the refusal that each has. They stand in
+//! a crate of their own, so that `object_program` and `made_program` aren't proved once more with them.
 #![tactic(auto)]
 
 #[cfg(test)]
-mod examples;
-#[cfg(test)]
 mod limits;
+#[cfg(test)]
+mod made;
 #[cfg(test)]
 mod programs;
 #[cfg(test)]

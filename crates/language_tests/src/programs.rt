@@ -12,9 +12,32 @@ fn texts_that_are_read(rt: HostRuntime) {
         b"thread t\r\nend\r",
         b"\t thread\t t \t\n  end\t",
         b"thread t#no blank before it\n# a line\n\nend # done",
-        b"class n 1\nobject n n\nthread n\nlocal n\nlabel n\njump n\nend\n",
-        b"thread t\nlocal x\nset x -0\nset x 0000000000000000001\nset x -2305843009213693952\nend\n",
-        b"thread t\nlabel l\nend\nthread u\njump l\nlabel l\nend\n",
+        b"\
+class n 1
+object n n
+thread n
+local n
+label n
+jump n
+end
+",
+        b"\
+thread t
+local x
+set x -0
+set x 0000000000000000001
+set x -2305843009213693952
+end
+",
+        b"\
+thread t
+label l
+end
+thread u
+jump l
+label l
+end
+",
     ];
     for text in texts {
         assert!(rt; is_read(alloc, text));
@@ -22,11 +45,43 @@ fn texts_that_are_read(rt: HostRuntime) {
 }
 
 /// Each instruction with its operands, and labels before and behind the jumps.
+const EACH_INSTRUCTION: &[u8] = b"\
+class C 3
+array s C 4
+object a C
+thread t
+local x
+local y
+local z
+label top
+set x 7
+add x y z
+sub y z x
+mul z x y
+ref x a
+elem y s z
+enter x
+exit x
+wait x
+notify x
+notifyall x
+get z x 2
+put x 1 z
+label mid
+label also
+hash y x
+print y
+jump top
+jlt x y low
+jeq y z also
+dump
+label low
+end
+";
+
 #[test]
 fn each_instruction(rt: HostRuntime) {
-    let text =
-        b"class C 3\narray s C 4\nobject a C\nthread t\nlocal x\nlocal y\nlocal z\nlabel top\nset x 7\nadd x y z\nsub y z x\nmul z x y\nref x a\nelem y s z\nenter x\nexit x\nwait x\nnotify x\nnotifyall x\nget z x 2\nput x 1 z\nlabel mid\nlabel also\nhash y x\nprint y\njump top\njlt x y low\njeq y z also\ndump\nlabel low\nend\n";
-    let Ok(program) = read_program(rt.alloc(), text) else {
+    let Ok(program) = read_program(rt.alloc(), EACH_INSTRUCTION) else {
         panic!(rt; "refused")
     };
     let Some(thread) = program.threads.items().first() else {
@@ -65,7 +120,15 @@ fn each_instruction(rt: HostRuntime) {
 /// Objects go by the lines that declare them, arrays with all of their elements.
 #[test]
 fn objects_of_a_program(rt: HostRuntime) {
-    let text = b"class C 3\nclass D 0\nobject a D\narray s C 4\nobject b D\nthread t\nend\n";
+    let text = b"\
+class C 3
+class D 0
+object a D
+array s C 4
+object b D
+thread t
+end
+";
     let Ok(first) = read_program(rt.alloc(), text) else {
         panic!(rt; "refused")
     };

@@ -1,16 +1,17 @@
 //! Each cause of refusal, with its line.
 
-use crate::texts::{FIRST, is_read, is_refused};
+use crate::texts::{is_read, is_refused};
+use example_programs::ANSWER;
 use object_program::Why;
 use std::test::Fail;
 
 #[test]
-fn each_front_of_the_first_example(rt: HostRuntime) -> Result<(), Fail> {
+fn each_front_of_an_example(rt: HostRuntime) -> Result<(), Fail> {
     let alloc = rt.alloc();
     let mut text = Vec::new(alloc);
     assert!(rt; is_refused(alloc, text.as_slice(), 0, Why::NoThread));
-    for (count, line) in FIRST.iter().enumerate() {
-        text.extend_from_slice(line)?;
+    for (count, line) in ANSWER.split_inclusive('\n').enumerate() {
+        text.extend_from_slice(line.as_bytes())?;
         if count < 2 {
             assert!(rt;
                 is_refused(alloc, text.as_slice(), 0, Why::NoThread),

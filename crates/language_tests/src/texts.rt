@@ -8,21 +8,6 @@ ghost use Rattle.object_program.specs.declared.error.Why.TheVariants.{NoMemory};
 use object_program::{Why, read_program};
 use std::alloc::{AllocError, Global};
 
-/// The program of the first example, one line each.
-pub const FIRST: [&[u8]; 11] = [
-    b"class C 1\n",
-    b"object a C\n",
-    b"thread t1\n",
-    b"local o\n",
-    b"local v\n",
-    b"ref o a\n",
-    b"set v 42\n",
-    b"enter o\n",
-    b"print v\n",
-    b"exit o\n",
-    b"end\n",
-];
-
 /// Whether the text has a program.
 pub fn is_read(alloc: Global, text: &[u8]) -> bool
     ensures { (result ≡ true) → (p : ProgramText) × (program_of text.now ≡ Ok p) }

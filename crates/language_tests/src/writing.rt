@@ -1,26 +1,61 @@
 //! Programs that are written: each has one text, which is read as the same program.
 
-use crate::examples::EXAMPLES;
+use example_programs::EXAMPLES;
 use object_program::{read_program, write_program};
 use std::process::Abort;
 use std::test::Fail;
 
 /// The text of two threads with an array, labels before one instruction, jumps and a negative number.
-const CANONICAL: &[u8] =
-    b"class C 2\nclass D 0\nobject a D\narray b C 3\nthread t1\nlocal x\nlocal y\nset x -1\nlabel top\nlabel again\nelem y b x\nput y 1 x\njlt x x top\njump top\nend\nthread t2\nend\n";
+const CANONICAL: &str = "\
+class C 2
+class D 0
+object a D
+array b C 3
+thread t1
+local x
+local y
+set x -1
+label top
+label again
+elem y b x
+put y 1 x
+jlt x x top
+jump top
+end
+thread t2
+end
+";
 
 /// The same program with other spaces, comments, zeros and ends of lines, with a local and a class where they are needed, and with
 /// a jump to the other label.
-const LOOSE: &[u8] =
-    b"class\tC 002\r\n# two classes\nclass D -0\n\nobject a D # the first\n array b C 0003\nthread t1\nlocal x\nset x -01\nlabel top\nlocal y\nlabel again\nelem y b x\nput y 01 x\njlt x x top\njump again\nend\nthread t2\nend";
+const LOOSE: &str = "\
+class\tC 002\r
+# two classes
+class D -0
+
+object a D # the first
+ array b C 0003
+thread t1
+local x
+set x -01
+label top
+local y
+label again
+elem y b x
+put y 01 x
+jlt x x top
+jump again
+end
+thread t2
+end";
 
 /// Compares what is written of the text's program, behind what `out` has already, with this.
-fn expect<R: Abort + AllocGlobal>(rt: &R, text: &[u8], written: &[u8]) -> Result<(), Fail> {
-    let Ok(program) = read_program(rt.alloc(), text) else {
+fn expect<R: Abort + AllocGlobal>(rt: &R, text: &str, written: &str) -> Result<(), Fail> {
+    let Ok(program) = read_program(rt.alloc(), text.as_bytes()) else {
         panic!(rt; "refused")
     };
     let mut expected = Vec::from_slice(rt.alloc(), b"# ")?;
-    expected.extend_from_slice(written)?;
+    expected.extend_from_slice(written.as_bytes())?;
     let mut out = Vec::from_slice(rt.alloc(), b"# ")?;
     assert!(rt; write_program(&program, &mut out).is_ok());
     assert!(rt; out.as_slice() == expected.as_slice());
@@ -32,7 +67,7 @@ fn each_program_has_one_text(rt: HostRuntime) -> Result<(), Fail> {
     expect(&rt, CANONICAL, CANONICAL)?;
     expect(&rt, LOOSE, CANONICAL)?;
     for text in EXAMPLES {
-        expect(&rt, text.as_bytes(), text.as_bytes())?;
+        expect(&rt, text, text)?;
     }
     Ok(())
 }

@@ -10,8 +10,6 @@ ghost use Rattle.made_program.specs.HandoverText.{handover_text};
 ghost use Rattle.made_program.specs.inner.HandoverProgram.{handover_program};
 
 mod declared;
-#[cfg(test)]
-mod tests;
 mod threads;
 
 use object_program::Program;

@@ -1,7 +1,7 @@
 //! Journals that are checked, and what is written of them.
 
-use crate::tests::texts::{ANSWER, EXAMPLES, HASH, WAIT_FOREVER};
 use crate::tests::{Call, calling, expect, make};
+use example_programs::{ANSWER, EXAMPLES, HASH, WAIT_FOREVER};
 use std::process::Abort;
 use std::sync::Wait;
 use std::test::Fail;

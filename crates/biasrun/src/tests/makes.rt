@@ -1,7 +1,7 @@
 //! Programs that are made, and what becomes of them.
 
-use crate::tests::texts::HANDOVER_40;
 use crate::tests::{Call, calling, expect, expect_around, make};
+use example_programs::HANDOVER_40;
 use std::test::Fail;
 
 const MAKE_40: &[&str] = &["make", "40"];
@@ -63,8 +63,12 @@ fn made_1500(rt: HostRuntime) -> Result<(), Fail> {
         behind: made.held.as_slice(),
         ..calling(&["run", "--stats"], "")
     };
-    let front =
-        "t1: 1500\nthread t1 done\nthread t2 done\nclass Item single 38 rebias 1 revoke 1 count 40 prototype 1 enters 0 2981 1500 0 0 0\nclass Flag single ";
+    let front = "\
+t1: 1500
+thread t1 done
+thread t2 done
+class Item single 38 rebias 1 revoke 1 count 40 prototype 1 enters 0 2981 1500 0 0 0
+class Flag single ";
     expect_around(&rt, run, 0, front, &["\n"])
 }
 
@@ -72,8 +76,12 @@ fn made_1500(rt: HostRuntime) -> Result<(), Fail> {
 /// anew, and after 40 the class has no biases any more.
 #[test]
 fn biases_of_forty_items(rt: HostRuntime) -> Result<(), Fail> {
-    let front =
-        "t1: 40\nthread t1 done\nthread t2 done\nclass Item single 38 rebias 1 revoke 1 count 40 prototype 1 enters 0 61 40 0 0 0\nclass Flag single ";
+    let front = "\
+t1: 40
+thread t1 done
+thread t2 done
+class Item single 38 rebias 1 revoke 1 count 40 prototype 1 enters 0 61 40 0 0 0
+class Flag single ";
     expect_around(
         &rt,
         calling(&["run", "--stats"], HANDOVER_40),
@@ -87,8 +95,12 @@ fn biases_of_forty_items(rt: HostRuntime) -> Result<(), Fail> {
 /// 19 items back one by one, and the class is biased anew for the 20th, in place of a bulk revoke.
 #[test]
 fn biases_of_forty_items_as_time_goes_on(rt: HostRuntime) -> Result<(), Fail> {
-    let front =
-        "t1: 40\nthread t1 done\nthread t2 done\nclass Item single 38 rebias 2 revoke 0 count 20 prototype 517 enters 0 63 38 0 0 0\nclass Flag single ";
+    let front = "\
+t1: 40
+thread t1 done
+thread t2 done
+class Item single 38 rebias 2 revoke 0 count 20 prototype 517 enters 0 63 38 0 0 0
+class Flag single ";
     expect_around(
         &rt,
         calling(&["run", "--stats", "--tick", "25000"], HANDOVER_40),

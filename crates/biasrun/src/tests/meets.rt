@@ -1,7 +1,7 @@
 //! Threads of a program that run at the same time.
 
-use crate::tests::texts::CONTENTION;
 use crate::tests::{calling, make_by};
+use example_programs::CONTENTION;
 use run_io::Gate;
 use std::process::Abort;
 use std::sync::Wait;

@@ -1,14 +1,26 @@
 //! Words, texts, and what is written.
 
-use crate::tests::settings::settings;
-use crate::tests::texts::{
-    ANSWER, ANSWER_FIVE_LINES, CROSSWISE, DUMP, EXIT_TOO_OFTEN, HAND_OVER, HASH, OVERFLOW,
-    TOO_DEEP, UNGUARDED_GET, WAIT_FOREVER, WAIT_WITHOUT_HOLD,
+use crate::tests::settings::expect_under_each;
+use crate::tests::{Call, calling, expect};
+use example_programs::{
+    ANSWER, CROSSWISE, DUMP, EXIT_TOO_OFTEN, HAND_OVER, HASH, OVERFLOW, TOO_DEEP, UNGUARDED_GET,
+    WAIT_FOREVER, WAIT_WITHOUT_HOLD,
 };
-use crate::tests::{Call, calling, expect, make};
 use std::test::Fail;
 
-const RUN: &[&str] = &["run"];
+/// `ANSWER` up to its fifth line.
+const NO_END: &str = "\
+class C 1
+object a C
+thread t1
+local o
+local v
+";
+
+/// A run of the text, by no more words than a setting has.
+fn running(text: &str) -> Call {
+    calling(&[], text)
+}
 
 /// Programs whose output no order of steps changes, under each of the settings.
 #[test]
@@ -39,22 +51,35 @@ fn programs_run(rt: HostRuntime) -> Result<(), Fail> {
         (DUMP, 0, "dump t1 1\na held by t1 2\nthread t1 done\n"),
     ];
     for (text, status, held) in rows {
-        for words in settings() {
-            expect(&rt, calling(words, text), status, true, held)?;
-        }
+        expect_under_each(&rt, running(text), status, true, held)?;
     }
     Ok(())
 }
 
+/// What is written of `ANSWER` with its journal.
+const BY_BIAS: &str = "\
+t1: 42
+thread t1 done
+@1 t1 enter a bias-taken
+@2 t1 print 42
+@3 t1 exit a
+@4 t1 done
+";
+
+/// The same without biases.
+const BY_STACK_LOCK: &str = "\
+t1: 42
+thread t1 done
+@1 t1 enter a stack-first
+@2 t1 print 42
+@3 t1 exit a
+@4 t1 done
+";
+
 #[test]
 fn words_choose_what_is_written(rt: HostRuntime) -> Result<(), Fail> {
-    let rows: [(&'static [&'static str], &'static str, u8, &str); 8] = [
-        (
-            &["run", "--journal"],
-            ANSWER,
-            0,
-            "t1: 42\nthread t1 done\n@1 t1 enter a bias-taken\n@2 t1 print 42\n@3 t1 exit a\n@4 t1 done\n",
-        ),
+    let rows: [(&'static [&'static str], &'static str, u8, &str); 7] = [
+        (&["run", "--journal"], ANSWER, 0, BY_BIAS),
         (
             &[
                 "run",
@@ -66,13 +91,13 @@ fn words_choose_what_is_written(rt: HostRuntime) -> Result<(), Fail> {
             ],
             ANSWER,
             0,
-            "t1: 42\nthread t1 done\n@1 t1 enter a bias-taken\n@2 t1 print 42\n@3 t1 exit a\n@4 t1 done\n",
+            BY_BIAS,
         ),
         (
             &["run", "--journal", "--bias=off"],
             ANSWER,
             0,
-            "t1: 42\nthread t1 done\n@1 t1 enter a stack-first\n@2 t1 print 42\n@3 t1 exit a\n@4 t1 done\n",
+            BY_STACK_LOCK,
         ),
         (
             &["run", "--stats"],
@@ -86,7 +111,6 @@ fn words_choose_what_is_written(rt: HostRuntime) -> Result<(), Fail> {
             0,
             "t1: 42\nthread t1 done\nclass C single 0 rebias 0 revoke 0 count 0 prototype 1 enters 0 0 1 0 0 0\n",
         ),
-        (&["run", "--fuel", "1"], ANSWER, 1, "thread t1 spent\n"),
         (
             &["run", "--workers=1"],
             CROSSWISE,
@@ -106,60 +130,84 @@ fn words_choose_what_is_written(rt: HostRuntime) -> Result<(), Fail> {
     Ok(())
 }
 
+/// The first instruction takes the only unit of fuel.
 #[test]
-fn what_cannot_run_is_refused(rt: HostRuntime) -> Result<(), Fail> {
-    let rows: [(&'static [&'static str], &'static str, u8, &str); 5] = [
-        (&["walk"], ANSWER, 2, "words refused\n"),
-        (&["run", "--workers", "0"], ANSWER, 2, "words refused\n"),
-        (RUN, ANSWER_FIVE_LINES, 3, "line 3: NoEnd\n"),
-        (RUN, "", 3, "program: NoThread\n"),
-        (RUN, "class C 17\n", 3, "line 1: BadNumber\n"),
-    ];
-    for (words, text, status, held) in rows {
-        expect(&rt, calling(words, text), status, false, held)?;
+fn one_unit_of_fuel_is_soon_spent(rt: HostRuntime) -> Result<(), Fail> {
+    let call = calling(&["--fuel", "1"], ANSWER);
+    expect_under_each(&rt, call, 1, true, "thread t1 spent\n")
+}
+
+#[test]
+fn other_words_are_refused(rt: HostRuntime) -> Result<(), Fail> {
+    let rows: [&'static [&'static str]; 2] = [&["walk"], &["run", "--workers", "0"]];
+    for words in rows {
+        expect(&rt, calling(words, ANSWER), 2, false, "words refused\n")?;
     }
     Ok(())
 }
 
+#[test]
+fn what_cannot_run_is_refused(rt: HostRuntime) -> Result<(), Fail> {
+    let rows: [(&str, &str); 3] = [
+        (NO_END, "line 3: NoEnd\n"),
+        ("", "program: NoThread\n"),
+        ("class C 17\n", "line 1: BadNumber\n"),
+    ];
+    for (text, held) in rows {
+        expect_under_each(&rt, running(text), 3, false, held)?;
+    }
+    Ok(())
+}
+
+/// A text of so many empty lines, in reads of 100,000 bytes.
+fn empty_lines(empty_lines: u32) -> Call<'static> {
+    Call {
+        empty_lines,
+        cut: 100_000,
+        ..running("")
+    }
+}
+
 /// A text may have 1,048,576 bytes.
 #[test]
-fn too_long_a_text_is_refused(rt: HostRuntime) -> Result<(), Fail> {
-    let as_long_as_may_be = Call {
-        empty_lines: 1_048_576,
-        cut: 100_000,
-        ..calling(RUN, "")
-    };
-    expect(&rt, as_long_as_may_be, 3, false, "program: NoThread\n")?;
-    let one_byte_longer = Call {
-        empty_lines: 1_048_577,
-        ..as_long_as_may_be
-    };
-    expect(&rt, one_byte_longer, 3, false, "program: Limit\n")
+fn longest_text_is_read(rt: HostRuntime) -> Result<(), Fail> {
+    let call = empty_lines(1_048_576);
+    expect_under_each(&rt, call, 3, false, "program: NoThread\n")
 }
 
 #[test]
-fn faults_end_a_call(rt: HostRuntime) -> Result<(), Fail> {
-    let all_goes_well = calling(RUN, ANSWER);
-    // Reads and writes of one byte each change nothing.
+fn too_long_a_text_is_refused(rt: HostRuntime) -> Result<(), Fail> {
+    let call = empty_lines(1_048_577);
+    expect_under_each(&rt, call, 3, false, "program: Limit\n")
+}
+
+/// Reads and writes of one byte each change nothing.
+#[test]
+fn cuts_change_nothing(rt: HostRuntime) -> Result<(), Fail> {
     let piece_by_piece = Call {
         cut: 1,
-        ..all_goes_well
+        ..running(ANSWER)
     };
-    expect(&rt, piece_by_piece, 0, true, "t1: 42\nthread t1 done\n")?;
-    let read_fails = Call {
-        read_fails: 1,
-        ..all_goes_well
-    };
-    expect(&rt, read_fails, 5, false, "read fault\n")?;
-    let write_fails = Call {
-        write_fails: 2,
-        ..all_goes_well
-    };
-    expect(&rt, write_fails, 6, true, "t1: 42\n")?;
-    let both_fail = Call {
-        read_fails: 1,
-        write_fails: 1,
-        ..all_goes_well
-    };
-    expect(&rt, both_fail, 6, false, "")
+    expect_under_each(&rt, piece_by_piece, 0, true, "t1: 42\nthread t1 done\n")
+}
+
+/// A read that fails leaves nothing but its line to be written, and a write that fails ends the writing.
+#[test]
+fn faults_end_a_call(rt: HostRuntime) -> Result<(), Fail> {
+    let rows = [
+        (1, 0, 5, false, "read fault\n"),
+        (2, 0, 5, false, "read fault\n"),
+        (0, 1, 6, true, ""),
+        (0, 2, 6, true, "t1: 42\n"),
+        (1, 1, 6, false, ""),
+    ];
+    for (read_fails, write_fails, status, has_record, held) in rows {
+        let call = Call {
+            read_fails,
+            write_fails,
+            ..running(ANSWER)
+        };
+        expect_under_each(&rt, call, status, has_record, held)?;
+    }
+    Ok(())
 }

@@ -1,7 +1,7 @@
 //! Settings under which programs are run, and many runs of two threads that contend.
 
-use crate::tests::texts::CONTENTION;
-use crate::tests::{calling, make};
+use crate::tests::{Call, calling, expect, make};
+use example_programs::CONTENTION;
 use std::process::Abort;
 use std::sync::Wait;
 use std::test::Fail;
@@ -18,6 +18,26 @@ pub fn settings() -> [&'static [&'static str]; 7] {
         &["run", "--workers", "1", "--quantum", "1"],
         &["run", "--quantum", "1", "--bias", "off"],
     ]
+}
+
+/// Makes the call under each of the settings, with its own words behind theirs, and compares what became of it.
+pub fn expect_under_each<R: Threads + Wait + Abort + AllocGlobal + Sync>(
+    rt: &R,
+    call: Call,
+    status: u8,
+    has_record: bool,
+    held: &str,
+) -> Result<(), Fail> {
+    for setting in settings() {
+        let mut words = Vec::from_slice(rt.alloc(), setting)?;
+        words.extend_from_slice(call.words)?;
+        let call = Call {
+            words: words.as_slice(),
+            ..call
+        };
+        expect(rt, call, status, has_record, held)?;
+    }
+    Ok(())
 }
 
 /// Two threads count to 2,000 together under each of the settings, and the last of them prints it.
