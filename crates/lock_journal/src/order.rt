@@ -1,12 +1,12 @@
 //! The entries of all threads in one order.
 
-ghost use Rattle.std.specs.Prelude.{◌≡◌, ℕ, ◌+◌, ◌<◌, ◌≤◌, List, [], ◌∷◌, length, slice_get, None, MatchOption, IfSome};
+ghost use Rattle.std.specs.Prelude.{◌≡◌, ℕ, ◌+◌, ◌<◌, ◌≤◌, List, [], ◌∷◌, length, slice_get, slice_index, slice_set, None, MatchOption, IfSome};
 ghost use Rattle.std.specs.List.{AllByRecursion};
 ghost use Rattle.plain_monitor.specs.Order.{order};
-ghost use Rattle.plain_monitor.specs.History.{RisesAbove};
+ghost use Rattle.plain_monitor.specs.History.{RisesAbove, log_of};
 ghost use Rattle.plain_monitor.specs.declared.entry.Logged.{Logged};
 ghost use Rattle.lock_journal.specs.Merging.{left_of};
-ghost use Rattle.lock_journal.specs.inner.Heads.{earlier, IsLeastOf};
+ghost use Rattle.lock_journal.specs.inner.Heads.{stamp_in, or_greatest, earlier, IsLeastOf, IsLeastHead, IsFirstLeast, HasStamps};
 
 use crate::record::RunRecord;
 use plain_monitor::{List, Logged};
@@ -60,6 +60,110 @@ impl Merge {
     {
         take_least(run.logs.items(), &mut self.places)
     }
+
+    /// The same merge with the stamps of the heads at hand.
+    pub(crate) fn ahead(&self, run: &RunRecord) -> Ahead
+        requires { length run.now.logs ≤ 16 }
+        ensures places { result.places ≡ self.now }
+        ensures stamps { HasStamps run.now.logs result.places result.stamps }
+    {
+        Ahead {
+            places: self.places,
+            stamps: head_stamps(run.logs.items(), &self.places),
+        }
+    }
+
+    /// Goes on where the other one is.
+    pub(crate) fn go_to(&mut self, ahead: &Ahead)
+        ensures { self.new ≡ ahead.now.places }
+    {
+        self.places = ahead.places;
+    }
+}
+
+/// A merge for a loop over many entries of one run: it holds the stamps of the heads, so that a step compares 16 numbers and looks
+/// into one log.
+#[derive(Drop)]
+pub(crate) struct Ahead {
+    /// How many entries of each thread's log were given.
+    places: [usize; MOST_THREADS],
+    /// The stamp of the first entry that each thread has left, and the greatest number where it has none.
+    stamps: [u64; MOST_THREADS],
+}
+
+impl Ahead {
+    /// The next entry with its thread, as `Merge::next` gives it. `run` is the one that it was made for.
+    pub(crate) fn next(&mut self, run: &RunRecord) -> Option<(u32, Logged)>
+        requires rising { AllByRecursion (RisesAbove 0) run.now.logs }
+        requires few { length run.now.logs ≤ 16 }
+        requires stamps { HasStamps run.now.logs self.old.places self.old.stamps }
+        ensures first { MatchOption result (order (left_of run.now.logs self.old.places) ≡ [])
+            (λ x. order (left_of run.now.logs self.old.places) ≡ x ∷ order (left_of run.now.logs self.new.places)) }
+        ensures end { result ≡ None → self.new ≡ self.old }
+        ensures stamps { HasStamps run.now.logs self.new.places self.new.stamps }
+    {
+        let logs = run.logs.items();
+        let least = first_head(logs, &self.places, &self.stamps)?;
+        let head = take_head(logs, &mut self.places, least);
+        let index = least.0 as usize;
+        self.stamps[index] = cached_stamp(&logs[index], self.places[index]);
+        Some((least.0, head))
+    }
+}
+
+/// The stamp of each thread's head, as `Ahead` holds them.
+fn head_stamps(logs: &[List<Logged>], places: &[usize; MOST_THREADS]) -> [u64; MOST_THREADS]
+    requires { length logs.now ≤ 16 }
+    ensures { HasStamps logs.now places.now result }
+{
+    let mut stamps = [u64::MAX; MOST_THREADS];
+    for (thread, log) in logs.iter().enumerate() {
+        stamps[thread] = cached_stamp(log, places[thread]);
+    }
+    stamps
+}
+
+/// The stamp of the entry at this place of the log, and the greatest number where it has none.
+fn cached_stamp(log: &List<Logged>, place: usize) -> u64
+    ensures { result ≡ or_greatest (stamp_in (slice_get log.now place)) }
+{
+    match stamp_at(log, place) {
+        Some(stamp) => stamp,
+        None => u64::MAX,
+    }
+}
+
+/// The thread and the stamp of the least head. Where each stamp at hand is the greatest number, the logs tell.
+fn first_head(
+    logs: &[List<Logged>],
+    places: &[usize; MOST_THREADS],
+    stamps: &[u64; MOST_THREADS],
+) -> Option<(u32, u64)>
+    requires few { length logs.now ≤ 16 }
+    requires stamps { HasStamps logs.now places.now stamps.now }
+    ensures { IsLeastOf logs.now places.now (length logs.now) result }
+{
+    let first = first_least(stamps);
+    if first.1 < u64::MAX {
+        Some(first)
+    } else {
+        least_head(logs, places)
+    }
+}
+
+/// The least of the stamps, and the first thread that has it. The thread says nothing where the least is the greatest number.
+fn first_least(stamps: &[u64; MOST_THREADS]) -> (u32, u64)
+    ensures { IsFirstLeast stamps.now 16 result }
+{
+    let mut first = 0;
+    let mut least = u64::MAX;
+    for (thread, stamp) in stamps.iter().enumerate() {
+        if *stamp < least {
+            first = thread as u32;
+            least = *stamp;
+        }
+    }
+    (first, least)
 }
 
 /// Gives the first entry of those that are left, with its thread. `None` exactly where nothing is left.
@@ -70,51 +174,58 @@ fn take_least(logs: &[List<Logged>], places: &mut [usize; MOST_THREADS]) -> Opti
     ensures thread { IfSome result (λ x. x.0 < length logs.now) }
     ensures end { result ≡ None → places.new ≡ places.old }
 {
-    let (thread, head) = least_head(logs, places)?;
-    let index = thread as usize;
-    places[index] = place_after(&logs[index], places[index]);
-    Some((thread, head))
+    let least = least_head(logs, places)?;
+    let head = take_head(logs, places, least);
+    Some((least.0, head))
 }
 
-/// The place after one that has an entry.
-fn place_after(log: &List<Logged>, place: usize) -> usize
-    requires { place < length log.now }
-    ensures { result ≡ place + 1 }
+/// Gives the least head, of which thread and stamp are known.
+fn take_head(logs: &[List<Logged>], places: &mut [usize; MOST_THREADS], least: (u32, u64)) -> Logged
+    requires rising { AllByRecursion (RisesAbove 0) logs.now }
+    requires few { length logs.now ≤ 16 }
+    requires least { IsLeastHead logs.now places.old (length logs.now) least }
+    ensures first { order (left_of logs.now places.old) ≡ (least.0, result) ∷ order (left_of logs.now places.new) }
+    ensures places { places.new ≡ slice_set places.old least.0 (slice_index places.old least.0 + 1) }
 {
-    let end = log.items().len();
-    prove!(place < end);
-    place + 1
+    let index = least.0 as usize;
+    let place = places[index];
+    let head = logs[index].items()[place];
+    places[index] = place + 1;
+    head
 }
 
-/// Of the first entries that the threads have left, the one that stands before the others, with its thread.
-fn least_head(logs: &[List<Logged>], places: &[usize; MOST_THREADS]) -> Option<(u32, Logged)>
+/// Of the first entries that the threads have left, the thread and the stamp of the one that stands before the others.
+fn least_head(logs: &[List<Logged>], places: &[usize; MOST_THREADS]) -> Option<(u32, u64)>
     requires { length logs.now ≤ 16 }
     ensures { IsLeastOf logs.now places.now (length logs.now) result }
 {
     let mut least = None;
     for (thread, log) in logs.iter().enumerate() {
-        let head = entry_at(log, places[thread]);
-        least = earlier(least, thread as u32, head);
+        let stamp = stamp_at(log, places[thread]);
+        least = earlier(least, thread as u32, stamp);
     }
     least
 }
 
-/// The entry at this place of the log, from 0.
-fn entry_at(log: &List<Logged>, place: usize) -> Option<Logged>
-    ensures { result ≡ slice_get log.now place }
+/// The stamp of the entry at this place of the log, from 0.
+fn stamp_at(log: &List<Logged>, place: usize) -> Option<u64>
+    ensures { result ≡ stamp_in (slice_get log.now place) }
 {
-    log.items().get(place).copied()
+    match log.items().get(place) {
+        Some(logged) => Some(logged.stamp),
+        None => None,
+    }
 }
 
 /// The least so far, or the head of the next thread where its stamp is smaller.
-fn earlier(least: Option<(u32, Logged)>, thread: u32, head: Option<Logged>) -> Option<(u32, Logged)>
-    ensures { result ≡ earlier least thread head }
+fn earlier(least: Option<(u32, u64)>, thread: u32, stamp: Option<u64>) -> Option<(u32, u64)>
+    ensures { result ≡ earlier least thread stamp }
 {
-    let Some(head) = head else {
+    let Some(stamp) = stamp else {
         return least;
     };
     match least {
-        Some(first) if first.1.stamp <= head.stamp => Some(first),
-        _ => Some((thread, head)),
+        Some(first) if first.1 <= stamp => Some(first),
+        _ => Some((thread, stamp)),
     }
 }

@@ -4,11 +4,12 @@ ghost use Rattle.std.specs.Prelude.{◌≡◌, ◌+◌, ◌≤◌, ◌++◌, ◌
 ghost use Rattle.std.specs.List.{AllByRecursion};
 ghost use Rattle.plain_monitor.specs.History.{RisesAbove};
 ghost use Rattle.lock_journal.specs.LinesLeft.{cells_left, prints_left};
+ghost use Rattle.lock_journal.specs.inner.Heads.{HasStamps};
 ghost use Rattle.lock_journal.specs.inner.LineTexts.{printed_in, print_line, dump_line, lines_of};
 
 use crate::cells::Place;
 use crate::line::Line;
-use crate::order::Merge;
+use crate::order::{Ahead, Merge};
 use crate::record::RunRecord;
 use crate::words::{push_thread, push_value};
 use object_program::Program;
@@ -55,7 +56,22 @@ fn next_printed(merge: &mut Merge, run: &RunRecord) -> Option<(u32, Printed)>
         (λ x. prints_left run.now merge.old ≡ lines_of run.now.program run.now.shots x.0 x.1 ++ prints_left run.now merge.new) }
     ensures end { IfNone result (prints_left run.now merge.new ≡ []) }
 {
-    while let Some((t, logged)) = merge.next(run) {
+    let mut ahead = merge.ahead(run);
+    let printed = next_printed_ahead(&mut ahead, run);
+    merge.go_to(&ahead);
+    printed
+}
+
+/// The same with the stamps of the heads at hand.
+fn next_printed_ahead(ahead: &mut Ahead, run: &RunRecord) -> Option<(u32, Printed)>
+    requires rising { AllByRecursion (RisesAbove 0) run.now.logs }
+    requires few { length run.now.logs ≤ 16 }
+    requires stamps { HasStamps run.now.logs ahead.old.places ahead.old.stamps }
+    ensures first { MatchOption result (prints_left run.now ahead.old.places ≡ [])
+        (λ x. prints_left run.now ahead.old.places ≡ lines_of run.now.program run.now.shots x.0 x.1 ++ prints_left run.now ahead.new.places) }
+    ensures end { IfNone result (prints_left run.now ahead.new.places ≡ []) }
+{
+    while let Some((t, logged)) = ahead.next(run) {
         if let Some(printed) = printed_in(&logged.entry) {
             return Some((t, printed));
         }

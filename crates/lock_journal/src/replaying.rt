@@ -17,8 +17,8 @@ pub fn replay(alloc: Global, run: &RunRecord) -> Result<Machine, NoMemory>
     ensures { IfOk result (λ m. machine_after run.now.program run.now.fuel run.now.logs ≡ Some m) }
 {
     let mut machine = Machine::new(alloc, &run.program, run.fuel)?;
-    let mut merge = Merge::new(run);
-    while let Some((t, logged)) = merge.next(run) {
+    let mut ahead = Merge::new(run).ahead(run);
+    while let Some((t, logged)) = ahead.next(run) {
         match machine.take(t, &logged.entry) {
             Ok(()) => {}
             Err(Refused) => unreachable!(),

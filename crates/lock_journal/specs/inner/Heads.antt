@@ -1,26 +1,50 @@
 -- Which entry a merge of the logs gives next.
-use Rattle.std.specs.Prelude.{◌≡◌, ◌≢◌, ℕ, ◌<◌, nat_le, if◌then◌else◌, IsTrue, List, slice_get, slice_index, Option, Some, None}
+use Rattle.std.specs.Prelude.{◌≡◌, ◌≢◌, ℕ, ◌-◌, ◌^◌, ◌<◌, ◌≤◌, ◌||◌, ◌&&◌, ◌==◌, nat_lt, nat_le, if◌then◌else◌, IsTrue, List, slice_get, slice_index, Option, Some, None}
 use Rattle.plain_monitor.specs.declared.entry.Logged.{Logged}
-use Rattle.plain_monitor.specs.Order.{is_before}
 use Rattle.plain_monitor.specs.History.{log_of}
 
 -- the first entry that thread t has left
 abbrev pub head_of : List (List Logged) → List ℕ → ℕ → Option Logged
 head_of logs places t = slice_get (log_of logs t) (slice_index places t)
 
--- x is the first entry that its thread has left, and stands before those of the others of the first n threads
-pub record IsLeastHead (logs : List (List Logged)) (places : List ℕ) (n : ℕ) (x : ℕ × Logged) : Type 0 where
+abbrev pub stamp_in : Option Logged → Option ℕ
+stamp_in None = None
+stamp_in (Some l) = Some l.stamp
+
+-- the stamp of the first entry that thread t has left
+abbrev pub stamp_of : List (List Logged) → List ℕ → ℕ → Option ℕ
+stamp_of logs places t = stamp_in (head_of logs places t)
+
+-- x is the thread and the stamp of the first entry that the thread has left, which stands before those of the others of the first
+-- n threads
+pub record IsLeastHead (logs : List (List Logged)) (places : List ℕ) (n : ℕ) (x : ℕ × ℕ) : Type 0 where
   pub thread : x.0 < n
-  pub head : head_of logs places x.0 ≡ Some x.1
-  pub before : (u : ℕ) (m : Logged) → u < n → u ≢ x.0 → head_of logs places u ≡ Some m → IsTrue (is_before x (u, m))
+  pub head : stamp_of logs places x.0 ≡ Some x.1
+  pub before : (u s : ℕ) → u < n → u ≢ x.0 → stamp_of logs places u ≡ Some s → IsTrue (nat_lt x.1 s || ((x.1 == s) && nat_lt x.0 u))
 
 -- the least head of the first n threads, and none where they have nothing left
-abbrev pub IsLeastOf : List (List Logged) → List ℕ → ℕ → Option (ℕ × Logged) → Type 0
-IsLeastOf logs places n None = (u : ℕ) → u < n → head_of logs places u ≡ None
+abbrev pub IsLeastOf : List (List Logged) → List ℕ → ℕ → Option (ℕ × ℕ) → Type 0
+IsLeastOf logs places n None = (u : ℕ) → u < n → stamp_of logs places u ≡ None
 IsLeastOf logs places n (Some x) = IsLeastHead logs places n x
 
 -- the least head of the threads before t, or the head of t where its stamp is smaller
-abbrev pub earlier : Option (ℕ × Logged) → ℕ → Option Logged → Option (ℕ × Logged)
+abbrev pub earlier : Option (ℕ × ℕ) → ℕ → Option ℕ → Option (ℕ × ℕ)
 earlier least t None = least
-earlier None t (Some head) = Some (t, head)
-earlier (Some first) t (Some head) = if nat_le first.1.stamp head.stamp then Some first else Some (t, head)
+earlier None t (Some stamp) = Some (t, stamp)
+earlier (Some first) t (Some stamp) = if nat_le first.1 stamp then Some first else Some (t, stamp)
+
+-- a stamp, or the greatest number of 64 bits where there is none
+abbrev pub or_greatest : Option ℕ → ℕ
+or_greatest None = 2 ^ 64 - 1
+or_greatest (Some stamp) = stamp
+
+-- the stamps of the first entries that the threads have left, for as many threads as a program has at most
+abbrev pub HasStamps : List (List Logged) → List ℕ → List ℕ → Type 0
+HasStamps logs places stamps = (t : ℕ) → t < 16 → slice_index stamps t ≡ or_greatest (stamp_of logs places t)
+
+-- the least of the first n stamps, with the first thread that has it where it isn't the greatest number
+pub record IsFirstLeast (stamps : List ℕ) (n : ℕ) (x : ℕ × ℕ) : Type 0 where
+  pub within : x.0 ≤ n
+  pub at : x.1 < 2 ^ 64 - 1 → (x.0 < n) × (slice_index stamps x.0 ≡ x.1)
+  pub least : (u : ℕ) → u < n → x.1 ≤ slice_index stamps u
+  pub first : (u : ℕ) → u < x.0 → x.1 < slice_index stamps u
