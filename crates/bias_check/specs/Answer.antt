@@ -50,7 +50,8 @@ pub record IsLeastBadHash (p : ProgramText) (fuel start : ℕ) (lines : List (Li
   pub least : (o : ℕ) → o < object → hash_fits start entries o ≡ true
 
 -- the lines are a run of so many entries, in which all hashes fit, and behind it the threads stand so
-pub record IsLegalRun (p : ProgramText) (fuel start : ℕ) (lines : List (List ℕ)) (count : ℕ) (state : Reached) : Type 0 where
+pub record IsLegalRun (p : ProgramText) (fuel start : ℕ) (lines : List (List ℕ)) (count : ℕ)
+    (state : Reached) : Type 0 where
   pub entries : List (ℕ × Logged)
   pub machine : PlainMachine
   pub run : IsRun p None (new_machine p fuel) lines entries machine

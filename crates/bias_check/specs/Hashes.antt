@@ -43,14 +43,16 @@ draws_by t xs = count_by (λ x. (x.0 == t) && is_draw x.1.entry) xs
 
 -- what an entry of thread t drew, behind n draws of the thread, is right
 abbrev pub is_right : ℕ → ℕ → ℕ → Entry → Bool
-is_right start t n (Hash object value (Some number)) = (number == n + 1) && (value == nth_value (first_word start t) number)
+is_right start t n (Hash object value (Some number)) =
+    (number == n + 1) && (value == nth_value (first_word start t) number)
 is_right start t n e = true
 
 -- each draw of object o among these is right, where `done` stands before them
 abbrev pub are_right : ℕ → ℕ → List (ℕ × Logged) → List (ℕ × Logged) → Bool
 are_right start o done [] = true
 are_right start o done (x ∷ xs) =
-    (not (is_draw_of o x.1.entry) || is_right start x.0 (draws_by x.0 done) x.1.entry) && are_right start o (done ++ x ∷ []) xs
+    (not (is_draw_of o x.1.entry) || is_right start x.0 (draws_by x.0 done) x.1.entry)
+    && are_right start o (done ++ x ∷ []) xs
 
 -- the hashes of object o fit
 abbrev pub hash_fits : ℕ → List (ℕ × Logged) → ℕ → Bool

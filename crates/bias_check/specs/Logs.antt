@@ -9,7 +9,8 @@ use Rattle.plain_machine.specs.Legal.{IsLegal, machine_after}
 
 -- the entries split into one log for each thread: they are the order of these logs, which are legal, and this machine is the
 -- one under them
-pub record SplitsIntoLegalLogs (p : ProgramText) (fuel : ℕ) (entries : List (ℕ × Logged)) (machine : PlainMachine) : Type 0 where
+pub record SplitsIntoLegalLogs (p : ProgramText) (fuel : ℕ) (entries : List (ℕ × Logged))
+    (machine : PlainMachine) : Type 0 where
   pub logs : List (List Logged)
   pub threads : length logs ≡ length p.threads
   pub split : (t : ℕ) → log_of logs t ≡ of_thread t entries

@@ -13,13 +13,15 @@ IsAbove None x = Unit {0}
 IsAbove (Some before) x = IsTrue (is_before before x)
 
 -- the line is a step of the machine m to the machine n, by the entry x
-pub record IsStep (p : ProgramText) (before : Option (ℕ × Logged)) (m : PlainMachine) (line : List ℕ) (x : ℕ × Logged) (n : PlainMachine) : Type 0 where
+pub record IsStep (p : ProgramText) (before : Option (ℕ × Logged)) (m : PlainMachine) (line : List ℕ)
+    (x : ℕ × Logged) (n : PlainMachine) : Type 0 where
   pub tells : Tells p line x
   pub above : IsAbove before x
   pub taken : take m x.0 x.1.entry ≡ Some n
 
 -- the lines are a run from the machine m to the machine n, by these entries
-abbrev pub IsRun : ProgramText → Option (ℕ × Logged) → PlainMachine → List (List ℕ) → List (ℕ × Logged) → PlainMachine → Type 0
+abbrev pub IsRun : ProgramText → Option (ℕ × Logged) → PlainMachine → List (List ℕ) → List (ℕ × Logged)
+    → PlainMachine → Type 0
 IsRun p before m [] [] n = n ≡ m
 IsRun p before m [] (x ∷ xs) n = ⊥
 IsRun p before m (line ∷ lines) [] n = ⊥

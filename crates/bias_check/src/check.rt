@@ -44,7 +44,8 @@ fn is_above(last: Option<(u64, u32)>, stamp: u64, thread: u32) -> bool
 /// Lets the machine take the entry that the words tell, or their second reading, and gives the one that it took.
 fn take(machine: &mut Machine, t: u32, read: &EntryRead) -> Option<Entry>
     requires { t < length machine.old.threads }
-    ensures taken { MatchOption result (taken machine.old t read.now ≡ None) (λ e. taken machine.old t read.now ≡ Some (e, machine.new)) }
+    ensures taken { MatchOption result (taken machine.old t read.now ≡ None)
+        (λ e. taken machine.old t read.now ≡ Some (e, machine.new)) }
     ensures refused { result ≡ None → machine.new ≡ machine.old }
     ensures threads { length machine.new.threads ≡ length machine.old.threads }
 {
@@ -163,7 +164,10 @@ fn answer(
     lines: &[u8],
 ) -> Result<Checked, CheckFault>
     requires { length lines.now < 2 ^ 32 }
-    ensures { (result ≡ Err CheckFault.NoMemory) ⊎ (result ≡ answer_of (checked_from (names_of program.now) 0 (first_check program.now fuel start) (lines_of lines.now)) (length (lines_of lines.now))) }
+    ensures { (result ≡ Err CheckFault.NoMemory)
+        ⊎ (result ≡ answer_of
+        (checked_from (names_of program.now) 0 (first_check program.now fuel start) (lines_of lines.now))
+        (length (lines_of lines.now))) }
 {
     let Ok(names) = Names::new(alloc, program) else {
         return Err(CheckFault::NoMemory);
@@ -212,7 +216,8 @@ pub fn check_journal(
     ensures is_true { IsTrueOf program.now fuel start (lines_of lines.now) result }
 
     // And where an answer holds, it comes, unless memory is wanting.
-    ensures only { (answer : Result Checked CheckFault) → IsTrueOf program.now fuel start (lines_of lines.now) answer → answer ≢ Err CheckFault.NoMemory
+    ensures only { (answer : Result Checked CheckFault)
+        → IsTrueOf program.now fuel start (lines_of lines.now) answer → answer ≢ Err CheckFault.NoMemory
         → (result ≡ answer) ⊎ (result ≡ Err CheckFault.NoMemory) }
 {
     know(program);

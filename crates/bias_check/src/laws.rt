@@ -17,21 +17,26 @@ ghost use Rattle.bias_check.specs.Logs.{SplitsIntoLegalLogs};
 /// Where lines are a run, as those of a legal journal are, their entries are the order of the logs that they split into, and
 /// these logs are legal, so that the journal can be replayed. The machine behind the lines is the one under the logs.
 pub fn runs_split_into_legal_logs()
-    ensures { (p : ProgramText) (fuel : ℕ) (lines : List (List ℕ)) (entries : List (ℕ × Logged)) (machine : PlainMachine) → IsRun p None (new_machine p fuel) lines entries machine
+    ensures { (p : ProgramText) (fuel : ℕ) (lines : List (List ℕ)) (entries : List (ℕ × Logged))
+        (machine : PlainMachine) → IsRun p None (new_machine p fuel) lines entries machine
         → SplitsIntoLegalLogs p fuel entries machine }
 {}
 
 /// Of the entries that a line tells, the machine takes at most one.
 pub fn a_line_is_at_most_one_step()
-    ensures { (p : ProgramText) (before : Option (ℕ × Logged)) (m : PlainMachine) (line : List ℕ) (x y : ℕ × Logged) (n k : PlainMachine) → IsProgram p
+    ensures { (p : ProgramText) (before : Option (ℕ × Logged)) (m : PlainMachine) (line : List ℕ)
+        (x y : ℕ × Logged) (n k : PlainMachine) → IsProgram p
         → IsStep p before m line x n → IsStep p before m line y k → (x ≡ y) × (n ≡ k) }
 {}
 
 /// The journal that is written of legal logs is a run, where each entry is the program's and no stamp passes 46 bits: its lines are
 /// those of its text, and the machine behind them is the one under the logs.
 pub fn journals_of_legal_logs_are_runs()
-    ensures run { (p : ProgramText) (fuel : ℕ) (logs : List (List Logged)) (machine : PlainMachine) → IsLegal p fuel logs → machine_after p fuel logs ≡ Some machine
-        → AllByRecursion (IsTellable p) (order logs) → IsRun p None (new_machine p fuel) (journal_of p logs) (order logs) machine }
-    ensures lines { (p : ProgramText) (logs : List (List Logged)) → IsProgram p → AllByRecursion (IsTellable p) (order logs)
+    ensures run { (p : ProgramText) (fuel : ℕ) (logs : List (List Logged)) (machine : PlainMachine)
+        → IsLegal p fuel logs → machine_after p fuel logs ≡ Some machine
+        → AllByRecursion (IsTellable p) (order logs)
+        → IsRun p None (new_machine p fuel) (journal_of p logs) (order logs) machine }
+    ensures lines { (p : ProgramText) (logs : List (List Logged)) → IsProgram p
+        → AllByRecursion (IsTellable p) (order logs)
         → lines_of (text_of_lines (journal_of p logs)) ≡ journal_of p logs }
 {}

@@ -18,7 +18,8 @@ pub struct Parts<'a> {
 /// What stands before and behind the first line of the text that is exactly `%journal`, with its line feed; `None` exactly where no line
 /// is.
 pub fn split_text(text: &[u8]) -> Option<Parts<'_>>
-    ensures { MatchOption result (has_journal text.now ≡ false) (λ parts. ArePartsOf text.now parts.program.now parts.journal.now) }
+    ensures { MatchOption result (has_journal text.now ≡ false)
+        (λ parts. ArePartsOf text.now parts.program.now parts.journal.now) }
 {
     let mut left = text;
     let mut at = 0;

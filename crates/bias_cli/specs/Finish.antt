@@ -127,21 +127,25 @@ status_of m =
 
 -- a run of the program under these options left the record and the closed heap, and this is the machine under it: the one behind
 -- all logged entries in stamped order
-pub record IsRunOf (o : Options) (p : ProgramText) (r : RunRecord) (c : ClosedSeen) (machine : PlainMachine) : Type 0 where
+pub record IsRunOf (o : Options) (p : ProgramText) (r : RunRecord) (c : ClosedSeen)
+    (machine : PlainMachine) : Type 0 where
   pub ran : IsRan (settings_of o) p r c
   pub under : machine_after p o.fuel r.logs ≡ Some machine
 
 -- a run: its status is that of the machine under the record, and its text is written, and behind it the report where it is
 -- asked for
-pub record IsRun (o : Options) (p : ProgramText) (before after : SinkSeen) (status : ℕ) (r : RunRecord) (c : ClosedSeen) : Type 0 where
+pub record IsRun (o : Options) (p : ProgramText) (before after : SinkSeen) (status : ℕ) (r : RunRecord)
+    (c : ClosedSeen) : Type 0 where
   pub machine : PlainMachine
   pub run : IsRunOf o p r c machine
   pub report : List (List ℕ)
   pub reported : IsReportWhere o.report r machine report
-  pub written : IsWritten before after status (status_of machine) (text_of_run o.stats o.journal r machine ++ text_of_lines report)
+  pub written : IsWritten before after status (status_of machine)
+      (text_of_run o.stats o.journal r machine ++ text_of_lines report)
 
 -- a check: the answer that holds of the lines is written, with its status
-pub record IsCheck (p : ProgramText) (fuel start : ℕ) (lines : List (List ℕ)) (before after : SinkSeen) (status : ℕ) : Type 0 where
+pub record IsCheck (p : ProgramText) (fuel start : ℕ) (lines : List (List ℕ)) (before after : SinkSeen)
+    (status : ℕ) : Type 0 where
   pub answer : Result Checked CheckFault
   pub verdict : IsVerdict p fuel start lines answer
   pub written : IsWritten before after status (verdict_status answer) (verdict_text p answer)
@@ -154,8 +158,10 @@ LeavesNothing finish = (finish.run ≡ None) × (finish.closed ≡ None)
 abbrev pub Meets : SinkSeen → SinkSeen → Finish → Due → Type 0
 Meets before after finish (Tells status text) = LeavesNothing finish × IsWritten before after finish.status status text
 Meets before after finish (Runs o p) =
-    (r : RunRecord) × (c : ClosedSeen) × (finish.run ≡ Some r) × (finish.closed ≡ Some c) × IsRun o p before after finish.status r c
-Meets before after finish (Checks p fuel start lines) = LeavesNothing finish × IsCheck p fuel start lines before after finish.status
+    (r : RunRecord) × (c : ClosedSeen) × (finish.run ≡ Some r) × (finish.closed ≡ Some c)
+    × IsRun o p before after finish.status r c
+Meets before after finish (Checks p fuel start lines) =
+    LeavesNothing finish × IsCheck p fuel start lines before after finish.status
 
 -- memory was wanting: nothing is left, and the sink is as it was
 pub record IsGivenUp {K : Type 0} (before after : K) (finish : Finish) : Type 0 where
@@ -164,7 +170,8 @@ pub record IsGivenUp {K : Type 0} (before after : K) (finish : Finish) : Type 0 
   pub unwritten : after ≡ before
 
 -- the source was read as the command asks, and what was due then was done; words that are not accepted are no command
-pub record IsFinish (c : Option Command) (source_before source_after : SourceSeen) (sink_before sink_after : SinkSeen) (finish : Finish) : Type 0 where
+pub record IsFinish (c : Option Command) (source_before source_after : SourceSeen)
+    (sink_before sink_after : SinkSeen) (finish : Finish) : Type 0 where
   pub reading : Reading
   pub read : IsReading (most_asked c) source_before source_after reading
   pub met : Meets sink_before sink_after finish (due_of c reading)

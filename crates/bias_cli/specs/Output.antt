@@ -7,4 +7,5 @@ Wrote held_before held_after bytes = (held : List ℕ) → held_before ≡ Some 
 
 -- it holds a front of the text behind what it held
 abbrev pub WroteFront : Option (List ℕ) → Option (List ℕ) → List ℕ → Type 0
-WroteFront held_before held_after text = (front : List ℕ) × (rest : List ℕ) × (text ≡ front ++ rest) × Wrote held_before held_after front
+WroteFront held_before held_after text =
+    (front : List ℕ) × (rest : List ℕ) × (text ≡ front ++ rest) × Wrote held_before held_after front

@@ -30,14 +30,16 @@ number_text n = codes " " ++ decimal n
 
 abbrev pub count_line : ProgramText → ObjectCount → List ℕ
 count_line p c =
-    codes "object " ++ object_text p c.object ++ flat_map number_text c.paths ++ codes " handovers" ++ number_text c.handovers
+    codes "object " ++ object_text p c.object ++ flat_map number_text c.paths ++ codes " handovers"
+    ++ number_text c.handovers
     ++ newline
 
 -- the lines of a report; the machine is the one under the record
 pub record IsReport (r : RunRecord) (m : PlainMachine) (lines : List (List ℕ)) : Type 0 where
   pub cycles : List Cycle
   pub are_all : AreCycles m cycles
-  pub lines_are : lines ≡ only_where (is_stuck m) (cycle_lines r.program cycles) ++ map (count_line r.program) (counts_of r.program (order r.logs))
+  pub lines_are : lines ≡ only_where (is_stuck m) (cycle_lines r.program cycles)
+      ++ map (count_line r.program) (counts_of r.program (order r.logs))
 
 -- no lines, where no report is asked for
 abbrev pub IsReportWhere : Bool → RunRecord → PlainMachine → List (List ℕ) → Type 0

@@ -32,6 +32,7 @@ verdict_status (Err (Unreadable number)) = 3
 verdict_status (Err NoMemory) = 7
 
 -- the answer is the one that holds of these lines
-pub record IsVerdict (p : ProgramText) (fuel start : ℕ) (lines : List (List ℕ)) (answer : Result Checked CheckFault) : Type 0 where
+pub record IsVerdict (p : ProgramText) (fuel start : ℕ) (lines : List (List ℕ))
+    (answer : Result Checked CheckFault) : Type 0 where
   pub holds : IsTrueOf p fuel start lines answer
   pub given : answer ≢ Err NoMemory

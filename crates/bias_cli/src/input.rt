@@ -61,7 +61,8 @@ fn read_piece<S: Source>(
     ensures fault { (result ≡ Err ReadError.Fault) → IsTrue (rose (S.faults source.old) (S.faults source.new)) }
     ensures more { IfOk result (λ n. vec_len bytes.new ≡ vec_len bytes.old + n) }
     ensures most { OnOk result (vec_len bytes.new ≤ most + 1) }
-    ensures took { IfOk result (λ n. TookMore n (S.left source.old) (S.left source.new) bytes.old.items bytes.new.items) }
+    ensures took { IfOk result (λ n. TookMore n (S.left source.old)
+        (S.left source.new) bytes.old.items bytes.new.items) }
     ensures some { TookSome (most + 1 - vec_len bytes.old) (S.left source.old) (S.left source.new) }
     ensures ended { IfOk result (λ n. n ≡ 0 → IsAtEnd (S.left source.old)) }
 {

@@ -27,9 +27,11 @@ fn write_lines<K: Sink>(
 ) -> Result<(), Failed>
     requires { IsShown run.now machine.now }
     ensures counted { K.faults sink.old ≤ K.faults sink.new }
-    ensures ok { OnOk result (Wrote (K.held sink.old) (K.held sink.new) (text_of_run stats journal run.now machine.now)) }
+    ensures ok { OnOk result (Wrote (K.held sink.old) (K.held sink.new)
+        (text_of_run stats journal run.now machine.now)) }
     ensures failed { OnErr result (IsTrue (rose (K.faults sink.old) (K.faults sink.new))) }
-    ensures front { OnErr result (WroteFront (K.held sink.old) (K.held sink.new) (text_of_run stats journal run.now machine.now)) }
+    ensures front { OnErr result
+        (WroteFront (K.held sink.old) (K.held sink.new) (text_of_run stats journal run.now machine.now)) }
 {
     let mut lines = Lines::new(stats, journal);
     let mut line = Line::new();

@@ -41,13 +41,22 @@ pub record Alike (k l : Known) : Type 0 where
 
 -- the world after all stores of thread r's revocation, where it knows l
 abbrev pub revoked_world : World → ℕ → Revocation → Known → World
-revoked_world w r b l = record { shape = w.shape; start = w.start; biasing = w.biasing; words = words_after (revocation_writes w.shape r b w.words) w.words; known = with_known r l w.known }
+revoked_world w r b l =
+    record {
+      shape = w.shape;
+      start = w.start;
+      biasing = w.biasing;
+      words = words_after (revocation_writes w.shape r b w.words) w.words;
+      known = with_known r l w.known;
+    }
 
 -- what it knows then: what it knew, and the verdict
 pub record HasCounted (w : World) (r : ℕ) (b : Revocation) (l : Known) : Type 0 where
   pub same : Alike (w.known r) l
   pub counts : let c = class_of w.shape b.object in
-      l.counts ≡ with_verdict_counted (w.known r).counts c (decided (w.words (Revocations c)) (w.words (LastBulk c)) b.now).0 (is_reset (w.words (Revocations c)) (w.words (LastBulk c)) b.now)
+      l.counts ≡ with_verdict_counted (w.known r).counts c
+      (decided (w.words (Revocations c)) (w.words (LastBulk c)) b.now).0
+      (is_reset (w.words (Revocations c)) (w.words (LastBulk c)) b.now)
 
 -- by these words the mark of o is validly biased to a thread
 abbrev pub IsBiasedToOne : Shape → (Name → ℕ) → ℕ → Type 0
@@ -57,10 +66,13 @@ IsBiasedToOne s f o = is_valid_bias (read_mark (f (Mark o))) (f (Prototype (clas
 -- since then and this one are the first that the rules list; and its stores are all of them.
 abbrev pub IsNextStore : Shape → ℕ → Revocation → List StepMade → Name → ℕ → Type 0
 IsNextStore s r b stood at word =
-    (f : Name → ℕ) → IsBiasedToOne s f b.object → FoundAfter f stood → (rest : List Write) × (writes_in stood ++ write at word ∷ rest ≡ revocation_writes s r b f)
+    (f : Name → ℕ) → IsBiasedToOne s f b.object → FoundAfter f stood → (rest : List Write)
+    × (writes_in stood ++ write at word ∷ rest ≡ revocation_writes s r b f)
 
 abbrev pub AreAllStores : Shape → ℕ → Revocation → List StepMade → Type 0
-AreAllStores s r b stood = (f : Name → ℕ) → IsBiasedToOne s f b.object → FoundAfter f stood → writes_in stood ≡ revocation_writes s r b f
+AreAllStores s r b stood =
+    (f : Name → ℕ) → IsBiasedToOne s f b.object → FoundAfter f stood
+    → writes_in stood ≡ revocation_writes s r b f
 
 -- What the thread knows of the next store.
 pub record MayStore (s : Shape) (k : Known) (e : Purpose) (r : ℕ) (b : Revocation) (at : Name) (word : ℕ) : Type 0 where
@@ -70,7 +82,8 @@ pub record MayStore (s : Shape) (k : Known) (e : Purpose) (r : ℕ) (b : Revocat
 
 -- The first store. The thread has stored nothing at its safepoint, and has seen there that the object's mark is validly biased to a thread; it
 -- counts the verdict that the policy gives by the class's words as it saw them there.
-pub record MayBeginRevoking (s : Shape) (k : Known) (e : Purpose) (r : ℕ) (b : Revocation) (verdict : Verdict) (reset : Bool) (at : Name) (word : ℕ) : Type 0 where
+pub record MayBeginRevoking (s : Shape) (k : Known) (e : Purpose) (r : ℕ) (b : Revocation) (verdict : Verdict)
+    (reset : Bool) (at : Name) (word : ℕ) : Type 0 where
   pub reached : k.reached ≡ true
   pub calm : k.stage ≡ Calm
   pub operation : Op
@@ -78,14 +91,18 @@ pub record MayBeginRevoking (s : Shape) (k : Known) (e : Purpose) (r : ℕ) (b :
   pub allowed : RevokesWithin operation b.rebias
   pub object : b.object < length s.objects
   pub unwritten : writes_in k.seen_at_safepoint ≡ []
-  pub biased : (mark prototype : ℕ) × (last_seen (Mark b.object) k.seen_at_safepoint ≡ Some mark) × (last_seen (Prototype (class_of s b.object)) k.seen_at_safepoint ≡ Some prototype)
+  pub biased : (mark prototype : ℕ) × (last_seen (Mark b.object) k.seen_at_safepoint ≡ Some mark)
+      × (last_seen (Prototype (class_of s b.object)) k.seen_at_safepoint ≡ Some prototype)
       × (is_valid_bias (read_mark mark) prototype ≡ true)
-  pub decides : (count last : ℕ) × (last_seen (Revocations (class_of s b.object)) k.seen_at_safepoint ≡ Some count) × (last_seen (LastBulk (class_of s b.object)) k.seen_at_safepoint ≡ Some last)
+  pub decides : (count last : ℕ)
+      × (last_seen (Revocations (class_of s b.object)) k.seen_at_safepoint ≡ Some count)
+      × (last_seen (LastBulk (class_of s b.object)) k.seen_at_safepoint ≡ Some last)
       × (verdict ≡ (decided count last b.now).0) × (reset ≡ is_reset count last b.now)
   pub store : MayStore s k e r b at word
 
 -- Each other store.
-pub record MayGoOnRevoking (s : Shape) (k : Known) (e : Purpose) (r : ℕ) (b : Revocation) (at : Name) (word : ℕ) : Type 0 where
+pub record MayGoOnRevoking (s : Shape) (k : Known) (e : Purpose) (r : ℕ) (b : Revocation) (at : Name)
+    (word : ℕ) : Type 0 where
   pub reached : k.reached ≡ true
   pub its_revocation : revocation_in k.stage ≡ Some b
   pub store : MayStore s k e r b at word
@@ -120,7 +137,8 @@ is_kept_on_request _ = false
 pub record MayLookAfterRevoking (s : Shape) (k : Known) (e : Purpose) (r : ℕ) (b : Revocation) : Type 0 where
   pub ends : MayEndRevoking s k e r b
   pub check : e.check ≡ k.checking
-  pub since : (n : Name) (v : ℕ) → is_kept_on_request n ≡ true → last_seen n k.seen ≡ Some v → last_seen n k.seen_at_safepoint ≡ Some v
+  pub since : (n : Name) (v : ℕ) → is_kept_on_request n ≡ true → last_seen n k.seen ≡ Some v
+      → last_seen n k.seen_at_safepoint ≡ Some v
 
 -- Thread r stands before the release of its safepoint.
 pub record IsReleasing (w : World) (r : ℕ) : Type 0 where

@@ -30,7 +30,8 @@ ghost use Rattle.core_world.specs.Trees.BiasSteps.{stage_after};
 /// clause holds, with the same plain objects, where its thread counts on nothing that it saw before.
 pub fn a_revocation_as_a_whole_keeps_the_world_valid()
     ensures { (w : World) (objects : List PlainObject) (r : ℕ) (b : Revocation) (l : Known) → (w.known r).reached ≡ true
-        → is_biased (marks w b.object) ≡ true → HasCounted w r b l → l.seen ≡ [] → l.seen_at_safepoint ≡ [] → Fits w objects → Fits (revoked_world w r b l) objects }
+        → is_biased (marks w b.object) ≡ true → HasCounted w r b l → l.seen ≡ [] → l.seen_at_safepoint ≡ []
+        → Fits w objects → Fits (revoked_world w r b l) objects }
 {}
 
 /// The first store of a revocation, with which its thread counts the verdict, keeps the world valid, with the same plain objects. The
@@ -40,20 +41,27 @@ pub fn the_first_store_keeps_the_world_valid()
     // prototype and the words of the class, and that it stored nothing there are of its steps; the verdict, and that this is the rules' first
     // store, follow from what it saw (`the_steps_make_the_stores_of_the_rules`). That the object was validly biased before the first store
     // follows from the clause that a word at a reached safepoint is as it was seen there
-    ensures keeps { (w : World) (objects : List PlainObject) (r : ℕ) (e : Purpose) (b : Revocation) (verdict : Verdict) (reset : Bool) (at : Name) (word : ℕ)
+    ensures keeps { (w : World) (objects : List PlainObject) (r : ℕ) (e : Purpose) (b : Revocation)
+        (verdict : Verdict) (reset : Bool) (at : Name) (word : ℕ)
         → MayBeginRevoking w.shape (w.known r) e r b verdict reset at word → IsValid w objects
-        → IsValid (world_after (revoke_plan e b (own.CountVerdict (class_of w.shape b.object) verdict reset) at word) r w) objects }
-    ensures begins { (w : World) (objects : List PlainObject) (r : ℕ) (e : Purpose) (b : Revocation) (verdict : Verdict) (reset : Bool) (at : Name) (word : ℕ)
+        → IsValid (world_after
+        (revoke_plan e b (own.CountVerdict (class_of w.shape b.object) verdict reset) at word) r w) objects }
+    ensures begins { (w : World) (objects : List PlainObject) (r : ℕ) (e : Purpose) (b : Revocation)
+        (verdict : Verdict) (reset : Bool) (at : Name) (word : ℕ)
         → MayBeginRevoking w.shape (w.known r) e r b verdict reset at word → Fits w objects
-        → RevokesSince (world_after (revoke_plan e b (own.CountVerdict (class_of w.shape b.object) verdict reset) at word) r w) objects w }
+        → RevokesSince
+        (world_after
+        (revoke_plan e b (own.CountVerdict (class_of w.shape b.object) verdict reset) at word) r w) objects w }
 {}
 
 /// So does each other store. The revocation that is under way goes on.
 pub fn the_next_store_keeps_the_world_valid()
     // `MayGoOnRevoking`: where the thread stands, and its steps since its safepoint was reached, by which this is the rules' next store
     ensures keeps { (e : Purpose) (b : Revocation) (at : Name) (word : ℕ)
-        → KeepsValid (λ w r. MayGoOnRevoking w.shape (w.known r) e r b at word) (λ w r. revoke_plan e b own.Same at word) }
-    ensures goes_on { (e : Purpose) (b : Revocation) (at : Name) (word : ℕ) (w : World) (objects : List PlainObject) (s : IsRevoking w objects)
+        → KeepsValid (λ w r. MayGoOnRevoking w.shape (w.known r) e r b at word)
+        (λ w r. revoke_plan e b own.Same at word) }
+    ensures goes_on { (e : Purpose) (b : Revocation) (at : Name) (word : ℕ) (w : World)
+        (objects : List PlainObject) (s : IsRevoking w objects)
         → s.requester < w.shape.threads → MayGoOnRevoking w.shape (w.known s.requester) e s.requester b at word
         → RevokesSince (world_after (revoke_plan e b own.Same at word) s.requester w) objects s.before }
 {}
@@ -61,17 +69,23 @@ pub fn the_next_store_keeps_the_world_valid()
 /// The steps of a revocation make exactly the stores that its rules list, in their order, whatever the thread finds: where they have led to a
 /// store, by steps after some that stored nothing, that is the next one; where they have led to their end, all are made.
 pub fn the_steps_make_the_stores_of_the_rules()
-    ensures next { (s : Shape) (t : ℕ) (e : Purpose) (b : Revocation) (ms earlier : List StepMade) (p : StepPlan) (g : ℕ → Todo RevocationOutcome) (word : ℕ)
-        → writes_in earlier ≡ [] → Leads (revoke_at_safepoint_steps s t e b) ms (step p g) → p.act ≡ Store word → IsNextStore s t b (ms ++ earlier) p.at word }
-    ensures all { (s : Shape) (t : ℕ) (e : Purpose) (b : Revocation) (ms earlier : List StepMade) (a : RevocationOutcome)
-        → writes_in earlier ≡ [] → Leads (revoke_at_safepoint_steps s t e b) ms (done a) → AreAllStores s t b (ms ++ earlier) }
+    ensures next { (s : Shape) (t : ℕ) (e : Purpose) (b : Revocation) (ms earlier : List StepMade)
+        (p : StepPlan) (g : ℕ → Todo RevocationOutcome) (word : ℕ)
+        → writes_in earlier ≡ [] → Leads (revoke_at_safepoint_steps s t e b) ms (step p g)
+        → p.act ≡ Store word → IsNextStore s t b (ms ++ earlier) p.at word }
+    ensures all { (s : Shape) (t : ℕ) (e : Purpose) (b : Revocation) (ms earlier : List StepMade)
+        (a : RevocationOutcome)
+        → writes_in earlier ≡ [] → Leads (revoke_at_safepoint_steps s t e b) ms (done a)
+        → AreAllStores s t b (ms ++ earlier) }
 {}
 
 /// What the steps of a revocation answer tells of the object's mark when all stores are made: where the thread gave itself a new bias, the mark
 /// is biased to it in the epoch of its class, and else it has the bias pattern no more.
 pub fn the_answer_tells_the_new_bias()
-    ensures { (w : World) (objects : List PlainObject) (t : ℕ) (e : Purpose) (b : Revocation) (ms earlier : List StepMade) (a : RevocationOutcome)
-        → (w.known t).reached ≡ true → revocation_in (w.known t).stage ≡ Some b → (w.known t).seen_at_safepoint ≡ ms ++ earlier → writes_in earlier ≡ []
+    ensures { (w : World) (objects : List PlainObject) (t : ℕ) (e : Purpose) (b : Revocation)
+        (ms earlier : List StepMade) (a : RevocationOutcome)
+        → (w.known t).reached ≡ true → revocation_in (w.known t).stage ≡ Some b
+        → (w.known t).seen_at_safepoint ≡ ms ++ earlier → writes_in earlier ≡ []
         → Leads (revoke_at_safepoint_steps w.shape t e b) ms (done a) → IsValid w objects
         → TellsBias t b.object (class_of w.shape b.object) a.took w.words }
 {}
@@ -81,7 +95,8 @@ pub fn the_answer_tells_the_new_bias()
 pub fn the_release_ends_the_revocation()
     // `MayEndRevoking`: where the thread stands, and its steps since its safepoint was reached, which are all that the tree of a revocation has;
     // so is whether it gave itself a new bias (`the_answer_tells_the_new_bias`)
-    ensures { (w : World) (objects : List PlainObject) (t : ℕ) (e : Purpose) (b : Revocation) (took : Bool) → MayEndRevoking w.shape (w.known t) e t b
+    ensures { (w : World) (objects : List PlainObject) (t : ℕ) (e : Purpose) (b : Revocation) (took : Bool)
+        → MayEndRevoking w.shape (w.known t) e t b
         → IsValid w objects → Fits (world_after (release_plan e (stage_after took b.object) t) t w) objects }
 {}
 
@@ -89,6 +104,7 @@ pub fn the_release_ends_the_revocation()
 pub fn a_load_ends_the_revocation()
     // `MayLookAfterRevoking`: besides, that it loaded or stored at its safepoint each mark and each word of a class that it saw before in the
     // calls of the request: a revocation loads the object's mark and the words of its class, and an operation sees no others before
-    ensures { (w : World) (objects : List PlainObject) (t : ℕ) (e : Purpose) (b : Revocation) (at : Name) → MayLookAfterRevoking w.shape (w.known t) e t b
+    ensures { (w : World) (objects : List PlainObject) (t : ℕ) (e : Purpose) (b : Revocation) (at : Name)
+        → MayLookAfterRevoking w.shape (w.known t) e t b
         → IsValid w objects → Fits (world_after (load e at) t w) objects }
 {}

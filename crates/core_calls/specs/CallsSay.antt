@@ -37,12 +37,14 @@ use Rattle.core_calls.specs.Causes.{Among, AmongBehind, Loaded, Put, Caused, Cau
 
 -- A turn. Done: it logs these entries, by its answer, and nothing is unfinished. Pending: it logs none, this operation is unfinished, and it is so
 -- for this cause. Of a check this is said in both cases.
-abbrev pub PendsFor : {A : Type 0} → (A → List Entry) → (Why → List StepMade → Type 0) → Option Unfinished → Bool → List StepMade → Turn A → Type 0
+abbrev pub PendsFor : {A : Type 0} → (A → List Entry) → (Why → List StepMade → Type 0) → Option Unfinished
+    → Bool → List StepMade → Turn A → Type 0
 PendsFor own For u check ms (Done a) = Leaves (own a) None check ms
 PendsFor own For u check ms (Pending why) = Leaves [] u check ms × For why ms
 
 -- a turn of thread t on object o, which is pending for one of these reasons
-abbrev pub TurnSays : {A : Type 0} → (A → List Entry) → (Why → Bool) → ℕ → ℕ → Option Unfinished → Bool → List StepMade → Turn A → Type 0
+abbrev pub TurnSays : {A : Type 0} → (A → List Entry) → (Why → Bool) → ℕ → ℕ → Option Unfinished → Bool
+    → List StepMade → Turn A → Type 0
 TurnSays own may_be t o u check = PendsFor own (Caused may_be t o) u check
 
 -- A refusal comes without a step, and exactly where this holds of what the thread knew.
@@ -77,10 +79,14 @@ EnterCause requesting t o why ms = CausedUnder of_enters requesting t o why ms �
 
 abbrev pub EnterSays : Start → ℕ → List StepMade → Result (Turn Path) TooDeep → Type 0
 EnterSays k o =
-    ResultSays (is_full k o) (PendsFor (λ path. entry.Enter o path ∷ []) (EnterCause k.requesting k.local.thread o) (unfinished_on op.Enter o) false)
+    ResultSays (is_full k o)
+    (PendsFor (λ path. entry.Enter o path ∷ []) (EnterCause k.requesting k.local.thread o)
+    (unfinished_on op.Enter o) false)
 
 abbrev pub ExitSays : Start → ℕ → List StepMade → Result (Turn (Unit {0})) IllegalMonitorState → Type 0
-ExitSays k o = ResultSays (has_none k o) (TurnSays (λ _. entry.Exit o ∷ []) of_exchanges k.local.thread o (unfinished_on op.Exit o) false)
+ExitSays k o =
+    ResultSays (has_none k o)
+    (TurnSays (λ _. entry.Exit o ∷ []) of_exchanges k.local.thread o (unfinished_on op.Exit o) false)
 
 -- A wait that has let go, in this call or in an earlier one, is pending for a notify or an owner; one that hasn't is for all else. The
 -- call that lets go logs Wait.
@@ -101,11 +107,15 @@ WaitSays k o = ResultSays (has_none k o) (WaitTurnSays (lets_go k o) k.requestin
 
 abbrev pub NotifySays : Start → ℕ → List StepMade → Result (Turn (Option ℕ)) IllegalMonitorState → Type 0
 NotifySays k o =
-    ResultSays (has_none k o) (PendsFor (λ woken. entry.Notify o woken ∷ []) (CausedUnder of_notifies k.requesting k.local.thread o) (unfinished_on op.Notify o) false)
+    ResultSays (has_none k o)
+    (PendsFor (λ woken. entry.Notify o woken ∷ []) (CausedUnder of_notifies k.requesting k.local.thread o)
+    (unfinished_on op.Notify o) false)
 
 abbrev pub NotifyAllSays : Start → ℕ → List StepMade → Result (Turn ℕ) IllegalMonitorState → Type 0
 NotifyAllSays k o =
-    ResultSays (has_none k o) (PendsFor (λ woken. entry.NotifyAll o woken ∷ []) (CausedUnder of_notifies k.requesting k.local.thread o) (unfinished_on op.NotifyAll o) false)
+    ResultSays (has_none k o)
+    (PendsFor (λ woken. entry.NotifyAll o woken ∷ [])
+    (CausedUnder of_notifies k.requesting k.local.thread o) (unfinished_on op.NotifyAll o) false)
 
 -- the word of this name may be o's header: its mark, a displaced word of thread t, or a monitor's header
 abbrev pub IsHeader : ℕ → ℕ → Name → Type 0
@@ -114,7 +124,9 @@ IsHeader t o at = (at ≡ Mark o) ⊎ (((place : ℕ) × (at ≡ Displaced t pla
 -- Not drawn: the value is a hash that a header had when it was loaded. Drawn: it is the value of the draw that was the thread's next, and an exchange
 -- put it into a header.
 abbrev pub IsDraw : Start → ℕ → ℕ → List StepMade → Option ℕ → Type 0
-IsDraw k o value ms None = (value ≢ 0) × Among (λ m. IsHeader k.local.thread o m.plan.at × (m.plan.act ≡ Load) × (hash_in m.found ≡ value)) ms
+IsDraw k o value ms None =
+    (value ≢ 0) × Among
+    (λ m. IsHeader k.local.thread o m.plan.at × (m.plan.act ≡ Load) × (hash_in m.found ≡ value)) ms
 IsDraw k o value ms (Some number) =
     (number ≡ k.draws + 1)
     × (value ≡ k.draw)
@@ -122,22 +134,29 @@ IsDraw k o value ms (Some number) =
 
 -- The entry has the answer, and is drawn or not.
 abbrev pub HashSays : Start → ℕ → List StepMade → Turn ℕ → Type 0
-HashSays k o ms (Done value) = (drawn : Option ℕ) × IsDraw k o value ms drawn × Leaves (entry.Hash o value drawn ∷ []) None false ms
-HashSays k o ms (Pending why) = Leaves [] (unfinished_on op.Hash o) false ms × CausedUnder of_notifies k.requesting k.local.thread o why ms
+HashSays k o ms (Done value) =
+    (drawn : Option ℕ) × IsDraw k o value ms drawn × Leaves (entry.Hash o value drawn ∷ []) None false ms
+HashSays k o ms (Pending why) =
+    Leaves [] (unfinished_on op.Hash o) false ms
+    × CausedUnder of_notifies k.requesting k.local.thread o why ms
 
 -- the value is the one that the word loaded from this slot spells
 abbrev pub IsRead : ℕ → ℕ → Value → List StepMade → Type 0
 IsRead o slot value ms = (word : ℕ) × (value ≡ value_found (read_value word)) × Loaded (Slot o slot) word ms
 
 abbrev pub GetSays : Start → ℕ → ℕ → List StepMade → Result Value Unguarded → Type 0
-GetSays k o slot = ResultSays (has_none k o) (λ ms value. Leaves (entry.Get o slot value ∷ []) None false ms × IsRead o slot value ms)
+GetSays k o slot =
+    ResultSays (has_none k o)
+    (λ ms value. Leaves (entry.Get o slot value ∷ []) None false ms × IsRead o slot value ms)
 
 -- the word of the value was stored in this slot
 abbrev pub IsWritten : ℕ → ℕ → Value → List StepMade → Type 0
 IsWritten o slot value ms = Among (λ m. (m.plan.at ≡ Slot o slot) × (m.plan.act ≡ Store (word_of value))) ms
 
 abbrev pub PutSays : Start → ℕ → ℕ → Value → List StepMade → Result (Unit {0}) Unguarded → Type 0
-PutSays k o slot value = ResultSays (has_none k o) (λ ms _. Leaves (entry.Put o slot value ∷ []) None false ms × IsWritten o slot value ms)
+PutSays k o slot value =
+    ResultSays (has_none k o)
+    (λ ms _. Leaves (entry.Put o slot value ∷ []) None false ms × IsWritten o slot value ms)
 
 abbrev pub PrintSays : Value → List StepMade → Unit {0} → Type 0
 PrintSays value ms x = Leaves (entry.Print value ∷ []) None false ms
@@ -148,8 +167,11 @@ FinishSays ending ms x = Leaves (ending_entry ending ∷ []) None false ms
 -- the thread's next shot
 abbrev pub DumpTurnSays : Start → List StepMade → Turn ℕ → Type 0
 DumpTurnSays k ms (Done number) =
-    (number ≡ k.shots + 1) × Leaves (entry.Dump number ∷ []) None false ms × Put Safepoint (released_word k.local.thread) ms
-DumpTurnSays k ms (Pending why) = Leaves [] (unfinished_on op.Dump 0) false ms × CausedUnder of_safepoints k.requesting k.local.thread 0 why ms
+    (number ≡ k.shots + 1) × Leaves (entry.Dump number ∷ []) None false ms
+    × Put Safepoint (released_word k.local.thread) ms
+DumpTurnSays k ms (Pending why) =
+    Leaves [] (unfinished_on op.Dump 0) false ms
+    × CausedUnder of_safepoints k.requesting k.local.thread 0 why ms
 
 abbrev pub DumpSays : Start → List StepMade → Result (Turn ℕ) TooManyDumps → Type 0
 DumpSays k = ResultSays (k.shots == 4) (DumpTurnSays k)
@@ -158,14 +180,19 @@ DumpSays k = ResultSays (k.shots == 4) (DumpTurnSays k)
 -- unfinished where its request stands and isn't reached, and over after every other answer.
 -- A poll is done exactly where the word that it loads has no requester, and else it is pending for the requester of that word.
 abbrev pub PollSays : Start → List StepMade → Turn (Unit {0}) → Type 0
-PollSays k ms (Done x) = Leaves [] k.unfinished k.checking ms × ((word : ℕ) × (has_requester word ≡ false) × Loaded Safepoint word ms)
+PollSays k ms (Done x) =
+    Leaves [] k.unfinished k.checking ms
+    × ((word : ℕ) × (has_requester word ≡ false) × Loaded Safepoint word ms)
 PollSays k ms (Pending why) =
-    Leaves [] k.unfinished k.checking ms × Caused of_polls k.local.thread 0 why ms × ((word : ℕ) × (why ≡ Requested word) × Loaded Safepoint word ms)
+    Leaves [] k.unfinished k.checking ms × Caused of_polls k.local.thread 0 why ms
+    × ((word : ℕ) × (why ≡ Requested word) × Loaded Safepoint word ms)
 
 -- The length of the log was published, and behind that the thread's bit was cleared.
 abbrev pub Stops : Start → List StepMade → Type 0
 Stops k ms =
-    AmongBehind (λ m before. (m.plan.at ≡ Safepoint) × (m.plan.act ≡ Mask (all_but k.local.thread)) × Among (λ n. (n.plan.at ≡ Length k.local.thread) × (n.plan.act ≡ Store (length k.local.log))) before) ms
+    AmongBehind (λ m before. (m.plan.at ≡ Safepoint) × (m.plan.act ≡ Mask (all_but k.local.thread))
+    × Among (λ n. (n.plan.at ≡ Length k.local.thread) × (n.plan.act ≡ Store (length k.local.log))) before)
+    ms
 
 abbrev pub StopSays : Start → List StepMade → Unit {0} → Type 0
 StopSays k ms x = Leaves [] k.unfinished k.checking ms × Stops k ms
@@ -173,7 +200,8 @@ StopSays k ms x = Leaves [] k.unfinished k.checking ms × Stops k ms
 -- A resume is done where its exchange set the thread's bit, in a word without a requester and without the halt.
 abbrev pub Resumes : ℕ → List StepMade → Type 0
 Resumes t ms =
-    Among (λ m. (m.plan.at ≡ Safepoint) × (m.plan.act ≡ Swap m.found (running_too (read_safe m.found) t)) × (is_halted m.found ≡ false) × (has_requester m.found ≡ false)) ms
+    Among (λ m. (m.plan.at ≡ Safepoint) × (m.plan.act ≡ Swap m.found (running_too (read_safe m.found) t))
+    × (is_halted m.found ≡ false) × (has_requester m.found ≡ false)) ms
 
 abbrev pub ResumeSays : Start → List StepMade → Turn (Unit {0}) → Type 0
 ResumeSays k ms (Done x) = Leaves [] k.unfinished k.checking ms × Resumes k.local.thread ms
@@ -185,7 +213,9 @@ ended_word stuck t = cond stuck halted_word (released_word t)
 
 abbrev pub CheckSays : Start → List StepMade → Turn Bool → Type 0
 CheckSays k ms (Done stuck) = Leaves [] k.unfinished false ms × Put Safepoint (ended_word stuck k.local.thread) ms
-CheckSays k ms (Pending why) = Leaves [] k.unfinished (is_stopping why) ms × CausedUnder of_safepoints k.requesting k.local.thread 0 why ms
+CheckSays k ms (Pending why) =
+    Leaves [] k.unfinished (is_stopping why) ms
+    × CausedUnder of_safepoints k.requesting k.local.thread 0 why ms
 
 -- THE PARTS that are calls by themselves: the stack lock's enter and exit, and a safepoint's request, look and release. The enter has the mark that it was
 -- given.

@@ -41,12 +41,14 @@ AmongBehind P (m ∷ ms) = P m ms ⊎ AmongBehind P ms
 pub record Missed (Had : Name → ℕ → List StepMade → Type 0) (expected found : ℕ) (ms : List StepMade) : Type 0 where
   pub differ : found ≢ expected
   pub at : Name
-  pub among : AmongBehind (λ m before. (word : ℕ) × (m.plan.at ≡ at) × (m.plan.act ≡ Swap expected word) × (m.found ≡ found) × Had at expected before) ms
+  pub among : AmongBehind (λ m before. (word : ℕ) × (m.plan.at ≡ at) × (m.plan.act ≡ Swap expected word)
+      × (m.found ≡ found) × Had at expected before) ms
 
 -- The request of thread t was made: an exchange put it into a safepoint word that it found without a requester.
 abbrev pub Requests : ℕ → List StepMade → Type 0
 Requests t ms =
-    Among (λ m. (m.plan.at ≡ Safepoint) × (m.plan.act ≡ Swap m.found (requested_by (read_safe m.found) t)) × (has_requester m.found ≡ false)) ms
+    Among (λ m. (m.plan.at ≡ Safepoint) × (m.plan.act ≡ Swap m.found (requested_by (read_safe m.found) t))
+    × (has_requester m.found ≡ false)) ms
 
 -- the waiting word says Waiting
 abbrev pub is_waiting_form : Option WaitForm → Bool

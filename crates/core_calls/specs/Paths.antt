@@ -50,7 +50,9 @@ entries_of (m ∷ ms) = entries_of ms ++ cond (hits m.plan.act m.found) (noted m
 -- the operation and the check that they leave unfinished, where these were before; an exchange that misses leaves both as they were
 abbrev pub left_unfinished : List StepMade → Option Unfinished → Option Unfinished
 left_unfinished [] before = before
-left_unfinished (m ∷ ms) before = cond (hits m.plan.act m.found) (unfinished_after m.plan.note m.found m.plan.after) (left_unfinished ms before)
+left_unfinished (m ∷ ms) before =
+    cond (hits m.plan.act m.found) (unfinished_after m.plan.note m.found m.plan.after)
+    (left_unfinished ms before)
 
 abbrev pub left_checking : List StepMade → Bool → Bool
 left_checking [] before = before

@@ -43,7 +43,9 @@ stand_by t _ act word b = b
 -- and behind these steps, the newest first, where it stood so before; an exchange that misses changes nothing
 abbrev pub stand_behind : ℕ → List StepMade → Stand → Stand
 stand_behind t [] b = b
-stand_behind t (m ∷ ms) b = cond (hits m.plan.act m.found) (stand_by t m.plan.at m.plan.act (left_by m) (stand_behind t ms b)) (stand_behind t ms b)
+stand_behind t (m ∷ ms) b =
+    cond (hits m.plan.act m.found) (stand_by t m.plan.at m.plan.act (left_by m) (stand_behind t ms b))
+    (stand_behind t ms b)
 
 -- The safepoint word is true of thread t: it spells a form, and has the thread's bit and its request exactly where it runs and asks.
 pub record IsTrueOf (t : ℕ) (b : Stand) (word : ℕ) : Type 0 where

@@ -44,7 +44,9 @@ AllGo t (on ∷ ons) ms = Goes t ms on × AllGo (t + 1) ons ms
 
 -- A check that is done answers true exactly where some thread is live and none goes on, by the words that it loaded.
 abbrev pub Finds : Shape → List StepMade → Bool → Type 0
-Finds s ms stuck = (ons : List (Option Bool)) × (length ons ≡ s.threads) × AllGo 0 ons ms × (stuck ≡ some_live ons && none_goes_on ons)
+Finds s ms stuck =
+    (ons : List (Option Bool)) × (length ons ≡ s.threads) × AllGo 0 ons ms
+    × (stuck ≡ some_live ons && none_goes_on ons)
 
 abbrev pub CheckFinds : Shape → List StepMade → Turn Bool → Type 0
 CheckFinds s ms (Done stuck) = Finds s ms stuck

@@ -54,7 +54,8 @@ abbrev pub WakesAll : Shape → ℕ → List StepMade → ℕ → Type 0
 WakesAll s o ms woken = (IsRecordLocked o ms × (woken ≡ 0)) ⊎ WakesEach s o ms woken
 
 -- so it is of a call that is done
-abbrev pub IfDone : {A : Type 0} → (List StepMade → A → Type 0) → List StepMade → Result (Turn A) IllegalMonitorState → Type 0
+abbrev pub IfDone : {A : Type 0} → (List StepMade → A → Type 0) → List StepMade
+    → Result (Turn A) IllegalMonitorState → Type 0
 IfDone P ms (Ok (Done a)) = P ms a
 IfDone P ms (Ok (Pending why)) = Unit {0}
 IfDone P ms (Err e) = Unit {0}

@@ -20,16 +20,19 @@ ghost use Rattle.core_calls.specs.Bounds.{IsWithin, a_revocation, most_steps};
 /// it is of a whole run, and of a call that goes on: where a step is to come, fewer were made.
 pub fn every_call_is_bounded()
     ensures tree { (s : Shape) (t : Task) (k : Start) → IsWithin (most_steps s t) (steps_of s t k) }
-    ensures run { (s : Shape) (start : ℕ) (t : Task) (k : Start) (before after : Known) → Ran s start (steps_of s t k) before after tt
+    ensures run { (s : Shape) (start : ℕ) (t : Task) (k : Start) (before after : Known)
+        → Ran s start (steps_of s t k) before after tt
         → length after.steps ≤ most_steps s t + length before.steps }
-    ensures next { (s : Shape) (k : Known) (b : CallUnderway) (p : StepPlan) → k.call ≡ Some b → head (rest_of_call s k) ≡ Some p
+    ensures next { (s : Shape) (k : Known) (b : CallUnderway) (p : StepPlan) → k.call ≡ Some b
+        → head (rest_of_call s k) ≡ Some p
         → length b.answers < most_steps s b.task }
 {}
 
 /// The enters that are common take few steps, where the thread has no request that stands. Behind the load of a mark without the bias pattern there are at most 16, and 5 where it is neutral.
 /// Behind the loads of a mark that is biased to the thread and of a prototype with the same epoch there are at most 3.
 pub fn common_enters_are_short()
-    ensures free { (s : Shape) (k : Start) (o now mark hash age : ℕ) → k.requesting ≡ false → read_mark mark ≡ Some (Neutral hash age)
+    ensures free { (s : Shape) (k : Start) (o now mark hash age : ℕ) → k.requesting ≡ false
+        → read_mark mark ≡ Some (Neutral hash age)
         → IsWithin 5 (after_answer (enter_steps s k o now) mark) }
     ensures unbiased { (s : Shape) (k : Start) (o now mark : ℕ) → k.requesting ≡ false → is_biased mark ≡ false
         → IsWithin 16 (after_answer (enter_steps s k o now) mark) }
@@ -40,5 +43,6 @@ pub fn common_enters_are_short()
 
 /// A revocation at a safepoint, with its request and its release, takes at most so many steps.
 pub fn a_revocation_is_bounded()
-    ensures { (s : Shape) (t : ℕ) (requesting : Bool) (e : Purpose) (b : Revocation) → IsWithin (a_revocation s) (revocation_steps s t requesting e b) }
+    ensures { (s : Shape) (t : ℕ) (requesting : Bool) (e : Purpose) (b : Revocation)
+        → IsWithin (a_revocation s) (revocation_steps s t requesting e b) }
 {}

@@ -22,7 +22,8 @@ ghost use Rattle.core_world.specs.declared.task.Op.TheVariants as op;
 /// without a step, exactly where the thread has 64 holds and no unfinished enter of the object.
 pub fn enter_logs_its_answer()
     ensures steps { (s : Shape) (k : Start) (o now : ℕ) → Says (enter_steps s k o now) (EnterSays k o) }
-    ensures run { (s : Shape) (k : Start) (o now : ℕ) (shape : Shape) (start : ℕ) (before after : Known) (a : Result (Turn Path) TooDeep)
+    ensures run { (s : Shape) (k : Start) (o now : ℕ) (shape : Shape) (start : ℕ) (before after : Known)
+        (a : Result (Turn Path) TooDeep)
         → Ran shape start (enter_steps s k o now) before after a
         → Tells before after (λ ms. EnterSays k o ms a) }
 {}
@@ -31,14 +32,16 @@ pub fn enter_logs_its_answer()
 /// expected a word that it had loaded, missed, or it found the object's lock being inflated. It is refused, without a step, exactly where the thread has no hold on the object.
 pub fn exit_logs_its_answer()
     ensures steps { (k : Start) (o : ℕ) → Says (exit_steps k o) (ExitSays k o) }
-    ensures run { (k : Start) (o : ℕ) (shape : Shape) (start : ℕ) (before after : Known) (a : Result (Turn (Unit {0})) IllegalMonitorState)
+    ensures run { (k : Start) (o : ℕ) (shape : Shape) (start : ℕ) (before after : Known)
+        (a : Result (Turn (Unit {0})) IllegalMonitorState)
         → Ran shape start (exit_steps k o) before after a
         → Tells before after (λ ms. ExitSays k o ms a) }
 {}
 
 /// The enter by a lock record, as a call by itself. It is pending for its own exchange alone, which expected the mark that the call was given.
 pub fn stack_enter_logs_its_answer()
-    ensures steps { (k : Start) (o mark : ℕ) → Says (stack_enter_steps (lone_purpose (task.StackEnter o mark)) k.local o mark) (StackEnterSays o mark) }
+    ensures steps { (k : Start) (o mark : ℕ) → Says
+        (stack_enter_steps (lone_purpose (task.StackEnter o mark)) k.local o mark) (StackEnterSays o mark) }
     ensures run { (k : Start) (o mark : ℕ) (shape : Shape) (start : ℕ) (before after : Known) (a : Turn Path)
         → Ran shape start (stack_enter_steps (lone_purpose (task.StackEnter o mark)) k.local o mark) before after a
         → Tells before after (λ ms. StackEnterSays o mark ms a) }
@@ -47,7 +50,8 @@ pub fn stack_enter_logs_its_answer()
 /// The exit by a lock record, as a call by itself: only where it leaves the record does it log anything, and that is its Exit. The number of
 /// a monitor that it answers is the one in the mark that it loaded.
 pub fn stack_exit_logs_its_answer()
-    ensures steps { (k : Start) (o : ℕ) → Says (stack_exit_steps (purpose (task.StackExit o) op.Exit o) k.local o) (StackExitSays k o) }
+    ensures steps { (k : Start) (o : ℕ)
+        → Says (stack_exit_steps (purpose (task.StackExit o) op.Exit o) k.local o) (StackExitSays k o) }
     ensures run { (k : Start) (o : ℕ) (shape : Shape) (start : ℕ) (before after : Known) (a : StackOut)
         → Ran shape start (stack_exit_steps (purpose (task.StackExit o) op.Exit o) k.local o) before after a
         → Tells before after (λ ms. StackExitSays k o ms a) }

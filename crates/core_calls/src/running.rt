@@ -12,7 +12,8 @@ ghost use Rattle.core_calls.specs.Paths.{IsPath, Follows, Leaves, Tells, Did};
 /// and the check are unfinished or not. Where there are no entries, the log is the old one; where there is one, it is the old one with this
 /// entry.
 pub fn steps_make_of_knowledge_what_they_leave()
-    ensures did { (es : List Entry) (u : Option Unfinished) (check : Bool) (k l : Known) → Tells k l (Leaves es u check) → Did es u check k l }
+    ensures did { (es : List Entry) (u : Option Unfinished) (check : Bool) (k l : Known)
+        → Tells k l (Leaves es u check) → Did es u check k l }
     ensures none { (u : Option Unfinished) (check : Bool) (k l : Known) → Did [] u check k l → l.log ≡ k.log }
     ensures one { (e : Entry) (u : Option Unfinished) (check : Bool) (k l : Known) → Did (e ∷ []) u check k l
         → (stamp : ℕ) × (l.log ≡ k.log ++ record { stamp = stamp; entry = e } ∷ []) }
@@ -23,6 +24,8 @@ pub fn steps_make_of_knowledge_what_they_leave()
 /// that its thread knows then, too, is what these steps, one after the other, make of what it knew: whether it runs, its hold words, its shots,
 /// and the rest.
 pub fn a_run_follows_a_path_of_its_tree<A>()
-    ensures known { (s : Shape) (start : ℕ) (d : Todo A) (k l : Known) (a : A) → Ran s start d k l a → Follows s start d k l a }
-    ensures path { (s : Shape) (start : ℕ) (d : Todo A) (k l : Known) (a : A) → Ran s start d k l a → Tells k l (λ ms. IsPath d [] ms a) }
+    ensures known { (s : Shape) (start : ℕ) (d : Todo A) (k l : Known) (a : A) → Ran s start d k l a
+        → Follows s start d k l a }
+    ensures path { (s : Shape) (start : ℕ) (d : Todo A) (k l : Known) (a : A) → Ran s start d k l a
+        → Tells k l (λ ms. IsPath d [] ms a) }
 {}

@@ -57,7 +57,8 @@ pub fn calls_at_the_safepoint_word_tell_how_their_thread_stands()
     ensures stop { (k : Start) → k.local.thread < 32 → k.requesting ≡ false
         → StandsSo k.local.thread (begun k) (stop_steps (side_purpose task.Stop k) k.local) (λ b _. IsOff b) }
     ensures resume { (k : Start) → k.local.thread < 32
-        → StandsSo k.local.thread stopped (resume_steps (side_purpose task.Resume k) k.local) (ResumeStands k.local.thread) }
+        → StandsSo k.local.thread stopped (resume_steps (side_purpose task.Resume k) k.local)
+        (ResumeStands k.local.thread) }
     ensures check { (s : Shape) (k : Start) → k.local.thread < 32
         → StandsSo k.local.thread (begun k) (check_steps s k) (CheckStands k.local.thread) }
 {}

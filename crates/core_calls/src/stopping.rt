@@ -34,7 +34,8 @@ pub fn stop_logs_nothing()
         → Tells before after (λ ms. StopSays k ms a) }
     ensures leaves { (k : Start) (shape : Shape) (start : ℕ) (before after : Known)
         → Ran shape start (stop_steps (side_purpose task.Stop k) k.local) before after tt
-        → (after.published ≡ length k.local.log) × ((word : ℕ) × (after.running ≡ runs_in (bit_and word (all_but k.local.thread)) before.thread)) }
+        → (after.published ≡ length k.local.log)
+        × ((word : ℕ) × (after.running ≡ runs_in (bit_and word (all_but k.local.thread)) before.thread)) }
 {}
 
 /// A resume logs nothing, and leaves the unfinished operation and check as they are. Where it is done, its exchange set the thread's bit in a

@@ -27,15 +27,18 @@ pub fn hash_logs_its_answer()
 /// A get logs its Get with the value that it answers, which the word loaded from the slot spells. It is refused, without a step, exactly where the thread has no hold on the object.
 pub fn get_logs_its_answer()
     ensures steps { (k : Start) (o slot : ℕ) → Says (get_steps k o slot) (GetSays k o slot) }
-    ensures run { (k : Start) (o slot : ℕ) (shape : Shape) (start : ℕ) (before after : Known) (a : Result Value Unguarded)
+    ensures run { (k : Start) (o slot : ℕ) (shape : Shape) (start : ℕ) (before after : Known)
+        (a : Result Value Unguarded)
         → Ran shape start (get_steps k o slot) before after a
         → Tells before after (λ ms. GetSays k o slot ms a) }
 {}
 
 /// A put logs its Put with its value, whose word it stores in the slot. It is refused, without a step, exactly where the thread has no hold on the object.
 pub fn put_logs_its_value()
-    ensures steps { (k : Start) (o slot : ℕ) (value : Value) → Says (put_steps k o slot value) (PutSays k o slot value) }
-    ensures run { (k : Start) (o slot : ℕ) (value : Value) (shape : Shape) (start : ℕ) (before after : Known) (a : Result (Unit {0}) Unguarded)
+    ensures steps { (k : Start) (o slot : ℕ) (value : Value)
+        → Says (put_steps k o slot value) (PutSays k o slot value) }
+    ensures run { (k : Start) (o slot : ℕ) (value : Value) (shape : Shape) (start : ℕ) (before after : Known)
+        (a : Result (Unit {0}) Unguarded)
         → Ran shape start (put_steps k o slot value) before after a
         → Tells before after (λ ms. PutSays k o slot value ms a) }
 {}
@@ -61,7 +64,8 @@ pub fn finish_logs_its_ending()
 /// refused, without a step, exactly where the thread has 4 shots.
 pub fn dump_logs_its_answer()
     ensures steps { (s : Shape) (k : Start) → Says (dump_steps s k) (DumpSays k) }
-    ensures run { (s : Shape) (k : Start) (shape : Shape) (start : ℕ) (before after : Known) (a : Result (Turn ℕ) TooManyDumps)
+    ensures run { (s : Shape) (k : Start) (shape : Shape) (start : ℕ) (before after : Known)
+        (a : Result (Turn ℕ) TooManyDumps)
         → Ran shape start (dump_steps s k) before after a
         → Tells before after (λ ms. DumpSays k ms a) }
     ensures keeps { (s : Shape) (k : Start) (shape : Shape) (start number : ℕ) (before after : Known)

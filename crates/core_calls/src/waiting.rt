@@ -19,7 +19,8 @@ ghost use Rattle.core_calls.specs.Woken.{oldest, Wakes, WakesAll, IfDone};
 /// where the thread has no hold on the object.
 pub fn wait_logs_its_answer()
     ensures steps { (s : Shape) (k : Start) (o now : ℕ) → Says (wait_steps s k o now) (WaitSays k o) }
-    ensures run { (s : Shape) (k : Start) (o now : ℕ) (shape : Shape) (start : ℕ) (before after : Known) (a : Result (Turn (Unit {0})) IllegalMonitorState)
+    ensures run { (s : Shape) (k : Start) (o now : ℕ) (shape : Shape) (start : ℕ) (before after : Known)
+        (a : Result (Turn (Unit {0})) IllegalMonitorState)
         → Ran shape start (wait_steps s k o now) before after a
         → Tells before after (λ ms. WaitSays k o ms a) }
 {}
@@ -27,7 +28,8 @@ pub fn wait_logs_its_answer()
 /// A notify that is done logs its Notify, with the thread that it answers, or with none.
 pub fn notify_logs_its_answer()
     ensures steps { (s : Shape) (k : Start) (o now : ℕ) → Says (notify_steps s k o now) (NotifySays k o) }
-    ensures run { (s : Shape) (k : Start) (o now : ℕ) (shape : Shape) (start : ℕ) (before after : Known) (a : Result (Turn (Option ℕ)) IllegalMonitorState)
+    ensures run { (s : Shape) (k : Start) (o now : ℕ) (shape : Shape) (start : ℕ) (before after : Known)
+        (a : Result (Turn (Option ℕ)) IllegalMonitorState)
         → Ran shape start (notify_steps s k o now) before after a
         → Tells before after (λ ms. NotifySays k o ms a) }
 {}
@@ -35,7 +37,8 @@ pub fn notify_logs_its_answer()
 /// A notifyall that is done logs its NotifyAll, with the number of threads that it answers.
 pub fn notify_all_logs_its_answer()
     ensures steps { (s : Shape) (k : Start) (o now : ℕ) → Says (notify_all_steps s k o now) (NotifyAllSays k o) }
-    ensures run { (s : Shape) (k : Start) (o now : ℕ) (shape : Shape) (start : ℕ) (before after : Known) (a : Result (Turn ℕ) IllegalMonitorState)
+    ensures run { (s : Shape) (k : Start) (o now : ℕ) (shape : Shape) (start : ℕ) (before after : Known)
+        (a : Result (Turn ℕ) IllegalMonitorState)
         → Ran shape start (notify_all_steps s k o now) before after a
         → Tells before after (λ ms. NotifyAllSays k o ms a) }
 {}
@@ -45,7 +48,10 @@ pub fn notify_all_logs_its_answer()
 /// waiting word loaded says Waiting with the object, or where the loaded mark says that a lock record has the lock.
 pub fn notify_wakes_the_oldest_waiter()
     ensures notify { (s : Shape) (k : Start) (o now : ℕ) → Says (notify_steps s k o now) (IfDone (Wakes s o)) }
-    ensures notify_all { (s : Shape) (k : Start) (o now : ℕ) → Says (notify_all_steps s k o now) (IfDone (WakesAll s o)) }
-    ensures none { (o : ℕ) (words : List ℕ) → is_none (oldest (by_age (waiters o 0 words))) ≡ list_all (λ word. not (waits_on word o)) words }
-    ensures number { (o t : ℕ) (words : List ℕ) → length (waiters o t words) ≡ count_by (λ word. waits_on word o) words }
+    ensures notify_all { (s : Shape) (k : Start) (o now : ℕ)
+        → Says (notify_all_steps s k o now) (IfDone (WakesAll s o)) }
+    ensures none { (o : ℕ) (words : List ℕ) → is_none (oldest (by_age (waiters o 0 words)))
+        ≡ list_all (λ word. not (waits_on word o)) words }
+    ensures number { (o t : ℕ) (words : List ℕ) → length (waiters o t words)
+        ≡ count_by (λ word. waits_on word o) words }
 {}

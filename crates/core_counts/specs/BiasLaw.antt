@@ -28,19 +28,25 @@ summed n counts c =
     }
 
 -- the law, of threads and classes below these numbers; `counts` are each thread's, by class
-pub record BiasLaw (biasing : Bool) (threads classes : ℕ) (class mark : ℕ → ℕ) (lock : ℕ → Lock) (entries : ℕ → List Entry) (log : ℕ → List Logged) (stage : ℕ → Stage) (unfinished : ℕ → Option Unfinished) (count : ℕ → ℕ) (counts : ℕ → ℕ → ClassCounts) : Type 0 where
-  pub marks : EntersFitMarks biasing class mark lock entries log stage unfinished (λ c. (summed threads counts c).revoke)
+pub record BiasLaw (biasing : Bool) (threads classes : ℕ) (class mark : ℕ → ℕ) (lock : ℕ → Lock)
+    (entries : ℕ → List Entry) (log : ℕ → List Logged) (stage : ℕ → Stage)
+    (unfinished : ℕ → Option Unfinished) (count : ℕ → ℕ) (counts : ℕ → ℕ → ClassCounts) : Type 0 where
+  pub marks : EntersFitMarks biasing class mark lock entries log stage unfinished
+      (λ c. (summed threads counts c).revoke)
   pub paths : PathsFitHolds log stage
   pub count_fits : (c : ℕ) → ClassFits (count c) (summed threads counts c)
-  pub verdicts : (t : ℕ) → VerdictsFit mark (sum_below classes (λ c. verdicts_on (counts t c))) (log t) (stage t) (unfinished t)
+  pub verdicts : (t : ℕ) → VerdictsFit mark (sum_below classes (λ c. verdicts_on (counts t c))) (log t)
+      (stage t) (unfinished t)
   -- without biases no Enter has a bias path, and no verdict is counted
   pub plain : biasing ≡ false → (o : ℕ) → list_any needs_bias (entries o) ≡ false
   pub uncounted : biasing ≡ false → (t c : ℕ) → verdicts_on (counts t c) ≡ 0
 
 abbrev pub BiasLawHolds : World → Type 0
 BiasLawHolds w =
-    BiasLaw w.biasing w.shape.threads w.shape.classes (class_of w.shape) (marks w) (lock w) (λ o. entries_on o (order (logs w)))
-    (λ t. (w.known t).log) (λ t. (w.known t).stage) (λ t. (w.known t).unfinished) (λ c. w.words (Revocations c)) (λ t. counts_of (w.known t).counts)
+    BiasLaw w.biasing w.shape.threads w.shape.classes (class_of w.shape) (marks w) (lock w)
+    (λ o. entries_on o (order (logs w)))
+    (λ t. (w.known t).log) (λ t. (w.known t).stage) (λ t. (w.known t).unfinished)
+    (λ c. w.words (Revocations c)) (λ t. counts_of (w.known t).counts)
 
 -- The law among the clauses of a valid world: every clause of `Fits` holds, and the law of biases; or a bias is being revoked in a world of which they
 -- held before the first store.

@@ -36,14 +36,18 @@ abbrev pub IsTaken : (ℕ → Stage) → ℕ → Type 0
 IsTaken stage o = (t : ℕ) × (path_into (stage t) o ≡ Some BiasTaken)
 
 -- `entries` are those on an object, in the order of all logs; `revoked` is how many bulk revokes of a class were counted.
-pub record EntersFitMarks (biasing : Bool) (class mark : ℕ → ℕ) (lock : ℕ → Lock) (entries : ℕ → List Entry) (log : ℕ → List Logged) (stage : ℕ → Stage) (unfinished : ℕ → Option Unfinished) (revoked : ℕ → ℕ) : Type 0 where
+pub record EntersFitMarks (biasing : Bool) (class mark : ℕ → ℕ) (lock : ℕ → Lock) (entries : ℕ → List Entry)
+    (log : ℕ → List Logged) (stage : ℕ → Stage) (unfinished : ℕ → Option Unfinished)
+    (revoked : ℕ → ℕ) : Type 0 where
   -- an object with an Enter of a path that is no bias path, or with a Wait, Notify or NotifyAll, has no bias pattern in its mark
   pub ended : (o : ℕ) → list_any ends_bias (entries o) ≡ true → is_biased (mark o) ≡ false
   -- and no Enter with a bias path stands after such an entry
   pub stays : (o : ℕ) → EndsStay (entries o)
   -- who is about to log an Enter with a bias path has the bias, and who is about to log another has an object without a bias pattern
-  pub biased : (t o : ℕ) (path : Path) → path_into (stage t) o ≡ Some path → is_by_bias path ≡ true → lock o ≡ BiasedTo t
-  pub unbiased : (t o : ℕ) (path : Path) → path_into (stage t) o ≡ Some path → is_by_bias path ≡ false → is_biased (mark o) ≡ false
+  pub biased : (t o : ℕ) (path : Path) → path_into (stage t) o ≡ Some path → is_by_bias path ≡ true
+      → lock o ≡ BiasedTo t
+  pub unbiased : (t o : ℕ) (path : Path) → path_into (stage t) o ≡ Some path → is_by_bias path ≡ false
+      → is_biased (mark o) ≡ false
   -- with biases, and where the class wasn't revoked in bulk: an object without an Enter has an anonymous mark, or its bias is being taken, or a
   -- Hash of it is logged or open
   pub unentered : biasing ≡ true → (o : ℕ) → revoked (class o) ≡ 0 → first_path (entries o) ≡ None
@@ -56,4 +60,5 @@ pub record EntersFitMarks (biasing : Bool) (class mark : ℕ → ℕ) (lock : �
 -- bias wasn't its own already.
 pub record PathsFitHolds (log : ℕ → List Logged) (stage : ℕ → Stage) : Type 0 where
   pub logged : (t : ℕ) → PathsFit nothing_held (log t)
-  pub coming : (t o : ℕ) (path : Path) → path_into (stage t) o ≡ Some path → PathFits (held_by nothing_held (log t)) (entry.Enter o path)
+  pub coming : (t o : ℕ) (path : Path) → path_into (stage t) o ≡ Some path
+      → PathFits (held_by nothing_held (log t)) (entry.Enter o path)

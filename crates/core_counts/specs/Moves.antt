@@ -32,13 +32,16 @@ pub record BiasesKept (mark : ℕ → ℕ) (lock : ℕ → Lock) (mark2 : ℕ �
   pub leans : (i u : ℕ) → lock i ≡ BiasedTo u → lock2 i ≡ BiasedTo u
 
 -- the other threads have what they had
-pub record OthersStay (t : ℕ) (log : ℕ → List Logged) (stage : ℕ → Stage) (unfinished : ℕ → Option Unfinished) (log2 : ℕ → List Logged) (stage2 : ℕ → Stage) (unfinished2 : ℕ → Option Unfinished) : Type 0 where
+pub record OthersStay (t : ℕ) (log : ℕ → List Logged) (stage : ℕ → Stage) (unfinished : ℕ → Option Unfinished)
+    (log2 : ℕ → List Logged) (stage2 : ℕ → Stage) (unfinished2 : ℕ → Option Unfinished) : Type 0 where
   pub logs : (u : ℕ) → u ≢ t → log2 u ≡ log u
   pub stages : (u : ℕ) → u ≢ t → stage2 u ≡ stage u
   pub operations : (u : ℕ) → u ≢ t → unfinished2 u ≡ unfinished u
 
 -- thread t logs y, by a step that leaves the biases
-pub record LogsEntry (t : ℕ) (y : Logged) (mark : ℕ → ℕ) (entries : ℕ → List Entry) (log : ℕ → List Logged) (stage : ℕ → Stage) (unfinished : ℕ → Option Unfinished) (entries2 : ℕ → List Entry) (log2 : ℕ → List Logged) (stage2 : ℕ → Stage) (unfinished2 : ℕ → Option Unfinished) : Type 0 where
+pub record LogsEntry (t : ℕ) (y : Logged) (mark : ℕ → ℕ) (entries : ℕ → List Entry) (log : ℕ → List Logged)
+    (stage : ℕ → Stage) (unfinished : ℕ → Option Unfinished) (entries2 : ℕ → List Entry)
+    (log2 : ℕ → List Logged) (stage2 : ℕ → Stage) (unfinished2 : ℕ → Option Unfinished) : Type 0 where
   pub here : (i : ℕ) → is_same_object (bound_to y.entry) (Some i) ≡ true → entries2 i ≡ entries i ++ y.entry ∷ []
   pub elsewhere : (i : ℕ) → is_same_object (bound_to y.entry) (Some i) ≡ false → entries2 i ≡ entries i
   pub grows : log2 t ≡ log t ++ y ∷ []
@@ -47,25 +50,35 @@ pub record LogsEntry (t : ℕ) (y : Logged) (mark : ℕ → ℕ) (entries : ℕ 
   pub came : (i : ℕ) (path : Path) → path_into (stage t) i ≡ Some path → y.entry ≡ entry.Enter i path
   pub enters : (i : ℕ) (path : Path) → y.entry ≡ entry.Enter i path → path_into (stage t) i ≡ Some path
   -- a hash that it had unfinished goes on, or is what it logs
-  pub hash : (i : ℕ) → IsUnfinished (unfinished t) op.Hash i → IsUnfinished (unfinished2 t) op.Hash i ⊎ (is_hash i y.entry ≡ true)
+  pub hash : (i : ℕ) → IsUnfinished (unfinished t) op.Hash i → IsUnfinished (unfinished2 t) op.Hash i
+      ⊎ (is_hash i y.entry ≡ true)
   -- an entry that ends a bias comes where there is none
-  pub ends : (i : ℕ) → is_same_object (bound_to y.entry) (Some i) ≡ true → ends_bias y.entry ≡ true → is_biased (mark i) ≡ false
+  pub ends : (i : ℕ) → is_same_object (bound_to y.entry) (Some i) ≡ true → ends_bias y.entry ≡ true
+      → is_biased (mark i) ≡ false
 
 -- Thread t makes a step that logs nothing, or has carried out a revocation as a whole. Of the classes fewer may be without a bulk revoke.
-pub record LogsNothing (biasing : Bool) (t : ℕ) (class mark : ℕ → ℕ) (lock : ℕ → Lock) (entries : ℕ → List Entry) (stage : ℕ → Stage) (unfinished : ℕ → Option Unfinished) (revoked mark2 : ℕ → ℕ) (lock2 : ℕ → Lock) (stage2 : ℕ → Stage) (unfinished2 : ℕ → Option Unfinished) (revoked2 : ℕ → ℕ) : Type 0 where
+pub record LogsNothing (biasing : Bool) (t : ℕ) (class mark : ℕ → ℕ) (lock : ℕ → Lock)
+    (entries : ℕ → List Entry) (stage : ℕ → Stage) (unfinished : ℕ → Option Unfinished)
+    (revoked mark2 : ℕ → ℕ) (lock2 : ℕ → Lock) (stage2 : ℕ → Stage) (unfinished2 : ℕ → Option Unfinished)
+    (revoked2 : ℕ → ℕ) : Type 0 where
   -- no mark gets the bias pattern that hadn't it
   pub pattern : (i : ℕ) → is_biased (mark2 i) ≡ true → is_biased (mark i) ≡ true
   -- who is about to log an enter by a bias keeps it
-  pub leans : (i u : ℕ) (path : Path) → u ≢ t → path_into (stage u) i ≡ Some path → lock i ≡ BiasedTo u → lock2 i ≡ BiasedTo u
+  pub leans : (i u : ℕ) (path : Path) → u ≢ t → path_into (stage u) i ≡ Some path → lock i ≡ BiasedTo u
+      → lock2 i ≡ BiasedTo u
   -- the enter that the thread is about to log
-  pub biased : (i : ℕ) (path : Path) → path_into (stage2 t) i ≡ Some path → is_by_bias path ≡ true → lock2 i ≡ BiasedTo t
-  pub unbiased : (i : ℕ) (path : Path) → path_into (stage2 t) i ≡ Some path → is_by_bias path ≡ false → is_biased (mark2 i) ≡ false
+  pub biased : (i : ℕ) (path : Path) → path_into (stage2 t) i ≡ Some path → is_by_bias path ≡ true
+      → lock2 i ≡ BiasedTo t
+  pub unbiased : (i : ℕ) (path : Path) → path_into (stage2 t) i ≡ Some path → is_by_bias path ≡ false
+      → is_biased (mark2 i) ≡ false
   pub taking : (i : ℕ) → path_into (stage t) i ≡ Some BiasTaken → path_into (stage2 t) i ≡ Some BiasTaken
   -- a hash that is open stays so
   pub hash : (i : ℕ) → IsUnfinished (unfinished t) op.Hash i → IsUnfinished (unfinished2 t) op.Hash i
   -- an object that nobody has entered stays biased to nobody, or the thread takes it, or wants its hash
-  pub nobody : biasing ≡ true → (i : ℕ) → revoked2 (class i) ≡ 0 → first_path (entries i) ≡ None → is_anonymous (mark i) ≡ true
-      → (is_anonymous (mark2 i) ≡ true) ⊎ ((path_into (stage2 t) i ≡ Some BiasTaken) ⊎ IsUnfinished (unfinished2 t) op.Hash i)
+  pub nobody : biasing ≡ true → (i : ℕ) → revoked2 (class i) ≡ 0 → first_path (entries i) ≡ None
+      → is_anonymous (mark i) ≡ true
+      → (is_anonymous (mark2 i) ≡ true)
+      ⊎ ((path_into (stage2 t) i ≡ Some BiasTaken) ⊎ IsUnfinished (unfinished2 t) op.Hash i)
   pub fewer : (c : ℕ) → revoked2 c ≡ 0 → revoked c ≡ 0
 
 -- From these words to those no mark gets the bias pattern, and an object that was biased to nobody is so, but where Q says so.

@@ -39,14 +39,16 @@ is_bias_word _ = false
 -- that had no bias pattern and gets none.
 abbrev pub LeavesBiases : World → Name → ℕ → Type 0
 LeavesBiases w at v =
-    (is_bias_word at ≡ false) ⊎ (v ≡ w.words at) ⊎ ((o : ℕ) × (at ≡ Mark o) × (is_biased (marks w o) ≡ false) × (is_biased v ≡ false))
+    (is_bias_word at ≡ false) ⊎ (v ≡ w.words at)
+    ⊎ ((o : ℕ) × (at ≡ Mark o) × (is_biased (marks w o) ≡ false) × (is_biased v ≡ false))
 
 -- BESIDE THE BIASES. A step of thread t that logs and counts nothing, leaves the biases, and after which the thread is about to log the Enter
 -- that it was about to log, if any. It leaves unfinished what is so, or begins an operation. Nearly every step is of this kind.
 pub record IsBeside (w : World) (t : ℕ) (p : StepPlan) : Type 0 where
   pub log : log_after p.note (w.words p.at) (w.known t).log ≡ (w.known t).log
   pub own : (counts : List CountedVerdict) → counts_after p.own counts ≡ counts
-  pub goes_on : (unfinished_after p.note (w.words p.at) p.after ≡ (w.known t).unfinished) ⊎ ((w.known t).unfinished ≡ None)
+  pub goes_on : (unfinished_after p.note (w.words p.at) p.after ≡ (w.known t).unfinished)
+      ⊎ ((w.known t).unfinished ≡ None)
   pub stands : (o : ℕ) → path_into p.stage o ≡ path_into (w.known t).stage o
   pub leaves : LeavesBiases w p.at (word_after p.act (w.words p.at))
 
@@ -131,7 +133,8 @@ pub record LeavesObject (w : World) (t o : ℕ) (took : Bool) : Type 0 where
   pub dropped : took ≡ false → is_biased (marks w o) ≡ false
 
 -- The revocation's thread has made all the stores; whether it took a new bias, the object's mark says; and its operation stays unfinished.
-pub record MayEndRevocation (w : World) (objects : List PlainObject) (s : IsRevoking w objects) (e : Purpose) (took : Bool) : Type 0 where
+pub record MayEndRevocation (w : World) (objects : List PlainObject) (s : IsRevoking w objects) (e : Purpose)
+    (took : Bool) : Type 0 where
   pub over : s.rest ≡ []
   pub says : took ≡ is_biased (marks w s.revocation.object)
   pub goes_on : e.unfinished ≡ (w.known s.requester).unfinished
@@ -139,4 +142,5 @@ pub record MayEndRevocation (w : World) (objects : List PlainObject) (s : IsRevo
 -- In each world of which the other clauses hold and in which thread t may, its step keeps the law of biases.
 abbrev pub KeepsBiases : (World → ℕ → Type 0) → (World → ℕ → StepPlan) → Type 0
 KeepsBiases may plan =
-    (w : World) (objects : List PlainObject) (t : ℕ) → t < w.shape.threads → may w t → Fits w objects → BiasLawHolds w → BiasLawHolds (world_after (plan w t) t w)
+    (w : World) (objects : List PlainObject) (t : ℕ) → t < w.shape.threads → may w t → Fits w objects
+    → BiasLawHolds w → BiasLawHolds (world_after (plan w t) t w)

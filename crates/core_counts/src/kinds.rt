@@ -34,57 +34,88 @@ ghost use Rattle.core_counts.specs.Steps.{SawNone, KeepsBiases};
 
 /// A look keeps the law of biases, of whatever word and thread.
 pub fn a_look_keeps_the_law_of_biases()
-    ensures { (w : World) (t : ℕ) (p : StepPlan) → IsLook (w.known t) p → BiasLawHolds w → BiasLawHolds (world_after p t w) }
+    ensures { (w : World) (t : ℕ) (p : StepPlan) → IsLook (w.known t) p → BiasLawHolds w
+        → BiasLawHolds (world_after p t w) }
 {}
 
 /// The steps that take a lock record and leave one.
 pub fn steps_of_lock_records_keep_the_law_of_biases()
-    ensures displaced { (e : Purpose) (p d : ℕ) → KeepsBiases (λ w t. MayDisplace (w.known t) e p) (λ w t. displace_plan e (w.known t).stage t p d) }
-    ensures seized { (e : Purpose) (o mark p : ℕ) → KeepsBiases (λ w t. MaySeize (w.known t) e o mark p) (λ w t. seize_plan e t o mark p) }
-    ensures cleared { (e : Purpose) (o p : ℕ) → KeepsBiases (λ w t. MayClear (w.known t) e o p) (λ w t. clear_plan e t p) }
+    ensures displaced { (e : Purpose) (p d : ℕ) → KeepsBiases (λ w t. MayDisplace (w.known t) e p)
+        (λ w t. displace_plan e (w.known t).stage t p d) }
+    ensures seized { (e : Purpose) (o mark p : ℕ)
+        → KeepsBiases (λ w t. MaySeize (w.known t) e o mark p) (λ w t. seize_plan e t o mark p) }
+    ensures cleared { (e : Purpose) (o p : ℕ) → KeepsBiases (λ w t. MayClear (w.known t) e o p)
+        (λ w t. clear_plan e t p) }
 {}
 
 /// The steps on words of monitors: claiming one, preparing its words, and naming it in a mark.
 pub fn making_a_monitor_keeps_the_law_of_biases()
     ensures claimed { (e : Purpose) → KeepsBiases (λ w t. MayClaim (w.known t) e) (λ w t. claim_plan e) }
-    ensures owner { (e : Purpose) (m word : ℕ) → KeepsBiases (λ w t. MayPrepareOwner w.shape (w.known t) e m word) (λ w t. prepare_plan e (w.known t).stage (Owner m) word) }
-    ensures recursions { (e : Purpose) (m word : ℕ) → KeepsBiases (λ w t. MayPrepare (w.known t) e m) (λ w t. prepare_plan e (w.known t).stage (Recursions m) word) }
-    ensures header { (e : Purpose) (m word : ℕ) → KeepsBiases (λ w t. MayPrepare (w.known t) e m) (λ w t. prepare_plan e (w.known t).stage (Header m) word) }
-    ensures object { (e : Purpose) (m word : ℕ) → KeepsBiases (λ w t. MayPrepareObject w.shape (w.known t) e m word) (λ w t. prepare_plan e (w.known t).stage (Object m) word) }
-    ensures inflates { (e : Purpose) (o mark u p : ℕ) → KeepsBiases (λ w t. MayInflate (w.known t) e o mark u p) (λ w t. inflate_plan e o mark u p) }
-    ensures named { (e : Purpose) (o m u p h : ℕ) → KeepsBiases (λ w t. MayName w.shape (w.known t) e o m u p h) (λ w t. name_plan e o m) }
-    ensures named_neutral { (e : Purpose) (o mark m : ℕ) → KeepsBiases (λ w t. MayNameNeutral w.shape (w.known t) e o mark m) (λ w t. name_neutral_plan e o mark m) }
+    ensures owner { (e : Purpose) (m word : ℕ) → KeepsBiases
+        (λ w t. MayPrepareOwner w.shape (w.known t) e m word)
+        (λ w t. prepare_plan e (w.known t).stage (Owner m) word) }
+    ensures recursions { (e : Purpose) (m word : ℕ)
+        → KeepsBiases (λ w t. MayPrepare (w.known t) e m)
+        (λ w t. prepare_plan e (w.known t).stage (Recursions m) word) }
+    ensures header { (e : Purpose) (m word : ℕ) → KeepsBiases (λ w t. MayPrepare (w.known t) e m)
+        (λ w t. prepare_plan e (w.known t).stage (Header m) word) }
+    ensures object { (e : Purpose) (m word : ℕ) → KeepsBiases
+        (λ w t. MayPrepareObject w.shape (w.known t) e m word)
+        (λ w t. prepare_plan e (w.known t).stage (Object m) word) }
+    ensures inflates { (e : Purpose) (o mark u p : ℕ)
+        → KeepsBiases (λ w t. MayInflate (w.known t) e o mark u p) (λ w t. inflate_plan e o mark u p) }
+    ensures named { (e : Purpose) (o m u p h : ℕ)
+        → KeepsBiases (λ w t. MayName w.shape (w.known t) e o m u p h) (λ w t. name_plan e o m) }
+    ensures named_neutral { (e : Purpose) (o mark m : ℕ)
+        → KeepsBiases (λ w t. MayNameNeutral w.shape (w.known t) e o mark m)
+        (λ w t. name_neutral_plan e o mark m) }
 {}
 
 /// The steps that own a monitor and count its recursions.
 pub fn owning_a_monitor_keeps_the_law_of_biases()
-    ensures grabbed { (e : Purpose) (o m : ℕ) → KeepsBiases (λ w t. MayGrab (w.known t) e o m) (λ w t. grab_plan e t o m) }
-    ensures takes_over { (e : Purpose) (o m p : ℕ) → KeepsBiases (λ w t. MayTakeOver (w.known t) e o m p) (λ w t. take_over_plan e t o m) }
-    ensures up { (e : Purpose) (o m r : ℕ) → KeepsBiases (λ w t. MayRaiseCount (w.known t) e o m r) (λ w t. raise_count_plan e o m r) }
-    ensures down { (e : Purpose) (o m r : ℕ) → KeepsBiases (λ w t. MayLowerCount (w.known t) e o m r) (λ w t. lower_count_plan e o m r) }
-    ensures none { (e : Purpose) (o m : ℕ) → KeepsBiases (λ w t. MayResetCount (w.known t) e o m) (λ w t. reset_count_plan e m) }
-    ensures dropped { (e : Purpose) (o m : ℕ) → KeepsBiases (λ w t. MayDrop (w.known t) e o m) (λ w t. drop_plan e o m) }
+    ensures grabbed { (e : Purpose) (o m : ℕ) → KeepsBiases (λ w t. MayGrab (w.known t) e o m)
+        (λ w t. grab_plan e t o m) }
+    ensures takes_over { (e : Purpose) (o m p : ℕ) → KeepsBiases (λ w t. MayTakeOver (w.known t) e o m p)
+        (λ w t. take_over_plan e t o m) }
+    ensures up { (e : Purpose) (o m r : ℕ) → KeepsBiases (λ w t. MayRaiseCount (w.known t) e o m r)
+        (λ w t. raise_count_plan e o m r) }
+    ensures down { (e : Purpose) (o m r : ℕ) → KeepsBiases (λ w t. MayLowerCount (w.known t) e o m r)
+        (λ w t. lower_count_plan e o m r) }
+    ensures none { (e : Purpose) (o m : ℕ) → KeepsBiases (λ w t. MayResetCount (w.known t) e o m)
+        (λ w t. reset_count_plan e m) }
+    ensures dropped { (e : Purpose) (o m : ℕ) → KeepsBiases (λ w t. MayDrop (w.known t) e o m)
+        (λ w t. drop_plan e o m) }
     ensures quits { (e : Purpose) (o m : ℕ) → KeepsBiases (λ w t. MayQuit (w.known t) e o m) (λ w t. quit_plan e m) }
-    ensures regained { (e : Purpose) (o m : ℕ) → KeepsBiases (λ w t. MayRegain (w.known t) e o m) (λ w t. regain_plan e t o m) }
-    ensures restored { (e : Purpose) (o m word : ℕ) → KeepsBiases (λ w t. MayRestore (w.known t) e o m) (λ w t. restore_plan e o m word) }
-    ensures saved { (e : Purpose) (o m : ℕ) → KeepsBiases (λ w t. MaySaveCount (w.known t) e o m) (λ w t. save_count_plan e m) }
+    ensures regained { (e : Purpose) (o m : ℕ) → KeepsBiases (λ w t. MayRegain (w.known t) e o m)
+        (λ w t. regain_plan e t o m) }
+    ensures restored { (e : Purpose) (o m word : ℕ)
+        → KeepsBiases (λ w t. MayRestore (w.known t) e o m) (λ w t. restore_plan e o m word) }
+    ensures saved { (e : Purpose) (o m : ℕ) → KeepsBiases (λ w t. MaySaveCount (w.known t) e o m)
+        (λ w t. save_count_plan e m) }
 {}
 
 /// The steps on stamps, on waiting words and on the own length that log nothing.
 pub fn steps_of_the_journal_keep_the_law_of_biases()
-    ensures raised { (e : Purpose) (o : ℕ) → KeepsBiases (λ w t. MayRaise (w.known t) e o) (λ w t. raise_stamp_plan e o (next_stamp (local_of (w.known t)))) }
-    ensures ready { (e : Purpose) → KeepsBiases (λ w t. MayBeReady (w.known t) e) (λ w t. store_ready_plan e (w.known t).stage t) }
-    ensures entering { (e : Purpose) (o m : ℕ) → KeepsBiases (λ w t. MayStand w.shape (w.known t) e o m) (λ w t. store_entering_plan e t o) }
+    ensures raised { (e : Purpose) (o : ℕ) → KeepsBiases (λ w t. MayRaise (w.known t) e o)
+        (λ w t. raise_stamp_plan e o (next_stamp (local_of (w.known t)))) }
+    ensures ready { (e : Purpose) → KeepsBiases (λ w t. MayBeReady (w.known t) e)
+        (λ w t. store_ready_plan e (w.known t).stage t) }
+    ensures entering { (e : Purpose) (o m : ℕ) → KeepsBiases (λ w t. MayStand w.shape (w.known t) e o m)
+        (λ w t. store_entering_plan e t o) }
     ensures ended { (e : Purpose) → KeepsBiases (λ w t. MayEnd (w.known t) e) (λ w t. store_ended_plan e t) }
-    ensures published { (e : Purpose) → KeepsBiases (λ w t. MayPublishLog (w.known t) e) (λ w t. publish_log_plan e t (length (w.known t).log)) }
-    ensures told { (e : Purpose) (o u n : ℕ) → KeepsBiases (λ w t. MayWakeNext w.shape (w.known t) e o u n) (λ w t. wake_next_plan e o u (n + 1)) }
+    ensures published { (e : Purpose) → KeepsBiases (λ w t. MayPublishLog (w.known t) e)
+        (λ w t. publish_log_plan e t (length (w.known t).log)) }
+    ensures told { (e : Purpose) (o u n : ℕ) → KeepsBiases (λ w t. MayWakeNext w.shape (w.known t) e o u n)
+        (λ w t. wake_next_plan e o u (n + 1)) }
 {}
 
 /// The steps on the safepoint word, but for the release that ends a revocation.
 pub fn steps_of_the_safepoint_keep_the_law_of_biases()
     ensures stops { (e : Purpose) → KeepsBiases (λ w t. MayStop (w.known t) e) (λ w t. stop_plan e t) }
-    ensures resumes { (e : Purpose) (word : ℕ) → KeepsBiases (λ w t. MayResume (w.known t) e word) (λ w t. resume_plan e t word) }
-    ensures requests { (e : Purpose) (word : ℕ) → KeepsBiases (λ w t. MayRequest (w.known t) e word) (λ w t. request_plan e t word) }
+    ensures resumes { (e : Purpose) (word : ℕ) → KeepsBiases (λ w t. MayResume (w.known t) e word)
+        (λ w t. resume_plan e t word) }
+    ensures requests { (e : Purpose) (word : ℕ) → KeepsBiases (λ w t. MayRequest (w.known t) e word)
+        (λ w t. request_plan e t word) }
     ensures releases { (e : Purpose) → KeepsBiases (λ w t. MayRelease (w.known t) e) (λ w t. release_plan e Calm t) }
     ensures halts { (e : Purpose) → KeepsBiases (λ w t. MayHalt w.shape.threads (w.known t) e) (λ w t. halt_plan e t) }
     ensures shot { (e : Purpose) → KeepsBiases (λ w t. MayKeepShot w.shape (w.known t) e) (λ w t. keep_shot_plan e) }
@@ -92,25 +123,42 @@ pub fn steps_of_the_safepoint_keep_the_law_of_biases()
 
 /// The steps that log an entry, but for an Enter.
 pub fn logging_keeps_the_law_of_biases()
-    ensures get { (e : Purpose) (o slot : ℕ) → KeepsBiases (λ w t. MayGet w.shape (w.known t) e o slot) (λ w t. get_plan e o slot) }
-    ensures put { (e : Purpose) (o slot : ℕ) (value : Value) → KeepsBiases (λ w t. MayPut w.shape (w.known t) o slot value) (λ w t. put_plan e o slot value) }
-    ensures exit_by_hold { (e : Purpose) (o d p : ℕ) → KeepsBiases (λ w t. MayLeave w.shape (w.known t) o d p) (λ w t. leave_plan e t o p) }
-    ensures exit_by_mark { (e : Purpose) (o header stamp p : ℕ) → KeepsBiases (λ w t. MayLetGo w.shape (w.known t) o header stamp p) (λ w t. let_go_plan e o (mark_of (Locked t p)) header p) }
-    ensures exit_by_monitor { (e : Purpose) (o m p stamp : ℕ) → KeepsBiases (λ w t. MayFree w.shape (w.known t) o m stamp) (λ w t. free_plan e o m p) }
+    ensures get { (e : Purpose) (o slot : ℕ) → KeepsBiases (λ w t. MayGet w.shape (w.known t) e o slot)
+        (λ w t. get_plan e o slot) }
+    ensures put { (e : Purpose) (o slot : ℕ) (value : Value)
+        → KeepsBiases (λ w t. MayPut w.shape (w.known t) o slot value) (λ w t. put_plan e o slot value) }
+    ensures exit_by_hold { (e : Purpose) (o d p : ℕ)
+        → KeepsBiases (λ w t. MayLeave w.shape (w.known t) o d p) (λ w t. leave_plan e t o p) }
+    ensures exit_by_mark { (e : Purpose) (o header stamp p : ℕ)
+        → KeepsBiases (λ w t. MayLetGo w.shape (w.known t) o header stamp p)
+        (λ w t. let_go_plan e o (mark_of (Locked t p)) header p) }
+    ensures exit_by_monitor { (e : Purpose) (o m p stamp : ℕ)
+        → KeepsBiases (λ w t. MayFree w.shape (w.known t) o m stamp) (λ w t. free_plan e o m p) }
     ensures wait { (e : Purpose) (o m stamp : ℕ) → KeepsBiases (λ w t. MayWait w.shape (w.known t) e o m stamp)
         (λ w t. log_wait_plan e t o (next_stamp (local_of (w.known t)))) }
-    ensures resume { (e : Purpose) (o m : ℕ) → KeepsBiases (λ w t. MayLogResume w.shape (w.known t) o m) (λ w t. log_resume_plan e o) }
-    ensures notify { (e : Purpose) (o u : ℕ) → KeepsBiases (λ w t. MayNotify w.shape (w.known t) o u) (λ w t. notify_plan e o u) }
-    ensures notify_all { (e : Purpose) (o u n : ℕ) → KeepsBiases (λ w t. MayNotifyAll w.shape (w.known t) o u n) (λ w t. notify_all_plan e o u (n + 1)) }
-    ensures publish { (e : Purpose) (entry : Entry) → KeepsBiases (λ w t. MayPublish w.shape (w.known t) entry × SawNone (w.known t) entry) (λ w t. publish_plan e t entry (length (w.known t).log + 1)) }
+    ensures resume { (e : Purpose) (o m : ℕ) → KeepsBiases (λ w t. MayLogResume w.shape (w.known t) o m)
+        (λ w t. log_resume_plan e o) }
+    ensures notify { (e : Purpose) (o u : ℕ) → KeepsBiases (λ w t. MayNotify w.shape (w.known t) o u)
+        (λ w t. notify_plan e o u) }
+    ensures notify_all { (e : Purpose) (o u n : ℕ) → KeepsBiases
+        (λ w t. MayNotifyAll w.shape (w.known t) o u n) (λ w t. notify_all_plan e o u (n + 1)) }
+    ensures publish { (e : Purpose) (entry : Entry)
+        → KeepsBiases (λ w t. MayPublish w.shape (w.known t) entry × SawNone (w.known t) entry)
+        (λ w t. publish_plan e t entry (length (w.known t).log + 1)) }
 {}
 
 /// The steps of a hash: a load that logs the hash that it finds, if any, and an exchange that logs a draw, if it hits.
 pub fn hashing_keeps_the_law_of_biases()
-    ensures in_mark { (e : Purpose) (o : ℕ) → KeepsBiases (λ w t. MayFind w.shape (w.known t) e o) (λ w t. find_hash_plan e (Mark o) o) }
-    ensures in_record { (e : Purpose) (o p : ℕ) → KeepsBiases (λ w t. MayFindInRecord w.shape (w.known t) e o p) (λ w t. find_hash_plan e (Displaced t p) o) }
-    ensures in_monitor { (e : Purpose) (o m : ℕ) → KeepsBiases (λ w t. MayFindInMonitor w.shape (w.known t) e o m) (λ w t. find_hash_plan e (Header m) o) }
-    ensures drawn_into_mark { (e : Purpose) (draw : NextDraw) (o mark : ℕ) → KeepsBiases (λ w t. MayDrawInMark w.start w.shape (w.known t) draw o mark) (λ w t. draw_plan e draw (Mark o) o mark) }
+    ensures in_mark { (e : Purpose) (o : ℕ) → KeepsBiases (λ w t. MayFind w.shape (w.known t) e o)
+        (λ w t. find_hash_plan e (Mark o) o) }
+    ensures in_record { (e : Purpose) (o p : ℕ) → KeepsBiases
+        (λ w t. MayFindInRecord w.shape (w.known t) e o p) (λ w t. find_hash_plan e (Displaced t p) o) }
+    ensures in_monitor { (e : Purpose) (o m : ℕ) → KeepsBiases
+        (λ w t. MayFindInMonitor w.shape (w.known t) e o m) (λ w t. find_hash_plan e (Header m) o) }
+    ensures drawn_into_mark { (e : Purpose) (draw : NextDraw) (o mark : ℕ)
+        → KeepsBiases (λ w t. MayDrawInMark w.start w.shape (w.known t) draw o mark)
+        (λ w t. draw_plan e draw (Mark o) o mark) }
     ensures drawn_into_monitor { (e : Purpose) (draw : NextDraw) (o m header : ℕ)
-        → KeepsBiases (λ w t. MayDrawInMonitor w.start w.shape (w.known t) draw o m header) (λ w t. draw_plan e draw (Header m) o header) }
+        → KeepsBiases (λ w t. MayDrawInMonitor w.start w.shape (w.known t) draw o m header)
+        (λ w t. draw_plan e draw (Header m) o header) }
 {}

@@ -23,7 +23,8 @@ ghost use Rattle.core_counts.specs.Moves.{LeansByMark, BiasesKept, OthersStay, L
 /// The arithmetic of counts and verdicts: every verdict of the policy, with the count's decay to 0 before it or without, keeps what the
 /// count of a class and its verdicts say of one another.
 pub fn a_counted_verdict_fits()
-    ensures { (k : ClassCounts) (count last now : ℕ) → ClassFits count k → ClassFits (decided count last now).1 (once_more k count last now) }
+    ensures { (k : ClassCounts) (count last now : ℕ) → ClassFits count k
+        → ClassFits (decided count last now).1 (once_more k count last now) }
 {}
 
 /// The opening world meets the law of biases, with biases and without.
@@ -33,16 +34,25 @@ pub fn the_opening_world_meets_the_law_of_biases()
 
 /// A step that logs an entry, and leaves the biases, keeps what the law of biases says of enters and marks.
 pub fn a_logged_entry_keeps_enters_and_marks()
-    ensures { (biasing : Bool) (class mark : ℕ → ℕ) (lock : ℕ → Lock) (entries : ℕ → List Entry) (log : ℕ → List Logged) (stage : ℕ → Stage) (unfinished : ℕ → Option Unfinished) (revoked mark2 : ℕ → ℕ) (lock2 : ℕ → Lock) (entries2 : ℕ → List Entry) (log2 : ℕ → List Logged) (stage2 : ℕ → Stage) (unfinished2 : ℕ → Option Unfinished) (t : ℕ) (y : Logged)
-        → EntersFitMarks biasing class mark lock entries log stage unfinished revoked → LeansByMark mark lock → BiasesKept mark lock mark2 lock2
-        → OthersStay t log stage unfinished log2 stage2 unfinished2 → LogsEntry t y mark entries log stage unfinished entries2 log2 stage2 unfinished2
+    ensures { (biasing : Bool) (class mark : ℕ → ℕ) (lock : ℕ → Lock) (entries : ℕ → List Entry)
+        (log : ℕ → List Logged) (stage : ℕ → Stage) (unfinished : ℕ → Option Unfinished)
+        (revoked mark2 : ℕ → ℕ) (lock2 : ℕ → Lock) (entries2 : ℕ → List Entry) (log2 : ℕ → List Logged)
+        (stage2 : ℕ → Stage) (unfinished2 : ℕ → Option Unfinished) (t : ℕ) (y : Logged)
+        → EntersFitMarks biasing class mark lock entries log stage unfinished revoked → LeansByMark mark lock
+        → BiasesKept mark lock mark2 lock2
+        → OthersStay t log stage unfinished log2 stage2 unfinished2
+        → LogsEntry t y mark entries log stage unfinished entries2 log2 stage2 unfinished2
         → EntersFitMarks biasing class mark2 lock2 entries2 log2 stage2 unfinished2 revoked }
 {}
 
 /// A step that logs nothing, and a revocation as a whole, keep what the law of biases says of enters and marks.
 pub fn a_quiet_step_keeps_enters_and_marks()
-    ensures { (biasing : Bool) (class mark : ℕ → ℕ) (lock : ℕ → Lock) (entries : ℕ → List Entry) (log : ℕ → List Logged) (stage : ℕ → Stage) (unfinished : ℕ → Option Unfinished) (revoked mark2 : ℕ → ℕ) (lock2 : ℕ → Lock) (stage2 : ℕ → Stage) (unfinished2 : ℕ → Option Unfinished) (revoked2 : ℕ → ℕ) (t : ℕ)
-        → EntersFitMarks biasing class mark lock entries log stage unfinished revoked → OthersStay t log stage unfinished log stage2 unfinished2
+    ensures { (biasing : Bool) (class mark : ℕ → ℕ) (lock : ℕ → Lock) (entries : ℕ → List Entry)
+        (log : ℕ → List Logged) (stage : ℕ → Stage) (unfinished : ℕ → Option Unfinished)
+        (revoked mark2 : ℕ → ℕ) (lock2 : ℕ → Lock) (stage2 : ℕ → Stage) (unfinished2 : ℕ → Option Unfinished)
+        (revoked2 : ℕ → ℕ) (t : ℕ)
+        → EntersFitMarks biasing class mark lock entries log stage unfinished revoked
+        → OthersStay t log stage unfinished log stage2 unfinished2
         → LogsNothing biasing t class mark lock entries stage unfinished revoked mark2 lock2 stage2 unfinished2 revoked2
         → EntersFitMarks biasing class mark2 lock2 entries log stage2 unfinished2 revoked2 }
 {}
@@ -51,6 +61,9 @@ pub fn a_quiet_step_keeps_enters_and_marks()
 /// revocation's own object, and in a bulk revoke for the objects of its class. After its first store, the counts of classes stay.
 pub fn a_revocation_is_gentle()
     ensures { (s : Shape) (t : ℕ) (b : Revocation) (f : Name → ℕ)
-        → IsGentle (Touched s b.object (decided (f (Revocations (class_of s b.object))) (f (LastBulk (class_of s b.object))) b.now).0)
-        (with_word (Revocations (class_of s b.object)) (decided (f (Revocations (class_of s b.object))) (f (LastBulk (class_of s b.object))) b.now).1 f) (words_after (revocation_writes s t b f) f) }
+        → IsGentle (Touched s b.object
+        (decided (f (Revocations (class_of s b.object))) (f (LastBulk (class_of s b.object))) b.now).0)
+        (with_word (Revocations (class_of s b.object))
+        (decided (f (Revocations (class_of s b.object))) (f (LastBulk (class_of s b.object))) b.now).1 f)
+        (words_after (revocation_writes s t b f) f) }
 {}

@@ -25,9 +25,12 @@ ghost use Rattle.core_counts.specs.Miscounts.{NothingReset, with_counts, with_co
 /// two worlds that differ only in the verdict that a thread counted last, at most one meets the law: not the one with a verdict more, where
 /// the one without it does, and not the one without it, where the one with it does.
 pub fn no_verdict_counted_twice_or_never()
-    ensures twice { (w : World) (t c : ℕ) (verdict : Verdict) → t < w.shape.threads → NothingReset w c → w.words (Revocations c) < 41
-        → BiasLawHolds w → BiasLawHolds (with_counts_of t (with_verdict_counted (w.known t).counts c verdict false) w) → ⊥ }
-    ensures never { (w : World) (t c : ℕ) (verdict : Verdict) (counts : List CountedVerdict) → t < w.shape.threads → NothingReset w c
+    ensures twice { (w : World) (t c : ℕ) (verdict : Verdict) → t < w.shape.threads → NothingReset w c
+        → w.words (Revocations c) < 41
+        → BiasLawHolds w → BiasLawHolds
+        (with_counts_of t (with_verdict_counted (w.known t).counts c verdict false) w) → ⊥ }
+    ensures never { (w : World) (t c : ℕ) (verdict : Verdict) (counts : List CountedVerdict)
+        → t < w.shape.threads → NothingReset w c
         → w.words (Revocations c) < 41 → (w.known t).counts ≡ with_verdict_counted counts c verdict false
         → BiasLawHolds w → BiasLawHolds (with_counts_of t counts w) → ⊥ }
 {}
@@ -61,15 +64,20 @@ pub fn no_count_of_40_without_a_bulk_revoke()
 pub fn no_reset_that_is_not_counted()
     ensures { (w : World) (t c now : ℕ) → t < w.shape.threads → NothingReset w c
         → is_reset (w.words (Revocations c)) (w.words (LastBulk c)) now ≡ true → BiasLawHolds w
-        → BiasLawHolds (with_word_and_known (Revocations c) (decided (w.words (Revocations c)) (w.words (LastBulk c)) now).1 t
-        (with_counts (with_verdict_counted (w.known t).counts c (decided (w.words (Revocations c)) (w.words (LastBulk c)) now).0 false)
+        → BiasLawHolds
+        (with_word_and_known (Revocations c)
+        (decided (w.words (Revocations c)) (w.words (LastBulk c)) now).1 t
+        (with_counts
+        (with_verdict_counted (w.known t).counts c
+        (decided (w.words (Revocations c)) (w.words (LastBulk c)) now).0 false)
         (w.known t)) w) → ⊥ }
 {}
 
 /// A load of a stamp that logs an Enter by a bias, taken or own, of an object whose bias has ended by the logs: they have a Wait, a Notify
 /// or a NotifyAll of it, or an Enter of it by a path that is no bias path. It is refused from every world of which the other clauses hold.
 pub fn no_enter_by_a_bias_that_has_ended()
-    ensures { (w : World) (objects : List PlainObject) (t : ℕ) (e : Purpose) (o p : ℕ) (path : Path) → t < w.shape.threads
+    ensures { (w : World) (objects : List PlainObject) (t : ℕ) (e : Purpose) (o p : ℕ) (path : Path)
+        → t < w.shape.threads
         → MayLogEnter w.shape (w.known t) o p path → Fits w objects → is_by_bias path ≡ true
         → list_any ends_bias (entries_on o (order (logs w))) ≡ true
         → BiasLawHolds (world_after (logging_plan (Enter o path) e (Stamp o) Load) t w) → ⊥ }

@@ -16,11 +16,14 @@ ghost use Rattle.core_counts.specs.OfARun.{BiasesOfRun, VerdictsAtMost};
 /// has entries. In a run that got stuck, threads may have an Enter or a Wait unfinished. The same holds, where no Hash is, with at most
 /// one verdict more for each thread.
 pub fn the_law_of_biases_holds_of_runs()
-    ensures ended { (w : World) (objects : List PlainObject) → Fits w objects → BiasLawHolds w → ((t : ℕ) → (w.known t).unfinished ≡ None)
-        → BiasesOfRun w.biasing w.shape.threads (class_of w.shape) (logs w) (λ c. w.words (Revocations c)) (λ t. (w.known t).counts)
+    ensures ended { (w : World) (objects : List PlainObject) → Fits w objects → BiasLawHolds w
+        → ((t : ℕ) → (w.known t).unfinished ≡ None)
+        → BiasesOfRun w.biasing w.shape.threads (class_of w.shape) (logs w) (λ c. w.words (Revocations c))
+        (λ t. (w.known t).counts)
         × VerdictsAtMost 0 w.shape.threads w.shape.classes (logs w) (λ t. (w.known t).counts) }
     ensures stuck { (w : World) (objects : List PlainObject) → Fits w objects → BiasLawHolds w
         → ((t o : ℕ) → IsUnfinished (w.known t).unfinished op.Hash o → ⊥)
-        → BiasesOfRun w.biasing w.shape.threads (class_of w.shape) (logs w) (λ c. w.words (Revocations c)) (λ t. (w.known t).counts)
+        → BiasesOfRun w.biasing w.shape.threads (class_of w.shape) (logs w) (λ c. w.words (Revocations c))
+        (λ t. (w.known t).counts)
         × VerdictsAtMost 1 w.shape.threads w.shape.classes (logs w) (λ t. (w.known t).counts) }
 {}

@@ -38,4 +38,5 @@ pub record HashesAreDrawn (start : ℕ) (logs : List (List Logged)) (objects : L
   -- each object with a hash has it by one of them
   pub once : (o h : ℕ) → (object_of objects o).hash ≡ Some h → IsDrawnOnce start logs o h
   -- and every hash entry of an object says its hash
-  pub says : (t i o v : ℕ) (drawn : Option ℕ) (l : Logged) → slice_get (log_of logs t) i ≡ Some l → l.entry ≡ Hash o v drawn → (object_of objects o).hash ≡ Some v
+  pub says : (t i o v : ℕ) (drawn : Option ℕ) (l : Logged) → slice_get (log_of logs t) i ≡ Some l
+      → l.entry ≡ Hash o v drawn → (object_of objects o).hash ≡ Some v

@@ -76,7 +76,8 @@ pub record MayPut (s : Shape) (k : Known) (o slot : ℕ) (v : Value) : Type 0 wh
 pub record MayBeReady (k : Known) (e : Purpose) : Type 0 where
   pub runs : k.running ≡ true
   pub goes_on : GoesOn k e
-  pub before : (IsOut k × ((o p : ℕ) × ((path : Path) × (k.stage ≡ Enters o p path)))) ⊎ ((o : ℕ) × (k.stage ≡ Resumes o))
+  pub before : (IsOut k × ((o p : ℕ) × ((path : Path) × (k.stage ≡ Enters o p path))))
+      ⊎ ((o : ℕ) × (k.stage ≡ Resumes o))
 
 -- Storing Entering with o: the enter of o is unfinished, and o was seen inflated in this call.
 pub record MayStand (s : Shape) (k : Known) (e : Purpose) (o m : ℕ) : Type 0 where

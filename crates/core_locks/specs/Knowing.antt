@@ -68,7 +68,8 @@ IsBiasTo t _ e = ⊥
 -- in this call it has seen, or stored, a mark of o that is validly biased to itself, by the prototype of its class that it saw
 abbrev pub SawOwnBias : Shape → Known → ℕ → Type 0
 SawOwnBias s k o =
-    (v p : ℕ) × (last_seen (Mark o) k.seen ≡ Some v) × (last_seen (Prototype (class_of s o)) k.seen ≡ Some p) × IsBiasTo k.thread (read_mark v) (epoch_in p)
+    (v p : ℕ) × (last_seen (Mark o) k.seen ≡ Some v) × (last_seen (Prototype (class_of s o)) k.seen ≡ Some p)
+    × IsBiasTo k.thread (read_mark v) (epoch_in p)
 
 -- in this call it has seen, or stored, a mark of o with the bias pattern. Where it has the lock of o, that bias is valid and its own
 abbrev pub SawBiased : Known → ℕ → Type 0
@@ -92,16 +93,20 @@ pub record Logs (w : World) (objects : List PlainObject) (t : ℕ) (p : StepPlan
 
 -- In each valid world in which thread t may, its step leads to a valid world with the same plain objects.
 abbrev pub KeepsValid : (World → ℕ → Type 0) → (World → ℕ → StepPlan) → Type 0
-KeepsValid may plan = (w : World) (objects : List PlainObject) (t : ℕ) → t < w.shape.threads → may w t → IsValid w objects → IsValid (world_after (plan w t) t w) objects
+KeepsValid may plan =
+    (w : World) (objects : List PlainObject) (t : ℕ) → t < w.shape.threads → may w t → IsValid w objects
+    → IsValid (world_after (plan w t) t w) objects
 
 -- In each valid world in which thread t may, its step logs the entry that is made of the word that it finds; and logs this entry.
 abbrev pub LogsFound : (World → ℕ → Type 0) → (World → ℕ → StepPlan) → (ℕ → Entry) → Type 0
 LogsFound may plan entry =
-    (w : World) (objects : List PlainObject) (t : ℕ) → t < w.shape.threads → may w t → IsValid w objects → Logs w objects t (plan w t) (entry (w.words (plan w t).at))
+    (w : World) (objects : List PlainObject) (t : ℕ) → t < w.shape.threads → may w t → IsValid w objects
+    → Logs w objects t (plan w t) (entry (w.words (plan w t).at))
 
 abbrev pub LogsValid : (World → ℕ → Type 0) → (World → ℕ → StepPlan) → Entry → Type 0
 LogsValid may plan e = LogsFound may plan (λ n. e)
 
 -- In each valid world in which thread t may, this word is the one that it expects.
 abbrev pub FindsWord : (World → ℕ → Type 0) → Name → (ℕ → ℕ) → Type 0
-FindsWord may at word = (w : World) (objects : List PlainObject) (t : ℕ) → may w t → IsValid w objects → w.words at ≡ word t
+FindsWord may at word =
+    (w : World) (objects : List PlainObject) (t : ℕ) → may w t → IsValid w objects → w.words at ≡ word t

@@ -71,7 +71,9 @@ pub record MayLeave (s : Shape) (k : Known) (o d p : ℕ) : Type 0 where
   pub deepest : hold_count o k.holds ≡ d
   pub small : d ≤ 64
   pub before : ((k.stage ≡ Calm) × (2 ≤ d) × (last_seen (Displaced k.thread p) k.seen ≡ Some 0))
-      ⊎ ((k.stage ≡ Behind o) × ((m h : ℕ) × SawInflated k o m × SawOwn k k.thread m × (last_seen (Displaced k.thread p) k.seen ≡ Some h) × (h ≢ 0)))
+      ⊎ ((k.stage ≡ Behind o)
+      × ((m h : ℕ) × SawInflated k o m × SawOwn k k.thread m
+      × (last_seen (Displaced k.thread p) k.seen ≡ Some h) × (h ≢ 0)))
       ⊎ ((k.stage ≡ Calm) × SawBiased k o × (d ≡ 1 → HasRaised k o))
   pub room : length k.log < log_limit
   pub own_entry : IsOwnEntry k (Exit o)

@@ -48,7 +48,8 @@ SeesHeldUp k t =
     (o v : ℕ) × (last_seen (Waiting t) k.seen_at_safepoint ≡ Some v)
     × ((waits_on v o ≡ true)
     ⊎ (((says_notified v o ≡ true) ⊎ (enters_on v o ≡ true))
-    × ((mark m owner : ℕ) × (last_seen (Mark o) k.seen_at_safepoint ≡ Some mark) × (monitor_in mark ≡ Some m) × (last_seen (Owner m) k.seen_at_safepoint ≡ Some owner) × (is_open_to (read_owner owner) t ≡ false))))
+    × ((mark m owner : ℕ) × (last_seen (Mark o) k.seen_at_safepoint ≡ Some mark) × (monitor_in mark ≡ Some m)
+    × (last_seen (Owner m) k.seen_at_safepoint ≡ Some owner) × (is_open_to (read_owner owner) t ≡ false))))
 
 -- By what it has seen, thread t has ended.
 abbrev pub SeesEnded : Known → ℕ → Type 0

@@ -42,14 +42,17 @@ SawByOwner _ k = Unit {0}
 -- record it is; the owner word of the monitor, and the hold words of the owner
 abbrev pub SawBehind : Option MarkForm → Shape → Known → ℕ → Type 0
 SawBehind (Some (Biased thread epoch age)) s k o =
-    (v : ℕ) × (last_seen (Prototype (class_of s o)) k.seen_at_safepoint ≡ Some v) × (has_epoch (epoch_in v) epoch ≡ true → SawHolds k thread)
+    (v : ℕ) × (last_seen (Prototype (class_of s o)) k.seen_at_safepoint ≡ Some v)
+    × (has_epoch (epoch_in v) epoch ≡ true → SawHolds k thread)
 SawBehind (Some (Locked thread place)) s k o = SawHolds k thread
-SawBehind (Some (Inflated monitor)) s k o = (v : ℕ) × (last_seen (Owner monitor) k.seen_at_safepoint ≡ Some v) × SawByOwner (read_owner v) k
+SawBehind (Some (Inflated monitor)) s k o =
+    (v : ℕ) × (last_seen (Owner monitor) k.seen_at_safepoint ≡ Some v) × SawByOwner (read_owner v) k
 SawBehind _ s k o = Unit {0}
 
 -- the mark of each object with what it names, and the length of each log
 pub record SawAll (s : Shape) (k : Known) : Type 0 where
-  pub objects : (o : ℕ) → o < length s.objects → (v : ℕ) × (last_seen (Mark o) k.seen_at_safepoint ≡ Some v) × SawBehind (read_mark v) s k o
+  pub objects : (o : ℕ) → o < length s.objects → (v : ℕ) × (last_seen (Mark o) k.seen_at_safepoint ≡ Some v)
+      × SawBehind (read_mark v) s k o
   pub lengths : (t : ℕ) → t < s.threads → Saw k (Length t)
 
 -- THE LOOKS OF A DUMP. The steps of a tree were seen: each loaded a word that was seen since the safepoint was reached, and the tree goes on by what

@@ -17,7 +17,8 @@ pub record SawOldest (n : ℕ) (k : Known) (o u : ℕ) : Type 0 where
   pub word : ℕ
   pub saw : last_seen (Waiting u) k.seen ≡ Some word
   pub waits : waits_on word o ≡ true
-  pub oldest : (z : ℕ) → z < n → (y : ℕ) × (last_seen (Waiting z) k.seen ≡ Some y) × (waits_on y o ≡ true → (z ≡ u) ⊎ (is_older (u, stamp_in word) (z, stamp_in y) ≡ true))
+  pub oldest : (z : ℕ) → z < n → (y : ℕ) × (last_seen (Waiting z) k.seen ≡ Some y)
+      × (waits_on y o ≡ true → (z ≡ u) ⊎ (is_older (u, stamp_in word) (z, stamp_in y) ≡ true))
 
 -- and nobody else waits there
 abbrev pub SawNoOther : ℕ → Known → ℕ → ℕ → Type 0

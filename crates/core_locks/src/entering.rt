@@ -36,10 +36,13 @@ pub fn logging_a_resume_keeps_the_world_valid()
 /// The stamp of an Enter or a Resume follows from the logs alone, though it is made of the word that the step loads: it is one above
 /// the thread's last stamp and the last stamp with which a thread let go of the object.
 pub fn the_stamp_of_a_taking_follows_from_the_logs()
-    ensures enter { (w : World) (objects : List PlainObject) (t o p : ℕ) (path : Path) (let_go : ℕ) → t < w.shape.threads
+    ensures enter { (w : World) (objects : List PlainObject) (t o p : ℕ) (path : Path) (let_go : ℕ)
+        → t < w.shape.threads
         → MayLogEnter w.shape (w.known t) o p path → IsValid w objects → IsLastLetGo (logs w) o let_go
-        → stamp_by (Enter o path) (w.words (Stamp o)) (last_stamp (w.known t).log) ≡ max let_go (last_stamp (w.known t).log) + 1 }
+        → stamp_by (Enter o path) (w.words (Stamp o)) (last_stamp (w.known t).log)
+        ≡ max let_go (last_stamp (w.known t).log) + 1 }
     ensures resume { (w : World) (objects : List PlainObject) (t o m let_go : ℕ) → t < w.shape.threads
         → MayLogResume w.shape (w.known t) o m → IsValid w objects → IsLastLetGo (logs w) o let_go
-        → stamp_by (Resume o) (w.words (Stamp o)) (last_stamp (w.known t).log) ≡ max let_go (last_stamp (w.known t).log) + 1 }
+        → stamp_by (Resume o) (w.words (Stamp o)) (last_stamp (w.known t).log)
+        ≡ max let_go (last_stamp (w.known t).log) + 1 }
 {}

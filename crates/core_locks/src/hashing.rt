@@ -64,11 +64,13 @@ pub fn drawing_a_hash_into_a_mark_keeps_the_world_valid()
 /// monitor.
 pub fn drawing_a_hash_into_a_monitor_keeps_the_world_valid()
     ensures hit { (e : Purpose) (draw : NextDraw) (o m header : ℕ)
-        → LogsValid (λ w t. MayDrawInMonitor w.start w.shape (w.known t) draw o m header × (w.words (Header m) ≡ header))
+        → LogsValid (λ w t. MayDrawInMonitor w.start w.shape (w.known t) draw o m header
+        × (w.words (Header m) ≡ header))
         (λ w t. draw_plan e draw (Header m) o header)
         (Hash o draw.value (Some draw.number)) }
     ensures miss { (e : Purpose) (draw : NextDraw) (o m header : ℕ)
-        → KeepsValid (λ w t. MayDrawInMonitor w.start w.shape (w.known t) draw o m header × (w.words (Header m) ≢ header))
+        → KeepsValid
+        (λ w t. MayDrawInMonitor w.start w.shape (w.known t) draw o m header × (w.words (Header m) ≢ header))
         (λ w t. draw_plan e draw (Header m) o header) }
 {}
 

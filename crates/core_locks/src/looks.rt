@@ -25,7 +25,8 @@ pub fn a_load_of_the_safepoint_word_keeps_the_world_valid()
 pub fn a_load_by_a_requester_keeps_the_world_valid()
     ensures valid { (e : Purpose)
         → KeepsValid (λ w t. MayLoadRequested (w.known t) e) (λ w t. load_plan e (w.known t).stage Safepoint) }
-    ensures learns { (w : World) (t : ℕ) (e : Purpose) → (w.known t).requesting ≡ true → is_still (w.words Safepoint) ≡ true
+    ensures learns { (w : World) (t : ℕ) (e : Purpose) → (w.known t).requesting ≡ true
+        → is_still (w.words Safepoint) ≡ true
         → ((world_after (load_plan e (w.known t).stage Safepoint) t w).known t).reached ≡ true }
 {}
 

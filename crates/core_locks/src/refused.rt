@@ -41,21 +41,24 @@ pub use waiting::{
 
 /// A running thread that exchanges a mark which isn't neutral, but names another thread's record, for its place.
 pub fn no_exchange_of_another_mark()
-    ensures { (w : World) (o t u p q : ℕ) (e : Purpose) → Valid w → (w.known t).running ≡ true → t ≢ u → u < 32 → p < 64 → q < 64
+    ensures { (w : World) (o t u p q : ℕ) (e : Purpose) → Valid w → (w.known t).running ≡ true → t ≢ u
+        → u < 32 → p < 64 → q < 64
         → w.words (Mark o) ≡ mark_of (Locked u q)
         → Valid (world_after (seize_plan e t o (mark_of (Locked u q)) p) t w) → ⊥ }
 {}
 
 /// A running thread that exchanges a neutral mark for a place where it hasn't stored that mark as the displaced word.
 pub fn no_exchange_without_the_displaced_word()
-    ensures { (w : World) (o t mark p : ℕ) (e : Purpose) → Valid w → (w.known t).running ≡ true → p < 64 → is_neutral mark ≡ true
+    ensures { (w : World) (o t mark p : ℕ) (e : Purpose) → Valid w → (w.known t).running ≡ true → p < 64
+        → is_neutral mark ≡ true
         → w.words (Mark o) ≡ mark → w.words (Displaced t p) ≢ mark
         → Valid (world_after (seize_plan e t o mark p) t w) → ⊥ }
 {}
 
 /// A running thread that puts a header back, though the object's stamp is below that of the Exit which this logs.
 pub fn no_exit_below_the_stamp()
-    ensures { (w : World) (o t p header : ℕ) (e : Purpose) → (w.known t).running ≡ true → w.words (Mark o) ≡ mark_of (Locked t p)
+    ensures { (w : World) (o t p header : ℕ) (e : Purpose) → (w.known t).running ≡ true
+        → w.words (Mark o) ≡ mark_of (Locked t p)
         → is_neutral header ≡ true → w.words (Stamp o) < next_stamp (local_of (w.known t))
         → Valid (world_after (let_go_plan e o (mark_of (Locked t p)) header p) t w) → ⊥ }
 {}
@@ -63,7 +66,8 @@ pub fn no_exit_below_the_stamp()
 /// A running thread that puts a header back, though the object's stamp is another one than that of the Exit which this logs: it isn't 0,
 /// and no thread let go of the object with it.
 pub fn no_exit_with_another_stamp()
-    ensures { (w : World) (o t p header : ℕ) (e : Purpose) → (w.known t).running ≡ true → w.words (Mark o) ≡ mark_of (Locked t p)
+    ensures { (w : World) (o t p header : ℕ) (e : Purpose) → (w.known t).running ≡ true
+        → w.words (Mark o) ≡ mark_of (Locked t p)
         → is_neutral header ≡ true → w.words (Stamp o) ≢ 0 → w.words (Stamp o) ≢ next_stamp (local_of (w.known t))
         → ((u : ℕ) → HasLetGo (w.known u).log o (w.words (Stamp o)) → ⊥)
         → Valid (world_after (let_go_plan e o (mark_of (Locked t p)) header p) t w) → ⊥ }
@@ -72,31 +76,36 @@ pub fn no_exit_with_another_stamp()
 /// A running thread that puts a header back in place of a mark which names another thread's record, whose thread is the plain owner,
 /// wherever in the order its stamp puts the Exit.
 pub fn no_exit_by_another()
-    ensures { (w : World) (o t u q header : ℕ) (e : Purpose) (v : Valid w) → (w.known t).running ≡ true → u ≢ t → owner_at v.objects o u ≡ true
+    ensures { (w : World) (o t u q header : ℕ) (e : Purpose) (v : Valid w) → (w.known t).running ≡ true
+        → u ≢ t → owner_at v.objects o u ≡ true
         → w.words (Mark o) ≡ mark_of (Locked u q)
         → Valid (world_after (let_go_plan e o (mark_of (Locked u q)) header q) t w) → ⊥ }
 {}
 
 /// A running thread that loads a slot of an object which it doesn't own, wherever in the order its stamp puts the Get.
 pub fn no_get_without_the_lock()
-    ensures { (w : World) (o slot t : ℕ) (e : Purpose) (v : Valid w) → (w.known t).running ≡ true → owner_at v.objects o t ≡ false
+    ensures { (w : World) (o slot t : ℕ) (e : Purpose) (v : Valid w) → (w.known t).running ≡ true
+        → owner_at v.objects o t ≡ false
         → Valid (world_after (get_plan e o slot) t w) → ⊥ }
 {}
 
 /// A running thread that publishes more entries than its log has with the one that this logs.
 pub fn no_length_ahead_of_the_log()
-    ensures { (w : World) (t n : ℕ) (value : Value) (e : Purpose) → (w.known t).running ≡ true → length (w.known t).log + 1 < n
+    ensures { (w : World) (t n : ℕ) (value : Value) (e : Purpose) → (w.known t).running ≡ true
+        → length (w.known t).log + 1 < n
         → Valid (world_after (publish_plan e t (Print value) n) t w) → ⊥ }
 {}
 
 /// A running thread that exchanges a mark for a neutral one with a hash, and so logs a draw that isn't its next one.
 pub fn no_draw_out_of_turn()
-    ensures { (w : World) (t o mark : ℕ) (e : Purpose) (draw : NextDraw) → Valid w → (w.known t).running ≡ true → w.words (Mark o) ≡ mark
+    ensures { (w : World) (t o mark : ℕ) (e : Purpose) (draw : NextDraw) → Valid w
+        → (w.known t).running ≡ true → w.words (Mark o) ≡ mark
         → (IsItsNext w.start (w.known t) draw → ⊥) → Valid (world_after (draw_plan e draw (Mark o) o mark) t w) → ⊥ }
 {}
 
 /// A running thread that so draws a hash for an object that has one.
 pub fn no_second_draw()
-    ensures { (w : World) (t o mark : ℕ) (e : Purpose) (draw : NextDraw) (v : Valid w) → (w.known t).running ≡ true → w.words (Mark o) ≡ mark
+    ensures { (w : World) (t o mark : ℕ) (e : Purpose) (draw : NextDraw) (v : Valid w)
+        → (w.known t).running ≡ true → w.words (Mark o) ≡ mark
         → 0 < hash_at v.objects o → Valid (world_after (draw_plan e draw (Mark o) o mark) t w) → ⊥ }
 {}

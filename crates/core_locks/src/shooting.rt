@@ -29,7 +29,8 @@ pub fn keeping_a_shot_keeps_the_world_valid()
         → KeepsValid (λ w t. MayKeepShot w.shape (w.known t) e) (λ w t. keep_shot_plan e) }
     ensures keeps { (w : World) (t : ℕ) (e : Purpose)
         → ((world_after (keep_shot_plan e) t w).known t).shots ≡ (w.known t).shots ++ shot_of w.shape (w.known t) ∷ [] }
-    ensures shows { (w : World) (objects : List PlainObject) (t : ℕ) (e : Purpose) → t < w.shape.threads → MayKeepShot w.shape (w.known t) e
+    ensures shows { (w : World) (objects : List PlainObject) (t : ℕ) (e : Purpose) → t < w.shape.threads
+        → MayKeepShot w.shape (w.known t) e
         → IsValid w objects → IsShotOf w objects (shot_of w.shape (w.known t)) }
 {}
 
@@ -46,7 +47,8 @@ pub fn the_looks_of_a_dump_see_all()
 /// dump is unfinished. And of any two shots of any threads, one cuts each log no later than the other.
 pub fn each_shot_is_right()
     ensures { (w : World) (objects : List PlainObject) → IsValid w objects
-        → ShotsFit w.shape.objects (logs w) (λ t. (w.known t).log) (λ t. (w.known t).shots) (λ t. (w.known t).unfinished) }
+        → ShotsFit w.shape.objects (logs w) (λ t. (w.known t).log) (λ t. (w.known t).shots)
+        (λ t. (w.known t).unfinished) }
 {}
 
 /// A thread that keeps a shot which shows thread u as the owner of an object, though u's log has no Enter of that object as far as the
@@ -55,7 +57,8 @@ pub fn each_shot_is_right()
 pub fn no_shot_of_an_owner_without_its_enter()
     ensures { (w : World) (t u o : ℕ) (e : Purpose) → u < w.shape.threads → o < length w.shape.objects
         → (owner_and_count_in w.shape (seen_words (w.known t)) o).0 ≡ Some u
-        → AllByRecursion (λ l. enters o l.entry ≡ false) (take (slice_index (shot_of w.shape (w.known t)).cut u) (w.known u).log)
+        → AllByRecursion (λ l. enters o l.entry ≡ false)
+        (take (slice_index (shot_of w.shape (w.known t)).cut u) (w.known u).log)
         → Valid (world_after (keep_shot_plan e) t w) → ⊥ }
 {}
 
@@ -67,6 +70,7 @@ pub fn no_shot_that_differs_from_its_cut()
         → objects_after w.shape.objects (cut_logs (shot_of w.shape (w.known t)).cut (logs w)) ≡ Some objects
         → owner_and_count_in w.shape (seen_words (w.known t)) o ≢ cell_in (monitor_of objects o)
         → Valid (world_after (keep_shot_plan e) t w) → ⊥ }
-    ensures cut { (w : World) (t : ℕ) (e : Purpose) → objects_after w.shape.objects (cut_logs (shot_of w.shape (w.known t)).cut (logs w)) ≡ None
+    ensures cut { (w : World) (t : ℕ) (e : Purpose)
+        → objects_after w.shape.objects (cut_logs (shot_of w.shape (w.known t)).cut (logs w)) ≡ None
         → Valid (world_after (keep_shot_plan e) t w) → ⊥ }
 {}

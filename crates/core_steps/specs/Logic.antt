@@ -46,9 +46,11 @@ Doing heap fresh (done a) k Q = Q fresh a k
 Doing heap fresh never k Q = ⊥
 Doing heap fresh (step p f) k Q =
     (is_idle heap.shape k ≡ fresh → Keeps heap p k)
-    × ((n : ℕ) → is_idle heap.shape k ≡ fresh → Was heap p k n → Doing heap false (f n) (known_after heap.shape heap.start p n k) Q)
+    × ((n : ℕ) → is_idle heap.shape k ≡ fresh → Was heap p k n
+    → Doing heap false (f n) (known_after heap.shape heap.start p n k) Q)
 
-pub record Does {A : Type 0} (heap : Heap) (fresh : Bool) (d : Todo A) (k : Known) (Q : Bool → A → Known → Type 0) : Type 0 where
+pub record Does {A : Type 0} (heap : Heap) (fresh : Bool) (d : Todo A) (k : Known)
+    (Q : Bool → A → Known → Type 0) : Type 0 where
   pub by : Doing heap fresh d k Q
 
 -- The same where anything may hold behind its answers.

@@ -11,7 +11,8 @@ use Rattle.core_steps.specs.Logic.{Heap}
 -- from the opening world on, each step is the next one of some thread, whatever call that begins or goes on with
 pub data Comes (heap : Heap) : World → Type 0 where
   opens : Comes heap (opening heap.shape heap.start heap.biasing)
-  moves : (w : World) (t : ℕ) (p : StepPlan) → Comes heap w → t < w.shape.threads → IsNext w.shape w.start w.biasing (w.known t) p
+  moves : (w : World) (t : ℕ) (p : StepPlan) → Comes heap w → t < w.shape.threads
+      → IsNext w.shape w.start w.biasing (w.known t) p
       → Comes heap (world_after p t w)
 
 -- what is left to do doesn't say that no valid world comes there

@@ -15,4 +15,5 @@ Finishes heap fresh d k = Does heap fresh d k (λ fresh a l. AtRest heap.shape l
 -- The world is valid, and the law of biases holds. What is left of each thread's call does its steps up to its end at rest; where nothing is left, the thread is at rest.
 pub record Sound (w : World) : Type 0 where
   pub valid : WhollyValid w
-  pub goes_on : (t : ℕ) → t < w.shape.threads → Finishes (heap_of w) false (rest_of_call w.shape (w.known t)) (w.known t)
+  pub goes_on : (t : ℕ) → t < w.shape.threads
+      → Finishes (heap_of w) false (rest_of_call w.shape (w.known t)) (w.known t)

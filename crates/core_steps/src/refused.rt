@@ -24,27 +24,37 @@ ghost use Rattle.core_steps.specs.Weakened.{late_displaced_steps, early_clearing
 /// a mark names a record that has no header.
 pub fn no_displaced_word_after_the_exchange()
     ensures refused { (heap : Heap) (k : Known) (fresh : Bool) (v : Stands heap k) (e : Purpose) (o mark : ℕ)
-        → is_idle heap.shape k ≡ fresh → k.running ≡ true → free_place k.holds < 64 → is_neutral mark ≡ true → v.world.words (Mark o) ≡ mark
-        → v.world.words (Displaced k.thread (free_place k.holds)) ≢ mark → DoesSteps heap fresh (late_displaced_steps e (local_of k) o mark) k → ⊥ }
+        → is_idle heap.shape k ≡ fresh → k.running ≡ true → free_place k.holds < 64 → is_neutral mark ≡ true
+        → v.world.words (Mark o) ≡ mark
+        → v.world.words (Displaced k.thread (free_place k.holds)) ≢ mark
+        → DoesSteps heap fresh (late_displaced_steps e (local_of k) o mark) k → ⊥ }
     ensures there { (e : Purpose)
-        → Comes small running × (DoesSteps small true (late_displaced_steps e (local_of (known_in running)) 0 neutral) (known_in running) → ⊥) }
+        → Comes small running
+        × (DoesSteps small true (late_displaced_steps e (local_of (known_in running)) 0 neutral)
+        (known_in running) → ⊥) }
 {}
 
 /// An exit that clears its hold word before it puts the header back: the plain monitor still counts the hold.
 pub fn no_hold_word_cleared_before_the_exchange()
     ensures refused { (heap : Heap) (k : Known) (fresh : Bool) (v : Stands heap k) (e : Purpose) (o header mark : ℕ)
-        → is_idle heap.shape k ≡ fresh → k.running ≡ true → k.stage ≡ Calm → o < length heap.shape.objects → 1 ≤ hold_count o k.holds
+        → is_idle heap.shape k ≡ fresh → k.running ≡ true → k.stage ≡ Calm → o < length heap.shape.objects
+        → 1 ≤ hold_count o k.holds
         → DoesSteps heap fresh (early_clearing_steps e (local_of k) o header mark) k → ⊥ }
     ensures there { (e : Purpose) (header mark : ℕ)
-        → Comes small entered × (DoesSteps small true (early_clearing_steps e (local_of (known_in entered)) 0 header mark) (known_in entered) → ⊥) }
+        → Comes small entered
+        × (DoesSteps small true (early_clearing_steps e (local_of (known_in entered)) 0 header mark)
+        (known_in entered) → ⊥) }
 {}
 
 /// A stop while a step on a lock is unfinished: a thread that doesn't run would stand in the middle of taking or leaving a lock.
 pub fn no_stop_between_steps_on_a_lock()
     ensures refused { (heap : Heap) (k : Known) (fresh : Bool) (v : Stands heap k) (e : Purpose) (stage : Stage)
-        → is_idle heap.shape k ≡ fresh → k.running ≡ true → stage ≢ Calm → DoesSteps heap fresh (stop_at_stage_steps e stage (local_of k)) k → ⊥ }
+        → is_idle heap.shape k ≡ fresh → k.running ≡ true → stage ≢ Calm
+        → DoesSteps heap fresh (stop_at_stage_steps e stage (local_of k)) k → ⊥ }
     ensures there { (e : Purpose)
-        → Comes small seized × (DoesSteps small false (stop_at_stage_steps e (Seizes 0 0) (local_of (known_in seized))) (known_in seized) → ⊥) }
+        → Comes small seized
+        × (DoesSteps small false (stop_at_stage_steps e (Seizes 0 0) (local_of (known_in seized)))
+        (known_in seized) → ⊥) }
 {}
 
 /// A stop, by the steps that every stop makes, of a thread that stands in the middle of taking or leaving a lock, of a wait, of an
@@ -52,10 +62,13 @@ pub fn no_stop_between_steps_on_a_lock()
 /// waiting words are ahead of its log, or behind it. So are the recursions of a monitor that it owns, where they are ahead or behind.
 pub fn no_stop_in_the_middle_of_a_lock()
     ensures refused { (heap : Heap) (k : Known) (fresh : Bool) (v : Stands heap k) (e : Purpose)
-        → is_idle heap.shape k ≡ fresh → k.running ≡ true → is_between k.stage ≡ true → DoesSteps heap fresh (stop_steps e (local_of k)) k → ⊥ }
+        → is_idle heap.shape k ≡ fresh → k.running ≡ true → is_between k.stage ≡ true
+        → DoesSteps heap fresh (stop_steps e (local_of k)) k → ⊥ }
     ensures counting { (heap : Heap) (k : Known) (fresh : Bool) (v : Stands heap k) (e : Purpose) (o m : ℕ)
-        → is_idle heap.shape k ≡ fresh → k.running ≡ true → monitor_in (v.world.words (Mark o)) ≡ Some m → lock v.world o ≡ OwnedBy k.thread
+        → is_idle heap.shape k ≡ fresh → k.running ≡ true → monitor_in (v.world.words (Mark o)) ≡ Some m
+        → lock v.world o ≡ OwnedBy k.thread
         → (k.stage ≡ Ahead o) ⊎ (k.stage ≡ Behind o) → DoesSteps heap fresh (stop_steps e (local_of k)) k → ⊥ }
     ensures there { (e : Purpose)
-        → Comes small seized × (DoesSteps small false (stop_steps e (local_of (known_in seized))) (known_in seized) → ⊥) }
+        → Comes small seized
+        × (DoesSteps small false (stop_steps e (local_of (known_in seized))) (known_in seized) → ⊥) }
 {}

@@ -25,13 +25,17 @@ pub fn next_steps_keep_worlds_sound()
     ensures sound { (w : World) (t : ℕ) (p : StepPlan) → t < w.shape.threads → Sound w
         → IsNext w.shape w.start w.biasing (w.known t) p → Sound (world_after p t w) }
     ensures known { (heap : Heap) (k : Known) (p : StepPlan) → IsNext heap.shape heap.start heap.biasing k p
-        → (w : World) → heap_of w ≡ heap → w.known k.thread ≡ k → k.thread < heap.shape.threads → Sound w → Sound (world_after p k.thread w) }
+        → (w : World) → heap_of w ≡ heap → w.known k.thread ≡ k → k.thread < heap.shape.threads → Sound w
+        → Sound (world_after p k.thread w) }
     ensures there { (w : World) (t : ℕ) (p : StepPlan) → t < w.shape.threads → Sound w
         → IsNext w.shape w.start w.biasing (w.known t) p → IsThere w.shape (w.known t) p }
     ensures known_there { (heap : Heap) (k : Known) (p : StepPlan) → IsNext heap.shape heap.start heap.biasing k p
-        → (w : World) → heap_of w ≡ heap → w.known k.thread ≡ k → k.thread < heap.shape.threads → Sound w → IsThere heap.shape k p }
-    ensures comes { (w : World) (t : ℕ) → Sound w → t < w.shape.threads → comes (rest_of_call w.shape (w.known t)) ≡ true }
-    ensures rests { (w : World) (t : ℕ) → Sound w → t < w.shape.threads → is_idle w.shape (w.known t) ≡ true → AtRest w.shape (w.known t) }
+        → (w : World) → heap_of w ≡ heap → w.known k.thread ≡ k → k.thread < heap.shape.threads → Sound w
+        → IsThere heap.shape k p }
+    ensures comes { (w : World) (t : ℕ) → Sound w → t < w.shape.threads
+        → comes (rest_of_call w.shape (w.known t)) ≡ true }
+    ensures rests { (w : World) (t : ℕ) → Sound w → t < w.shape.threads → is_idle w.shape (w.known t) ≡ true
+        → AtRest w.shape (w.known t) }
 {}
 
 /// The opening world is sound, and each world to which a heap comes from there is sound, and so valid. There no thread's call says that no valid world comes.

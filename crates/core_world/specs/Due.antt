@@ -11,7 +11,10 @@ use Rattle.core_world.specs.Steps.{rest_of_call, is_idle, known_after}
 
 -- what is to do now: the rest of the call that goes on, or else the steps of this call, where it may begin, by a thread in the middle of nothing
 unfoldable pub steps_due : Shape → ℕ → Bool → Known → Task → Todo (Unit {0})
-steps_due s start biasing k t = if is_idle s k then (if is_calm k.stage && may_begin s biasing k t then steps_of s t (start_of start k) else never) else rest_of_call s k
+steps_due s start biasing k t =
+    if is_idle s k
+    then (if is_calm k.stage && may_begin s biasing k t then steps_of s t (start_of start k) else never)
+    else rest_of_call s k
 
 -- the step is the next one of a thread that knows k: it is a function of the call, of what the thread knew when the call began, and of what
 -- its steps have found
@@ -19,13 +22,15 @@ abbrev pub IsNext : Shape → ℕ → Bool → Known → StepPlan → Type 0
 IsNext s start biasing k p = head (steps_due s start biasing k p.task) ≡ Some p
 
 -- These steps, and then what their answer asks for, are those of a call of this task, which thread k may begin: it is in the middle of nothing.
-pub record Begins {A : Type 0} (s : Shape) (start : ℕ) (biasing : Bool) (k : Known) (t : Task) (d : Todo A) (after : A → Todo (Unit {0})) : Type 0 where
+pub record Begins {A : Type 0} (s : Shape) (start : ℕ) (biasing : Bool) (k : Known) (t : Task) (d : Todo A)
+    (after : A → Todo (Unit {0})) : Type 0 where
   pub over : is_idle s k ≡ true
   pub may : (is_calm k.stage && may_begin s biasing k t) ≡ true
   pub is : steps_of s t (start_of start k) ≡ (d >>= after)
 
 -- THE STEPS THAT ARE DUE, of a part of a call as of the whole: they come next in the call that goes on, or they begin one.
-pub record IsDue {A : Type 0} (s : Shape) (start : ℕ) (biasing : Bool) (k : Known) (t : Task) (d : Todo A) : Type 0 where
+pub record IsDue {A : Type 0} (s : Shape) (start : ℕ) (biasing : Bool) (k : Known) (t : Task)
+    (d : Todo A) : Type 0 where
   pub after : A → Todo (Unit {0})
   pub is : (rest_of_call s k ≡ (d >>= after)) ⊎ Begins s start biasing k t d after
 

@@ -51,7 +51,8 @@ lock_form None prototype owners named = Open
 lock_form (Some Inflating) prototype owners named = record_lock named
 lock_form (Some (Neutral hash age)) prototype owners named = Open
 lock_form (Some (Anonymous epoch age)) prototype owners named = Open
-lock_form (Some (Biased thread epoch age)) prototype owners named = if has_epoch (epoch_in prototype) epoch then BiasedTo thread else Open
+lock_form (Some (Biased thread epoch age)) prototype owners named =
+    if has_epoch (epoch_in prototype) epoch then BiasedTo thread else Open
 lock_form (Some (Locked thread place)) prototype owners named = OnRecord thread place
 lock_form (Some (Inflated monitor)) prototype owners named = owner_lock (read_owner (owners monitor))
 lock_form (Some Marked) prototype owners named = Open

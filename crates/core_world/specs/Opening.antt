@@ -50,4 +50,5 @@ first_known t =
     }
 
 abbrev pub opening : Shape → ℕ → Bool → World
-opening s start biasing = record { shape = s; start = start; biasing = biasing; words = first_word biasing; known = first_known }
+opening s start biasing =
+    record { shape = s; start = start; biasing = biasing; words = first_word biasing; known = first_known }

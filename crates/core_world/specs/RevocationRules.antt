@@ -80,7 +80,8 @@ holds_in f t = words_from 0 64 (λ p. f (Hold t p))
 abbrev pub record_writes : ℕ → ℕ → ℕ → List ℕ → List Write
 record_writes o t p [] = []
 record_writes o t p (h ∷ hs) =
-    (if names o h then write (Displaced t p) (if h == hold_word o 1 then mark_of (Neutral 0 0) else 0) ∷ [] else []) ++ record_writes o t (p + 1) hs
+    (if names o h then write (Displaced t p) (if h == hold_word o 1 then mark_of (Neutral 0 0) else 0) ∷ []
+    else []) ++ record_writes o t (p + 1) hs
 
 abbrev pub first_place : ℕ → List ℕ → ℕ
 first_place o hs = position_or_len (λ h. h == hold_word o 1) hs
@@ -93,7 +94,8 @@ revoke_biased o t allowed hs =
     else record_writes o t 0 hs ++ write (Mark o) (mark_of (Locked t (first_place o hs))) ∷ []
 
 abbrev pub revoke_form : Option MarkForm → ℕ → Bool → Rule
-revoke_form (Some (Anonymous epoch age)) o allowed f = if allowed then [] else write (Mark o) (mark_of (Neutral 0 0)) ∷ []
+revoke_form (Some (Anonymous epoch age)) o allowed f =
+    if allowed then [] else write (Mark o) (mark_of (Neutral 0 0)) ∷ []
 revoke_form (Some (Biased thread epoch age)) o allowed f = revoke_biased o thread allowed (holds_in f thread)
 revoke_form _ o allowed f = []
 
@@ -134,7 +136,9 @@ on_held s c r (Some o) f = if (class_of s o == c) && is_biased (f (Mark o)) then
 
 -- the rule for the object of each record, by rising thread and place
 unfoldable pub on_records : Shape → ℕ → (ℕ → Rule) → Rule
-on_records s c r = each_below s.threads (λ t. each_below 64 (λ p f. on_held s c r (object_held (read_hold (f (Hold t p)))) f))
+on_records s c r =
+    each_below s.threads
+    (λ t. each_below 64 (λ p f. on_held s c r (object_held (read_hold (f (Hold t p)))) f))
 
 -- o becomes biased to thread t, where its mark and its class's prototype have the bias pattern
 abbrev pub biased_word : Bool → Option ℕ → ℕ → Option ℕ
@@ -148,13 +152,17 @@ take_bias c o t f = store_where (Mark o) (biased_word (is_biased (f (Mark o))) (
 abbrev pub verdict_rules : Shape → ℕ → ℕ → Revocation → Verdict → List Rule
 verdict_rules s t c b Single = revoke b.object false ∷ []
 verdict_rules s t c b BulkRebias =
-    store_one (LastBulk c) b.now ∷ raise_epoch c ∷ on_records s c (renew c) ∷ revoke b.object b.rebias ∷ (if b.rebias then take_bias c b.object t ∷ [] else [])
+    store_one (LastBulk c) b.now ∷ raise_epoch c ∷ on_records s c (renew c) ∷ revoke b.object b.rebias
+    ∷ (if b.rebias then take_bias c b.object t ∷ [] else [])
 verdict_rules s t c b BulkRevoke =
-    store_one (LastBulk c) b.now ∷ store_one (Prototype c) (mark_of (Neutral 0 0)) ∷ on_records s c (λ o. revoke o false) ∷ revoke b.object false ∷ []
+    store_one (LastBulk c) b.now ∷ store_one (Prototype c) (mark_of (Neutral 0 0))
+    ∷ on_records s c (λ o. revoke o false) ∷ revoke b.object false ∷ []
 
 abbrev pub revocation_rules : Shape → ℕ → ℕ → Revocation → Verdict × ℕ → List Rule
 revocation_rules s t c b d = store_one (Revocations c) d.1 ∷ verdict_rules s t c b d.0
 
 -- all stores of a revocation by thread t, the new count first
 unfoldable pub revocation_writes : Shape → ℕ → Revocation → Rule
-revocation_writes s t b f = let c = class_of s b.object in in_turn (revocation_rules s t c b (decided (f (Revocations c)) (f (LastBulk c)) b.now)) f
+revocation_writes s t b f =
+    let c = class_of s b.object in in_turn
+    (revocation_rules s t c b (decided (f (Revocations c)) (f (LastBulk c)) b.now)) f

@@ -52,13 +52,16 @@ pub record IsRightShot (shape : List (ℕ × ℕ)) (logs : List (List Logged)) (
 -- its log ends there, and a dump is what it has unfinished
 abbrev pub AreOfDumps : ℕ → List Logged → List DumpShot → Option Unfinished → Type 0
 AreOfDumps t log shots unfinished =
-    (places_of t shots ≡ dumps_from 0 log) ⊎ ((places_of t shots ≡ dumps_from 0 log ++ (length log, length shots) ∷ []) × IsUnfinished unfinished op.Dump 0)
+    (places_of t shots ≡ dumps_from 0 log)
+    ⊎ ((places_of t shots ≡ dumps_from 0 log ++ (length log, length shots) ∷ [])
+    × IsUnfinished unfinished op.Dump 0)
 
 -- one cuts each log no later than the other
 abbrev pub IsNoLater : DumpShot → DumpShot → Type 0
 IsNoLater a b = (u : ℕ) → slice_index a.cut u ≤ slice_index b.cut u
 
-pub record ShotsFit (shape : List (ℕ × ℕ)) (logs : List (List Logged)) (log : ℕ → List Logged) (shots : ℕ → List DumpShot) (unfinished : ℕ → Option Unfinished) : Type 0 where
+pub record ShotsFit (shape : List (ℕ × ℕ)) (logs : List (List Logged)) (log : ℕ → List Logged)
+    (shots : ℕ → List DumpShot) (unfinished : ℕ → Option Unfinished) : Type 0 where
   -- each shot is right over the logs as they are, and has its place among those of its thread as its number, from 1 on
   pub right : (t i : ℕ) (s : DumpShot) → slice_get (shots t) i ≡ Some s → IsRightShot shape logs s
   pub numbered : (t i : ℕ) (s : DumpShot) → slice_get (shots t) i ≡ Some s → s.number ≡ i + 1
@@ -66,4 +69,5 @@ pub record ShotsFit (shape : List (ℕ × ℕ)) (logs : List (List Logged)) (log
   -- a thread takes at most 4
   pub few : (t : ℕ) → length (shots t) ≤ 4
   -- of any two shots of any threads, one was made no later than the other
-  pub ordered : (t u i j : ℕ) (a b : DumpShot) → slice_get (shots t) i ≡ Some a → slice_get (shots u) j ≡ Some b → IsNoLater a b ⊎ IsNoLater b a
+  pub ordered : (t u i j : ℕ) (a b : DumpShot) → slice_get (shots t) i ≡ Some a
+      → slice_get (shots u) j ≡ Some b → IsNoLater a b ⊎ IsNoLater b a

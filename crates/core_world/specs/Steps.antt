@@ -46,7 +46,9 @@ with_answer n None = None
 with_answer n (Some b) = Some (record b { answers = n ∷ b.answers })
 
 abbrev pub call_after : Shape → ℕ → StepPlan → ℕ → Known → Option CallUnderway
-call_after s start p n k = if is_idle s k then Some (record { task = p.task; start = start_of start k; answers = n ∷ [] }) else with_answer n k.call
+call_after s start p n k =
+    if is_idle s k then Some (record { task = p.task; start = start_of start k; answers = n ∷ [] })
+    else with_answer n k.call
 
 -- LOGS. An Enter and a Resume are stamped above the stamp that they load.
 abbrev pub is_taking : Entry → Bool
@@ -64,7 +66,8 @@ abbrev pub log_after : Note → ℕ → List Logged → List Logged
 log_after Quiet found log = log
 log_after (Log e) found log = with_entry e found log
 log_after (LogGet o slot) found log = with_entry (entry.Get o slot (value_found (read_value found))) found log
-log_after (LogHash o) found log = if hash_in found == 0 then log else with_entry (entry.Hash o (hash_in found) None) found log
+log_after (LogHash o) found log =
+    if hash_in found == 0 then log else with_entry (entry.Hash o (hash_in found) None) found log
 
 -- a hash that is found ends its operation
 abbrev pub unfinished_after : Note → ℕ → Option Unfinished → Option Unfinished
@@ -132,7 +135,8 @@ seen_words k n = or_zero (last_seen n k.seen_at_safepoint)
 abbrev pub owner_and_count_in : Shape → (Name → ℕ) → ℕ → Option ℕ × ℕ
 owner_and_count_in s f o =
     owner_and_count_by
-    (holder (lock_form (read_mark (f (name.Mark o))) (f (name.Prototype (class_of s o))) (λ m. f (name.Owner m)) None) (λ t. hold_count o (holds_in f t)))
+    (holder (lock_form (read_mark (f (name.Mark o))) (f (name.Prototype (class_of s o)))
+    (λ m. f (name.Owner m)) None) (λ t. hold_count o (holds_in f t)))
     (λ t. hold_count o (holds_in f t))
 
 -- the lengths of n logs, from thread t on; its own is that of its log
@@ -145,7 +149,12 @@ cells_from o (x ∷ xs) s f = owner_and_count_in s f o ∷ cells_from (o + 1) xs
 
 -- the shot that its steps at the safepoint make
 abbrev pub shot_of : Shape → Known → known.DumpShot
-shot_of s k = record { number = length k.shots + 1; cut = cut_from 0 s.threads k; cells = cells_from 0 s.objects s (seen_words k) }
+shot_of s k =
+    record {
+      number = length k.shots + 1;
+      cut = cut_from 0 s.threads k;
+      cells = cells_from 0 s.objects s (seen_words k);
+    }
 
 abbrev pub shots_after : Own → Shape → Known → List known.DumpShot
 shots_after TakeShot s k = k.shots ++ shot_of s k ∷ []
@@ -171,7 +180,9 @@ kept_by_note (Log e) seen = if is_taking e then [] else seen
 kept_by_note _ seen = seen
 
 abbrev pub kept_by_act : Name → Act → ℕ → Known → List StepMade → List StepMade
-kept_by_act name.Safepoint (act.Swap expected word) left k seen = if k.reached && not (asks_in left k.thread) then only_headers k.seen_at_safepoint else if k.running then seen else []
+kept_by_act name.Safepoint (act.Swap expected word) left k seen =
+    if k.reached && not (asks_in left k.thread) then only_headers k.seen_at_safepoint else if k.running
+    then seen else []
 kept_by_act _ _ left k seen = seen
 
 -- since its safepoint was reached
@@ -229,4 +240,6 @@ known_along s start (m ∷ ms) k = known_after s start m.plan m.found (known_alo
 
 -- the world that this step of thread t makes
 abbrev pub world_after : StepPlan → ℕ → World → World
-world_after p t w = with_word_and_known p.at (word_after p.act (w.words p.at)) t (known_after w.shape w.start p (w.words p.at) (w.known t)) w
+world_after p t w =
+    with_word_and_known p.at (word_after p.act (w.words p.at)) t
+    (known_after w.shape w.start p (w.words p.at) (w.known t)) w

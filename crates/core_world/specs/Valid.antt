@@ -42,11 +42,13 @@ SeenFit w objects = SeenStays w (owner_at objects) (waits_at objects)
 
 abbrev pub FormsFit : World → Type 0
 FormsFit w =
-    WordsHaveForms w.shape (marks w) (owner_words w) (λ t. w.words (Waiting t)) (λ m. w.words (Object m)) (λ t p. w.words (Hold t p)) (w.words Safepoint)
+    WordsHaveForms w.shape (marks w) (owner_words w) (λ t. w.words (Waiting t)) (λ m. w.words (Object m))
+    (λ t p. w.words (Hold t p)) (w.words Safepoint)
 
 abbrev pub SafepointFits : World → List PlainObject → Type 0
 SafepointFits w objects =
-    SafepointIsKnown w.shape.threads (w.words Safepoint) (λ t. (w.known t).running) (λ t. (w.known t).requesting) (λ t. (w.known t).reached)
+    SafepointIsKnown w.shape.threads (w.words Safepoint) (λ t. (w.known t).running)
+    (λ t. (w.known t).requesting) (λ t. (w.known t).reached)
     (λ t. (w.known t).halted) (λ t. ends (w.known t).log) (λ t. (w.known t).unfinished) (monitor_of objects)
 
 -- every clause holds, and these are the plain objects after the logs
@@ -62,22 +64,34 @@ pub record Fits (w : World) (objects : List PlainObject) : Type 0 where
   pub forms : FormsFit w
   pub safe : SafepointFits w objects
   pub quiet : StoppedAreQuiet (λ t. (w.known t).running) (λ t. (w.known t).stage)
-  pub holds : HoldsFitLogs (λ t p. w.words (Hold t p)) (λ t. (w.known t).holds) (λ t o. hold_words_ahead (w.known t).stage o) (λ o t. holds_by_monitor (monitor_of objects o) t)
+  pub holds : HoldsFitLogs (λ t p. w.words (Hold t p)) (λ t. (w.known t).holds)
+      (λ t o. hold_words_ahead (w.known t).stage o) (λ o t. holds_by_monitor (monitor_of objects o) t)
   pub owners : LocksArePlain (who w) (λ t. (w.known t).stage) (owner_at objects)
-  pub biases : BiasedAreFree (marks w) (lock w) (λ t. (w.known t).holds) (hash_at objects) (waits_at objects) (notified_at objects)
+  pub biases : BiasedAreFree (marks w) (lock w) (λ t. (w.known t).holds) (hash_at objects) (waits_at objects)
+      (notified_at objects)
   pub records : RecordsRest (lock w) (λ t. (w.known t).holds) (λ t. (w.known t).stage) (displaced_words w)
   pub inflating : InflationsAreOne (marks w) (λ t. inflation_in (w.known t).stage) (inflations w)
   pub monitors : MonitorsAreNamed (inflated_to w) (λ m. w.words (Object m)) (headers w)
-  pub recursions : RecursionsFit (marks w) (λ m. w.words (Recursions m)) (lock w) (λ t. (w.known t).holds) (λ t. (w.known t).stage) (λ t. (w.known t).saved) (displaced_words w) (waits_at objects) (notified_at objects)
+  pub recursions : RecursionsFit (marks w) (λ m. w.words (Recursions m)) (lock w) (λ t. (w.known t).holds)
+      (λ t. (w.known t).stage) (λ t. (w.known t).saved) (displaced_words w) (waits_at objects)
+      (notified_at objects)
   pub hashes : HashesFit (marks w) (lock w) (header w) (λ t. (w.known t).holds) (displaced_words w) (hash_at objects)
   pub draws : DrawsFit w.start (logs w) (λ t. (w.known t).log) (λ t. (w.known t).draws) (hash_at objects)
   pub slots : SlotsFit w.shape (λ o i. w.words (Slot o i)) (λ o. (object_of objects o).slots)
-  pub waits : WaitsFit (inflated_to w) (λ t. w.words (Waiting t)) (λ t. (w.known t).wait) (λ t. (w.known t).log) (λ t. (w.known t).stage) (λ t. (w.known t).unfinished) (λ t. (w.known t).running) (waits_at objects) (notified_at objects)
-  pub stamps : StampsFit (logs w) (λ t. (w.known t).log) (λ o. w.words (Stamp o)) (λ o. (monitor_of objects o).owner) (λ t. (w.known t).unfinished)
-  pub lengths : LengthsFit (λ t. w.words (Length t)) (λ t. (w.known t).published) (λ t. (w.known t).log) (λ t. (w.known t).running) (λ t. (w.known t).requesting) (is_halted (w.words Safepoint))
-  pub claims : MonitorsAreClaimed w.shape.threads (length w.shape.objects) (w.words Claim) (inflated_to w) (λ t. (w.known t).kept)
-  pub classes : ClassesFit w.biasing (λ c. w.words (Prototype c)) (λ c. w.words (Revocations c)) (λ c. w.words (LastBulk c)) (marks w) (bulk_rebiases w.shape.threads (λ t. (w.known t).counts)) (bulk_revokes w.shape.threads (λ t. (w.known t).counts))
-  pub shots : ShotsFit w.shape.objects (logs w) (λ t. (w.known t).log) (λ t. (w.known t).shots) (λ t. (w.known t).unfinished)
+  pub waits : WaitsFit (inflated_to w) (λ t. w.words (Waiting t)) (λ t. (w.known t).wait)
+      (λ t. (w.known t).log) (λ t. (w.known t).stage) (λ t. (w.known t).unfinished) (λ t. (w.known t).running)
+      (waits_at objects) (notified_at objects)
+  pub stamps : StampsFit (logs w) (λ t. (w.known t).log) (λ o. w.words (Stamp o))
+      (λ o. (monitor_of objects o).owner) (λ t. (w.known t).unfinished)
+  pub lengths : LengthsFit (λ t. w.words (Length t)) (λ t. (w.known t).published) (λ t. (w.known t).log)
+      (λ t. (w.known t).running) (λ t. (w.known t).requesting) (is_halted (w.words Safepoint))
+  pub claims : MonitorsAreClaimed w.shape.threads (length w.shape.objects) (w.words Claim) (inflated_to w)
+      (λ t. (w.known t).kept)
+  pub classes : ClassesFit w.biasing (λ c. w.words (Prototype c)) (λ c. w.words (Revocations c))
+      (λ c. w.words (LastBulk c)) (marks w) (bulk_rebiases w.shape.threads (λ t. (w.known t).counts))
+      (bulk_revokes w.shape.threads (λ t. (w.known t).counts))
+  pub shots : ShotsFit w.shape.objects (logs w) (λ t. (w.known t).log) (λ t. (w.known t).shots)
+      (λ t. (w.known t).unfinished)
 
 -- a new bias is allowed in an enter alone; an exit and a dump revoke none
 abbrev pub RevokesWithin : Op → Bool → Type 0
@@ -119,10 +133,12 @@ pub record IsRevoking (w : World) (objects : List PlainObject) : Type 0 where
   pub allowed : RevokesWithin operation revocation.rebias
   -- its object, which was validly biased to a thread before the first store
   pub object : revocation.object < length before.shape.objects
-  pub biased : is_valid_bias (read_mark (before.words (Mark revocation.object))) (before.words (Prototype (class_of before.shape revocation.object))) ≡ true
+  pub biased : is_valid_bias (read_mark (before.words (Mark revocation.object)))
+      (before.words (Prototype (class_of before.shape revocation.object))) ≡ true
   -- its stores so far are the first of those that the rules list, and the words are those after them
   pub rest : List Write
-  pub writes : writes_in (w.known requester).seen_at_safepoint ++ rest ≡ revocation_writes before.shape requester revocation before.words
+  pub writes : writes_in (w.known requester).seen_at_safepoint ++ rest
+      ≡ revocation_writes before.shape requester revocation before.words
   pub begun : writes_in (w.known requester).seen_at_safepoint ≢ []
   pub words : w.words ≡ words_after (writes_in (w.known requester).seen_at_safepoint) before.words
   -- what its steps since its safepoint was reached found is what was there before, but for its stores

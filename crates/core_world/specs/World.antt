@@ -20,7 +20,14 @@ with_known t k f u = if u == t then k else f u
 
 -- the world in which the word is v, and thread t knows k
 abbrev pub with_word_and_known : Name → ℕ → ℕ → Known → World → World
-with_word_and_known at v t k w = record { shape = w.shape; start = w.start; biasing = w.biasing; words = with_word at v w.words; known = with_known t k w.known }
+with_word_and_known at v t k w =
+    record {
+      shape = w.shape;
+      start = w.start;
+      biasing = w.biasing;
+      words = with_word at v w.words;
+      known = with_known t k w.known;
+    }
 
 -- the logs of n threads, from thread t on
 abbrev pub logs_from : ℕ → ℕ → (ℕ → Known) → List (List Logged)

@@ -13,7 +13,8 @@ ghost use Rattle.core_world.specs.Valid.{Fits, IsValid, Valid};
 /// The world before the first step is valid, for each shape within the limits, whatever number the generators start from, and
 /// with biases and without: every clause holds of it, and its plain objects are the new ones.
 pub fn the_opening_world_is_valid()
-    ensures fits { (s : Shape) (start : ℕ) (biasing : Bool) → IsInLimits s → Fits (opening s start biasing) (new_objects s.objects) }
+    ensures fits { (s : Shape) (start : ℕ) (biasing : Bool) → IsInLimits s
+        → Fits (opening s start biasing) (new_objects s.objects) }
     ensures valid { (s : Shape) (start : ℕ) (biasing : Bool) → IsInLimits s → Valid (opening s start biasing) }
 {}
 
@@ -22,7 +23,8 @@ pub fn the_opening_world_is_valid()
 /// revoked. A thread that neither runs nor stands at its safepoint looks at the safepoint word alone, and nobody looks at a
 /// word of a monitor that it neither keeps nor has seen named by a mark.
 pub fn a_look_keeps_the_world_valid()
-    ensures load { (w : World) (objects : List PlainObject) (t : ℕ) (p : StepPlan) → t < w.shape.threads → IsLook (w.known t) p
+    ensures load { (w : World) (objects : List PlainObject) (t : ℕ) (p : StepPlan) → t < w.shape.threads
+        → IsLook (w.known t) p
         → IsValid w objects → IsValid (world_after p t w) objects }
     ensures miss { (w : World) (objects : List PlainObject) (t : ℕ) (p : StepPlan) → t < w.shape.threads
         → IsMiss (w.known t) p (w.words p.at) → IsValid w objects → IsValid (world_after p t w) objects }

@@ -21,31 +21,38 @@ ghost use Rattle.core_world.specs.Valid.{Valid};
 
 /// Two owners: the mark says that a record of t has the lock, while the logs say that u is the owner.
 pub fn no_two_owners()
-    ensures { (w : World) (o t u p s : ℕ) (v : Valid (record w { words = with_word (Mark o) (mark_of (Locked t p)) w.words })) → (w.known s).running ≡ true
+    ensures { (w : World) (o t u p s : ℕ)
+        (v : Valid (record w { words = with_word (Mark o) (mark_of (Locked t p)) w.words }))
+        → (w.known s).running ≡ true
         → t < 32 → p < 64 → t ≢ u → owner_at v.objects o u ≡ true → ⊥ }
 {}
 
 /// A stale bias held: the class's prototype hasn't the epoch of the bias, and the thread has a hold word for the object.
 pub fn no_stale_bias_held()
-    ensures { (w : World) (o t e p s : ℕ) (v : Valid w) → (w.known s).running ≡ true → t < 32 → e < 4 → w.words (Mark o) ≡ mark_of (Biased t e 0)
+    ensures { (w : World) (o t e p s : ℕ) (v : Valid w) → (w.known s).running ≡ true → t < 32 → e < 4
+        → w.words (Mark o) ≡ mark_of (Biased t e 0)
         → has_epoch (epoch_in (prototype_of w o)) e ≡ false → names o (w.words (Hold t p)) ≡ true → ⊥ }
 {}
 
 /// A displaced header lost: the mark says that a record has the lock, and that record has no header.
 pub fn no_displaced_header_lost()
-    ensures { (w : World) (o t p s : ℕ) (v : Valid w) → (w.known s).running ≡ true → t < 32 → p < 64 → w.words (Mark o) ≡ mark_of (Locked t p)
+    ensures { (w : World) (o t p s : ℕ) (v : Valid w) → (w.known s).running ≡ true → t < 32 → p < 64
+        → w.words (Mark o) ≡ mark_of (Locked t p)
         → w.words (Displaced t p) ≡ 0 → ⊥ }
 {}
 
 /// A hash changed: the neutral mark has another hash than the object.
 pub fn no_hash_changed()
-    ensures { (w : World) (o h s : ℕ) (v : Valid (record w { words = with_word (Mark o) (mark_of (Neutral h 0)) w.words })) → (w.known s).running ≡ true
+    ensures { (w : World) (o h s : ℕ)
+        (v : Valid (record w { words = with_word (Mark o) (mark_of (Neutral h 0)) w.words }))
+        → (w.known s).running ≡ true
         → h < 2 ^ 31 → hash_at v.objects o ≢ h → ⊥ }
 {}
 
 /// A stamp from nowhere: the object has no owner, and its stamp word is neither 0 nor the stamp of an entry that let go of it.
 pub fn no_stamp_from_nowhere()
-    ensures { (w : World) (o n s : ℕ) (v : Valid (record w { words = with_word (Stamp o) n w.words })) → (w.known s).running ≡ true
+    ensures { (w : World) (o n s : ℕ) (v : Valid (record w { words = with_word (Stamp o) n w.words }))
+        → (w.known s).running ≡ true
         → (monitor_of v.objects o).owner ≡ None → n ≢ 0 → ((t : ℕ) → HasLetGo (w.known t).log o n → ⊥) → ⊥ }
 {}
 
@@ -62,7 +69,8 @@ pub fn no_hash_drawn_twice()
 /// A hold that the recursions would miss: a thread has stored itself as the owner in place of its own record, and not the recursions
 /// yet, while a record of it above depth 1 goes by the monitor.
 pub fn no_hold_by_the_monitor_before_its_recursions()
-    ensures { (w : World) (o t p : ℕ) → Valid w → (w.known t).stage ≡ TakesOver o → is_deeper o (w.words (Hold t p)) ≡ true
+    ensures { (w : World) (o t p : ℕ) → Valid w → (w.known t).stage ≡ TakesOver o
+        → is_deeper o (w.words (Hold t p)) ≡ true
         → w.words (Displaced t p) ≡ 3 → ⊥ }
 {}
 
@@ -70,15 +78,19 @@ pub fn no_hold_by_the_monitor_before_its_recursions()
 /// heap has no biases.
 pub fn no_revocation_without_a_bias()
     ensures mark { (w : World) (o t now : ℕ) (rebias : Bool) → Valid w → (w.known t).stage ≡ Revokes o rebias now
-        → AllByRecursion (λ x. same_name (Mark o) x.at ≡ false) (writes_in (w.known t).seen_at_safepoint) → is_biased (w.words (Mark o)) ≡ false → ⊥ }
-    ensures heap { (w : World) (o t now : ℕ) (rebias : Bool) → Valid w → (w.known t).stage ≡ Revokes o rebias now → w.biasing ≡ false → ⊥ }
+        → AllByRecursion (λ x. same_name (Mark o) x.at ≡ false) (writes_in (w.known t).seen_at_safepoint)
+        → is_biased (w.words (Mark o)) ≡ false → ⊥ }
+    ensures heap { (w : World) (o t now : ℕ) (rebias : Bool) → Valid w
+        → (w.known t).stage ≡ Revokes o rebias now → w.biasing ≡ false → ⊥ }
 {}
 
 /// A word changed at a safepoint: a thread whose safepoint is reached saw another word there than stands there now, or loaded two
 /// different words there, one right after the other; also where it revokes a bias.
 pub fn no_word_changed_at_a_safepoint()
-    ensures now { (w : World) (t n : ℕ) (at : Name) → Valid w → (w.known t).reached ≡ true → last_seen at (w.known t).seen_at_safepoint ≡ Some n
+    ensures now { (w : World) (t n : ℕ) (at : Name) → Valid w → (w.known t).reached ≡ true
+        → last_seen at (w.known t).seen_at_safepoint ≡ Some n
         → w.words at ≢ n → ⊥ }
     ensures before { (w : World) (t : ℕ) (a b : StepMade) (steps : List StepMade) → Valid w → (w.known t).reached ≡ true
-        → (w.known t).seen_at_safepoint ≡ a ∷ b ∷ steps → b.plan.act ≡ Load → a.plan.at ≡ b.plan.at → a.found ≢ b.found → ⊥ }
+        → (w.known t).seen_at_safepoint ≡ a ∷ b ∷ steps → b.plan.act ≡ Load → a.plan.at ≡ b.plan.at
+        → a.found ≢ b.found → ⊥ }
 {}

@@ -16,7 +16,8 @@ counted_by (k ∷ ks) zero = k.counts
 counted_by (k ∷ ks) (suc t) = counted_by ks t
 
 -- Each thread has counted at most `more` verdicts beyond its entries. The counts of revocations are the words of the classes.
-pub record BiasesAtEnd (more : ℕ) (heap : Heap) (words : List ℕ) (logs : List (List Logged)) (ks : List Known) : Type 0 where
+pub record BiasesAtEnd (more : ℕ) (heap : Heap) (words : List ℕ) (logs : List (List Logged))
+    (ks : List Known) : Type 0 where
   pub count : ℕ → ℕ
   pub words_are : (c : ℕ) → c < heap.shape.classes → slice_index words (place_of heap.shape (Revocations c)) ≡ count c
   pub biases : BiasesOfRun heap.biasing heap.shape.threads (class_of heap.shape) logs count (counted_by ks)

@@ -8,7 +8,8 @@ use Rattle.core_world.specs.Steps.{cut_from, cells_from, seen_words}
 
 -- where a step takes a shot, the draft is what the thread has seen at its safepoint
 abbrev pub IsDrafted : Own → Shape → Known → List ℕ → List (Option ℕ × ℕ) → Type 0
-IsDrafted own.TakeShot s k cut cells = (cut ≡ cut_from 0 s.threads k) × (cells ≡ cells_from 0 s.objects s (seen_words k))
+IsDrafted own.TakeShot s k cut cells =
+    (cut ≡ cut_from 0 s.threads k) × (cells ≡ cells_from 0 s.objects s (seen_words k))
 IsDrafted _ s k cut cells = Unit {0}
 
 -- a step that takes no shot leaves the draft

@@ -6,7 +6,12 @@ use Rattle.core_world.specs.Words.Shape.{Shape}
 
 -- the shape with so many threads, with classes of so many slots, and with an object of each of these classes
 abbrev pub shape_of : ℕ → List ℕ → List ℕ → Shape
-shape_of threads slots classes = record { threads = threads; classes = length slots; objects = map (λ c. (c, slice_index slots c)) classes }
+shape_of threads slots classes =
+    record {
+      threads = threads;
+      classes = length slots;
+      objects = map (λ c. (c, slice_index slots c)) classes;
+    }
 
 -- how many objects there are
 abbrev pub many : Shape → ℕ

@@ -48,7 +48,18 @@ pub record IsOf (h : HeapSeen) (p : PassSeen) : Type 0 where
 
 -- a thread's pass, as the heap begins: it is stopped, and has made no step
 abbrev pub first_pass : HeapSeen → ℕ → ℕ → PassSeen
-first_pass h limit t = record { table = h.table; known = first_known t; limit = limit; classes = h.heap.shape.classes; first = (h.heap.start + t) % 2 ^ 32; threads = h.heap.shape.threads; objects = length h.heap.shape.objects; cut = []; cells = [] }
+first_pass h limit t =
+    record {
+      table = h.table;
+      known = first_known t;
+      limit = limit;
+      classes = h.heap.shape.classes;
+      first = (h.heap.start + t) % 2 ^ 32;
+      threads = h.heap.shape.threads;
+      objects = length h.heap.shape.objects;
+      cut = [];
+      cells = [];
+    }
 
 -- those of n threads from t on
 abbrev pub first_passes : HeapSeen → ℕ → ℕ → ℕ → List PassSeen

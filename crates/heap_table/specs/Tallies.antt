@@ -7,7 +7,13 @@ abbrev pub capped : ℕ → ℕ
 capped n = min n 18446744073709551615
 
 abbrev pub capped_counts : ClassCounts → shown.ClassCounts
-capped_counts k = record { single = capped k.single; rebias = capped k.rebias; revoke = capped k.revoke; reset = capped k.reset }
+capped_counts k =
+    record {
+      single = capped k.single;
+      rebias = capped k.rebias;
+      revoke = capped k.revoke;
+      reset = capped k.reset;
+    }
 
 -- the counts of n classes, from class c on
 abbrev pub counts_shown : ℕ → ℕ → List CountedVerdict → List shown.ClassCounts

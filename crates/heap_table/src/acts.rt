@@ -56,7 +56,8 @@ impl Heap {
         word: u64,
     ) -> u64
         requires { CanStep self.now pass.old (store_hold_plan why.now stage pass.old.known.thread place word) }
-        ensures { HasStepped self.now pass.old pass.new (store_hold_plan why.now stage pass.old.known.thread place word) result }
+        ensures { HasStepped self.now pass.old pass.new
+            (store_hold_plan why.now stage pass.old.known.thread place word) result }
     {
         let thread = pass.thread();
         self.store(pass, why, stage, Name::Hold { thread, place }, word)

@@ -138,7 +138,8 @@ impl Mirror {
         ensures fixed { (self.new.limit ≡ self.old.limit) × (self.new.classes ≡ self.old.classes)
             × (self.new.first ≡ self.old.first) × (self.new.shots.threads ≡ self.old.shots.threads)
             × (self.new.shots.objects ≡ self.old.shots.objects) }
-        ensures draft { IsLeft step.now.own self.old.shots.draft.cut.items (cells_shown self.old.shots.draft.cells.items)
+        ensures draft { IsLeft step.now.own self.old.shots.draft.cut.items
+            (cells_shown self.old.shots.draft.cells.items)
             self.new.shots.draft.cut.items (cells_shown self.new.shots.draft.cells.items) }
     {
         let effect = apply(found, &step.act);

@@ -35,7 +35,9 @@ abbrev pub resumed : List (StepPlan × ℕ)
 resumed = (swap resuming Safepoint 0 1, 0) ∷ (load resuming Safepoint, 0) ∷ []
 
 abbrev pub entered : List (StepPlan × ℕ)
-entered = (log_enter_plan entering 1 StackFirst, 0) ∷ (hold_plan entering 0 1 1 0 StackFirst, 0) ∷ (seize_plan entering 0 1 1 0, 1) ∷ (displace_plan entering Calm 0 0 1, 0) ∷ resumed
+entered =
+    (log_enter_plan entering 1 StackFirst, 0) ∷ (hold_plan entering 0 1 1 0 StackFirst, 0)
+    ∷ (seize_plan entering 0 1 1 0, 1) ∷ (displace_plan entering Calm 0 0 1, 0) ∷ resumed
 
 abbrev pub leaving : Purpose
 leaving = purpose (task.StackExit 1) op.Exit 1

@@ -61,7 +61,8 @@ fn resume(heap: &Heap, pass: &mut Pass, thread: u32, from: u64, to: u64) -> bool
 // It enters the first object by this mark.
 fn enter(heap: &Heap, pass: &mut Pass, mark: u64) -> Turn<Path>
     requires { MayEnter heap.now pass.old mark }
-    ensures { HasRun heap.now (stack_enter_steps (lone_purpose (task.StackEnter 0 mark)) (local_of pass.old.known) 0 mark)
+    ensures { HasRun heap.now
+        (stack_enter_steps (lone_purpose (task.StackEnter 0 mark)) (local_of pass.old.known) 0 mark)
         pass.old pass.new result }
 {
     let why = Purpose {

@@ -114,7 +114,8 @@ const LOG_OF_T2: [Logged; 8] = [
 /// A thread of this name with one local, `x`.
 fn thread(alloc: Global, bytes: &[u8], code: &[Code]) -> Result<ThreadDef, AllocError>
     requires { IsTrue (is_name bytes.now) }
-    ensures { IfOk result (λ t. t ≡ record { name = bytes.now; locals = codes "x" ∷ []; labels = []; code = code.now }) }
+    ensures { IfOk result (λ t. t
+        ≡ record { name = bytes.now; locals = codes "x" ∷ []; labels = []; code = code.now }) }
 {
     Ok(ThreadDef {
         name: name(bytes),

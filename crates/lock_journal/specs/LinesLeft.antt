@@ -27,7 +27,8 @@ cells_of run t number = shot_cells (slice_get (slice_index_or run.shots t []) (n
 -- the lines of the cells of a dump that are left
 abbrev pub cells_left : RunRecord → Option Place → List (List ℕ)
 cells_left run None = []
-cells_left run (Some place) = cells_lines run.program place.object (drop place.object (cells_of run place.thread place.number))
+cells_left run (Some place) =
+    cells_lines run.program place.object (drop place.object (cells_of run place.thread place.number))
 
 -- the lines on thread t and those after it
 abbrev pub threads_left : PlainMachine → ℕ → List (List ℕ)

@@ -105,8 +105,10 @@ class_name (Some c) = c.name
 
 abbrev pub class_line : ProgramText → ℕ → ClassLine → List (ℕ × Logged) → List ℕ
 class_line p c l xs =
-    codes "class " ++ class_name (slice_get p.classes c) ++ codes " single " ++ decimal l.single ++ codes " rebias " ++ decimal l.rebias
-    ++ codes " revoke " ++ decimal l.revoke ++ codes " count " ++ decimal l.count ++ codes " prototype " ++ decimal l.prototype
+    codes "class " ++ class_name (slice_get p.classes c) ++ codes " single " ++ decimal l.single
+    ++ codes " rebias " ++ decimal l.rebias
+    ++ codes " revoke " ++ decimal l.revoke ++ codes " count " ++ decimal l.count ++ codes " prototype "
+    ++ decimal l.prototype
     ++ codes " enters" ++ enters_text p c xs ++ newline
 
 -- the classes from c on
@@ -140,7 +142,9 @@ entry_text p Spent = codes "spent"
 entry_text p Done = codes "done"
 
 abbrev pub journal_line : ProgramText → ℕ × Logged → List ℕ
-journal_line p x = codes "@" ++ decimal x.1.stamp ++ codes " " ++ thread_text p x.0 ++ codes " " ++ entry_text p x.1.entry ++ newline
+journal_line p x =
+    codes "@" ++ decimal x.1.stamp ++ codes " " ++ thread_text p x.0 ++ codes " " ++ entry_text p x.1.entry
+    ++ newline
 
 abbrev pub only_where : Bool → List (List ℕ) → List (List ℕ)
 only_where asked lines = if asked then lines else []

@@ -73,7 +73,9 @@ fn cells_of(run: &RunRecord, t: u32, number: u32) -> &[Cell]
 fn next_held(cells: &[Cell], first: usize) -> Option<Held>
     ensures lines { MatchOption result
         ((p : ProgramText) → cells_lines p first (drop first cells.now) ≡ [])
-        (λ x. (p : ProgramText) → cells_lines p first (drop first cells.now) ≡ held_line p x ∷ cells_lines p (x.object + 1) (drop (x.object + 1) cells.now)) }
+        (λ x. (p : ProgramText)
+        → cells_lines p first (drop first cells.now) ≡ held_line p x
+        ∷ cells_lines p (x.object + 1) (drop (x.object + 1) cells.now)) }
     ensures within { IfSome result (λ x. x.object < length cells.now) }
 {
     let mut object = first;

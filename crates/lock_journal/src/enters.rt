@@ -29,7 +29,8 @@ pub(crate) fn enters_of(run: &RunRecord, c: usize) -> [u128; PATHS]
 /// Counts the enters of a log.
 fn count_log(counts: &mut [u128; PATHS], program: &Program, c: usize, log: &[Logged])
     requires { AreAtMost counts.old (2 ^ 100) }
-    ensures counted { (path : Path) → count_at counts.new path ≡ count_at counts.old path + enters_in program.now c path log.now }
+    ensures counted { (path : Path) → count_at counts.new path ≡ count_at counts.old path
+        + enters_in program.now c path log.now }
     ensures few { (path : Path) → count_at counts.new path ≤ count_at counts.old path + 2 ^ 64 }
 {
     for logged in log {
@@ -40,7 +41,8 @@ fn count_log(counts: &mut [u128; PATHS], program: &Program, c: usize, log: &[Log
 /// Counts the entry, where it enters an object of class `c`.
 fn count_entry(counts: &mut [u128; PATHS], program: &Program, c: usize, entry: &Entry)
     requires { AreAtMost counts.old (2 ^ 101) }
-    ensures { (path : Path) → count_at counts.new path ≡ count_at counts.old path + enter_by program.now c path entry.now }
+    ensures { (path : Path) → count_at counts.new path ≡ count_at counts.old path
+        + enter_by program.now c path entry.now }
 {
     if let Entry::Enter { object, path } = entry {
         if class_of(program, *object) as usize == c {

@@ -60,7 +60,8 @@ impl Lines {
         requires { IsShown run.now machine.now }
         ensures { MatchBool result
             (lines_left run.now machine.now self.old ≡ out.new ∷ lines_left run.now machine.now self.new)
-            ((lines_left run.now machine.now self.old ≡ []) × (lines_left run.now machine.now self.new ≡ []) × (out.new ≡ [])) }
+            ((lines_left run.now machine.now self.old ≡ []) × (lines_left run.now machine.now self.new ≡ [])
+            × (out.new ≡ [])) }
     {
         out.clear();
         if next_cell(&mut self.cells, run, out) {

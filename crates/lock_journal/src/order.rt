@@ -54,7 +54,8 @@ impl Merge {
     pub fn next(&mut self, run: &RunRecord) -> Option<(u32, Logged)>
         requires rising { AllByRecursion (RisesAbove 0) run.now.logs }
         requires few { length run.now.logs ≤ 16 }
-        ensures first { MatchOption result (order (left_of run.now.logs self.old) ≡ []) (λ x. order (left_of run.now.logs self.old) ≡ x ∷ order (left_of run.now.logs self.new)) }
+        ensures first { MatchOption result (order (left_of run.now.logs self.old) ≡ [])
+            (λ x. order (left_of run.now.logs self.old) ≡ x ∷ order (left_of run.now.logs self.new)) }
         ensures thread { IfSome result (λ x. x.0 < length run.now.logs) }
         ensures end { result ≡ None → self.new ≡ self.old }
     {
@@ -170,7 +171,8 @@ fn first_least(stamps: &[u64; MOST_THREADS]) -> (u32, u64)
 fn take_least(logs: &[List<Logged>], places: &mut [usize; MOST_THREADS]) -> Option<(u32, Logged)>
     requires rising { AllByRecursion (RisesAbove 0) logs.now }
     requires few { length logs.now ≤ 16 }
-    ensures first { MatchOption result (order (left_of logs.now places.old) ≡ []) (λ x. order (left_of logs.now places.old) ≡ x ∷ order (left_of logs.now places.new)) }
+    ensures first { MatchOption result (order (left_of logs.now places.old) ≡ [])
+        (λ x. order (left_of logs.now places.old) ≡ x ∷ order (left_of logs.now places.new)) }
     ensures thread { IfSome result (λ x. x.0 < length logs.now) }
     ensures end { result ≡ None → places.new ≡ places.old }
 {

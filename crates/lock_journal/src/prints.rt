@@ -37,7 +37,8 @@ pub(crate) fn next_print(
     requires clear { out.old ≡ [] }
     ensures { MatchBool result
         (prints_left run.now merge.old ≡ out.new ∷ (cells_left run.now cells.new ++ prints_left run.now merge.new))
-        ((prints_left run.now merge.old ≡ []) × (prints_left run.now merge.new ≡ []) × (cells.new ≡ cells.old) × (out.new ≡ [])) }
+        ((prints_left run.now merge.old ≡ []) × (prints_left run.now merge.new ≡ []) × (cells.new ≡ cells.old)
+        × (out.new ≡ [])) }
 {
     match next_printed(merge, run) {
         Some((t, printed)) => {
@@ -53,7 +54,8 @@ fn next_printed(merge: &mut Merge, run: &RunRecord) -> Option<(u32, Printed)>
     requires rising { AllByRecursion (RisesAbove 0) run.now.logs }
     requires few { length run.now.logs ≤ 16 }
     ensures first { MatchOption result (prints_left run.now merge.old ≡ [])
-        (λ x. prints_left run.now merge.old ≡ lines_of run.now.program run.now.shots x.0 x.1 ++ prints_left run.now merge.new) }
+        (λ x. prints_left run.now merge.old ≡ lines_of run.now.program run.now.shots x.0 x.1
+        ++ prints_left run.now merge.new) }
     ensures end { IfNone result (prints_left run.now merge.new ≡ []) }
 {
     let mut ahead = merge.ahead(run);
@@ -68,7 +70,8 @@ fn next_printed_ahead(ahead: &mut Ahead, run: &RunRecord) -> Option<(u32, Printe
     requires few { length run.now.logs ≤ 16 }
     requires stamps { HasStamps run.now.logs ahead.old.places ahead.old.stamps }
     ensures first { MatchOption result (prints_left run.now ahead.old.places ≡ [])
-        (λ x. prints_left run.now ahead.old.places ≡ lines_of run.now.program run.now.shots x.0 x.1 ++ prints_left run.now ahead.new.places) }
+        (λ x. prints_left run.now ahead.old.places ≡ lines_of run.now.program run.now.shots x.0 x.1
+        ++ prints_left run.now ahead.new.places) }
     ensures end { IfNone result (prints_left run.now ahead.new.places ≡ []) }
 {
     while let Some((t, logged)) = ahead.next(run) {

@@ -10,15 +10,18 @@ ghost use Rattle.lock_policy.specs.Draws.{next_state, nth_value, start_state, st
 pub fn count_is_reset_under_four_conditions()
     ensures exactly { (count last now : ℕ) → IsTrue (is_reset count last now)
         ↔ ((20 ≤ count) × (count < 40) × (last ≢ 0) × (last ≤ now) × (25000 ≤ now - last)) }
-    ensures anew { (count last now : ℕ) → IsTrue (is_reset count last now) → decided count last now ≡ (Verdict.Single, 1) }
+    ensures anew { (count last now : ℕ) → IsTrue (is_reset count last now)
+        → decided count last now ≡ (Verdict.Single, 1) }
     ensures kept { (count last now : ℕ) → ¬ IsTrue (is_reset count last now) → after_reset count last now ≡ count }
 {}
 
 /// A class is revoked in bulk exactly where its count after the reset is 39, and rebiased in bulk exactly where it is 19. At
 /// each other count one object's bias is revoked.
 pub fn verdict_follows_from_count()
-    ensures revoke { (count last now : ℕ) → ((decided count last now).0 ≡ Verdict.BulkRevoke) ↔ (after_reset count last now ≡ 39) }
-    ensures rebias { (count last now : ℕ) → ((decided count last now).0 ≡ Verdict.BulkRebias) ↔ (after_reset count last now ≡ 19) }
+    ensures revoke { (count last now : ℕ) → ((decided count last now).0 ≡ Verdict.BulkRevoke)
+        ↔ (after_reset count last now ≡ 39) }
+    ensures rebias { (count last now : ℕ) → ((decided count last now).0 ≡ Verdict.BulkRebias)
+        ↔ (after_reset count last now ≡ 19) }
     ensures single { (count last now : ℕ) → ((decided count last now).0 ≡ Verdict.Single)
         ↔ ((after_reset count last now ≢ 39) × (after_reset count last now ≢ 19)) }
 {}

@@ -178,7 +178,8 @@ pub fn enter(heap: &Heap, pass: &mut Pass, object: u32, now: u64) -> Result<Turn
     ensures rests { Rests heap.now pass.new }
     ensures run { HasRun heap.now (enter_steps heap.now.heap.shape (start_now heap.now pass.old) object now)
         pass.old pass.new result }
-    ensures says { Tells pass.old.known pass.new.known (λ ms. EnterSays (start_now heap.now pass.old) object ms result) }
+    ensures says { Tells pass.old.known pass.new.known
+        (λ ms. EnterSays (start_now heap.now pass.old) object ms result) }
     ensures stands { StandsOrSame pass.old.known pass.new.known result }
     ensures others { PendsOrRefused pass.old.known.thread result }
 {

@@ -21,5 +21,6 @@ SpellsHold form word = IsHoldInRange form × (word ≡ hold_of form)
 unfoldable pub read_hold : ℕ → Option HoldForm
 read_hold word =
     if word == 0 then Some Empty
-    else if nat_lt 0 (word / 128) && nat_lt (word / 128) (2 ^ 15 + 1) && nat_lt 0 (word % 128) && nat_lt (word % 128) 65 then Some (Holds (word / 128 - 1) (word % 128))
+    else if nat_lt 0 (word / 128) && nat_lt (word / 128) (2 ^ 15 + 1) && nat_lt 0 (word % 128)
+    && nat_lt (word % 128) 65 then Some (Holds (word / 128 - 1) (word % 128))
     else None

@@ -30,13 +30,18 @@ SpellsMark form word = IsMarkInRange form × (word ≡ mark_of form)
 
 -- the form that a word with the low bits 001, 010 or 101 spells, where it spells one
 abbrev pub read_neutral : ℕ → Option MarkForm
-read_neutral word = if nat_lt (word / 8 % 32) 16 && nat_lt (word / 256) (2 ^ 31) then Some (Neutral (word / 256) (word / 8 % 32)) else None
+read_neutral word =
+    if nat_lt (word / 8 % 32) 16 && nat_lt (word / 256) (2 ^ 31)
+    then Some (Neutral (word / 256) (word / 8 % 32)) else None
 
 abbrev pub read_inflated : ℕ → Option MarkForm
-read_inflated word = if nat_lt 0 (word / 8) && nat_lt (word / 8) (2 ^ 20 + 1) then Some (Inflated (word / 8 - 1)) else None
+read_inflated word =
+    if nat_lt 0 (word / 8) && nat_lt (word / 8) (2 ^ 20 + 1) then Some (Inflated (word / 8 - 1)) else None
 
 abbrev pub biased_in : ℕ → MarkForm
-biased_in word = if word / 1024 == 0 then Anonymous (word / 256 % 4) (word / 8 % 32) else Biased (word / 1024 - 1) (word / 256 % 4) (word / 8 % 32)
+biased_in word =
+    if word / 1024 == 0 then Anonymous (word / 256 % 4) (word / 8 % 32)
+    else Biased (word / 1024 - 1) (word / 256 % 4) (word / 8 % 32)
 
 abbrev pub read_biased : ℕ → Option MarkForm
 read_biased word = if nat_lt (word / 8 % 32) 16 && nat_lt (word / 1024) 33 then Some (biased_in word) else None

@@ -33,5 +33,9 @@ requester_in field = if field == 0 then None else Some (field - 1)
 unfoldable pub read_safe : ℕ → Option SafeForm
 read_safe word =
     if nat_lt word (2 ^ 41) && nat_lt (word / 2 ^ 32 % 256) 33
-    then Some (record { running = word % 2 ^ 32; requester = requester_in (word / 2 ^ 32 % 256); halted = word / 2 ^ 40 == 1 })
+    then Some (record {
+      running = word % 2 ^ 32;
+      requester = requester_in (word / 2 ^ 32 % 256);
+      halted = word / 2 ^ 40 == 1;
+    })
     else None

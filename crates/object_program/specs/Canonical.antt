@@ -48,11 +48,15 @@ label_words l = codes "label" ∷ l.name ∷ []
 
 abbrev pub instruction_words : List ObjectDef → ThreadDef → Code → List (List ℕ)
 instruction_words ds t (Set x v) = codes "set" ∷ local_name t.locals x ∷ signed_decimal v ∷ []
-instruction_words ds t (Add x y z) = codes "add" ∷ local_name t.locals x ∷ local_name t.locals y ∷ local_name t.locals z ∷ []
-instruction_words ds t (Sub x y z) = codes "sub" ∷ local_name t.locals x ∷ local_name t.locals y ∷ local_name t.locals z ∷ []
-instruction_words ds t (Mul x y z) = codes "mul" ∷ local_name t.locals x ∷ local_name t.locals y ∷ local_name t.locals z ∷ []
+instruction_words ds t (Add x y z) =
+    codes "add" ∷ local_name t.locals x ∷ local_name t.locals y ∷ local_name t.locals z ∷ []
+instruction_words ds t (Sub x y z) =
+    codes "sub" ∷ local_name t.locals x ∷ local_name t.locals y ∷ local_name t.locals z ∷ []
+instruction_words ds t (Mul x y z) =
+    codes "mul" ∷ local_name t.locals x ∷ local_name t.locals y ∷ local_name t.locals z ∷ []
 instruction_words ds t (Ref x n) = codes "ref" ∷ local_name t.locals x ∷ object_name ds n ∷ []
-instruction_words ds t (Elem x n i) = codes "elem" ∷ local_name t.locals x ∷ object_name ds n ∷ local_name t.locals i ∷ []
+instruction_words ds t (Elem x n i) =
+    codes "elem" ∷ local_name t.locals x ∷ object_name ds n ∷ local_name t.locals i ∷ []
 instruction_words ds t (Enter x) = codes "enter" ∷ local_name t.locals x ∷ []
 instruction_words ds t (Exit x) = codes "exit" ∷ local_name t.locals x ∷ []
 instruction_words ds t (Wait x) = codes "wait" ∷ local_name t.locals x ∷ []
@@ -63,8 +67,10 @@ instruction_words ds t (Put o k x) = codes "put" ∷ local_name t.locals o ∷ d
 instruction_words ds t (Hash x o) = codes "hash" ∷ local_name t.locals x ∷ local_name t.locals o ∷ []
 instruction_words ds t (Print x) = codes "print" ∷ local_name t.locals x ∷ []
 instruction_words ds t (Jump l) = codes "jump" ∷ label_name t.labels l ∷ []
-instruction_words ds t (Jlt x y l) = codes "jlt" ∷ local_name t.locals x ∷ local_name t.locals y ∷ label_name t.labels l ∷ []
-instruction_words ds t (Jeq x y l) = codes "jeq" ∷ local_name t.locals x ∷ local_name t.locals y ∷ label_name t.labels l ∷ []
+instruction_words ds t (Jlt x y l) =
+    codes "jlt" ∷ local_name t.locals x ∷ local_name t.locals y ∷ label_name t.labels l ∷ []
+instruction_words ds t (Jeq x y l) =
+    codes "jeq" ∷ local_name t.locals x ∷ local_name t.locals y ∷ label_name t.labels l ∷ []
 instruction_words ds t Dump = codes "dump" ∷ []
 instruction_words ds t End = codes "end" ∷ []
 
@@ -75,7 +81,8 @@ labels_at n labels = filter (λ l. l.index == n) labels
 -- these instructions of a thread, the first of which has number n, each behind its labels
 abbrev pub code_lines : List ObjectDef → ThreadDef → ℕ → List Code → List (List (List ℕ))
 code_lines ds t n [] = []
-code_lines ds t n (c ∷ cs) = map label_words (labels_at n t.labels) ++ instruction_words ds t c ∷ code_lines ds t (n + 1) cs
+code_lines ds t n (c ∷ cs) =
+    map label_words (labels_at n t.labels) ++ instruction_words ds t c ∷ code_lines ds t (n + 1) cs
 
 -- the section of a thread: its name, its locals and its code
 abbrev pub thread_lines : List ObjectDef → ThreadDef → List (List (List ℕ))

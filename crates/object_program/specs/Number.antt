@@ -14,7 +14,8 @@ digits_of bs = if nat_le 1 (length bs) && nat_le (length bs) 19 then number_behi
 -- a minus sign may stand before the digits
 abbrev pub number_of : List ℕ → Option ℤ
 number_of [] = None
-number_of (b ∷ bs) = if b == 45 then option_map (λ n. neg_ℤ (pos n)) (digits_of bs) else option_map pos (digits_of (b ∷ bs))
+number_of (b ∷ bs) =
+    if b == 45 then option_map (λ n. neg_ℤ (pos n)) (digits_of bs) else option_map pos (digits_of (b ∷ bs))
 
 abbrev pub is_within : ℤ → ℤ → Option ℤ → Bool
 is_within low high None = false
@@ -23,4 +24,5 @@ is_within low high (Some z) = int_le low z && int_le z high
 -- the number from low to high that the word is, if it is one
 abbrev pub IsNumberWithin : ℤ → ℤ → List ℕ → Option ℤ → Type 0
 IsNumberWithin low high word found =
-    MatchOption found (is_within low high (number_of word) ≡ false) (λ z. (is_within low high (number_of word) ≡ true) × (number_of word ≡ Some z))
+    MatchOption found (is_within low high (number_of word) ≡ false)
+    (λ z. (is_within low high (number_of word) ≡ true) × (number_of word ≡ Some z))

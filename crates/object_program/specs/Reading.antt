@@ -129,7 +129,8 @@ declared_objects p ws size array =
 -- a line of an open section
 abbrev pub thread_behind : ProgramText → ThreadDef → List (List ℕ) → List (List ℕ) → Keyword → ThreadDef
 thread_behind p t later ws Local = record t { locals = t.locals ++ operand ws 0 ∷ [] }
-thread_behind p t later ws Label = record t { labels = t.labels ++ record { name = operand ws 0; index = length t.code + 1 } ∷ [] }
+thread_behind p t later ws Label =
+    record t { labels = t.labels ++ record { name = operand ws 0; index = length t.code + 1 } ∷ [] }
 thread_behind p t later ws k = record t { code = t.code ++ instruction_on p t later ws k ∷ [] }
 
 -- an `end` closes the section
@@ -144,9 +145,17 @@ in_section p (Some t) later ws k = section_behind p (thread_behind p t later ws 
 -- what stands behind a line with this keyword and these operands
 abbrev pub behind_keyword : Before → List (List ℕ) → List (List ℕ) → Keyword → Before
 behind_keyword b later ws Class =
-    record b { text = record b.text { classes = b.text.classes ++ record { name = operand ws 0; slots = count_at ws 1 } ∷ [] } }
-behind_keyword b later ws Object = record b { text = record b.text { objects = b.text.objects ++ declared_objects b.text ws 1 false ∷ [] } }
-behind_keyword b later ws Array = record b { text = record b.text { objects = b.text.objects ++ declared_objects b.text ws (count_at ws 2) true ∷ [] } }
+    record b {
+      text = record b.text
+          { classes = b.text.classes ++ record { name = operand ws 0; slots = count_at ws 1 } ∷ [] };
+    }
+behind_keyword b later ws Object =
+    record b { text = record b.text { objects = b.text.objects ++ declared_objects b.text ws 1 false ∷ [] } }
+behind_keyword b later ws Array =
+    record b {
+      text = record b.text
+          { objects = b.text.objects ++ declared_objects b.text ws (count_at ws 2) true ∷ [] };
+    }
 behind_keyword b later ws Thread = record b { section = Some (new_thread (operand ws 0)) }
 behind_keyword b later ws k = in_section b.text b.section later ws k
 

@@ -160,4 +160,5 @@ lines_of bytes = map without_return (raw_lines bytes)
 -- the program that a text has, or why and at which line it is refused
 abbrev pub program_of : List ℕ → Result ProgramText ProgramError
 program_of bytes =
-    if nat_lt most_bytes (length bytes) then Err (record { line = 0; why = Limit }) else finished (read_from 1 nothing (lines_of bytes))
+    if nat_lt most_bytes (length bytes) then Err (record { line = 0; why = Limit })
+    else finished (read_from 1 nothing (lines_of bytes))

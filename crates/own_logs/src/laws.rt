@@ -19,7 +19,8 @@ ghost use Rattle.own_logs.specs.HoldsByLog.{AreHolds};
 pub fn holds_at_rest_follow_from_the_own_log()
     ensures number { (h : HeapSeen) (p : PassSeen) (o : ℕ) → Rests h p → o < length h.heap.shape.objects
         → hold_count o p.known.holds ≡ held_by nothing_held p.known.log o }
-    ensures all { (h : HeapSeen) (p : PassSeen) (holds : List ℕ) → Rests h p → AreHolds h p holds → all_holds p.known.holds ≡ sum holds }
+    ensures all { (h : HeapSeen) (p : PassSeen) (holds : List ℕ) → Rests h p → AreHolds h p holds
+        → all_holds p.known.holds ≡ sum holds }
     ensures full { (h : HeapSeen) (p : PassSeen) (holds : List ℕ) → Rests h p → AreHolds h p holds → sum holds < 64
         → (free_place p.known.holds == 64) ≡ false }
     ensures none { (h : HeapSeen) (p : PassSeen) (holds : List ℕ) → Rests h p → AreHolds h p holds → sum holds ≡ 0

@@ -46,7 +46,8 @@ ends_bias _ = false
 -- the entries on o but for hashes, of these entries and in their order
 abbrev pub entries_on : ℕ → List (ℕ × Logged) → List Entry
 entries_on o [] = []
-entries_on o (x ∷ xs) = cond (is_same_object (bound_to x.1.entry) (Some o)) (x.1.entry ∷ entries_on o xs) (entries_on o xs)
+entries_on o (x ∷ xs) =
+    cond (is_same_object (bound_to x.1.entry) (Some o)) (x.1.entry ∷ entries_on o xs) (entries_on o xs)
 
 -- the path of the first enter among these
 abbrev pub first_path : List Entry → Option Path

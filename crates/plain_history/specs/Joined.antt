@@ -13,7 +13,8 @@ run_log step s (l ∷ log) = option_and_then (λ after. run_log step after log) 
 
 -- the states of the threads after an entry of t, where its state takes it
 abbrev pub take_state : {S : Type 0} → (S → Entry → Option S) → List S → ℕ → Entry → Option (List S)
-take_state step states t e = option_and_then (λ s. option_map (λ after. slice_set states t after) (step s e)) (slice_get states t)
+take_state step states t e =
+    option_and_then (λ s. option_map (λ after. slice_set states t after) (step s e)) (slice_get states t)
 
 -- both, where both are there
 abbrev pub both : {A B : Type 0} → Option A → Option B → Option (A × B)
@@ -22,21 +23,27 @@ both (Some a) None = None
 both (Some a) (Some b) = Some (a, b)
 
 -- objects and threads after an entry of t, where both take it
-abbrev pub take_joined : {S : Type 0} → (S → Entry → Option S) → List PlainObject → List S → ℕ → Entry → Option (List PlainObject × List S)
+abbrev pub take_joined : {S : Type 0} → (S → Entry → Option S) → List PlainObject → List S → ℕ → Entry
+    → Option (List PlainObject × List S)
 take_joined step objects states t e = both (take_entry objects t e) (take_state step states t e)
 
 -- objects and threads after these entries, one after the other, where both take each
-abbrev pub take_all_joined : {S : Type 0} → (S → Entry → Option S) → List PlainObject → List S → List (ℕ × Logged) → Option (List PlainObject × List S)
+abbrev pub take_all_joined : {S : Type 0} → (S → Entry → Option S) → List PlainObject → List S
+    → List (ℕ × Logged) → Option (List PlainObject × List S)
 take_all_joined step objects states [] = Some (objects, states)
 take_all_joined step objects states (x ∷ xs) =
     option_and_then (λ p. take_all_joined step p.0 p.1 xs) (take_joined step objects states x.0 x.1.entry)
 
 -- each thread's state takes all of the thread's own entries among these, and is then its final one
-pub record EachTakesItsOwn {S : Type 0} (step : S → Entry → Option S) (states finals : List S) (xs : List (ℕ × Logged)) : Type 0 where
+pub record EachTakesItsOwn {S : Type 0} (step : S → Entry → Option S) (states finals : List S)
+    (xs : List (ℕ × Logged)) : Type 0 where
   pub threads : length finals ≡ length states
-  pub own : (t : ℕ) (s final : S) → slice_get states t ≡ Some s → slice_get finals t ≡ Some final → run_log step s (of_thread t xs) ≡ Some final
+  pub own : (t : ℕ) (s final : S) → slice_get states t ≡ Some s → slice_get finals t ≡ Some final
+      → run_log step s (of_thread t xs) ≡ Some final
 
 -- each thread's state takes all of the thread's log, and is then its final one
-pub record EachTakesItsLog {S : Type 0} (step : S → Entry → Option S) (states finals : List S) (logs : List (List Logged)) : Type 0 where
+pub record EachTakesItsLog {S : Type 0} (step : S → Entry → Option S) (states finals : List S)
+    (logs : List (List Logged)) : Type 0 where
   pub threads : length finals ≡ length states
-  pub own : (t : ℕ) (s final : S) → slice_get states t ≡ Some s → slice_get finals t ≡ Some final → run_log step s (log_of logs t) ≡ Some final
+  pub own : (t : ℕ) (s final : S) → slice_get states t ≡ Some s → slice_get finals t ≡ Some final
+      → run_log step s (log_of logs t) ≡ Some final

@@ -18,10 +18,14 @@ bound_of logs kept o (Some t) = last_stamp (log_of logs t)
 
 -- each object's bound holds, where these stamps are kept for the objects
 abbrev pub StampsBound : List PlainObject → List (List Logged) → List ℕ → Type 0
-StampsBound objects logs kept = (o : ℕ) (x : PlainObject) → slice_get objects o ≡ Some x → IsBounded logs o (bound_of logs kept o x.monitor.owner)
+StampsBound objects logs kept =
+    (o : ℕ) (x : PlainObject) → slice_get objects o ≡ Some x
+    → IsBounded logs o (bound_of logs kept o x.monitor.owner)
 
 -- thread t is there, and l is above all that it has logged and above the bound of the object that it is bound to
-pub record IsAboveBounds (objects : List PlainObject) (logs : List (List Logged)) (kept : List ℕ) (t : ℕ) (l : Logged) : Type 0 where
+pub record IsAboveBounds (objects : List PlainObject) (logs : List (List Logged)) (kept : List ℕ) (t : ℕ)
+    (l : Logged) : Type 0 where
   pub thread : t < length logs
   pub stamp : last_stamp (log_of logs t) < l.stamp
-  pub bound : (o : ℕ) (x : PlainObject) → bound_to l.entry ≡ Some o → slice_get objects o ≡ Some x → bound_of logs kept o x.monitor.owner < l.stamp
+  pub bound : (o : ℕ) (x : PlainObject) → bound_to l.entry ≡ Some o → slice_get objects o ≡ Some x
+      → bound_of logs kept o x.monitor.owner < l.stamp

@@ -41,7 +41,9 @@ moved m t (Some s) (Some objects) = Some (record m { objects = objects; threads 
 -- the machine behind an entry of thread t, where it takes it
 abbrev pub take : PlainMachine → ℕ → Entry → Option PlainMachine
 take m t e =
-    option_and_then (λ s. moved m t (thread_after m.program (code_of m.program t) s e) (take_entry m.objects t e)) (slice_get m.threads t)
+    option_and_then
+    (λ s. moved m t (thread_after m.program (code_of m.program t) s e) (take_entry m.objects t e))
+    (slice_get m.threads t)
 
 abbrev pub object_at : PlainMachine → ℕ → PlainObject
 object_at m o = slice_index_or m.objects o (new_object 0)

@@ -5,7 +5,14 @@ use Rattle.plain_machine.specs.Thread.{ThreadState}
 
 abbrev pub state : Inside → ThreadState
 state a =
-    record { place = a.place; locals = a.locals.items; fuel = a.fuel; holds = a.holds.items; dumps = a.dumps; mode = a.mode }
+    record {
+      place = a.place;
+      locals = a.locals.items;
+      fuel = a.fuel;
+      holds = a.holds.items;
+      dumps = a.dumps;
+      mode = a.mode;
+    }
 
 -- the depth is the sum of the holds, and objects have numbers of 32 bits
 pub record IsCounted (a : Inside) : Type 0 where

@@ -9,22 +9,28 @@ ghost use Rattle.plain_monitor.specs.History.{RisesAbove, log_of, last_stamp, ap
 /// Where each log's stamps rise, the head of a log that stands before the head of each other log is the first of the order,
 /// and the order of the logs without it follows. The order of empty logs is empty.
 pub fn least_head_comes_first()
-    ensures first { (logs : List (List Logged)) (t : ℕ) (l : Logged) (rest : List Logged) → log_of logs t ≡ l ∷ rest → AllByRecursion (RisesAbove 0) logs
-        → ((u : ℕ) (m : Logged) (log : List Logged) → log_of logs u ≡ m ∷ log → u ≢ t → IsTrue (is_before (t, l) (u, m)))
+    ensures first { (logs : List (List Logged)) (t : ℕ) (l : Logged) (rest : List Logged)
+        → log_of logs t ≡ l ∷ rest → AllByRecursion (RisesAbove 0) logs
+        → ((u : ℕ) (m : Logged) (log : List Logged) → log_of logs u ≡ m ∷ log → u ≢ t
+        → IsTrue (is_before (t, l) (u, m)))
         → order logs ≡ (t, l) ∷ order (slice_set logs t rest) }
     ensures empty { (logs : List (List Logged)) → ((u : ℕ) → log_of logs u ≡ []) → order logs ≡ [] }
 {}
 
 /// Where each log's stamps rise, the order has each thread's entries as its log has them.
 pub fn order_keeps_each_log()
-    ensures { (logs : List (List Logged)) (t : ℕ) → AllByRecursion (RisesAbove 0) logs → of_thread t (order logs) ≡ log_of logs t }
+    ensures { (logs : List (List Logged)) (t : ℕ) → AllByRecursion (RisesAbove 0) logs
+        → of_thread t (order logs) ≡ log_of logs t }
 {}
 
 /// Where each log's stamps rise, an entry that a thread logs with a stamp above all others comes last in the order, and the
 /// stamps of the logs with it rise too.
 pub fn an_entry_above_all_comes_last()
-    ensures last { (logs : List (List Logged)) (t : ℕ) (l : Logged) → AllByRecursion (RisesAbove 0) logs → t < length logs
-        → AllByRecursion (λ log. last_stamp log < l.stamp) logs → order (appended logs t l) ≡ order logs ++ (t, l) ∷ [] }
-    ensures rises { (logs : List (List Logged)) (t : ℕ) (l : Logged) → AllByRecursion (RisesAbove 0) logs → t < length logs
+    ensures last { (logs : List (List Logged)) (t : ℕ) (l : Logged) → AllByRecursion (RisesAbove 0) logs
+        → t < length logs
+        → AllByRecursion (λ log. last_stamp log < l.stamp) logs
+        → order (appended logs t l) ≡ order logs ++ (t, l) ∷ [] }
+    ensures rises { (logs : List (List Logged)) (t : ℕ) (l : Logged) → AllByRecursion (RisesAbove 0) logs
+        → t < length logs
         → AllByRecursion (λ log. last_stamp log < l.stamp) logs → AllByRecursion (RisesAbove 0) (appended logs t l) }
 {}

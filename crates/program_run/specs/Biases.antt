@@ -54,7 +54,8 @@ pub record HasBiases (tick : ℕ) (r : RunRecord) (c : ClosedSeen) : Type 0 wher
   pub entered : r.bias ≡ true → (o : ℕ) (path : Path) → IsUnrevoked r (class_of r.program o)
       → first_path (entries_on o (order r.logs)) ≡ Some path → (path ≡ BiasTaken) ⊎ IsHashLogged r.logs o
   -- the count of each class fits the verdicts on it, and how often it was set to 0
-  pub counts : (k : ℕ) (line : ClassLine) → slice_get r.classes k ≡ Some line → IsLine (total_on (λ n. n.reset) c.counts k) line
+  pub counts : (k : ℕ) (line : ClassLine) → slice_get r.classes k ≡ Some line
+      → IsLine (total_on (λ n. n.reset) c.counts k) line
   -- where a tick has no length, the verdicts alone tell it
   pub even : tick ≡ 0 → AllByRecursion IsEven r.classes
   pub prototypes : AllByRecursion (λ (line : ClassLine). line.prototype ≡ prototype_by r.bias line) r.classes

@@ -27,8 +27,10 @@ shots_of shots t = slice_index_or shots t []
 
 -- each shot is right; a thread's are of its dumps: each was made just before the dump, and has its number; and of any two
 -- one was made no later than the other
-pub record AreRightShots (p : ProgramText) (fuel : ℕ) (logs : List (List Logged)) (shots : List (List Shot)) : Type 0 where
+pub record AreRightShots (p : ProgramText) (fuel : ℕ) (logs : List (List Logged))
+    (shots : List (List Shot)) : Type 0 where
   pub right : (t : ℕ) → AllByRecursion (IsRightShot p fuel logs) (shots_of shots t)
   pub dumps : (t : ℕ) → map (λ s. (slice_index s.cut t, s.number)) (shots_of shots t) ≡ dumps_from 0 (log_of logs t)
-  pub ordered : (t u i j : ℕ) (a b : Shot) → slice_get (shots_of shots t) i ≡ Some a → slice_get (shots_of shots u) j ≡ Some b
+  pub ordered : (t u i j : ℕ) (a b : Shot) → slice_get (shots_of shots t) i ≡ Some a
+      → slice_get (shots_of shots u) j ≡ Some b
       → IsNoLater a b ⊎ IsNoLater b a

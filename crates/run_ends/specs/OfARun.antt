@@ -56,4 +56,5 @@ pub record HasShots (shape : List (ℕ × ℕ)) (logs : List (List Logged)) (sho
 pub record IsStuckEnd (shape : List (ℕ × ℕ)) (threads : ℕ) (ks : List Known) : Type 0 where
   pub objects : List PlainObject
   pub taken : objects_after shape (logs_in ks) ≡ Some objects
-  pub stuck : IsStuck threads (λ t. ends (log_of (logs_in ks) t)) (λ t. unfinished_in (slice_get ks t)) (monitor_of objects)
+  pub stuck : IsStuck threads (λ t. ends (log_of (logs_in ks) t)) (λ t. unfinished_in (slice_get ks t))
+      (monitor_of objects)

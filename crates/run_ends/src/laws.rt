@@ -16,12 +16,14 @@ ghost use Rattle.run_ends.specs.Prototypes.{prototype_by};
 /// Over the logs that a run leaves on a heap: whose draws the hashes are; that each shot is right; that the stamps are
 /// exact; and where the safepoint word has the halt, that the run is stuck, and that no thread has a Hash unfinished then.
 pub fn the_end_of_a_heap_tells_its_run()
-    ensures draws { (heap : Heap) (words : List ℕ) (ks : List Known) → IsEnd heap words ks → HasDraws heap.start (logs_in ks) }
+    ensures draws { (heap : Heap) (words : List ℕ) (ks : List Known) → IsEnd heap words ks
+        → HasDraws heap.start (logs_in ks) }
     ensures shots { (heap : Heap) (words : List ℕ) (ks : List Known) → IsEnd heap words ks
         → HasShots heap.shape.objects (logs_in ks) (shots_in ks) }
     ensures stamps { (heap : Heap) (words : List ℕ) (ks : List Known) → IsEnd heap words ks
         → StampsAreExact (logs_in ks) }
-    ensures stuck { (heap : Heap) (words : List ℕ) (ks : List Known) → IsEnd heap words ks → is_halted (slice_index words 0) ≡ true
+    ensures stuck { (heap : Heap) (words : List ℕ) (ks : List Known) → IsEnd heap words ks
+        → is_halted (slice_index words 0) ≡ true
         → IsStuckEnd heap.shape.objects heap.shape.threads ks }
     ensures unfinished { (heap : Heap) (words : List ℕ) (ks : List Known) (t o : ℕ) → IsEnd heap words ks
         → is_halted (slice_index words 0) ≡ true → IsUnfinished (unfinished_in (slice_get ks t)) op.Hash o → ⊥ }
@@ -31,9 +33,11 @@ pub fn the_end_of_a_heap_tells_its_run()
 /// where they counted a bulk revoke of the class; else it is biased to nobody, and its epoch is the number of their bulk
 /// rebiases of the class modulo 4. Without biasing it is neutral, which is the word 1.
 pub fn the_end_of_a_heap_tells_its_prototypes()
-    ensures biased { (heap : Heap) (words : List ℕ) (ks : List Known) (c : ℕ) → IsEnd heap words ks → c < heap.shape.classes
+    ensures biased { (heap : Heap) (words : List ℕ) (ks : List Known) (c : ℕ) → IsEnd heap words ks
+        → c < heap.shape.classes
         → heap.biasing ≡ true
         → slice_index words (place_of heap.shape (Prototype c)) ≡ prototype_by heap.shape.threads (counted_by ks) c }
-    ensures plain { (heap : Heap) (words : List ℕ) (ks : List Known) (c : ℕ) → IsEnd heap words ks → c < heap.shape.classes
+    ensures plain { (heap : Heap) (words : List ℕ) (ks : List Known) (c : ℕ) → IsEnd heap words ks
+        → c < heap.shape.classes
         → heap.biasing ≡ false → slice_index words (place_of heap.shape (Prototype c)) ≡ 1 }
 {}

@@ -4,7 +4,15 @@ use Rattle.run_io.specs.declared.memory_sink.MemorySink.TheInside.{Inside}
 use Rattle.run_io.specs.Store.{Store}
 
 abbrev pub store_of : Inside → Store
-store_of a = record { held = a.bytes.items; room = a.room; faults = a.faults; calls = a.calls; fails = a.fails.items; cut = a.cut }
+store_of a =
+    record {
+      held = a.bytes.items;
+      room = a.room;
+      faults = a.faults;
+      calls = a.calls;
+      fails = a.fails.items;
+      cut = a.cut;
+    }
 
 -- it holds no more than its room, all of its room was taken, and a write takes some
 pub record IsStore (a : Inside) : Type 0 where

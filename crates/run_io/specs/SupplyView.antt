@@ -4,7 +4,14 @@ use Rattle.run_io.specs.declared.memory_source.MemorySource.TheInside.{Inside}
 use Rattle.run_io.specs.Supply.{Supply}
 
 abbrev pub supply_of : Inside → Supply
-supply_of a = record { left = drop a.start a.bytes.items; faults = a.faults; calls = a.calls; fails = a.fails.items; cut = a.cut }
+supply_of a =
+    record {
+      left = drop a.start a.bytes.items;
+      faults = a.faults;
+      calls = a.calls;
+      fails = a.fails.items;
+      cut = a.cut;
+    }
 
 -- what was given is among the bytes, and a read gives some
 pub record IsSupply (a : Inside) : Type 0 where

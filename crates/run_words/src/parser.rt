@@ -26,7 +26,8 @@ fn with_options<'a>(
     names: &[&'a str],
     action: ArgAction,
 ) -> Result<clap::Command<'a>, AllocError>
-    ensures { IfOk result (λ c. app_of c ≡ told.with_options action (map (λ s. s.now) names.now) (app_of command.entry)) }
+    ensures { IfOk result (λ c. app_of c
+        ≡ told.with_options action (map (λ s. s.now) names.now) (app_of command.entry)) }
 {
     for name in names {
         command = command.arg(option_named(alloc, name, action))?;

@@ -79,7 +79,8 @@ fn take_word<'a>(
     waits: bool,
     word: &'a str,
 ) -> Result<Option<bool>, AllocError>
-    ensures { IfOk result (λ next. option_map (λ waits. record { names = map (λ s. s.now) names.new.items; waits = waits }) next
+    ensures { IfOk result (λ next. option_map
+        (λ waits. record { names = map (λ s. s.now) names.new.items; waits = waits }) next
         ≡ shape.seen_after (record { names = map (λ s. s.now) names.old.items; waits = waits }) word.now) }
 {
     if waits {

@@ -24,15 +24,20 @@ RanFrom h d p q a = Ran h.heap.shape h.heap.start d p.known q.known a
 
 -- the call of this task, begun by the pass p, was pending for this, and left q
 abbrev pub PendedIn : HeapSeen → PassSeen → PassSeen → Why → Task → Type 0
-PendedIn h p q why (task.Enter o now) = RanFrom h (enter_steps h.heap.shape (start_now h p) o now) p q (Ok (Pending why))
+PendedIn h p q why (task.Enter o now) =
+    RanFrom h (enter_steps h.heap.shape (start_now h p) o now) p q (Ok (Pending why))
 PendedIn h p q why (task.Exit o) = RanFrom h (exit_steps (start_now h p) o) p q (Ok (Pending why))
 PendedIn h p q why (task.Wait o now) = RanFrom h (wait_steps h.heap.shape (start_now h p) o now) p q (Ok (Pending why))
-PendedIn h p q why (task.Notify o now) = RanFrom h (notify_steps h.heap.shape (start_now h p) o now) p q (Ok (Pending why))
-PendedIn h p q why (task.NotifyAll o now) = RanFrom h (notify_all_steps h.heap.shape (start_now h p) o now) p q (Ok (Pending why))
+PendedIn h p q why (task.Notify o now) =
+    RanFrom h (notify_steps h.heap.shape (start_now h p) o now) p q (Ok (Pending why))
+PendedIn h p q why (task.NotifyAll o now) =
+    RanFrom h (notify_all_steps h.heap.shape (start_now h p) o now) p q (Ok (Pending why))
 PendedIn h p q why (task.Hash o now) = RanFrom h (hash_steps h.heap.shape (start_now h p) o now) p q (Pending why)
 PendedIn h p q why task.Dump = RanFrom h (dump_steps h.heap.shape (start_now h p)) p q (Ok (Pending why))
 PendedIn h p q why task.Poll = RanFrom h (poll_steps (side_purpose task.Poll (start_now h p))) p q (Pending why)
-PendedIn h p q why task.Resume = RanFrom h (resume_steps (side_purpose task.Resume (start_now h p)) (start_now h p).local) p q (Pending why)
+PendedIn h p q why task.Resume =
+    RanFrom h (resume_steps (side_purpose task.Resume (start_now h p)) (start_now h p).local) p q
+    (Pending why)
 PendedIn h p q why t = ⊥
 
 -- the thread's last call was pending for this
@@ -54,7 +59,8 @@ HasFallen p q f g (Done b) = rank_with q g < rank_with p f
 HasFallen p q f g (Pending why) = Unit {0}
 
 -- the pass and the frame were p and f, and are q and g
-pub record HasAdvanced (h : HeapSeen) (text : ProgramText) (fuel : ℕ) (p q : PassSeen) (f g : FrameSeen) (turn : Turn Bool) : Type 0 where
+pub record HasAdvanced (h : HeapSeen) (text : ProgramText) (fuel : ℕ) (p q : PassSeen) (f g : FrameSeen)
+    (turn : Turn Bool) : Type 0 where
   pub on : IsOn h text fuel q g
   pub unchecked : q.known.checking ≡ false
   pub thread : q.known.thread ≡ p.known.thread

@@ -20,7 +20,8 @@ pub record IsHeapOf (h : HeapSeen) (p : ProgramText) : Type 0 where
 
 -- the thread of the plain machine before its next entry, by its frame and by the pass's hold words
 abbrev pub state_by : HeapSeen → ProgramText → PassSeen → FrameSeen → ThreadState
-state_by h p pass frame = next_state p pass.known.thread (counts_from 0 (length h.heap.shape.objects) pass.known.holds) frame
+state_by h p pass frame =
+    next_state p pass.known.thread (counts_from 0 (length h.heap.shape.objects) pass.known.holds) frame
 
 -- an operation is unfinished, which is this one, and the frame stands before it
 pub record StandsFor (frame : FrameSeen) (unfinished asked : Option Unfinished) : Type 0 where

@@ -127,7 +127,8 @@ fn leave(
     requires heap { IsHeapOf heap.now program.now }
     requires may { MayAdvance heap.now program.now fuel pass.old frame.old }
     requires at { frame.old.mode ≡ Some (Unwinding ending) }
-    requires least { held_from 0 (counts_from 0 (length heap.now.heap.shape.objects) pass.old.known.holds) ≡ Some object }
+    requires least { held_from 0 (counts_from 0 (length heap.now.heap.shape.objects) pass.old.known.holds)
+        ≡ Some object }
     ensures advanced { HasAdvanced heap.now program.now fuel pass.old pass.new frame.old frame.new result }
     ensures timed { (tick : ℕ) → StaysTimed tick pass.old pass.new }
 {

@@ -11,5 +11,6 @@ ghost use Rattle.thread_frame.specs.Frames.{first_frame};
 /// A pass that rests on a heap of the program, and on which no call was made yet, and a frame before its first instruction belong together.
 pub fn unused_passes_are_on()
     ensures { (h : HeapSeen) (p : ProgramText) (fuel : ℕ) (pass : PassSeen) → IsHeapOf h p → Rests h pass
-        → pass.known ≡ first_known pass.known.thread → fuel ≤ 200000 → pass.limit ≡ 2 * fuel + 66 → IsOn h p fuel pass (first_frame fuel) }
+        → pass.known ≡ first_known pass.known.thread → fuel ≤ 200000 → pass.limit ≡ 2 * fuel + 66
+        → IsOn h p fuel pass (first_frame fuel) }
 {}

@@ -45,7 +45,14 @@ shown_mode (Some mode) = mode
 -- as a thread of the plain machine that has so many locals and these holds
 abbrev pub state_in : ℕ → List ℕ → FrameSeen → ThreadState
 state_in n holds f =
-    record { place = f.place; locals = take n f.locals; fuel = f.fuel; holds = holds; dumps = f.dumps; mode = shown_mode f.mode }
+    record {
+      place = f.place;
+      locals = take n f.locals;
+      fuel = f.fuel;
+      holds = holds;
+      dumps = f.dumps;
+      mode = shown_mode f.mode;
+    }
 
 abbrev pub led_on : ProgramText → List Code → Option Mode → ThreadState → ThreadState
 led_on p c None s = run_on p c s.fuel s
@@ -58,7 +65,8 @@ next_state p t holds f = led_on p (code_of p t) f.mode (state_in (locals_of p t)
 -- what the call's answer makes of it
 abbrev pub frame_answered : FrameSeen → Call → Entry → FrameSeen
 frame_answered f (call.Get x o k) (entry.Get object slot value) = record f { locals = slice_set f.locals x value }
-frame_answered f (call.Hash x o) (entry.Hash object value drawn) = record f { locals = slice_set f.locals x (Int (pos value)) }
+frame_answered f (call.Hash x o) (entry.Hash object value drawn) =
+    record f { locals = slice_set f.locals x (Int (pos value)) }
 frame_answered f (call.Dump n) e = record f { dumps = n }
 frame_answered f c e = f
 

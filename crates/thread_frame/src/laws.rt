@@ -13,13 +13,15 @@ ghost use Rattle.thread_frame.specs.Frames.{FrameSeen, first_frame, frame_behind
 /// A frame before its first instruction is the first state of its thread, which holds nothing.
 pub fn first_frames_are_first_states()
     ensures { (p : ProgramText) (fuel t : ℕ) → IsProgram p → t < length p.threads
-        → slice_get (new_machine p fuel).threads t ≡ Some (next_state p t (replicate (objects_total p) 0) (first_frame fuel)) }
+        → slice_get (new_machine p fuel).threads t
+        ≡ Some (next_state p t (replicate (objects_total p) 0) (first_frame fuel)) }
 {}
 
 /// Behind an entry that it asked for, a frame that stands before a call or its end is what the plain machine makes of the thread, where
 /// the holds are those that the machine's thread has then.
 pub fn frames_move_as_their_threads()
-    ensures { (p : ProgramText) (t : ℕ) (f : FrameSeen) (m : Mode) (holds after : List ℕ) (a : Asked) (e : Entry) → f.mode ≡ Some m
+    ensures { (p : ProgramText) (t : ℕ) (f : FrameSeen) (m : Mode) (holds after : List ℕ) (a : Asked)
+        (e : Entry) → f.mode ≡ Some m
         → ask (next_state p t holds f) ≡ Some a → fits a e ≡ true
         → after ≡ (behind_entry p (code_of p t) (next_state p t holds f) a e).holds
         → next_state p t after (frame_behind f a e) ≡ behind_entry p (code_of p t) (next_state p t holds f) a e }

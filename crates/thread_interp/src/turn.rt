@@ -138,7 +138,8 @@ pub fn turn<C: Clock>(
     ensures runner { IsRunner heap.now program.now (runner_of pass.new frame.new fuel) }
     ensures unchecked { pass.new.known.checking ≡ false }
     ensures thread { pass.new.known.thread ≡ pass.old.known.thread }
-    ensures moved { HasMoved heap.now quantum (runner_of pass.old frame.old fuel) (runner_of pass.new frame.new fuel) result }
+    ensures moved { HasMoved heap.now quantum (runner_of pass.old frame.old fuel)
+        (runner_of pass.new frame.new fuel) result }
     ensures timed { StaysTimed tick pass.old pass.new }
 {
     if let Turn::Pending(why) = set_running(program, heap, fuel, pass, frame) {

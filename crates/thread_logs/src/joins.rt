@@ -23,18 +23,22 @@ impl ThreadStates for OfProgram {
 
 /// Logs that the plain objects take, one for each thread and each following its thread's code, are legal for the program.
 pub fn logs_that_follow_the_code_are_legal()
-    ensures { (p : ProgramText) (fuel : ℕ) (logs : List (List Logged)) → HaveFollowed p fuel logs → IsLegal p fuel logs }
+    ensures { (p : ProgramText) (fuel : ℕ) (logs : List (List Logged)) → HaveFollowed p fuel logs
+        → IsLegal p fuel logs }
 {
     objects_and_threads_join::<OfProgram>();
 }
 
 /// The machine under such logs has the plain objects behind them, and each thread in the state that its own log leads to.
 pub fn the_machine_is_what_the_logs_make_it()
-    ensures objects { (p : ProgramText) (fuel : ℕ) (logs : List (List Logged)) (m : PlainMachine) → HaveFollowed p fuel logs
+    ensures objects { (p : ProgramText) (fuel : ℕ) (logs : List (List Logged)) (m : PlainMachine)
+        → HaveFollowed p fuel logs
         → machine_after p fuel logs ≡ Some m → objects_after (shape_of p) logs ≡ Some m.objects }
-    ensures threads { (p : ProgramText) (fuel : ℕ) (logs : List (List Logged)) (m : PlainMachine) → HaveFollowed p fuel logs
+    ensures threads { (p : ProgramText) (fuel : ℕ) (logs : List (List Logged)) (m : PlainMachine)
+        → HaveFollowed p fuel logs
         → machine_after p fuel logs ≡ Some m → length m.threads ≡ length p.threads }
-    ensures each { (p : ProgramText) (fuel t : ℕ) (logs : List (List Logged)) (m : PlainMachine) (s : ThreadState) → HaveFollowed p fuel logs
+    ensures each { (p : ProgramText) (fuel t : ℕ) (logs : List (List Logged)) (m : PlainMachine)
+        (s : ThreadState) → HaveFollowed p fuel logs
         → machine_after p fuel logs ≡ Some m → slice_get m.threads t ≡ Some s → Follows p fuel t (log_of logs t) s }
 {
     objects_and_threads_join::<OfProgram>();

@@ -18,27 +18,35 @@ ghost use Rattle.thread_logs.specs.Followed.{Follows, HasFollowed, HaveValues, e
 /// program may be, where what it read are values of the program; and each entry uses up some of its work: its log and the work that is left
 /// to it are together at most 2 for each unit of fuel and one more.
 pub fn threads_stay_theirs()
-    ensures first { (p : ProgramText) (fuel t : ℕ) (s : ThreadState) → slice_get (new_machine p fuel).threads t ≡ Some s → Follows p fuel t [] s }
-    ensures next { (p : ProgramText) (fuel t : ℕ) (log : List Logged) (l : Logged) (s after : ThreadState) → Follows p fuel t log s
+    ensures first { (p : ProgramText) (fuel t : ℕ) (s : ThreadState)
+        → slice_get (new_machine p fuel).threads t ≡ Some s → Follows p fuel t [] s }
+    ensures next { (p : ProgramText) (fuel t : ℕ) (log : List Logged) (l : Logged) (s after : ThreadState)
+        → Follows p fuel t log s
         → thread_after p (code_of p t) s l.entry ≡ Some after → Follows p fuel t (log ++ l ∷ []) after }
-    ensures thread { (p : ProgramText) (fuel t : ℕ) (log : List Logged) (s : ThreadState) → IsProgram p → HaveValues p log → Follows p fuel t log s
+    ensures thread { (p : ProgramText) (fuel t : ℕ) (log : List Logged) (s : ThreadState) → IsProgram p
+        → HaveValues p log → Follows p fuel t log s
         → IsThreadOf p s }
-    ensures work { (p : ProgramText) (fuel t : ℕ) (log : List Logged) (s : ThreadState) → IsProgram p → HaveValues p log → Follows p fuel t log s
+    ensures work { (p : ProgramText) (fuel t : ℕ) (log : List Logged) (s : ThreadState) → IsProgram p
+        → HaveValues p log → Follows p fuel t log s
         → length log + work_of s ≤ 2 * fuel + 1 }
 {}
 
 /// Where a thread stands is told by its log: how often it holds each object, whether it waits on one, whether it has ended, and how many
 /// dumps it has made.
 pub fn a_log_tells_where_its_thread_stands()
-    ensures holds { (p : ProgramText) (fuel t o : ℕ) (log : List Logged) (s : ThreadState) → Follows p fuel t log s → o < objects_total p
+    ensures holds { (p : ProgramText) (fuel t o : ℕ) (log : List Logged) (s : ThreadState)
+        → Follows p fuel t log s → o < objects_total p
         → holds_of s o ≡ held_by nothing_held log o }
     ensures waits { (p : ProgramText) (fuel t o : ℕ) (log : List Logged) (s : ThreadState) → Follows p fuel t log s
         → waits_on s.mode o ≡ waits_by false log o }
-    ensures ends { (p : ProgramText) (fuel t : ℕ) (log : List Logged) (s : ThreadState) → Follows p fuel t log s → not (is_live s) ≡ ends_by log }
-    ensures dumps { (p : ProgramText) (fuel t : ℕ) (log : List Logged) (s : ThreadState) → Follows p fuel t log s → s.dumps ≡ dumps_by log }
+    ensures ends { (p : ProgramText) (fuel t : ℕ) (log : List Logged) (s : ThreadState)
+        → Follows p fuel t log s → not (is_live s) ≡ ends_by log }
+    ensures dumps { (p : ProgramText) (fuel t : ℕ) (log : List Logged) (s : ThreadState)
+        → Follows p fuel t log s → s.dumps ≡ dumps_by log }
 {}
 
 /// The front of a log that follows its thread's code follows it, too.
 pub fn fronts_of_logs_follow_the_code()
-    ensures { (p : ProgramText) (fuel t n : ℕ) (log : List Logged) → HasFollowed p fuel t log → HasFollowed p fuel t (take n log) }
+    ensures { (p : ProgramText) (fuel t n : ℕ) (log : List Logged) → HasFollowed p fuel t log
+        → HasFollowed p fuel t (take n log) }
 {}

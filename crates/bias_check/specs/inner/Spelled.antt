@@ -9,8 +9,10 @@ use Rattle.bias_check.specs.declared.spelled.Verb.TheVariants as verb
 
 abbrev pub acts : List (List ℕ × Verb)
 acts =
-    (codes "notify", verb.Notify) ∷ (codes "notifyall", verb.NotifyAll) ∷ (codes "hash", verb.Hash) ∷ (codes "print", verb.Print)
-    ∷ (codes "dump", verb.Dump) ∷ (codes "fault", verb.Fault) ∷ (codes "spent", verb.Spent) ∷ (codes "done", verb.Done) ∷ []
+    (codes "notify", verb.Notify) ∷ (codes "notifyall", verb.NotifyAll) ∷ (codes "hash", verb.Hash)
+    ∷ (codes "print", verb.Print)
+    ∷ (codes "dump", verb.Dump) ∷ (codes "fault", verb.Fault) ∷ (codes "spent", verb.Spent)
+    ∷ (codes "done", verb.Done) ∷ []
 
 abbrev pub verbs : List (List ℕ × Verb)
 verbs =
@@ -20,7 +22,8 @@ verbs =
 abbrev pub paths : List (List ℕ × Path)
 paths =
     (codes "bias-own", BiasOwn) ∷ (codes "bias-taken", BiasTaken) ∷ (codes "stack-first", StackFirst)
-    ∷ (codes "stack-again", StackAgain) ∷ (codes "monitor-first", MonitorFirst) ∷ (codes "monitor-again", MonitorAgain) ∷ []
+    ∷ (codes "stack-again", StackAgain) ∷ (codes "monitor-first", MonitorFirst)
+    ∷ (codes "monitor-again", MonitorAgain) ∷ []
 
 abbrev pub faults : List (List ℕ × Fault)
 faults =

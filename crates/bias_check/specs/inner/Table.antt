@@ -58,12 +58,14 @@ abbrev pub unbracketed : List ℕ → Option (List ℕ)
 unbracketed index = before_last 93 index
 
 abbrev pub element_at : ObjectDef → List ℕ → Option ℕ
-element_at d digits = option_and_then (λ i. only_if (nat_lt (d.first + i) (2 ^ 32)) (d.first + i)) (count_below d.size digits)
+element_at d digits =
+    option_and_then (λ i. only_if (nat_lt (d.first + i) (2 ^ 32)) (d.first + i)) (count_below d.size digits)
 
 -- the object of a declaration, or an element of an array by what stands behind the opening bracket
 abbrev pub element_of : ObjectDef → Option (List ℕ) → Option ℕ
 element_of d None = if d.array then None else Some d.first
-element_of d (Some index) = if d.array then option_and_then (λ digits. element_at d digits) (unbracketed index) else None
+element_of d (Some index) =
+    if d.array then option_and_then (λ digits. element_at d digits) (unbracketed index) else None
 
 abbrev pub element_in : Names → List ℕ → Option (List ℕ) → Option ℕ
 element_in t name index = option_and_then (λ d. element_of d index) (declared_in t name)
@@ -120,26 +122,32 @@ one_told t verb.Dump a = option_map (λ n. sure (Dump n)) (count_in a)
 one_told t v a = None
 
 abbrev pub two_told : Names → Verb → List ℕ → List ℕ → Option EntryRead
-two_told t verb.Enter a b = option_and_then (λ o. option_map (λ p. sure (Enter o p)) (spelled_among paths b)) (object_in t a)
+two_told t verb.Enter a b =
+    option_and_then (λ o. option_map (λ p. sure (Enter o p)) (spelled_among paths b)) (object_in t a)
 two_told t verb.Notify a b = option_and_then (λ o. option_map (λ w. notify_read o w) (woken_in t b)) (object_in t a)
-two_told t verb.NotifyAll a b = option_and_then (λ o. option_map (λ n. sure (NotifyAll o n)) (count_in b)) (object_in t a)
+two_told t verb.NotifyAll a b =
+    option_and_then (λ o. option_map (λ n. sure (NotifyAll o n)) (count_in b)) (object_in t a)
 two_told t verb.Hash a b = option_and_then (λ o. option_map (λ n. sure (Hash o n None)) (count_in b)) (object_in t a)
 two_told t v a b = None
 
 abbrev pub slot_told : (ℕ → ℕ → ValueRead → EntryRead) → Names → List ℕ → List ℕ → List ℕ → Option EntryRead
 slot_told read t a b c =
-    option_and_then (λ o. option_and_then (λ k. option_map (λ v. read o k v) (value_in t c)) (count_in b)) (object_in t a)
+    option_and_then (λ o. option_and_then (λ k. option_map (λ v. read o k v) (value_in t c)) (count_in b))
+    (object_in t a)
 
 abbrev pub three_told : Names → Verb → List ℕ → List ℕ → List ℕ → Option EntryRead
 three_told t verb.Get a b c = slot_told get_read t a b c
 three_told t verb.Put a b c = slot_told put_read t a b c
 three_told t verb.Fault a b c =
-    if bytes_eq (codes "at") b then option_and_then (λ f. option_map (λ n. sure (Trap f n)) (count_in c)) (spelled_among faults a) else None
+    if bytes_eq (codes "at") b then option_and_then (λ f. option_map (λ n. sure (Trap f n)) (count_in c))
+    (spelled_among faults a) else None
 three_told t v a b c = None
 
 abbrev pub four_told : Names → Verb → List ℕ → List ℕ → List ℕ → List ℕ → Option EntryRead
 four_told t verb.Hash a b c d =
-    if bytes_eq (codes "draw") c then option_and_then (λ o. option_and_then (λ n. option_map (λ k. sure (Hash o n (Some k))) (count_in d)) (count_in b)) (object_in t a)
+    if bytes_eq (codes "draw") c then option_and_then
+    (λ o. option_and_then (λ n. option_map (λ k. sure (Hash o n (Some k))) (count_in d)) (count_in b))
+    (object_in t a)
     else None
 four_told t v a b c d = None
 
@@ -153,7 +161,11 @@ told t v (a ∷ b ∷ c ∷ d ∷ e ∷ ws) = None
 
 abbrev pub words_told : Names → List ℕ → List ℕ → List ℕ → List (List ℕ) → Option LineRead
 words_told t first second third ws =
-    option_and_then (λ stamp. option_and_then (λ thread. option_and_then (λ v. option_map (λ e. record { stamp = stamp; thread = thread; entry = e }) (told t v ws)) (spelled_among verbs third)) (thread_in t second)) (stamp_in first)
+    option_and_then
+    (λ stamp. option_and_then
+    (λ thread. option_and_then
+    (λ v. option_map (λ e. record { stamp = stamp; thread = thread; entry = e }) (told t v ws))
+    (spelled_among verbs third)) (thread_in t second)) (stamp_in first)
 
 abbrev pub read_words : Names → List (List ℕ) → Option LineRead
 read_words t [] = None

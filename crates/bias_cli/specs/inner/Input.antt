@@ -4,4 +4,5 @@ use Rattle.std.specs.Prelude.{◌≡◌, ℕ, ◌+◌, List, ◌++◌, take, dro
 -- n further bytes are read behind these
 abbrev pub TookMore : ℕ → Option (List ℕ) → Option (List ℕ) → List ℕ → List ℕ → Type 0
 TookMore n left_before left_after bytes_before bytes_after =
-    (left : List ℕ) → left_before ≡ Some left → (bytes_after ≡ bytes_before ++ take n left) × (left_after ≡ Some (drop n left))
+    (left : List ℕ) → left_before ≡ Some left → (bytes_after ≡ bytes_before ++ take n left)
+    × (left_after ≡ Some (drop n left))

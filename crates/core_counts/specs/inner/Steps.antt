@@ -16,7 +16,8 @@ use Rattle.core_counts.specs.Steps.{LeavesBiases, HasNone}
 pub record LogsTaken (w : World) (objects : List PlainObject) (t : ℕ) (p : StepPlan) (e : Entry) : Type 0 where
   pub runs : (w.known t).running ≡ true
   pub other : is_taking e ≡ false
-  pub log : log_after p.note (w.words p.at) (w.known t).log ≡ (w.known t).log ++ record { stamp = last_stamp (w.known t).log + 1; entry = e } ∷ []
+  pub log : log_after p.note (w.words p.at) (w.known t).log ≡ (w.known t).log
+      ++ record { stamp = last_stamp (w.known t).log + 1; entry = e } ∷ []
   pub own : (counts : List CountedVerdict) → counts_after p.own counts ≡ counts
   pub operation : WorksFor (w.known t) e
   pub calm : (o : ℕ) → path_into (w.known t).stage o ≡ None

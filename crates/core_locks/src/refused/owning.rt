@@ -30,23 +30,27 @@ pub fn no_second_owner()
 
 /// An owner that stores one recursion more, from the middle of nothing, and isn't about to store the hold word that it counts.
 pub fn no_recursion_without_a_hold()
-    ensures { (w : World) (o m t : ℕ) (e : Purpose) (s : Stage) (v : Valid w) → (w.known t).running ≡ true → (w.known t).stage ≡ Calm
+    ensures { (w : World) (o m t : ℕ) (e : Purpose) (s : Stage) (v : Valid w) → (w.known t).running ≡ true
+        → (w.known t).stage ≡ Calm
         → monitor_in (w.words (Mark o)) ≡ Some m → owner_at v.objects o t ≡ true → s ≢ Ahead o
         → Valid (world_after (store_recursions_plan e s m (w.words (Recursions m) + 1)) t w) → ⊥ }
 {}
 
 /// A running thread that frees the owner word while recursions are left, and logs its Exit with that, or lets go in a wait.
 pub fn no_free_monitor_with_recursions()
-    ensures exit { (w : World) (o m t p : ℕ) (e : Purpose) → (w.known t).running ≡ true → monitor_in (w.words (Mark o)) ≡ Some m
+    ensures exit { (w : World) (o m t p : ℕ) (e : Purpose) → (w.known t).running ≡ true
+        → monitor_in (w.words (Mark o)) ≡ Some m
         → 0 < w.words (Recursions m) → Valid (world_after (free_plan e o m p) t w) → ⊥ }
-    ensures wait { (w : World) (o m t : ℕ) (e : Purpose) → (w.known t).running ≡ true → monitor_in (w.words (Mark o)) ≡ Some m
+    ensures wait { (w : World) (o m t : ℕ) (e : Purpose) → (w.known t).running ≡ true
+        → monitor_in (w.words (Mark o)) ≡ Some m
         → 0 < w.words (Recursions m) → Valid (world_after (quit_plan e m) t w) → ⊥ }
 {}
 
 /// A running thread that logs an Exit, Wait, Notify, NotifyAll, Get or Put of an object of which it isn't the plain owner, whatever
 /// word the step is on but the safepoint's, and wherever in the order its stamp puts the entry.
 pub fn no_entry_without_the_lock()
-    ensures { (w : World) (o t : ℕ) (at : Name) (act : Act) (entry : Entry) (e : Purpose) (s : Stage) (v : Valid w) → (w.known t).running ≡ true
+    ensures { (w : World) (o t : ℕ) (at : Name) (act : Act) (entry : Entry) (e : Purpose) (s : Stage)
+        (v : Valid w) → (w.known t).running ≡ true
         → at ≢ Safepoint → hits act (w.words at) ≡ true → is_by_owner o entry ≡ true → owner_at v.objects o t ≡ false
         → Valid (world_after (log_entry_plan e s entry at act) t w) → ⊥ }
 {}

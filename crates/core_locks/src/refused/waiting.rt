@@ -32,15 +32,18 @@ pub fn no_notify_all_that_misses_one()
 
 /// A running thread that tells nobody though one waits, and logs that Notify or NotifyAll as it publishes its log.
 pub fn no_notify_of_nobody()
-    ensures one { (w : World) (o t z n : ℕ) (e : Purpose) → Valid w → (w.known t).running ≡ true → waits_on (w.words (Waiting z)) o ≡ true
+    ensures one { (w : World) (o t z n : ℕ) (e : Purpose) → Valid w → (w.known t).running ≡ true
+        → waits_on (w.words (Waiting z)) o ≡ true
         → Valid (world_after (publish_plan e t (Notify o None) n) t w) → ⊥ }
-    ensures all { (w : World) (o t z n m : ℕ) (e : Purpose) → Valid w → (w.known t).running ≡ true → waits_on (w.words (Waiting z)) o ≡ true
+    ensures all { (w : World) (o t z n m : ℕ) (e : Purpose) → Valid w → (w.known t).running ≡ true
+        → waits_on (w.words (Waiting z)) o ≡ true
         → Valid (world_after (publish_plan e t (NotifyAll o m) n) t w) → ⊥ }
 {}
 
 /// A thread that has its monitor again and logs its Resume, while the recursions aren't those that its wait saved.
 pub fn no_resume_with_another_count()
-    ensures { (w : World) (o m t : ℕ) (e : Purpose) → Valid w → (w.known t).running ≡ true → (w.known t).stage ≡ Resumes o
+    ensures { (w : World) (o m t : ℕ) (e : Purpose) → Valid w → (w.known t).running ≡ true
+        → (w.known t).stage ≡ Resumes o
         → monitor_in (w.words (Mark o)) ≡ Some m → w.words (Recursions m) ≢ (w.known t).saved
         → Valid (world_after (log_resume_plan e o) t w) → ⊥ }
 {}
@@ -49,18 +52,24 @@ pub fn no_resume_with_another_count()
 /// doesn't say that it was notified on this object, whether it ever waited there or not; Ready alone may stand there, while the thread
 /// has the lock again at the end of its wait. Or the plain monitor hasn't called it, wherever in the order its stamp puts the Resume.
 pub fn no_resume_untold()
-    ensures waiting { (w : World) (o i t : ℕ) (e : Purpose) → (w.known t).running ≡ true → waits_on (w.words (Waiting t)) i ≡ true
+    ensures waiting { (w : World) (o i t : ℕ) (e : Purpose) → (w.known t).running ≡ true
+        → waits_on (w.words (Waiting t)) i ≡ true
         → Valid (world_after (log_resume_plan e o) t w) → ⊥ }
-    ensures untold { (w : World) (o t : ℕ) (e : Purpose) → Valid w → (w.known t).running ≡ true → says_notified (w.words (Waiting t)) o ≡ false
-        → (w.words (Waiting t) ≡ 0 → (w.known t).stage ≢ Resumes o) → Valid (world_after (log_resume_plan e o) t w) → ⊥ }
-    ensures uncalled { (w : World) (o t : ℕ) (e : Purpose) (v : Valid w) → (w.known t).running ≡ true → is_listed (notified_at v.objects o) t ≡ false
+    ensures untold { (w : World) (o t : ℕ) (e : Purpose) → Valid w → (w.known t).running ≡ true
+        → says_notified (w.words (Waiting t)) o ≡ false
+        → (w.words (Waiting t) ≡ 0 → (w.known t).stage ≢ Resumes o)
+        → Valid (world_after (log_resume_plan e o) t w) → ⊥ }
+    ensures uncalled { (w : World) (o t : ℕ) (e : Purpose) (v : Valid w) → (w.known t).running ≡ true
+        → is_listed (notified_at v.objects o) t ≡ false
         → Valid (world_after (log_resume_plan e o) t w) → ⊥ }
 {}
 
 /// A thread that halts the run at its safepoint though some thread can go on: one that hasn't ended, and neither waits nor was
 /// called or enters where another is the owner.
 pub fn no_halt_while_one_can_go_on()
-    ensures { (w : World) (t u : ℕ) (e : Purpose) (v : Valid w) → w.words Safepoint ≡ reached_word t → e.unfinished ≡ (w.known t).unfinished
-        → u < w.shape.threads → ends (w.known u).log ≡ false → (IsHeldUp (monitor_of v.objects) u (w.known u).unfinished → ⊥)
+    ensures { (w : World) (t u : ℕ) (e : Purpose) (v : Valid w) → w.words Safepoint ≡ reached_word t
+        → e.unfinished ≡ (w.known t).unfinished
+        → u < w.shape.threads → ends (w.known u).log ≡ false
+        → (IsHeldUp (monitor_of v.objects) u (w.known u).unfinished → ⊥)
         → Valid (world_after (halt_plan e t) t w) → ⊥ }
 {}

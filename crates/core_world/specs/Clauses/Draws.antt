@@ -54,7 +54,8 @@ abbrev pub first_draw : ℕ → ℕ → ℕ
 first_draw start t = (start + t) % 2 ^ 32
 
 -- the plain hash is 0 where there is none
-pub record DrawsFit (start : ℕ) (logs : List (List Logged)) (log : ℕ → List Logged) (draws : ℕ → ℕ) (hash : ℕ → ℕ) : Type 0 where
+pub record DrawsFit (start : ℕ) (logs : List (List Logged)) (log : ℕ → List Logged) (draws : ℕ → ℕ)
+    (hash : ℕ → ℕ) : Type 0 where
   -- the draws that a thread logged are the first of its generator, in their order
   pub drawn : (t : ℕ) → AreDraws (first_draw start t) 0 (log t)
   -- a thread knows how many it has logged

@@ -6,7 +6,8 @@ use Rattle.plain_monitor.specs.declared.entry.Logged.{Logged}
 abbrev pub log_limit : ℕ
 log_limit = 400066
 
-pub record LengthsFit (word published : ℕ → ℕ) (log : ℕ → List Logged) (running requesting : ℕ → Bool) (halted : Bool) : Type 0 where
+pub record LengthsFit (word published : ℕ → ℕ) (log : ℕ → List Logged) (running requesting : ℕ → Bool)
+    (halted : Bool) : Type 0 where
   pub few : (t : ℕ) → length (log t) ≤ log_limit
   -- the word is what its own thread last stored
   pub stored : (t : ℕ) → word t ≡ published t

@@ -31,14 +31,16 @@ IsUnfinished unfinished op o = unfinished ≡ Some (record { op = op; object = o
 abbrev pub IsHeldUp : (ℕ → PlainMonitor) → ℕ → Option Unfinished → Type 0
 IsHeldUp monitors t unfinished =
     (o : ℕ) × ((is_listed (monitors o).waits t ≡ true)
-    ⊎ (((is_listed (monitors o).called t ≡ true) ⊎ IsUnfinished unfinished op.Enter o) × ((u : ℕ) × (u ≢ t) × (owns (monitors o) u ≡ true))))
+    ⊎ (((is_listed (monitors o).called t ≡ true) ⊎ IsUnfinished unfinished op.Enter o)
+    × ((u : ℕ) × (u ≢ t) × (owns (monitors o) u ≡ true))))
 
 -- some of the n threads hasn't ended, and each that hasn't is held up
 abbrev pub IsStuck : ℕ → (ℕ → Bool) → (ℕ → Option Unfinished) → (ℕ → PlainMonitor) → Type 0
 IsStuck n ended unfinished monitors =
     ((t : ℕ) × (t < n) × (ended t ≡ false)) × ((t : ℕ) → t < n → ended t ≡ false → IsHeldUp monitors t (unfinished t))
 
-pub record SafepointIsKnown (n safe : ℕ) (running requesting reached halted ended : ℕ → Bool) (unfinished : ℕ → Option Unfinished) (monitors : ℕ → PlainMonitor) : Type 0 where
+pub record SafepointIsKnown (n safe : ℕ) (running requesting reached halted ended : ℕ → Bool)
+    (unfinished : ℕ → Option Unfinished) (monitors : ℕ → PlainMonitor) : Type 0 where
   -- a thread's bit is set exactly where it runs
   pub bits : (t : ℕ) → runs_in safe t ≡ running t
   pub few : (t : ℕ) → running t ≡ true → t < n
@@ -48,7 +50,8 @@ pub record SafepointIsKnown (n safe : ℕ) (running requesting reached halted en
   pub safepoint : (t : ℕ) → reached t ≡ true → (requesting t ≡ true) × ((u : ℕ) → running u ≡ false)
   pub stopped : (t : ℕ) → halted t ≡ true → is_halted safe ≡ true
   -- in a halted run nobody runs or asks, and the threads are stuck
-  pub still : is_halted safe ≡ true → (requester_in safe ≡ None) × ((u : ℕ) → running u ≡ false) × IsStuck n ended unfinished monitors
+  pub still : is_halted safe ≡ true → (requester_in safe ≡ None) × ((u : ℕ) → running u ≡ false)
+      × IsStuck n ended unfinished monitors
 
 -- a thread that doesn't run stands in the middle of nothing, and no bias is being revoked
 pub record StoppedAreQuiet (running : ℕ → Bool) (stage : ℕ → Stage) : Type 0 where

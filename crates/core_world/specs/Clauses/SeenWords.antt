@@ -33,7 +33,8 @@ StaysWhileRunning w k owner t (Prototype c) v = Unit {0}
 StaysWhileRunning w k owner t (Revocations c) v = Unit {0}
 StaysWhileRunning w k owner t (LastBulk c) v = Unit {0}
 StaysWhileRunning w k owner t (Mark o) v =
-    IsValidBias (read_mark v) (prototype_of w o) ⊎ ((m : ℕ) × (monitor_in v ≡ Some m)) ⊎ InMiddleOf k (λ i. i.object ≡ o)
+    IsValidBias (read_mark v) (prototype_of w o) ⊎ ((m : ℕ) × (monitor_in v ≡ Some m))
+    ⊎ InMiddleOf k (λ i. i.object ≡ o)
     ⊎ ((is_biased v ≡ true) × (owner o t ≡ true))
 StaysWhileRunning w k owner t (Stamp o) v = owner o t ≡ true
 StaysWhileRunning w k owner t (Slot o s) v = owner o t ≡ true
@@ -58,7 +59,8 @@ StaysWhileAsking w _ v = ⊥
 
 abbrev pub Stays : World → Known → (ℕ → ℕ → Bool) → ℕ → Name → ℕ → Type 0
 Stays w k owner t n v =
-    ((k.running ≡ true) × StaysWhileRunning w k owner t n v) ⊎ ((k.requesting ≡ true) × (revocation_in k.stage ≡ None) × StaysWhileAsking w n v)
+    ((k.running ≡ true) × StaysWhileRunning w k owner t n v)
+    ⊎ ((k.requesting ≡ true) × (revocation_in k.stage ≡ None) × StaysWhileAsking w n v)
 
 -- the thread keeps the monitor, or a mark names it
 abbrev pub IsKeptOrNamed : World → Known → ℕ → Type 0
@@ -75,18 +77,24 @@ pub record AreTheSteps (words : Name → ℕ) (steps : List StepMade) : Type 0 w
   pub same : words ≡ words_after (writes_in steps) before
 
 pub record SeenStays (w : World) (owner : ℕ → ℕ → Bool) (waits : ℕ → List (ℕ × ℕ)) : Type 0 where
-  pub stays : (t : ℕ) (n : Name) (v : ℕ) → last_seen n (w.known t).seen ≡ Some v → Stays w (w.known t) owner t n v → w.words n ≡ v
+  pub stays : (t : ℕ) (n : Name) (v : ℕ) → last_seen n (w.known t).seen ≡ Some v
+      → Stays w (w.known t) owner t n v → w.words n ≡ v
   -- a mark that had no bias pattern has none
-  pub unbiased : (t o v : ℕ) → last_seen (Mark o) (w.known t).seen ≡ Some v → ((w.known t).running ≡ true) ⊎ ((w.known t).requesting ≡ true)
+  pub unbiased : (t o v : ℕ) → last_seen (Mark o) (w.known t).seen ≡ Some v → ((w.known t).running ≡ true)
+      ⊎ ((w.known t).requesting ≡ true)
       → is_biased v ≡ false → is_biased (marks w o) ≡ false
   -- nobody came to wait on an object of which the thread is the owner
-  pub unwaiting : (t u o v : ℕ) → last_seen (Waiting u) (w.known t).seen ≡ Some v → (w.known t).running ≡ true → owner o t ≡ true
+  pub unwaiting : (t u o v : ℕ) → last_seen (Waiting u) (w.known t).seen ≡ Some v → (w.known t).running ≡ true
+      → owner o t ≡ true
       → waits_on v o ≡ false → waits_on (w.words (Waiting u)) o ≡ false
   -- nobody waits on an object of which the thread is the owner, where it saw a mark that named no monitor
-  pub unwaited : (t o v : ℕ) → last_seen (Mark o) (w.known t).seen ≡ Some v → (w.known t).running ≡ true → owner o t ≡ true → monitor_in v ≡ None → waits o ≡ []
+  pub unwaited : (t o v : ℕ) → last_seen (Mark o) (w.known t).seen ≡ Some v → (w.known t).running ≡ true
+      → owner o t ≡ true → monitor_in v ≡ None → waits o ≡ []
   -- at its reached safepoint each word is as the thread saw it since
-  pub stands : (t : ℕ) (n : Name) (v : ℕ) → (w.known t).reached ≡ true → last_seen n (w.known t).seen_at_safepoint ≡ Some v → w.words n ≡ v
+  pub stands : (t : ℕ) (n : Name) (v : ℕ) → (w.known t).reached ≡ true
+      → last_seen n (w.known t).seen_at_safepoint ≡ Some v → w.words n ≡ v
   -- and nobody else has stored anything since; while it revokes a bias, more is known of its stores
-  pub alone : (t : ℕ) → (w.known t).reached ≡ true → revocation_in (w.known t).stage ≡ None → AreTheSteps w.words (w.known t).seen_at_safepoint
+  pub alone : (t : ℕ) → (w.known t).reached ≡ true → revocation_in (w.known t).stage ≡ None
+      → AreTheSteps w.words (w.known t).seen_at_safepoint
   -- a running thread has seen words only of such monitors as it keeps or a mark names
   pub monitors : (t m v : ℕ) → (w.known t).running ≡ true → HasMet (w.known t).seen m v → IsKeptOrNamed w (w.known t) m

@@ -31,10 +31,12 @@ lets_go (Some u) o = is_letting_go u.op && (u.object == o)
 
 -- the unfinished operation is a wait on o, or the exit of the only hold of it that the thread has by its log
 abbrev pub IsAboutToLetGo : Option Unfinished → List Logged → ℕ → Type 0
-IsAboutToLetGo unfinished log o = IsUnfinished unfinished op.Wait o ⊎ (IsUnfinished unfinished op.Exit o × (held_by nothing_held log o ≡ 1))
+IsAboutToLetGo unfinished log o =
+    IsUnfinished unfinished op.Wait o ⊎ (IsUnfinished unfinished op.Exit o × (held_by nothing_held log o ≡ 1))
 
 -- o's owner is about to let go of it, and this is the next stamp of its log
-pub record IsRaised (log : ℕ → List Logged) (owner : Option ℕ) (unfinished : ℕ → Option Unfinished) (o stamp : ℕ) : Type 0 where
+pub record IsRaised (log : ℕ → List Logged) (owner : Option ℕ) (unfinished : ℕ → Option Unfinished)
+    (o stamp : ℕ) : Type 0 where
   pub thread : ℕ
   pub owns : owner ≡ Some thread
   pub letting : IsAboutToLetGo (unfinished thread) (log thread) o
@@ -42,9 +44,11 @@ pub record IsRaised (log : ℕ → List Logged) (owner : Option ℕ) (unfinished
 
 -- what a stamp word of o may be: 0, or the stamp of a logged entry by which a thread let go of o, or the next stamp of its owner that is about to
 abbrev pub IsStampOf : (ℕ → List Logged) → Option ℕ → (ℕ → Option Unfinished) → ℕ → ℕ → Type 0
-IsStampOf log owner unfinished o stamp = (stamp ≡ 0) ⊎ ((t : ℕ) × HasLetGo (log t) o stamp) ⊎ IsRaised log owner unfinished o stamp
+IsStampOf log owner unfinished o stamp =
+    (stamp ≡ 0) ⊎ ((t : ℕ) × HasLetGo (log t) o stamp) ⊎ IsRaised log owner unfinished o stamp
 
-pub record StampsFit (logs : List (List Logged)) (log : ℕ → List Logged) (stamp : ℕ → ℕ) (owner : ℕ → Option ℕ) (unfinished : ℕ → Option Unfinished) : Type 0 where
+pub record StampsFit (logs : List (List Logged)) (log : ℕ → List Logged) (stamp : ℕ → ℕ)
+    (owner : ℕ → Option ℕ) (unfinished : ℕ → Option Unfinished) : Type 0 where
   -- a stamp is at most the number of entries; so is a stamp word, or one more while the owner raises it to let go
   pub logged : (t : ℕ) → last_stamp (log t) ≤ entries logs
   pub words : (o : ℕ) → stamp o ≤ entries logs + 1

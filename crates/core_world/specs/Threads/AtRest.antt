@@ -17,7 +17,8 @@ use Rattle.core_world.specs.Shots.{dumps_from}
 -- the thread saw a valid bias of o since the call began that made its request
 abbrev pub SawValidBias : Shape → Known → ℕ → Type 0
 SawValidBias s k o =
-    (v p : ℕ) × (last_seen (Mark o) k.seen ≡ Some v) × (last_seen (Prototype (class_of s o)) k.seen ≡ Some p) × (is_valid_bias (read_mark v) p ≡ true)
+    (v p : ℕ) × (last_seen (Mark o) k.seen ≡ Some v) × (last_seen (Prototype (class_of s o)) k.seen ≡ Some p)
+    × (is_valid_bias (read_mark v) p ≡ true)
 
 -- that, and it has not reached its safepoint: in the call in which it does, it goes on up to the release
 abbrev pub MayRevoke : Shape → Known → ℕ → Type 0

@@ -32,7 +32,8 @@ pub record CountedVerdict : Type 0 where
 -- the counts by class after these verdicts, newest first
 abbrev pub counts_of : List CountedVerdict → ℕ → ClassCounts
 counts_of [] d = no_counts
-counts_of (v ∷ vs) d = if d == v.class then with_reset (with_verdict (counts_of vs d) v.verdict) v.reset else counts_of vs d
+counts_of (v ∷ vs) d =
+    if d == v.class then with_reset (with_verdict (counts_of vs d) v.verdict) v.reset else counts_of vs d
 
 -- one more verdict on class c
 abbrev pub with_verdict_counted : List CountedVerdict → ℕ → Verdict → Bool → List CountedVerdict

@@ -49,7 +49,8 @@ abbrev pub bias_valid_steps : Purpose → Local → ℕ → ℕ → ℕ → Todo
 bias_valid_steps e k o mark thread = if thread == k.thread then took_steps e k o BiasOwn else done (Valid mark)
 
 abbrev pub bias_enter_at : Option MarkForm → ℕ → Purpose → Local → ℕ → ℕ → Todo BiasTry
-bias_enter_at (Some (Biased thread old age)) epoch e k o mark = if old == epoch then bias_valid_steps e k o mark thread else rebias_steps e k o mark epoch
+bias_enter_at (Some (Biased thread old age)) epoch e k o mark =
+    if old == epoch then bias_valid_steps e k o mark thread else rebias_steps e k o mark epoch
 bias_enter_at (Some (Anonymous old age)) epoch e k o mark = rebias_steps e k o mark epoch
 bias_enter_at _ epoch e k o mark = never
 
@@ -79,7 +80,8 @@ bias_exit_steps e k o = do
 
 -- Anonymous or stale: the mark is exchanged for the neutral one. Valid and biased to a thread: nothing is done.
 abbrev pub bias_drop_at : Option MarkForm → ℕ → Purpose → ℕ → ℕ → Todo BiasTry
-bias_drop_at (Some (Biased thread old age)) epoch e o mark = if old == epoch then done (Valid mark) else unbias_swap_steps e o mark (mark_of (Neutral 0 0))
+bias_drop_at (Some (Biased thread old age)) epoch e o mark =
+    if old == epoch then done (Valid mark) else unbias_swap_steps e o mark (mark_of (Neutral 0 0))
 bias_drop_at (Some (Anonymous old age)) epoch e o mark = unbias_swap_steps e o mark (mark_of (Neutral 0 0))
 bias_drop_at _ epoch e o mark = never
 

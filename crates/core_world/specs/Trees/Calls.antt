@@ -70,7 +70,9 @@ is_free_for k going_on = is_none k.unfinished || going_on
 -- an operation may begin: its thread runs, or has a standing request that this same operation made; no check is unfinished; the log has
 -- no ending entry, and room for two entries
 abbrev pub may_operate : Known → Bool → Bool
-may_operate k going_on = not k.checking && (k.running || (k.requesting && going_on)) && is_free_for k going_on && not (ends k.log) && nat_le (length k.log + 2) log_limit
+may_operate k going_on =
+    not k.checking && (k.running || (k.requesting && going_on)) && is_free_for k going_on && not (ends k.log)
+    && nat_le (length k.log + 2) log_limit
 
 -- a call that makes one entry at once may begin: nothing is unfinished
 abbrev pub may_act : Known → Bool
@@ -78,7 +80,9 @@ may_act k = may_operate k false
 
 -- a part that logs one entry may begin by itself: its thread runs, and the log has no ending entry, and room for that one
 abbrev pub may_log_once : Known → Bool → Bool
-may_log_once k going_on = not k.checking && k.running && is_free_for k going_on && not (ends k.log) && nat_lt (length k.log) log_limit
+may_log_once k going_on =
+    not k.checking && k.running && is_free_for k going_on && not (ends k.log)
+    && nat_lt (length k.log) log_limit
 
 -- the mark names the thread's record of o with depth 1, and the thread has one
 abbrev pub is_own_first : Known → ℕ → ℕ → Bool
@@ -102,8 +106,12 @@ may_begin s biasing k Poll = k.running
 may_begin s biasing k Stop = k.running
 may_begin s biasing k Resume = not k.running && not k.requesting
 may_begin s biasing k Check = not (ends k.log) && (if k.requesting then k.checking else k.running)
-may_begin s biasing k (StackEnter o mark) = not biasing && is_object s o && may_log_once k false && nat_lt (free_place k.holds) 64 && (is_neutral mark || is_own_first k o mark)
-may_begin s biasing k (StackExit o) = not biasing && is_object s o && nat_lt 0 (hold_count o k.holds) && may_log_once k (goes_on_with op.Exit o k.unfinished)
+may_begin s biasing k (StackEnter o mark) =
+    not biasing && is_object s o && may_log_once k false && nat_lt (free_place k.holds) 64
+    && (is_neutral mark || is_own_first k o mark)
+may_begin s biasing k (StackExit o) =
+    not biasing && is_object s o && nat_lt 0 (hold_count o k.holds)
+    && may_log_once k (goes_on_with op.Exit o k.unfinished)
 may_begin s biasing k Request = k.running && is_none k.unfinished && not k.checking
 may_begin s biasing k Reached = k.requesting && is_none k.unfinished && not k.checking
 may_begin s biasing k Release = k.reached && is_none k.unfinished && not k.checking

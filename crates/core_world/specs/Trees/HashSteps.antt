@@ -30,7 +30,9 @@ find_hash_plan e at o = record (load e at) { note = LogHash o }
 
 -- A header without a hash is exchanged for the same one with the hash drawn, which logs Hash.
 abbrev pub draw_plan : Purpose → NextDraw → Name → ℕ → ℕ → StepPlan
-draw_plan e draw at o header = logging_plan (entry.Hash o draw.value (Some draw.number)) e at (Swap header (mark_of (Neutral draw.value 0)))
+draw_plan e draw at o header =
+    logging_plan (entry.Hash o draw.value (Some draw.number)) e at
+    (Swap header (mark_of (Neutral draw.value 0)))
 
 -- THE STEPS. The header without a hash is exchanged for the same one with the hash drawn; this step logs Hash.
 abbrev pub draw_steps : Purpose → NextDraw → Name → ℕ → ℕ → Todo (Turn ℕ)
@@ -67,9 +69,11 @@ hash_unless None e kept draw o = hash_inflate_steps e kept draw o
 
 abbrev pub hash_mark_steps : Option MarkForm → Purpose → Local → Option ℕ → NextDraw → ℕ → ℕ → Todo (Turn ℕ)
 hash_mark_steps (Some Inflating) e k kept draw o mark = pending_for why.Inflating
-hash_mark_steps (Some (Neutral hash age)) e k kept draw o mark = if hash == 0 then hash_neutral_steps e draw o mark else done_with hash
+hash_mark_steps (Some (Neutral hash age)) e k kept draw o mark =
+    if hash == 0 then hash_neutral_steps e draw o mark else done_with hash
 hash_mark_steps (Some (Locked thread place)) e k kept draw o mark =
-    if thread == k.thread then (hash_displaced_steps e k o >>= λ found. hash_unless found e kept draw o) else hash_inflate_steps e kept draw o
+    if thread == k.thread then (hash_displaced_steps e k o >>= λ found. hash_unless found e kept draw o)
+    else hash_inflate_steps e kept draw o
 hash_mark_steps (Some (Inflated monitor)) e k kept draw o mark = hash_monitor_steps e draw o monitor
 hash_mark_steps _ e k kept draw o mark = never
 

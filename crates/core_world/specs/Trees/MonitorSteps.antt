@@ -150,8 +150,10 @@ monitor_own_steps e k o m = do
 
 abbrev pub monitor_enter_at : Option OwnerForm → Purpose → Local → ℕ → ℕ → ℕ → Todo (Turn Path)
 monitor_enter_at (Some Free) e k o m found = record_steps e (Grabs o) k o MonitorFirst
-monitor_enter_at (Some (ByThread thread)) e k o m found = if thread == k.thread then monitor_again_steps e k o m else owned_steps e k o found
-monitor_enter_at (Some (ByRecord thread place)) e k o m found = if thread == k.thread then monitor_own_steps e k o m else owned_steps e k o found
+monitor_enter_at (Some (ByThread thread)) e k o m found =
+    if thread == k.thread then monitor_again_steps e k o m else owned_steps e k o found
+monitor_enter_at (Some (ByRecord thread place)) e k o m found =
+    if thread == k.thread then monitor_own_steps e k o m else owned_steps e k o found
 monitor_enter_at None e k o m found = never
 
 -- The owner word is exchanged from Free; what was found says whose the monitor is.

@@ -91,7 +91,8 @@ enter_monitor_steps e k o = do
 abbrev pub enter_at : Option MarkForm → Purpose → Start → ℕ → ℕ → Todo (Turn Path)
 enter_at (Some Inflating) e k o mark = pending_for why.Inflating
 enter_at (Some (Neutral hash age)) e k o mark = stack_enter_steps e k.local o mark
-enter_at (Some (Locked thread place)) e k o mark = if thread == k.local.thread then stack_enter_steps e k.local o mark else enter_monitor_steps e k o
+enter_at (Some (Locked thread place)) e k o mark =
+    if thread == k.local.thread then stack_enter_steps e k.local o mark else enter_monitor_steps e k o
 enter_at (Some (Inflated monitor)) e k o mark = monitor_enter_steps e k.local o monitor
 enter_at _ e k o mark = never
 
@@ -125,7 +126,8 @@ full_steps k o = if goes_on_with op.Enter o k.unfinished then never else done (E
 abbrev pub enter_steps : Shape → Start → ℕ → ℕ → Todo (Result (Turn Path) TooDeep)
 enter_steps s k o now =
     if free_place k.local.holds == 64 then full_steps k o
-    else enter_going s (purpose (task.Enter o now) op.Enter o) k (record { object = o; rebias = true; now = now }) >>= answer
+    else enter_going s (purpose (task.Enter o now) op.Enter o) k
+    (record { object = o; rebias = true; now = now }) >>= answer
 
 -- EXIT. Under a bias, by the lock record, or by the monitor.
 abbrev pub exit_at : StackOut → Purpose → Local → ℕ → Todo (Turn (Unit {0}))
@@ -143,7 +145,9 @@ exit_going e k o = do
     exit_at out e k o)
 
 abbrev pub exit_steps : Start → ℕ → Todo (Result (Turn (Unit {0})) IllegalMonitorState)
-exit_steps k o = if hold_count o k.local.holds == 0 then done (Err record {}) else exit_going (purpose (task.Exit o) op.Exit o) k.local o >>= answer
+exit_steps k o =
+    if hold_count o k.local.holds == 0 then done (Err record {})
+    else exit_going (purpose (task.Exit o) op.Exit o) k.local o >>= answer
 
 -- UNBIAS, which wait, notify, notifyall and hash begin with. Afterwards the mark has no bias pattern.
 abbrev pub revoked_steps : Shape → ℕ → Bool → Purpose → Revocation → Todo (Turn (Unit {0}))
@@ -176,11 +180,14 @@ wait_beginning s e k o now = do
       monitor_resume_steps e k.local.thread saved o))
 
 abbrev pub wait_going : Shape → Purpose → Start → ℕ → ℕ → Todo (Turn (Unit {0}))
-wait_going s e k o now = if waits_on k.local.wait o then monitor_resume_steps e k.local.thread k.saved o else wait_beginning s e k o now
+wait_going s e k o now =
+    if waits_on k.local.wait o then monitor_resume_steps e k.local.thread k.saved o
+    else wait_beginning s e k o now
 
 abbrev pub wait_steps : Shape → Start → ℕ → ℕ → Todo (Result (Turn (Unit {0})) IllegalMonitorState)
 wait_steps s k o now =
-    if hold_count o k.local.holds == 0 then done (Err record {}) else wait_going s (purpose (task.Wait o now) op.Wait o) k o now >>= answer
+    if hold_count o k.local.holds == 0 then done (Err record {})
+    else wait_going s (purpose (task.Wait o now) op.Wait o) k o now >>= answer
 
 -- NOTIFY and NOTIFYALL. Nobody waits on an object that is locked by a record of the caller.
 abbrev pub notify_at : Option MarkForm → Shape → Purpose → Local → ℕ → Todo (Turn (Option ℕ))
@@ -202,7 +209,8 @@ notify_going s e k o now = do
 
 abbrev pub notify_steps : Shape → Start → ℕ → ℕ → Todo (Result (Turn (Option ℕ)) IllegalMonitorState)
 notify_steps s k o now =
-    if hold_count o k.local.holds == 0 then done (Err record {}) else notify_going s (purpose (task.Notify o now) op.Notify o) k o now >>= answer
+    if hold_count o k.local.holds == 0 then done (Err record {})
+    else notify_going s (purpose (task.Notify o now) op.Notify o) k o now >>= answer
 
 abbrev pub notify_all_at : Option MarkForm → Shape → Purpose → Local → ℕ → Todo (Turn ℕ)
 notify_all_at (Some Inflating) s e k o = pending_for why.Inflating
@@ -223,13 +231,16 @@ notify_all_going s e k o now = do
 
 abbrev pub notify_all_steps : Shape → Start → ℕ → ℕ → Todo (Result (Turn ℕ) IllegalMonitorState)
 notify_all_steps s k o now =
-    if hold_count o k.local.holds == 0 then done (Err record {}) else notify_all_going s (purpose (task.NotifyAll o now) op.NotifyAll o) k o now >>= answer
+    if hold_count o k.local.holds == 0 then done (Err record {})
+    else notify_all_going s (purpose (task.NotifyAll o now) op.NotifyAll o) k o now >>= answer
 
 -- HASH
 abbrev pub hash_steps : Shape → Start → ℕ → ℕ → Todo (Turn ℕ)
 hash_steps s k o now = do
   turn ← unbias_steps s (purpose (task.Hash o now) op.Hash o) k (no_bias o now)
-  and_then turn (λ _. hash_header_steps (purpose (task.Hash o now) op.Hash o) k.local k.kept (record { number = k.draws + 1; value = k.draw }) o)
+  and_then turn
+      (λ _. hash_header_steps (purpose (task.Hash o now) op.Hash o) k.local k.kept
+      (record { number = k.draws + 1; value = k.draw }) o)
 
 -- GET and PUT: one load or store of the slot, which logs the entry.
 abbrev pub get_plan : Purpose → ℕ → ℕ → StepPlan
@@ -294,7 +305,8 @@ check_ending false e t = do
 
 abbrev pub check_steps : Shape → Start → Todo (Turn Bool)
 check_steps s k = do
-  turn ← safepoint_steps (record { task = task.Check; unfinished = k.unfinished; check = true }) k.local.thread k.requesting
+  turn ← safepoint_steps (record { task = task.Check; unfinished = k.unfinished; check = true })
+      k.local.thread k.requesting
   and_then turn (λ _. do
     still ← stands_still_steps (record { task = task.Check; unfinished = k.unfinished; check = true }) s
     check_ending still (record { task = task.Check; unfinished = k.unfinished; check = true }) k.local.thread)

@@ -35,7 +35,17 @@ purpose task op o = record { task = task; unfinished = Some (record { op = op; o
 
 -- a step that logs nothing and stands in the middle of nothing
 abbrev pub quiet_plan : Purpose → Name → Act → StepPlan
-quiet_plan e at act = record { at = at; act = act; note = note.Quiet; own = own.Same; task = e.task; after = e.unfinished; check = e.check; stage = Calm }
+quiet_plan e at act =
+    record {
+      at = at;
+      act = act;
+      note = note.Quiet;
+      own = own.Same;
+      task = e.task;
+      after = e.unfinished;
+      check = e.check;
+      stage = Calm;
+    }
 
 -- the step after which the thread stands at this stage
 abbrev pub with_stage : Stage → StepPlan → StepPlan

@@ -41,7 +41,8 @@ store_steps e b (x ∷ xs) = do
   store_steps e b xs
 
 abbrev pub revoke_at : Option MarkForm → Purpose → Revocation → ℕ → Bool → Todo (Unit {0})
-revoke_at (Some (Anonymous epoch age)) e b o allowed = store_steps e b (if allowed then [] else write (Mark o) (mark_of (Neutral 0 0)) ∷ [])
+revoke_at (Some (Anonymous epoch age)) e b o allowed =
+    store_steps e b (if allowed then [] else write (Mark o) (mark_of (Neutral 0 0)) ∷ [])
 revoke_at (Some (Biased thread epoch age)) e b o allowed = do
   holds ← each_from 0 64 (λ p. look e b (Hold thread p))
   store_steps e b (revoke_biased o thread allowed holds)
@@ -81,7 +82,8 @@ abbrev pub bulk_rebias_steps : Shape → ℕ → ℕ → Purpose → Revocation 
 bulk_rebias_steps s t c e b epoch = do
   _ ← store_steps e b (write (LastBulk c) b.now ∷ [])
   _ ← store_steps e b (raised_form epoch c)
-  _ ← walk_steps s c e b (λ o mark. store_steps e b (store_where (Mark o) (with_epoch (read_mark mark) (next_epoch epoch))))
+  _ ← walk_steps s c e b
+      (λ o mark. store_steps e b (store_where (Mark o) (with_epoch (read_mark mark) (next_epoch epoch))))
   _ ← revoke_steps e b b.object b.rebias
   if b.rebias then take_bias_steps e b (next_epoch epoch) t else done false
 
@@ -110,7 +112,8 @@ pub record RevocationOutcome : Type 0 where
 -- The new count is stored, and the thread counts the verdict; then it is carried out.
 abbrev pub decided_steps : Shape → ℕ → ℕ → Purpose → Revocation → Option ℕ → ℕ → ℕ → Todo RevocationOutcome
 decided_steps s t c e b epoch count last = do
-  _ ← ask (revoke_plan e b (own.CountVerdict c (decided count last b.now).0 (is_reset count last b.now)) (Revocations c) (decided count last b.now).1)
+  _ ← ask (revoke_plan e b (own.CountVerdict c (decided count last b.now).0 (is_reset count last b.now))
+      (Revocations c) (decided count last b.now).1)
   took ← verdict_steps s t c e b epoch (decided count last b.now).0
   done (record { verdict = (decided count last b.now).0; took = took })
 
@@ -122,4 +125,5 @@ revoke_at_safepoint_steps s t e b = do
   prototype ← ask (load e (Prototype (class_of s b.object)))
   count ← ask (load e (Revocations (class_of s b.object)))
   last ← ask (load e (LastBulk (class_of s b.object)))
-  if is_valid_bias (read_mark mark) prototype then decided_steps s t (class_of s b.object) e b (epoch_in prototype) count last else never
+  if is_valid_bias (read_mark mark) prototype
+      then decided_steps s t (class_of s b.object) e b (epoch_in prototype) count last else never

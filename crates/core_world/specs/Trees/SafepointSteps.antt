@@ -98,7 +98,8 @@ poll_steps e = do
 abbrev pub request_swap_steps : Purpose → ℕ → ℕ → Todo (Turn (Unit {0}))
 request_swap_steps e t word = do
   found ← ask (request_plan e t word)
-  if found == word then done_with tt else if has_requester found then pending_for (why.Requested found) else pending_for (why.Raced word found)
+  if found == word then done_with tt else if has_requester found then pending_for (why.Requested found)
+      else pending_for (why.Raced word found)
 
 -- a check is unfinished from the request on
 abbrev pub request_steps : Purpose → ℕ → Todo (Turn (Unit {0}))

@@ -31,7 +31,10 @@ save_count_plan e m = with_own own.Save (load e (Recursions m))
 
 -- Its waiting word says that it waits on o, with this stamp, which logs Wait; the operation is unfinished still.
 abbrev pub log_wait_plan : Purpose → ℕ → ℕ → ℕ → StepPlan
-log_wait_plan e t o stamp = with_stage (Waits o) (record (logging_plan (entry.Wait o) e (Waiting t) (Store (wait_of (wait.Waiting o stamp)))) { after = e.unfinished })
+log_wait_plan e t o stamp =
+    with_stage (Waits o)
+    (record (logging_plan (entry.Wait o) e (Waiting t) (Store (wait_of (wait.Waiting o stamp))))
+    { after = e.unfinished })
 
 -- The recursions of o's monitor m become 0, and then its owner word Free.
 abbrev pub drop_plan : Purpose → ℕ → ℕ → StepPlan
@@ -94,8 +97,10 @@ resumed_steps e t saved o m = do
 -- The thread that let go is no owner, and none of its records is.
 abbrev pub resume_owner_at : Option OwnerForm → Purpose → ℕ → ℕ → ℕ → ℕ → ℕ → Todo (Turn (Unit {0}))
 resume_owner_at (Some Free) e t saved o m found = resumed_steps e t saved o m
-resume_owner_at (Some (ByThread thread)) e t saved o m found = if thread == t then never else pending_for (why.Owned found)
-resume_owner_at (Some (ByRecord thread place)) e t saved o m found = if thread == t then never else pending_for (why.Owned found)
+resume_owner_at (Some (ByThread thread)) e t saved o m found =
+    if thread == t then never else pending_for (why.Owned found)
+resume_owner_at (Some (ByRecord thread place)) e t saved o m found =
+    if thread == t then never else pending_for (why.Owned found)
 resume_owner_at None e t saved o m found = never
 
 -- The owner word is exchanged from Free; what was found says whose the monitor is.

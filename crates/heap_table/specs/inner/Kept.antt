@@ -20,10 +20,22 @@ use Rattle.heap_table.specs.declared.afters.Stand.{Stand}
 
 -- what the thread knows of the safepoint word after it loaded this form, and after it left this form there
 abbrev pub looked : Option SafeForm → Stand → Stand
-looked f s = record { running = s.running; requesting = s.requesting; reached = s.reached || (s.requesting && still_form f); halted = s.halted || halted_form f }
+looked f s =
+    record {
+      running = s.running;
+      requesting = s.requesting;
+      reached = s.reached || (s.requesting && still_form f);
+      halted = s.halted || halted_form f;
+    }
 
 abbrev pub left : Option SafeForm → ℕ → Stand → Stand
-left f t s = record { running = runs_form f t; requesting = is_thread (requester_form f) t; reached = s.reached && is_thread (requester_form f) t; halted = s.halted || halted_form f }
+left f t s =
+    record {
+      running = runs_form f t;
+      requesting = is_thread (requester_form f) t;
+      reached = s.reached && is_thread (requester_form f) t;
+      halted = s.halted || halted_form f;
+    }
 
 abbrev pub stand_after : Name → Act → ℕ → ℕ → Stand → Stand
 stand_after Safepoint act.Load word t s = looked (read_safe word) s

@@ -24,4 +24,5 @@ object_words mark = mark ∷ 0 ∷ (replicate 16 9223372036854775809 ++ replicat
 
 abbrev pub opening_groups : Shape → Bool → List (ℕ × List ℕ)
 opening_groups s biasing =
-    (16, 0 ∷ []) ∷ (s.classes, class_words (first_mark biasing)) ∷ (many s, object_words (first_mark biasing)) ∷ (144 * s.threads + 16 * (many s + s.threads), 0 ∷ []) ∷ []
+    (16, 0 ∷ []) ∷ (s.classes, class_words (first_mark biasing)) ∷ (many s, object_words (first_mark biasing))
+    ∷ (144 * s.threads + 16 * (many s + s.threads), 0 ∷ []) ∷ []

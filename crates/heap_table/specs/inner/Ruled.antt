@@ -34,7 +34,17 @@ abbrev pub no_heap : Heap
 no_heap = record { shape = record { threads = 0; classes = 0; objects = [] }; start = 0; biasing = false }
 
 abbrev pub no_plan : StepPlan
-no_plan = record { at = Safepoint; act = Load; note = Quiet; own = Same; task = Poll; after = None; check = false; stage = Calm }
+no_plan =
+    record {
+      at = Safepoint;
+      act = Load;
+      note = Quiet;
+      own = Same;
+      task = Poll;
+      after = None;
+      check = false;
+      stage = Calm;
+    }
 
 abbrev pub Each : (Known → Type 0) → List Known → Type 0
 Each P [] = Unit {0}
@@ -50,7 +60,8 @@ pub record Shows {S : Type 0} (heap : Heap) (s : State S (List Known)) (w : Worl
   pub is_of : heap_of w ≡ heap
   pub wide : length s.words ≡ word_count heap.shape
   pub words_are : (n : Name) → IsIn heap.shape n → slice_index s.words (place_of heap.shape n) ≡ w.words n
-  pub knows : (id : ℕ) (v : List Known) → get_elem? s.views id ≡ some v → Each (λ (k : Known). (w.known k.thread ≡ k) × (who k.thread ≡ id)) v × Differ v
+  pub knows : (id : ℕ) (v : List Known) → get_elem? s.views id ≡ some v
+      → Each (λ (k : Known). (w.known k.thread ≡ k) × (who k.thread ≡ id)) v × Differ v
 
 -- THE RULE: the table is a sound world, which the heap comes to.
 abbrev pub Rules : {S : Type 0} → Heap → State S (List Known) → Type 0
@@ -65,4 +76,5 @@ others (k ∷ ks) = ks
 
 -- what a step tells its seat
 abbrev pub Told : {S : Type 0} → Heap → StepPlan → Me S (List Known) → ℕ → Me S (List Known) → Type 0
-Told heap p me n after = (after ≡ (known_after heap.shape heap.start p n (only me.0) ∷ [], [])) × Stepped heap (only me.0) p n
+Told heap p me n after =
+    (after ≡ (known_after heap.shape heap.start p n (only me.0) ∷ [], [])) × Stepped heap (only me.0) p n

@@ -34,7 +34,8 @@ AreAtMost counts n = (path : Path) → count_at counts path ≤ n
 -- the counts of the entries in one order, by path
 abbrev pub enters_of : ProgramText → ℕ → List (ℕ × Logged) → List ℕ
 enters_of p c xs =
-    map (λ path. enters_by p c path xs) (BiasOwn ∷ BiasTaken ∷ StackFirst ∷ StackAgain ∷ MonitorFirst ∷ MonitorAgain ∷ [])
+    map (λ path. enters_by p c path xs)
+    (BiasOwn ∷ BiasTaken ∷ StackFirst ∷ StackAgain ∷ MonitorFirst ∷ MonitorAgain ∷ [])
 
 -- each count behind a space
 abbrev pub counts_text : List ℕ → List ℕ
@@ -43,6 +44,8 @@ counts_text counts = flat_map (λ n. codes " " ++ decimal n) counts
 -- the line on a class up to its counts
 abbrev pub class_start : ProgramText → ℕ → ClassLine → List ℕ
 class_start p c l =
-    codes "class " ++ class_name (slice_get p.classes c) ++ codes " single " ++ decimal l.single ++ codes " rebias " ++ decimal l.rebias
-    ++ codes " revoke " ++ decimal l.revoke ++ codes " count " ++ decimal l.count ++ codes " prototype " ++ decimal l.prototype
+    codes "class " ++ class_name (slice_get p.classes c) ++ codes " single " ++ decimal l.single
+    ++ codes " rebias " ++ decimal l.rebias
+    ++ codes " revoke " ++ decimal l.revoke ++ codes " count " ++ decimal l.count ++ codes " prototype "
+    ++ decimal l.prototype
     ++ codes " enters"

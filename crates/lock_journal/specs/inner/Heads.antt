@@ -20,7 +20,8 @@ stamp_of logs places t = stamp_in (head_of logs places t)
 pub record IsLeastHead (logs : List (List Logged)) (places : List ℕ) (n : ℕ) (x : ℕ × ℕ) : Type 0 where
   pub thread : x.0 < n
   pub head : stamp_of logs places x.0 ≡ Some x.1
-  pub before : (u s : ℕ) → u < n → u ≢ x.0 → stamp_of logs places u ≡ Some s → IsTrue (nat_lt x.1 s || ((x.1 == s) && nat_lt x.0 u))
+  pub before : (u s : ℕ) → u < n → u ≢ x.0 → stamp_of logs places u ≡ Some s
+      → IsTrue (nat_lt x.1 s || ((x.1 == s) && nat_lt x.0 u))
 
 -- the least head of the first n threads, and none where they have nothing left
 abbrev pub IsLeastOf : List (List Logged) → List ℕ → ℕ → Option (ℕ × ℕ) → Type 0

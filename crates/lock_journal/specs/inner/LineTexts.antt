@@ -37,4 +37,6 @@ lines_of p shots t (Dump number) = dump_lines p t (slice_index_or shots t []) nu
 
 -- the line of an object that has an owner
 abbrev pub held_line : ProgramText → Held → List ℕ
-held_line p h = object_text p h.object ++ codes " held by " ++ thread_text p h.owner ++ codes " " ++ decimal h.count ++ newline
+held_line p h =
+    object_text p h.object ++ codes " held by " ++ thread_text p h.owner ++ codes " " ++ decimal h.count
+    ++ newline

@@ -18,4 +18,5 @@ labels_from t lines = t.labels ++ labels_ahead (length t.code + 1) lines
 abbrev pub labels_at : ThreadDef → List (List ℕ) → List (List ℕ) → Keyword → List LabelDef
 labels_at t later ws k =
     let n = length t.code + 1 in
-    t.labels ++ (if ends_section (Some k) then [] else labels_on n ([] ∷ ws) (Some k) ++ labels_ahead (number_behind_line n (Some k)) later)
+    t.labels ++ (if ends_section (Some k) then []
+    else labels_on n ([] ∷ ws) (Some k) ++ labels_ahead (number_behind_line n (Some k)) later)

@@ -99,7 +99,8 @@ IsKeywordStep r later ws k result = IsStep result (cause_of r later ws k) (behin
 
 -- what reading any line answers
 abbrev pub IsLineStep : Reader → List (List ℕ) → List ℕ → Result Reader Why → Type 0
-IsLineStep r later line result = IsStep result (line_cause (before_of r) later line) (behind_line (before_of r) later line)
+IsLineStep r later line result =
+    IsStep result (line_cause (before_of r) later line) (behind_line (before_of r) later line)
 
 -- a refusal for want of memory, which is no line's
 abbrev pub no_memory : ProgramError

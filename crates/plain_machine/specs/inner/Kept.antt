@@ -13,7 +13,14 @@ use Rattle.plain_machine.specs.Ready.{IsReadyToCall}
 -- a thread that has not run: its locals are nil, and it holds nothing
 abbrev pub unrun : ℕ → ℕ → ℕ → ThreadState
 unrun locals objects fuel =
-    record { place = 0; locals = replicate locals Nil; fuel = fuel; holds = replicate objects 0; dumps = 0; mode = Unwinding Done }
+    record {
+      place = 0;
+      locals = replicate locals Nil;
+      fuel = fuel;
+      holds = replicate objects 0;
+      dumps = 0;
+      mode = Unwinding Done;
+    }
 
 abbrev pub IsReadyIn : ThreadState → Mode → Type 0
 IsReadyIn s (Calling c) = IsReadyToCall s c

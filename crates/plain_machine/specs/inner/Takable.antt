@@ -12,5 +12,6 @@ monitor_in objects o = (slice_index_or objects o (new_object 0)).monitor
 abbrev pub IsTakable : List PlainObject → ℕ → Entry → Type 0
 IsTakable objects t (Enter o path) = (monitor_in objects o).count ≤ 64
 IsTakable objects t (Wait o) = length (monitor_in objects o).waits + length (monitor_in objects o).called < 16
-IsTakable objects t (Resume o) = length (monitor_in objects o).called ≤ length (without (monitor_in objects o).called t) + 1
+IsTakable objects t (Resume o) =
+    length (monitor_in objects o).called ≤ length (without (monitor_in objects o).called t) + 1
 IsTakable objects t e = Unit {0}

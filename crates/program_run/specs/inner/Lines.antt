@@ -18,4 +18,5 @@ raised a b =
 
 -- the count of revocations of each class has 32 bits
 abbrev pub HasSmallCounts : ClosedSeen → Type 0
-HasSmallCounts c = (k : ℕ) → k < c.heap.shape.classes → slice_index c.words (place_of c.heap.shape (Revocations k)) < 2 ^ 32
+HasSmallCounts c =
+    (k : ℕ) → k < c.heap.shape.classes → slice_index c.words (place_of c.heap.shape (Revocations k)) < 2 ^ 32

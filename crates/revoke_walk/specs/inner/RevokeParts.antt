@@ -21,7 +21,9 @@ holds_steps e b t = each_from 0 64 (λ p. look e b (Hold t p))
 
 -- the displaced word of t's record with hold word h at place p, where it is one of o
 abbrev pub record_write : ℕ → ℕ → ℕ → ℕ → List Write
-record_write o t p h = if names o h then write (Displaced t p) (if h == hold_word o 1 then mark_of (Neutral 0 0) else 0) ∷ [] else []
+record_write o t p h =
+    if names o h then write (Displaced t p) (if h == hold_word o 1 then mark_of (Neutral 0 0) else 0) ∷ []
+    else []
 
 abbrev pub record_steps : Purpose → Revocation → ℕ → ℕ → ℕ → ℕ → Todo (Unit {0})
 record_steps e b o t p h = store_steps e b (record_write o t p h)

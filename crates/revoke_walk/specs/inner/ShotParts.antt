@@ -43,7 +43,8 @@ cell_by lock o k = owner_and_count_by (holder lock (held_in o k)) (held_in o k)
 
 -- whose mark has this form
 abbrev pub cell_at : Option MarkForm → Shape → ℕ → Known → Option ℕ × ℕ
-cell_at form s o k = cell_by (lock_form form (seen_words k (Prototype (class_of s o))) (λ m. seen_words k (Owner m)) None) o k
+cell_at form s o k =
+    cell_by (lock_form form (seen_words k (Prototype (class_of s o))) (λ m. seen_words k (Owner m)) None) o k
 
 -- whatever its mark is
 abbrev pub cell_of : Shape → ℕ → Known → Option ℕ × ℕ
@@ -51,7 +52,8 @@ cell_of s o k = cell_at (read_mark (seen_words k (Mark o))) s o k
 
 -- the lock of an object that is biased to a thread in this epoch
 abbrev pub bias_lock : Shape → ℕ → ℕ → ℕ → Known → Lock
-bias_lock s o thread epoch k = if has_epoch (epoch_in (seen_words k (Prototype (class_of s o)))) epoch then BiasedTo thread else Open
+bias_lock s o thread epoch k =
+    if has_epoch (epoch_in (seen_words k (Prototype (class_of s o)))) epoch then BiasedTo thread else Open
 
 -- the length of thread u's log
 abbrev pub length_of : ℕ → Known → ℕ

@@ -8,7 +8,8 @@ use Rattle.thread_frame.specs.Frames.{FrameSeen}
 
 -- the frame behind the instruction that it is at, by what this leads to
 abbrev pub frame_moved : FrameSeen → Next → FrameSeen
-frame_moved f (next.Sets x value) = record f { place = f.place + 1; locals = slice_set f.locals x value; fuel = f.fuel - 1 }
+frame_moved f (next.Sets x value) =
+    record f { place = f.place + 1; locals = slice_set f.locals x value; fuel = f.fuel - 1 }
 frame_moved f (next.Jumps place) = record f { place = place; fuel = f.fuel - 1 }
 frame_moved f (next.Calls c) = record f { mode = Some (Calling c) }
 frame_moved f (next.Stops ending) = record f { fuel = f.fuel - 1; mode = Some (Unwinding ending) }

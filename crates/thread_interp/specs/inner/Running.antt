@@ -29,7 +29,8 @@ StandsReady h q (Done x) = IsRunning q.known ⊎ IsAsking q.known
 StandsReady h q (Pending why) = IsBarred h q why
 
 -- the pass was p, and is q
-pub record IsReady (h : HeapSeen) (text : ProgramText) (fuel : ℕ) (p q : PassSeen) (f : FrameSeen) (turn : Turn (Unit {0})) : Type 0 where
+pub record IsReady (h : HeapSeen) (text : ProgramText) (fuel : ℕ) (p q : PassSeen) (f : FrameSeen)
+    (turn : Turn (Unit {0})) : Type 0 where
   pub on : IsOn h text fuel q f
   pub checking : q.known.checking ≡ p.known.checking
   pub asking : q.known.requesting ≡ p.known.requesting
@@ -37,7 +38,8 @@ pub record IsReady (h : HeapSeen) (text : ProgramText) (fuel : ℕ) (p q : PassS
   pub stands : StandsReady h q turn
 
 -- GOING ON. The pass and the frame were p and f; so many instructions were done, and more may be.
-pub record IsGoing (h : HeapSeen) (text : ProgramText) (fuel quantum : ℕ) (p q : PassSeen) (f g : FrameSeen) (count : ℕ) : Type 0 where
+pub record IsGoing (h : HeapSeen) (text : ProgramText) (fuel quantum : ℕ) (p q : PassSeen) (f g : FrameSeen)
+    (count : ℕ) : Type 0 where
   pub may : MayAdvance h text fuel q g
   pub thread : q.known.thread ≡ p.known.thread
   pub spent : unspent f ≡ unspent g + count
@@ -55,7 +57,8 @@ StandsGone k (Blocked (Stopping word)) = IsAsking k
 StandsGone k _ = IsRunning k
 
 -- the pass and the frame were p and f, and are q and g
-pub record HasGone (h : HeapSeen) (text : ProgramText) (fuel quantum : ℕ) (p q : PassSeen) (f g : FrameSeen) (m : Moved) : Type 0 where
+pub record HasGone (h : HeapSeen) (text : ProgramText) (fuel quantum : ℕ) (p q : PassSeen) (f g : FrameSeen)
+    (m : Moved) : Type 0 where
   pub on : IsOn h text fuel q g
   pub unchecked : q.known.checking ≡ false
   pub thread : q.known.thread ≡ p.known.thread

@@ -19,7 +19,8 @@ link u o = record { thread = u; object = o }
 abbrev pub links_on : ℕ → ℕ → Option (ℕ × ℕ) → (ℕ → Option (List Link)) → Option (List Link)
 links_on first u None others = None
 links_on first u (Some b) others =
-    if b.1 == first then Some (link u b.0 ∷ []) else if nat_lt b.1 first then None else option_map (λ links. link u b.0 ∷ links) (others b.1)
+    if b.1 == first then Some (link u b.0 ∷ []) else if nat_lt b.1 first then None
+    else option_map (λ links. link u b.0 ∷ links) (others b.1)
 
 -- the links from thread u on back to `first`, where these are at most n
 abbrev pub links_from : PlainMachine → ℕ → ℕ → ℕ → Option (List Link)
