@@ -80,7 +80,7 @@ impl Mirror {
     ghost use Rattle.core_world.specs.Words.Shape.{Shape};
     ghost use Rattle.core_world.specs.Steps.{known_after, with_entry, stamp_by};
     ghost use Rattle.heap_table.specs.Kept.{Follows, HasRoom};
-    ghost use Rattle.heap_table.specs.inner.Kept.{StampFits, EntryFits, with_any_entry, entry_after};
+    ghost use Rattle.heap_table.specs.inner.Kept.{StampFits, with_any_entry, entry_after};
     ghost use Rattle.heap_table.specs.inner.Layout.{IsPlaced};
 
     /// What the thread knows before its first step.

@@ -4,13 +4,14 @@ use Rattle.std.specs.Prelude.{Result, Ok, Err, nat_le, ◌&&◌}
 use Rattle.clap.proofs.WalkLemmas.{both}
 use Rattle.std.proofs.Common.{leb-true}
 use Rattle.std.specs.Result.{result_ok}
+use Rattle.std.specs.Char.{is_ascii_digit}
 use Rattle.std.specs.List.{list_all}
 use Rattle.std.specs.Str.Parse.{ParsesUnsigned, digits_value}
 use Rattle.std.proofs.lemmas.Str.Parse.{IsNumeralModel, numerals_by_value, parse_digits}
 use Rattle.std.proofs.lemmas.Bool.Decides.{nat_tests}
-use Rattle.run_words.specs.Number.{number, is_number, is_digit, within}
+use Rattle.run_words.specs.Number.{number, is_number, within}
 
-own : IsNumeralModel (λ ds. list_all is_digit ds ≡ true) (digits_value 10)
+own : IsNumeralModel (λ ds. list_all is_ascii_digit ds ≡ true) (digits_value 10)
 own = numerals_by_value _ (search rules)
 
 above : (least most value : ℕ) → (value ≤ most → ⊥) → None ≡ within least most value
@@ -20,7 +21,7 @@ pub number_too_great : {E : Type 0} (bs : List ℕ) (r : Result ℕ E) (least mo
     → is_number bs ≡ true → most < 2 ^ 32 → None ≡ number least most bs
 number_too_great bs (Ok n) least most h e d m = absurd (cc e)
 number_too_great bs (Err x) least most h e d m =
-    let outer = both (nat_le 1 (length bs) && nat_le (length bs) 10) (list_all is_digit bs) d in
+    let outer = both (nat_le 1 (length bs) && nat_le (length bs) 10) (list_all is_ascii_digit bs) d in
     let inner = both (nat_le 1 (length bs)) (nat_le (length bs) 10) outer.0 in
     let some : 1 ≤ length bs = leb-true 1 (length bs) inner.0 in
     let refused = parse_digits own 32 bs (Err x) h outer.1 in

@@ -1,14 +1,12 @@
 -- Numbers of the command line.
 use Rattle.std.specs.Prelude.{ℕ, Bool, ◌&&◌, List, length, nat_le, if◌then◌else◌, Option, Some, None}
+use Rattle.std.specs.Char.{is_ascii_digit}
 use Rattle.std.specs.List.{list_all}
 use Rattle.std.specs.Str.Parse.{digits_value}
 
-abbrev pub is_digit : ℕ → Bool
-is_digit b = nat_le 48 b && nat_le b 57
-
 -- one to ten digits
 abbrev pub is_number : List ℕ → Bool
-is_number text = nat_le 1 (length text) && nat_le (length text) 10 && list_all is_digit text
+is_number text = nat_le 1 (length text) && nat_le (length text) 10 && list_all is_ascii_digit text
 
 abbrev pub within : ℕ → ℕ → ℕ → Option ℕ
 within least most value = if nat_le least value && nat_le value most then Some value else None

@@ -1,6 +1,7 @@
 //! Numbers of the command line.
 
 ghost use Rattle.std.specs.Prelude.{◌≡◌};
+ghost use Rattle.std.specs.Char.{is_ascii_digit};
 ghost use Rattle.std.specs.List.{list_all};
 ghost use Rattle.run_words.specs.Number as spec;
 
@@ -29,7 +30,7 @@ fn is_number(text: &str) -> bool
 
 /// Whether all bytes are digits.
 fn all_digits(bytes: &[u8]) -> bool
-    ensures { result ≡ list_all spec.is_digit bytes.now }
+    ensures { result ≡ list_all is_ascii_digit bytes.now }
 {
-    bytes.iter().all(|b| 48 <= *b && *b <= 57)
+    bytes.iter().all(|b| b.is_ascii_digit())
 }

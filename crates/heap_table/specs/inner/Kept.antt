@@ -56,7 +56,3 @@ with_any_entry (Some e) found log = with_entry e found log
 abbrev pub StampFits : Note → ℕ → ℕ → Type 0
 StampFits (Log e) found last = stamp_by e found last < 2 ^ 64
 StampFits _ found last = last + 1 < 2 ^ 64
-
-abbrev pub EntryFits : Option Entry → ℕ → ℕ → Type 0
-EntryFits None found last = Unit {0}
-EntryFits (Some e) found last = stamp_by e found last < 2 ^ 64
