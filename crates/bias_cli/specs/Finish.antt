@@ -30,7 +30,7 @@ use Rattle.heap_table.specs.Seen.{ClosedSeen}
 use Rattle.program_run.specs.Ran.{IsRan}
 use Rattle.bias_cli.specs.declared.finish.Finish.{Finish}
 
--- how many bytes the text may have that the words ask to read, where they ask for one
+-- how many bytes the text may have that the arguments ask to read, where they ask for one
 abbrev pub most_asked : Option Command → Option ℕ
 most_asked None = None
 most_asked (Some (Run o)) = Some most_of_program
@@ -93,7 +93,7 @@ check_due fuel start bytes =
     else if has_journal bytes then journal_due fuel start (journal_part bytes) (program_of (program_part bytes))
     else Tells 3 (codes "program: NoJournal\n")
 
--- what is due of the words and the text that they ask for; words that are not accepted, and words that ask for a program to be made,
+-- what is due of the arguments and the text that they ask for; those that are not accepted, and those that ask for a program to be made,
 -- ask for none, and what is due of them is due whatever the text is
 abbrev pub text_due : Option Command → List ℕ → Due
 text_due None bytes = words_refused
@@ -106,7 +106,7 @@ due_of c Unread = text_due c []
 due_of c ReadFault = read_fault
 due_of c (Text bytes) = text_due c bytes
 
--- the text was written and the status is its own; or a write failed, the status is 6, and a front of the text was written
+-- the text was written and the status is its own; or a write failed, the status is 6, and a prefix of the text was written
 abbrev pub IsWritten : SinkSeen → SinkSeen → ℕ → ℕ → List ℕ → Type 0
 IsWritten before after status due text =
     ((status ≡ due) × Wrote before.held after.held text)
@@ -163,13 +163,13 @@ Meets before after finish (Runs o p) =
 Meets before after finish (Checks p fuel start lines) =
     LeavesNothing finish × IsCheck p fuel start lines before after finish.status
 
--- memory was wanting: nothing is left, and the sink is as it was
+-- out of memory: nothing is left, and the sink is as it was
 pub record IsGivenUp {K : Type 0} (before after : K) (finish : Finish) : Type 0 where
   pub status : finish.status ≡ 7
   pub left : LeavesNothing finish
   pub unwritten : after ≡ before
 
--- the source was read as the command asks, and what was due then was done; words that are not accepted are no command
+-- the source was read as the command asks, and what was due then was done; arguments that are not accepted are no command
 pub record IsFinish (c : Option Command) (source_before source_after : SourceSeen)
     (sink_before sink_after : SinkSeen) (finish : Finish) : Type 0 where
   pub reading : Reading

@@ -15,14 +15,14 @@ use run_io::Sink;
 /// |---|---|
 /// | 0 | a program ran, and every thread came to its `end`; or a journal is legal; or a program was made |
 /// | 1 | a program ran, some thread faulted or was spent, and the machine isn't stuck; or a line of a journal is no step, or a hash is bad |
-/// | 2 | the words are not accepted |
+/// | 2 | the arguments are not accepted |
 /// | 3 | the text has no program, its line and cause are written; or no journal, or a line of it is unreadable |
 /// | 4 | a program ran, and the machine behind the record is stuck |
 /// | 5 | a read failed |
 /// | 6 | a write failed, in place of any of the above |
-/// | 7 | memory was wanting, before the first write; no contract says when that is |
+/// | 7 | out of memory, before the first write; no contract says when that is |
 ///
-/// `run` and `closed` are there exactly where the words ask for a run, no read failed, the text has a program and the status isn't 7,
+/// `run` and `closed` are there exactly where the arguments ask for a run, no read failed, the text has a program and the status isn't 7,
 /// with status 6 too.
 #[derive(Drop)]
 pub struct Finish {
@@ -46,7 +46,7 @@ pub(crate) fn tell<K: Sink>(sink: &mut K, status: u8, text: &[u8]) -> Finish
     }
 }
 
-/// Want of memory. Nothing is written.
+/// Out of memory. Nothing is written.
 pub(crate) fn give_up() -> Finish
     ensures status { result.status ≡ 7 }
     ensures left { LeavesNothing result }

@@ -1,7 +1,7 @@
 //! `biasrun`: runs a program of the object language and writes what it prints and how each of its threads ended; or checks a
 //! journal of one; or makes one.
 //!
-//! `biasrun` is the top call. Its contract is over the words, the bytes read, the bytes written, the counts of faults and what
+//! `biasrun` is the top call. Its contract is over the arguments, the bytes read, the bytes written, the counts of faults and what
 //! it answers: `specs/Finish.antt` says what is due and what counts as done, and `lock_journal` what the text of a run is.
 #![tactic(auto)]
 
@@ -34,17 +34,17 @@ use std::alloc::Global;
 use std::sync::Wait;
 use std::thread::Threads;
 
-/// Does what the words ask for: `run` reads a program from the source to its end, or one byte past the limit of a text, runs it,
+/// Does what the arguments, `words`, ask for: `run` reads a program from the source to its end, or one byte past the limit of a text, runs it,
 /// and writes to the sink the bytes of the run's text: what its threads print and dump, in stamped order, how each of them ended,
-/// and then, where the words ask for them, the lock statistics, the journal of all monitor calls, and a report of who waits for whom
+/// and then, where they ask for them, the lock statistics, the journal of all monitor calls, and a report of who waits for whom
 /// and how each object was locked and passed on. `check` reads a program with a journal of it, to the end or one byte past the
 /// limit of both, and writes whether the journal is a legal history of the program, and if not, from which line on it isn't. `make`
-/// reads nothing, and writes the text of the handover program for the number of items that the words say
+/// reads nothing, and writes the text of the handover program for the number of items that they say
 /// (`made_program::handover`), which may be run then.
 ///
-/// `words[0]` is the program's name. Where the words are not accepted, a read fails, or the text has no program, that is what is
+/// `words[0]` is the program's name. Where the arguments are not accepted, a read fails, or the text has no program, that is what is
 /// written, and there is no record, nor is there one of a check or of a program that is made (`Finish` has the statuses). At the
-/// first write that fails the writing stops, with a front of the text written and status 6. Want of memory comes only before the
+/// first write that fails the writing stops, with a prefix of the text written and status 6. Memory runs out only before the
 /// first write, and leaves the sink as it was. Of the source, where it tells what is left, no more is taken than one byte past the limit.
 ///
 /// A program is run on a heap by workers of `rt`, each of which runs one thread of the program at a time for as many instructions as a
@@ -59,16 +59,16 @@ pub fn biasrun<R: Threads + Wait + Sync, S: Source, K: Sink, C: Clock + Sync, G:
     clock: &C,
     gate: &G,
 ) -> Finish
-    // Memory was wanting: nothing is left, and the sink is as it was.
+    // Out of memory: nothing is left, and the sink is as it was.
     ensures given_up { result.status ≡ 7 → IsGivenUp sink.old sink.new result }
-    // The words, the text that was read and the run that was made of it, or the check of a journal,
+    // The arguments, the text that was read and the run that was made of it, or the check of a journal,
     // or the number of items of a program that is made, say what is due, and that was written and
     // answered, up to the first write that failed.
     ensures finished { result.status ≢ 7 →
         IsFinish (accepted (map (λ w. string_bytes w) words.now))
         (source_seen S.Source source.old) (source_seen S.Source source.new)
         (sink_seen K.Sink sink.old) (sink_seen K.Sink sink.new) result }
-    // Words that ask for no text leave the source as it was, and others take of what it had left,
+    // Arguments that ask for no text leave the source as it was, and others take of what it had left,
     // where it tells that, none but the first bytes, up to one past the limit.
     ensures taken { TakesAtMost S.Source
         (most_asked (accepted (map (λ w. string_bytes w) words.now))) source.old source.new }

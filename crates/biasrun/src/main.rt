@@ -1,6 +1,6 @@
 //! The program `biasrun`: the trusted edge between the top call and the process.
 //!
-//! The words are the program's arguments, with an empty one for its name. The source is standard input, and the sink standard output;
+//! The arguments, `words`, are the process's, with an empty one for its name. The source is standard input, and the sink standard output;
 //! nothing is written to standard error. The process ends with the status that the top call answers.
 #![tactic(auto)]
 
@@ -12,7 +12,7 @@ use std::env::{Env, FillError};
 use std::process::ExitCode;
 use std::{env, io};
 
-/// The status for want of memory.
+/// The status where memory runs out.
 const NO_MEMORY: u8 = 7;
 
 fn main(rt: HostRuntime) -> ExitCode {
@@ -34,7 +34,7 @@ fn main(rt: HostRuntime) -> ExitCode {
 }
 
 /// The arguments, with an empty word for the program's name, which is not looked at and may be no text. Where another one isn't UTF-8
-/// there are no words, and no words are not accepted. The error is want of memory.
+/// there are no words, and no words are not accepted. The error is that memory ran out.
 fn words_of<R: Env + AllocGlobal>(rt: &R) -> io::Result<Vec<String>> {
     match all_words(rt) {
         Err(error) if error.kind() == io::ErrorKind::InvalidData => Ok(Vec::new(rt.alloc())),
