@@ -10,6 +10,7 @@ mod settings;
 
 use bias_cli::replay;
 use run_io::{FreeGate, Gate, MemorySink, MemorySource, StepClock};
+use std::alloc::{AllocError, Global};
 use std::process::Abort;
 use std::sync::Wait;
 use std::test::Fail;
@@ -57,25 +58,50 @@ fn make<R: Threads + Wait + Abort + AllocGlobal + Sync>(rt: &R, call: Call) -> R
     make_by(rt, call, &FreeGate)
 }
 
+/// The arguments of the program, whose name comes first.
+fn words_of(alloc: Global, words: &[&str]) -> Result<Vec<String>, AllocError> {
+    let mut all = Vec::new(alloc);
+    all.push(String::from_str(alloc, "biasrun")?)?;
+    for word in words {
+        all.push(String::from_str(alloc, word)?)?;
+    }
+    Ok(all)
+}
+
+/// The call's text, with all that stands behind it.
+fn text_of(alloc: Global, call: &Call) -> Result<Vec<u8>, AllocError> {
+    let mut text = Vec::from_slice(alloc, call.text.as_bytes())?;
+    text.extend_from_slice(call.behind)?;
+    for _ in 0..call.empty_lines {
+        text.push(b'\n')?;
+    }
+    Ok(text)
+}
+
+/// The source that the call reads.
+fn source_of(alloc: Global, call: &Call) -> Result<MemorySource, AllocError> {
+    let fails = vec![in alloc; call.read_fails]?;
+    Ok(MemorySource::new(text_of(alloc, call)?, fails, call.cut.max(1)))
+}
+
+/// The sink that the call writes to, with room for 1,000,000 bytes.
+fn sink_of(alloc: Global, call: &Call) -> Result<MemorySink, AllocError> {
+    let fails = vec![in alloc; call.write_fails]?;
+    match MemorySink::new(alloc, 1_000_000, fails, call.cut.max(1)) {
+        Ok(sink) => Ok(sink),
+        Err(_) => Err(AllocError),
+    }
+}
+
 /// Makes the call by this gate.
 fn make_by<R: Threads + Wait + Abort + AllocGlobal + Sync, G: Gate + Sync>(
     rt: &R,
     call: Call,
     gate: &G,
 ) -> Result<Made, Fail> {
-    let mut words = vec![in rt.alloc(); String::from_str(rt.alloc(), "biasrun")?]?;
-    for word in call.words {
-        words.push(String::from_str(rt.alloc(), word)?)?;
-    }
-    let mut text = Vec::from_slice(rt.alloc(), call.text.as_bytes())?;
-    text.extend_from_slice(call.behind)?;
-    for _ in 0..call.empty_lines {
-        text.push(b'\n')?;
-    }
-    let read_fails = vec![in rt.alloc(); call.read_fails]?;
-    let write_fails = vec![in rt.alloc(); call.write_fails]?;
-    let mut source = MemorySource::new(text, read_fails, call.cut.max(1));
-    let mut sink = MemorySink::new(rt.alloc(), 1_000_000, write_fails, call.cut.max(1))?;
+    let words = words_of(rt.alloc(), call.words)?;
+    let mut source = source_of(rt.alloc(), &call)?;
+    let mut sink = sink_of(rt.alloc(), &call)?;
     let finish = bias_cli::biasrun(
         rt,
         rt.alloc(),

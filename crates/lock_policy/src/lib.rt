@@ -8,8 +8,6 @@
 mod draws;
 mod laws;
 mod policy;
-#[cfg(test)]
-mod tests;
 
 pub use draws::Draw;
 pub use laws::{

@@ -19,7 +19,7 @@ use Rattle.plain_machine.specs.Asking.{ask, fits, behind_entry, thread_after}
 use Rattle.plain_machine.specs.Machine.{PlainMachine, code_of, take, moved, monitor_at, object_at, other_owner}
 use Rattle.plain_machine.specs.Offering.{unless_owned, hash_offer, asked_offer, offered, is_next}
 use Rattle.plain_machine.proofs.ReachedOver.{stuck_offers_nothing, ended_offers_nothing}
-use Rattle.lone_logs.specs.LoneRun.{IsOver}
+use Rattle.lone_logs.specs.LoneRun.{NoneGoesOn}
 use Rattle.lone_logs.proofs.Fitting.{IsOf, of_asked, moved_monitor}
 
 -- what a machine took: its thread asked for it, and the objects take it
@@ -141,9 +141,9 @@ module _ (m n : PlainMachine) (t : ℕ) (sound : AllSound m.objects) where
       ap (λ (s : Option ThreadState). asked_offer m t (option_and_then ask s)) r.at ∙ ap (asked_offer m t) r.asks in
       ap is_next asked ∙ at_asked r.asked e (of_asked r.asked e r.fit) r.takes
 
-pub over_offers_nothing : (m : PlainMachine) (t : ℕ) → IsOver m → is_next (offered m t) ≡ false
+pub over_offers_nothing : (m : PlainMachine) (t : ℕ) → NoneGoesOn m → is_next (offered m t) ≡ false
 over_offers_nothing m t (inl stuck) = stuck_offers_nothing m t stuck
 over_offers_nothing m t (inr ended) = ended_offers_nothing m t ended
 
-pub over_takes_nothing : (m n : PlainMachine) (t : ℕ) (e : Entry) → AllSound m.objects → IsOver m → take m t e ≡ Some n → ⊥
+pub over_takes_nothing : (m n : PlainMachine) (t : ℕ) (e : Entry) → AllSound m.objects → NoneGoesOn m → take m t e ≡ Some n → ⊥
 over_takes_nothing m n t e sound over h = false≢true (sym (over_offers_nothing m t over) ∙ taken_is_offered m n t sound e h)

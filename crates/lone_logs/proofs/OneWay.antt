@@ -16,7 +16,7 @@ use Rattle.plain_machine.specs.Asking.{ask, fits}
 use Rattle.plain_machine.specs.Legal.{behind_all}
 use Rattle.plain_machine.specs.Machine.{PlainMachine, new_machine, take}
 use Rattle.plain_machine.proofs.ReachedPaths.{path_changes_nothing}
-use Rattle.lone_logs.specs.LoneRun.{without_path, with_no_path, AreSameButForPaths, IsOver, IsLoneRun}
+use Rattle.lone_logs.specs.LoneRun.{without_path, with_no_path, AreSameButForPaths, NoneGoesOn, IsLoneRun}
 use Rattle.lone_logs.proofs.Drawing.{seen_with, nothing_seen, AreDrawnFirst, drawn_at_first}
 use Rattle.lone_logs.proofs.Ending.{HasTaken, has_taken, over_takes_nothing}
 use Rattle.lone_logs.proofs.Fitting.{same_entry}
@@ -39,7 +39,7 @@ known_on m n seen e k h =
 -- the thread's log goes on so from this machine to one that is over
 record GoesOn (m : PlainMachine) (seen : ℕ → Bool) (first drawn stamp : ℕ) (log : List Logged) (final : PlainMachine) : Type 0 where
   leads : behind_all m (of_first log) ≡ Some final
-  over : IsOver final
+  over : NoneGoesOn final
   firsts : AreDrawnFirst seen log
   draws : AreDraws first drawn log
   counts : CountsFrom stamp log
@@ -116,7 +116,7 @@ none_more : (m : PlainMachine) (seen : ℕ → Bool) (first drawn stamp : ℕ) (
     → IsKnown m seen → GoesOn m seen first drawn stamp [] x → GoesOn m seen first drawn stamp (l ∷ log) y → ⊥
 none_more m seen first drawn stamp l log x y known g h =
     let r = one_on m seen first drawn stamp l log y h in
-    over_takes_nothing m r.next 0 l.entry known.sound (subst IsOver (sym (same_Some m x g.leads)) g.over) r.takes
+    over_takes_nothing m r.next 0 l.entry known.sound (subst NoneGoesOn (sym (same_Some m x g.leads)) g.over) r.takes
 
 same_heads : (l k : Logged) → l.stamp ≡ k.stamp → without_path l.entry ≡ without_path k.entry → with_no_path l ≡ with_no_path k
 same_heads l k s e =

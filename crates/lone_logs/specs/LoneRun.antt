@@ -32,8 +32,8 @@ AreSameButForPaths logs others = with_no_paths logs ≡ with_no_paths others
 
 -- RUNS
 -- no thread can go on: the machine is stuck, or all its threads have ended
-abbrev pub IsOver : PlainMachine → Type 0
-IsOver m = (is_stuck m ≡ true) ⊎ (list_all (λ s. not (is_live s)) m.threads ≡ true)
+abbrev pub NoneGoesOn : PlainMachine → Type 0
+NoneGoesOn m = (is_stuck m ≡ true) ⊎ (list_all (λ s. not (is_live s)) m.threads ≡ true)
 
 -- One thread's log is all that the run of the program has logged, and this is the machine behind it, which is over. The
 -- hashes are the draws of the generators from this start: of an object's hashes one was drawn, the first of those that its
@@ -42,7 +42,7 @@ pub record IsLoneRun (p : ProgramText) (fuel start : ℕ) (logs : List (List Log
   pub one : length logs ≡ 1
   pub rises : AllByRecursion (RisesAbove 0) logs
   pub under : machine_after p fuel logs ≡ Some m
-  pub over : IsOver m
+  pub over : NoneGoesOn m
   pub drawn : (t : ℕ) → AreDraws (first_draw start t) 0 (log_of logs t)
   pub one_drawn : (o t : ℕ) → has_hash o (log_of logs t) ≡ true → all_draws o logs ≡ 1
   pub drawn_first : DrawsComeFirst logs

@@ -12,8 +12,6 @@ mod mark;
 mod owner;
 mod record;
 mod safe;
-#[cfg(test)]
-mod tests;
 mod wait;
 
 pub use bad_mark::BadMark;

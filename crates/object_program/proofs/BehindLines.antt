@@ -10,7 +10,7 @@ use Rattle.object_program.specs.Number.{number_of, is_within}
 use Rattle.object_program.specs.Program.{ProgramText, total_of}
 use Rattle.object_program.specs.Line.{keyword_of, is_outside, is_instruction, operands_of}
 use Rattle.object_program.specs.Reading.{Before, operand, count_at, label_of, labels_ahead, instruction_on, behind_keyword, ends_section}
-use Rattle.object_program.specs.Refusal.{is_closed, is_end, passes_limit, keyword_cause}
+use Rattle.object_program.specs.Refusal.{is_closed, is_end, is_in_place, passes_limit, keyword_cause}
 use Rattle.object_program.specs.inner.Signs.{is_count, count_in}
 use Rattle.object_program.specs.inner.Labels.{labels_from, labels_at}
 use Rattle.object_program.specs.inner.Steps.{thread_of, HasAhead, HasAheadOf, IsAhead, IsAheadOf}
@@ -45,15 +45,25 @@ array_counted b later ws k word n array clean same count =
     let room = ltb-false _ _ h.limit in
     record { same = counted; some = omega arith; room = omega arith }
 
--- a line of a section that is neither a local nor a label is an instruction
-pub instruction_kind : (k : Keyword) → is_outside k ≡ false → (k ≡ Local → ⊥) → (k ≡ Label → ⊥) → is_instruction k ≡ true
-instruction_kind Class h local label = absurd (cc h)
-instruction_kind Object h local label = absurd (cc h)
-instruction_kind Array h local label = absurd (cc h)
-instruction_kind Thread h local label = absurd (cc h)
-instruction_kind Local h local label = absurd (local refl)
-instruction_kind Label h local label = absurd (label refl)
-instruction_kind k h local label = refl
+-- a line of an open section that is neither a local nor a label is an instruction: a declaration would leave the section open
+pub instruction_kind : (s : Section) (later ws : List (List ℕ)) (k : Keyword) → IsAheadOf s later ws k → (k ≡ Local → ⊥) → (k ≡ Label → ⊥) → is_instruction k ≡ true
+instruction_kind s later ws Class h local label = absurd (cc h.closed)
+instruction_kind s later ws Object h local label = absurd (cc h.closed)
+instruction_kind s later ws Array h local label = absurd (cc h.closed)
+instruction_kind s later ws Thread h local label = absurd (cc h.closed)
+instruction_kind s later ws Local h local label = absurd (local refl)
+instruction_kind s later ws Label h local label = absurd (label refl)
+instruction_kind s later ws k h local label = refl
+
+-- and where no section is open, a line without a cause declares
+pub outside_kind : (p : ProgramText) (later ws : List (List ℕ)) (k : Keyword) → keyword_cause (record { text = p; section = None }) later ws (Some k) ≡ None → is_outside k ≡ true
+outside_kind p later ws k clean = in_place k (no_cause (record { text = p; section = None }) later ws k clean).place where
+  in_place : (k : Keyword) → is_in_place (record { text = p; section = None }) k ≡ true → is_outside k ≡ true
+  in_place Class h = refl
+  in_place Object h = refl
+  in_place Array h = refl
+  in_place Thread h = refl
+  in_place k h = absurd (cc h)
 
 -- and has room
 pub instruction_room : (p : ProgramText) (t : ThreadDef) (ws : List (List ℕ)) (k : Keyword) → is_instruction k ≡ true

@@ -18,6 +18,11 @@ err_behind (Ok u) old text mid new e h = tt
 err_behind (Err d) old text mid new e h =
     record { rest = text ++ h.rest; same = h.same ∙ ap (λ xs. xs ++ h.rest) e ∙ append_assoc old text h.rest }
 
+-- the same of the last call, whatever it answers
+pub call_behind : (r : Result (Unit {0}) NoMemory) (old text mid new : List ℕ) → mid ≡ old ++ text → OnErr r (BeginsWith mid new) → OnErr r (BeginsWith old new)
+call_behind (Ok u) old text mid new e h = tt
+call_behind (Err d) old text mid new e h = err_behind (Err d) old text mid new e h
+
 -- two pieces of text, one behind the other
 pub written_more : (old a mid b new c : List ℕ) → mid ≡ old ++ a → new ≡ mid ++ b → a ++ b ≡ c → new ≡ old ++ c
 written_more old a mid b new c e f g = f ∙ ap (λ xs. xs ++ b) e ∙ append_assoc old a b ∙ ap (λ xs. old ++ xs) g

@@ -22,7 +22,7 @@ use crate::lines::{Lines, is_text};
 use crate::number::count_of;
 use crate::program::{Code, Program};
 use crate::section::{closed, instruction_on, with_code, with_label, with_local};
-use crate::spelling::{is_outside, keyword_of};
+use crate::spelling::keyword_of;
 use crate::state::{Declared, Reader};
 use crate::words::Words;
 use plain_monitor::{List, NoMemory};
@@ -41,12 +41,10 @@ fn behind_keyword(
     ensures behind { IfOk result (IsBehindKeyword reader later.now operands.now keyword) }
     ensures ahead { IfOk result (λ r. HasAhead r.section later.now) }
 {
-    if is_outside(keyword) {
-        return behind_declaration(alloc, reader, keyword, operands, later);
-    }
     let Reader { declared, section } = reader;
+    // A declaration stands in no section: an open one is closed by its `end` first.
     let Some(section) = section else {
-        unreachable!()
+        return behind_declaration(alloc, declared, keyword, operands, later);
     };
     match keyword {
         Keyword::Local => Ok(Reader {
@@ -71,33 +69,32 @@ fn behind_keyword(
     }
 }
 
-/// What a line without a cause leaves that stands outside sections.
+/// What a line without a cause leaves where no section is open, behind these declarations.
 fn behind_declaration(
     alloc: Global,
-    reader: Reader,
+    declared: Declared,
     keyword: Keyword,
     operands: &Words<'_>,
     later: &Lines<'_>,
 ) -> Result<Reader, NoMemory>
     requires outside { is_outside keyword ≡ true }
-    requires clean { cause_of reader later.now operands.now keyword ≡ None }
-    requires ahead { HasAheadOf reader.section later.now operands.now keyword }
-    ensures behind { IfOk result (IsBehindKeyword reader later.now operands.now keyword) }
+    requires clean { cause_of (record { declared = declared; section = None }) later.now operands.now keyword ≡ None }
+    ensures behind { IfOk result
+        (IsBehindKeyword (record { declared = declared; section = None }) later.now operands.now keyword) }
     ensures ahead { IfOk result (λ r. HasAhead r.section later.now) }
 {
-    let Reader { declared, section } = reader;
     match keyword {
         Keyword::Class => Ok(Reader {
             declared: with_class(declared, operands)?,
-            section,
+            section: None,
         }),
         Keyword::Object => Ok(Reader {
             declared: with_objects(declared, operands, 1, false)?,
-            section,
+            section: None,
         }),
         Keyword::Array => Ok(Reader {
             declared: with_objects(declared, operands, count_of(operands.word(2)), true)?,
-            section,
+            section: None,
         }),
         Keyword::Thread => Ok(Reader {
             declared,

@@ -1,6 +1,8 @@
 //! The canonical text of a program, written.
 
 ghost use Rattle.std.specs.Prelude.{◌≡◌, ◌+◌, ◌∷◌, ◌++◌, [], map, if◌then◌else◌, OnOk, OnErr, Ok, ◌≤◌, length};
+ghost use Rattle.std.specs.Prelude.{codes, decimal};
+ghost use Rattle.std.specs.Fmt.{signed_decimal};
 ghost use Rattle.std.specs.List.{join_with_byte};
 ghost use Rattle.object_program.specs.Limits.{most_bytes};
 ghost use Rattle.object_program.specs.Canonical.{canonical, program_lines, line_text, class_name, object_name};
@@ -58,7 +60,6 @@ fn write_line(out: &mut Vec<u8>, words: &[&[u8]]) -> Result<(), NoMemory>
 }
 
 /// Writes these words, with a space between each two.
-#[tactic(auto, using(crate::proofs::Written::err_behind))]
 fn write_words(out: &mut Vec<u8>, words: &[&[u8]]) -> Result<(), NoMemory>
     ensures ok { OnOk result (out.new.items ≡ out.old.items ++ join_with_byte 32 (map (λ w. w.now) words.now)) }
     ensures err { OnErr result (BeginsWith out.old.items out.new.items) }
@@ -89,7 +90,6 @@ fn write_bytes(out: &mut Vec<u8>, bytes: &[u8]) -> Result<(), NoMemory>
 }
 
 /// Writes the lines of the classes.
-#[tactic(auto, using(crate::proofs::Written::err_behind))]
 fn write_classes(classes: &[ClassDef], out: &mut Vec<u8>) -> Result<(), NoMemory>
     ensures ok { OnOk result (out.new.items ≡ out.old.items ++ lines_text (map class_words classes.now)) }
     ensures err { OnErr result (BeginsWith out.old.items out.new.items) }
@@ -115,7 +115,6 @@ fn write_class(class: &ClassDef, out: &mut Vec<u8>) -> Result<(), NoMemory>
 }
 
 /// Writes the lines of the declarations of objects.
-#[tactic(auto, using(crate::proofs::Written::err_behind))]
 fn write_objects(
     classes: &[ClassDef],
     objects: &[ObjectDef],
@@ -158,7 +157,6 @@ fn class_name(classes: &[ClassDef], class: u32) -> &[u8]
 }
 
 /// Writes the sections of the threads.
-#[tactic(auto, using(crate::proofs::Written::err_behind))]
 fn write_threads(
     objects: &[ObjectDef],
     threads: &[ThreadDef],
@@ -174,7 +172,6 @@ fn write_threads(
 }
 
 /// Writes the section of a thread.
-#[tactic(auto, using(crate::proofs::Written::err_behind))]
 fn write_thread(
     objects: &[ObjectDef],
     thread: &ThreadDef,
@@ -190,7 +187,6 @@ fn write_thread(
 }
 
 /// Writes the lines of the locals.
-#[tactic(auto, using(crate::proofs::Written::err_behind))]
 fn write_locals(locals: &[Name], out: &mut Vec<u8>) -> Result<(), NoMemory>
     ensures ok { OnOk result (out.new.items ≡ out.old.items ++ lines_text (map local_words locals.now)) }
     ensures err { OnErr result (BeginsWith out.old.items out.new.items) }
@@ -211,7 +207,6 @@ fn write_local(local: &Name, out: &mut Vec<u8>) -> Result<(), NoMemory>
 }
 
 /// Writes these instructions of a thread, from the first on, each behind its labels.
-#[tactic(auto, using(crate::proofs::Written::err_behind))]
 fn write_code(
     objects: &[ObjectDef],
     thread: &ThreadDef,
@@ -244,7 +239,6 @@ fn write_step(
 }
 
 /// Writes the lines of those of these labels that name instruction `n`.
-#[tactic(auto, using(crate::proofs::Written::err_behind))]
 fn write_labels(n: usize, all: &[LabelDef], out: &mut Vec<u8>) -> Result<(), NoMemory>
     ensures ok { OnOk result (out.new.items ≡ out.old.items ++ labels_text n all.now) }
     ensures err { OnErr result (BeginsWith out.old.items out.new.items) }
@@ -277,132 +271,183 @@ fn write_instruction(
     ensures err { OnErr result (BeginsWith out.old.items out.new.items) }
 {
     let locals = thread.locals.items();
-    let labels = thread.labels.items();
     match code {
-        Code::Set { x, v } => {
-            let mut digits = Buffer::new();
-            let words: [&[u8]; 3] = [b"set", local_name(locals, x), digits.format(v).as_bytes()];
-            write_line(out, &words)
-        }
-        Code::Add { x, y, z } => {
-            let words: [&[u8]; 4] = [
-                b"add",
-                local_name(locals, x),
-                local_name(locals, y),
-                local_name(locals, z),
-            ];
-            write_line(out, &words)
-        }
-        Code::Sub { x, y, z } => {
-            let words: [&[u8]; 4] = [
-                b"sub",
-                local_name(locals, x),
-                local_name(locals, y),
-                local_name(locals, z),
-            ];
-            write_line(out, &words)
-        }
-        Code::Mul { x, y, z } => {
-            let words: [&[u8]; 4] = [
-                b"mul",
-                local_name(locals, x),
-                local_name(locals, y),
-                local_name(locals, z),
-            ];
-            write_line(out, &words)
-        }
-        Code::Ref { x, n } => {
-            let words: [&[u8]; 3] = [b"ref", local_name(locals, x), object_name(objects, n)];
-            write_line(out, &words)
-        }
-        Code::Elem { x, n, i } => {
-            let words: [&[u8]; 4] = [
-                b"elem",
-                local_name(locals, x),
-                object_name(objects, n),
-                local_name(locals, i),
-            ];
-            write_line(out, &words)
-        }
-        Code::Enter { x } => {
-            let words: [&[u8]; 2] = [b"enter", local_name(locals, x)];
-            write_line(out, &words)
-        }
-        Code::Exit { x } => {
-            let words: [&[u8]; 2] = [b"exit", local_name(locals, x)];
-            write_line(out, &words)
-        }
-        Code::Wait { x } => {
-            let words: [&[u8]; 2] = [b"wait", local_name(locals, x)];
-            write_line(out, &words)
-        }
-        Code::Notify { x } => {
-            let words: [&[u8]; 2] = [b"notify", local_name(locals, x)];
-            write_line(out, &words)
-        }
-        Code::NotifyAll { x } => {
-            let words: [&[u8]; 2] = [b"notifyall", local_name(locals, x)];
-            write_line(out, &words)
-        }
-        Code::Get { x, o, k } => {
-            let mut digits = Buffer::new();
-            let words: [&[u8]; 4] = [
-                b"get",
-                local_name(locals, x),
-                local_name(locals, o),
-                digits.format(k).as_bytes(),
-            ];
-            write_line(out, &words)
-        }
-        Code::Put { o, k, x } => {
-            let mut digits = Buffer::new();
-            let words: [&[u8]; 4] = [
-                b"put",
-                local_name(locals, o),
-                digits.format(k).as_bytes(),
-                local_name(locals, x),
-            ];
-            write_line(out, &words)
-        }
-        Code::Hash { x, o } => {
-            let words: [&[u8]; 3] = [b"hash", local_name(locals, x), local_name(locals, o)];
-            write_line(out, &words)
-        }
-        Code::Print { x } => {
-            let words: [&[u8]; 2] = [b"print", local_name(locals, x)];
-            write_line(out, &words)
-        }
-        Code::Jump { l } => {
-            let words: [&[u8]; 2] = [b"jump", label_name(labels, l)];
-            write_line(out, &words)
-        }
-        Code::Jlt { x, y, l } => {
-            let words: [&[u8]; 4] = [
-                b"jlt",
-                local_name(locals, x),
-                local_name(locals, y),
-                label_name(labels, l),
-            ];
-            write_line(out, &words)
-        }
-        Code::Jeq { x, y, l } => {
-            let words: [&[u8]; 4] = [
-                b"jeq",
-                local_name(locals, x),
-                local_name(locals, y),
-                label_name(labels, l),
-            ];
-            write_line(out, &words)
-        }
-        Code::Dump => {
-            let words: [&[u8]; 1] = [b"dump"];
-            write_line(out, &words)
-        }
-        Code::End => {
-            let words: [&[u8]; 1] = [b"end"];
-            write_line(out, &words)
-        }
+        Code::Set { x, v } => write_set(locals, x, v, out),
+        Code::Add { x, y, z } => write_computation(b"add", locals, x, y, z, out),
+        Code::Sub { x, y, z } => write_computation(b"sub", locals, x, y, z, out),
+        Code::Mul { x, y, z } => write_computation(b"mul", locals, x, y, z, out),
+        Code::Ref { x, n } => write_ref(locals, objects, x, n, out),
+        Code::Elem { x, n, i } => write_elem(locals, objects, x, n, i, out),
+        Code::Enter { x } => write_on_local(b"enter", locals, x, out),
+        Code::Exit { x } => write_on_local(b"exit", locals, x, out),
+        Code::Wait { x } => write_on_local(b"wait", locals, x, out),
+        Code::Notify { x } => write_on_local(b"notify", locals, x, out),
+        Code::NotifyAll { x } => write_on_local(b"notifyall", locals, x, out),
+        Code::Get { x, o, k } => write_get(locals, x, o, k, out),
+        Code::Put { o, k, x } => write_put(locals, o, k, x, out),
+        Code::Hash { x, o } => write_hash(locals, x, o, out),
+        Code::Print { x } => write_on_local(b"print", locals, x, out),
+        Code::Jump { l } => write_jump(thread, l, out),
+        Code::Jlt { x, y, l } => write_branch(b"jlt", thread, x, y, l, out),
+        Code::Jeq { x, y, l } => write_branch(b"jeq", thread, x, y, l, out),
+        Code::Dump => write_line(out, &[b"dump"]),
+        Code::End => write_line(out, &[b"end"]),
     }
+}
+
+/// Writes the line of an instruction with this word that computes local `x` from `y` and `z`.
+fn write_computation(
+    word: &[u8],
+    locals: &[Name],
+    x: u32,
+    y: u32,
+    z: u32,
+    out: &mut Vec<u8>,
+) -> Result<(), NoMemory>
+    ensures ok { OnOk result (out.new.items ≡ out.old.items
+        ++ line_text (word.now ∷ local_name locals.now x ∷ local_name locals.now y ∷ local_name locals.now z ∷ [])) }
+    ensures err { OnErr result (BeginsWith out.old.items out.new.items) }
+{
+    let words: [&[u8]; 4] = [
+        word,
+        local_name(locals, x),
+        local_name(locals, y),
+        local_name(locals, z),
+    ];
+    write_line(out, &words)
+}
+
+/// Writes the line of an instruction with this word whose only operand is local `x`.
+fn write_on_local(word: &[u8], locals: &[Name], x: u32, out: &mut Vec<u8>) -> Result<(), NoMemory>
+    ensures ok { OnOk result (out.new.items ≡ out.old.items ++ line_text (word.now ∷ local_name locals.now x ∷ [])) }
+    ensures err { OnErr result (BeginsWith out.old.items out.new.items) }
+{
+    let words: [&[u8]; 2] = [word, local_name(locals, x)];
+    write_line(out, &words)
+}
+
+/// Writes the line of an instruction with this word that compares two locals and goes on at a label.
+fn write_branch(
+    word: &[u8],
+    thread: &ThreadDef,
+    x: u32,
+    y: u32,
+    l: u32,
+    out: &mut Vec<u8>,
+) -> Result<(), NoMemory>
+    ensures ok { OnOk result (out.new.items ≡ out.old.items
+        ++ line_text (word.now ∷ local_name thread.now.locals x ∷ local_name thread.now.locals y ∷ label_name thread.now.labels l ∷ [])) }
+    ensures err { OnErr result (BeginsWith out.old.items out.new.items) }
+{
+    let locals = thread.locals.items();
+    let words: [&[u8]; 4] = [
+        word,
+        local_name(locals, x),
+        local_name(locals, y),
+        label_name(thread.labels.items(), l),
+    ];
+    write_line(out, &words)
+}
+
+/// Writes the line of a `set`.
+fn write_set(locals: &[Name], x: u32, v: i64, out: &mut Vec<u8>) -> Result<(), NoMemory>
+    ensures ok { OnOk result (out.new.items ≡ out.old.items
+        ++ line_text (codes "set" ∷ local_name locals.now x ∷ signed_decimal v ∷ [])) }
+    ensures err { OnErr result (BeginsWith out.old.items out.new.items) }
+{
+    let mut digits = Buffer::new();
+    let words: [&[u8]; 3] = [b"set", local_name(locals, x), digits.format(v).as_bytes()];
+    write_line(out, &words)
+}
+
+/// Writes the line of a `ref`.
+fn write_ref(
+    locals: &[Name],
+    objects: &[ObjectDef],
+    x: u32,
+    n: u32,
+    out: &mut Vec<u8>,
+) -> Result<(), NoMemory>
+    ensures ok { OnOk result (out.new.items ≡ out.old.items
+        ++ line_text (codes "ref" ∷ local_name locals.now x ∷ object_name objects.now n ∷ [])) }
+    ensures err { OnErr result (BeginsWith out.old.items out.new.items) }
+{
+    let words: [&[u8]; 3] = [b"ref", local_name(locals, x), object_name(objects, n)];
+    write_line(out, &words)
+}
+
+/// Writes the line of an `elem`.
+fn write_elem(
+    locals: &[Name],
+    objects: &[ObjectDef],
+    x: u32,
+    n: u32,
+    i: u32,
+    out: &mut Vec<u8>,
+) -> Result<(), NoMemory>
+    ensures ok { OnOk result (out.new.items ≡ out.old.items
+        ++ line_text (codes "elem" ∷ local_name locals.now x ∷ object_name objects.now n ∷ local_name locals.now i ∷ [])) }
+    ensures err { OnErr result (BeginsWith out.old.items out.new.items) }
+{
+    let words: [&[u8]; 4] = [
+        b"elem",
+        local_name(locals, x),
+        object_name(objects, n),
+        local_name(locals, i),
+    ];
+    write_line(out, &words)
+}
+
+/// Writes the line of a `get`.
+fn write_get(locals: &[Name], x: u32, o: u32, k: u32, out: &mut Vec<u8>) -> Result<(), NoMemory>
+    ensures ok { OnOk result (out.new.items ≡ out.old.items
+        ++ line_text (codes "get" ∷ local_name locals.now x ∷ local_name locals.now o ∷ decimal k ∷ [])) }
+    ensures err { OnErr result (BeginsWith out.old.items out.new.items) }
+{
+    let mut digits = Buffer::new();
+    let words: [&[u8]; 4] = [
+        b"get",
+        local_name(locals, x),
+        local_name(locals, o),
+        digits.format(k).as_bytes(),
+    ];
+    write_line(out, &words)
+}
+
+/// Writes the line of a `put`.
+fn write_put(locals: &[Name], o: u32, k: u32, x: u32, out: &mut Vec<u8>) -> Result<(), NoMemory>
+    ensures ok { OnOk result (out.new.items ≡ out.old.items
+        ++ line_text (codes "put" ∷ local_name locals.now o ∷ decimal k ∷ local_name locals.now x ∷ [])) }
+    ensures err { OnErr result (BeginsWith out.old.items out.new.items) }
+{
+    let mut digits = Buffer::new();
+    let words: [&[u8]; 4] = [
+        b"put",
+        local_name(locals, o),
+        digits.format(k).as_bytes(),
+        local_name(locals, x),
+    ];
+    write_line(out, &words)
+}
+
+/// Writes the line of a `hash`.
+fn write_hash(locals: &[Name], x: u32, o: u32, out: &mut Vec<u8>) -> Result<(), NoMemory>
+    ensures ok { OnOk result (out.new.items ≡ out.old.items
+        ++ line_text (codes "hash" ∷ local_name locals.now x ∷ local_name locals.now o ∷ [])) }
+    ensures err { OnErr result (BeginsWith out.old.items out.new.items) }
+{
+    let words: [&[u8]; 3] = [b"hash", local_name(locals, x), local_name(locals, o)];
+    write_line(out, &words)
+}
+
+/// Writes the line of a `jump`.
+fn write_jump(thread: &ThreadDef, l: u32, out: &mut Vec<u8>) -> Result<(), NoMemory>
+    ensures ok { OnOk result (out.new.items ≡ out.old.items
+        ++ line_text (codes "jump" ∷ label_name thread.now.labels l ∷ [])) }
+    ensures err { OnErr result (BeginsWith out.old.items out.new.items) }
+{
+    let words: [&[u8]; 2] = [b"jump", label_name(thread.labels.items(), l)];
+    write_line(out, &words)
 }
 
 /// The name of the local with this number.

@@ -10,8 +10,6 @@ mod laws;
 mod list;
 mod monitor;
 mod refusal;
-#[cfg(test)]
-mod tests;
 mod value_words;
 mod waiters;
 

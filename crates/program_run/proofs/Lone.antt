@@ -41,7 +41,7 @@ shots_right p fuel logs (s ∷ shots) one all = (shot_of p fuel logs s one all.0
 has_shots : (p : ProgramText) (fuel : ℕ) (r : RunRecord) → length r.logs ≡ 1 → AreRightShots p fuel r.logs r.shots → HasShotsOf p fuel r
 has_shots p fuel r one s = record { right = shots_right p fuel r.logs (shots_of r.shots 0) one (s.right 0); dumps = s.dumps 0 }
 
-is_over : (m : PlainMachine) (halted : Bool) → IsOver m halted → lone.IsOver m
+is_over : (m : PlainMachine) (halted : Bool) → IsOver m halted → lone.NoneGoesOn m
 is_over m true h = inl h
 is_over m false h = inr h
 

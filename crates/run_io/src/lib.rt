@@ -15,8 +15,6 @@ mod memory_source;
 mod sink;
 mod source;
 mod streams;
-#[cfg(test)]
-mod tests;
 
 pub use clock::{Clock, StepClock, moment};
 pub use failed::Failed;

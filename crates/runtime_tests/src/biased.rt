@@ -5,6 +5,7 @@ ghost use Rattle.heap_table.specs.Resting.{Rests};
 use crate::calls::{
     DONE, LEFT, begin, enter, entered, exit, not_entered, pending, poll, resume, stop,
 };
+use crate::compare::{holds, same};
 use crate::last::{closed, count, displaced, has_stamps, mark, monitor, prototype};
 use core_world::{Turn, Why};
 use heap_table::{Heap, Pass};
@@ -17,11 +18,11 @@ fn bias(rt: &impl Abort, heap: &Heap, p0: &mut Pass, p1: &mut Pass)
     requires { Rests heap.now p0.old × Rests heap.now p1.old }
     ensures { Rests heap.now p0.new × Rests heap.now p1.new }
 {
-    assert_eq!(rt; resume(heap, p0), DONE);
-    assert_eq!(rt; resume(heap, p1), DONE);
-    assert_eq!(rt; enter(heap, p0, 0, 1), entered(Path::BiasTaken));
-    assert_eq!(rt; enter(heap, p0, 0, 1), entered(Path::BiasOwn));
-    assert_eq!(rt; enter(heap, p0, 0, 1), entered(Path::BiasOwn));
+    same(rt, resume(heap, p0), DONE);
+    same(rt, resume(heap, p1), DONE);
+    same(rt, enter(heap, p0, 0, 1), entered(Path::BiasTaken));
+    same(rt, enter(heap, p0, 0, 1), entered(Path::BiasOwn));
+    same(rt, enter(heap, p0, 0, 1), entered(Path::BiasOwn));
 }
 
 // The first stops, and the second revokes the bias and stops.
@@ -30,25 +31,23 @@ fn revoke(rt: &impl Abort, heap: &Heap, p0: &mut Pass, p1: &mut Pass)
     ensures { Rests heap.now p0.new × Rests heap.now p1.new }
 {
     bias(rt, heap, p0, p1);
-    assert!(rt; stop(heap, p0));
+    holds(rt, stop(heap, p0));
     let owned = Why::Owned { word: 4096 };
-    assert_eq!(rt; enter(heap, p1, 0, 1), not_entered(owned));
-    assert!(rt; stop(heap, p1));
+    same(rt, enter(heap, p1, 0, 1), not_entered(owned));
+    holds(rt, stop(heap, p1));
 }
 
 #[test]
 fn a_revoked_bias_stands_in_records(rt: HostRuntime) -> Result<(), Fail> {
     let (heap, mut p0, mut p1) = begin(rt.alloc(), true)?;
     revoke(&rt, &heap, &mut p0, &mut p1);
-    let Some(closed) = closed(rt.alloc(), heap, p0, p1) else {
-        panic!(rt; "both are stopped")
-    };
-    assert_eq!(rt; mark(&closed, 0), Some(10));
-    assert_eq!(rt; monitor(&closed, 0), Some([1, 4096, 0, 0]));
-    assert_eq!(rt; displaced(&closed, 0, 0), Some(1));
-    assert_eq!(rt; displaced(&closed, 0, 1), Some(0));
-    assert_eq!(rt; displaced(&closed, 0, 2), Some(0));
-    assert_eq!(rt; count(&closed, 0), Some(1));
+    let closed = closed(&rt, heap, p0, p1);
+    same(&rt, mark(&closed, 0), Some(10));
+    same(&rt, monitor(&closed, 0), Some([1, 4096, 0, 0]));
+    same(&rt, displaced(&closed, 0, 0), Some(1));
+    same(&rt, displaced(&closed, 0, 1), Some(0));
+    same(&rt, displaced(&closed, 0, 2), Some(0));
+    same(&rt, count(&closed, 0), Some(1));
     Ok(())
 }
 
@@ -56,14 +55,18 @@ fn a_revoked_bias_stands_in_records(rt: HostRuntime) -> Result<(), Fail> {
 fn a_revoked_lock_goes_to_the_next_by_the_monitor(rt: HostRuntime) -> Result<(), Fail> {
     let (heap, mut p0, mut p1) = begin(rt.alloc(), true)?;
     revoke(&rt, &heap, &mut p0, &mut p1);
-    assert_eq!(rt; resume(&heap, &mut p0), DONE);
-    assert_eq!(rt; exit(&heap, &mut p0, 0), LEFT);
-    assert_eq!(rt; exit(&heap, &mut p0, 0), LEFT);
-    assert_eq!(rt; exit(&heap, &mut p0, 0), LEFT);
-    assert!(rt; stop(&heap, &mut p0));
-    assert_eq!(rt; resume(&heap, &mut p1), DONE);
-    assert_eq!(rt; enter(&heap, &mut p1, 0, 1), entered(Path::MonitorFirst));
-    assert!(rt; has_stamps(p1.log(), &[7]));
+    same(&rt, resume(&heap, &mut p0), DONE);
+    same(&rt, exit(&heap, &mut p0, 0), LEFT);
+    same(&rt, exit(&heap, &mut p0, 0), LEFT);
+    same(&rt, exit(&heap, &mut p0, 0), LEFT);
+    holds(&rt, stop(&heap, &mut p0));
+    same(&rt, resume(&heap, &mut p1), DONE);
+    same(
+        &rt,
+        enter(&heap, &mut p1, 0, 1),
+        entered(Path::MonitorFirst),
+    );
+    holds(&rt, has_stamps(p1.log(), &[7]));
     Ok(())
 }
 
@@ -74,10 +77,10 @@ fn a_revocation_waits_until_the_others_stop(rt: HostRuntime) -> Result<(), Fail>
     let word = 8589934593;
     let stopping = Why::Stopping { word };
     let owned = Why::Owned { word: 4096 };
-    assert_eq!(rt; enter(&heap, &mut p1, 0, 1), not_entered(stopping));
-    assert_eq!(rt; poll(&heap, &mut p0), pending(Why::Requested { word }));
-    assert!(rt; stop(&heap, &mut p0));
-    assert_eq!(rt; enter(&heap, &mut p1, 0, 1), not_entered(owned));
+    same(&rt, enter(&heap, &mut p1, 0, 1), not_entered(stopping));
+    same(&rt, poll(&heap, &mut p0), pending(Why::Requested { word }));
+    holds(&rt, stop(&heap, &mut p0));
+    same(&rt, enter(&heap, &mut p1, 0, 1), not_entered(owned));
     Ok(())
 }
 
@@ -141,47 +144,45 @@ fn five_rounds(heap: &Heap, p0: &mut Pass, p1: &mut Pass) -> bool
 #[test]
 fn a_bias_has_the_epoch_of_its_class(rt: HostRuntime) -> Result<(), Fail> {
     let (heap, mut p0, mut p1) = begin(rt.alloc(), true)?;
-    assert!(rt; first_round(&heap, &mut p0, &mut p1));
-    let Some(closed) = closed(rt.alloc(), heap, p0, p1) else {
-        panic!(rt; "both are stopped")
-    };
-    assert_eq!(rt; mark(&closed, 100), Some(1285));
+    holds(&rt, first_round(&heap, &mut p0, &mut p1));
+    let closed = closed(&rt, heap, p0, p1);
+    same(&rt, mark(&closed, 100), Some(1285));
     Ok(())
 }
 
 #[test]
 fn the_epochs_of_a_class_begin_again(rt: HostRuntime) -> Result<(), Fail> {
     let (heap, mut p0, mut p1) = begin(rt.alloc(), true)?;
-    assert!(rt; five_rounds(&heap, &mut p0, &mut p1));
-    let Some(closed) = closed(rt.alloc(), heap, p0, p1) else {
-        panic!(rt; "both are stopped")
-    };
-    assert_eq!(rt; prototype(&closed, 0), Some(261));
-    assert_eq!(rt; count(&closed, 0), Some(20));
+    holds(&rt, five_rounds(&heap, &mut p0, &mut p1));
+    let closed = closed(&rt, heap, p0, p1);
+    same(&rt, prototype(&closed, 0), Some(261));
+    same(&rt, count(&closed, 0), Some(20));
     Ok(())
 }
 
 #[test]
 fn a_bias_of_an_epoch_that_came_again_is_valid(rt: HostRuntime) -> Result<(), Fail> {
     let (heap, mut p0, mut p1) = begin(rt.alloc(), true)?;
-    assert!(rt; five_rounds(&heap, &mut p0, &mut p1));
+    holds(&rt, five_rounds(&heap, &mut p0, &mut p1));
     let now = 100001;
-    assert_eq!(rt; resume(&heap, &mut p0), DONE);
-    assert_eq!(rt; enter(&heap, &mut p0, 100, now), entered(Path::BiasOwn));
-    assert_eq!(rt; exit(&heap, &mut p0, 100), LEFT);
-    assert!(rt; stop(&heap, &mut p0));
-    assert_eq!(rt; resume(&heap, &mut p1), DONE);
-    assert_eq!(rt; enter(&heap, &mut p1, 100, now), entered(Path::StackFirst));
-    assert!(rt; stop(&heap, &mut p1));
+    same(&rt, resume(&heap, &mut p0), DONE);
+    same(&rt, enter(&heap, &mut p0, 100, now), entered(Path::BiasOwn));
+    same(&rt, exit(&heap, &mut p0, 100), LEFT);
+    holds(&rt, stop(&heap, &mut p0));
+    same(&rt, resume(&heap, &mut p1), DONE);
+    same(
+        &rt,
+        enter(&heap, &mut p1, 100, now),
+        entered(Path::StackFirst),
+    );
+    holds(&rt, stop(&heap, &mut p1));
     let Some(counts) = p1.counts().first() else {
         panic!(rt; "there is a class")
     };
-    assert_eq!(rt; counts.single, 96);
-    assert_eq!(rt; counts.rebias, 5);
-    assert_eq!(rt; counts.revoke, 0);
-    let Some(closed) = closed(rt.alloc(), heap, p0, p1) else {
-        panic!(rt; "both are stopped")
-    };
-    assert_eq!(rt; count(&closed, 0), Some(21));
+    same(&rt, counts.single, 96);
+    same(&rt, counts.rebias, 5);
+    same(&rt, counts.revoke, 0);
+    let closed = closed(&rt, heap, p0, p1);
+    same(&rt, count(&closed, 0), Some(21));
     Ok(())
 }

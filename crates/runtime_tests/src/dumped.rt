@@ -1,5 +1,6 @@
 //! Dumps of who has which object.
 use crate::calls::{DONE, begin, dump, enter, entered, resume, stop};
+use crate::compare::{holds, same};
 use core_world::{TooManyDumps, Turn};
 use heap_table::Cell;
 use plain_monitor::Path;
@@ -23,22 +24,22 @@ fn owns_alone(cells: &[Cell], object: usize, thread: u32, count: u32) -> bool {
 #[test]
 fn a_dump_shows_the_owner_by_a_bias(rt: HostRuntime) -> Result<(), Fail> {
     let (heap, mut p0, mut p1) = begin(rt.alloc(), true)?;
-    assert_eq!(rt; resume(&heap, &mut p0), DONE);
-    assert_eq!(rt; enter(&heap, &mut p0, 3, 1), entered(Path::BiasTaken));
-    assert_eq!(rt; enter(&heap, &mut p0, 3, 1), entered(Path::BiasOwn));
-    assert!(rt; stop(&heap, &mut p0));
-    assert_eq!(rt; resume(&heap, &mut p1), DONE);
-    assert_eq!(rt; dump(&heap, &mut p1), Some(Ok(Turn::Done(1))));
+    same(&rt, resume(&heap, &mut p0), DONE);
+    same(&rt, enter(&heap, &mut p0, 3, 1), entered(Path::BiasTaken));
+    same(&rt, enter(&heap, &mut p0, 3, 1), entered(Path::BiasOwn));
+    holds(&rt, stop(&heap, &mut p0));
+    same(&rt, resume(&heap, &mut p1), DONE);
+    same(&rt, dump(&heap, &mut p1), Some(Ok(Turn::Done(1))));
     let Some(shot) = p1.shots().first() else {
         panic!(rt; "it was taken")
     };
-    assert_eq!(rt; shot.number, 1);
-    assert!(rt; matches!(shot.cut.items(), [2, 0]));
-    assert_eq!(rt; shot.cells.items().len(), 101);
-    assert!(rt; owns_alone(shot.cells.items(), 3, 0, 2));
-    assert_eq!(rt; dump(&heap, &mut p1), Some(Ok(Turn::Done(2))));
-    assert_eq!(rt; dump(&heap, &mut p1), Some(Ok(Turn::Done(3))));
-    assert_eq!(rt; dump(&heap, &mut p1), Some(Ok(Turn::Done(4))));
-    assert_eq!(rt; dump(&heap, &mut p1), Some(Err(TooManyDumps)));
+    same(&rt, shot.number, 1);
+    holds(&rt, matches!(shot.cut.items(), [2, 0]));
+    same(&rt, shot.cells.items().len(), 101);
+    holds(&rt, owns_alone(shot.cells.items(), 3, 0, 2));
+    same(&rt, dump(&heap, &mut p1), Some(Ok(Turn::Done(2))));
+    same(&rt, dump(&heap, &mut p1), Some(Ok(Turn::Done(3))));
+    same(&rt, dump(&heap, &mut p1), Some(Ok(Turn::Done(4))));
+    same(&rt, dump(&heap, &mut p1), Some(Err(TooManyDumps)));
     Ok(())
 }

@@ -1,5 +1,6 @@
 //! Identity hashes of free objects, and of objects that a thread has a bias of.
 use crate::calls::{DONE, LEFT, begin, enter, entered, exit, hash, resume, stop};
+use crate::compare::{holds, same};
 use crate::last::{closed, mark, monitor};
 use core_world::Turn;
 use plain_monitor::{Entry, Logged, Path};
@@ -24,49 +25,45 @@ fn hashed(object: u32, value: u32, drawn: Option<u32>) -> Option<Entry> {
 #[test]
 fn a_hash_is_drawn_once(rt: HostRuntime) -> Result<(), Fail> {
     let (heap, mut p0, mut p1) = begin(rt.alloc(), false)?;
-    assert_eq!(rt; resume(&heap, &mut p0), DONE);
-    assert_eq!(rt; resume(&heap, &mut p1), DONE);
-    assert_eq!(rt; hash(&heap, &mut p1, 5, 1), Some(Turn::Done(273331126)));
-    assert_eq!(rt; last(p1.log()), hashed(5, 273331126, Some(1)));
-    assert_eq!(rt; hash(&heap, &mut p0, 5, 1), Some(Turn::Done(273331126)));
-    assert_eq!(rt; last(p0.log()), hashed(5, 273331126, None));
-    assert!(rt; stop(&heap, &mut p0));
-    assert!(rt; stop(&heap, &mut p1));
-    let Some(closed) = closed(rt.alloc(), heap, p0, p1) else {
-        panic!(rt; "both are stopped")
-    };
-    assert_eq!(rt; mark(&closed, 5), Some(69972768257));
+    same(&rt, resume(&heap, &mut p0), DONE);
+    same(&rt, resume(&heap, &mut p1), DONE);
+    same(&rt, hash(&heap, &mut p1, 5, 1), Some(Turn::Done(273331126)));
+    same(&rt, last(p1.log()), hashed(5, 273331126, Some(1)));
+    same(&rt, hash(&heap, &mut p0, 5, 1), Some(Turn::Done(273331126)));
+    same(&rt, last(p0.log()), hashed(5, 273331126, None));
+    holds(&rt, stop(&heap, &mut p0));
+    holds(&rt, stop(&heap, &mut p1));
+    let closed = closed(&rt, heap, p0, p1);
+    same(&rt, mark(&closed, 5), Some(69972768257));
     Ok(())
 }
 
 #[test]
 fn a_hash_under_a_bias_is_kept_in_the_monitor(rt: HostRuntime) -> Result<(), Fail> {
     let (heap, mut p0, p1) = begin(rt.alloc(), true)?;
-    assert_eq!(rt; resume(&heap, &mut p0), DONE);
-    assert_eq!(rt; enter(&heap, &mut p0, 0, 1), entered(Path::BiasTaken));
-    assert_eq!(rt; hash(&heap, &mut p0, 0, 1), Some(Turn::Done(273329069)));
-    assert_eq!(rt; p0.held(0), 1);
+    same(&rt, resume(&heap, &mut p0), DONE);
+    same(&rt, enter(&heap, &mut p0, 0, 1), entered(Path::BiasTaken));
+    same(&rt, hash(&heap, &mut p0, 0, 1), Some(Turn::Done(273329069)));
+    same(&rt, p0.held(0), 1);
     let Some(counts) = p0.counts().first() else {
         panic!(rt; "there is a class")
     };
-    assert_eq!(rt; counts.single, 1);
-    assert!(rt; stop(&heap, &mut p0));
-    let Some(closed) = closed(rt.alloc(), heap, p0, p1) else {
-        panic!(rt; "both are stopped")
-    };
-    assert_eq!(rt; mark(&closed, 0), Some(10));
-    assert_eq!(rt; monitor(&closed, 0), Some([69972241665, 4096, 0, 0]));
+    same(&rt, counts.single, 1);
+    holds(&rt, stop(&heap, &mut p0));
+    let closed = closed(&rt, heap, p0, p1);
+    same(&rt, mark(&closed, 0), Some(10));
+    same(&rt, monitor(&closed, 0), Some([69972241665, 4096, 0, 0]));
     Ok(())
 }
 
 #[test]
 fn a_hash_in_the_monitor_is_found_again(rt: HostRuntime) -> Result<(), Fail> {
     let (heap, mut p0, _) = begin(rt.alloc(), true)?;
-    assert_eq!(rt; resume(&heap, &mut p0), DONE);
-    assert_eq!(rt; enter(&heap, &mut p0, 0, 1), entered(Path::BiasTaken));
-    assert_eq!(rt; hash(&heap, &mut p0, 0, 1), Some(Turn::Done(273329069)));
-    assert_eq!(rt; hash(&heap, &mut p0, 0, 1), Some(Turn::Done(273329069)));
-    assert_eq!(rt; last(p0.log()), hashed(0, 273329069, None));
-    assert_eq!(rt; exit(&heap, &mut p0, 0), LEFT);
+    same(&rt, resume(&heap, &mut p0), DONE);
+    same(&rt, enter(&heap, &mut p0, 0, 1), entered(Path::BiasTaken));
+    same(&rt, hash(&heap, &mut p0, 0, 1), Some(Turn::Done(273329069)));
+    same(&rt, hash(&heap, &mut p0, 0, 1), Some(Turn::Done(273329069)));
+    same(&rt, last(p0.log()), hashed(0, 273329069, None));
+    same(&rt, exit(&heap, &mut p0, 0), LEFT);
     Ok(())
 }

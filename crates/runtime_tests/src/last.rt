@@ -5,6 +5,7 @@ ghost use Rattle.heap_table.specs.Resting.{Rests};
 use heap_table::{Closed, Heap, Pass, close};
 use plain_monitor::{List, Logged};
 use std::alloc::Global;
+use std::process::Abort;
 
 // Whether the heap may be closed with these passes.
 fn may_close(heap: &Heap, first: &Pass, second: &Pass) -> bool
@@ -19,8 +20,8 @@ fn may_close(heap: &Heap, first: &Pass, second: &Pass) -> bool
     heap.shape().threads() == 2 && threads && !running && !requesting
 }
 
-/// What is left of the heap. `None` where a thread runs or has a request, or memory is wanting.
-pub fn closed(alloc: Global, heap: Heap, first: Pass, second: Pass) -> Option<Closed>
+// What is left of the heap. `None` where a thread runs or has a request, or memory is wanting.
+fn try_close(alloc: Global, heap: Heap, first: Pass, second: Pass) -> Option<Closed>
     requires { Rests heap first × Rests heap second }
 {
     if may_close(&heap, &first, &second) {
@@ -32,6 +33,16 @@ pub fn closed(alloc: Global, heap: Heap, first: Pass, second: Pass) -> Option<Cl
         return Some(close(heap, List::of(passes)));
     }
     None
+}
+
+/// What is left of the heap. Fails the test where a thread runs or has a request, or memory is wanting.
+pub fn closed<R: Abort + AllocGlobal>(rt: &R, heap: Heap, first: Pass, second: Pass) -> Closed
+    requires { Rests heap first × Rests heap second }
+{
+    let Some(closed) = try_close(rt.alloc(), heap, first, second) else {
+        panic!(rt; "both are stopped")
+    };
+    closed
 }
 
 fn word(closed: &Closed, at: usize) -> Option<u64> {

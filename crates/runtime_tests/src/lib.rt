@@ -9,6 +9,8 @@ mod biased;
 #[cfg(test)]
 mod calls;
 #[cfg(test)]
+mod compare;
+#[cfg(test)]
 mod dumped;
 #[cfg(test)]
 mod hashed;

@@ -2,6 +2,7 @@
 ghost use Rattle.heap_table.specs.Resting.{Rests};
 
 use crate::calls::{LEFT, begin, enter, exit, poll, resume, stop};
+use crate::compare::{holds, same};
 use core_world::Turn;
 use heap_table::{Heap, Pass};
 use plain_monitor::{Entry, Logged};
@@ -132,10 +133,10 @@ fn two_workers_exclude_each_other(rt: HostRuntime) -> Result<(), Fail> {
     for biasing in [false, true] {
         let (heap, first, second) = begin(rt.alloc(), biasing)?;
         let (first, second) = work_both(&rt, &heap, first, second);
-        assert!(rt; !first.running() && !second.running());
-        assert_eq!(rt; first.log().len(), 1800);
-        assert_eq!(rt; second.log().len(), 1800);
-        assert!(rt; exclude(first.log(), second.log()));
+        holds(&rt, !first.running() && !second.running());
+        same(&rt, first.log().len(), 1800);
+        same(&rt, second.log().len(), 1800);
+        holds(&rt, exclude(first.log(), second.log()));
     }
     Ok(())
 }
