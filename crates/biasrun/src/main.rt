@@ -5,7 +5,7 @@
 #![tactic(auto)]
 
 #[cfg(test)]
-mod tests;
+mod arguments;
 
 use run_io::{FreeGate, ReadSource, StepClock, WriteSink};
 use std::env::{Env, FillError};

@@ -1,6 +1,6 @@
 //! Journals that are checked, and what is written of them.
 
-use crate::tests::{Call, calling, expect, make};
+use crate::calls::{Call, calling, expect, make};
 use example_programs::{ANSWER, EXAMPLES, HASH, WAIT_FOREVER};
 use std::process::Abort;
 use std::sync::Wait;

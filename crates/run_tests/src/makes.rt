@@ -1,6 +1,6 @@
 //! Programs that are made, and what becomes of them.
 
-use crate::tests::{Call, calling, expect, expect_around, make};
+use crate::calls::{Call, calling, expect, expect_around, make};
 use example_programs::HANDOVER_40;
 use std::test::Fail;
 

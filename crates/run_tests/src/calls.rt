@@ -1,12 +1,4 @@
-//! Whole runs, from words and a text in memory to what a sink in memory holds.
-
-mod arguments;
-mod checks;
-mod makes;
-mod meets;
-mod reports;
-mod rows;
-mod settings;
+//! Calls from words and a text in memory to what a sink in memory holds.
 
 use bias_cli::replay;
 use run_io::{FreeGate, Gate, MemorySink, MemorySource, StepClock};
@@ -19,18 +11,18 @@ use std::thread::Threads;
 /// What a call is made with: the words behind the program's name, the text and what stands behind it, then how many empty lines, the
 /// read and the write that fail, by number from 1 or 0 for none, and the most bytes that a read gives and a write takes.
 #[derive(Clone, Copy)]
-struct Call<'a> {
-    words: &'a [&'a str],
-    text: &'a str,
-    behind: &'a [u8],
-    empty_lines: u32,
-    read_fails: u32,
-    write_fails: u32,
-    cut: u32,
+pub struct Call<'a> {
+    pub words: &'a [&'a str],
+    pub text: &'a str,
+    pub behind: &'a [u8],
+    pub empty_lines: u32,
+    pub read_fails: u32,
+    pub write_fails: u32,
+    pub cut: u32,
 }
 
 /// A run of the text with these words, in which no read and no write fails.
-fn calling<'a>(words: &'a [&'a str], text: &'a str) -> Call<'a> {
+pub fn calling<'a>(words: &'a [&'a str], text: &'a str) -> Call<'a> {
     Call {
         words,
         text,
@@ -45,16 +37,19 @@ fn calling<'a>(words: &'a [&'a str], text: &'a str) -> Call<'a> {
 /// What became of a call: its status, whether it has a record, and a closed heap, whether the machine behind the record is stuck, and what the sink
 /// holds then.
 #[derive(Drop)]
-struct Made {
-    status: u8,
-    has_record: bool,
-    has_closed: bool,
-    is_stuck: bool,
-    held: Vec<u8>,
+pub struct Made {
+    pub status: u8,
+    pub has_record: bool,
+    pub has_closed: bool,
+    pub is_stuck: bool,
+    pub held: Vec<u8>,
 }
 
 /// Makes the call, by a gate that is always open.
-fn make<R: Threads + Wait + Abort + AllocGlobal + Sync>(rt: &R, call: Call) -> Result<Made, Fail> {
+pub fn make<R: Threads + Wait + Abort + AllocGlobal + Sync>(
+    rt: &R,
+    call: Call,
+) -> Result<Made, Fail> {
     make_by(rt, call, &FreeGate)
 }
 
@@ -94,7 +89,7 @@ fn sink_of(alloc: Global, call: &Call) -> Result<MemorySink, AllocError> {
 }
 
 /// Makes the call by this gate.
-fn make_by<R: Threads + Wait + Abort + AllocGlobal + Sync, G: Gate + Sync>(
+pub fn make_by<R: Threads + Wait + Abort + AllocGlobal + Sync, G: Gate + Sync>(
     rt: &R,
     call: Call,
     gate: &G,
@@ -126,7 +121,7 @@ fn make_by<R: Threads + Wait + Abort + AllocGlobal + Sync, G: Gate + Sync>(
 }
 
 /// Makes the call, and compares what became of it.
-fn expect<R: Threads + Wait + Abort + AllocGlobal + Sync>(
+pub fn expect<R: Threads + Wait + Abort + AllocGlobal + Sync>(
     rt: &R,
     call: Call,
     status: u8,
@@ -144,7 +139,7 @@ fn expect<R: Threads + Wait + Abort + AllocGlobal + Sync>(
 
 /// Makes the call, and compares its status, and how what was written begins and how it ends. What stands between, and may be two ways or
 /// more, is what the order of the threads' steps decides.
-fn expect_around<R: Threads + Wait + Abort + AllocGlobal + Sync>(
+pub fn expect_around<R: Threads + Wait + Abort + AllocGlobal + Sync>(
     rt: &R,
     call: Call,
     status: u8,

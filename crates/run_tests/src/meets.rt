@@ -1,6 +1,6 @@
 //! Threads of a program that run at the same time.
 
-use crate::tests::{calling, make_by};
+use crate::calls::{calling, make_by};
 use example_programs::CONTENTION;
 use run_io::Gate;
 use std::process::Abort;

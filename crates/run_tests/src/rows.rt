@@ -1,7 +1,7 @@
 //! Words, texts, and what is written.
 
-use crate::tests::settings::expect_under_each;
-use crate::tests::{Call, calling, expect};
+use crate::calls::{Call, calling, expect};
+use crate::settings::expect_under_each;
 use example_programs::{
     ANSWER, CROSSWISE, DUMP, EXIT_TOO_OFTEN, HAND_OVER, HASH, OVERFLOW, TOO_DEEP, UNGUARDED_GET,
     WAIT_FOREVER, WAIT_WITHOUT_HOLD,
@@ -17,6 +17,18 @@ local o
 local v
 ";
 
+/// A slot that the class doesn't have, of an object that the thread doesn't hold. `Range` comes before `Unguarded`.
+const NO_SLOT: &str = "\
+class C 1
+object a C
+thread t1
+local o
+local v
+ref o a
+get v o 1
+end
+";
+
 /// A run of the text, by no more words than a setting has.
 fn running(text: &str) -> Call {
     calling(&[], text)
@@ -25,7 +37,7 @@ fn running(text: &str) -> Call {
 /// Programs whose output no order of steps changes, under each of the settings.
 #[test]
 fn programs_run(rt: HostRuntime) -> Result<(), Fail> {
-    let rows: [(&'static str, u8, &str); 11] = [
+    let rows: [(&'static str, u8, &str); 12] = [
         (ANSWER, 0, "t1: 42\nthread t1 done\n"),
         (
             EXIT_TOO_OFTEN,
@@ -42,6 +54,7 @@ fn programs_run(rt: HostRuntime) -> Result<(), Fail> {
         (TOO_DEEP, 1, "thread t1 fault TooDeep at 5\n"),
         (OVERFLOW, 1, "thread t1 fault Overflow at 3\n"),
         (UNGUARDED_GET, 1, "thread t1 fault Unguarded at 2\n"),
+        (NO_SLOT, 1, "thread t1 fault Range at 2\n"),
         (HAND_OVER, 0, "t2: 7\nthread t1 done\nthread t2 done\n"),
         (
             CROSSWISE,

@@ -1,6 +1,6 @@
 //! Runs with a report.
 
-use crate::tests::{calling, expect, expect_around};
+use crate::calls::{calling, expect, expect_around};
 use example_programs::{ANSWER, CROSSWISE, DUMP, HAND_OVER, WAIT_FOREVER};
 use std::alloc::{AllocError, Global};
 use std::test::Fail;

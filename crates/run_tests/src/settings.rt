@@ -1,6 +1,6 @@
 //! Settings under which programs are run, and many runs of two threads that contend.
 
-use crate::tests::{Call, calling, expect, make};
+use crate::calls::{Call, calling, expect, make};
 use example_programs::CONTENTION;
 use std::process::Abort;
 use std::sync::Wait;

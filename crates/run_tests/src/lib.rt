@@ -1,0 +1,18 @@
+//! Tests of the top call: whole runs, from words and a text in memory to what a sink in memory holds. They stand in a crate of their own, so
+//! that the program isn't proved once more with them.
+#![tactic(auto)]
+
+#[cfg(test)]
+mod calls;
+#[cfg(test)]
+mod checks;
+#[cfg(test)]
+mod makes;
+#[cfg(test)]
+mod meets;
+#[cfg(test)]
+mod reports;
+#[cfg(test)]
+mod rows;
+#[cfg(test)]
+mod settings;
