@@ -110,74 +110,75 @@ fn numbers_of_items_are_read(rt: HostRuntime) -> Result<(), Fail> {
     Ok(())
 }
 
+/// Words that are refused, a command line each.
+const REFUSED: &str = "\
+biasrun
+biasrun make
+biasrun make\x20
+biasrun make 0
+biasrun make 1501
+biasrun make 5 5
+biasrun make 00000000005
+biasrun make --5
+biasrun make --items=5
+biasrun make -5
+biasrun make +5
+biasrun make 5x
+biasrun 5 make
+biasrun run run
+biasrun --stats run
+biasrun RUN
+biasrun run\x20
+biasrun run --
+biasrun run -s
+biasrun run -
+biasrun run --=4
+biasrun run --help
+biasrun run help
+biasrun run -h
+biasrun run --version
+biasrun run --work 2
+biasrun run --Fuel 5
+biasrun run --stats=1
+biasrun run --stats --stats
+biasrun run --fuel 5 --fuel 5
+biasrun run --fuel
+biasrun run --fuel --stats
+biasrun run --fuel=
+biasrun run --fuel\x20
+biasrun run --fuel 0
+biasrun run --fuel 200001
+biasrun run --fuel 00000000001
+biasrun run --fuel +5
+biasrun run --fuel -5
+biasrun run --fuel=-5
+biasrun run --fuel 5x
+biasrun run --fuel==5
+biasrun run --workers 17
+biasrun run --quantum 100001
+biasrun run --hash-start 4294967296
+biasrun run --tick 9999999999
+biasrun run --bias ON
+biasrun run --bias
+biasrun run --report=1
+biasrun run --report --report
+biasrun check check
+biasrun check --workers 4
+biasrun check --quantum 1
+biasrun check --bias on
+biasrun check --tick 0
+biasrun check --stats
+biasrun check --journal
+biasrun check --report
+biasrun check --fuel 0
+biasrun check --fuel
+biasrun check --fuel 5 --fuel 5
+biasrun check --hash-start 4294967296
+biasrun checks";
+
 #[test]
 fn other_words_are_refused(rt: HostRuntime) -> Result<(), Fail> {
-    let refused = [
-        "biasrun",
-        "biasrun make",
-        "biasrun make ",
-        "biasrun make 0",
-        "biasrun make 1501",
-        "biasrun make 5 5",
-        "biasrun make 00000000005",
-        "biasrun make --5",
-        "biasrun make --items=5",
-        "biasrun make -5",
-        "biasrun make +5",
-        "biasrun make 5x",
-        "biasrun 5 make",
-        "biasrun run run",
-        "biasrun --stats run",
-        "biasrun RUN",
-        "biasrun run ",
-        "biasrun run --",
-        "biasrun run -s",
-        "biasrun run -",
-        "biasrun run --=4",
-        "biasrun run --help",
-        "biasrun run help",
-        "biasrun run -h",
-        "biasrun run --version",
-        "biasrun run --work 2",
-        "biasrun run --Fuel 5",
-        "biasrun run --stats=1",
-        "biasrun run --stats --stats",
-        "biasrun run --fuel 5 --fuel 5",
-        "biasrun run --fuel",
-        "biasrun run --fuel --stats",
-        "biasrun run --fuel=",
-        "biasrun run --fuel ",
-        "biasrun run --fuel 0",
-        "biasrun run --fuel 200001",
-        "biasrun run --fuel 00000000001",
-        "biasrun run --fuel +5",
-        "biasrun run --fuel -5",
-        "biasrun run --fuel=-5",
-        "biasrun run --fuel 5x",
-        "biasrun run --fuel==5",
-        "biasrun run --workers 17",
-        "biasrun run --quantum 100001",
-        "biasrun run --hash-start 4294967296",
-        "biasrun run --tick 9999999999",
-        "biasrun run --bias ON",
-        "biasrun run --bias",
-        "biasrun run --report=1",
-        "biasrun run --report --report",
-        "biasrun check check",
-        "biasrun check --workers 4",
-        "biasrun check --quantum 1",
-        "biasrun check --bias on",
-        "biasrun check --tick 0",
-        "biasrun check --stats",
-        "biasrun check --journal",
-        "biasrun check --report",
-        "biasrun check --fuel 0",
-        "biasrun check --fuel",
-        "biasrun check --fuel 5 --fuel 5",
-        "biasrun check --hash-start 4294967296",
-        "biasrun checks",
-    ];
-    for line in refused {
+    for line in REFUSED.split('\n') {
         let command = read_line(rt.alloc(), line)?;
         assert!(rt; command.is_none(), "at {line}");
     }

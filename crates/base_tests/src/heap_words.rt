@@ -1,5 +1,6 @@
 //! Worked words of each kind.
 
+use crate::compare::{holds, same};
 use mark_word::{
     BadMark, HoldForm, MarkForm, OwnerForm, SafeForm, WaitForm, decode, decode_hold, decode_owner,
     decode_safe, decode_wait, encode, encode_hold, encode_owner, encode_safe, encode_wait,
@@ -9,91 +10,99 @@ use std::test::Fail;
 
 #[test]
 fn marks(rt: HostRuntime) -> Result<(), Fail> {
-    assert_eq!(rt;
+    same(
+        &rt,
         decode(0x7F_FFFF_FF79),
         Ok(MarkForm::Neutral {
             hash: 0x7FFF_FFFF,
-            age: 15
-        })
+            age: 15,
+        }),
     );
-    assert_eq!(rt;
+    same(
+        &rt,
         encode(&MarkForm::Biased {
             thread: 0,
             epoch: 3,
-            age: 0
+            age: 0,
         }),
-        1797
+        1797,
     );
-    assert_eq!(rt; encode(&MarkForm::Anonymous { epoch: 2, age: 0 }), 517);
-    assert_eq!(rt;
+    same(&rt, encode(&MarkForm::Anonymous { epoch: 2, age: 0 }), 517);
+    same(
+        &rt,
         encode(&MarkForm::Locked {
             thread: 1,
-            place: 63
+            place: 63,
         }),
-        8696
+        8696,
     );
-    assert_eq!(rt; encode(&MarkForm::Inflated { monitor: 0 }), 10);
-    assert_eq!(rt; decode(0), Ok(MarkForm::Inflating));
-    assert_eq!(rt; decode(3), Ok(MarkForm::Marked));
-    assert_eq!(rt; decode(7), Err(BadMark));
-    assert_eq!(rt; decode(2), Err(BadMark));
-    assert_eq!(rt; epoch_of(1797), 3);
-    assert_eq!(rt; epoch_of(517), 2);
-    assert!(rt; is_neutral(1) && !is_neutral(7));
+    same(&rt, encode(&MarkForm::Inflated { monitor: 0 }), 10);
+    same(&rt, decode(0), Ok(MarkForm::Inflating));
+    same(&rt, decode(3), Ok(MarkForm::Marked));
+    same(&rt, decode(7), Err(BadMark));
+    same(&rt, decode(2), Err(BadMark));
+    same(&rt, epoch_of(1797), 3);
+    same(&rt, epoch_of(517), 2);
+    holds(&rt, is_neutral(1) && !is_neutral(7));
     Ok(())
 }
 
 #[test]
 fn owners(rt: HostRuntime) -> Result<(), Fail> {
-    assert_eq!(rt; decode_owner(17), Ok(OwnerForm::ByThread { thread: 1 }));
-    assert_eq!(rt; encode_owner(&OwnerForm::ByThread { thread: 1 }), 17);
-    assert_eq!(rt;
+    same(&rt, decode_owner(17), Ok(OwnerForm::ByThread { thread: 1 }));
+    same(&rt, encode_owner(&OwnerForm::ByThread { thread: 1 }), 17);
+    same(
+        &rt,
         encode_owner(&OwnerForm::ByRecord {
             thread: 1,
-            place: 63
+            place: 63,
         }),
-        8696
+        8696,
     );
     Ok(())
 }
 
 #[test]
 fn waits(rt: HostRuntime) -> Result<(), Fail> {
-    assert_eq!(rt;
+    same(
+        &rt,
         encode_wait(&WaitForm::Waiting {
             object: 0,
-            stamp: 2
+            stamp: 2,
         }),
-        524_290
+        524_290,
     );
-    assert_eq!(rt;
+    same(
+        &rt,
         decode_wait(524_290),
         Ok(WaitForm::Waiting {
             object: 0,
-            stamp: 2
-        })
+            stamp: 2,
+        }),
     );
     Ok(())
 }
 
 #[test]
-fn holds(rt: HostRuntime) -> Result<(), Fail> {
-    assert_eq!(rt;
+fn hold_words(rt: HostRuntime) -> Result<(), Fail> {
+    same(
+        &rt,
         decode_hold(129),
         Ok(HoldForm::Holds {
             object: 0,
-            depth: 1
-        })
+            depth: 1,
+        }),
     );
-    assert_eq!(rt;
+    same(
+        &rt,
         encode_hold(&HoldForm::Holds {
             object: 0,
-            depth: 1
+            depth: 1,
         }),
-        129
+        129,
     );
-    assert_eq!(rt; decode_hold(128), Err(BadMark));
-    assert_eq!(rt; decode_hold(193), Err(BadMark));
+    same(&rt, decode_hold(128), Err(BadMark));
+    same(&rt, decode_hold(193), Err(BadMark));
     Ok(())
 }
 
@@ -104,14 +113,14 @@ fn safepoints(rt: HostRuntime) -> Result<(), Fail> {
         requester: Some(1),
         halted: false,
     };
-    assert_eq!(rt; decode_safe(8_589_934_593), Ok(form));
-    assert_eq!(rt; encode_safe(&form), 8_589_934_593);
+    same(&rt, decode_safe(8_589_934_593), Ok(form));
+    same(&rt, encode_safe(&form), 8_589_934_593);
     let halt = SafeForm {
         running: 0,
         requester: None,
         halted: true,
     };
-    assert_eq!(rt; decode_safe(1_099_511_627_776), Ok(halt));
-    assert_eq!(rt; encode_safe(&halt), 1_099_511_627_776);
+    same(&rt, decode_safe(1_099_511_627_776), Ok(halt));
+    same(&rt, encode_safe(&halt), 1_099_511_627_776);
     Ok(())
 }

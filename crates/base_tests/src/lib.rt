@@ -5,6 +5,8 @@
 #[cfg(test)]
 mod arguments;
 #[cfg(test)]
+mod compare;
+#[cfg(test)]
 mod heap_words;
 #[cfg(test)]
 mod monitors;

@@ -1,5 +1,6 @@
 //! Worked examples of the monitor and of the words of values, and the calls of `List`.
 
+use crate::compare::{holds, same};
 use plain_monitor::{BadWord, List, Monitor, Refused, Value, value_word, word_value};
 use std::test::Fail;
 
@@ -9,19 +10,19 @@ fn a_notified_thread_resumes_once_the_monitor_is_free(rt: HostRuntime) -> Result
     monitor.reserve(1)?;
     monitor.enter(0)?;
     monitor.wait(0)?;
-    assert_eq!(rt; monitor.count(), 0);
+    same(&rt, monitor.count(), 0);
     monitor.enter(1)?;
-    assert!(rt; monitor.waits(0) && !monitor.called(0));
-    assert_eq!(rt; monitor.oldest(), Some(0));
-    assert_eq!(rt; monitor.waiting(), 1);
-    assert_eq!(rt; monitor.notify(1)?, Some(0));
-    assert!(rt; !monitor.waits(0) && monitor.called(0));
-    assert_eq!(rt; monitor.resume(0), Err(Refused));
+    holds(&rt, monitor.waits(0) && !monitor.called(0));
+    same(&rt, monitor.oldest(), Some(0));
+    same(&rt, monitor.waiting(), 1);
+    same(&rt, monitor.notify(1)?, Some(0));
+    holds(&rt, !monitor.waits(0) && monitor.called(0));
+    same(&rt, monitor.resume(0), Err(Refused));
     monitor.exit(1)?;
     monitor.resume(0)?;
-    assert_eq!(rt; monitor.owner(), Some(0));
-    assert_eq!(rt; monitor.count(), 1);
-    assert_eq!(rt; monitor.notify_all(0)?, 0);
+    same(&rt, monitor.owner(), Some(0));
+    same(&rt, monitor.count(), 1);
+    same(&rt, monitor.notify_all(0)?, 0);
     Ok(())
 }
 
@@ -35,43 +36,45 @@ fn each_notified_thread_resumes_with_its_own_count(rt: HostRuntime) -> Result<()
     monitor.enter(1)?;
     monitor.wait(1)?;
     monitor.enter(2)?;
-    assert_eq!(rt; monitor.waiting(), 2);
-    assert_eq!(rt; monitor.notify_all(2)?, 2);
-    assert!(rt; monitor.called(0) && monitor.called(1));
+    same(&rt, monitor.waiting(), 2);
+    same(&rt, monitor.notify_all(2)?, 2);
+    holds(&rt, monitor.called(0) && monitor.called(1));
     monitor.exit(2)?;
     monitor.resume(0)?;
-    assert_eq!(rt; monitor.count(), 2);
-    assert_eq!(rt; monitor.enter(1), Err(Refused));
+    same(&rt, monitor.count(), 2);
+    same(&rt, monitor.enter(1), Err(Refused));
     Ok(())
 }
 
 #[test]
 fn a_list_gives_its_items_back(rt: HostRuntime) -> Result<(), Fail> {
     let list = List::of(vec![in rt.alloc(); 7, 8, 9]?);
-    assert_eq!(rt; list.items(), [7, 8, 9].as_slice());
-    assert_eq!(rt; list.into_vec().as_slice(), [7, 8, 9].as_slice());
+    same(&rt, list.items(), [7, 8, 9].as_slice());
+    same(&rt, list.into_vec().as_slice(), [7, 8, 9].as_slice());
     Ok(())
 }
 
 #[test]
 fn values_and_their_words(rt: HostRuntime) {
     let greatest = (1_i64 << 61) - 1;
-    assert_eq!(rt; value_word(&Value::Nil), 0);
-    assert_eq!(rt; value_word(&Value::Int(0)), 9_223_372_036_854_775_809);
-    assert_eq!(rt; value_word(&Value::Int(-1 - greatest)), 1);
-    assert_eq!(rt;
+    same(&rt, value_word(&Value::Nil), 0);
+    same(&rt, value_word(&Value::Int(0)), 9_223_372_036_854_775_809);
+    same(&rt, value_word(&Value::Int(-1 - greatest)), 1);
+    same(
+        &rt,
         value_word(&Value::Int(greatest)),
-        18_446_744_073_709_551_613
+        18_446_744_073_709_551_613,
     );
-    assert_eq!(rt; value_word(&Value::Ref(3)), 14);
-    assert_eq!(rt; word_value(0), Ok(Value::Nil));
-    assert_eq!(rt; word_value(1), Ok(Value::Int(-1 - greatest)));
-    assert_eq!(rt;
+    same(&rt, value_word(&Value::Ref(3)), 14);
+    same(&rt, word_value(0), Ok(Value::Nil));
+    same(&rt, word_value(1), Ok(Value::Int(-1 - greatest)));
+    same(
+        &rt,
         word_value(18_446_744_073_709_551_613),
-        Ok(Value::Int(greatest))
+        Ok(Value::Int(greatest)),
     );
-    assert_eq!(rt; word_value(131_070), Ok(Value::Ref(32_767)));
-    assert_eq!(rt; word_value(131_074), Err(BadWord));
-    assert_eq!(rt; word_value(3), Err(BadWord));
-    assert_eq!(rt; word_value(4), Err(BadWord));
+    same(&rt, word_value(131_070), Ok(Value::Ref(32_767)));
+    same(&rt, word_value(131_074), Err(BadWord));
+    same(&rt, word_value(3), Err(BadWord));
+    same(&rt, word_value(4), Err(BadWord));
 }

@@ -1,5 +1,6 @@
 //! What no clause says, and each trait used once through its bound.
 
+use crate::compare::same;
 use run_io::{
     Clock, Failed, FreeGate, Gate, MemorySink, MemorySource, ReadSource, Sink, Source, StepClock,
     WriteSink, moment,
@@ -36,8 +37,8 @@ fn source_in_memory(rt: HostRuntime) -> Result<(), Fail> {
         (Ok(0), [5, 4]),
     ];
     for (answer, front) in wants {
-        assert_eq!(rt; read_once(&mut source, &mut into), answer);
-        assert_eq!(rt; [into[0], into[1]], front);
+        same(&rt, read_once(&mut source, &mut into), answer);
+        same(&rt, [into[0], into[1]], front);
     }
     Ok(())
 }
@@ -48,25 +49,25 @@ fn sink_in_memory(rt: HostRuntime) -> Result<(), Fail> {
     let made = MemorySink::new(rt.alloc(), 3, fails, 2);
     let mut sink = made.ok().ok_or("memory")?;
     let piece = [7, 8, 9, 10];
-    assert_eq!(rt; write_once(&mut sink, &piece), Err(Failed));
-    assert_eq!(rt; write_once(&mut sink, &piece), Ok(2));
-    assert_eq!(rt; write_once(&mut sink, &piece[2..]), Ok(1));
-    assert_eq!(rt; write_once(&mut sink, &piece[3..]), Err(Failed));
-    assert_eq!(rt; sink.held(), [7, 8, 9].as_slice());
+    same(&rt, write_once(&mut sink, &piece), Err(Failed));
+    same(&rt, write_once(&mut sink, &piece), Ok(2));
+    same(&rt, write_once(&mut sink, &piece[2..]), Ok(1));
+    same(&rt, write_once(&mut sink, &piece[3..]), Err(Failed));
+    same(&rt, sink.held(), [7, 8, 9].as_slice());
     Ok(())
 }
 
 #[test]
 fn clocks(rt: HostRuntime) {
     let clock = StepClock::new(1, 1);
-    assert_eq!(rt; tell(&clock), 1);
-    assert_eq!(rt; tell(&clock), 2);
-    assert_eq!(rt; tell(&clock), 3);
+    same(&rt, tell(&clock), 1);
+    same(&rt, tell(&clock), 2);
+    same(&rt, tell(&clock), 3);
     let clock = StepClock::new(u64::MAX, 2);
-    assert_eq!(rt; tell(&clock), u64::MAX);
-    assert_eq!(rt; tell(&clock), 1);
+    same(&rt, tell(&clock), u64::MAX);
+    same(&rt, tell(&clock), 1);
     for (count, tick, want) in [(3, 0, 1), (3, 5, 16), (u64::MAX, 2, u64::MAX)] {
-        assert_eq!(rt; moment(count, tick), want);
+        same(&rt, moment(count, tick), want);
     }
     pass(&FreeGate);
 }
@@ -76,12 +77,12 @@ fn streams(rt: HostRuntime) -> Result<(), Fail> {
     let bytes = [1u8, 2, 3];
     let mut source = ReadSource::new(bytes.as_slice());
     let mut into = [0u8; 2];
-    assert_eq!(rt; read_once(&mut source, &mut into), Ok(2));
-    assert_eq!(rt; into, [1, 2]);
+    same(&rt, read_once(&mut source, &mut into), Ok(2));
+    same(&rt, into, [1, 2]);
     let mut out: Vec<u8> = Vec::new(rt.alloc());
     let mut sink = WriteSink::new(&mut out);
-    assert_eq!(rt; write_once(&mut sink, &[4, 5]), Ok(2));
+    same(&rt, write_once(&mut sink, &[4, 5]), Ok(2));
     drop(sink);
-    assert_eq!(rt; out.as_slice(), [4, 5].as_slice());
+    same(&rt, out.as_slice(), [4, 5].as_slice());
     Ok(())
 }

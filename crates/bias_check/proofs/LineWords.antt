@@ -21,10 +21,10 @@ use Rattle.object_program.specs.declared.program.ObjectDef.{ObjectDef}
 use Rattle.object_program.specs.Program.{ProgramText, objects_total}
 use Rattle.object_program.specs.Valid.{IsProgram}
 use Rattle.object_program.specs.Name.{is_name}
-use Rattle.object_program.proofs.CanonicalText.{is_word_byte, is_word}
-use Rattle.object_program.proofs.CanonicalNames.{name_word, nth_is_name}
-use Rattle.object_program.proofs.CanonicalNumbers.{decimal_word, signed_word}
-use Rattle.plain_machine.specs.ReachedThread.{IsValueOf}
+use Rattle.program_syntax.proofs.CanonicalText.{is_word_byte, is_word}
+use Rattle.program_syntax.proofs.CanonicalNames.{name_word, nth_is_name}
+use Rattle.program_syntax.proofs.CanonicalNumbers.{decimal_word, signed_word}
+use Rattle.plain_machine.specs.Values.{IsValueOf}
 use Rattle.lock_journal.specs.Words.{element_text, object_text, thread_text, value_text, path_text, fault_text}
 use Rattle.lock_journal.specs.RunText.{journal_line, entry_text, newline, woken_text, draw_text}
 use Rattle.bias_check.specs.declared.spelled.Verb.{Verb}

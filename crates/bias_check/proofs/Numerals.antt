@@ -6,9 +6,9 @@ use Rattle.std.proofs.lemmas.Bool.{and_parts}
 use Rattle.std.proofs.lemmas.Bool.Decides.{nat_tests}
 use Rattle.std.proofs.lemmas.Int.{ints}
 use Rattle.plain_monitor.specs.Numbers.{IsInRange, least_number, greatest_number}
-use Rattle.object_program.specs.Number.{number_of, is_within}
-use Rattle.object_program.proofs.CanonicalNumbers.{number_of_signed}
-use Rattle.object_program.proofs.CanonicalNames.{same_bytes}
+use Rattle.program_syntax.specs.Number.{number_of, is_within}
+use Rattle.program_syntax.proofs.CanonicalNumbers.{number_of_signed}
+use Rattle.program_syntax.proofs.CanonicalNames.{same_bytes}
 use Rattle.bias_check.specs.inner.Table.{int_in, count_in, count_below, stamp_in}
 use Rattle.bias_check.proofs.Options.{and_then, mapped, where_true}
 use Rattle.bias_check.proofs.Spellings.{same_word}

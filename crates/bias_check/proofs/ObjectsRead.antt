@@ -17,7 +17,7 @@ use Rattle.bias_check.proofs.Options.{and_then, mapped, where_true}
 use Rattle.bias_check.proofs.Cuts.{first_at, last_byte}
 use Rattle.bias_check.proofs.Numerals.{below_is, below_read}
 use Rattle.bias_check.proofs.ThreadsRead.{declared_is, declared_read, object_name, get_within}
-use Rattle.object_program.proofs.CanonicalNames.{nth_is_name}
+use Rattle.program_syntax.proofs.CanonicalNames.{nth_is_name}
 use Rattle.std.proofs.lemmas.List.{length-map}
 
 -- where an object stands

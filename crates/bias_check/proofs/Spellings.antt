@@ -10,7 +10,7 @@ use Rattle.plain_monitor.specs.declared.entry.Fault.TheVariants.{IllegalMonitorS
 use Rattle.lock_journal.specs.Words.{path_text, fault_text}
 use Rattle.bias_check.specs.declared.spelled.Verb.{Verb}
 use Rattle.bias_check.specs.declared.spelled.Verb.TheVariants as verb
-use Rattle.object_program.specs.Line.{spelled_among}
+use Rattle.program_syntax.specs.Line.{spelled_among}
 use Rattle.bias_check.specs.inner.Spelled.{verbs, paths, faults}
 
 abbrev pub verb_text : Verb → List ℕ

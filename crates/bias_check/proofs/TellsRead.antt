@@ -17,7 +17,7 @@ use Rattle.bias_check.specs.declared.entries.ValueRead.{ValueRead}
 use Rattle.bias_check.specs.declared.entries.WokenRead.{WokenRead}
 use Rattle.bias_check.specs.declared.entries.EntryRead.{EntryRead}
 use Rattle.bias_check.specs.declared.entries.LineRead.{LineRead}
-use Rattle.object_program.specs.Line.{spelled_among}
+use Rattle.program_syntax.specs.Line.{spelled_among}
 use Rattle.bias_check.specs.inner.Spelled.{verbs, paths, faults}
 use Rattle.bias_check.specs.inner.Words.{unended, words_of}
 use Rattle.bias_check.specs.Lines.{IsEntryIn, Tells}

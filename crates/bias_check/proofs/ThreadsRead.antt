@@ -6,10 +6,10 @@ use Rattle.std.proofs.lemmas.List.{length-map}
 use Rattle.object_program.specs.declared.program.ThreadDef.{ThreadDef}
 use Rattle.object_program.specs.declared.program.ObjectDef.{ObjectDef}
 use Rattle.object_program.specs.Program.{ProgramText}
-use Rattle.object_program.specs.Reading.{number_among}
+use Rattle.program_syntax.specs.Reading.{number_among}
 use Rattle.object_program.specs.Valid.{is_among, AreNames, IsProgram}
-use Rattle.object_program.proofs.AllowedNames.{number_among-lt}
-use Rattle.object_program.proofs.CanonicalNames.{nth_is_among, number_among-nth}
+use Rattle.program_syntax.proofs.AllowedNames.{number_among-lt}
+use Rattle.program_syntax.proofs.CanonicalNames.{nth_is_among, number_among-nth}
 use Rattle.lock_journal.specs.Words.{name_of, thread_text}
 use Rattle.bias_check.specs.inner.Table.{names_of, place_in, thread_in, declared_in}
 use Rattle.bias_check.proofs.Options.{and_then, where_true}

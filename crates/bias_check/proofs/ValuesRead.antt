@@ -10,12 +10,12 @@ use Rattle.plain_monitor.specs.Numbers.{IsInRange, least_number, greatest_number
 use Rattle.plain_monitor.specs.declared.entry.Value.{Value}
 use Rattle.plain_monitor.specs.declared.entry.Value.TheVariants.{Nil, Int, Ref}
 use Rattle.object_program.specs.Name.{is_letter, is_digit, is_name}
-use Rattle.object_program.specs.Number.{number_of, digits_of, number_behind}
+use Rattle.program_syntax.specs.Number.{number_of, digits_of, number_behind}
 use Rattle.object_program.specs.declared.program.ObjectDef.{ObjectDef}
 use Rattle.object_program.specs.Program.{ProgramText, objects_total}
 use Rattle.object_program.specs.Valid.{IsProgram}
-use Rattle.object_program.proofs.CanonicalNumbers.{number_of_signed}
-use Rattle.plain_machine.specs.ReachedThread.{IsValueOf}
+use Rattle.program_syntax.proofs.CanonicalNumbers.{number_of_signed}
+use Rattle.plain_machine.specs.Values.{IsValueOf}
 use Rattle.lock_journal.specs.Words.{element_text, object_text, thread_text, value_text}
 use Rattle.lock_journal.specs.RunText.{woken_text}
 use Rattle.bias_check.specs.declared.entries.ValueRead.{ValueRead}

@@ -8,7 +8,7 @@ use Rattle.plain_monitor.specs.declared.entry.Entry.{Entry}
 use Rattle.plain_monitor.specs.declared.entry.Entry.TheVariants.{Hash}
 use Rattle.plain_monitor.specs.declared.entry.Logged.{Logged}
 use Rattle.plain_monitor.specs.Monitor.{only_if}
-use Rattle.object_program.specs.Text.{is_empty}
+use Rattle.program_syntax.specs.Text.{is_empty}
 
 -- the first word of thread t's generator
 abbrev pub first_word : ℕ → ℕ → ℕ

@@ -5,7 +5,7 @@ use Rattle.plain_monitor.specs.declared.entry.Entry.{Entry}
 use Rattle.plain_monitor.specs.declared.entry.Entry.TheVariants.{Enter, Exit, Get, Put, Wait, Resume, Notify, NotifyAll, Hash, Print, Dump, Trap, Spent, Done}
 use Rattle.plain_monitor.specs.declared.entry.Logged.{Logged}
 use Rattle.object_program.specs.Program.{ProgramText, objects_total}
-use Rattle.plain_machine.specs.ReachedThread.{IsObject, IsValueOf}
+use Rattle.plain_machine.specs.Values.{IsObject, IsValueOf}
 use Rattle.lock_journal.specs.RunText.{journal_line}
 
 -- the lines of a text, each with its line feed; bytes behind the last line feed are a line without one

@@ -4,8 +4,9 @@ ghost use Rattle.std.specs.Prelude.{◌≡◌, ◌<◌, ◌==◌, map, length, p
 ghost use Rattle.bias_check.specs.inner.Table.{names_of, place_in, thread_in, declared_in, element_in, object_in, int_in, count_below, count_in, stamp_in, unbracketed};
 
 use itoa::Buffer;
-use object_program::{Directory, Name, ObjectDef, Program, number_within};
+use object_program::{Name, ObjectDef, Program};
 use plain_monitor::NoMemory;
+use program_syntax::{Directory, number_within};
 use std::alloc::Global;
 
 /// The greatest stamp is below this.

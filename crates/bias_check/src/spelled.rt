@@ -2,7 +2,7 @@
 
 ghost use Rattle.std.specs.Prelude.{◌≡◌};
 ghost use Rattle.std.specs.Str.{bytes_eq};
-ghost use Rattle.object_program.specs.Line.{spelled_among};
+ghost use Rattle.program_syntax.specs.Line.{spelled_among};
 ghost use Rattle.bias_check.specs.inner.Spelled.{verbs, acts, faults, paths};
 
 use plain_monitor::{Fault, Path};

@@ -4,9 +4,9 @@ use Rattle.std.specs.Prelude.{Result, Ok, Err}
 use Rattle.std.specs.List.{list_any}
 use Rattle.std.specs.Bool.{⊤}
 use Rattle.std.proofs.lemmas.Bool.{eqb-true, eqb-false}
-use Rattle.object_program.specs.declared.error.ProgramError.{ProgramError}
+use Rattle.program_syntax.specs.declared.error.ProgramError.{ProgramError}
 use Rattle.object_program.specs.Program.{ProgramText}
-use Rattle.object_program.specs.Refusal.{program_of}
+use Rattle.program_syntax.specs.Refusal.{program_of}
 use Rattle.plain_machine.specs.Machine.{ending_in, is_stuck}
 use Rattle.bias_check.specs.declared.answer.Checked.{Checked}
 use Rattle.bias_check.specs.declared.answer.Checked.TheVariants.{Legal, NoStep, BadHash}

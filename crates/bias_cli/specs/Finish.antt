@@ -5,9 +5,9 @@ use Rattle.run_io.specs.Faults.{rose}
 use Rattle.run_io.specs.declared.source.Source as of_source
 use Rattle.plain_monitor.specs.declared.entry.Ending.{Ending}
 use Rattle.plain_monitor.specs.declared.entry.Ending.TheVariants.{Done}
-use Rattle.object_program.specs.declared.error.ProgramError.{ProgramError}
+use Rattle.program_syntax.specs.declared.error.ProgramError.{ProgramError}
 use Rattle.object_program.specs.Program.{ProgramText}
-use Rattle.object_program.specs.Refusal.{program_of}
+use Rattle.program_syntax.specs.Refusal.{program_of}
 use Rattle.plain_machine.specs.Machine.{PlainMachine, ending_in, is_stuck}
 use Rattle.plain_machine.specs.Legal.{machine_after}
 use Rattle.bias_check.specs.declared.answer.Checked.{Checked}

@@ -1,8 +1,8 @@
 -- What is written of a text that has no program: the line, and the cause by its name.
 use Rattle.std.specs.Prelude.{ℕ, ◌==◌, if◌then◌else◌, List, ◌++◌, codes, decimal}
-use Rattle.object_program.specs.declared.error.ProgramError.{ProgramError}
-use Rattle.object_program.specs.declared.error.Why.{Why}
-use Rattle.object_program.specs.declared.error.Why.TheVariants.{NotAscii, UnknownWord, Operands, BadName, Twice, Undeclared, BadNumber, Limit, NoThread, NoEnd, Later, NoMemory}
+use Rattle.program_syntax.specs.declared.error.ProgramError.{ProgramError}
+use Rattle.program_syntax.specs.declared.error.Why.{Why}
+use Rattle.program_syntax.specs.declared.error.Why.TheVariants.{NotAscii, UnknownWord, Operands, BadName, Twice, Undeclared, BadNumber, Limit, NoThread, NoEnd, Later, NoMemory}
 
 abbrev pub cause_text : Why → List ℕ
 cause_text NotAscii = codes "NotAscii"

@@ -1,7 +1,7 @@
 //! A check of a journal: the text, its program, and the answer to its lines.
 
 ghost use Rattle.std.specs.Prelude.{◌⊎◌, ◌≤◌, length, Some};
-ghost use Rattle.object_program.specs.Refusal.{program_of};
+ghost use Rattle.program_syntax.specs.Refusal.{program_of};
 ghost use Rattle.run_words.specs.declared.options.Command.TheVariants.{Check};
 ghost use Rattle.bias_check.specs.Lines.{lines_of};
 ghost use Rattle.bias_cli.specs.Seen.{source_seen, sink_seen};
@@ -13,7 +13,8 @@ use crate::input::{MOST_OF_JOURNAL, ReadError, read_text};
 use crate::refusal::refusal_line;
 use crate::verdict::{verdict_line, verdict_status};
 use bias_check::{CheckFault, Parts, check_journal, split_text};
-use object_program::{Program, Why, read_program};
+use object_program::Program;
+use program_syntax::{Why, read_program};
 use run_io::{Sink, Source};
 use std::alloc::Global;
 

@@ -7,8 +7,8 @@ ghost use Rattle.bias_cli.specs.Finish.{Meets, program_made, IsGivenUp};
 
 use crate::finish::{Finish, give_up, tell};
 use made_program::handover;
-use object_program::write_program;
 use plain_monitor::NoMemory;
+use program_syntax::write_program;
 use run_io::Sink;
 use std::alloc::Global;
 

@@ -4,7 +4,7 @@ ghost use Rattle.std.specs.Prelude.{◌≡◌, ◌≤◌, ◌++◌, [], length};
 ghost use Rattle.bias_cli.specs.Refused.{cause_text, place_text, refusal_text};
 
 use lock_journal::Line;
-use object_program::{ProgramError, Why};
+use program_syntax::{ProgramError, Why};
 
 /// `program: CAUSE` for line 0, else `line N: CAUSE`, with its line feed.
 pub(crate) fn refusal_line(error: ProgramError) -> Line

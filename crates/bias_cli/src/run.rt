@@ -2,7 +2,7 @@
 
 ghost use Rattle.std.specs.Prelude.{◌≡◌, ◌⊎◌, ◌++◌, map, string_bytes, Some, IfOk};
 ghost use Rattle.object_program.specs.Program.{ProgramText};
-ghost use Rattle.object_program.specs.Refusal.{program_of};
+ghost use Rattle.program_syntax.specs.Refusal.{program_of};
 ghost use Rattle.run_words.specs.Command.{accepted};
 ghost use Rattle.lock_journal.specs.LinesLeft.{IsShown};
 ghost use Rattle.lock_journal.specs.RunText.{text_of_run, text_of_lines};
@@ -23,10 +23,11 @@ use crate::report::report_where;
 use crate::text::{status_of, write_text};
 use heap_table::Closed;
 use lock_journal::{RunRecord, replay};
-use object_program::{Program, Why, read_program};
+use object_program::Program;
 use plain_machine::Machine;
 use plain_monitor::{List, NoMemory};
 use program_run::{Ran, Settings, run_program};
+use program_syntax::{Why, read_program};
 use run_io::{Clock, Gate, Sink, Source};
 use run_words::{Command, Options, WordsFault, read_words};
 use std::alloc::Global;

@@ -7,6 +7,7 @@ ghost use Rattle.core_world.specs.Trees.Plans.{swap};
 ghost use Rattle.heap_tests.specs.Recorded.{two, resuming, looked, resumed};
 ghost use Rattle.heap_tests.specs.Biased.{Knows, MayEnter};
 
+use crate::compare::{holds, same};
 use bias_lock::bias_enter;
 use core_world::{BiasTry, Name, Op, Stage, Task, Unfinished};
 use heap_table::{Heap, HeapShape, Pass, Purpose};
@@ -85,14 +86,14 @@ fn enter_second(heap: &Heap, pass: &mut Pass) -> BiasTry
 fn one_thread_has_the_bias(rt: HostRuntime) -> Result<(), Fail> {
     let (heap, mut first, mut second) = begin(rt.alloc())?;
     let runs = resume(&heap, &mut first, 0, 0, 1);
-    assert!(rt; runs);
+    holds(&rt, runs);
     let runs = resume(&heap, &mut second, 1, 1, 3);
-    assert!(rt; runs);
+    holds(&rt, runs);
     let tried = enter_first(&heap, &mut first);
-    assert_eq!(rt; tried, BiasTry::Took(Path::BiasTaken));
+    same(&rt, tried, BiasTry::Took(Path::BiasTaken));
     let tried = enter_second(&heap, &mut second);
-    assert_eq!(rt; tried, BiasTry::Valid { mark: 1029 });
-    assert_eq!(rt; first.held(0), 1);
-    assert_eq!(rt; second.held(0), 0);
+    same(&rt, tried, BiasTry::Valid { mark: 1029 });
+    same(&rt, first.held(0), 1);
+    same(&rt, second.held(0), 0);
     Ok(())
 }

@@ -8,6 +8,8 @@ mod acts;
 #[cfg(test)]
 mod biases;
 #[cfg(test)]
+mod compare;
+#[cfg(test)]
 mod races;
 #[cfg(test)]
 mod records;

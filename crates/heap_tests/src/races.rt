@@ -5,6 +5,7 @@ ghost use Rattle.heap_table.specs.Seen.{IsOf};
 ghost use Rattle.heap_table.specs.Layout.{shape_of};
 ghost use Rattle.heap_table.specs.Fresh.{IsFresh, IsStill};
 
+use crate::compare::{holds, same};
 use core_world::{Name, Stage, Task};
 use heap_table::{Closed, Heap, HeapShape, Pass, Purpose, close};
 use plain_monitor::{List, NoMemory};
@@ -142,9 +143,9 @@ fn one_of_two_resumes_hits(rt: HostRuntime) -> Result<(), Fail> {
     for _ in 0..100u32 {
         let (heap, first, second) = begin(rt.alloc())?;
         let (first, second) = race(&rt, &heap, first, second);
-        assert!(rt; first.running() != second.running());
-        assert_eq!(rt; first.log().len(), 0);
-        assert_eq!(rt; second.room(), 86);
+        holds(&rt, first.running() != second.running());
+        same(&rt, first.log().len(), 0);
+        same(&rt, second.room(), 86);
     }
     Ok(())
 }
@@ -155,11 +156,11 @@ fn a_heap_that_was_looked_at_ends_as_it_began(rt: HostRuntime) -> Result<(), Fai
     let (mark, slot) = places(&heap);
     let (first, second) = look_both(&rt, &heap, first, second);
     let closed = end(rt.alloc(), heap, first, second)?;
-    assert_eq!(rt; closed.logs().items().len(), 2);
-    assert_eq!(rt; closed.counts().items().len(), 2);
-    assert!(rt; !closed.halted());
+    same(&rt, closed.logs().items().len(), 2);
+    same(&rt, closed.counts().items().len(), 2);
+    holds(&rt, !closed.halted());
     for (at, word) in [(mark, 1), (slot, (1 << 63) + 1), (0, 0)] {
-        assert_eq!(rt; closed.words().items().get(at), Some(&word));
+        same(&rt, closed.words().items().get(at), Some(&word));
     }
     Ok(())
 }

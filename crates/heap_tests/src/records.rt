@@ -13,6 +13,7 @@ ghost use Rattle.core_world.specs.Trees.Plans.{swap};
 ghost use Rattle.heap_table.specs.Parts.{HasRun};
 ghost use Rattle.heap_tests.specs.Recorded.{two, resuming, looked, resumed, Knows, MayEnter};
 
+use crate::compare::{holds, same};
 use core_world::{Name, Stage, Task, Turn, Why};
 use heap_table::{Heap, HeapShape, Pass, Purpose};
 use plain_monitor::{NoMemory, Path};
@@ -92,23 +93,23 @@ fn enter_second(heap: &Heap, pass: &mut Pass) -> Turn<Path>
 fn one_thread_has_the_lock(rt: HostRuntime) -> Result<(), Fail> {
     let (heap, mut first, mut second) = begin(rt.alloc())?;
     let runs = resume(&heap, &mut first, 0, 0, 1);
-    assert!(rt; runs);
+    holds(&rt, runs);
     let runs = resume(&heap, &mut second, 1, 1, 3);
-    assert!(rt; runs);
+    holds(&rt, runs);
     let turn = enter_first(&heap, &mut first);
     let Turn::Done(path) = turn else {
         panic!(rt; "the mark is neutral")
     };
-    assert_eq!(rt; path, Path::StackFirst);
+    same(&rt, path, Path::StackFirst);
     let turn = enter_second(&heap, &mut second);
     let raced = Why::Raced {
         expected: 1,
         found: 4096,
     };
-    assert_eq!(rt; turn, Turn::Pending(raced));
+    same(&rt, turn, Turn::Pending(raced));
     let turn = enter(&heap, &mut first, 4096);
-    assert_eq!(rt; turn, Turn::Done(Path::StackAgain));
-    assert_eq!(rt; first.held(0), 2);
-    assert_eq!(rt; second.held(0), 0);
+    same(&rt, turn, Turn::Done(Path::StackAgain));
+    same(&rt, first.held(0), 2);
+    same(&rt, second.held(0), 0);
     Ok(())
 }

@@ -3,6 +3,7 @@ ghost use Rattle.std.specs.Prelude.{◌≡◌, ◌&&◌, IfOk, false, is_none, n
 ghost use Rattle.heap_table.specs.Fresh.{IsFresh};
 ghost use Rattle.heap_table.specs.Resting.{Rests};
 
+use crate::compare::{holds, same};
 use core_world::{Task, Turn, Why};
 use heap_table::{Heap, HeapShape, Pass, Purpose};
 use plain_monitor::NoMemory;
@@ -140,46 +141,46 @@ fn requested(word: u64) -> Option<Turn<()>> {
 #[test]
 fn a_thread_stops_for_another(rt: HostRuntime) -> Result<(), Fail> {
     let (heap, mut first, mut second) = begin(rt.alloc())?;
-    assert!(rt; resume(&heap, &mut first) == DONE);
-    assert!(rt; resume(&heap, &mut second) == DONE);
-    assert!(rt; poll(&heap, &mut first) == DONE);
-    assert!(rt; request(&heap, &mut second) == DONE);
-    assert!(rt; !second.running() && second.requesting());
+    same(&rt, resume(&heap, &mut first), DONE);
+    same(&rt, resume(&heap, &mut second), DONE);
+    same(&rt, poll(&heap, &mut first), DONE);
+    same(&rt, request(&heap, &mut second), DONE);
+    holds(&rt, !second.running() && second.requesting());
 
     // The first thread runs still: bit 0, and the requester 1, as 2 in the field.
     let word = 8589934593;
     let stopping = Some(Turn::Pending(Why::Stopping { word }));
-    assert!(rt; reached(&heap, &mut second) == stopping);
-    assert!(rt; !second.reached());
-    assert!(rt; release(&heap, &mut second).is_none());
-    assert!(rt; poll(&heap, &mut first) == requested(word));
-    assert!(rt; request(&heap, &mut first) == requested(word));
-    assert!(rt; first.running());
-    assert!(rt; stop(&heap, &mut first).is_some());
+    same(&rt, reached(&heap, &mut second), stopping);
+    holds(&rt, !second.reached());
+    holds(&rt, release(&heap, &mut second).is_none());
+    same(&rt, poll(&heap, &mut first), requested(word));
+    same(&rt, request(&heap, &mut first), requested(word));
+    holds(&rt, first.running());
+    holds(&rt, stop(&heap, &mut first).is_some());
 
-    assert!(rt; !first.running());
-    assert!(rt; reached(&heap, &mut second) == DONE);
-    assert!(rt; second.reached());
-    assert!(rt; resume(&heap, &mut first) == requested(8589934592));
-    assert!(rt; !first.running());
+    holds(&rt, !first.running());
+    same(&rt, reached(&heap, &mut second), DONE);
+    holds(&rt, second.reached());
+    same(&rt, resume(&heap, &mut first), requested(8589934592));
+    holds(&rt, !first.running());
 
-    assert!(rt; release(&heap, &mut second).is_some());
-    assert!(rt; second.running() && !second.requesting());
-    assert!(rt; resume(&heap, &mut first) == DONE);
-    assert!(rt; first.running());
-    assert!(rt; poll(&heap, &mut second) == DONE);
+    holds(&rt, release(&heap, &mut second).is_some());
+    holds(&rt, second.running() && !second.requesting());
+    same(&rt, resume(&heap, &mut first), DONE);
+    holds(&rt, first.running());
+    same(&rt, poll(&heap, &mut second), DONE);
     Ok(())
 }
 
 #[test]
 fn a_lone_thread_has_its_safepoint_at_once(rt: HostRuntime) -> Result<(), Fail> {
     let (heap, mut first, mut second) = begin(rt.alloc())?;
-    assert!(rt; poll(&heap, &mut first).is_none());
-    assert!(rt; resume(&heap, &mut first) == DONE);
-    assert!(rt; request(&heap, &mut first) == DONE);
-    assert!(rt; resume(&heap, &mut second) == requested(4294967296));
-    assert!(rt; reached(&heap, &mut first) == DONE);
-    assert!(rt; release(&heap, &mut first).is_some());
-    assert!(rt; resume(&heap, &mut second) == DONE);
+    holds(&rt, poll(&heap, &mut first).is_none());
+    same(&rt, resume(&heap, &mut first), DONE);
+    same(&rt, request(&heap, &mut first), DONE);
+    same(&rt, resume(&heap, &mut second), requested(4294967296));
+    same(&rt, reached(&heap, &mut first), DONE);
+    holds(&rt, release(&heap, &mut first).is_some());
+    same(&rt, resume(&heap, &mut second), DONE);
     Ok(())
 }

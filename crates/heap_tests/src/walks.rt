@@ -3,6 +3,7 @@ ghost use Rattle.std.specs.Prelude.{◌≡◌, [], true, IfOk};
 ghost use Rattle.heap_table.specs.Fresh.{IsStill};
 ghost use Rattle.heap_tests.specs.Walk.{IsAt, entered, left, resumed, stopped, two};
 
+use crate::compare::{holds, same};
 use core_world::{Name, Op, Stage, Task, Unfinished};
 use heap_table::{Closed, Heap, HeapShape, Pass, Purpose, close};
 use plain_monitor::{Entry, List, Logged, NoMemory, Path};
@@ -224,19 +225,20 @@ fn places(closed: &Closed) -> [usize; 7]
 fn an_object_is_taken_by_a_lock_record(rt: HostRuntime) -> Result<(), Fail> {
     let (heap, mut pass, _second) = begin(rt.alloc())?;
     let resumed = resume(&heap, &mut pass);
+    // What the next call needs is known behind an assertion here.
     assert!(rt; resumed);
-    assert!(rt; pass.running());
+    holds(&rt, pass.running());
     let entered = enter(&heap, &mut pass);
-    assert!(rt; entered);
-    assert_eq!(rt; pass.hold_words()[0], 257);
-    assert_eq!(rt; pass.held(1), 1);
-    assert_eq!(rt; pass.holds(), 1);
+    holds(&rt, entered);
+    same(&rt, pass.hold_words()[0], 257);
+    same(&rt, pass.held(1), 1);
+    same(&rt, pass.holds(), 1);
     let entry = Entry::Enter {
         object: 1,
         path: Path::StackFirst,
     };
-    assert!(rt; pass.log() == [Logged { stamp: 1, entry }].as_slice());
-    assert_eq!(rt; pass.room(), 85);
+    same(&rt, pass.log(), [Logged { stamp: 1, entry }].as_slice());
+    same(&rt, pass.room(), 85);
     Ok(())
 }
 
@@ -244,21 +246,22 @@ fn an_object_is_taken_by_a_lock_record(rt: HostRuntime) -> Result<(), Fail> {
 fn a_walk_leaves_its_words(rt: HostRuntime) -> Result<(), Fail> {
     let (heap, mut first, second) = begin(rt.alloc())?;
     let walked = walk(&heap, &mut first);
+    // What the end needs is known behind an assertion here.
     assert!(rt; walked);
-    assert!(rt; !first.running());
+    holds(&rt, !first.running());
     let closed = end(rt.alloc(), heap, first, second)?;
     let at = places(&closed);
     let words = [1, 2, 0, 1, 2, 0, 0];
     for i in 0..7 {
-        assert_eq!(rt; closed.words().items().get(at[i]), Some(&words[i]));
+        same(&rt, closed.words().items().get(at[i]), Some(&words[i]));
     }
     let stamps = [1, 2];
     let Some(log) = closed.logs().items().first() else {
         panic!(rt; "no log")
     };
-    assert_eq!(rt; log.items().len(), 2);
+    same(&rt, log.items().len(), 2);
     for i in 0..2 {
-        assert!(rt; log.items().get(i).map(|l| l.stamp) == Some(stamps[i]));
+        same(&rt, log.items().get(i).map(|l| l.stamp), Some(stamps[i]));
     }
     Ok(())
 }

@@ -1,14 +1,13 @@
 //! The lines of a small run, written by hand.
 
-ghost use Rattle.std.specs.Prelude.{◌≡◌, ◌≤◌, [], ◌∷◌, length, IsTrue, IfOk};
+ghost use Rattle.std.specs.Prelude.{◌≡◌, ◌≤◌, [], ◌∷◌, length, true, IfOk};
 ghost use Rattle.std.specs.List.{AllByRecursion};
 ghost use Rattle.plain_monitor.specs.History.{RisesAbove};
 ghost use Rattle.object_program.specs.Name.{is_name};
 ghost use Rattle.object_program.specs.declared.program.Code.TheVariants.{End};
 
-use crate::names::name;
 use lock_journal::{Cell, ClassLine, Line, Lines, RunRecord, Shot};
-use object_program::{ClassDef, Code, ObjectDef, Program, ThreadDef};
+use object_program::{ClassDef, Code, Name, ObjectDef, Program, ThreadDef};
 use plain_machine::Machine;
 use plain_monitor::{Entry, Fault, List, Logged, NoMemory, Path, Value};
 use std::alloc::{AllocError, Global};
@@ -171,11 +170,11 @@ const LINES: [&str; 20] = [
 
 /// A thread of this name that has nothing but its end.
 fn thread(alloc: Global, bytes: &[u8]) -> Result<ThreadDef, AllocError>
-    requires { IsTrue (is_name bytes.now) }
+    requires { is_name bytes.now ≡ true }
     ensures { IfOk result (λ t. t ≡ record { name = bytes.now; locals = []; labels = []; code = End ∷ [] }) }
 {
     Ok(ThreadDef {
-        name: name(bytes),
+        name: Name::of(bytes),
         locals: List::of(Vec::new(alloc)),
         labels: List::of(Vec::new(alloc)),
         code: List::of(Vec::from_slice(alloc, &[Code::End])?),
@@ -186,24 +185,24 @@ fn thread(alloc: Global, bytes: &[u8]) -> Result<ThreadDef, AllocError>
 fn two_threads(alloc: Global) -> Result<Program, AllocError> {
     let classes = [
         ClassDef {
-            name: name(b"C"),
+            name: Name::of(b"C"),
             slots: 1,
         },
         ClassDef {
-            name: name(b"D"),
+            name: Name::of(b"D"),
             slots: 0,
         },
     ];
     let objects = [
         ObjectDef {
-            name: name(b"a"),
+            name: Name::of(b"a"),
             class: 0,
             first: 0,
             size: 1,
             array: false,
         },
         ObjectDef {
-            name: name(b"pool"),
+            name: Name::of(b"pool"),
             class: 1,
             first: 1,
             size: 3,

@@ -1,7 +1,7 @@
 //! Each limit, at it and one past it.
 
 use crate::texts::{add, add_numbered, is_read, is_refused};
-use object_program::Why;
+use program_syntax::Why;
 use std::test::Fail;
 
 #[test]

@@ -4,7 +4,7 @@ ghost use Rattle.std.specs.Prelude.{◌≤◌};
 
 use example_programs::HANDOVER_40;
 use made_program::handover;
-use object_program::{read_program, write_program};
+use program_syntax::{read_program, write_program};
 use std::process::Abort;
 use std::test::Fail;
 

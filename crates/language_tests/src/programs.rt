@@ -1,7 +1,8 @@
 //! Texts that are read, and the programs that they have.
 
 use crate::texts::is_read;
-use object_program::{Code, Name, read_program};
+use object_program::{Code, Name};
+use program_syntax::read_program;
 
 /// Lines that are read: with tabs, CR, comments, no line feed at the end, and names that several spaces share.
 #[test]

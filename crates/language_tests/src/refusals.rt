@@ -2,7 +2,7 @@
 
 use crate::texts::{is_read, is_refused};
 use example_programs::ANSWER;
-use object_program::Why;
+use program_syntax::Why;
 use std::test::Fail;
 
 #[test]

@@ -2,10 +2,10 @@
 
 ghost use Rattle.std.specs.Prelude.{◌≡◌, ◌⊎◌, true, Ok, Err};
 ghost use Rattle.object_program.specs.Program.{ProgramText};
-ghost use Rattle.object_program.specs.Refusal.{program_of};
-ghost use Rattle.object_program.specs.declared.error.Why.TheVariants.{NoMemory};
+ghost use Rattle.program_syntax.specs.Refusal.{program_of};
+ghost use Rattle.program_syntax.specs.declared.error.Why.TheVariants.{NoMemory};
 
-use object_program::{Why, read_program};
+use program_syntax::{Why, read_program};
 use std::alloc::{AllocError, Global};
 
 /// Whether the text has a program.

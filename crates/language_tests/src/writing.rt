@@ -1,7 +1,7 @@
 //! Programs that are written: each has one text, which is read as the same program.
 
 use example_programs::EXAMPLES;
-use object_program::{read_program, write_program};
+use program_syntax::{read_program, write_program};
 use std::process::Abort;
 use std::test::Fail;
 

@@ -18,7 +18,7 @@ use Rattle.plain_machine.specs.Thread.{ThreadState}
 use Rattle.plain_machine.specs.Asking.{ask, fits, behind_entry, thread_after}
 use Rattle.plain_machine.specs.Machine.{PlainMachine, code_of, take, moved, monitor_at, object_at, other_owner}
 use Rattle.plain_machine.specs.Offering.{unless_owned, hash_offer, asked_offer, offered, is_next}
-use Rattle.plain_machine.proofs.ReachedOver.{stuck_offers_nothing, ended_offers_nothing}
+use Rattle.machine_laws.proofs.ReachedOver.{stuck_offers_nothing, ended_offers_nothing}
 use Rattle.lone_logs.specs.LoneRun.{NoneGoesOn}
 use Rattle.lone_logs.proofs.Fitting.{IsOf, of_asked, moved_monitor}
 

@@ -21,7 +21,7 @@ use Rattle.plain_machine.specs.declared.call.Asked.TheVariants.{Calls, Resumes, 
 use Rattle.plain_machine.specs.Asking.{fits, is_call, is_ending, is_resume, is_exit, fault_number}
 use Rattle.plain_machine.specs.Offering.{oldest}
 use Rattle.plain_monitor.specs.Endings.{ending_entry}
-use Rattle.plain_machine.proofs.ReachedObjects.{same_is}
+use Rattle.machine_laws.proofs.ReachedObjects.{same_is}
 use Rattle.lone_logs.specs.LoneRun.{without_path}
 use Rattle.lone_logs.proofs.Drawing.{IsDrawnFirst}
 use Rattle.lone_logs.proofs.Hashed.{HaveHashes}

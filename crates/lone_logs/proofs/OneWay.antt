@@ -15,7 +15,7 @@ use Rattle.object_program.specs.Program.{ProgramText, shape_of}
 use Rattle.plain_machine.specs.Asking.{ask, fits}
 use Rattle.plain_machine.specs.Legal.{behind_all}
 use Rattle.plain_machine.specs.Machine.{PlainMachine, new_machine, take}
-use Rattle.plain_machine.proofs.ReachedPaths.{path_changes_nothing}
+use Rattle.machine_laws.proofs.ReachedPaths.{path_changes_nothing}
 use Rattle.lone_logs.specs.LoneRun.{without_path, with_no_path, AreSameButForPaths, NoneGoesOn, IsLoneRun}
 use Rattle.lone_logs.proofs.Drawing.{seen_with, nothing_seen, AreDrawnFirst, drawn_at_first}
 use Rattle.lone_logs.proofs.Ending.{HasTaken, has_taken, over_takes_nothing}

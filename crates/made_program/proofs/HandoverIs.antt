@@ -5,9 +5,9 @@ use Rattle.std.proofs.lemmas.Fmt.{decimal_digit, decimal_step, length-decimal-le
 use Rattle.std.proofs.lemmas.Int.{ints}
 use Rattle.plain_monitor.specs.Numbers.{IsInRange}
 use Rattle.object_program.specs.Valid.{IsProgram, IsThread}
-use Rattle.object_program.specs.Canonical.{canonical}
-use Rattle.object_program.specs.Refusal.{program_of}
-use Rattle.object_program.proofs.CanonicalPrograms.{program_of-canonical}
+use Rattle.program_syntax.specs.Canonical.{canonical}
+use Rattle.program_syntax.specs.Refusal.{program_of}
+use Rattle.program_syntax.proofs.CanonicalPrograms.{program_of-canonical}
 use Rattle.made_program.specs.HandoverText.{declared_lines, first_lines, second_lines, handover_text}
 use Rattle.made_program.specs.inner.HandoverProgram.{first_thread, second_thread, handover_program}
 

@@ -1,23 +1,11 @@
 //! What the handover program declares.
 
-ghost use Rattle.std.specs.Prelude.{◌≡◌, IsTrue, IfOk};
-ghost use Rattle.object_program.specs.Name.{is_name};
+ghost use Rattle.std.specs.Prelude.{◌≡◌, IfOk};
 ghost use Rattle.made_program.specs.inner.HandoverProgram as spec;
 
 use object_program::{ClassDef, Name, ObjectDef};
 use plain_monitor::List;
 use std::alloc::{AllocError, Global};
-
-/// A name of these bytes.
-pub fn name(bytes: &[u8]) -> Name
-    requires { IsTrue (is_name bytes.now) }
-    ensures { result ≡ bytes.now }
-{
-    match Name::new(bytes) {
-        Some(name) => name,
-        None => unreachable!(),
-    }
-}
 
 /// The class of the items and the class of the flag.
 pub fn classes(alloc: Global) -> Result<List<ClassDef>, AllocError>
@@ -25,11 +13,11 @@ pub fn classes(alloc: Global) -> Result<List<ClassDef>, AllocError>
 {
     let all = [
         ClassDef {
-            name: name(b"Item"),
+            name: Name::of(b"Item"),
             slots: 0,
         },
         ClassDef {
-            name: name(b"Flag"),
+            name: Name::of(b"Flag"),
             slots: 1,
         },
     ];
@@ -42,14 +30,14 @@ pub fn objects(alloc: Global, items: u32) -> Result<List<ObjectDef>, AllocError>
 {
     let all = [
         ObjectDef {
-            name: name(b"items"),
+            name: Name::of(b"items"),
             class: 0,
             first: 0,
             size: items,
             array: true,
         },
         ObjectDef {
-            name: name(b"flag"),
+            name: Name::of(b"flag"),
             class: 1,
             first: items,
             size: 1,

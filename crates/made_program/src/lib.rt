@@ -4,8 +4,8 @@
 #![tactic(auto)]
 
 ghost use Rattle.std.specs.Prelude.{◌≡◌, ◌≤◌, Ok, IfOk};
-ghost use Rattle.object_program.specs.Canonical.{canonical};
-ghost use Rattle.object_program.specs.Refusal.{program_of};
+ghost use Rattle.program_syntax.specs.Canonical.{canonical};
+ghost use Rattle.program_syntax.specs.Refusal.{program_of};
 ghost use Rattle.made_program.specs.HandoverText.{handover_text};
 ghost use Rattle.made_program.specs.inner.HandoverProgram.{handover_program};
 

@@ -1,10 +1,9 @@
 //! The threads of the handover program.
 
-ghost use Rattle.std.specs.Prelude.{◌≡◌, IsTrue, IfOk};
+ghost use Rattle.std.specs.Prelude.{◌≡◌, true, IfOk};
 ghost use Rattle.object_program.specs.Name.{is_name};
 ghost use Rattle.made_program.specs.inner.HandoverProgram as spec;
 
-use crate::declared::name;
 use object_program::{Code, LabelDef, Name, ThreadDef};
 use plain_monitor::List;
 use std::alloc::{AllocError, Global};
@@ -66,7 +65,7 @@ pub fn first(alloc: Global, items: u32) -> Result<ThreadDef, AllocError>
         label(b"e", 27),
     ];
     Ok(ThreadDef {
-        name: name(b"t1"),
+        name: Name::of(b"t1"),
         locals: locals(alloc)?,
         labels: List::of(Vec::from_slice(alloc, &labels)?),
         code: first_code(alloc, items)?,
@@ -79,7 +78,7 @@ pub fn second(alloc: Global, items: u32) -> Result<ThreadDef, AllocError>
 {
     let labels = [label(b"a", 7), label(b"b", 11), label(b"c", 12)];
     Ok(ThreadDef {
-        name: name(b"t2"),
+        name: Name::of(b"t2"),
         locals: locals(alloc)?,
         labels: List::of(Vec::from_slice(alloc, &labels)?),
         code: second_code(alloc, items)?,
@@ -91,24 +90,24 @@ fn locals(alloc: Global) -> Result<List<Name>, AllocError>
     ensures { IfOk result (λ names. names ≡ spec.locals) }
 {
     let names = [
-        name(b"f"),
-        name(b"o"),
-        name(b"i"),
-        name(b"n"),
-        name(b"one"),
-        name(b"two"),
-        name(b"s"),
+        Name::of(b"f"),
+        Name::of(b"o"),
+        Name::of(b"i"),
+        Name::of(b"n"),
+        Name::of(b"one"),
+        Name::of(b"two"),
+        Name::of(b"s"),
     ];
     Ok(List::of(Vec::from_slice(alloc, &names)?))
 }
 
 /// A label with this name that names this instruction.
 fn label(bytes: &[u8], index: u32) -> LabelDef
-    requires { IsTrue (is_name bytes.now) }
+    requires { is_name bytes.now ≡ true }
     ensures { result ≡ spec.label bytes.now index }
 {
     LabelDef {
-        name: name(bytes),
+        name: Name::of(bytes),
         index,
     }
 }

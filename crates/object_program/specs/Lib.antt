@@ -1,14 +1,7 @@
 pub mod Name
 pub mod NameView
-pub mod Text
-pub mod Number
 pub mod Limits
 pub mod Program
 pub mod ProgramView
 pub mod Valid
-pub mod Line
-pub mod Reading
-pub mod Refusal
-pub mod Directory
-pub mod Canonical
 pub mod inner

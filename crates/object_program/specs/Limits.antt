@@ -1,9 +1,5 @@
--- How large a text and a program may be; `src/limits.rt` has the same as constants.
+-- How large a program may be.
 use Rattle.std.specs.Prelude.{ℕ}
-
--- bytes of a text
-abbrev pub most_bytes : ℕ
-most_bytes = 1048576
 
 abbrev pub most_classes : ℕ
 most_classes = 64

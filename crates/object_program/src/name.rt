@@ -46,10 +46,22 @@ impl Name {
         ensures { result ≡ (if is_name bytes.now then Some bytes.now else None) }
     {
         if is_name(bytes) {
-            Some(name_of(bytes))
+            Some(Name::of(bytes))
         } else {
             None
         }
+    }
+
+    /// The name with these bytes, which are one.
+    #[tactic(auto, using(crate::proofs::Names::name_short))]
+    pub fn of(bytes: &[u8]) -> Name
+        requires { is_name bytes.now ≡ true }
+        ensures { result ≡ bytes.now }
+    {
+        let length = bytes.len();
+        let mut all = [0u8; 32];
+        all[..length].copy_from_slice(bytes);
+        Name { bytes: all, length }
     }
 
     /// The bytes of the name.
@@ -108,7 +120,7 @@ fn is_letter(b: u8) -> bool
 }
 
 /// Whether the byte is an ASCII digit.
-pub fn is_digit(b: u8) -> bool
+fn is_digit(b: u8) -> bool
     ensures { result ≡ is_digit b }
 {
     b.is_ascii_digit()
@@ -136,16 +148,4 @@ fn has_name_bytes(bytes: &[u8]) -> bool
     ensures { result ≡ list_all (λ b. is_letter b || is_digit b) bytes.now }
 {
     bytes.iter().all(|b| is_letter(*b) || is_digit(*b))
-}
-
-/// The name with these bytes.
-#[tactic(auto, using(crate::proofs::Names::name_short))]
-pub fn name_of(bytes: &[u8]) -> Name
-    requires { is_name bytes.now ≡ true }
-    ensures { result ≡ bytes.now }
-{
-    let length = bytes.len();
-    let mut all = [0u8; 32];
-    all[..length].copy_from_slice(bytes);
-    Name { bytes: all, length }
 }

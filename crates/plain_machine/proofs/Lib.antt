@@ -1,6 +1,7 @@
 pub mod Runs
 pub mod Unwinding
 pub mod Counted
+pub mod Tallies
 pub mod Listed
 pub mod Steps
 pub mod Behind
@@ -8,17 +9,3 @@ pub mod Taking
 pub mod Codes
 pub mod Declared
 pub mod Starts
-pub mod ReachedOver
-pub mod ReachedRunning
-pub mod ReachedMonitor
-pub mod ReachedFrame
-pub mod ReachedAsked
-pub mod ReachedKinds
-pub mod ReachedFirst
-pub mod ReachedOffered
-pub mod ReachedLists
-pub mod ReachedObjects
-pub mod ReachedEntries
-pub mod ReachedStanding
-pub mod ReachedPaths
-pub mod ReachedRange

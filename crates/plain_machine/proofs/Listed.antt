@@ -5,7 +5,7 @@ use Rattle.std.proofs.lemmas.Bool.Decides.{nat_tests}
 use Rattle.std.proofs.lemmas.Option.{same_Some, cond_some, none-some}
 use Rattle.plain_monitor.specs.Monitor.{PlainMonitor, count_of, without, owns, enter, exit, wait, resumed, calls, notify, notify_all}
 use Rattle.plain_monitor.specs.Listed.{tally, times_in, counts_in}
-use Rattle.plain_machine.proofs.ReachedLists.{tally_joined, tally_none, tally_without, counted_times}
+use Rattle.plain_machine.proofs.Tallies.{tally_joined, tally_none, tally_without, counted_times}
 
 -- what is taken out is as much as stood there
 pub length-without : (ps : List (ℕ × ℕ)) (t : ℕ) → length (without ps t) + times_in ps t ≡ length ps

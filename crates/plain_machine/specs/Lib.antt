@@ -4,14 +4,10 @@ pub mod Asking
 pub mod Machine
 pub mod Offering
 pub mod Legal
+pub mod Values
 pub mod Ready
 pub mod ThreadView
 pub mod Next
 pub mod ObjectView
 pub mod MachineView
-pub mod Work
-pub mod Reached
-pub mod ReachedMonitor
-pub mod ReachedThread
-pub mod ReachedEntry
 pub mod inner

@@ -12,7 +12,6 @@ mod code;
 mod compute;
 mod fit;
 mod jump;
-mod laws;
 mod machine;
 mod object;
 mod objects;
@@ -25,10 +24,6 @@ mod thread;
 pub use actor::Actor;
 pub use call::{Asked, Call, Mode};
 pub use code::code_of;
-pub use laws::{
-    a_machine_that_offers_nothing_is_over, each_entry_uses_up_work, machines_stay_reached,
-    offered_entries_are_taken, paths_and_draws_change_nothing, reached_machines_are_in_range,
-};
 pub use machine::Machine;
 pub use offer::Offer;
 pub use step::{Next, look};

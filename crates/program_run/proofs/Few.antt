@@ -12,9 +12,9 @@ use Rattle.object_program.specs.Program.{ProgramText}
 use Rattle.object_program.specs.Valid.{IsProgram}
 use Rattle.plain_machine.specs.Legal.{IsLegal, behind_all, machine_after}
 use Rattle.plain_machine.specs.Machine.{PlainMachine, new_machine, take}
-use Rattle.plain_machine.specs.Reached.{IsReached}
+use Rattle.machine_laws.specs.Reached.{IsReached}
 use Rattle.plain_machine.specs.Thread.{ThreadState}
-use Rattle.plain_machine.specs.Work.{work_in, work_left, work_of}
+use Rattle.machine_laws.specs.Work.{work_in, work_left, work_of}
 use Rattle.thread_logs.specs.Followed.{Follows, HaveValues}
 use Rattle.program_run.proofs.Cut.{the_some}
 

@@ -23,7 +23,7 @@ pub fn the_record_tells_the_run()
     thread_logs::the_machine_is_what_the_logs_make_it();
     thread_logs::fronts_of_logs_follow_the_code();
     thread_logs::threads_stay_theirs();
-    plain_machine::machines_stay_reached();
-    plain_machine::each_entry_uses_up_work();
+    machine_laws::machines_stay_reached();
+    machine_laws::each_entry_uses_up_work();
     run_ends::the_end_of_a_heap_tells_its_prototypes();
 }

@@ -25,7 +25,7 @@ use Rattle.plain_machine.specs.Asking.{ask, ask_in, fits, held_from, unwinds, fa
 use Rattle.plain_machine.specs.Machine.{code_of}
 use Rattle.plain_machine.specs.Ready.{waits_on}
 use Rattle.plain_machine.specs.Thread.{ThreadState}
-use Rattle.plain_machine.proofs.ReachedAsked.{asked_of}
+use Rattle.machine_laws.proofs.ReachedAsked.{asked_of}
 use Rattle.thread_frame.specs.Frames.{FrameSeen, frame_behind, frame_behind_call, next_state, state_in, led_on, locals_of, shown_mode, has_ended, is_in_wait, unspent, rank_of, mode_rank}
 use Rattle.thread_frame.specs.Sights.{counts_from}
 use Rattle.thread_logs.specs.Followed.{HasValue}

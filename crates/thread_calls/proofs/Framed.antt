@@ -17,7 +17,7 @@ use Rattle.plain_machine.specs.declared.call.Asked.{Asked}
 use Rattle.plain_machine.specs.declared.call.Mode.{Mode}
 use Rattle.plain_machine.specs.Asking.{ask, fits, behind_entry, thread_after}
 use Rattle.plain_machine.specs.Machine.{code_of}
-use Rattle.plain_machine.specs.ReachedThread.{IsThreadOf}
+use Rattle.machine_laws.specs.ReachedThread.{IsThreadOf}
 use Rattle.plain_machine.specs.Thread.{ThreadState}
 use Rattle.thread_frame.specs.Frames.{FrameSeen, frame_behind, next_state, locals_of}
 use Rattle.thread_frame.specs.Sights.{counts_from}

@@ -14,11 +14,11 @@ use Rattle.plain_machine.specs.declared.call.Call.TheVariants as call
 use Rattle.plain_machine.specs.declared.call.Mode.TheVariants.{Waiting}
 use Rattle.plain_machine.specs.Asking.{ask, answered, behind_entry, thread_after}
 use Rattle.plain_machine.specs.Machine.{code_of}
-use Rattle.plain_machine.specs.ReachedThread.{IsThreadOf}
+use Rattle.machine_laws.specs.ReachedThread.{IsThreadOf}
 use Rattle.plain_machine.specs.Ready.{waits_on}
 use Rattle.plain_machine.specs.Running.{run_on}
 use Rattle.plain_machine.specs.Thread.{ThreadState, behind, holds_of}
-use Rattle.plain_machine.proofs.ReachedAsked.{asked_of}
+use Rattle.machine_laws.proofs.ReachedAsked.{asked_of}
 use Rattle.thread_logs.specs.Followed.{Follows, HaveValues}
 use Rattle.thread_logs.proofs.Entries.{has_made}
 use Rattle.thread_logs.proofs.Onward.{onward, is_first}

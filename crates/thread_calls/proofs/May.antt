@@ -30,10 +30,10 @@ use Rattle.plain_machine.specs.declared.call.Mode.{Mode}
 use Rattle.plain_machine.specs.declared.call.Mode.TheVariants.{Calling, Waiting, Unwinding, Ended}
 use Rattle.plain_machine.specs.Asking.{ask, ask_in}
 use Rattle.plain_machine.specs.Machine.{is_live}
-use Rattle.plain_machine.specs.ReachedThread.{IsThreadOf, IsCallOf, IsHeld}
+use Rattle.machine_laws.specs.ReachedThread.{IsThreadOf, IsCallOf, IsHeld}
 use Rattle.plain_machine.specs.Thread.{ThreadState}
-use Rattle.plain_machine.specs.Work.{mode_work}
-use Rattle.plain_machine.proofs.ReachedAsked.{asked_of}
+use Rattle.machine_laws.specs.Work.{mode_work}
+use Rattle.machine_laws.proofs.ReachedAsked.{asked_of}
 use Rattle.thread_logs.specs.Followed.{ends_by, is_end, dumps_by, dumps_with}
 use Rattle.thread_logs.proofs.Logs.{followed_thread, followed_work}
 use Rattle.thread_logs.proofs.Standing.{holds_told, ends_told, dumps_told}

@@ -6,7 +6,7 @@ use Rattle.plain_monitor.specs.declared.entry.Value.TheVariants.{Nil, Int, Ref}
 use Rattle.plain_monitor.specs.Numbers.{IsInRange, is_in_range}
 use Rattle.core_world.specs.Trees.Calls.{is_value}
 use Rattle.heap_table.specs.Seen.{HeapSeen}
-use Rattle.plain_machine.specs.ReachedThread.{IsValueOf}
+use Rattle.plain_machine.specs.Values.{IsValueOf}
 
 range_test : (z : _) → IsInRange z → is_in_range z ≡ true
 range_test z r = let a = r.0 in let b = r.1 in grind (arith, ints)

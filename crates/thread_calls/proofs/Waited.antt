@@ -21,7 +21,7 @@ use Rattle.object_program.specs.Program.{ProgramText}
 use Rattle.plain_machine.specs.declared.call.Asked.TheVariants.{Calls, Resumes}
 use Rattle.plain_machine.specs.declared.call.Call.TheVariants as call
 use Rattle.plain_machine.specs.declared.call.Mode.TheVariants.{Calling, Waiting}
-use Rattle.plain_machine.proofs.ReachedAsked.{asked_of}
+use Rattle.machine_laws.proofs.ReachedAsked.{asked_of}
 use Rattle.thread_frame.specs.Frames.{FrameSeen, frame_behind, is_in_wait, mode_rank}
 use Rattle.thread_frame.specs.Sights.{counts_from}
 use Rattle.thread_calls.specs.Advances.{HasAdvanced, MayAdvance, HasPended, RanFrom}

@@ -10,8 +10,8 @@ use Rattle.object_program.specs.Valid.{IsProgram}
 use Rattle.plain_machine.specs.Thread.{ThreadState}
 use Rattle.plain_machine.specs.Asking.{thread_after}
 use Rattle.plain_machine.specs.Machine.{code_of, new_machine}
-use Rattle.plain_machine.specs.ReachedThread.{IsThreadOf}
-use Rattle.plain_machine.specs.Work.{work_of}
+use Rattle.machine_laws.specs.ReachedThread.{IsThreadOf}
+use Rattle.machine_laws.specs.Work.{work_of}
 use Rattle.thread_logs.specs.Followed.{Follows, HasFollowed, HaveValues}
 use Rattle.thread_logs.proofs.Onward.{onward, is_first}
 

@@ -24,10 +24,11 @@ use Rattle.plain_machine.specs.Thread.{ThreadState, behind, holds_of}
 use Rattle.plain_machine.specs.Running.{run_on, first_state}
 use Rattle.plain_machine.specs.Asking.{is_call, fits, holds_less, answered, behind_call, behind_entry, thread_after}
 use Rattle.plain_machine.specs.Machine.{code_of, new_machine}
-use Rattle.plain_machine.specs.ReachedThread.{IsObject, IsHeld, IsCallOf, IsModeOf, IsStateOf, IsThreadOf}
-use Rattle.plain_machine.specs.Work.{work_of, mode_work}
-use Rattle.plain_machine.proofs.ReachedRunning.{IsRunOf, RunsAll, run_keeps, code_runs, program_runs, first_run, set_state}
-use Rattle.plain_machine.proofs.ReachedAsked.{IsPaid, IsAwaited, IsLeft, IsLast, IsAskedOf, asked_of}
+use Rattle.plain_machine.specs.Values.{IsObject}
+use Rattle.machine_laws.specs.ReachedThread.{IsHeld, IsCallOf, IsModeOf, IsStateOf, IsThreadOf}
+use Rattle.machine_laws.specs.Work.{work_of, mode_work}
+use Rattle.machine_laws.proofs.ReachedRunning.{IsRunOf, RunsAll, run_keeps, code_runs, program_runs, first_run, set_state}
+use Rattle.machine_laws.proofs.ReachedAsked.{IsPaid, IsAwaited, IsLeft, IsLast, IsAskedOf, asked_of}
 use Rattle.thread_logs.specs.Followed.{HasValue}
 use Rattle.thread_logs.proofs.Entries.{has_made}
 

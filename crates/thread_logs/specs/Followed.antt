@@ -10,7 +10,7 @@ use Rattle.object_program.specs.Program.{ProgramText, shape_of, objects_total}
 use Rattle.plain_machine.specs.Thread.{ThreadState}
 use Rattle.plain_machine.specs.Asking.{thread_after}
 use Rattle.plain_machine.specs.Machine.{code_of, new_machine}
-use Rattle.plain_machine.specs.ReachedThread.{IsValueOf}
+use Rattle.plain_machine.specs.Values.{IsValueOf}
 
 -- the log follows the code of thread t from its first state, and leads to this one
 pub record Follows (p : ProgramText) (fuel t : ℕ) (log : List Logged) (s : ThreadState) : Type 0 where

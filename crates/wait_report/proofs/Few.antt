@@ -13,10 +13,10 @@ use Rattle.object_program.specs.Valid.{IsProgram}
 use Rattle.plain_machine.specs.Running.{first_state}
 use Rattle.plain_machine.specs.Machine.{PlainMachine, new_machine, take}
 use Rattle.plain_machine.specs.Legal.{behind_all}
-use Rattle.plain_machine.specs.Work.{work_of, work_in, work_left}
-use Rattle.plain_machine.specs.Reached.{IsReached}
-use Rattle.plain_machine.proofs.ReachedAsked.{taken}
-use Rattle.plain_machine.proofs.ReachedRunning.{RunsAll, first_run, program_runs}
+use Rattle.machine_laws.specs.Work.{work_of, work_in, work_left}
+use Rattle.machine_laws.specs.Reached.{IsReached}
+use Rattle.machine_laws.proofs.ReachedAsked.{taken}
+use Rattle.machine_laws.proofs.ReachedRunning.{RunsAll, first_run, program_runs}
 
 -- a thread's work before its first entry
 first_work : (p : ProgramText) (d : ThreadDef) (fuel : ℕ) → IsProgram p → RunsAll (length p.objects) d → work_of (first_state p d fuel) ≤ 2 * fuel + 1

@@ -7,7 +7,7 @@ use Rattle.plain_monitor.specs.declared.entry.Entry.TheVariants.{Enter, Exit, Ge
 use Rattle.plain_monitor.specs.Monitor.{PlainMonitor, owns, is_thread, is_outside, only_if, enter, exit, wait, resume, resumed, count_of, calls, notify, notify_all}
 use Rattle.plain_monitor.specs.Objects.{PlainObject, new_object, take_at, take_named, with_monitor, with_hash, hashed}
 use Rattle.plain_machine.proofs.Counted.{owner-calls}
-use Rattle.plain_machine.proofs.ReachedAsked.{taken_at}
+use Rattle.machine_laws.proofs.ReachedAsked.{taken_at}
 use Rattle.wait_report.specs.Handovers.{monitor_of}
 
 -- who owns the monitor afterwards owned it before

@@ -43,8 +43,8 @@ fn entries_are_few(run: &RunRecord, fuel: u32)
     requires fuel { fuel ≡ run.now.fuel }
     ensures { length (order run.now.logs) < 2 ^ 64 }
 {
-    plain_machine::machines_stay_reached();
-    plain_machine::each_entry_uses_up_work();
+    machine_laws::machines_stay_reached();
+    machine_laws::each_entry_uses_up_work();
     let _threads = run.program.threads.items();
 }
 

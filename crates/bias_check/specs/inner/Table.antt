@@ -8,9 +8,9 @@ use Rattle.plain_monitor.specs.declared.entry.Entry.TheVariants.{Enter, Exit, Ge
 use Rattle.plain_monitor.specs.Monitor.{only_if}
 use Rattle.plain_monitor.specs.Numbers.{least_number, greatest_number}
 use Rattle.object_program.specs.declared.program.ObjectDef.{ObjectDef}
-use Rattle.object_program.specs.Number.{number_of, is_within}
+use Rattle.program_syntax.specs.Number.{number_of, is_within}
 use Rattle.object_program.specs.Program.{ProgramText}
-use Rattle.object_program.specs.Reading.{number_among}
+use Rattle.program_syntax.specs.Reading.{number_among}
 use Rattle.object_program.specs.Valid.{is_among}
 use Rattle.bias_check.specs.declared.names.Names.{Names}
 use Rattle.bias_check.specs.declared.entries.ValueRead.{ValueRead}
@@ -19,7 +19,7 @@ use Rattle.bias_check.specs.declared.entries.EntryRead.{EntryRead}
 use Rattle.bias_check.specs.declared.entries.LineRead.{LineRead}
 use Rattle.bias_check.specs.declared.spelled.Verb.{Verb}
 use Rattle.bias_check.specs.declared.spelled.Verb.TheVariants as verb
-use Rattle.object_program.specs.Line.{spelled_among}
+use Rattle.program_syntax.specs.Line.{spelled_among}
 use Rattle.bias_check.specs.inner.Spelled.{verbs, paths, faults}
 use Rattle.bias_check.specs.inner.Words.{before_last, unended, words_of}
 

@@ -1,5 +1,5 @@
 use Rattle.std.proofs.Common.{sym, ap, ◌∙◌, Ok}
-use Rattle.object_program.specs.Canonical.{canonical}
+use Rattle.program_syntax.specs.Canonical.{canonical}
 use Rattle.made_program.proofs.HandoverIs.{handover_written, handover_read}
 use Rattle.made_program.proofs.handover.Goals as goal
 

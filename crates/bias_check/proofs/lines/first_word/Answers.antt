@@ -1,6 +1,6 @@
 use Rattle.std.proofs.Common.{◌==◌, arith}
 use Rattle.std.proofs.lemmas.Grind.{common_steps}
-use Rattle.object_program.proofs.Cuts.{cut_none, cut_some}
+use Rattle.program_syntax.proofs.Cuts.{cut_none, cut_some}
 use Rattle.bias_check.proofs.lines.first_word.Goals as goal
 
 pub returns-in-None : goal.returns-in-None

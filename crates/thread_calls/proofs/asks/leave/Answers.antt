@@ -6,7 +6,7 @@ use Rattle.core_world.specs.Trees.Operations.{exit_steps}
 use Rattle.plain_monitor.specs.declared.entry.Entry.TheVariants as entry
 use Rattle.plain_machine.specs.declared.call.Asked.TheVariants.{Leaves as Left}
 use Rattle.plain_machine.specs.declared.call.Mode.TheVariants.{Unwinding}
-use Rattle.plain_machine.proofs.ReachedAsked.{asked_of}
+use Rattle.machine_laws.proofs.ReachedAsked.{asked_of}
 use Rattle.core_calls.proofs.Called.{called}
 use Rattle.core_calls.proofs.NamedCalls.{exit_named}
 use Rattle.core_calls.specs.CallsSay.{ExitSays}

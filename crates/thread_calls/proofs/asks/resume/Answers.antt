@@ -6,7 +6,7 @@ use Rattle.core_world.specs.declared.task.Task.TheVariants as task
 use Rattle.heap_table.specs.Resting.{start_now}
 use Rattle.plain_machine.specs.declared.call.Asked.TheVariants.{Resumes}
 use Rattle.plain_machine.specs.declared.call.Mode.TheVariants.{Waiting}
-use Rattle.plain_machine.proofs.ReachedAsked.{asked_of}
+use Rattle.machine_laws.proofs.ReachedAsked.{asked_of}
 use Rattle.thread_calls.specs.Advances.{HasAdvanced}
 use Rattle.thread_calls.specs.Between.{state_by}
 use Rattle.thread_calls.proofs.Advanced.{asks_resume, mode_is}

@@ -6,7 +6,7 @@ use Rattle.heap_table.specs.Resting.{start_now}
 use Rattle.core_world.specs.declared.answer.Turn.TheVariants.{Done}
 use Rattle.plain_monitor.specs.Endings.{ending_entry}
 use Rattle.plain_machine.specs.declared.call.Asked.TheVariants.{Ends}
-use Rattle.plain_machine.proofs.ReachedAsked.{asked_of}
+use Rattle.machine_laws.proofs.ReachedAsked.{asked_of}
 use Rattle.thread_frame.specs.Frames.{frame_behind}
 use Rattle.thread_calls.specs.Advances.{HasAdvanced}
 use Rattle.thread_calls.specs.Asked.{unfinished_of}

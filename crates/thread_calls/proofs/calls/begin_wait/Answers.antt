@@ -7,7 +7,7 @@ use Rattle.heap_table.specs.Resting.{start_now}
 use Rattle.plain_monitor.specs.declared.entry.Entry.TheVariants as entry
 use Rattle.plain_machine.specs.declared.call.Asked.TheVariants.{Calls, Resumes}
 use Rattle.plain_machine.specs.declared.call.Call.TheVariants as call
-use Rattle.plain_machine.proofs.ReachedAsked.{asked_of}
+use Rattle.machine_laws.proofs.ReachedAsked.{asked_of}
 use Rattle.thread_frame.specs.Frames.{frame_behind}
 use Rattle.thread_calls.specs.Advances.{HasAdvanced}
 use Rattle.thread_calls.specs.Between.{state_by}

@@ -1,6 +1,6 @@
 use Rattle.std.proofs.Common.{refl}
 use Rattle.plain_monitor.specs.declared.entry.Entry.TheVariants as entry
-use Rattle.plain_machine.proofs.ReachedStanding.{same_itself}
+use Rattle.machine_laws.proofs.ReachedStanding.{same_itself}
 use Rattle.heap_table.specs.Resting.{start_now}
 use Rattle.thread_calls.proofs.Behind.{came, logged}
 use Rattle.core_calls.proofs.Called.{called}

@@ -1,7 +1,7 @@
 use Rattle.std.proofs.Common.{eq-eqb, refl, arith}
 use Rattle.std.proofs.lemmas.Bool.{and_from}
 use Rattle.plain_monitor.specs.declared.entry.Entry.TheVariants as entry
-use Rattle.plain_machine.proofs.ReachedStanding.{same_itself}
+use Rattle.machine_laws.proofs.ReachedStanding.{same_itself}
 use Rattle.heap_table.specs.Resting.{start_now}
 use Rattle.thread_calls.proofs.Behind.{came, logged, tells_so}
 use Rattle.core_calls.proofs.Called.{called}

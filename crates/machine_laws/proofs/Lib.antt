@@ -1,0 +1,14 @@
+pub mod ReachedOver
+pub mod ReachedRunning
+pub mod ReachedMonitor
+pub mod ReachedFrame
+pub mod ReachedAsked
+pub mod ReachedKinds
+pub mod ReachedFirst
+pub mod ReachedOffered
+pub mod ReachedLists
+pub mod ReachedObjects
+pub mod ReachedEntries
+pub mod ReachedStanding
+pub mod ReachedPaths
+pub mod ReachedRange

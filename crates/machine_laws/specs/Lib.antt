@@ -1,0 +1,5 @@
+pub mod Work
+pub mod Reached
+pub mod ReachedMonitor
+pub mod ReachedThread
+pub mod ReachedEntry

@@ -1,0 +1,46 @@
+-- What holds of each thread of a reached machine.
+use Rattle.std.specs.Prelude.{◌≡◌, ℕ, ◌+◌, ◌<◌, ◌≤◌, List, length, sum, slice_index}
+use Rattle.std.specs.List.{AllByRecursion}
+use Rattle.object_program.specs.Program.{ProgramText, objects_total, slots_of}
+use Rattle.plain_machine.specs.declared.call.Call.{Call}
+use Rattle.plain_machine.specs.declared.call.Call.TheVariants as call
+use Rattle.plain_machine.specs.declared.call.Mode.{Mode}
+use Rattle.plain_machine.specs.declared.call.Mode.TheVariants.{Calling, Waiting, Unwinding, Ended}
+use Rattle.plain_machine.specs.Thread.{ThreadState}
+use Rattle.plain_machine.specs.Values.{IsObject, IsValueOf}
+
+-- an object of the program that is held, by a thread with these holds
+abbrev pub IsHeld : ProgramText → List ℕ → ℕ → Type 0
+IsHeld p holds o = IsObject p o × (1 ≤ slice_index holds o)
+
+-- a call that a thread with these holds and so many dumps may make
+abbrev pub IsCallOf : ProgramText → List ℕ → ℕ → Call → Type 0
+IsCallOf p holds dumps (call.Enter o) = IsObject p o × (sum holds < 64)
+IsCallOf p holds dumps (call.Exit o) = IsHeld p holds o
+IsCallOf p holds dumps (call.Wait o) = IsHeld p holds o
+IsCallOf p holds dumps (call.Notify o) = IsHeld p holds o
+IsCallOf p holds dumps (call.NotifyAll o) = IsHeld p holds o
+IsCallOf p holds dumps (call.Get x o k) = IsHeld p holds o × (k < slots_of p o)
+IsCallOf p holds dumps (call.Put o k v) = IsHeld p holds o × (k < slots_of p o) × IsValueOf (objects_total p) v
+IsCallOf p holds dumps (call.Hash x o) = IsObject p o
+IsCallOf p holds dumps (call.Print v) = IsValueOf (objects_total p) v
+IsCallOf p holds dumps (call.Dump k) = (k ≡ dumps + 1) × (k ≤ 4)
+
+-- a call is paid for; who waits does so on an object of the program; who has ended holds nothing
+abbrev pub IsModeOf : ProgramText → ThreadState → Mode → Type 0
+IsModeOf p s (Calling c) = (1 ≤ s.fuel) × IsCallOf p s.holds s.dumps c
+IsModeOf p s (Waiting o) = IsObject p o
+IsModeOf p s (Unwinding e) = Unit {0}
+IsModeOf p s (Ended e) = sum s.holds ≡ 0
+
+-- what holds of a thread of the program, wherever it is: it holds objects at most 64 times, and makes at most 4 dumps
+pub record IsStateOf (p : ProgramText) (s : ThreadState) : Type 0 where
+  pub holds : length s.holds ≡ objects_total p
+  pub few : sum s.holds ≤ 64
+  pub dumps : s.dumps ≤ 4
+  pub locals : AllByRecursion (IsValueOf (objects_total p)) s.locals
+
+-- what holds of it behind each entry
+pub record IsThreadOf (p : ProgramText) (s : ThreadState) : Type 0 where
+  pub state : IsStateOf p s
+  pub mode : IsModeOf p s s.mode

@@ -1,5 +1,0 @@
-use Rattle.object_program.proofs.CanonicalPrograms.{program_of-canonical}
-use Rattle.object_program.proofs.laws.canonical_texts_are_read_back.Goals as goal
-
-pub returns : goal.returns
-returns c = program_of-canonical

@@ -1,6 +1,0 @@
-use Rattle.std.proofs.Common.{◌≡◌, drop}
-use Rattle.object_program.specs.Canonical.{label_name}
-use Rattle.object_program.proofs.write.label_name.Given as goal
-
-abbrev pub invariant-loop-label : goal.invariant-loop-label
-invariant-loop-label l = label_name (drop l.label-index l.labels) l.l ≡ label_name l.labels l.l

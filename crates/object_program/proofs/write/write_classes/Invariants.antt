@@ -1,7 +1,0 @@
-use Rattle.std.proofs.Common.{◌≡◌, ◌++◌, map, take}
-use Rattle.object_program.specs.Canonical.{class_words}
-use Rattle.object_program.specs.inner.Written.{lines_text}
-use Rattle.object_program.proofs.write.write_classes.Given as goal
-
-abbrev pub invariant-loop-class : goal.invariant-loop-class
-invariant-loop-class l = l.out.items ≡ l.fn.out.items ++ lines_text (map class_words (take l.class-index l.classes))

@@ -1,5 +1,0 @@
-use Rattle.object_program.proofs.Written.{err_behind}
-use Rattle.object_program.proofs.write.write_labels.Goals as goal
-
-pub returns-in_err-write_label-clause-err : goal.returns-in_err-write_label-clause-err
-returns-in_err-write_label-clause-err c = err_behind _ _ _ _ _ c.loop-label.invariant c.in_err-write_label.ensures.err

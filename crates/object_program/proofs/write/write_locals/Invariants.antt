@@ -1,7 +1,0 @@
-use Rattle.std.proofs.Common.{◌≡◌, ◌++◌, map, take}
-use Rattle.object_program.specs.Canonical.{local_words}
-use Rattle.object_program.specs.inner.Written.{lines_text}
-use Rattle.object_program.proofs.write.write_locals.Given as goal
-
-abbrev pub invariant-loop-local : goal.invariant-loop-local
-invariant-loop-local l = l.out.items ≡ l.fn.out.items ++ lines_text (map local_words (take l.local-index l.locals))

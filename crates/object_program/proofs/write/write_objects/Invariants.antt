@@ -1,7 +1,0 @@
-use Rattle.std.proofs.Common.{◌≡◌, ◌++◌, map, take}
-use Rattle.object_program.specs.Canonical.{object_words}
-use Rattle.object_program.specs.inner.Written.{lines_text}
-use Rattle.object_program.proofs.write.write_objects.Given as goal
-
-abbrev pub invariant-loop-object : goal.invariant-loop-object
-invariant-loop-object l = l.out.items ≡ l.fn.out.items ++ lines_text (map (object_words l.classes) (take l.object-index l.objects))

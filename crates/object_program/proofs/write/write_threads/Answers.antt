@@ -1,5 +1,0 @@
-use Rattle.object_program.proofs.Written.{err_behind}
-use Rattle.object_program.proofs.write.write_threads.Goals as goal
-
-pub returns-in_err-write_thread-clause-err : goal.returns-in_err-write_thread-clause-err
-returns-in_err-write_thread-clause-err c = err_behind _ _ _ _ _ c.loop-thread.invariant c.in_err-write_thread.ensures.err

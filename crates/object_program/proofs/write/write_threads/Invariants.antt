@@ -1,8 +1,0 @@
-use Rattle.std.proofs.Common.{◌≡◌, ◌++◌, take}
-use Rattle.std.specs.List.{flat_map}
-use Rattle.object_program.specs.Canonical.{thread_lines}
-use Rattle.object_program.specs.inner.Written.{lines_text}
-use Rattle.object_program.proofs.write.write_threads.Given as goal
-
-abbrev pub invariant-loop-thread : goal.invariant-loop-thread
-invariant-loop-thread l = l.out.items ≡ l.fn.out.items ++ lines_text (flat_map (thread_lines l.objects) (take l.thread-index l.threads))

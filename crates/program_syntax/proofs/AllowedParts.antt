@@ -1,0 +1,134 @@
+-- What holds of the declarations and the open section that lines have made so far, seen from before the lines that are ahead.
+use Rattle.std.proofs.Common.{◌≡◌, ℕ, ◌+◌, ◌<◌, ◌≤◌, Bool, true, false, if◌then◌else◌, List, [], ◌∷◌, ◌++◌, length, map, refl, arith, Option, Some, None, IsTrue}
+use Rattle.std.specs.List.{AllByRecursion}
+use Rattle.object_program.specs.Name.{is_name}
+use Rattle.object_program.specs.Program.{ProgramText, total_of}
+use Rattle.object_program.specs.Valid.{is_among, AreNames, AreObjects, AreTargets, IsInstruction, EndsOnce, IsThread}
+use Rattle.program_syntax.specs.Reading.{Before, ends_section, labels_on, number_behind_line, labels_ahead}
+use Rattle.program_syntax.specs.Refusal.{is_end, is_closed}
+use Rattle.object_program.specs.declared.program.ObjectDef.{ObjectDef}
+use Rattle.object_program.specs.declared.program.LabelDef.{LabelDef}
+use Rattle.object_program.specs.declared.program.ThreadDef.{ThreadDef}
+use Rattle.object_program.specs.declared.program.Code.{Code}
+use Rattle.object_program.specs.declared.program.Code.TheVariants.{Set, Add, Sub, Mul, Ref, Elem, Enter, Exit, Wait, Notify, NotifyAll, Get, Put, Hash, Print, Jump, Jlt, Jeq, Dump, End}
+use Rattle.program_syntax.specs.declared.keyword.Keyword.{Keyword}
+use Rattle.plain_monitor.proofs.Lists.{all_weaker}
+
+-- what `IsProgram` says but for the count of threads at the end
+pub record IsAllowedText (p : ProgramText) : Type 0 where
+  pub class_names : AreNames (map (λ c. c.name) p.classes)
+  pub class_slots : AllByRecursion (λ c. c.slots ≤ 16) p.classes
+  pub classes_few : length p.classes ≤ 64
+  pub object_names : AreNames (map (λ d. d.name) p.objects)
+  pub objects : AreObjects (length p.classes) 0 p.objects
+  pub objects_few : total_of p.objects ≤ 4096
+  pub thread_names : AreNames (map (λ t. t.name) p.threads)
+  pub threads : AllByRecursion (IsThread (length p.objects)) p.threads
+  pub threads_few : length p.threads ≤ 16
+
+-- what lines hold for the section that is open before them: its labels on them, where the next instruction has number n, and
+-- whether they close it
+pub record Ahead : Type 0 where
+  pub labels : ℕ → List LabelDef
+  pub closed : Bool
+
+abbrev pub ahead_of : List (List ℕ) → Ahead
+ahead_of lines = record { labels = λ n. labels_ahead n lines; closed = is_closed lines }
+
+-- the same of a line with these words and this keyword, and later lines
+abbrev pub ahead_with : List (List ℕ) → Option Keyword → List (List ℕ) → Ahead
+ahead_with words keyword later = record {
+  labels = λ n. if ends_section keyword then [] else labels_on n words keyword ++ labels_ahead (number_behind_line n keyword) later;
+  closed = if ends_section keyword then is_end keyword else is_closed later;
+}
+
+-- all labels of the open section
+abbrev pub labels_with : Ahead → ThreadDef → List LabelDef
+labels_with ahead t = t.labels ++ ahead.labels (length t.code + 1)
+
+-- an instruction of an open section, which isn't its end
+pub record IsOpenCode (locals objects : ℕ) (labels : List LabelDef) (c : Code) : Type 0 where
+  pub goes_on : c ≡ End → ⊥
+  pub operands : IsInstruction locals objects labels c
+
+-- the thread of an open section, where the closed ones have these names
+pub record IsOpen (objects : ℕ) (names : List (List ℕ)) (ahead : Ahead) (t : ThreadDef) : Type 0 where
+  pub name : IsTrue (is_name t.name)
+  pub new : is_among names t.name ≡ false
+  pub room : length names < 16
+  pub locals : AreNames t.locals
+  pub locals_few : length t.locals ≤ 32
+  pub labels : AreNames (map (λ l. l.name) t.labels)
+  pub targets : AreTargets (length t.code + 1) 1 t.labels
+  pub code : AllByRecursion (IsOpenCode (length t.locals) objects (labels_with ahead t)) t.code
+  pub closed : ahead.closed ≡ true
+
+-- the thread may be that of the open section of this program
+abbrev pub IsOpenIn : ProgramText → Ahead → ThreadDef → Type 0
+IsOpenIn p ahead t = IsOpen (length p.objects) (map (λ u. u.name) p.threads) ahead t
+
+abbrev pub IsSection : ProgramText → Ahead → Option ThreadDef → Type 0
+IsSection p ahead None = Unit {0}
+IsSection p ahead (Some t) = IsOpenIn p ahead t
+
+pub record IsAllowedSoFar (b : Before) (ahead : Ahead) : Type 0 where
+  pub text : IsAllowedText b.text
+  pub section : IsSection b.text ahead b.section
+
+-- more locals or declarations leave an instruction's operands in range
+pub IsInstruction-more : (l m o p : ℕ) (labels : List LabelDef) → l ≤ m → o ≤ p → (c : Code) → IsInstruction l o labels c → IsInstruction m p labels c
+IsInstruction-more l m o p labels lm op (Set x v) h = (omega arith, h.1)
+IsInstruction-more l m o p labels lm op (Add x y z) h = omega arith
+IsInstruction-more l m o p labels lm op (Sub x y z) h = omega arith
+IsInstruction-more l m o p labels lm op (Mul x y z) h = omega arith
+IsInstruction-more l m o p labels lm op (Ref x d) h = omega arith
+IsInstruction-more l m o p labels lm op (Elem x d i) h = omega arith
+IsInstruction-more l m o p labels lm op (Enter x) h = omega arith
+IsInstruction-more l m o p labels lm op (Exit x) h = omega arith
+IsInstruction-more l m o p labels lm op (Wait x) h = omega arith
+IsInstruction-more l m o p labels lm op (Notify x) h = omega arith
+IsInstruction-more l m o p labels lm op (NotifyAll x) h = omega arith
+IsInstruction-more l m o p labels lm op (Get x y s) h = omega arith
+IsInstruction-more l m o p labels lm op (Put y s x) h = omega arith
+IsInstruction-more l m o p labels lm op (Hash x y) h = omega arith
+IsInstruction-more l m o p labels lm op (Print x) h = omega arith
+IsInstruction-more l m o p labels lm op (Jump t) h = h
+IsInstruction-more l m o p labels lm op (Jlt x y t) h = (omega arith, omega arith, h.2)
+IsInstruction-more l m o p labels lm op (Jeq x y t) h = (omega arith, omega arith, h.2)
+IsInstruction-more l m o p labels lm op Dump h = tt
+IsInstruction-more l m o p labels lm op End h = tt
+
+pub IsOpenCode-more : (l m o : ℕ) (labels : List LabelDef) → l ≤ m → (c : Code) → IsOpenCode l o labels c → IsOpenCode m o labels c
+IsOpenCode-more l m o labels lm c h =
+    record { goes_on = h.goes_on; operands = IsInstruction-more l m o o labels lm (omega arith) c h.operands }
+
+pub IsThread-more : (o p : ℕ) → o ≤ p → (t : ThreadDef) → IsThread o t → IsThread p t
+IsThread-more o p op t h =
+    let l = length t.locals in
+    record {
+      locals = h.locals;
+      locals_few = h.locals_few;
+      labels = h.labels;
+      targets = h.targets;
+      code = all_weaker _ _ (λ c i. IsInstruction-more l l o p t.labels (omega arith) op c i) t.code h.code;
+      code_few = h.code_few;
+      ends = h.ends;
+    }
+
+pub AreObjects-more : (c e n : ℕ) → c ≤ e → (ds : List ObjectDef) → AreObjects c n ds → AreObjects e n ds
+AreObjects-more c e n ce [] h = tt
+AreObjects-more c e n ce (d ∷ ds) h = ((omega arith, h.0.1, h.0.2, h.0.3), AreObjects-more c e (n + d.size) ce ds h.1)
+
+pub AreObjects-push : (c n m : ℕ) (ds : List ObjectDef) (d : ObjectDef) → n + total_of ds ≡ m → AreObjects c n ds → AreObjects c m (d ∷ []) → AreObjects c n (ds ++ d ∷ [])
+AreObjects-push c n m [] d e all here = ((here.0.0, omega arith, here.0.2, here.0.3), tt)
+AreObjects-push c n m (x ∷ xs) d e all here = (all.0, AreObjects-push c (n + x.size) m xs d (omega arith) all.1 here)
+
+pub total_of-push : (ds : List ObjectDef) (d : ObjectDef) → total_of (ds ++ d ∷ []) ≡ total_of ds + d.size
+total_of-push [] d = omega arith
+total_of-push (x ∷ xs) d = omega (arith, total_of-push xs d)
+
+-- instructions none of which is an `end`, and then one
+pub EndsOnce-push : (l o : ℕ) (labels : List LabelDef) (cs : List Code) → AllByRecursion (IsOpenCode l o labels) cs → EndsOnce (cs ++ End ∷ [])
+EndsOnce-push l o labels [] h = refl
+EndsOnce-push l o labels (c ∷ []) h = (h.0.goes_on, refl)
+EndsOnce-push l o labels (c ∷ d ∷ cs) h = (h.0.goes_on, EndsOnce-push l o labels (d ∷ cs) h.1)

@@ -1,0 +1,31 @@
+//! The words that lines begin with.
+
+#[derive(Clone, Copy)]
+pub enum Keyword {
+    Class,
+    Object,
+    Array,
+    Thread,
+    Local,
+    Label,
+    Set,
+    Add,
+    Sub,
+    Mul,
+    Ref,
+    Elem,
+    Enter,
+    Exit,
+    Wait,
+    Notify,
+    NotifyAll,
+    Get,
+    Put,
+    Hash,
+    Print,
+    Jump,
+    Jlt,
+    Jeq,
+    Dump,
+    End,
+}

@@ -1,0 +1,200 @@
+//! The counts of a record.
+
+ghost use Rattle.std.specs.Prelude.{◌≡◌, ◌≤◌, [], ◌∷◌, false, codes, length, true, IfOk};
+ghost use Rattle.plain_machine.specs.Legal.{IsLegal};
+ghost use Rattle.object_program.specs.Name.{is_name};
+ghost use Rattle.object_program.specs.declared.program.Code.{Code};
+
+use lock_journal::RunRecord;
+use object_program::{ClassDef, Code, Name, ObjectDef, Program, ThreadDef};
+use plain_monitor::{Entry, List, Logged, Path};
+use std::alloc::{AllocError, Global};
+use std::test::Fail;
+use wait_report::count_objects;
+
+/// Thread `t1` enters object 0, waits on it, and leaves it once it was notified.
+const CODE_OF_T1: [Code; 5] = [
+    Code::Ref { x: 0, n: 0 },
+    Code::Enter { x: 0 },
+    Code::Wait { x: 0 },
+    Code::Exit { x: 0 },
+    Code::End,
+];
+
+/// Thread `t2` enters object 0 twice, notifies `t1` and leaves it, and then enters and leaves object 2.
+const CODE_OF_T2: [Code; 10] = [
+    Code::Ref { x: 0, n: 0 },
+    Code::Enter { x: 0 },
+    Code::Enter { x: 0 },
+    Code::Notify { x: 0 },
+    Code::Exit { x: 0 },
+    Code::Exit { x: 0 },
+    Code::Ref { x: 0, n: 2 },
+    Code::Enter { x: 0 },
+    Code::Exit { x: 0 },
+    Code::End,
+];
+
+/// What `t1` logs.
+const LOG_OF_T1: [Logged; 5] = [
+    Logged {
+        stamp: 1,
+        entry: Entry::Enter {
+            object: 0,
+            path: Path::BiasTaken,
+        },
+    },
+    Logged {
+        stamp: 2,
+        entry: Entry::Wait { object: 0 },
+    },
+    Logged {
+        stamp: 8,
+        entry: Entry::Resume { object: 0 },
+    },
+    Logged {
+        stamp: 9,
+        entry: Entry::Exit { object: 0 },
+    },
+    Logged {
+        stamp: 10,
+        entry: Entry::Done,
+    },
+];
+
+/// What `t2` logs.
+const LOG_OF_T2: [Logged; 8] = [
+    Logged {
+        stamp: 3,
+        entry: Entry::Enter {
+            object: 0,
+            path: Path::StackFirst,
+        },
+    },
+    Logged {
+        stamp: 4,
+        entry: Entry::Enter {
+            object: 0,
+            path: Path::StackAgain,
+        },
+    },
+    Logged {
+        stamp: 5,
+        entry: Entry::Notify {
+            object: 0,
+            woken: Some(0),
+        },
+    },
+    Logged {
+        stamp: 6,
+        entry: Entry::Exit { object: 0 },
+    },
+    Logged {
+        stamp: 7,
+        entry: Entry::Exit { object: 0 },
+    },
+    Logged {
+        stamp: 8,
+        entry: Entry::Enter {
+            object: 2,
+            path: Path::MonitorFirst,
+        },
+    },
+    Logged {
+        stamp: 9,
+        entry: Entry::Exit { object: 2 },
+    },
+    Logged {
+        stamp: 10,
+        entry: Entry::Done,
+    },
+];
+
+/// A thread of this name with one local, `x`.
+fn thread(alloc: Global, bytes: &[u8], code: &[Code]) -> Result<ThreadDef, AllocError>
+    requires { is_name bytes.now ≡ true }
+    ensures { IfOk result (λ t. t
+        ≡ record { name = bytes.now; locals = codes "x" ∷ []; labels = []; code = code.now }) }
+{
+    Ok(ThreadDef {
+        name: Name::of(bytes),
+        locals: List::of(Vec::from_slice(alloc, &[Name::of(b"x")])?),
+        labels: List::of(Vec::new(alloc)),
+        code: List::of(Vec::from_slice(alloc, code)?),
+    })
+}
+
+/// An object of the class.
+fn object(bytes: &[u8], first: u32) -> ObjectDef
+    requires { is_name bytes.now ≡ true }
+    ensures { result ≡ record { name = bytes.now; class = 0; first = first; size = 1; array = false } }
+{
+    ObjectDef {
+        name: Name::of(bytes),
+        class: 0,
+        first,
+        size: 1,
+        array: false,
+    }
+}
+
+/// The program of both threads, over the objects `a`, `b` and `c`.
+fn program(alloc: Global) -> Result<Program, AllocError>
+    ensures { IfOk result (λ p. p ≡ record {
+      classes = record { name = codes "C"; slots = 0 } ∷ [];
+      objects = record { name = codes "a"; class = 0; first = 0; size = 1; array = false }
+          ∷ record { name = codes "b"; class = 0; first = 1; size = 1; array = false }
+          ∷ record { name = codes "c"; class = 0; first = 2; size = 1; array = false } ∷ [];
+      threads = record { name = codes "t1"; locals = codes "x" ∷ []; labels = []; code = CODE_OF_T1 }
+          ∷ record { name = codes "t2"; locals = codes "x" ∷ []; labels = []; code = CODE_OF_T2 } ∷ [];
+    }) }
+{
+    let class = ClassDef {
+        name: Name::of(b"C"),
+        slots: 0,
+    };
+    let objects = [object(b"a", 0), object(b"b", 1), object(b"c", 2)];
+    let mut threads = Vec::new(alloc);
+    threads.push(thread(alloc, b"t1", &CODE_OF_T1)?)?;
+    threads.push(thread(alloc, b"t2", &CODE_OF_T2)?)?;
+    Ok(Program {
+        classes: List::of(Vec::from_slice(alloc, &[class])?),
+        objects: List::of(Vec::from_slice(alloc, &objects)?),
+        threads: List::of(threads),
+    })
+}
+
+/// The record of a run of it.
+fn record_of_run(alloc: Global) -> Result<RunRecord, AllocError>
+    ensures legal { IfOk result (λ run. IsLegal run.program run.fuel run.logs) }
+    ensures few { IfOk result (λ run. length run.logs ≤ 16) }
+{
+    let mut logs = Vec::new(alloc);
+    logs.push(List::of(Vec::from_slice(alloc, &LOG_OF_T1)?))?;
+    logs.push(List::of(Vec::from_slice(alloc, &LOG_OF_T2)?))?;
+    Ok(RunRecord {
+        program: program(alloc)?,
+        fuel: 100,
+        start: 1,
+        bias: true,
+        logs: List::of(logs),
+        shots: List::of(Vec::new(alloc)),
+        classes: List::of(Vec::new(alloc)),
+        halted: false,
+    })
+}
+
+/// Object 0 goes from `t1` to `t2` and back. Object 1 isn't entered, and object 2 has one thread.
+#[test]
+fn objects_are_counted(rt: HostRuntime) -> Result<(), Fail> {
+    let run = record_of_run(rt.alloc())?;
+    let counts = count_objects(rt.alloc(), &run)?;
+    let expected = [(0, [0, 1, 1, 1, 0, 0], 2), (2, [0, 0, 0, 0, 1, 0], 0)];
+    assert_eq!(rt; counts.items().len(), expected.len());
+    for (count, (object, paths, handovers)) in counts.items().iter().zip(expected.iter()) {
+        assert_eq!(rt; count.object, *object);
+        assert_eq!(rt; count.paths.items(), paths.as_slice());
+        assert_eq!(rt; count.handovers, *handovers);
+    }
+    Ok(())
+}

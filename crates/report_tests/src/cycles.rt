@@ -1,0 +1,125 @@
+//! The cycles of machines in which threads wait.
+
+ghost use Rattle.std.specs.Prelude.{◌≡◌, length, IfOk};
+
+use example_programs::WAIT_FOREVER;
+use object_program::Program;
+use plain_machine::{Machine, Offer};
+use plain_monitor::List;
+use program_syntax::read_program;
+use std::alloc::Global;
+use std::process::Abort;
+use std::test::Fail;
+use wait_report::{Cycle, find_cycles};
+
+/// More rounds than any of these programs makes.
+const ROUNDS: usize = 50;
+
+/// A text of so many objects, `o0`, `o1` and so on, and of a thread for each pair: it enters the first object, then the second,
+/// and comes to its end without leaving them.
+fn text(alloc: Global, objects: usize, pairs: &[(usize, usize)]) -> Result<String, Fail> {
+    let mut text = String::from_str(alloc, "class C 0\n")?;
+    for o in 0..objects {
+        let line = format!(in alloc; "object o{o} C\n")?;
+        text.push_str(line.as_str())?;
+    }
+    for (first, second) in pairs {
+        let thread = *first;
+        let line = format!(in alloc;
+            "\
+thread t{thread}
+local x
+ref x o{first}
+enter x
+ref x o{second}
+enter x
+end
+"
+        )?;
+        text.push_str(line.as_str())?;
+    }
+    Ok(text)
+}
+
+/// The machine behind a round of turns after the other, where nobody can go on or many rounds are over.
+fn stand_still(alloc: Global, program: &Program) -> Result<Machine, Fail>
+    ensures { IfOk result (λ m. length m.threads ≡ length program.now.threads) }
+{
+    let mut machine = Machine::new(alloc, program, 100)?;
+    for _ in 0..ROUNDS {
+        turn_each(program, &mut machine);
+    }
+    Ok(machine)
+}
+
+/// A turn of each thread.
+fn turn_each(program: &Program, machine: &mut Machine)
+    requires { length machine.old.threads ≡ length program.now.threads }
+    ensures { length machine.new.threads ≡ length program.now.threads }
+{
+    for t in 0..program.threads.items().len() {
+        if let Offer::Next(entry) = machine.offer(t as u32) {
+            let _ = machine.take(t as u32, &entry);
+        }
+    }
+}
+
+/// The cycles at the end of the program with this text.
+fn cycles_of(alloc: Global, text: &str) -> Result<List<Cycle>, Fail> {
+    let program = read_program(alloc, text.as_bytes())?;
+    let machine = stand_still(alloc, &program)?;
+    Ok(find_cycles(alloc, &program, &machine)?)
+}
+
+/// Asserts that these are the cycles, each as the pairs of its links.
+fn expect(rt: &impl Abort, cycles: &[Cycle], expected: &[&[(u32, u32)]]) {
+    assert_eq!(rt; cycles.len(), expected.len());
+    for (cycle, pairs) in cycles.iter().zip(expected.iter()) {
+        assert_eq!(rt; cycle.links.items().len(), pairs.len());
+        for (link, pair) in cycle.links.items().iter().zip(pairs.iter()) {
+            assert_eq!(rt; (link.thread, link.object), *pair);
+        }
+    }
+}
+
+#[test]
+fn crosswise_threads_are_a_cycle(rt: HostRuntime) -> Result<(), Fail> {
+    let text = text(rt.alloc(), 2, &[(0, 1), (1, 0)])?;
+    let cycles = cycles_of(rt.alloc(), text.as_str())?;
+    expect(&rt, cycles.items(), &[&[(0, 1), (1, 0)]]);
+    Ok(())
+}
+
+#[test]
+fn a_wait_is_no_cycle(rt: HostRuntime) -> Result<(), Fail> {
+    let cycles = cycles_of(rt.alloc(), WAIT_FOREVER)?;
+    expect(&rt, cycles.items(), &[]);
+    Ok(())
+}
+
+/// Three circles: 0 and 3; 1, 5 and 2; 4 and 6. Thread 7 waits for one of the first and is in none.
+#[test]
+fn three_cycles_are_given_once_each(rt: HostRuntime) -> Result<(), Fail> {
+    let pairs = [
+        (0, 3),
+        (1, 5),
+        (2, 1),
+        (3, 0),
+        (4, 6),
+        (5, 2),
+        (6, 4),
+        (7, 3),
+    ];
+    let text = text(rt.alloc(), 8, &pairs)?;
+    let cycles = cycles_of(rt.alloc(), text.as_str())?;
+    expect(
+        &rt,
+        cycles.items(),
+        &[
+            &[(0, 3), (3, 0)],
+            &[(1, 5), (5, 2), (2, 1)],
+            &[(4, 6), (6, 4)],
+        ],
+    );
+    Ok(())
+}
