@@ -136,10 +136,19 @@ def member(module, name):
         parts = parts[1:-1] if parts[-1] in ("TheVariants", "TheInside") else parts[1:]
         return rust_type(crate, parts[:-1], parts[-1]), variants
     path = f"crates/{crate}/specs/{'/'.join(parts)}.antt"
+    if not is_file(path) and parts[0] in handed_on(crate):
+        return member(handed_on(crate)[parts[0]], name)
     found = spec_names(path).get(name)
     if found is None:
         raise Unreadable(f"{path} has no {name}")
     return found
+
+
+@functools.cache
+def handed_on(crate):
+    """The modules of crates below that a crate's `specs/` hands on, by the names that they have there."""
+    root = f"crates/{crate}/specs/Lib.antt"
+    return {module.split(".")[-1]: module for module in re.findall(r"^pub use (Rattle\.[\w.]+)$", read(root), re.M)} if is_file(root) else {}
 
 
 @functools.cache

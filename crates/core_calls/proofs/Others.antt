@@ -11,7 +11,7 @@ use Rattle.plain_monitor.specs.Monitor.{is_thread}
 use Rattle.core_world.specs.declared.answer.Why.TheVariants.{Stopping, Requested}
 use Rattle.core_world.specs.Words.Forms.{runs_form, runs_in, requester_form, requester_in, asks_in, still_form, is_still}
 use Rattle.core_world.specs.Trees.SafepointSteps.{has_requester, all_but, running_too, requested_by, released_word, halted_word}
-use Rattle.core_locks.proofs.SafeBits.{no_bits, without, including, masked, without_range, without_mine, including_range, including_mine}
+use Rattle.core_world.proofs.SafeBits.{no_bits, without, including, masked, without_range, without_mine, including_range, including_mine}
 use Rattle.core_calls.specs.Stands.{Stand, IsGoing, IsOff, IsHeld, IsOfAnother}
 
 -- ANOTHER THREAD HAS THE REQUEST, where the word has one that is not the thread's own.

@@ -21,10 +21,10 @@ use Rattle.core_world.specs.Steps.{world_after, known_hit, known_miss}
 use Rattle.core_counts.specs.Steps.{IsBeside}
 use Rattle.core_counts.proofs.Leaning.{left_biases, left_counts}
 use Rattle.core_world.specs.World.{World, with_word_and_known, logs}
-use Rattle.core_counts.specs.BiasLaw.{BiasLaw, BiasLawHolds}
+use Rattle.core_law.specs.BiasLaw.{BiasLaw, BiasLawHolds}
 use Rattle.plain_history.specs.EnterPaths.{PathFits, entries_on, is_by_bias}
 use Rattle.plain_history.specs.HeldByLog.{held_by, nothing_held}
-use Rattle.core_counts.specs.CountsAndVerdicts.{sum_below}
+use Rattle.core_law.specs.CountsAndVerdicts.{sum_below}
 use Rattle.core_counts.specs.Moves.{BiasesKept, OthersStay, LogsNothing}
 use Rattle.core_world.proofs.KnowledgeParts.{with_known_here, with_known_else, part_moves, logs_stay}
 use Rattle.core_counts.proofs.Whole.{quiet_law}

@@ -19,9 +19,9 @@ use Rattle.core_world.specs.Steps.{world_after, known_hit}
 use Rattle.core_world.specs.Valid.{Fits}
 use Rattle.core_world.specs.World.{World, with_word_and_known}
 use Rattle.core_world.proofs.KnowledgeParts.{by_equal, with_known_here}
-use Rattle.core_counts.specs.BiasLaw.{BiasLawHolds}
-use Rattle.core_counts.specs.CountsAndVerdicts.{sum_below}
-use Rattle.core_counts.specs.MarksAndLogs.{is_anonymous}
+use Rattle.core_law.specs.BiasLaw.{BiasLawHolds}
+use Rattle.core_law.specs.CountsAndVerdicts.{sum_below}
+use Rattle.core_law.specs.MarksAndLogs.{is_anonymous}
 use Rattle.core_counts.specs.Steps.{MayDropBias}
 use Rattle.core_world.specs.Trees.BiasSteps.{unbias_plan}
 use Rattle.core_counts.proofs.Leaning.{still_leans, unleaning}

@@ -25,9 +25,9 @@ use Rattle.core_world.specs.Valid.{Fits}
 use Rattle.core_world.specs.World.{World, with_word_and_known, logs}
 use Rattle.core_world.proofs.KnowledgeParts.{by_equal, with_known_here}
 use Rattle.core_locks.specs.Knowing.{GoesOn}
-use Rattle.core_counts.specs.BiasLaw.{BiasLawHolds}
-use Rattle.core_counts.specs.CountsAndVerdicts.{sum_below}
-use Rattle.core_counts.specs.MarksAndLogs.{is_anonymous}
+use Rattle.core_law.specs.BiasLaw.{BiasLawHolds}
+use Rattle.core_law.specs.CountsAndVerdicts.{sum_below}
+use Rattle.core_law.specs.MarksAndLogs.{is_anonymous}
 use Rattle.core_counts.specs.Moves.{LogsNothing}
 use Rattle.core_counts.specs.Steps.{MayTakeBias}
 use Rattle.core_world.specs.Trees.BiasSteps.{rebias_plan}

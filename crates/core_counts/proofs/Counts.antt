@@ -4,7 +4,7 @@ use Rattle.std.proofs.lemmas.Bool.Decides.{nat_tests}
 use Rattle.lock_policy.specs.declared.policy.Verdict.TheVariants.{Single}
 use Rattle.lock_policy.specs.Policy.{decided, is_reset, after_reset, raised, verdict_at}
 use Rattle.core_world.specs.Threads.Counts.{ClassCounts, with_verdict, with_reset}
-use Rattle.core_counts.specs.CountsAndVerdicts.{CountFits, ClassFits, once_more}
+use Rattle.core_law.specs.CountsAndVerdicts.{CountFits, ClassFits, once_more}
 
 -- the count was set to 0
 reset_fits : (n a b c r : ℕ) → CountFits n a b c r → 20 ≤ n → n < 40 → CountFits 1 (a + 1) b c (r + 1)

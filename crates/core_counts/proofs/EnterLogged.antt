@@ -20,7 +20,7 @@ use Rattle.core_locks.specs.JournalLaws.{MayLogEnter}
 use Rattle.core_locks.proofs.Logging.{IsLogging, may_log}
 use Rattle.core_locks.proofs.EnterLogs.{is_taking}
 use Rattle.core_locks.proofs.EnterFits as fits
-use Rattle.core_counts.specs.BiasLaw.{BiasLawHolds}
+use Rattle.core_law.specs.BiasLaw.{BiasLawHolds}
 use Rattle.core_counts.specs.Steps.{LogsBeside}
 use Rattle.core_counts.proofs.Logged.{entry_logged}
 

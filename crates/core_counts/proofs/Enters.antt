@@ -16,7 +16,7 @@ use Rattle.core_world.specs.declared.task.Unfinished.{Unfinished}
 use Rattle.core_world.specs.Words.Forms.{is_biased, is_biased_form}
 use Rattle.core_world.specs.Locks.{Lock, BiasedTo}
 use Rattle.core_world.specs.Threads.Stages.{path_into}
-use Rattle.core_counts.specs.MarksAndLogs.{EntersFitMarks, IsHashed, IsTaken, is_anonymous, is_anonymous_form}
+use Rattle.core_law.specs.MarksAndLogs.{EntersFitMarks, IsHashed, IsTaken, is_anonymous, is_anonymous_form}
 use Rattle.plain_history.specs.EnterPaths.{EndsStay, first_path, ends_bias, needs_bias, is_by_bias, is_hash, has_hash}
 use Rattle.core_counts.specs.Moves.{LeansByMark, BiasesKept, OthersStay, LogsEntry}
 use Rattle.core_world.proofs.KnowledgeParts.{by_equal}

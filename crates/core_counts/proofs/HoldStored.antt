@@ -22,7 +22,7 @@ use Rattle.core_world.specs.Steps.{world_after, known_hit}
 use Rattle.core_world.specs.Valid.{Fits}
 use Rattle.core_world.specs.World.{World}
 use Rattle.core_world.specs.Trees.LockSteps.{hold_plan}
-use Rattle.core_counts.specs.BiasLaw.{BiasLawHolds}
+use Rattle.core_law.specs.BiasLaw.{BiasLawHolds}
 use Rattle.core_locks.specs.Knowing.{IsBiasTo, SawOwnBias}
 use Rattle.core_counts.specs.Steps.{WentBefore, MayComeBy}
 use Rattle.core_counts.proofs.Holds.{held_named}

@@ -19,7 +19,7 @@ use Rattle.core_world.proofs.Naming.{same_named, with_word_same}
 use Rattle.core_world.specs.Threads.Stages.{Inflation}
 use Rattle.core_world.specs.World.{World, with_word_and_known}
 use Rattle.core_world.proofs.KnowledgeParts.{by_equal}
-use Rattle.core_counts.specs.MarksAndLogs.{is_anonymous, is_anonymous_form}
+use Rattle.core_law.specs.MarksAndLogs.{is_anonymous, is_anonymous_form}
 use Rattle.core_counts.specs.Moves.{LeansByMark, BiasesKept}
 use Rattle.core_counts.specs.Steps.{LeavesBiases, is_bias_word}
 use Rattle.core_counts.proofs.Enters.{anonymous_is_biased}

@@ -15,7 +15,6 @@ pub mod BiasDrops
 pub mod HoldStored
 pub mod Releases
 pub mod RevocationEnds
-pub mod RunEnds
 pub mod TakenLogs
 pub mod QuietKinds
 pub mod LoggedKinds

@@ -27,7 +27,7 @@ use Rattle.core_world.specs.World.{World, with_word_and_known, logs}
 use Rattle.core_world.proofs.Frames.{same}
 use Rattle.core_world.proofs.KnowledgeParts.{with_known_here, with_known_else, part_moves, logs_grow, logs_length}
 use Rattle.core_locks.specs.Knowing.{operation_of}
-use Rattle.core_counts.specs.BiasLaw.{BiasLaw, BiasLawHolds}
+use Rattle.core_law.specs.BiasLaw.{BiasLaw, BiasLawHolds}
 use Rattle.core_counts.specs.Moves.{OthersStay, LogsEntry}
 use Rattle.core_counts.specs.Steps.{HasNone, LogsBeside, SawNone, SawUnbiased}
 use Rattle.core_counts.proofs.Leaning.{leans_by_mark, left_biases, left_counts}

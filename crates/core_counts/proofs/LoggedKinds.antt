@@ -54,7 +54,7 @@ use Rattle.core_locks.proofs.Prelude.{state_after, first_draw}
 use Rattle.core_world.specs.Threads.Known.{draw_of}
 use Rattle.plain_monitor.specs.Monitor.{PlainMonitor}
 use Rattle.mark_word.proofs.ReadingMarks.{read_mark-mark_of}
-use Rattle.core_counts.specs.BiasLaw.{BiasLawHolds}
+use Rattle.core_law.specs.BiasLaw.{BiasLawHolds}
 use Rattle.core_counts.specs.Steps.{LeavesBiases, SawNone, LogsBeside, KeepsBiases}
 use Rattle.core_counts.proofs.Beside.{beside_keeps, missed_keeps}
 use Rattle.core_counts.proofs.Leaning.{exchange_leaves, inflated_unbiased}

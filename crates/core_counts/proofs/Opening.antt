@@ -8,9 +8,9 @@ use Rattle.core_world.specs.Words.Shape.{Shape, class_of}
 use Rattle.core_world.specs.World.{logs_from}
 use Rattle.core_world.specs.Locks.{lock}
 use Rattle.core_world.specs.Opening.{opening, first_known, first_mark}
-use Rattle.core_counts.specs.BiasLaw.{BiasLaw, BiasLawHolds}
-use Rattle.core_counts.specs.CountsAndVerdicts.{CountFits, sum_below}
-use Rattle.core_counts.specs.MarksAndLogs.{is_anonymous, is_anonymous_form}
+use Rattle.core_law.specs.BiasLaw.{BiasLaw, BiasLawHolds}
+use Rattle.core_law.specs.CountsAndVerdicts.{CountFits, sum_below}
+use Rattle.core_law.specs.MarksAndLogs.{is_anonymous, is_anonymous_form}
 use Rattle.plain_history.specs.EnterPaths.{entries_on}
 use Rattle.core_world.proofs.Readings.{mark_five}
 

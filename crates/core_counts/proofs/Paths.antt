@@ -9,9 +9,9 @@ use Rattle.core_world.specs.declared.stage.Stage.{Stage}
 use Rattle.core_world.specs.declared.task.Unfinished.{Unfinished}
 use Rattle.core_world.specs.Words.Forms.{is_biased}
 use Rattle.core_world.specs.Threads.Stages.{path_into}
-use Rattle.core_counts.specs.MarksAndLogs.{PathsFitHolds}
+use Rattle.core_law.specs.MarksAndLogs.{PathsFitHolds}
 use Rattle.plain_history.specs.EnterPaths.{PathsFit, PathFits}
-use Rattle.core_counts.specs.CountsAndVerdicts.{VerdictsFit, IsDecided, sum_below}
+use Rattle.core_law.specs.CountsAndVerdicts.{VerdictsFit, IsDecided, sum_below}
 use Rattle.plain_history.specs.HeldByLog.{held_by, held_after, nothing_held}
 use Rattle.core_world.proofs.KnowledgeParts.{by_equal}
 use Rattle.core_counts.proofs.Quiets.{stays_unbiased}

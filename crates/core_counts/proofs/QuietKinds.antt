@@ -44,7 +44,7 @@ use Rattle.core_locks.specs.ShotLaws.{MayKeepShot}
 use Rattle.core_locks.specs.WakeLaws.{MayWakeNext}
 use Rattle.core_locks.proofs.MarkMeanings.{neutral_bare, locked_bare, locked_read}
 use Rattle.core_locks.proofs.NamesLaws.{inflated_read}
-use Rattle.core_counts.specs.BiasLaw.{BiasLawHolds}
+use Rattle.core_law.specs.BiasLaw.{BiasLawHolds}
 use Rattle.core_counts.specs.Steps.{LeavesBiases, KeepsBiases}
 use Rattle.core_counts.proofs.Beside.{beside_keeps}
 use Rattle.core_counts.proofs.Leaning.{exchange_leaves}

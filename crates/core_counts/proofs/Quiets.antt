@@ -8,7 +8,7 @@ use Rattle.core_world.specs.declared.task.Unfinished.{Unfinished}
 use Rattle.core_world.specs.Words.Forms.{is_biased}
 use Rattle.core_world.specs.Locks.{Lock, BiasedTo}
 use Rattle.core_world.specs.Threads.Stages.{path_into}
-use Rattle.core_counts.specs.MarksAndLogs.{EntersFitMarks, IsHashed, IsTaken}
+use Rattle.core_law.specs.MarksAndLogs.{EntersFitMarks, IsHashed, IsTaken}
 use Rattle.core_counts.specs.Moves.{OthersStay, LogsNothing}
 use Rattle.core_world.proofs.KnowledgeParts.{by_equal}
 

@@ -9,8 +9,8 @@ use Rattle.core_world.specs.Threads.Counts.{ClassCounts, CountedVerdict, counts_
 use Rattle.core_world.specs.Threads.Known.{Known}
 use Rattle.core_world.specs.World.{World, with_known, with_word_and_known}
 use Rattle.core_world.proofs.KnowledgeParts.{by_equal, with_known_here, with_known_else}
-use Rattle.core_counts.specs.BiasLaw.{BiasLawHolds, summed}
-use Rattle.core_counts.specs.CountsAndVerdicts.{ClassFits, sum_below, verdicts_on}
+use Rattle.core_law.specs.BiasLaw.{BiasLawHolds, summed}
+use Rattle.core_law.specs.CountsAndVerdicts.{ClassFits, sum_below, verdicts_on}
 use Rattle.core_counts.specs.Miscounts.{NothingReset, with_counts, with_counts_of}
 use Rattle.core_counts.proofs.Paths.{sum_same, sum_more}
 

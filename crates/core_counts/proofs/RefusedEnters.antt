@@ -24,7 +24,7 @@ use Rattle.core_locks.specs.JournalLaws.{MayLogEnter}
 use Rattle.core_locks.proofs.Logging.{IsLogging, may_log}
 use Rattle.core_locks.proofs.EnterLogs.{is_taking}
 use Rattle.core_locks.proofs.EnterFits as fits
-use Rattle.core_counts.specs.BiasLaw.{BiasLawHolds}
+use Rattle.core_law.specs.BiasLaw.{BiasLawHolds}
 
 or_right : (a b : Bool) → b ≡ true → (a || b) ≡ true
 or_right true b e = refl

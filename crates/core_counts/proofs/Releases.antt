@@ -24,10 +24,10 @@ use Rattle.core_world.specs.Trees.BiasSteps.{stage_after}
 use Rattle.core_world.specs.RevocationRules.{Write, writes_in, words_after, revocation_writes}
 use Rattle.core_world.specs.Valid.{IsRevoking}
 use Rattle.core_world.specs.World.{World, with_word_and_known, logs}
-use Rattle.core_counts.specs.BiasLaw.{BiasLaw, BiasLawHolds}
-use Rattle.core_counts.specs.CountsAndVerdicts.{IsDecided, sum_below}
+use Rattle.core_law.specs.BiasLaw.{BiasLaw, BiasLawHolds}
+use Rattle.core_law.specs.CountsAndVerdicts.{IsDecided, sum_below}
 use Rattle.plain_history.specs.EnterPaths.{PathFits, entries_on, is_by_bias}
-use Rattle.core_counts.specs.MarksAndLogs.{is_anonymous}
+use Rattle.core_law.specs.MarksAndLogs.{is_anonymous}
 use Rattle.plain_history.specs.HeldByLog.{held_by, nothing_held}
 use Rattle.core_counts.specs.Moves.{IsGentle, Touched, OthersStay, LogsNothing}
 use Rattle.core_world.proofs.KnowledgeParts.{with_known_here, with_known_else}

@@ -22,7 +22,7 @@ use Rattle.core_world.specs.Valid.{IsRevoking}
 use Rattle.core_world.specs.World.{World, with_word_and_known, logs, logs_from}
 use Rattle.core_world.proofs.Frames.{same}
 use Rattle.core_world.proofs.KnowledgeParts.{each_with_known}
-use Rattle.core_counts.specs.BiasLaw.{BiasLaw, BiasLawHolds}
+use Rattle.core_law.specs.BiasLaw.{BiasLaw, BiasLawHolds}
 use Rattle.core_counts.specs.Steps.{MayEndRevocation}
 use Rattle.core_world.specs.Trees.BiasSteps.{stage_after}
 use Rattle.core_world.specs.Trees.SafepointSteps.{release_plan}

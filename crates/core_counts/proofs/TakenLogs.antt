@@ -23,7 +23,7 @@ use Rattle.core_world.proofs.KnowledgeParts.{log_at, logs_length}
 use Rattle.core_locks.specs.OwnersEntries.{is_by_owner}
 use Rattle.core_locks.proofs.Prelude.{thread_is}
 use Rattle.core_locks.proofs.RefutedOwning.{taken_by_owner}
-use Rattle.core_counts.specs.BiasLaw.{BiasLawHolds}
+use Rattle.core_law.specs.BiasLaw.{BiasLawHolds}
 use Rattle.core_counts.specs.Steps.{LogsBeside}
 use Rattle.core_counts.specs.inner.Steps.{LogsTaken}
 use Rattle.core_counts.proofs.Beside.{hit_keeps}

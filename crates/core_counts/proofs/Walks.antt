@@ -18,7 +18,7 @@ use Rattle.core_world.specs.Words.Forms.{names, hold_word, is_biased, is_biased_
 use Rattle.core_world.specs.Threads.Stages.{Revocation}
 use Rattle.core_world.specs.Locks.{hold_count}
 use Rattle.core_world.specs.RevocationRules.{Write, write, words_after, Rule, in_turn, each_below, store_one, holds_in, record_writes, first_place, revoke_biased, revoke_form, revoke, raised_form, raise_epoch, with_epoch, store_where, renew, object_held, on_held, on_records, biased_word, take_bias, verdict_rules, revocation_writes}
-use Rattle.core_counts.specs.MarksAndLogs.{is_anonymous, is_anonymous_form}
+use Rattle.core_law.specs.MarksAndLogs.{is_anonymous, is_anonymous_form}
 use Rattle.core_counts.specs.Moves.{IsGentle, Touched}
 use Rattle.core_world.proofs.KnowledgeParts.{by_equal}
 

@@ -15,8 +15,8 @@ use Rattle.core_world.specs.Threads.Counts.{ClassCounts, with_verdict, with_rese
 use Rattle.core_world.specs.Words.Forms.{is_biased}
 use Rattle.core_world.specs.Locks.{Lock}
 use Rattle.core_world.specs.Threads.Stages.{path_into, one_if}
-use Rattle.core_counts.specs.BiasLaw.{BiasLaw, summed}
-use Rattle.core_counts.specs.CountsAndVerdicts.{CountFits, VerdictsFit, IsDecided, sum_below, verdicts_on}
+use Rattle.core_law.specs.BiasLaw.{BiasLaw, summed}
+use Rattle.core_law.specs.CountsAndVerdicts.{CountFits, VerdictsFit, IsDecided, sum_below, verdicts_on}
 use Rattle.plain_history.specs.EnterPaths.{PathFits, needs_bias}
 use Rattle.plain_history.specs.HeldByLog.{held_by, nothing_held}
 use Rattle.core_counts.specs.Moves.{LeansByMark, BiasesKept, OthersStay, LogsEntry, LogsNothing}

@@ -3,7 +3,7 @@ use Rattle.std.specs.Prelude.{◌≡◌, ℕ, List}
 use Rattle.core_world.specs.Threads.Counts.{CountedVerdict, counts_of}
 use Rattle.core_world.specs.Threads.Known.{Known}
 use Rattle.core_world.specs.World.{World, with_known}
-use Rattle.core_counts.specs.BiasLaw.{summed}
+use Rattle.core_law.specs.BiasLaw.{summed}
 
 -- no thread has counted a reset of class c
 abbrev pub NothingReset : World → ℕ → Type 0

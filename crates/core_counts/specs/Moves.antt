@@ -19,7 +19,7 @@ use Rattle.core_world.specs.Locks.{Lock, BiasedTo}
 use Rattle.core_world.specs.Clauses.Safepoints.{IsUnfinished}
 use Rattle.core_world.specs.Threads.Stages.{path_into}
 use Rattle.plain_history.specs.EnterPaths.{ends_bias, first_path, is_by_bias, is_hash}
-use Rattle.core_counts.specs.MarksAndLogs.{is_anonymous}
+use Rattle.core_law.specs.MarksAndLogs.{is_anonymous}
 
 -- what a lock under a bias says of the mark, in every world
 abbrev pub LeansByMark : (ℕ → ℕ) → (ℕ → Lock) → Type 0

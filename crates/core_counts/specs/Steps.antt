@@ -25,7 +25,7 @@ use Rattle.core_world.specs.Threads.Stages.{path_into}
 use Rattle.core_world.specs.Steps.{counts_after, log_after, unfinished_after, world_after}
 use Rattle.core_world.specs.Valid.{Fits, IsRevoking}
 use Rattle.core_world.specs.World.{World, logs}
-use Rattle.core_counts.specs.BiasLaw.{BiasLawHolds}
+use Rattle.core_law.specs.BiasLaw.{BiasLawHolds}
 use Rattle.core_locks.specs.Knowing.{GoesOn, WorksFor, HasHold, SawInflated, SawOwnBias}
 
 -- WORDS. The marks, the prototypes and the counts of revocations are the words that the law reads.

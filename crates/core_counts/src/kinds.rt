@@ -29,7 +29,7 @@ ghost use Rattle.core_locks.specs.MonitorLaws.{MaySaveCount, MayClaim, MayPrepar
 ghost use Rattle.core_locks.specs.SafepointLaws.{MayStop, MayResume, MayRequest, MayRelease, MayHalt};
 ghost use Rattle.core_locks.specs.ShotLaws.{MayKeepShot};
 ghost use Rattle.core_locks.specs.WakeLaws.{MayWakeNext, MayNotify, MayNotifyAll};
-ghost use Rattle.core_counts.specs.BiasLaw.{BiasLawHolds};
+ghost use Rattle.core_law.specs.BiasLaw.{BiasLawHolds};
 ghost use Rattle.core_counts.specs.Steps.{SawNone, KeepsBiases};
 
 /// A look keeps the law of biases, of whatever word and thread.

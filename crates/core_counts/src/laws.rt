@@ -15,9 +15,9 @@ ghost use Rattle.core_world.specs.Opening.{opening};
 ghost use Rattle.core_world.specs.RevocationRules.{revocation_writes, words_after};
 ghost use Rattle.core_world.specs.Words.Shape.{Shape, class_of};
 ghost use Rattle.core_world.specs.Threads.Stages.{Revocation};
-ghost use Rattle.core_counts.specs.BiasLaw.{BiasLawHolds};
-ghost use Rattle.core_counts.specs.CountsAndVerdicts.{ClassFits, once_more};
-ghost use Rattle.core_counts.specs.MarksAndLogs.{EntersFitMarks};
+ghost use Rattle.core_law.specs.BiasLaw.{BiasLawHolds};
+ghost use Rattle.core_law.specs.CountsAndVerdicts.{ClassFits, once_more};
+ghost use Rattle.core_law.specs.MarksAndLogs.{EntersFitMarks};
 ghost use Rattle.core_counts.specs.Moves.{LeansByMark, BiasesKept, OthersStay, LogsEntry, LogsNothing, IsGentle, Touched};
 
 /// The arithmetic of counts and verdicts: every verdict of the policy, with the count's decay to 0 before it or without, keeps what the

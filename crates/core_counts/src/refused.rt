@@ -18,7 +18,7 @@ ghost use Rattle.core_world.specs.Steps.{world_after};
 ghost use Rattle.core_world.specs.Valid.{Fits};
 ghost use Rattle.core_world.specs.World.{World, with_word_and_known, logs};
 ghost use Rattle.core_locks.specs.JournalLaws.{MayLogEnter};
-ghost use Rattle.core_counts.specs.BiasLaw.{BiasLawHolds};
+ghost use Rattle.core_law.specs.BiasLaw.{BiasLawHolds};
 ghost use Rattle.core_counts.specs.Miscounts.{NothingReset, with_counts, with_counts_of};
 
 /// A verdict that is counted twice, or never, where nothing of its class was reset and the class's count is below 41, at which it stays. Of

@@ -8,8 +8,8 @@ ghost use Rattle.core_world.specs.Clauses.Safepoints.{IsUnfinished};
 ghost use Rattle.core_world.specs.Words.Shape.{class_of};
 ghost use Rattle.core_world.specs.Valid.{Fits};
 ghost use Rattle.core_world.specs.World.{World, logs};
-ghost use Rattle.core_counts.specs.BiasLaw.{BiasLawHolds};
-ghost use Rattle.core_counts.specs.OfARun.{BiasesOfRun, VerdictsAtMost};
+ghost use Rattle.core_law.specs.BiasLaw.{BiasLawHolds};
+ghost use Rattle.core_law.specs.OfARun.{BiasesOfRun, VerdictsAtMost};
 
 /// Where no thread has anything unfinished, the law of biases of the world gives the law of biases of the run: over its logs, the
 /// verdicts that its threads counted, and the counts of its classes alone; and each thread has counted at most as many verdicts as it

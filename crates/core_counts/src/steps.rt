@@ -21,7 +21,7 @@ ghost use Rattle.core_world.specs.Valid.{Fits, IsRevoking};
 ghost use Rattle.core_world.specs.World.{World, with_word_and_known};
 ghost use Rattle.core_locks.specs.JournalLaws.{MayLogEnter};
 ghost use Rattle.core_world.specs.Trees.LockSteps.{hold_plan};
-ghost use Rattle.core_counts.specs.BiasLaw.{BiasLawHolds};
+ghost use Rattle.core_law.specs.BiasLaw.{BiasLawHolds};
 ghost use Rattle.core_counts.specs.Steps.{LeavesBiases, IsBeside, MayComeBy, MayTakeBias, MayDropBias, LogsBeside, LeavesObject, MayEndRevocation};
 
 /// An exchange that finds another word than it expects keeps the law of biases, of whatever word.

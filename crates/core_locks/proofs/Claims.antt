@@ -1,39 +1,10 @@
 -- A running thread that keeps no monitor claims one.
-use Rattle.core_locks.proofs.Prelude.{◌≡◌, ◌≢◌, ◌⊎◌, ℕ, zero, suc, ◌+◌, ◌<◌, ◌≤◌, ◌^◌, ◌||◌, Bool, true, false, List, length, Option, Some, None, refl, sym, ap, ◌∙◌, subst, arith, inl, inr, same_Some, is_some, PlainObject, Name, Claim, StepPlan, inflation_in, bears, one_if, its_monitor, Known, last_seen, World, with_known, owner_at, inflated_to, Stays, Purpose, Fits, MonitorsAreClaimed, by_equal, each_with_known, with_known_here, header_stays, fits_running, stays_back, KeepsValid, MayClaim, claim_plan}
-use Rattle.core_world.specs.Clauses.Claims.{count_with_monitor}
+use Rattle.core_locks.proofs.Prelude.{◌≡◌, ◌≢◌, ◌⊎◌, ℕ, ◌+◌, ◌<◌, ◌^◌, ◌||◌, true, List, length, Some, refl, sym, ap, ◌∙◌, subst, arith, inl, inr, same_Some, PlainObject, Name, Claim, StepPlan, inflation_in, bears, its_monitor, Known, last_seen, World, with_known, owner_at, inflated_to, Stays, Purpose, Fits, MonitorsAreClaimed, by_equal, each_with_known, with_known_here, header_stays, fits_running, stays_back, KeepsValid, MayClaim, claim_plan}
+use Rattle.core_world.proofs.MonitorCounts.{with_most, with_more}
 use Rattle.core_locks.proofs.Clauses.{kept_parts, parts_stand, seen, claims, AllHold}
 use Rattle.core_locks.proofs.Steps.{keeping, IsStep, next, step_fits, seen_next, quiet_step}
 use Rattle.core_locks.proofs.OwnSeen.{back_by, left_with, hit_world}
 use Rattle.core_locks.proofs.MonitorSeen.{monitor_seen, others_by, stays_kept}
-
--- at most n of n have a monitor
-pub with_most : (n : ℕ) (f : ℕ → Option ℕ) → count_with_monitor n f ≤ n
-with_most zero f = omega arith
-with_most (suc n) f = let a = with_most n f in let b = at_most (is_some (f n)) in omega (arith, a, b)
-  where
-    at_most : (b : Bool) → one_if b ≤ 1
-    at_most true = omega arith
-    at_most false = omega arith
-
--- the number where none of the first n changes
-pub with_same : (n : ℕ) (f g : ℕ → Option ℕ) → ((u : ℕ) → u < n → g u ≡ f u) → count_with_monitor n g ≡ count_with_monitor n f
-with_same zero f g h = refl
-with_same (suc n) f g h = (λ i. with_same n f g (λ u d. h u (omega (arith, d))) i + one_if (is_some (h n (omega arith) i)))
-
--- and where one of them comes to have one
-pub with_more : (n t m : ℕ) (f g : ℕ → Option ℕ) → t < n → f t ≡ None → g t ≡ Some m → ((u : ℕ) → u ≢ t → g u ≡ f u) → count_with_monitor n g ≡ count_with_monitor n f + 1
-with_more zero t m f g h a b c = absurd (omega (arith, h))
-with_more (suc n) t m f g h a b c =
-    by_equal t n
-    (λ e.
-    let none : one_if (is_some (f n)) ≡ 0 = ap (λ u. one_if (is_some (f u))) (sym e) ∙ ap (λ z. one_if (is_some z)) a in
-    let some : one_if (is_some (g n)) ≡ 1 = ap (λ u. one_if (is_some (g u))) (sym e) ∙ ap (λ z. one_if (is_some z)) b in
-    let rest = with_same n f g (λ u d. c u (λ s. omega (arith, d, e, s))) in
-    omega (arith, none, some, rest))
-    (λ d.
-    let rest = with_more n t m f g (omega (arith, h, d)) a b c in
-    let last : one_if (is_some (g n)) ≡ one_if (is_some (f n)) = ap (λ z. one_if (is_some z)) (c n (λ s. d (sym s))) in
-    omega (arith, rest, last))
 
 module _ (w : World) (P : List PlainObject) (t : ℕ) (e : Purpose) (within : t < w.shape.threads) (may : MayClaim (w.known t) e) (v : Fits w P) where
   abbrev plan : StepPlan

@@ -7,7 +7,7 @@ use Rattle.core_locks.proofs.Drawing.{draws_still, draws_counted, bound_undrawn}
 use Rattle.core_locks.proofs.ByThread.{RecordsOf, records_by, records_at}
 use Rattle.core_locks.proofs.Logging.{Covers, IsLogging, last_next, bound_grows, stamps_next}
 use Rattle.core_locks.proofs.LoggedSteps.{logged_step}
-use Rattle.core_locks.proofs.Updates.{takes, hashes_stay, slots_stay, waits_stay, part_stays, each_object}
+use Rattle.core_world.proofs.Updates.{takes, hashes_stay, slots_stay, waits_stay, part_stays, each_object}
 use Rattle.core_locks.proofs.WaitOut.{fails, out_word, ready_is_out}
 use Rattle.core_locks.proofs.OwnSeen.{other_back}
 use Rattle.core_locks.proofs.EnterTakes.{IsTaking, at_taking, ready_unwaiting, owner_or_taker}

@@ -3,7 +3,7 @@ use Rattle.core_locks.proofs.Prelude.{◌≡◌, ℕ, ◌+◌, ◌<◌, ◌==◌
 use Rattle.core_locks.proofs.Logging.{IsLogging, next_logging}
 use Rattle.core_locks.proofs.Clauses.{Parts, parts_of}
 use Rattle.core_locks.proofs.Steps.{Fields, IsStep, next, stepped, logs_next}
-use Rattle.core_locks.proofs.Updates.{monitor_here, monitor_else, takes, hashes_stay, slots_stay, waits_stay, called_stay}
+use Rattle.core_world.proofs.Updates.{monitor_here, monitor_else, takes, hashes_stay, slots_stay, waits_stay, called_stay}
 use Rattle.core_locks.proofs.WaitOut.{fails}
 
 abbrev pub exit_entry : Known → ℕ → Logged

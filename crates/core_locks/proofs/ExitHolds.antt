@@ -9,7 +9,7 @@ use Rattle.core_locks.proofs.HoldClears.{IsFull, cleared_back, named_less, times
 use Rattle.core_locks.proofs.HoldSets.{holder_more, word_own, word_else, word_held, holder_told}
 use Rattle.core_locks.proofs.WaitOut.{no_other}
 use Rattle.core_locks.proofs.Logging.{IsLogging, stamps_owned}
-use Rattle.core_locks.proofs.Updates.{each_object, part_stays}
+use Rattle.core_world.proofs.Updates.{each_object, part_stays}
 use Rattle.core_locks.proofs.ExitEntries.{exit_entry, object_with, objects_where, exit_taken, exit_logging, exit_parts, exit_are, owner_here, owner_else, owner_before, owner_fails}
 use Rattle.core_locks.proofs.Clauses.{parts_of, seen, forms, quiet, holds, owners, biases, records, recursions, hashes, waits, stamps, AllHold}
 use Rattle.core_locks.proofs.EvenSteps.{IsEven, even_by, bears_stay, held_even}

@@ -7,7 +7,7 @@ use Rattle.core_locks.proofs.Drawing.{draws_next}
 use Rattle.core_locks.proofs.Logging.{IsLogging}
 use Rattle.core_locks.proofs.TellTaken.{IsFreeToTell, object_there}
 use Rattle.core_locks.proofs.PlainHashes.{above_after}
-use Rattle.core_locks.proofs.Updates.{slots_stay, takes, object_here, object_else, monitors_stay}
+use Rattle.core_world.proofs.Updates.{slots_stay, takes, object_here, object_else, monitors_stay}
 
 -- a drawn hash is above 0, and has 31 bits
 hash_some : (word : ℕ) → 0 < hash_of word

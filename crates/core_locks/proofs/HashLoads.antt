@@ -8,7 +8,7 @@ use Rattle.core_locks.proofs.Tells.{IsTelling, told_parts, told_are, told_step}
 use Rattle.core_locks.proofs.Logging.{IsLogging}
 use Rattle.core_locks.proofs.Steps.{quietly, telling, IsStep, next, step_fits, seen_next, quiet_step}
 use Rattle.core_locks.proofs.TellTaken.{IsFreeToTell, object_there}
-use Rattle.core_locks.proofs.Updates.{takes}
+use Rattle.core_world.proofs.Updates.{takes}
 
 -- an object with a hash takes the same one again
 some_hash : (a : Option ℕ) (h : ℕ) → or_zero a ≡ h → (h == 0) ≡ false → a ≡ Some h

@@ -1,7 +1,7 @@
 -- A thread logs its last Exit from an object: nobody owns that object afterwards. How it lets go of the lock is left open.
 use Rattle.core_locks.proofs.Prelude.{◌≡◌, ◌≢◌, ◌⊎◌, ℕ, ◌+◌, ◌<◌, ◌≤◌, ◌||◌, eq-eqb, ne_eqb, true, false, cond, List, [], ◌∷◌, ◌++◌, length, Some, None, refl, sym, ap, ◌∙◌, subst, arith, inl, inr, nat_le, nat_tests, same_Some, PlainMonitor, is_thread, exit, PlainObject, take_entry, Logged, Exit, Stamp, Hold, Waiting, Recursions, Calm, Resumes, Exits, Waits, TakesOver, monitor_in, bears, hold_words_ahead, recursions_ahead, recursions_behind, notification_in, revocation_in, one_if, Known, last_seen, local_of, World, with_known, logs_from, Lock, Open, OnRecord, OwnedBy, lock, marks, displaced_words, who, holder, hold_count, recursion_count, holds_by_monitor, monitor_of, owner_at, hash_at, waits_at, notified_at, HoldsFitLogs, RecordsRest, RecursionsFit, GoesByMonitor, next_stamp, Fits, WaitsFit, StoppedAreQuiet, bound_stamp, StampsFit, LocksArePlain, log_limit, DrawsFit, Shape, by_equal, each_with_known, thread_is, unlisted_count, IsOwnEntry}
 use Rattle.core_locks.proofs.Logging.{Covers, IsLogging, bound_grows, stamps_next}
-use Rattle.core_locks.proofs.Updates.{each_object, part_stays}
+use Rattle.core_world.proofs.Updates.{each_object, part_stays}
 use Rattle.core_locks.proofs.WaitOut.{no_other, holder_owns, out_unlisted, ready_is_out}
 use Rattle.core_locks.proofs.ExitEntries.{exit_entry, object_with, objects_where, exit_taken, exit_logging, owner_here, owner_else, owner_fails}
 use Rattle.core_locks.proofs.Clauses.{Clause, quiet, holds, owners, records, waits, stamps}

@@ -13,7 +13,7 @@ use Rattle.core_locks.proofs.LoggedSteps.{logged_step}
 use Rattle.core_locks.proofs.Logging.{Covers, IsLogging, last_entry_more, bound_grows, stamps_next}
 use Rattle.core_locks.proofs.OwnSeen.{back_by, other_back}
 use Rattle.core_locks.proofs.Steps.{stage_part, departing, IsStep, next, stepped, none_reached, each_written, step_fits, holds_next, quiet_next, logs_next, stage_back, stage_forth, inflates_stay}
-use Rattle.core_locks.proofs.Updates.{hashes_stay, slots_stay, called_stay}
+use Rattle.core_world.proofs.Updates.{hashes_stay, slots_stay, called_stay}
 use Rattle.core_locks.proofs.WaitOut.{out_waits}
 
 -- the step

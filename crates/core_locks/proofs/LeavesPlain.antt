@@ -2,7 +2,7 @@
 use Rattle.core_locks.proofs.Prelude.{◌≡◌, ◌≢◌, ℕ, ◌+◌, ne_eqb, true, false, cond, List, [], ◌∷◌, ◌++◌, slice_set, Some, None, refl, sym, ap, ◌∙◌, arith, inl, inr, same_Some, PlainMonitor, is_thread, is_listed, owns, only_if, PlainObject, take_entry, with_monitor, Logged, last_stamp, bears, Known, World, who, holder, hold_count, holds_by_monitor, object_of, monitor_of, owner_at, waits_at, notified_at, or_zero, Fits, by_equal, thread_is, unlisted_count, subst}
 use Rattle.plain_monitor.specs.declared.entry.Entry.TheVariants as entry
 use Rattle.core_locks.proofs.Logging.{IsLogging, next_logging}
-use Rattle.core_locks.proofs.Updates.{takes, monitor_here, each_object, part_stays}
+use Rattle.core_world.proofs.Updates.{takes, monitor_here, each_object, part_stays}
 use Rattle.core_locks.proofs.WaitOut.{no_other, out_unlisted}
 use Rattle.core_locks.proofs.LeavesLists.{listed_forth, listed_last, listed_back, count_last, count_else}
 use Rattle.core_locks.proofs.LeavesStates.{IsLeaving}

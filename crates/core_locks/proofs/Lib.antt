@@ -3,9 +3,7 @@ pub mod Logging
 pub mod ShotLogs
 pub mod ShotWords
 pub mod ShotCuts
-pub mod Updates
 pub mod LookOn
-pub mod SafeBits
 pub mod SafeFacts
 pub mod SafeCounts
 pub mod SafeChanges
@@ -40,7 +38,6 @@ pub mod TellTaken
 pub mod TellNobody
 pub mod LoggedSteps
 pub mod Tells
-pub mod TellSlots
 pub mod TouchSlots
 pub mod Publishes
 pub mod ExitEntries

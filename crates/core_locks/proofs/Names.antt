@@ -3,7 +3,7 @@
 use Rattle.core_locks.proofs.Prelude.{◌≡◌, ◌≢◌, ◌⊎◌, ℕ, ◌+◌, ◌<◌, ◌||◌, Bool, true, false, List, length, Option, Some, None, refl, sym, ap, ◌∙◌, subst, arith, inl, inr, same_Some, MarkForm, read_mark, Inflated, Biased, is_listed, PlainObject, Name, Mark, Waiting, Owner, Recursions, Object, Claim, StepPlan, Calm, Resumes, Waits, TakesOver, is_biased, is_neutral, monitor_in, enters_on, is_biased_form, monitor_form, Inflation, inflation_in, bears, recursions_ahead, recursions_behind, revocation_in, word_after, its_monitor, Known, last_seen, World, with_known, OwnedBy, lock, header, marks, displaced_words, headers, prototype_of, inflations, recursion_count, owner_at, waits_at, notified_at, inflated_to, Stays, IsValidBias, InMiddleOf, RecursionsFit, Purpose, quiet_plan, with_own, Fits, SeenFit, IsUnfinished, InflationsAreOne, MonitorsAreClaimed, monitor_count, IsMark, Act, by_equal, each_with_known, with_known_here, GoesOn, IsReady}
 use Rattle.core_world.specs.declared.plan.Own.TheVariants as own
 use Rattle.core_world.specs.declared.task.Op.TheVariants as op
-use Rattle.core_locks.proofs.Claims.{with_most, with_more}
+use Rattle.core_world.proofs.MonitorCounts.{with_most, with_more}
 use Rattle.core_locks.proofs.Clauses.{parts_with, parts_are, seen, forms, biases, inflating, monitors, recursions, hashes, waits, claims, classes, AllHold}
 use Rattle.core_locks.proofs.EvenSteps.{IsEven, even_by, even_step, held_even}
 use Rattle.core_locks.proofs.MarkChanges.{mark_here, mark_else, bias_back, bias_forth, bias_before, biases_by_marks, classes_by_marks}

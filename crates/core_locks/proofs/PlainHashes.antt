@@ -1,7 +1,7 @@
 -- The hashes of the plain objects: each is above 0, never changes, and is what every hash entry of the object says.
 use Rattle.core_locks.proofs.Prelude.{◌≡◌, ◌≢◌, ◌⊎◌, ℕ, zero, suc, ◌<◌, ◌^◌, ◌==◌, ◌&&◌, nat_lt, Bool, true, false, List, [], ◌∷◌, length, slice_set, Option, Some, None, refl, sym, ap, ◌∙◌, subst, arith, inl, inr, eqb-true, slice_get, option_and_then, nat_le, option_map, same_Some, AllByRecursion, PlainMonitor, only_if, PlainObject, take_entry, take_at, with_monitor, take_named, new_objects, with_hash, hashed, Logged, objects_after, take_all, Entry, Exit, Get, Notify, NotifyAll, Hash, Enter, Put, Wait, Resume, order, object_of, by_equal}
 use Rattle.plain_monitor.specs.Objects.{named}
-use Rattle.core_locks.proofs.Updates.{object_here, object_else}
+use Rattle.core_world.proofs.Updates.{object_here, object_else}
 
 -- the hash stays, or is given for the first time
 abbrev pub Moves : Option ℕ → Option ℕ → Type 0

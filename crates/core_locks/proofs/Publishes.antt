@@ -9,7 +9,7 @@ use Rattle.core_locks.proofs.Clauses.{seen, lengths, AllHold}
 use Rattle.core_locks.proofs.OwnSeen.{length_uncounted, own_seen}
 use Rattle.core_locks.proofs.Steps.{announcing, IsStep, next, each_written, step_fits, seen_next, lengths_next}
 use Rattle.core_locks.proofs.Drawing.{draws_counted, draws_still}
-use Rattle.core_locks.proofs.Updates.{slots_stay}
+use Rattle.core_world.proofs.Updates.{slots_stay}
 
 -- What an entry that may be published makes of the plain objects: they keep their slots too. It is no Enter or Resume.
 record IsQuiet (P : List PlainObject) (t : ℕ) (y : Entry) : Type 0 where

@@ -1,7 +1,7 @@
 -- What the safepoint word and the threads' requests say in a valid world.
 use Rattle.core_locks.proofs.Prelude.{◌≡◌, ◌≢◌, ℕ, ◌<◌, true, false, List, Option, Some, None, refl, sym, ap, ◌∙◌, arith, inl, inr, SafeForm, safe_of, read_safe, read_safe-spells, is_thread, PlainObject, Safepoint, Calm, is_halted, runs_form, requester_form, requester_in, halted_form, revocation_in, Known, World, Fits, IsValid, SafepointFits, IsRevoking, Shape, IsSafepoint, thread_is}
 use Rattle.core_world.proofs.NoWordChanges.{one_requester}
-use Rattle.core_locks.proofs.SafeBits.{no_bits}
+use Rattle.core_world.proofs.SafeBits.{no_bits}
 use Rattle.core_locks.proofs.WaitOut.{fails}
 
 -- while a bias is being revoked, its thread's safepoint is reached, and its request stands

@@ -2,7 +2,7 @@
 use Rattle.core_locks.proofs.Prelude.{◌≡◌, ℕ, ◌<◌, ◌^◌, ◌==◌, ◌&&◌, not, eq-eqb, ne_eqb, Bool, true, false, cond, List, [], Option, Some, None, refl, sym, ap, ◌∙◌, subst, inl, inr, eqb-true, ◌-◌, IfSome, bit_and, read_wait, SafeForm, safe_of, read_safe, WaitForm, read_safe-spells, is_thread, PlainObject, Safepoint, Waiting, waits_on, says_ended, is_halted, asks_in, runs_form, waits_form, ended_form, requester_form, requester_in, halted_form, word_after, World, Purpose, swap, world_after, seen_before, only_headers, Fits, IsValid, Swap, Mask, IsSafepoint, all_but, running_too, requested_by, same_number, fits_running, seen_is_part, miss_valid, KeepsValid, MayStop, MayResume, MayRequest, stop_plan, resume_plan, request_plan}
 use Rattle.mark_word.specs.declared.wait.WaitForm.TheVariants as wait
 use Rattle.core_locks.proofs.LookOn.{may_look_safe}
-use Rattle.core_locks.proofs.SafeBits.{without, including, without_other, without_mine, without_range, including_other, including_mine, including_range, masked}
+use Rattle.core_world.proofs.SafeBits.{without, including, without_other, without_mine, without_range, including_other, including_mine, including_range, masked}
 use Rattle.core_locks.proofs.SafeFacts.{fits_unasked, safe_form, few_bits, running_unhalted, running_unreached, unasked_unreached}
 use Rattle.core_locks.proofs.SafeCounts.{counts_stopped, counts_begun}
 use Rattle.core_locks.proofs.SafeChanges.{Changes, known_then, changed_fits}

@@ -2,7 +2,7 @@
 use Rattle.core_locks.proofs.Prelude.{◌≡◌, ℕ, ◌<◌, true, List, length, slice_set, Some, None, refl, sym, ap, ◌∙◌, arith, same_Some, PlainObject, take_entry, take_at, Entry, bound_to, Calm, Known, World, object_of, monitor_of, owner_at, hash_at, Fits, log_limit, draw_in, thread_is, HasHold}
 use Rattle.plain_monitor.specs.Objects as plain
 use Rattle.core_locks.proofs.Drawing.{bound_undrawn}
-use Rattle.core_locks.proofs.Updates.{takes, monitors_stay, hashes_stay}
+use Rattle.core_world.proofs.Updates.{takes, monitors_stay, hashes_stay}
 use Rattle.core_locks.proofs.WaitOut.{holder_owns, ready_is_out}
 
 -- The thread runs in the middle of nothing, its waiting word is Ready, and its log has room.

@@ -7,14 +7,14 @@ use Rattle.plain_monitor.proofs.Lists.{get_set_other}
 use Rattle.plain_monitor.proofs.ValuesRead.{read_value-word_of}
 use Rattle.core_world.specs.declared.plan.Note.{Note}
 use Rattle.core_world.specs.declared.plan.Own.TheVariants.{Same}
-use Rattle.core_locks.proofs.TellSlots.{slots_are}
+use Rattle.core_world.proofs.ObjectSlots.{slots_are}
 use Rattle.core_locks.proofs.TellTaken.{IsFreeToTell, IsTaken, owns_held, one_owner, object_there, owner_taken}
 use Rattle.core_locks.proofs.Tells.{IsTelling, tells_so, still_parts, still_are, told_step}
 use Rattle.core_locks.proofs.Clauses.{seen, AllHold}
 use Rattle.core_locks.proofs.Drawing.{draws_still}
 use Rattle.core_locks.proofs.OwnSeen.{own_seen}
 use Rattle.core_locks.proofs.Steps.{telling, IsStep, step_fits, seen_next}
-use Rattle.core_locks.proofs.Updates.{object_here, object_else, slots_stay}
+use Rattle.core_world.proofs.Updates.{object_here, object_else, slots_stay}
 
 -- the slots after one has got another value
 slot_here : (xs : List Value) (i : ℕ) (v u : Value) → slice_get (slice_set xs i v) i ≡ Some u → v ≡ u

@@ -5,7 +5,7 @@ use Rattle.core_locks.proofs.Steps.{noting, IsStep, next, stepped, step_fits, qu
 use Rattle.core_locks.proofs.OwnSeen.{seen_as}
 use Rattle.core_locks.proofs.Logging.{IsLogging, stamps_owned}
 use Rattle.core_locks.proofs.LoggedSteps.{logged_step}
-use Rattle.core_locks.proofs.Updates.{takes, part_stays, hashes_stay, slots_stay, monitor_here, monitor_else}
+use Rattle.core_world.proofs.Updates.{takes, part_stays, hashes_stay, slots_stay, monitor_here, monitor_else}
 use Rattle.core_locks.proofs.TellLists.{waits_untold, listed_join, counts_move}
 use Rattle.core_locks.proofs.Drawing.{draws_still, draws_counted, bound_undrawn}
 use Rattle.core_locks.proofs.WakeForms.{wait_forms, uncounted, held}

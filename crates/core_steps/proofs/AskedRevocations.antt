@@ -20,7 +20,7 @@ use Rattle.core_world.specs.Threads.Stages.{Revocation}
 use Rattle.core_world.specs.Steps.{seen_before}
 use Rattle.core_world.specs.Trees.Todo.{Todo, ◌>>=◌}
 use Rattle.core_world.specs.Valid.{RevokesWithin}
-use Rattle.core_steps.specs.Logic.{Heap, Does}
+use Rattle.core_law.specs.Logic.{Heap, Does}
 use Rattle.core_steps.proofs.Requests.{Asks, Since, Stood, BeginsSafepoint, safepoint_does}
 use Rattle.core_steps.proofs.Resting.{Carries}
 use Rattle.core_steps.proofs.Revocations.{Released, Revoked, revoke_does, release_does}

@@ -33,12 +33,13 @@ use Rattle.core_locks.proofs.MarkHolds.{standing_names}
 use Rattle.core_locks.proofs.OwnerTurns.{rest_hold}
 use Rattle.core_bias.specs.Biasing.{IsLoose}
 use Rattle.core_counts.specs.Steps.{WentBefore}
-use Rattle.core_steps.specs.Logic.{Heap, Stands, Does}
+use Rattle.core_law.specs.Logic.{Heap, Stands, Does}
 use Rattle.core_steps.proofs.BiasFacts.{SawHeaders, headers_first, headers_more, look_prototype, unreached_here, bias_stays, biasing_here, IsPrototype, IsPrototypeForm, prototype_here, prototype_form, prototype_neutral, own_bias, neutral_reads_so, loose_unepoched, stale_epoch, own_epoch, free_bias}
 use Rattle.core_steps.proofs.BiasRules.{rebiases_rule, unbiases_rule}
-use Rattle.core_steps.proofs.Facts.{Untold, fits_here}
+use Rattle.core_steps.proofs.Facts.{Untold}
+use Rattle.core_law.proofs.Standing.{fits_here, home, away}
 use Rattle.core_steps.proofs.Inflations.{form_found}
-use Rattle.core_steps.proofs.LawRules.{home, away, looks, class_in}
+use Rattle.core_steps.proofs.LawRules.{looks, class_in}
 use Rattle.core_steps.proofs.Resting.{rests, live_carries}
 use Rattle.core_steps.proofs.SeenSteps.{saw_newest, saw_older}
 use Rattle.core_steps.proofs.StackEnters.{Taking, undumped_enter, hold_does}

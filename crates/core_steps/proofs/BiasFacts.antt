@@ -26,10 +26,8 @@ use Rattle.core_bias.specs.Biasing.{IsLoose}
 use Rattle.core_bias.proofs.Unseen.{unseen}
 use Rattle.core_bias.proofs.Wholes.{biasing_on}
 use Rattle.core_counts.specs.Steps.{SawFreeBias}
-use Rattle.core_steps.specs.Logic.{Heap, Stands}
-use Rattle.core_steps.proofs.Facts.{fits_here}
-use Rattle.core_steps.proofs.LawRules.{away}
-use Rattle.core_steps.proofs.SafeWords.{few_threads}
+use Rattle.core_law.specs.Logic.{Heap, Stands}
+use Rattle.core_law.proofs.Standing.{fits_here, away, few_threads}
 use Rattle.core_steps.proofs.SeenSteps.{saw_any, first_any}
 
 -- in its call it has seen marks and prototypes alone, besides the safepoint word

@@ -23,14 +23,15 @@ use Rattle.core_bias.specs.Biasing.{MayRebias, MayUnbias}
 use Rattle.core_bias.specs.Revoking.{MayBeginRevoking, MayGoOnRevoking, MayEndRevoking, TellsBias}
 use Rattle.core_bias.proofs.Rebiases.{rebias_valid, drop_valid}
 use Rattle.core_bias.proofs.Wholes.{all_made, begin_revokes, goes_on_revokes, release_fits}
-use Rattle.core_counts.specs.BiasLaw.{BiasLawHolds, WhollyValid}
+use Rattle.core_law.specs.BiasLaw.{BiasLawHolds, WhollyValid}
 use Rattle.core_counts.specs.Steps.{MayTakeBias, MayDropBias}
 use Rattle.core_counts.proofs.BiasTakes.{bias_taken}
 use Rattle.core_counts.proofs.BiasDrops.{bias_dropped}
 use Rattle.core_counts.proofs.RevocationEnds.{revocation_ended}
-use Rattle.core_steps.specs.Logic.{Heap, Stands, Keeps}
-use Rattle.core_steps.proofs.LawRules.{away, home, inside, keeps, calm_in_all}
-use Rattle.core_steps.proofs.Wholes.{requester_is}
+use Rattle.core_law.specs.Logic.{Heap, Stands, Keeps}
+use Rattle.core_steps.proofs.LawRules.{keeps, calm_in_all}
+use Rattle.core_law.proofs.Standing.{away, home, inside}
+use Rattle.core_law.proofs.Wholes.{requester_is}
 
 -- what the steps of a revocation tell of the new bias is whether the mark has the bias pattern
 took_biased : (t o c : ℕ) (took : Bool) (f : Name → ℕ) → TellsBias t o c took f → took ≡ is_biased (f (Mark o))

@@ -25,11 +25,12 @@ use Rattle.core_world.specs.Clauses.WordForms.{IsWait, IsMark}
 use Rattle.core_world.proofs.OwnersShown.{inflated_form}
 use Rattle.core_locks.specs.SafepointLaws.{SeesEnded, SeesHeldUp}
 use Rattle.core_world.specs.Words.Shape.{monitor_count}
-use Rattle.core_steps.specs.Logic.{Heap, Does}
-use Rattle.core_steps.specs.Sound.{Finishes}
-use Rattle.core_steps.specs.inner.Sound.{BeginsWell}
+use Rattle.core_law.specs.Logic.{Heap, Does}
+use Rattle.core_law.specs.Sound.{Finishes}
+use Rattle.core_law.specs.Begins.{BeginsWell}
 use Rattle.core_steps.proofs.LawRules.{releases, halts}
-use Rattle.core_steps.proofs.SafepointLooks.{Reaches, Seeing, seeing_all, is_as_seen, fits_reached, keeps_look, saw_there, still_seen, Facts, each_does, going, found_formed}
+use Rattle.core_steps.proofs.SafepointLooks.{Reaches, keeps_look, Facts, each_does, going}
+use Rattle.core_law.proofs.SafepointSights.{Seeing, seeing_all, is_as_seen, fits_reached, saw_there, still_seen, found_formed}
 use Rattle.core_steps.proofs.Trees.{answers, chooses_then, follows, binds, hitting, finding}
 use Rattle.core_steps.proofs.Requests.{Stood, safepoint_does}
 use Rattle.core_steps.proofs.Resting.{Carries, carried, rests, rests_checking}
@@ -62,11 +63,11 @@ module _ (heap : Heap) (e : Purpose) (me : ℕ) (checks : e.check ≡ true) wher
       (λ i. keeps_look heap me e (name.Owner m) k r (λ v. there))
       (λ owner i was.
       let l = known_hit heap.shape heap.start (load e (name.Owner m)) owner k in
-      let seeing : Seeing k l = still_seen heap me e (name.Owner m) k owner r.reached refl was in
+      let seeing : Seeing k l = still_seen heap e (name.Owner m) k owner r.reached refl was in
       answers heap false (Some (is_open_to (read_owner owner) u)) l _ (
         record { number = r.number; reached = r.reached; stopped = r.stopped; calm = refl; check = refl; mine = refl; live = r.live; carries = r.carries },
         seeing_all k0 k l s seeing,
-        cases owner l seeing (saw_there heap me e (name.Owner m) k owner refl) (is_open_to (read_owner owner) u) refl,
+        cases owner l seeing (saw_there heap e (name.Owner m) k owner refl) (is_open_to (read_owner owner) u) refl,
       ))
     where
       cases : (owner : ℕ) (l : Known) → Seeing k l → last_seen (name.Owner m) l.seen_at_safepoint ≡ Some owner → (b : Bool) → is_open_to (read_owner owner) u ≡ b → Told u (Some b) l
@@ -78,7 +79,7 @@ module _ (heap : Heap) (e : Purpose) (me : ℕ) (checks : e.check ≡ true) wher
   object_does k0 k u o word r s saw how object =
       hitting heap false _ _ k _ (λ n. refl) (λ i. keeps_look heap me e (name.Mark o) k r (λ v. object)) (λ mark i was.
       let l = known_hit heap.shape heap.start (load e (name.Mark o)) mark k in
-      let seeing : Seeing k l = still_seen heap me e (name.Mark o) k mark r.reached refl was in
+      let seeing : Seeing k l = still_seen heap e (name.Mark o) k mark r.reached refl was in
       let v = was.stands in
       let fits = fits_reached heap k v r.reached r.calm in
       let there : v.world.words (name.Waiting u) ≡ word = is_as_seen heap k v r.reached (name.Waiting u) word saw in
@@ -92,7 +93,7 @@ module _ (heap : Heap) (e : Purpose) (me : ℕ) (checks : e.check ≡ true) wher
       let is : monitor_in mark ≡ Some inflated.0 = ap monitor_in (sym was.found) ∙ inflated.1 in
       subst (λ f. Does heap false (look_at_monitor f e u) l (λ b a l. After k0 u a l)) (sym (inflated_form (read_mark mark) inflated.0 is))
       (monitor_does k0 l u o word mark inflated.0 (record { number = r.number; reached = r.reached; stopped = r.stopped; calm = refl; check = refl; mine = refl; live = r.live; carries = r.carries })
-      (seeing_all k0 k l s seeing) (seeing.saw (name.Waiting u) word saw) how (saw_there heap me e (name.Mark o) k mark refl) is
+      (seeing_all k0 k l s seeing) (seeing.saw (name.Waiting u) word saw) how (saw_there heap e (name.Mark o) k mark refl) is
       (subst (IsMark heap.shape) (inflated_form (read_mark mark) inflated.0 is) (found_formed heap k (name.Mark o) mark refl was))))
 
   wait_does : (f : Option WaitForm) (k0 k : Known) (u word : ℕ) → read_wait word ≡ f → IsWait heap.shape f → Reaches me k e → Seeing k0 k → last_seen (name.Waiting u) k.seen_at_safepoint ≡ Some word
@@ -111,7 +112,7 @@ module _ (heap : Heap) (e : Purpose) (me : ℕ) (checks : e.check ≡ true) wher
   turn_does u k thread r =
       hitting heap false _ _ k _ (λ n. refl) (λ i. keeps_look heap me e (name.Waiting u) k r (λ v. thread)) (λ word i was.
       wait_does (read_wait word) k _ u word refl (found_formed heap k (name.Waiting u) word refl was) (record { number = r.number; reached = r.reached; stopped = r.stopped; calm = refl; check = refl; mine = refl; live = r.live; carries = r.carries })
-      (still_seen heap me e (name.Waiting u) k word r.reached refl was) (saw_there heap me e (name.Waiting u) k word refl))
+      (still_seen heap e (name.Waiting u) k word r.reached refl was) (saw_there heap e (name.Waiting u) k word refl))
 
   here_stuck : (i : ℕ) (a : Option Bool) (xs : List (Option Bool)) (l : Known) → Told i a l → none_goes_on (a ∷ xs) ≡ true → SeesEnded l i ⊎ SeesHeldUp l i
   here_stuck i None xs l told none = inl told

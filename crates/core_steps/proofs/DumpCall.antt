@@ -42,17 +42,19 @@ use Rattle.core_locks.proofs.ValidShots.{valid_shots}
 use Rattle.core_world.specs.There.{IsIn}
 use Rattle.core_world.specs.Clauses.WordForms.{IsMark, IsOwner}
 use Rattle.core_world.specs.declared.plan.StepPlan.{StepPlan}
-use Rattle.core_steps.proofs.There.{IsFormed, class_there}
-use Rattle.core_steps.specs.Logic.{Heap, Stands, Does}
-use Rattle.core_steps.specs.Sound.{Finishes}
-use Rattle.core_steps.specs.inner.Sound.{BeginsWell}
-use Rattle.core_steps.proofs.Facts.{Untold, fits_here, ready_here}
-use Rattle.core_steps.proofs.LawRules.{home, keeps_calm, releases, publishes, limits, valid_here}
+use Rattle.core_world.proofs.There.{IsFormed, class_there}
+use Rattle.core_law.specs.Logic.{Heap, Stands, Does}
+use Rattle.core_law.specs.Sound.{Finishes}
+use Rattle.core_law.specs.Begins.{BeginsWell}
+use Rattle.core_steps.proofs.Facts.{Untold, ready_here}
+use Rattle.core_law.proofs.Standing.{fits_here, home, valid_here, few_threads}
+use Rattle.core_steps.proofs.LawRules.{keeps_calm, releases, publishes, limits}
 use Rattle.core_steps.proofs.Requests.{Asks, Stood, BeginsSafepoint, safepoint_does}
 use Rattle.core_steps.proofs.Resting.{Carries, logged_carries, rests}
 use Rattle.core_steps.proofs.SafeCalls.{closes, released_unasks}
-use Rattle.core_steps.proofs.SafepointLooks.{Reaches, Seeing, seeing_all, seeing_itself, keeps_look, saw_there, still_seen, going, found_formed}
-use Rattle.core_steps.proofs.SafeWords.{reached_there, released_runs, few_threads}
+use Rattle.core_steps.proofs.SafepointLooks.{Reaches, keeps_look, going}
+use Rattle.core_law.proofs.SafepointSights.{Seeing, seeing_all, seeing_itself, saw_there, still_seen, found_formed}
+use Rattle.core_steps.proofs.SafeWords.{reached_there, released_runs}
 use Rattle.core_steps.proofs.Tests.{asking_goes, free_runs, Operates, operates, going_is, goes_on_or_begins, is_of_kind}
 use Rattle.core_steps.proofs.Trees.{answers, chooses, chooses_then, follows, binds, hitting, finding}
 
@@ -156,9 +158,9 @@ module _ (heap : Heap) (me : ℕ) (here : Local) (shots : List DumpShot) (room :
       (hitting heap false (load dump_errand at) f k _ (λ n. refl) (λ i. keeps_look heap me dump_errand at k s.reaches (λ v. h.0.1)) (λ n i was.
       let l = known_hit heap.shape heap.start (load dump_errand at) n k in
       let kept = stood_kept at k s.reaches.reached in
-      let seeing : Seeing k l = still_seen heap me dump_errand at k n s.reaches.reached kept was in
+      let seeing : Seeing k l = still_seen heap dump_errand at k n s.reaches.reached kept was in
       follows heap false (f n) l _ _ (looks_do (f n) l (h.1 n (subst (λ (z : StepPlan). IsFormed heap.shape z.at n) (sym h.0.2) (found_formed heap k at n refl was))) (after_load at n k s)) (λ b a m x.
-      (x.0, seeing_all k l m seeing x.1, (n, x.1.saw at n (saw_there heap me dump_errand at k n kept), x.2)))))
+      (x.0, seeing_all k l m seeing x.1, (n, x.1.saw at n (saw_there heap dump_errand at k n kept), x.2)))))
 
   -- behind the shot: it has no entry yet
   record HasShot (shot : DumpShot) (k : Known) : Type 0 where

@@ -29,14 +29,14 @@ use Rattle.core_world.specs.Trees.Todo.{Todo, ◌>>=◌}
 use Rattle.core_world.specs.Clauses.WordForms.{IsMark}
 use Rattle.core_locks.specs.Knowing.{GoesOn}
 use Rattle.core_counts.specs.Steps.{SawUnbiased}
-use Rattle.core_steps.specs.Logic.{Heap, Stands, Does}
-use Rattle.core_steps.specs.Sound.{Finishes}
-use Rattle.core_steps.specs.inner.Sound.{BeginsWell}
+use Rattle.core_law.specs.Logic.{Heap, Stands, Does}
+use Rattle.core_law.specs.Sound.{Finishes}
+use Rattle.core_law.specs.Begins.{BeginsWell}
 use Rattle.core_steps.proofs.AskedRevocations.{BeginsRevocation, revocation_does}
 use Rattle.core_steps.proofs.BiasEnters.{Enters, enters_rests, FoundMark, EnterOutcomes, Tries, bias_enter_does, Wants, taking, bias_after_does}
 use Rattle.core_steps.proofs.Inflations.{SawNone, Unseen, Apart, inflate_does}
 use Rattle.core_steps.proofs.MonitorEnters.{monitor_enter_does}
-use Rattle.core_steps.proofs.Places.{place_left}
+use Rattle.core_law.proofs.Places.{place_left}
 use Rattle.core_steps.proofs.Requests.{asking_saw}
 use Rattle.core_steps.proofs.Resting.{live_carries}
 use Rattle.core_steps.proofs.Revocations.{Revoked}

@@ -12,7 +12,7 @@ use Rattle.plain_history.specs.HeldByLog.{held_by, nothing_held, LetsGoOf, HasLe
 use Rattle.core_world.specs.Steps.{stamp_by}
 use Rattle.core_world.proofs.KnowledgeParts.{by_equal}
 use Rattle.plain_history.specs.ExactStamps.{IsTakingStamp, IsExactStamp, StampsAreExact}
-use Rattle.core_steps.specs.Takings.{StampsTaking}
+use Rattle.core_law.specs.Takings.{StampsTaking}
 use Rattle.core_steps.proofs.LetGoes.{last_let_go, last_or_before, let_go_stays, let_go_was}
 
 -- no entry on o, but a hash, is above this stamp

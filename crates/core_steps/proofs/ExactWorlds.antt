@@ -33,12 +33,12 @@ use Rattle.core_locks.specs.OwnersEntries.{is_by_owner}
 use Rattle.core_locks.proofs.LeavesStamps.{all_of_log}
 use Rattle.core_locks.proofs.Prelude.{same_number}
 use Rattle.core_locks.proofs.RefutedOwning.{owned_where_legal}
-use Rattle.core_counts.specs.BiasLaw.{BiasLawHolds}
+use Rattle.core_law.specs.BiasLaw.{BiasLawHolds}
 use Rattle.plain_history.specs.ExactStamps.{StampsAreExact}
-use Rattle.core_steps.specs.Takings.{StampsTaking, StampsNote, TakesExactly}
-use Rattle.core_steps.specs.Logic.{Heap, heap_of}
-use Rattle.core_steps.specs.Reached.{Comes, opens, moves}
-use Rattle.core_steps.specs.Sound.{Sound}
+use Rattle.core_law.specs.Takings.{StampsTaking, StampsNote, TakesExactly}
+use Rattle.core_law.specs.Logic.{Heap, heap_of}
+use Rattle.core_law.specs.Reached.{Comes, opens, moves}
+use Rattle.core_law.specs.Sound.{Sound}
 use Rattle.core_steps.proofs.LetGoes.{no_entries}
 use Rattle.core_steps.proofs.ExactLogs.{NoneAbove, exact_appended}
 use Rattle.core_steps.proofs.ReachedWorlds.{next_step_sound, next_step_exact, reached_worlds_sound}

@@ -20,13 +20,13 @@ use Rattle.core_world.specs.Steps.{known_hit}
 use Rattle.core_world.specs.Trees.Todo.{Todo, done, ask, ◌>>=◌}
 use Rattle.core_locks.specs.Knowing.{GoesOn}
 use Rattle.core_locks.specs.LockLaws.{HasRaised}
-use Rattle.core_steps.specs.Logic.{Heap, Does}
-use Rattle.core_steps.specs.Sound.{Finishes}
-use Rattle.core_steps.specs.inner.Sound.{BeginsWell}
+use Rattle.core_law.specs.Logic.{Heap, Does}
+use Rattle.core_law.specs.Sound.{Finishes}
+use Rattle.core_law.specs.Begins.{BeginsWell}
 use Rattle.core_steps.proofs.Facts.{Untold, Unwaiting, out_here, ready_here}
 use Rattle.core_steps.proofs.LawRules.{looks, raises, leaves_rule}
 use Rattle.core_steps.proofs.MonitorExits.{monitor_exit_does}
-use Rattle.core_steps.proofs.Places.{top_here, few_here}
+use Rattle.core_law.proofs.Places.{top_here, few_here}
 use Rattle.core_steps.proofs.Resting.{unasking, rests, logged_carries}
 use Rattle.core_steps.proofs.SafeCalls.{closes}
 use Rattle.core_steps.proofs.SeenSteps.{saw_newest, saw_older}

@@ -1,5 +1,5 @@
 -- What a running thread may count on by the clauses of the world that it stands in: of its waiting word and its places.
-use Rattle.std.proofs.Common.{◌≡◌, ◌⊎◌, ℕ, ◌<◌, ◌^◌, eq-eqb, Bool, true, false, List, length, Option, Some, None, refl, sym, ap, ◌∙◌, subst, arith, inl, inr}
+use Rattle.std.proofs.Common.{◌≡◌, ◌⊎◌, ℕ, ◌<◌, ◌^◌, eq-eqb, Bool, true, false, List, Option, Some, None, refl, sym, ap, ◌∙◌, subst, arith, inl, inr}
 use Rattle.std.proofs.lemmas.Bool.Decides.{nat_tests}
 use Rattle.mark_word.specs.declared.wait.WaitForm.{WaitForm}
 use Rattle.mark_word.specs.declared.wait.WaitForm.TheVariants as wait
@@ -18,12 +18,14 @@ use Rattle.core_world.specs.Valid.{Fits}
 use Rattle.core_world.specs.Clauses.WordForms.{IsWait}
 use Rattle.core_world.specs.World.{World}
 use Rattle.core_world.proofs.NoWordChanges.{one_requester}
-use Rattle.core_world.proofs.OwnersShown.{fits_running}
 use Rattle.core_locks.specs.Knowing.{IsOut}
+use Rattle.core_locks.specs.LockLaws.{IsFree}
+use Rattle.core_world.specs.Trees.Plans.{free_place}
 use Rattle.core_locks.proofs.WaitOut.{fails, out_word, out_waits, out_told}
 use Rattle.core_counts.specs.Steps.{SawUnbiased}
-use Rattle.core_steps.specs.Logic.{Heap, Stands}
-use Rattle.core_steps.proofs.LawRules.{home, away, valid_here}
+use Rattle.core_law.specs.Logic.{Heap, Stands}
+use Rattle.core_law.proofs.Places.{empty_here}
+use Rattle.core_law.proofs.Standing.{home, away, fits_here, valid_here}
 
 -- a waiting word that says it waits names an object in the range of the word
 pub waits_range : (n o : ℕ) → waits_on n o ≡ true → o < 2 ^ 15
@@ -127,23 +129,21 @@ fits_asking heap k v asks calm = elim (valid_here heap k v) [
 ]
 
 module _ (heap : Heap) (k : Known) (v : Stands heap k) (runs : k.running ≡ true) where
-  pub fits_here : Fits v.world v.objects
-  fits_here = fits_running v.world v.objects k.thread (away heap k v (λ z y. y.running ≡ true) runs) (valid_here heap k v)
-
   pub out_here : Unwaiting k → Untold k → IsOut k
-  out_here = home heap k v (λ z y. Unwaiting y → Untold y → IsOut y) (out_is v.world v.objects k.thread fits_here)
+  out_here = home heap k v (λ z y. Unwaiting y → Untold y → IsOut y) (out_is v.world v.objects k.thread (fits_here heap k v runs))
 
   pub ready_here : Unwaiting k → Unentering k → Untold k → ends k.log ≡ false → k.wait ≡ 0
-  ready_here = home heap k v (λ z y. Unwaiting y → Unentering y → Untold y → ends y.log ≡ false → y.wait ≡ 0) (ready_unentering v.world v.objects k.thread fits_here)
+  ready_here = home heap k v (λ z y. Unwaiting y → Unentering y → Untold y → ends y.log ≡ false → y.wait ≡ 0) (ready_unentering v.world v.objects k.thread (fits_here heap k v runs))
 
   pub ready_out : IsOut k → Unentering k → ends k.log ≡ false → k.wait ≡ 0
-  ready_out = home heap k v (λ z y. IsOut y → Unentering y → ends y.log ≡ false → y.wait ≡ 0) (ready_outside v.world v.objects k.thread fits_here)
+  ready_out = home heap k v (λ z y. IsOut y → Unentering y → ends y.log ≡ false → y.wait ≡ 0) (ready_outside v.world v.objects k.thread (fits_here heap k v runs))
 
   pub ready_entered : Unwaiting k → is_entering k.wait ≡ false → Untold k → ends k.log ≡ false → k.wait ≡ 0
-  ready_entered = home heap k v (λ z y. Unwaiting y → is_entering y.wait ≡ false → Untold y → ends y.log ≡ false → y.wait ≡ 0) (ready_quiet v.world v.objects k.thread fits_here)
+  ready_entered = home heap k v (λ z y. Unwaiting y → is_entering y.wait ≡ false → Untold y → ends y.log ≡ false → y.wait ≡ 0) (ready_quiet v.world v.objects k.thread (fits_here heap k v runs))
 
-  pub places_here : length k.holds ≡ 64
-  places_here = home heap k v (λ z y. length y.holds ≡ 64) (fits_here.holds.places k.thread)
+  -- the lowest free place is free
+  pub free_here : free_place k.holds < 64 → IsFree k (free_place k.holds)
+  free_here h = record { place = h; empty = empty_here heap k v runs h }
 
   pub limits_here : IsInLimits heap.shape
-  limits_here = home heap k v (λ z y. IsInLimits z) fits_here.limits
+  limits_here = home heap k v (λ z y. IsInLimits z) (fits_here heap k v runs).limits

@@ -1,4 +1,4 @@
--- In each world to which a heap comes the draw of an object is the first of the object's hashes in its log.
+-- In each world to which a heap comes the draw of an object is the first of the object's hashes in its log, and the hashes are draws.
 use Rattle.std.proofs.Common.{◌≡◌, ◌≢◌, ℕ, suc, ◌<◌, ◌==◌, ◌||◌, eq-eqb, eqb-true, ne_eqb, Bool, true, false, cond, List, [], ◌∷◌, ◌++◌, length, slice_get, Option, Some, None, refl, sym, ap, ◌∙◌, subst, arith, inl, inr}
 use Rattle.std.proofs.lemmas.List.{get_or-set_same, get_or-set_other}
 use Rattle.plain_monitor.specs.declared.entry.Entry.{Entry}
@@ -27,16 +27,17 @@ use Rattle.core_world.proofs.KnowledgeParts.{by_equal, logs_grow, logs_length, l
 use Rattle.core_world.proofs.LookWhileRevoking.{forgotten}
 use Rattle.core_world.proofs.RefusedWorlds.{revoking_logs, no_hash_drawn_twice}
 use Rattle.core_locks.proofs.Drawing.{all_more}
-use Rattle.core_locks.proofs.DrawnLogs.{hashes_drawn}
+use Rattle.core_locks.proofs.DrawnLogs.{hashes_drawn, valid_hashes}
 use Rattle.core_locks.proofs.PlainHashes.{above_after}
-use Rattle.core_counts.specs.BiasLaw.{BiasLawHolds}
+use Rattle.core_law.specs.BiasLaw.{BiasLawHolds}
 use Rattle.plain_history.specs.FirstDraws.{DrawsComeFirst}
-use Rattle.core_steps.specs.Logic.{Heap}
-use Rattle.core_steps.specs.Reached.{Comes, opens, moves}
-use Rattle.core_steps.specs.Sound.{Sound}
+use Rattle.core_law.specs.Draws.{HasDraws}
+use Rattle.core_law.specs.Logic.{Heap}
+use Rattle.core_law.specs.Reached.{Comes, opens, moves}
+use Rattle.core_law.specs.Sound.{Sound}
 use Rattle.core_steps.proofs.ExactWorlds.{empty_logs}
 use Rattle.core_steps.proofs.LetGoes.{no_entries, last_or_before}
-use Rattle.core_steps.proofs.ReachedWorlds.{next_step_sound, reached_worlds_sound}
+use Rattle.core_steps.proofs.ReachedWorlds.{comes_sound, next_step_sound, reached_worlds_sound}
 
 -- ONE ENTRY MORE, which is no draw for an object of which its thread has logged a hash
 module _ (all : List (List Logged)) (t : ℕ) (y : Logged) (within : t < length all)
@@ -168,3 +169,13 @@ pub reached_worlds_first : (heap : Heap) (w : World) → IsInLimits heap.shape �
 reached_worlds_first heap w limits opens = opening_first heap
 reached_worlds_first heap w limits (moves v t p before within next) =
     next_step_keeps_first v t p within (reached_worlds_sound heap v limits before) next (reached_worlds_first heap v limits before)
+
+-- so there the hashes are draws
+valid_draws : (w : World) (P : List PlainObject) → IsValid w P → DrawsComeFirst (logs w) → HasDraws w.start (logs w)
+valid_draws w P valid first = record { drawn = (valid_hashes w P valid).draws; one = λ o t. valid_draw w P o t valid; first = first }
+
+pub reached_worlds_drawn : (heap : Heap) (w : World) → IsInLimits heap.shape → Comes heap w → HasDraws heap.start (logs w)
+reached_worlds_drawn heap w limits c =
+    let s = comes_sound heap w limits c in
+    subst (λ (h : Heap). HasDraws h.start (logs w)) s.is_of
+    (valid_draws w s.sound.valid.objects (forgotten BiasLawHolds w s.sound.valid.objects s.sound.valid.is) (reached_worlds_first heap w limits c))

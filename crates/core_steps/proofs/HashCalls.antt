@@ -36,14 +36,14 @@ use Rattle.core_locks.proofs.HashPlaces.{record_is_first}
 use Rattle.core_counts.specs.Steps.{SawUnbiased}
 use Rattle.core_world.specs.Locks.{hold_count}
 use Rattle.core_locks.proofs.MarkHolds.{standing_names}
-use Rattle.core_steps.proofs.Places.{bottom_here}
-use Rattle.core_steps.specs.Logic.{Heap, Stands, Keeps, Does}
-use Rattle.core_steps.specs.Sound.{Finishes}
-use Rattle.core_steps.specs.inner.Sound.{BeginsWell}
-use Rattle.core_steps.proofs.Facts.{fits_here, ready_here}
+use Rattle.core_law.proofs.Places.{bottom_here}
+use Rattle.core_law.specs.Logic.{Heap, Stands, Keeps, Does}
+use Rattle.core_law.specs.Sound.{Finishes}
+use Rattle.core_law.specs.Begins.{BeginsWell}
+use Rattle.core_steps.proofs.Facts.{ready_here}
+use Rattle.core_law.proofs.Standing.{fits_here, home, away}
 use Rattle.core_steps.proofs.HashRules.{finds_mark_rule, finds_record_rule, finds_header_rule, draws_mark_rule, draws_header_rule}
 use Rattle.core_steps.proofs.Inflations.{SawNone, Unseen, Apart, form_found, inflate_does}
-use Rattle.core_steps.proofs.LawRules.{home, away}
 use Rattle.core_steps.proofs.Resting.{Carries, rests, live_carries, logged_carries}
 use Rattle.core_steps.proofs.SafeCalls.{closes}
 use Rattle.core_steps.proofs.SeenSteps.{saw_newest, saw_any, saw_older}

@@ -18,9 +18,10 @@ use Rattle.core_locks.proofs.HashHeader.{draws_header, draw_misses_header}
 use Rattle.core_locks.proofs.HashMark.{draws_mark, draw_misses_mark}
 use Rattle.core_counts.specs.Steps.{KeepsBiases}
 use Rattle.core_counts.proofs.LoggedKinds as logged
-use Rattle.core_steps.specs.Logic.{Heap, Stands, Keeps}
-use Rattle.core_steps.proofs.LawRules.{away, inside, runs_in_all, monitor_in_heap}
-use Rattle.core_steps.proofs.Wholes.{kept_whole}
+use Rattle.core_law.specs.Logic.{Heap, Stands, Keeps}
+use Rattle.core_steps.proofs.LawRules.{runs_in_all, monitor_in_heap}
+use Rattle.core_law.proofs.Standing.{away, inside}
+use Rattle.core_law.proofs.Wholes.{kept_whole}
 
 module _ (heap : Heap) (k : Known) where
   -- such a load of the word that the thread has in mind, and such an exchange, whichever way it goes

@@ -29,9 +29,10 @@ use Rattle.core_world.proofs.Naming.{same_named}
 use Rattle.core_locks.specs.Knowing.{SawInflated}
 use Rattle.core_locks.proofs.LookOn.{may_look}
 use Rattle.core_locks.proofs.NamesLaws.{inflated_read}
-use Rattle.core_steps.specs.Logic.{Heap, Stands, Keeps, Does}
-use Rattle.core_steps.proofs.Facts.{fits_here, Unbiased}
-use Rattle.core_steps.proofs.LawRules.{away, looks}
+use Rattle.core_law.specs.Logic.{Heap, Stands, Keeps, Does}
+use Rattle.core_steps.proofs.Facts.{Unbiased}
+use Rattle.core_law.proofs.Standing.{fits_here, away}
+use Rattle.core_steps.proofs.LawRules.{looks}
 use Rattle.core_steps.proofs.MonitorRules.{claims_rule, prepares_owner_rule, prepares_recursions_rule, prepares_header_rule, prepares_object_rule, inflates_rule, names_rule, names_neutral_rule}
 use Rattle.core_steps.proofs.SeenSteps.{saw_newest, saw_any}
 use Rattle.core_steps.proofs.StackExits.{unbiased_here, look_mark}

@@ -25,9 +25,9 @@ use Rattle.core_world.specs.Words.Shape.{slots_of}
 use Rattle.core_locks.specs.JournalLaws.{MayTell, MayTouch, MayPut, MayPublish}
 use Rattle.core_locks.specs.Knowing.{IsOfLastShot}
 use Rattle.core_counts.specs.Steps.{SawNone}
-use Rattle.core_steps.specs.Logic.{Heap, Stands}
-use Rattle.core_steps.specs.Sound.{Finishes}
-use Rattle.core_steps.specs.inner.Sound.{BeginsWell}
+use Rattle.core_law.specs.Logic.{Heap, Stands}
+use Rattle.core_law.specs.Sound.{Finishes}
+use Rattle.core_law.specs.Begins.{BeginsWell}
 use Rattle.core_steps.proofs.Facts.{limits_here, ready_here, out_here}
 use Rattle.core_steps.proofs.LawRules.{gets, puts, publishes, says_ended_rule}
 use Rattle.core_steps.proofs.Resting.{unasking, rests, logged_carries, ends_behind}

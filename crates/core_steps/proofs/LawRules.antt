@@ -1,7 +1,7 @@
 -- The laws of core_locks, with those of core_counts beside them, as rules of the logic: what the thread knows is enough. A few rules turn such a pair
 -- into one for its plan, whatever the laws are; behind them stand those on the safepoint word, the journal and lock records.
-use Rattle.std.proofs.Common.{◌≡◌, ℕ, ◌+◌, ◌<◌, ne_eqb, true, List, length, Some, None, refl, sym, ap, ◌∙◌, subst, inl}
-use Rattle.mark_word.specs.Mark.{mark_of}
+use Rattle.std.proofs.Common.{◌≡◌, ℕ, ◌+◌, ◌<◌, ne_eqb, true, List, length, Some, None, refl, sym, ap, ◌∙◌, subst, inl, inr}
+use Rattle.mark_word.specs.Mark.{mark_of, read_mark}
 use Rattle.mark_word.specs.declared.mark.MarkForm.TheVariants.{Locked}
 use Rattle.plain_monitor.specs.declared.entry.Entry.{Entry}
 use Rattle.plain_monitor.specs.declared.entry.Entry.TheVariants.{Put, Enter, Exit, Resume}
@@ -23,11 +23,15 @@ use Rattle.core_world.specs.Trees.Plans.{Purpose, next_stamp}
 use Rattle.core_world.specs.Trees.SafepointSteps.{publish_log_plan, stop_plan, resume_plan, request_plan, release_plan, halt_plan}
 use Rattle.core_world.specs.Steps.{world_after}
 use Rattle.core_world.specs.Threads.Stages.{revocation_in}
-use Rattle.core_world.specs.Words.Forms.{requester_in}
+use Rattle.core_world.specs.Words.Forms.{monitor_in, requester_in}
 use Rattle.core_world.specs.Trees.WaitSteps.{publish_plan}
-use Rattle.core_world.specs.Valid.{IsValid}
+use Rattle.core_world.specs.Valid.{Fits}
 use Rattle.core_world.specs.World.{World, logs}
-use Rattle.core_world.proofs.LookWhileRevoking.{forgotten, look_valid_with, miss_valid_with}
+use Rattle.core_world.specs.Clauses.WordForms.{IsMark}
+use Rattle.core_world.specs.Locks.{marks}
+use Rattle.plain_monitor.specs.Objects.{PlainObject}
+use Rattle.core_world.proofs.OwnersShown.{inflated_form}
+use Rattle.core_world.proofs.LookWhileRevoking.{look_valid_with, miss_valid_with}
 use Rattle.core_world.proofs.KnowledgeParts.{by_equal}
 use Rattle.core_locks.specs.Knowing.{KeepsValid, LogsFound, SawInflated}
 use Rattle.core_locks.specs.SafepointLaws.{MayStop, MayResume, MayRequest, MayRelease, MayHalt}
@@ -49,17 +53,18 @@ use Rattle.core_locks.proofs.ExitMarks.{exits_by_the_mark, exit_misses}
 use Rattle.core_locks.proofs.RaiseStamps.{raising_valid}
 use Rattle.core_locks.proofs.WaitLaws.{ready_valid, ended_valid}
 use Rattle.core_locks.proofs.LookOn.{may_look_safe}
-use Rattle.core_counts.specs.BiasLaw.{BiasLawHolds, WhollyValid}
+use Rattle.core_law.specs.BiasLaw.{BiasLawHolds, WhollyValid}
 use Rattle.core_counts.specs.Steps.{KeepsBiases, SawNone, WentBefore}
 use Rattle.core_counts.proofs.Beside.{missed_keeps}
 use Rattle.core_counts.proofs.EnterLogged.{enter_logged}
 use Rattle.core_counts.proofs.HoldStored.{hold_stored}
 use Rattle.core_counts.proofs.LoggedKinds as logged
 use Rattle.core_counts.proofs.QuietKinds as quiet
-use Rattle.core_steps.specs.Takings.{StampsTaking, StampsNote, TakesExactly}
-use Rattle.core_steps.specs.Logic.{Heap, Stands, Keeps}
-use Rattle.core_steps.proofs.There.{class_there, slot_there, limits_there, kept_there, inflated_there}
-use Rattle.core_steps.proofs.Wholes.{All, all_unless, stops_all, was_asked, not_calm, kept_whole}
+use Rattle.core_law.specs.Takings.{StampsTaking, StampsNote, TakesExactly}
+use Rattle.core_law.specs.Logic.{Heap, Stands, Keeps}
+use Rattle.core_world.proofs.There.{class_there, slot_there, limits_there, kept_there}
+use Rattle.core_law.proofs.Standing.{home, away, inside, valid_here}
+use Rattle.core_law.proofs.Wholes.{All, all_unless, stops_all, was_asked, not_calm, kept_whole}
 
 -- A step that logs nothing takes nothing, nor does one that tells what others may see.
 quiet_exactly : (w : World) (t : ℕ) (p : StepPlan) → p.note ≡ Quiet → TakesExactly w t p
@@ -70,23 +75,16 @@ telling_takes_none s k (Enter o path) tells all found last = absurd tells
 telling_takes_none s k (Resume o) tells all found last = absurd tells
 telling_takes_none s k _ tells all found last = tt
 
+-- a mark that names a monitor stays, so the monitor that a running thread saw named is one of the heap's
+inflated_there : (w : World) (P : List PlainObject) (t o m : ℕ) → Fits w P → (w.known t).running ≡ true → SawInflated (w.known t) o m → m < monitor_count w.shape
+inflated_there w P t o m v runs saw =
+    let names : monitor_in (marks w o) ≡ Some m = ap monitor_in (v.seen.stays t (name.Mark o) saw.0 saw.1 (inl (runs, inr (inl (m, saw.2))))) ∙ saw.2 in
+    subst (IsMark w.shape) (inflated_form (read_mark (marks w o)) m names) (v.forms.marks o)
+
 module _ (heap : Heap) (k : Known) where
-  -- what holds of the world's shape and of what its thread knows, holds of these
-  pub home : (v : Stands heap k) (P : Shape → Known → Type 0) → P v.world.shape (v.world.known k.thread) → P heap.shape k
-  home v P h = subst (λ (z : Heap). P z.shape k) v.is_of (subst (P v.world.shape) v.knows h)
-
-  pub away : (v : Stands heap k) (P : Shape → Known → Type 0) → P heap.shape k → P v.world.shape (v.world.known k.thread)
-  away v P h = subst (P v.world.shape) (sym v.knows) (subst (λ (z : Heap). P z.shape k) (sym v.is_of) h)
-
-  pub inside : (v : Stands heap k) → k.thread < v.world.shape.threads
-  inside v = subst (λ (z : Heap). k.thread < z.shape.threads) (sym v.is_of) v.within
-
-  pub valid_here : (v : Stands heap k) → IsValid v.world v.objects
-  valid_here v = forgotten BiasLawHolds v.world v.objects v.valid
-
   -- the heap has the thread's own words, those of an object's class,
   pub limits : Stands heap k → IsInLimits heap.shape
-  limits v = home v (λ s y. IsInLimits s) (limits_there v.world v.objects (valid_here v))
+  limits v = home heap k v (λ s y. IsInLimits s) (limits_there v.world v.objects (valid_here heap k v))
 
   pub class_in : (o : ℕ) → o < length heap.shape.objects → Stands heap k → class_of heap.shape o < heap.shape.classes
   class_in o object v = class_there heap.shape o (limits v) object
@@ -94,23 +92,23 @@ module _ (heap : Heap) (k : Known) where
   -- where the thread runs, every clause holds
   pub runs_in_all : (v : Stands heap k) → k.running ≡ true → All v.world v.objects
   runs_in_all v runs =
-      all_unless v.world v.objects (λ s. stops_all v.world v.objects s k.thread (away v (λ z y. y.running ≡ true) runs)) v.valid
+      all_unless v.world v.objects (λ s. stops_all v.world v.objects s k.thread (away heap k v (λ z y. y.running ≡ true) runs)) v.valid
 
   -- and those of a monitor that it keeps, or that a mark names which it saw
   pub kept_in : (m : ℕ) → k.running ≡ true → k.kept ≡ Some m → Stands heap k → m < monitor_count heap.shape
   kept_in m runs kept v =
-      home v (λ s y. m < monitor_count s) (kept_there v.world v.objects (runs_in_all v runs).fits k.thread m (away v (λ s y. y.kept ≡ Some m) kept))
+      home heap k v (λ s y. m < monitor_count s) (kept_there v.world v.objects (runs_in_all v runs).fits k.thread m (away heap k v (λ s y. y.kept ≡ Some m) kept))
 
   pub monitor_in_heap : (o m : ℕ) → k.running ≡ true → SawInflated k o m → Stands heap k → m < monitor_count heap.shape
   monitor_in_heap o m runs saw v =
-      home v (λ s y. m < monitor_count s)
-      (inflated_there v.world v.objects (runs_in_all v runs).fits k.thread o m (away v (λ s y. y.running ≡ true) runs) (away v (λ s y. SawInflated y o m) saw))
+      home heap k v (λ s y. m < monitor_count s)
+      (inflated_there v.world v.objects k.thread o m (runs_in_all v runs).fits (away heap k v (λ s y. y.running ≡ true) runs) (away heap k v (λ s y. SawInflated y o m) saw))
 
   -- and so it is at its reached safepoint, in the middle of nothing
   pub calm_in_all : (v : Stands heap k) → k.reached ≡ true → k.stage ≡ Calm → All v.world v.objects
   calm_in_all v reached calm =
       all_unless v.world v.objects
-      (λ s. not_calm v.world v.objects s k.thread (away v (λ z y. y.reached ≡ true) reached) (away v (λ z y. y.stage ≡ Calm) calm)) v.valid
+      (λ s. not_calm v.world v.objects s k.thread (away heap k v (λ z y. y.reached ≡ true) reached) (away heap k v (λ z y. y.stage ≡ Calm) calm)) v.valid
 
   -- whether the step revokes nothing, by its stage: that is another one, or where the thread stood
   abbrev pub Unrevoking : (ℕ → Known → StepPlan) → Type 0
@@ -131,9 +129,9 @@ module _ (heap : Heap) (k : Known) where
     exact = exact;
     by = λ v.
         let a = all v in
-        home v (λ s y. May s y → WhollyValid (world_after (plan k.thread y) k.thread v.world))
+        home heap k v (λ s y. May s y → WhollyValid (world_after (plan k.thread y) k.thread v.world))
         (λ m. kept_whole v.world v.objects k.thread (plan k.thread (v.world.known k.thread)) a (unrevoking k.thread (v.world.known k.thread)) v.objects
-        (law v.world v.objects k.thread (inside v) m (inl a.fits)) (biases v.world v.objects k.thread (inside v) m a.fits a.biases)) (may v);
+        (law v.world v.objects k.thread (inside heap k v) m (inl a.fits)) (biases v.world v.objects k.thread (inside heap k v) m a.fits a.biases)) (may v);
   }
 
   -- of a thread that runs
@@ -155,11 +153,11 @@ module _ (heap : Heap) (k : Known) where
     exact = exact;
     by = λ v.
         let a = runs_in_all v (runs heap.shape k (may v).0) in
-        home v (λ s y. May s y × More y → WhollyValid (world_after (plan k.thread y) k.thread v.world))
+        home heap k v (λ s y. May s y × More y → WhollyValid (world_after (plan k.thread y) k.thread v.world))
         (λ m.
-        let h = law v.world v.objects k.thread (inside v) m.0 (inl a.fits) in
+        let h = law v.world v.objects k.thread (inside heap k v) m.0 (inl a.fits) in
         kept_whole v.world v.objects k.thread (plan k.thread (v.world.known k.thread)) a (unrevoking k.thread (v.world.known k.thread)) h.now h.valid
-        (biases v.world v.objects k.thread (inside v) m a.fits a.biases)) (may v);
+        (biases v.world v.objects k.thread (inside heap k v) m a.fits a.biases)) (may v);
   }
 
   pub enters_in_log : (May : Shape → Known → Type 0) (plan : ℕ → Known → StepPlan) (entry : ℕ → Entry)
@@ -179,7 +177,7 @@ module _ (heap : Heap) (k : Known) where
     by = λ v. record {
       objects = v.objects;
       is =
-          look_valid_with BiasLawHolds v.world v.objects k.thread p (inside v) (away v (λ s y. IsLook y p) look)
+          look_valid_with BiasLawHolds v.world v.objects k.thread p (inside heap k v) (away heap k v (λ s y. IsLook y p) look)
           (λ w a law. quiet.looks w k.thread p a law) v.valid;
     };
   }
@@ -195,17 +193,17 @@ module _ (heap : Heap) (k : Known) where
     there = λ v. (tt, tt);
     exact = λ v. tt;
     by = λ v.
-        let m = away v (λ s y. MayResume y e word) may in
+        let m = away heap k v (λ s y. MayResume y e word) may in
         by_equal (v.world.words name.Safepoint) word
         (λ same.
         let a = all_unless v.world v.objects (λ s. was_asked v.world v.objects s (ap requester_in same ∙ may.unasked)) v.valid in
         kept_whole v.world v.objects k.thread (resume_plan e k.thread word) a (λ h. refl) v.objects
-        (resuming_valid e word v.world v.objects k.thread (inside v) m (inl a.fits)) (quiet.resumes e word v.world v.objects k.thread (inside v) m a.fits a.biases))
+        (resuming_valid e word v.world v.objects k.thread (inside heap k v) m (inl a.fits)) (quiet.resumes e word v.world v.objects k.thread (inside heap k v) m a.fits a.biases))
         (λ other.
         let missed = ne_eqb (v.world.words name.Safepoint) word other in
         record {
           objects = v.objects;
-          is = miss_valid_with BiasLawHolds v.world v.objects k.thread (resume_plan e k.thread word) (inside v)
+          is = miss_valid_with BiasLawHolds v.world v.objects k.thread (resume_plan e k.thread word) (inside heap k v)
               (record { missed = missed; may = may_look_safe (v.world.known k.thread) })
               (λ w missed law. missed_keeps w k.thread (resume_plan e k.thread word) law missed) v.valid;
         });
@@ -269,7 +267,7 @@ module _ (heap : Heap) (k : Known) where
   pub logs_enter : (e : Purpose) (o p : ℕ) (path : Path) → (Stands heap k → MayLogEnter heap.shape k o p path) → Keeps heap (log_enter_plan e o path) k
   logs_enter e o p path may = enters_in_log (λ s y. MayLogEnter s y o p path) (λ t y. log_enter_plan e o path) (λ n. Enter o path) (logging_an_enter e o p path)
       (λ w P t within m v law. enter_logged w P t o p path e within m v law) (λ t y h. refl)
-      (λ v s. enter_stamp v.world v.objects k.thread o p path s (inside v) (away v (λ z y. MayLogEnter z y o p path) (may v)) (valid_here v)) (λ s y a. a.runs) (λ v. ((may v).object, tt)) may
+      (λ v s. enter_stamp v.world v.objects k.thread o p path s (inside heap k v) (away heap k v (λ z y. MayLogEnter z y o p path) (may v)) (valid_here heap k v)) (λ s y a. a.runs) (λ v. ((may v).object, tt)) may
 
   pub readies : (e : Purpose) → (Stands heap k → MayBeReady k e) → Keeps heap (store_ready_plan e k.stage k.thread) k
   readies e may =
@@ -301,13 +299,13 @@ module _ (heap : Heap) (k : Known) where
     exact = λ v. tt;
     by = λ v.
         let a = runs_in_all v (may v).0.runs in
-        home v (λ s y. MayHold s y e o d p × WentBefore heap.biasing s y o p path → WhollyValid (world_after (hold_plan e k.thread o d p path) k.thread v.world))
+        home heap k v (λ s y. MayHold s y e o d p × WentBefore heap.biasing s y o p path → WhollyValid (world_after (hold_plan e k.thread o d p path) k.thread v.world))
         (λ m.
         let before : WentBefore v.world.biasing v.world.shape (v.world.known k.thread) o p path =
         subst (λ (z : Heap). WentBefore z.biasing v.world.shape (v.world.known k.thread) o p path) (sym v.is_of) m.1 in
         kept_whole v.world v.objects k.thread (hold_plan e k.thread o d p path) a (λ h. refl) v.objects
-        (stored_valid e o d p path v.world v.objects k.thread (inside v) m.0 (inl a.fits))
-        (hold_stored v.world v.objects k.thread e o d p path (inside v) (record { runs = m.0.runs; goes_on = m.0.goes_on; before = before }) a.fits a.biases)) (may v);
+        (stored_valid e o d p path v.world v.objects k.thread (inside heap k v) m.0 (inl a.fits))
+        (hold_stored v.world v.objects k.thread e o d p path (inside heap k v) (record { runs = m.0.runs; goes_on = m.0.goes_on; before = before }) a.fits a.biases)) (may v);
   }
 
   pub leaves_rule : (e : Purpose) (o d p : ℕ) → (Stands heap k → p < 64) → (Stands heap k → MayLeave heap.shape k o d p)
@@ -328,11 +326,11 @@ module _ (heap : Heap) (k : Known) where
     there = λ v. ((may v).object, tt);
     exact = λ v. tt;
     by = λ v.
-        let a = away v (λ s y. MayLetGo s y o header stamp p) (may v) in
+        let a = away heap k v (λ s y. MayLetGo s y o header stamp p) (may v) in
         let all = runs_in_all v (may v).runs in
         let plan = let_go_plan e o (mark_of (Locked k.thread p)) header p in
-        let law = logged.exits_by_mark e o header stamp p v.world v.objects k.thread (inside v) a all.fits all.biases in
+        let law = logged.exits_by_mark e o header stamp p v.world v.objects k.thread (inside heap k v) a all.fits all.biases in
         by_equal (v.world.words (name.Mark o)) (mark_of (Locked k.thread p))
-        (λ is. let h = exits_by_the_mark e o header stamp p v.world v.objects k.thread (inside v) (a, is) (inl all.fits) in kept_whole v.world v.objects k.thread plan all (λ h. refl) h.now h.valid law)
-        (λ n. kept_whole v.world v.objects k.thread plan all (λ h. refl) v.objects (exit_misses e o header stamp p v.world v.objects k.thread (inside v) (a, n) (inl all.fits)) law);
+        (λ is. let h = exits_by_the_mark e o header stamp p v.world v.objects k.thread (inside heap k v) (a, is) (inl all.fits) in kept_whole v.world v.objects k.thread plan all (λ h. refl) h.now h.valid law)
+        (λ n. kept_whole v.world v.objects k.thread plan all (λ h. refl) v.objects (exit_misses e o header stamp p v.world v.objects k.thread (inside heap k v) (a, n) (inl all.fits)) law);
   }

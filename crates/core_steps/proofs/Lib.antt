@@ -1,7 +1,4 @@
 pub mod Trees
-pub mod Wholes
-pub mod There
-pub mod NextSteps
 pub mod LawRules
 pub mod MonitorRules
 pub mod WaitRules
@@ -10,7 +7,6 @@ pub mod RevocationTrees
 pub mod Revocations
 pub mod SeenSteps
 pub mod Facts
-pub mod Places
 pub mod Tests
 pub mod JournalCalls
 pub mod StackEnters

@@ -25,12 +25,12 @@ use Rattle.core_world.specs.Steps.{is_idle, known_hit, known_miss}
 use Rattle.core_world.specs.Clauses.WordForms.{IsOwner}
 use Rattle.core_locks.specs.Knowing.{IsOut, SawInflated, SawOwn}
 use Rattle.core_locks.proofs.Supplies.{thread_owned_held, own_record_held}
-use Rattle.core_steps.specs.Logic.{Heap, Stands, Keeps, Does}
-use Rattle.core_steps.proofs.Facts.{Untold, fits_here, limits_here, out_here}
-use Rattle.core_steps.proofs.LawRules.{home, away, displaces_rule}
+use Rattle.core_law.specs.Logic.{Heap, Stands, Keeps, Does}
+use Rattle.core_steps.proofs.Facts.{Untold, limits_here, out_here, free_here}
+use Rattle.core_law.proofs.Standing.{fits_here, home, away}
+use Rattle.core_steps.proofs.LawRules.{displaces_rule}
 use Rattle.core_steps.proofs.MonitorFacts.{names_still}
 use Rattle.core_steps.proofs.MonitorRules.{looks_at_monitor, mans_rule, raises_count_rule, grabs_rule}
-use Rattle.core_steps.proofs.Places.{free_here}
 use Rattle.core_steps.proofs.Resting.{rests, live_carries}
 use Rattle.core_steps.proofs.SeenSteps.{saw_newest, saw_older, missed_any, missed_newest}
 use Rattle.core_steps.proofs.StackEnters.{Taking, Comes, undumped_enter, hold_does}

@@ -20,12 +20,12 @@ use Rattle.core_world.specs.Steps.{is_idle, known_hit}
 use Rattle.core_world.specs.Trees.Todo.{Todo, ask, ◌>>=◌}
 use Rattle.core_locks.specs.Knowing.{IsOut, SawInflated, SawOwn}
 use Rattle.core_locks.specs.MonitorLaws.{MayCount}
-use Rattle.core_steps.specs.Logic.{Heap, Stands, Keeps, Does}
+use Rattle.core_law.specs.Logic.{Heap, Stands, Keeps, Does}
 use Rattle.core_steps.proofs.Facts.{Untold, out_here, ready_here}
 use Rattle.core_steps.proofs.LawRules.{leaves_rule, clears_rule}
 use Rattle.core_steps.proofs.MonitorFacts.{IsOwned, owned_here, only_here}
 use Rattle.core_steps.proofs.MonitorRules.{looks_at_monitor, mans_rule, resets_count_rule, lowers_count_rule, frees_rule}
-use Rattle.core_steps.proofs.Places.{top_here, few_here}
+use Rattle.core_law.proofs.Places.{top_here, few_here}
 use Rattle.core_steps.proofs.Resting.{rests, logged_carries}
 use Rattle.core_steps.proofs.SeenSteps.{saw_newest, saw_older}
 use Rattle.core_steps.proofs.StackExits.{Leaving, ByMonitor, unwaiting_exit, unentering_exit}

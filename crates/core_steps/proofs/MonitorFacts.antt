@@ -20,11 +20,11 @@ use Rattle.core_world.proofs.OwnersShown.{inflated_form}
 use Rattle.core_locks.specs.Knowing.{IsOut, SawInflated, SawOwn}
 use Rattle.core_locks.proofs.HoldWays.{saw_displaced}
 use Rattle.core_locks.proofs.Supplies.{last_hold}
-use Rattle.core_steps.specs.Logic.{Heap, Stands}
+use Rattle.core_law.specs.Logic.{Heap, Stands}
 use Rattle.core_steps.proofs.ExitFacts.{owner_here, who_here, unopen}
-use Rattle.core_steps.proofs.Facts.{fits_here, limits_here}
-use Rattle.core_steps.proofs.LawRules.{home, away}
-use Rattle.core_steps.proofs.Places.{top_here, few_here}
+use Rattle.core_steps.proofs.Facts.{limits_here}
+use Rattle.core_law.proofs.Standing.{fits_here, home, away}
+use Rattle.core_law.proofs.Places.{top_here, few_here}
 
 -- the owner word says that it is thread t's: its own, or one of its records'
 abbrev pub IsOwned : ℕ → Option OwnerForm → Type 0

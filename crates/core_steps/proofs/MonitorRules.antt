@@ -29,7 +29,7 @@ use Rattle.core_locks.proofs.Restores.{restores_recursions}
 use Rattle.core_locks.proofs.Saves.{saves_count}
 use Rattle.core_counts.proofs.LoggedKinds as logged
 use Rattle.core_counts.proofs.QuietKinds as quiet
-use Rattle.core_steps.specs.Logic.{Heap, Stands, Keeps}
+use Rattle.core_law.specs.Logic.{Heap, Stands, Keeps}
 use Rattle.core_steps.proofs.LawRules.{kept_in, monitor_in_heap, keeps, enters_in_log, looks}
 
 -- the heap has the words of a monitor that it has

@@ -29,13 +29,13 @@ use Rattle.core_locks.specs.Knowing.{IsOut, IsOwnEntry}
 use Rattle.core_locks.specs.JournalLaws.{SawNobody}
 use Rattle.core_locks.proofs.WaitOut.{ready_is_out}
 use Rattle.core_counts.specs.Steps.{SawUnbiased}
-use Rattle.core_steps.specs.Logic.{Heap, Stands, Does}
-use Rattle.core_steps.specs.Sound.{Finishes}
-use Rattle.core_steps.specs.inner.Sound.{BeginsWell}
+use Rattle.core_law.specs.Logic.{Heap, Stands, Does}
+use Rattle.core_law.specs.Sound.{Finishes}
+use Rattle.core_law.specs.Begins.{BeginsWell}
 use Rattle.core_steps.proofs.ExitFacts.{unopen}
-use Rattle.core_steps.proofs.Facts.{fits_here}
+use Rattle.core_law.proofs.Standing.{fits_here, away}
 use Rattle.core_steps.proofs.Inflations.{form_found}
-use Rattle.core_steps.proofs.LawRules.{away, looks}
+use Rattle.core_steps.proofs.LawRules.{looks}
 use Rattle.core_steps.proofs.SafeCalls.{closes}
 use Rattle.core_steps.proofs.SafepointLooks.{going}
 use Rattle.core_steps.proofs.SeenSteps.{saw_newest}

@@ -1,25 +1,26 @@
 -- Each world that a heap comes to is sound.
-use Rattle.std.proofs.Common.{◌≡◌, ℕ, ◌<◌, true, false, refl, sym, subst, inl}
+use Rattle.std.proofs.Common.{◌≡◌, ℕ, ◌<◌, true, refl, sym, subst, inl}
 use Rattle.core_world.specs.declared.plan.StepPlan.{StepPlan}
 use Rattle.core_world.specs.Threads.AtRest.{AtRest}
 use Rattle.core_world.specs.Due.{IsNext}
 use Rattle.core_world.specs.Threads.Known.{Known}
 use Rattle.core_world.specs.Opening.{opening, first_known}
 use Rattle.core_world.specs.Words.Shape.{Shape, IsInLimits}
-use Rattle.core_world.specs.Steps.{rest_of_call, is_idle, world_after}
-use Rattle.core_world.specs.Trees.Todo.{Todo, done, never, step}
+use Rattle.core_world.specs.Steps.{rest_of_call, world_after}
 use Rattle.core_world.specs.There.{IsThere}
 use Rattle.core_world.specs.World.{World}
 use Rattle.plain_monitor.specs.Objects.{new_objects}
 use Rattle.core_world.proofs.OpeningFits.{opening_fits}
 use Rattle.core_world.proofs.Readings.{no_told}
-use Rattle.core_counts.specs.BiasLaw.{WhollyValid}
+use Rattle.core_law.specs.BiasLaw.{WhollyValid}
 use Rattle.core_counts.proofs.Opening.{opening_meets}
-use Rattle.core_steps.specs.Takings.{TakesExactly}
-use Rattle.core_steps.specs.Logic.{Heap, heap_of}
-use Rattle.core_steps.specs.Sound.{Finishes, Sound}
-use Rattle.core_steps.specs.Reached.{Comes, opens, moves, comes}
-use Rattle.core_steps.proofs.NextSteps.{stepping_sound, stepping_there, stepping_stamps, idle_rests}
+use Rattle.core_law.specs.Takings.{TakesExactly}
+use Rattle.core_law.specs.Logic.{Heap, heap_of}
+use Rattle.core_law.specs.Sound.{Sound}
+use Rattle.core_law.specs.Reached.{Comes, opens, moves, comes}
+use Rattle.core_law.proofs.NextSteps.{stepping_sound, stepping_there, stepping_stamps}
+use Rattle.core_law.proofs.Lawful as lawful
+use Rattle.core_law.proofs.Lawful.{sound_comes}
 use Rattle.core_steps.proofs.Resting.{rests}
 use Rattle.core_steps.proofs.Table.{calls_begin}
 
@@ -36,19 +37,6 @@ opening_sound heap limits = record {
   goes_on = λ t h. record { by = first_rests heap.shape t };
 }
 
--- OF A SOUND WORLD. Nothing of its calls says that no valid world comes there.
-pub sound_comes : (w : World) (t : ℕ) → Sound w → t < w.shape.threads → comes (rest_of_call w.shape (w.known t)) ≡ true
-sound_comes w t sound within = cases (rest_of_call w.shape (w.known t)) (sound.goes_on t within)
-  where
-    cases : (d : Todo (Unit {0})) → Finishes (heap_of w) false d (w.known t) → comes d ≡ true
-    cases (done a) f = refl
-    cases never f = absurd f.by
-    cases (step p g) f = refl
-
--- a thread whose call is over is at rest
-pub sound_rests : (w : World) (t : ℕ) → Sound w → t < w.shape.threads → is_idle w.shape (w.known t) ≡ true → AtRest w.shape (w.known t)
-sound_rests w t sound within over = idle_rests (heap_of w) (w.known t) (sound.goes_on t within) over
-
 -- THE LAW, for a step of any call; and by what the thread knows: a shared table's rule that its world is sound asks no more of a step than
 -- that it is the next one.
 pub next_step_sound : (w : World) (t : ℕ) (p : StepPlan) → t < w.shape.threads → Sound w → IsNext w.shape w.start w.biasing (w.known t) p → Sound (world_after p t w)
@@ -56,11 +44,7 @@ next_step_sound w t p within = stepping_sound w t p within (calls_begin (heap_of
 
 pub known_step_sound : (heap : Heap) (k : Known) (p : StepPlan) → IsNext heap.shape heap.start heap.biasing k p → (w : World) → heap_of w ≡ heap
     → w.known k.thread ≡ k → k.thread < heap.shape.threads → Sound w → Sound (world_after p k.thread w)
-known_step_sound heap k p next w is_of knows within sound =
-    next_step_sound w k.thread p
-    (subst (λ (z : Heap). k.thread < z.shape.threads) (sym is_of) within)
-    sound
-    (subst (λ (z : Heap). IsNext z.shape z.start z.biasing (w.known k.thread) p) (sym is_of) (subst (λ y. IsNext heap.shape heap.start heap.biasing y p) (sym knows) next))
+known_step_sound heap k p next w is_of knows within = lawful.known_step_sound heap k p next w is_of knows within (calls_begin heap p.task)
 
 -- and the step is on a word of the heap
 pub next_step_there : (w : World) (t : ℕ) (p : StepPlan) → t < w.shape.threads → Sound w → IsNext w.shape w.start w.biasing (w.known t) p → IsThere w.shape (w.known t) p
@@ -68,13 +52,7 @@ next_step_there w t p within = stepping_there w t p within (calls_begin (heap_of
 
 pub known_step_there : (heap : Heap) (k : Known) (p : StepPlan) → IsNext heap.shape heap.start heap.biasing k p → (w : World) → heap_of w ≡ heap
     → w.known k.thread ≡ k → k.thread < heap.shape.threads → Sound w → IsThere heap.shape k p
-known_step_there heap k p next w is_of knows within sound =
-    subst (λ (z : Heap). IsThere z.shape k p) is_of
-    (subst (λ y. IsThere w.shape y p) knows
-    (next_step_there w k.thread p
-    (subst (λ (z : Heap). k.thread < z.shape.threads) (sym is_of) within)
-    sound
-    (subst (λ (z : Heap). IsNext z.shape z.start z.biasing (w.known k.thread) p) (sym is_of) (subst (λ y. IsNext heap.shape heap.start heap.biasing y p) (sym knows) next))))
+known_step_there heap k p next w is_of knows within = lawful.known_step_there heap k p next w is_of knows within (calls_begin heap p.task)
 
 -- and stamps a taking as the logs ask for
 pub next_step_exact : (w : World) (t : ℕ) (p : StepPlan) → t < w.shape.threads → Sound w → IsNext w.shape w.start w.biasing (w.known t) p → TakesExactly w t p
@@ -86,7 +64,7 @@ pub record SoundOf (heap : Heap) (w : World) : Type 0 where
   pub sound : Sound w
   pub is_of : heap_of w ≡ heap
 
-comes_sound : (heap : Heap) (w : World) → IsInLimits heap.shape → Comes heap w → SoundOf heap w
+pub comes_sound : (heap : Heap) (w : World) → IsInLimits heap.shape → Comes heap w → SoundOf heap w
 comes_sound heap w limits opens = record { sound = opening_sound heap limits; is_of = refl }
 comes_sound heap w limits (moves v t p before within next) =
     let a = comes_sound heap v limits before in
@@ -106,11 +84,3 @@ reached_worlds_come heap w t limits c within =
 
 pub reached_worlds_valid : (heap : Heap) (w : World) → IsInLimits heap.shape → Comes heap w → WhollyValid w
 reached_worlds_valid heap w limits c = (reached_worlds_sound heap w limits c).valid
-
--- a step, by what its thread knows, leads on to one of them
-pub known_step_comes : (heap : Heap) (k : Known) (p : StepPlan) → IsNext heap.shape heap.start heap.biasing k p → (w : World) → heap_of w ≡ heap
-    → w.known k.thread ≡ k → k.thread < heap.shape.threads → Comes heap w → Comes heap (world_after p k.thread w)
-known_step_comes heap k p next w is_of knows within c =
-    moves w k.thread p c
-    (subst (λ (z : Heap). k.thread < z.shape.threads) (sym is_of) within)
-    (subst (λ (z : Heap). IsNext z.shape z.start z.biasing (w.known k.thread) p) (sym is_of) (subst (λ y. IsNext heap.shape heap.start heap.biasing y p) (sym knows) next))

@@ -25,14 +25,14 @@ use Rattle.core_locks.proofs.HoldCounts.{named_clear}
 use Rattle.core_locks.proofs.RefutedSteps.{knows, hit, hit_fits}
 use Rattle.core_locks.proofs.SafeFacts.{running_unreached}
 use Rattle.core_locks.proofs.RefutedExchanges.{exchange_refused}
-use Rattle.core_steps.specs.Logic.{Heap, Stands, DoesSteps}
+use Rattle.core_law.specs.Logic.{Heap, Stands, DoesSteps}
 use Rattle.core_steps.specs.Weakened.{late_displaced_steps, early_clearing_steps, stop_at_stage_steps}
-use Rattle.core_steps.proofs.Facts.{fits_here, limits_here}
+use Rattle.core_steps.proofs.Facts.{limits_here}
+use Rattle.core_law.proofs.Standing.{fits_here, away, valid_here, safe_fits}
 use Rattle.core_world.proofs.LookWhileRevoking.{without_clause}
-use Rattle.core_counts.specs.BiasLaw.{BiasLawHolds}
-use Rattle.core_steps.proofs.LawRules.{away, valid_here}
-use Rattle.core_steps.proofs.Places.{top_here, few_here}
-use Rattle.core_steps.proofs.SafeWords.{safe_fits, stopped_runs}
+use Rattle.core_law.specs.BiasLaw.{BiasLawHolds}
+use Rattle.core_law.proofs.Places.{top_here, few_here}
+use Rattle.core_steps.proofs.SafeWords.{stopped_runs}
 
 module _ (heap : Heap) (k : Known) (fresh : Bool) (v : Stands heap k) (at_first : is_idle heap.shape k ≡ fresh) where
   runs_there : k.running ≡ true → (v.world.known k.thread).running ≡ true

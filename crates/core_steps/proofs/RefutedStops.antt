@@ -10,11 +10,10 @@ use Rattle.core_locks.proofs.RefutedSilent.{same_objects}
 use Rattle.core_locks.proofs.RefutedSteps.{knows, hit_fits}
 use Rattle.core_locks.proofs.RefutedOwners.{owner_uncalled}
 use Rattle.core_world.proofs.LookWhileRevoking.{without_clause}
-use Rattle.core_counts.specs.BiasLaw.{BiasLawHolds}
-use Rattle.core_steps.specs.Logic.{Heap, Stands, DoesSteps}
+use Rattle.core_law.specs.BiasLaw.{BiasLawHolds}
+use Rattle.core_law.specs.Logic.{Heap, Stands, DoesSteps}
 use Rattle.core_steps.specs.Weakened.{is_between}
-use Rattle.core_steps.proofs.Facts.{fits_here}
-use Rattle.core_steps.proofs.LawRules.{away}
+use Rattle.core_law.proofs.Standing.{fits_here, away}
 
 left_true : (a b : Bool) → (a || b) ≡ true → b ≡ false → a ≡ true
 left_true true b e f = refl

@@ -15,7 +15,7 @@ use Rattle.core_world.specs.Trees.SafepointSteps.{has_requester, requested_by, r
 use Rattle.core_world.specs.RevocationRules.{writes_in}
 use Rattle.core_world.specs.Steps.{is_idle, known_hit, seen_before, only_headers}
 use Rattle.core_locks.specs.Knowing.{GoesOn}
-use Rattle.core_steps.specs.Logic.{Heap, Does}
+use Rattle.core_law.specs.Logic.{Heap, Does}
 use Rattle.core_steps.proofs.LawRules.{looks, requests}
 use Rattle.core_steps.proofs.Resting.{Carries, unasking, unchecking, rests}
 use Rattle.core_steps.proofs.SafeCalls.{look_safe}

@@ -24,7 +24,7 @@ use Rattle.core_world.specs.Trees.Todo.{Todo, done, never, step, ◌>>=◌, each
 use Rattle.core_world.specs.Clauses.WordForms.{IsMark, IsHold}
 use Rattle.core_world.specs.There.{IsIn}
 use Rattle.core_bias.specs.Revoking.{Leads}
-use Rattle.core_steps.proofs.There.{IsFormed}
+use Rattle.core_world.proofs.There.{IsFormed}
 
 -- the words that a revocation loads, and those that it stores
 abbrev pub IsLooked : Name → Type 0

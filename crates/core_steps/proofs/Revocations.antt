@@ -29,21 +29,22 @@ use Rattle.core_world.specs.Steps.{known_hit, seen_before, only_headers, is_head
 use Rattle.core_world.specs.Trees.Todo.{Todo, done, never, step, ◌>>=◌}
 use Rattle.core_world.specs.Valid.{RevokesWithin}
 use Rattle.core_world.proofs.ActsLook.{headers_are_part}
-use Rattle.core_world.proofs.Naming.{same_named}
+use Rattle.core_world.proofs.Naming.{same_named, same_as_itself}
 use Rattle.core_bias.specs.Revoking.{IsNextStore, AreAllStores, Leads, TellsBias}
 use Rattle.core_bias.proofs.NewBias.{answer_tells}
 use Rattle.core_bias.proofs.RevocationRuns.{steps_next, steps_all}
 use Rattle.core_locks.proofs.LookOn.{may_look}
 use Rattle.core_locks.specs.Knowing.{IsBiasTo}
-use Rattle.core_steps.specs.Logic.{Heap, Stands, Was, Does}
+use Rattle.core_law.specs.Logic.{Heap, Stands, Was, Does}
 use Rattle.core_steps.proofs.BiasFacts.{valid_is}
 use Rattle.core_steps.proofs.BiasRules.{begins_revoking_rule, goes_on_revoking_rule, ends_revoking_rule}
-use Rattle.core_steps.proofs.LawRules.{home, away, looks, valid_here, class_in}
+use Rattle.core_steps.proofs.LawRules.{looks, class_in}
+use Rattle.core_law.proofs.Standing.{home, away, valid_here, few_threads}
 use Rattle.core_steps.proofs.RevocationTrees.{IsLooked, IsStored, InMiddle, middle_binds, middle_verdict, answers_left, revocation_untaken}
-use Rattle.core_steps.proofs.SafepointLooks.{Reaches, found_formed, is_as_seen, fits_reached, keeps_look}
-use Rattle.core_steps.proofs.There.{IsFormed}
-use Rattle.core_steps.proofs.SafeWords.{reached_there, released_asks, released_runs, few_threads}
-use Rattle.core_steps.proofs.SeenSteps.{same_as_itself}
+use Rattle.core_steps.proofs.SafepointLooks.{Reaches, keeps_look}
+use Rattle.core_law.proofs.SafepointSights.{found_formed, is_as_seen, fits_reached}
+use Rattle.core_world.proofs.There.{IsFormed}
+use Rattle.core_steps.proofs.SafeWords.{reached_there, released_asks, released_runs}
 use Rattle.core_steps.proofs.Trees.{answers, chooses_then, hitting, finding}
 
 -- some step of these was on the word of this name

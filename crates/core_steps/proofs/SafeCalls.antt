@@ -17,12 +17,13 @@ use Rattle.core_world.specs.Trees.Plans.{Purpose, load, done_with, pending_for}
 use Rattle.core_world.specs.Trees.SafepointSteps.{has_requester, running_too, requested_by, reached_word, released_word, bar, unless, poll_steps, resume_steps, request_steps, reached_steps}
 use Rattle.core_world.specs.Trees.Todo.{Todo, ◌>>=◌}
 use Rattle.core_locks.proofs.LookOn.{may_look_safe}
-use Rattle.core_steps.specs.Logic.{Heap, Stands, Does}
-use Rattle.core_steps.specs.Sound.{Finishes}
-use Rattle.core_steps.specs.inner.Sound.{BeginsWell}
+use Rattle.core_law.specs.Logic.{Heap, Stands, Does}
+use Rattle.core_law.specs.Sound.{Finishes}
+use Rattle.core_law.specs.Begins.{BeginsWell}
 use Rattle.core_steps.proofs.LawRules.{looks, stops, resumes, requests, releases, publishes_all}
 use Rattle.core_steps.proofs.Resting.{Carries, carried, unasking, unchecking, rests, rests_asking}
-use Rattle.core_steps.proofs.SafeWords.{stopped_asks, resumed_asks, requested_runs, reached_there, released_asks, few_threads}
+use Rattle.core_steps.proofs.SafeWords.{stopped_asks, resumed_asks, requested_runs, reached_there, released_asks}
+use Rattle.core_law.proofs.Standing.{few_threads}
 use Rattle.core_steps.proofs.Tests.{both, not_true, none_is, unsome}
 use Rattle.core_steps.proofs.Trees.{answers, follows, binds, chooses, hitting, finding, swapping}
 

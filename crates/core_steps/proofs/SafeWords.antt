@@ -1,5 +1,5 @@
 -- What the safepoint word says of a thread after the thread's own steps on it.
-use Rattle.std.proofs.Common.{◌≡◌, ℕ, ◌-◌, ◌^◌, ◌<◌, ◌==◌, true, false, Some, None, refl, sym, ap, ◌∙◌, subst, arith, eq-eqb, inl, inr}
+use Rattle.std.proofs.Common.{◌≡◌, ℕ, ◌-◌, ◌^◌, ◌<◌, ◌==◌, true, false, Some, None, refl, sym, ap, ◌∙◌, arith, eq-eqb}
 use Rattle.std.proofs.lemmas.Nat.{pow_below}
 use Rattle.std.proofs.lemmas.Nat.Bits.{bit_at-pow_same}
 use Rattle.std.specs.Prelude.{bit_and}
@@ -11,24 +11,16 @@ use Rattle.core_world.specs.declared.name.Name.TheVariants as name
 use Rattle.core_world.specs.Words.Forms.{runs_form, requester_form, requester_in, asks_in, runs_in}
 use Rattle.core_world.specs.Threads.Known.{Known}
 use Rattle.core_world.specs.Trees.SafepointSteps.{all_but, running_too, requested_by, reached_word, released_word, halted_word}
-use Rattle.core_world.specs.Valid.{Fits, SafepointFits}
-use Rattle.core_locks.proofs.SafeBits.{without, including, masked, without_range, without_mine, including_range}
+use Rattle.core_world.specs.Valid.{Fits}
+use Rattle.core_world.proofs.SafeBits.{without, including, masked, without_range, without_mine, including_range}
 use Rattle.core_locks.proofs.SafeFacts.{safe_form, few_bits, fits_unasked}
 use Rattle.core_locks.proofs.SafeEnds.{reached_finds}
-use Rattle.core_steps.specs.Logic.{Heap, Stands}
-use Rattle.core_steps.proofs.Facts.{fits_here}
-use Rattle.core_steps.proofs.LawRules.{away, inside, valid_here}
+use Rattle.core_law.specs.Logic.{Heap, Stands}
+use Rattle.core_law.proofs.Standing.{asks_is, away, fits_here, inside, safe_fits, valid_here}
 
 module _ (heap : Heap) (k : Known) (n : ℕ) (v : Stands heap k) (found : v.world.words name.Safepoint ≡ n) where
-  -- the word says of the thread what the thread knows
-  pub safe_fits : SafepointFits v.world v.objects
-  safe_fits = elim v.valid [ inl a ↦ a.0.safe | inr a ↦ a.0.safe ]
-
   bit_is : runs_in n k.thread ≡ k.running
-  bit_is = ap (λ m. runs_in m k.thread) (sym found) ∙ safe_fits.bits k.thread ∙ ap (λ (y : Known). y.running) v.knows
-
-  pub asks_is : asks_in n k.thread ≡ k.requesting
-  asks_is = ap (λ m. asks_in m k.thread) (sym found) ∙ safe_fits.requester k.thread ∙ ap (λ (y : Known). y.requesting) v.knows
+  bit_is = ap (λ m. runs_in m k.thread) (sym found) ∙ (safe_fits heap k n v found).bits k.thread ∙ ap (λ (y : Known). y.running) v.knows
 
   -- the state that it spells
   form_here : Fits v.world v.objects → (f : SafeForm) × (read_safe n ≡ Some f)
@@ -48,7 +40,7 @@ module _ (heap : Heap) (k : Known) (n : ℕ) (v : Stands heap k) (found : v.worl
       ∙ ap (λ m. asks_in m k.thread) (masked s.0 k.thread spells.0 low bit)
       ∙ ap (λ z. is_thread (requester_form z) k.thread) (read_safe-safe_of (without s.0 k.thread) (without_range s.0 k.thread spells.0 low))
       ∙ ap (λ z. is_thread (requester_form z) k.thread) (sym s.1)
-      ∙ asks_is
+      ∙ asks_is heap k n v found
 
   -- and the thread doesn't run after it
   pub stopped_runs : k.running ≡ true → runs_in (bit_and n (all_but k.thread)) k.thread ≡ false
@@ -107,10 +99,3 @@ released_runs t low =
 
 pub halted_asks : (t : ℕ) → asks_in halted_word t ≡ false
 halted_asks t = ap (λ z. is_thread (requester_form z) t) (read_safe-safe_of (record { running = 0; requester = None; halted = true }) (omega arith, tt))
-
--- a thread of the heap has a bit in the word
-pub few_threads : (heap : Heap) (k : Known) → Stands heap k → k.thread < 32
-few_threads heap k v = elim (valid_here heap k v) [
-  | inl fits ↦ few_bits v.world v.objects k.thread fits (inside heap k v)
-  | inr a ↦ let few = a.fits.limits.threads in let same = a.shape in let within = subst (λ s. k.thread < s.threads) same (inside heap k v) in omega (arith, few, within)
-]

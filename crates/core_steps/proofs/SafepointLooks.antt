@@ -1,24 +1,16 @@
--- What a thread has seen since its safepoint was reached stays seen; and a loop over threads.
-use Rattle.std.proofs.Common.{◌≡◌, ℕ, zero, suc, ◌+◌, Bool, true, false, cond, List, [], ◌∷◌, Some, refl, sym, ap, ◌∙◌, inl, inr, ◌<◌, ◌≤◌, subst, arith}
-use Rattle.core_world.specs.declared.act.Act.TheVariants.{Load}
+-- A thread that looks at words of the heap at its reached safepoint; and a loop over threads.
+use Rattle.std.proofs.Common.{◌≡◌, ℕ, zero, suc, ◌+◌, Bool, true, false, List, [], ◌∷◌, refl, sym, ap, inl, ◌<◌, ◌≤◌, arith}
 use Rattle.core_world.specs.declared.name.Name.{Name}
 use Rattle.core_world.specs.declared.stage.Stage.TheVariants.{Calm}
-use Rattle.core_world.specs.Words.Names.{same_name}
-use Rattle.core_world.specs.Threads.Known.{Known, last_seen}
+use Rattle.core_world.specs.Threads.Known.{Known}
 use Rattle.core_world.specs.Trees.Plans.{Purpose, load}
 use Rattle.core_world.specs.Clauses.Safepoints.{ends}
-use Rattle.core_world.specs.Steps.{known_hit, seen_at_safepoint_before}
 use Rattle.core_world.specs.Trees.Todo.{Todo, done, never, step, each_from, ◌>>=◌}
-use Rattle.core_world.specs.Valid.{Fits, SeenFit, FormsFit}
-use Rattle.core_world.proofs.Naming.{same_named}
-use Rattle.core_locks.proofs.SafeFacts.{fits_calm}
-use Rattle.core_world.specs.declared.plan.StepPlan.{StepPlan}
-use Rattle.core_steps.proofs.There.{IsFormed, is_formed}
 use Rattle.core_steps.proofs.Resting.{Carries}
 use Rattle.core_world.specs.There.{IsIn}
-use Rattle.core_steps.specs.Logic.{Heap, Stands, Was, Keeps, Does}
-use Rattle.core_steps.proofs.LawRules.{away, looks, valid_here, home}
-use Rattle.core_steps.proofs.SeenSteps.{same_as_itself}
+use Rattle.core_law.specs.Logic.{Heap, Stands, Keeps, Does}
+use Rattle.core_steps.proofs.LawRules.{looks}
+use Rattle.core_law.proofs.SafepointSights.{Seeing, seeing_all, seeing_itself}
 use Rattle.core_steps.proofs.Trees.{answers, follows}
 
 -- a thread whose safepoint is reached, in the middle of nothing, that works for this purpose
@@ -32,61 +24,18 @@ pub record Reaches (me : ℕ) (k : Known) (e : Purpose) : Type 0 where
   pub live : ends k.log ≡ false
   pub carries : Carries k.log k.wait k.holds k.shots e.unfinished
 
--- what the one has seen since, the other has too
-pub record Seeing (k l : Known) : Type 0 where
-  pub saw : (n : Name) (v : ℕ) → last_seen n k.seen_at_safepoint ≡ Some v → last_seen n l.seen_at_safepoint ≡ Some v
-
-pub seeing_all : (k l m : Known) → Seeing k l → Seeing l m → Seeing k m
-seeing_all k l m a b = record { saw = λ n v e. b.saw n v (a.saw n v e) }
-
-pub seeing_itself : (k : Known) → Seeing k k
-seeing_itself k = record { saw = λ n v e. e }
-
 module _ (heap : Heap) where
-  module _ (k : Known) (v : Stands heap k) where
-    seen_fit : SeenFit v.world v.objects
-    seen_fit = elim v.valid [ inl a ↦ a.0.seen | inr a ↦ a.0.seen ]
-
-    pub forms_fit : FormsFit v.world
-    forms_fit = elim v.valid [ inl a ↦ a.0.forms | inr a ↦ a.0.forms ]
-
-    -- whatever it finds has the form of the heap's words
-    formed_here : (n : Name) → IsFormed heap.shape n (v.world.words n)
-    formed_here n = home heap k v (λ s y. IsFormed s n (v.world.words n)) (is_formed v.world n forms_fit)
-
-    pub is_as_seen : k.reached ≡ true → (n : Name) (u : ℕ) → last_seen n k.seen_at_safepoint ≡ Some u → v.world.words n ≡ u
-    is_as_seen reached n u saw = seen_fit.stands k.thread n u (away heap k v (λ s y. y.reached ≡ true) reached) (away heap k v (λ s y. last_seen n y.seen_at_safepoint ≡ Some u) saw)
-
-    pub fits_reached : k.reached ≡ true → k.stage ≡ Calm → Fits v.world v.objects
-    fits_reached reached calm = fits_calm v.world v.objects k.thread (away heap k v (λ s y. y.reached ≡ true) reached) (away heap k v (λ s y. y.stage ≡ Calm) calm) (valid_here heap k v)
-
-  pub found_formed : {p : StepPlan} (k : Known) (at : Name) (n : ℕ) → p.at ≡ at → Was heap p k n → IsFormed heap.shape at n
-  found_formed {p} k at n is was = subst (IsFormed heap.shape at) (ap was.stands.world.words (sym is) ∙ was.found) (formed_here k was.stands at)
-
   -- a load there
-  module _ (me : ℕ) (e : Purpose) (at : Name) (k : Known) where
-    pub keeps_look : Reaches me k e → (Stands heap k → IsIn heap.shape at) → Keeps heap (load e at) k
-    keeps_look r there = looks heap k (load e at) (record {
-      act = refl;
-      note = refl;
-      own = refl;
-      stage = sym r.calm;
-      check = r.check;
-      after = inl r.mine;
-      may = record { outside = λ a b. let c = r.reached in absurd (cc (b, c)); found = λ a m is. let c = r.stopped in absurd (cc (a, c)) };
-    }) there
-
-    pub saw_there : (n : ℕ) → seen_at_safepoint_before at Load k ≡ k.seen_at_safepoint → last_seen at (known_hit heap.shape heap.start (load e at) n k).seen_at_safepoint ≡ Some n
-    saw_there n kept = ap (λ (b : Bool). cond b (Some n) (last_seen at (seen_at_safepoint_before at Load k))) (same_as_itself at)
-
-    pub still_seen : (n : ℕ) → k.reached ≡ true → seen_at_safepoint_before at Load k ≡ k.seen_at_safepoint → Was heap (load e at) k n → Seeing k (known_hit heap.shape heap.start (load e at) n k)
-    still_seen n reached kept was = record { saw = λ m v saw. cases m v saw (same_name m at) refl }
-      where
-        cases : (m : Name) (v : ℕ) → last_seen m k.seen_at_safepoint ≡ Some v → (b : Bool) → same_name m at ≡ b → cond b (Some n) (last_seen m (seen_at_safepoint_before at Load k)) ≡ Some v
-        cases m v saw true same =
-            let is : m ≡ at = same_named m at same in
-            ap Some (sym was.found ∙ ap was.stands.world.words (sym is) ∙ is_as_seen k was.stands reached m v saw)
-        cases m v saw false other = ap (last_seen m) kept ∙ saw
+  pub keeps_look : (me : ℕ) (e : Purpose) (at : Name) (k : Known) → Reaches me k e → (Stands heap k → IsIn heap.shape at) → Keeps heap (load e at) k
+  keeps_look me e at k r there = looks heap k (load e at) (record {
+    act = refl;
+    note = refl;
+    own = refl;
+    stage = sym r.calm;
+    check = r.check;
+    after = inl r.mine;
+    may = record { outside = λ a b. let c = r.reached in absurd (cc (b, c)); found = λ a m is. let c = r.stopped in absurd (cc (a, c)) };
+  }) there
 
   -- where the first is to go on with the same flag
   pub going : {A B : Type 0} (d : Todo A) (g : A → Todo B) (k : Known) (R : Bool → B → Known → Type 0) → Does heap false d k (λ b a l. Does heap false (g a) l R) → Does heap false (d >>= g) k R

@@ -1,17 +1,13 @@
 -- What a thread has seen after a step that hits.
-use Rattle.std.proofs.Common.{◌≡◌, ℕ, ◌==◌, ◌&&◌, not, eq-eqb, Bool, true, false, cond, List, [], Some, None, refl, ap, ◌∙◌}
+use Rattle.std.proofs.Common.{◌≡◌, ℕ, ◌&&◌, not, Bool, true, false, cond, List, [], Some, None, ap, ◌∙◌}
 use Rattle.core_world.specs.declared.name.Name.{Name}
 use Rattle.core_world.specs.declared.plan.StepPlan.{StepPlan}
 use Rattle.core_world.specs.Words.Acts.{word_after}
-use Rattle.core_world.specs.Words.Names.{kind_of, first_index, second_index, same_name}
+use Rattle.core_world.specs.Words.Names.{same_name}
 use Rattle.core_world.specs.Threads.Known.{Known, StepMade, last_seen}
 use Rattle.core_world.specs.Steps.{is_idle, known_hit, known_miss, seen_before, kept_by_note, kept_by_act}
-use Rattle.core_steps.specs.Logic.{Heap}
-
-pub same_as_itself : (n : Name) → same_name n n ≡ true
-same_as_itself n =
-    let a = eq-eqb (kind_of n) (kind_of n) refl in let b = eq-eqb (second_index n) (second_index n) refl in let c = eq-eqb (first_index n) (first_index n) refl in
-    ap (λ (z : Bool). z && (second_index n == second_index n) && (first_index n == first_index n)) a ∙ ap (λ (z : Bool). z && (first_index n == first_index n)) b ∙ c
+use Rattle.core_law.specs.Logic.{Heap}
+use Rattle.core_world.proofs.Naming.{same_as_itself}
 
 module _ (heap : Heap) (p : StepPlan) (n : ℕ) (k : Known) where
   -- its own word, as the step left it

@@ -16,13 +16,13 @@ use Rattle.core_world.specs.Trees.Plans.{Purpose, load}
 use Rattle.core_world.specs.Trees.SafepointSteps.{resume_plan, stop_steps}
 use Rattle.core_world.specs.Steps.{is_idle}
 use Rattle.core_world.specs.Trees.LockSteps.{hold_plan, log_enter_plan, seize_plan, displace_plan}
-use Rattle.core_steps.specs.Logic.{Heap, heap_of, Stands, DoesSteps}
+use Rattle.core_law.specs.Logic.{Heap, heap_of, Stands, DoesSteps}
 use Rattle.core_steps.specs.Weakened.{late_displaced_steps, early_clearing_steps, stop_at_stage_steps}
-use Rattle.core_steps.proofs.NextSteps.{stands_here}
+use Rattle.core_law.proofs.NextSteps.{stands_here}
 use Rattle.core_steps.proofs.ReachedWorlds.{reached_worlds_valid}
 use Rattle.core_steps.proofs.Refuted.{late_displaced_fails, early_clearing_fails, stop_at_stage_fails}
 use Rattle.core_steps.proofs.RefutedStops.{stop_between_fails}
-use Rattle.core_steps.specs.Reached.{Comes, opens, moves}
+use Rattle.core_law.specs.Reached.{Comes, opens, moves}
 use Rattle.core_steps.specs.SmallWorlds.{small, resuming, looked, running, neutral, entering, displaced, seized, held, entered, known_in}
 
 comes_looked : Comes small looked

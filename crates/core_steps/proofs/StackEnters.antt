@@ -27,13 +27,13 @@ use Rattle.core_world.proofs.Readings.{no_told}
 use Rattle.core_locks.specs.Knowing.{GoesOn}
 use Rattle.core_locks.specs.LockLaws.{Precedes}
 use Rattle.core_counts.specs.Steps.{WentBefore}
-use Rattle.core_steps.specs.Logic.{Heap, Stands, Keeps, Does}
-use Rattle.core_steps.specs.Sound.{Finishes}
-use Rattle.core_steps.specs.inner.Sound.{BeginsWell}
+use Rattle.core_law.specs.Logic.{Heap, Stands, Keeps, Does}
+use Rattle.core_law.specs.Sound.{Finishes}
+use Rattle.core_law.specs.Begins.{BeginsWell}
 use Rattle.core_steps.proofs.Trees.{answers, chooses, follows, binds, hitting, swapping}
 use Rattle.core_steps.proofs.LawRules.{displaces_rule, seizes_rule, holds_rule, readies, logs_enter}
-use Rattle.core_steps.proofs.Facts.{Untold, Unwaiting, out_here, ready_entered, limits_here, Unbiased}
-use Rattle.core_steps.proofs.Places.{free_here, room_here, bottom_here}
+use Rattle.core_steps.proofs.Facts.{Untold, Unwaiting, out_here, ready_entered, limits_here, Unbiased, free_here}
+use Rattle.core_law.proofs.Places.{room_here, bottom_here}
 use Rattle.core_steps.proofs.SeenSteps.{saw_newest, saw_older}
 use Rattle.core_steps.proofs.Resting.{unasking, rests, live_carries, logged_carries}
 use Rattle.core_steps.proofs.SafeCalls.{closes}

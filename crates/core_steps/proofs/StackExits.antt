@@ -30,13 +30,14 @@ use Rattle.core_world.proofs.KnowledgeParts.{by_equal}
 use Rattle.core_locks.proofs.LookOn.{may_look}
 use Rattle.core_locks.proofs.HoldWays.{saw_displaced}
 use Rattle.core_locks.specs.Knowing.{GoesOn, IsOut, SawInflated}
-use Rattle.core_steps.specs.Logic.{Heap, Stands, Does}
-use Rattle.core_steps.specs.Sound.{Finishes}
-use Rattle.core_steps.specs.inner.Sound.{BeginsWell}
+use Rattle.core_law.specs.Logic.{Heap, Stands, Does}
+use Rattle.core_law.specs.Sound.{Finishes}
+use Rattle.core_law.specs.Begins.{BeginsWell}
 use Rattle.core_steps.proofs.Trees.{answers, chooses, chooses_then, hitting, swapping}
-use Rattle.core_steps.proofs.LawRules.{home, away, looks, raises, leaves_rule, clears_rule, lets_go_rule}
-use Rattle.core_steps.proofs.Facts.{Untold, Unwaiting, Unentering, fits_here, out_here, ready_here, Unbiased}
-use Rattle.core_steps.proofs.Places.{top_here, few_here}
+use Rattle.core_steps.proofs.LawRules.{looks, raises, leaves_rule, clears_rule, lets_go_rule}
+use Rattle.core_law.proofs.Standing.{home, away, fits_here}
+use Rattle.core_steps.proofs.Facts.{Untold, Unwaiting, Unentering, out_here, ready_here, Unbiased}
+use Rattle.core_law.proofs.Places.{top_here, few_here}
 use Rattle.core_steps.proofs.SeenSteps.{saw_newest, saw_older}
 use Rattle.core_steps.proofs.ExitFacts.{OnExit, covered, on_exit}
 use Rattle.core_steps.proofs.Resting.{unasking, rests, live_carries, logged_carries}

@@ -1,8 +1,8 @@
 -- Every call begins well: a line for each.
 use Rattle.core_world.specs.declared.task.Task.{Task}
 use Rattle.core_world.specs.declared.task.Task.TheVariants.{Get, Put, Print, Finish, Poll, Stop, Resume, Request, Reached, Release, StackEnter, StackExit, Check, Dump, Exit, Enter, Wait, Notify, NotifyAll, Hash}
-use Rattle.core_steps.specs.Logic.{Heap}
-use Rattle.core_steps.specs.inner.Sound.{BeginsWell}
+use Rattle.core_law.specs.Logic.{Heap}
+use Rattle.core_law.specs.Begins.{BeginsWell}
 use Rattle.core_steps.proofs.SafeCalls.{stop_begins, resume_begins, poll_begins, request_begins, reached_begins, release_begins}
 use Rattle.core_steps.proofs.JournalCalls.{get_begins, put_begins, print_begins, finish_begins}
 use Rattle.core_steps.proofs.StackEnters.{stack_enter_begins}

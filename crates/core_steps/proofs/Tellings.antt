@@ -30,9 +30,10 @@ use Rattle.core_locks.proofs.WaitOut.{fails}
 use Rattle.core_locks.proofs.WakeOrder.{Remain, all_remain, oldest_seen, no_other_seen, others_remain}
 use Rattle.core_locks.proofs.Wakes.{other}
 use Rattle.core_counts.specs.Steps.{SawUnbiased, SawNone}
-use Rattle.core_steps.specs.Logic.{Heap, Stands, Does}
-use Rattle.core_steps.proofs.Facts.{Untold, fits_here, limits_here, ready_here}
-use Rattle.core_steps.proofs.LawRules.{away, inside, looks, publishes}
+use Rattle.core_law.specs.Logic.{Heap, Stands, Does}
+use Rattle.core_steps.proofs.Facts.{Untold, limits_here, ready_here}
+use Rattle.core_law.proofs.Standing.{fits_here, away, inside}
+use Rattle.core_steps.proofs.LawRules.{looks, publishes}
 use Rattle.core_steps.proofs.Resting.{rests, live_carries, logged_carries}
 use Rattle.core_steps.proofs.SafepointLooks.{going}
 use Rattle.core_steps.proofs.SeenSteps.{saw_newest, saw_any, saw_older}

@@ -7,7 +7,7 @@ use Rattle.core_world.specs.Words.Acts.{hits}
 use Rattle.core_world.specs.Threads.Known.{Known}
 use Rattle.core_world.specs.Trees.Todo.{Todo, done, never, step, ◌>>=◌}
 use Rattle.core_world.specs.Steps.{is_idle, known_hit, known_miss, known_after}
-use Rattle.core_steps.specs.Logic.{Heap, Keeps, Was, Doing, Does}
+use Rattle.core_law.specs.Logic.{Heap, Keeps, Was, Doing, Does}
 
 module _ (heap : Heap) where
   -- an answer, and a step

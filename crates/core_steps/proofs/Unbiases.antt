@@ -14,7 +14,7 @@ use Rattle.core_world.specs.declared.stage.Stage.TheVariants.{Calm}
 use Rattle.core_world.specs.declared.task.Op.{Op}
 use Rattle.core_world.specs.declared.task.Op.TheVariants as op
 use Rattle.core_world.specs.Threads.AtRest.{AtRest, MayAsk, MayRevoke}
-use Rattle.core_world.specs.Trees.BiasSteps.{unbias_plan, bias_drop_at, bias_drop_by, bias_drop_steps, stage_after}
+use Rattle.core_world.specs.Trees.BiasSteps.{unbias_plan, bias_drop_at, bias_drop_by, bias_drop_steps}
 use Rattle.core_world.specs.Trees.BiasSteps as bias_steps
 use Rattle.core_world.specs.Words.Forms.{is_biased, is_biased_form, epoch_in, waits_on}
 use Rattle.core_world.specs.Threads.Known.{Known, local_of, last_seen, start_of}
@@ -30,7 +30,7 @@ use Rattle.core_world.specs.Valid.{RevokesWithin}
 use Rattle.core_bias.specs.Biasing.{IsLoose}
 use Rattle.core_counts.specs.Steps.{SawUnbiased}
 use Rattle.core_locks.specs.Knowing.{HasHold}
-use Rattle.core_steps.specs.Logic.{Heap, Does}
+use Rattle.core_law.specs.Logic.{Heap, Does}
 use Rattle.core_steps.proofs.AskedRevocations.{BeginsRevocation, revocation_does}
 use Rattle.core_steps.proofs.BiasFacts.{SawHeaders, headers_first, headers_more, look_prototype, unreached_here, biasing_here, IsPrototype, prototype_here, prototype_neutral, neutral_reads_so, loose_unepoched, stale_epoch, own_epoch, free_bias}
 use Rattle.core_steps.proofs.BiasRules.{unbiases_rule}

@@ -22,12 +22,12 @@ use Rattle.core_world.specs.declared.answer.Turn.{Turn}
 use Rattle.core_world.proofs.Readings.{no_told}
 use Rattle.core_locks.specs.Knowing.{GoesOn, IsOut, SawInflated}
 use Rattle.core_counts.specs.Steps.{SawUnbiased}
-use Rattle.core_steps.specs.Logic.{Heap, Stands, Does}
-use Rattle.core_steps.specs.Sound.{Finishes}
-use Rattle.core_steps.specs.inner.Sound.{BeginsWell}
-use Rattle.core_steps.proofs.Facts.{Unentering, fits_asking, fits_here, ready_outside}
+use Rattle.core_law.specs.Logic.{Heap, Stands, Does}
+use Rattle.core_law.specs.Sound.{Finishes}
+use Rattle.core_law.specs.Begins.{BeginsWell}
+use Rattle.core_steps.proofs.Facts.{Unentering, fits_asking, ready_outside}
+use Rattle.core_law.proofs.Standing.{fits_here, home}
 use Rattle.core_steps.proofs.Inflations.{SawNone, Unseen, Apart, inflate_does}
-use Rattle.core_steps.proofs.LawRules.{home}
 use Rattle.core_steps.proofs.Resting.{rests, live_carries}
 use Rattle.core_steps.proofs.SafeCalls.{closes}
 use Rattle.core_steps.proofs.SafepointLooks.{going}

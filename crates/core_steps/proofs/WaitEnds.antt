@@ -26,7 +26,7 @@ use Rattle.core_world.proofs.OwnersShown.{inflated_form}
 use Rattle.core_locks.specs.Knowing.{SawInflated, SawOwn}
 use Rattle.core_locks.proofs.LookOn.{may_look}
 use Rattle.core_locks.proofs.TellLists.{waits_untold}
-use Rattle.core_steps.specs.Logic.{Heap, Does}
+use Rattle.core_law.specs.Logic.{Heap, Does}
 use Rattle.core_steps.proofs.Inflations.{SawNone}
 use Rattle.core_steps.proofs.LawRules.{looks, readies}
 use Rattle.core_steps.proofs.MonitorEnters.{owner_form}

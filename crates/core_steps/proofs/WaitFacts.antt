@@ -25,9 +25,9 @@ use Rattle.core_world.proofs.ObjectHolds.{sound, listed_count}
 use Rattle.core_locks.specs.Knowing.{IsOut, SawInflated}
 use Rattle.core_locks.proofs.TellLists.{waits_one}
 use Rattle.core_locks.proofs.WaitOut.{fails}
-use Rattle.core_steps.specs.Logic.{Heap, Stands}
-use Rattle.core_steps.proofs.Facts.{Untold, fits_here, waits_range}
-use Rattle.core_steps.proofs.LawRules.{home, away}
+use Rattle.core_law.specs.Logic.{Heap, Stands}
+use Rattle.core_steps.proofs.Facts.{Untold, waits_range}
+use Rattle.core_law.proofs.Standing.{fits_here, home, away}
 use Rattle.core_steps.proofs.MonitorFacts.{IsOwned, lock_of_owner}
 
 -- it stands at a list of the object

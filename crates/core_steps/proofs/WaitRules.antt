@@ -16,9 +16,10 @@ use Rattle.core_locks.proofs.WakesCalls.{notify_logs, notify_all_logs}
 use Rattle.core_locks.proofs.WakesNext.{waking_next_valid}
 use Rattle.core_counts.proofs.LoggedKinds as logged
 use Rattle.core_counts.proofs.QuietKinds as quiet
-use Rattle.core_steps.specs.Logic.{Heap, Stands, Keeps}
-use Rattle.core_steps.proofs.There.{waiter_there}
-use Rattle.core_steps.proofs.LawRules.{home, away, inside, valid_here, runs_in_all, keeps, enters_in_log}
+use Rattle.core_law.specs.Logic.{Heap, Stands, Keeps}
+use Rattle.core_world.proofs.There.{waiter_there}
+use Rattle.core_steps.proofs.LawRules.{runs_in_all, keeps, enters_in_log}
+use Rattle.core_law.proofs.Standing.{home, away, inside, valid_here}
 
 module _ (heap : Heap) (k : Known) where
   -- ITS OWN WAITING WORD

@@ -35,10 +35,11 @@ use Rattle.core_locks.specs.Knowing.{SawInflated, SawOwn}
 use Rattle.core_locks.specs.MonitorLaws.{MayCount}
 use Rattle.core_locks.proofs.LeavesStamps.{next_fits}
 use Rattle.core_locks.proofs.WaitOut.{ready_is_out}
-use Rattle.core_steps.specs.Logic.{Heap, Stands, Keeps, Does}
-use Rattle.core_steps.proofs.Facts.{fits_here, limits_here}
+use Rattle.core_law.specs.Logic.{Heap, Stands, Keeps, Does}
+use Rattle.core_steps.proofs.Facts.{limits_here}
+use Rattle.core_law.proofs.Standing.{fits_here, home}
 use Rattle.core_steps.proofs.Inflations.{SawNone}
-use Rattle.core_steps.proofs.LawRules.{home, raises}
+use Rattle.core_steps.proofs.LawRules.{raises}
 use Rattle.core_steps.proofs.MonitorFacts.{IsOwned, owned_here}
 use Rattle.core_steps.proofs.MonitorRules.{looks_at_monitor, saves_rule, mans_rule, resets_count_rule, drops_rule, quits_rule}
 use Rattle.core_steps.proofs.Resting.{live_behind}

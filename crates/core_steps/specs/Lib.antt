@@ -1,7 +1,2 @@
-pub mod Takings
-pub mod Logic
-pub mod Sound
-pub mod Reached
 pub mod Weakened
 pub mod SmallWorlds
-pub mod inner

@@ -15,7 +15,7 @@ use Rattle.core_world.specs.Trees.SafepointSteps.{resume_plan}
 use Rattle.core_world.specs.Steps.{world_after}
 use Rattle.core_world.specs.World.{World}
 use Rattle.core_world.specs.Trees.LockSteps.{hold_plan, log_enter_plan, seize_plan, displace_plan}
-use Rattle.core_steps.specs.Logic.{Heap}
+use Rattle.core_law.specs.Logic.{Heap}
 
 abbrev pub small : Heap
 small = record { shape = record { threads = 1; classes = 1; objects = (0, 0) ∷ [] }; start = 0; biasing = false }

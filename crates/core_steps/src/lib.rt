@@ -9,6 +9,6 @@ pub use refused::{
     no_stop_between_steps_on_a_lock, no_stop_in_the_middle_of_a_lock,
 };
 pub use stepping::{
-    draws_of_reached_worlds_come_first, next_steps_keep_worlds_sound, reached_worlds_are_valid,
-    stamps_of_reached_worlds_are_exact,
+    draws_of_reached_worlds_come_first, every_call_begins_well, every_heap_has_its_law,
+    next_steps_keep_worlds_sound, reached_worlds_are_valid, stamps_of_reached_worlds_are_exact,
 };

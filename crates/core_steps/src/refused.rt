@@ -15,8 +15,8 @@ ghost use Rattle.core_world.specs.Locks.{OwnedBy, lock, hold_count};
 ghost use Rattle.core_world.specs.Trees.Plans.{Purpose, free_place};
 ghost use Rattle.core_world.specs.Trees.SafepointSteps.{stop_steps};
 ghost use Rattle.core_world.specs.Steps.{is_idle};
-ghost use Rattle.core_steps.specs.Logic.{Heap, Stands, DoesSteps};
-ghost use Rattle.core_steps.specs.Reached.{Comes};
+ghost use Rattle.core_law.specs.Logic.{Heap, Stands, DoesSteps};
+ghost use Rattle.core_law.specs.Reached.{Comes};
 ghost use Rattle.core_steps.specs.SmallWorlds.{small, neutral, running, seized, entered, known_in};
 ghost use Rattle.core_steps.specs.Weakened.{late_displaced_steps, early_clearing_steps, stop_at_stage_steps, is_between};
 

@@ -2,6 +2,7 @@
 
 ghost use Rattle.std.specs.Prelude.{◌≡◌, ℕ, ◌<◌, true};
 ghost use Rattle.core_world.specs.declared.plan.StepPlan.{StepPlan};
+ghost use Rattle.core_world.specs.declared.task.Task.{Task};
 ghost use Rattle.core_world.specs.Threads.AtRest.{AtRest};
 ghost use Rattle.core_world.specs.Due.{IsNext};
 ghost use Rattle.core_world.specs.Threads.Known.{Known};
@@ -10,13 +11,16 @@ ghost use Rattle.core_world.specs.Words.Shape.{IsInLimits};
 ghost use Rattle.core_world.specs.Steps.{world_after, rest_of_call, is_idle};
 ghost use Rattle.core_world.specs.There.{IsThere};
 ghost use Rattle.core_world.specs.World.{World, logs};
-ghost use Rattle.core_counts.specs.BiasLaw.{WhollyValid};
+ghost use Rattle.core_law.specs.BiasLaw.{WhollyValid};
 ghost use Rattle.plain_history.specs.ExactStamps.{StampsAreExact};
-ghost use Rattle.core_steps.specs.Takings.{TakesExactly};
+ghost use Rattle.core_law.specs.Takings.{TakesExactly};
 ghost use Rattle.plain_history.specs.FirstDraws.{DrawsComeFirst};
-ghost use Rattle.core_steps.specs.Logic.{Heap, heap_of};
-ghost use Rattle.core_steps.specs.Reached.{Comes, comes};
-ghost use Rattle.core_steps.specs.Sound.{Sound};
+ghost use Rattle.core_law.specs.Begins.{BeginsWell};
+ghost use Rattle.core_law.specs.Draws.{HasDraws};
+ghost use Rattle.core_law.specs.HeapLaw.{HeapLaw};
+ghost use Rattle.core_law.specs.Logic.{Heap, heap_of};
+ghost use Rattle.core_law.specs.Reached.{Comes, comes};
+ghost use Rattle.core_law.specs.Sound.{Sound};
 
 /// In a sound world the next step of any thread leads to a sound world: in whatever call, whether it begins the call or goes on with it, and
 /// whatever the other threads are in the middle of. The step is a function of what its thread knows alone. The heap has the word that it is
@@ -69,11 +73,29 @@ pub fn stamps_of_reached_worlds_are_exact()
 {}
 
 /// In each world to which a heap comes, a thread that drew the hash of an object had logged no hash of the object before. So where one thread alone
-/// logs, its first hash of each object is the draw.
+/// logs, its first hash of each object is the draw. And there each thread's draws are its generator's, in their order, and of the hashes of an object
+/// that has any just one was drawn.
 pub fn draws_of_reached_worlds_come_first()
     ensures kept { (w : World) (t : ℕ) (p : StepPlan) → t < w.shape.threads → Sound w
         → IsNext w.shape w.start w.biasing (w.known t) p
         → DrawsComeFirst (logs w) → DrawsComeFirst (logs (world_after p t w)) }
     ensures opening { (heap : Heap) → DrawsComeFirst (logs (opening heap.shape heap.start heap.biasing)) }
     ensures reached { (heap : Heap) (w : World) → IsInLimits heap.shape → Comes heap w → DrawsComeFirst (logs w) }
+    ensures drawn { (heap : Heap) (w : World) → IsInLimits heap.shape → Comes heap w → HasDraws heap.start (logs w) }
 {}
+
+/// Every call that begins at rest in a valid world, whatever its task, keeps the world valid by each of its steps, on words that the heap has, and
+/// ends at rest.
+pub fn every_call_begins_well()
+    ensures { (heap : Heap) (task : Task) → BeginsWell heap task }
+{}
+
+/// Every heap in the limits has its law, which whoever makes a heap hands in. It has four parts, each a law by itself.
+pub fn every_heap_has_its_law()
+    ensures { (heap : Heap) → IsInLimits heap.shape → HeapLaw heap }
+{
+    reached_worlds_are_valid();
+    every_call_begins_well();
+    stamps_of_reached_worlds_are_exact();
+    draws_of_reached_worlds_come_first();
+}

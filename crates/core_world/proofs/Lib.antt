@@ -19,3 +19,8 @@ pub mod LookLaws
 pub mod LookWhileRevoking
 pub mod RefusedWorlds
 pub mod CallRests
+pub mod SafeBits
+pub mod Updates
+pub mod ObjectSlots
+pub mod MonitorCounts
+pub mod There

@@ -1,11 +1,17 @@
 -- Names that pass the test are the same, and a word that is written as it was changes nothing.
-use Rattle.std.proofs.Common.{◌≡◌, ℕ, ◌==◌, ◌&&◌, Bool, true, false, cond, if◌then◌else◌, refl, sym, ap, ◌∙◌}
+use Rattle.std.proofs.Common.{◌≡◌, ℕ, ◌==◌, ◌&&◌, eq-eqb, Bool, true, false, cond, if◌then◌else◌, refl, sym, ap, ◌∙◌}
 use borrow.Author.Tests.{eqb-true}
 use Rattle.core_world.specs.declared.name.Name.{Name}
 use Rattle.core_world.specs.declared.name.Name.TheVariants.{Safepoint, Prototype, Revocations, LastBulk, Mark, Stamp, Slot, Hold, Displaced, Waiting, Length, Owner, Recursions, Header, Object, Claim}
 use Rattle.core_world.specs.Words.Names.{kind_of, first_index, second_index, same_name, with_word}
 use Rattle.core_world.specs.Threads.Known.{Known}
 use Rattle.core_world.specs.World.{World, with_word_and_known, with_known}
+
+-- a name passes the test with itself
+pub same_as_itself : (n : Name) → same_name n n ≡ true
+same_as_itself n =
+    let a = eq-eqb (kind_of n) (kind_of n) refl in let b = eq-eqb (second_index n) (second_index n) refl in let c = eq-eqb (first_index n) (first_index n) refl in
+    ap (λ (z : Bool). z && (second_index n == second_index n) && (first_index n == first_index n)) a ∙ ap (λ (z : Bool). z && (first_index n == first_index n)) b ∙ c
 
 -- the name of three numbers
 abbrev named_by : ℕ → ℕ → ℕ → Name

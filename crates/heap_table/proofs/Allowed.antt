@@ -14,9 +14,9 @@ use Rattle.core_world.specs.Threads.Known.{Known}
 use Rattle.core_world.specs.Words.Names.{same_name, with_word}
 use Rattle.core_world.specs.Words.Shape.{Shape}
 use Rattle.core_world.specs.Steps.{known_after, world_after}
-use Rattle.core_steps.specs.Logic.{Heap}
-use Rattle.core_steps.specs.Sound.{Sound}
-use Rattle.core_steps.proofs.ReachedWorlds.{known_step_sound, known_step_comes}
+use Rattle.core_law.specs.Logic.{Heap}
+use Rattle.core_law.specs.Sound.{Sound}
+use Rattle.core_law.proofs.Lawful.{known_step_sound, known_step_comes}
 use Rattle.core_world.specs.World.{with_known}
 use Rattle.core_world.proofs.Naming.{same_named}
 use Rattle.core_world.specs.There.{IsIn}
@@ -54,7 +54,7 @@ module _ {S : Type 0} where
       let mine = sh.knows id (m ∷ []) at in
       let knew : w.known k.thread ≡ k = mine.0.0.0 in
       let who_is : who k.thread ≡ id = mine.0.0.1 in
-      let sound' : Sound (world_after p k.thread w) = known_step_sound b k p may.next w sh.is_of knew may.within sound in
+      let sound' : Sound (world_after p k.thread w) = known_step_sound b k p may.next w sh.is_of knew may.within (came.law.begins p.task) sound in
       let now : Known = known_after b.shape b.start p n m in
       let said : Known = known_after w.shape w.start p (w.words p.at) (w.known k.thread) in
       let now_is : now ≡ said = λ i. known_after (sym sh.is_of i).shape (sym sh.is_of i).start p (found i) (sym knew i) in
@@ -78,7 +78,7 @@ module _ {S : Type 0} where
         now ∷ [],
         keeps,
         tt,
-        (world_after p k.thread w, who, shows', sound', known_step_comes b k p may.next w sh.is_of knew may.within came),
+        (world_after p k.thread w, who, shows', sound', record { comes = known_step_comes b k p may.next w sh.is_of knew may.within came.comes; law = came.law }),
         (refl, record { world = w; is_of = sh.is_of; sound = sound; knew = knew; was_there = sym found; sound_after = sound' }),
       )
 

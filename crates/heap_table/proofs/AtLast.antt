@@ -5,7 +5,8 @@ use Rattle.std.proofs.lemmas.List.{take_more, take_all}
 use mathlib.Core.Option.{some, some-injective, some-ne-none}
 use lib.ListN.{get_elem?}
 use Rattle.atomic_table.specs.Table.{Final, Seen}
-use Rattle.core_steps.specs.Logic.{Heap}
+use Rattle.core_law.specs.HeapLaw.{HeapLaw}
+use Rattle.core_law.specs.Logic.{Heap}
 use Rattle.core_world.specs.Threads.Known.{Known}
 use Rattle.heap_table.specs.Layout.{place_of, word_count}
 use Rattle.heap_table.specs.Ruled.{heap_in}
@@ -36,7 +37,7 @@ final b id v ws copy xs n ((s, ((w, who, sh, sound, came), at), words, count, sl
       world = w;
       is_of = sh.is_of;
       sound = sound;
-      comes = came;
+      comes = came.comes;
       words_are = λ m here. ap (λ (l : List ℕ). slice_index l (place_of b.shape m)) same ∙ sh.words_are m here;
       knows = λ i k there. (each_at (λ (k : Known). (w.known k.thread ≡ k) × (who k.thread ≡ id)) v i k mine.0 there).0;
     }
@@ -45,6 +46,10 @@ pub final_as : {S : Type 0} (b : Heap) (key : Setting) (id : ℕ) (v u : List Kn
 final_as {S} b key id v u ws copy xs n k e f c t =
     let P : Heap × List Known → Type 0 = λ z. Final (Seen (Rules {S = S} z.0) id z.1) ws xs in
     final {S = S} b id u ws copy xs n (subst P (λ j. (k j, e j)) f) c t
+
+-- and the heap has its law
+pub law_as : {S : Type 0} (b : Heap) (key : Setting) (id : ℕ) (v : List Known) (ws : List ℕ) (xs : List S) → heap_in key ≡ b → Final (Seen (Ruled {S = S} key) id v) ws xs → HeapLaw b
+law_as b key id v ws xs k ((s, ((w, who, sh, sound, came), at), words, count, slots)) = subst HeapLaw k came.law
 
 pub all_yielded : {A : Type 0} (xs ys zs : List A) → xs ++ ys ≡ zs → length ys ≡ 0 → xs ≡ zs
 all_yielded xs [] zs e n = sym (append-nil xs) ∙ e

@@ -13,10 +13,10 @@ use Rattle.core_world.specs.Threads.Known.{Known}
 use Rattle.core_world.specs.Valid.{IsRevoking}
 use Rattle.core_world.specs.Words.Shape.{Shape, class_of}
 use Rattle.core_world.specs.World.{World, logs}
-use Rattle.core_steps.specs.Logic.{Heap}
-use Rattle.core_steps.proofs.Wholes.{All as Whole, all_unless}
-use Rattle.core_counts.specs.OfARun.{BiasesOfRun, VerdictsAtMost}
-use Rattle.core_counts.proofs.RunEnds.{run_ends, run_fits, verdicts_at_most, verdicts_with_one_more}
+use Rattle.core_law.specs.Logic.{Heap}
+use Rattle.core_law.proofs.Wholes.{All as Whole, all_unless}
+use Rattle.core_law.specs.OfARun.{BiasesOfRun, VerdictsAtMost}
+use Rattle.core_law.proofs.RunEnds.{run_ends, run_fits, verdicts_at_most, verdicts_with_one_more}
 use Rattle.heap_table.specs.BiasesAtEnd.{BiasesAtEnd, counted_by}
 use Rattle.heap_table.specs.Seen.{PassSeen, LastWorld, InOrder, knowns, logs_of}
 use Rattle.heap_table.proofs.Legal.{here, asks, logs_of_last, knowns_long}

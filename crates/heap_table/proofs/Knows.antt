@@ -9,10 +9,11 @@ use Rattle.core_world.specs.Words.Shape.{Shape}
 use Rattle.core_world.specs.Steps.{known_after, known_hit, known_miss, world_after}
 use Rattle.core_world.specs.Steps.{rest_of_call}
 use Rattle.core_world.specs.World.{World, with_known}
-use Rattle.core_steps.specs.Logic.{Heap, Was}
-use Rattle.core_steps.specs.Reached.{comes}
-use Rattle.core_steps.proofs.ReachedWorlds.{sound_comes, known_step_there}
+use Rattle.core_law.specs.Logic.{Heap, Was}
+use Rattle.core_law.specs.Reached.{comes}
+use Rattle.core_law.proofs.Lawful.{sound_comes, known_step_there}
 use Rattle.heap_table.specs.Ruled.{known_behind, WereMade, IsReal, Stepped}
+use Rattle.heap_table.proofs.Lawful.{law_of}
 
 pub same_thread : (s : Shape) (start : ℕ) (p : StepPlan) (n : ℕ) (k : Known) → (known_after s start p n k).thread ≡ k.thread
 same_thread s start p n k = cases (hits p.act n)
@@ -62,11 +63,12 @@ real_after heap k p n l real was is =
       knew = subst (λ t. (world_after p k.thread w).known t ≡ known_after heap.shape heap.start p n k) (sym t) now;
       is = sym before ∙ λ i. known_behind heap (sym t i) (sym steps i);
       made = subst (λ (x : ℕ × List StepMade). WereMade heap x.0 x.1) (λ i. (sym t i, sym steps i)) (subst (λ (b : Known). Stepped heap b p n) real.is was, real.made);
+      law = real.law;
     })
 
 -- the heap has the word of the next step, and its thread a place for the shot that it takes
 pub is_there : (heap : Heap) (k : Known) (p : StepPlan) → IsNext heap.shape heap.start heap.biasing k p → k.thread < heap.shape.threads → IsReal heap k → IsThere heap.shape k p
-is_there heap k p next within real = known_step_there heap k p next real.world real.is_of real.knew within real.sound
+is_there heap k p next within real = known_step_there heap k p next real.world real.is_of real.knew within ((law_of real.law).begins p.task) real.sound
 
 -- what a step tells, in the terms of the law of all steps: there was a valid world in which the thread knew this and the step found n
 pub was_of : (heap : Heap) (k : Known) (p : StepPlan) (n : ℕ) → Stepped heap k p n → k.thread < heap.shape.threads → Was heap p k n

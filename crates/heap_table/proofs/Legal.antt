@@ -10,14 +10,13 @@ use Rattle.plain_monitor.specs.declared.entry.Logged.{Logged}
 use Rattle.plain_monitor.specs.History.{LegalObjects}
 use Rattle.plain_history.specs.ExactStamps.{StampsAreExact}
 use Rattle.core_world.specs.Threads.Known.{Known}
-use Rattle.core_world.specs.Words.Shape.{Shape, IsInLimits}
+use Rattle.core_world.specs.Words.Shape.{Shape}
 use Rattle.core_world.specs.Valid.{IsRevoking, SafepointFits, Valid}
 use Rattle.core_world.specs.World.{World, logs, logs_from}
 use Rattle.core_world.proofs.LookWhileRevoking.{without_clause}
-use Rattle.core_counts.specs.BiasLaw.{BiasLawHolds}
-use Rattle.core_steps.specs.Logic.{Heap}
-use Rattle.core_steps.proofs.ExactWorlds.{reached_worlds_exact}
-use Rattle.core_steps.proofs.There.{limits_there}
+use Rattle.core_law.specs.BiasLaw.{BiasLawHolds}
+use Rattle.core_law.specs.HeapLaw.{HeapLaw}
+use Rattle.core_law.specs.Logic.{Heap}
 use Rattle.heap_table.specs.Seen.{PassSeen, LastWorld, InOrder, knowns, logs_of}
 
 -- while a bias is revoked the logs are those before
@@ -58,14 +57,9 @@ legal_at_last b words ks last order all =
     let same = last_logs b words ks last order all in
     subst (λ (x : List (ℕ × ℕ) × List (List Logged)). LegalObjects x.0 x.1) (λ i. ((last.is_of i).shape.objects, sym same i)) (legal_of w (without_clause BiasLawHolds w last.sound.valid))
 
-limits_at_last : (b : Heap) (words : List ℕ) (ks : List Known) → LastWorld b words ks → IsInLimits b.shape
-limits_at_last b words ks last =
-    let valid = without_clause BiasLawHolds last.world last.sound.valid in
-    subst (λ (h : Heap). IsInLimits h.shape) last.is_of (limits_there last.world valid.objects valid.is)
-
-pub exact_at_last : (b : Heap) (words : List ℕ) (ks : List Known) → LastWorld b words ks → InOrder 0 ks → length ks ≡ b.shape.threads → StampsAreExact (map (λ (k : Known). k.log) ks)
-exact_at_last b words ks last order all =
-    subst StampsAreExact (sym (last_logs b words ks last order all)) (reached_worlds_exact b last.world (limits_at_last b words ks last) last.comes)
+pub exact_at_last : (b : Heap) (words : List ℕ) (ks : List Known) → HeapLaw b → LastWorld b words ks → InOrder 0 ks → length ks ≡ b.shape.threads → StampsAreExact (map (λ (k : Known). k.log) ks)
+exact_at_last b words ks law last order all =
+    subst StampsAreExact (sym (last_logs b words ks last order all)) (law.exact last.world last.comes)
 
 -- in a valid world the safepoint word is what the threads know of themselves, whether or not a bias is being revoked
 safe_fits : (w : World) (v : Valid w) → SafepointFits w v.objects
@@ -129,5 +123,5 @@ module _ (b : Heap) (words : List ℕ) (ps : List PassSeen) (last : LastWorld b 
   logs_legal_at_last = subst (λ (l : List (List Logged)). LegalObjects b.shape.objects l) (logs_same ps) (legal_at_last b words (knowns ps) last order (knowns_long ps ∙ all))
 
   -- and their stamps are exact
-  pub stamps_exact_at_last : StampsAreExact (logs_of ps)
-  stamps_exact_at_last = subst StampsAreExact (logs_same ps) (exact_at_last b words (knowns ps) last order (knowns_long ps ∙ all))
+  pub stamps_exact_at_last : HeapLaw b → StampsAreExact (logs_of ps)
+  stamps_exact_at_last law = subst StampsAreExact (logs_same ps) (exact_at_last b words (knowns ps) law last order (knowns_long ps ∙ all))

@@ -12,12 +12,13 @@ use Rattle.core_world.specs.declared.name.Name.TheVariants.{Safepoint, Prototype
 use Rattle.core_world.specs.Opening.{first_mark, first_word, first_known, opening}
 use Rattle.core_world.specs.Words.Shape.{Shape, IsInLimits}
 use Rattle.core_world.specs.World.{World}
-use Rattle.core_steps.specs.Logic.{Heap}
-use Rattle.core_steps.specs.Reached.{opens as at_opening}
-use Rattle.core_steps.proofs.ReachedWorlds.{opening_sound}
+use Rattle.core_law.specs.HeapLaw.{HeapLaw}
+use Rattle.core_law.specs.Logic.{Heap}
+use Rattle.core_law.specs.Reached.{opens as at_opening}
 use Rattle.core_world.specs.There.{IsIn}
 use Rattle.heap_table.specs.Layout.{place_of, word_count}
 use Rattle.core_world.specs.Threads.Known.{Known}
+use Rattle.heap_table.specs.Fresh.{IsFresh}
 use Rattle.heap_table.specs.inner.Firsts.{first_knowns}
 use Rattle.heap_table.specs.inner.Openings.{copies, spread, object_words, opening_groups}
 use Rattle.heap_table.specs.Kept.{Follows}
@@ -26,6 +27,7 @@ use Rattle.heap_table.specs.Ruled.{heap_in, only}
 use Rattle.heap_table.specs.inner.Ruled.{Each, Differ, Ruled, others}
 use Rattle.heap_table.specs.declared.setting.Setting.{Setting}
 use Rattle.heap_table.specs.Seen.{HeapSeen, PassSeen, first_pass, first_passes}
+use Rattle.heap_table.proofs.Lawful.{by_law}
 
 append_append : (xs ys zs : List ℕ) → (xs ++ ys) ++ zs ≡ xs ++ (ys ++ zs)
 append_append [] ys zs = refl
@@ -156,8 +158,8 @@ knowns_differ t (suc n) = (knowns_above t (suc t) n (omega arith), knowns_differ
 abbrev first_of : Heap → World
 first_of b = opening b.shape b.start b.biasing
 
-pub opens : {S : Type 0} (b : Setting) (ws : List ℕ) → IsInLimits b.shape → ws ≡ spread (opening_groups b.shape b.biasing) → Ruled {S = S} b (opening_state ws [] (first_knowns 0 b.shape.threads))
-opens {S} b ws is e = (
+pub opens : {S : Type 0} (b : Setting) (ws : List ℕ) → HeapLaw (heap_in b) → ws ≡ spread (opening_groups b.shape b.biasing) → Ruled {S = S} b (opening_state ws [] (first_knowns 0 b.shape.threads))
+opens {S} b ws law e = (
   first_of (heap_in b),
   nobody_else,
   record {
@@ -166,8 +168,8 @@ opens {S} b ws is e = (
     words_are = λ n here. ap (λ (l : List ℕ). get_or l (place_of b.shape n) 0) e ∙ words_at b.shape b.biasing n here;
     knows = λ id v at. one id v at;
   },
-  opening_sound (heap_in b) is,
-  at_opening,
+  law.opens,
+  record { comes = at_opening; law = law },
 )
   where
     one : (id : ℕ) (v : List Known) → get_elem? (first_knowns 0 b.shape.threads ∷ []) id ≡ some v → Each (λ (k : Known). ((first_of (heap_in b)).known k.thread ≡ k) × (nobody_else k.thread ≡ id)) v × Differ v
@@ -202,3 +204,18 @@ pub own_pass : (m : Mirror) (me old : Me (Unit {0}) (List Known)) (t n : ℕ) �
 own_pass m me old t n e is lt f =
     let same : only me.0 ≡ first_known t = ap (λ (x : Me (Unit {0}) (List Known)). only x.0) e ∙ ap only (is ∙ knowns_next t n lt) in
     (e ∙ sym (ap (λ (x : Me (Unit {0}) (List Known)). (only x.0 ∷ [], [])) e), subst (λ (k : Known). Follows m (k)) (sym same) f)
+
+-- and the pass of each thread is fresh
+pub fresh : (h : HeapSeen) (limit t : ℕ) → HeapLaw h.heap → t < h.heap.shape.threads → IsFresh h t (first_pass h limit t)
+fresh h limit t law within = record {
+  is_of = record {
+    table = refl;
+    within = within;
+    classes = refl;
+    first = refl;
+    threads = refl;
+    objects = refl;
+    real = record { world = first_of h.heap; is_of = refl; sound = law.opens; knew = refl; is = refl; made = tt; law = by_law law };
+  };
+  knows = refl;
+}

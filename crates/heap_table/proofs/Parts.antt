@@ -11,7 +11,7 @@ use Rattle.core_world.specs.Trees.Calls.{steps_of}
 use Rattle.core_world.specs.Trees.Todo.{Todo, done, never, step, ◌>>=◌, after_answer, is_over}
 use Rattle.core_world.specs.Words.Shape.{Shape}
 use Rattle.core_world.proofs.CallRests.{begun_rest, gone_rest, next_due, then_due, ran_due}
-use Rattle.core_steps.specs.Reached.{comes}
+use Rattle.core_law.specs.Reached.{comes}
 use Rattle.heap_table.specs.Drafts.{IsDrafted, IsLeft}
 use Rattle.heap_table.specs.Kept.{HasRoom}
 use Rattle.heap_table.specs.Parts.{IsDueOn, HasRun}

@@ -10,8 +10,8 @@ use Rattle.core_world.specs.Trees.Plans.{Purpose}
 use Rattle.core_world.specs.Trees.Todo.{Todo, done, never, step, ◌>>=◌}
 use Rattle.core_world.specs.Words.Shape.{Shape}
 use Rattle.core_world.proofs.CallRests.{ran_over}
-use Rattle.core_steps.specs.Logic.{Heap}
-use Rattle.core_steps.proofs.ReachedWorlds.{sound_rests}
+use Rattle.core_law.specs.Logic.{Heap}
+use Rattle.core_law.proofs.Lawful.{sound_rests}
 use Rattle.heap_table.specs.Fresh.{IsFresh}
 use Rattle.heap_table.specs.Parts.{IsDueOn, HasRun}
 use Rattle.heap_table.specs.Resting.{Rests, MayCall, start_now}

@@ -15,14 +15,16 @@ use Rattle.core_world.specs.Words.Shape.{Shape}
 use Rattle.core_world.specs.Steps.{rest_of_call, is_idle}
 use Rattle.core_world.specs.World.{World}
 use Rattle.core_world.proofs.CallRests.{next_due}
-use Rattle.core_steps.specs.Logic.{Heap, heap_of}
-use Rattle.core_steps.specs.Reached.{comes}
-use Rattle.core_steps.specs.Sound.{Finishes, Sound}
-use Rattle.core_steps.proofs.NextSteps.{stands_here}
-use Rattle.core_steps.proofs.ReachedWorlds.{sound_comes, sound_rests, known_step_sound}
-use Rattle.core_steps.proofs.Table.{calls_begin}
+use Rattle.core_law.specs.Logic.{Heap, heap_of}
+use Rattle.core_law.specs.Reached.{comes}
+use Rattle.core_law.specs.Sound.{Finishes, Sound}
+use Rattle.core_law.proofs.NextSteps.{stands_here}
+use Rattle.core_law.specs.Begins.{BeginsWell}
+use Rattle.core_law.specs.HeapLaw.{HeapLaw}
+use Rattle.core_law.proofs.Lawful.{sound_comes, sound_rests, known_step_sound}
 use Rattle.heap_table.specs.Parts.{IsDueOn}
 use Rattle.heap_table.specs.Ruled.{Stepped}
+use Rattle.heap_table.proofs.Lawful.{law_of}
 use Rattle.heap_table.specs.Seen.{HeapSeen, PassSeen, IsOf}
 use Rattle.heap_table.proofs.Knows.{is_there}
 use Rattle.heap_table.proofs.Stamps.{stamp_fits}
@@ -43,7 +45,7 @@ would h p t plan f is_of due task =
       sound = r.sound;
       knew = r.knew;
       was_there = refl;
-      sound_after = known_step_sound h.heap p.known plan next r.world r.is_of r.knew is_of.within r.sound;
+      sound_after = known_step_sound h.heap p.known plan next r.world r.is_of r.knew is_of.within ((law_of r.law).begins plan.task) r.sound;
     }
 
 -- so the next stamp fits a word where a stamp is raised
@@ -68,15 +70,15 @@ both true b e = e
 both false b e = absurd (cc e)
 
 -- nor where it begins
-first_is : (heap : Heap) (w : World) (k : Known) (t : Task) → heap_of w ≡ heap → Sound w → w.known k.thread ≡ k → k.thread < heap.shape.threads
+first_is : (heap : Heap) (w : World) (k : Known) (t : Task) → heap_of w ≡ heap → HeapLaw heap → Sound w → w.known k.thread ≡ k → k.thread < heap.shape.threads
     → is_idle heap.shape k ≡ true → may_begin heap.shape heap.biasing k t ≡ true → steps_of heap.shape t (start_of heap.start k) ≡ never → ⊥
-first_is heap w k t is_of sound knew within over may is =
+first_is heap w k t is_of law sound knew within over may is =
     let b = sym is_of in
     let u : k.thread < w.shape.threads = subst (λ (z : Heap). k.thread < z.shape.threads) b within in
     let over_there : is_idle w.shape (w.known k.thread) ≡ true = (λ i. is_idle (is_of i).shape (knew i)) ∙ over in
     let may_there : may_begin w.shape w.biasing (w.known k.thread) t ≡ true = (λ i. may_begin (is_of i).shape (is_of i).biasing (knew i) t) ∙ may in
     let is_here : steps_of w.shape t (start_of w.start (w.known k.thread)) ≡ never = (λ i. steps_of (is_of i).shape t (start_of (is_of i).start (knew i))) ∙ is in
-    let does = (calls_begin (heap_of w) t).does (w.known k.thread) (stands_here w k.thread u sound.valid) (sound_rests w k.thread sound u over_there) may_there in
+    let does = (subst (λ z. BeginsWell z t) b (law.begins t)).does (w.known k.thread) (stands_here w k.thread u sound.valid) (sound_rests w k.thread sound u over_there) may_there in
     (subst (λ d. Finishes (heap_of w) true d (w.known k.thread)) is_here does).by
 
 pub not_due : {A : Type 0} (h : HeapSeen) (p : PassSeen) (t : Task) (d : Todo A) → IsOf h p → IsDueOn h p t d → d ≡ never → ⊥
@@ -89,7 +91,7 @@ not_due h p t d is_of due e =
           let goes : comes (rest_of_call h.heap.shape k) ≡ true = (λ i. comes (rest_of_call (sym r.is_of i).shape (sym r.knew i))) ∙ sound_comes r.world k.thread r.sound within in
           let stuck : comes (rest_of_call h.heap.shape k) ≡ false = ap comes left ∙ ap (λ z. comes (z >>= due.after)) e in
           absurd (cc (goes, stuck))
-      | inr b ↦ first_is h.heap r.world k t r.is_of r.sound r.knew is_of.within b.over (both (is_calm k.stage) (may_begin h.heap.shape h.heap.biasing k t) b.may) (b.is ∙ ap (λ z. z >>= due.after) e)
+      | inr b ↦ first_is h.heap r.world k t r.is_of (law_of r.law) r.sound r.knew is_of.within b.over (both (is_calm k.stage) (may_begin h.heap.shape h.heap.biasing k t) b.may) (b.is ∙ ap (λ z. z >>= due.after) e)
     ]
 
 -- so where a test chooses between steps and none that a valid world comes to, it chooses the steps

@@ -5,7 +5,7 @@ use mathlib.Core.Option.{some, some-injective, some-ne-none}
 use lib.ListN.{get_elem?}
 use Rattle.atomic_table.specs.Table.{Splits, Joins, Enters}
 use Rattle.atomic_table.proofs.Lists.{at_set}
-use Rattle.core_steps.specs.Logic.{Heap}
+use Rattle.core_law.specs.Logic.{Heap}
 use Rattle.core_world.specs.Threads.Known.{Known}
 use Rattle.core_world.specs.World.{World}
 use Rattle.heap_table.specs.Ruled.{heap_in, only}

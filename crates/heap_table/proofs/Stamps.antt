@@ -16,8 +16,8 @@ use Rattle.core_world.specs.Valid.{Fits, IsValid}
 use Rattle.core_world.specs.World.{World, logs_from}
 use Rattle.heap_table.specs.inner.Kept.{StampFits}
 use Rattle.core_world.proofs.LookWhileRevoking.{forgotten}
-use Rattle.core_counts.specs.BiasLaw.{BiasLawHolds}
-use Rattle.core_steps.specs.Logic.{Heap}
+use Rattle.core_law.specs.BiasLaw.{BiasLawHolds}
+use Rattle.core_law.specs.Logic.{Heap}
 use Rattle.heap_table.specs.Ruled.{Stepped}
 use Rattle.heap_table.specs.Seen.{HeapSeen, PassSeen, IsOf}
 use Rattle.heap_table.proofs.Follow.{last_end}

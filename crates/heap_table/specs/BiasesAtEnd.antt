@@ -5,8 +5,8 @@ use Rattle.core_world.specs.declared.name.Name.TheVariants.{Revocations}
 use Rattle.core_world.specs.Threads.Counts.{CountedVerdict}
 use Rattle.core_world.specs.Threads.Known.{Known}
 use Rattle.core_world.specs.Words.Shape.{class_of}
-use Rattle.core_steps.specs.Logic.{Heap}
-use Rattle.core_counts.specs.OfARun.{BiasesOfRun, VerdictsAtMost}
+use Rattle.core_law.specs.Logic.{Heap}
+use Rattle.core_law.specs.OfARun.{BiasesOfRun, VerdictsAtMost}
 use Rattle.heap_table.specs.Layout.{place_of}
 
 -- the verdicts that the t-th of these threads counted

@@ -5,8 +5,9 @@ use Rattle.core_world.specs.Threads.Known.{Known, StepMade}
 use Rattle.core_world.specs.Opening.{first_known}
 use Rattle.core_world.specs.Steps.{known_along, world_after}
 use Rattle.core_world.specs.World.{World}
-use Rattle.core_steps.specs.Logic.{Heap, heap_of}
-use Rattle.core_steps.specs.Sound.{Sound}
+use Rattle.core_law.specs.HeapLaw.{HeapLaw}
+use Rattle.core_law.specs.Logic.{Heap, heap_of}
+use Rattle.core_law.specs.Sound.{Sound}
 use Rattle.heap_table.specs.declared.setting.Setting.{Setting}
 
 -- what no step changes of the heap that a table is
@@ -32,6 +33,10 @@ abbrev pub WereMade : Heap → ℕ → List StepMade → Type 0
 WereMade heap t [] = Unit {0}
 WereMade heap t (m ∷ ms) = Stepped heap (known_behind heap t ms) m.plan m.found × WereMade heap t ms
 
+-- The heap has its law. It is no abbreviation, so that a search for a proof doesn't look into it wherever a pass is.
+unfoldable pub IsLawful : Heap → Type 0
+IsLawful heap = HeapLaw heap
+
 -- There was a sound world of this heap in which the thread knew k; and it came to know it by its own steps, each in such a world.
 pub record IsReal (heap : Heap) (k : Known) : Type 0 where
   pub world : World
@@ -40,6 +45,8 @@ pub record IsReal (heap : Heap) (k : Known) : Type 0 where
   pub knew : world.known k.thread ≡ k
   pub is : k ≡ known_behind heap k.thread k.steps
   pub made : WereMade heap k.thread k.steps
+  -- the heap has its law
+  pub law : IsLawful heap
 
 -- what the first of these threads knows, and what the others do
 abbrev pub only : List Known → Known

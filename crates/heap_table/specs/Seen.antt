@@ -6,9 +6,9 @@ use Rattle.core_world.specs.declared.name.Name.{Name}
 use Rattle.core_world.specs.Threads.Known.{Known, DumpShot}
 use Rattle.core_world.specs.Opening.{first_known}
 use Rattle.core_world.specs.World.{World}
-use Rattle.core_steps.specs.Logic.{Heap, heap_of}
-use Rattle.core_steps.specs.Reached.{Comes}
-use Rattle.core_steps.specs.Sound.{Sound}
+use Rattle.core_law.specs.Logic.{Heap, heap_of}
+use Rattle.core_law.specs.Reached.{Comes}
+use Rattle.core_law.specs.Sound.{Sound}
 use Rattle.heap_table.specs.declared.counts.ClassCounts.{ClassCounts}
 use Rattle.core_world.specs.There.{IsIn}
 use Rattle.heap_table.specs.Layout.{place_of}

@@ -3,7 +3,7 @@ use Rattle.std.specs.Prelude.{◌≡◌, ℕ, true}
 use Rattle.core_world.specs.declared.plan.StepPlan.{StepPlan}
 use Rattle.core_world.specs.Due.{IsNext}
 use Rattle.core_world.specs.Steps.{known_after, rest_of_call}
-use Rattle.core_steps.specs.Reached.{comes}
+use Rattle.core_law.specs.Reached.{comes}
 use Rattle.heap_table.specs.Drafts.{IsDrafted, IsLeft}
 use Rattle.heap_table.specs.Kept.{HasRoom}
 use Rattle.heap_table.specs.Ruled.{Stepped}

@@ -1,8 +1,8 @@
 //! How a heap begins.
-ghost use Rattle.std.specs.Prelude.{◌≡◌, ◌+◌, ◌*◌, ◌-◌, ◌%◌, ◌^◌, ◌<◌, ◌≤◌, [], IfOk};
-ghost use Rattle.core_world.specs.Opening.{opening};
+ghost use Rattle.std.specs.Prelude.{◌≡◌, ℕ, ◌+◌, ◌*◌, ◌-◌, ◌<◌, ◌≤◌, [], IfOk};
 ghost use Rattle.core_world.specs.Words.Shape.{IsInLimits};
-ghost use Rattle.core_steps.specs.Sound.{Sound};
+ghost use Rattle.core_law.specs.HeapLaw.{HeapLaw};
+ghost use Rattle.heap_table.specs.Fresh.{IsFresh};
 ghost use Rattle.heap_table.specs.inner.Firsts.{first_knowns};
 ghost use Rattle.heap_table.specs.Layout.{word_count};
 ghost use Rattle.heap_table.specs.Ruled.{heap_in};
@@ -64,9 +64,11 @@ fn spare(alloc: Global, words: usize, threads: usize) -> Result<Spare, AllocErro
 
 // A heap, and a stopped pass for each thread, with room for so many entries.
 fn begin(alloc: Global, setting: Setting, limit: u32) -> Result<(Heap, Vec<Pass>), AllocError>
+    requires law { IsInLimits setting.shape → HeapLaw (heap_in setting) }
     ensures heap { IfOk result (λ r. r.0.heap ≡ heap_in setting) }
     ensures passes { IfOk result (λ r. r.1.items ≡ first_passes r.0 limit 0 setting.shape.threads) }
-    ensures opening { IfOk result (λ r. Sound (opening setting.shape setting.start setting.biasing)) }
+    ensures law { IfOk result (λ r. HeapLaw r.0.heap) }
+    ensures fresh { IfOk result (λ r. (t : ℕ) → t < setting.shape.threads → IsFresh r.0 t (first_pass r.0 limit t)) }
 {
     let start = opening_words(alloc, &setting)?;
     let threads = setting.shape.threads();
@@ -88,8 +90,9 @@ fn begin(alloc: Global, setting: Setting, limit: u32) -> Result<(Heap, Vec<Pass>
 impl Heap {
     /// A heap of this shape, with biases or without, whose hash generators start from `start`, and a pass for each
     /// thread, in order: stopped, with nothing logged, held, requested, counted or unfinished, and with room for the
-    /// entries that so much fuel may log. Its words are made as those of the opening world; the contract says that this
-    /// world is sound, and that the passes know what its threads know. Nothing takes memory later. The fuel is at most
+    /// entries that so much fuel may log. Its words are those of the opening world. The caller hands in
+    /// the heap's law, under the premise that its shape is in the limits, as every `HeapShape` is. The law is handed
+    /// on, and each pass is one of this heap that has made no step. Nothing takes memory later. The fuel is at most
     /// 200,000. `NoMemory` where memory is wanting.
     pub fn new(
         alloc: Global,
@@ -98,10 +101,12 @@ impl Heap {
         start: u32,
         biasing: bool,
     ) -> Result<(Heap, List<Pass>), NoMemory>
-        requires { fuel ≤ 200000 }
+        requires fuel { fuel ≤ 200000 }
+        requires law { IsInLimits shape → HeapLaw (record { shape = shape; start = start; biasing = biasing }) }
         ensures heap { IfOk result (λ r. r.0.heap ≡ record { shape = shape; start = start; biasing = biasing }) }
         ensures passes { IfOk result (λ r. r.1 ≡ first_passes r.0 (2 * fuel + 66) 0 shape.threads) }
-        ensures opening { IfOk result (λ r. Sound (opening shape start biasing)) }
+        ensures law { IfOk result (λ r. HeapLaw r.0.heap) }
+        ensures fresh { IfOk result (λ r. (t : ℕ) → t < shape.threads → IsFresh r.0 t (first_pass r.0 (2 * fuel + 66) t)) }
     {
         let setting = Setting {
             shape,

@@ -4,7 +4,7 @@ use atomic_table::{Join, Play, Split};
 use std::marker::{Brand, PhantomData};
 
 pub trait Chosen {
-    ghost use Rattle.core_steps.specs.Logic.{Heap};
+    ghost use Rattle.core_law.specs.Logic.{Heap};
     ghost use Rattle.core_world.specs.declared.plan.StepPlan.{StepPlan};
 
     ghost heap: { Heap };

@@ -1,10 +1,11 @@
 //! How a heap ends.
-ghost use Rattle.std.specs.Prelude.{◌≡◌, ◌⊎◌, ◌≤◌, ℕ, ◌<◌, List as ListOf, [], length, map, All, Any, true, false, Option, None, vec_capacity, slice_index};
+ghost use Rattle.std.specs.Prelude.{◌≡◌, ◌⊎◌, ℕ, ◌<◌, length, All, Any, true, false, None, slice_index};
 ghost use Rattle.plain_monitor.specs.History.{LegalObjects};
 ghost use Rattle.plain_history.specs.ExactStamps.{StampsAreExact};
 ghost use Rattle.core_world.specs.declared.task.Op.TheVariants as op;
 ghost use Rattle.core_world.specs.Clauses.Safepoints.{IsUnfinished};
 ghost use Rattle.core_world.specs.Words.Forms.{is_halted, runs_in, asks_in};
+ghost use Rattle.core_law.specs.HeapLaw.{HeapLaw};
 ghost use Rattle.heap_table.specs.BiasesAtEnd.{BiasesAtEnd};
 ghost use Rattle.heap_table.specs.Seen.{knowns, logs_of, shots_of, counts_of_all, LastWorld, InOrder, IsOf, ClosedSeen};
 
@@ -95,7 +96,7 @@ impl Closed {
 
 /// The end of a heap: its words and what its passes logged and counted. The passes are all passes of this heap, in the
 /// order of their threads. None runs, and none has a request that stands, which isn't asked where one of them knows the
-/// halt. The words are those of a sound world in which each thread knows what its pass knows, and by its safepoint word
+/// halt. The heap has its law still. The words are those of a sound world in which each thread knows what its pass knows, and by its safepoint word
 /// no thread runs or asks. The logs are legal, and their stamps exact. Where no thread has a Hash unfinished, the law of
 /// biases holds of the logs, of what the passes counted, and of the classes' words: each thread has counted at most one
 /// verdict more than it has entries, and none more where nothing is unfinished. It takes no memory.
@@ -105,6 +106,7 @@ pub fn close(heap: Heap, passes: List<Pass>) -> Closed
     requires stopped { All (λ p. p.known.running ≡ false) passes }
     requires quiet { All (λ p. p.known.requesting ≡ false) passes ⊎ Any (λ p. p.known.halted ≡ true) passes }
     ensures heap { result.heap ≡ heap.heap }
+    ensures law { HeapLaw heap.heap }
     ensures world { LastWorld heap.heap result.words (knowns passes) }
     ensures logs { result.logs ≡ logs_of passes }
     ensures shots { result.shots ≡ shots_of passes }

@@ -1,7 +1,7 @@
 //! The words of a heap in one table that threads share, and the one step that changes them.
 //!
 //! `Heap` has the words, over the kit's `atomic_table`, and each thread steps with its own `Pass`, which keeps at run
-//! time what the thread knows. The rule of the table is that it is a sound world of `core_steps`, which the heap comes
+//! time what the thread knows. The rule of the table is that it is a sound world of `core_law`, which the heap comes
 //! to, and `Heap::step` keeps it by the law of all steps: a step is the next one of its thread, and needs no law of its
 //! own. `HeapShape` says where each word lies, and `close` what is left at the end.
 #![tactic(auto)]

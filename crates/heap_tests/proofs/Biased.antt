@@ -19,7 +19,7 @@ use Rattle.core_world.specs.Trees.Calls.{steps_of, end}
 use Rattle.core_world.specs.Trees.Operations.{enter_tried, enter_going, answer}
 use Rattle.core_world.specs.Trees.Plans.{load, swap}
 use Rattle.core_world.proofs.CallRests.{part_due}
-use Rattle.core_steps.specs.Logic.{Heap}
+use Rattle.core_law.specs.Logic.{Heap}
 use Rattle.heap_table.specs.Drafts.{IsDrafted}
 use Rattle.heap_table.specs.Kept.{HasRoom}
 use Rattle.heap_table.specs.Seen.{HeapSeen, PassSeen}

@@ -26,7 +26,7 @@ use Rattle.core_world.specs.Trees.Operations.{lone_purpose}
 use Rattle.core_world.specs.Trees.Plans.{Purpose, load, swap, done_with, pending_for}
 use Rattle.core_world.specs.Trees.Todo.{◌>>=◌}
 use Rattle.core_world.specs.Words.Shape.{Shape}
-use Rattle.core_steps.specs.Logic.{Heap}
+use Rattle.core_law.specs.Logic.{Heap}
 use Rattle.heap_table.specs.Drafts.{IsDrafted}
 use Rattle.heap_table.specs.Kept.{HasRoom}
 use Rattle.heap_table.specs.Parts.{IsDueOn, HasRun}

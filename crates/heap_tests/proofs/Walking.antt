@@ -18,7 +18,7 @@ use Rattle.core_world.specs.declared.plan.Own.TheVariants.{Same}
 use Rattle.core_world.specs.declared.plan.StepPlan.{StepPlan}
 use Rattle.core_world.specs.Steps.{known_after}
 use Rattle.core_world.specs.Threads.Known.{Known}
-use Rattle.core_steps.specs.Logic.{Heap}
+use Rattle.core_law.specs.Logic.{Heap}
 use Rattle.heap_table.specs.Drafts.{IsDrafted}
 use Rattle.heap_table.specs.Kept.{HasRoom}
 use Rattle.heap_table.specs.Seen.{HeapSeen, PassSeen}

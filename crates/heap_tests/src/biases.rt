@@ -11,6 +11,7 @@ use crate::compare::{holds, same};
 use bias_lock::bias_enter;
 use core_world::{BiasTry, Name, Op, Stage, Task, Unfinished};
 use heap_table::{Heap, HeapShape, Pass, Purpose};
+use lawful_heap::new_heap;
 use plain_monitor::{NoMemory, Path};
 use std::alloc::Global;
 use std::test::Fail;
@@ -20,7 +21,7 @@ fn begin(alloc: Global) -> Result<(Heap, Pass, Pass), NoMemory>
     ensures { IfOk result (λ r. Knows r.0 (first_known 0) r.1 × Knows r.0 (first_known 1) r.2) }
 {
     let shape = HeapShape::of(alloc, 2, &[1], &[0, 0])?;
-    let (heap, passes) = Heap::new(alloc, shape, 10, 7, true)?;
+    let (heap, passes) = new_heap(alloc, shape, 10, 7, true)?;
     let mut passes = passes.into_vec();
     let Some(second) = passes.pop() else {
         return Err(NoMemory);

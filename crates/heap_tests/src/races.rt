@@ -1,6 +1,6 @@
 //! Two threads that step on one heap.
 
-ghost use Rattle.std.specs.Prelude.{◌≡◌, ◌^◌, ◌<◌, [], ◌∷◌, IfOk, true, false, None};
+ghost use Rattle.std.specs.Prelude.{◌≡◌, ◌^◌, ◌<◌, [], ◌∷◌, IfOk, false, None};
 ghost use Rattle.heap_table.specs.Seen.{IsOf};
 ghost use Rattle.heap_table.specs.Layout.{shape_of};
 ghost use Rattle.heap_table.specs.Fresh.{IsFresh, IsStill};
@@ -8,6 +8,7 @@ ghost use Rattle.heap_table.specs.Fresh.{IsFresh, IsStill};
 use crate::compare::{holds, same};
 use core_world::{Name, Stage, Task};
 use heap_table::{Closed, Heap, HeapShape, Pass, Purpose, close};
+use lawful_heap::new_heap;
 use plain_monitor::{List, NoMemory};
 use std::alloc::Global;
 use std::test::Fail;
@@ -19,7 +20,7 @@ fn begin(alloc: Global) -> Result<(Heap, Pass, Pass), NoMemory>
         × (r.0.heap.shape ≡ shape_of 2 (1 ∷ []) (0 ∷ 0 ∷ []))) }
 {
     let shape = HeapShape::of(alloc, 2, &[1], &[0, 0])?;
-    let (heap, passes) = Heap::new(alloc, shape, 10, 7, false)?;
+    let (heap, passes) = new_heap(alloc, shape, 10, 7, false)?;
     let mut passes = passes.into_vec();
     let Some(second) = passes.pop() else {
         return Err(NoMemory);

@@ -16,6 +16,7 @@ ghost use Rattle.heap_tests.specs.Recorded.{two, resuming, looked, resumed, Know
 use crate::compare::{holds, same};
 use core_world::{Name, Stage, Task, Turn, Why};
 use heap_table::{Heap, HeapShape, Pass, Purpose};
+use lawful_heap::new_heap;
 use plain_monitor::{NoMemory, Path};
 use stack_lock::stack_enter;
 use std::alloc::Global;
@@ -26,7 +27,7 @@ fn begin(alloc: Global) -> Result<(Heap, Pass, Pass), NoMemory>
     ensures { IfOk result (λ r. Knows r.0 (first_known 0) r.1 × Knows r.0 (first_known 1) r.2) }
 {
     let shape = HeapShape::of(alloc, 2, &[1], &[0, 0])?;
-    let (heap, passes) = Heap::new(alloc, shape, 10, 7, false)?;
+    let (heap, passes) = new_heap(alloc, shape, 10, 7, false)?;
     let mut passes = passes.into_vec();
     let Some(second) = passes.pop() else {
         return Err(NoMemory);

@@ -6,6 +6,7 @@ ghost use Rattle.heap_table.specs.Resting.{Rests};
 use crate::compare::{holds, same};
 use core_world::{Task, Turn, Why};
 use heap_table::{Heap, HeapShape, Pass, Purpose};
+use lawful_heap::new_heap;
 use plain_monitor::NoMemory;
 use std::alloc::Global;
 use std::test::Fail;
@@ -15,7 +16,7 @@ fn fresh(alloc: Global) -> Result<(Heap, Pass, Pass), NoMemory>
     ensures { IfOk result (λ r. IsFresh r.0 0 r.1 × IsFresh r.0 1 r.2) }
 {
     let shape = HeapShape::of(alloc, 2, &[1], &[0])?;
-    let (heap, passes) = Heap::new(alloc, shape, 10, 7, false)?;
+    let (heap, passes) = new_heap(alloc, shape, 10, 7, false)?;
     let mut passes = passes.into_vec();
     let Some(second) = passes.pop() else {
         return Err(NoMemory);

@@ -6,6 +6,7 @@ ghost use Rattle.heap_tests.specs.Walk.{IsAt, entered, left, resumed, stopped, t
 use crate::compare::{holds, same};
 use core_world::{Name, Op, Stage, Task, Unfinished};
 use heap_table::{Closed, Heap, HeapShape, Pass, Purpose, close};
+use lawful_heap::new_heap;
 use plain_monitor::{Entry, List, Logged, NoMemory, Path};
 use std::alloc::Global;
 use std::test::Fail;
@@ -179,7 +180,7 @@ fn begin(alloc: Global) -> Result<(Heap, Pass, Pass), NoMemory>
     ensures { IfOk result (λ r. IsAt r.0 [] r.1 × IsStill r.0 1 r.2 × (r.0.heap.shape ≡ two)) }
 {
     let shape = HeapShape::of(alloc, 2, &[1], &[0, 0])?;
-    let (heap, passes) = Heap::new(alloc, shape, 10, 7, false)?;
+    let (heap, passes) = new_heap(alloc, shape, 10, 7, false)?;
     let mut passes = passes.into_vec();
     let Some(second) = passes.pop() else {
         return Err(NoMemory);

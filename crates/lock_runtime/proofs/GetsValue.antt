@@ -15,9 +15,9 @@ use Rattle.core_world.specs.Trees.Operations.{value_found}
 use Rattle.core_world.specs.Valid.{Fits}
 use Rattle.core_world.specs.Words.Shape.{Shape, slots_of}
 use Rattle.core_world.specs.World.{World}
-use Rattle.core_locks.proofs.TellSlots.{slots_are}
-use Rattle.core_steps.specs.Logic.{Heap}
-use Rattle.core_steps.proofs.Facts.{fits_here}
+use Rattle.core_world.proofs.ObjectSlots.{slots_are}
+use Rattle.core_law.specs.Logic.{Heap}
+use Rattle.core_law.proofs.Standing.{fits_here}
 use Rattle.heap_table.specs.Ruled.{Stepped}
 use Rattle.heap_table.proofs.Knows.{was_of}
 

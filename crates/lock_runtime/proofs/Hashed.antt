@@ -13,8 +13,8 @@ use Rattle.core_world.specs.Valid.{Fits, IsValid}
 use Rattle.core_world.specs.World.{World}
 use Rattle.core_world.specs.Words.Shape.{Shape}
 use Rattle.core_world.proofs.KnowledgeParts.{by_equal}
-use Rattle.core_steps.specs.Logic.{Stands}
-use Rattle.core_steps.proofs.LawRules.{home, valid_here}
+use Rattle.core_law.specs.Logic.{Stands}
+use Rattle.core_law.proofs.Standing.{home, valid_here}
 use Rattle.heap_table.specs.Resting.{start_now}
 use Rattle.heap_table.specs.Seen.{HeapSeen, PassSeen, IsOf}
 use Rattle.heap_table.proofs.Aside.{StartsAlike}

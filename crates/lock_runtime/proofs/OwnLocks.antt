@@ -33,8 +33,8 @@ use Rattle.core_world.proofs.KnowledgeParts.{log_at}
 use Rattle.core_world.proofs.LookWhileRevoking.{forgotten}
 use Rattle.core_world.proofs.ObjectHolds.{thread_is, holds_by_monitor_is}
 use Rattle.core_world.proofs.OwnersShown.{lock_by_form, fits_running}
-use Rattle.core_counts.specs.BiasLaw.{BiasLawHolds}
-use Rattle.core_steps.specs.Logic.{Heap}
+use Rattle.core_law.specs.BiasLaw.{BiasLawHolds}
+use Rattle.core_law.specs.Logic.{Heap}
 use Rattle.core_calls.specs.Paths.{made, noted, entries_of, left_unfinished, Tells}
 use Rattle.core_calls.specs.Woken.{IfDone}
 use Rattle.core_calls.proofs.StandsKnown.{thread_along}

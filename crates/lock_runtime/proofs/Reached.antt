@@ -37,9 +37,9 @@ use Rattle.core_world.specs.Words.Shape.{Shape}
 use Rattle.core_world.specs.World.{World}
 use Rattle.core_world.proofs.CallRests.{gone_rest, begun_rest}
 use Rattle.core_world.proofs.Naming.{same_named}
-use Rattle.core_steps.specs.Logic.{Heap, heap_of, Stands, Doing}
-use Rattle.core_steps.specs.Sound.{Finishes}
-use Rattle.core_steps.proofs.SafeWords.{asks_is, few_threads}
+use Rattle.core_law.specs.Logic.{Heap, heap_of, Stands, Doing}
+use Rattle.core_law.specs.Sound.{Finishes}
+use Rattle.core_law.proofs.Standing.{asks_is, few_threads}
 use Rattle.heap_table.specs.Seen.{HeapSeen, PassSeen, IsOf}
 use Rattle.heap_table.specs.Parts.{IsDueOn, HasRun}
 use Rattle.heap_table.proofs.Loops.{binds}

@@ -16,8 +16,8 @@ use Rattle.core_world.specs.Valid.{FormsFit, SafepointFits}
 use Rattle.core_world.specs.Words.Forms.{runs_in, asks_in}
 use Rattle.core_world.specs.Words.Shape.{Shape}
 use Rattle.core_world.specs.World.{World}
-use Rattle.core_steps.specs.Logic.{Heap}
-use Rattle.core_steps.proofs.SafeWords.{few_threads}
+use Rattle.core_law.specs.Logic.{Heap}
+use Rattle.core_law.proofs.Standing.{few_threads}
 use Rattle.core_calls.specs.Paths.{Says}
 use Rattle.core_calls.specs.Stands.{Stand, IsTrueOf, FoundTrue, StandsSo, TurnStands, ResultStands, stand_of, stand_behind, begun}
 use Rattle.core_calls.proofs.Runs.{on_path, knows}

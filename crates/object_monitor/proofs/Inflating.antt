@@ -22,9 +22,9 @@ use Rattle.core_world.specs.Valid.{IsRevoking}
 use Rattle.core_world.specs.Words.Shape.{Shape, IsInLimits, monitor_count}
 use Rattle.core_world.specs.World.{World}
 use Rattle.core_world.proofs.CallRests.{part_due}
-use Rattle.core_steps.specs.Logic.{Heap}
-use Rattle.core_steps.specs.Sound.{Sound}
-use Rattle.core_steps.proofs.There.{kept_there}
+use Rattle.core_law.specs.Logic.{Heap}
+use Rattle.core_law.specs.Sound.{Sound}
+use Rattle.core_world.proofs.There.{kept_there}
 use Rattle.heap_table.specs.Parts.{IsDueOn, HasRun}
 use Rattle.heap_table.specs.Seen.{HeapSeen, PassSeen, IsOf}
 use Rattle.heap_table.specs.StepPlans.{store_plan}

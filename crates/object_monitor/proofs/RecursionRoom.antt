@@ -34,13 +34,14 @@ use Rattle.core_world.proofs.CallRests.{next_due, then_due}
 use Rattle.core_world.proofs.KnowledgeParts.{by_equal}
 use Rattle.core_world.proofs.LookWhileRevoking.{forgotten}
 use Rattle.core_world.proofs.OwnersShown.{fits_running, inflated_form, with_word_there}
-use Rattle.core_counts.specs.BiasLaw.{BiasLawHolds, WhollyValid}
-use Rattle.core_steps.specs.Logic.{Heap, heap_of}
-use Rattle.core_steps.specs.Sound.{Sound}
-use Rattle.core_steps.proofs.NextSteps.{stands_here}
-use Rattle.core_steps.proofs.Places.{room_here}
-use Rattle.core_steps.proofs.ReachedWorlds.{next_step_sound, next_step_there}
+use Rattle.core_law.specs.BiasLaw.{BiasLawHolds, WhollyValid}
+use Rattle.core_law.specs.Logic.{Heap, heap_of}
+use Rattle.core_law.specs.Sound.{Sound}
+use Rattle.core_law.specs.HeapLaw.{HeapLaw}
+use Rattle.core_law.proofs.NextSteps.{stands_here, stepping_sound, stepping_there}
+use Rattle.core_law.proofs.Places.{room_here}
 use Rattle.heap_table.specs.Parts.{IsDueOn}
+use Rattle.heap_table.proofs.Lawful.{law_of}
 use Rattle.heap_table.specs.Seen.{HeapSeen, PassSeen, IsOf}
 use Rattle.heap_table.specs.Stepping.{HasStepped}
 use Rattle.heap_table.proofs.Knows.{told_here}
@@ -127,13 +128,13 @@ in_middle w v t stage at some none = elim v.is [
     running false e a = absurd (some (sym at ∙ a.quiet.quiet t e))
 
 -- THE WORLD BEHIND A STEP that is due
-module _ {A : Type 0} (w : World) (t : ℕ) (within : t < w.shape.threads) (sound : Sound w) (task : Task) (p : StepPlan) (f : ℕ → Todo A)
+module _ {A : Type 0} (w : World) (t : ℕ) (within : t < w.shape.threads) (law : HeapLaw (heap_of w)) (sound : Sound w) (task : Task) (p : StepPlan) (f : ℕ → Todo A)
     (due : IsDue w.shape w.start w.biasing (w.known t) task (step p f)) (same : p.task ≡ task) where
   next : IsNext w.shape w.start w.biasing (w.known t) p
   next = next_due w.shape w.start w.biasing (w.known t) task p f due same
 
   sound_then : Sound (world_after p t w)
-  sound_then = next_step_sound w t p within sound next
+  sound_then = stepping_sound w t p within (law.begins p.task) sound next
 
   knows_then : (world_after p t w).known t ≡ known_after w.shape w.start p (w.words p.at) (w.known t)
   knows_then = told_here t (known_after w.shape w.start p (w.words p.at) (w.known t)) w.known
@@ -196,7 +197,7 @@ raising e k o m r = do
   record_steps e (Ahead o) k o MonitorAgain
 
 -- A calm thread is to raise the recursions of m from r, and then to take a hold of o by the monitor.
-module _ (w : World) (t : ℕ) (within : t < w.shape.threads) (sound : Sound w) (e : Purpose) (o m r : ℕ) (calm : (w.known t).stage ≡ Calm)
+module _ (w : World) (t : ℕ) (within : t < w.shape.threads) (law : HeapLaw (heap_of w)) (sound : Sound w) (e : Purpose) (o m r : ℕ) (calm : (w.known t).stage ≡ Calm)
     (due : IsDue w.shape w.start w.biasing (w.known t) e.task (raising e (local_of (w.known t)) o m r)) where
   -- its lowest free place, the depth of its new hold word, and how many of its records were made through the monitor
   abbrev q : ℕ
@@ -215,37 +216,37 @@ module _ (w : World) (t : ℕ) (within : t < w.shape.threads) (sound : Sound w) 
   raised = world_after raise t w
 
   raised_sound : Sound raised
-  raised_sound = sound_then w t within sound e.task raise _ due refl
+  raised_sound = sound_then w t within law sound e.task raise _ due refl
 
   raised_knows : raised.known t ≡ known_after w.shape w.start raise (w.words (Recursions m)) (w.known t)
-  raised_knows = knows_then w t within sound e.task raise _ due refl
+  raised_knows = knows_then w t within law sound e.task raise _ due refl
 
   abbrev displace : StepPlan
   displace = displace_plan e (Ahead o) (w.known t).thread q 3
 
   raised_due : IsDue w.shape w.start w.biasing (raised.known t) e.task (record_steps e (Ahead o) (local_of (w.known t)) o MonitorAgain)
-  raised_due = due_behind w t within sound e.task raise _ due refl
+  raised_due = due_behind w t within law sound e.task raise _ due refl
 
   abbrev displaced : World
   displaced = world_after displace t raised
 
   displaced_sound : Sound displaced
-  displaced_sound = sound_then raised t within raised_sound e.task displace _ raised_due refl
+  displaced_sound = sound_then raised t within law raised_sound e.task displace _ raised_due refl
 
   abbrev hold : StepPlan
   hold = hold_plan e (w.known t).thread o d q MonitorAgain
 
   displaced_due : IsDue w.shape w.start w.biasing (displaced.known t) e.task (hold_steps e (local_of (w.known t)) o MonitorAgain >>= done_with)
-  displaced_due = due_behind raised t within raised_sound e.task displace _ raised_due refl
+  displaced_due = due_behind raised t within law raised_sound e.task displace _ raised_due refl
 
   abbrev held : World
   held = world_after hold t displaced
 
   held_sound : Sound held
-  held_sound = sound_then displaced t within displaced_sound e.task hold _ displaced_due refl
+  held_sound = sound_then displaced t within law displaced_sound e.task hold _ displaced_due refl
 
   held_at : (held.known t).stage ≡ Enters o q MonitorAgain
-  held_at = ap (λ (y : Known). y.stage) (knows_then displaced t within displaced_sound e.task hold _ displaced_due refl)
+  held_at = ap (λ (y : Known). y.stage) (knows_then displaced t within law displaced_sound e.task hold _ displaced_due refl)
 
   raised_at : (raised.known t).stage ≡ Ahead o
   raised_at = ap (λ (y : Known). y.stage) raised_knows
@@ -263,7 +264,7 @@ module _ (w : World) (t : ℕ) (within : t < w.shape.threads) (sound : Sound w) 
   number = fits.numbered t
 
   place : q < 64
-  place = (next_step_there raised t displace within raised_sound (next raised t within raised_sound e.task displace _ raised_due refl)).0.1
+  place = (stepping_there raised t displace within (law.begins e.task) raised_sound (next raised t within law raised_sound e.task displace _ raised_due refl)).0.1
 
   room : d ≤ 64
   room = room_here (heap_of w) (w.known t) (stands_here w t within sound.valid) runs o place
@@ -323,5 +324,5 @@ recursion_room h p q e o m n is_of due s =
     let within : q.known.thread < real.world.shape.threads = subst (λ (z : Heap). q.known.thread < z.shape.threads) (sym real.is_of) s.heap.within in
     let here = subst (λ (x : Heap × Known × Local). IsDue x.0.shape x.0.start x.0.biasing x.1 e.task (raising e x.2 o m n))
     (λ i. (sym real.is_of i, sym at i, (sym local ∙ ap local_of (sym at)) i)) rest in
-    let a = raised_fits real.world q.known.thread within real.sound e o m n (ap (λ (y : Known). y.stage) at ∙ calm) here in
+    let a = raised_fits real.world q.known.thread within (subst HeapLaw (sym real.is_of) (law_of real.law)) real.sound e o m n (ap (λ (y : Known). y.stage) at ∙ calm) here in
     omega (arith, a)

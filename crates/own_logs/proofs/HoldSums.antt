@@ -13,7 +13,7 @@ use Rattle.core_world.specs.Threads.Stages.{one_if}
 use Rattle.core_world.specs.Words.Forms.{names, names_form}
 use Rattle.core_world.specs.Words.Shape.{Shape}
 use Rattle.core_world.proofs.Readings.{hold_some}
-use Rattle.core_counts.specs.CountsAndVerdicts.{sum_below}
+use Rattle.core_law.specs.CountsAndVerdicts.{sum_below}
 
 -- SUMS
 sum_same : (n : ℕ) (f g : ℕ → ℕ) → ((i : ℕ) → i < n → f i ≡ g i) → sum_below n f ≡ sum_below n g

@@ -12,8 +12,8 @@ use Rattle.core_world.specs.Words.Shape.{Shape}
 use Rattle.core_world.specs.World.{World, logs}
 use Rattle.core_world.proofs.KnowledgeParts.{log_at}
 use Rattle.core_world.proofs.LookWhileRevoking.{forgotten}
-use Rattle.core_counts.specs.BiasLaw.{BiasLawHolds}
-use Rattle.core_steps.specs.Logic.{Heap}
+use Rattle.core_law.specs.BiasLaw.{BiasLawHolds}
+use Rattle.core_law.specs.Logic.{Heap}
 use Rattle.heap_table.specs.Resting.{Rests}
 use Rattle.heap_table.specs.Seen.{HeapSeen, PassSeen}
 use Rattle.heap_table.proofs.Resting.{at_rest}

@@ -11,15 +11,15 @@ use Rattle.plain_monitor.specs.History.{log_of}
 use Rattle.plain_monitor.proofs.Lists.{all_push}
 use Rattle.lock_policy.specs.declared.policy.Verdict.{Verdict}
 use Rattle.lock_policy.specs.declared.policy.Verdict.TheVariants.{Single, BulkRebias, BulkRevoke}
-use Rattle.core_counts.specs.BiasLaw.{summed}
-use Rattle.core_counts.specs.CountsAndVerdicts.{CountFits, sum_below, verdicts_on}
+use Rattle.core_law.specs.BiasLaw.{summed}
+use Rattle.core_law.specs.CountsAndVerdicts.{CountFits, sum_below, verdicts_on}
 use Rattle.core_world.specs.declared.name.Name.TheVariants.{Prototype, Revocations}
 use Rattle.core_world.specs.Clauses.Classes.{bulk_rebiases, bulk_revokes}
 use Rattle.core_world.specs.Threads.Counts as known
 use Rattle.core_world.specs.Threads.Counts.{CountedVerdict, counts_of}
 use Rattle.core_world.specs.Threads.Known.{Known}
 use Rattle.core_world.specs.Words.Shape.{Shape}
-use Rattle.core_steps.specs.Logic.{Heap}
+use Rattle.core_law.specs.Logic.{Heap}
 use Rattle.heap_table.specs.BiasesAtEnd.{counted_by}
 use Rattle.heap_table.specs.declared.counts.ClassCounts.{ClassCounts}
 use Rattle.heap_table.specs.Layout.{place_of}
@@ -29,7 +29,7 @@ use Rattle.lock_journal.specs.declared.record.ClassLine.{ClassLine}
 use Rattle.run_ends.specs.OfARun.{IsEnd}
 use Rattle.run_ends.specs.Prototypes as ends
 use Rattle.run_rounds.specs.Outcome.{HasBiases as LeftBiases}
-use Rattle.thread_calls.specs.Timed.{IsTimed}
+use Rattle.run_rounds.specs.Timed.{IsTimed}
 use Rattle.program_run.specs.Biases.{IsEven, IsIdle, IsLine, prototype_by}
 use Rattle.program_run.specs.Lines.{line_of, lines_below, total_on}
 use Rattle.program_run.proofs.Counted.{capped_few, sum_few, sum_none, term_few, total_is}

@@ -2,7 +2,7 @@
 use Rattle.std.proofs.Common.{◌≡◌, ℕ, zero, suc, ◌+◌, ◌*◌, ◌<◌, ◌≤◌, List, [], ◌∷◌, length, map, refl, ap, ◌∙◌, arith, inl, inr}
 use Rattle.std.proofs.lemmas.List.Sums.{sum_by-cons}
 use Rattle.std.proofs.lemmas.Bool.{cases_lt}
-use Rattle.core_counts.specs.CountsAndVerdicts.{sum_below}
+use Rattle.core_law.specs.CountsAndVerdicts.{sum_below}
 use Rattle.core_world.specs.Threads.Counts as known
 use Rattle.core_world.specs.Threads.Counts.{counts_of}
 use Rattle.core_world.specs.Threads.Known.{Known}

@@ -10,7 +10,7 @@ use Rattle.core_world.specs.Threads.Counts as known
 use Rattle.core_world.specs.Threads.Counts.{CountedVerdict, counts_of}
 use Rattle.core_world.specs.Threads.Known.{Known}
 use Rattle.heap_table.specs.BiasesAtEnd.{counted_by}
-use Rattle.thread_calls.specs.Timed.{IsTimed, IsCountedOnTime}
+use Rattle.run_rounds.specs.Timed.{IsTimed, IsCountedOnTime}
 
 not_true : (b : Bool) → (b ≡ true → ⊥) → b ≡ false
 not_true true refuted = absurd (refuted refl)

@@ -1,5 +1,4 @@
 pub mod Shaped
-pub mod Opened
 pub mod LinesBelow
 pub mod Cut
 pub mod Few

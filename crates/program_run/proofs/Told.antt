@@ -11,8 +11,8 @@ use Rattle.plain_monitor.specs.declared.entry.Path.{Path}
 use Rattle.plain_monitor.specs.declared.entry.Path.TheVariants.{BiasTaken}
 use Rattle.plain_monitor.specs.History.{log_of}
 use Rattle.plain_monitor.specs.Order.{order}
-use Rattle.core_counts.specs.OfARun.{IsHashLogged}
-use Rattle.core_steps.specs.Logic.{Heap}
+use Rattle.core_law.specs.OfARun.{IsHashLogged}
+use Rattle.core_law.specs.Logic.{Heap}
 use Rattle.core_world.specs.Threads.Known.{DumpShot, Known}
 use Rattle.heap_table.specs.Seen.{ClosedSeen}
 use Rattle.lock_journal.specs.declared.record.ClassLine.{ClassLine}
@@ -22,7 +22,7 @@ use Rattle.object_program.specs.Program.{ProgramText, class_of, shape_of}
 use Rattle.object_program.specs.Valid.{IsProgram}
 use Rattle.plain_machine.specs.Legal.{IsLegal, machine_after}
 use Rattle.plain_machine.specs.Machine.{PlainMachine}
-use Rattle.run_ends.specs.OfARun.{HasDraws}
+use Rattle.core_law.specs.Draws.{HasDraws}
 use Rattle.run_rounds.specs.Outcome.{HasRun, IsOver}
 use Rattle.program_run.specs.declared.settings.Settings.{Settings}
 use Rattle.program_run.specs.Biases.{HasBiases, IsEven, IsIdle, IsLine, IsUnrevoked, prototype_by}

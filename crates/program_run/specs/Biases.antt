@@ -1,8 +1,8 @@
 -- What the law of biases says of a run, by its record.
 use Rattle.std.specs.Prelude.{◌≡◌, ◌⊎◌, ℕ, ◌+◌, ◌*◌, ◌%◌, ◌==◌, ◌&&◌, min, nat_le, if◌then◌else◌, Bool, true, false, slice_get, Some}
 use Rattle.std.specs.List.{AllByRecursion, list_any}
-use Rattle.core_counts.specs.CountsAndVerdicts.{CountFits}
-use Rattle.core_counts.specs.OfARun.{IsHashLogged}
+use Rattle.core_law.specs.CountsAndVerdicts.{CountFits}
+use Rattle.core_law.specs.OfARun.{IsHashLogged}
 use Rattle.heap_table.specs.Seen.{ClosedSeen}
 use Rattle.lock_journal.specs.declared.record.ClassLine.{ClassLine}
 use Rattle.lock_journal.specs.declared.record.RunRecord.{RunRecord}

@@ -1,6 +1,6 @@
 -- The heap that a program is run on, and its threads before their first turn.
 use Rattle.std.specs.Prelude.{length}
-use Rattle.core_steps.specs.Logic.{Heap}
+use Rattle.core_law.specs.Logic.{Heap}
 use Rattle.core_world.specs.Words.Shape.{Shape}
 use Rattle.object_program.specs.Program.{ProgramText, shape_of}
 use Rattle.program_run.specs.declared.settings.Settings.{Settings}

@@ -6,7 +6,7 @@ use Rattle.object_program.specs.Program.{ProgramText}
 use Rattle.plain_history.specs.ExactStamps.{StampsAreExact}
 use Rattle.plain_machine.specs.Legal.{IsLegal, machine_after}
 use Rattle.plain_machine.specs.Machine.{PlainMachine}
-use Rattle.run_ends.specs.OfARun.{HasDraws}
+use Rattle.core_law.specs.Draws.{HasDraws}
 use Rattle.run_rounds.specs.Outcome.{IsOver}
 use Rattle.program_run.specs.declared.settings.Settings.{Settings}
 use Rattle.program_run.specs.Biases.{HasBiases}

@@ -11,9 +11,9 @@ use Rattle.core_world.specs.Threads.Known.{Known, last_seen, local_of}
 use Rattle.core_world.specs.Trees.Plans.{Purpose, load}
 use Rattle.core_world.specs.Trees.Todo.{done, step}
 use Rattle.core_world.specs.Words.Shape.{Shape}
-use Rattle.core_steps.specs.Logic.{Stands}
-use Rattle.core_steps.proofs.LawRules.{home}
-use Rattle.core_steps.proofs.SafepointLooks.{still_seen, saw_there, is_as_seen, fits_reached}
+use Rattle.core_law.specs.Logic.{Stands}
+use Rattle.core_law.proofs.Standing.{home}
+use Rattle.core_law.proofs.SafepointSights.{still_seen, saw_there, is_as_seen, fits_reached}
 use Rattle.heap_table.specs.Seen.{HeapSeen, PassSeen, IsOf}
 use Rattle.heap_table.specs.Stepping.{HasStepped}
 use Rattle.heap_table.proofs.Aside.{AreAside, leaves_own_words, aside}
@@ -64,7 +64,7 @@ module _ (h : HeapSeen) (p q : PassSeen) (e : Purpose) (at : Name) (n : ℕ) (is
 
   pub load_later : IsLater p.known q.known
   load_later =
-      let seeing = still_seen h.heap p.known.thread e at p.known n reached (kept at p.known reached) (was_of h.heap p.known (load e at) n s.stepped is_of.within) in
+      let seeing = still_seen h.heap e at p.known n reached (kept at p.known reached) (was_of h.heap p.known (load e at) n s.stepped is_of.within) in
       subst (IsLater p.known) (sym s.known) (record {
         local = sym (ap local_of s.known) ∙ load_local;
         reached = stays_reached h.heap.shape h.heap.start e at n p.known reached;
@@ -72,7 +72,7 @@ module _ (h : HeapSeen) (p q : PassSeen) (e : Purpose) (at : Name) (n : ℕ) (is
       })
 
   pub load_saw : last_seen at q.known.seen_at_safepoint ≡ Some n
-  load_saw = subst (λ (k : Known). last_seen at k.seen_at_safepoint ≡ Some n) (sym s.known) (saw_there h.heap p.known.thread e at p.known n (kept at p.known reached))
+  load_saw = subst (λ (k : Known). last_seen at k.seen_at_safepoint ≡ Some n) (sym s.known) (saw_there h.heap e at p.known n (kept at p.known reached))
 
   pub load_settled : IsSettled q.known (λ l. seen_words l at) n
   load_settled = seen_word q.known at n load_saw

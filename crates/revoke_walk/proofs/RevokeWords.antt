@@ -23,11 +23,12 @@ use Rattle.core_world.specs.Words.Forms.{epoch_in, epoch_form}
 use Rattle.core_world.specs.Words.Shape.{Shape, IsInLimits}
 use Rattle.core_world.specs.World.{World}
 use Rattle.core_world.proofs.CallRests.{next_due}
-use Rattle.core_steps.specs.Logic.{Heap}
-use Rattle.core_steps.specs.Sound.{Sound}
-use Rattle.core_steps.proofs.ReachedWorlds.{known_step_sound}
-use Rattle.core_steps.proofs.There.{IsFormed, is_formed}
+use Rattle.core_law.specs.Logic.{Heap}
+use Rattle.core_law.specs.Sound.{Sound}
+use Rattle.core_law.proofs.Lawful.{known_step_sound}
+use Rattle.core_world.proofs.There.{IsFormed, is_formed}
 use Rattle.heap_table.specs.Parts.{IsDueOn}
+use Rattle.heap_table.proofs.Lawful.{law_of}
 use Rattle.heap_table.specs.Seen.{HeapSeen, PassSeen, IsOf}
 use Rattle.heap_table.specs.Stepping.{HasStepped}
 
@@ -71,7 +72,7 @@ locked_place h p e b o t n f is_of due thread most =
     let plan = lock_plan e b o t n in
     let r = is_of.real in
     let next = next_due h.heap.shape h.heap.start h.heap.biasing p.known e.task plan f due refl in
-    let after = known_step_sound h.heap p.known plan next r.world r.is_of r.knew is_of.within r.sound in
+    let after = known_step_sound h.heap p.known plan next r.world r.is_of r.knew is_of.within ((law_of r.law).begins plan.task) r.sound in
     cases (lock_stored r.world e b o t n p.known.thread after) (n == 64) refl
   where
     cases : IsMark is_of.real.world.shape (read_mark (mark_of (Locked t n))) → (c : Bool) → (n == 64) ≡ c → n < 64

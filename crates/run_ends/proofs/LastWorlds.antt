@@ -17,9 +17,9 @@ use Rattle.core_world.specs.Threads.Stages.{revocation_in}
 use Rattle.core_world.specs.Valid.{Fits, IsRevoking}
 use Rattle.core_world.specs.Words.Shape.{Shape}
 use Rattle.core_world.specs.World.{World, logs, logs_from}
-use Rattle.core_steps.specs.Logic.{Heap, heap_of}
-use Rattle.core_steps.specs.Reached.{Comes}
-use Rattle.core_steps.proofs.Wholes.{All as Whole, all_unless}
+use Rattle.core_law.specs.Logic.{Heap, heap_of}
+use Rattle.core_law.specs.Reached.{Comes}
+use Rattle.core_law.proofs.Wholes.{All as Whole, all_unless}
 use Rattle.heap_table.specs.Layout.{place_of}
 use Rattle.heap_table.specs.Seen.{InOrder}
 use Rattle.run_ends.specs.OfARun.{IsEnd, logs_in, shots_in, shots_at, unfinished_in}

@@ -4,7 +4,7 @@ use Rattle.std.specs.Prelude.{slice_get, slice_index}
 use Rattle.std.proofs.lemmas.Option.{same_Some}
 use Rattle.core_world.specs.declared.name.Name.TheVariants.{Prototype}
 use Rattle.core_world.specs.Threads.Known.{Known}
-use Rattle.core_steps.specs.Logic.{Heap}
+use Rattle.core_law.specs.Logic.{Heap}
 use Rattle.heap_table.specs.BiasesAtEnd.{counted_by}
 use Rattle.heap_table.specs.Layout.{place_of}
 use Rattle.run_ends.specs.OfARun.{IsEnd}

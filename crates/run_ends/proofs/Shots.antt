@@ -13,7 +13,7 @@ use Rattle.core_world.specs.Shots.{AreOfDumps, IsRightShot, dumps_from, places_o
 use Rattle.core_world.specs.Threads.AtRest.{AtRest}
 use Rattle.core_world.specs.Threads.Known.{Known, DumpShot}
 use Rattle.core_world.specs.Words.Shape.{Shape}
-use Rattle.core_steps.specs.Logic.{Heap}
+use Rattle.core_law.specs.Logic.{Heap}
 use Rattle.run_ends.specs.OfARun.{HasShots, IsEnd, logs_in, shots_at, shots_in}
 use Rattle.run_ends.proofs.LastWorlds.{IsListed, Settled, settled, log_listed, shots_listed}
 

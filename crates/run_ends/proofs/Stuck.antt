@@ -13,7 +13,7 @@ use Rattle.core_world.specs.Locks.{monitor_of}
 use Rattle.core_world.specs.Threads.AtRest.{AtRest}
 use Rattle.core_world.specs.Threads.Known.{Known}
 use Rattle.core_world.specs.Words.Forms.{is_halted}
-use Rattle.core_steps.specs.Logic.{Heap}
+use Rattle.core_law.specs.Logic.{Heap}
 use Rattle.run_ends.specs.OfARun.{IsEnd, IsStuckEnd, logs_in, unfinished_in}
 use Rattle.run_ends.proofs.LastWorlds.{IsListed, Settled, settled, log_listed, unfinished_listed}
 

@@ -1,23 +1,22 @@
--- What a run leaves, over its logs: whose draws its hashes are, what its dumps saw, and that it is stuck.
-use Rattle.std.specs.Prelude.{◌≡◌, ◌⊎◌, ℕ, true, List, [], length, slice_index_or, slice_get, Option, Some, None, map}
+-- What a run leaves, over its logs: what its dumps saw, and that it is stuck.
+use Rattle.std.specs.Prelude.{◌≡◌, ◌⊎◌, ℕ, List, [], length, slice_index_or, slice_get, Option, Some, None, map}
 use Rattle.std.specs.List.{AllByRecursion}
 use Rattle.plain_monitor.specs.declared.entry.Logged.{Logged}
 use Rattle.plain_monitor.specs.Objects.{PlainObject}
 use Rattle.plain_monitor.specs.History.{objects_after, log_of}
-use Rattle.plain_history.specs.EnterPaths.{has_hash}
 use Rattle.core_world.specs.declared.task.Unfinished.{Unfinished}
-use Rattle.core_world.specs.Clauses.Draws.{AreDraws, first_draw, all_draws}
 use Rattle.core_world.specs.Clauses.Safepoints.{IsStuck, ends}
 use Rattle.core_world.specs.Locks.{monitor_of}
 use Rattle.core_world.specs.Shots.{IsRightShot, IsNoLater, places_of, dumps_from}
 use Rattle.core_world.specs.Threads.AtRest.{AtRest}
 use Rattle.core_world.specs.Threads.Known.{Known, DumpShot}
-use Rattle.plain_history.specs.FirstDraws.{DrawsComeFirst}
-use Rattle.core_steps.specs.Logic.{Heap}
+use Rattle.core_law.specs.HeapLaw.{HeapLaw}
+use Rattle.core_law.specs.Logic.{Heap}
 use Rattle.heap_table.specs.Seen.{LastWorld, InOrder}
 
--- The words are a heap's last ones, and these are all its threads, in their order: each is at rest.
+-- The heap has its law, the words are its last ones, and these are all its threads, in their order: each is at rest.
 pub record IsEnd (heap : Heap) (words : List ℕ) (ks : List Known) : Type 0 where
+  pub law : HeapLaw heap
   pub last : LastWorld heap words ks
   pub order : InOrder 0 ks
   pub all : length ks ≡ heap.shape.threads
@@ -35,13 +34,6 @@ shots_at shots t = slice_index_or shots t []
 abbrev pub unfinished_in : Option Known → Option Unfinished
 unfinished_in None = None
 unfinished_in (Some k) = k.unfinished
-
--- the draws of each thread are those of its generator, in their order; of the hashes of an object that has any, just one
--- was drawn; and the thread that drew it had logged none of them before
-pub record HasDraws (start : ℕ) (logs : List (List Logged)) : Type 0 where
-  pub drawn : (t : ℕ) → AreDraws (first_draw start t) 0 (log_of logs t)
-  pub one : (o t : ℕ) → has_hash o (log_of logs t) ≡ true → all_draws o logs ≡ 1
-  pub first : DrawsComeFirst logs
 
 -- each shot is right over the logs, each thread has one for each dump that it logged, and of any two one was made no
 -- later than the other

@@ -6,11 +6,12 @@ ghost use Rattle.core_world.specs.declared.task.Op.TheVariants as op;
 ghost use Rattle.core_world.specs.Clauses.Safepoints.{IsUnfinished};
 ghost use Rattle.core_world.specs.Threads.Known.{Known};
 ghost use Rattle.core_world.specs.Words.Forms.{is_halted};
-ghost use Rattle.core_steps.specs.Logic.{Heap};
+ghost use Rattle.core_law.specs.Logic.{Heap};
 ghost use Rattle.heap_table.specs.BiasesAtEnd.{counted_by};
 ghost use Rattle.heap_table.specs.Layout.{place_of};
 ghost use Rattle.plain_history.specs.ExactStamps.{StampsAreExact};
-ghost use Rattle.run_ends.specs.OfARun.{IsEnd, HasDraws, HasShots, IsStuckEnd, logs_in, shots_in, unfinished_in};
+ghost use Rattle.run_ends.specs.OfARun.{IsEnd, HasShots, IsStuckEnd, logs_in, shots_in, unfinished_in};
+ghost use Rattle.core_law.specs.Draws.{HasDraws};
 ghost use Rattle.run_ends.specs.Prototypes.{prototype_by};
 
 /// Over the logs that a run leaves on a heap: whose draws the hashes are; that each shot is right; that the stamps are

@@ -1,3 +1,4 @@
+pub mod Ready
 pub mod Lists
 pub mod Seated
 pub mod GoneOn

@@ -5,9 +5,12 @@
 //! halted, and closes the heap.
 #![tactic(auto)]
 
+mod first;
 mod rounds;
 mod runs;
 mod seats;
 mod shares;
 
+pub use first::first_runners;
 pub use runs::run;
+pub use thread_interp::Runner;

@@ -6,6 +6,7 @@ ghost use Rattle.heap_table.specs.Resting.{Rests};
 use crate::asked::{may_call, may_make};
 use core_world::{IllegalMonitorState, Task, TooDeep, TooManyDumps, Turn, Unguarded, Why};
 use heap_table::{Heap, HeapShape, Pass};
+use lawful_heap::new_heap;
 use plain_monitor::{Ending, NoMemory, Path, Value};
 use std::alloc::Global;
 
@@ -16,7 +17,7 @@ fn fresh(alloc: Global, biasing: bool) -> Result<(Heap, Pass, Pass), NoMemory>
     ensures { IfOk result (λ r. IsFresh r.0 0 r.1 × IsFresh r.0 1 r.2) }
 {
     let shape = HeapShape::of(alloc, 2, &[1], &CLASSES)?;
-    let (heap, passes) = Heap::new(alloc, shape, 1000, 1, biasing)?;
+    let (heap, passes) = new_heap(alloc, shape, 1000, 1, biasing)?;
     let mut passes = passes.into_vec();
     let Some(second) = passes.pop() else {
         return Err(NoMemory);

@@ -16,9 +16,10 @@ use Rattle.core_world.specs.Due.{IsNext}
 use Rattle.core_world.specs.Threads.Known.{Known}
 use Rattle.core_world.specs.Steps.{known_after}
 use Rattle.core_world.specs.World.{World}
-use Rattle.core_steps.specs.Logic.{Heap, heap_of}
-use Rattle.core_steps.specs.Reached.{Comes}
-use Rattle.core_steps.specs.Sound.{Sound}
+use Rattle.core_law.specs.HeapLaw.{HeapLaw}
+use Rattle.core_law.specs.Logic.{Heap, heap_of}
+use Rattle.core_law.specs.Reached.{Comes}
+use Rattle.core_law.specs.Sound.{Sound}
 use Rattle.heap_table.specs.declared.setting.Setting.{Setting}
 use Rattle.core_world.specs.There.{IsIn}
 use Rattle.heap_table.specs.Layout.{place_of, word_count}
@@ -63,9 +64,14 @@ pub record Shows {S : Type 0} (heap : Heap) (s : State S (List Known)) (w : Worl
   pub knows : (id : ℕ) (v : List Known) → get_elem? s.views id ≡ some v
       → Each (λ (k : Known). (w.known k.thread ≡ k) × (who k.thread ≡ id)) v × Differ v
 
--- THE RULE: the table is a sound world, which the heap comes to.
+-- the heap comes to this world, and has its law
+pub record IsReached (heap : Heap) (w : World) : Type 0 where
+  pub comes : Comes heap w
+  pub law : HeapLaw heap
+
+-- THE RULE: the table is a sound world, which the heap comes to; and the heap has its law.
 abbrev pub Rules : {S : Type 0} → Heap → State S (List Known) → Type 0
-Rules heap s = (w : World) × (who : ℕ → ℕ) × Shows heap s w who × Sound w × Comes heap w
+Rules heap s = (w : World) × (who : ℕ → ℕ) × Shows heap s w who × Sound w × IsReached heap w
 
 abbrev pub Ruled : {S : Type 0} → Setting → State S (List Known) → Type 0
 Ruled b s = Rules (heap_in b) s

@@ -1,4 +1,4 @@
-use Rattle.core_counts.proofs.RunEnds.{run_ends, run_fits, verdicts_at_most, verdicts_with_one_more}
+use Rattle.core_law.proofs.RunEnds.{run_ends, run_fits, verdicts_at_most, verdicts_with_one_more}
 use Rattle.core_counts.proofs.runs.the_law_of_biases_holds_of_runs.Goals as goal
 
 pub returns-clause-ended : goal.returns-clause-ended

@@ -1,4 +1,5 @@
-use Rattle.core_steps.proofs.ReachedWorlds.{next_step_sound, known_step_sound, sound_comes, sound_rests, next_step_there, known_step_there}
+use Rattle.core_law.proofs.Lawful.{sound_comes, sound_rests}
+use Rattle.core_steps.proofs.ReachedWorlds.{next_step_sound, known_step_sound, next_step_there, known_step_there}
 use Rattle.core_steps.proofs.stepping.next_steps_keep_worlds_sound.Goals as goal
 
 pub returns-clause-sound : goal.returns-clause-sound

@@ -1,4 +1,5 @@
-use Rattle.core_steps.proofs.ReachedWorlds.{opening_sound, reached_worlds_sound, reached_worlds_valid, reached_worlds_come, known_step_comes}
+use Rattle.core_law.proofs.Lawful.{known_step_comes}
+use Rattle.core_steps.proofs.ReachedWorlds.{opening_sound, reached_worlds_sound, reached_worlds_valid, reached_worlds_come}
 use Rattle.core_steps.proofs.stepping.reached_worlds_are_valid.Goals as goal
 
 pub returns-clause-opening : goal.returns-clause-opening

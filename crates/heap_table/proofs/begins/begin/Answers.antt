@@ -1,11 +1,10 @@
 use Rattle.std.proofs.Common.{[], ◌∷◌, ◌++◌, ◌∙◌, arith}
-use Rattle.heap_table.proofs.Opens.{opens, passes_more}
-use Rattle.core_steps.proofs.ReachedWorlds.{opening_sound}
+use Rattle.heap_table.proofs.Opens.{fresh, opens, passes_more}
 use Rattle.heap_table.specs.Ruled.{heap_in}
 use Rattle.heap_table.proofs.begins.begin.Goals as goal
 
 pub of_words-requires : goal.of_words-requires
-of_words-requires c = opens c.args.setting _ c.threads-threads.ensures.limits (c.as_slice.ensures.value ∙ c.in_ok-start.ensures.words)
+of_words-requires c = opens c.args.setting _ (c.requires.law c.threads-threads.ensures.limits) (c.as_slice.ensures.value ∙ c.in_ok-start.ensures.words)
 
 pub loop-thread-preserved : goal.loop-thread-preserved
 loop-thread-preserved c =
@@ -19,5 +18,8 @@ loop-thread-preserved c =
       room = omega (arith, p.capacity, inv.room);
     }
 
-pub returns-clause-opening : goal.returns-clause-opening
-returns-clause-opening c = opening_sound (heap_in c.args.setting) c.threads-threads.ensures.limits
+pub returns-clause-law : goal.returns-clause-law
+returns-clause-law c = c.requires.law c.threads-threads.ensures.limits
+
+pub returns-clause-fresh : goal.returns-clause-fresh
+returns-clause-fresh c = λ t within. fresh _ c.args.limit t (returns-clause-law c) within

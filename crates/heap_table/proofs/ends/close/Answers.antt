@@ -4,13 +4,13 @@ use Rattle.plain_monitor.specs.declared.entry.Logged.{Logged}
 use Rattle.plain_monitor.specs.History.{LegalObjects}
 use Rattle.plain_history.specs.ExactStamps.{StampsAreExact}
 use Rattle.core_world.specs.Threads.Known.{Known}
-use Rattle.core_steps.specs.Logic.{Heap}
+use Rattle.core_law.specs.Logic.{Heap}
 use Rattle.atomic_table.specs.Table.{Me}
 use Rattle.heap_table.specs.Layout.{word_count}
 use Rattle.heap_table.specs.Ruled.{heap_in}
 use Rattle.heap_table.specs.Seen.{HeapSeen, PassSeen, IsOf, LastWorld, knowns, logs_of}
 use Rattle.heap_table.specs.inner.Seen.{AllOf}
-use Rattle.heap_table.proofs.AtLast.{copies, final_as, all_yielded, all_of}
+use Rattle.heap_table.proofs.AtLast.{copies, final_as, law_as, all_yielded, all_of}
 use Rattle.heap_table.specs.BiasesAtEnd.{BiasesAtEnd}
 use Rattle.heap_table.proofs.BiasesAtEnd.{biases_ended, biases_stuck}
 use Rattle.heap_table.proofs.Legal.{logs_legal_at_last, stamps_exact_at_last, still_at_last}
@@ -75,9 +75,12 @@ returns-clause-legal c =
     let logs = logs_legal_at_last c.args.heap.heap _ c.args.passes (returns-clause-world c) c.requires.order.0 c.requires.order.1 in
     subst (λ (l : List (List Logged)). LegalObjects c.args.heap.heap.shape.objects l) (sym (returns-clause-logs c)) logs
 
+pub returns-clause-law : goal.returns-clause-law
+returns-clause-law c = law_as c.args.heap.heap _ _ _ _ _ (ap heap_in c.heap.invariant.0 ∙ ap (λ (h : HeapSeen). h.heap) c.heap.view_is) c.close_with-closed.ensures.values.2
+
 pub returns-clause-stamps : goal.returns-clause-stamps
 returns-clause-stamps c =
-    let stamps = stamps_exact_at_last c.args.heap.heap _ c.args.passes (returns-clause-world c) c.requires.order.0 c.requires.order.1 in
+    let stamps = stamps_exact_at_last c.args.heap.heap _ c.args.passes (returns-clause-world c) c.requires.order.0 c.requires.order.1 (returns-clause-law c) in
     subst StampsAreExact (sym (returns-clause-logs c)) stamps
 
 pub returns-clause-still : goal.returns-clause-still

@@ -1,6 +1,6 @@
 use Rattle.std.proofs.Common.{◌^◌, refl, ap, ◌∙◌}
 use Rattle.core_world.specs.Threads.Known.{Known}
-use Rattle.core_steps.specs.Logic.{Heap}
+use Rattle.core_law.specs.Logic.{Heap}
 use Rattle.heap_table.proofs.Knows.{same_thread}
 use Rattle.heap_tests.proofs.Resuming.{first_is, second_is, resuming}
 use Rattle.core_world.specs.declared.act.Act.TheVariants.{Load}

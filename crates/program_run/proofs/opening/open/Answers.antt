@@ -1,12 +1,8 @@
-use Rattle.std.proofs.Common.{◌≡◌, ◌+◌, ◌*◌, ◌∙◌, sym, ap, map, subst}
-use Rattle.core_world.specs.Opening.{opening}
+use Rattle.std.proofs.Common.{◌+◌, ◌*◌, ◌<◌, ℕ, ◌∙◌, sym, ap, subst}
 use Rattle.core_world.specs.Words.Shape.{Shape}
-use Rattle.core_steps.specs.Logic.{Heap}
-use Rattle.core_steps.specs.Sound.{Sound}
-use Rattle.heap_table.specs.Seen.{first_passes}
-use Rattle.run_rounds.specs.Rounds.{AreReady}
-use Rattle.program_run.specs.inner.HeapFor.{runner_on}
-use Rattle.program_run.proofs.Opened.{are_ready}
+use Rattle.core_law.specs.Logic.{Heap}
+use Rattle.heap_table.specs.Fresh.{IsFresh}
+use Rattle.heap_table.specs.Seen.{first_pass, first_passes}
 use Rattle.program_run.proofs.opening.open.Goals as goal
 
 pub returns-clause-program : goal.returns-clause-program
@@ -23,11 +19,8 @@ pub returns-clause-runners : goal.returns-clause-runners
 returns-clause-runners c =
     let h = c.in_ok-heap.heap in
     let fuel = c.args.settings.now.fuel in
-    let tick = c.args.settings.now.tick in
     let heap = c.in_ok-heap.ensures.heap in
-    let sound = subst (λ (b : Heap). Sound (opening b.shape b.start b.biasing)) (sym heap) c.in_ok-heap.ensures.opening in
-    let same : c.of.result ≡ map (runner_on fuel) (first_passes h (2 * fuel + 66) 0 h.heap.shape.threads) =
-    c.of.ensures ∙ c.in_ok-runners.ensures
-    ∙ ap (map (runner_on fuel)) (c.in_ok-heap.ensures.passes ∙ ap (λ (b : Heap). first_passes h (2 * fuel + 66) 0 b.shape.threads) (sym heap)) in
-    subst (AreReady h c.args.program.now fuel tick) (sym same)
-    (are_ready c.unused_passes_are_on.ensures h c.args.program.now fuel tick (returns-clause-program c) c.requires.fuel sound)
+    c.in_ok-runners.ensures h c.args.program.now c.args.settings.now.tick (returns-clause-program c) (record {
+      are = c.in_ok-heap.ensures.passes ∙ ap (λ (b : Heap). first_passes h (2 * fuel + 66) 0 b.shape.threads) (sym heap);
+      fresh = subst (λ (b : Heap). (t : ℕ) → t < b.shape.threads → IsFresh h t (first_pass h (2 * fuel + 66) t)) (sym heap) c.in_ok-heap.ensures.fresh;
+    })

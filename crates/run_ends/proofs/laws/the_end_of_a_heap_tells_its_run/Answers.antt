@@ -11,7 +11,7 @@ pub returns-clause-shots : goal.returns-clause-shots
 returns-clause-shots c = has_shots
 
 pub returns-clause-stamps : goal.returns-clause-stamps
-returns-clause-stamps c = λ heap words ks e. exact_at_last heap words ks e.last e.order e.all
+returns-clause-stamps c = λ heap words ks e. exact_at_last heap words ks e.law e.last e.order e.all
 
 pub returns-clause-stuck : goal.returns-clause-stuck
 returns-clause-stuck c = is_stuck

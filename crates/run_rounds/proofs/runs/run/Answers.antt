@@ -70,6 +70,7 @@ returns g c =
     ∙ sym (length-map c.in_ok-seats.seats.items (λ (s : Seat). s.runner)) ∙ ap length c.in_ok-seats.ensures ∙ c.requires.runners.count in
     let closed : IsClosed c.args.heap c.of.result c.close.result = record {
       heap = c.close.ensures.heap;
+      law = c.close.ensures.law;
       world = c.close.ensures.world;
       logs = c.close.ensures.logs;
       shots = c.close.ensures.shots;

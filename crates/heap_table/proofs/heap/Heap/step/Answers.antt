@@ -3,7 +3,7 @@ use Rattle.atomic_table.specs.Table.{Me}
 use Rattle.core_world.specs.Threads.Known.{Known}
 use Rattle.core_world.specs.Steps.{known_after}
 use Rattle.core_world.specs.There.{HasPlace}
-use Rattle.core_steps.specs.Logic.{Heap}
+use Rattle.core_law.specs.Logic.{Heap}
 use Rattle.heap_table.specs.Cells.{cells_shown}
 use Rattle.heap_table.specs.Drafts.{IsLeft}
 use Rattle.heap_table.specs.Ruled.{only, Stepped}

@@ -14,7 +14,7 @@ use Rattle.core_world.specs.World.{World}
 use Rattle.plain_monitor.specs.Monitor.{is_thread}
 use Rattle.core_world.proofs.KnowledgeParts.{each_with_known}
 use Rattle.core_world.proofs.NoWordChanges.{one_requester}
-use Rattle.core_counts.specs.BiasLaw.{BiasLawHolds, IsWhollyValid, WhollyValid}
+use Rattle.core_law.specs.BiasLaw.{BiasLawHolds, IsWhollyValid, WhollyValid}
 
 -- NO BIAS IS BEING REVOKED
 module _ (w : World) (P : List PlainObject) (s : IsRevoking w P) where

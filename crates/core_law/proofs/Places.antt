@@ -10,10 +10,8 @@ use Rattle.core_world.specs.Locks.{count_where, hold_count, depth_count}
 use Rattle.core_world.specs.Trees.Plans.{free_place, top_place}
 use Rattle.core_world.specs.RevocationRules.{first_place}
 use Rattle.core_world.proofs.Readings.{names_none}
-use Rattle.core_locks.specs.LockLaws.{IsFree}
-use Rattle.core_steps.specs.Logic.{Heap, Stands}
-use Rattle.core_steps.proofs.LawRules.{home}
-use Rattle.core_steps.proofs.Facts.{fits_here, places_here}
+use Rattle.core_law.specs.Logic.{Heap, Stands}
+use Rattle.core_law.proofs.Standing.{home, fits_here, places_here}
 
 -- the first word that passes a test
 first_passes : (test : ℕ → Bool) (hs : List ℕ) → position_or_len test hs < length hs → test (slice_index hs (position_or_len test hs)) ≡ true
@@ -58,11 +56,9 @@ number_room test i (y ∷ hs) (suc p) none h e = let a = number_room test (i + 1
     cases false a = omega (arith, a)
 
 module _ (heap : Heap) (k : Known) (v : Stands heap k) (runs : k.running ≡ true) where
-  -- the lowest free place
-  pub free_here : free_place k.holds < 64 → IsFree k (free_place k.holds)
-  free_here h =
-      let n = places_here heap k v runs in
-      record { place = h; empty = eqb-true _ _ (first_passes (λ h. h == 0) k.holds (omega (arith, h, n))) }
+  -- the lowest free place is empty
+  pub empty_here : free_place k.holds < 64 → slice_index k.holds (free_place k.holds) ≡ 0
+  empty_here h = let n = places_here heap k v runs in eqb-true _ _ (first_passes (λ h. h == 0) k.holds (omega (arith, h, n)))
 
   -- there is one, unless all 64 places are taken
   pub place_left : (free_place k.holds == 64) ≡ false → free_place k.holds < 64
@@ -71,7 +67,7 @@ module _ (heap : Heap) (k : Known) (v : Stands heap k) (runs : k.running ≡ tru
   pub room_here : (o : ℕ) → free_place k.holds < 64 → hold_count o k.holds + 1 ≤ 64
   room_here o h =
       let n = places_here heap k v runs in
-      let a = number_room (λ p h. names o h) 0 k.holds (free_place k.holds) (λ q. names_none o) (omega (arith, h, n)) (free_here h).empty in
+      let a = number_room (λ p h. names o h) 0 k.holds (free_place k.holds) (λ q. names_none o) (omega (arith, h, n)) (empty_here h) in
       omega (arith, a, n)
 
   pub few_here : (o : ℕ) → hold_count o k.holds ≤ 64

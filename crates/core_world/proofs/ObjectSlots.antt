@@ -1,9 +1,22 @@
 -- After every legal history each object has the slots of its shape.
-use Rattle.core_locks.proofs.Prelude.{◌≡◌, ℕ, zero, suc, ◌<◌, Bool, true, false, List, [], ◌∷◌, length, Option, Some, None, refl, sym, ap, ◌∙◌, slice_get, option_and_then, slice_index_or, same_Some, only_if, PlainObject, take_entry, take_at, take_named, new_objects, Logged, take_all, Entry, Get, Put, Print, Dump, Trap, Spent, Done, order, taken_at, World, logs, object_of, Fits, slots_of, option_map}
+use Rattle.std.proofs.Common.{◌≡◌, ℕ, zero, suc, ◌<◌, Bool, true, false, List, [], ◌∷◌, length, Option, Some, None, refl, sym, ap, ◌∙◌, slice_get, option_and_then, slice_index_or, option_map}
+use Rattle.std.proofs.lemmas.Option.{same_Some}
+use Rattle.plain_monitor.specs.Monitor.{only_if}
+use Rattle.plain_monitor.specs.Objects.{PlainObject, take_entry, take_at, take_named, new_objects}
+use Rattle.plain_monitor.specs.declared.entry.Logged.{Logged}
+use Rattle.plain_monitor.specs.History.{take_all}
+use Rattle.plain_monitor.specs.declared.entry.Entry.{Entry}
+use Rattle.plain_monitor.specs.declared.entry.Entry.TheVariants.{Get, Put, Print, Dump, Trap, Spent, Done}
+use Rattle.plain_monitor.specs.Order.{order}
+use Rattle.plain_history.proofs.Swaps.{taken_at}
+use Rattle.core_world.specs.World.{World, logs}
+use Rattle.core_world.specs.Locks.{object_of}
+use Rattle.core_world.specs.Valid.{Fits}
+use Rattle.core_world.specs.Words.Shape.{slots_of}
 use Rattle.std.proofs.lemmas.List.{length-set, length-replicate}
 use Rattle.std.proofs.lemmas.Option.{slice_get_within, get_or_from_slice_get}
 use Rattle.plain_monitor.specs.Objects.{named, new_object}
-use Rattle.core_locks.proofs.Updates.{part_stays}
+use Rattle.core_world.proofs.Updates.{part_stays}
 
 -- an option that is made where the test holds
 pub made_by : {A : Type 0} (b : Bool) (x y : A) → only_if b x ≡ Some y → x ≡ y

@@ -6,7 +6,7 @@ use Rattle.core_world.specs.Opening.{opening}
 use Rattle.core_world.specs.Steps.{world_after}
 use Rattle.core_world.specs.Trees.Todo.{Todo, done, never, step}
 use Rattle.core_world.specs.World.{World}
-use Rattle.core_steps.specs.Logic.{Heap}
+use Rattle.core_law.specs.Logic.{Heap}
 
 -- from the opening world on, each step is the next one of some thread, whatever call that begins or goes on with
 pub data Comes (heap : Heap) : World → Type 0 where

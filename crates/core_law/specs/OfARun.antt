@@ -9,8 +9,8 @@ use Rattle.plain_monitor.specs.declared.entry.Path.TheVariants.{BiasTaken}
 use Rattle.plain_history.specs.EnterPaths.{entries_on, first_path, has_hash, needs_bias, EndsStay, PathsFit}
 use Rattle.plain_history.specs.HeldByLog.{nothing_held}
 use Rattle.core_world.specs.Threads.Counts.{CountedVerdict, counts_of}
-use Rattle.core_counts.specs.BiasLaw.{summed}
-use Rattle.core_counts.specs.CountsAndVerdicts.{ClassFits, sum_below, verdicts_on}
+use Rattle.core_law.specs.BiasLaw.{summed}
+use Rattle.core_law.specs.CountsAndVerdicts.{ClassFits, sum_below, verdicts_on}
 
 -- some thread has logged a Hash of o
 abbrev pub IsHashLogged : List (List Logged) → ℕ → Type 0

@@ -14,8 +14,8 @@ use Rattle.core_world.specs.Locks.{Lock, lock, marks}
 use Rattle.core_world.specs.Words.Shape.{class_of}
 use Rattle.core_world.specs.Valid.{IsValidWith, ValidWith}
 use Rattle.core_world.specs.World.{World, logs}
-use Rattle.core_counts.specs.MarksAndLogs.{EntersFitMarks, PathsFitHolds}
-use Rattle.core_counts.specs.CountsAndVerdicts.{ClassFits, VerdictsFit, sum_below, verdicts_on}
+use Rattle.core_law.specs.MarksAndLogs.{EntersFitMarks, PathsFitHolds}
+use Rattle.core_law.specs.CountsAndVerdicts.{ClassFits, VerdictsFit, sum_below, verdicts_on}
 
 -- a class's counts, summed over the first n threads
 abbrev pub summed : ℕ → (ℕ → ℕ → ClassCounts) → ℕ → ClassCounts

@@ -16,11 +16,11 @@ use Rattle.core_world.specs.World.{World}
 use Rattle.core_world.proofs.CallRests.{begun_rest, gone_rest}
 use Rattle.core_world.proofs.KnowledgeParts.{by_equal, each_with_known}
 use Rattle.core_world.proofs.LookWhileRevoking.{forgotten}
-use Rattle.core_counts.specs.BiasLaw.{BiasLawHolds, WhollyValid}
-use Rattle.core_steps.specs.Takings.{TakesExactly}
-use Rattle.core_steps.specs.Logic.{Heap, heap_of, Stands, Keeps, Was}
-use Rattle.core_steps.specs.Sound.{Finishes, Sound}
-use Rattle.core_steps.specs.inner.Sound.{BeginsWell}
+use Rattle.core_law.specs.BiasLaw.{BiasLawHolds, WhollyValid}
+use Rattle.core_law.specs.Takings.{TakesExactly}
+use Rattle.core_law.specs.Logic.{Heap, heap_of, Stands, Keeps, Was}
+use Rattle.core_law.specs.Sound.{Finishes, Sound}
+use Rattle.core_law.specs.Begins.{BeginsWell}
 
 -- a thread of a valid world knows its number
 pub number_is : (w : World) (P : List PlainObject) (t : ℕ) → IsValid w P → (w.known t).thread ≡ t

@@ -1,9 +1,8 @@
--- The passes of a heap that begins, and the runners on them.
+-- The runners on the passes of a heap that begins are ready.
 use Rattle.std.proofs.Common.{◌≡◌, ℕ, zero, suc, ◌+◌, ◌*◌, ◌<◌, ◌≤◌, length, map, Some, refl, ap, ◌∙◌, subst, arith}
 use Rattle.std.specs.Prelude.{slice_get}
 use Rattle.std.proofs.lemmas.Option.{none-some, same_Some}
-use Rattle.core_world.specs.Opening.{first_known, opening}
-use Rattle.core_steps.specs.Sound.{Sound}
+use Rattle.core_world.specs.Opening.{first_known}
 use Rattle.heap_table.specs.Fresh.{IsFresh}
 use Rattle.heap_table.specs.Resting.{Rests}
 use Rattle.heap_table.specs.Seen.{HeapSeen, PassSeen, first_pass, first_passes}
@@ -14,29 +13,12 @@ use Rattle.thread_calls.specs.Between.{IsHeapOf, IsOn}
 use Rattle.thread_calls.specs.Timed.{IsTimed}
 use Rattle.thread_frame.specs.Frames.{first_frame}
 use Rattle.thread_interp.specs.Runners.{RunnerSeen}
-use Rattle.program_run.specs.inner.HeapFor.{runner_on}
+use Rattle.run_rounds.specs.inner.First.{runner_on}
 
 -- the law that is asked of unused passes
 abbrev pub Unused : Type 0
 Unused = (h : HeapSeen) (p : ProgramText) (fuel : ℕ) (pass : PassSeen) → IsHeapOf h p → Rests h pass
     → pass.known ≡ first_known pass.known.thread → fuel ≤ 200000 → pass.limit ≡ 2 * fuel + 66 → IsOn h p fuel pass (first_frame fuel)
-
--- the pass of a thread, as the heap begins, is fresh
-fresh : (h : HeapSeen) (limit t : ℕ) → Sound (opening h.heap.shape h.heap.start h.heap.biasing) → t < h.heap.shape.threads
-    → IsFresh h t (first_pass h limit t)
-fresh h limit t sound within =
-    record {
-      is_of = record {
-        table = refl;
-        within = within;
-        classes = refl;
-        first = refl;
-        threads = refl;
-        objects = refl;
-        real = record { world = opening h.heap.shape h.heap.start h.heap.biasing; is_of = refl; sound = sound; knew = refl; is = refl; made = tt };
-      };
-      knows = refl;
-    }
 
 -- which runner has a place
 runner_at : (h : HeapSeen) (limit fuel u n t : ℕ) (r : RunnerSeen) → slice_get (map (runner_on fuel) (first_passes h limit u n)) t ≡ Some r
@@ -56,13 +38,13 @@ passes_many h limit fuel u zero = refl
 passes_many h limit fuel u (suc n) = ap suc (passes_many h limit fuel (suc u) n)
 
 module _ (unused : Unused) (h : HeapSeen) (p : ProgramText) (fuel tick : ℕ) (is : IsHeapOf h p) (few : fuel ≤ 200000)
-    (sound : Sound (opening h.heap.shape h.heap.start h.heap.biasing)) where
+    (fresh : (t : ℕ) → t < h.heap.shape.threads → IsFresh h t (first_pass h (2 * fuel + 66) t)) where
   abbrev seated : ℕ → RunnerSeen
   seated t = runner_on fuel (first_pass h (2 * fuel + 66) t)
 
   new_at : (t : ℕ) → t < h.heap.shape.threads → IsRunnerAt h p fuel t (seated t)
   new_at t within =
-      let rests = fresh_rests h t (first_pass h (2 * fuel + 66) t) (fresh h (2 * fuel + 66) t sound within) in
+      let rests = fresh_rests h t (first_pass h (2 * fuel + 66) t) (fresh t within) in
       record {
         runner = record { on = unused h p fuel (first_pass h (2 * fuel + 66) t) is rests refl few refl; still = refl };
         thread = refl;

@@ -8,8 +8,8 @@ use Rattle.core_world.specs.Threads.Known.{Known}
 use Rattle.core_world.specs.Trees.Todo.{Todo, done, never, step}
 use Rattle.core_world.specs.Steps.{is_idle, known_after, world_after}
 use Rattle.core_world.specs.World.{World}
-use Rattle.core_counts.specs.BiasLaw.{IsWhollyValid, WhollyValid}
-use Rattle.core_steps.specs.Takings.{TakesExactly}
+use Rattle.core_law.specs.BiasLaw.{IsWhollyValid, WhollyValid}
+use Rattle.core_law.specs.Takings.{TakesExactly}
 
 -- what no step changes
 pub record Heap : Type 0 where

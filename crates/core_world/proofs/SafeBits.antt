@@ -1,5 +1,13 @@
 -- The safepoint word with one thread's bit set or cleared.
-use Rattle.core_locks.proofs.Prelude.{◌≡◌, ◌≢◌, ℕ, ◌+◌, ◌<◌, ◌^◌, ◌==◌, Bool, true, false, Option, Some, None, sym, ap, ◌∙◌, subst, arith, eqb-true, ◌-◌, IfSome, bit_and, ◌*◌, nat_tests, pow_below, and_comm, and-not, or_disjoint, or_lt, bit_at-zero, bit_at-pow_same, bit_at-pow_other, bit_at-lt, bit_at_above, bit_at_and, bit_at_or, bit_at_not, bit_at_cat_low, and_pow, same_from_bits_below, SafeForm, safe_of, IsSafeInRange, requester_of, halt_of, runs_form, all_but, cases_lt, inl, inr}
+use Rattle.std.proofs.Common.{◌≡◌, ◌≢◌, ℕ, ◌+◌, ◌<◌, ◌^◌, ◌==◌, Bool, true, false, Option, Some, None, sym, ap, ◌∙◌, subst, arith, eqb-true, ◌-◌, IfSome, bit_and, ◌*◌, inl, inr}
+use Rattle.std.proofs.lemmas.Bool.Decides.{nat_tests}
+use Rattle.std.proofs.lemmas.Nat.{pow_below, and_comm, and-not, or_disjoint, or_lt}
+use Rattle.std.proofs.lemmas.Nat.Bits.{bit_at-zero, bit_at-pow_same, bit_at-pow_other, bit_at-lt, bit_at_above, bit_at_and, bit_at_or, bit_at_not, bit_at_cat_low, and_pow, same_from_bits_below}
+use Rattle.mark_word.specs.declared.safe.SafeForm.{SafeForm}
+use Rattle.mark_word.specs.Safe.{safe_of, IsSafeInRange, requester_of, halt_of}
+use Rattle.core_world.specs.Words.Forms.{runs_form}
+use Rattle.core_world.specs.Trees.SafepointSteps.{all_but}
+use Rattle.std.proofs.lemmas.Bool.{cases_lt}
 use Rattle.std.specs.Int.{bit_at}
 use Rattle.std.specs.Int.RustNames.{bit_or}
 use mir.Syntax.{w64}

@@ -1,5 +1,10 @@
 -- The plain objects when one of them changes.
-use Rattle.core_locks.proofs.Prelude.{◌≡◌, ◌≢◌, ℕ, ◌<◌, List, length, slice_set, Some, refl, sym, ap, ◌∙◌, PlainObject, take_entry, take_at, take_named, Entry, Value, object_of, monitor_of, hash_at, waits_at, notified_at, or_zero, by_equal, subst}
+use Rattle.std.proofs.Common.{◌≡◌, ◌≢◌, ℕ, ◌<◌, List, length, slice_set, Some, refl, sym, ap, ◌∙◌, subst}
+use Rattle.plain_monitor.specs.Objects.{PlainObject, take_entry, take_at, take_named}
+use Rattle.plain_monitor.specs.declared.entry.Entry.{Entry}
+use Rattle.plain_monitor.specs.declared.entry.Value.{Value}
+use Rattle.core_world.specs.Locks.{object_of, monitor_of, hash_at, waits_at, notified_at, or_zero}
+use Rattle.core_world.proofs.KnowledgeParts.{by_equal}
 use Rattle.std.proofs.lemmas.List.{get_or-set_same, get_or-set_other}
 use Rattle.std.proofs.lemmas.Option.{slice_get-get_or}
 use Rattle.plain_monitor.specs.Objects.{named, new_object}

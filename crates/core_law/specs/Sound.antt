@@ -5,8 +5,8 @@ use Rattle.core_world.specs.Threads.Known.{Known}
 use Rattle.core_world.specs.Steps.{rest_of_call}
 use Rattle.core_world.specs.Trees.Todo.{Todo}
 use Rattle.core_world.specs.World.{World}
-use Rattle.core_counts.specs.BiasLaw.{WhollyValid}
-use Rattle.core_steps.specs.Logic.{Heap, heap_of, Does}
+use Rattle.core_law.specs.BiasLaw.{WhollyValid}
+use Rattle.core_law.specs.Logic.{Heap, heap_of, Does}
 
 -- these steps of a call keep every valid world valid, and after the last of them the thread is at rest
 abbrev pub Finishes : Heap → Bool → Todo (Unit {0}) → Known → Type 0

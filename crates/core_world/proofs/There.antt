@@ -12,15 +12,13 @@ use Rattle.plain_monitor.specs.Objects.{PlainObject}
 use Rattle.core_world.specs.declared.name.Name.{Name}
 use Rattle.core_world.specs.declared.name.Name.TheVariants.{Mark, Hold, Waiting, Owner}
 use Rattle.core_world.specs.Clauses.WordForms.{IsMark, IsHold, IsWait, IsOwner}
-use Rattle.core_world.specs.Words.Forms.{monitor_in, waits_on, waits_form}
+use Rattle.core_world.specs.Words.Forms.{waits_on, waits_form}
 use Rattle.core_world.specs.Words.Shape.{Shape, IsInLimits, class_of, slots_of, monitor_count}
 use Rattle.core_world.specs.Threads.Known.{Known}
 use Rattle.core_world.specs.Locks.{marks, inflated_to}
 use Rattle.core_world.specs.Valid.{Fits, FormsFit, IsValid}
 use Rattle.core_world.specs.World.{World}
-use Rattle.core_world.proofs.OwnersShown.{inflated_form}
-use Rattle.core_locks.specs.Knowing.{SawInflated}
-use Rattle.core_locks.proofs.Claims.{with_most}
+use Rattle.core_world.proofs.MonitorCounts.{with_most}
 
 -- what the forms of words say of one that was found at this name
 abbrev pub IsFormed : Shape → Name → ℕ → Type 0
@@ -61,12 +59,6 @@ module _ (w : World) (P : List PlainObject) (v : Fits w P) where
       let a = with_most w.shape.threads (λ u. (w.known u).kept) in
       let b = with_most (length w.shape.objects) (inflated_to w) in
       omega (arith, a, b, v.claims.holder t m kept, v.claims.counted)
-
-  -- a mark that names a monitor stays
-  pub inflated_there : (t o m : ℕ) → (w.known t).running ≡ true → SawInflated (w.known t) o m → m < monitor_count w.shape
-  inflated_there t o m runs saw =
-      let names : monitor_in (marks w o) ≡ Some m = ap monitor_in (v.seen.stays t (Mark o) saw.0 saw.1 (inl (runs, inr (inl (m, saw.2))))) ∙ saw.2 in
-      subst (IsMark w.shape) (inflated_form (read_mark (marks w o)) m names) (v.forms.marks o)
 
   -- a thread that the heap lacks waits for nothing
   pub waiter_there : (u o : ℕ) → waits_on (w.words (Waiting u)) o ≡ true → u < w.shape.threads

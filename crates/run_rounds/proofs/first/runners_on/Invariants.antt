@@ -1,6 +1,6 @@
 use Rattle.std.proofs.Common.{◌≡◌, ◌++◌, ◌≤◌, map, length, vec_len, vec_capacity}
-use Rattle.program_run.specs.inner.HeapFor.{runner_on}
-use Rattle.program_run.proofs.opening.runners.Given as goal
+use Rattle.run_rounds.specs.inner.First.{runner_on}
+use Rattle.run_rounds.proofs.first.runners_on.Given as goal
 
 abbrev pub invariant-loop-pass : goal.invariant-loop-pass
 invariant-loop-pass l = record {

@@ -17,10 +17,10 @@ use Rattle.core_world.specs.Words.Shape.{class_of}
 use Rattle.core_world.specs.Valid.{Fits}
 use Rattle.core_world.specs.World.{World, logs}
 use Rattle.core_world.proofs.KnowledgeParts.{log_at}
-use Rattle.core_counts.specs.BiasLaw.{BiasLawHolds}
-use Rattle.core_counts.specs.CountsAndVerdicts.{IsDecided, VerdictsFit}
-use Rattle.core_counts.specs.MarksAndLogs.{IsHashed}
-use Rattle.core_counts.specs.OfARun.{IsHashLogged, BiasesOfRun, VerdictsAtMost}
+use Rattle.core_law.specs.BiasLaw.{BiasLawHolds}
+use Rattle.core_law.specs.CountsAndVerdicts.{IsDecided, VerdictsFit}
+use Rattle.core_law.specs.MarksAndLogs.{IsHashed}
+use Rattle.core_law.specs.OfARun.{IsHashLogged, BiasesOfRun, VerdictsAtMost}
 
 module _ (w : World) (P : List PlainObject) (v : Fits w P) (law : BiasLawHolds w) where
   log_is : (t : ℕ) → t < w.shape.threads → log_of (logs w) t ≡ (w.known t).log

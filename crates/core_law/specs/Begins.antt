@@ -4,8 +4,8 @@ use Rattle.core_world.specs.declared.task.Task.{Task}
 use Rattle.core_world.specs.Threads.AtRest.{AtRest}
 use Rattle.core_world.specs.Trees.Calls.{steps_of, may_begin}
 use Rattle.core_world.specs.Threads.Known.{Known, start_of}
-use Rattle.core_steps.specs.Logic.{Heap, Stands}
-use Rattle.core_steps.specs.Sound.{Finishes}
+use Rattle.core_law.specs.Logic.{Heap, Stands}
+use Rattle.core_law.specs.Sound.{Finishes}
 
 -- every call of this task that begins at rest does its steps and ends at rest
 pub record BeginsWell (heap : Heap) (task : Task) : Type 0 where

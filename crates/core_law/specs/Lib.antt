@@ -1,0 +1,11 @@
+pub mod MarksAndLogs
+pub mod CountsAndVerdicts
+pub mod BiasLaw
+pub mod OfARun
+pub mod Draws
+pub mod Takings
+pub mod Logic
+pub mod Sound
+pub mod Begins
+pub mod Reached
+pub mod HeapLaw

@@ -1,2 +1,0 @@
--- What only the private contracts of this crate cite: its own steps, states and invariants.
-pub mod Sound

@@ -1,0 +1,37 @@
+//! A heap with the law that is proved of every heap: here those who run on a heap meet those who prove why its steps are sound.
+//!
+//! `heap_table` and all on it ask for a heap's law and never look into its proof; `core_steps` has the proof. Who has a
+//! proof of a heap's law of his own calls `Heap::new` himself.
+#![tactic(auto)]
+
+ghost use Rattle.std.specs.Prelude.{◌≡◌, ◌+◌, ◌*◌, ◌<◌, ◌≤◌, ℕ, IfOk};
+ghost use Rattle.core_world.specs.Opening.{opening};
+ghost use Rattle.core_law.specs.Sound.{Sound};
+ghost use Rattle.heap_table.specs.Fresh.{IsFresh};
+ghost use Rattle.heap_table.specs.Seen.{first_pass, first_passes};
+
+use core_steps::every_heap_has_its_law;
+use heap_table::{Heap, HeapShape, Pass};
+use plain_monitor::{List, NoMemory};
+use std::alloc::Global;
+
+/// A heap of this shape, with biases or without, whose hash generators start from `start`, and a pass for each thread, in
+/// order: stopped, with nothing logged, held, requested, counted or unfinished, and with room for the entries that so
+/// much fuel may log. The opening world is sound, the passes know what its threads know, and each is one of this heap
+/// that has made no step. Nothing takes memory later. The fuel is at most 200,000. `NoMemory` where memory is wanting.
+pub fn new_heap(
+    alloc: Global,
+    shape: HeapShape,
+    fuel: u32,
+    start: u32,
+    biasing: bool,
+) -> Result<(Heap, List<Pass>), NoMemory>
+    requires { fuel ≤ 200000 }
+    ensures heap { IfOk result (λ r. r.0.heap ≡ record { shape = shape; start = start; biasing = biasing }) }
+    ensures passes { IfOk result (λ r. r.1 ≡ first_passes r.0 (2 * fuel + 66) 0 shape.threads) }
+    ensures opening { IfOk result (λ r. Sound (opening shape start biasing)) }
+    ensures fresh { IfOk result (λ r. (t : ℕ) → t < shape.threads → IsFresh r.0 t (first_pass r.0 (2 * fuel + 66) t)) }
+{
+    every_heap_has_its_law();
+    Heap::new(alloc, shape, fuel, start, biasing)
+}

@@ -1,0 +1,37 @@
+//! The runners of a heap before its first round.
+
+ghost use Rattle.std.specs.Prelude.{◌≡◌, ◌≤◌, ℕ, map, IfOk};
+ghost use Rattle.heap_table.specs.Seen.{HeapSeen};
+ghost use Rattle.object_program.specs.Program.{ProgramText};
+ghost use Rattle.run_rounds.specs.Rounds.{AreFirst, AreReady};
+ghost use Rattle.run_rounds.specs.inner.First.{runner_on};
+ghost use Rattle.thread_calls.specs.Between.{IsHeapOf};
+
+use heap_table::Pass;
+use plain_monitor::{List, NoMemory};
+use std::alloc::Global;
+use thread_calls::unused_passes_are_on;
+use thread_interp::Runner;
+
+/// The runners of these passes, in their order, each for a thread that may execute so many instructions: at most 200,000. Where the passes
+/// are those of a new heap of a program, made for that fuel, the runners are ready for `run`, with ticks of any length. `NoMemory` where
+/// memory is wanting.
+pub fn first_runners(alloc: Global, passes: List<Pass>, fuel: u32) -> Result<List<Runner>, NoMemory>
+    requires { fuel ≤ 200000 }
+    ensures { IfOk result (λ rs. (h : HeapSeen) (p : ProgramText) (tick : ℕ) → IsHeapOf h p → AreFirst h fuel passes
+        → AreReady h p fuel tick rs) }
+{
+    let runners = runners_on(alloc, passes, fuel)?;
+    unused_passes_are_on();
+    Ok(List::of(runners))
+}
+
+fn runners_on(alloc: Global, passes: List<Pass>, fuel: u32) -> Result<Vec<Runner>, NoMemory>
+    ensures { IfOk result (λ v. v.items ≡ map (runner_on fuel) passes) }
+{
+    let mut runners = Vec::with_capacity(alloc, passes.items().len()).map_err(|_| NoMemory)?;
+    for pass in passes.into_vec() {
+        runners.push_reserved(Runner::new(pass, fuel));
+    }
+    Ok(runners)
+}
