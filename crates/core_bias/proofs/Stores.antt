@@ -281,7 +281,7 @@ pub unwritten_found : (f : Name → ℕ) (ms : List StepMade) → AreTheSteps f 
 unwritten_found f ms h none = subst (λ z. FoundAfter z ms) (sym (h.same ∙ ap (λ xs. words_after xs h.before) none)) h.found
 
 -- a hold of an object has a record with depth 1
-first_below : (w : World) (P : List PlainObject) → Fits w P → (t o : ℕ) → hold_count o (holds_in w.words t) ≢ 0 → first_place o (holds_in w.words t) < 64
+pub first_below : (w : World) (P : List PlainObject) → Fits w P → (t o : ℕ) → hold_count o (holds_in w.words t) ≢ 0 → first_place o (holds_in w.words t) < 64
 first_below w P v t o = subst (λ hs. hold_count o hs ≢ 0 → first_place o hs < 64) (sym (holds_are w.words t (w.known t).holds (v.holds.places t) (v.holds.stored t))) by_holds
   where
     by_holds : hold_count o (w.known t).holds ≢ 0 → first_place o (w.known t).holds < 64

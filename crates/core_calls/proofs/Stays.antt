@@ -1,9 +1,9 @@
--- Trees that leave the safepoint word alone: none of their steps is on it but loads. So their thread stands behind them as it stood before.
-use Rattle.std.proofs.Common.{◌≡◌, ℕ, zero, suc, ◌+◌, cond, Bool, true, false, List, ◌∷◌, refl, sym, subst}
+-- Trees that leave the safepoint word alone: none of their steps is on it but loads. So their thread stands after them as it stood before.
+use Rattle.std.proofs.Common.{◌≡◌, ◌≢◌, ℕ, zero, suc, ◌+◌, cond, Bool, true, false, List, ◌∷◌, refl, sym, subst}
 use Rattle.core_world.specs.declared.act.Act.{Act}
-use Rattle.core_world.specs.declared.act.Act.TheVariants.{Load}
+use Rattle.core_world.specs.declared.act.Act.TheVariants.{Load, Store, Swap}
 use Rattle.core_world.specs.declared.name.Name.{Name}
-use Rattle.core_world.specs.declared.name.Name.TheVariants.{Safepoint}
+use Rattle.core_world.specs.declared.name.Name.TheVariants.{Safepoint, Mark}
 use Rattle.core_world.specs.declared.plan.StepPlan.{StepPlan}
 use Rattle.core_world.specs.declared.answer.StackOut.{StackOut}
 use Rattle.core_world.specs.declared.answer.StackOut.TheVariants.{Left, Monitor, Not}
@@ -17,20 +17,33 @@ use Rattle.core_world.specs.Trees.Todo.{Todo, done, never, step, ◌>>=◌, each
 use Rattle.core_calls.specs.Paths.{made, Always}
 use Rattle.core_calls.specs.Stands.{Stand, IsGoing, FoundTrue, stand_by, stand_behind, TurnStands}
 
--- the step is on another word, or is a load
+-- TESTS OF STEPS. The step is on another word, or is a load.
 abbrev pub IsApart : Name → Act → Type 0
 IsApart Safepoint Load = Unit {0}
 IsApart Safepoint _ = ⊥
 IsApart _ act = Unit {0}
 
-abbrev Stays : {A : Type 0} → (A → Type 0) → Todo A → Type 0
-Stays R (done a) = R a
-Stays R never = Unit {0}
-Stays R (step p f) = IsApart p.at p.act × ((n : ℕ) → Stays R (f n))
+-- So it is, and it puts no 0 into a mark, which would say that the object is being inflated.
+abbrev pub IsSparing : Name → Act → Type 0
+IsSparing Safepoint Load = Unit {0}
+IsSparing Safepoint _ = ⊥
+IsSparing (Mark o) Load = Unit {0}
+IsSparing (Mark o) (Store word) = word ≢ 0
+IsSparing (Mark o) (Swap expected word) = word ≢ 0
+IsSparing (Mark o) _ = ⊥
+IsSparing _ act = Unit {0}
 
--- so is each step, and R holds of the answer
-pub record Stay {A : Type 0} (R : A → Type 0) (d : Todo A) : Type 0 where
-  pub by : Stays R d
+abbrev pub Passing : {A : Type 0} → (Name → Act → Type 0) → (A → Type 0) → Todo A → Type 0
+Passing T R (done a) = R a
+Passing T R never = Unit {0}
+Passing T R (step p f) = T p.at p.act × ((n : ℕ) → Passing T R (f n))
+
+-- each step of the tree passes the test T, and R holds of the answer
+pub record Passes {A : Type 0} (T : Name → Act → Type 0) (R : A → Type 0) (d : Todo A) : Type 0 where
+  pub by : Passing T R d
+
+abbrev pub Stay : {A : Type 0} → (A → Type 0) → Todo A → Type 0
+Stay R d = Passes IsApart R d
 
 -- WHAT IS SAID OF ANSWERS: nothing; that a turn is done, or pending for something else than a safepoint; and the same of an exit from a lock record.
 abbrev pub Whatever : {A : Type 0} → A → Type 0
@@ -51,40 +64,60 @@ OutAside (Monitor number) = Unit {0}
 OutAside (Not why) = IsAside why
 
 -- FROM PART TO PART
-bound : {A B : Type 0} (R : A → Type 0) (Q : B → Type 0) (d : Todo A) (f : A → Todo B) → Stays R d → ((a : A) → R a → Stays Q (f a))
-    → Stays Q (d >>= f)
-bound R Q (done a) f h g = g a h
-bound R Q never f h g = tt
-bound R Q (step p x) f h g = (h.0, λ n. bound R Q (x n) f (h.1 n) g)
+bound : {A B : Type 0} (T : Name → Act → Type 0) (R : A → Type 0) (Q : B → Type 0) (d : Todo A) (f : A → Todo B) → Passing T R d
+    → ((a : A) → R a → Passing T Q (f a)) → Passing T Q (d >>= f)
+bound T R Q (done a) f h g = g a h
+bound T R Q never f h g = tt
+bound T R Q (step p x) f h g = (h.0, λ n. bound T R Q (x n) f (h.1 n) g)
 
-pub stay_done : {A : Type 0} {R : A → Type 0} {a : A} → R a → Stay R (done a)
+pub stay_done : {T : Name → Act → Type 0} {A : Type 0} {R : A → Type 0} {a : A} → R a → Passes T R (done a)
 stay_done h = record { by = h }
 
-pub stay_never : {A : Type 0} {R : A → Type 0} → Stay R never
+pub stay_never : {T : Name → Act → Type 0} {A : Type 0} {R : A → Type 0} → Passes T R never
 stay_never = record { by = tt }
 
-pub stay_step : {A : Type 0} {R : A → Type 0} {p : StepPlan} {f : ℕ → Todo A} → IsApart p.at p.act → ((n : ℕ) → Stay R (f n)) → Stay R (step p f)
+pub stay_step : {T : Name → Act → Type 0} {A : Type 0} {R : A → Type 0} {p : StepPlan} {f : ℕ → Todo A} → T p.at p.act
+    → ((n : ℕ) → Passes T R (f n)) → Passes T R (step p f)
 stay_step h g = record { by = (h, λ n. (g n).by) }
 
-pub stay_either : {A : Type 0} {R : A → Type 0} {x y : Todo A} (b : Bool) → Stay R x → Stay R y → Stay R (cond b x y)
+pub stay_either : {T : Name → Act → Type 0} {A : Type 0} {R : A → Type 0} {x y : Todo A} (b : Bool) → Passes T R x → Passes T R y
+    → Passes T R (cond b x y)
 stay_either true h g = h
 stay_either false h g = g
 
-pub stay_then : {A B : Type 0} {R : A → Type 0} {Q : B → Type 0} {d : Todo A} {f : A → Todo B} → Stay R d → ((a : A) → R a → Stay Q (f a))
-    → Stay Q (d >>= f)
-stay_then {A} {B} {R} {Q} {d} {f} h g = record { by = bound R Q d f h.by (λ a r. (g a r).by) }
+pub stay_then : {T : Name → Act → Type 0} {A B : Type 0} {R : A → Type 0} {Q : B → Type 0} {d : Todo A} {f : A → Todo B} → Passes T R d
+    → ((a : A) → R a → Passes T Q (f a)) → Passes T Q (d >>= f)
+stay_then {T} {A} {B} {R} {Q} {d} {f} h g = record { by = bound T R Q d f h.by (λ a r. (g a r).by) }
 
 -- the same where what follows is the same whatever the answer
-pub stay_next : {A B : Type 0} {R : A → Type 0} {Q : B → Type 0} {d : Todo A} {f : Todo B} → Stay R d → Stay Q f → Stay Q (d >>= λ _. f)
-stay_next {A} {B} {R} {Q} {d} {f} h g = record { by = bound R Q d (λ _. f) h.by (λ a r. g.by) }
+pub stay_next : {T : Name → Act → Type 0} {A B : Type 0} {R : A → Type 0} {Q : B → Type 0} {d : Todo A} {f : Todo B} → Passes T R d
+    → Passes T Q f → Passes T Q (d >>= λ _. f)
+stay_next {T} {A} {B} {R} {Q} {d} {f} h g = record { by = bound T R Q d (λ _. f) h.by (λ a r. g.by) }
 
-pub stay_all : {f : ℕ → Todo (Unit {0})} (i n : ℕ) → ((j : ℕ) → Stay Whatever (f j)) → Stay Whatever (all_from i n f)
+pub stay_all : {T : Name → Act → Type 0} {f : ℕ → Todo (Unit {0})} (i n : ℕ) → ((j : ℕ) → Passes T Whatever (f j))
+    → Passes T Whatever (all_from i n f)
 stay_all i zero h = stay_done tt
-stay_all {f} i (suc n) h = stay_next {d = f i} (h i) (stay_all (i + 1) n h)
+stay_all {T} {f} i (suc n) h = stay_next {d = f i} (h i) (stay_all (i + 1) n h)
 
-pub stay_each : {A : Type 0} {f : ℕ → Todo A} (i n : ℕ) → ((j : ℕ) → Stay Whatever (f j)) → Stay Whatever (each_from i n f)
+pub stay_each : {T : Name → Act → Type 0} {A : Type 0} {f : ℕ → Todo A} (i n : ℕ) → ((j : ℕ) → Passes T Whatever (f j))
+    → Passes T Whatever (each_from i n f)
 stay_each i zero h = stay_done tt
-stay_each {A} {f} i (suc n) h = stay_then {d = f i} (h i) (λ a _. stay_then {d = each_from (i + 1) n f} (stay_each (i + 1) n h) (λ xs _. stay_done tt))
+stay_each {T} {A} {f} i (suc n) h =
+    stay_then {d = f i} (h i) (λ a _. stay_then {d = each_from (i + 1) n f} (stay_each (i + 1) n h) (λ xs _. stay_done tt))
+
+-- A STEP THAT SPARES is apart.
+sparing_apart : (at : Name) (act : Act) → IsSparing at act → IsApart at act
+sparing_apart Safepoint Load h = tt
+sparing_apart Safepoint _ h = absurd h
+sparing_apart _ act h = tt
+
+passing_apart : {A : Type 0} (R : A → Type 0) (d : Todo A) → Passing IsSparing R d → Passing IsApart R d
+passing_apart R (done a) h = h
+passing_apart R never h = tt
+passing_apart R (step p f) h = (sparing_apart p.at p.act h.0, λ n. passing_apart R (f n) (h.1 n))
+
+pub spares_apart : {A : Type 0} {R : A → Type 0} {d : Todo A} → Passes IsSparing R d → Stay R d
+spares_apart {A} {R} {d} h = record { by = passing_apart R d h.by }
 
 -- A STEP THAT IS APART leaves its thread standing as it stood.
 stood_by : (t : ℕ) (at : Name) (act : Act) (word : ℕ) (b : Stand) → IsApart at act → stand_by t at act word b ≡ b
@@ -105,7 +138,7 @@ module _ {A : Type 0} (t : ℕ) (b : Stand) (Q : Stand → Type 0) (R : A → Ty
   abbrev pub Known : List StepMade → A → Type 0
   Known ms a = R a × (FoundTrue t b ms → Q (stand_behind t ms b))
 
-  stays_so : (d : Todo A) (ms : List StepMade) → Stays R d → (FoundTrue t b ms → Q (stand_behind t ms b)) → Always Known ms d
+  stays_so : (d : Todo A) (ms : List StepMade) → Passing IsApart R d → (FoundTrue t b ms → Q (stand_behind t ms b)) → Always Known ms d
   stays_so (done a) ms h q = (h, q)
   stays_so never ms h q = tt
   stays_so (step p f) ms h q = λ n. stays_so (f n) (made p n ∷ ms) (h.1 n) (λ found. subst Q (sym (stands_on t b p n ms h.0)) (q found.1))

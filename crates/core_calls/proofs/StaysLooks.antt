@@ -1,5 +1,6 @@
--- The steps at a reached safepoint, which look at all threads and objects or revoke a bias, leave the safepoint word alone but for a load.
-use Rattle.std.proofs.Common.{ℕ, ◌+◌, ◌==◌, if◌then◌else◌, Bool, true, false, List, [], ◌∷◌, ◌++◌, length, Option, Some, None}
+-- The steps at a reached safepoint, which look at all threads and objects or revoke a bias, leave the safepoint word alone but for a load, and put no 0
+-- into a mark.
+use Rattle.std.proofs.Common.{arith, ◌≢◌, ℕ, ◌+◌, ◌==◌, if◌then◌else◌, Bool, true, false, List, [], ◌∷◌, ◌++◌, length, Option, Some, None}
 use Rattle.lock_policy.specs.declared.policy.Verdict.{Verdict}
 use Rattle.lock_policy.specs.declared.policy.Verdict.TheVariants.{Single, BulkRebias, BulkRevoke}
 use Rattle.lock_policy.specs.Policy.{decided}
@@ -25,151 +26,185 @@ use Rattle.core_world.specs.Trees.LookSteps.{look_at_holds, look_at_owner, look_
 use Rattle.core_world.specs.Trees.Plans.{Purpose, load}
 use Rattle.core_world.specs.Trees.RevocationSteps.{look, store_steps, revoke_at, revoke_steps, visit_held, walk_steps, take_bias_steps, next_epoch, bulk_rebias_steps, bulk_revoke_steps, verdict_steps, decided_steps, revoke_at_safepoint_steps}
 use Rattle.core_world.specs.Trees.Todo.{Todo, done, ◌>>=◌, ask, each_from}
-use Rattle.core_calls.proofs.Stays.{Stay, Whatever, IsApart, stay_done, stay_never, stay_step, stay_either, stay_then, stay_next, stay_all, stay_each}
+use Rattle.core_calls.proofs.Stays.{Passes, Stay, Whatever, IsSparing, spares_apart, stay_done, stay_never, stay_step, stay_either, stay_then, stay_next, stay_all, stay_each}
+
+abbrev Spares : {A : Type 0} → Todo A → Type 0
+Spares d = Passes IsSparing Whatever d
 
 module _ (e : Purpose) (s : Shape) where
   -- A SHOT
-  load_stays : (at : Name) → IsApart at Load → Stay Whatever (ask (load e at) >>= λ _. done (tt {0}))
-  load_stays at h = stay_step h (λ _. stay_done tt)
+  load_spares : (at : Name) → IsSparing at Load → Spares (ask (load e at) >>= λ _. done (tt {0}))
+  load_spares at h = stay_step h (λ _. stay_done tt)
 
-  holds_stay : (t : ℕ) → Stay Whatever (look_at_holds e t)
-  holds_stay t = stay_all 0 64 (λ p. load_stays (name.Hold t p) tt)
+  holds_spare : (t : ℕ) → Spares (look_at_holds e t)
+  holds_spare t = stay_all 0 64 (λ p. load_spares (name.Hold t p) tt)
 
-  owner_stays : (form : Option OwnerForm) → Stay Whatever (look_at_owner form e)
-  owner_stays (Some (ByThread thread)) = holds_stay thread
-  owner_stays (Some (ByRecord thread place)) = holds_stay thread
-  owner_stays (Some Free) = stay_done tt
-  owner_stays None = stay_done tt
+  owner_spares : (form : Option OwnerForm) → Spares (look_at_owner form e)
+  owner_spares (Some (ByThread thread)) = holds_spare thread
+  owner_spares (Some (ByRecord thread place)) = holds_spare thread
+  owner_spares (Some Free) = stay_done tt
+  owner_spares None = stay_done tt
 
-  behind_stays : (form : Option MarkForm) (o : ℕ) → Stay Whatever (look_behind form e s o)
-  behind_stays (Some (Biased thread epoch age)) o =
-      stay_step tt (λ prototype. stay_either (has_epoch (epoch_in prototype) epoch) (holds_stay thread) (stay_done tt))
-  behind_stays (Some (Locked thread place)) o = holds_stay thread
-  behind_stays (Some (Inflated monitor)) o = stay_step tt (λ owner. owner_stays (read_owner owner))
-  behind_stays _ o = stay_done tt
+  behind_spares : (form : Option MarkForm) (o : ℕ) → Spares (look_behind form e s o)
+  behind_spares (Some (Biased thread epoch age)) o =
+      stay_step tt (λ prototype. stay_either (has_epoch (epoch_in prototype) epoch) (holds_spare thread) (stay_done tt))
+  behind_spares (Some (Locked thread place)) o = holds_spare thread
+  behind_spares (Some (Inflated monitor)) o = stay_step tt (λ owner. owner_spares (read_owner owner))
+  behind_spares _ o = stay_done tt
 
-  objects_stay : Stay Whatever (look_at_objects e s)
-  objects_stay = stay_all 0 (length s.objects) (λ o. stay_step tt (λ mark. behind_stays (read_mark mark) o))
+  objects_spare : Spares (look_at_objects e s)
+  objects_spare = stay_all 0 (length s.objects) (λ o. stay_step tt (λ mark. behind_spares (read_mark mark) o))
 
-  pub shot_stays : Stay Whatever (take_shot_steps e s)
-  shot_stays = stay_next objects_stay (stay_next (stay_all 0 s.threads (λ t. load_stays (name.Length t) tt)) (stay_step tt (λ _. stay_done tt)))
+  pub shot_spares : Spares (take_shot_steps e s)
+  shot_spares = stay_next objects_spare (stay_next (stay_all 0 s.threads (λ t. load_spares (name.Length t) tt)) (stay_step tt (λ _. stay_done tt)))
 
   -- A LOOK whether the run is stuck
-  monitor_stays : (form : Option MarkForm) (t : ℕ) → Stay Whatever (look_at_monitor form e t)
-  monitor_stays (Some (Inflated monitor)) t = stay_step tt (λ owner. stay_done tt)
-  monitor_stays _ t = stay_never
+  monitor_spares : (form : Option MarkForm) (t : ℕ) → Spares (look_at_monitor form e t)
+  monitor_spares (Some (Inflated monitor)) t = stay_step tt (λ owner. stay_done tt)
+  monitor_spares _ t = stay_never
 
-  object_stays : (t o : ℕ) → Stay Whatever (look_at_object e t o)
-  object_stays t o = stay_step tt (λ mark. monitor_stays (read_mark mark) t)
+  object_spares : (t o : ℕ) → Spares (look_at_object e t o)
+  object_spares t o = stay_step tt (λ mark. monitor_spares (read_mark mark) t)
 
-  wait_stays : (form : Option WaitForm) (t : ℕ) → Stay Whatever (look_at_wait form e t)
-  wait_stays (Some wait.Ready) t = stay_done tt
-  wait_stays (Some (wait.Entering object)) t = object_stays t object
-  wait_stays (Some (wait.Waiting object stamp)) t = stay_done tt
-  wait_stays (Some (wait.Notified object)) t = object_stays t object
-  wait_stays (Some wait.Ended) t = stay_done tt
-  wait_stays None t = stay_never
+  wait_spares : (form : Option WaitForm) (t : ℕ) → Spares (look_at_wait form e t)
+  wait_spares (Some wait.Ready) t = stay_done tt
+  wait_spares (Some (wait.Entering object)) t = object_spares t object
+  wait_spares (Some (wait.Waiting object stamp)) t = stay_done tt
+  wait_spares (Some (wait.Notified object)) t = object_spares t object
+  wait_spares (Some wait.Ended) t = stay_done tt
+  wait_spares None t = stay_never
 
-  pub still_stays : Stay Whatever (stands_still_steps e s)
-  still_stays = stay_then (stay_each 0 s.threads (λ t. stay_step tt (λ word. wait_stays (read_wait word) t))) (λ threads _. stay_done tt)
+  pub still_spares : Spares (stands_still_steps e s)
+  still_spares = stay_then (stay_each 0 s.threads (λ t. stay_step tt (λ word. wait_spares (read_wait word) t))) (λ threads _. stay_done tt)
 
--- A REVOCATION stores in marks, displaced words and the words of a class.
-abbrev AreApart : List Write → Type 0
-AreApart [] = Unit {0}
-AreApart (x ∷ xs) = IsApart x.at (Store x.word) × AreApart xs
+-- A REVOCATION stores in marks, displaced words and the words of a class; no mark that it stores is 0.
+abbrev AreSparing : List Write → Type 0
+AreSparing [] = Unit {0}
+AreSparing (x ∷ xs) = IsSparing x.at (Store x.word) × AreSparing xs
 
-apart_both : (xs ys : List Write) → AreApart xs → AreApart ys → AreApart (xs ++ ys)
-apart_both [] ys h g = g
-apart_both (x ∷ xs) ys h g = (h.0, apart_both xs ys h.1 g)
+sparing_both : (xs ys : List Write) → AreSparing xs → AreSparing ys → AreSparing (xs ++ ys)
+sparing_both [] ys h g = g
+sparing_both (x ∷ xs) ys h g = (h.0, sparing_both xs ys h.1 g)
 
-records_apart : (o t p : ℕ) (hs : List ℕ) → AreApart (record_writes o t p hs)
-records_apart o t p [] = tt
-records_apart o t p (h ∷ hs) = cases (names o h) (records_apart o t (p + 1) hs)
+records_sparing : (o t p : ℕ) (hs : List ℕ) → AreSparing (record_writes o t p hs)
+records_sparing o t p [] = tt
+records_sparing o t p (h ∷ hs) = cases (names o h) (records_sparing o t (p + 1) hs)
   where
-    cases : (b : Bool) → AreApart (record_writes o t (p + 1) hs)
-        → AreApart ((if b then write (name.Displaced t p) (if h == hold_word o 1 then mark_of
+    cases : (b : Bool) → AreSparing (record_writes o t (p + 1) hs)
+        → AreSparing ((if b then write (name.Displaced t p) (if h == hold_word o 1 then mark_of
         (Neutral 0 0) else 0) ∷ [] else []) ++ record_writes o t (p + 1) hs)
     cases true more = (tt, more)
     cases false more = more
 
-revoked_apart : (o t : ℕ) (allowed : Bool) (hs : List ℕ) → AreApart (revoke_biased o t allowed hs)
-revoked_apart o t allowed hs = cases (hold_count o hs == 0)
+record_some : (t p : ℕ) → mark_of (Locked t p) ≢ 0
+record_some t p = λ z. absurd (omega (arith, z))
+
+revoked_sparing : (o t : ℕ) (allowed : Bool) (hs : List ℕ) → AreSparing (revoke_biased o t allowed hs)
+revoked_sparing o t allowed hs = cases (hold_count o hs == 0)
   where
+    free_some : (c : Bool) → mark_of (if c then Anonymous 0 0 else Neutral 0 0) ≢ 0
+    free_some true = λ z. absurd (omega (arith, z))
+    free_some false = λ z. absurd (omega (arith, z))
+
     cases : (b : Bool)
-        → AreApart (if b then write (name.Mark o) (mark_of
+        → AreSparing (if b then write (name.Mark o) (mark_of
         (if allowed then Anonymous 0 0 else Neutral 0 0)) ∷ [] else record_writes o t 0 hs ++ write (name.Mark o) (mark_of (Locked t
         (first_place o hs))) ∷ [])
-    cases true = (tt, tt)
-    cases false = apart_both (record_writes o t 0 hs) _ (records_apart o t 0 hs) (tt, tt)
+    cases true = (free_some allowed, tt)
+    cases false = sparing_both (record_writes o t 0 hs) _ (records_sparing o t 0 hs) (record_some t (first_place o hs), tt)
 
 module _ (e : Purpose) (b : Revocation) where
-  store_stays : (writes : List Write) → AreApart writes → Stay Whatever (store_steps e b writes)
-  store_stays [] h = stay_done tt
-  store_stays (x ∷ xs) h = stay_step h.0 (λ _. store_stays xs h.1)
+  store_spares : (writes : List Write) → AreSparing writes → Spares (store_steps e b writes)
+  store_spares [] h = stay_done tt
+  store_spares (x ∷ xs) h = stay_step h.0 (λ _. store_spares xs h.1)
 
-  unless_stays : (allowed : Bool) (o : ℕ) → Stay Whatever (store_steps e b (if allowed then [] else write (name.Mark o) (mark_of (Neutral 0 0)) ∷ []))
-  unless_stays true o = stay_done tt
-  unless_stays false o = store_stays (write (name.Mark o) (mark_of (Neutral 0 0)) ∷ []) (tt, tt)
+  unless_spares : (allowed : Bool) (o : ℕ) → Spares (store_steps e b (if allowed then [] else write (name.Mark o) (mark_of (Neutral 0 0)) ∷ []))
+  unless_spares true o = stay_done tt
+  unless_spares false o = store_spares (write (name.Mark o) (mark_of (Neutral 0 0)) ∷ []) ((λ z. absurd (omega (arith, z))), tt)
 
-  look_stays : (at : Name) → IsApart at Load → Stay Whatever (look e b at)
-  look_stays at h = stay_step h (λ _. stay_done tt)
+  look_spares : (at : Name) → IsSparing at Load → Spares (look e b at)
+  look_spares at h = stay_step h (λ _. stay_done tt)
 
-  revoke_at_stays : (form : Option MarkForm) (o : ℕ) (allowed : Bool) → Stay Whatever (revoke_at form e b o allowed)
-  revoke_at_stays (Some (Anonymous epoch age)) o allowed = unless_stays allowed o
-  revoke_at_stays (Some (Biased thread epoch age)) o allowed =
-      stay_then {d = each_from 0 64 (λ p. look e b (name.Hold thread p))} (stay_each 0 64 (λ p. look_stays (name.Hold thread p) tt))
-      (λ holds _. store_stays (revoke_biased o thread allowed holds) (revoked_apart o thread allowed holds))
-  revoke_at_stays _ o allowed = stay_done tt
+  revoke_at_spares : (form : Option MarkForm) (o : ℕ) (allowed : Bool) → Spares (revoke_at form e b o allowed)
+  revoke_at_spares (Some (Anonymous epoch age)) o allowed = unless_spares allowed o
+  revoke_at_spares (Some (Biased thread epoch age)) o allowed =
+      stay_then {d = each_from 0 64 (λ p. look e b (name.Hold thread p))} (stay_each 0 64 (λ p. look_spares (name.Hold thread p) tt))
+      (λ holds _. store_spares (revoke_biased o thread allowed holds) (revoked_sparing o thread allowed holds))
+  revoke_at_spares _ o allowed = stay_done tt
 
-  revoke_stays : (o : ℕ) (allowed : Bool) → Stay Whatever (revoke_steps e b o allowed)
-  revoke_stays o allowed = stay_step tt (λ mark. revoke_at_stays (read_mark mark) o allowed)
+  revoke_spares : (o : ℕ) (allowed : Bool) → Spares (revoke_steps e b o allowed)
+  revoke_spares o allowed = stay_step tt (λ mark. revoke_at_spares (read_mark mark) o allowed)
 
-  module _ (s : Shape) (c : ℕ) (visit : ℕ → ℕ → Todo (Unit {0})) (each : (o mark : ℕ) → Stay Whatever (visit o mark)) where
-    visit_stays : (held : Option ℕ) → Stay Whatever (visit_held s c e b visit held)
-    visit_stays None = stay_done tt
-    visit_stays (Some o) = stay_either (class_of s o == c) (stay_step tt (λ mark. stay_either (is_biased mark) (each o mark) (stay_done tt))) (stay_done tt)
+  module _ (s : Shape) (c : ℕ) (visit : ℕ → ℕ → Todo (Unit {0})) (each : (o mark : ℕ) → Spares (visit o mark)) where
+    visit_spares : (held : Option ℕ) → Spares (visit_held s c e b visit held)
+    visit_spares None = stay_done tt
+    visit_spares (Some o) = stay_either (class_of s o == c) (stay_step tt (λ mark. stay_either (is_biased mark) (each o mark) (stay_done tt))) (stay_done tt)
 
-    place_stays : (t p : ℕ) → Stay Whatever (look e b (name.Hold t p) >>= λ hold. visit_held s c e b visit (object_held (read_hold hold)))
-    place_stays t p = stay_step tt (λ hold. visit_stays (object_held (read_hold hold)))
+    place_spares : (t p : ℕ) → Spares (look e b (name.Hold t p) >>= λ hold. visit_held s c e b visit (object_held (read_hold hold)))
+    place_spares t p = stay_step tt (λ hold. visit_spares (object_held (read_hold hold)))
 
-    walk_stays : Stay Whatever (walk_steps s c e b visit)
-    walk_stays = stay_all 0 s.threads (λ t. stay_all 0 64 (λ p. place_stays t p))
+    walk_spares : Spares (walk_steps s c e b visit)
+    walk_spares = stay_all 0 s.threads (λ t. stay_all 0 64 (λ p. place_spares t p))
 
-  where_stays : (o : ℕ) (word : Option ℕ) → Stay Whatever (store_steps e b (store_where (name.Mark o) word))
-  where_stays o None = stay_done tt
-  where_stays o (Some word) = store_stays (write (name.Mark o) word ∷ []) (tt, tt)
+  abbrev SomeIsNot0 : Option ℕ → Type 0
+  SomeIsNot0 None = Unit {0}
+  SomeIsNot0 (Some word) = word ≢ 0
 
-  raised_stays : (epoch : Option ℕ) (c : ℕ) → Stay Whatever (store_steps e b (raised_form epoch c))
-  raised_stays None c = stay_done tt
-  raised_stays (Some epoch) c = store_stays (raised_form (Some epoch) c) (tt, tt)
+  where_spares : (o : ℕ) (word : Option ℕ) → SomeIsNot0 word → Spares (store_steps e b (store_where (name.Mark o) word))
+  where_spares o None h = stay_done tt
+  where_spares o (Some word) h = store_spares (write (name.Mark o) word ∷ []) (h, tt)
 
-  take_stays : (epoch : Option ℕ) (t : ℕ) → Stay Whatever (take_bias_steps e b epoch t)
-  take_stays epoch t = stay_step tt (λ mark. stay_next (where_stays b.object (biased_word (is_biased mark) epoch t)) (stay_done tt))
+  epoch_some : (form : Option MarkForm) (epoch : Option ℕ) → SomeIsNot0 (with_epoch form epoch)
+  epoch_some (Some (Anonymous i age)) (Some epoch) = λ z. absurd (omega (arith, z))
+  epoch_some (Some (Biased t i age)) (Some epoch) = λ z. absurd (omega (arith, z))
+  epoch_some _ _ = tt
 
-  rebias_stays : (s : Shape) (t c : ℕ) (epoch : Option ℕ) → Stay Whatever (bulk_rebias_steps s t c e b epoch)
-  rebias_stays s t c epoch =
-      stay_next (store_stays (write (name.LastBulk c) b.now ∷ []) (tt, tt))
-      (stay_next (raised_stays epoch c)
-      (stay_next (walk_stays s c _ (λ o mark. where_stays o (with_epoch (read_mark mark) (next_epoch epoch))))
-      (stay_next (revoke_stays b.object b.rebias)
-      (stay_either b.rebias (take_stays (next_epoch epoch) t) (stay_done tt)))))
+  biased_some : (biased : Bool) (epoch : Option ℕ) (t : ℕ) → SomeIsNot0 (biased_word biased epoch t)
+  biased_some true (Some epoch) t = λ z. absurd (omega (arith, z))
+  biased_some _ _ t = tt
 
-  bulk_revoke_stays : (s : Shape) (c : ℕ) → Stay Whatever (bulk_revoke_steps s c e b)
-  bulk_revoke_stays s c =
-      stay_next (store_stays (write (name.LastBulk c) b.now ∷ []) (tt, tt))
-      (stay_next (store_stays (write (name.Prototype c) (mark_of (Neutral 0 0)) ∷ []) (tt, tt))
-      (stay_next (walk_stays s c _ (λ o mark. revoke_at_stays (read_mark mark) o false))
-      (revoke_stays b.object false)))
+  raised_spares : (epoch : Option ℕ) (c : ℕ) → Spares (store_steps e b (raised_form epoch c))
+  raised_spares None c = stay_done tt
+  raised_spares (Some epoch) c = store_spares (raised_form (Some epoch) c) (tt, tt)
 
-  verdict_stays : (s : Shape) (t c : ℕ) (epoch : Option ℕ) (verdict : Verdict) → Stay Whatever (verdict_steps s t c e b epoch verdict)
-  verdict_stays s t c epoch Single = stay_next (revoke_stays b.object false) (stay_done tt)
-  verdict_stays s t c epoch BulkRebias = rebias_stays s t c epoch
-  verdict_stays s t c epoch BulkRevoke = stay_next (bulk_revoke_stays s c) (stay_done tt)
+  take_spares : (epoch : Option ℕ) (t : ℕ) → Spares (take_bias_steps e b epoch t)
+  take_spares epoch t =
+      stay_step tt (λ mark. stay_next (where_spares b.object (biased_word (is_biased mark) epoch t) (biased_some (is_biased mark) epoch t)) (stay_done tt))
 
-  decided_stays : (s : Shape) (t c : ℕ) (epoch : Option ℕ) (count last : ℕ) → Stay Whatever (decided_steps s t c e b epoch count last)
-  decided_stays s t c epoch count last = stay_step tt (λ _. stay_then (verdict_stays s t c epoch (decided count last b.now).0) (λ took _. stay_done tt))
+  rebias_spares : (s : Shape) (t c : ℕ) (epoch : Option ℕ) → Spares (bulk_rebias_steps s t c e b epoch)
+  rebias_spares s t c epoch =
+      stay_next (store_spares (write (name.LastBulk c) b.now ∷ []) (tt, tt))
+      (stay_next (raised_spares epoch c)
+      (stay_next (walk_spares s c _ (λ o mark. where_spares o (with_epoch (read_mark mark) (next_epoch epoch)) (epoch_some (read_mark mark) (next_epoch epoch))))
+      (stay_next (revoke_spares b.object b.rebias)
+      (stay_either b.rebias (take_spares (next_epoch epoch) t) (stay_done tt)))))
 
-  pub revocation_stays : (s : Shape) (t : ℕ) → Stay Whatever (revoke_at_safepoint_steps s t e b)
-  revocation_stays s t =
+  bulk_revoke_spares : (s : Shape) (c : ℕ) → Spares (bulk_revoke_steps s c e b)
+  bulk_revoke_spares s c =
+      stay_next (store_spares (write (name.LastBulk c) b.now ∷ []) (tt, tt))
+      (stay_next (store_spares (write (name.Prototype c) (mark_of (Neutral 0 0)) ∷ []) (tt, tt))
+      (stay_next (walk_spares s c _ (λ o mark. revoke_at_spares (read_mark mark) o false))
+      (revoke_spares b.object false)))
+
+  verdict_spares : (s : Shape) (t c : ℕ) (epoch : Option ℕ) (verdict : Verdict) → Spares (verdict_steps s t c e b epoch verdict)
+  verdict_spares s t c epoch Single = stay_next (revoke_spares b.object false) (stay_done tt)
+  verdict_spares s t c epoch BulkRebias = rebias_spares s t c epoch
+  verdict_spares s t c epoch BulkRevoke = stay_next (bulk_revoke_spares s c) (stay_done tt)
+
+  decided_spares : (s : Shape) (t c : ℕ) (epoch : Option ℕ) (count last : ℕ) → Spares (decided_steps s t c e b epoch count last)
+  decided_spares s t c epoch count last = stay_step tt (λ _. stay_then (verdict_spares s t c epoch (decided count last b.now).0) (λ took _. stay_done tt))
+
+  pub revocation_spares : (s : Shape) (t : ℕ) → Spares (revoke_at_safepoint_steps s t e b)
+  revocation_spares s t =
       stay_step tt (λ mark. stay_step tt (λ prototype. stay_step tt (λ count. stay_step tt (λ last.
-      stay_either (is_valid_bias (read_mark mark) prototype) (decided_stays s t (class_of s b.object) (epoch_in prototype) count last) stay_never))))
+      stay_either (is_valid_bias (read_mark mark) prototype) (decided_spares s t (class_of s b.object) (epoch_in prototype) count last) stay_never))))
+
+-- so they leave the safepoint word alone
+pub shot_stays : (e : Purpose) (s : Shape) → Stay Whatever (take_shot_steps e s)
+shot_stays e s = spares_apart (shot_spares e s)
+
+pub still_stays : (e : Purpose) (s : Shape) → Stay Whatever (stands_still_steps e s)
+still_stays e s = spares_apart (still_spares e s)
+
+pub revocation_stays : (e : Purpose) (b : Revocation) (s : Shape) (t : ℕ) → Stay Whatever (revoke_at_safepoint_steps s t e b)
+revocation_stays e b s t = spares_apart (revocation_spares e b s t)

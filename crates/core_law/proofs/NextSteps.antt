@@ -1,4 +1,4 @@
--- The next step of a thread keeps a sound world sound.
+-- The next step of a thread keeps a sound world sound, in a call that begins well.
 use Rattle.std.proofs.Common.{◌≡◌, ℕ, ◌<◌, ◌&&◌, Bool, true, false, cond, List, Some, refl, sym, ap, ◌∙◌, subst, inl, inr}
 use Rattle.std.proofs.lemmas.Option.{same_Some}
 use Rattle.plain_monitor.specs.Objects.{PlainObject}

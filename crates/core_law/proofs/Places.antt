@@ -34,7 +34,7 @@ first_within test (y ∷ hs) = cases (test y) (first_within test hs)
     cases true e = omega arith
     cases false e = omega (arith, e)
 
-number_few : (test : ℕ → ℕ → Bool) (i : ℕ) (hs : List ℕ) → count_where test i hs ≤ length hs
+pub number_few : (test : ℕ → ℕ → Bool) (i : ℕ) (hs : List ℕ) → count_where test i hs ≤ length hs
 number_few test i [] = omega arith
 number_few test i (y ∷ hs) = let a = number_few test (i + 1) hs in cases (test i y) a
   where

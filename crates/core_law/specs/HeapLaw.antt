@@ -16,5 +16,5 @@ pub record HeapLaw (heap : Heap) : Type 0 where
   pub begins : (task : Task) → BeginsWell heap task
   -- in each world to which it comes every stamp in the logs is exact,
   pub exact : (w : World) → Comes heap w → StampsAreExact (logs w)
-  -- and the hashes are draws of the threads' generators
+  -- and the hashes are drawn as `HasDraws` says
   pub draws : (w : World) → Comes heap w → HasDraws heap.start (logs w)

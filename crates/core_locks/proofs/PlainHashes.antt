@@ -1,6 +1,7 @@
 -- The hashes of the plain objects: each is above 0, never changes, and is what every hash entry of the object says.
 use Rattle.core_locks.proofs.Prelude.{◌≡◌, ◌≢◌, ◌⊎◌, ℕ, zero, suc, ◌<◌, ◌^◌, ◌==◌, ◌&&◌, nat_lt, Bool, true, false, List, [], ◌∷◌, length, slice_set, Option, Some, None, refl, sym, ap, ◌∙◌, subst, arith, inl, inr, eqb-true, slice_get, option_and_then, nat_le, option_map, same_Some, AllByRecursion, PlainMonitor, only_if, PlainObject, take_entry, take_at, with_monitor, take_named, new_objects, with_hash, hashed, Logged, objects_after, take_all, Entry, Exit, Get, Notify, NotifyAll, Hash, Enter, Put, Wait, Resume, order, object_of, by_equal}
 use Rattle.plain_monitor.specs.Objects.{named}
+use Rattle.core_world.proofs.ObjectSlots.{got_object}
 use Rattle.core_world.proofs.Updates.{object_here, object_else}
 
 -- the hash stays, or is given for the first time
@@ -44,11 +45,6 @@ at_moves x y t (Put o slot value) h = same_moves x _ y _ refl h
 at_moves x y t (Hash o v drawn) h = (hash_moves x y x.hash v refl h).0
 at_moves x y t _ h = inl (ap (λ (r : PlainObject). r.hash) (sym (same_Some x y h)))
 
-there : (P : List PlainObject) (o : ℕ) (x : PlainObject) → slice_get P o ≡ Some x → (o < length P) × (object_of P o ≡ x)
-there [] o x h = absurd (cc h)
-there (z ∷ P) zero x h = (omega arith, same_Some z x h)
-there (z ∷ P) (suc o) x h = let a = there P o x h in (omega (arith, a.0), a.1)
-
 -- what an entry that names o makes of the objects
 record Takes (P Q : List PlainObject) (t : ℕ) (e : Entry) (o : ℕ) : Type 0 where
   pub within : o < length P
@@ -61,7 +57,7 @@ takes_so P Q t e o h = by_get (slice_get P o) refl h
   where
     by_object : (x : PlainObject) → slice_get P o ≡ Some x → (a : Option PlainObject) → take_at x t e ≡ a → option_map (λ y. slice_set P o y) a ≡ Some Q → Takes P Q t e o
     by_object x g None f q = absurd (cc q)
-    by_object x g (Some y) f q = let a = there P o x g in record { within = a.0; now = y; takes = ap (λ z. take_at z t e) a.1 ∙ f; is = same_Some (slice_set P o y) Q q }
+    by_object x g (Some y) f q = let a = got_object P o x g in record { within = a.0; now = y; takes = ap (λ z. take_at z t e) a.1 ∙ f; is = same_Some (slice_set P o y) Q q }
 
     by_get : (a : Option PlainObject) → slice_get P o ≡ a → option_and_then (λ x. option_map (λ y. slice_set P o y) (take_at x t e)) a ≡ Some Q → Takes P Q t e o
     by_get None g q = absurd (cc q)

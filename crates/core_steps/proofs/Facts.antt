@@ -135,9 +135,6 @@ module _ (heap : Heap) (k : Known) (v : Stands heap k) (runs : k.running ≡ tru
   pub ready_here : Unwaiting k → Unentering k → Untold k → ends k.log ≡ false → k.wait ≡ 0
   ready_here = home heap k v (λ z y. Unwaiting y → Unentering y → Untold y → ends y.log ≡ false → y.wait ≡ 0) (ready_unentering v.world v.objects k.thread (fits_here heap k v runs))
 
-  pub ready_out : IsOut k → Unentering k → ends k.log ≡ false → k.wait ≡ 0
-  ready_out = home heap k v (λ z y. IsOut y → Unentering y → ends y.log ≡ false → y.wait ≡ 0) (ready_outside v.world v.objects k.thread (fits_here heap k v runs))
-
   pub ready_entered : Unwaiting k → is_entering k.wait ≡ false → Untold k → ends k.log ≡ false → k.wait ≡ 0
   ready_entered = home heap k v (λ z y. Unwaiting y → is_entering y.wait ≡ false → Untold y → ends y.log ≡ false → y.wait ≡ 0) (ready_quiet v.world v.objects k.thread (fits_here heap k v runs))
 

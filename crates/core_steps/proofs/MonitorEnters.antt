@@ -52,10 +52,6 @@ module _ (heap : Heap) (e : Purpose) (o m : ℕ) where
     out : Stands heap k → IsOut k
     out v = out_here heap k v x.takes.runs (λ i h. x.takes.unwaiting i (sym x.mine ∙ h)) x.untold
 
-    -- where it goes on in another call
-    entering_rests : k.stage ≡ Calm → AtRest heap.shape k
-    entering_rests calm = rests heap.shape k calm x.takes.unasks (sym x.check ∙ x.takes.unchecks) (live_carries k.log k.wait k.holds k.unfinished x.takes.live (λ i h. x.place) (λ dumps. undumped_enter e o (inr x.enters) (sym x.mine ∙ dumps)) x.untold)
-
   -- the displaced word 3, and the hold word, where one of the ways is gone that lead there
   record_does : (k : Known) (stage : Stage) (path : Path) → Taking heap k.running k.requesting k.log e o → k.unfinished ≡ e.unfinished → Untold k → free_place k.holds < 64 → k.stage ≡ stage
       → ((i p : ℕ) → stage ≡ Seizes i p → ⊥)

@@ -1,4 +1,5 @@
--- The heap has the words that a thread names: of an object's class and slots, of a monitor that it keeps or saw, and of a thread that waits.
+-- The heap has the words that a thread names: of an object's class and slots, of a monitor that it keeps, and of a thread that waits; and which form
+-- a word has that is found at a name.
 use Rattle.std.proofs.Common.{◌≡◌, ℕ, suc, zero, ◌<◌, ◌≤◌, nat_lt, Bool, true, false, List, [], ◌∷◌, length, slice_index_or, Some, refl, sym, ap, ◌∙◌, subst, inl, inr, arith}
 use Rattle.std.specs.List.{AllByRecursion}
 use Rattle.std.proofs.lemmas.Bool.Decides.{nat_tests}

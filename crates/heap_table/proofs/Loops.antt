@@ -1,6 +1,6 @@
 -- Parts made one after another: what is due of them, and the run that a loop has made.
 use Rattle.std.proofs.Common.{◌≡◌, ℕ, suc, ◌+◌, List, ◌∷◌, refl, ◌∙◌, subst}
-use Rattle.core_world.specs.Trees.Todo.{Todo, done, never, step, ◌>>=◌, all_from, each_from}
+use Rattle.core_world.specs.Trees.Todo.{Todo, done, never, step, ◌>>=◌, each_from}
 use Rattle.heap_table.specs.Parts.{HasRun}
 use Rattle.heap_table.specs.Seen.{HeapSeen, PassSeen}
 use Rattle.heap_table.proofs.Parts.{in_turn}
@@ -22,10 +22,6 @@ pub each_next : {A B : Type 0} (i n : ℕ) (f : ℕ → Todo A) (g : List A → 
 each_next i n f g =
     binds (f i) (λ x. each_from (i + 1) n f >>= (λ others. done (x ∷ others))) g
     ∙ λ j. f i >>= (λ x. binds (each_from (i + 1) n f) (λ others. done (x ∷ others)) g j)
-
-pub all_next : {B : Type 0} (i n : ℕ) (f : ℕ → Todo (Unit {0})) (g : Unit {0} → Todo B)
-    → (all_from i (suc n) f >>= g) ≡ (f i >>= (λ x. all_from (i + 1) n f >>= g))
-all_next i n f g = binds (f i) (λ x. all_from (i + 1) n f) g
 
 -- A loop has come so far: whoever runs the rest x from here with an answer has run the whole d from o with it.
 pub record HasCome {A : Type 0} (h : HeapSeen) (d : Todo A) (o : PassSeen) (x : Todo A) (p : PassSeen) : Type 0 where

@@ -90,9 +90,10 @@ fn begin(alloc: Global, setting: Setting, limit: u32) -> Result<(Heap, Vec<Pass>
 impl Heap {
     /// A heap of this shape, with biases or without, whose hash generators start from `start`, and a pass for each
     /// thread, in order: stopped, with nothing logged, held, requested, counted or unfinished, and with room for the
-    /// entries that so much fuel may log. Its words are those of the opening world. The caller hands in
-    /// the heap's law, under the premise that its shape is in the limits, as every `HeapShape` is. The law is handed
-    /// on, and each pass is one of this heap that has made no step. Nothing takes memory later. The fuel is at most
+    /// entries that so much fuel may log. Its words are made as those of the opening world; the contract
+    /// says that the passes know what its threads know there. The caller hands in the heap's law, under the premise that
+    /// its shape is in the limits, as every `HeapShape` is. The law is handed on, and each pass is one of this heap that
+    /// has made no step. Nothing takes memory later. The fuel is at most
     /// 200,000. `NoMemory` where memory is wanting.
     pub fn new(
         alloc: Global,

@@ -2,8 +2,8 @@
 //!
 //! `Heap` has the words, over the kit's `atomic_table`, and each thread steps with its own `Pass`, which keeps at run
 //! time what the thread knows. The rule of the table is that it is a sound world of `core_law`, which the heap comes
-//! to, and `Heap::step` keeps it by the law of all steps: a step is the next one of its thread, and needs no law of its
-//! own. `HeapShape` says where each word lies, and `close` what is left at the end.
+//! to, and that the heap has its law, which is handed in when it is made. By that `Heap::step` keeps the rule: a step is
+//! the next one of its thread, and needs no law of its own. `HeapShape` says where each word lies, and `close` what is left at the end.
 #![tactic(auto)]
 
 mod acts;

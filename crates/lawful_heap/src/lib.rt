@@ -1,7 +1,7 @@
 //! A heap with the law that is proved of every heap: here those who run on a heap meet those who prove why its steps are sound.
 //!
-//! `heap_table` and all on it ask for a heap's law and never look into its proof; `core_steps` has the proof. Who has a
-//! proof of a heap's law of his own calls `Heap::new` himself.
+//! `heap_table` and all on it ask for a heap's law and never look into its proof; `core_steps` has the proof. Whoever has another
+//! proof of a heap's law calls `Heap::new` with it.
 #![tactic(auto)]
 
 ghost use Rattle.std.specs.Prelude.{◌≡◌, ◌+◌, ◌*◌, ◌<◌, ◌≤◌, ℕ, IfOk};

@@ -1,6 +1,6 @@
 -- The recursions that an owner raises fit their word: the monitor is that of the object, so they count hold words, of which there are 64.
 -- That follows from the sound worlds behind the thread's next steps: the one that raises them, and those up to its new hold word.
-use Rattle.std.proofs.Common.{◌≡◌, ℕ, suc, ◌+◌, ◌^◌, ◌<◌, ◌≤◌, ◌||◌, eq-eqb, ne_eqb, eqb-true, Bool, true, false, cond, List, [], ◌∷◌, length}
+use Rattle.std.proofs.Common.{◌≡◌, ℕ, ◌+◌, ◌^◌, ◌<◌, ◌≤◌, ◌||◌, eq-eqb, ne_eqb, eqb-true, Bool, true, false, cond, length}
 use Rattle.std.proofs.Common.{slice_index, Option, Some, None, refl, sym, ap, ◌∙◌, subst, arith, inl, inr}
 use Rattle.mark_word.specs.declared.mark.MarkForm.{MarkForm}
 use Rattle.mark_word.specs.declared.mark.MarkForm.TheVariants.{Inflating, Neutral, Anonymous, Biased, Locked, Inflated, Marked}
@@ -19,7 +19,7 @@ use Rattle.core_world.specs.declared.stage.Stage.TheVariants.{Calm, Ahead, Enter
 use Rattle.core_world.specs.declared.task.Task.{Task}
 use Rattle.core_world.specs.Due.{IsDue, IsNext}
 use Rattle.core_world.specs.Locks.{Lock, Open, BiasedTo, OnRecord, OwnedBy, lock, lock_form, owner_lock, holder, who, has_epoch, owner_at}
-use Rattle.core_world.specs.Locks.{marks, owner_words, prototype_of, inflations, displaced_words, hold_count, recursion_count, count_where}
+use Rattle.core_world.specs.Locks.{marks, owner_words, prototype_of, inflations, displaced_words, hold_count, recursion_count}
 use Rattle.core_world.specs.Steps.{known_after, world_after}
 use Rattle.core_world.specs.Threads.Known.{Known, Local, local_of}
 use Rattle.core_world.specs.Threads.Stages.{Inflation, bears, one_if, path_into, recursions_ahead, recursions_behind, revocation_in}
@@ -39,7 +39,7 @@ use Rattle.core_law.specs.Logic.{Heap, heap_of}
 use Rattle.core_law.specs.Sound.{Sound}
 use Rattle.core_law.specs.HeapLaw.{HeapLaw}
 use Rattle.core_law.proofs.NextSteps.{stands_here, stepping_sound, stepping_there}
-use Rattle.core_law.proofs.Places.{room_here}
+use Rattle.core_law.proofs.Places.{number_few, room_here}
 use Rattle.heap_table.specs.Parts.{IsDueOn}
 use Rattle.heap_table.proofs.Lawful.{law_of}
 use Rattle.heap_table.specs.Seen.{HeapSeen, PassSeen, IsOf}
@@ -85,14 +85,6 @@ owned_mark (Some (Biased thread epoch age)) prototype owners named u e = cases (
 owned_mark (Some (Locked thread place)) prototype owners named u e = absurd (cc e)
 owned_mark (Some (Inflated m)) prototype owners named u e = (m, refl, e)
 owned_mark (Some Marked) prototype owners named u e = absurd (cc e)
-
-few : (test : ℕ → ℕ → Bool) (i : ℕ) (hs : List ℕ) → count_where test i hs ≤ length hs
-few test i [] = omega arith
-few test i (y ∷ hs) = let a = few test (i + 1) hs in cases (test i y) a
-  where
-    cases : (b : Bool) → count_where test (i + 1) hs ≤ length hs → one_if b + count_where test (i + 1) hs ≤ suc (length hs)
-    cases true a = omega (arith, a)
-    cases false a = omega (arith, a)
 
 not_neutral : is_neutral 3 ≡ true → ⊥
 unfolding read_mark
@@ -298,7 +290,7 @@ module _ (w : World) (t : ℕ) (within : t < w.shape.threads) (law : HeapLaw (he
 
   pub raised_fits : r + 1 ≤ 65
   raised_fits =
-      let most : count ≤ length (w.known t).holds = few _ 0 (w.known t).holds in
+      let most : count ≤ length (w.known t).holds = number_few _ 0 (w.known t).holds in
       let all = fits.holds.places t in
       by_equal named.0 m
       (λ same.

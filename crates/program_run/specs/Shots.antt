@@ -10,7 +10,7 @@ use Rattle.plain_machine.specs.Machine.{PlainMachine}
 use Rattle.plain_monitor.specs.declared.entry.Logged.{Logged}
 use Rattle.plain_monitor.specs.History.{log_of}
 
--- the shot cuts the logs where they were, and has the owner and the count of each object of the machine behind them
+-- the shot cuts each log somewhere, and has the owner and the count of each object of the machine after the logs that are cut so
 pub record IsRightShot (p : ProgramText) (fuel : ℕ) (logs : List (List Logged)) (shot : Shot) : Type 0 where
   pub threads : length shot.cut ≡ length logs
   pub within : (u : ℕ) → slice_index shot.cut u ≤ length (log_of logs u)

@@ -27,9 +27,6 @@ later_itself k = record { local = refl; reached = refl; saw = λ n v e. e }
 pub later_than : (k l m : Known) → IsLater k l → IsLater l m → IsLater k m
 later_than k l m a b = record { local = b.local ∙ a.local; reached = b.reached ∙ a.reached; saw = λ n v e. b.saw n v (a.saw n v e) }
 
-pub settled_later : {A : Type 0} (k l : Known) (f : Known → A) (x : A) → IsLater k l → IsSettled k f x → IsSettled l f x
-settled_later k l f x a h m b = h m (later_than k l m a b)
-
 -- what was seen of a word
 pub seen_word : (k : Known) (n : Name) (v : ℕ) → last_seen n k.seen_at_safepoint ≡ Some v → IsSettled k (λ l. seen_words l n) v
 seen_word k n v saw l later = ap or_zero (later.saw n v saw)

@@ -13,9 +13,8 @@ use std::alloc::Global;
 use thread_calls::unused_passes_are_on;
 use thread_interp::Runner;
 
-/// The runners of these passes, in their order, each for a thread that may execute so many instructions: at most 200,000. Where the passes
-/// are those of a new heap of a program, made for that fuel, the runners are ready for `run`, with ticks of any length. `NoMemory` where
-/// memory is wanting.
+/// The runners of a heap's threads before the first round: where the passes are those of a new heap of a program, made for this fuel, they
+/// are ready for `run`, with ticks of any length. The fuel is at most 200,000. `NoMemory` where memory is wanting.
 pub fn first_runners(alloc: Global, passes: List<Pass>, fuel: u32) -> Result<List<Runner>, NoMemory>
     requires { fuel ≤ 200000 }
     ensures { IfOk result (λ rs. (h : HeapSeen) (p : ProgramText) (tick : ℕ) → IsHeapOf h p → AreFirst h fuel passes

@@ -81,7 +81,7 @@ impl Runner {
     }
 
     /// Looks at a safepoint whether the run is stuck, as `check_stuck`: the thread is set running before it where it is stopped, and
-    /// stopped behind it where it runs. The thread's log and what it stands before stay as they are.
+    /// stopped after it where it runs. What the thread stands before stays as it is.
     pub fn check(&mut self, program: &Program, heap: &Heap) -> Turn<bool>
         requires heap { IsHeapOf heap.now program.now }
         requires runner { IsRunner heap.now program.now self.old }

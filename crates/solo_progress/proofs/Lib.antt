@@ -1,0 +1,15 @@
+pub mod OneRun
+pub mod Exits
+pub mod Spares
+pub mod Safe
+pub mod Monitors
+pub mod Enters
+pub mod Operations
+pub mod Worlds
+pub mod Runs
+pub mod Laws
+pub mod SmallReady
+pub mod Mids
+pub mod Exact
+pub mod Missing
+pub mod PairReached

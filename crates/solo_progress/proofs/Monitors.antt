@@ -1,0 +1,199 @@
+-- Inflating and entering a monitor miss no exchange.
+use Rattle.std.proofs.Common.{◌≡◌, ◌≢◌, ℕ, ◌==◌, cond, not, Bool, true, false, Option, Some, None, refl, sym, ap, ◌∙◌, subst, arith, eq-eqb}
+use Rattle.mark_word.specs.declared.mark.MarkForm.{MarkForm}
+use Rattle.mark_word.specs.declared.mark.MarkForm.TheVariants.{Inflating, Neutral, Locked, Inflated}
+use Rattle.mark_word.specs.declared.owner.OwnerForm.{OwnerForm}
+use Rattle.mark_word.specs.declared.owner.OwnerForm.TheVariants.{Free, ByThread, ByRecord}
+use Rattle.mark_word.specs.Mark.{read_mark, mark_of}
+use Rattle.mark_word.specs.Owner.{read_owner, owner_of}
+use Rattle.mark_word.proofs.ReadingMarks.{read_mark-spells}
+use Rattle.mark_word.proofs.ReadingOwners.{read_owner-owner_of}
+use Rattle.plain_monitor.specs.declared.entry.Path.{Path}
+use Rattle.plain_monitor.specs.declared.entry.Path.TheVariants.{MonitorFirst, MonitorAgain, StackFirst, StackAgain}
+use Rattle.core_world.specs.declared.name.Name.{Name}
+use Rattle.core_world.specs.declared.name.Name.TheVariants.{Mark, Owner}
+use Rattle.core_world.specs.declared.stage.Stage.{Stage}
+use Rattle.core_world.specs.declared.stage.Stage.TheVariants.{Grabs, Ahead}
+use Rattle.core_world.specs.declared.answer.Turn.{Turn}
+use Rattle.core_world.specs.Words.Names.{same_name}
+use Rattle.core_world.specs.Threads.Known.{Local, Start}
+use Rattle.core_world.specs.Trees.LockSteps.{hold_steps, stack_enter_at, stack_enter_steps}
+use Rattle.core_world.specs.Trees.MonitorSteps.{inflate_steps, inflate_at, inflate_by, inflate_with, monitor_enter_steps, monitor_enter_at, record_steps}
+use Rattle.core_world.specs.Trees.Operations.{enter_monitor_steps, enter_at}
+use Rattle.core_world.specs.Trees.Plans.{Purpose}
+use Rattle.core_world.proofs.OwnersShown.{with_word_there}
+use Rattle.core_calls.specs.Causes.{is_other_form, names_other}
+use Rattle.solo_progress.specs.Alone.{Quiet}
+use Rattle.solo_progress.specs.Answers.{IsDone, PendsWhere}
+use Rattle.solo_progress.proofs.OneRun.{Alone, alone_either, load_leaves, not_inflating, DoneWith, alone_past}
+use Rattle.solo_progress.proofs.Safe.{alone_turn}
+
+-- who owns the monitor that an inflation of a mark of this form finds or makes, by the words f before and g after
+abbrev pub OwnerAfter : Option MarkForm → (Name → ℕ) → (Name → ℕ) → ℕ → Type 0
+OwnerAfter (Some (Inflated monitor)) f g m = (m ≡ monitor) × (g (Owner m) ≡ f (Owner m))
+OwnerAfter (Some (Locked thread place)) f g m = g (Owner m) ≡ owner_of (ByRecord thread place)
+OwnerAfter (Some (Neutral hash age)) f g m = g (Owner m) ≡ owner_of Free
+OwnerAfter _ f g m = ⊥
+
+-- a mark that was exchanged for 0 and then stored
+named_some : (b : Bool) (m n : ℕ) → m ≢ 0 → n ≢ 0 → cond b m (cond b 0 n) ≢ 0
+named_some true m n h g = h
+named_some false m n h g = g
+
+some_of : (m : ℕ) → mark_of (Inflated m) ≢ 0
+some_of m z = absurd (omega (arith, z))
+
+-- the word of a name after an exchange: m where it is the name and the exchange hit, and else what it was
+pub one_some : (b c : Bool) (m n l : ℕ) → m ≢ 0 → n ≢ 0 → l ≢ 0 → cond b (cond c m l) n ≢ 0
+one_some true true m n l h g i = h
+one_some true false m n l h g i = i
+one_some false c m n l h g i = g
+
+pub own_word : (n : Name) (v w : ℕ) → cond (same_name n n) v w ≡ v
+own_word n v w = with_word_there n v (λ _. w)
+
+module _ (safe : ℕ) (e : Purpose) (o : ℕ) where
+  abbrev Makes : Option MarkForm → (Name → ℕ) → (Name → ℕ) → Turn ℕ → Type 0
+  Makes form f g turn = DoneWith (λ m. Quiet safe g × OwnerAfter form f g m) turn
+
+  with_alone : (form : Option MarkForm) (mark m : ℕ) (f g : Name → ℕ) → g (Mark o) ≡ mark → Quiet safe g
+      → Alone (λ h turn. Makes form f h turn) g (inflate_with form e o mark m)
+  with_alone (Some (Locked thread place)) mark m f g is q =
+      alone_either (λ h turn. Makes (Some (Locked thread place)) f h turn) _ (g (Mark o) == mark) _ _
+      (λ hit. (
+        record {
+          marks = λ i. subst (λ n. cond (same_name (Mark i) (Mark o)) (mark_of (Inflated m))
+              (cond (same_name (Mark i) (Mark o)) n (g (Mark i))) ≢ 0)
+              (sym (ap (λ (b : Bool). cond b 0 (g (Mark o))) hit))
+              (named_some (same_name (Mark i) (Mark o)) (mark_of (Inflated m)) (g (Mark i)) (some_of m) (q.marks i));
+          safepoint = q.safepoint;
+        },
+        own_word (Owner m) (owner_of (ByRecord thread place)) _,
+      ))
+      (λ miss. let same = eq-eqb (g (Mark o)) mark is in absurd (cc (miss, same)))
+  with_alone (Some (Neutral hash age)) mark m f g is q =
+      alone_either (λ h turn. Makes (Some (Neutral hash age)) f h turn) _ (g (Mark o) == mark) _ _
+      (λ hit. (
+        record {
+          marks = λ i. one_some (same_name (Mark i) (Mark o)) (g (Mark o) == mark) (mark_of (Inflated m)) (g (Mark i)) (g (Mark o))
+              (some_of m) (q.marks i) (q.marks o);
+          safepoint = q.safepoint;
+        },
+        own_word (Owner m) (owner_of Free) _,
+      ))
+      (λ miss. let same = eq-eqb (g (Mark o)) mark is in absurd (cc (miss, same)))
+  with_alone _ mark m f g is q = tt
+
+  by_alone : (kept : Option ℕ) (mark : ℕ) (f g : Name → ℕ) → g (Mark o) ≡ mark → Quiet safe g
+      → Alone (λ h turn. Makes (read_mark mark) f h turn) g (inflate_by kept e o mark)
+  by_alone (Some m) mark f g is q = with_alone (read_mark mark) mark m f g is q
+  by_alone None mark f g is q = with_alone (read_mark mark) mark _ f _ is (record { marks = q.marks; safepoint = q.safepoint })
+
+  at_alone : (form : Option MarkForm) (kept : Option ℕ) (mark : ℕ) (f g : Name → ℕ) → read_mark mark ≡ form → mark ≢ 0 → g (Mark o) ≡ mark
+      → ((m : ℕ) → g (Owner m) ≡ f (Owner m)) → Quiet safe g
+      → Alone (λ h turn. Makes form f h turn) g (inflate_at form e kept o mark)
+  at_alone (Some Inflating) kept mark f g reads some is owners q = absurd (not_inflating mark some reads)
+  at_alone (Some (Inflated monitor)) kept mark f g reads some is owners q = (q, (refl, owners monitor))
+  at_alone form kept mark f g reads some is owners q =
+      subst (λ x. Alone (λ h turn. Makes x f h turn) g (inflate_by kept e o mark)) reads (by_alone kept mark f g is q)
+
+  pub inflate_alone : (kept : Option ℕ) (f : Name → ℕ) → Quiet safe f
+      → Alone (λ h turn. Makes (read_mark (f (Mark o))) f h turn) f (inflate_steps e kept o)
+  inflate_alone kept f q =
+      at_alone (read_mark (f (Mark o))) kept (f (Mark o)) f _ refl (q.marks o) (load_leaves (Mark o) (Mark o) f) (λ m. refl)
+      (record { marks = λ i. subst (λ n. n ≢ 0) (sym (load_leaves (Mark o) (Mark i) f)) (q.marks i); safepoint = q.safepoint })
+
+module _ (e : Purpose) (k : Local) (o : ℕ) where
+  -- an enter by a lock record that is given the object's mark
+  pub stack_enter_alone : (mark : ℕ) (f : Name → ℕ) → f (Mark o) ≡ mark → Alone (λ g turn. IsDone turn) f (stack_enter_steps e k o mark)
+  stack_enter_alone mark f is = by_form (read_mark mark)
+    where
+      by_form : (form : Option MarkForm) → Alone (λ g turn. IsDone turn) f (stack_enter_at form e k o mark)
+      by_form (Some (Neutral hash age)) =
+          alone_either (λ g turn. IsDone turn) _ (f (Mark o) == mark) _ _
+          (λ _. alone_past (λ g turn. IsDone turn) (hold_steps e k o StackFirst) _ _ (λ g path. tt))
+          (λ miss. let same = eq-eqb (f (Mark o)) mark is in absurd (cc (miss, same)))
+      by_form (Some (Locked thread place)) = alone_past (λ g turn. IsDone turn) (hold_steps e k o StackAgain) _ _ (λ g path. tt)
+      by_form _ = tt
+
+  record_alone : (stage : Stage) (by : Path) (f : Name → ℕ) (b : Bool) → b ≡ false
+      → Alone (λ g turn. PendsWhere b turn) f (record_steps e stage k o by)
+  record_alone stage by f b free =
+      alone_past (λ g turn. PendsWhere b turn) (hold_steps e k o by) _ _ (λ g path. free)
+
+  -- by the owner word that is found
+  pub monitor_enter_alone : (m : ℕ) (f : Name → ℕ)
+      → Alone (λ g turn. PendsWhere (names_other (f (Owner m)) k.thread) turn) f (monitor_enter_steps e k o m)
+  monitor_enter_alone m f = by_form (read_owner (f (Owner m))) (f (Owner m)) _
+    where
+      by_form : (form : Option OwnerForm) (found : ℕ) (g : Name → ℕ)
+          → Alone (λ h turn. PendsWhere (is_other_form form k.thread) turn) g (monitor_enter_at form e k o m found)
+      by_form (Some Free) found g = record_alone (Grabs o) MonitorFirst g false refl
+      by_form (Some (ByThread thread)) found g =
+          alone_either (λ h turn. PendsWhere (not (thread == k.thread)) turn) g (thread == k.thread) _ _
+          (λ own. record_alone (Ahead o) MonitorAgain _ (not (thread == k.thread)) (ap not own)) (λ other. ap not other)
+      by_form (Some (ByRecord thread place)) found g =
+          alone_either (λ h turn. PendsWhere (not (thread == k.thread)) turn) g (thread == k.thread) _ _
+          (λ own. record_alone (Ahead o) MonitorAgain _ (not (thread == k.thread)) (ap not own)) (λ other. ap not other)
+      by_form None found g = tt
+
+-- the mark says that a thread other than t has the lock, by itself or by the monitor's owner
+abbrev pub owned_by : Option MarkForm → (Name → ℕ) → ℕ → Bool
+owned_by (Some (Locked thread place)) f t = not (thread == t)
+owned_by (Some (Inflated monitor)) f t = names_other (f (Owner monitor)) t
+owned_by _ f t = false
+
+module _ (safe : ℕ) (e : Purpose) (k : Start) (o : ℕ) where
+  abbrev t : ℕ
+  t = k.local.thread
+
+  by_monitor_alone : (f : Name → ℕ) → Quiet safe f
+      → Alone (λ g turn. PendsWhere (owned_by (read_mark (f (Mark o))) f t) turn) f (enter_monitor_steps e k o)
+  by_monitor_alone f q =
+      alone_turn (λ g m. Quiet safe g × OwnerAfter (read_mark (f (Mark o))) f g m)
+      (λ g turn. PendsWhere (owned_by (read_mark (f (Mark o))) f t) turn)
+      (inflate_steps e k.kept o) (λ m. monitor_enter_steps e k.local o m) f (inflate_alone safe e o k.kept f q)
+      (λ g m h. subst (λ b. Alone (λ g turn. PendsWhere b turn) g (monitor_enter_steps e k.local o m))
+      (owner_told (read_mark (f (Mark o))) refl g m h.1) (monitor_enter_alone e k.local o m g))
+    where
+      owner_told : (form : Option MarkForm) → read_mark (f (Mark o)) ≡ form → (g : Name → ℕ) (m : ℕ) → OwnerAfter form f g m
+          → names_other (g (Owner m)) t ≡ owned_by form f t
+      owner_told (Some (Inflated monitor)) reads g m h = ap (λ n. names_other n t) h.1 ∙ ap (λ i. names_other (f (Owner i)) t) h.0
+      owner_told (Some (Locked thread place)) reads g m h =
+          ap (λ n. names_other n t) h ∙ ap (λ form. is_other_form form t)
+          (read_owner-owner_of (ByRecord thread place) ((read_mark-spells (f (Mark o)) (Locked thread place) reads).0))
+      owner_told (Some (Neutral hash age)) reads g m h =
+          ap (λ n. names_other n t) h ∙ ap (λ form. is_other_form form t) (read_owner-owner_of Free tt)
+      owner_told _ reads g m h = absurd h
+
+  pub enter_at_alone : (f : Name → ℕ) → Quiet safe f
+      → Alone (λ g turn. PendsWhere (owned_by (read_mark (f (Mark o))) f t) turn) f (enter_at (read_mark (f (Mark o))) e k o (f (Mark o)))
+  enter_at_alone f q = by_form (read_mark (f (Mark o))) refl
+    where
+      by_stack : (form : Option MarkForm) → (read_mark (f (Mark o)) ≡ form) → owned_by form f t ≡ false
+          → Alone (λ g turn. PendsWhere (owned_by form f t) turn) f (stack_enter_at form e k.local o (f (Mark o)))
+      by_stack (Some (Neutral hash age)) reads free =
+          alone_either (λ g turn. PendsWhere false turn) _ (f (Mark o) == f (Mark o)) _ _
+          (λ _. alone_past (λ g turn. PendsWhere false turn) (hold_steps e k.local o StackFirst) _ _ (λ g path. refl))
+          (λ miss. let same = eq-eqb (f (Mark o)) (f (Mark o)) refl in absurd (cc (miss, same)))
+      by_stack (Some (Locked thread place)) reads free =
+          alone_past (λ g turn. PendsWhere (not (thread == t)) turn) (hold_steps e k.local o StackAgain) _ _ (λ g path. free)
+      by_stack _ reads free = tt
+
+      whole_stack : (form : Option MarkForm) → (read_mark (f (Mark o)) ≡ form) → owned_by form f t ≡ false
+          → Alone (λ g turn. PendsWhere (owned_by form f t) turn) f (stack_enter_steps e k.local o (f (Mark o)))
+      whole_stack form reads free =
+          subst (λ x. Alone (λ g turn. PendsWhere (owned_by form f t) turn) f (stack_enter_at x e k.local o (f (Mark o)))) (sym reads)
+          (by_stack form reads free)
+
+      by_form : (form : Option MarkForm) → read_mark (f (Mark o)) ≡ form
+          → Alone (λ g turn. PendsWhere (owned_by form f t) turn) f (enter_at form e k o (f (Mark o)))
+      by_form (Some Inflating) reads = absurd (not_inflating (f (Mark o)) (q.marks o) reads)
+      by_form (Some (Neutral hash age)) reads = whole_stack (Some (Neutral hash age)) reads refl
+      by_form (Some (Locked thread place)) reads =
+          alone_either (λ g turn. PendsWhere (not (thread == t)) turn) f (thread == t) _ _
+          (λ own. whole_stack (Some (Locked thread place)) reads (ap not own))
+          (λ _. subst (λ form. Alone (λ g turn. PendsWhere (owned_by form f t) turn) f (enter_monitor_steps e k o)) reads
+          (by_monitor_alone f q))
+      by_form (Some (Inflated monitor)) reads = monitor_enter_alone e k.local o monitor f
+      by_form _ reads = tt

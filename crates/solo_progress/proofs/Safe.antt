@@ -1,0 +1,133 @@
+-- A safepoint of a thread that is left alone is reached at once, and its release puts it back.
+use Rattle.std.proofs.Common.{◌≡◌, ℕ, ◌-◌, ◌^◌, ◌<◌, ◌==◌, cond, is_some, Bool, true, false, Some, None, refl, ap, ◌∙◌, arith, eq-eqb}
+use Rattle.std.proofs.lemmas.Nat.{pow_below}
+use Rattle.mark_word.specs.declared.safe.SafeForm.{SafeForm}
+use Rattle.mark_word.specs.Safe.{safe_of, read_safe}
+use Rattle.mark_word.proofs.ReadingSafepoints.{read_safe-safe_of}
+use Rattle.core_world.specs.declared.name.Name.{Name}
+use Rattle.core_world.specs.declared.name.Name.TheVariants.{Safepoint}
+use Rattle.core_world.specs.declared.stage.Stage.{Stage}
+use Rattle.core_world.specs.declared.answer.Turn.{Turn}
+use Rattle.core_world.specs.declared.answer.Turn.TheVariants.{Done, Pending}
+use Rattle.core_world.specs.Threads.Stages.{Revocation}
+use Rattle.core_world.specs.Words.Forms.{requester_in, requester_form, still_form, is_still}
+use Rattle.core_world.specs.Words.Shape.{Shape}
+use Rattle.core_world.specs.Trees.BiasSteps.{stage_after}
+use Rattle.core_world.specs.Trees.Operations.{and_then, revocation_steps}
+use Rattle.core_world.specs.Trees.Plans.{Purpose}
+use Rattle.core_world.specs.Trees.RevocationSteps.{RevocationOutcome, revoke_at_safepoint_steps}
+use Rattle.core_world.specs.Trees.SafepointSteps.{has_requester, requested_by, reached_word, released_word, request_steps, reached_steps, then_reached, safepoint_steps, release_to}
+use Rattle.core_world.specs.Trees.Todo.{Todo, ◌>>=◌}
+use Rattle.solo_progress.specs.Alone.{Quiet, word_of_one}
+use Rattle.solo_progress.specs.Answers.{IsDone}
+use Rattle.solo_progress.proofs.OneRun.{Alone, alone_then, alone_so, alone_either, DoneWith}
+use Rattle.core_calls.proofs.Stays.{Whatever}
+use Rattle.core_calls.proofs.StaysLooks.{revocation_spares}
+use Rattle.solo_progress.proofs.Spares.{Still, quiet_alone}
+
+-- A TURN that is done goes on.
+pub alone_turn : {A B : Type 0} (Q : (Name → ℕ) → A → Type 0) (P : (Name → ℕ) → Turn B → Type 0) (d : Todo (Turn A)) (k : A → Todo (Turn B)) (f : Name → ℕ)
+    → Alone (λ g turn. DoneWith (Q g) turn) f d → ((g : Name → ℕ) (a : A) → Q g a → Alone P g (k a))
+    → Alone P f (d >>= λ turn. and_then turn k)
+alone_turn {A} Q P d k f h more = alone_then (λ g turn. DoneWith (Q g) turn) P d (λ turn. and_then turn k) f h by_turn
+  where
+    by_turn : (g : Name → ℕ) (turn : Turn A) → DoneWith (Q g) turn → Alone P g (and_then turn k)
+    by_turn g (Done a) h = more g a h
+    by_turn g (Pending why) h = absurd h
+
+abbrev pub IsQuietTurn : {A : Type 0} → ℕ → (Name → ℕ) → Turn A → Type 0
+IsQuietTurn safe g turn = DoneWith (λ a. Quiet safe g) turn
+
+module _ (t : ℕ) (low : t < 32) where
+  abbrev released : SafeForm
+  released = record { running = 2 ^ t; requester = None; halted = false }
+
+  abbrev reached : SafeForm
+  reached = record { running = 0; requester = Some t; halted = false }
+
+  reads_released : read_safe (released_word t) ≡ Some released
+  reads_released = read_safe-safe_of released (pow_below t 32 low, tt)
+
+  reads_reached : read_safe (reached_word t) ≡ Some reached
+  reads_reached = read_safe-safe_of reached (omega arith, low)
+
+  pub unasked : has_requester (released_word t) ≡ false
+  unasked = ap (λ f. is_some (requester_form f)) reads_released
+
+  pub no_requester : requester_in (released_word t) ≡ None
+  no_requester = ap requester_form reads_released
+
+  requested : requested_by (read_safe (released_word t)) t ≡ reached_word t
+  requested =
+      ap (λ f. requested_by f t) reads_released ∙ ap (λ n. safe_of (record { running = n; requester = Some t; halted = false }))
+      (let z : 2 ^ t - 2 ^ t ≡ 0 = omega arith in z)
+
+  still : is_still (reached_word t) ≡ true
+  still = ap still_form reads_reached
+
+  reached_alone : (e : Purpose) (f : Name → ℕ) → Quiet (reached_word t) f
+      → Alone (IsQuietTurn {A = Unit {0}} (reached_word t)) f (reached_steps e)
+  reached_alone e f q =
+      alone_either (IsQuietTurn {A = Unit {0}} (reached_word t)) _ (is_still (f Safepoint)) _ _
+      (λ _. record { marks = q.marks; safepoint = q.safepoint })
+      (λ no_still. let yes_still = ap is_still q.safepoint ∙ still in absurd (cc (no_still, yes_still)))
+
+  request_alone : (e : Purpose) (f : Name → ℕ) → Quiet (released_word t) f
+      → Alone (IsQuietTurn {A = Unit {0}} (reached_word t)) f (request_steps e t)
+  request_alone e f q =
+      alone_either (IsQuietTurn {A = Unit {0}} (reached_word t)) _ (has_requester (f Safepoint)) _ _
+      (λ asked. let none = ap has_requester q.safepoint ∙ unasked in absurd (cc (asked, none)))
+      (λ _. alone_either (IsQuietTurn {A = Unit {0}} (reached_word t)) _ (f Safepoint == f Safepoint) _ _
+      (λ hit. record {
+        marks = q.marks;
+        safepoint = ap (λ (b : Bool). cond b (requested_by (read_safe (f Safepoint)) t) (f Safepoint)) hit
+            ∙ ap (λ n. requested_by (read_safe n) t) q.safepoint ∙ requested;
+      })
+      (λ miss. let same = eq-eqb (f Safepoint) (f Safepoint) refl in absurd (cc (miss, same))))
+
+  -- each of the two by itself
+  is_done : {A : Type 0} (safe : ℕ) (g : Name → ℕ) (turn : Turn A) → IsQuietTurn safe g turn → IsDone turn
+  is_done safe g (Done a) h = tt
+  is_done safe g (Pending why) h = absurd h
+
+  pub requests_done : (e : Purpose) (f : Name → ℕ) → Quiet (released_word t) f → Alone (λ g turn. IsDone turn) f (request_steps e t)
+  requests_done e f q =
+      alone_so (IsQuietTurn {A = Unit {0}} (reached_word t)) (λ g turn. IsDone turn) (request_steps e t) f (request_alone e f q)
+      (λ g turn h. is_done (reached_word t) g turn h)
+
+  pub reaches_done : (e : Purpose) (f : Name → ℕ) → Quiet (reached_word t) f → Alone (λ g turn. IsDone turn) f (reached_steps e)
+  reaches_done e f q =
+      alone_so (IsQuietTurn {A = Unit {0}} (reached_word t)) (λ g turn. IsDone turn) (reached_steps e) f (reached_alone e f q)
+      (λ g turn h. is_done (reached_word t) g turn h)
+
+  pub safepoint_alone : (e : Purpose) (requesting : Bool) (f : Name → ℕ) → Quiet (word_of_one requesting t) f
+      → Alone (IsQuietTurn {A = Unit {0}} (reached_word t)) f (safepoint_steps e t requesting)
+  safepoint_alone e true f q = reached_alone e f q
+  safepoint_alone e false f q =
+      alone_then (IsQuietTurn {A = Unit {0}} (reached_word t)) (IsQuietTurn {A = Unit {0}} (reached_word t)) (request_steps e t)
+      (then_reached e) f (request_alone e f q) by_turn
+    where
+      by_turn : (g : Name → ℕ) (turn : Turn (Unit {0})) → IsQuietTurn (reached_word t) g turn
+          → Alone (IsQuietTurn {A = Unit {0}} (reached_word t)) g (then_reached e turn)
+      by_turn g (Done x) q = reached_alone e g q
+      by_turn g (Pending why) q = absurd q
+
+  pub release_alone : (stage : Stage) (e : Purpose) (f : Name → ℕ) → Quiet (reached_word t) f
+      → Alone (λ g (x : Unit {0}). Quiet (released_word t) g) f (release_to stage e t)
+  release_alone stage e f q =
+      alone_either (λ g (x : Unit {0}). Quiet (released_word t) g) _ (f Safepoint == reached_word t) _ _
+      (λ hit. record { marks = q.marks; safepoint = ap (λ (b : Bool). cond b (released_word t) (f Safepoint)) hit })
+      (λ _. tt)
+
+  -- so a revocation at a safepoint isn't pending
+  pub revocation_alone : (s : Shape) (requesting : Bool) (e : Purpose) (b : Revocation) (f : Name → ℕ) → Quiet (word_of_one requesting t) f
+      → Alone (IsQuietTurn {A = Bool} (released_word t)) f (revocation_steps s t requesting e b)
+  revocation_alone s requesting e b f q =
+      alone_turn (λ g (x : Unit {0}). Quiet (reached_word t) g) (IsQuietTurn {A = Bool} (released_word t))
+      (safepoint_steps e t requesting) _ f (safepoint_alone e requesting f q)
+      (λ g x q. alone_then (Still {A = RevocationOutcome} Whatever (reached_word t)) (IsQuietTurn {A = Bool} (released_word t))
+      (revoke_at_safepoint_steps s t e b) _ g
+      (quiet_alone Whatever (reached_word t) (revoke_at_safepoint_steps s t e b) g (revocation_spares e b s t) q)
+      (λ h outcome q. alone_then (λ i (x : Unit {0}). Quiet (released_word t) i) (IsQuietTurn {A = Bool} (released_word t))
+      (release_to (stage_after outcome.took b.object) e t) _ h
+      (release_alone (stage_after outcome.took b.object) e h q.1) (λ i x q. q)))

@@ -1,0 +1,102 @@
+-- What calls that are left alone answer, by the words that they begin with.
+use Rattle.std.specs.Prelude.{◌≡◌, ℕ, ◌==◌, ◌&&◌, not, cond, Bool, true, false, Option, Some, None, Result, Ok, Err}
+use Rattle.mark_word.specs.declared.mark.MarkForm.{MarkForm}
+use Rattle.mark_word.specs.declared.mark.MarkForm.TheVariants.{Biased}
+use Rattle.mark_word.specs.declared.wait.WaitForm.{WaitForm}
+use Rattle.mark_word.specs.declared.wait.WaitForm.TheVariants as wait
+use Rattle.mark_word.specs.Mark.{read_mark}
+use Rattle.mark_word.specs.Wait.{read_wait}
+use Rattle.core_world.specs.declared.answer.StackOut.{StackOut}
+use Rattle.core_world.specs.declared.answer.StackOut.TheVariants.{Left, Monitor, Not}
+use Rattle.core_world.specs.declared.answer.Turn.{Turn}
+use Rattle.core_world.specs.declared.answer.Turn.TheVariants.{Done, Pending}
+use Rattle.core_world.specs.declared.answer.Unguarded.{Unguarded}
+use Rattle.core_world.specs.declared.answer.Why.TheVariants.{Owned, NotNotified}
+use Rattle.core_world.specs.declared.name.Name.{Name}
+use Rattle.core_world.specs.declared.name.Name.TheVariants.{Mark, Prototype, Owner}
+use Rattle.core_world.specs.Words.Forms.{epoch_in}
+use Rattle.core_world.specs.Words.Shape.{Shape, class_of}
+use Rattle.core_world.specs.Locks.{has_epoch, lock_form, holder, hold_count}
+use Rattle.core_world.specs.RevocationRules.{holds_in}
+use Rattle.core_world.specs.Threads.Known.{Start}
+use Rattle.core_calls.specs.CallsSay.{has_none}
+
+-- WHO HAS A LOCK. A thread other than t.
+abbrev pub is_other : Option ℕ → ℕ → Bool
+is_other None t = false
+is_other (Some u) t = not (u == t)
+
+-- who has the lock of o by these words, where no object is being inflated
+abbrev pub who_in : Shape → (Name → ℕ) → ℕ → Option ℕ
+who_in s f o =
+    holder (lock_form (read_mark (f (Mark o))) (f (Prototype (class_of s o))) (λ m. f (Owner m)) None)
+    (λ u. hold_count o (holds_in f u))
+
+-- by these words a thread other than t has it
+abbrev pub is_anothers : Shape → (Name → ℕ) → ℕ → ℕ → Bool
+is_anothers s f o t = is_other (who_in s f o) t
+
+-- the mark is validly biased to a thread other than t
+abbrev pub is_others_form : Option MarkForm → ℕ → ℕ → Bool
+is_others_form (Some (Biased thread epoch age)) prototype t = has_epoch (epoch_in prototype) epoch && not (thread == t)
+is_others_form _ prototype t = false
+
+abbrev pub is_others_bias : Shape → (Name → ℕ) → ℕ → ℕ → Bool
+is_others_bias s f o t = is_others_form (read_mark (f (Mark o))) (f (Prototype (class_of s o))) t
+
+-- the waiting word says Notified
+abbrev pub is_told_form : Option WaitForm → Bool
+is_told_form (Some (wait.Notified object)) = true
+is_told_form _ = false
+
+abbrev pub is_told : ℕ → Bool
+is_told word = is_told_form (read_wait word)
+
+-- TURNS. It isn't pending.
+abbrev pub IsDone : {A : Type 0} → Turn A → Type 0
+IsDone (Done a) = Unit {0}
+IsDone (Pending why) = ⊥
+
+-- it is pending, for whatever cause
+abbrev pub is_pending : {A : Type 0} → Turn A → Bool
+is_pending (Done a) = false
+is_pending (Pending why) = true
+
+-- pending exactly where the lock is another's, and then for that
+abbrev pub PendsWhere : {A : Type 0} → Bool → Turn A → Type 0
+PendsWhere owned (Done a) = owned ≡ false
+PendsWhere owned (Pending (Owned word)) = owned ≡ true
+PendsWhere owned (Pending _) = ⊥
+
+-- pending for an owner, if at all
+abbrev pub PendsForOwner : {A : Type 0} → Turn A → Type 0
+PendsForOwner (Done a) = Unit {0}
+PendsForOwner (Pending (Owned word)) = Unit {0}
+PendsForOwner (Pending _) = ⊥
+
+-- of a wait: done exactly where its thread was told and the lock isn't another's; else pending for the notify, or for the owner
+abbrev pub WaitsWhere : {A : Type 0} → Bool → Bool → Turn A → Type 0
+WaitsWhere told owned (Done a) = (told ≡ true) × (owned ≡ false)
+WaitsWhere told owned (Pending (NotNotified word)) = told ≡ false
+WaitsWhere told owned (Pending (Owned word)) = (told ≡ true) × (owned ≡ true)
+WaitsWhere told owned (Pending _) = ⊥
+
+-- pending for a notify
+abbrev pub LetsGo : {A : Type 0} → Turn A → Type 0
+LetsGo (Pending (NotNotified word)) = Unit {0}
+LetsGo _ = ⊥
+
+-- an exit from a lock record has left it, or the lock is to be left by this monitor
+abbrev pub IsOut : StackOut → Type 0
+IsOut Left = Unit {0}
+IsOut (Monitor number) = Unit {0}
+IsOut (Not why) = ⊥
+
+-- RESULTS. A refusal exactly where it is to be refused, and else a turn of which P holds.
+abbrev pub RefusedWhere : {A E : Type 0} → Bool → (Turn A → Type 0) → Result (Turn A) E → Type 0
+RefusedWhere refused P (Ok turn) = (refused ≡ false) × P turn
+RefusedWhere refused P (Err e) = refused ≡ true
+
+-- of a get or a put by a thread that knows k: refused without a hold on o, and else this answer
+abbrev pub guarded : {A : Type 0} → Start → ℕ → A → Result A Unguarded
+guarded {A} k o answer = cond {A = Result A Unguarded} (has_none k o) (Err record {}) (Ok answer)

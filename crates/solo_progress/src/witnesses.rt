@@ -1,0 +1,44 @@
+//! Worlds to which small heaps come, in which a thread is left alone and may begin calls: so what these laws of `through` ask for comes
+//! about. Of a get, a put, a wait that goes on, and the two parts after a request it isn't shown. The functions do nothing.
+
+ghost use Rattle.std.specs.Prelude.{◌≡◌, ℕ, true, [], ◌∷◌};
+ghost use Rattle.plain_monitor.specs.declared.entry.Ending.{Ending};
+ghost use Rattle.plain_monitor.specs.declared.entry.Value.TheVariants.{Nil};
+ghost use Rattle.core_world.specs.declared.task.Task.TheVariants as task;
+ghost use Rattle.core_world.specs.Opening.{opening};
+ghost use Rattle.core_law.specs.Reached.{Comes};
+ghost use Rattle.core_steps.specs.SmallWorlds.{small, running, neutral, entered};
+ghost use Rattle.solo_progress.specs.Answers.{is_others_bias};
+ghost use Rattle.solo_progress.specs.LeftAlone.{IsReady, MayCall};
+ghost use Rattle.solo_progress.specs.PairWorlds.{pair, alone};
+ghost use Rattle.solo_progress.specs.Witnesses.{unowned, owned};
+
+/// In a heap without biases, of one thread and one object: where the thread runs, it may enter the object, by the whole call or by a lock
+/// record alone, ask for its hash, dump, print, finish, poll, stop, and ask for a safepoint. Where it has entered, it may leave, by the
+/// whole call or by its record, wait, notify one or all, and check. In the opening world it may resume.
+pub fn calls_can_begin()
+    ensures enter { (now : ℕ) → IsReady small running (unowned ∷ []) 0 (task.Enter 0 now) }
+    ensures stack_enter { IsReady small running (unowned ∷ []) 0 (task.StackEnter 0 neutral) }
+    ensures hash { (now : ℕ) → IsReady small running (unowned ∷ []) 0 (task.Hash 0 now) }
+    ensures dump { IsReady small running (unowned ∷ []) 0 task.Dump }
+    ensures request { IsReady small running (unowned ∷ []) 0 task.Request }
+    ensures print { MayCall small running 0 (task.Print Nil) }
+    ensures finish { (ending : Ending) → MayCall small running 0 (task.Finish ending) }
+    ensures poll { IsReady small running (unowned ∷ []) 0 task.Poll }
+    ensures stop { MayCall small running 0 task.Stop }
+    ensures exit { IsReady small entered (owned ∷ []) 0 (task.Exit 0) }
+    ensures stack_exit { IsReady small entered (owned ∷ []) 0 (task.StackExit 0) }
+    ensures wait { (now : ℕ) → IsReady small entered (owned ∷ []) 0 (task.Wait 0 now) }
+    ensures notify { (now : ℕ) → IsReady small entered (owned ∷ []) 0 (task.Notify 0 now) }
+    ensures notify_all { (now : ℕ) → IsReady small entered (owned ∷ []) 0 (task.NotifyAll 0 now) }
+    ensures check { IsReady small entered (owned ∷ []) 0 task.Check }
+    ensures resume { MayCall small (opening small.shape small.start small.biasing) 0 task.Resume }
+{}
+
+/// In a heap with biases, of two threads and one object: thread 1 is left alone, and may enter the object, which is validly biased to
+/// thread 0 and owned by it. So the law of enters speaks of revocations too.
+pub fn a_thread_can_be_left_alone_before_a_revocation()
+    ensures comes { Comes pair alone }
+    ensures ready { (now : ℕ) → IsReady pair alone (owned ∷ []) 1 (task.Enter 0 now) }
+    ensures biased { is_others_bias alone.shape alone.words 0 1 ≡ true }
+{}

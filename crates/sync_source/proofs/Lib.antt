@@ -1,0 +1,16 @@
+pub mod Placed
+pub mod Steps
+pub mod Units
+pub mod Traps
+pub mod Entries
+pub mod Machines
+pub mod Starts
+pub mod Orders
+pub mod Indexes
+pub mod Same
+pub mod Viewed
+pub mod Targets
+pub mod Names
+pub mod Labels
+pub mod OpenSyncs
+pub mod ExitsAndEnds

@@ -1,0 +1,308 @@
+-- A thread of a program with blocks holds just what its open `sync`s have entered, since nothing gives a value to their locals before their
+-- exits.
+use Rattle.std.proofs.Common.{◌≡◌, ℕ, ◌+◌, ◌-◌, ◌≤◌, ◌==◌, ℤ, ◌+ℤ◌, ◌-ℤ◌, ◌*ℤ◌, nat_abs, Bool, true, false, if◌then◌else◌, List, [], ◌∷◌, slice_index, slice_index_or, slice_set, slice_get, sum, nat_le, nat_lt, Option, refl, sym, ap, ◌∙◌, subst, arith, eq-eqb, leb-false, get_or-set_other}
+use Rattle.std.specs.Prelude.{int_lt}
+use Rattle.std.specs.List.{AllByRecursion}
+use Rattle.std.proofs.lemmas.Bool.{false≢true}
+use Rattle.plain_monitor.specs.declared.entry.Value.{Value}
+use Rattle.plain_monitor.specs.declared.entry.Value.TheVariants.{Nil, Int, Ref}
+use Rattle.plain_monitor.specs.declared.entry.Fault.{Fault}
+use Rattle.plain_monitor.specs.declared.entry.Fault.TheVariants.{IllegalMonitorState, Unguarded, Range, Overflow, TooDeep, TooManyDumps}
+use Rattle.plain_monitor.specs.Numbers.{is_in_range}
+use Rattle.plain_monitor.specs.Objects.{same_value}
+use Rattle.object_program.specs.declared.program.ObjectDef.{ObjectDef}
+use Rattle.object_program.specs.declared.program.Code.{Code}
+use Rattle.object_program.specs.declared.program.Code.TheVariants as instr
+use Rattle.object_program.specs.Program.{ProgramText, slots_of}
+use Rattle.plain_machine.specs.declared.call.Call.{Call}
+use Rattle.plain_machine.specs.declared.call.Call.TheVariants as call
+use Rattle.plain_machine.specs.Thread.{ThreadState, Step, Calls, sets, faults, computes, combines, on_object, owner_only, enters, on_slot, size_of, first_of, element, is_element, step_of, local, holds_of}
+use Rattle.sync_source.specs.Source.{Statements, Nothing, Plain, Sync, If, While}
+use Rattle.plain_monitor.specs.declared.entry.Ending.{Ending}
+use Rattle.plain_monitor.specs.declared.entry.Ending.TheVariants as ending
+use Rattle.sync_source.specs.Valid.{IsPlain, assigns, is_end, HasNoEnd, EndsWell, KeepsLocals}
+use Rattle.sync_source.specs.SyncThread.{Left, Over, Runs, Exits, Pays, SyncStep, GoesOn, StandsBefore, StopsBy, then_left, chooses, chooses_below, chooses_by, sync_step}
+use Rattle.sync_source.specs.inner.Alike.{ArePlain}
+
+-- the locals of the open `sync`s, innermost first: those whose exits are left
+abbrev pub open_in : Left → List ℕ
+open_in Over = []
+open_in (Runs b left) = open_in left
+open_in (Exits x left) = x ∷ open_in left
+open_in (Pays left) = open_in left
+
+-- these statements stand in `sync`s on these locals: nothing gives a value to the local of a `sync` that it stands in, and no `end` stands in
+-- a `sync`
+abbrev pub IsGuarded : List ℕ → Statements → Type 0
+IsGuarded xs Nothing = Unit {0}
+IsGuarded xs (Plain c rest) =
+    (AllByRecursion (λ x. assigns x c ≡ false) xs × (is_end c ≡ true → xs ≡ [])) × IsGuarded xs rest
+IsGuarded xs (Sync x body rest) = IsGuarded (x ∷ xs) body × IsGuarded xs rest
+IsGuarded xs (If t body other rest) = IsGuarded xs body × IsGuarded xs other × IsGuarded xs rest
+IsGuarded xs (While t body rest) = IsGuarded xs body × IsGuarded xs rest
+
+no_end_guarded : (xs : List ℕ) (b : Statements) → KeepsLocals xs b → HasNoEnd b → IsGuarded xs b
+no_end_guarded xs Nothing h k = tt
+no_end_guarded xs (Plain c r) h k =
+    ((h.0, λ e. absurd (false≢true (sym k.0 ∙ e))), no_end_guarded xs r h.1 k.1)
+no_end_guarded xs (Sync x b r) h k = (no_end_guarded (x ∷ xs) b h.0 k.0, no_end_guarded xs r h.1 k.1)
+no_end_guarded xs (If t b c r) h k =
+    (no_end_guarded xs b h.0 k.0, no_end_guarded xs c h.1 k.1, no_end_guarded xs r h.2 k.2)
+no_end_guarded xs (While t b r) h k = (no_end_guarded xs b h.0 k.0, no_end_guarded xs r h.1 k.1)
+
+-- a body that ends well is so guarded
+pub body_guarded : (b : Statements) → KeepsLocals [] b → EndsWell b → IsGuarded [] b
+body_guarded Nothing h k = tt
+body_guarded (Plain c Nothing) h k = ((tt, λ e. refl), tt)
+body_guarded (Plain c (Plain d r)) h k = ((tt, λ e. refl), body_guarded (Plain d r) h.1 k.1)
+body_guarded (Plain c (Sync x b r)) h k = ((tt, λ e. refl), body_guarded (Sync x b r) h.1 k.1)
+body_guarded (Plain c (If t b d r)) h k = ((tt, λ e. refl), body_guarded (If t b d r) h.1 k.1)
+body_guarded (Plain c (While t b r)) h k = ((tt, λ e. refl), body_guarded (While t b r) h.1 k.1)
+body_guarded (Sync x b r) h k = (no_end_guarded (x ∷ []) b h.0 k.0, body_guarded r h.1 k.1)
+body_guarded (If t b c r) h k = (no_end_guarded [] b h.0 k.0, no_end_guarded [] c h.1 k.1, body_guarded r h.2 k.2)
+body_guarded (While t b r) h k = (no_end_guarded [] b h.0 k.0, body_guarded r h.1 k.1)
+
+-- the statements that are left are guarded so, each by the `sync`s whose exits come after it
+abbrev pub KeepsOpen : Left → Type 0
+KeepsOpen Over = Unit {0}
+KeepsOpen (Runs b left) = ArePlain b × IsGuarded (open_in left) b × KeepsOpen left
+KeepsOpen (Exits x left) = KeepsOpen left
+KeepsOpen (Pays left) = KeepsOpen left
+
+abbrev IsReference : Value → Type 0
+IsReference (Ref o) = Unit {0}
+IsReference v = ⊥
+
+-- 1 where the value refers to object o, and else 0
+abbrev refers : Value → ℕ → ℕ
+refers (Ref p) o = if p == o then 1 else 0
+refers v o = 0
+
+-- how many of these locals refer to object o
+abbrev references : List Value → List ℕ → ℕ → ℕ
+references locals [] o = 0
+references locals (x ∷ xs) o = refers (slice_index_or locals x Nil) o + references locals xs o
+
+-- the locals of the open `sync`s refer to objects, and each object is held as often as they refer to it
+pub record HoldsOpen (open_syncs : List ℕ) (locals : List Value) (holds : ℕ → ℕ) : Type 0 where
+  pub refer : AllByRecursion (λ x. IsReference (slice_index_or locals x Nil)) open_syncs
+  pub held : (o : ℕ) → references locals open_syncs o ≡ holds o
+
+-- how often the thread holds object o once it has made the call
+abbrev pub held_after : ThreadState → Call → ℕ → ℕ
+held_after s (call.Enter p) o = holds_of s o + (if p == o then 1 else 0)
+held_after s (call.Exit p) o = holds_of s o - (if p == o then 1 else 0)
+held_after s c o = holds_of s o
+
+-- no local of these is x
+abbrev pub AreOthers : ℕ → List ℕ → Type 0
+AreOthers x xs = AllByRecursion (λ y. (x == y) ≡ false) xs
+
+-- what the call answers goes to none of these locals
+abbrev pub Spares : List ℕ → Call → Type 0
+Spares xs (call.Get x o k) = AreOthers x xs
+Spares xs (call.Hash x o) = AreOthers x xs
+Spares xs c = Unit {0}
+
+-- what holds of what is left for a thread, wherever it is
+pub record IsKept (left : Left) (locals : List Value) (holds : ℕ → ℕ) : Type 0 where
+  pub keeps : KeepsOpen left
+  pub opened : HoldsOpen (open_in left) locals holds
+
+-- what holds of a thread that stands before a call
+pub record IsReadyFor (s : ThreadState) (c : Call) (left : Left) : Type 0 where
+  pub spares : Spares (open_in left) c
+  pub kept : IsKept left s.locals (held_after s c)
+
+-- a thread that comes to its end holds nothing
+abbrev pub IsFreeAt : List ℕ → Ending → Type 0
+IsFreeAt holds ending.Done = (o : ℕ) → slice_index holds o ≡ 0
+IsFreeAt holds e = Unit {0}
+
+-- what holds after a unit
+abbrev pub StepKept : ThreadState → SyncStep → Type 0
+StepKept s (GoesOn left next) = IsKept left next.locals (holds_of next)
+StepKept s (StandsBefore c left) = IsReadyFor s c left
+StepKept s (StopsBy e) = IsFreeAt s.holds e
+
+-- a local that is set is none of these, and so they stay as they are
+set_aside : (locals : List Value) (x y : ℕ) (v : Value) → (x == y) ≡ false → slice_index_or (slice_set locals x v) y Nil ≡ slice_index_or locals y Nil
+set_aside locals x y v h = get_or-set_other locals x y v Nil (λ e. false≢true (sym h ∙ eq-eqb x y (sym e)))
+
+refer_aside : (locals : List Value) (x : ℕ) (v : Value) (xs : List ℕ) → AreOthers x xs → AllByRecursion (λ y. IsReference (slice_index_or locals y Nil)) xs → AllByRecursion (λ y. IsReference (slice_index_or (slice_set locals x v) y Nil)) xs
+refer_aside locals x v [] h k = tt
+refer_aside locals x v (y ∷ xs) h k =
+    (subst IsReference (sym (set_aside locals x y v h.0)) k.0, refer_aside locals x v xs h.1 k.1)
+
+references_aside : (locals : List Value) (x : ℕ) (v : Value) (xs : List ℕ) (o : ℕ) → AreOthers x xs → references (slice_set locals x v) xs o ≡ references locals xs o
+references_aside locals x v [] o h = refl
+references_aside locals x v (y ∷ xs) o h =
+    ap (λ w. refers w o + references (slice_set locals x v) xs o) (set_aside locals x y v h.0) ∙ ap (λ n. refers (slice_index_or locals y Nil) o + n) (references_aside locals x v xs o h.1)
+
+pub open_aside : (locals : List Value) (x : ℕ) (v : Value) (xs : List ℕ) (holds : ℕ → ℕ) → AreOthers x xs → HoldsOpen xs locals holds → HoldsOpen xs (slice_set locals x v) holds
+open_aside locals x v xs holds h k =
+    record { refer = refer_aside locals x v xs h k.refer; held = λ o. let e = references_aside locals x v xs o h in let l = k.held o in omega (arith, e, l) }
+
+-- where no `sync` is open nothing is held
+free_when : {xs : List ℕ} {locals : List Value} {holds : ℕ → ℕ} → HoldsOpen xs locals holds → xs ≡ [] → (o : ℕ) → holds o ≡ 0
+free_when {xs} {locals} {holds} h e o = sym (h.held o) ∙ ap (λ (ys : List ℕ). references locals ys o) e
+
+-- an instruction, where the rest is kept
+module _ (s : ThreadState) (left : Left) (kept : IsKept left s.locals (holds_of s)) where
+  abbrev Keeps : Step → Type 0
+  Keeps a = StepKept s (then_left left a)
+
+  either : (holds : Bool) (a b : Step) → Keeps a → Keeps b → Keeps (if holds then a else b)
+  either true a b h k = h
+  either false a b h k = k
+
+  sets_kept : (x : ℕ) (v : Value) → AreOthers x (open_in left) → Keeps (sets s x v)
+  sets_kept x v h = record { keeps = kept.keeps; opened = open_aside s.locals x v (open_in left) (holds_of s) h kept.opened }
+
+  computes_kept : (x : ℕ) (z : ℤ) → AreOthers x (open_in left) → Keeps (computes s x z)
+  computes_kept x z h = either (is_in_range z) (sets s x (Int z)) (faults s Overflow) (sets_kept x (Int z) h) tt
+
+  combines_kept : (x : ℕ) (op : ℤ → ℤ → ℤ) (v w : Value) → AreOthers x (open_in left) → Keeps (combines s x op v w)
+  combines_kept x op (Int y) (Int z) h = computes_kept x (op y z) h
+  combines_kept x op v w h = tt
+
+  element_kept : (x : ℕ) (d : Option ObjectDef) (v : Value) → AreOthers x (open_in left) → Keeps (element s x d v)
+  element_kept x d (Int i) h =
+      either (is_element i (size_of d)) (sets s x (Ref (first_of d + nat_abs i))) (faults s Range) (sets_kept x (Ref (first_of d + nat_abs i)) h) tt
+  element_kept x d v h = tt
+
+  object_kept : (v : Value) (f : ℕ → Step) → ((o : ℕ) → Keeps (f o)) → Keeps (on_object s v f)
+  object_kept (Ref o) f h = h o
+  object_kept v f h = tt
+
+  owner_kept : (o : ℕ) (f : Fault) (c : Call) → IsReadyFor s c left → Keeps (owner_only s o f (Calls c))
+  owner_kept o f c h = either (nat_le 1 (holds_of s o)) (Calls c) (faults s f) h tt
+
+  slot_kept : (p : ProgramText) (o k : ℕ) (c : Call) → IsReadyFor s c left → Keeps (on_slot p s o k c)
+  slot_kept p o k c h = either (nat_lt k (slots_of p o)) (owner_only s o Unguarded (Calls c)) (faults s Range) (owner_kept o Unguarded c h) tt
+
+  plain_kept : (p : ProgramText) (c : Code) → IsPlain c → AllByRecursion (λ x. assigns x c ≡ false) (open_in left) → (is_end c ≡ true → open_in left ≡ []) → Keeps (step_of p s c)
+  plain_kept p (instr.Set x v) i h e = sets_kept x (Int v) h
+  plain_kept p (instr.Add x y z) i h e = combines_kept x (λ a b. a +ℤ b) (local s y) (local s z) h
+  plain_kept p (instr.Sub x y z) i h e = combines_kept x (λ a b. a -ℤ b) (local s y) (local s z) h
+  plain_kept p (instr.Mul x y z) i h e = combines_kept x (λ a b. a *ℤ b) (local s y) (local s z) h
+  plain_kept p (instr.Ref x n) i h e = sets_kept x (Ref (first_of (slice_get p.objects n))) h
+  plain_kept p (instr.Elem x n k) i h e = element_kept x (slice_get p.objects n) (local s k) h
+  plain_kept p (instr.Enter x) i h e = absurd i
+  plain_kept p (instr.Exit x) i h e = absurd i
+  plain_kept p (instr.Wait x) i h e =
+      object_kept (local s x) (λ o. owner_only s o IllegalMonitorState (Calls (call.Wait o))) (λ o. owner_kept o IllegalMonitorState (call.Wait o) (record { spares = tt; kept = kept }))
+  plain_kept p (instr.Notify x) i h e =
+      object_kept (local s x) (λ o. owner_only s o IllegalMonitorState (Calls (call.Notify o))) (λ o. owner_kept o IllegalMonitorState (call.Notify o) (record { spares = tt; kept = kept }))
+  plain_kept p (instr.NotifyAll x) i h e =
+      object_kept (local s x) (λ o. owner_only s o IllegalMonitorState (Calls (call.NotifyAll o))) (λ o. owner_kept o IllegalMonitorState (call.NotifyAll o) (record { spares = tt; kept = kept }))
+  plain_kept p (instr.Get x y k) i h e =
+      object_kept (local s y) (λ o. on_slot p s o k (call.Get x o k)) (λ o. slot_kept p o k (call.Get x o k) (record { spares = h; kept = kept }))
+  plain_kept p (instr.Put y k x) i h e =
+      object_kept (local s y) (λ o. on_slot p s o k (call.Put o k (local s x))) (λ o. slot_kept p o k (call.Put o k (local s x)) (record { spares = tt; kept = kept }))
+  plain_kept p (instr.Hash x y) i h e =
+      object_kept (local s y) (λ o. Calls (call.Hash x o)) (λ o. record { spares = h; kept = kept })
+  plain_kept p (instr.Print x) i h e = record { spares = tt; kept = kept }
+  plain_kept p (instr.Jump l) i h e = absurd i
+  plain_kept p (instr.Jlt x y l) i h e = absurd i
+  plain_kept p (instr.Jeq x y l) i h e = absurd i
+  plain_kept p instr.Dump i h e =
+      either (nat_lt s.dumps 4) (Calls (call.Dump (s.dumps + 1))) (faults s TooManyDumps) (record { spares = tt; kept = kept }) tt
+  plain_kept p instr.End i h e = free_when kept.opened (e refl)
+
+-- the exit of an open `sync` is a call, of the object that its local refers to
+pub record IsExitCall (p : ProgramText) (s : ThreadState) (x : ℕ) : Type 0 where
+  pub object : ℕ
+  pub refers : local s x ≡ Ref object
+  pub calls : step_of p s (instr.Exit x) ≡ Calls (call.Exit object)
+
+pub exit_calls : (p : ProgramText) (s : ThreadState) (x : ℕ) (xs : List ℕ) → HoldsOpen (x ∷ xs) s.locals (holds_of s) → IsExitCall p s x
+exit_calls p s x xs h = go (local s x) refl h.refer.0
+  where
+    held : (o : ℕ) → local s x ≡ Ref o → 1 ≤ holds_of s o
+    held o e =
+        let own : refers (local s x) o ≡ 1 = ap (λ v. refers v o) e ∙ ap (λ (b : Bool). if b then 1 else 0) (eq-eqb o o refl) in
+        omega (arith, own, h.held o)
+
+    owner : (o : ℕ) (b : Bool) → nat_le 1 (holds_of s o) ≡ b → 1 ≤ holds_of s o → (if b then Calls (call.Exit o) else faults s IllegalMonitorState) ≡ Calls (call.Exit o)
+    owner o true e k = refl
+    owner o false e k = absurd (omega (arith, leb-false 1 (holds_of s o) e))
+
+    go : (v : Value) → local s x ≡ v → IsReference (local s x) → IsExitCall p s x
+    go Nil e k = absurd (subst IsReference e k)
+    go (Int z) e k = absurd (subst IsReference e k)
+    go (Ref o) e k = record {
+      object = o;
+      refers = e;
+      calls = ap (λ v. on_object s v (λ q. owner_only s q IllegalMonitorState (Calls (call.Exit q)))) e ∙ owner o (nat_le 1 (holds_of s o)) refl (held o e);
+    }
+
+-- after an exit the others are held
+exit_kept : (s : ThreadState) (x o : ℕ) (left : Left) → local s x ≡ Ref o → KeepsOpen left → HoldsOpen (x ∷ open_in left) s.locals (holds_of s) → IsReadyFor s (call.Exit o) left
+exit_kept s x o left e keeps h =
+    record {
+      spares = tt;
+      kept = record {
+        keeps = keeps;
+        opened = record {
+          refer = h.refer.1;
+          held = λ k. let own : refers (local s x) k ≡ (if o == k then 1 else 0) = ap (λ v. refers v k) e in let l = h.held k in omega (arith, own, l);
+        };
+      };
+    }
+
+-- an enter opens a `sync`
+enter_kept : (p : ProgramText) (s : ThreadState) (x : ℕ) (b : Statements) (left : Left) → ArePlain b → IsGuarded (x ∷ open_in left) b → IsKept left s.locals (holds_of s) → StepKept s (then_left (Runs b (Exits x left)) (step_of p s (instr.Enter x)))
+enter_kept p s x b left plain keeps kept = go (local s x) refl
+  where
+    ready : (o : ℕ) → local s x ≡ Ref o → IsReadyFor s (call.Enter o) (Runs b (Exits x left))
+    ready o e = record {
+      spares = tt;
+      kept = record {
+        keeps = (plain, keeps, kept.keeps);
+        opened = record {
+          refer = (subst IsReference (sym e) tt, kept.opened.refer);
+          held = λ k. let own : refers (local s x) k ≡ (if o == k then 1 else 0) = ap (λ v. refers v k) e in let l = kept.opened.held k in omega (arith, own, l);
+        };
+      };
+    }
+
+    room : (o : ℕ) → local s x ≡ Ref o → (holds : Bool) → StepKept s (then_left (Runs b (Exits x left)) (if holds then Calls (call.Enter o) else faults s TooDeep))
+    room o e true = ready o e
+    room o e false = tt
+
+    go : (v : Value) → local s x ≡ v → StepKept s (then_left (Runs b (Exits x left)) (on_object s (local s x) (enters s)))
+    go Nil e = subst (λ (v : Value). StepKept s (then_left (Runs b (Exits x left)) (on_object s v (enters s)))) (sym e) tt
+    go (Int z) e = subst (λ (v : Value). StepKept s (then_left (Runs b (Exits x left)) (on_object s v (enters s)))) (sym e) tt
+    go (Ref o) e = subst (λ (v : Value). StepKept s (then_left (Runs b (Exits x left)) (on_object s v (enters s)))) (sym e) (room o e (nat_lt (sum s.holds) 64))
+
+-- a test changes nothing
+module _ (s : ThreadState) (held missed : Left) (h : IsKept held s.locals (holds_of s)) (m : IsKept missed s.locals (holds_of s)) where
+  chooses_kept : (holds : Bool) → StepKept s (chooses holds s held missed)
+  chooses_kept true = h
+  chooses_kept false = m
+
+  below_kept : (v w : Value) → StepKept s (chooses_below s v w held missed)
+  below_kept (Int y) (Int z) = chooses_kept (int_lt y z)
+  below_kept v w = tt
+
+  tests_kept : (equal : Bool) (v w : Value) → StepKept s (chooses_by equal s v w held missed)
+  tests_kept true v w = chooses_kept (same_value v w)
+  tests_kept false v w = below_kept v w
+
+-- a unit keeps it
+pub unit_kept : (p : ProgramText) (s : ThreadState) (left : Left) → IsKept left s.locals (holds_of s) → StepKept s (sync_step p s left)
+unit_kept p s Over k = free_when k.opened refl
+unit_kept p s (Runs Nothing left) k = unit_kept p s left (record { keeps = k.keeps.2; opened = k.opened })
+unit_kept p s (Runs (Plain c r) left) k =
+    plain_kept s (Runs r left) (record { keeps = (k.keeps.0.1, k.keeps.1.1, k.keeps.2); opened = k.opened }) p c k.keeps.0.0 k.keeps.1.0.0 k.keeps.1.0.1
+unit_kept p s (Runs (Sync x b r) left) k =
+    enter_kept p s x b (Runs r left) k.keeps.0.0 k.keeps.1.0 (record { keeps = (k.keeps.0.1, k.keeps.1.1, k.keeps.2); opened = k.opened })
+unit_kept p s (Runs (If t b c r) left) k =
+    tests_kept s _ _ (record { keeps = (k.keeps.0.0, k.keeps.1.0, (k.keeps.0.2, k.keeps.1.2, k.keeps.2)); opened = k.opened }) (record { keeps = (k.keeps.0.1, k.keeps.1.1, (k.keeps.0.2, k.keeps.1.2, k.keeps.2)); opened = k.opened }) t.equal (local s t.x) (local s t.y)
+unit_kept p s (Runs (While t b r) left) k =
+    tests_kept s _ _ (record { keeps = (k.keeps.0.0, k.keeps.1.0, k.keeps); opened = k.opened }) (record { keeps = (k.keeps.0.1, k.keeps.1.1, k.keeps.2); opened = k.opened }) t.equal (local s t.x) (local s t.y)
+unit_kept p s (Exits x left) k =
+    let exit = exit_calls p s x (open_in left) k.opened in
+    subst (λ (a : Step). StepKept s (then_left left a)) (sym exit.calls) (exit_kept s x exit.object left exit.refers k.keeps k.opened)
+unit_kept p s (Pays left) k = record { keeps = k.keeps; opened = k.opened }

@@ -1,0 +1,10 @@
+pub mod Source
+pub mod Valid
+pub mod BlockView
+pub mod SourceView
+pub mod SyncThread
+pub mod SyncMachine
+pub mod Compiled
+pub mod SameMeaning
+pub mod Endings
+pub mod inner
