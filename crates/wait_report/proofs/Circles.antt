@@ -14,12 +14,12 @@ use Rattle.wait_report.proofs.Blockers.{waiting_within}
 use Rattle.wait_report.proofs.Walks.{IsWay, IsWayFrom, found_is_way, way_is_found, way_is_apart}
 
 -- a cycle whose least thread is this one
-record Begins (m : PlainMachine) (first : ℕ) (c : Cycle) : Type 0 where
-  cycle : IsCycle m c
-  at : first_thread c ≡ first
+pub record Begins (m : PlainMachine) (first : ℕ) (c : Cycle) : Type 0 where
+  pub cycle : IsCycle m c
+  pub at : first_thread c ≡ first
 
 -- a way from a thread back to it is a cycle
-way_begins : (m : PlainMachine) (first : ℕ) (links : List Link) → IsWayFrom m first first links → Begins m first (cycle_of links)
+pub way_begins : (m : PlainMachine) (first : ℕ) (links : List Link) → IsWayFrom m first first links → Begins m first (cycle_of links)
 way_begins m first [] way = absurd way
 way_begins m first (x ∷ xs) way =
     let P : ℕ → Type 0 = λ f. IsWay m f x xs in

@@ -9,3 +9,5 @@ pub mod Entered
 pub mod Listed
 pub mod Few
 pub mod Counting
+pub mod HeldBack
+pub mod Stuck
