@@ -112,7 +112,7 @@ module _ (w : World) (P : List PlainObject) (r : ℕ) (b : Revocation) (l : Know
   known_before = knows_unclassed w P r l k.same (reached_within w P r reached v) (unclassed w P v)
 
   calm_now : AllCalm y
-  calm_now u = each_with_known (λ u z. z.stage ≡ Calm) r l w.known u (sym k.same.stage ∙ all_calm w P r reached v r) (λ d. all_calm w P r reached v u)
+  calm_now u = each_with_known (λ u z. z.stage ≡ Calm) r l w.known u (sym k.same.stage ∙ all_calm w P r reached k.calm v r) (λ d. all_calm w P r reached k.calm v u)
 
   abbrev mark : ℕ → ℕ
   mark o = f3 (Mark o)
@@ -311,6 +311,8 @@ module _ (w : World) (P : List PlainObject) (r : ℕ) (b : Revocation) (l : Know
     each (name.Header m) = sym (walked.words (name.Header m) refl ∙ raised_other (name.Header m) refl)
     each (name.Object m) = sym (walked.words (name.Object m) refl ∙ raised_other (name.Object m) refl)
     each name.Claim = sym (walked.words name.Claim refl ∙ raised_other name.Claim refl)
+    each name.End = sym (walked.words name.End refl ∙ raised_other name.End refl)
+    each (name.Ring q) = sym (walked.words (name.Ring q) refl ∙ raised_other (name.Ring q) refl)
 
     walked_fits : FitsUnseen (with_words f3 y) P
     walked_fits =

@@ -198,7 +198,7 @@ module _ (w : World) (P : List PlainObject) (r : ℕ) (b : Revocation) (l : Know
   g = words_after (single (words_after (walk f) f)) (words_after (walk f) f)
 
   calm : AllCalm w
-  calm = all_calm w P r reached v
+  calm = all_calm w P r reached k.calm v
 
   walked : IsKept w P calm walk f
   walked = kept_walk w P calm c f v
@@ -302,6 +302,8 @@ module _ (w : World) (P : List PlainObject) (r : ℕ) (b : Revocation) (l : Know
     each (name.Header m) = other (name.Header m) refl
     each (name.Object m) = other (name.Object m) refl
     each name.Claim = other name.Claim refl
+    each name.End = other name.End refl
+    each (name.Ring q) = other (name.Ring q) refl
 
     words : words_after (revocation_writes w.shape r b f) f ≡ words_after (turn f2) f2
     unfolding revocation_writes

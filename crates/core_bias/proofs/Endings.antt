@@ -50,6 +50,7 @@ module _ (w : World) (P : List PlainObject) (s : IsRevoking w P) (e : Purpose) (
     reached = sym (ap (λ (k : Known). k.reached) only.is);
     halted = sym (ap (λ (k : Known). k.halted) only.is);
     kept = sym (ap (λ (k : Known). k.kept) only.is);
+    moving = sym (ap (λ (k : Known). k.moving) only.is);
     saved = sym (ap (λ (k : Known). k.saved) only.is);
     holds = sym (ap (λ (k : Known). k.holds) only.is);
     wait = sym (ap (λ (k : Known). k.wait) only.is);

@@ -47,6 +47,7 @@ module _ (w : World) (P : List PlainObject) (t : ℕ) (e : Purpose) (o mark m : 
         reached = refl;
         halted = refl;
         kept = refl;
+        moving = refl;
         saved = refl;
         holds = refl;
         wait = refl;

@@ -1,5 +1,5 @@
 -- What a thread knows changes in what it has seen, in its counts and in its call alone: each clause but that of what was seen holds again.
-use Rattle.core_locks.proofs.Prelude.{◌≡◌, ℕ, zero, suc, ◌+◌, ◌<◌, ◌≤◌, ◌==◌, Bool, true, false, cond, List, Option, Some, refl, sym, ◌∙◌, subst, arith, PlainObject, LegalObjects, objects_after, Logged, Stage, Unfinished, hold_words_ahead, inflation_in, Known, World, logs, with_known, lock, header, inflations, first_known, SafepointIsKnown, StoppedAreQuiet, ends, HoldsFitLogs, LocksArePlain, BiasedAreFree, RecordsRest, InflationsAreOne, RecursionsFit, HashesFit, DrawsFit, WaitsFit, StampsFit, LengthsFit, MonitorsAreClaimed, ClassesFit, bulk_rebiases, bulk_revokes, frame2, frame3, frame4, frame5, frame6, frame8, frame9, with_knowledge, each_with_known, part_moves, logs_stay, lock_stays, header_stays, inflations_stay, who_stays}
+use Rattle.core_locks.proofs.Prelude.{◌≡◌, ℕ, zero, suc, ◌+◌, ◌<◌, ◌≤◌, ◌==◌, Bool, true, false, cond, List, Option, Some, refl, sym, ◌∙◌, subst, arith, PlainObject, LegalObjects, objects_after, Logged, Stage, Unfinished, hold_words_ahead, inflation_in, Known, World, logs, with_known, lock, header, inflations, first_known, SafepointIsKnown, StoppedAreQuiet, ends, HoldsFitLogs, LocksArePlain, BiasedAreFree, RecordsRest, InflationsAreOne, RecursionsFit, HashesFit, DrawsFit, WaitsFit, StampsFit, LengthsFit, MonitorsAreClaimed, ClassesFit, bulk_rebiases, bulk_revokes, frame2, frame3, frame4, frame5, frame6, frame8, frame9, with_knowledge, each_with_known, part_moves, logs_stay, lock_stays, header_stays, inflations_stay, who_stays, MovesFit}
 use Rattle.core_world.specs.Threads.Counts.{CountedVerdict, counts_of}
 use Rattle.core_world.specs.Shots.{ShotsFit}
 use Rattle.core_locks.proofs.Clauses as clause
@@ -68,7 +68,7 @@ module _ (w : World) (P : List PlainObject) (t : ℕ) (l : Known) (b : Alike (w.
   knows_unclassed clause.safe =
       frame8 (SafepointIsKnown w.shape.threads) refl running requesting (part_moves (λ y. y.reached) t l w.known b.reached) (part_moves (λ y. y.halted) t l w.known b.halted)
       (λ i. λ u. ends (log i u)) unfinished refl (v clause.safe)
-  knows_unclassed clause.quiet = frame2 StoppedAreQuiet running stage (v clause.quiet)
+  knows_unclassed clause.quiet = frame3 StoppedAreQuiet running (part_moves (λ y. y.reached) t l w.known b.reached) stage (v clause.quiet)
   knows_unclassed clause.holds = frame4 HoldsFitLogs refl holds (λ i. λ u o. hold_words_ahead (stage i u) o) refl (v clause.holds)
   knows_unclassed clause.owners = frame3 LocksArePlain (who_stays w now lock_is holds) stage refl (v clause.owners)
   knows_unclassed clause.biases = frame6 BiasedAreFree refl lock_is holds refl refl refl (v clause.biases)
@@ -81,7 +81,8 @@ module _ (w : World) (P : List PlainObject) (t : ℕ) (l : Known) (b : Alike (w.
   knows_unclassed clause.waits = frame9 WaitsFit refl refl (part_moves (λ y. y.wait) t l w.known b.wait) log stage unfinished running refl refl (v clause.waits)
   knows_unclassed clause.stamps = frame5 StampsFit all log refl refl unfinished (v clause.stamps)
   knows_unclassed clause.lengths = frame6 LengthsFit refl (part_moves (λ y. y.published) t l w.known b.published) log running requesting refl (v clause.lengths)
-  knows_unclassed clause.claims = frame3 (MonitorsAreClaimed w.shape.threads _) refl refl (part_moves (λ y. y.kept) t l w.known b.kept) (v clause.claims)
+  knows_unclassed clause.claims = frame2 (MonitorsAreClaimed w.shape.threads _ _ _ _ _ _ _) (part_moves (λ y. y.kept) t l w.known b.kept) (part_moves (λ y. y.moving) t l w.known b.moving) (v clause.claims)
+  knows_unclassed clause.moves = frame3 MovesFit running (part_moves (λ y. y.reached) t l w.known b.reached) (part_moves (λ y. y.moving) t l w.known b.moving) (v clause.moves)
   knows_unclassed i = v i
 
 module _ (w : World) (P : List PlainObject) (t : ℕ) (l : Known) (b : Alike (w.known t) l) (within : t < w.shape.threads)

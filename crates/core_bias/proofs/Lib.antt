@@ -19,6 +19,7 @@ pub mod Takes
 pub mod BulkRebiases
 pub mod Wholes
 pub mod LoadEnds
+pub mod TakesThere
 pub mod RevocationRuns
 pub mod Exchanges
 pub mod Rebiases

@@ -12,7 +12,7 @@ use Rattle.core_bias.proofs.Unseen.{unseen}
 use Rattle.core_bias.proofs.Wholes.{all_made, by_requester, made}
 
 -- a load leaves the safepoint reached, and the steps since then
-reached_load : (at : Name) (n : ℕ) (k : Known) → k.reached ≡ true → reached_after at Load n k ≡ true
+pub reached_load : (at : Name) (n : ℕ) (k : Known) → k.reached ≡ true → reached_after at Load n k ≡ true
 reached_load name.Safepoint n k e = ap (λ b. b || (k.requesting && is_still n)) e
 reached_load _ n k e = e
 
@@ -48,6 +48,7 @@ module _ (w : World) (P : List PlainObject) (t : ℕ) (e : Purpose) (b : Revocat
   ends = record {
     reached = reached_load at (w.words at) k reached;
     its_revocation = may.ends.its_revocation;
+    still = may.ends.still;
     all = λ f biased found. append-nil _ ∙ ap writes_in stood ∙ may.ends.all f biased (subst (FoundAfter f) stood found.1);
     goes_on = refl;
   }

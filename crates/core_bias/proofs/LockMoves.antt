@@ -116,5 +116,5 @@ module _ (w : World) (P : List PlainObject) (mark prototype count last : ℕ →
   locks_moved clause.recursions = recursions_by_marks (marks w) (marks x) names _ (lock w) (lock x) _ _ _ _ _ _ (λ i u e. back i (OwnedBy u) e (λ c. cc c) (λ t c. cc c)) inflated (v clause.recursions)
   locks_moved clause.hashes = hashes_law
   locks_moved clause.waits = waits_by_marks (marks w) (marks x) names _ _ _ _ _ _ _ _ (v clause.waits)
-  locks_moved clause.claims = claims_by_marks (marks w) (marks x) names _ _ _ _ (v clause.claims)
+  locks_moved clause.claims = claims_by_marks (marks w) (marks x) names _ _ _ _ _ _ _ _ _ (v clause.claims)
   locks_moved i = v i

@@ -199,6 +199,6 @@ module _ (w : World) (P : List PlainObject) (o m : ℕ) (f : Lock) (g : MarkTurn
   mark_turned clause.recursions = recursions_by_marks (marks w) (marks x) names _ (lock w) (lock x) _ _ _ _ _ _ (λ i u e. (back i (OwnedBy u) e (g.not_thread_owned u)).1) lock_inflated (v clause.recursions)
   mark_turned clause.hashes = hashes_law
   mark_turned clause.waits = waits_by_marks (marks w) (marks x) names _ _ _ _ _ _ _ _ (v clause.waits)
-  mark_turned clause.claims = claims_by_marks (marks w) (marks x) names _ _ _ _ (v clause.claims)
+  mark_turned clause.claims = claims_by_marks (marks w) (marks x) names _ _ _ _ _ _ _ _ _ (v clause.claims)
   mark_turned clause.classes = classes_law _ _ _ _ _ (v clause.classes)
   mark_turned i = v i

@@ -48,7 +48,7 @@ module _ (w : World) (r : ℕ) (e : Purpose) (b : Revocation) (took : Bool) (is 
   no_more : (t o : ℕ) → hold_words_ahead (x.known t).stage o ≡ 0
   no_more t o = by_equal t r
       (λ e. ap (λ u. hold_words_ahead (x.known u).stage o) e ∙ ap (λ (k : Known). hold_words_ahead k.stage o) (with_known_here r (knows plan r w) w.known) ∙ after_release took)
-      (λ d. ap (λ s. hold_words_ahead s o) (v.quiet.quiet t (stopped t d)))
+      (λ d. elim (v.quiet.quiet t (stopped t d)) [ inl a ↦ ap (λ s. hold_words_ahead s o) a | inr a ↦ ap (λ s. hold_words_ahead s o) a.1.1 ])
     where
       after_release : (a : Bool) → hold_words_ahead (stage_after a b.object) o ≡ 0
       after_release true = refl

@@ -1,5 +1,5 @@
 -- The release of a safepoint at which all stores of a revocation were made leads to a world in which every clause holds.
-use Rattle.core_locks.proofs.Prelude.{◌≡◌, ◌≢◌, ◌⊎◌, ℕ, ◌<◌, ◌==◌, ◌++◌, ◌^◌, ◌&&◌, not, eq-eqb, append-nil, Bool, true, false, cond, List, [], ◌∷◌, Some, None, refl, sym, ap, ◌∙◌, subst, inl, inr, pow_below, bit_at-pow_same, read_safe-safe_of, is_thread, PlainObject, Swap, Name, Safepoint, Mark, Waiting, StepPlan, Calm, Takes, word_after, asks_in, runs_in, runs_form, requester_form, is_biased, monitor_in, waits_on, Known, StepMade, last_seen, its_monitor, World, with_word_and_known, with_known, owner_at, waits_at, Purpose, with_stage, swap, reached_word, released_word, world_after, known_hit, known_miss, known_after, kept_by_act, seen_before, only_headers, is_header, Fits, SafepointFits, SeenFit, IsRevoking, headers_are_part, unwaited_fits, with_knowledge, by_equal, each_with_known, with_known_here, with_known_else, stays_back, Counts, Spares, seen_moves}
+use Rattle.core_locks.proofs.Prelude.{◌≡◌, ◌≢◌, ◌⊎◌, ℕ, ◌<◌, ◌==◌, ◌++◌, ◌^◌, ◌&&◌, not, eq-eqb, append-nil, Bool, true, false, cond, List, [], ◌∷◌, Some, None, refl, sym, ap, ◌∙◌, subst, inl, inr, pow_below, bit_at-pow_same, read_safe-safe_of, is_thread, PlainObject, Swap, Name, Safepoint, Mark, Waiting, StepPlan, Calm, Takes, word_after, asks_in, runs_in, runs_form, requester_form, is_biased, monitor_in, waits_on, Known, StepMade, last_seen, its_monitor, World, with_word_and_known, with_known, owner_at, waits_at, Purpose, with_stage, swap, reached_word, released_word, world_after, known_hit, known_miss, known_after, kept_by_act, seen_before, only_headers, is_header, Fits, SafepointFits, SeenFit, IsRevoking, headers_are_part, unwaited_fits, with_knowledge, by_equal, each_with_known, with_known_here, with_known_else, stays_back, Counts, Spares, seen_moves, Still}
 use Rattle.core_world.specs.declared.name.Name.TheVariants as name
 use Rattle.core_world.specs.Threads.Counts.{counts_of}
 use Rattle.core_world.specs.Clauses.SeenWords.{AreTheSteps}
@@ -78,10 +78,11 @@ module _ (w : World) (P : List PlainObject) (s : IsRevoking w P) (e : Purpose) w
   z = record { shape = w.shape; start = w.start; biasing = w.biasing; words = w.words; known = with_known r blank w.known }
 
   was_calm : (s.before.known r).stage ≡ Calm
-  was_calm = s.fits.quiet.quiet r ((s.fits.safe.safepoint r s.reached).1 r)
+  was_calm = s.was_calm
 
   pub was_counted : HasCounted s.before r s.revocation blank
   was_counted = record {
+    calm = was_calm;
     same = record {
       thread = sym (ap (λ (k : Known). k.thread) s.knows);
       log = sym (ap (λ (k : Known). k.log) s.knows);
@@ -90,6 +91,7 @@ module _ (w : World) (P : List PlainObject) (s : IsRevoking w P) (e : Purpose) w
       reached = sym (ap (λ (k : Known). k.reached) s.knows);
       halted = sym (ap (λ (k : Known). k.halted) s.knows);
       kept = sym (ap (λ (k : Known). k.kept) s.knows);
+      moving = sym (ap (λ (k : Known). k.moving) s.knows);
       saved = sym (ap (λ (k : Known). k.saved) s.knows);
       holds = sym (ap (λ (k : Known). k.holds) s.knows);
       wait = sym (ap (λ (k : Known). k.wait) s.knows);
@@ -184,13 +186,14 @@ module _ (w : World) (P : List PlainObject) (s : IsRevoking w P) (e : Purpose) w
         let same : with_known r l (with_known r y (with_known r blank w.known)) ≡ with_known r l w.known = told_told r l y (with_known r blank w.known) ∙ told_told r l blank w.known in
         λ i. record { shape = w.shape; start = w.start; biasing = w.biasing; words = x.words; known = same i }
 
-    module _ (goes_on : e.unfinished ≡ (w.known r).unfinished) where
+    module _ (still : (w.known r).moving ≡ Still) (goes_on : e.unfinished ≡ (w.known r).unfinished) where
       released : Fits (with_word_and_known Safepoint v r y z) P
       released = subst (λ a. Fits a P) blank_moved
           (released_fits z P r e below fits blank_reached
           (record {
             reached = blank_reached;
             calm = ap (λ (k : Known). k.stage) (with_known_here r blank w.known);
+            still = ap (λ (k : Known). k.moving) (with_known_here r blank w.known) ∙ still;
             goes_on = goes_on ∙ sym (ap (λ (k : Known). k.unfinished) (with_known_here r blank w.known));
           }))
 
@@ -203,6 +206,7 @@ module _ (w : World) (P : List PlainObject) (s : IsRevoking w P) (e : Purpose) w
         reached = refl;
         halted = refl;
         kept = refl;
+        moving = refl;
         saved = refl;
         holds = refl;
         wait = refl;

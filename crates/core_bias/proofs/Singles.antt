@@ -1,5 +1,5 @@
 -- A single revocation as a whole: the count, the stores, and what the requester knows then.
-use Rattle.core_locks.proofs.Prelude.{◌≡◌, ℕ, ◌<◌, ◌≤◌, ◌==◌, nat_lt, Bool, true, false, cond, if◌then◌else◌, List, [], refl, sym, ap, ◌∙◌, subst, arith, nat_tests, PlainObject, Name, Revocations, LastBulk, class_of, with_word, Known, World, with_knowledge, with_known_here, is_biased, Mark}
+use Rattle.core_locks.proofs.Prelude.{◌≡◌, ℕ, ◌<◌, ◌≤◌, ◌==◌, nat_lt, Bool, true, false, cond, if◌then◌else◌, List, [], refl, sym, ap, ◌∙◌, subst, arith, nat_tests, PlainObject, Name, Revocations, LastBulk, class_of, with_word, Known, World, with_knowledge, with_known_here, is_biased, Mark, Calm, inl, inr}
 use Rattle.lock_policy.specs.declared.policy.Verdict.{Verdict}
 use Rattle.lock_policy.specs.declared.policy.Verdict.TheVariants.{Single}
 use Rattle.lock_policy.specs.Policy.{decided, is_reset, after_reset, raised}
@@ -12,10 +12,16 @@ use Rattle.core_bias.proofs.Unseen.{FitsUnseen, with_words}
 use Rattle.core_bias.proofs.MarkTurns.{AllCalm}
 use Rattle.core_bias.proofs.Revokes.{stored_append, revoke_fits, revoke_unbiased}
 use Rattle.core_bias.proofs.Knows.{knows_fits}
+use Rattle.core_world.proofs.NoWordChanges.{one_requester}
 
--- at a reached safepoint nobody runs, and everybody is calm
-pub all_calm : (w : World) (P : List PlainObject) (r : ℕ) → (w.known r).reached ≡ true → FitsUnseen w P → AllCalm w
-all_calm w P r reached v u = (v clause.quiet).quiet u (((v clause.safe).safepoint r reached).1 u)
+-- at a reached safepoint of a thread that is calm nobody runs, and everybody is calm
+pub all_calm : (w : World) (P : List PlainObject) (r : ℕ) → (w.known r).reached ≡ true → (w.known r).stage ≡ Calm → FitsUnseen w P → AllCalm w
+all_calm w P r reached calm v u =
+    let safe = v clause.safe in
+    elim ((v clause.quiet).quiet u ((safe.safepoint r reached).1 u)) [
+      | inl a ↦ a
+      | inr a ↦ (let same : u ≡ r = one_requester w P safe u r (safe.safepoint u a.0).0 (safe.safepoint r reached).0 in ap (λ y. (w.known y).stage) same ∙ calm)
+    ]
 
 -- the new count is at most 41
 pub raised_few : (count last now : ℕ) → count ≤ 41 → (decided count last now).1 ≤ 41
@@ -87,7 +93,7 @@ module _ (w : World) (P : List PlainObject) (r : ℕ) (b : Revocation) (l : Know
       (λ i. ap (λ z. (counts_of z i).revoke) (counts single) ∙ (counted_single (w.known r).counts c _ i).1) v)
 
   calm : (single : d.0 ≡ Single) → AllCalm x
-  calm single = all_calm x P r (ap (λ (y : Known). y.reached) (with_known_here r l w.known) ∙ sym k.same.reached ∙ reached) (counted_fits single)
+  calm single = all_calm x P r (ap (λ (y : Known). y.reached) (with_known_here r l w.known) ∙ sym k.same.reached ∙ reached) (ap (λ (y : Known). y.stage) (with_known_here r l w.known) ∙ sym k.same.stage ∙ k.calm) (counted_fits single)
 
   words : d.0 ≡ Single → words_after (revocation_writes w.shape r b w.words) w.words ≡ words_after (revoke b.object false f) f
   unfolding revocation_writes

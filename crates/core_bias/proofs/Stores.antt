@@ -1,5 +1,5 @@
 -- A store of a revocation: the first one leads from a world in which every clause holds into the revocation, and each other one goes on there.
-use Rattle.core_locks.proofs.Prelude.{◌≡◌, ◌≢◌, ◌⊎◌, ℕ, ◌<◌, ◌≤◌, ◌++◌, nat_lt, Bool, true, false, cond, List, [], ◌∷◌, length, Some, None, refl, sym, ap, ◌∙◌, subst, arith, inl, inr, same_Some, nat_tests, read_mark, PlainObject, Store, Name, Safepoint, Mark, Prototype, Revocations, LastBulk, Waiting, StepPlan, Shape, class_of, same_name, with_word, is_biased, hold_word, revocation_in, one_if, Known, StepMade, last_seen, World, with_word_and_known, with_known, marks, owner_at, hold_count, depth_count, Purpose, SafepointIsKnown, ends, Stays, IsKeptOrNamed, world_after, known_hit, seen_before, runs_after, asks_after, reached_after, halted_after, kept_by_act, seen_at_safepoint_before, Fits, SeenFit, FormsFit, SafepointFits, IsRevoking, WordsHaveForms, IsMark, seen_is_part, frame5, frame8, each_with_known, with_known_here, with_known_else, part_moves, IsPart}
+use Rattle.core_locks.proofs.Prelude.{◌≡◌, ◌≢◌, ◌⊎◌, ℕ, ◌<◌, ◌≤◌, ◌++◌, nat_lt, Bool, true, false, cond, List, [], ◌∷◌, length, Some, None, refl, sym, ap, ◌∙◌, subst, arith, inl, inr, same_Some, nat_tests, read_mark, PlainObject, Store, Name, Safepoint, Mark, Prototype, Revocations, LastBulk, Waiting, StepPlan, Shape, class_of, same_name, with_word, is_biased, hold_word, revocation_in, one_if, Known, StepMade, last_seen, World, with_word_and_known, with_known, marks, owner_at, hold_count, depth_count, Purpose, SafepointIsKnown, ends, Stays, IsKeptOrNamed, world_after, known_hit, seen_before, runs_after, asks_after, reached_after, halted_after, kept_by_act, seen_at_safepoint_before, Fits, SeenFit, FormsFit, SafepointFits, IsRevoking, WordsHaveForms, IsMark, seen_is_part, frame5, frame8, each_with_known, with_known_here, with_known_else, part_moves, IsPart, Calm}
 use Rattle.std.proofs.Common.{append_assoc}
 use Rattle.lock_policy.specs.declared.policy.Verdict.{Verdict}
 use Rattle.lock_policy.specs.Policy.{decided, is_reset}
@@ -13,7 +13,7 @@ use Rattle.core_world.specs.Locks.{is_valid_bias}
 use Rattle.core_world.specs.Clauses.SeenWords.{HasMet, AreTheSteps}
 use Rattle.core_world.specs.RevocationRules.{Write, write, words_after, revocation_writes, holds_in, first_place, writes_in, FoundAfter}
 use Rattle.core_world.specs.Trees.RevocationSteps.{revocation_stage, revoke_plan}
-use Rattle.core_world.specs.Steps.{holds_after, wait_after, published_after, kept_after, saved_after, shots_after, counts_after}
+use Rattle.core_world.specs.Steps.{holds_after, wait_after, published_after, kept_after, moving_after, saved_after, shots_after, counts_after}
 use Rattle.core_world.specs.Valid.{RevokesSince, RevokesWithin, requester_known}
 use Rattle.core_world.proofs.NoWordChanges.{one_requester}
 use Rattle.core_world.proofs.Naming.{same_named}
@@ -79,6 +79,7 @@ pub record Going (w : World) (P : List PlainObject) (r : ℕ) (b : Revocation) :
   pub start : w.start ≡ before.start
   pub biasing : w.biasing ≡ before.biasing
   pub reached : (before.known r).reached ≡ true
+  pub was_calm : (before.known r).stage ≡ Calm
   pub operation : Op
   pub unfinished : (before.known r).unfinished ≡ Some (record { op = operation; object = b.object })
   pub allowed : RevokesWithin operation b.rebias
@@ -221,6 +222,7 @@ module _ (w : World) (P : List PlainObject) (r : ℕ) (b : Revocation) (g : Goin
       biasing = g.biasing;
       requester = r;
       reached = g.reached;
+      was_calm = g.was_calm;
       revocation = b;
       its_revocation = ap (λ (k : Known). revocation_in k.stage) here ∙ ap revocation_in leaves.stage;
       operation = g.operation;
@@ -249,7 +251,7 @@ module _ (w : World) (P : List PlainObject) (r : ℕ) (b : Revocation) (g : Goin
 
 -- WHAT SUCH A STORE LEAVES, where the thread keeps nothing of it but a count
 module _ (s : Shape) (start : ℕ) (e : Purpose) (b : Revocation) (o : Own) (at : Name) (word n : ℕ) (k : Known) (its_revocation : is_revocation_word at ≡ true)
-    (kept : kept_after o n k.kept ≡ k.kept) (saved : saved_after o n k.saved ≡ k.saved) (shots : shots_after o s k ≡ k.shots) (goes_on : e.unfinished ≡ k.unfinished) (check : e.check ≡ k.checking) where
+    (kept : kept_after o n k.kept ≡ k.kept) (moving : moving_after o n k.moving ≡ k.moving) (saved : saved_after o n k.saved ≡ k.saved) (shots : shots_after o s k ≡ k.shots) (goes_on : e.unfinished ≡ k.unfinished) (check : e.check ≡ k.checking) where
   abbrev l : Known
   l = known_hit s start (revoke_plan e b o at word) n k
 
@@ -261,6 +263,7 @@ module _ (s : Shape) (start : ℕ) (e : Purpose) (b : Revocation) (o : Own) (at 
       reached = reached_store at word word k its_revocation i;
       halted = halted_store at word k its_revocation i;
       kept = kept i;
+      moving = moving i;
       saved = saved i;
       holds = holds_store at word k its_revocation i;
       wait = wait_store at word k its_revocation i;
@@ -308,16 +311,16 @@ module _ (w : World) (P : List PlainObject) (e : Purpose) (b : Revocation) (at :
 
   -- the law of a store, by what was going on
   next_store : (r : ℕ) (g : Going w P r b) (o : Own) → r < w.shape.threads → MayStore w.shape (w.known r) e r b at word
-      → kept_after o (w.words at) (w.known r).kept ≡ (w.known r).kept → saved_after o (w.words at) (w.known r).saved ≡ (w.known r).saved → shots_after o w.shape (w.known r) ≡ (w.known r).shots
+      → kept_after o (w.words at) (w.known r).kept ≡ (w.known r).kept → moving_after o (w.words at) (w.known r).moving ≡ (w.known r).moving → saved_after o (w.words at) (w.known r).saved ≡ (w.known r).saved → shots_after o w.shape (w.known r) ≡ (w.known r).shots
       → (let c = class_of w.shape b.object in
       counts_after o (w.known r).counts ≡ with_verdict_counted (g.before.known r).counts c (decided (g.before.words (Revocations c)) (g.before.words (LastBulk c)) b.now).0 (is_reset (g.before.words (Revocations c)) (g.before.words (LastBulk c)) b.now))
       → RevokesSince (world_after (plan o) r w) P g.before
-  next_store r g o within may kept saved shots counts =
+  next_store r g o within may kept moving saved shots counts =
       let front = may.next g.before.words (subst (λ s. IsBiasedToOne s g.before.words b.object) (sym g.shape) g.biased) g.found in
       let good = goods r g within front.0 front.1 in
       let l = known_hit w.shape w.start (plan o) (w.words at) (w.known r) in
       let reached : (w.known r).reached ≡ true = ap (λ (k : Known). k.reached) g.knows ∙ g.reached in
-      let leaves = store_leaves w.shape w.start e b o at word (w.words at) (w.known r) good.0.0 kept saved shots may.goes_on may.check in
+      let leaves = store_leaves w.shape w.start e b o at word (w.words at) (w.known r) good.0.0 kept moving saved shots may.goes_on may.check in
       store_revokes w P r b g e o at word l leaves good.0 good.1
       front.0 (front.1 ∙ ap (λ s. revocation_writes s r b g.before.words) g.shape)
       (subst (λ s. let c = class_of s b.object in
@@ -338,6 +341,7 @@ module _ (w : World) (P : List PlainObject) (e : Purpose) (b : Revocation) (at :
         start = refl;
         biasing = refl;
         reached = may.reached;
+        was_calm = may.calm;
         operation = may.operation;
         unfinished = may.unfinished;
         allowed = may.allowed;
@@ -356,7 +360,7 @@ module _ (w : World) (P : List PlainObject) (e : Purpose) (b : Revocation) (at :
       let last = stands (LastBulk c) policy.1 policy.3 in
       let d : (verdict ≡ (decided (w.words (Revocations c)) (w.words (LastBulk c)) b.now).0) × (reset ≡ is_reset (w.words (Revocations c)) (w.words (LastBulk c)) b.now) =
       (policy.4 ∙ (λ i. (decided (sym count i) (sym last i) b.now).0), policy.5 ∙ (λ i. is_reset (sym count i) (sym last i) b.now)) in
-      next_store r g (own.CountVerdict c verdict reset) within may.store refl refl refl (λ i. with_verdict_counted (w.known r).counts c (d.0 i) (d.1 i))
+      next_store r g (own.CountVerdict c verdict reset) within may.store refl refl refl refl (λ i. with_verdict_counted (w.known r).counts c (d.0 i) (d.1 i))
 
 -- A STORE IN THE MIDDLE: the thread whose revocation is under way makes the next store, and keeps nothing of it.
 pub middle_store : (w : World) (P : List PlainObject) (e : Purpose) (at : Name) (word : ℕ) (s : IsRevoking w P)
@@ -371,6 +375,7 @@ middle_store w P e at word s within may =
       start = s.start;
       biasing = s.biasing;
       reached = s.reached;
+      was_calm = s.was_calm;
       operation = s.operation;
       unfinished = s.unfinished;
       allowed = s.allowed;
@@ -385,6 +390,6 @@ middle_store w P e at word s within may =
       forms = s.forms;
       safe = s.safe;
     } in
-    next_store w P e s.revocation at word r g own.Same within may refl refl refl
+    next_store w P e s.revocation at word r g own.Same within may refl refl refl refl
     (sym counts ∙ ap (λ (z : Shape). with_verdict_counted (s.before.known r).counts (class_of z s.revocation.object) (decided (s.before.words (Revocations (class_of z s.revocation.object))) (s.before.words (LastBulk (class_of z s.revocation.object))) s.revocation.now).0
     (is_reset (s.before.words (Revocations (class_of z s.revocation.object))) (s.before.words (LastBulk (class_of z s.revocation.object))) s.revocation.now)) (sym s.shape))

@@ -90,7 +90,7 @@ pub release_fits : (w : World) (P : List PlainObject) (t : ℕ) (e : Purpose) (b
 release_fits w P t e b took may =
     by_requester w P t b may.reached may.its_revocation (λ u. Fits (world_after (release_plan e (stage_after took b.object) u) u w) P) (λ s it.
     let own = subst (λ u. MayEndRevoking w.shape (w.known u) e u b) (sym it) may in
-    release_ends w P s e (all_made w P e b s own) (made w P e b s own) own.goes_on b.object took)
+    release_ends w P s e (all_made w P e b s own) (made w P e b s own) own.still own.goes_on b.object took)
 
 -- THE STORES, by what the thread knows: the first one, from the world in which it is made
 pub begin_revokes : (w : World) (P : List PlainObject) (r : ℕ) (e : Purpose) (b : Revocation) (verdict : Verdict) (reset : Bool) (at : Name) (word : ℕ) → MayBeginRevoking w.shape (w.known r) e r b verdict reset at word

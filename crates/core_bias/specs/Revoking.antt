@@ -9,7 +9,7 @@ use Rattle.core_world.specs.declared.stage.Stage.TheVariants.{Calm}
 use Rattle.core_world.specs.declared.task.Op.{Op}
 use Rattle.core_world.specs.Threads.Counts.{with_verdict_counted}
 use Rattle.core_world.specs.Words.Forms.{epoch_in, is_biased}
-use Rattle.core_world.specs.Threads.Known.{Known, StepMade, last_seen}
+use Rattle.core_world.specs.Threads.Known.{Still, Known, StepMade, last_seen}
 use Rattle.core_world.specs.Locks.{is_valid_bias}
 use Rattle.core_world.specs.Trees.Plans.{Purpose}
 use Rattle.core_world.specs.Trees.SafepointSteps.{reached_word}
@@ -30,6 +30,7 @@ pub record Alike (k l : Known) : Type 0 where
   pub reached : k.reached ≡ l.reached
   pub halted : k.halted ≡ l.halted
   pub kept : k.kept ≡ l.kept
+  pub moving : k.moving ≡ l.moving
   pub saved : k.saved ≡ l.saved
   pub holds : k.holds ≡ l.holds
   pub wait : k.wait ≡ l.wait
@@ -52,6 +53,7 @@ revoked_world w r b l =
 
 -- what it knows then: what it knew, and the verdict
 pub record HasCounted (w : World) (r : ℕ) (b : Revocation) (l : Known) : Type 0 where
+  pub calm : (w.known r).stage ≡ Calm
   pub same : Alike (w.known r) l
   pub counts : let c = class_of w.shape b.object in
       l.counts ≡ with_verdict_counted (w.known r).counts c
@@ -116,6 +118,7 @@ Leads {A} T (m ∷ ms) U = (g : ℕ → Todo A) × Leads T ms (step m.plan g) ×
 pub record MayEndRevoking (s : Shape) (k : Known) (e : Purpose) (r : ℕ) (b : Revocation) : Type 0 where
   pub reached : k.reached ≡ true
   pub its_revocation : revocation_in k.stage ≡ Some b
+  pub still : k.moving ≡ Still
   pub all : AreAllStores s r b k.seen_at_safepoint
   pub goes_on : e.unfinished ≡ k.unfinished
 

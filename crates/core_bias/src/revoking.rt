@@ -11,7 +11,7 @@ ghost use Rattle.core_world.specs.declared.plan.StepPlan.{StepPlan};
 ghost use Rattle.core_world.specs.Words.Forms.{is_biased};
 ghost use Rattle.core_world.specs.Threads.Known.{Known, StepMade};
 ghost use Rattle.core_world.specs.Locks.{marks};
-ghost use Rattle.core_world.specs.Trees.Plans.{Purpose, load};
+ghost use Rattle.core_world.specs.Trees.Plans.{Purpose, load, load_plan};
 ghost use Rattle.core_world.specs.RevocationRules.{writes_in};
 ghost use Rattle.core_world.specs.Trees.RevocationSteps.{RevocationOutcome, revoke_at_safepoint_steps, revoke_plan};
 ghost use Rattle.core_world.specs.Words.Shape.{Shape, class_of};
@@ -21,6 +21,7 @@ ghost use Rattle.core_world.specs.Trees.Todo.{Todo, done, step};
 ghost use Rattle.core_world.specs.Valid.{Fits, IsRevoking, RevokesSince, IsValid};
 ghost use Rattle.core_world.specs.World.{World};
 ghost use Rattle.core_locks.specs.Knowing.{KeepsValid};
+ghost use Rattle.core_world.specs.declared.stage.Stage.TheVariants.{Takes};
 ghost use Rattle.core_bias.specs.Revoking.{AreAllStores, HasCounted, IsNextStore, Leads, TellsBias, MayBeginRevoking, MayEndRevoking, MayGoOnRevoking, MayLookAfterRevoking, revoked_world};
 ghost use Rattle.core_world.specs.Trees.SafepointSteps.{release_plan};
 ghost use Rattle.core_world.specs.Trees.BiasSteps.{stage_after};
@@ -100,11 +101,15 @@ pub fn the_release_ends_the_revocation()
         → IsValid w objects → Fits (world_after (release_plan e (stage_after took b.object) t) t w) objects }
 {}
 
-/// So does a load at the safepoint after all stores: the thread stands in the middle of nothing then, and its safepoint is still reached.
+/// So does a load at the safepoint after all stores, and its safepoint is still reached: the thread stands in the middle of nothing then, or, where it
+/// gave itself a new bias, in that of taking the object. Every clause holds wherever of the two it stands; the law of biases only where it took one.
 pub fn a_load_ends_the_revocation()
     // `MayLookAfterRevoking`: besides, that it loaded or stored at its safepoint each mark and each word of a class that it saw before in the
     // calls of the request: a revocation loads the object's mark and the words of its class, and an operation sees no others before
-    ensures { (w : World) (objects : List PlainObject) (t : ℕ) (e : Purpose) (b : Revocation) (at : Name)
+    ensures calm { (w : World) (objects : List PlainObject) (t : ℕ) (e : Purpose) (b : Revocation) (at : Name)
         → MayLookAfterRevoking w.shape (w.known t) e t b
         → IsValid w objects → Fits (world_after (load e at) t w) objects }
+    ensures taking { (w : World) (objects : List PlainObject) (t : ℕ) (e : Purpose) (b : Revocation) (at : Name) (o : ℕ)
+        → t < w.shape.threads → MayLookAfterRevoking w.shape (w.known t) e t b
+        → IsValid w objects → Fits (world_after (load_plan e (Takes o) at) t w) objects }
 {}

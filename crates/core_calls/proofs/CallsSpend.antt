@@ -30,10 +30,11 @@ use Rattle.core_world.specs.Trees.MonitorSteps.{monitor_enter_steps}
 use Rattle.core_world.specs.Trees.BiasSteps.{stage_after}
 use Rattle.core_world.specs.Trees.Operations.{value_found, goes_on_with, and_then, answer, lone_purpose, revocation_steps, enter_monitor_steps, enter_at, enter_unbiased, enter_revoked, enter_tried, enter_going, enter_steps, exit_at, exit_steps, revoked_steps, unbias_tried, unbias_steps, no_bias, wait_steps, notify_at, notify_steps, notify_all_at, notify_all_steps, hash_steps, get_steps, put_steps, print_steps, finish_steps, dump_steps, check_ending, check_steps}
 use Rattle.core_world.specs.Trees.Calls.{end, side_purpose, steps_of}
-use Rattle.core_calls.specs.Bounds.{IsWithin, a_revocation, most_steps}
+use Rattle.core_calls.specs.Bounds.{IsWithin, a_deflation, a_revocation, most_steps}
 use Rattle.core_calls.proofs.Spends.{Spends, Spend, spend_done, spend_never, spend_more, spend_either, spend_then, spend_both, spend_any}
 use Rattle.core_calls.proofs.RevocationSpends.{revoke_at_safepoint_spends}
 use Rattle.core_calls.proofs.LookSpends.{shot_spends, still_spends}
+use Rattle.core_calls.proofs.DeflationSpends.{deflate_spends}
 use Rattle.core_calls.proofs.LocksSpend.{Any, any_step, Nothing, stack_enter_spends, to_monitor, stack_exit_spends, unless_biased, bias_exit_spends, inflate_spends, monitor_enter_spends, monitor_exit_spends}
 use Rattle.core_calls.proofs.PartsSpend.{monitor_wait_spends, monitor_resume_spends, publish_spends, notify_spends, notify_all_spends, to_revoke, to_enter, bias_drop_spends, bias_enter_spends, bias_after_spends, poll_spends, request_spends, reached_spends, safepoint_spends, release_spends, halt_spends, stop_spends, resume_spends, hash_header_spends}
 
@@ -45,8 +46,10 @@ then_spends f (Pending why) h = spend_done {a = Pending why} (omega arith)
 module _ (s : Shape) (e : Purpose) where
   pub revocation_spends : (t : ℕ) (requesting : Bool) (b : Revocation) → Spend Any Nothing (a_revocation s) (revocation_steps s t requesting e b)
   revocation_spends t requesting b =
-      spend_both {k = 8384 * s.threads + 140} (safepoint_spends e t requesting) (λ turn. then_spends _ turn (λ _.
-      spend_both {k = 1} (spend_any (revoke_at_safepoint_spends e b s t)) (λ outcome. spend_both {k = 0} (release_spends e t (stage_after outcome.took b.object)) (λ _. spend_done {a = Done outcome.took} (omega arith)) (omega arith)) (omega arith))) (omega arith)
+      spend_both {k = 8384 * s.threads + 140 + a_deflation s} (safepoint_spends e t requesting) (λ turn. then_spends _ turn (λ _.
+      spend_both {k = a_deflation s + 1} (spend_any (revoke_at_safepoint_spends e b s t)) (λ outcome.
+      spend_both {k = 1} (spend_any (deflate_spends e s (stage_after outcome.took b.object))) (λ _.
+      spend_both {k = 0} (release_spends e t (stage_after outcome.took b.object)) (λ _. spend_done {a = Done outcome.took} (omega arith)) (omega arith)) (omega arith)) (omega arith))) (omega arith)
 
   unbias_spends : (k : Start) (b : Revocation) → Spend Any Nothing (a_revocation s + 2) (unbias_steps s e k b)
   unbias_spends k b =
@@ -64,10 +67,10 @@ module _ (s : Shape) (e : Purpose) where
 
 module _ (s : Shape) (e : Purpose) (k : Start) where
   -- ENTER
-  enter_monitor_spends : (o : ℕ) → Spend Any Nothing 16 (enter_monitor_steps e k o)
-  enter_monitor_spends o = spend_both {k = 7} (inflate_spends e k.local o k.kept) (λ turn. then_spends (λ m. monitor_enter_steps e k.local o m) turn (monitor_enter_spends e k.local o)) (omega arith)
+  enter_monitor_spends : (o : ℕ) → Spend Any Nothing 17 (enter_monitor_steps s e k o)
+  enter_monitor_spends o = spend_both {k = 7} (inflate_spends e k.local o s k.kept) (λ turn. then_spends (λ m. monitor_enter_steps e k.local o m) turn (monitor_enter_spends e k.local o)) (omega arith)
 
-  pub enter_at_spends : (form : Option MarkForm) (o mark : ℕ) → Spend Any Nothing 16 (enter_at form e k o mark)
+  pub enter_at_spends : (form : Option MarkForm) (o mark : ℕ) → Spend Any Nothing 17 (enter_at form s e k o mark)
   enter_at_spends (Some Inflating) o mark = spend_done {a = Pending why.Inflating} (omega arith)
   enter_at_spends (Some (Neutral hash age)) o mark = spend_more (omega arith) (stack_enter_spends e k.local o (read_mark mark) mark)
   enter_at_spends (Some (Locked thread place)) o mark = spend_either (thread == k.local.thread) (spend_more (omega arith) (stack_enter_spends e k.local o (read_mark mark) mark)) (enter_monitor_spends o)
@@ -77,7 +80,7 @@ module _ (s : Shape) (e : Purpose) (k : Start) where
   enter_at_spends (Some Marked) o mark = spend_never
   enter_at_spends None o mark = spend_never
 
-  unbiased_spends : (o n : ℕ) (tried : BiasTry) → Spend Any Nothing (to_enter n 16 tried) (enter_unbiased tried e k o)
+  unbiased_spends : (o n : ℕ) (tried : BiasTry) → Spend Any Nothing (to_enter n 17 tried) (enter_unbiased tried s e k o)
   unbiased_spends o n (Took path) = spend_done {a = Done path} (omega arith)
   unbiased_spends o n (Unbiased mark) = enter_at_spends (read_mark mark) o mark
   unbiased_spends o n (Valid mark) = spend_never
@@ -86,9 +89,9 @@ module _ (s : Shape) (e : Purpose) (k : Start) where
   enter_revoked_spends : (requesting : Bool) (b : Revocation) → Spend Any Nothing (a_revocation s + 18) (enter_revoked s requesting e k b)
   enter_revoked_spends requesting b =
       spend_both {k = 18} (revocation_spends s e k.local.thread requesting b) (λ turn. then_spends _ turn (λ took.
-      spend_then (bias_after_spends e k.local b.object 0 16 17 (omega arith) (omega arith) (omega arith) took) (unbiased_spends b.object 0))) (omega arith)
+      spend_then (bias_after_spends e k.local b.object 0 17 17 (omega arith) (omega arith) took) (unbiased_spends b.object 0))) (omega arith)
 
-  pub tried_spends : (b : Revocation) (tried : BiasTry) → Spend Any Nothing (to_enter (a_revocation s + 18) 16 tried) (enter_tried tried s e k b)
+  pub tried_spends : (b : Revocation) (tried : BiasTry) → Spend Any Nothing (to_enter (a_revocation s + 18) 17 tried) (enter_tried tried s e k b)
   tried_spends b (Valid mark) = enter_revoked_spends false b
   tried_spends b (Took path) = spend_done {a = Done path} (omega arith)
   tried_spends b (Unbiased mark) = unbiased_spends b.object 0 (Unbiased mark)
@@ -97,7 +100,7 @@ module _ (s : Shape) (e : Purpose) (k : Start) where
   pub enter_going_spends : (b : Revocation) → Spend Any Nothing (a_revocation s + 20) (enter_going s e k b)
   enter_going_spends b =
       spend_either k.requesting (spend_more (omega arith) (enter_revoked_spends true b))
-      (spend_more (omega arith) (spend_then (bias_enter_spends e k.local b.object (a_revocation s + 18) 16 (a_revocation s + 18) (omega arith) (omega arith) (omega arith) (class_of s b.object)) (tried_spends b)))
+      (spend_more (omega arith) (spend_then (bias_enter_spends e k.local b.object (a_revocation s + 18) 17 (a_revocation s + 18) (omega arith) (omega arith) (omega arith) (class_of s b.object)) (tried_spends b)))
 
 -- the answer takes no step
 pub answers : {A E : Type 0} {n : ℕ} {d : Todo A} → Spend Any Nothing n d → Spend Any Nothing n (d >>= λ a. answer {E = E} a)
@@ -141,11 +144,11 @@ module _ (s : Shape) (k : Start) (o now : ℕ) where
       by_bias false = spend_then (stack_exit_spends exiting k.local o 6 (omega arith)) by_out
 
   -- WAIT
-  pub wait_spends : Spend Any Nothing (a_revocation s + 25) (wait_steps s k o now)
+  pub wait_spends : Spend Any Nothing (a_revocation s + 26) (wait_steps s k o now)
   wait_spends = refused (hold_count o k.local.holds == 0) (record {}) (answers (spend_either (waits_on k.local.wait o)
       (spend_more (omega arith) (monitor_resume_spends waiting k.local.thread k.saved o))
-      (spend_both {k = 23} (unbias_spends s waiting k (no_bias o now)) (λ turn. then_spends _ turn (λ _.
-      spend_both {k = 14} (inflate_spends waiting k.local o k.kept) (λ turn. then_spends _ turn (λ m.
+      (spend_both {k = 24} (unbias_spends s waiting k (no_bias o now)) (λ turn. then_spends _ turn (λ _.
+      spend_both {k = 14} (inflate_spends waiting k.local o s k.kept) (λ turn. then_spends _ turn (λ m.
       spend_both {k = 6} (monitor_wait_spends waiting k.local o m) (λ saved. monitor_resume_spends waiting k.local.thread saved o) (omega arith))) (omega arith))) (omega arith))))
 
   -- NOTIFY and NOTIFYALL
@@ -180,9 +183,9 @@ module _ (s : Shape) (k : Start) (o now : ℕ) where
       spend_more (omega arith) (any_step {n = 2 * s.threads + 1} (λ mark. notify_all_at_spends (read_mark mark))))) (omega arith)))
 
   -- HASH
-  pub hash_call_spends : Spend Any Nothing (a_revocation s + 15) (hash_steps s k o now)
+  pub hash_call_spends : Spend Any Nothing (a_revocation s + 16) (hash_steps s k o now)
   hash_call_spends =
-      spend_both {k = 13} (unbias_spends s hashing k (no_bias o now)) (λ turn. then_spends _ turn (λ _. hash_header_spends hashing k.local (record { number = k.draws + 1; value = k.draw }) o k.kept)) (omega arith)
+      spend_both {k = 14} (unbias_spends s hashing k (no_bias o now)) (λ turn. then_spends _ turn (λ _. hash_header_spends s hashing k.local (record { number = k.draws + 1; value = k.draw }) o k.kept)) (omega arith)
 
 -- SLOTS, PRINTS AND ENDS
 get_spends : (k : Start) (o slot : ℕ) → Spend Any Nothing 1 (get_steps k o slot)
@@ -204,20 +207,22 @@ module _ (s : Shape) (k : Start) where
   abbrev checking : Purpose
   checking = record { task = task.Check; unfinished = k.unfinished; check = true }
 
-  pub dump_spends : Spend Any Nothing (66 * length s.objects + s.threads + 6) (dump_steps s k)
+  pub dump_spends : Spend Any Nothing (66 * length s.objects + s.threads + 6 + a_deflation s) (dump_steps s k)
   dump_spends = refused (k.shots == 4) (record {}) (answers (
-      spend_both {k = 66 * length s.objects + s.threads + 3} (safepoint_spends dumping k.local.thread k.requesting) (λ turn. then_spends _ turn (λ _.
-      spend_both {k = 2} (spend_any (shot_spends dumping s)) (λ _. spend_both {k = 1} (release_spends dumping k.local.thread Calm) (λ _.
-      spend_both {k = 0} (publish_spends dumping k.local 0 (entry.Dump (k.shots + 1))) (λ _. spend_done {a = Done (k.shots + 1)} (omega arith)) (omega arith)) (omega arith)) (omega arith))) (omega arith)))
+      spend_both {k = 66 * length s.objects + s.threads + 3 + a_deflation s} (safepoint_spends dumping k.local.thread k.requesting) (λ turn. then_spends _ turn (λ _.
+      spend_both {k = a_deflation s + 2} (spend_any (shot_spends dumping s)) (λ _. spend_both {k = 2} (spend_any (deflate_spends dumping s Calm)) (λ _.
+      spend_both {k = 1} (release_spends dumping k.local.thread Calm) (λ _.
+      spend_both {k = 0} (publish_spends dumping k.local 0 (entry.Dump (k.shots + 1))) (λ _. spend_done {a = Done (k.shots + 1)} (omega arith)) (omega arith)) (omega arith)) (omega arith)) (omega arith))) (omega arith)))
 
   ending_spends : (stuck : Bool) → Spend Any Nothing 1 (check_ending stuck checking k.local.thread)
   ending_spends true = spend_both {k = 0} (halt_spends checking k.local.thread) (λ _. spend_done {a = Done true} (omega arith)) (omega arith)
   ending_spends false = spend_both {k = 0} (release_spends checking k.local.thread Calm) (λ _. spend_done {a = Done false} (omega arith)) (omega arith)
 
-  pub check_spends : Spend Any Nothing (3 * s.threads + 4) (check_steps s k)
+  pub check_spends : Spend Any Nothing (3 * s.threads + 4 + a_deflation s) (check_steps s k)
   check_spends =
-      spend_both {k = 3 * s.threads + 1} (safepoint_spends checking k.local.thread k.requesting) (λ turn. then_spends _ turn (λ _.
-      spend_both {k = 1} (spend_any (still_spends checking s)) ending_spends (omega arith))) (omega arith)
+      spend_both {k = 3 * s.threads + 1 + a_deflation s} (safepoint_spends checking k.local.thread k.requesting) (λ turn. then_spends _ turn (λ _.
+      spend_both {k = a_deflation s + 1} (spend_any (still_spends checking s)) (λ stuck.
+      spend_both {k = 1} (spend_any (deflate_spends checking s Calm)) (λ _. ending_spends stuck) (omega arith)) (omega arith))) (omega arith)
 
 -- ALL CALLS
 within : {A : Type 0} (d : Todo A) (n : ℕ) → Spends Any Nothing n d → IsWithin n d

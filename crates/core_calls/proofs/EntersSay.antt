@@ -58,10 +58,10 @@ module _ (s : Shape) (k : Start) (o now : ℕ) where
   owned : (word : ℕ) (ms : List StepMade) → Cause k.local.thread o (why.Owned word) ms → EnterCause k.requesting k.local.thread o (why.Owned word) ms
   owned word ms cause = inl (record { among = refl; cause = cause }, tt)
 
-  enter_monitor_says : (ms : List StepMade) → Still ms → Always Entering ms (enter_monitor_steps entering k o)
+  enter_monitor_says : (ms : List StepMade) → Still ms → Always Entering ms (enter_monitor_steps s entering k o)
   enter_monitor_says ms h =
-      always_then Inflation Entering (inflate_steps entering k.kept o) (λ turn. and_then turn (λ m. monitor_enter_steps entering k.local o m)) ms
-      (inflate_says entering k.requesting k.local.thread o (EnterCause k.requesting k.local.thread o) (enter_reasons k.requesting k.local.thread o) k.kept ms h)
+      always_then Inflation Entering (inflate_steps s entering k.kept o) (λ turn. and_then turn (λ m. monitor_enter_steps entering k.local o m)) ms
+      (inflate_says entering k.requesting k.local.thread o (EnterCause k.requesting k.local.thread o) (enter_reasons k.requesting k.local.thread o) s k.kept ms h)
       (λ ms turn so. then_says Inflation Entering turn (λ m. monitor_enter_steps entering k.local o m) ms so
       (λ m silent. monitor_enter_says entering k.local o (EnterCause k.requesting k.local.thread o) owned m ms silent)
       (λ why so. (so.0, so.1)))
@@ -73,7 +73,7 @@ module _ (s : Shape) (k : Start) (o now : ℕ) where
   by_record_says mark ms (inr put) h =
       stack_enter_says entering k.local o (EnterCause k.requesting k.local.thread o) (PutInMark o) (λ m word ms had. (had.0, inr had.1)) (λ expected found ms missed. inr missed) (read_mark mark) mark ms (refl, put) h
 
-  enter_at_says : (form : Option MarkForm) (mark : ℕ) (ms : List StepMade) → read_mark mark ≡ form → (read_mark mark ≡ Some Inflating → Loaded (Mark o) 0 ms) → Loaded (Mark o) mark ms ⊎ Put (Mark o) mark ms → Silent entering ms → Always Entering ms (enter_at form entering k o mark)
+  enter_at_says : (form : Option MarkForm) (mark : ℕ) (ms : List StepMade) → read_mark mark ≡ form → (read_mark mark ≡ Some Inflating → Loaded (Mark o) 0 ms) → Loaded (Mark o) mark ms ⊎ Put (Mark o) mark ms → Silent entering ms → Always Entering ms (enter_at form s entering k o mark)
   enter_at_says (Some Inflating) mark ms is inflating had h = (h, inl (record { among = refl; cause = inflating is }, tt))
   enter_at_says (Some (Neutral hash age)) mark ms is inflating had h = by_record_says mark ms had (still h)
   enter_at_says (Some (Locked thread place)) mark ms is inflating had h =
@@ -86,7 +86,7 @@ module _ (s : Shape) (k : Start) (o now : ℕ) where
   enter_at_says (Some Marked) mark ms is inflating had h = tt
   enter_at_says None mark ms is inflating had h = tt
 
-  unbiased_says : (tried : BiasTry) (ms : List StepMade) → TrySays entering k.local o ms tried → Always Entering ms (enter_unbiased tried entering k o)
+  unbiased_says : (tried : BiasTry) (ms : List StepMade) → TrySays entering k.local o ms tried → Always Entering ms (enter_unbiased tried s entering k o)
   unbiased_says (Took path) ms h = h
   unbiased_says (Unbiased mark) ms h = enter_at_says (read_mark mark) mark ms refl h.1 h.2 h.0
   unbiased_says (Valid mark) ms h = tt
@@ -97,12 +97,12 @@ module _ (s : Shape) (k : Start) (o now : ℕ) where
       always_then RevocationTurn Entering (revocation_steps s k.local.thread requesting entering revoking) (λ turn. and_then turn goes_on) ms
       (revocation_says s k (task.Enter o now) (unfinished_on op.Enter o) o (EnterCause k.requesting k.local.thread o) (enter_reasons k.requesting k.local.thread o) requesting same revoking ms h)
       (λ ms turn so. then_says RevocationTurn Entering turn goes_on ms so
-      (λ took silent. always_then (TrySays entering k.local o) Entering (bias_after_steps entering k.local o took) (λ tried. enter_unbiased tried entering k o) ms
+      (λ took silent. always_then (TrySays entering k.local o) Entering (bias_after_steps entering k.local o took) (λ tried. enter_unbiased tried s entering k o) ms
       (bias_after_says entering k.local o took ms silent) (λ ms tried so. unbiased_says tried ms so))
       (λ why so. (so.0, so.1)))
     where
       goes_on : Bool → Todo (Turn Path)
-      goes_on took = bias_after_steps entering k.local o took >>= λ tried. enter_unbiased tried entering k o
+      goes_on took = bias_after_steps entering k.local o took >>= λ tried. enter_unbiased tried s entering k o
 
   tried_says : k.requesting ≡ false → (tried : BiasTry) (ms : List StepMade) → TrySays entering k.local o ms tried → Always Entering ms (enter_tried tried s entering k revoking)
   tried_says none (Valid mark) ms h = revoked_says false none ms (still h)

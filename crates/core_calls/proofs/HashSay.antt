@@ -12,6 +12,7 @@ use Rattle.core_world.specs.declared.answer.Turn.{Turn}
 use Rattle.core_world.specs.declared.answer.Turn.TheVariants.{Done, Pending}
 use Rattle.core_world.specs.declared.answer.Why.{Why}
 use Rattle.core_world.specs.Words.Forms.{hash_in, hash_form}
+use Rattle.core_world.specs.Words.Shape.{Shape}
 use Rattle.core_world.specs.Threads.Known.{Start, StepMade}
 use Rattle.core_world.specs.Trees.Plans.{Purpose}
 use Rattle.core_world.specs.RevocationRules.{first_place}
@@ -72,33 +73,33 @@ module _ (e : Purpose) (k : Start) (o : ℕ) (For : Why → List StepMade → Ty
   inflated_says ms (Done m) h = hash_monitor_says m ms (still h)
   inflated_says ms (Pending why) h = h
 
-  hash_inflate_says : (kept : Option ℕ) (ms : List StepMade) → Still ms → Always HashTurn ms (hash_inflate_steps e kept (next_draw k) o)
-  hash_inflate_says kept ms h =
-      always_then (InflateTurn e k.requesting k.local.thread o For may) HashTurn (inflate_steps e kept o) (hash_inflated e (next_draw k) o) ms
-      (inflate_says e k.requesting k.local.thread o For may kept ms h) inflated_says
+  hash_inflate_says : (s : Shape) (kept : Option ℕ) (ms : List StepMade) → Still ms → Always HashTurn ms (hash_inflate_steps s e kept (next_draw k) o)
+  hash_inflate_says s kept ms h =
+      always_then (InflateTurn e k.requesting k.local.thread o For may) HashTurn (inflate_steps s e kept o) (hash_inflated e (next_draw k) o) ms
+      (inflate_says e k.requesting k.local.thread o For may s kept ms h) inflated_says
 
-  hash_displaced_says : (kept : Option ℕ) (ms : List StepMade) → Still ms → Always HashTurn ms (hash_displaced_steps e k.local o >>= λ found. hash_unless found e kept (next_draw k) o)
-  hash_displaced_says kept ms h = λ header. by_hash header (hash_in header == 0) refl
+  hash_displaced_says : (s : Shape) (kept : Option ℕ) (ms : List StepMade) → Still ms → Always HashTurn ms (hash_displaced_steps e k.local o >>= λ found. hash_unless found s e kept (next_draw k) o)
+  hash_displaced_says s kept ms h = λ header. by_hash header (hash_in header == 0) refl
     where
-      by_hash : (header : ℕ) (b : Bool) → (hash_in header == 0) ≡ b → Always HashTurn (made (find_hash_plan e (Displaced k.local.thread (first_place o k.local.holds)) o) header ∷ ms) (hash_unless (cond b None (Some (hash_in header))) e kept (next_draw k) o)
-      by_hash header true none = hash_inflate_says kept _ (still (none_found e _ o header ms none h))
+      by_hash : (header : ℕ) (b : Bool) → (hash_in header == 0) ≡ b → Always HashTurn (made (find_hash_plan e (Displaced k.local.thread (first_place o k.local.holds)) o) header ∷ ms) (hash_unless (cond b None (Some (hash_in header))) s e kept (next_draw k) o)
+      by_hash header true none = hash_inflate_says s kept _ (still (none_found e _ o header ms none h))
       by_hash header false some = (None, (not_zero _ some, inl (inr (inl (first_place o k.local.holds, refl)), refl, refl)), one_found e _ o header ms some h)
 
-  hash_at_says : (form : Option MarkForm) (kept : Option ℕ) (mark : ℕ) (ms : List StepMade) → read_mark mark ≡ form → Still ms → Always HashTurn (made (find_hash_plan e (Mark o) o) mark ∷ ms) (hash_mark_steps form e k.local kept (next_draw k) o mark)
-  hash_at_says (Some Inflating) kept mark ms is h =
+  hash_at_says : (form : Option MarkForm) (s : Shape) (kept : Option ℕ) (mark : ℕ) (ms : List StepMade) → read_mark mark ≡ form → Still ms → Always HashTurn (made (find_hash_plan e (Mark o) o) mark ∷ ms) (hash_mark_steps form s e k.local kept (next_draw k) o mark)
+  hash_at_says (Some Inflating) s kept mark ms is h =
       (none_found e (Mark o) o mark ms (ap (λ f. hash_form f == 0) is) h, may.inflates _ (zero_loaded (Mark o) (made (find_hash_plan e (Mark o) o) mark ∷ ms) mark is (inl (refl, refl, refl))))
-  hash_at_says (Some (Neutral hash age)) kept mark ms is h =
+  hash_at_says (Some (Neutral hash age)) s kept mark ms is h =
       either_way HashTurn _ (hash == 0) _ _
       (λ none. draw_says (Mark o) (inl refl) mark _ (inl (refl, refl, refl)) (none_found e (Mark o) o mark ms (ap (λ f. hash_form f == 0) is ∙ none) h))
       (λ some. (None, (not_zero _ some, inl (inl refl, refl, ap hash_form is)), subst (λ value. Leaves (entry.Hash o value None ∷ []) None e.check (made (find_hash_plan e (Mark o) o) mark ∷ ms)) (ap hash_form is) (one_found e (Mark o) o mark ms (ap (λ f. hash_form f == 0) is ∙ some) h)))
-  hash_at_says (Some (Locked thread place)) kept mark ms is h =
+  hash_at_says (Some (Locked thread place)) s kept mark ms is h =
       let silent = none_found e (Mark o) o mark ms (ap (λ f. hash_form f == 0) is) h in
-      either_way HashTurn _ (thread == k.local.thread) _ _ (λ own. hash_displaced_says kept _ (still silent)) (λ other. hash_inflate_says kept _ (still silent))
-  hash_at_says (Some (Inflated monitor)) kept mark ms is h = hash_monitor_says monitor _ (still (none_found e (Mark o) o mark ms (ap (λ f. hash_form f == 0) is) h))
-  hash_at_says (Some (Anonymous epoch age)) kept mark ms is h = tt
-  hash_at_says (Some (Biased thread epoch age)) kept mark ms is h = tt
-  hash_at_says (Some Marked) kept mark ms is h = tt
-  hash_at_says None kept mark ms is h = tt
+      either_way HashTurn _ (thread == k.local.thread) _ _ (λ own. hash_displaced_says s kept _ (still silent)) (λ other. hash_inflate_says s kept _ (still silent))
+  hash_at_says (Some (Inflated monitor)) s kept mark ms is h = hash_monitor_says monitor _ (still (none_found e (Mark o) o mark ms (ap (λ f. hash_form f == 0) is) h))
+  hash_at_says (Some (Anonymous epoch age)) s kept mark ms is h = tt
+  hash_at_says (Some (Biased thread epoch age)) s kept mark ms is h = tt
+  hash_at_says (Some Marked) s kept mark ms is h = tt
+  hash_at_says None s kept mark ms is h = tt
 
-  pub hash_header_says : (kept : Option ℕ) (ms : List StepMade) → Still ms → Always HashTurn ms (hash_header_steps e k.local kept (next_draw k) o)
-  hash_header_says kept ms h = λ mark. hash_at_says (read_mark mark) kept mark ms refl h
+  pub hash_header_says : (s : Shape) (kept : Option ℕ) (ms : List StepMade) → Still ms → Always HashTurn ms (hash_header_steps s e k.local kept (next_draw k) o)
+  hash_header_says s kept ms h = λ mark. hash_at_says (read_mark mark) s kept mark ms refl h

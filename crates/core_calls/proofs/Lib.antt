@@ -8,6 +8,7 @@ pub mod SafepointsSay
 pub mod Reasons
 pub mod RevocationSpends
 pub mod LookSpends
+pub mod DeflationSpends
 pub mod HashSay
 pub mod OperationsSay
 pub mod EntersSay

@@ -17,6 +17,7 @@ use Rattle.core_world.specs.declared.answer.StackOut.{StackOut}
 use Rattle.core_world.specs.declared.answer.StackOut.TheVariants.{Left, Monitor, Not}
 use Rattle.core_world.specs.declared.answer.Why.TheVariants as why
 use Rattle.core_world.specs.Words.Forms.{is_entering, is_biased}
+use Rattle.core_world.specs.Words.Shape.{Shape}
 use Rattle.core_world.specs.Threads.Known.{Local}
 use Rattle.core_world.specs.Locks.{hold_count}
 use Rattle.core_world.specs.Trees.Plans.{Purpose, with_own, store, swap, done_with, pending_for}
@@ -117,22 +118,22 @@ module _ (e : Purpose) (k : Local) (o : ℕ) where
   inflate_with_spends (Some Marked) mark m = spend_never
   inflate_with_spends None mark m = spend_never
 
-  inflate_by_spends : (kept : Option ℕ) (mark : ℕ) → Spend Any Nothing 8 (inflate_by kept e o mark)
-  inflate_by_spends (Some m) mark = spend_more (omega arith) (inflate_with_spends (read_mark mark) mark m)
-  inflate_by_spends None mark = any_step {n = 7} (λ m. inflate_with_spends (read_mark mark) mark m)
+  inflate_by_spends : (s : Shape) (kept : Option ℕ) (mark : ℕ) → Spend Any Nothing 9 (inflate_by kept s e o mark)
+  inflate_by_spends s (Some m) mark = spend_more (omega arith) (inflate_with_spends (read_mark mark) mark m)
+  inflate_by_spends s None mark = any_step {n = 8} (λ position. any_step {n = 7} (λ m. inflate_with_spends (read_mark mark) mark m))
 
-  inflate_at_spends : (form : Option MarkForm) (kept : Option ℕ) (mark : ℕ) → Spend Any Nothing 8 (inflate_at form e kept o mark)
-  inflate_at_spends (Some Inflating) kept mark = spend_done (omega arith)
-  inflate_at_spends (Some (Inflated monitor)) kept mark = spend_done (omega arith)
-  inflate_at_spends (Some (Neutral hash age)) kept mark = inflate_by_spends kept mark
-  inflate_at_spends (Some (Anonymous epoch age)) kept mark = inflate_by_spends kept mark
-  inflate_at_spends (Some (Biased thread epoch age)) kept mark = inflate_by_spends kept mark
-  inflate_at_spends (Some (Locked thread place)) kept mark = inflate_by_spends kept mark
-  inflate_at_spends (Some Marked) kept mark = inflate_by_spends kept mark
-  inflate_at_spends None kept mark = inflate_by_spends kept mark
+  inflate_at_spends : (form : Option MarkForm) (s : Shape) (kept : Option ℕ) (mark : ℕ) → Spend Any Nothing 9 (inflate_at form s e kept o mark)
+  inflate_at_spends (Some Inflating) s kept mark = spend_done (omega arith)
+  inflate_at_spends (Some (Inflated monitor)) s kept mark = spend_done (omega arith)
+  inflate_at_spends (Some (Neutral hash age)) s kept mark = inflate_by_spends s kept mark
+  inflate_at_spends (Some (Anonymous epoch age)) s kept mark = inflate_by_spends s kept mark
+  inflate_at_spends (Some (Biased thread epoch age)) s kept mark = inflate_by_spends s kept mark
+  inflate_at_spends (Some (Locked thread place)) s kept mark = inflate_by_spends s kept mark
+  inflate_at_spends (Some Marked) s kept mark = inflate_by_spends s kept mark
+  inflate_at_spends None s kept mark = inflate_by_spends s kept mark
 
-  pub inflate_spends : (kept : Option ℕ) → Spend Any Nothing 9 (inflate_steps e kept o)
-  inflate_spends kept = any_step {n = 8} (λ mark. inflate_at_spends (read_mark mark) kept mark)
+  pub inflate_spends : (s : Shape) (kept : Option ℕ) → Spend Any Nothing 10 (inflate_steps s e kept o)
+  inflate_spends s kept = any_step {n = 9} (λ mark. inflate_at_spends (read_mark mark) s kept mark)
 
   record_spends : (stage : Stage) (path : Path) → Spend Any Nothing 4 (record_steps e stage k o path)
   record_spends stage path = any_step {n = 3} (λ _. held_spends path)

@@ -17,6 +17,7 @@ use Rattle.core_world.specs.declared.answer.Turn.TheVariants.{Done, Pending}
 use Rattle.core_world.specs.declared.answer.Why.{Why}
 use Rattle.core_world.specs.declared.answer.Why.TheVariants as why
 use Rattle.core_world.specs.Threads.Known.{Local, StepMade}
+use Rattle.core_world.specs.Words.Shape.{Shape}
 use Rattle.core_world.specs.Trees.Plans.{Purpose, with_own, store, done_with}
 use Rattle.core_world.specs.Trees.Todo.{◌>>=◌, ask}
 use Rattle.core_world.specs.Trees.MonitorSteps.{prepare_steps, inflate_locked, inflate_neutral, inflate_with, inflate_by, inflate_at, inflate_steps, record_steps, owned_steps, monitor_enter_at, monitor_enter_steps, own_steps, release_steps, monitor_exit_steps}
@@ -63,22 +64,23 @@ module _ (e : Purpose) (requesting : Bool) (t o : ℕ) (For : Why → List StepM
   inflate_with_says (Some Marked) mark m ms loaded h = tt
   inflate_with_says None mark m ms loaded h = tt
 
-  inflate_by_says : (kept : Option ℕ) (mark : ℕ) (ms : List StepMade) → Loaded (Mark o) mark ms → Silent e ms → Always InflateTurn ms (inflate_by kept e o mark)
-  inflate_by_says (Some m) mark ms loaded h = inflate_with_says (read_mark mark) mark m ms loaded h
-  inflate_by_says None mark ms loaded h = λ m. inflate_with_says (read_mark mark) mark m _ (inr loaded) (still_leaves _ m ms refl refl refl h)
+  inflate_by_says : (s : Shape) (kept : Option ℕ) (mark : ℕ) (ms : List StepMade) → Loaded (Mark o) mark ms → Silent e ms → Always InflateTurn ms (inflate_by kept s e o mark)
+  inflate_by_says s (Some m) mark ms loaded h = inflate_with_says (read_mark mark) mark m ms loaded h
+  inflate_by_says s None mark ms loaded h = λ position m.
+      inflate_with_says (read_mark mark) mark m _ (inr (inr loaded)) (still_leaves _ m _ refl refl refl (still_leaves _ position ms refl refl refl h))
 
-  inflate_at_says : (form : Option MarkForm) (kept : Option ℕ) (mark : ℕ) (ms : List StepMade) → read_mark mark ≡ form → Loaded (Mark o) mark ms → Silent e ms → Always InflateTurn ms (inflate_at form e kept o mark)
-  inflate_at_says (Some Inflating) kept mark ms is loaded h = (h, may.inflates ms (zero_loaded (Mark o) ms mark is loaded))
-  inflate_at_says (Some (Inflated monitor)) kept mark ms is loaded h = h
-  inflate_at_says (Some (Neutral hash age)) kept mark ms is loaded h = inflate_by_says kept mark ms loaded h
-  inflate_at_says (Some (Anonymous epoch age)) kept mark ms is loaded h = inflate_by_says kept mark ms loaded h
-  inflate_at_says (Some (Biased thread epoch age)) kept mark ms is loaded h = inflate_by_says kept mark ms loaded h
-  inflate_at_says (Some (Locked thread place)) kept mark ms is loaded h = inflate_by_says kept mark ms loaded h
-  inflate_at_says (Some Marked) kept mark ms is loaded h = inflate_by_says kept mark ms loaded h
-  inflate_at_says None kept mark ms is loaded h = inflate_by_says kept mark ms loaded h
+  inflate_at_says : (form : Option MarkForm) (s : Shape) (kept : Option ℕ) (mark : ℕ) (ms : List StepMade) → read_mark mark ≡ form → Loaded (Mark o) mark ms → Silent e ms → Always InflateTurn ms (inflate_at form s e kept o mark)
+  inflate_at_says (Some Inflating) s kept mark ms is loaded h = (h, may.inflates ms (zero_loaded (Mark o) ms mark is loaded))
+  inflate_at_says (Some (Inflated monitor)) s kept mark ms is loaded h = h
+  inflate_at_says (Some (Neutral hash age)) s kept mark ms is loaded h = inflate_by_says s kept mark ms loaded h
+  inflate_at_says (Some (Anonymous epoch age)) s kept mark ms is loaded h = inflate_by_says s kept mark ms loaded h
+  inflate_at_says (Some (Biased thread epoch age)) s kept mark ms is loaded h = inflate_by_says s kept mark ms loaded h
+  inflate_at_says (Some (Locked thread place)) s kept mark ms is loaded h = inflate_by_says s kept mark ms loaded h
+  inflate_at_says (Some Marked) s kept mark ms is loaded h = inflate_by_says s kept mark ms loaded h
+  inflate_at_says None s kept mark ms is loaded h = inflate_by_says s kept mark ms loaded h
 
-  pub inflate_says : (kept : Option ℕ) (ms : List StepMade) → Still ms → Always InflateTurn ms (inflate_steps e kept o)
-  inflate_says kept ms h = λ mark. inflate_at_says (read_mark mark) kept mark _ refl (inl (refl, refl, refl)) (now_silent e _ mark ms refl refl refl refl h)
+  pub inflate_says : (s : Shape) (kept : Option ℕ) (ms : List StepMade) → Still ms → Always InflateTurn ms (inflate_steps s e kept o)
+  inflate_says s kept ms h = λ mark. inflate_at_says (read_mark mark) s kept mark _ refl (inl (refl, refl, refl)) (now_silent e _ mark ms refl refl refl refl h)
 
 module _ (e : Purpose) (k : Local) (o : ℕ) (For : Why → List StepMade → Type 0) (owns : (word : ℕ) (ms : List StepMade) → Cause k.thread o (why.Owned word) ms → For (why.Owned word) ms) where
   record_says : (stage : Stage) (path : Path) (ms : List StepMade) → Still ms → Always (EnterTurn e k o For) ms (record_steps e stage k o path)

@@ -29,7 +29,7 @@ use Rattle.core_world.specs.Trees.Todo.{Todo, done, ◌>>=◌}
 use Rattle.core_calls.specs.Moments.{moment_of}
 use Rattle.core_calls.proofs.Named.{Named, named_done, named_never, named_step, named_either, named_then, named_next}
 use Rattle.core_calls.proofs.NamedLocks.{stack_enter_named, stack_exit_named, bias_enter_named, bias_exit_named, bias_drop_named, bias_after_named, inflate_named, monitor_enter_named, monitor_exit_named}
-use Rattle.core_calls.proofs.NamedLooks.{shot_named, still_named, revocation_named}
+use Rattle.core_calls.proofs.NamedLooks.{shot_named, still_named, deflation_named, revocation_named}
 use Rattle.core_calls.proofs.NamedSafe.{request_named, reached_named, safepoint_named, release_named, halt_named, poll_named, stop_named, resume_named}
 use Rattle.core_calls.proofs.NamedWaits.{monitor_wait_named, publish_named, notify_named, notify_all_named, monitor_resume_named, hash_header_named}
 
@@ -45,21 +45,21 @@ refused_or refuses err d h = named_either refuses named_done (named_then h (λ t
 
 -- WITHOUT A SAFEPOINT
 module _ (e : Purpose) (k : Start) (o : ℕ) where
-  by_monitor_named : Named e.task (enter_monitor_steps e k o)
-  by_monitor_named = named_then (inflate_named e o k.kept) (λ turn. named_turn turn (λ m. monitor_enter_named e k.local o m))
+  by_monitor_named : (s : Shape) → Named e.task (enter_monitor_steps s e k o)
+  by_monitor_named s = named_then (inflate_named e o s k.kept) (λ turn. named_turn turn (λ m. monitor_enter_named e k.local o m))
 
-  enter_at_named : (form : Option MarkForm) (mark : ℕ) → Named e.task (enter_at form e k o mark)
-  enter_at_named (Some Inflating) mark = named_done
-  enter_at_named (Some (Neutral hash age)) mark = stack_enter_named e k.local o mark
-  enter_at_named (Some (Locked thread place)) mark = named_either (thread == k.local.thread) (stack_enter_named e k.local o mark) by_monitor_named
-  enter_at_named (Some (Inflated monitor)) mark = monitor_enter_named e k.local o monitor
-  enter_at_named _ mark = named_never
+  enter_at_named : (form : Option MarkForm) (s : Shape) (mark : ℕ) → Named e.task (enter_at form s e k o mark)
+  enter_at_named (Some Inflating) s mark = named_done
+  enter_at_named (Some (Neutral hash age)) s mark = stack_enter_named e k.local o mark
+  enter_at_named (Some (Locked thread place)) s mark = named_either (thread == k.local.thread) (stack_enter_named e k.local o mark) (by_monitor_named s)
+  enter_at_named (Some (Inflated monitor)) s mark = monitor_enter_named e k.local o monitor
+  enter_at_named _ s mark = named_never
 
-  unbiased_named : (tried : BiasTry) → Named e.task (enter_unbiased tried e k o)
-  unbiased_named (Took path) = named_done
-  unbiased_named (Unbiased mark) = enter_at_named (read_mark mark) mark
-  unbiased_named (Valid mark) = named_never
-  unbiased_named (Raced expected found) = named_done
+  unbiased_named : (s : Shape) (tried : BiasTry) → Named e.task (enter_unbiased tried s e k o)
+  unbiased_named s (Took path) = named_done
+  unbiased_named s (Unbiased mark) = enter_at_named (read_mark mark) s mark
+  unbiased_named s (Valid mark) = named_never
+  unbiased_named s (Raced expected found) = named_done
 
   exit_at_named : (out : StackOut) → Named e.task (exit_at out e k.local o)
   exit_at_named Left = named_done
@@ -89,18 +89,19 @@ module _ (s : Shape) (k : Start) (e : Purpose) (b : Revocation) (given : moment_
   revokes_named requesting =
       named_then (safepoint_named e k.local.thread requesting) (λ turn. named_turn turn (λ _.
       named_then (revocation_named e b given s k.local.thread) (λ outcome.
-      named_next (release_named e k.local.thread (stage_after outcome.took b.object)) named_done)))
+      named_next (deflation_named e s (stage_after outcome.took b.object))
+      (named_next (release_named e k.local.thread (stage_after outcome.took b.object)) named_done))))
 
   enter_revoked_named : (requesting : Bool) → Named e.task (enter_revoked s requesting e k b)
   enter_revoked_named requesting =
       named_then (revokes_named requesting) (λ turn. named_turn turn (λ took.
-      named_then (bias_after_named e k.local b.object took) (unbiased_named e k b.object)))
+      named_then (bias_after_named e k.local b.object took) (unbiased_named e k b.object s)))
 
   enter_tried_named : (tried : BiasTry) → Named e.task (enter_tried tried s e k b)
   enter_tried_named (Valid mark) = enter_revoked_named false
-  enter_tried_named (Took path) = unbiased_named e k b.object (Took path)
-  enter_tried_named (Unbiased mark) = unbiased_named e k b.object (Unbiased mark)
-  enter_tried_named (Raced expected found) = unbiased_named e k b.object (Raced expected found)
+  enter_tried_named (Took path) = unbiased_named e k b.object s (Took path)
+  enter_tried_named (Unbiased mark) = unbiased_named e k b.object s (Unbiased mark)
+  enter_tried_named (Raced expected found) = unbiased_named e k b.object s (Raced expected found)
 
   enter_going_named : Named e.task (enter_going s e k b)
   enter_going_named =
@@ -134,7 +135,7 @@ module _ (s : Shape) (k : Start) where
   wait_named o now = refused_or (hold_count o k.local.holds == 0) (record {}) _
       (named_either (waits_on k.local.wait o) (monitor_resume_named e k.local.thread k.saved o)
       (named_then (unbias_named s k e (no_bias o now) refl) (λ turn. named_turn turn (λ _.
-      named_then (inflate_named e o k.kept) (λ turn. named_turn turn (λ m.
+      named_then (inflate_named e o s k.kept) (λ turn. named_turn turn (λ m.
       named_then (monitor_wait_named e k.local o m) (λ saved. monitor_resume_named e k.local.thread saved o)))))))
     where
       e : Purpose
@@ -159,7 +160,7 @@ module _ (s : Shape) (k : Start) where
   pub hash_named : (o now : ℕ) → Named (task.Hash o now) (hash_steps s k o now)
   hash_named o now =
       named_then (unbias_named s k e (no_bias o now) refl) (λ turn. named_turn turn (λ _.
-      hash_header_named e (record { number = k.draws + 1; value = k.draw }) o k.local k.kept))
+      hash_header_named s e (record { number = k.draws + 1; value = k.draw }) o k.local k.kept))
     where
       e : Purpose
       e = purpose (task.Hash o now) op.Hash o
@@ -167,15 +168,16 @@ module _ (s : Shape) (k : Start) where
   pub dump_named : Named task.Dump (dump_steps s k)
   dump_named = refused_or (k.shots == 4) (record {}) _
       (named_then (safepoint_named e k.local.thread k.requesting) (λ turn. named_turn turn (λ _.
-      named_next (shot_named e s) (named_next (release_named e k.local.thread Calm)
-      (named_next (publish_named e k.local 0 (entry.Dump (k.shots + 1))) named_done)))))
+      named_next (shot_named e s) (named_next (deflation_named e s Calm) (named_next (release_named e k.local.thread Calm)
+      (named_next (publish_named e k.local 0 (entry.Dump (k.shots + 1))) named_done))))))
     where
       e : Purpose
       e = purpose task.Dump op.Dump 0
 
   pub check_named : Named task.Check (check_steps s k)
   check_named =
-      named_then (safepoint_named e k.local.thread k.requesting) (λ turn. named_turn turn (λ _. named_then (still_named e s) ends_named))
+      named_then (safepoint_named e k.local.thread k.requesting) (λ turn. named_turn turn (λ _.
+      named_then (still_named e s) (λ stuck. named_next (deflation_named e s Calm) (ends_named stuck))))
     where
       e : Purpose
       e = record { task = task.Check; unfinished = k.unfinished; check = true }

@@ -11,6 +11,7 @@ use Rattle.plain_monitor.specs.declared.entry.Path.TheVariants.{BiasOwn, BiasTak
 use Rattle.core_world.specs.declared.stage.Stage.{Stage}
 use Rattle.core_world.specs.declared.stage.Stage.TheVariants.{Calm, Grabs, Ahead, Inflates}
 use Rattle.core_world.specs.Words.Forms.{epoch_in, is_biased, is_entering}
+use Rattle.core_world.specs.Words.Shape.{Shape}
 use Rattle.core_world.specs.Threads.Known.{Local}
 use Rattle.core_world.specs.Locks.{hold_count}
 use Rattle.core_world.specs.Trees.Plans.{Purpose}
@@ -145,17 +146,17 @@ module _ (e : Purpose) (o : ℕ) where
   with_named (Some (Neutral hash age)) mark m = neutral_named mark m
   with_named _ mark m = named_never
 
-  inflate_by_named : (kept : Option ℕ) (mark : ℕ) → Named e.task (inflate_by kept e o mark)
-  inflate_by_named (Some m) mark = with_named (read_mark mark) mark m
-  inflate_by_named None mark = named_step refl tt (λ m. with_named (read_mark mark) mark m)
+  inflate_by_named : (s : Shape) (kept : Option ℕ) (mark : ℕ) → Named e.task (inflate_by kept s e o mark)
+  inflate_by_named s (Some m) mark = with_named (read_mark mark) mark m
+  inflate_by_named s None mark = named_step refl tt (λ position. named_step refl tt (λ m. with_named (read_mark mark) mark m))
 
-  inflate_at_named : (form : Option MarkForm) (kept : Option ℕ) (mark : ℕ) → Named e.task (inflate_at form e kept o mark)
-  inflate_at_named (Some Inflating) kept mark = named_done
-  inflate_at_named (Some (Inflated monitor)) kept mark = named_done
-  inflate_at_named _ kept mark = inflate_by_named kept mark
+  inflate_at_named : (form : Option MarkForm) (s : Shape) (kept : Option ℕ) (mark : ℕ) → Named e.task (inflate_at form s e kept o mark)
+  inflate_at_named (Some Inflating) s kept mark = named_done
+  inflate_at_named (Some (Inflated monitor)) s kept mark = named_done
+  inflate_at_named _ s kept mark = inflate_by_named s kept mark
 
-  pub inflate_named : (kept : Option ℕ) → Named e.task (inflate_steps e kept o)
-  inflate_named kept = named_step refl tt (λ mark. inflate_at_named (read_mark mark) kept mark)
+  pub inflate_named : (s : Shape) (kept : Option ℕ) → Named e.task (inflate_steps s e kept o)
+  inflate_named s kept = named_step refl tt (λ mark. inflate_at_named (read_mark mark) s kept mark)
 
 -- MONITORS
 module _ (e : Purpose) (k : Local) (o : ℕ) where

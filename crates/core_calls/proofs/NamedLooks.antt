@@ -1,4 +1,4 @@
--- The steps at a reached safepoint, which look at all threads and objects or revoke a bias, are of their call.
+-- The steps at a reached safepoint, which look at all threads and objects, revoke a bias or give idle monitors back, are of their call.
 use Rattle.std.proofs.Common.{◌≡◌, ℕ, ◌==◌, if◌then◌else◌, Bool, true, false, List, [], ◌∷◌, length, Option, Some, None, refl}
 use Rattle.lock_policy.specs.declared.policy.Verdict.{Verdict}
 use Rattle.lock_policy.specs.declared.policy.Verdict.TheVariants.{Single, BulkRebias, BulkRevoke}
@@ -10,16 +10,19 @@ use Rattle.mark_word.specs.declared.owner.OwnerForm.TheVariants.{Free, ByThread,
 use Rattle.mark_word.specs.declared.wait.WaitForm.{WaitForm}
 use Rattle.mark_word.specs.declared.wait.WaitForm.TheVariants as wait
 use Rattle.mark_word.specs.Mark.{mark_of, read_mark}
-use Rattle.mark_word.specs.Owner.{read_owner}
+use Rattle.mark_word.specs.Owner.{owner_of, read_owner}
+use Rattle.std.specs.List.{list_all}
 use Rattle.mark_word.specs.Wait.{read_wait}
 use Rattle.mark_word.specs.Hold.{read_hold}
 use Rattle.core_world.specs.declared.name.Name.{Name}
 use Rattle.core_world.specs.declared.name.Name.TheVariants as name
-use Rattle.core_world.specs.Words.Forms.{epoch_in, is_biased}
-use Rattle.core_world.specs.Words.Shape.{Shape, class_of}
+use Rattle.core_world.specs.declared.stage.Stage.{Stage}
+use Rattle.core_world.specs.Words.Forms.{epoch_in, is_biased, monitor_in}
+use Rattle.core_world.specs.Words.Shape.{Shape, class_of, monitor_count}
 use Rattle.core_world.specs.Locks.{has_epoch, is_valid_bias}
 use Rattle.core_world.specs.Threads.Stages.{Revocation}
 use Rattle.core_world.specs.RevocationRules.{Write, write, revoke_biased, store_where, with_epoch, raised_form, biased_word, object_held}
+use Rattle.core_world.specs.Trees.DeflateSteps.{look_at, give_back_steps, is_untouched, deflate_free, deflate_named, names_monitor, deflate_monitor, deflate_steps}
 use Rattle.core_world.specs.Trees.LookSteps.{look_at_holds, look_at_owner, look_behind, look_at_objects, take_shot_steps, look_at_monitor, look_at_object, look_at_wait, stands_still_steps}
 use Rattle.core_world.specs.Trees.Plans.{Purpose, load}
 use Rattle.core_world.specs.Trees.RevocationSteps.{look, store_steps, revoke_at, revoke_steps, visit_held, walk_steps, take_bias_steps, next_epoch, bulk_rebias_steps, bulk_revoke_steps, verdict_steps, decided_steps, revoke_at_safepoint_steps}
@@ -72,6 +75,31 @@ module _ (e : Purpose) (s : Shape) where
 
   pub still_named : Named e.task (stands_still_steps e s)
   still_named = named_then (named_each 0 s.threads (λ t. named_step refl tt (λ word. wait_named (read_wait word) t))) (λ threads. named_done)
+
+  -- A DEFLATION
+  module _ (stage : Stage) where
+    word_named : (t : ℕ) → Named e.task (look_at e stage (name.Waiting t))
+    word_named t = named_step refl tt (λ _. named_done)
+
+    give_back_named : (o m : ℕ) → Named e.task (give_back_steps s e stage o m)
+    give_back_named o m =
+        named_step refl tt (λ header. named_step refl tt (λ end. named_step refl tt (λ _. named_step refl tt (λ _. named_step refl tt (λ _.
+        named_step refl tt (λ _. named_step refl tt (λ _. named_step refl tt (λ _. named_step refl tt (λ _. named_done)))))))))
+
+    free_named : (o m : ℕ) → Named e.task (deflate_free s e stage o m)
+    free_named o m =
+        named_then {d = each_from 0 s.threads (λ t. look_at e stage (name.Waiting t))} (named_each 0 s.threads word_named)
+        (λ words. named_either (list_all (λ w. is_untouched o w) words) (give_back_named o m) named_done)
+
+    idle_named : (o m : ℕ) → Named e.task (deflate_named s e stage o m)
+    idle_named o m = named_step refl tt (λ owner. named_either (owner == owner_of Free) (free_named o m) named_done)
+
+    given_back_named : (m : ℕ) → Named e.task (deflate_monitor s e stage m)
+    given_back_named m =
+        named_step refl tt (λ o. named_step refl tt (λ mark. named_either (names_monitor (monitor_in mark) m) (idle_named o m) named_done))
+
+    pub deflation_named : Named e.task (deflate_steps s e stage)
+    deflation_named = named_either (length s.objects == 0) named_done (named_all 0 (monitor_count s) given_back_named)
 
 -- A REVOCATION, whose moment is its call's, counts the verdict by it.
 module _ (e : Purpose) (b : Revocation) (given : moment_of e.task ≡ Some b.now) where

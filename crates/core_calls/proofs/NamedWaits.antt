@@ -15,6 +15,7 @@ use Rattle.core_world.specs.declared.name.Name.TheVariants.{Mark, Header}
 use Rattle.core_world.specs.declared.answer.Turn.{Turn}
 use Rattle.core_world.specs.declared.answer.Turn.TheVariants.{Done, Pending}
 use Rattle.core_world.specs.Words.Forms.{hash_in}
+use Rattle.core_world.specs.Words.Shape.{Shape}
 use Rattle.core_world.specs.Threads.Known.{Local}
 use Rattle.core_world.specs.Trees.Plans.{Purpose}
 use Rattle.core_world.specs.Trees.WaitSteps.{monitor_wait_steps, resumed_steps, resume_owner_at, resume_mark_at, resume_at, monitor_resume_steps, look_steps, waiters, by_age, publish_steps, notify_first, monitor_notify_steps, notify_each, notify_listed, monitor_notify_all_steps}
@@ -77,7 +78,7 @@ module _ (e : Purpose) (t saved o : ℕ) where
   monitor_resume_named = named_step refl tt (λ word. resume_at_named (read_wait word) word)
 
 -- HASHES
-module _ (e : Purpose) (draw : NextDraw) (o : ℕ) where
+module _ (s : Shape) (e : Purpose) (draw : NextDraw) (o : ℕ) where
   draw_named : (at : Name) (header : ℕ) → Named e.task (draw_steps e draw at o header)
   draw_named at header = named_step refl tt (λ found. named_either (found == header) named_done named_done)
 
@@ -88,18 +89,18 @@ module _ (e : Purpose) (draw : NextDraw) (o : ℕ) where
   hash_inflated_named (Done m) = hash_monitor_named m
   hash_inflated_named (Pending why) = named_done
 
-  hash_inflate_named : (kept : Option ℕ) → Named e.task (hash_inflate_steps e kept draw o)
-  hash_inflate_named kept = named_then (inflate_named e o kept) hash_inflated_named
+  hash_inflate_named : (kept : Option ℕ) → Named e.task (hash_inflate_steps s e kept draw o)
+  hash_inflate_named kept = named_then (inflate_named e o s kept) hash_inflated_named
 
   module _ (k : Local) (kept : Option ℕ) where
     displaced_named : Named e.task (hash_displaced_steps e k o)
     displaced_named = named_step refl tt (λ header. named_done)
 
-    hash_unless_named : (found : Option ℕ) → Named e.task (hash_unless found e kept draw o)
+    hash_unless_named : (found : Option ℕ) → Named e.task (hash_unless found s e kept draw o)
     hash_unless_named (Some value) = named_done
     hash_unless_named None = hash_inflate_named kept
 
-    hash_mark_named : (form : Option MarkForm) (mark : ℕ) → Named e.task (hash_mark_steps form e k kept draw o mark)
+    hash_mark_named : (form : Option MarkForm) (mark : ℕ) → Named e.task (hash_mark_steps form s e k kept draw o mark)
     hash_mark_named (Some Inflating) mark = named_done
     hash_mark_named (Some (Neutral hash age)) mark = named_either (hash == 0) (draw_named (Mark o) mark) named_done
     hash_mark_named (Some (Locked thread place)) mark =
@@ -107,5 +108,5 @@ module _ (e : Purpose) (draw : NextDraw) (o : ℕ) where
     hash_mark_named (Some (Inflated monitor)) mark = hash_monitor_named monitor
     hash_mark_named _ mark = named_never
 
-    pub hash_header_named : Named e.task (hash_header_steps e k kept draw o)
+    pub hash_header_named : Named e.task (hash_header_steps s e k kept draw o)
     hash_header_named = named_step refl tt (λ mark. hash_mark_named (read_mark mark) mark)

@@ -12,6 +12,7 @@ use Rattle.core_world.specs.Trees.Plans.{Purpose, done_with}
 use Rattle.core_world.specs.Words.Shape.{Shape, class_of}
 use Rattle.core_world.specs.Threads.Stages.{Revocation}
 use Rattle.core_world.specs.Trees.Todo.{Todo, ◌>>=◌}
+use Rattle.core_world.specs.Trees.DeflateSteps.{deflate_steps}
 use Rattle.core_world.specs.Trees.BiasSteps.{bias_drop_steps, stage_after}
 use Rattle.core_world.specs.Trees.SafepointSteps.{released_word, safepoint_steps, release_to}
 use Rattle.core_world.specs.Trees.RevocationSteps.{RevocationOutcome, revoke_at_safepoint_steps}
@@ -23,6 +24,7 @@ use Rattle.core_calls.proofs.Spends.{spend_quietly}
 use Rattle.core_calls.proofs.BiasSay.{DropSays, bias_drop_says}
 use Rattle.core_calls.proofs.SafepointsSay.{SafeTurn, safepoint_says, Released, release_says}
 use Rattle.core_calls.proofs.Reasons.{Reasons}
+use Rattle.core_calls.proofs.DeflationSpends.{deflate_spends}
 use Rattle.core_calls.proofs.RevocationSpends.{revoke_at_safepoint_spends}
 
 -- a turn that is done goes on, and one that is pending is the answer
@@ -58,17 +60,22 @@ module _ (s : Shape) (k : Start) (task : Task) (u : Option Unfinished) (o : ℕ)
       always_then (SafeTurn (working task u) k.local.thread For) (PartTurn Bool) (safepoint_steps (working task u) k.local.thread requesting) (λ turn. and_then turn its_revocation) ms
       (safepoint_says (working task u) k.local.thread For requesting (λ word ms moves loaded stands. may.stops word ms moves loaded (told requesting ms same stands)) (λ none. may.races) (λ none. may.asks (same ∙ none)) ms h)
       (λ ms turn so. then_says (SafeTurn (working task u) k.local.thread For) (PartTurn Bool) turn its_revocation ms so
-      (λ _ reached. always_then (λ ms _. Silent (working task u) ms) (PartTurn Bool) (revoke_at_safepoint_steps s k.local.thread (working task u) b) releases ms
+      (λ _ reached. always_then (λ ms _. Silent (working task u) ms) (PartTurn Bool) (revoke_at_safepoint_steps s k.local.thread (working task u) b) deflates ms
       (spend_quietly ms (revoke_at_safepoint_spends (working task u) b s k.local.thread) reached.0)
-      (λ ms outcome silent. always_then (Released (working task u) k.local.thread (released_word k.local.thread)) (PartTurn Bool) (release_to (stage_after outcome.took b.object) (working task u) k.local.thread) (λ _. done_with outcome.took) ms
-      (release_says (working task u) k.local.thread (stage_after outcome.took b.object) ms (still silent)) (λ ms _ so. so.0)))
+      (λ ms outcome silent. always_then (λ ms _. Silent (working task u) ms) (PartTurn Bool) (deflate_steps s (working task u) (stage_after outcome.took b.object)) (λ _. releases outcome) ms
+      (spend_quietly ms (deflate_spends (working task u) s (stage_after outcome.took b.object)) silent)
+      (λ ms _ silent. always_then (Released (working task u) k.local.thread (released_word k.local.thread)) (PartTurn Bool) (release_to (stage_after outcome.took b.object) (working task u) k.local.thread) (λ _. done_with outcome.took) ms
+      (release_says (working task u) k.local.thread (stage_after outcome.took b.object) ms (still silent)) (λ ms _ so. so.0))))
       (λ why so. (no_check why so.0, so.1)))
     where
       releases : RevocationOutcome → Todo (Turn Bool)
       releases outcome = release_to (stage_after outcome.took b.object) (working task u) k.local.thread >>= λ _. done_with outcome.took
 
+      deflates : RevocationOutcome → Todo (Turn Bool)
+      deflates outcome = deflate_steps s (working task u) (stage_after outcome.took b.object) >>= λ _. releases outcome
+
       its_revocation : Unit {0} → Todo (Turn Bool)
-      its_revocation _ = revoke_at_safepoint_steps s k.local.thread (working task u) b >>= releases
+      its_revocation _ = revoke_at_safepoint_steps s k.local.thread (working task u) b >>= deflates
 
   revoked_says : (requesting : Bool) → k.requesting ≡ requesting → (b : Revocation) (ms : List StepMade) → Still ms → Always (PartTurn (Unit {0})) ms (revoked_steps s k.local.thread requesting (working task u) b)
   revoked_says requesting same b ms h =

@@ -16,6 +16,7 @@ use Rattle.core_world.specs.Words.Shape.{Shape}
 use Rattle.core_world.specs.Trees.Todo.{Todo, ◌>>=◌}
 use Rattle.core_world.specs.Trees.LockSteps.{stack_enter_steps, stack_exit_steps}
 use Rattle.core_world.specs.Trees.SafepointSteps.{released_word, halted_word, safepoint_steps, release_safepoint, halt_steps, stop_steps, resume_steps, poll_steps, request_steps, reached_steps}
+use Rattle.core_world.specs.Trees.DeflateSteps.{deflate_steps}
 use Rattle.core_world.specs.Trees.LookSteps.{take_shot_steps, stands_still_steps}
 use Rattle.core_world.specs.Trees.WaitSteps.{publish_steps}
 use Rattle.plain_monitor.specs.Endings.{ending_entry}
@@ -30,6 +31,7 @@ use Rattle.core_calls.proofs.LocksSay.{stack_enter_says, stack_exit_says}
 use Rattle.core_calls.proofs.WaitsSay.{publish_says}
 use Rattle.core_calls.proofs.SafepointsSay.{Polled, poll_says, stop_says, resume_says, SafeTurn, Asked, request_says, reached_says, safepoint_says, Released, release_says, halt_says}
 use Rattle.core_calls.proofs.LookSpends.{shot_spends, still_spends}
+use Rattle.core_calls.proofs.DeflationSpends.{deflate_spends}
 use Rattle.core_calls.proofs.OperationsSay.{then_says, working, no_check}
 use Rattle.core_calls.proofs.EntersSay.{nothing_yet}
 
@@ -71,9 +73,10 @@ module _ (s : Shape) (k : Start) where
       always_then Reaching (DumpTurnSays k) (safepoint_steps dumping k.local.thread k.requesting) (λ turn. and_then turn shoots) []
       (safely dumping k [] nothing_yet)
       (λ ms turn so. then_says Reaching (DumpTurnSays k) turn shoots ms so
-      (λ _ reached. always_then (λ ms _. Silent dumping ms) (DumpTurnSays k) (take_shot_steps dumping s) (λ _. releases) ms (spend_quietly ms (shot_spends dumping s) reached.0)
+      (λ _ reached. always_then (λ ms _. Silent dumping ms) (DumpTurnSays k) (take_shot_steps dumping s) (λ _. deflates) ms (spend_quietly ms (shot_spends dumping s) reached.0)
+      (λ ms _ silent. always_then (λ ms _. Silent dumping ms) (DumpTurnSays k) (deflate_steps s dumping Calm) (λ _. releases) ms (spend_quietly ms (deflate_spends dumping s Calm) silent)
       (λ ms _ silent. always_then (Released dumping k.local.thread (released_word k.local.thread)) (DumpTurnSays k) (release_safepoint dumping k.local.thread) (λ _. tells) ms (release_says dumping k.local.thread Calm ms (still silent))
-      (λ ms _ so n. (refl, now_logged (entry.Dump (k.shots + 1)) None false _ n ms refl refl refl refl (still so.0), inr so.1))))
+      (λ ms _ so n. (refl, now_logged (entry.Dump (k.shots + 1)) None false _ n ms refl refl refl refl (still so.0), inr so.1)))))
       (λ why so. (no_check why so.0, so.1)))
     where
       tells : Todo (Turn ℕ)
@@ -82,8 +85,11 @@ module _ (s : Shape) (k : Start) where
       releases : Todo (Turn ℕ)
       releases = release_safepoint dumping k.local.thread >>= λ _. tells
 
+      deflates : Todo (Turn ℕ)
+      deflates = deflate_steps s dumping Calm >>= λ _. releases
+
       shoots : Unit {0} → Todo (Turn ℕ)
-      shoots _ = take_shot_steps dumping s >>= λ _. releases
+      shoots _ = take_shot_steps dumping s >>= λ _. deflates
 
   pub dump_says : Says (dump_steps s k) (DumpSays k)
   dump_says = record {
@@ -126,13 +132,18 @@ module _ (s : Shape) (k : Start) where
         always_then Halting (CheckSays k) (safepoint_steps checking k.local.thread k.requesting) (λ turn. and_then turn looks) []
         (safely checking k [] nothing_yet)
         (λ ms turn so. then_says Halting (CheckSays k) turn looks ms so
-        (λ _ reached. always_then (λ ms _. Silent checking ms) (CheckSays k) (stands_still_steps checking s) (λ stuck. check_ending stuck checking k.local.thread) ms
-        (spend_quietly ms (still_spends checking s) reached.0) (λ ms stuck silent. ending_says stuck ms (still silent)))
+        (λ _ reached. always_then (λ ms _. Silent checking ms) (CheckSays k) (stands_still_steps checking s) deflates ms
+        (spend_quietly ms (still_spends checking s) reached.0)
+        (λ ms stuck silent. always_then (λ ms _. Silent checking ms) (CheckSays k) (deflate_steps s checking Calm) (λ _. check_ending stuck checking k.local.thread) ms
+        (spend_quietly ms (deflate_spends checking s Calm) silent) (λ ms _ silent. ending_says stuck ms (still silent))))
         (λ why so. (flag (is_stopping why) so.0, so.1)));
   }
     where
+      deflates : Bool → Todo (Turn Bool)
+      deflates stuck = deflate_steps s checking Calm >>= λ _. check_ending stuck checking k.local.thread
+
       looks : Unit {0} → Todo (Turn Bool)
-      looks _ = stands_still_steps checking s >>= λ stuck. check_ending stuck checking k.local.thread
+      looks _ = stands_still_steps checking s >>= deflates
 
       flag : {ms : List StepMade} (b : Bool) → Leaves [] k.unfinished (cond b true false) ms → Leaves [] k.unfinished b ms
       flag true h = h

@@ -25,6 +25,7 @@ use Rattle.core_world.specs.declared.answer.Turn.TheVariants.{Done, Pending}
 use Rattle.core_world.specs.declared.answer.Why.{Why}
 use Rattle.core_world.specs.declared.answer.Why.TheVariants as why
 use Rattle.core_world.specs.Words.Forms.{epoch_in, is_biased, is_still, hash_in}
+use Rattle.core_world.specs.Words.Shape.{Shape}
 use Rattle.core_world.specs.Threads.Known.{Local}
 use Rattle.core_world.specs.Trees.Plans.{Purpose, quiet_plan, with_stage, with_own, load, store, pending_for, next_stamp}
 use Rattle.core_world.specs.Trees.Todo.{Todo, done, ◌>>=◌, ask}
@@ -150,16 +151,17 @@ module _ (e : Purpose) (o n : ℕ) (one : 1 ≤ n) where
       (spend_more (omega arith) (any_step {n = n} (λ prototype. drop_by_spends (epoch_in prototype) mark prototype)))
       (spend_done {a = Unbiased mark} (omega arith))))
 
-module _ (e : Purpose) (k : Local) (o n u m : ℕ) (four : 4 ≤ m) (more : u + 1 ≤ m) (least : n ≤ m) where
+module _ (e : Purpose) (k : Local) (o n u : ℕ) where
   pub took_spends : (path : Path) → Spend Any (to_enter n u) 3 (took_steps e k o path)
   took_spends path = spend_both (hold_spends e k o path) (λ path. spend_done {a = Took path} {n = 0} (omega arith)) (omega arith)
 
+module _ (e : Purpose) (k : Local) (o n u m : ℕ) (four : 4 ≤ m) (more : u + 1 ≤ m) (least : n ≤ m) where
   rebias_spends : (mark epoch : ℕ) → Spend Any (to_enter n u) m (rebias_steps e k o mark epoch)
-  rebias_spends mark epoch = spend_more four (any_step {n = 3} (λ found. spend_either (found == mark) (took_spends BiasTaken) (spend_done {a = Raced mark found} (omega arith))))
+  rebias_spends mark epoch = spend_more four (any_step {n = 3} (λ found. spend_either (found == mark) (took_spends e k o n u BiasTaken) (spend_done {a = Raced mark found} (omega arith))))
 
   enter_at_spends : (form : Option MarkForm) (epoch mark : ℕ) → Spend Any (to_enter n u) m (bias_enter_at form epoch e k o mark)
   enter_at_spends (Some (Biased thread old age)) epoch mark =
-      spend_either (old == epoch) (spend_either (thread == k.thread) (spend_more (omega (arith, four)) (took_spends BiasOwn)) (spend_done {a = Valid mark} least)) (rebias_spends mark epoch)
+      spend_either (old == epoch) (spend_either (thread == k.thread) (spend_more (omega (arith, four)) (took_spends e k o n u BiasOwn)) (spend_done {a = Valid mark} least)) (rebias_spends mark epoch)
   enter_at_spends (Some (Anonymous old age)) epoch mark = rebias_spends mark epoch
   enter_at_spends (Some Inflating) epoch mark = spend_never
   enter_at_spends (Some (Neutral hash age)) epoch mark = spend_never
@@ -185,8 +187,10 @@ module _ (e : Purpose) (k : Local) (o n u m : ℕ) (four : 4 ≤ m) (more : u + 
       (spend_more (omega arith) (any_step {n = m} (λ prototype. enter_by_spends (read_mark prototype) mark prototype)))
       (spend_done {a = Unbiased mark} (omega (arith, more)))))
 
+-- behind a revocation the mark is loaded again, and is not exchanged
+module _ (e : Purpose) (k : Local) (o n u m : ℕ) (three : 3 ≤ m) (room : u ≤ m) where
   after_at_spends : (form : Option MarkForm) → Spend Any (to_enter n u) m (bias_after_at form e k o)
-  after_at_spends (Some (Biased thread epoch age)) = spend_either (thread == k.thread) (spend_more (omega (arith, four)) (took_spends BiasTaken)) spend_never
+  after_at_spends (Some (Biased thread epoch age)) = spend_either (thread == k.thread) (spend_more three (took_spends e k o n u BiasTaken)) spend_never
   after_at_spends (Some (Anonymous epoch age)) = spend_never
   after_at_spends (Some Inflating) = spend_never
   after_at_spends (Some (Neutral hash age)) = spend_never
@@ -197,7 +201,7 @@ module _ (e : Purpose) (k : Local) (o n u m : ℕ) (four : 4 ≤ m) (more : u + 
 
   pub bias_after_spends : (took : Bool) → Spend Any (to_enter n u) (m + 1) (bias_after_steps e k o took)
   bias_after_spends took =
-      spend_more (omega arith) (any_step {n = m} (λ mark. spend_either (is_biased mark) (after_at_spends (read_mark mark)) (spend_done {a = Unbiased mark} (omega (arith, more)))))
+      spend_more (omega arith) (any_step {n = m} (λ mark. spend_either (is_biased mark) (after_at_spends (read_mark mark)) (spend_done {a = Unbiased mark} room)))
 
 -- SAFEPOINTS
 module _ (e : Purpose) (t : ℕ) where
@@ -244,7 +248,7 @@ module _ (e : Purpose) (k : Local) where
   resume_spends = any_step {n = 1} (λ word. barred_spends (bar word) 1 (resume_swap_steps e k word) (resume_swap_spends word))
 
 -- HASHES
-module _ (e : Purpose) (k : Local) (draw : NextDraw) (o : ℕ) where
+module _ (s : Shape) (e : Purpose) (k : Local) (draw : NextDraw) (o : ℕ) where
   draw_spends : (at : Name) (header : ℕ) → Spend Any Nothing 1 (draw_steps e draw at o header)
   draw_spends at header = any_step {n = 0} (λ found. spend_either (found == header) (spend_done {a = Done draw.value} (omega arith)) (spend_done {a = Pending (why.Raced header found)} (omega arith)))
 
@@ -255,26 +259,26 @@ module _ (e : Purpose) (k : Local) (draw : NextDraw) (o : ℕ) where
   inflated_spends (Done m) = hash_monitor_spends m
   inflated_spends (Pending why) = spend_done {a = Pending why} (omega arith)
 
-  hash_inflate_spends : (kept : Option ℕ) → Spend Any Nothing 11 (hash_inflate_steps e kept draw o)
-  hash_inflate_spends kept = spend_both (inflate_spends e k o kept) inflated_spends (omega arith)
+  hash_inflate_spends : (kept : Option ℕ) → Spend Any Nothing 12 (hash_inflate_steps s e kept draw o)
+  hash_inflate_spends kept = spend_both (inflate_spends e k o s kept) inflated_spends (omega arith)
 
-  unless_spends : (found kept : Option ℕ) → Spend Any Nothing 11 (hash_unless found e kept draw o)
+  unless_spends : (found kept : Option ℕ) → Spend Any Nothing 12 (hash_unless found s e kept draw o)
   unless_spends (Some value) kept = spend_done {a = Done value} (omega arith)
   unless_spends None kept = hash_inflate_spends kept
 
   displaced_spends : Spend Any Nothing 1 (hash_displaced_steps e k o)
   displaced_spends = any_step {n = 0} (λ header. spend_done {a = cond (hash_in header == 0) None (Some (hash_in header))} (omega arith))
 
-  hash_at_spends : (form : Option MarkForm) (kept : Option ℕ) (mark : ℕ) → Spend Any Nothing 12 (hash_mark_steps form e k kept draw o mark)
+  hash_at_spends : (form : Option MarkForm) (kept : Option ℕ) (mark : ℕ) → Spend Any Nothing 13 (hash_mark_steps form s e k kept draw o mark)
   hash_at_spends (Some Inflating) kept mark = spend_done {a = Pending why.Inflating} (omega arith)
   hash_at_spends (Some (Neutral hash age)) kept mark = spend_either (hash == 0) (spend_more (omega arith) (draw_spends (Mark o) mark)) (spend_done {a = Done hash} (omega arith))
   hash_at_spends (Some (Locked thread place)) kept mark =
-      spend_either (thread == k.thread) (spend_both {k = 11} displaced_spends (λ found. unless_spends found kept) (omega arith)) (spend_more (omega arith) (hash_inflate_spends kept))
+      spend_either (thread == k.thread) (spend_both {k = 12} displaced_spends (λ found. unless_spends found kept) (omega arith)) (spend_more (omega arith) (hash_inflate_spends kept))
   hash_at_spends (Some (Inflated monitor)) kept mark = spend_more (omega arith) (hash_monitor_spends monitor)
   hash_at_spends (Some (Anonymous epoch age)) kept mark = spend_never
   hash_at_spends (Some (Biased thread epoch age)) kept mark = spend_never
   hash_at_spends (Some Marked) kept mark = spend_never
   hash_at_spends None kept mark = spend_never
 
-  pub hash_header_spends : (kept : Option ℕ) → Spend Any Nothing 13 (hash_header_steps e k kept draw o)
-  hash_header_spends kept = any_step {n = 12} (λ mark. hash_at_spends (read_mark mark) kept mark)
+  pub hash_header_spends : (kept : Option ℕ) → Spend Any Nothing 14 (hash_header_steps s e k kept draw o)
+  hash_header_spends kept = any_step {n = 13} (λ mark. hash_at_spends (read_mark mark) kept mark)

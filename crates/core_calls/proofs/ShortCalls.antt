@@ -1,5 +1,5 @@
 -- The enters that are common take few steps.
-use Rattle.std.proofs.Common.{◌≡◌, ℕ, ◌+◌, ◌==◌, cond, Bool, true, false, Option, Some, Result, Err, refl, ap, sym, subst, arith, eq-eqb}
+use Rattle.std.proofs.Common.{◌≡◌, ℕ, ◌+◌, ◌==◌, cond, Bool, true, false, Option, Some, Result, Err, refl, ap, sym, subst, eq-eqb}
 use Rattle.mark_word.specs.declared.mark.MarkForm.{MarkForm}
 use Rattle.mark_word.specs.declared.mark.MarkForm.TheVariants.{Neutral, Anonymous, Biased}
 use Rattle.mark_word.specs.Mark.{read_mark}
@@ -54,21 +54,21 @@ module _ (s : Shape) (k : Start) (o now : ℕ) where
   at_mark false false mark n none h = h
 
   -- a mark without the bias pattern
-  unbiased : (mark n : ℕ) → is_biased mark ≡ false → Spend Any Nothing n (enter_at (read_mark mark) entering k o mark) → Spend Any Nothing n (goes_on (by_mark mark))
+  unbiased : (mark n : ℕ) → is_biased mark ≡ false → Spend Any Nothing n (enter_at (read_mark mark) s entering k o mark) → Spend Any Nothing n (goes_on (by_mark mark))
   unbiased mark n none h = by_bias (is_biased mark) none _
     where
       by_bias : (b : Bool) → b ≡ false → (x : Todo BiasTry) → Spend Any Nothing n (goes_on (cond b x (done (Unbiased mark))))
       by_bias true none x = absurd (cc none)
       by_bias false none x = answers h
 
-  pub unbiased_enter : (mark : ℕ) → k.requesting ≡ false → is_biased mark ≡ false → IsWithin 16 (after_answer (enter_steps s k o now) mark)
+  pub unbiased_enter : (mark : ℕ) → k.requesting ≡ false → is_biased mark ≡ false → IsWithin 17 (after_answer (enter_steps s k o now) mark)
   unbiased_enter mark none plain =
-      spend_within _ 16 (at_mark (free_place k.local.holds == 64) k.requesting mark 16 none (unbiased mark 16 plain (enter_at_spends s entering k (read_mark mark) o mark)))
+      spend_within _ 17 (at_mark (free_place k.local.holds == 64) k.requesting mark 17 none (unbiased mark 17 plain (enter_at_spends s entering k (read_mark mark) o mark)))
 
   pub free_enter : (mark hash age : ℕ) → k.requesting ≡ false → read_mark mark ≡ Some (Neutral hash age) → IsWithin 5 (after_answer (enter_steps s k o now) mark)
   free_enter mark hash age none is =
       spend_within _ 5 (at_mark (free_place k.local.holds == 64) k.requesting mark 5 none (unbiased mark 5 (ap is_biased_form is)
-      (subst (λ (form : Option MarkForm). Spend Any Nothing 5 (enter_at form entering k o mark)) (sym is) (stack_enter_spends entering k.local o (read_mark mark) mark))))
+      (subst (λ (form : Option MarkForm). Spend Any Nothing 5 (enter_at form s entering k o mark)) (sym is) (stack_enter_spends entering k.local o (read_mark mark) mark))))
 
   -- and at its second
   at_prototype : (full requesting : Bool) (mark prototype n : ℕ) → requesting ≡ false → Spend Any Nothing n (after_answer (goes_on (by_mark mark)) prototype) → Spend Any Nothing n (after_answer (after_answer (cond full (full_steps k o) (cond requesting (enter_revoked s true entering k revoking) (bias_enter_steps entering k.local (class_of s o) o >>= λ tried. enter_tried tried s entering k revoking) >>= answer)) mark) prototype)
@@ -95,7 +95,7 @@ module _ (s : Shape) (k : Start) (o now : ℕ) where
       by_epoch false so c c_so x = absurd (cc so)
       by_epoch true so false c_so x = absurd (cc c_so)
       by_epoch true so true c_so x =
-          spend_then (took_spends entering k.local o (a_revocation s + 18) 16 (a_revocation s + 18) (omega arith) (omega arith) (omega arith) BiasOwn) (tried_spends s entering k revoking)
+          spend_then (took_spends entering k.local o (a_revocation s + 18) 17 BiasOwn) (tried_spends s entering k revoking)
 
   pub own_enter : (mark prototype epoch age other : ℕ) → k.requesting ≡ false → read_mark mark ≡ Some (Biased k.local.thread epoch age) → read_mark prototype ≡ Some (Anonymous epoch other) → IsWithin 3 (after_answer (after_answer (enter_steps s k o now) mark) prototype)
   own_enter mark prototype epoch age other none is valid =

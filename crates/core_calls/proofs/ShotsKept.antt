@@ -11,6 +11,7 @@ use Rattle.core_world.specs.declared.plan.Own.{Own}
 use Rattle.core_world.specs.declared.plan.Own.TheVariants as own
 use Rattle.core_world.specs.declared.plan.StepPlan.{StepPlan}
 use Rattle.core_world.specs.declared.name.Name.TheVariants.{Hold}
+use Rattle.core_world.specs.declared.stage.Stage.TheVariants.{Calm}
 use Rattle.core_world.specs.declared.task.Op.TheVariants as op
 use Rattle.core_world.specs.declared.task.Task.TheVariants as task
 use Rattle.core_world.specs.declared.answer.TooManyDumps.{TooManyDumps}
@@ -21,6 +22,7 @@ use Rattle.core_world.specs.Words.Acts.{hits}
 use Rattle.core_world.specs.Due.{Ran}
 use Rattle.core_world.specs.Words.Forms.{epoch_in, is_still}
 use Rattle.core_world.specs.Threads.Known.{Known, StepMade, Start, DumpShot}
+use Rattle.core_world.specs.Trees.DeflateSteps.{deflate_steps}
 use Rattle.core_world.specs.Trees.LookSteps.{look_at_holds, look_at_owner, look_behind, look_at_objects, take_shot_steps}
 use Rattle.core_world.specs.Trees.Operations.{and_then, answer, dump_going, dump_steps}
 use Rattle.core_world.specs.Locks.{has_epoch}
@@ -31,9 +33,11 @@ use Rattle.core_world.specs.Steps.{shot_of, shots_after, known_hit, known_miss, 
 use Rattle.core_world.specs.Trees.Todo.{Todo, done, never, step, ◌>>=◌, ask}
 use Rattle.core_world.specs.Trees.WaitSteps.{publish_steps}
 use Rattle.core_calls.specs.Paths.{made, Always}
+use Rattle.core_calls.specs.Bounds.{a_deflation}
 use Rattle.core_calls.specs.CallsSay.{unfinished_on}
 use Rattle.core_calls.proofs.Paths.{always_then, either_way}
 use Rattle.core_calls.proofs.Spends.{Spends, Spend, spend_done, spend_never, spend_more, spend_step, spend_either, spend_then, spend_leaving, spend_all}
+use Rattle.core_calls.proofs.DeflationSpends.{each_spends}
 use Rattle.core_calls.proofs.OperationsSay.{working}
 use Rattle.core_calls.proofs.Runs.{on_path, knows}
 
@@ -121,6 +125,11 @@ module _ (e : Purpose) where
   safe_plain : (t : ℕ) (requesting : Bool) → Spend IsPlain (λ _. 0) 3 (safepoint_steps e t requesting)
   safe_plain t requesting = spend_either requesting (spend_more (omega arith) reached_plain) (spend_then (spend_leaving 1 (request_plain t)) then_plain)
 
+  deflation_plain : (s : Shape) → Spend IsPlain (λ _. 0) (a_deflation s) (deflate_steps s e Calm)
+  deflation_plain s =
+      each_spends s e Calm (λ at. record { none = refl }) (λ o m header. record { none = refl }) (λ at. record { none = refl })
+      (λ end m. record { none = refl }) (λ end. record { none = refl })
+
   release_plain : (t : ℕ) → Spend IsPlain (λ _. 0) 1 (release_safepoint e t)
   release_plain t = plain {n = 0} refl (λ n. spend_either (n == reached_word t) (spend_done (omega arith)) spend_never)
 
@@ -142,17 +151,22 @@ module _ (s : Shape) (k : Start) where
   abbrev releases : Todo (Turn ℕ)
   releases = release_safepoint dumping k.local.thread >>= λ _. tells
 
+  abbrev deflates : Todo (Turn ℕ)
+  deflates = deflate_steps s dumping Calm >>= λ _. releases
+
   abbrev shoots : Unit {0} → Todo (Turn ℕ)
-  shoots _ = take_shot_steps dumping s >>= λ _. releases
+  shoots _ = take_shot_steps dumping s >>= λ _. deflates
 
   told_keeps : (ms : List StepMade) → kept_shots ms ≡ 1 → Always TurnKeeps ms tells
   told_keeps ms h = λ n. (refl, omega (arith, h))
 
   shoots_keeps : (ms : List StepMade) → kept_shots ms ≡ 0 → Always TurnKeeps ms (shoots tt)
   shoots_keeps ms h =
-      always_then (λ ms _. kept_shots ms ≡ 1) TurnKeeps (take_shot_steps dumping s) (λ _. releases) ms (shot_kept dumping s ms h) (λ ms _ h.
+      always_then (λ ms _. kept_shots ms ≡ 1) TurnKeeps (take_shot_steps dumping s) (λ _. deflates) ms (shot_kept dumping s ms h) (λ ms _ h.
+      always_then (λ ms _. kept_shots ms ≡ 1) TurnKeeps (deflate_steps s dumping Calm) (λ _. releases) ms (none_kept 1 ms
+      (deflation_plain dumping s) h) (λ ms _ h.
       always_then (λ ms _. kept_shots ms ≡ 1) TurnKeeps (release_safepoint dumping k.local.thread) (λ _. tells) ms (none_kept 1 ms
-      (release_plain dumping k.local.thread) h) (λ ms _ h. told_keeps ms h))
+      (release_plain dumping k.local.thread) h) (λ ms _ h. told_keeps ms h)))
 
   reached_keeps : (turn : Turn (Unit {0})) (ms : List StepMade) → kept_shots ms ≡ 0 → Always TurnKeeps ms (and_then turn shoots)
   reached_keeps (Done x) ms h = shoots_keeps ms h
@@ -189,7 +203,10 @@ module _ (s : Shape) (start : ℕ) where
         (shot_of s k, ap (λ (x : List DumpShot). x ++ shot_of s k ∷ []) same, ap (λ (x : List DumpShot). length x + 1) same);
   }
   own_grows k own.Same n before g = kept_as_before (0 + n) n before k.shots k.shots (omega arith) refl g
+  own_grows k own.Position n before g = kept_as_before (0 + n) n before k.shots k.shots (omega arith) refl g
   own_grows k own.Claim n before g = kept_as_before (0 + n) n before k.shots k.shots (omega arith) refl g
+  own_grows k (own.Unname monitor) n before g = kept_as_before (0 + n) n before k.shots k.shots (omega arith) refl g
+  own_grows k own.Enring n before g = kept_as_before (0 + n) n before k.shots k.shots (omega arith) refl g
   own_grows k own.Spend n before g = kept_as_before (0 + n) n before k.shots k.shots (omega arith) refl g
   own_grows k own.Save n before g = kept_as_before (0 + n) n before k.shots k.shots (omega arith) refl g
   own_grows k (own.CountVerdict class verdict reset) n before g = kept_as_before (0 + n) n before k.shots k.shots (omega arith) refl g

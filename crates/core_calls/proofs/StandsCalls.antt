@@ -25,6 +25,7 @@ use Rattle.core_world.specs.Words.Forms.{waits_on}
 use Rattle.core_world.specs.Words.Shape.{Shape, class_of}
 use Rattle.core_world.specs.Trees.BiasSteps.{bias_enter_steps, bias_drop_steps, stage_after, bias_after_steps}
 use Rattle.core_world.specs.Trees.Calls.{side_purpose}
+use Rattle.core_world.specs.Trees.DeflateSteps.{deflate_steps}
 use Rattle.core_world.specs.Trees.LookSteps.{take_shot_steps, stands_still_steps}
 use Rattle.core_world.specs.Trees.MonitorSteps.{inflate_steps, monitor_enter_steps}
 use Rattle.core_world.specs.Trees.Operations.{and_then, answer, goes_on_with, revocation_steps, enter_monitor_steps, enter_at, enter_unbiased, enter_revoked, enter_tried, enter_going, enter_steps, exit_at, exit_going, exit_steps, revoked_steps, unbias_tried, unbias_steps, no_bias, wait_going, wait_steps, notify_at, notify_going, notify_steps, notify_all_at, notify_all_going, notify_all_steps, hash_steps, get_steps, put_steps, print_steps, finish_steps, dump_going, dump_steps, check_ending, check_steps}
@@ -39,7 +40,7 @@ use Rattle.core_calls.proofs.Paths.{always_then, always_so, either_way}
 use Rattle.core_calls.proofs.OperationsSay.{then_says}
 use Rattle.core_calls.proofs.Stays.{Stay, Whatever, Aside, OutAside, Known, stay_done, stay_never, stay_step, stay_either, stay_then, stay_next, stay_so, aside_stands}
 use Rattle.core_calls.proofs.StaysLocks.{stack_enter_stays, stack_exit_stays, bias_enter_stays, bias_exit_stays, bias_drop_stays, bias_after_stays, inflate_stays, monitor_enter_stays, monitor_exit_stays}
-use Rattle.core_calls.proofs.StaysLooks.{shot_stays, still_stays, revocation_stays}
+use Rattle.core_calls.proofs.StaysLooks.{shot_stays, still_stays, revocation_stays, deflation_stays}
 use Rattle.core_calls.proofs.StaysWaits.{monitor_wait_stays, publish_stays, notify_stays, notify_all_stays, monitor_resume_stays, hash_header_stays}
 use Rattle.core_calls.proofs.StandsSafe.{So, SafeStands, safepoint_stands, release_stands, halt_stands, poll_stands, stop_stands, resume_stands}
 
@@ -50,26 +51,26 @@ on_aside (Pending why) f h go = stay_done h
 
 -- WHAT LEAVES THE SAFEPOINT WORD ALONE: an enter that revokes no bias,
 module _ (e : Purpose) (k : Start) (o : ℕ) where
-  by_monitor_stays : Stay Aside (enter_monitor_steps e k o)
-  by_monitor_stays =
-      stay_then (inflate_stays e o k.kept) (λ turn aside. on_aside turn (λ m. monitor_enter_steps e k.local o m) aside
+  by_monitor_stays : (s : Shape) → Stay Aside (enter_monitor_steps s e k o)
+  by_monitor_stays s =
+      stay_then (inflate_stays e o s k.kept) (λ turn aside. on_aside turn (λ m. monitor_enter_steps e k.local o m) aside
       (monitor_enter_stays e k.local o))
 
-  enter_at_stays : (form : Option MarkForm) (mark : ℕ) → Stay Aside (enter_at form e k o mark)
-  enter_at_stays (Some Inflating) mark = stay_done tt
-  enter_at_stays (Some (Neutral hash age)) mark = stack_enter_stays e k.local o mark
-  enter_at_stays (Some (Locked thread place)) mark = stay_either (thread == k.local.thread) (stack_enter_stays e k.local o mark) by_monitor_stays
-  enter_at_stays (Some (Inflated monitor)) mark = monitor_enter_stays e k.local o monitor
-  enter_at_stays _ mark = stay_never
+  enter_at_stays : (form : Option MarkForm) (s : Shape) (mark : ℕ) → Stay Aside (enter_at form s e k o mark)
+  enter_at_stays (Some Inflating) s mark = stay_done tt
+  enter_at_stays (Some (Neutral hash age)) s mark = stack_enter_stays e k.local o mark
+  enter_at_stays (Some (Locked thread place)) s mark = stay_either (thread == k.local.thread) (stack_enter_stays e k.local o mark) (by_monitor_stays s)
+  enter_at_stays (Some (Inflated monitor)) s mark = monitor_enter_stays e k.local o monitor
+  enter_at_stays _ s mark = stay_never
 
-  unbiased_stays : (tried : BiasTry) → Stay Aside (enter_unbiased tried e k o)
-  unbiased_stays (Took path) = stay_done tt
-  unbiased_stays (Unbiased mark) = enter_at_stays (read_mark mark) mark
-  unbiased_stays (Valid mark) = stay_never
-  unbiased_stays (Raced expected found) = stay_done tt
+  unbiased_stays : (s : Shape) (tried : BiasTry) → Stay Aside (enter_unbiased tried s e k o)
+  unbiased_stays s (Took path) = stay_done tt
+  unbiased_stays s (Unbiased mark) = enter_at_stays (read_mark mark) s mark
+  unbiased_stays s (Valid mark) = stay_never
+  unbiased_stays s (Raced expected found) = stay_done tt
 
-  again_stays : (took : Bool) → Stay Aside (bias_after_steps e k.local o took >>= λ tried. enter_unbiased tried e k o)
-  again_stays took = stay_then {d = bias_after_steps e k.local o took} (bias_after_stays e k.local o took) (λ tried _. unbiased_stays tried)
+  again_stays : (s : Shape) (took : Bool) → Stay Aside (bias_after_steps e k.local o took >>= λ tried. enter_unbiased tried s e k o)
+  again_stays s took = stay_then {d = bias_after_steps e k.local o took} (bias_after_stays e k.local o took) (λ tried _. unbiased_stays s tried)
 
   -- an exit,
   exit_at_stays : (out : StackOut) → OutAside out → Stay Aside (exit_at out e k.local o)
@@ -89,8 +90,8 @@ module _ (e : Purpose) (k : Start) (o : ℕ) where
   abbrev lets : ℕ → Todo (Turn (Unit {0}))
   lets m = monitor_wait_steps e k.local o m >>= λ saved. monitor_resume_steps e k.local.thread saved o
 
-  waits_stays : Stay Aside (inflate_steps e k.kept o >>= λ turn. and_then turn lets)
-  waits_stays = stay_then {d = inflate_steps e k.kept o} (inflate_stays e o k.kept) (λ turn aside. on_aside turn lets aside let_go_stays)
+  waits_stays : (s : Shape) → Stay Aside (inflate_steps s e k.kept o >>= λ turn. and_then turn lets)
+  waits_stays s = stay_then {d = inflate_steps s e k.kept o} (inflate_stays e o s k.kept) (λ turn aside. on_aside turn lets aside let_go_stays)
 
   -- and a notify
   module _ (s : Shape) where
@@ -179,16 +180,21 @@ module _ (k : Start) (low : k.local.thread < 32) where
         → Always Turns ms (revocation_steps s k.local.thread requesting e b)
     revocation_stands requesting e b ms held going =
         safely Turns e requesting its_revocation ms held going
-        (λ ms. after_any Turns (revoke_at_safepoint_steps s k.local.thread e b) releases ms (revocation_stays e b s k.local.thread)
-        (λ ms outcome. always_then Released Turns (release_to (stage_after outcome.took b.object) e k.local.thread) (λ _. done_with outcome.took) ms
-        (release_stands k.local.thread low (begun k) (stage_after outcome.took b.object) e ms) (λ ms _ so. so)))
+        (λ ms. after_any Turns (revoke_at_safepoint_steps s k.local.thread e b) deflates ms (revocation_stays e b s k.local.thread)
+        (λ ms outcome. after_any Turns (deflate_steps s e (stage_after outcome.took b.object)) (λ _. releases outcome) ms
+        (deflation_stays e s (stage_after outcome.took b.object))
+        (λ ms _. always_then Released Turns (release_to (stage_after outcome.took b.object) e k.local.thread) (λ _. done_with outcome.took) ms
+        (release_stands k.local.thread low (begun k) (stage_after outcome.took b.object) e ms) (λ ms _ so. so))))
         (λ ms why so. so)
       where
         releases : RevocationOutcome → Todo (Turn Bool)
         releases outcome = release_to (stage_after outcome.took b.object) e k.local.thread >>= λ _. done_with outcome.took
 
+        deflates : RevocationOutcome → Todo (Turn Bool)
+        deflates outcome = deflate_steps s e (stage_after outcome.took b.object) >>= λ _. releases outcome
+
         its_revocation : Unit {0} → Todo (Turn Bool)
-        its_revocation _ = revoke_at_safepoint_steps s k.local.thread e b >>= releases
+        its_revocation _ = revoke_at_safepoint_steps s k.local.thread e b >>= deflates
 
     -- ENTER
     module _ (e : Purpose) (b : Revocation) where
@@ -197,16 +203,16 @@ module _ (k : Start) (low : k.local.thread < 32) where
       enter_revoked_stands requesting ms held going =
           always_then Turns Turns (revocation_steps s k.local.thread requesting e b) (λ turn. and_then turn goes_on) ms
           (revocation_stands requesting e b ms held going)
-          (λ ms turn so. then_says Turns Turns turn goes_on ms so (λ took go. aside_goes (goes_on took) ms (again_stays e k b.object took) go) (λ why so. so))
+          (λ ms turn so. then_says Turns Turns turn goes_on ms so (λ took go. aside_goes (goes_on took) ms (again_stays e k b.object s took) go) (λ why so. so))
         where
           goes_on : Bool → Todo (Turn Path)
-          goes_on took = bias_after_steps e k.local b.object took >>= λ tried. enter_unbiased tried e k b.object
+          goes_on took = bias_after_steps e k.local b.object took >>= λ tried. enter_unbiased tried s e k b.object
 
       enter_tried_stands : (tried : BiasTry) (ms : List StepMade) → Goes ms → Always Turns ms (enter_tried tried s e k b)
       enter_tried_stands (Valid mark) ms going = enter_revoked_stands false ms (λ no. absurd (cc no)) (λ _. going)
-      enter_tried_stands (Took path) ms going = aside_goes _ ms (unbiased_stays e k b.object (Took path)) going
-      enter_tried_stands (Unbiased mark) ms going = aside_goes _ ms (unbiased_stays e k b.object (Unbiased mark)) going
-      enter_tried_stands (Raced expected found) ms going = aside_goes _ ms (unbiased_stays e k b.object (Raced expected found)) going
+      enter_tried_stands (Took path) ms going = aside_goes _ ms (unbiased_stays e k b.object s (Took path)) going
+      enter_tried_stands (Unbiased mark) ms going = aside_goes _ ms (unbiased_stays e k b.object s (Unbiased mark)) going
+      enter_tried_stands (Raced expected found) ms going = aside_goes _ ms (unbiased_stays e k b.object s (Raced expected found)) going
 
       enter_going_stands : Always Turns [] (enter_going s e k b)
       enter_going_stands =
@@ -266,7 +272,7 @@ module _ (k : Start) (low : k.local.thread < 32) where
           (either_way Turns [] (waits_on k.local.wait o) _ _
           (λ waits. aside_goes (monitor_resume_steps e k.local.thread k.saved o) [] (monitor_resume_stays e k.local.thread k.saved o) (going_first
           (gone waits)))
-          (λ _. unbiased_then e (no_bias o now) _ (waits_stays e k o)));
+          (λ _. unbiased_then e (no_bias o now) _ (waits_stays e k o s)));
     }
       where
         e : Purpose
@@ -294,7 +300,7 @@ module _ (k : Start) (low : k.local.thread < 32) where
 
     pub hash_stands : (o now : ℕ) → StandsSo k.local.thread (begun k) (hash_steps s k o now) (TurnStands k.local.thread)
     hash_stands o now =
-        record { by = unbiased_then e (no_bias o now) _ (hash_header_stays e (record { number = k.draws + 1; value = k.draw }) o k.local k.kept) }
+        record { by = unbiased_then e (no_bias o now) _ (hash_header_stays s e (record { number = k.draws + 1; value = k.draw }) o k.local k.kept) }
       where
         e : Purpose
         e = purpose (task.Hash o now) op.Hash o
@@ -304,9 +310,10 @@ module _ (k : Start) (low : k.local.thread < 32) where
     dump_stands = record {
       by = refused_or (k.shots == 4) (record {}) (dump_going s e k)
           (safely Turns e k.requesting shoots [] held_first going_first
-          (λ ms. after_any Turns (take_shot_steps e s) (λ _. releases) ms (shot_stays e s)
+          (λ ms. after_any Turns (take_shot_steps e s) (λ _. deflates) ms (shot_stays e s)
+          (λ ms _. after_any Turns (deflate_steps s e Calm) (λ _. releases) ms (deflation_stays e s Calm)
           (λ ms _. always_then Released Turns (release_safepoint e k.local.thread) (λ _. tells) ms (release_stands k.local.thread low (begun k) Calm e ms)
-          (λ ms _ so n found. so found.1)))
+          (λ ms _ so n found. so found.1))))
           (λ ms why so. so));
     }
       where
@@ -319,8 +326,11 @@ module _ (k : Start) (low : k.local.thread < 32) where
         releases : Todo (Turn ℕ)
         releases = release_safepoint e k.local.thread >>= λ _. tells
 
+        deflates : Todo (Turn ℕ)
+        deflates = deflate_steps s e Calm >>= λ _. releases
+
         shoots : Unit {0} → Todo (Turn ℕ)
-        shoots _ = take_shot_steps e s >>= λ _. releases
+        shoots _ = take_shot_steps e s >>= λ _. deflates
 
     abbrev Checks : List StepMade → Turn Bool → Type 0
     Checks = So k.local.thread low (begun k) (CheckStands k.local.thread)
@@ -337,14 +347,18 @@ module _ (k : Start) (low : k.local.thread < 32) where
     check_stands =
         record {
           by = safely Checks e k.requesting looks [] held_first going_first (λ ms. after_any Checks (stands_still_steps e s)
-              (λ stuck. check_ending stuck e k.local.thread) ms (still_stays e s) (λ ms stuck. ending_stands e stuck ms)) (λ ms why so. so);
+              deflates ms (still_stays e s) (λ ms stuck. after_any Checks (deflate_steps s e Calm) (λ _. check_ending stuck e k.local.thread) ms
+              (deflation_stays e s Calm) (λ ms _. ending_stands e stuck ms))) (λ ms why so. so);
         }
       where
         e : Purpose
         e = record { task = task.Check; unfinished = k.unfinished; check = true }
 
+        deflates : Bool → Todo (Turn Bool)
+        deflates stuck = deflate_steps s e Calm >>= λ _. check_ending stuck e k.local.thread
+
         looks : Unit {0} → Todo (Turn Bool)
-        looks _ = stands_still_steps e s >>= λ stuck. check_ending stuck e k.local.thread
+        looks _ = stands_still_steps e s >>= deflates
 
   -- CALLS THAT ASK FOR NO SAFEPOINT
   module _ (none : k.requesting ≡ false) where

@@ -1,7 +1,7 @@
 -- Trees that leave the safepoint word alone: none of their steps is on it but loads. So their thread stands after them as it stood before.
-use Rattle.std.proofs.Common.{◌≡◌, ◌≢◌, ℕ, zero, suc, ◌+◌, cond, Bool, true, false, List, ◌∷◌, refl, sym, subst}
+use Rattle.std.proofs.Common.{◌≡◌, ◌≢◌, ℕ, zero, suc, ◌+◌, ◌%◌, cond, Bool, true, false, List, ◌∷◌, refl, sym, subst}
 use Rattle.core_world.specs.declared.act.Act.{Act}
-use Rattle.core_world.specs.declared.act.Act.TheVariants.{Load, Store, Swap}
+use Rattle.core_world.specs.declared.act.Act.TheVariants.{Load, Store}
 use Rattle.core_world.specs.declared.name.Name.{Name}
 use Rattle.core_world.specs.declared.name.Name.TheVariants.{Safepoint, Mark}
 use Rattle.core_world.specs.declared.plan.StepPlan.{StepPlan}
@@ -23,13 +23,16 @@ IsApart Safepoint Load = Unit {0}
 IsApart Safepoint _ = ⊥
 IsApart _ act = Unit {0}
 
--- So it is, and it puts no 0 into a mark, which would say that the object is being inflated.
+-- A mark neither says that its object is being inflated nor names a monitor.
+abbrev pub IsPlainMark : ℕ → Type 0
+IsPlainMark n = (n ≢ 0) × (n % 8 ≢ 2)
+
+-- It is apart, and puts none but such marks.
 abbrev pub IsSparing : Name → Act → Type 0
 IsSparing Safepoint Load = Unit {0}
 IsSparing Safepoint _ = ⊥
 IsSparing (Mark o) Load = Unit {0}
-IsSparing (Mark o) (Store word) = word ≢ 0
-IsSparing (Mark o) (Swap expected word) = word ≢ 0
+IsSparing (Mark o) (Store word) = IsPlainMark word
 IsSparing (Mark o) _ = ⊥
 IsSparing _ act = Unit {0}
 

@@ -11,6 +11,7 @@ use Rattle.plain_monitor.specs.declared.entry.Path.TheVariants.{BiasOwn, BiasTak
 use Rattle.core_world.specs.declared.stage.Stage.{Stage}
 use Rattle.core_world.specs.declared.stage.Stage.TheVariants.{Calm, Grabs, Ahead, Inflates}
 use Rattle.core_world.specs.Words.Forms.{epoch_in, is_biased, is_entering}
+use Rattle.core_world.specs.Words.Shape.{Shape}
 use Rattle.core_world.specs.Threads.Known.{Local}
 use Rattle.core_world.specs.Locks.{hold_count}
 use Rattle.core_world.specs.Trees.Plans.{Purpose}
@@ -145,17 +146,17 @@ module _ (e : Purpose) (o : ℕ) where
   with_stays (Some (Neutral hash age)) mark m = neutral_stays mark m
   with_stays _ mark m = stay_never
 
-  inflate_by_stays : (kept : Option ℕ) (mark : ℕ) → Stay Aside (inflate_by kept e o mark)
-  inflate_by_stays (Some m) mark = with_stays (read_mark mark) mark m
-  inflate_by_stays None mark = stay_step tt (λ m. with_stays (read_mark mark) mark m)
+  inflate_by_stays : (s : Shape) (kept : Option ℕ) (mark : ℕ) → Stay Aside (inflate_by kept s e o mark)
+  inflate_by_stays s (Some m) mark = with_stays (read_mark mark) mark m
+  inflate_by_stays s None mark = stay_step tt (λ position. stay_step tt (λ m. with_stays (read_mark mark) mark m))
 
-  inflate_at_stays : (form : Option MarkForm) (kept : Option ℕ) (mark : ℕ) → Stay Aside (inflate_at form e kept o mark)
-  inflate_at_stays (Some Inflating) kept mark = stay_done tt
-  inflate_at_stays (Some (Inflated monitor)) kept mark = stay_done tt
-  inflate_at_stays _ kept mark = inflate_by_stays kept mark
+  inflate_at_stays : (form : Option MarkForm) (s : Shape) (kept : Option ℕ) (mark : ℕ) → Stay Aside (inflate_at form s e kept o mark)
+  inflate_at_stays (Some Inflating) s kept mark = stay_done tt
+  inflate_at_stays (Some (Inflated monitor)) s kept mark = stay_done tt
+  inflate_at_stays _ s kept mark = inflate_by_stays s kept mark
 
-  pub inflate_stays : (kept : Option ℕ) → Stay Aside (inflate_steps e kept o)
-  inflate_stays kept = stay_step tt (λ mark. inflate_at_stays (read_mark mark) kept mark)
+  pub inflate_stays : (s : Shape) (kept : Option ℕ) → Stay Aside (inflate_steps s e kept o)
+  inflate_stays s kept = stay_step tt (λ mark. inflate_at_stays (read_mark mark) s kept mark)
 
 -- MONITORS
 module _ (e : Purpose) (k : Local) (o : ℕ) where

@@ -1,6 +1,6 @@
--- The steps at a reached safepoint, which look at all threads and objects or revoke a bias, leave the safepoint word alone but for a load, and put no 0
--- into a mark.
-use Rattle.std.proofs.Common.{arith, ◌≢◌, ℕ, ◌+◌, ◌==◌, if◌then◌else◌, Bool, true, false, List, [], ◌∷◌, ◌++◌, length, Option, Some, None}
+-- The steps at a reached safepoint, which look at all threads and objects or revoke a bias, leave the safepoint word alone but for a load; and a mark
+-- that they put neither is 0 nor names a monitor. Those that give idle monitors back leave the safepoint word alone too.
+use Rattle.std.proofs.Common.{arith, ℕ, ◌+◌, ◌==◌, if◌then◌else◌, Bool, true, false, List, [], ◌∷◌, ◌++◌, length, Option, Some, None}
 use Rattle.lock_policy.specs.declared.policy.Verdict.{Verdict}
 use Rattle.lock_policy.specs.declared.policy.Verdict.TheVariants.{Single, BulkRebias, BulkRevoke}
 use Rattle.lock_policy.specs.Policy.{decided}
@@ -11,22 +11,25 @@ use Rattle.mark_word.specs.declared.owner.OwnerForm.TheVariants.{Free, ByThread,
 use Rattle.mark_word.specs.declared.wait.WaitForm.{WaitForm}
 use Rattle.mark_word.specs.declared.wait.WaitForm.TheVariants as wait
 use Rattle.mark_word.specs.Mark.{mark_of, read_mark}
-use Rattle.mark_word.specs.Owner.{read_owner}
+use Rattle.mark_word.specs.Owner.{owner_of, read_owner}
+use Rattle.std.specs.List.{list_all}
 use Rattle.mark_word.specs.Wait.{read_wait}
 use Rattle.mark_word.specs.Hold.{read_hold}
 use Rattle.core_world.specs.declared.name.Name.{Name}
 use Rattle.core_world.specs.declared.name.Name.TheVariants as name
 use Rattle.core_world.specs.declared.act.Act.TheVariants.{Load, Store}
-use Rattle.core_world.specs.Words.Forms.{epoch_in, is_biased, names, hold_word}
-use Rattle.core_world.specs.Words.Shape.{Shape, class_of}
+use Rattle.core_world.specs.declared.stage.Stage.{Stage}
+use Rattle.core_world.specs.Words.Forms.{epoch_in, is_biased, monitor_in, names, hold_word}
+use Rattle.core_world.specs.Words.Shape.{Shape, class_of, monitor_count}
 use Rattle.core_world.specs.Locks.{has_epoch, is_valid_bias, hold_count}
 use Rattle.core_world.specs.Threads.Stages.{Revocation}
 use Rattle.core_world.specs.RevocationRules.{Write, write, first_place, revoke_biased, record_writes, store_where, with_epoch, raised_form, biased_word, object_held}
+use Rattle.core_world.specs.Trees.DeflateSteps.{look_at, give_back_steps, is_untouched, deflate_free, deflate_named, names_monitor, deflate_monitor, deflate_steps}
 use Rattle.core_world.specs.Trees.LookSteps.{look_at_holds, look_at_owner, look_behind, look_at_objects, take_shot_steps, look_at_monitor, look_at_object, look_at_wait, stands_still_steps}
 use Rattle.core_world.specs.Trees.Plans.{Purpose, load}
 use Rattle.core_world.specs.Trees.RevocationSteps.{look, store_steps, revoke_at, revoke_steps, visit_held, walk_steps, take_bias_steps, next_epoch, bulk_rebias_steps, bulk_revoke_steps, verdict_steps, decided_steps, revoke_at_safepoint_steps}
 use Rattle.core_world.specs.Trees.Todo.{Todo, done, ◌>>=◌, ask, each_from}
-use Rattle.core_calls.proofs.Stays.{Passes, Stay, Whatever, IsSparing, spares_apart, stay_done, stay_never, stay_step, stay_either, stay_then, stay_next, stay_all, stay_each}
+use Rattle.core_calls.proofs.Stays.{Passes, Stay, Whatever, IsPlainMark, IsSparing, spares_apart, stay_done, stay_never, stay_step, stay_either, stay_then, stay_next, stay_all, stay_each}
 
 abbrev Spares : {A : Type 0} → Todo A → Type 0
 Spares d = Passes IsSparing Whatever d
@@ -77,7 +80,7 @@ module _ (e : Purpose) (s : Shape) where
   pub still_spares : Spares (stands_still_steps e s)
   still_spares = stay_then (stay_each 0 s.threads (λ t. stay_step tt (λ word. wait_spares (read_wait word) t))) (λ threads _. stay_done tt)
 
--- A REVOCATION stores in marks, displaced words and the words of a class; no mark that it stores is 0.
+-- A REVOCATION stores in marks, displaced words and the words of a class; its marks are plain.
 abbrev AreSparing : List Write → Type 0
 AreSparing [] = Unit {0}
 AreSparing (x ∷ xs) = IsSparing x.at (Store x.word) × AreSparing xs
@@ -96,15 +99,15 @@ records_sparing o t p (h ∷ hs) = cases (names o h) (records_sparing o t (p + 1
     cases true more = (tt, more)
     cases false more = more
 
-record_some : (t p : ℕ) → mark_of (Locked t p) ≢ 0
-record_some t p = λ z. absurd (omega (arith, z))
+record_some : (t p : ℕ) → IsPlainMark (mark_of (Locked t p))
+record_some t p = (λ z. absurd (omega (arith, z)), λ z. absurd (omega (arith, z)))
 
 revoked_sparing : (o t : ℕ) (allowed : Bool) (hs : List ℕ) → AreSparing (revoke_biased o t allowed hs)
 revoked_sparing o t allowed hs = cases (hold_count o hs == 0)
   where
-    free_some : (c : Bool) → mark_of (if c then Anonymous 0 0 else Neutral 0 0) ≢ 0
-    free_some true = λ z. absurd (omega (arith, z))
-    free_some false = λ z. absurd (omega (arith, z))
+    free_some : (c : Bool) → IsPlainMark (mark_of (if c then Anonymous 0 0 else Neutral 0 0))
+    free_some true = (λ z. absurd (omega (arith, z)), λ z. absurd (omega (arith, z)))
+    free_some false = (λ z. absurd (omega (arith, z)), λ z. absurd (omega (arith, z)))
 
     cases : (b : Bool)
         → AreSparing (if b then write (name.Mark o) (mark_of
@@ -120,7 +123,7 @@ module _ (e : Purpose) (b : Revocation) where
 
   unless_spares : (allowed : Bool) (o : ℕ) → Spares (store_steps e b (if allowed then [] else write (name.Mark o) (mark_of (Neutral 0 0)) ∷ []))
   unless_spares true o = stay_done tt
-  unless_spares false o = store_spares (write (name.Mark o) (mark_of (Neutral 0 0)) ∷ []) ((λ z. absurd (omega (arith, z))), tt)
+  unless_spares false o = store_spares (write (name.Mark o) (mark_of (Neutral 0 0)) ∷ []) ((λ z. absurd (omega (arith, z)), λ z. absurd (omega (arith, z))), tt)
 
   look_spares : (at : Name) → IsSparing at Load → Spares (look e b at)
   look_spares at h = stay_step h (λ _. stay_done tt)
@@ -146,21 +149,21 @@ module _ (e : Purpose) (b : Revocation) where
     walk_spares : Spares (walk_steps s c e b visit)
     walk_spares = stay_all 0 s.threads (λ t. stay_all 0 64 (λ p. place_spares t p))
 
-  abbrev SomeIsNot0 : Option ℕ → Type 0
-  SomeIsNot0 None = Unit {0}
-  SomeIsNot0 (Some word) = word ≢ 0
+  abbrev SomeIsPlain : Option ℕ → Type 0
+  SomeIsPlain None = Unit {0}
+  SomeIsPlain (Some word) = IsPlainMark word
 
-  where_spares : (o : ℕ) (word : Option ℕ) → SomeIsNot0 word → Spares (store_steps e b (store_where (name.Mark o) word))
+  where_spares : (o : ℕ) (word : Option ℕ) → SomeIsPlain word → Spares (store_steps e b (store_where (name.Mark o) word))
   where_spares o None h = stay_done tt
   where_spares o (Some word) h = store_spares (write (name.Mark o) word ∷ []) (h, tt)
 
-  epoch_some : (form : Option MarkForm) (epoch : Option ℕ) → SomeIsNot0 (with_epoch form epoch)
-  epoch_some (Some (Anonymous i age)) (Some epoch) = λ z. absurd (omega (arith, z))
-  epoch_some (Some (Biased t i age)) (Some epoch) = λ z. absurd (omega (arith, z))
+  epoch_some : (form : Option MarkForm) (epoch : Option ℕ) → SomeIsPlain (with_epoch form epoch)
+  epoch_some (Some (Anonymous i age)) (Some epoch) = (λ z. absurd (omega (arith, z)), λ z. absurd (omega (arith, z)))
+  epoch_some (Some (Biased t i age)) (Some epoch) = (λ z. absurd (omega (arith, z)), λ z. absurd (omega (arith, z)))
   epoch_some _ _ = tt
 
-  biased_some : (biased : Bool) (epoch : Option ℕ) (t : ℕ) → SomeIsNot0 (biased_word biased epoch t)
-  biased_some true (Some epoch) t = λ z. absurd (omega (arith, z))
+  biased_some : (biased : Bool) (epoch : Option ℕ) (t : ℕ) → SomeIsPlain (biased_word biased epoch t)
+  biased_some true (Some epoch) t = (λ z. absurd (omega (arith, z)), λ z. absurd (omega (arith, z)))
   biased_some _ _ t = tt
 
   raised_spares : (epoch : Option ℕ) (c : ℕ) → Spares (store_steps e b (raised_form epoch c))
@@ -191,7 +194,7 @@ module _ (e : Purpose) (b : Revocation) where
   verdict_spares s t c epoch BulkRebias = rebias_spares s t c epoch
   verdict_spares s t c epoch BulkRevoke = stay_next (bulk_revoke_spares s c) (stay_done tt)
 
-  decided_spares : (s : Shape) (t c : ℕ) (epoch : Option ℕ) (count last : ℕ) → Spares (decided_steps s t c e b epoch count last)
+  pub decided_spares : (s : Shape) (t c : ℕ) (epoch : Option ℕ) (count last : ℕ) → Spares (decided_steps s t c e b epoch count last)
   decided_spares s t c epoch count last = stay_step tt (λ _. stay_then (verdict_spares s t c epoch (decided count last b.now).0) (λ took _. stay_done tt))
 
   pub revocation_spares : (s : Shape) (t : ℕ) → Spares (revoke_at_safepoint_steps s t e b)
@@ -208,3 +211,28 @@ still_stays e s = spares_apart (still_spares e s)
 
 pub revocation_stays : (e : Purpose) (b : Revocation) (s : Shape) (t : ℕ) → Stay Whatever (revoke_at_safepoint_steps s t e b)
 revocation_stays e b s t = spares_apart (revocation_spares e b s t)
+
+-- A DEFLATION
+module _ (e : Purpose) (s : Shape) (stage : Stage) where
+  word_stays : (t : ℕ) → Stay Whatever (look_at e stage (name.Waiting t))
+  word_stays t = stay_step tt (λ _. stay_done tt)
+
+  give_back_stays : (o m : ℕ) → Stay Whatever (give_back_steps s e stage o m)
+  give_back_stays o m =
+      stay_step tt (λ header. stay_step tt (λ end. stay_step tt (λ _. stay_step tt (λ _. stay_step tt (λ _. stay_step tt (λ _. stay_step tt (λ _.
+      stay_step tt (λ _. stay_step tt (λ _. stay_done tt)))))))))
+
+  free_stays : (o m : ℕ) → Stay Whatever (deflate_free s e stage o m)
+  free_stays o m =
+      stay_then {d = each_from 0 s.threads (λ t. look_at e stage (name.Waiting t))} (stay_each 0 s.threads word_stays)
+      (λ words _. stay_either (list_all (λ w. is_untouched o w) words) (give_back_stays o m) (stay_done tt))
+
+  named_stays : (o m : ℕ) → Stay Whatever (deflate_named s e stage o m)
+  named_stays o m = stay_step tt (λ owner. stay_either (owner == owner_of Free) (free_stays o m) (stay_done tt))
+
+  monitor_stays : (m : ℕ) → Stay Whatever (deflate_monitor s e stage m)
+  monitor_stays m =
+      stay_step tt (λ o. stay_step tt (λ mark. stay_either (names_monitor (monitor_in mark) m) (named_stays o m) (stay_done tt)))
+
+  pub deflation_stays : Stay Whatever (deflate_steps s e stage)
+  deflation_stays = stay_either (length s.objects == 0) (stay_done tt) (stay_all 0 (monitor_count s) monitor_stays)

@@ -14,6 +14,7 @@ use Rattle.core_world.specs.declared.name.Name.TheVariants.{Mark, Header}
 use Rattle.core_world.specs.declared.answer.Turn.{Turn}
 use Rattle.core_world.specs.declared.answer.Turn.TheVariants.{Done, Pending}
 use Rattle.core_world.specs.Words.Forms.{hash_in}
+use Rattle.core_world.specs.Words.Shape.{Shape}
 use Rattle.core_world.specs.Threads.Known.{Local}
 use Rattle.core_world.specs.Trees.Plans.{Purpose}
 use Rattle.core_world.specs.Trees.WaitSteps.{monitor_wait_steps, resumed_steps, resume_owner_at, resume_mark_at, resume_at, monitor_resume_steps, look_steps, waiters, by_age, publish_steps, notify_first, monitor_notify_steps, notify_each, notify_listed, monitor_notify_all_steps}
@@ -76,7 +77,7 @@ module _ (e : Purpose) (t saved o : ℕ) where
   monitor_resume_stays = stay_step tt (λ word. resume_at_stays (read_wait word) word)
 
 -- HASHES
-module _ (e : Purpose) (draw : NextDraw) (o : ℕ) where
+module _ (s : Shape) (e : Purpose) (draw : NextDraw) (o : ℕ) where
   mark_draw_stays : (header : ℕ) → Stay Aside (draw_steps e draw (Mark o) o header)
   mark_draw_stays header = stay_step tt (λ found. stay_either (found == header) (stay_done tt) (stay_done tt))
 
@@ -90,18 +91,18 @@ module _ (e : Purpose) (draw : NextDraw) (o : ℕ) where
   hash_inflated_stays (Done m) h = hash_monitor_stays m
   hash_inflated_stays (Pending why) h = stay_done h
 
-  hash_inflate_stays : (kept : Option ℕ) → Stay Aside (hash_inflate_steps e kept draw o)
-  hash_inflate_stays kept = stay_then (inflate_stays e o kept) hash_inflated_stays
+  hash_inflate_stays : (kept : Option ℕ) → Stay Aside (hash_inflate_steps s e kept draw o)
+  hash_inflate_stays kept = stay_then (inflate_stays e o s kept) hash_inflated_stays
 
   module _ (k : Local) (kept : Option ℕ) where
     displaced_stays : Stay Whatever (hash_displaced_steps e k o)
     displaced_stays = stay_step tt (λ header. stay_done tt)
 
-    hash_unless_stays : (found : Option ℕ) → Stay Aside (hash_unless found e kept draw o)
+    hash_unless_stays : (found : Option ℕ) → Stay Aside (hash_unless found s e kept draw o)
     hash_unless_stays (Some value) = stay_done tt
     hash_unless_stays None = hash_inflate_stays kept
 
-    hash_mark_stays : (form : Option MarkForm) (mark : ℕ) → Stay Aside (hash_mark_steps form e k kept draw o mark)
+    hash_mark_stays : (form : Option MarkForm) (mark : ℕ) → Stay Aside (hash_mark_steps form s e k kept draw o mark)
     hash_mark_stays (Some Inflating) mark = stay_done tt
     hash_mark_stays (Some (Neutral hash age)) mark = stay_either (hash == 0) (mark_draw_stays mark) (stay_done tt)
     hash_mark_stays (Some (Locked thread place)) mark =
@@ -109,5 +110,5 @@ module _ (e : Purpose) (draw : NextDraw) (o : ℕ) where
     hash_mark_stays (Some (Inflated monitor)) mark = hash_monitor_stays monitor
     hash_mark_stays _ mark = stay_never
 
-    pub hash_header_stays : Stay Aside (hash_header_steps e k kept draw o)
+    pub hash_header_stays : Stay Aside (hash_header_steps s e k kept draw o)
     hash_header_stays = stay_step tt (λ mark. hash_mark_stays (read_mark mark) mark)

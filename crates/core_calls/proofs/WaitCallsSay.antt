@@ -92,8 +92,8 @@ module _ (s : Shape) (k : Start) (o now : ℕ) where
       always_then Unbiasing (WaitTurnSays true k.requesting k.local.thread o) (unbias_steps s waiting k (no_bias o now)) (λ turn. and_then turn inflates) ms
       (unbias_says s k (task.Wait o now) (unfinished_on op.Wait o) o (CausedUnder of_notifies k.requesting k.local.thread o) (notify_reasons k.requesting k.local.thread o) (no_bias o now) ms h)
       (λ ms turn so. then_says Unbiasing (WaitTurnSays true k.requesting k.local.thread o) turn inflates ms so
-      (λ _ silent. always_then Inflation (WaitTurnSays true k.requesting k.local.thread o) (inflate_steps waiting k.kept o) (λ turn. and_then turn lets) ms
-      (inflate_says waiting k.requesting k.local.thread o (CausedUnder of_notifies k.requesting k.local.thread o) (notify_reasons k.requesting k.local.thread o) k.kept ms (still silent))
+      (λ _ silent. always_then Inflation (WaitTurnSays true k.requesting k.local.thread o) (inflate_steps s waiting k.kept o) (λ turn. and_then turn lets) ms
+      (inflate_says waiting k.requesting k.local.thread o (CausedUnder of_notifies k.requesting k.local.thread o) (notify_reasons k.requesting k.local.thread o) s k.kept ms (still silent))
       (λ ms turn so. then_says Inflation (WaitTurnSays true k.requesting k.local.thread o) turn lets ms so
       (λ m silent. always_then (LetGo waiting k.local o) (WaitTurnSays true k.requesting k.local.thread o) (monitor_wait_steps waiting k.local o m) (λ saved. monitor_resume_steps waiting k.local.thread saved o) ms
       (monitor_wait_says waiting k.local o m ms (still silent)) (λ ms saved so. resumes_says true saved ms (still so)))
@@ -104,7 +104,7 @@ module _ (s : Shape) (k : Start) (o now : ℕ) where
       lets m = monitor_wait_steps waiting k.local o m >>= λ saved. monitor_resume_steps waiting k.local.thread saved o
 
       inflates : Unit {0} → Todo (Turn (Unit {0}))
-      inflates _ = inflate_steps waiting k.kept o >>= λ turn. and_then turn lets
+      inflates _ = inflate_steps s waiting k.kept o >>= λ turn. and_then turn lets
 
   going_says : (waits : Bool) → Always (WaitTurnSays (not waits) k.requesting k.local.thread o) [] (cond waits (monitor_resume_steps waiting k.local.thread k.saved o) (wait_beginning s waiting k o now))
   going_says true = resumes_says false k.saved [] nothing_yet
@@ -208,11 +208,11 @@ module _ (s : Shape) (k : Start) (o now : ℕ) where
   pub hash_says : Says (hash_steps s k o now) (HashSays k o)
   hash_says = record {
     by =
-        always_then HashUnbiasing (HashSays k o) (unbias_steps s hashing k (no_bias o now)) (λ turn. and_then turn (λ _. hash_header_steps hashing k.local k.kept (next_draw k) o)) []
+        always_then HashUnbiasing (HashSays k o) (unbias_steps s hashing k (no_bias o now)) (λ turn. and_then turn (λ _. hash_header_steps s hashing k.local k.kept (next_draw k) o)) []
         (unbias_says s k (task.Hash o now) (unfinished_on op.Hash o) o (CausedUnder of_notifies k.requesting k.local.thread o) (notify_reasons k.requesting k.local.thread o) (no_bias o now) [] nothing_yet)
-        (λ ms turn so. then_says HashUnbiasing (HashSays k o) turn (λ _. hash_header_steps hashing k.local k.kept (next_draw k) o) ms so
-        (λ _ silent. always_so (HashTurn hashing k o (CausedUnder of_notifies k.requesting k.local.thread o) (notify_reasons k.requesting k.local.thread o)) (HashSays k o) (hash_header_steps hashing k.local k.kept (next_draw k) o) ms
-        (hash_header_says hashing k o (CausedUnder of_notifies k.requesting k.local.thread o) (notify_reasons k.requesting k.local.thread o) k.kept ms (still silent)) by_turn)
+        (λ ms turn so. then_says HashUnbiasing (HashSays k o) turn (λ _. hash_header_steps s hashing k.local k.kept (next_draw k) o) ms so
+        (λ _ silent. always_so (HashTurn hashing k o (CausedUnder of_notifies k.requesting k.local.thread o) (notify_reasons k.requesting k.local.thread o)) (HashSays k o) (hash_header_steps s hashing k.local k.kept (next_draw k) o) ms
+        (hash_header_says hashing k o (CausedUnder of_notifies k.requesting k.local.thread o) (notify_reasons k.requesting k.local.thread o) s k.kept ms (still silent)) by_turn)
         (λ why so. so));
   }
     where

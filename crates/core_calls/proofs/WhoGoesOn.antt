@@ -10,6 +10,8 @@ use Rattle.core_world.specs.declared.name.Name.TheVariants.{Mark, Waiting}
 use Rattle.core_world.specs.declared.task.Task.TheVariants as task
 use Rattle.core_world.specs.declared.answer.Turn.{Turn}
 use Rattle.core_world.specs.Threads.Known.{Start, StepMade}
+use Rattle.core_world.specs.declared.stage.Stage.TheVariants.{Calm}
+use Rattle.core_world.specs.Trees.DeflateSteps.{deflate_steps}
 use Rattle.core_world.specs.Trees.LookSteps.{some_live, none_goes_on, look_at_monitor, look_at_object, look_at_wait, stands_still_steps}
 use Rattle.core_world.specs.Trees.Operations.{check_ending, check_steps, and_then}
 use Rattle.core_world.specs.Trees.Plans.{Purpose, load, done_with}
@@ -113,9 +115,14 @@ module _ (s : Shape) (k : Start) where
         always_then (λ ms _. Unit {0}) (CheckFinds s) (safepoint_steps checking k.local.thread k.requesting) (λ turn. and_then turn looks) []
         (always_stays (λ ms. Unit {0}) (safepoint_steps checking k.local.thread k.requesting) [] (λ m ms h. tt) tt)
         (λ ms turn _. then_says (λ ms _. Unit {0}) (CheckFinds s) turn looks ms tt
-        (λ _ _. always_then (Finds s) (CheckFinds s) (stands_still_steps checking s) (λ stuck. check_ending stuck checking k.local.thread) ms (still_finds checking s ms) (λ ms stuck h. ending_finds stuck ms h))
+        (λ _ _. always_then (Finds s) (CheckFinds s) (stands_still_steps checking s) deflates ms (still_finds checking s ms)
+        (λ ms stuck h. always_then (λ ms _. Finds s ms stuck) (CheckFinds s) (deflate_steps s checking Calm) (λ _. check_ending stuck checking k.local.thread) ms
+        (always_stays (λ ms. Finds s ms stuck) (deflate_steps s checking Calm) ms (finds_stays s stuck) h) (λ ms _ h. ending_finds stuck ms h)))
         (λ why _. tt));
   }
     where
+      deflates : Bool → Todo (Turn Bool)
+      deflates stuck = deflate_steps s checking Calm >>= λ _. check_ending stuck checking k.local.thread
+
       looks : Unit {0} → Todo (Turn Bool)
-      looks _ = stands_still_steps checking s >>= λ stuck. check_ending stuck checking k.local.thread
+      looks _ = stands_still_steps checking s >>= deflates

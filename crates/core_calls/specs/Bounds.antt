@@ -2,7 +2,7 @@
 use Rattle.std.specs.Prelude.{ℕ, zero, suc, ◌+◌, ◌*◌, length}
 use Rattle.core_world.specs.declared.task.Task.{Task}
 use Rattle.core_world.specs.declared.task.Task.TheVariants.{Enter, Exit, Wait, Notify, NotifyAll, Hash, Get, Put, Print, Dump, Finish, Poll, Stop, Resume, Check, StackEnter, StackExit, Request, Reached, Release}
-use Rattle.core_world.specs.Words.Shape.{Shape}
+use Rattle.core_world.specs.Words.Shape.{Shape, monitor_count}
 use Rattle.core_world.specs.Trees.Todo.{Todo, done, never, step}
 
 -- on no path are there more than n steps
@@ -17,28 +17,33 @@ IsWithin (suc n) (step p f) = (word : ℕ) → IsWithin n (f word)
 abbrev pub a_visit : ℕ
 a_visit = 1 + 1 + 64 + 64 + 1
 
--- the revocation of a bias: a safepoint is requested, and released at the end; the 64 lock records of each thread are visited at most
--- once; and there are at most 143 steps besides
-abbrev pub a_revocation : Shape → ℕ
-a_revocation s = 64 * a_visit * s.threads + 143
+-- the deflation at a safepoint: for each monitor its object word, the mark of that object, its owner and the waiting word of each thread; and where it
+-- is idle two loads and seven stores
+abbrev pub a_deflation : Shape → ℕ
+a_deflation s = (s.threads + 12) * monitor_count s
 
--- at most so many steps has a call
+-- the revocation of a bias: a safepoint is requested, and released at the end; the 64 lock records of each thread are visited at most
+-- once; idle monitors are given back; and there are at most 143 steps besides
+abbrev pub a_revocation : Shape → ℕ
+a_revocation s = 64 * a_visit * s.threads + 143 + a_deflation s
+
+-- at most so many steps has a call; a dump and a check give idle monitors back too
 abbrev pub most_steps : Shape → Task → ℕ
 most_steps s (Enter o now) = a_revocation s + 20
 most_steps s (Exit o) = 11
-most_steps s (Wait o now) = a_revocation s + 25
+most_steps s (Wait o now) = a_revocation s + 26
 most_steps s (Notify o now) = a_revocation s + s.threads + 4
 most_steps s (NotifyAll o now) = a_revocation s + 2 * s.threads + 4
-most_steps s (Hash o now) = a_revocation s + 15
+most_steps s (Hash o now) = a_revocation s + 16
 most_steps s (Get o slot) = 1
 most_steps s (Put o slot value) = 1
 most_steps s (Print value) = 1
-most_steps s Dump = 66 * length s.objects + s.threads + 6
+most_steps s Dump = 66 * length s.objects + s.threads + 6 + a_deflation s
 most_steps s (Finish ending) = 2
 most_steps s Poll = 1
 most_steps s Stop = 2
 most_steps s Resume = 2
-most_steps s Check = 3 * s.threads + 4
+most_steps s Check = 3 * s.threads + 4 + a_deflation s
 most_steps s (StackEnter o mark) = 5
 most_steps s (StackExit o) = 5
 most_steps s Request = 2

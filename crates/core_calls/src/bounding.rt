@@ -28,20 +28,20 @@ pub fn every_call_is_bounded()
         → length b.answers < most_steps s b.task }
 {}
 
-/// The enters that are common take few steps, where the thread has no request that stands. Behind the load of a mark without the bias pattern there are at most 16, and 5 where it is neutral.
+/// The enters that are common take few steps, where the thread has no request that stands. Behind the load of a mark without the bias pattern there are at most 17, and 5 where it is neutral.
 /// Behind the loads of a mark that is biased to the thread and of a prototype with the same epoch there are at most 3.
 pub fn common_enters_are_short()
     ensures free { (s : Shape) (k : Start) (o now mark hash age : ℕ) → k.requesting ≡ false
         → read_mark mark ≡ Some (Neutral hash age)
         → IsWithin 5 (after_answer (enter_steps s k o now) mark) }
     ensures unbiased { (s : Shape) (k : Start) (o now mark : ℕ) → k.requesting ≡ false → is_biased mark ≡ false
-        → IsWithin 16 (after_answer (enter_steps s k o now) mark) }
+        → IsWithin 17 (after_answer (enter_steps s k o now) mark) }
     ensures own { (s : Shape) (k : Start) (o now mark prototype epoch age other : ℕ) → k.requesting ≡ false
         → read_mark mark ≡ Some (Biased k.local.thread epoch age) → read_mark prototype ≡ Some (Anonymous epoch other)
         → IsWithin 3 (after_answer (after_answer (enter_steps s k o now) mark) prototype) }
 {}
 
-/// A revocation at a safepoint, with its request and its release, takes at most so many steps.
+/// A revocation at a safepoint, with its request, the idle monitors that it gives back, and its release, takes at most so many steps.
 pub fn a_revocation_is_bounded()
     ensures { (s : Shape) (t : ℕ) (requesting : Bool) (e : Purpose) (b : Revocation)
         → IsWithin (a_revocation s) (revocation_steps s t requesting e b) }

@@ -15,6 +15,7 @@ pub mod BiasDrops
 pub mod HoldStored
 pub mod Releases
 pub mod RevocationEnds
+pub mod RevocationLooks
 pub mod TakenLogs
 pub mod QuietKinds
 pub mod LoggedKinds

@@ -1,9 +1,9 @@
 -- The law of biases after the steps that log nothing, kind by kind.
-use Rattle.std.proofs.Common.{◌≡◌, ℕ, ◌+◌, ◌-◌, ◌<◌, false, List, length, Some, refl, sym, ap, ◌∙◌, arith, inl, inr}
+use Rattle.std.proofs.Common.{ℕ, ◌+◌, ◌-◌, ◌%◌, ◌^◌, ◌<◌, ◌≡◌, true, false, List, length, Some, refl, sym, ap, ◌∙◌, arith, inl, inr}
 use Rattle.mark_word.specs.declared.mark.MarkForm.TheVariants.{Locked, Inflated}
 use Rattle.mark_word.specs.declared.owner.OwnerForm.TheVariants.{Free, ByThread}
 use Rattle.mark_word.specs.declared.wait.WaitForm.TheVariants.{Ready, Entering, Ended, Notified}
-use Rattle.mark_word.specs.Mark.{mark_of}
+use Rattle.mark_word.specs.Mark.{mark_of, read_mark}
 use Rattle.mark_word.specs.Owner.{owner_of}
 use Rattle.mark_word.specs.Safe.{read_safe}
 use Rattle.mark_word.specs.Wait.{wait_of}
@@ -11,12 +11,12 @@ use Rattle.plain_monitor.specs.Objects.{PlainObject}
 use Rattle.core_world.specs.declared.act.Act.{Act}
 use Rattle.core_world.specs.declared.act.Act.TheVariants as act
 use Rattle.core_world.specs.declared.name.Name.{Name}
-use Rattle.core_world.specs.declared.name.Name.TheVariants.{Safepoint, Mark, Stamp, Hold, Displaced, Waiting, Length, Owner, Recursions, Header, Object, Claim}
+use Rattle.core_world.specs.declared.name.Name.TheVariants.{Safepoint, Mark, Stamp, Hold, Displaced, Waiting, Length, Owner, Recursions, Header, Object, Claim, End, Ring}
 use Rattle.core_world.specs.declared.plan.Own.{Own}
 use Rattle.core_world.specs.declared.plan.Own.TheVariants as own
 use Rattle.core_world.specs.declared.plan.StepPlan.{StepPlan}
 use Rattle.core_world.specs.declared.stage.Stage.{Stage}
-use Rattle.core_world.specs.declared.stage.Stage.TheVariants.{Calm, Seizes, Grabs, Resumes, Waits, TakesOver, Ahead, Behind, Inflates, Notifies}
+use Rattle.core_world.specs.declared.stage.Stage.TheVariants.{Takes, Calm, Seizes, Grabs, Resumes, Waits, TakesOver, Ahead, Behind, Inflates, Notifies}
 use Rattle.core_world.specs.Words.Acts.{word_after}
 use Rattle.core_world.specs.Threads.Counts.{CountedVerdict}
 use Rattle.core_world.specs.Words.Forms.{is_biased, is_biased_form}
@@ -26,8 +26,13 @@ use Rattle.core_world.specs.Looking.{IsLook}
 use Rattle.core_world.specs.Trees.Plans.{Purpose, quiet_plan, with_own, with_stage, next_stamp}
 use Rattle.core_world.specs.Trees.LockSteps.{displace_plan, seize_plan, clear_plan, raise_stamp_plan, store_ready_plan}
 use Rattle.core_world.specs.Trees.LookSteps.{keep_shot_plan}
-use Rattle.core_world.specs.Trees.MonitorSteps.{claim_plan, prepare_plan, inflate_plan, name_plan, name_neutral_plan, grab_plan, take_over_plan, raise_count_plan, lower_count_plan, reset_count_plan, store_entering_plan}
+use Rattle.core_world.specs.Trees.MonitorSteps.{claim_plan, fetch_plan, prepare_plan, inflate_plan, name_plan, name_neutral_plan, grab_plan, take_over_plan, raise_count_plan, lower_count_plan, reset_count_plan, store_entering_plan}
 use Rattle.core_world.specs.Trees.Operations.{store_ended_plan}
+use Rattle.core_world.specs.Trees.DeflateSteps.{unname_plan, clean_plan, enring_plan, advance_plan}
+use Rattle.core_world.specs.Words.Shape.{ring_places}
+use Rattle.core_world.specs.Words.Forms.{monitor_in, is_neutral}
+use Rattle.core_world.proofs.OwnersShown.{inflated_form}
+use Rattle.core_locks.specs.DeflationLaws.{MayUnname, MayClean, MayEnring, MayAdvance}
 use Rattle.core_world.specs.Trees.WaitSteps.{save_count_plan, drop_plan, quit_plan, regain_plan, restore_plan, wake_next_plan}
 use Rattle.core_world.specs.Trees.SafepointSteps.{publish_log_plan, stop_plan, resume_plan, request_plan, release_plan, halt_plan, all_but, running_too, requested_by, reached_word, released_word, halted_word}
 use Rattle.core_world.specs.Threads.Stages.{inflation_in, path_into}
@@ -38,12 +43,13 @@ use Rattle.core_world.proofs.Readings.{mark_zero}
 use Rattle.core_locks.specs.JournalLaws.{MayPublishLog, MayRaise, MayBeReady, MayStand, MayEnd}
 use Rattle.core_locks.specs.Knowing.{GoesOn}
 use Rattle.core_locks.specs.LockLaws.{MayDisplace, MaySeize, MayClear}
-use Rattle.core_locks.specs.MonitorLaws.{MayClaim, MayPrepare, MayPrepareOwner, MayPrepareObject, MayRaiseCount, MayLowerCount, MayResetCount, MayTakeOver, MayGrab, MayInflate, MayName, MayNameNeutral, MayDrop, MayQuit, MayRegain, MayRestore, MaySaveCount}
-use Rattle.core_locks.specs.SafepointLaws.{MayStop, MayResume, MayRequest, MayRelease, MayHalt}
+use Rattle.core_locks.specs.MonitorLaws.{MayClaim, MayFetch, MayPrepare, MayPrepareOwner, MayPrepareObject, MayRaiseCount, MayLowerCount, MayResetCount, MayTakeOver, MayGrab, MayInflate, MayName, MayNameNeutral, MayDrop, MayQuit, MayRegain, MayRestore, MaySaveCount}
+use Rattle.core_locks.specs.SafepointLaws.{MayReleaseTaking, MayStop, MayResume, MayRequest, MayRelease, MayHalt}
 use Rattle.core_locks.specs.ShotLaws.{MayKeepShot}
 use Rattle.core_locks.specs.WakeLaws.{MayWakeNext}
 use Rattle.core_locks.proofs.MarkMeanings.{neutral_bare, locked_bare, locked_read}
 use Rattle.core_locks.proofs.NamesLaws.{inflated_read}
+use Rattle.core_locks.proofs.SafeStops.{stopped_calm}
 use Rattle.core_law.specs.BiasLaw.{BiasLawHolds}
 use Rattle.core_counts.specs.Steps.{LeavesBiases, KeepsBiases}
 use Rattle.core_counts.proofs.Beside.{beside_keeps}
@@ -91,7 +97,37 @@ clears e o p w P t within may v law = quietly w t e (Hold t p) (act.Store 0) own
 
 -- MONITORS
 pub claims : (e : Purpose) → KeepsBiases (λ w t. MayClaim (w.known t) e) (λ w t. claim_plan e)
-claims e w P t within may v law = quietly w t e Claim act.Count own.Claim Calm (λ c. refl) may.goes_on (from (w.known t) Calm may.calm) (inl refl) law
+claims e w P t within may v law = quietly w t e Claim act.Count own.Position Calm (λ c. refl) may.goes_on (from (w.known t) Calm may.calm) (inl refl) law
+
+pub fetches : (e : Purpose) (p : ℕ) → KeepsBiases (λ w t. MayFetch (w.known t) e p) (λ w t. fetch_plan e w.shape p)
+fetches e p w P t within may v law = quietly w t e (Ring (p % ring_places w.shape)) act.Load own.Claim Calm (λ c. refl) may.goes_on (from (w.known t) Calm may.calm) (inl refl) law
+
+-- GIVING A MONITOR BACK
+pub unnames : (e : Purpose) (o m header : ℕ) → KeepsBiases (λ w t. MayUnname w.shape (w.known t) e o m header) (λ w t. unname_plan e (w.known t).stage o m header)
+unnames e o m header w P t within may v law =
+    let saw = may.inflated in
+    let named : monitor_in (marks w o) ≡ Some m = ap monitor_in (v.seen.stands t (Mark o) saw.0 may.stands.reached saw.1) ∙ saw.2 in
+    let neutral : is_neutral header ≡ true = ap is_neutral (sym (v.seen.stands t (Header m) header may.stands.reached may.its_header)) ∙ v.monitors.neutral o m named in
+    quietly w t e (Mark o) (act.Store header) (own.Unname m) (w.known t).stage (λ c. refl) may.stands.goes_on (λ i. refl)
+    (inr (inr (o, refl, ap is_biased_form (inflated_form (read_mark (marks w o)) m named), (neutral_bare header neutral).unbiased))) law
+
+pub cleans_owner : (e : Purpose) (m : ℕ) → KeepsBiases (λ w t. MayClean (w.known t) e m) (λ w t. clean_plan e (w.known t).stage (Owner m))
+cleans_owner e m w P t within may v law = quietly w t e (Owner m) (act.Store 0) own.Same (w.known t).stage (λ c. refl) may.stands.goes_on (λ i. refl) (inl refl) law
+
+pub cleans_recursions : (e : Purpose) (m : ℕ) → KeepsBiases (λ w t. MayClean (w.known t) e m) (λ w t. clean_plan e (w.known t).stage (Recursions m))
+cleans_recursions e m w P t within may v law = quietly w t e (Recursions m) (act.Store 0) own.Same (w.known t).stage (λ c. refl) may.stands.goes_on (λ i. refl) (inl refl) law
+
+pub cleans_header : (e : Purpose) (m : ℕ) → KeepsBiases (λ w t. MayClean (w.known t) e m) (λ w t. clean_plan e (w.known t).stage (Header m))
+cleans_header e m w P t within may v law = quietly w t e (Header m) (act.Store 0) own.Same (w.known t).stage (λ c. refl) may.stands.goes_on (λ i. refl) (inl refl) law
+
+pub cleans_object : (e : Purpose) (m : ℕ) → KeepsBiases (λ w t. MayClean (w.known t) e m) (λ w t. clean_plan e (w.known t).stage (Object m))
+cleans_object e m w P t within may v law = quietly w t e (Object m) (act.Store 0) own.Same (w.known t).stage (λ c. refl) may.stands.goes_on (λ i. refl) (inl refl) law
+
+pub enrings : (e : Purpose) (m end : ℕ) → KeepsBiases (λ w t. MayEnring (w.known t) e m end) (λ w t. enring_plan e (w.known t).stage w.shape end m)
+enrings e m end w P t within may v law = quietly w t e (Ring (end % ring_places w.shape)) (act.Store m) own.Same (w.known t).stage (λ c. refl) may.stands.goes_on (λ i. refl) (inl refl) law
+
+pub advances : (e : Purpose) (m end : ℕ) → KeepsBiases (λ w t. MayAdvance w.shape (w.known t) e m end) (λ w t. advance_plan e (w.known t).stage end)
+advances e m end w P t within may v law = quietly w t e End (act.Store ((end + 1) % 2 ^ 64)) own.Enring (w.known t).stage (λ c. refl) may.stands.goes_on (λ i. refl) (inl refl) law
 
 pub prepares_owner : (e : Purpose) (m word : ℕ) → KeepsBiases (λ w t. MayPrepareOwner w.shape (w.known t) e m word) (λ w t. prepare_plan e (w.known t).stage (Owner m) word)
 prepares_owner e m word w P t within may v law = quietly w t e (Owner m) (act.Store word) own.Same (w.known t).stage (λ c. refl) may.prepares.goes_on (λ i. refl) (inl refl) law
@@ -187,11 +223,15 @@ stops e w P t within may v law = quietly w t e Safepoint (act.Mask (all_but t)) 
 
 pub resumes : (e : Purpose) (word : ℕ) → KeepsBiases (λ w t. MayResume (w.known t) e word) (λ w t. resume_plan e t word)
 resumes e word w P t within may v law =
-    quietly w t e Safepoint (act.Swap word (running_too (read_safe word) t)) own.Same Calm (λ c. refl) (inl may.goes_on) (from (w.known t) Calm (v.quiet.quiet t may.stopped)) (inl refl) law
+    quietly w t e Safepoint (act.Swap word (running_too (read_safe word) t)) own.Same Calm (λ c. refl) (inl may.goes_on) (from (w.known t) Calm (stopped_calm w P t v may.stopped may.unasking)) (inl refl) law
 
 pub requests : (e : Purpose) (word : ℕ) → KeepsBiases (λ w t. MayRequest (w.known t) e word) (λ w t. request_plan e t word)
 requests e word w P t within may v law =
     quietly w t e Safepoint (act.Swap word (requested_by (read_safe word) t)) own.Same Calm (λ c. refl) may.goes_on (from (w.known t) Calm may.calm) (inl refl) law
+
+pub releases_taking : (e : Purpose) (o : ℕ) → KeepsBiases (λ w t. MayReleaseTaking (w.known t) e o) (λ w t. release_plan e (Takes o) t)
+releases_taking e o w P t within may v law =
+    quietly w t e Safepoint (act.Swap (reached_word t) (released_word t)) own.Same (Takes o) (λ c. refl) (inl may.goes_on) (from (w.known t) (Takes o) may.takes) (inl refl) law
 
 pub releases : (e : Purpose) → KeepsBiases (λ w t. MayRelease (w.known t) e) (λ w t. release_plan e Calm t)
 releases e w P t within may v law =

@@ -34,9 +34,10 @@ use Rattle.core_world.proofs.KnowledgeParts.{with_known_here, with_known_else}
 use Rattle.core_counts.proofs.Walks.{revokes_gently, verdict_of}
 use Rattle.core_counts.proofs.Whole.{revocation_law, fewer_revoked, revoked_here, bulk_revokes}
 use Rattle.core_counts.proofs.Leaning.{leans_by_mark}
-
 -- The world w is in the middle of a revocation, all of whose stores are made; its requester releases, and then knows l. What its object's mark
 -- was before the first store, the first premise says, and what it is now the last but one.
+use Rattle.core_world.proofs.NoWordChanges.{one_requester}
+
 module _ (w : World) (P : List PlainObject) (s : IsRevoking w P) (leaner : ℕ) (leant : lock s.before s.revocation.object ≡ BiasedTo leaner) (law : BiasLawHolds s.before) (over : s.rest ≡ [])
     (l : Known) (word : ℕ) (took : Bool) (same_log : l.log ≡ (s.before.known s.requester).log) (same_counts : l.counts ≡ (w.known s.requester).counts) (same_unfinished : l.unfinished ≡ (w.known s.requester).unfinished)
     (stage_now : l.stage ≡ stage_after took s.revocation.object) (within : s.requester < s.before.shape.threads) (class_within : class_of s.before.shape s.revocation.object < s.before.shape.classes)
@@ -73,7 +74,10 @@ module _ (w : World) (P : List PlainObject) (s : IsRevoking w P) (leaner : ℕ) 
 
   -- nobody runs before, so all threads are in the middle of nothing
   calm : (u : ℕ) → (b.known u).stage ≡ Calm
-  calm u = s.fits.quiet.quiet u ((s.fits.safe.safepoint t s.reached).1 u)
+  calm u = elim (s.fits.quiet.quiet u ((s.fits.safe.safepoint t s.reached).1 u)) [
+    | inl a ↦ a
+    | inr a ↦ (let same : u ≡ t = one_requester b P s.fits.safe u t (s.fits.safe.safepoint u a.0).0 (s.fits.safe.safepoint t s.reached).0 in ap (λ y. (b.known y).stage) same ∙ s.was_calm)
+  ]
 
   into_none : (u i : ℕ) → path_into (b.known u).stage i ≡ None
   into_none u i = ap (λ g. path_into g i) (calm u)

@@ -33,13 +33,13 @@ use Rattle.core_counts.proofs.Leaning.{LeansTo, leans, still_leans}
 use Rattle.core_counts.proofs.Releases.{released}
 
 -- each object is of one of the classes
-class_within : (xs : List (ℕ × ℕ)) (n o : ℕ) → AllByRecursion (λ x. (x.0 < n) × (x.1 ≤ 16)) xs → o < length xs → (slice_index_or xs o (0, 0)).0 < n
+pub class_within : (xs : List (ℕ × ℕ)) (n o : ℕ) → AllByRecursion (λ x. (x.0 < n) × (x.1 ≤ 16)) xs → o < length xs → (slice_index_or xs o (0, 0)).0 < n
 class_within [] n o h l = absurd (omega (arith, l))
 class_within (x ∷ xs) n zero h l = h.0.0
 class_within (x ∷ xs) n (suc o) h l = class_within xs n o h.1 (omega (arith, l))
 
 -- the same logs, one by one and as a list
-logs_same : (f g : ℕ → Known) (u n : ℕ) → ((v : ℕ) → (f v).log ≡ (g v).log) → logs_from u n f ≡ logs_from u n g
+pub logs_same : (f g : ℕ → Known) (u n : ℕ) → ((v : ℕ) → (f v).log ≡ (g v).log) → logs_from u n f ≡ logs_from u n g
 logs_same f g u zero h = refl
 logs_same f g u (suc n) h = λ i. h u i ∷ logs_same f g (u + 1) n h i
 

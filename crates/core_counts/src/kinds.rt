@@ -16,7 +16,7 @@ ghost use Rattle.core_world.specs.Trees.Plans.{Purpose, next_stamp};
 ghost use Rattle.core_world.specs.Trees.HashSteps.{NextDraw, find_hash_plan, draw_plan};
 ghost use Rattle.core_world.specs.Trees.LockSteps.{displace_plan, seize_plan, clear_plan, raise_stamp_plan, store_ready_plan, leave_plan, let_go_plan};
 ghost use Rattle.core_world.specs.Trees.LookSteps.{keep_shot_plan};
-ghost use Rattle.core_world.specs.Trees.MonitorSteps.{claim_plan, prepare_plan, inflate_plan, name_plan, name_neutral_plan, grab_plan, take_over_plan, raise_count_plan, lower_count_plan, reset_count_plan, store_entering_plan, free_plan};
+ghost use Rattle.core_world.specs.Trees.MonitorSteps.{claim_plan, fetch_plan, prepare_plan, inflate_plan, name_plan, name_neutral_plan, grab_plan, take_over_plan, raise_count_plan, lower_count_plan, reset_count_plan, store_entering_plan, free_plan};
 ghost use Rattle.core_world.specs.Trees.Operations.{store_ended_plan, get_plan, put_plan};
 ghost use Rattle.core_world.specs.Trees.WaitSteps.{save_count_plan, drop_plan, quit_plan, regain_plan, restore_plan, wake_next_plan, log_wait_plan, log_resume_plan, publish_plan, notify_plan, notify_all_plan};
 ghost use Rattle.core_world.specs.Trees.SafepointSteps.{publish_log_plan, stop_plan, resume_plan, request_plan, release_plan, halt_plan};
@@ -25,10 +25,13 @@ ghost use Rattle.core_world.specs.World.{World};
 ghost use Rattle.core_locks.specs.HashLaws.{MayFind, MayFindInRecord, MayFindInMonitor, MayDrawInMark, MayDrawInMonitor};
 ghost use Rattle.core_locks.specs.JournalLaws.{MayGet, MayPublishLog, MayLogResume, MayRaise, MayPut, MayBeReady, MayStand, MayEnd, MayWait, MayPublish};
 ghost use Rattle.core_locks.specs.LockLaws.{MayDisplace, MaySeize, MayLeave, MayClear, MayLetGo};
-ghost use Rattle.core_locks.specs.MonitorLaws.{MaySaveCount, MayClaim, MayPrepare, MayPrepareOwner, MayPrepareObject, MayRaiseCount, MayLowerCount, MayResetCount, MayTakeOver, MayGrab, MayInflate, MayName, MayNameNeutral, MayFree, MayDrop, MayQuit, MayRegain, MayRestore};
-ghost use Rattle.core_locks.specs.SafepointLaws.{MayStop, MayResume, MayRequest, MayRelease, MayHalt};
+ghost use Rattle.core_locks.specs.MonitorLaws.{MayFetch, MaySaveCount, MayClaim, MayPrepare, MayPrepareOwner, MayPrepareObject, MayRaiseCount, MayLowerCount, MayResetCount, MayTakeOver, MayGrab, MayInflate, MayName, MayNameNeutral, MayFree, MayDrop, MayQuit, MayRegain, MayRestore};
+ghost use Rattle.core_locks.specs.SafepointLaws.{MayStop, MayResume, MayRequest, MayRelease, MayReleaseTaking, MayHalt};
 ghost use Rattle.core_locks.specs.ShotLaws.{MayKeepShot};
 ghost use Rattle.core_locks.specs.WakeLaws.{MayWakeNext, MayNotify, MayNotifyAll};
+ghost use Rattle.core_world.specs.Trees.DeflateSteps.{unname_plan, clean_plan, enring_plan, advance_plan};
+ghost use Rattle.core_locks.specs.DeflationLaws.{MayUnname, MayClean, MayEnring, MayAdvance};
+ghost use Rattle.core_world.specs.declared.stage.Stage.TheVariants.{Takes};
 ghost use Rattle.core_law.specs.BiasLaw.{BiasLawHolds};
 ghost use Rattle.core_counts.specs.Steps.{SawNone, KeepsBiases};
 
@@ -48,9 +51,10 @@ pub fn steps_of_lock_records_keep_the_law_of_biases()
         (λ w t. clear_plan e t p) }
 {}
 
-/// The steps on words of monitors: claiming one, preparing its words, and naming it in a mark.
+/// The steps on words of monitors: claiming a position of the ring and loading the monitor there, preparing its words, and naming it in a mark.
 pub fn making_a_monitor_keeps_the_law_of_biases()
     ensures claimed { (e : Purpose) → KeepsBiases (λ w t. MayClaim (w.known t) e) (λ w t. claim_plan e) }
+    ensures fetched { (e : Purpose) (p : ℕ) → KeepsBiases (λ w t. MayFetch (w.known t) e p) (λ w t. fetch_plan e w.shape p) }
     ensures owner { (e : Purpose) (m word : ℕ) → KeepsBiases
         (λ w t. MayPrepareOwner w.shape (w.known t) e m word)
         (λ w t. prepare_plan e (w.known t).stage (Owner m) word) }
@@ -69,6 +73,28 @@ pub fn making_a_monitor_keeps_the_law_of_biases()
     ensures named_neutral { (e : Purpose) (o mark m : ℕ)
         → KeepsBiases (λ w t. MayNameNeutral w.shape (w.known t) e o mark m)
         (λ w t. name_neutral_plan e o mark m) }
+{}
+
+/// The steps that give an idle monitor back at a reached safepoint, and the release after them of a thread that gave itself a bias there.
+pub fn giving_a_monitor_back_keeps_the_law_of_biases()
+    ensures unnamed { (e : Purpose) (o m header : ℕ) → KeepsBiases
+        (λ w t. MayUnname w.shape (w.known t) e o m header)
+        (λ w t. unname_plan e (w.known t).stage o m header) }
+    ensures owner { (e : Purpose) (m : ℕ)
+        → KeepsBiases (λ w t. MayClean (w.known t) e m) (λ w t. clean_plan e (w.known t).stage (Owner m)) }
+    ensures recursions { (e : Purpose) (m : ℕ)
+        → KeepsBiases (λ w t. MayClean (w.known t) e m) (λ w t. clean_plan e (w.known t).stage (Recursions m)) }
+    ensures header { (e : Purpose) (m : ℕ)
+        → KeepsBiases (λ w t. MayClean (w.known t) e m) (λ w t. clean_plan e (w.known t).stage (Header m)) }
+    ensures object { (e : Purpose) (m : ℕ)
+        → KeepsBiases (λ w t. MayClean (w.known t) e m) (λ w t. clean_plan e (w.known t).stage (Object m)) }
+    ensures enringed { (e : Purpose) (m end : ℕ) → KeepsBiases (λ w t. MayEnring (w.known t) e m end)
+        (λ w t. enring_plan e (w.known t).stage w.shape end m) }
+    ensures advanced { (e : Purpose) (m end : ℕ) → KeepsBiases
+        (λ w t. MayAdvance w.shape (w.known t) e m end)
+        (λ w t. advance_plan e (w.known t).stage end) }
+    ensures released { (e : Purpose) (o : ℕ) → KeepsBiases (λ w t. MayReleaseTaking (w.known t) e o)
+        (λ w t. release_plan e (Takes o) t) }
 {}
 
 /// The steps that own a monitor and count its recursions.

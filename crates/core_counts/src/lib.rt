@@ -9,10 +9,11 @@ mod runs;
 mod steps;
 
 pub use kinds::{
-    a_look_keeps_the_law_of_biases, hashing_keeps_the_law_of_biases,
-    logging_keeps_the_law_of_biases, making_a_monitor_keeps_the_law_of_biases,
-    owning_a_monitor_keeps_the_law_of_biases, steps_of_lock_records_keep_the_law_of_biases,
-    steps_of_the_journal_keep_the_law_of_biases, steps_of_the_safepoint_keep_the_law_of_biases,
+    a_look_keeps_the_law_of_biases, giving_a_monitor_back_keeps_the_law_of_biases,
+    hashing_keeps_the_law_of_biases, logging_keeps_the_law_of_biases,
+    making_a_monitor_keeps_the_law_of_biases, owning_a_monitor_keeps_the_law_of_biases,
+    steps_of_lock_records_keep_the_law_of_biases, steps_of_the_journal_keep_the_law_of_biases,
+    steps_of_the_safepoint_keep_the_law_of_biases,
 };
 pub use laws::{
     a_counted_verdict_fits, a_logged_entry_keeps_enters_and_marks,

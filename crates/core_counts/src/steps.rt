@@ -21,6 +21,7 @@ ghost use Rattle.core_world.specs.Valid.{Fits, IsRevoking};
 ghost use Rattle.core_world.specs.World.{World, with_word_and_known};
 ghost use Rattle.core_locks.specs.JournalLaws.{MayLogEnter};
 ghost use Rattle.core_world.specs.Trees.LockSteps.{hold_plan};
+ghost use Rattle.core_world.specs.Trees.Plans.{load_plan};
 ghost use Rattle.core_law.specs.BiasLaw.{BiasLawHolds};
 ghost use Rattle.core_counts.specs.Steps.{LeavesBiases, IsBeside, MayComeBy, MayTakeBias, MayDropBias, LogsBeside, LeavesObject, MayEndRevocation};
 
@@ -88,11 +89,15 @@ pub fn a_revocation_leaves_no_bias_or_its_own()
         → LeavesObject w s.requester s.revocation.object (is_biased (marks w s.revocation.object)) }
 {}
 
-/// The release that ends a revocation, all of whose stores are made: where the law of biases held of the world before the first store, it
-/// holds of the world after the release, with the verdict counted.
+/// The release that ends a revocation, all of whose stores are made, or a load at the same safepoint that does: where the law of biases held of the
+/// world before the first store, it holds of the world after that step, with the verdict counted.
 pub fn ending_a_revocation_keeps_the_law_of_biases()
-    ensures { (w : World) (objects : List PlainObject) (s : IsRevoking w objects) (e : Purpose) (took : Bool)
+    ensures released { (w : World) (objects : List PlainObject) (s : IsRevoking w objects) (e : Purpose) (took : Bool)
         → MayEndRevocation w objects s e took
         → BiasLawHolds s.before → BiasLawHolds
         (world_after (release_plan e (stage_after took s.revocation.object) s.requester) s.requester w) }
+    ensures looked { (w : World) (objects : List PlainObject) (s : IsRevoking w objects) (e : Purpose) (took : Bool) (at : Name)
+        → MayEndRevocation w objects s e took
+        → BiasLawHolds s.before → BiasLawHolds
+        (world_after (load_plan e (stage_after took s.revocation.object) at) s.requester w) }
 {}

@@ -1,5 +1,5 @@
 -- The clauses of a valid world by name, over the parts that they read. A step shows those that it touches, and all others by what they were.
-use Rattle.core_locks.proofs.Prelude.{◌≡◌, ℕ, zero, suc, ◌+◌, ◌≤◌, Bool, List, ◌∷◌, length, Option, Some, refl, ◌∙◌, read_mark, PlainMonitor, PlainObject, Logged, objects_after, LegalObjects, Value, Safepoint, Prototype, Stamp, Slot, Hold, Waiting, Length, Recursions, Object, Claim, Revocations, LastBulk, is_halted, Inflation, inflation_in, hold_words_ahead, Known, World, logs, logs_from, Lock, lock, lock_form, header, marks, displaced_words, headers, owner_words, prototype_of, inflations, holder, hold_count, holds_by_monitor, object_of, monitor_of, owner_at, hash_at, waits_at, notified_at, inflated_to, inflation_of, SeenStays, HoldsFitLogs, RecordsRest, RecursionsFit, Fits, WaitsFit, ends, StoppedAreQuiet, SafepointIsKnown, StampsFit, LocksArePlain, BiasedAreFree, LengthsFit, InflationsAreOne, DrawsFit, MonitorsAreClaimed, first_known, HashesFit, SlotsFit, ClassesFit, bulk_rebiases, bulk_revokes, IsInLimits, WordsHaveForms, MonitorsAreNamed, ShotsFit}
+use Rattle.core_locks.proofs.Prelude.{◌≡◌, ℕ, zero, suc, ◌+◌, ◌≤◌, Bool, List, ◌∷◌, length, Option, Some, refl, ◌∙◌, read_mark, PlainMonitor, PlainObject, Logged, objects_after, LegalObjects, Value, Safepoint, Prototype, Stamp, Slot, Hold, Waiting, Length, Recursions, Object, Claim, Revocations, LastBulk, is_halted, Inflation, inflation_in, hold_words_ahead, Known, World, logs, logs_from, Lock, lock, lock_form, header, marks, displaced_words, headers, owner_words, prototype_of, inflations, holder, hold_count, holds_by_monitor, object_of, monitor_of, owner_at, hash_at, waits_at, notified_at, inflated_to, inflation_of, SeenStays, HoldsFitLogs, RecordsRest, RecursionsFit, Fits, WaitsFit, ends, StoppedAreQuiet, SafepointIsKnown, StampsFit, LocksArePlain, BiasedAreFree, LengthsFit, InflationsAreOne, DrawsFit, MonitorsAreClaimed, first_known, HashesFit, SlotsFit, ClassesFit, bulk_rebiases, bulk_revokes, IsInLimits, WordsHaveForms, MonitorsAreNamed, ShotsFit, End, Ring, MovesFit, monitor_count, ring_bits}
 
 -- what the clauses read: the world, what is made of its words and stages, and the plain objects
 pub record Parts : Type 0 where
@@ -40,7 +40,7 @@ parts_of w objects = record {
 
 pub data Clause : Type 0 where
   limits legal taken sized numbered absent seen forms safe quiet holds owners biases : Clause
-  records inflating monitors recursions hashes draws slots waits stamps lengths claims classes shots : Clause
+  records inflating monitors recursions hashes draws slots waits stamps lengths claims moves classes shots : Clause
 
 -- what a clause says of these parts
 abbrev pub Holds : Parts → Clause → Type 0
@@ -56,7 +56,7 @@ Holds p forms =
 Holds p safe =
     SafepointIsKnown p.world.shape.threads (p.world.words Safepoint) (λ t. (p.world.known t).running) (λ t. (p.world.known t).requesting) (λ t. (p.world.known t).reached)
     (λ t. (p.world.known t).halted) (λ t. ends (p.world.known t).log) (λ t. (p.world.known t).unfinished) p.monitors
-Holds p quiet = StoppedAreQuiet (λ t. (p.world.known t).running) (λ t. (p.world.known t).stage)
+Holds p quiet = StoppedAreQuiet (λ t. (p.world.known t).running) (λ t. (p.world.known t).reached) (λ t. (p.world.known t).stage)
 Holds p holds = HoldsFitLogs (λ t q. p.world.words (Hold t q)) (λ t. (p.world.known t).holds) (λ t o. hold_words_ahead (p.world.known t).stage o) p.stands
 Holds p owners = LocksArePlain (λ o. holder (p.lock o) (λ t. hold_count o (p.world.known t).holds)) (λ t. (p.world.known t).stage) p.owner
 Holds p biases = BiasedAreFree (marks p.world) p.lock (λ t. (p.world.known t).holds) p.hash p.waits p.called
@@ -76,7 +76,10 @@ Holds p stamps = StampsFit p.logs (λ t. (p.world.known t).log) (λ o. p.world.w
 Holds p lengths =
     LengthsFit (λ t. p.world.words (Length t)) (λ t. (p.world.known t).published) (λ t. (p.world.known t).log) (λ t. (p.world.known t).running)
     (λ t. (p.world.known t).requesting) (is_halted (p.world.words Safepoint))
-Holds p claims = MonitorsAreClaimed p.world.shape.threads (length p.world.shape.objects) (p.world.words Claim) p.inflated (λ t. (p.world.known t).kept)
+Holds p claims =
+    MonitorsAreClaimed p.world.shape.threads (length p.world.shape.objects) (monitor_count p.world.shape) (ring_bits p.world.shape) (p.world.words Claim) (p.world.words End)
+    (λ q. p.world.words (Ring q)) p.inflated (λ t. (p.world.known t).kept) (λ t. (p.world.known t).moving)
+Holds p moves = MovesFit (λ t. (p.world.known t).running) (λ t. (p.world.known t).reached) (λ t. (p.world.known t).moving)
 Holds p classes =
     ClassesFit p.world.biasing (λ c. p.world.words (Prototype c)) (λ c. p.world.words (Revocations c)) (λ c. p.world.words (LastBulk c)) (marks p.world)
     (bulk_rebiases p.world.shape.threads (λ t. (p.world.known t).counts)) (bulk_revokes p.world.shape.threads (λ t. (p.world.known t).counts))
@@ -115,6 +118,7 @@ fits w objects h = record {
   stamps = h stamps;
   lengths = h lengths;
   claims = h claims;
+  moves = h moves;
   classes = h classes;
   shots = h shots;
 }

@@ -8,6 +8,7 @@ use Rattle.core_locks.proofs.Tells.{told_parts, told_are, told_step}
 use Rattle.core_locks.proofs.MarkMeanings.{each_set}
 use Rattle.core_locks.proofs.OwnSeen.{own_seen}
 use Rattle.core_locks.proofs.Steps.{telling, IsStep, next, step_fits, seen_next}
+use Rattle.core_locks.proofs.Places.{kept_apart}
 
 -- an object's header is that in its monitor, or in no monitor
 header_by_monitor : (f : Option MarkForm) (mark : ℕ) (d : ℕ → ℕ → ℕ) (a b : ℕ → ℕ) (inflation : Option Inflation) → ((n : ℕ) → monitor_form f ≡ Some n → a n ≡ b n)
@@ -65,7 +66,7 @@ module _ (w : World) (P : List PlainObject) (t : ℕ) (e : Purpose) (draw : Next
 
   -- no other thread counts on the header of a monitor that a mark names
   uncounted : (u s : ℕ) → u ≢ t → Stays w (w.known u) (owner_at P) u (Header m) s → w.words (Header m) ≡ s → ⊥
-  uncounted u s d (inl a) is = v.claims.apart u o m a.1 named
+  uncounted u s d (inl a) is = kept_apart v.claims u o m a.1 named
   uncounted u s d (inr a) is = a.2
 
   seen_law : SeenFit x P

@@ -161,7 +161,7 @@ module _ {w : World} {t : ℕ} {l : Known} {fields : Fields} (step : IsStep w t 
       drawn = draws_still w P Q t y l v logging_it (omega (arith, a.draws)) refl
 
       abbrev pub Last : Clause → Type 0
-      Last quiet = StoppedAreQuiet (λ u. (w.known u).running) (λ u. (with_known t l w.known u).stage)
+      Last quiet = StoppedAreQuiet (λ u. (w.known u).running) (λ u. (w.known u).reached) (λ u. (with_known t l w.known u).stage)
       Last holds = HoldsFitLogs (λ u q. w.words (Hold u q)) (λ u. (w.known u).holds) (λ u i. hold_words_ahead (with_known t l w.known u).stage i) (λ i u. holds_by_monitor (monitor_of Q i) u)
       Last owners = LocksArePlain (λ i. holder (locks i) (λ u. hold_count i (w.known u).holds)) (λ u. (with_known t l w.known u).stage) (owner_at Q)
       Last records = RecordsRest locks (λ u. (w.known u).holds) (λ u. (with_known t l w.known u).stage) (displaced_words w)

@@ -57,8 +57,15 @@ pub mod OwnSeen
 pub mod ByThread
 pub mod HoldSets
 pub mod HoldLaw
+pub mod Places
 pub mod MonitorSeen
 pub mod Claims
+pub mod Fetches
+pub mod Standing
+pub mod Unnames
+pub mod Cleans
+pub mod Enrings
+pub mod Advances
 pub mod Prepares
 pub mod EvenSteps
 pub mod Counting

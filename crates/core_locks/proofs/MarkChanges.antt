@@ -1,6 +1,6 @@
 -- The mark of one object changes: what stays of marks, locks and headers, which clauses read of marks only what stays, and that the other
 -- threads don't count on the mark that was there.
-use Rattle.core_locks.proofs.Prelude.{◌≡◌, ◌≢◌, ◌⊎◌, ℕ, ◌||◌, eq-eqb, ne_eqb, Bool, true, false, cond, List, [], Option, Some, None, refl, sym, ap, ◌∙◌, subst, inl, inr, read_mark, Logged, Mark, Stage, is_biased, monitor_in, Inflation, inflation_in, bears, revocation_in, Known, World, with_word_and_known, with_known, Lock, BiasedTo, OwnedBy, lock, lock_form, header, header_form, marks, displaced_words, headers, owner_words, prototype_of, inflations, IsValidBias, RecursionsFit, GoesByMonitor, WaitsFit, BiasedAreFree, InflationsAreOne, MonitorsAreClaimed, ClassesFit, Unfinished, MonitorsAreNamed, by_equal, stays_back, Back, Spares}
+use Rattle.core_locks.proofs.Prelude.{◌≡◌, ◌≢◌, ◌⊎◌, ℕ, ◌||◌, eq-eqb, ne_eqb, Bool, true, false, cond, List, [], Option, Some, None, refl, sym, ap, ◌∙◌, subst, inl, inr, read_mark, Logged, Mark, Stage, is_biased, monitor_in, Inflation, inflation_in, bears, revocation_in, Known, World, with_word_and_known, with_known, Lock, BiasedTo, OwnedBy, lock, lock_form, header, header_form, marks, displaced_words, headers, owner_words, prototype_of, inflations, IsValidBias, RecursionsFit, GoesByMonitor, WaitsFit, BiasedAreFree, InflationsAreOne, MonitorsAreClaimed, ClassesFit, Unfinished, MonitorsAreNamed, by_equal, stays_back, Back, Spares, Moving}
 use Rattle.core_locks.proofs.OwnSeen.{either}
 use Rattle.core_locks.proofs.MarkMeanings.{each_set, IsBare, bare_unnamed, bare_unbiased}
 
@@ -15,8 +15,9 @@ module _ (f g : ℕ → ℕ) (same : (i : ℕ) → monitor_in (f i) ≡ monitor_
   pub monitors_by_marks : (object header : ℕ → ℕ) → MonitorsAreNamed (λ i. monitor_in (f i)) object header → MonitorsAreNamed (λ i. monitor_in (g i)) object header
   monitors_by_marks object header = subst (λ n. MonitorsAreNamed n object header) named
 
-  pub claims_by_marks : (threads objects claim : ℕ) (kept : ℕ → Option ℕ) → MonitorsAreClaimed threads objects claim (λ i. monitor_in (f i)) kept → MonitorsAreClaimed threads objects claim (λ i. monitor_in (g i)) kept
-  claims_by_marks threads objects claim kept = subst (λ n. MonitorsAreClaimed threads objects claim n kept) named
+  pub claims_by_marks : (threads objects monitors bits claim end : ℕ) (ring : ℕ → ℕ) (kept : ℕ → Option ℕ) (moving : ℕ → Moving) → MonitorsAreClaimed threads objects monitors bits claim end ring (λ i. monitor_in (f i)) kept moving
+      → MonitorsAreClaimed threads objects monitors bits claim end ring (λ i. monitor_in (g i)) kept moving
+  claims_by_marks threads objects monitors bits claim end ring kept moving = subst (λ n. MonitorsAreClaimed threads objects monitors bits claim end ring n kept moving) named
 
   pub waits_by_marks : (wait own : ℕ → ℕ) (log : ℕ → List Logged) (stage : ℕ → Stage) (operation : ℕ → Option Unfinished) (running : ℕ → Bool) (waits called : ℕ → List (ℕ × ℕ))
       → WaitsFit (λ i. monitor_in (f i)) wait own log stage operation running waits called → WaitsFit (λ i. monitor_in (g i)) wait own log stage operation running waits called

@@ -1,7 +1,8 @@
 -- What the threads have seen stays when a running thread makes a step that logs nothing: what it counts on afterwards, and what the others count on.
-use Rattle.core_locks.proofs.Prelude.{◌≡◌, ◌≢◌, ◌⊎◌, ℕ, ◌||◌, Bool, true, false, List, [], ◌∷◌, Some, None, refl, sym, ap, ◌∙◌, subst, inl, inr, read_mark, is_thread, PlainObject, Name, Safepoint, Prototype, Mark, Stamp, Slot, Hold, Displaced, Waiting, Length, Owner, Recursions, Header, Object, Claim, Revocations, LastBulk, StepPlan, is_biased, monitor_in, waits_on, Inflation, inflation_in, bears, revocation_in, word_after, same_name, its_monitor, Known, last_seen, World, marks, prototype_of, who, owner_at, waits_at, Stays, IsKeptOrNamed, IsValidBias, IsOwnMonitor, StaysWhileRunning, StaysWhileAsking, seen_before, Fits, SeenFit, IsOfMonitor, seen_is_part, stays_back, Spares, seen_moves, Counts}
+use Rattle.core_locks.proofs.Prelude.{◌≡◌, ◌≢◌, ◌⊎◌, ℕ, ◌||◌, Bool, true, false, List, [], ◌∷◌, Some, None, refl, sym, ap, ◌∙◌, subst, inl, inr, read_mark, is_thread, PlainObject, Name, Safepoint, Prototype, Mark, Stamp, Slot, Hold, Displaced, Waiting, Length, Owner, Recursions, Header, Object, Claim, Revocations, LastBulk, StepPlan, is_biased, monitor_in, waits_on, Inflation, inflation_in, bears, revocation_in, word_after, same_name, its_monitor, Known, last_seen, World, marks, prototype_of, who, owner_at, waits_at, Stays, IsKeptOrNamed, IsValidBias, IsOwnMonitor, StaysWhileRunning, StaysWhileAsking, seen_before, Fits, SeenFit, IsOfMonitor, seen_is_part, stays_back, Spares, seen_moves, Counts, End, Ring}
 use Rattle.core_locks.proofs.OwnSeen.{left_with, hit_world, back_by}
 use Rattle.core_locks.proofs.Steps.{none_reached}
+use Rattle.core_locks.proofs.Places.{kept_once, kept_apart}
 
 pub record Seeing (w : World) (P : List PlainObject) (t : ℕ) (p : StepPlan) : Type 0 where
   pub runs : (w.known t).running ≡ true
@@ -91,6 +92,8 @@ stays_nearly {w} {x} {k} {y} {owner} {u} besides b n s (inr h) = inl (inr (b.ask
     by_name (Header i) g = g
     by_name (Object i) g = g
     by_name Claim g = g
+    by_name End g = g
+    by_name (Ring i) g = g
 stays_nearly {w} {x} {k} {y} {owner} {u} besides b n s (inl h) = by_name n h.1
   where
     is : (n : Name) → StaysWhileRunning w k owner u n s → Stays w k owner u n s ⊎ besides n
@@ -119,6 +122,8 @@ stays_nearly {w} {x} {k} {y} {owner} {u} besides b n s (inl h) = by_name n h.1
     by_name (Header a) g = elim (b.kept a g) [ inl c ↦ is (Header a) c | inr c ↦ inr c.2 ]
     by_name (Object a) g = elim (b.kept a g) [ inl c ↦ is (Object a) c | inr c ↦ inr c.3 ]
     by_name Claim g = is Claim g
+    by_name End g = is End g
+    by_name (Ring i) g = is (Ring i) g
 
 -- a thread that comes to keep a monitor counts on its words besides
 pub stays_kept : (w : World) (k : Known) (owner : ℕ → ℕ → Bool) (u c : ℕ) (n : Name) (s : ℕ) → Stays w (record k { kept = Some c }) owner u n s → Stays w k owner u n s ⊎ (its_monitor n ≡ Some c)
@@ -149,15 +154,15 @@ monitor_word_counts w k owner u m n s is (inr h) = absurd (by_name n is h.2)
 -- nobody else counts on a word of the monitor that the thread keeps
 pub uncounted_kept : (w : World) (P : List PlainObject) (t m : ℕ) → Fits w P → (w.known t).kept ≡ Some m → (n : Name) (u s : ℕ) → its_monitor n ≡ Some m → u ≢ t → Stays w (w.known u) (owner_at P) u n s → ⊥
 uncounted_kept w P t m v kept n u s is d h = elim (monitor_word_counts w (w.known u) (owner_at P) u m n s is h) [
-  | inl a ↦ d (v.claims.once u t m a kept)
-  | inr a ↦ v.claims.apart t a.0 m kept a.1
+  | inl a ↦ d (kept_once v.claims u t m a kept)
+  | inr a ↦ kept_apart v.claims t a.0 m kept a.1
 ]
 
 -- nor does one who hasn't the lock on a word of the monitor that its mark names
 pub uncounted_named : (w : World) (P : List PlainObject) (o m u : ℕ) → Fits w P → monitor_in (marks w o) ≡ Some m → is_thread (who w o) u ≡ false → (n : Name) (s : ℕ) → its_monitor n ≡ Some m
     → Stays w (w.known u) (owner_at P) u n s → ⊥
 uncounted_named w P o m u v named none n s is h = elim (monitor_word_counts w (w.known u) (owner_at P) u m n s is h) [
-  | inl a ↦ v.claims.apart u o m a named
+  | inl a ↦ kept_apart v.claims u o m a named
   | inr a ↦
       let same : a.0 ≡ o = v.monitors.alone a.0 o m a.1 named in
       let has : is_thread (who w o) u ≡ true = v.owners.same o u ∙ ap (λ i. owner_at P i u || bears (w.known u).stage i) (sym same) ∙ a.2 in

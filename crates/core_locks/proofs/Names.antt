@@ -1,9 +1,10 @@
 -- A thread makes the mark of an object name the monitor that it keeps, which is ready for it: by the store that ends an inflation, or by an exchange
 -- of a neutral mark.
-use Rattle.core_locks.proofs.Prelude.{◌≡◌, ◌≢◌, ◌⊎◌, ℕ, ◌+◌, ◌<◌, ◌||◌, Bool, true, false, List, length, Option, Some, None, refl, sym, ap, ◌∙◌, subst, arith, inl, inr, same_Some, MarkForm, read_mark, Inflated, Biased, is_listed, PlainObject, Name, Mark, Waiting, Owner, Recursions, Object, Claim, StepPlan, Calm, Resumes, Waits, TakesOver, is_biased, is_neutral, monitor_in, enters_on, is_biased_form, monitor_form, Inflation, inflation_in, bears, recursions_ahead, recursions_behind, revocation_in, word_after, its_monitor, Known, last_seen, World, with_known, OwnedBy, lock, header, marks, displaced_words, headers, prototype_of, inflations, recursion_count, owner_at, waits_at, notified_at, inflated_to, Stays, IsValidBias, InMiddleOf, RecursionsFit, Purpose, quiet_plan, with_own, Fits, SeenFit, IsUnfinished, InflationsAreOne, MonitorsAreClaimed, monitor_count, IsMark, Act, by_equal, each_with_known, with_known_here, GoesOn, IsReady}
+use Rattle.core_locks.proofs.Prelude.{◌≡◌, ◌≢◌, ◌⊎◌, ℕ, ◌+◌, ◌<◌, ◌||◌, Bool, true, false, List, length, Option, Some, None, refl, sym, ap, ◌∙◌, subst, arith, inl, inr, same_Some, MarkForm, read_mark, Inflated, Biased, is_listed, PlainObject, Name, Mark, Waiting, Owner, Recursions, Object, Claim, StepPlan, Calm, Resumes, Waits, TakesOver, is_biased, is_neutral, monitor_in, enters_on, is_biased_form, monitor_form, Inflation, inflation_in, bears, recursions_ahead, recursions_behind, revocation_in, word_after, its_monitor, Known, last_seen, World, with_known, OwnedBy, lock, header, marks, displaced_words, headers, prototype_of, inflations, recursion_count, owner_at, waits_at, notified_at, inflated_to, Stays, IsValidBias, InMiddleOf, RecursionsFit, Purpose, quiet_plan, with_own, Fits, SeenFit, IsUnfinished, InflationsAreOne, MonitorsAreClaimed, monitor_count, IsMark, Act, by_equal, each_with_known, with_known_here, GoesOn, IsReady, ◌==◌, ◌%◌, ◌^◌, cond, eq-eqb, ne_eqb, is_some, End, Ring, Moving, Still, Fetches, Returns, ring_bits}
 use Rattle.core_world.specs.declared.plan.Own.TheVariants as own
 use Rattle.core_world.specs.declared.task.Op.TheVariants as op
-use Rattle.core_world.proofs.MonitorCounts.{with_most, with_more}
+use Rattle.core_world.specs.Clauses.Claims.{Place, With, At, Leaves, InRing, MonitorsAreClaimed, claimed_or_kept}
+use Rattle.core_locks.proofs.Places.{kept_once, kept_apart, with_more}
 use Rattle.core_locks.proofs.Clauses.{parts_with, parts_are, seen, forms, biases, inflating, monitors, recursions, hashes, waits, claims, classes, AllHold}
 use Rattle.core_locks.proofs.EvenSteps.{IsEven, even_by, even_step, held_even}
 use Rattle.core_locks.proofs.MarkChanges.{mark_here, mark_else, bias_back, bias_forth, bias_before, biases_by_marks, classes_by_marks}
@@ -98,15 +99,11 @@ module _ (w : World) (P : List PlainObject) (t : ℕ) (e : Purpose) (o m : ℕ) 
   z = next w t l spending x.words
 
   small : m < monitor_count w.shape
-  small =
-      let a = with_most w.shape.threads (λ u. (w.known u).kept) in
-      let b = with_most (length w.shape.objects) (inflated_to w) in
-      let c = v.claims.holder t m ready.kept in
-      omega (arith, a, b, c, v.claims.counted)
+  small = (v.claims.keeps t m ready.kept).0
 
   -- nobody else has seen a word of m
   unmet : (u : ℕ) (n : Name) (s : ℕ) → u ≢ t → (w.known u).running ≡ true → last_seen n (w.known u).seen ≡ Some s → its_monitor n ≡ Some m → ⊥
-  unmet u n s d r e is = elim (v.seen.monitors u m s r (n, is, e)) [ inl a ↦ d (v.claims.once u t m a ready.kept) | inr a ↦ v.claims.apart t a.0 m ready.kept a.1 ]
+  unmet u n s d r e is = elim (v.seen.monitors u m s r (n, is, e)) [ inl a ↦ d (kept_once v.claims u t m a ready.kept) | inr a ↦ kept_apart v.claims t a.0 m ready.kept a.1 ]
 
   seen_law : SeenFit x P
   seen_law = monitor_seen w P t plan (record {
@@ -145,21 +142,77 @@ module _ (w : World) (P : List PlainObject) (t : ℕ) (e : Purpose) (o m : ℕ) 
   kept_back : (u a : ℕ) → (with_known t l w.known u).kept ≡ Some a → (u ≢ t) × ((w.known u).kept ≡ Some a)
   kept_back u a = each_with_known (λ u y. y.kept ≡ Some a → (u ≢ t) × ((w.known u).kept ≡ Some a)) t l w.known u (λ h. absurd (cc h)) (λ d h. (d, h))
 
-  claims_law : MonitorsAreClaimed w.shape.threads (length w.shape.objects) (w.words Claim) (inflated_to x) (λ u. (with_known t l w.known u).kept)
+  abbrev bits : ℕ
+  bits = ring_bits w.shape
+
+  abbrev ring : ℕ → ℕ
+  ring q = w.words (Ring q)
+
+  mine_there : (m < monitor_count w.shape) × (v.claims.place m ≡ With t)
+  mine_there = v.claims.keeps t m ready.kept
+
+  one_holder : (u y : ℕ) → With u ≡ With y → u ≡ y
+  one_holder u y q = cc q
+
+  one_object : (i j : ℕ) → At i ≡ At j → i ≡ j
+  one_object i j q = cc q
+
+  abbrev place : ℕ → Place
+  place a = cond (a == m) (At o) (v.claims.place a)
+
+  place_here : (a : ℕ) → a ≡ m → place a ≡ At o
+  place_here a s = ap (λ b. cond b (At o) (v.claims.place a)) (eq-eqb a m s)
+
+  place_else : (a : ℕ) → a ≢ m → place a ≡ v.claims.place a
+  place_else a d = ap (λ b. cond b (At o) (v.claims.place a)) (ne_eqb a m d)
+
+  stays_at : (a : ℕ) (q : Place) → v.claims.place a ≡ q → (With t ≡ q → ⊥) → place a ≡ q
+  stays_at a q h other = place_else a (λ s. other (sym mine_there.1 ∙ ap v.claims.place (sym s) ∙ h)) ∙ h
+
+  was_at : (a : ℕ) (q : Place) → place a ≡ q → (At o ≡ q → ⊥) → (a ≢ m) × (v.claims.place a ≡ q)
+  was_at a q h other = by_equal a m (λ s. absurd (other (sym (place_here a s) ∙ h))) (λ d. (d, sym (place_else a d) ∙ h))
+
+  -- a thread that keeps a monitor has claimed no position
+  no_position : (b : Moving) → (w.known t).moving ≡ b → (is_some (claimed_or_kept b None) ≡ false) × (is_some (claimed_or_kept b (w.known t).kept) ≡ true)
+  no_position Still g = (refl, ap is_some ready.kept)
+  no_position (Fetches p) g = let none = (v.claims.fetches t p g).0 in let some = ready.kept in absurd (cc (none, some))
+  no_position (Returns a) g = (refl, ap is_some ready.kept)
+
+  abbrev hands : (ℕ → Known) → ℕ → Option ℕ
+  hands f u = claimed_or_kept (w.known u).moving (f u).kept
+
+  claims_law : MonitorsAreClaimed w.shape.threads (length w.shape.objects) (monitor_count w.shape) bits (w.words Claim) (w.words End) ring (inflated_to x) (λ u. (with_known t l w.known u).kept) (λ u. (w.known u).moving)
   claims_law = record {
-    holder = λ u a h. v.claims.holder u a (kept_back u a h).1;
-    named = λ i a h. elim (which i a h) [ inl s ↦ (let b = v.claims.holder t m ready.kept in omega (arith, b, s.1)) | inr s ↦ v.claims.named i a s.1 ];
-    once = λ u y a f g. v.claims.once u y a (kept_back u a f).1 (kept_back y a g).1;
-    apart = λ u i a f g. let b = kept_back u a f in elim (which i a g) [ inl s ↦ b.0 (v.claims.once u t m (b.1 ∙ ap Some s.1) ready.kept) | inr s ↦ v.claims.apart u i a b.1 s.1 ];
-    all = λ a h. elim (v.claims.all a h) [
-      | inl b ↦ by_equal b.0 t
-          (λ s. inr (o, here ∙ sym ready.kept ∙ ap (λ y. (w.known y).kept) (sym s) ∙ b.1))
-          (λ d. inl (b.0, kept_else b.0 d ∙ b.1))
-      | inr b ↦ inr (b.0, forth b.0 a b.1)
+    first = v.claims.first;
+    ringed = v.claims.ringed;
+    claim_word = v.claims.claim_word;
+    end_word = v.claims.end_word;
+    place = place;
+    keeps = λ u a h. let b = kept_back u a h in let c = v.claims.keeps u a b.1 in (c.0, stays_at a (With u) c.1 (λ q. b.0 (sym (one_holder t u q))));
+    fetches = λ u p h. let c = v.claims.fetches u p h in
+        let other : u ≢ t = λ s. let none = c.0 in let some = ap (λ y. (w.known y).kept) s ∙ ready.kept in absurd (cc (none, some)) in
+        (kept_else u other ∙ c.0, c.1, stays_at (ring (p % 2 ^ bits)) (With u) c.2 (λ q. other (sym (one_holder t u q))));
+    names = λ i a h. elim (which i a h) [
+      | inl s ↦ (omega (arith, mine_there.0, s.1), place_here a s.1 ∙ ap At (sym s.0))
+      | inr s ↦ let c = v.claims.names i a s.1 in (c.0, stays_at a (At i) c.1 (λ q. cc q))
     ];
+    returns = λ u a h. let c = v.claims.returns u a h in (c.0, stays_at a (Leaves u) c.1 (λ q. cc q));
+    stands = λ p low high. let c = v.claims.stands p low high in (c.0, stays_at (ring (p % 2 ^ bits)) (InRing p) c.1 (λ q. cc q));
+    kept_there = λ u a h q. let c = was_at a (With u) q (λ z. cc z) in elim (v.claims.kept_there u a h c.1) [
+      | inl b ↦ inl (kept_else u (λ s. c.0 (same_Some _ _ (sym b ∙ ap (λ y. (w.known y).kept) s ∙ ready.kept))) ∙ b)
+      | inr b ↦ inr b
+    ];
+    named_there = λ i a h q. by_equal a m
+        (λ s. let is : o ≡ i = one_object o i (sym (place_here a s) ∙ q) in ap (inflated_to x) (sym is) ∙ here ∙ ap Some (sym s))
+        (λ d. forth i a (v.claims.named_there i a h (sym (place_else a d) ∙ q)));
+    returned_there = λ u a h q. v.claims.returned_there u a h (was_at a (Leaves u) q (λ z. cc z)).1;
+    ringed_there = λ p a h q. v.claims.ringed_there p a h (was_at a (InRing p) q (λ z. cc z)).1;
     counted =
-        let less = with_more w.shape.threads t m (λ u. (with_known t l w.known u).kept) (λ u. (w.known u).kept) within kept_here ready.kept (λ u d. sym (kept_else u d)) in
-        let more = with_more (length w.shape.objects) o m (inflated_to w) (inflated_to x) ready.object unnamed here (λ i d. ap monitor_in (mark_else w o mark t l i d)) in
+        let free = no_position (w.known t).moving refl in
+        let less = with_more w.shape.threads t (hands (with_known t l w.known)) (hands w.known) within
+        (ap (λ k. is_some (claimed_or_kept (w.known t).moving k)) kept_here ∙ free.0) free.1
+        (λ u d. ap (λ k. is_some (claimed_or_kept (w.known u).moving k)) (sym (kept_else u d))) in
+        let more = with_more (length w.shape.objects) o (inflated_to w) (inflated_to x) ready.object (ap is_some unnamed) (ap is_some here) (λ i d. ap (λ z. is_some (monitor_in z)) (mark_else w o mark t l i d)) in
         omega (arith, less, more, v.claims.counted);
   }
 
@@ -189,8 +242,8 @@ module _ (w : World) (P : List PlainObject) (t : ℕ) (e : Purpose) (o m : ℕ) 
     own = λ i a n. elim (which i a n) [ inl s ↦ ap (λ k. w.words (Object k)) s.1 ∙ object_is ∙ sym s.0 | inr s ↦ v.monitors.own i a s.1 ];
     neutral = λ i a n. elim (which i a n) [ inl s ↦ ap (λ k. is_neutral (headers w k)) s.1 ∙ neutral | inr s ↦ v.monitors.neutral i a s.1 ];
     alone = λ i j a n k. elim (which i a n) [
-      | inl s ↦ elim (which j a k) [ inl r ↦ s.0 ∙ sym r.0 | inr r ↦ absurd (v.claims.apart t j m ready.kept (r.1 ∙ ap Some s.1)) ]
-      | inr s ↦ elim (which j a k) [ inl r ↦ absurd (v.claims.apart t i m ready.kept (s.1 ∙ ap Some r.1)) | inr r ↦ v.monitors.alone i j a s.1 r.1 ]
+      | inl s ↦ elim (which j a k) [ inl r ↦ s.0 ∙ sym r.0 | inr r ↦ absurd (kept_apart v.claims t j m ready.kept (r.1 ∙ ap Some s.1)) ]
+      | inr s ↦ elim (which j a k) [ inl r ↦ absurd (kept_apart v.claims t i m ready.kept (s.1 ∙ ap Some r.1)) | inr r ↦ v.monitors.alone i j a s.1 r.1 ]
     ];
   }
   all_after one_law recursions = recursions_law

@@ -1,6 +1,5 @@
 -- The two steps that make a mark name a monitor: what each knows of the monitor's words, and that locks and headers stay.
-use Rattle.core_locks.proofs.Prelude.{◌≡◌, ◌≢◌, ℕ, ◌<◌, ◌^◌, ◌==◌, Bool, true, cond, List, length, Option, Some, refl, sym, ap, ◌∙◌, subst, arith, inl, inr, eqb-true, same_Some, read_mark, mark_of, read_owner, Inflated, ByRecord, read_mark-mark_of, PlainObject, Mark, Displaced, Owner, Header, Calm, Inflates, is_biased, is_neutral, monitor_in, is_biased_form, monitor_form, Inflation, inflation_in, recursions_ahead, recursions_behind, word_after, Known, World, with_known, Open, OnRecord, record_lock, lock, lock_form, header, header_form, marks, displaced_words, headers, owner_words, prototype_of, inflations, owner_lock, inflated_to, is_for, record_header, Purpose, Fits, Swap, Store, InflationsAreOne, by_equal, each_with_known, inflations_stay, mark_zero, owner_zero, fits_running, KeepsValid, MayName, MayNameNeutral, name_plan, name_neutral_plan}
-use Rattle.core_world.proofs.MonitorCounts.{with_most}
+use Rattle.core_locks.proofs.Prelude.{◌≡◌, ◌≢◌, ℕ, ◌<◌, ◌^◌, ◌==◌, Bool, true, cond, List, Option, Some, refl, sym, ap, ◌∙◌, subst, arith, inl, inr, eqb-true, same_Some, read_mark, mark_of, read_owner, Inflated, ByRecord, read_mark-mark_of, PlainObject, Mark, Displaced, Owner, Header, Calm, Inflates, is_biased, is_neutral, monitor_in, is_biased_form, monitor_form, Inflation, inflation_in, recursions_ahead, recursions_behind, word_after, Known, World, with_known, Open, OnRecord, record_lock, lock, lock_form, header, header_form, marks, displaced_words, headers, owner_words, prototype_of, inflations, owner_lock, is_for, record_header, Purpose, Fits, Swap, Store, InflationsAreOne, by_equal, each_with_known, inflations_stay, mark_zero, owner_zero, fits_running, KeepsValid, MayName, MayNameNeutral, name_plan, name_neutral_plan}
 use Rattle.core_locks.proofs.EvenSteps.{IsEven, even_by}
 use Rattle.core_locks.proofs.InflationOf.{inflation_else, is_other}
 use Rattle.core_locks.proofs.MarkChanges.{mark_here, mark_else, zero_back, zero_forth, inflating_by_marks}
@@ -13,9 +12,8 @@ use Rattle.core_locks.proofs.SwapLaws.{swap_valid}
 -- the mark that names a claimed monitor is read back
 pub inflated_read : (w : World) (P : List PlainObject) (t m : ℕ) → Fits w P → (w.known t).kept ≡ Some m → read_mark (mark_of (Inflated m)) ≡ Some (Inflated m)
 inflated_read w P t m v kept =
-    let a = with_most w.shape.threads (λ u. (w.known u).kept) in
-    let b = with_most (length w.shape.objects) (inflated_to w) in
-    let small : m < 2 ^ 20 = omega (arith, a, b, v.claims.holder t m kept, v.claims.counted, v.limits.threads, v.limits.objects) in
+    let few = (v.claims.keeps t m kept).0 in
+    let small : m < 2 ^ 20 = omega (arith, few, v.limits.threads, v.limits.objects) in
     read_mark-mark_of (Inflated m) small
 
 -- NEUTRAL

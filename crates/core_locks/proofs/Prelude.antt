@@ -47,7 +47,7 @@ pub use Rattle.plain_monitor.specs.Listed.{times_in}
 pub use Rattle.plain_history.proofs.HoldSteps.{never_counted}
 pub use Rattle.plain_history.specs.HeldByLog.{HasLetGo, held_by, nothing_held, LetsGoOf, IsLastLetGo}
 pub use Rattle.core_world.specs.declared.name.Name.{Name}
-pub use Rattle.core_world.specs.declared.name.Name.TheVariants.{Safepoint, Prototype, Mark, Stamp, Slot, Hold, Displaced, Waiting, Length, Owner, Recursions, Header, Object, Claim, Revocations, LastBulk}
+pub use Rattle.core_world.specs.declared.name.Name.TheVariants.{Safepoint, Prototype, Mark, Stamp, Slot, Hold, Displaced, Waiting, Length, Owner, Recursions, Header, Object, Claim, End, Ring, Revocations, LastBulk}
 pub use Rattle.core_world.specs.declared.plan.StepPlan.{StepPlan}
 pub use Rattle.core_world.specs.declared.stage.Stage.{Stage}
 pub use Rattle.core_world.specs.declared.stage.Stage.TheVariants.{Calm, Seizes, Grabs, Enters, Resumes, Exits, Waits, TakesOver, Ahead, Behind, Inflates, Notifies, Revokes, Takes}
@@ -55,7 +55,7 @@ pub use Rattle.core_world.specs.Words.Forms.{hold_word, is_biased, is_neutral, i
 pub use Rattle.core_world.specs.Threads.Stages.{Inflation, inflation_in, bears, hold_words_ahead, recursions_ahead, recursions_behind, notification_in, revocation_in, one_if}
 pub use Rattle.core_world.specs.Words.Acts.{word_after, hits}
 pub use Rattle.core_world.specs.Words.Names.{with_word, same_name, its_monitor, kind_of, first_index, second_index}
-pub use Rattle.core_world.specs.Threads.Known.{Known, StepMade, last_seen, local_of, draw_of}
+pub use Rattle.core_world.specs.Threads.Known.{Known, Moving, Still, Fetches, Returns, StepMade, last_seen, local_of, draw_of}
 pub use Rattle.core_world.specs.World.{World, with_word_and_known, with_known, logs, logs_from}
 pub use Rattle.core_world.specs.Locks.{Lock, Open, BiasedTo, OnRecord, OwnedBy, record_lock, lock, lock_form, header, header_form, marks, displaced_words, headers, owner_words, prototype_of, inflations, who, holder, hold_count, depth_count, recursion_count, holds_by_monitor, object_of, monitor_of, owner_at, hash_at, waits_at, notified_at, owner_lock, or_zero, inflated_to, count_where, is_for, inflation_of, record_header, has_epoch}
 pub use Rattle.core_world.specs.Clauses.SeenWords.{Stays, IsKeptOrNamed, SeenStays, IsValidBias, IsOwnMonitor, StaysWhileRunning, StaysWhileAsking, InMiddleOf}
@@ -66,7 +66,7 @@ pub use Rattle.core_world.specs.Trees.Plans.{Purpose, load_plan, with_stage, sto
 pub use Rattle.core_world.specs.Steps.{world_after, known_hit, seen_before, known_after, known_miss, only_headers, is_header, stamp_by, is_taking, draws_after, kept_by_act, reached_after, runs_after, asks_after, log_after, unfinished_after, kept_by_note, halted_after, seen_at_safepoint_before}
 pub use Rattle.core_world.specs.Valid.{Fits, IsValid, SeenFit, FormsFit, SafepointFits, Valid, IsRevoking}
 pub use Rattle.core_world.specs.Clauses.Waits.{WaitsFit, last_entry, StandByStamps, AreNotified, StandsBefore}
-pub use Rattle.core_world.specs.Clauses.Safepoints.{ends, IsUnfinished, StoppedAreQuiet, SafepointIsKnown, is_ending, IsStuck, IsHeldUp}
+pub use Rattle.core_world.specs.Clauses.Safepoints.{ends, IsUnfinished, StoppedAreQuiet, IsQuiet, SafepointIsKnown, is_ending, IsStuck, IsHeldUp}
 pub use Rattle.core_world.specs.Clauses.Stamps.{bound_stamp, StampsFit, lets_go, entries, IsAboutToLetGo, IsStampOf, IsRaised}
 pub use Rattle.core_world.specs.Clauses.Owners.{LocksArePlain}
 pub use Rattle.core_world.specs.declared.act.Act.TheVariants.{Swap, Store, Load, Mask, Raise}
@@ -74,13 +74,13 @@ pub use Rattle.core_world.specs.Clauses.Biases.{BiasedAreFree}
 pub use Rattle.core_world.specs.Clauses.Lengths.{LengthsFit, log_limit}
 pub use Rattle.core_world.specs.Clauses.Inflations.{InflationsAreOne}
 pub use Rattle.core_world.specs.Clauses.Draws.{DrawsFit, drawn_by, draw_in, first_draw, drawn_for, all_draws, IsNextDraw, AreDraws, draws_in, draws_for, Draw}
-pub use Rattle.core_world.specs.Clauses.Claims.{MonitorsAreClaimed}
+pub use Rattle.core_world.specs.Clauses.Claims.{MonitorsAreClaimed, MovesFit, Place, count_with_monitor, claimed_or_kept, given_back}
 pub use Rattle.core_world.specs.Opening.{first_known}
 pub use Rattle.core_world.specs.Clauses.Hashes.{HashesFit}
 pub use Rattle.core_world.specs.Clauses.Slots.{SlotsFit, IsHere}
 pub use Rattle.core_world.specs.Shots.{ShotsFit}
 pub use Rattle.core_world.specs.Clauses.Classes.{ClassesFit, bulk_rebiases, bulk_revokes}
-pub use Rattle.core_world.specs.Words.Shape.{Shape, class_of, monitor_count, slots_of, IsInLimits}
+pub use Rattle.core_world.specs.Words.Shape.{Shape, class_of, monitor_count, ring_bits, ring_places, slots_of, IsInLimits}
 pub use Rattle.core_world.specs.declared.task.Unfinished.{Unfinished}
 pub use Rattle.core_world.specs.Clauses.WordForms.{IsOwner, IsMark, IsSafepoint, IsWait, IsHold, WordsHaveForms}
 pub use Rattle.core_world.specs.Looking.{IsOfMonitor, HasFound, MayLook}
@@ -88,7 +88,7 @@ pub use Rattle.core_world.specs.declared.act.Act.{Act}
 pub use Rattle.core_world.specs.Clauses.Monitors.{MonitorsAreNamed}
 pub use Rattle.core_world.specs.Trees.HashSteps.{NextDraw, find_hash_plan, draw_plan}
 pub use Rattle.core_world.specs.Trees.LockSteps.{displace_plan, seize_plan, hold_plan, store_ready_plan, log_enter_plan, raise_stamp_plan, leave_plan, let_go_plan, clear_plan}
-pub use Rattle.core_world.specs.Trees.MonitorSteps.{claim_plan, prepare_plan, inflate_plan, name_plan, name_neutral_plan, grab_plan, take_over_plan, raise_count_plan, lower_count_plan, reset_count_plan, store_entering_plan, free_plan}
+pub use Rattle.core_world.specs.Trees.MonitorSteps.{claim_plan, fetch_plan, prepare_plan, inflate_plan, name_plan, name_neutral_plan, grab_plan, take_over_plan, raise_count_plan, lower_count_plan, reset_count_plan, store_entering_plan, free_plan}
 pub use Rattle.core_world.specs.Trees.WaitSteps.{save_count_plan, log_wait_plan, drop_plan, quit_plan, regain_plan, restore_plan, log_resume_plan, publish_plan, wake_next_plan, notify_plan, notify_all_plan, is_older, insert_waiter, by_age, waiters}
 pub use Rattle.core_world.specs.Trees.SafepointSteps.{publish_log_plan, stop_plan, resume_plan, request_plan, release_plan, halt_plan, all_but, running_too, requested_by, reached_word, released_word, halted_word}
 pub use Rattle.core_world.specs.declared.plan.Note.TheVariants.{Log, LogGet}
@@ -97,7 +97,7 @@ pub use Rattle.core_world.proofs.KnowledgeParts.{by_equal, each_with_known, with
 pub use Rattle.core_world.proofs.LockFrames.{header_stays, inflations_stay, lock_stays, who_stays}
 pub use Rattle.core_world.proofs.Readings.{mark_zero, hold_some, deeper_none, no_entering, no_ended, owner_zero, no_wait, no_told, names_none, wait_zero, hold_zero}
 pub use Rattle.core_world.proofs.ObjectHolds.{thread_is, holds_by_monitor_is, same_number, sound, unlisted_count, outside_standing, listed_count, unowned_count, waiter_unnotified, waiter_stands, one_named, owner_stands, owner_standing, no_owner}
-pub use Rattle.core_world.proofs.OwnersShown.{fits_running, inflated_form, running_fits, with_word_there, lock_by_form, who_bears, taken_alone, safepoint_calm}
+pub use Rattle.core_world.proofs.OwnersShown.{fits_running, inflated_form, running_fits, with_word_there, lock_by_form, who_bears, taken_alone, safepoint_part}
 pub use Rattle.core_world.proofs.ActsLook.{seen_is_part, headers_are_part, runs_load, asks_load, holds_load, wait_load, published_load, kept_load}
 pub use Rattle.core_world.proofs.SeenBack.{stays_back, Back}
 pub use Rattle.core_world.proofs.SeenMoves.{Spares, seen_moves, counts_more, Counts, IsPart, counts_anew}
@@ -112,7 +112,7 @@ pub use Rattle.core_world.specs.Trees.LookSteps.{keep_shot_plan}
 pub use Rattle.core_locks.specs.WakeLaws.{MayWake, SawNoOther, MayWakeNext, MayNotify, MayNotifyAll, SawOldest}
 pub use Rattle.core_locks.specs.HashLaws.{MayHash, IsItsNext, IsHashless, HasRecord, MayFind, MayFindInRecord, MayFindInMonitor, HasHash, HasNoHash, hash_entry, MayDraw, MayDrawInMark, MayDrawInMonitor}
 pub use Rattle.core_locks.specs.LockLaws.{MayHold, MayLeave, MaySeize, MayClear, Precedes, MayDisplace, MayLetGo}
-pub use Rattle.core_locks.specs.MonitorLaws.{MayCount, MayDrop, MayQuit, MayRegain, MayRestore, MayTakeOver, IsReady, MayRaiseCount, MayLowerCount, MayResetCount, MayFree, MayClaim, MayPrepare, MayPrepareOwner, MayPrepareObject, MayName, MayNameNeutral, MayInflate, MayGrab, MaySaveCount}
+pub use Rattle.core_locks.specs.MonitorLaws.{MayFetch, MayCount, MayDrop, MayQuit, MayRegain, MayRestore, MayTakeOver, IsReady, MayRaiseCount, MayLowerCount, MayResetCount, MayFree, MayClaim, MayPrepare, MayPrepareOwner, MayPrepareObject, MayName, MayNameNeutral, MayInflate, MayGrab, MaySaveCount}
 pub use Rattle.core_locks.specs.SafepointLaws.{MayHalt, MayStop, MayResume, MayRequest, MayRelease, SeesHeldUp, SeesEnded}
 pub use Rattle.core_locks.specs.JournalLaws.{MayWait, MayLogEnter, MayRaise, MayPublish, MayTell, MayBeReady, MayStand, MayEnd, SawNobody, MayLogResume, MayTouch, MayGet, MayPut, get_entry, MayPublishLog}
 pub use Rattle.lock_policy.specs.Draws.{nth_value, hash_of, state_after}

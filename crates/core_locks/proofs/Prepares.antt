@@ -5,6 +5,7 @@ use Rattle.core_locks.proofs.Clauses.{turned_parts, parts_turn, seen, forms, mon
 use Rattle.core_locks.proofs.Steps.{quietly, IsStep, next, step_fits, seen_next, quiet_step}
 use Rattle.core_locks.proofs.OwnSeen.{own_seen, left_with, hit_world}
 use Rattle.core_locks.proofs.MonitorSeen.{uncounted_kept}
+use Rattle.core_locks.proofs.Places.{kept_apart}
 
 -- a lock and a header read the words of the monitor that their mark names alone
 pub lock_unnamed : (f : Option MarkForm) (prototype : ℕ) (a b : ℕ → ℕ) (i : Option Inflation) → ((m : ℕ) → monitor_form f ≡ Some m → b m ≡ a m) → lock_form f prototype b i ≡ lock_form f prototype a i
@@ -18,7 +19,7 @@ header_unnamed _ mark d a b i h = refl
 module _ (w : World) (P : List PlainObject) (t : ℕ) (e : Purpose) (m word : ℕ) (within : t < w.shape.threads) (may : MayPrepare (w.known t) e m) (v : Fits w P) where
   -- no mark names the monitor, so each one that a mark names is another
   other : (o a : ℕ) → monitor_in (marks w o) ≡ Some a → (a == m) ≡ false
-  other o a n = ne_eqb a m (λ s. v.claims.apart t o m may.kept (n ∙ ap Some s))
+  other o a n = ne_eqb a m (λ s. kept_apart v.claims t o m may.kept (n ∙ ap Some s))
 
   word_else : (f : ℕ → ℕ) (o a : ℕ) → monitor_in (marks w o) ≡ Some a → cond (a == m) word (f a) ≡ f a
   word_else f o a n = ap (λ (b : Bool). cond b word (f a)) (other o a n)

@@ -1,5 +1,9 @@
 -- Stores and exchanges of an object's mark that lead to no valid world: where it would name a monitor, where it names one, and where it is 0.
-use Rattle.core_locks.proofs.Prelude.{◌≡◌, ◌≢◌, ℕ, ◌||◌, Bool, true, false, List, Option, Some, None, refl, sym, ap, ◌∙◌, subst, inl, inr, read_mark, is_thread, PlainObject, Name, Mark, Owner, Header, StepPlan, Stage, Calm, Seizes, Inflates, is_neutral, is_biased, hash_in, monitor_in, Inflation, inflation_in, bears, Known, World, with_word_and_known, Open, OnRecord, lock, header, header_form, marks, displaced_words, headers, owner_words, prototype_of, inflations, who, holder, hold_count, owner_at, hash_at, Purpose, with_stage, store, swap, world_after, Fits, by_equal, with_known_here, with_known_else, each_with_known, same_Some, mark_zero, thread_is, arith, MarkForm, Inflating, Neutral, Anonymous, Biased, Locked, Inflated, Marked, OwnerForm, Free, ByThread, ByRecord, mark_of, read_owner, owner_of, read_mark-spells, monitor_form, is_biased_form, owner_lock, lock_form, with_own, Valid, IsMark, IsOwner, running_fits, lock_by_form, with_word_there, same_number}
+use Rattle.core_locks.proofs.Prelude.{with_known, ◌≡◌, ◌≢◌, ℕ, ◌||◌, Bool, true, false, List, Option, Some, None, refl, sym, ap, ◌∙◌, subst, inl, inr, read_mark, is_thread, PlainObject, Name, Mark, Owner, Header, StepPlan, Stage, Calm, Seizes, Inflates, is_neutral, is_biased, hash_in, monitor_in, Inflation, inflation_in, bears, Known, World, with_word_and_known, Open, OnRecord, lock, header, header_form, marks, displaced_words, headers, owner_words, prototype_of, inflations, who, holder, hold_count, owner_at, hash_at, Purpose, with_stage, store, swap, world_after, Fits, by_equal, with_known_here, with_known_else, each_with_known, same_Some, mark_zero, thread_is, arith, MarkForm, Inflating, Neutral, Anonymous, Biased, Locked, Inflated, Marked, OwnerForm, Free, ByThread, ByRecord, mark_of, read_owner, owner_of, read_mark-spells, monitor_form, is_biased_form, owner_lock, lock_form, with_own, Valid, IsMark, IsOwner, running_fits, lock_by_form, with_word_there, same_number, ◌+◌, ◌-◌, ◌%◌, ◌^◌, ◌<◌, ◌≤◌, Ring, ring_bits, monitor_count}
+use Rattle.core_world.specs.Clauses.Claims.{Place, With, At, Leaves, InRing}
+use Rattle.core_world.proofs.Rings.{ring_few, place_of_word}
+use Rattle.core_locks.proofs.Claims.{next_word}
+use Rattle.core_locks.proofs.Places.{kept_apart}
 use Rattle.mark_word.proofs.ReadingOwners.{read_owner-spells}
 use Rattle.core_world.specs.declared.plan.Own.TheVariants.{Spend}
 use Rattle.core_locks.proofs.WaitOut.{neither}
@@ -125,30 +129,65 @@ no_owner_exchanged w o m t mark e v runs found neutral owned valid =
     let was : lock w o ≡ Open = neutral_lock (marks w o) (prototype_of w o) (owner_words w) (inflations w o) (ap is_neutral found ∙ neutral) in
     owner_is_free w v.objects a.0 o m _ t (knows plan t w) refl refl refl test.1 (running_fits w v t runs) a.1 was owned
 
--- A MARK THAT NAMES A MONITOR is stored over: nobody keeps the monitor, and no mark names it.
-no_monitor_lost : (w : World) (P Q : List PlainObject) (o m n t : ℕ) (l : Known) → ((a : ℕ) → l.kept ≡ Some a → (w.known t).kept ≡ Some a) → Fits w P → Fits (with_word_and_known (Mark o) n t l w) Q
-    → monitor_in (marks w o) ≡ Some m → monitor_in n ≢ Some m → ⊥
-no_monitor_lost w P Q o m n t l kept before afterwards names other = elim (afterwards.claims.all m (before.claims.named o m names)) [
-  | inl h ↦ before.claims.apart h.0 o m (each_with_known (λ u k. k.kept ≡ Some m → (w.known u).kept ≡ Some m) t l w.known h.0 (kept m) (λ d e. e) h.1) names
-  | inr h ↦
-      by_equal h.0 o
-      (λ s. other (ap monitor_in (sym (with_word_there (Mark o) n w.words)) ∙ ap (λ i. monitor_in (marks (with_word_and_known (Mark o) n t l w) i)) (sym s) ∙ h.1))
-      (λ d. d (before.monitors.alone h.0 o m (ap monitor_in (sym (mark_else w o n t l h.0 d)) ∙ h.1) names))
-]
+-- A MARK THAT NAMES A MONITOR is stored over: nobody keeps the monitor or gives it back, no mark names it, and it isn't in the ring.
+module _ (w : World) (P Q : List PlainObject) (o m n t : ℕ) (l : Known) (kept : (a : ℕ) → l.kept ≡ Some a → (w.known t).kept ≡ Some a) (moving : l.moving ≡ (w.known t).moving) (before : Fits w P)
+    (afterwards : Fits (with_word_and_known (Mark o) n t l w) Q) (names : monitor_in (marks w o) ≡ Some m) (other : monitor_in n ≢ Some m) where
+  was : (m < monitor_count w.shape) × (before.claims.place m ≡ At o)
+  was = before.claims.names o m names
+
+  moving_same : (u : ℕ) → (with_known t l w.known u).moving ≡ (w.known u).moving
+  moving_same u = each_with_known (λ u k. k.moving ≡ (w.known u).moving) t l w.known u moving (λ d. refl)
+
+  -- the same positions, counted modulo 2 ^ 64
+  as_many : before.claims.ringed ≡ afterwards.claims.ringed
+  as_many =
+      let few = before.limits in
+      omega (arith, before.claims.claim_word, afterwards.claims.claim_word, before.claims.end_word, afterwards.claims.end_word, before.claims.counted, afterwards.claims.counted, few.threads, few.objects)
+
+  in_ring : (p : ℕ) → afterwards.claims.first ≤ p → p < afterwards.claims.first + afterwards.claims.ringed → w.words (Ring (p % 2 ^ ring_bits w.shape)) ≡ m → ⊥
+  in_ring p low high is =
+      let d = p - afterwards.claims.first in
+      let q = before.claims.first + d in
+      let small : ring_bits w.shape ≤ 64 = (let few = ring_few w.shape in omega (arith, few)) in
+      let there = before.claims.stands q (omega arith) (omega (arith, low, high, as_many)) in
+      let back : afterwards.claims.first + d ≡ p = omega (arith, low) in
+      let words : q % 2 ^ 64 ≡ p % 2 ^ 64 =
+      sym (next_word before.claims.first (2 ^ 64) d) ∙ ap (λ c. (c + d) % 2 ^ 64) (sym before.claims.claim_word ∙ afterwards.claims.claim_word) ∙ next_word afterwards.claims.first (2 ^ 64) d ∙ ap (λ c. c % 2 ^ 64) back in
+      let places : q % 2 ^ ring_bits w.shape ≡ p % 2 ^ ring_bits w.shape =
+      sym (place_of_word q (ring_bits w.shape) small) ∙ ap (λ c. c % 2 ^ ring_bits w.shape) words ∙ place_of_word p (ring_bits w.shape) small in
+      let it = was.1 in
+      let ringed = ap before.claims.place (sym is ∙ ap (λ c. w.words (Ring c)) (sym places)) ∙ there.1 in
+      absurd (cc (it, ringed))
+
+  no_place : (a : Place) → afterwards.claims.place m ≡ a → ⊥
+  no_place (With h) e = elim (afterwards.claims.kept_there h m was.0 e) [
+    | inl k ↦ kept_apart before.claims h o m (each_with_known (λ u k. k.kept ≡ Some m → (w.known u).kept ≡ Some m) t l w.known h (kept m) (λ d e. e) k) names
+    | inr k ↦ let it = was.1 in let there = ap before.claims.place (sym k.2) ∙ (before.claims.fetches h k.0 (sym (moving_same h) ∙ k.1)).2 in absurd (cc (it, there))
+  ]
+  no_place (At i) e =
+      let h = afterwards.claims.named_there i m was.0 e in
+      by_equal i o
+      (λ s. other (ap monitor_in (sym (with_word_there (Mark o) n w.words)) ∙ ap (λ i. monitor_in (marks (with_word_and_known (Mark o) n t l w) i)) (sym s) ∙ h))
+      (λ d. d (before.monitors.alone i o m (ap monitor_in (sym (mark_else w o n t l i d)) ∙ h) names))
+  no_place (Leaves u) e = let it = was.1 in let there = (before.claims.returns u m (sym (moving_same u) ∙ afterwards.claims.returned_there u m was.0 e)).1 in absurd (cc (it, there))
+  no_place (InRing p) e = let h = afterwards.claims.ringed_there p m was.0 e in in_ring p h.0 h.1 h.2
+
+  no_monitor_lost : ⊥
+  no_monitor_lost = no_place (afterwards.claims.place m) refl
 
 pub no_store_keeps : (w : World) (o m t mark : ℕ) (e : Purpose) (s : Stage) → Valid w → (w.known t).running ≡ true → monitor_in (w.words (Mark o)) ≡ Some m → monitor_in mark ≢ Some m
     → Valid (world_after (with_stage s (store e (Mark o) mark)) t w) → ⊥
 no_store_keeps w o m t mark e s v runs names other valid =
     let plan : StepPlan = with_stage s (store e (Mark o) mark) in
     let a = hit_fits plan t w refl runs valid in
-    no_monitor_lost w v.objects a.0 o m mark t (knows plan t w) (λ a k. k) (running_fits w v t runs) a.1 names other
+    no_monitor_lost w v.objects a.0 o m mark t (knows plan t w) (λ a k. k) refl (running_fits w v t runs) a.1 names other
 
 pub no_store_spends : (w : World) (o m t mark : ℕ) (e : Purpose) → Valid w → (w.known t).running ≡ true → monitor_in (w.words (Mark o)) ≡ Some m → monitor_in mark ≢ Some m
     → Valid (world_after (with_own Spend (store e (Mark o) mark)) t w) → ⊥
 no_store_spends w o m t mark e v runs names other valid =
     let plan = storing o mark e in
     let a = hit_fits plan t w refl runs valid in
-    no_monitor_lost w v.objects a.0 o m mark t (knows plan t w) (λ a k. absurd (cc k)) (running_fits w v t runs) a.1 names other
+    no_monitor_lost w v.objects a.0 o m mark t (knows plan t w) (λ a k. absurd (cc k)) refl (running_fits w v t runs) a.1 names other
 
 -- A MARK THAT ANOTHER THREAD INFLATES is 0, and that thread alone inflates it.
 still_inflates : (w : World) (t u o a b : ℕ) (at : Name) (n : ℕ) (l : Known) → u ≢ t → (w.known u).stage ≡ Inflates o a b → ((with_word_and_known at n t l w).known u).stage ≡ Inflates o a b
@@ -176,7 +215,7 @@ no_store_inflates w o t u a b c d e runs other is valid =
     other (afterwards.1.inflating.one u t its mine first second refl)
 
 -- A MARK IS 0 NOW, in place of one that had no bias pattern. It named the record by which the thread inflates.
-module _ (w : World) (P Q : List PlainObject) (o t u p : ℕ) (l : Known) (silent : l.log ≡ (w.known t).log) (at : l.stage ≡ Inflates o u p) (own : l.holds ≡ (w.known t).holds) (kept : l.kept ≡ (w.known t).kept) (before : Fits w P)
+module _ (w : World) (P Q : List PlainObject) (o t u p : ℕ) (l : Known) (silent : l.log ≡ (w.known t).log) (at : l.stage ≡ Inflates o u p) (own : l.holds ≡ (w.known t).holds) (moved : l.moving ≡ (w.known t).moving) (kept : l.kept ≡ (w.known t).kept) (before : Fits w P)
     (afterwards : Fits (with_word_and_known (Mark o) 0 t l w) Q) where
   abbrev z : World
   z = with_word_and_known (Mark o) 0 t l w
@@ -221,11 +260,11 @@ module _ (w : World) (P Q : List PlainObject) (o t u p : ℕ) (l : Known) (silen
           let place : b ≡ p = same_record w z P Q o u b p before afterwards (holds_stay w t l u own) (λ c. unseized w t l u o c (λ e. cc (at, e))) was rests in
           other (locked_word (marks w o) a b r ∙ ap (λ k. mark_of (Locked k b)) same ∙ ap (λ k. mark_of (Locked u k)) place)
       by_form (Some (Inflated m)) r h =
-          no_monitor_lost w P Q o m 0 t l (λ c k. sym kept ∙ k) before afterwards (ap monitor_form r) (λ e. cc (sym e ∙ ap monitor_form mark_zero))
+          no_monitor_lost w P Q o m 0 t l (λ c k. sym kept ∙ k) moved before afterwards (ap monitor_form r) (λ e. cc (sym e ∙ ap monitor_form mark_zero))
 
 pub no_store_of_zero : (w : World) (o t u p : ℕ) (e : Purpose) → Valid w → (w.known t).running ≡ true → is_biased (w.words (Mark o)) ≡ false → w.words (Mark o) ≢ 0
     → w.words (Mark o) ≢ mark_of (Locked u p) → Valid (world_after (with_stage (Inflates o u p) (store e (Mark o) 0)) t w) → ⊥
 no_store_of_zero w o t u p e v runs unbiased some other valid =
     let plan : StepPlan = with_stage (Inflates o u p) (store e (Mark o) 0) in
     let a = hit_fits plan t w refl runs valid in
-    no_zero w v.objects a.0 o t u p (knows plan t w) refl refl refl refl (running_fits w v t runs) a.1 unbiased some other
+    no_zero w v.objects a.0 o t u p (knows plan t w) refl refl refl refl refl (running_fits w v t runs) a.1 unbiased some other

@@ -1,6 +1,6 @@
 -- A step that changes the safepoint word keeps every clause, by the state that the word spelled and the one that it spells then.
-use Rattle.core_locks.proofs.Prelude.{◌≡◌, ◌≢◌, ℕ, ◌<◌, ◌&&◌, ◌||◌, Bool, true, false, List, ◌∷◌, length, Some, None, refl, sym, ap, ◌∙◌, subst, inl, inr, IfSome, SafeForm, safe_of, read_safe, IsSafeInRange, read_safe-safe_of, is_thread, PlainObject, Safepoint, Waiting, Calm, says_ended, is_halted, asks_in, runs_form, runs_in, requester_form, requester_in, halted_form, word_after, hits, Known, StepMade, World, with_word_and_known, with_known, monitor_of, owner_at, waits_at, Purpose, quiet_plan, world_after, known_hit, seen_before, kept_by_act, reached_after, runs_after, asks_after, Fits, SeenFit, ends, IsStuck, IsSafepoint, Act, each_with_known, part_moves, Spares, seen_moves, Counts, GoesOn}
-use Rattle.core_locks.proofs.Clauses.{kept_parts, parts_stand, absent, seen, forms, safe, quiet as calmly, waits, stamps, shots, lengths, AllHold, clauses}
+use Rattle.core_locks.proofs.Prelude.{◌≡◌, ◌≢◌, ℕ, ◌<◌, ◌&&◌, ◌||◌, Bool, true, false, List, ◌∷◌, length, Some, None, refl, sym, ap, ◌∙◌, subst, inl, inr, IfSome, SafeForm, safe_of, read_safe, IsSafeInRange, read_safe-safe_of, is_thread, PlainObject, Safepoint, Waiting, Calm, says_ended, is_halted, asks_in, runs_form, runs_in, requester_form, requester_in, halted_form, word_after, hits, Known, StepMade, World, with_word_and_known, with_known, monitor_of, owner_at, waits_at, Purpose, quiet_plan, world_after, known_hit, seen_before, kept_by_act, reached_after, runs_after, asks_after, Fits, SeenFit, ends, IsStuck, IsSafepoint, Act, each_with_known, part_moves, Spares, seen_moves, Counts, GoesOn, Still, Fetches, Returns, IsQuiet, Stage, with_stage}
+use Rattle.core_locks.proofs.Clauses.{kept_parts, parts_stand, absent, seen, forms, safe, quiet as calmly, waits, stamps, shots, lengths, moves, AllHold, clauses}
 use Rattle.core_locks.proofs.OwnSeen.{other_back, hit_moved}
 use Rattle.core_locks.proofs.Steps.{asking, IsStep, next, step_fits, seen_next, absent_next, waits_go_on, stamps_go_on, dumps_go_on}
 
@@ -13,11 +13,11 @@ pub record Halts (w : World) (P : List PlainObject) (t word : ℕ) (l : Known) :
   pub stuck : IsStuck w.shape.threads (λ u. ends (w.known u).log) (λ u. (w.known u).unfinished) (monitor_of P)
 
 -- what thread t knows after its step, if it hits
-abbrev pub known_then : World → ℕ → Purpose → Act → Known
-known_then w t e act = known_hit w.shape w.start (quiet_plan e Safepoint act) (w.words Safepoint) (w.known t)
+abbrev pub known_then : World → ℕ → Purpose → Act → Stage → Known
+known_then w t e act st = known_hit w.shape w.start (with_stage st (quiet_plan e Safepoint act)) (w.words Safepoint) (w.known t)
 
 -- the step of thread t makes of the safepoint word, which spelled f, one that spells g
-pub record Changes (w : World) (P : List PlainObject) (t : ℕ) (e : Purpose) (act : Act) (f g : SafeForm) : Type 0 where
+pub record Changes (w : World) (P : List PlainObject) (t : ℕ) (e : Purpose) (act : Act) (f g : SafeForm) (st : Stage) : Type 0 where
   pub hit : hits act (w.words Safepoint) ≡ true
   pub left : word_after act (w.words Safepoint) ≡ safe_of g
   -- an act that changes the word tells its thread what the word says of it
@@ -25,7 +25,10 @@ pub record Changes (w : World) (P : List PlainObject) (t : ℕ) (e : Purpose) (a
       × (asks_after Safepoint act (word_after act (w.words Safepoint)) (w.known t) ≡ asks_in (word_after act (w.words Safepoint)) (w.known t).thread)
       × (reached_after Safepoint act (word_after act (w.words Safepoint)) (w.known t)
       ≡ ((w.known t).reached && asks_in (word_after act (w.words Safepoint)) (w.known t).thread))
-  pub calm : (w.known t).stage ≡ Calm
+  pub calm : (w.known t).stage ≡ st
+  -- which is no stage of a lock where it stops
+  pub standing : runs_form (Some g) t ≡ false → st ≡ Calm
+  pub still : (w.known t).moving ≡ Still
   pub goes_on : GoesOn (w.known t) e
   pub was : read_safe (w.words Safepoint) ≡ Some f
   pub unhalted : f.halted ≡ false
@@ -36,22 +39,22 @@ pub record Changes (w : World) (P : List PlainObject) (t : ℕ) (e : Purpose) (a
   pub others_ask : (u : ℕ) → u ≢ t → is_thread g.requester u ≡ is_thread f.requester u
   -- no safepoint is reached any more
   pub unreached : (u : ℕ) → (w.known u).reached ≡ true → (u ≡ t → is_thread g.requester t ≡ true) → ⊥
-  pub halts : g.halted ≡ true → (known_then w t e act).running ≡ runs_form (Some g) t → Halts w P t (safe_of g) (known_then w t e act)
+  pub halts : g.halted ≡ true → (known_then w t e act st).running ≡ runs_form (Some g) t → Halts w P t (safe_of g) (known_then w t e act st)
   pub published : runs_form (Some g) t ≡ false → is_thread g.requester t ≡ false → g.halted ≡ false → (w.known t).published ≡ length (w.known t).log
   pub ended : ends (w.known t).log ≡ true → runs_form (Some g) t ≡ false → says_ended (w.words (Waiting t)) ≡ true
   -- what the thread goes on to count on
   pub old : List StepMade
   pub kept : asks_in (word_after act (w.words Safepoint)) (w.known t).thread ≡ is_thread g.requester t
       → kept_by_act Safepoint act (word_after act (w.words Safepoint)) (w.known t) (seen_before w.shape (w.known t)) ≡ old
-  pub counts : (known_then w t e act).running ≡ runs_form (Some g) t → Counts Safepoint (safe_of g) t (known_then w t e act) w (owner_at P) (waits_at P) old
+  pub counts : (known_then w t e act st).running ≡ runs_form (Some g) t → Counts Safepoint (safe_of g) t (known_then w t e act st) w (owner_at P) (waits_at P) old
 
 both_true : (a b : Bool) → (a && b) ≡ true → (a ≡ true) × (b ≡ true)
 both_true true b h = (refl, h)
 both_true false b h = absurd (cc h)
 
-module _ (w : World) (P : List PlainObject) (t : ℕ) (e : Purpose) (act : Act) (f g : SafeForm) (within : t < w.shape.threads) (c : Changes w P t e act f g) (v : Fits w P) where
+module _ (w : World) (P : List PlainObject) (t : ℕ) (e : Purpose) (act : Act) (f g : SafeForm) (st : Stage) (within : t < w.shape.threads) (c : Changes w P t e act f g st) (v : Fits w P) where
   abbrev l : Known
-  l = known_then w t e act
+  l = known_then w t e act st
 
   -- the word that is left, as it is read
   reads : read_safe (safe_of g) ≡ Some g
@@ -114,7 +117,7 @@ module _ (w : World) (P : List PlainObject) (t : ℕ) (e : Purpose) (act : Act) 
   seen_law : SeenFit x P
   seen_law =
       subst (λ n. SeenFit (with_word_and_known Safepoint n t l w) P) c.left
-      (seen_moves (quiet_plan e Safepoint act) (w.words Safepoint) t l w (owner_at P) (owner_at P) (waits_at P) (waits_at P) c.old (ap (λ (z : List StepMade). record { plan = quiet_plan e Safepoint act; found = w.words Safepoint } ∷ z) (c.kept asks_same))
+      (seen_moves (with_stage st (quiet_plan e Safepoint act)) (w.words Safepoint) t l w (owner_at P) (owner_at P) (waits_at P) (waits_at P) c.old (ap (λ (z : List StepMade). record { plan = with_stage st (quiet_plan e Safepoint act); found = w.words Safepoint } ∷ z) (c.kept asks_same))
       (subst (λ n. Counts Safepoint n t l w (owner_at P) (waits_at P) c.old) (sym c.left) (c.counts runs_known))
       (subst (λ n. Spares Safepoint n t l w (owner_at P) (owner_at P) (waits_at P) (waits_at P)) (sym c.left) spares) v.seen)
 
@@ -140,7 +143,7 @@ module _ (w : World) (P : List PlainObject) (t : ℕ) (e : Purpose) (act : Act) 
           subst (λ z. IsStuck w.shape.threads (λ u. ends (w.known u).log) z (monitor_of P)) (part_moves (λ y. y.unfinished) t l w.known a.unfinished) a.stuck,
         );
   }
-  all_after calmly = record { quiet = λ u. each_with_known (λ u y. y.running ≡ false → (w.known u).stage ≡ Calm) t l w.known u (λ r. c.calm) (λ d. v.quiet.quiet u); none_revokes = v.quiet.none_revokes }
+  all_after calmly = record { quiet = λ u. each_with_known (λ u y. y.running ≡ false → IsQuiet y.reached (w.known u).stage) t l w.known u (λ r. inl (c.calm ∙ c.standing (sym runs_known ∙ r))) (λ d. v.quiet.quiet u); none_revokes = v.quiet.none_revokes }
   all_after waits =
       let stopped : (u : ℕ) → ends (w.known u).log ≡ true → (with_known t l w.known u).running ≡ false → says_ended (w.words (Waiting u)) ≡ true =
       λ u. each_with_known (λ u y. ends (w.known u).log ≡ true → y.running ≡ false → says_ended (w.words (Waiting u)) ≡ true) t l w.known u (λ a r. c.ended a (sym runs_known ∙ r)) (λ d. v.waits.stopped u) in
@@ -154,9 +157,13 @@ module _ (w : World) (P : List PlainObject) (t : ℕ) (e : Purpose) (act : Act) 
     all = λ u. each_with_known (λ u y. y.running ≡ false → y.requesting ≡ false → is_halted (safe_of g) ≡ false → (w.known u).published ≡ length (w.known u).log) t l w.known u
         (λ r a h. c.published (sym runs_known ∙ r) (sym asks_known ∙ a) (sym halted_now ∙ h)) (λ d r a h. v.lengths.all u r a unhalted_before);
   }
+  all_after moves = record {
+    runs = λ u p. each_with_known (λ u y. (w.known u).moving ≡ Fetches p → y.running ≡ true) t l w.known u (λ h. let none = c.still in absurd (cc (none, h))) (λ d. v.moves.runs u p);
+    reaches = λ u m. each_with_known (λ u y. (w.known u).moving ≡ Returns m → y.reached ≡ true) t l w.known u (λ h. let none = c.still in absurd (cc (none, h))) (λ d. v.moves.reaches u m);
+  }
   all_after k = clauses w P v k
 
-  pub changed_fits : Fits (world_after (quiet_plan e Safepoint act) t w) P
+  pub changed_fits : Fits (world_after (with_stage st (quiet_plan e Safepoint act)) t w) P
   changed_fits =
-      hit_moved w P t (quiet_plan e Safepoint act) c.hit (subst (λ n. Fits (with_word_and_known Safepoint n t l w) P) (sym c.left)
+      hit_moved w P t (with_stage st (quiet_plan e Safepoint act)) c.hit (subst (λ n. Fits (with_word_and_known Safepoint n t l w) P) (sym c.left)
       (step_fits step x.words P (kept_parts w z P) (parts_stand w z P refl (λ u. refl) (λ u. refl) refl refl refl (λ e. refl)) all_after))

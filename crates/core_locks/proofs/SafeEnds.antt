@@ -1,5 +1,7 @@
 -- A thread whose safepoint is reached releases it, or halts the run.
-use Rattle.core_locks.proofs.Prelude.{◌≡◌, ◌≢◌, ℕ, ◌<◌, ◌^◌, ◌==◌, ◌&&◌, not, eq-eqb, ne_eqb, Bool, true, false, cond, List, [], Some, None, refl, sym, ap, ◌∙◌, arith, inl, inr, pow_below, bit_at-zero, bit_at-pow_same, bit_at-pow_other, SafeForm, safe_of, read_safe-safe_of, is_thread, PlainObject, Safepoint, Calm, asks_in, runs_form, requester_form, word_after, Known, World, Purpose, world_after, seen_before, only_headers, kept_by_act, Fits, Swap, reached_word, released_word, halted_word, by_equal, KeepsValid, FindsWord, MayHalt, MayRelease, release_plan, halt_plan}
+use Rattle.core_locks.proofs.Prelude.{◌≡◌, ◌≢◌, ℕ, ◌<◌, ◌^◌, ◌==◌, ◌&&◌, not, eq-eqb, ne_eqb, Bool, true, false, cond, List, [], Some, None, refl, sym, ap, ◌∙◌, arith, inl, inr, pow_below, bit_at-zero, bit_at-pow_same, bit_at-pow_other, SafeForm, safe_of, read_safe-safe_of, is_thread, PlainObject, Safepoint, Calm, asks_in, runs_form, requester_form, word_after, Known, World, Purpose, world_after, seen_before, only_headers, kept_by_act, Fits, Swap, reached_word, released_word, halted_word, by_equal, KeepsValid, FindsWord, MayHalt, MayRelease, release_plan, halt_plan, Stage, Takes, Still, revocation_in}
+use Rattle.core_locks.specs.SafepointLaws.{MayReleaseTaking}
+use Rattle.core_locks.proofs.Standing.{fits_standing}
 use Rattle.core_locks.proofs.SafeFacts.{fits_calm, few_bits, one_reached, reached_form, reached_reads, reached_found}
 use Rattle.core_locks.proofs.SafeCounts.{counts_since}
 use Rattle.core_locks.proofs.SafeStuck.{stuck}
@@ -53,15 +55,18 @@ module _ (w : World) (P : List PlainObject) (t : ℕ) (e : Purpose) (within : t 
       let call = cond (w.known t).running (seen_before w.shape (w.known t)) [] in
       ap (λ b. cond (b && not (asks_after word)) (only_headers (w.known t).seen_at_safepoint) call) reached ∙ ap (λ b. cond (not b) (only_headers (w.known t).seen_at_safepoint) call) unasking
 
-  release_changes : MayRelease (w.known t) e → Changes w P t e (Swap (reached_word t) (released_word t)) (reached_form t) (released_form t)
-  release_changes may =
+  release_changes : (st : Stage) → (w.known t).stage ≡ st → (w.known t).moving ≡ Still → e.unfinished ≡ (w.known t).unfinished
+      → Changes w P t e (Swap (reached_word t) (released_word t)) (reached_form t) (released_form t) st
+  release_changes st at still goes_on =
       let runs : runs_form (Some (released_form t)) t ≡ true = ap (λ n. n == 1) (bit_at-pow_same t) in
       record {
         hit = found;
         left = left (released_word t);
         told = (refl, refl, refl);
-        calm = may.calm;
-        goes_on = inl may.goes_on;
+        calm = at;
+        standing = λ r. absurd (cc (r, runs));
+        still = still;
+        goes_on = inl goes_on;
         was = reached_reads w P t v reached;
         unhalted = refl;
         range = (pow_below t 32 (few_bits w P t v within), tt);
@@ -74,15 +79,17 @@ module _ (w : World) (P : List PlainObject) (t : ℕ) (e : Purpose) (within : t 
         ended = λ a r. absurd (cc (r, runs));
         old = only_headers (w.known t).seen_at_safepoint;
         kept = kept_since (released_word t);
-        counts = λ r. counts_since w P t (safe_of (released_form t)) (known_then w t e (Swap (reached_word t) (released_word t))) reached refl v;
+        counts = λ r. counts_since w P t (safe_of (released_form t)) (known_then w t e (Swap (reached_word t) (released_word t)) st) reached refl v;
       }
 
-  halt_changes : MayHalt w.shape.threads (w.known t) e → Changes w P t e (Swap (reached_word t) halted_word) (reached_form t) halted_form
+  halt_changes : MayHalt w.shape.threads (w.known t) e → Changes w P t e (Swap (reached_word t) halted_word) (reached_form t) halted_form Calm
   halt_changes may = record {
     hit = found;
     left = left halted_word;
     told = (refl, refl, refl);
     calm = may.calm;
+    standing = λ r. refl;
+    still = may.still;
     goes_on = inl may.goes_on;
     was = reached_reads w P t v reached;
     unhalted = refl;
@@ -102,17 +109,25 @@ module _ (w : World) (P : List PlainObject) (t : ℕ) (e : Purpose) (within : t 
     ended = λ a r. let live = may.live in absurd (cc (a, live));
     old = only_headers (w.known t).seen_at_safepoint;
     kept = kept_since halted_word;
-    counts = λ r. counts_since w P t (safe_of halted_form) (known_then w t e (Swap (reached_word t) halted_word)) reached refl v;
+    counts = λ r. counts_since w P t (safe_of halted_form) (known_then w t e (Swap (reached_word t) halted_word) Calm) reached refl v;
   }
 
   pub released_fits : MayRelease (w.known t) e → Fits (world_after (release_plan e Calm t) t w) P
-  released_fits may = changed_fits w P t e (Swap (reached_word t) (released_word t)) (reached_form t) (released_form t) within (release_changes may) v
+  released_fits may = changed_fits w P t e (Swap (reached_word t) (released_word t)) (reached_form t) (released_form t) Calm within (release_changes Calm may.calm may.still may.goes_on) v
+
+  -- the thread has given itself a bias there, and takes it behind the release
+  pub released_taking : (o : ℕ) → MayReleaseTaking (w.known t) e o → Fits (world_after (release_plan e (Takes o) t) t w) P
+  released_taking o may = changed_fits w P t e (Swap (reached_word t) (released_word t)) (reached_form t) (released_form t) (Takes o) within (release_changes (Takes o) may.takes may.still may.goes_on) v
 
 -- THE LAWS
 pub releasing_valid : (e : Purpose) → KeepsValid (λ w t. MayRelease (w.known t) e) (λ w t. release_plan e Calm t)
 releasing_valid e w P t within may valid = inl (released_fits w P t e within (fits_calm w P t may.reached may.calm valid) may.reached may)
 
+pub releasing_taking : (e : Purpose) (o : ℕ) → KeepsValid (λ w t. MayReleaseTaking (w.known t) e o) (λ w t. release_plan e (Takes o) t)
+releasing_taking e o w P t within may valid =
+    inl (released_taking w P t e within (fits_standing w P t may.reached (ap revocation_in may.takes) valid) may.reached o may)
+
 pub halting_valid : (e : Purpose) → KeepsValid (λ w t. MayHalt w.shape.threads (w.known t) e) (λ w t. halt_plan e t)
 halting_valid e w P t within may valid =
     let v = fits_calm w P t may.reached may.calm valid in
-    inl (changed_fits w P t e (Swap (reached_word t) halted_word) (reached_form t) halted_form within (halt_changes w P t e within v may.reached may) v)
+    inl (changed_fits w P t e (Swap (reached_word t) halted_word) (reached_form t) halted_form Calm within (halt_changes w P t e within v may.reached may) v)

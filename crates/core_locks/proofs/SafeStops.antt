@@ -1,5 +1,5 @@
 -- A thread stops, resumes, and requests a safepoint.
-use Rattle.core_locks.proofs.Prelude.{◌≡◌, ℕ, ◌<◌, ◌^◌, ◌==◌, ◌&&◌, not, eq-eqb, ne_eqb, Bool, true, false, cond, List, [], Option, Some, None, refl, sym, ap, ◌∙◌, subst, inl, inr, eqb-true, ◌-◌, IfSome, bit_and, read_wait, SafeForm, safe_of, read_safe, WaitForm, read_safe-spells, is_thread, PlainObject, Safepoint, Waiting, waits_on, says_ended, is_halted, asks_in, runs_form, waits_form, ended_form, requester_form, requester_in, halted_form, word_after, World, Purpose, swap, world_after, seen_before, only_headers, Fits, IsValid, Swap, Mask, IsSafepoint, all_but, running_too, requested_by, same_number, fits_running, seen_is_part, miss_valid, KeepsValid, MayStop, MayResume, MayRequest, stop_plan, resume_plan, request_plan}
+use Rattle.core_locks.proofs.Prelude.{◌≡◌, ℕ, ◌<◌, ◌^◌, ◌==◌, ◌&&◌, not, eq-eqb, ne_eqb, Bool, true, false, cond, List, [], Option, Some, None, refl, sym, ap, ◌∙◌, subst, inl, inr, eqb-true, ◌-◌, IfSome, bit_and, read_wait, SafeForm, safe_of, read_safe, WaitForm, read_safe-spells, is_thread, PlainObject, Safepoint, Waiting, waits_on, says_ended, is_halted, asks_in, runs_form, waits_form, ended_form, requester_form, requester_in, halted_form, word_after, World, Purpose, swap, world_after, seen_before, only_headers, Fits, IsValid, Swap, Mask, IsSafepoint, all_but, running_too, requested_by, same_number, fits_running, seen_is_part, miss_valid, KeepsValid, MayStop, MayResume, MayRequest, stop_plan, resume_plan, request_plan, Moving, Still, Fetches, Returns, Calm}
 use Rattle.mark_word.specs.declared.wait.WaitForm.TheVariants as wait
 use Rattle.core_locks.proofs.LookOn.{may_look_safe}
 use Rattle.core_world.proofs.SafeBits.{without, including, without_other, without_mine, without_range, including_other, including_mine, including_range, masked}
@@ -22,6 +22,19 @@ ended_stands w P t v e = elim (v.waits.stored t) [
   | inr a ↦ absurd (waits_unended (w.known t).wait a.0 a.1 e)
 ]
 
+-- a thread that neither runs nor asks stands in the middle of nothing
+pub stopped_calm : (w : World) (P : List PlainObject) (t : ℕ) → Fits w P → (w.known t).running ≡ false → (w.known t).requesting ≡ false → (w.known t).stage ≡ Calm
+stopped_calm w P t v stopped unasking = elim (v.quiet.quiet t stopped) [ inl a ↦ a | inr a ↦ (let asks = (v.safe.safepoint t a.0).0 in absurd (cc (asks, unasking))) ]
+
+-- a thread that neither runs nor asks has nothing in hand of the ring
+stopped_still : (w : World) (P : List PlainObject) (t : ℕ) → Fits w P → (w.known t).running ≡ false → (w.known t).requesting ≡ false → (w.known t).moving ≡ Still
+stopped_still w P t v stopped unasking = by_moving (w.known t).moving refl
+  where
+    by_moving : (m : Moving) → (w.known t).moving ≡ m → (w.known t).moving ≡ Still
+    by_moving Still e = e
+    by_moving (Fetches p) e = let runs = v.moves.runs t p e in absurd (cc (runs, stopped))
+    by_moving (Returns m) e = let asks = (v.safe.safepoint t (v.moves.reaches t m e)).0 in absurd (cc (asks, unasking))
+
 module _ (w : World) (P : List PlainObject) (t : ℕ) (e : Purpose) (within : t < w.shape.threads) where
   -- a thread that runs, by the state that the word spells
   runs_by : Fits w P → (f : SafeForm) → read_safe (w.words Safepoint) ≡ Some f → (w.known t).running ≡ true → runs_form (Some f) t ≡ true
@@ -33,7 +46,7 @@ module _ (w : World) (P : List PlainObject) (t : ℕ) (e : Purpose) (within : t 
   here_by : Fits w P → (f : SafeForm) → read_safe (w.words Safepoint) ≡ Some f → IfSome f.requester (λ u. u < w.shape.threads)
   here_by v f reads = subst (IsSafepoint w.shape) reads v.forms.safepoint
 
-  stop_changes : (v : Fits w P) (f : SafeForm) → read_safe (w.words Safepoint) ≡ Some f → MayStop (w.known t) e → Changes w P t e (Mask (all_but t)) f (without f t)
+  stop_changes : (v : Fits w P) (f : SafeForm) → read_safe (w.words Safepoint) ≡ Some f → MayStop (w.known t) e → Changes w P t e (Mask (all_but t)) f (without f t) Calm
   stop_changes v f reads may =
       let spells = read_safe-spells (w.words Safepoint) f reads in
       let bits = few_bits w P t v within in
@@ -43,6 +56,8 @@ module _ (w : World) (P : List PlainObject) (t : ℕ) (e : Purpose) (within : t 
         left = ap (λ n. bit_and n (all_but t)) spells.1 ∙ masked f t spells.0 bits runs;
         told = (refl, refl, refl);
         calm = may.calm;
+        standing = λ r. refl;
+        still = may.still;
         goes_on = inl may.goes_on;
         was = reads;
         unhalted = unhalted_by v f reads may.runs;
@@ -56,13 +71,13 @@ module _ (w : World) (P : List PlainObject) (t : ℕ) (e : Purpose) (within : t 
         ended = λ a r. ended_stands w P t v (may.ended a);
         old = seen_before w.shape (w.known t);
         kept = λ a. refl;
-        counts = λ r. counts_stopped w P t (safe_of (without f t)) (known_then w t e (Mask (all_but t))) (seen_before w.shape (w.known t)) (seen_is_part w.shape (w.known t))
+        counts = λ r. counts_stopped w P t (safe_of (without f t)) (known_then w t e (Mask (all_but t)) Calm) (seen_before w.shape (w.known t)) (seen_is_part w.shape (w.known t))
             may.runs (r ∙ without_mine f t spells.0 bits runs) v.seen;
       }
 
   -- a stopped thread sets its bit in a word with no requester and no halt
   resume_changes : (v : Fits w P) (f : SafeForm) (word : ℕ) → read_safe (w.words Safepoint) ≡ Some f → MayResume (w.known t) e word → w.words Safepoint ≡ word
-      → Changes w P t e (Swap word (running_too (read_safe word) t)) f (including f t)
+      → Changes w P t e (Swap word (running_too (read_safe word) t)) f (including f t) Calm
   resume_changes v f word reads may found =
       let spells = read_safe-spells (w.words Safepoint) f reads in
       let bits = few_bits w P t v within in
@@ -76,7 +91,9 @@ module _ (w : World) (P : List PlainObject) (t : ℕ) (e : Purpose) (within : t 
         hit = test;
         left = ap (λ b. cond b (running_too (read_safe word) t) (w.words Safepoint)) test ∙ new;
         told = (refl, refl, refl);
-        calm = v.quiet.quiet t may.stopped;
+        calm = stopped_calm w P t v may.stopped may.unasking;
+        standing = λ r. refl;
+        still = stopped_still w P t v may.stopped may.unasking;
         goes_on = inl may.goes_on;
         was = reads;
         unhalted = not_halted;
@@ -90,7 +107,7 @@ module _ (w : World) (P : List PlainObject) (t : ℕ) (e : Purpose) (within : t 
         ended = λ a r. absurd (cc (r, runs));
         old = [];
         kept = λ a. anew (w.known t).reached refl (asks_in (word_after (Swap word (running_too (read_safe word) t)) (w.words Safepoint)) (w.known t).thread) unasked;
-        counts = λ r. counts_begun w P t (safe_of (including f t)) (known_then w t e (Swap word (running_too (read_safe word) t)));
+        counts = λ r. counts_begun w P t (safe_of (including f t)) (known_then w t e (Swap word (running_too (read_safe word) t)) Calm);
       }
     where
       anew : (b : Bool) → (w.known t).reached ≡ b → (asks : Bool) → requester_in (w.words Safepoint) ≡ None
@@ -100,7 +117,7 @@ module _ (w : World) (P : List PlainObject) (t : ℕ) (e : Purpose) (within : t 
 
   -- an exchange of the safepoint word, which changes it so where it finds this word, and where it misses is a look
   by_word : (word new : ℕ) (g : SafeForm → SafeForm) → (w.words Safepoint ≡ word → Fits w P)
-      → ((v : Fits w P) (f : SafeForm) → read_safe (w.words Safepoint) ≡ Some f → w.words Safepoint ≡ word → Changes w P t e (Swap word new) f (g f))
+      → ((v : Fits w P) (f : SafeForm) → read_safe (w.words Safepoint) ≡ Some f → w.words Safepoint ≡ word → Changes w P t e (Swap word new) f (g f) Calm)
       → IsValid w P → IsValid (world_after (swap e Safepoint word new) t w) P
   by_word word new g fits changes valid = cases (w.words Safepoint == word) refl
     where
@@ -109,7 +126,7 @@ module _ (w : World) (P : List PlainObject) (t : ℕ) (e : Purpose) (within : t 
           let found = eqb-true (w.words Safepoint) word h in
           let v = fits found in
           let s = safe_form w P v in
-          inl (changed_fits w P t e (Swap word new) s.0 (g s.0) within (changes v s.0 s.1 found) v)
+          inl (changed_fits w P t e (Swap word new) s.0 (g s.0) Calm within (changes v s.0 s.1 found) v)
       cases false h = miss_valid w P t (swap e Safepoint word new) within (record { missed = h; may = may_look_safe (w.known t) }) valid
 
   -- the state with t's request, and t not running
@@ -118,7 +135,7 @@ module _ (w : World) (P : List PlainObject) (t : ℕ) (e : Purpose) (within : t 
 
   -- a running thread exchanges its bit for its request, in a word with no requester
   request_changes : (v : Fits w P) (f : SafeForm) (word : ℕ) → read_safe (w.words Safepoint) ≡ Some f → MayRequest (w.known t) e word → w.words Safepoint ≡ word
-      → Changes w P t e (Swap word (requested_by (read_safe word) t)) f (requested f)
+      → Changes w P t e (Swap word (requested_by (read_safe word) t)) f (requested f) Calm
   request_changes v f word reads may found =
       let spells = read_safe-spells (w.words Safepoint) f reads in
       let bits = few_bits w P t v within in
@@ -131,6 +148,8 @@ module _ (w : World) (P : List PlainObject) (t : ℕ) (e : Purpose) (within : t 
         left = ap (λ b. cond b (requested_by (read_safe word) t) (w.words Safepoint)) test ∙ new;
         told = (refl, refl, refl);
         calm = may.calm;
+        standing = λ r. refl;
+        still = may.still;
         goes_on = may.goes_on;
         was = reads;
         unhalted = unhalted_by v f reads may.runs;
@@ -144,7 +163,7 @@ module _ (w : World) (P : List PlainObject) (t : ℕ) (e : Purpose) (within : t 
         ended = λ a r. ended_stands w P t v (may.ended a);
         old = seen_before w.shape (w.known t);
         kept = λ a. goes_on_seen (w.known t).reached refl (asks_in (word_after (Swap word (requested_by (read_safe word) t)) (w.words Safepoint)) (w.known t).thread);
-        counts = λ r. counts_stopped w P t (safe_of (requested f)) (known_then w t e (Swap word (requested_by (read_safe word) t))) (seen_before w.shape (w.known t))
+        counts = λ r. counts_stopped w P t (safe_of (requested f)) (known_then w t e (Swap word (requested_by (read_safe word) t)) Calm) (seen_before w.shape (w.known t))
             (seen_is_part w.shape (w.known t)) may.runs (r ∙ without_mine f t spells.0 bits runs) v.seen;
       }
     where
@@ -158,7 +177,7 @@ pub stopping_valid : (e : Purpose) → KeepsValid (λ w t. MayStop (w.known t) e
 stopping_valid e w P t within may valid =
     let v = fits_running w P t may.runs valid in
     let s = safe_form w P v in
-    inl (changed_fits w P t e (Mask (all_but t)) s.0 (without s.0 t) within (stop_changes w P t e within v s.0 s.1 may) v)
+    inl (changed_fits w P t e (Mask (all_but t)) s.0 (without s.0 t) Calm within (stop_changes w P t e within v s.0 s.1 may) v)
 
 pub resuming_valid : (e : Purpose) (word : ℕ) → KeepsValid (λ w t. MayResume (w.known t) e word) (λ w t. resume_plan e t word)
 resuming_valid e word w P t within may valid =

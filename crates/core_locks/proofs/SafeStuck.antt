@@ -1,5 +1,5 @@
 -- By what the thread whose safepoint is reached has seen since, the threads are stuck.
-use Rattle.core_locks.proofs.Prelude.{◌≡◌, ◌≢◌, ℕ, ◌<◌, eq-eqb, true, false, List, Option, Some, None, refl, sym, ap, ◌∙◌, subst, inl, inr, read_mark, read_owner, Inflated, ByThread, Free, ByRecord, OwnerForm, is_thread, owns, PlainObject, Name, Mark, Waiting, Owner, monitor_in, waits_on, says_notified, enters_on, says_ended, bears, notification_in, last_seen, World, lock, marks, who, holder, hold_count, monitor_of, owner_at, owner_lock, Fits, ends, IsStuck, IsHeldUp, Shape, IsOwner, same_number, inflated_form, lock_by_form, safepoint_calm, MayHalt, SeesHeldUp, Purpose}
+use Rattle.core_locks.proofs.Prelude.{◌≡◌, ◌≢◌, ℕ, ◌<◌, eq-eqb, true, false, List, Option, Some, None, refl, sym, ap, ◌∙◌, subst, inl, inr, read_mark, read_owner, Inflated, ByThread, Free, ByRecord, OwnerForm, is_thread, owns, PlainObject, Name, Mark, Waiting, Owner, monitor_in, waits_on, says_notified, enters_on, says_ended, bears, notification_in, last_seen, World, lock, marks, who, holder, hold_count, monitor_of, owner_at, owner_lock, Fits, ends, IsStuck, IsHeldUp, Shape, IsOwner, same_number, inflated_form, lock_by_form, safepoint_part, MayHalt, SeesHeldUp, Purpose}
 use Rattle.std.proofs.lemmas.Bool.{or_cases}
 use Rattle.core_world.specs.Trees.LookSteps.{is_open_to}
 
@@ -17,12 +17,12 @@ module _ (w : World) (P : List PlainObject) (t : ℕ) (v : Fits w P) (reached : 
 
   -- nobody tells all waiters
   uncalled : (o z : ℕ) → notification_in (w.known z).stage ≡ Some o → ⊥
-  uncalled o z e = let none = ap notification_in (safepoint_calm w P t z v reached) in absurd (cc (e, none))
+  uncalled o z e = let none = safepoint_part notification_in None refl (λ i. refl) w P t z v reached in absurd (cc (e, none))
 
   -- who has the lock is the plain owner
   plain_owner : (o z : ℕ) → who w o ≡ Some z → owner_at P o z ≡ true
   plain_owner o z e =
-      let none = ap (λ s. bears s o) (safepoint_calm w P t z v reached) in
+      let none = safepoint_part (λ s. bears s o) false refl (λ i. refl) w P t z v reached in
       elim (or_cases (owner_at P o z) (bears (w.known z).stage o) (sym (v.owners.same o z) ∙ ap (λ a. is_thread a z) e ∙ same_number z))
       [ inl a ↦ a | inr b ↦ absurd (cc (b, none)) ]
 

@@ -1,5 +1,5 @@
 -- A dump keeps its shot.
-use Rattle.core_locks.proofs.Prelude.{◌≡◌, ℕ, ◌<◌, ◌⊎◌, ◌||◌, Bool, true, false, cond, List, [], ◌∷◌, ◌++◌, length, slice_index, None, refl, sym, ap, ◌∙◌, subst, arith, inl, PlainObject, Safepoint, StepPlan, is_halted, Known, last_seen, World, with_known, logs, Purpose, world_after, known_hit, seen_before, Fits, IsValid, each_with_known, with_known_here, LegalObjects, objects_after, log_of, seen_is_part, with_knowledge, with_knowledge_alone, log_at, KeepsValid, keep_shot_plan}
+use Rattle.core_locks.proofs.Prelude.{◌≡◌, ℕ, ◌<◌, ◌⊎◌, ◌||◌, Bool, true, false, cond, List, [], ◌∷◌, ◌++◌, length, slice_index, None, refl, sym, ap, ◌∙◌, subst, arith, inl, PlainObject, Safepoint, StepPlan, is_halted, Known, last_seen, World, with_known, logs, Purpose, world_after, known_hit, seen_before, Fits, IsValid, each_with_known, with_known_here, LegalObjects, objects_after, log_of, seen_is_part, with_knowledge, with_knowledge_alone, log_at, KeepsValid, keep_shot_plan, ◌&&◌, is_still}
 use Rattle.std.proofs.lemmas.List.{length-map}
 use Rattle.core_world.specs.Threads.Known.{DumpShot}
 use Rattle.core_world.specs.Clauses.SeenWords.{AreTheSteps}
@@ -52,6 +52,7 @@ module _ (w : World) (P : List PlainObject) (t : ℕ) (e : Purpose) (within : t 
       running = refl;
       requesting = refl;
       kept = refl;
+      moving = refl;
       saved = refl;
       holds = refl;
       wait = refl;
@@ -81,6 +82,7 @@ module _ (w : World) (P : List PlainObject) (t : ℕ) (e : Purpose) (within : t 
     };
     reached = λ r. v.safe.safepoint t may.reached;
     halted = by_halt (w.known t).halted refl;
+    stands = λ r. ap (λ b. b || ((w.known t).requesting && is_still (w.words Safepoint))) r;
   }
     where
       by_halt : (b : Bool) → (w.known t).halted ≡ b → (b || is_halted (w.words Safepoint)) ≡ true → is_halted (w.words Safepoint) ≡ true
@@ -104,7 +106,7 @@ module _ (w : World) (P : List PlainObject) (t : ℕ) (e : Purpose) (within : t 
       (shots_taken t l w.known shot next refl v.shots)
 
   kept_fits : Fits (with_knowledge t l w) P
-  kept_fits = with_new_knowledge_fits w P t l within glance.same (glance_seen w P t l plan glance v.seen) (glance_safe w P t l plan glance v.safe) shots_law v
+  kept_fits = with_new_knowledge_fits w P t l within glance.same glance.stands (glance_seen w P t l plan glance v.seen) (glance_safe w P t l plan glance v.safe) shots_law v
 
   pub keeps_it : IsValid (world_after plan t w) P
   keeps_it = inl (subst (λ y. Fits y P) (sym (with_knowledge_alone Safepoint (w.words Safepoint) t l w refl)) kept_fits)

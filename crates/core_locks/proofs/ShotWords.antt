@@ -4,7 +4,7 @@ use Rattle.core_world.specs.Locks.{is_for, inflation_of, owner_lock, has_epoch, 
 use Rattle.core_world.specs.RevocationRules.{holds_in, words_from}
 use Rattle.core_world.specs.Shots.{cell_in, cells_of}
 use Rattle.core_world.specs.Steps.{seen_words, owner_and_count_in, cells_from}
-use Rattle.core_world.proofs.OwnersShown.{safepoint_calm, at_safepoint_shown}
+use Rattle.core_world.proofs.OwnersShown.{safepoint_part, at_safepoint_shown}
 use Rattle.core_locks.specs.ShotLaws.{Saw, SawHolds, SawByOwner, SawBehind, SawAll}
 
 -- where no thread is in the middle of an inflation, no object is
@@ -100,7 +100,7 @@ module _ (w : World) (P : List PlainObject) (t : ℕ) (reached : (w.known t).rea
 
     -- nothing is being inflated at a reached safepoint
     calm_lock : inflations w o ≡ None
-    calm_lock = no_inflation o w.shape.threads (λ u. inflation_in (w.known u).stage) (λ u. ap inflation_in (safepoint_calm w P t u v reached))
+    calm_lock = no_inflation o w.shape.threads (λ u. inflation_in (w.known u).stage) (λ u. safepoint_part inflation_in None refl (λ i. refl) w P t u v reached)
 
     pub shown_seen : (s : ℕ) → last_seen (Mark o) (w.known t).seen_at_safepoint ≡ Some s → SawBehind (read_mark s) w.shape (w.known t) o → owner_and_count_in w.shape f o ≡ cell_in (monitor_of P o)
     shown_seen s e saw =

@@ -1,5 +1,5 @@
 -- A step of one thread, field by field: what its thread knows afterwards is what it knew, but for the fields that the step names.
-use Rattle.core_locks.proofs.Prelude.{◌≡◌, ◌≢◌, ◌⊎◌, ℕ, ◌+◌, ◌<◌, ◌≤◌, ◌==◌, eq-eqb, ne_eqb, Bool, true, false, cond, List, length, Option, Some, None, refl, sym, ap, ◌∙◌, subst, arith, inl, inr, is_listed, PlainObject, Logged, Name, Safepoint, Stamp, Waiting, Length, Stage, Calm, Resumes, Waits, TakesOver, Notifies, Revokes, monitor_in, enters_on, is_halted, inflation_in, notification_in, revocation_in, Known, World, with_known, logs, marks, monitor_of, waits_at, notified_at, Fits, SeenFit, WaitsFit, ends, IsUnfinished, StoppedAreQuiet, SafepointIsKnown, StampsFit, lets_go, LengthsFit, log_limit, first_known, Unfinished, by_equal, each_with_known, with_known_else, stamp_goes_on, ShotsFit, Hold, hold_words_ahead, hold_count, holds_by_monitor, HoldsFitLogs, recursions_ahead, recursions_behind, Lock, OwnedBy, recursion_count, RecursionsFit, Exits, is_thread, owner_at, ◌||◌, bears, LocksArePlain}
+use Rattle.core_locks.proofs.Prelude.{◌≡◌, ◌≢◌, ◌⊎◌, ℕ, ◌+◌, ◌<◌, ◌≤◌, ◌==◌, eq-eqb, ne_eqb, Bool, true, false, cond, List, length, Option, Some, None, refl, sym, ap, ◌∙◌, subst, arith, inl, inr, is_listed, PlainObject, Logged, Name, Safepoint, Stamp, Waiting, Length, Stage, Calm, Resumes, Waits, TakesOver, Notifies, Revokes, monitor_in, enters_on, is_halted, inflation_in, notification_in, revocation_in, Known, World, with_known, logs, marks, monitor_of, waits_at, notified_at, Fits, SeenFit, WaitsFit, ends, IsUnfinished, StoppedAreQuiet, SafepointIsKnown, StampsFit, lets_go, LengthsFit, log_limit, first_known, Unfinished, by_equal, each_with_known, with_known_else, stamp_goes_on, ShotsFit, Hold, hold_words_ahead, hold_count, holds_by_monitor, HoldsFitLogs, recursions_ahead, recursions_behind, Lock, OwnedBy, recursion_count, RecursionsFit, Exits, is_thread, owner_at, ◌||◌, bears, LocksArePlain, IsQuiet}
 use Rattle.core_world.specs.declared.task.Op.TheVariants as op
 use Rattle.core_world.proofs.ShotsStay.{shots_go_on}
 use Rattle.core_locks.proofs.Clauses.{Parts, parts_of, Clause, absent, safe, quiet, waits, stamps, shots, Holds, AllHold, clauses, fits}
@@ -26,7 +26,11 @@ turning b l k = record (quietly b l k) { stage = (cond b l k).stage }
 
 -- and of one that comes to keep a monitor, or keeps none any more
 abbrev pub keeping : Fields
-keeping b l k = record (quietly b l k) { kept = (cond b l k).kept }
+keeping b l k = record (quietly b l k) { kept = (cond b l k).kept; moving = (cond b l k).moving }
+
+-- and of one that takes a position or a monitor in hand, or puts it down
+abbrev pub handling : Fields
+handling b l k = record (quietly b l k) { moving = (cond b l k).moving }
 
 -- and of one that saves recursions
 abbrev pub saving : Fields
@@ -171,9 +175,9 @@ module _ {w : World} {t : ℕ} {l : Known} {fields : Fields} (s : IsStep w t l f
     still = λ e. let stopped = (h.safe.still e).1 t in absurd (cc (stopped, runs));
   }
 
-  pub quiet_next : (P : List PlainObject) → revocation_in l.stage ≡ None → (w.known t).running ≡ true → Fits w P → StoppedAreQuiet (λ u. (w.known u).running) (λ u. (with_known t l w.known u).stage)
+  pub quiet_next : (P : List PlainObject) → revocation_in l.stage ≡ None → (w.known t).running ≡ true → Fits w P → StoppedAreQuiet (λ u. (w.known u).running) (λ u. (w.known u).reached) (λ u. (with_known t l w.known u).stage)
   quiet_next P its_revocation runs h = record {
-    quiet = λ u. each_with_known (λ u y. (w.known u).running ≡ false → y.stage ≡ Calm) t l w.known u (λ e. absurd (cc (e, runs))) (λ d. h.quiet.quiet u);
+    quiet = λ u. each_with_known (λ u y. (w.known u).running ≡ false → IsQuiet (w.known u).reached y.stage) t l w.known u (λ e. absurd (cc (e, runs))) (λ d. h.quiet.quiet u);
     none_revokes = λ u. each_with_known (λ u y. revocation_in y.stage ≡ None) t l w.known u its_revocation (λ d. h.quiet.none_revokes u);
   }
 
@@ -325,7 +329,7 @@ module _ {w : World} {t : ℕ} {l : Known} {fields : Fields} (s : IsStep w t l f
     -- A STAGE that is plain before and afterwards.
     module _ (before : IsPlain (w.known t).stage) (now : IsPlain l.stage) where
       abbrev pub Plain : Clause → Type 0
-      Plain quiet = StoppedAreQuiet (λ u. (w.known u).running) (λ u. (with_known t l w.known u).stage)
+      Plain quiet = StoppedAreQuiet (λ u. (w.known u).running) (λ u. (w.known u).reached) (λ u. (with_known t l w.known u).stage)
       Plain waits =
           WaitsFit (λ o. monitor_in (marks w o)) (λ u. w.words (Waiting u)) (λ u. (w.known u).wait) (λ u. (w.known u).log) (λ u. (with_known t l w.known u).stage) (λ u. (with_known t l w.known u).unfinished)
           (λ u. (w.known u).running) (waits_at P) (notified_at P)

@@ -10,3 +10,4 @@ pub mod ShotLaws
 pub mod DrawnHashes
 pub mod OwnersEntries
 pub mod RefusedPlans
+pub mod DeflationLaws

@@ -2,7 +2,7 @@
 use Rattle.std.specs.Prelude.{◌≡◌, ◌≢◌, ◌⊎◌, ℕ, ◌<◌, ◌≤◌, true, length, Some, None}
 use Rattle.core_world.specs.declared.name.Name.TheVariants.{Stamp, Waiting, Displaced, Owner, Recursions, Header, Object}
 use Rattle.core_world.specs.declared.stage.Stage.TheVariants.{Calm, Resumes, Waits, TakesOver, Inflates}
-use Rattle.core_world.specs.Threads.Known.{Known, last_seen, local_of}
+use Rattle.core_world.specs.Threads.Known.{Known, Still, Fetches, last_seen, local_of}
 use Rattle.core_world.specs.Trees.Plans.{Purpose, next_stamp}
 use Rattle.core_world.specs.Words.Shape.{Shape}
 use Rattle.core_world.specs.Clauses.WordForms.{IsOwner}
@@ -16,11 +16,19 @@ use Rattle.mark_word.specs.Owner.{read_owner, owner_of}
 use Rattle.mark_word.specs.declared.owner.OwnerForm.TheVariants.{Free, ByRecord}
 use Rattle.core_locks.specs.Knowing.{GoesOn, IsOut, HasHold, SawInflated, SawOwn, IsOwnEntry}
 
--- Claiming a monitor: the thread keeps none.
+-- Claiming a ring position: the thread keeps no monitor, and has claimed none.
 pub record MayClaim (k : Known) (e : Purpose) : Type 0 where
   pub runs : k.running ≡ true
   pub calm : k.stage ≡ Calm
   pub none : k.kept ≡ None
+  pub still : k.moving ≡ Still
+  pub goes_on : GoesOn k e
+
+-- Loading the place of the position that it claimed, whose monitor it keeps from then on.
+pub record MayFetch (k : Known) (e : Purpose) (position : ℕ) : Type 0 where
+  pub runs : k.running ≡ true
+  pub calm : k.stage ≡ Calm
+  pub claimed : k.moving ≡ Fetches position
   pub goes_on : GoesOn k e
 
 -- Storing a word of the monitor that the thread keeps. Where it stands stays: it may be inflating a lock.

@@ -2,9 +2,9 @@
 use Rattle.std.specs.Prelude.{◌≡◌, ◌⊎◌, ℕ, ◌<◌, true, false, length, Some, None}
 use Rattle.mark_word.specs.Owner.{read_owner}
 use Rattle.core_world.specs.declared.name.Name.TheVariants.{Mark, Waiting, Owner}
-use Rattle.core_world.specs.declared.stage.Stage.TheVariants.{Calm}
+use Rattle.core_world.specs.declared.stage.Stage.TheVariants.{Calm, Takes}
 use Rattle.core_world.specs.Words.Forms.{enters_on, says_notified, waits_on, says_ended, monitor_in, requester_in, is_halted}
-use Rattle.core_world.specs.Threads.Known.{Known, last_seen}
+use Rattle.core_world.specs.Threads.Known.{Still, Known, last_seen}
 use Rattle.core_world.specs.Trees.LookSteps.{is_open_to}
 use Rattle.core_world.specs.Trees.Plans.{Purpose}
 use Rattle.core_world.specs.Clauses.Safepoints.{ends}
@@ -17,6 +17,7 @@ pub record MayStop (k : Known) (e : Purpose) : Type 0 where
   pub calm : k.stage ≡ Calm
   pub published : k.published ≡ length k.log
   pub ended : ends k.log ≡ true → says_ended k.wait ≡ true
+  pub still : k.moving ≡ Still
   pub goes_on : e.unfinished ≡ k.unfinished
 
 -- Setting its bit: the thread is stopped, and the word that it expects has no requester and no halt.
@@ -33,12 +34,21 @@ pub record MayRequest (k : Known) (e : Purpose) (word : ℕ) : Type 0 where
   pub calm : k.stage ≡ Calm
   pub ended : ends k.log ≡ true → says_ended k.wait ≡ true
   pub unasked : requester_in word ≡ None
+  pub still : k.moving ≡ Still
   pub goes_on : GoesOn k e
 
 -- Releasing: its safepoint is reached, and it is in the middle of nothing.
 pub record MayRelease (k : Known) (e : Purpose) : Type 0 where
   pub reached : k.reached ≡ true
   pub calm : k.stage ≡ Calm
+  pub still : k.moving ≡ Still
+  pub goes_on : e.unfinished ≡ k.unfinished
+
+-- Releasing, where it has given itself a bias at its safepoint: it stands before taking the object then.
+pub record MayReleaseTaking (k : Known) (e : Purpose) (o : ℕ) : Type 0 where
+  pub reached : k.reached ≡ true
+  pub takes : k.stage ≡ Takes o
+  pub still : k.moving ≡ Still
   pub goes_on : e.unfinished ≡ k.unfinished
 
 -- By what this thread has seen since its safepoint was reached, thread t waits, or was notified of or enters an object that isn't open to it. Some
@@ -61,4 +71,5 @@ pub record MayHalt (n : ℕ) (k : Known) (e : Purpose) : Type 0 where
   pub calm : k.stage ≡ Calm
   pub live : ends k.log ≡ false
   pub stuck : (t : ℕ) → t < n → SeesEnded k t ⊎ SeesHeldUp k t
+  pub still : k.moving ≡ Still
   pub goes_on : e.unfinished ≡ k.unfinished

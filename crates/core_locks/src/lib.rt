@@ -6,6 +6,7 @@
 //! `specs/` says when a thread may make each step, by its own knowledge alone.
 #![tactic(auto)]
 
+mod deflating;
 mod entering;
 mod exiting;
 mod hashing;
@@ -21,6 +22,11 @@ mod telling;
 mod waiting;
 mod waking;
 
+pub use deflating::{
+    a_claim_gives_a_monitor_of_nobody, clearing_an_idle_monitor_keeps_the_world_valid,
+    giving_an_object_its_header_keeps_the_world_valid,
+    moving_the_end_of_the_ring_keeps_the_world_valid, storing_into_the_ring_keeps_the_world_valid,
+};
 pub use entering::{
     logging_a_resume_keeps_the_world_valid, logging_an_enter_keeps_the_world_valid,
     the_stamp_of_a_taking_follows_from_the_logs,

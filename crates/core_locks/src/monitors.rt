@@ -8,18 +8,20 @@ ghost use Rattle.std.specs.Prelude.{ℕ};
 ghost use Rattle.plain_monitor.specs.declared.entry.Entry.TheVariants.{Exit};
 ghost use Rattle.core_world.specs.declared.name.Name.{Name};
 ghost use Rattle.core_world.specs.declared.name.Name.TheVariants.{Owner, Recursions, Header, Object};
-ghost use Rattle.core_world.specs.Trees.MonitorSteps.{claim_plan, prepare_plan, inflate_plan, name_plan, name_neutral_plan, grab_plan, take_over_plan, raise_count_plan, lower_count_plan, reset_count_plan, free_plan};
+ghost use Rattle.core_world.specs.Trees.MonitorSteps.{claim_plan, fetch_plan, prepare_plan, inflate_plan, name_plan, name_neutral_plan, grab_plan, take_over_plan, raise_count_plan, lower_count_plan, reset_count_plan, free_plan};
 ghost use Rattle.core_world.specs.Trees.Plans.{Purpose, load_plan};
 ghost use Rattle.core_world.specs.Trees.WaitSteps.{save_count_plan, drop_plan, quit_plan, regain_plan, restore_plan};
 ghost use Rattle.core_locks.specs.Knowing.{KeepsValid, LogsValid};
 ghost use Rattle.core_locks.specs.LoadLaws.{MayLoadOfMonitor};
-ghost use Rattle.core_locks.specs.MonitorLaws.{MayClaim, MayPrepare, MayPrepareOwner, MayPrepareObject, MayInflate, MayName, MayNameNeutral, MayGrab, MayTakeOver, MayRaiseCount, MayLowerCount, MayResetCount, MaySaveCount, MayFree, MayDrop, MayQuit, MayRegain, MayRestore};
+ghost use Rattle.core_locks.specs.MonitorLaws.{MayClaim, MayFetch, MayPrepare, MayPrepareOwner, MayPrepareObject, MayInflate, MayName, MayNameNeutral, MayGrab, MayTakeOver, MayRaiseCount, MayLowerCount, MayResetCount, MaySaveCount, MayFree, MayDrop, MayQuit, MayRegain, MayRestore};
 
-/// A running thread that keeps no monitor claims one, by a fetch-and-add on the claim word: it keeps the one with the number found. Each
-/// claimed monitor is kept by one thread or named by one mark, so that number was nobody's.
+/// A running thread that keeps no monitor claims a ring position, by a fetch-and-add on the claim word, and loads the place of that position: it keeps
+/// the monitor that it finds there. Some monitor stands at each position up to the end, and nobody else has it.
 // That it keeps none is its own knowledge: a thread with a kept monitor inflates with that.
 pub fn claiming_a_monitor_keeps_the_world_valid()
-    ensures { (e : Purpose) → KeepsValid (λ w t. MayClaim (w.known t) e) (λ w t. claim_plan e) }
+    ensures position { (e : Purpose) → KeepsValid (λ w t. MayClaim (w.known t) e) (λ w t. claim_plan e) }
+    ensures monitor { (e : Purpose) (p : ℕ)
+        → KeepsValid (λ w t. MayFetch (w.known t) e p) (λ w t. fetch_plan e w.shape p) }
 {}
 
 /// A running thread stores a word of the monitor that it keeps, before a mark names it: nobody else reads or writes there.

@@ -5,11 +5,11 @@
 
 ghost use Rattle.std.specs.Prelude.{◌≡◌, ℕ, true};
 ghost use Rattle.core_world.specs.declared.name.Name.TheVariants.{Safepoint};
-ghost use Rattle.core_world.specs.declared.stage.Stage.TheVariants.{Calm};
+ghost use Rattle.core_world.specs.declared.stage.Stage.TheVariants.{Calm, Takes};
 ghost use Rattle.core_world.specs.Trees.Plans.{Purpose};
 ghost use Rattle.core_world.specs.Trees.SafepointSteps.{stop_plan, resume_plan, request_plan, release_plan, halt_plan, reached_word};
 ghost use Rattle.core_locks.specs.Knowing.{KeepsValid, FindsWord};
-ghost use Rattle.core_locks.specs.SafepointLaws.{MayStop, MayResume, MayRequest, MayRelease, MayHalt};
+ghost use Rattle.core_locks.specs.SafepointLaws.{MayStop, MayResume, MayRequest, MayRelease, MayReleaseTaking, MayHalt};
 
 /// A running thread stops: it clears its bit. It is in the middle of nothing and has published its log, by its own knowledge; and
 /// the stop leaves what is unfinished, by its plan.
@@ -33,11 +33,14 @@ pub fn requesting_keeps_the_world_valid()
 
 /// The thread whose safepoint is reached takes its request away and runs again. The exchange hits: the word is the one that it
 /// expects, since nobody else may change it, also where a bias is being revoked. The release leaves what is unfinished, by its plan.
-// The release that ends a revocation is another kind of step: its thread stands at `Revokes`, and `core_bias` has its law.
+// The release that ends a revocation is another kind of step: its thread stands at `Revokes`, and `core_bias` has its law. `taking` is for a release
+// after further steps at that safepoint, of a thread that gave itself a bias.
 pub fn releasing_keeps_the_world_valid()
     ensures finds { FindsWord (λ w t. (w.known t).reached ≡ true) Safepoint reached_word }
     ensures valid { (e : Purpose)
         → KeepsValid (λ w t. MayRelease (w.known t) e) (λ w t. release_plan e Calm t) }
+    ensures taking { (e : Purpose) (o : ℕ)
+        → KeepsValid (λ w t. MayReleaseTaking (w.known t) e o) (λ w t. release_plan e (Takes o) t) }
 {}
 
 /// The thread whose safepoint is reached halts the run, where it hasn't ended itself and by what it has seen since each thread has

@@ -1,19 +1,19 @@
 -- A revocation from the request for its safepoint on, or from where its request stands.
-use Rattle.std.proofs.Common.{◌≡◌, ℕ, ◌<◌, Bool, true, false, List, length, Some, refl, sym, ap, ◌∙◌, subst}
+use Rattle.std.proofs.Common.{◌≡◌, ◌⊎◌, ℕ, ◌<◌, Bool, true, false, List, length, Some, refl, sym, ap, ◌∙◌, subst, inl, inr}
 use Rattle.mark_word.specs.Mark.{read_mark}
 use Rattle.core_world.specs.declared.answer.Turn.{Turn}
 use Rattle.core_world.specs.declared.answer.Turn.TheVariants.{Done, Pending}
+use Rattle.core_world.specs.declared.name.Name.{Name}
 use Rattle.core_world.specs.declared.name.Name.TheVariants as name
 use Rattle.core_world.specs.declared.task.Op.{Op}
 use Rattle.core_world.specs.declared.task.Op.TheVariants as op
-use Rattle.core_world.specs.Threads.AtRest.{AtRest, MayAsk, MayRevoke}
-use Rattle.core_world.specs.Trees.BiasSteps.{stage_after}
+use Rattle.core_world.specs.Threads.AtRest.{AtRest, MayAsk, MayRevoke, SawNoOther}
 use Rattle.core_world.specs.Words.Forms.{waits_on}
 use Rattle.core_world.specs.Threads.Known.{Known, StepMade, last_seen}
 use Rattle.core_world.specs.Locks.{is_valid_bias}
 use Rattle.core_world.specs.Trees.Operations.{and_then, revocation_steps}
-use Rattle.core_world.specs.Trees.Plans.{Purpose, done_with}
-use Rattle.core_world.specs.Trees.SafepointSteps.{release_to, safepoint_steps}
+use Rattle.core_world.specs.Trees.Plans.{Purpose}
+use Rattle.core_world.specs.Trees.SafepointSteps.{safepoint_steps}
 use Rattle.core_world.specs.Trees.RevocationSteps.{revoke_at_safepoint_steps}
 use Rattle.core_world.specs.Words.Shape.{class_of}
 use Rattle.core_world.specs.Threads.Stages.{Revocation}
@@ -23,7 +23,7 @@ use Rattle.core_world.specs.Valid.{RevokesWithin}
 use Rattle.core_law.specs.Logic.{Heap, Does}
 use Rattle.core_steps.proofs.Requests.{Asks, Since, Stood, BeginsSafepoint, safepoint_does}
 use Rattle.core_steps.proofs.Resting.{Carries}
-use Rattle.core_steps.proofs.Revocations.{Released, Revoked, revoke_does, release_does}
+use Rattle.core_steps.proofs.Revocations.{Released, Revoked, revoke_does, ending_steps, ending_does}
 use Rattle.core_steps.proofs.SafepointLooks.{going}
 use Rattle.core_steps.proofs.Trees.{answers, binds, follows}
 
@@ -33,10 +33,15 @@ module _ (heap : Heap) (e : Purpose) (b : Revocation) where
   ValidBiasIn seen =
       (v p : ℕ) × (last_seen (name.Mark b.object) seen ≡ Some v) × (last_seen (name.Prototype (class_of heap.shape b.object)) seen ≡ Some p) × (is_valid_bias (read_mark v) p ≡ true)
 
+  -- and no words but those and the safepoint word
+  abbrev pub NoOtherIn : List StepMade → Type 0
+  NoOtherIn seen = (n : Name) (v : ℕ) → last_seen n seen ≡ Some v → (n ≡ name.Safepoint) ⊎ (n ≡ name.Mark b.object) ⊎ (n ≡ name.Prototype (class_of heap.shape b.object))
+
   -- what a thread has to know that asks for a revocation, or whose request for it stands
   pub record BeginsRevocation (operation : Op) (k : Known) : Type 0 where
     pub begins : BeginsSafepoint heap e k.thread k
     pub saw : ValidBiasIn (seen_before heap.shape k)
+    pub alone : NoOtherIn (seen_before heap.shape k)
     pub unreached : k.reached ≡ false
     pub unwaiting : operation ≡ op.Wait → waits_on k.wait b.object ≡ false
 
@@ -52,14 +57,22 @@ module _ (heap : Heap) (e : Purpose) (b : Revocation) where
 
   module _ (operation : Op) (unfinished : e.unfinished ≡ Some (record { op = operation; object = b.object })) (allowed : RevokesWithin operation b.rebias) (object : b.object < length heap.shape.objects)
       (unchecks : e.check ≡ false) where
+    -- the steps up to the safepoint are on the safepoint word alone
+    alone_since : (k l : Known) → NoOtherIn (seen_before heap.shape k) → Since heap e k.thread k l → SawNoOther heap.shape l b.object
+    alone_since k l alone since n v saw = elim (since.alone n v saw) [
+      | inl is ↦ inl is
+      | inr g ↦ alone n v g
+    ]
+
     -- while its request stands it is at rest
     asked : (k : Known) → BeginsRevocation operation k → (l : Known) → Asks heap e k.thread l → Since heap e k.thread k l → (k.reached ≡ false → l.reached ≡ false) → AtRest heap.shape l
     asked k may l a since unreached =
-        let carries : Carries l.log l.wait l.holds l.shots l.unfinished = subst (Carries l.log l.wait l.holds l.shots) a.mine a.carries in
+        let carries : Carries l.moving l.log l.wait l.holds l.shots l.unfinished = subst (Carries l.moving l.log l.wait l.holds l.shots) a.mine a.carries in
         let saw = may.saw in
-        let revokes : MayRevoke heap.shape l b.object = ((saw.0, saw.1, since.mark b.object ∙ saw.2, since.prototype (class_of heap.shape b.object) ∙ saw.3, saw.4), unreached may.unreached) in
+        let revokes : MayRevoke heap.shape l b.object = ((saw.0, saw.1, since.mark b.object ∙ saw.2, since.prototype (class_of heap.shape b.object) ∙ saw.3, saw.4), unreached may.unreached, alone_since k l may.alone since) in
         record {
           calm = a.calm;
+          still = carries.still;
           ended = carries.ended;
           place = carries.place;
           untold = carries.untold;
@@ -72,9 +85,8 @@ module _ (heap : Heap) (e : Purpose) (b : Revocation) where
     -- behind the safepoint
     abbrev revoking : ℕ → Turn (Unit {0}) → Todo (Turn Bool)
     revoking me turn = and_then turn (λ u. do
-      none_revokes ← revoke_at_safepoint_steps heap.shape me e b
-      _ ← release_to (stage_after none_revokes.took b.object) e me
-      done_with none_revokes.took)
+      outcome ← revoke_at_safepoint_steps heap.shape me e b
+      ending_steps heap e b me outcome.took)
 
     released_since : (k l m : Known) (took : Bool) → Since heap e k.thread k l → Released heap e b k.thread l took m → Released heap e b k.thread k took m
     released_since k l m took since x = record {
@@ -85,6 +97,7 @@ module _ (heap : Heap) (e : Purpose) (b : Revocation) where
       shots = x.shots ∙ since.shots;
       runs = x.runs;
       unasks = x.unasks;
+      still = x.still;
       unchecks = x.unchecks;
       mine = x.mine;
       stage = x.stage;
@@ -104,10 +117,10 @@ module _ (heap : Heap) (e : Purpose) (b : Revocation) where
         let since = s.1.1 in
         let saw = may.saw in
         subst (λ z. Does heap z (revoking k.thread (Done tt)) l (λ f turn m. (f ≡ false) × Revoked heap e b k.thread k turn m)) (sym s.0)
-        (going heap (revoke_at_safepoint_steps heap.shape k.thread e b) (λ none_revokes. release_to (stage_after none_revokes.took b.object) e k.thread >>= (λ u. done_with none_revokes.took)) l _ (
+        (going heap (revoke_at_safepoint_steps heap.shape k.thread e b) (λ outcome. ending_steps heap e b k.thread outcome.took) l _ (
         follows heap false (revoke_at_safepoint_steps heap.shape k.thread e b) l _ _ (revoke_does heap e b k.thread operation unfinished allowed object l s.1.0 unwritten
-        (saw.0, saw.1, since.mark b.object ∙ saw.2, since.prototype (class_of heap.shape b.object) ∙ saw.3, saw.4))
-        (λ f a m y. follows heap false _ m _ _ (release_does heap e b k.thread l s.1.0 unwritten m a y.1) (λ f turn n z. (z.0, revoked_since k l n turn since z.1)))))
+        (saw.0, saw.1, since.mark b.object ∙ saw.2, since.prototype (class_of heap.shape b.object) ∙ saw.3, saw.4) (alone_since k l may.alone since))
+        (λ f a m y. follows heap false _ m _ _ (ending_does heap e b k.thread object l s.1.0 unwritten m a y.1) (λ f turn n z. (z.0, revoked_since k l n turn since z.1)))))
     then_revoking k may f (Pending why) l s = answers heap f (Pending why) l _ s
 
     pub revocation_does : (fresh : Bool) (k : Known) → BeginsRevocation operation k

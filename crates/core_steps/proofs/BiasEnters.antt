@@ -11,10 +11,10 @@ use Rattle.core_world.specs.declared.name.Name.TheVariants as name
 use Rattle.core_world.specs.declared.plan.StepPlan.{StepPlan}
 use Rattle.core_world.specs.declared.stage.Stage.TheVariants.{Calm, Takes}
 use Rattle.core_world.specs.declared.task.Op.TheVariants as op
-use Rattle.core_world.specs.Threads.AtRest.{AtRest}
+use Rattle.core_world.specs.Threads.AtRest.{AtRest, SawNoOther}
 use Rattle.core_world.specs.Trees.BiasSteps.{unbias_plan, rebias_plan, took_steps, rebias_steps, bias_enter_at, bias_enter_by, bias_enter_steps, bias_after_at, bias_after_steps, stage_after}
 use Rattle.core_world.specs.Words.Forms.{is_biased, is_biased_form, epoch_in, epoch_form, says_notified}
-use Rattle.core_world.specs.Threads.Known.{Known, Local, local_of, last_seen}
+use Rattle.core_world.specs.Threads.Known.{Known, Local, Still, local_of, last_seen}
 use Rattle.core_world.specs.Clauses.Lengths.{log_limit}
 use Rattle.core_world.specs.Locks.{hold_count, is_valid_bias}
 use Rattle.core_world.specs.Trees.LockSteps.{hold_steps}
@@ -34,7 +34,7 @@ use Rattle.core_locks.proofs.OwnerTurns.{rest_hold}
 use Rattle.core_bias.specs.Biasing.{IsLoose}
 use Rattle.core_counts.specs.Steps.{WentBefore}
 use Rattle.core_law.specs.Logic.{Heap, Stands, Does}
-use Rattle.core_steps.proofs.BiasFacts.{SawHeaders, headers_first, headers_more, look_prototype, unreached_here, bias_stays, biasing_here, IsPrototype, IsPrototypeForm, prototype_here, prototype_form, prototype_neutral, own_bias, neutral_reads_so, loose_unepoched, stale_epoch, own_epoch, free_bias}
+use Rattle.core_steps.proofs.BiasFacts.{SawHeaders, headers_first, headers_more, saw_two, look_prototype, unreached_here, bias_stays, biasing_here, IsPrototype, IsPrototypeForm, prototype_here, prototype_form, prototype_neutral, own_bias, neutral_reads_so, loose_unepoched, stale_epoch, own_epoch, free_bias}
 use Rattle.core_steps.proofs.BiasRules.{rebiases_rule, unbiases_rule}
 use Rattle.core_steps.proofs.Facts.{Untold}
 use Rattle.core_law.proofs.Standing.{fits_here, home, away}
@@ -51,7 +51,7 @@ use Rattle.core_steps.proofs.Trees.{answers, binds, chooses, follows, hitting, s
 module _ (heap : Heap) (o : ℕ) (e : Purpose) (enters : IsUnfinished e.unfinished op.Enter o) where
   -- what the thread counts on all the way
   pub record Enters (k : Known) : Type 0 where
-    pub takes : Taking heap k.running k.requesting k.log e o
+    pub takes : Taking heap k.running k.requesting k.moving k.log e o
     pub mine : k.unfinished ≡ e.unfinished
     pub check : e.check ≡ k.checking
     pub calm : k.stage ≡ Calm
@@ -59,7 +59,7 @@ module _ (heap : Heap) (o : ℕ) (e : Purpose) (enters : IsUnfinished e.unfinish
     pub place : free_place k.holds < 64
 
   pub enters_rests : (k : Known) → Enters k → AtRest heap.shape k
-  enters_rests k x = rests heap.shape k x.calm x.takes.unasks (sym x.check ∙ x.takes.unchecks) (live_carries k.log k.wait k.holds k.unfinished x.takes.live (λ i h. x.place) (λ dumps. undumped_enter e o (inr enters) (sym x.mine ∙ dumps)) x.untold)
+  enters_rests k x = rests heap.shape k x.calm x.takes.unasks (sym x.check ∙ x.takes.unchecks) (live_carries k.log k.wait k.holds k.unfinished x.takes.still x.takes.live (λ i h. x.place) (λ dumps. undumped_enter e o (inr enters) (sym x.mine ∙ dumps)) x.untold)
 
   -- a mark without the bias pattern was found, and no word that a lock's own steps see: the enter goes on by that mark
   pub record FoundMark (here : Local) (kept : Option ℕ) (mark : ℕ) (l : Known) : Type 0 where
@@ -80,6 +80,7 @@ module _ (heap : Heap) (o : ℕ) (e : Purpose) (enters : IsUnfinished e.unfinish
     pub unreached : l.reached ≡ false
     pub saw : last_seen (name.Mark o) l.seen ≡ Some mark
     pub prototype : (p : ℕ) × (last_seen (name.Prototype (class_of heap.shape o)) l.seen ≡ Some p) × (is_valid_bias (read_mark mark) p ≡ true)
+    pub alone : SawNoOther heap.shape l o
 
   -- what follows the answers with which no bias is left to revoke, and each answer
   pub record EnterOutcomes (here : Local) (kept : Option ℕ) (Q : Bool → BiasTry → Known → Type 0) : Type 0 where
@@ -101,7 +102,7 @@ module _ (heap : Heap) (o : ℕ) (e : Purpose) (enters : IsUnfinished e.unfinish
 
   module _ (here : Local) (kept : Option ℕ) (Q : Bool → BiasTry → Known → Type 0) where
     -- THE HOLD under a bias to the thread
-    took_does : EnterOutcomes here kept Q → (k : Known) (path : Path) → Taking heap k.running k.requesting k.log e o → k.unfinished ≡ e.unfinished → Untold k → free_place k.holds < 64 → (k.stage ≡ Takes o) ⊎ (k.stage ≡ Calm)
+    took_does : EnterOutcomes here kept Q → (k : Known) (path : Path) → Taking heap k.running k.requesting k.moving k.log e o → k.unfinished ≡ e.unfinished → Untold k → free_place k.holds < 64 → (k.stage ≡ Takes o) ⊎ (k.stage ≡ Calm)
         → SawOwnBias heap.shape k o → WentBefore heap.biasing heap.shape k o (free_place k.holds) path → Does heap false (took_steps e (local_of k) o path) k Q
     took_does outs k path a mine untold place stage saw went =
         binds heap false (hold_steps e (local_of k) o path) (λ p. done (Took p)) k Q (
@@ -109,7 +110,7 @@ module _ (heap : Heap) (o : ℕ) (e : Purpose) (enters : IsUnfinished e.unfinish
 
     -- behind the loads of the mark and the prototype
     module _ (outs : Tries here kept Q) (k : Known) (mark prototype : ℕ) (x : Enters k) (local : local_of k ≡ here) (same : k.kept ≡ kept) (headers : SawHeaders k) (unreached : k.reached ≡ false)
-        (saw_mark : last_seen (name.Mark o) k.seen ≡ Some mark) (saw_prototype : last_seen (name.Prototype (class_of heap.shape o)) k.seen ≡ Some prototype) where
+        (saw_mark : last_seen (name.Mark o) k.seen ≡ Some mark) (saw_prototype : last_seen (name.Prototype (class_of heap.shape o)) k.seen ≡ Some prototype) (alone : SawNoOther heap.shape k o) where
       -- an exchange that misses
       races : (n : ℕ) (l : Known) → Enters l → Q false (Raced mark n) l
       races n l y = outs.raced l mark n (enters_rests l y)
@@ -162,6 +163,7 @@ module _ (heap : Heap) (o : ℕ) (e : Purpose) (enters : IsUnfinished e.unfinish
             unreached = unreached;
             saw = saw_mark;
             prototype = (prototype, saw_prototype, ap (λ f. is_valid_bias f prototype) reads ∙ valid);
+            alone = alone;
           }))))
           (λ stale. rebias_does epoch is (subst (λ f. IsLoose f (epoch_in prototype)) (sym reads) (stale_epoch old epoch (epoch_in prototype) is stale)))
       at_does epoch (Some (Locked u p)) is reads biased = absurd (cc biased)
@@ -214,7 +216,7 @@ module _ (heap : Heap) (o : ℕ) (e : Purpose) (enters : IsUnfinished e.unfinish
           (record { takes = x.takes; mine = x.mine; check = x.check; calm = x.calm; untold = x.untold; place = x.place })))
 
     -- THE WHOLE, which a call begins with
-    pub bias_enter_does : Tries here kept Q → (k : Known) → Taking heap k.running k.requesting k.log e o → k.stage ≡ Calm → GoesOn k e → e.check ≡ k.checking → Untold k → free_place k.holds < 64 → local_of k ≡ here → k.kept ≡ kept
+    pub bias_enter_does : Tries here kept Q → (k : Known) → Taking heap k.running k.requesting k.moving k.log e o → k.stage ≡ Calm → GoesOn k e → e.check ≡ k.checking → Untold k → free_place k.holds < 64 → local_of k ≡ here → k.kept ≡ kept
         → Does heap true (bias_enter_steps e (local_of k) (class_of heap.shape o) o) k Q
     bias_enter_does outs k a calm goes check untold place local same =
         let look = load e (name.Mark o) in
@@ -231,7 +233,7 @@ module _ (heap : Heap) (o : ℕ) (e : Purpose) (enters : IsUnfinished e.unfinish
         let is : IsPrototype prototype = prototype_here heap l was1.stands a.runs c prototype biasing was1.found in
         by_does outs m mark prototype (record { takes = a; mine = refl; check = refl; calm = refl; untold = untold; place = place }) local same (headers_more heap ask_prototype prototype l refl j refl headers)
         (unreached_here heap k was.stands a.runs)
-        (saw_older heap ask_prototype prototype l (name.Mark o) j refl refl ∙ saw_newest heap look mark k) (saw_newest heap ask_prototype prototype l)
+        (saw_older heap ask_prototype prototype l (name.Mark o) j refl refl ∙ saw_newest heap look mark k) (saw_newest heap ask_prototype prototype l) (saw_two heap e o mark prototype k i a.unasks j)
         (read_mark prototype) refl (prototype_form prototype is) yes is))
         (λ no. answers heap false (Unbiased mark) l Q (outs.outcomes.unbiased l mark (record {
           going = record { takes = a; mine = refl; check = refl; calm = refl; untold = untold; place = place };
@@ -256,11 +258,12 @@ pub record Wants (heap : Heap) (o : ℕ) (e : Purpose) (here : Local) : Type 0 w
 unwaiting_enter : (e : Purpose) (o : ℕ) → IsUnfinished e.unfinished op.Enter o → (i : ℕ) → IsUnfinished e.unfinished op.Wait i → ⊥
 unwaiting_enter e o enters i h = let a = ap (is_of_kind op.Enter) (sym enters ∙ h) in cc a
 
-pub taking : (heap : Heap) (o : ℕ) (e : Purpose) (here : Local) (k : Known) → IsUnfinished e.unfinished op.Enter o → Wants heap o e here → local_of k ≡ here → k.running ≡ true → k.requesting ≡ false
-    → Taking heap k.running k.requesting k.log e o
-taking heap o e here k enters x local runs unasks = record {
+pub taking : (heap : Heap) (o : ℕ) (e : Purpose) (here : Local) (k : Known) → IsUnfinished e.unfinished op.Enter o → Wants heap o e here → local_of k ≡ here → k.running ≡ true → k.requesting ≡ false → k.moving ≡ Still
+    → Taking heap k.running k.requesting k.moving k.log e o
+taking heap o e here k enters x local runs unasks still = record {
   runs = runs;
   unasks = unasks;
+  still = still;
   unchecks = x.unchecks;
   live = ap (λ z. ends z.log) local ∙ x.live;
   room = subst (λ z. length z.log < log_limit) (sym local) x.room;
@@ -307,7 +310,7 @@ module _ (heap : Heap) (e : Purpose) (b : Revocation) (enters : IsUnfinished e.u
   own_does (Some (Anonymous epoch age)) mark p x bias saw = absurd bias
   own_does (Some (Biased u epoch age)) mark p x bias saw =
       chooses heap false (u == k.thread) _ _ (then_known true mark) Q
-      (λ mine. took_does heap o e enters here kept Q outs (then_known true mark) BiasTaken (taking heap o e here k enters wants local x.runs x.unasks) refl untold_here place_here (inl refl) saw refl)
+      (λ mine. took_does heap o e enters here kept Q outs (then_known true mark) BiasTaken (taking heap o e here k enters wants local x.runs x.unasks x.still) refl untold_here place_here (inl refl) saw refl)
       (λ no. absurd (cc (eq-eqb u k.thread bias.0, no)))
   own_does (Some (Locked u p)) mark q x bias saw = absurd bias
   own_does (Some (Inflated m)) mark p x bias saw = absurd bias
@@ -329,7 +332,7 @@ module _ (heap : Heap) (e : Purpose) (b : Revocation) (enters : IsUnfinished e.u
       let unbiased : is_biased mark ≡ false = ap is_biased (sym was.found) ∙ unbiased_here heap false k o was.stands x.runs (inr (refl, (x.mark.0, x.mark.2, x.mark.4))) in
       chooses heap false (is_biased mark) _ _ l Q (λ yes. absurd (cc (yes, unbiased))) (λ no.
       answers heap false (Unbiased mark) l Q (outs.unbiased l mark (record {
-        going = record { takes = taking heap o e here k enters wants local x.runs x.unasks; mine = refl; check = refl; calm = refl; untold = untold_here; place = place_here };
+        going = record { takes = taking heap o e here k enters wants local x.runs x.unasks x.still; mine = refl; check = refl; calm = refl; untold = untold_here; place = place_here };
         local = local;
         kept_is = same;
         headers = headers_more heap (look false) mark k refl i refl x.unseen;

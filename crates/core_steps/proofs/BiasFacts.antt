@@ -9,6 +9,7 @@ use Rattle.core_world.specs.declared.name.Name.{Name}
 use Rattle.core_world.specs.declared.name.Name.TheVariants as name
 use Rattle.core_world.specs.declared.plan.StepPlan.{StepPlan}
 use Rattle.core_world.specs.declared.stage.Stage.TheVariants.{Calm}
+use Rattle.core_world.specs.Threads.AtRest.{SawNoOther}
 use Rattle.core_world.specs.Words.Forms.{is_biased, is_biased_form, epoch_in, epoch_form}
 use Rattle.core_world.specs.Threads.Known.{Known, last_seen}
 use Rattle.core_world.specs.Locks.{has_epoch, is_valid_bias, marks}
@@ -28,7 +29,7 @@ use Rattle.core_bias.proofs.Wholes.{biasing_on}
 use Rattle.core_counts.specs.Steps.{SawFreeBias}
 use Rattle.core_law.specs.Logic.{Heap, Stands}
 use Rattle.core_law.proofs.Standing.{fits_here, away, few_threads}
-use Rattle.core_steps.proofs.SeenSteps.{saw_any, first_any}
+use Rattle.core_steps.proofs.SeenSteps.{saw_any, first_any, first_alone, alone_more}
 
 -- in its call it has seen marks and prototypes alone, besides the safepoint word
 abbrev pub SawHeaders : Known → Type 0
@@ -52,6 +53,16 @@ module _ (heap : Heap) (p : StepPlan) (n : ℕ) (k : Known) (on_header : is_head
       → SawHeaders (known_hit heap.shape heap.start p n k)
   headers_more going kept bare m h other =
       saw_any heap p n k m going kept ∙ ap (λ (z : Bool). cond z (Some (word_after p.act n)) (last_seen m k.seen)) (hidden_apart m p.at h on_header) ∙ bare m h other
+
+-- by the loads of an object's mark and then of its class's prototype, with which a call begins, it has seen no other words
+pub saw_two : (heap : Heap) (e : Purpose) (o mark prototype : ℕ) (k : Known) → is_idle heap.shape k ≡ true → k.requesting ≡ false → is_idle heap.shape (known_hit heap.shape heap.start (load e (name.Mark o)) mark k) ≡ false
+    → SawNoOther heap.shape (known_hit heap.shape heap.start (load e (name.Prototype (class_of heap.shape o))) prototype (known_hit heap.shape heap.start (load e (name.Mark o)) mark k)) o
+saw_two heap e o mark prototype k over unasks going n v saw =
+    let l = known_hit heap.shape heap.start (load e (name.Mark o)) mark k in
+    elim (alone_more heap (load e (name.Prototype (class_of heap.shape o))) prototype l n v going refl saw) [
+      | inl is ↦ inr (inr is)
+      | inr g ↦ inr (inl (first_alone heap (load e (name.Mark o)) mark k n v over unasks refl g))
+    ]
 
 pub look_prototype : (k : Known) (e : Purpose) → k.running ≡ true → k.stage ≡ Calm → e.check ≡ k.checking → GoesOn k e → (c : ℕ) → IsLook k (load e (name.Prototype c))
 look_prototype k e runs calm check goes c =

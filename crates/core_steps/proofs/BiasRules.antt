@@ -1,5 +1,5 @@
 -- The laws of core_bias, with those of core_counts beside them, as rules of the logic.
-use Rattle.std.proofs.Common.{◌≡◌, ℕ, ◌<◌, Bool, true, false, length, Option, Some, refl, sym, ◌∙◌, subst, inl, inr}
+use Rattle.std.proofs.Common.{◌≡◌, ℕ, ◌<◌, Bool, true, false, List, length, Option, Some, refl, sym, ◌∙◌, subst, inl, inr}
 use Rattle.mark_word.specs.declared.mark.MarkForm.{MarkForm}
 use Rattle.mark_word.specs.declared.mark.MarkForm.TheVariants.{Biased}
 use Rattle.mark_word.specs.Mark.{read_mark}
@@ -10,37 +10,47 @@ use Rattle.core_world.specs.declared.plan.Own.TheVariants as own
 use Rattle.core_world.specs.Trees.BiasSteps.{rebias_plan, unbias_plan, stage_after}
 use Rattle.core_world.specs.Threads.Known.{Known}
 use Rattle.core_world.specs.Words.Forms.{epoch_in, is_biased, is_biased_form}
-use Rattle.core_world.specs.Trees.Plans.{Purpose}
-use Rattle.core_world.specs.Trees.SafepointSteps.{release_plan}
+use Rattle.core_world.specs.Trees.Plans.{Purpose, load_plan}
+use Rattle.core_world.specs.World.{World}
+use Rattle.plain_monitor.specs.Objects.{PlainObject}
 use Rattle.core_world.specs.Trees.RevocationSteps.{revoke_plan}
 use Rattle.core_world.specs.There.{IsIn}
 use Rattle.core_world.specs.Words.Shape.{class_of}
 use Rattle.core_world.specs.Threads.Stages.{Revocation, revocation_in}
 use Rattle.core_world.specs.Steps.{world_after}
-use Rattle.core_world.specs.Valid.{IsRevoking}
+use Rattle.core_world.specs.Valid.{Fits, IsRevoking, IsValid}
 use Rattle.core_locks.specs.Knowing.{IsBiasTo}
 use Rattle.core_bias.specs.Biasing.{MayRebias, MayUnbias}
-use Rattle.core_bias.specs.Revoking.{MayBeginRevoking, MayGoOnRevoking, MayEndRevoking, TellsBias}
+use Rattle.core_bias.specs.Revoking.{MayBeginRevoking, MayGoOnRevoking, MayLookAfterRevoking, TellsBias}
 use Rattle.core_bias.proofs.Rebiases.{rebias_valid, drop_valid}
-use Rattle.core_bias.proofs.Wholes.{all_made, begin_revokes, goes_on_revokes, release_fits}
+use Rattle.core_bias.proofs.Wholes.{all_made, begin_revokes, goes_on_revokes}
+use Rattle.core_bias.proofs.LoadEnds.{load_fits}
+use Rattle.core_bias.proofs.TakesThere.{load_takes}
 use Rattle.core_law.specs.BiasLaw.{BiasLawHolds, WhollyValid}
 use Rattle.core_counts.specs.Steps.{MayTakeBias, MayDropBias}
 use Rattle.core_counts.proofs.BiasTakes.{bias_taken}
 use Rattle.core_counts.proofs.BiasDrops.{bias_dropped}
-use Rattle.core_counts.proofs.RevocationEnds.{revocation_ended}
+use Rattle.core_counts.proofs.RevocationLooks.{revocation_looked}
 use Rattle.core_law.specs.Logic.{Heap, Stands, Keeps}
 use Rattle.core_steps.proofs.LawRules.{keeps, calm_in_all}
 use Rattle.core_law.proofs.Standing.{away, home, inside}
 use Rattle.core_law.proofs.Wholes.{requester_is}
 
+-- a bias has the bias pattern
+pub bias_biased : (t : ℕ) (m : Option MarkForm) (epoch : Option ℕ) → IsBiasTo t m epoch → is_biased_form m ≡ true
+bias_biased t (Some (Biased thread old age)) epoch h = refl
+bias_biased t _ epoch h = absurd h
+
 -- what the steps of a revocation tell of the new bias is whether the mark has the bias pattern
 took_biased : (t o c : ℕ) (took : Bool) (f : Name → ℕ) → TellsBias t o c took f → took ≡ is_biased (f (Mark o))
 took_biased t o c false f tells = sym tells
-took_biased t o c true f tells = cases (read_mark (f (Mark o))) tells
-  where
-    cases : (m : Option MarkForm) → IsBiasTo t m (epoch_in (f (Prototype c))) → true ≡ is_biased_form m
-    cases (Some (Biased thread epoch age)) h = refl
-    cases _ h = absurd h
+took_biased t o c true f tells = sym (bias_biased t (read_mark (f (Mark o))) (epoch_in (f (Prototype c))) tells)
+
+-- every clause holds behind the load that ends it, whether the thread gave itself a bias or not
+look_fits : (w : World) (P : List PlainObject) (t : ℕ) (e : Purpose) (b : Revocation) (at : Name) (took : Bool) → t < w.shape.threads → MayLookAfterRevoking w.shape (w.known t) e t b → IsValid w P
+    → Fits (world_after (load_plan e (stage_after took b.object) at) t w) P
+look_fits w P t e b at false within may valid = load_fits w P t e b at may valid
+look_fits w P t e b at true within may valid = load_takes w P t e b at b.object within may valid
 
 module _ (heap : Heap) (k : Known) where
   -- EXCHANGES of a mark that is anonymous or stale: for the own bias
@@ -104,28 +114,28 @@ module _ (heap : Heap) (k : Known) where
         record { objects = v.objects; is = inr (r.0, subst BiasLawHolds (sym r.1) law) }) v (may v).reached (may v).its_revocation;
   }
 
-  -- and the release, which counts as a whole: whether a bias was taken, the object's words tell then
-  pub ends_revoking_rule : (e : Purpose) (b : Revocation) (took : Bool)
-      → (Stands heap k → MayEndRevoking heap.shape k e k.thread b)
+  -- and the load behind them, which counts as a whole: whether a bias was taken, the object's words tell then
+  pub looks_behind_rule : (e : Purpose) (b : Revocation) (took : Bool) (at : Name) → (Stands heap k → IsIn heap.shape at)
+      → (Stands heap k → MayLookAfterRevoking heap.shape k e k.thread b)
       → ((v : Stands heap k) → TellsBias k.thread b.object (class_of heap.shape b.object) took v.world.words)
-      → Keeps heap (release_plan e (stage_after took b.object) k.thread) k
-  ends_revoking_rule e b took may tells = record {
-    there = λ v. (tt, tt);
+      → Keeps heap (load_plan e (stage_after took b.object) at) k
+  looks_behind_rule e b took at there may tells = record {
+    there = λ v. (there v, tt);
     exact = λ v. tt;
-    by = λ v. in_middle (λ v u. WhollyValid (world_after (release_plan e (stage_after took b.object) u) u v.world)) b
+    by = λ v. in_middle (λ v u. WhollyValid (world_after (load_plan e (stage_after took b.object) at) u v.world)) b
         (λ v s same law.
-        let m = away heap k v (λ z y. MayEndRevoking z y e k.thread b) (may v) in
-        let mine = subst (λ u. MayEndRevoking v.world.shape (v.world.known u) e u b) (sym same) m in
-        let its : s.revocation ≡ b = let both : Some s.revocation ≡ Some b = sym s.its_revocation ∙ mine.its_revocation in cc both in
+        let within = subst (λ u. u < v.world.shape.threads) (sym same) (inside heap k v) in
+        let mine = subst (λ u. MayLookAfterRevoking v.world.shape (v.world.known u) e u b) (sym same) (away heap k v (λ z y. MayLookAfterRevoking z y e k.thread b) (may v)) in
+        let its : s.revocation ≡ b = let both : Some s.revocation ≡ Some b = sym s.its_revocation ∙ mine.ends.its_revocation in cc both in
         let told : TellsBias k.thread s.revocation.object (class_of v.world.shape s.revocation.object) took v.world.words =
         subst (λ (c : Revocation). TellsBias k.thread c.object (class_of v.world.shape c.object) took v.world.words) (sym its)
         (away heap k v (λ z y. TellsBias k.thread b.object (class_of z b.object) took v.world.words) (tells v)) in
-        let fits = release_fits v.world v.objects s.requester e b took mine (inr s) in
-        let counted : BiasLawHolds (world_after (release_plan e (stage_after took s.revocation.object) s.requester) s.requester v.world) =
-        revocation_ended v.world v.objects s e took
-        (record { over = all_made v.world v.objects e b s mine; says = took_biased k.thread s.revocation.object (class_of v.world.shape s.revocation.object) took v.world.words told; goes_on = mine.goes_on }) law in
+        let fits = look_fits v.world v.objects s.requester e b at took within mine (inr s) in
+        let counted : BiasLawHolds (world_after (load_plan e (stage_after took s.revocation.object) at) s.requester v.world) =
+        revocation_looked v.world v.objects s e took at
+        (record { over = all_made v.world v.objects e b s mine.ends; says = took_biased k.thread s.revocation.object (class_of v.world.shape s.revocation.object) took v.world.words told; goes_on = mine.ends.goes_on }) law in
         record {
           objects = v.objects;
-          is = inl (fits, subst (λ (c : Revocation). BiasLawHolds (world_after (release_plan e (stage_after took c.object) s.requester) s.requester v.world)) its counted);
-        }) v (may v).reached (may v).its_revocation;
+          is = inl (fits, subst (λ (c : Revocation). BiasLawHolds (world_after (load_plan e (stage_after took c.object) at) s.requester v.world)) its counted);
+        }) v (may v).ends.reached (may v).ends.its_revocation;
   }

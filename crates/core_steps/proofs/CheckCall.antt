@@ -28,6 +28,9 @@ use Rattle.core_world.specs.Words.Shape.{monitor_count}
 use Rattle.core_law.specs.Logic.{Heap, Does}
 use Rattle.core_law.specs.Sound.{Finishes}
 use Rattle.core_law.specs.Begins.{BeginsWell}
+use Rattle.core_world.specs.declared.stage.Stage.TheVariants.{Calm}
+use Rattle.core_world.specs.Trees.DeflateSteps.{deflate_steps}
+use Rattle.core_steps.proofs.Deflations.{deflate_does, still_carries}
 use Rattle.core_steps.proofs.LawRules.{releases, halts}
 use Rattle.core_steps.proofs.SafepointLooks.{Reaches, keeps_look, Facts, each_does, going}
 use Rattle.core_law.proofs.SafepointSights.{Seeing, seeing_all, is_as_seen, fits_reached, saw_there, still_seen, found_formed}
@@ -139,7 +142,7 @@ module _ (heap : Heap) (e : Purpose) (me : ℕ) (checks : e.check ≡ true) wher
       → Does heap false (check_ending b e k.thread) k (λ b r l. AtRest heap.shape l)
   ending_does true k r stuck =
       finding heap false _ _ k _ (λ n was. eq-eqb n (reached_word k.thread) (reached_there heap k n was.stands was.found r.reached))
-      (λ i. halts heap k (record e { check = false }) (record { reached = r.reached; calm = r.calm; live = r.live; stuck = stuck refl; goes_on = r.mine })) (λ n i was.
+      (λ i. halts heap k (record e { check = false }) (record { reached = r.reached; calm = r.calm; live = r.live; stuck = stuck refl; still = r.carries.still; goes_on = r.mine })) (λ n i was.
       let there = reached_there heap k n was.stands was.found r.reached in
       chooses_then heap false (n == reached_word k.thread) _ _ _ _ _
       (λ hit. answers heap false _ _ _ (rests heap.shape _ refl
@@ -148,7 +151,7 @@ module _ (heap : Heap) (e : Purpose) (me : ℕ) (checks : e.check ≡ true) wher
       (λ miss. absurd (cc (miss, eq-eqb n (reached_word k.thread) there))))
   ending_does false k r stuck =
       finding heap false _ _ k _ (λ n was. eq-eqb n (reached_word k.thread) (reached_there heap k n was.stands was.found r.reached))
-      (λ i. releases heap k (record e { check = false }) (record { reached = r.reached; calm = r.calm; goes_on = r.mine })) (λ n i was.
+      (λ i. releases heap k (record e { check = false }) (record { reached = r.reached; calm = r.calm; still = r.carries.still; goes_on = r.mine })) (λ n i was.
       let there = reached_there heap k n was.stands was.found r.reached in
       chooses_then heap false (n == reached_word k.thread) _ _ _ _ _
       (λ hit. answers heap false _ _ _ (rests heap.shape _ refl (released_unasks heap k n was.stands there) refl r.carries))
@@ -157,7 +160,42 @@ module _ (heap : Heap) (e : Purpose) (me : ℕ) (checks : e.check ≡ true) wher
   abbrev pub checked : Turn (Unit {0}) → Todo (Turn Bool)
   checked turn = and_then turn (λ _. do
     still ← stands_still_steps e heap.shape
+    _ ← deflate_steps heap.shape e Calm
     check_ending still e me)
+
+  -- The idle monitors are given back. Whoever was seen to be stuck is so still.
+  abbrev deflated : Bool → Todo (Turn Bool)
+  deflated still = deflate_steps heap.shape e Calm >>= (λ u. check_ending still e me)
+
+  deflating_does : (still : Bool) (k : Known) → Reaches me k e → (still ≡ true → (t : ℕ) → t < heap.shape.threads → SeesEnded k t ⊎ SeesHeldUp k t)
+      → Does heap false (deflated still) k (λ b r l. AtRest heap.shape l)
+  deflating_does still k r stuck =
+      going heap (deflate_steps heap.shape e Calm) (λ u. check_ending still e me) k _ (
+      follows heap false _ k _ _ (deflate_does heap e k Calm refl k (record {
+        reached = r.reached;
+        stopped = r.stopped;
+        stands = r.calm;
+        check = r.check;
+        mine = r.mine;
+        still = r.carries.still;
+        local = refl;
+        kept = refl;
+        saved = refl;
+        draws = refl;
+        shots = refl;
+      })) (λ b u l x.
+      let y = x.0 in
+      let now : Reaches me l e = record {
+        number = ap (λ z. z.thread) y.local ∙ r.number;
+        reached = y.reached;
+        stopped = y.stopped;
+        calm = y.stands;
+        check = y.check;
+        mine = y.mine;
+        live = ap (λ z. ends z.log) y.local ∙ r.live;
+        carries = still_carries heap e k Calm refl l y r.carries;
+      } in
+      subst (λ t. Does heap false (check_ending still e t) l (λ b r l. AtRest heap.shape l)) now.number (ending_does still l now (λ yes t h. x.1.held t h (stuck yes t h)))))
 
   both_hold : (a b : Bool) → (a && b) ≡ true → b ≡ true
   both_hold true b e = e
@@ -166,12 +204,12 @@ module _ (heap : Heap) (e : Purpose) (me : ℕ) (checks : e.check ≡ true) wher
   -- at the reached safepoint
   standing_does : (k : Known) → Reaches me k e → Does heap false (checked (Done tt)) k (λ b r l. AtRest heap.shape l)
   standing_does k r =
-      going heap (stands_still_steps e heap.shape) (λ still. check_ending still e me) k _ (
+      going heap (stands_still_steps e heap.shape) (λ still. deflated still) k _ (
       going heap (each_from 0 heap.shape.threads turn_of) (λ xs. done (some_live xs && none_goes_on xs)) k _ (
       follows heap false _ k _ _ (each_does heap turn_of (λ k. Reaches me k e) Told told_more heap.shape.threads turn_does 0 heap.shape.threads k (omega arith) r) (λ b xs l x.
       answers heap false (some_live xs && none_goes_on xs) l _ (
-      subst (λ t. Does heap false (check_ending (some_live xs && none_goes_on xs) e t) l (λ b r l. AtRest heap.shape l)) x.0.number
-      (ending_does (some_live xs && none_goes_on xs) l x.0 (λ yes t h. subst (λ z. SeesEnded l z ⊎ SeesHeldUp l z) (zero-add t) (all_stuck 0 heap.shape.threads xs l x.2 (both_hold (some_live xs) (none_goes_on xs) yes) t h)))))))
+      deflating_does (some_live xs && none_goes_on xs) l x.0
+      (λ yes t h. subst (λ z. SeesEnded l z ⊎ SeesHeldUp l z) (zero-add t) (all_stuck 0 heap.shape.threads xs l x.2 (both_hold (some_live xs) (none_goes_on xs) yes) t h))))))
 
   then_checked : (k0 : Known) (b : Bool) (r : Turn (Unit {0})) (k : Known) → (b ≡ false) × Stood heap e me k0 r k → Does heap b (checked r) k (λ b r l. AtRest heap.shape l)
   then_checked k0 b (Done x) k s = subst (λ z. Does heap z (checked (Done tt)) k (λ b r l. AtRest heap.shape l)) (sym s.0) (standing_does k s.1.0)
@@ -184,12 +222,12 @@ module _ (heap : Heap) (e : Purpose) (me : ℕ) (checks : e.check ≡ true) wher
   check_does k number rest live mine asking running =
       binds heap true (safepoint_steps e k.thread k.requesting) checked k _ (
       follows heap true _ k _ _ (safepoint_does heap e me k
-      (λ l a since unreached. rests_checking heap.shape l a.calm a.stopped a.asks (sym a.check ∙ checks) (subst (Carries l.log l.wait l.holds l.shots) a.mine a.carries))
+      (λ l a since unreached. rests_checking heap.shape l a.calm a.stopped a.asks (sym a.check ∙ checks) (subst (Carries l.moving l.log l.wait l.holds l.shots) a.mine a.carries))
       true (record {
         number = number;
         rest = rest;
         live = live;
-        carries = subst (Carries k.log k.wait k.holds k.shots) (sym mine) (carried heap.shape k rest);
+        carries = subst (Carries k.moving k.log k.wait k.holds k.shots) (sym mine) (carried heap.shape k rest);
         asking = λ asks. (checks ∙ sym (asking asks), mine);
         running = λ free. (running free, inl mine);
       }))

@@ -9,7 +9,6 @@ use Rattle.mark_word.specs.declared.owner.OwnerForm.TheVariants.{ByThread, ByRec
 use Rattle.mark_word.specs.Mark.{read_mark}
 use Rattle.mark_word.specs.Owner.{read_owner}
 use Rattle.plain_monitor.specs.declared.entry.Entry.TheVariants as entry
-use Rattle.core_world.specs.declared.act.Act.TheVariants.{Load}
 use Rattle.core_world.specs.declared.answer.Turn.{Turn}
 use Rattle.core_world.specs.declared.answer.Turn.TheVariants.{Done, Pending}
 use Rattle.core_world.specs.declared.name.Name.{Name}
@@ -21,7 +20,7 @@ use Rattle.core_world.specs.declared.task.Unfinished.{Unfinished}
 use Rattle.core_world.specs.Threads.AtRest.{AtRest, MayAsk}
 use Rattle.core_world.specs.Trees.Calls.{steps_of, may_begin}
 use Rattle.core_world.specs.Words.Forms.{epoch_in, runs_in}
-use Rattle.core_world.specs.Threads.Known.{Known, Local, DumpShot, local_of, start_of}
+use Rattle.core_world.specs.Threads.Known.{Known, Local, Still, DumpShot, local_of, start_of}
 use Rattle.core_world.specs.Clauses.Lengths.{log_limit}
 use Rattle.core_world.specs.Locks.{has_epoch}
 use Rattle.core_world.specs.Trees.LookSteps.{keep_shot_plan, look_at_holds, look_at_owner, look_behind, look_at_objects, take_shot_steps}
@@ -31,7 +30,7 @@ use Rattle.core_world.specs.Trees.SafepointSteps.{reached_word, released_word, s
 use Rattle.core_world.specs.Clauses.Safepoints.{IsUnfinished, ends}
 use Rattle.core_world.specs.Words.Shape.{Shape, class_of, IsInLimits}
 use Rattle.core_world.specs.Shots.{dumps_from}
-use Rattle.core_world.specs.Steps.{known_hit, shot_of, seen_at_safepoint_before}
+use Rattle.core_world.specs.Steps.{known_hit, shot_of}
 use Rattle.core_world.specs.Trees.Todo.{Todo, done, never, step, ask, all_from, ◌>>=◌}
 use Rattle.core_world.specs.Trees.WaitSteps.{publish_steps}
 use Rattle.core_locks.specs.ShotLaws.{SawAll, SawSteps, MayKeepShot, shot_looks}
@@ -48,11 +47,14 @@ use Rattle.core_law.specs.Sound.{Finishes}
 use Rattle.core_law.specs.Begins.{BeginsWell}
 use Rattle.core_steps.proofs.Facts.{Untold, ready_here}
 use Rattle.core_law.proofs.Standing.{fits_here, home, valid_here, few_threads}
+use Rattle.core_world.specs.Trees.DeflateSteps.{deflate_steps}
+use Rattle.core_world.specs.Words.Forms.{says_notified}
+use Rattle.core_steps.proofs.Deflations.{deflate_does}
 use Rattle.core_steps.proofs.LawRules.{keeps_calm, releases, publishes, limits}
 use Rattle.core_steps.proofs.Requests.{Asks, Stood, BeginsSafepoint, safepoint_does}
 use Rattle.core_steps.proofs.Resting.{Carries, logged_carries, rests}
 use Rattle.core_steps.proofs.SafeCalls.{closes, released_unasks}
-use Rattle.core_steps.proofs.SafepointLooks.{Reaches, keeps_look, going}
+use Rattle.core_steps.proofs.SafepointLooks.{Reaches, stays_reached, stood_kept, keeps_look, going}
 use Rattle.core_law.proofs.SafepointSights.{Seeing, seeing_all, seeing_itself, saw_there, still_seen, found_formed}
 use Rattle.core_steps.proofs.SafeWords.{reached_there, released_runs}
 use Rattle.core_steps.proofs.Tests.{asking_goes, free_runs, Operates, operates, going_is, goes_on_or_begins, is_of_kind}
@@ -105,11 +107,6 @@ module _ (s : Shape) (e : Purpose) where
         ((name.Mark o, object, refl), λ n formed. look_named (read_mark n) o object formed)))
         (λ u. looks_each 0 s.threads (λ t. ask (load e (name.Length t)) >>= (λ n. done tt)) (λ t less. look_one (name.Length t) (omega (arith, less))))
 
--- a load at the reached safepoint forgets nothing
-stood_kept : (at : Name) (k : Known) → k.reached ≡ true → seen_at_safepoint_before at Load k ≡ k.seen_at_safepoint
-stood_kept name.Safepoint k reached = ap (λ (b : Bool). cond b k.seen_at_safepoint []) reached
-stood_kept _ k reached = refl
-
 -- no other operation is unfinished
 unwaiting_dump : (u : Option Unfinished) → IsUnfinished u op.Dump 0 → (o : ℕ) → IsUnfinished u op.Wait o → ⊥
 unwaiting_dump u e o h = let a = ap (is_of_kind op.Dump) (sym e ∙ h) in cc a
@@ -128,15 +125,11 @@ module _ (heap : Heap) (me : ℕ) (here : Local) (shots : List DumpShot) (room :
     same : local_of k ≡ here
     shots_are : k.shots ≡ shots
 
-  or_true : (a b : Bool) → a ≡ true → (a || b) ≡ true
-  or_true true b e = refl
-  or_true false b e = absurd (cc e)
-
   after_load : (at : Name) (n : ℕ) (k : Known) → Dumps k → Dumps (known_hit heap.shape heap.start (load dump_errand at) n k)
   after_load name.Safepoint n k d =
       let r = d.reaches in
       record {
-        reaches = record { number = r.number; reached = or_true k.reached _ r.reached; stopped = r.stopped; calm = refl; check = refl; mine = refl; live = r.live; carries = r.carries };
+        reaches = record { number = r.number; reached = stays_reached k.reached _ r.reached; stopped = r.stopped; calm = refl; check = refl; mine = refl; live = r.live; carries = r.carries };
         same = d.same;
         shots_are = d.shots_are;
       }
@@ -166,6 +159,7 @@ module _ (heap : Heap) (me : ℕ) (here : Local) (shots : List DumpShot) (room :
   record HasShot (shot : DumpShot) (k : Known) : Type 0 where
     reached : k.reached ≡ true
     calm : k.stage ≡ Calm
+    still : k.moving ≡ Still
     mine : dump_errand.unfinished ≡ k.unfinished
     live : ends k.log ≡ false
     untold : Untold k
@@ -183,7 +177,7 @@ module _ (heap : Heap) (me : ℕ) (here : Local) (shots : List DumpShot) (room :
   ending_does : (k : Known) (shot : DumpShot) → HasShot shot k → Does heap false released k (λ b r l. AtRest heap.shape l)
   ending_does k shot r = subst (λ z. Does heap false (release_safepoint dump_errand z.thread >>= (λ u. publish_steps (entry.Dump (length shots + 1)) dump_errand z >>= (λ u. done_with (length shots + 1)))) k (λ b r l. AtRest heap.shape l)) r.same (
       finding heap false (release_plan dump_errand Calm k.thread) _ k _ (λ n was. eq-eqb n (reached_word k.thread) (reached_there heap k n was.stands was.found r.reached))
-      (λ i. releases heap k dump_errand (record { reached = r.reached; calm = r.calm; goes_on = r.mine })) (λ n i was.
+      (λ i. releases heap k dump_errand (record { reached = r.reached; calm = r.calm; still = r.still; goes_on = r.mine })) (λ n i was.
       let exchange = release_plan dump_errand Calm k.thread in
       let l = known_hit heap.shape heap.start exchange n k in
       let found = reached_there heap k n was.stands was.found r.reached in
@@ -209,11 +203,46 @@ module _ (heap : Heap) (me : ℕ) (here : Local) (shots : List DumpShot) (room :
         },
         tt,
       )))
-      (λ n i was. answers heap false _ _ _ (rests heap.shape _ refl unasks refl (logged_carries k.log _ k.wait _ r.live refl r.untold))))
+      (λ n i was. answers heap false _ _ _ (rests heap.shape _ refl unasks refl (logged_carries k.log _ k.wait _ r.still r.live refl r.untold))))
       (λ no. absurd (cc (hit, no)))))
 
+  -- the idle monitors are given back first
+  abbrev deflated : Todo (Turn ℕ)
+  deflated = do
+    _ ← deflate_steps heap.shape dump_errand Calm
+    released
+
+  deflating_does : (k : Known) (shot : DumpShot) → HasShot shot k → k.running ≡ false → dump_errand.check ≡ k.checking → Does heap false deflated k (λ b r l. AtRest heap.shape l)
+  deflating_does k shot r stopped check =
+      going heap (deflate_steps heap.shape dump_errand Calm) (λ u. released) k _ (
+      follows heap false _ k _ _ (deflate_does heap dump_errand k Calm refl k (record {
+        reached = r.reached;
+        stopped = stopped;
+        stands = r.calm;
+        check = check;
+        mine = r.mine;
+        still = r.still;
+        local = refl;
+        kept = refl;
+        saved = refl;
+        draws = refl;
+        shots = refl;
+      })) (λ b u l x.
+      let y = x.0 in
+      ending_does l shot (record {
+        reached = y.reached;
+        calm = y.stands;
+        still = y.still;
+        mine = y.mine;
+        live = ap (λ z. ends z.log) y.local ∙ r.live;
+        untold = λ o. ap (λ z. says_notified z.wait o) y.local ∙ r.untold o;
+        same = y.local ∙ r.same;
+        shots_are = y.shots ∙ r.shots_are;
+        logged = r.logged;
+      })))
+
   -- the load that keeps the shot
-  shooting_does : (k : Known) → Dumps k → SawAll heap.shape k → Does heap false (ask (keep_shot_plan dump_errand) >>= (λ n. done tt)) k (λ b (u : Unit {0}) l. Does heap false released l (λ b r l. AtRest heap.shape l))
+  shooting_does : (k : Known) → Dumps k → SawAll heap.shape k → Does heap false (ask (keep_shot_plan dump_errand) >>= (λ n. done tt)) k (λ b (u : Unit {0}) l. Does heap false deflated l (λ b r l. AtRest heap.shape l))
   shooting_does k d saw =
       let r = d.reaches in
       let p = keep_shot_plan dump_errand in
@@ -223,28 +252,29 @@ module _ (heap : Heap) (me : ℕ) (here : Local) (shots : List DumpShot) (room :
       (λ v. (tt, subst (λ z. length z < 4) (sym d.shots_are) few))
       (λ v. record { reached = r.reached; calm = r.calm; dumps = sym r.mine; goes_on = r.mine; logged = logged; room = subst (λ z. length z < 4) (sym d.shots_are) few; saw = saw })) (λ n i was.
       let l = known_hit heap.shape heap.start p n k in
-      answers heap false _ l _ (ending_does l (shot_of heap.shape k) (record {
-        reached = or_true k.reached _ r.reached;
+      answers heap false _ l _ (deflating_does l (shot_of heap.shape k) (record {
+        reached = stays_reached k.reached _ r.reached;
         calm = refl;
+        still = r.carries.still;
         mine = refl;
         live = r.live;
         untold = r.carries.untold;
         same = d.same;
         shots_are = ap (λ z. z ++ shot_of heap.shape k ∷ []) d.shots_are;
         logged = ap (λ z. length z) (sym d.shots_are) ∙ logged ∙ ap (λ z. length (dumps_from 0 z.log)) d.same;
-      })))
+      }) r.stopped refl))
 
   -- all that is done at the reached safepoint
   abbrev dumped : Turn (Unit {0}) → Todo (Turn ℕ)
   dumped turn = and_then turn (λ u. do
     _ ← take_shot_steps dump_errand heap.shape
-    released)
+    deflated)
 
   standing_does : (k : Known) → Dumps k → Does heap false (dumped (Done tt)) k (λ b r l. AtRest heap.shape l)
   standing_does k d =
       let shoot = ask (keep_shot_plan dump_errand) in
-      subst (λ z. Does heap false (z >>= (λ u. released)) k (λ b r l. AtRest heap.shape l)) (sym (looks_first dump_errand heap.shape))
-      (going heap (shot_looks dump_errand heap.shape >>= (λ u. shoot >>= (λ n. done tt))) (λ u. released) k _ (
+      subst (λ z. Does heap false (z >>= (λ u. deflated)) k (λ b r l. AtRest heap.shape l)) (sym (looks_first dump_errand heap.shape))
+      (going heap (shot_looks dump_errand heap.shape >>= (λ u. shoot >>= (λ n. done tt))) (λ u. deflated) k _ (
       going heap (shot_looks dump_errand heap.shape) (λ u. shoot >>= (λ n. done tt)) k _ (
       follows heap false (shot_looks dump_errand heap.shape) k _ _ (looks_do (shot_looks dump_errand heap.shape) k (look_all heap.shape dump_errand limits) d) (λ b u l x.
       shooting_does l x.0 (looks_see l dump_errand heap.shape _ x.2)))))
@@ -260,6 +290,7 @@ module _ (heap : Heap) where
   asks_dump : (me : ℕ) (k : Known) → Asks heap dump_errand me k → AtRest heap.shape k
   asks_dump me k a = record {
     calm = a.calm;
+    still = a.carries.still;
     ended = λ ended. let live = a.live in absurd (cc (ended, live));
     place = λ o h. absurd (unentering_dump k.unfinished (sym a.mine) o h);
     untold = a.carries.untold;
@@ -277,8 +308,9 @@ module _ (heap : Heap) where
         | inr a ↦ let dumps = a.1 in absurd (cc (none, dumps))
       ]) nothing
 
-  dump_carries : (k : Known) → AtRest heap.shape k → ends k.log ≡ false → length k.shots ≡ length (dumps_from 0 k.log) → Carries k.log k.wait k.holds k.shots dump_errand.unfinished
+  dump_carries : (k : Known) → AtRest heap.shape k → ends k.log ≡ false → length k.shots ≡ length (dumps_from 0 k.log) → Carries k.moving k.log k.wait k.holds k.shots dump_errand.unfinished
   dump_carries k rest live logged = record {
+    still = rest.still;
     ended = λ ended. absurd (cc (ended, live));
     place = λ o h. absurd (unentering_dump dump_errand.unfinished refl o h);
     untold = rest.untold;

@@ -52,6 +52,7 @@ module _ (heap : Heap) (o : ℕ) (e : Purpose) (enters : IsUnfinished e.unfinish
     takes = record {
       runs = a.running ∙ x.takes.runs;
       unasks = a.requesting ∙ x.takes.unasks;
+      still = a.still;
       unchecks = x.takes.unchecks;
       live = ap (λ z. ends z.log) a.local ∙ x.takes.live;
       room = subst (λ z. length z.log < log_limit) (sym a.local) x.takes.room;
@@ -68,9 +69,9 @@ module _ (heap : Heap) (o : ℕ) (e : Purpose) (enters : IsUnfinished e.unfinish
 
   -- by the monitor of an object that another has locked
   inflates_does : (kept : Option ℕ) (k : Known) → Enters heap o e enters k → k.kept ≡ kept → SawNone heap e o k → Unseen heap e o k → SawUnbiased k o
-      → Does heap false (inflate_steps e kept o >>= (λ turn. and_then turn (λ m. monitor_enter_steps e (local_of k) o m))) k (λ b r l. AtRest heap.shape l)
+      → Does heap false (inflate_steps heap.shape e kept o >>= (λ turn. and_then turn (λ m. monitor_enter_steps e (local_of k) o m))) k (λ b r l. AtRest heap.shape l)
   inflates_does kept k x same none unseen unbiased =
-      binds heap false (inflate_steps e kept o) (λ turn. and_then turn (λ m. monitor_enter_steps e (local_of k) o m)) k _ (
+      binds heap false (inflate_steps heap.shape e kept o) (λ turn. and_then turn (λ m. monitor_enter_steps e (local_of k) o m)) k _ (
       inflate_does heap e o kept k _
       (record {
         found = λ l m a calm saw none.
@@ -79,12 +80,12 @@ module _ (heap : Heap) (o : ℕ) (e : Purpose) (enters : IsUnfinished e.unfinish
             (monitor_enter_does heap e o m l (record { takes = y.takes; enters = enters; mine = y.mine; check = y.check; untold = y.untold; place = y.place; inflated = saw }) calm (none m));
         pends = λ l w a calm. answers heap false _ l _ (enters_rests heap o e enters l (enters_apart k l a calm x));
       })
-      (record { runs = x.takes.runs; object = x.takes.object; mine = x.mine; check = x.check }) x.calm none unseen (inr (refl, unbiased)) same)
+      (record { runs = x.takes.runs; still = x.takes.still; object = x.takes.object; mine = x.mine; check = x.check }) x.calm none unseen (inr (refl, unbiased)) same)
 
   -- BY THE FORM of the mark
   at_does : (f : Option MarkForm) (s : Start) (k : Known) (mark : ℕ) → Enters heap o e enters k → s.local ≡ local_of k → k.kept ≡ s.kept → SawNone heap e o k → Unseen heap e o k → last_seen (name.Mark o) k.seen ≡ Some mark
       → read_mark mark ≡ f → IsMark heap.shape f → is_biased_form f ≡ false → ((p : ℕ) → f ≡ Some (Locked k.thread p) → 1 ≤ hold_count o k.holds)
-      → Does heap false (enter_at f e s o mark) k (λ b r l. AtRest heap.shape l)
+      → Does heap false (enter_at f heap.shape e s o mark) k (λ b r l. AtRest heap.shape l)
   at_does None s k mark x here kept none unseen saw reads form unbiased holds = absurd form
   at_does (Some Inflating) s k mark x here kept none unseen saw reads form unbiased holds = answers heap false _ k _ (enters_rests heap o e enters k x)
   at_does (Some (Neutral hash age)) s k mark x here kept none unseen saw reads form unbiased holds =
@@ -101,7 +102,7 @@ module _ (heap : Heap) (o : ℕ) (e : Purpose) (enters : IsUnfinished e.unfinish
       (stack_again_does heap false k e o x.takes x.calm (inl (sym x.mine)) x.untold x.place (holds p (ap (λ z. Some (Locked z p)) same))
       (inr (refl, (mark, saw, ap is_biased_form reads ∙ unbiased))))))
       (λ other.
-      subst (λ z. Does heap false (inflate_steps e s.kept o >>= (λ turn. and_then turn (λ m. monitor_enter_steps e z o m))) k (λ b r l. AtRest heap.shape l)) (sym here)
+      subst (λ z. Does heap false (inflate_steps heap.shape e s.kept o >>= (λ turn. and_then turn (λ m. monitor_enter_steps e z o m))) k (λ b r l. AtRest heap.shape l)) (sym here)
       (inflates_does s.kept k x kept none unseen (mark, saw, ap is_biased_form reads ∙ unbiased)))
   at_does (Some (Inflated m)) s k mark x here kept none unseen saw reads form unbiased holds =
       subst (λ z. Does heap false (monitor_enter_steps e z o m) k (λ b r l. AtRest heap.shape l)) (sym here)
@@ -110,7 +111,7 @@ module _ (heap : Heap) (o : ℕ) (e : Purpose) (enters : IsUnfinished e.unfinish
   at_does (Some Marked) s k mark x here kept none unseen saw reads form unbiased holds = absurd form
 
   -- by a mark without the bias pattern that was found
-  found_does : (s : Start) (k : Known) (mark : ℕ) → FoundMark heap o e enters s.local s.kept mark k → Does heap false (enter_at (read_mark mark) e s o mark) k (λ b r l. AtRest heap.shape l)
+  found_does : (s : Start) (k : Known) (mark : ℕ) → FoundMark heap o e enters s.local s.kept mark k → Does heap false (enter_at (read_mark mark) heap.shape e s o mark) k (λ b r l. AtRest heap.shape l)
   found_does s k mark x =
       at_does (read_mark mark) s k mark x.going (sym x.local) x.kept_is
       (λ m r saw. absurd (cc (sym saw ∙ x.headers (name.Recursions m) refl refl)))
@@ -123,7 +124,7 @@ module _ (heap : Heap) (e : Purpose) (s : Start) (b : Revocation) (enters : e.un
   Q f r l = AtRest heap.shape l
 
   -- what follows the mark that was loaded again behind a revocation
-  tried_again : EnterOutcomes heap b.object e enters s.local s.kept (λ f tried l. Does heap f (enter_unbiased tried e s b.object) l Q)
+  tried_again : EnterOutcomes heap b.object e enters s.local s.kept (λ f tried l. Does heap f (enter_unbiased tried heap.shape e s b.object) l Q)
   tried_again = record {
     took = λ f l path x. answers heap f _ l Q x;
     unbiased = λ l mark x. found_does heap b.object e enters s l mark x;
@@ -132,15 +133,15 @@ module _ (heap : Heap) (e : Purpose) (s : Start) (b : Revocation) (enters : e.un
   abbrev again : Turn Bool → Todo (Turn Path)
   again turn = and_then turn (λ took. do
     tried ← bias_after_steps e s.local b.object took
-    enter_unbiased tried e s b.object)
+    enter_unbiased tried heap.shape e s b.object)
 
   -- behind the revocation
   again_does : (k : Known) → local_of k ≡ s.local → k.kept ≡ s.kept → (f : Bool) (turn : Turn Bool) (l : Known) → (f ≡ false) × Revoked heap e b k.thread k turn l → Does heap f (again turn) l Q
   again_does k local kept f (Done took) l x =
       let same : local_of l ≡ s.local = x.1.local ∙ local in
       subst (λ z. Does heap z (again (Done took)) l Q) (sym x.0)
-      (binds heap false (bias_after_steps e s.local b.object took) (λ tried. enter_unbiased tried e s b.object) l Q
-      (subst (λ z. Does heap false (bias_after_steps e z b.object took) l (λ f tried l. Does heap f (enter_unbiased tried e s b.object) l Q)) same
+      (binds heap false (bias_after_steps e s.local b.object took) (λ tried. enter_unbiased tried heap.shape e s b.object) l Q
+      (subst (λ z. Does heap false (bias_after_steps e z b.object took) l (λ f tried l. Does heap f (enter_unbiased tried heap.shape e s b.object) l Q)) same
       (bias_after_does heap e b enters s.local s.kept wants _ tried_again k.thread k l same (x.1.kept ∙ kept) took x.1)))
   again_does k local kept f (Pending why) l x = answers heap f (Pending why) l Q x.1
 
@@ -165,12 +166,13 @@ module _ (heap : Heap) (e : Purpose) (s : Start) (b : Revocation) (enters : e.un
             number = refl;
             rest = enters_rests heap b.object e enters l x.going;
             live = x.going.takes.live;
-            carries = live_carries l.log l.wait l.holds e.unfinished x.going.takes.live (λ i h. x.going.place) (undumped_enter e b.object (inr enters)) x.going.untold;
+            carries = live_carries l.log l.wait l.holds e.unfinished x.going.takes.still x.going.takes.live (λ i h. x.going.place) (undumped_enter e b.object (inr enters)) x.going.untold;
             asking = λ asks. let unasks = x.going.takes.unasks in absurd (cc (asks, unasks));
             running = λ free. (x.going.takes.runs, inl (sym x.going.mine));
           };
           saw = let before : seen_before heap.shape l ≡ l.seen = ap (λ (z : Bool). cond (z && not l.requesting) [] l.seen) i in
               (mark, x.prototype.0, ap (last_seen (name.Mark b.object)) before ∙ x.saw, ap (last_seen (name.Prototype (class_of heap.shape b.object))) before ∙ x.prototype.1, x.prototype.2);
+          alone = λ n v h. x.alone n v (ap (λ (z : Bool). last_seen n (cond (z && not l.requesting) [] l.seen)) (sym i) ∙ h);
           unreached = x.unreached;
           unwaiting = λ waits. absurd (cc waits);
         }) x.local x.kept_is));
@@ -178,7 +180,7 @@ module _ (heap : Heap) (e : Purpose) (s : Start) (b : Revocation) (enters : e.un
   }
 
   -- a call by a thread that runs
-  first_does : (k : Known) → Taking heap k.running k.requesting k.log e b.object → k.stage ≡ Calm → GoesOn k e → e.check ≡ k.checking → local_of k ≡ s.local → k.kept ≡ s.kept
+  first_does : (k : Known) → Taking heap k.running k.requesting k.moving k.log e b.object → k.stage ≡ Calm → GoesOn k e → e.check ≡ k.checking → local_of k ≡ s.local → k.kept ≡ s.kept
       → Does heap true (bias_enter_steps e s.local (class_of heap.shape b.object) b.object >>= (λ tried. enter_tried tried heap.shape e s b)) k Q
   first_does k a calm goes check local kept =
       binds heap true (bias_enter_steps e s.local (class_of heap.shape b.object) b.object) (λ tried. enter_tried tried heap.shape e s b) k Q
@@ -223,11 +225,12 @@ module _ (heap : Heap) where
           number = refl;
           rest = rest;
           live = a.live;
-          carries = live_carries k.log k.wait k.holds e.unfinished a.live (λ i h. place) (undumped_enter e o (inr refl)) rest.untold;
+          carries = live_carries k.log k.wait k.holds e.unfinished rest.still a.live (λ i h. place) (undumped_enter e o (inr refl)) rest.untold;
           asking = λ asks. (sym a.unchecking, sym goes_on);
           running = λ free. absurd (cc (asks, free));
         };
         saw = (saw.0, saw.1, ap (last_seen (name.Mark o)) before ∙ saw.2, ap (last_seen (name.Prototype (class_of heap.shape o))) before ∙ saw.3, saw.4);
+        alone = λ n v h. asked.2 n v (ap (last_seen n) (sym before) ∙ h);
         unreached = asked.1;
         unwaiting = λ waits. absurd (cc waits);
       }) refl refl))
@@ -235,7 +238,7 @@ module _ (heap : Heap) where
       let runs = free_runs k.running k.requesting going a.runs free in
       let place = place_left heap k v runs left in
       let wants : Wants heap o e (local_of k) = record { unchecks = refl; live = a.live; room = room; object = object; untold = rest.untold; place = place } in
-      first_does heap e s b refl refl wants k (taking heap o e (local_of k) k refl wants refl runs free) rest.calm goes (sym a.unchecking) refl refl))
+      first_does heap e s b refl refl wants k (taking heap o e (local_of k) k refl wants refl runs free rest.still) rest.calm goes (sym a.unchecking) refl refl))
       (λ b r l x. answers heap b _ l _ x))))
 
   pub enter_begins : (o now : ℕ) → BeginsWell heap (Enter o now)

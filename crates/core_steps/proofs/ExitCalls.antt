@@ -41,7 +41,7 @@ module _ (heap : Heap) where
     exit_at out e (local_of k) o)
 
   -- behind the look that found no bias pattern: by the record, or by the monitor
-  unbiased_does : (k : Known) (e : Purpose) (o mark : ℕ) → Leaving heap k.running k.requesting k.log k.holds e o → k.stage ≡ Calm → k.unfinished ≡ e.unfinished → e.check ≡ k.checking → Untold k
+  unbiased_does : (k : Known) (e : Purpose) (o mark : ℕ) → Leaving heap k.running k.requesting k.moving k.log k.holds e o → k.stage ≡ Calm → k.unfinished ≡ e.unfinished → e.check ≡ k.checking → Untold k
       → last_seen (name.Mark o) k.seen ≡ Some mark → is_biased mark ≡ false → Does heap false (then_stack k e o false) k (λ b r l. AtRest heap.shape l)
   unbiased_does k e o mark a calm mine check untold saw plain_mark =
       binds heap false (stack_exit_steps e (local_of k) o) (λ out. exit_at out e (local_of k) o) k _ (
@@ -57,7 +57,7 @@ module _ (heap : Heap) where
       a calm (inl (sym mine)) check untold (unwaiting_exit k o (mine ∙ a.exits)) (inr (refl, (mark, saw, plain_mark))))
 
   -- under a bias: the hold word is cleared, which logs Exit
-  biased_does : (k : Known) (e : Purpose) (o mark : ℕ) → Leaving heap k.running k.requesting k.log k.holds e o → k.stage ≡ Calm → k.unfinished ≡ e.unfinished → Untold k
+  biased_does : (k : Known) (e : Purpose) (o mark : ℕ) → Leaving heap k.running k.requesting k.moving k.log k.holds e o → k.stage ≡ Calm → k.unfinished ≡ e.unfinished → Untold k
       → last_seen (name.Mark o) k.seen ≡ Some mark → is_biased mark ≡ true → (hold_count o k.holds ≡ 1 → HasRaised k o)
       → Does heap false (leave_steps e (local_of k) o >>= (λ u. done true)) k (λ b r l. Does heap b (then_stack k e o r) l (λ b r l. AtRest heap.shape l))
   biased_does k e o mark a calm mine untold saw biased raised =
@@ -74,10 +74,10 @@ module _ (heap : Heap) where
         own_entry = record { operation = inr exits; shot = tt };
         room = a.room;
       }))
-      (λ n i was. answers heap false true _ _ (answers heap false _ _ _ (rests heap.shape _ refl a.unasks a.unchecks (logged_carries k.log _ k.wait _ a.live refl untold))))
+      (λ n i was. answers heap false true _ _ (answers heap false _ _ _ (rests heap.shape _ refl a.unasks a.unchecks (logged_carries k.log _ k.wait _ a.still a.live refl untold))))
 
   -- the look at the mark
-  mark_does : (fresh : Bool) (k : Known) (e : Purpose) (o : ℕ) → Leaving heap k.running k.requesting k.log k.holds e o → k.stage ≡ Calm → GoesOn k e → e.check ≡ k.checking → Untold k
+  mark_does : (fresh : Bool) (k : Known) (e : Purpose) (o : ℕ) → Leaving heap k.running k.requesting k.moving k.log k.holds e o → k.stage ≡ Calm → GoesOn k e → e.check ≡ k.checking → Untold k
       → (hold_count o k.holds ≡ 1 → RaisedStamp fresh k o)
       → Does heap fresh (ask (load e (name.Mark o)) >>= (λ mark. cond (is_biased mark) (leave_steps e (local_of k) o >>= (λ u. done true)) (done false))) k
       (λ b r l. Does heap b (then_stack k e o r) l (λ b r l. AtRest heap.shape l))
@@ -91,7 +91,7 @@ module _ (heap : Heap) where
       (λ no. answers heap false _ _ _ (
       unbiased_does l e o mark a refl refl refl untold (saw_newest heap look mark k) no)))
 
-  exit_going_does : (k : Known) (e : Purpose) (o : ℕ) → Leaving heap k.running k.requesting k.log k.holds e o → k.stage ≡ Calm → GoesOn k e → e.check ≡ k.checking → Untold k → Unwaiting k
+  exit_going_does : (k : Known) (e : Purpose) (o : ℕ) → Leaving heap k.running k.requesting k.moving k.log k.holds e o → k.stage ≡ Calm → GoesOn k e → e.check ≡ k.checking → Untold k → Unwaiting k
       → Does heap true (exit_going e (local_of k) o) k (λ b r l. AtRest heap.shape l)
   exit_going_does k e o a calm goes check untold none =
       binds heap true (bias_exit_steps e (local_of k) o) (then_stack k e o) k _ (
@@ -135,6 +135,7 @@ module _ (heap : Heap) where
       (record {
         runs = runs;
         unasks = unasking heap.shape k rest runs;
+        still = rest.still;
         unchecks = refl;
         live = a.live;
         room = let r = a.room in omega arith;

@@ -17,7 +17,7 @@ use Rattle.core_world.specs.Threads.AtRest.{AtRest}
 use Rattle.core_world.specs.Trees.Calls.{steps_of, may_begin, may_operate, is_object}
 use Rattle.core_world.specs.Words.Forms.{is_biased, is_biased_form, monitor_form, hash_form, hash_in, hold_word, says_notified}
 use Rattle.core_world.specs.Trees.HashSteps.{NextDraw, find_hash_plan, draw_plan, draw_steps, hash_monitor_steps, hash_displaced_steps, hash_inflated, hash_inflate_steps, hash_unless, hash_mark_steps, hash_header_steps}
-use Rattle.core_world.specs.Threads.Known.{Known, Local, local_of, start_of, last_seen, draw_of}
+use Rattle.core_world.specs.Threads.Known.{Known, Local, Still, local_of, start_of, last_seen, draw_of}
 use Rattle.core_world.specs.Clauses.Lengths.{log_limit}
 use Rattle.core_world.specs.Trees.MonitorSteps.{inflate_steps}
 use Rattle.core_world.specs.Words.Names.{same_name}
@@ -76,6 +76,7 @@ module _ (heap : Heap) (e : Purpose) (o : ℕ) (here : Local) (draws : ℕ) (sta
   record Hashes (k : Known) : Type 0 where
     runs : k.running ≡ true
     unasks : k.requesting ≡ false
+    still : k.moving ≡ Still
     calm : k.stage ≡ Calm
     check : e.check ≡ k.checking
     mine : k.unfinished ≡ e.unfinished
@@ -117,7 +118,7 @@ module _ (heap : Heap) (e : Purpose) (o : ℕ) (here : Local) (draws : ℕ) (sta
     -- where the hash goes on in another call
     hash_rests : AtRest heap.shape k
     hash_rests = rests heap.shape k x.calm x.unasks (sym x.check ∙ start.unchecks)
-        (live_carries k.log k.wait k.holds k.unfinished live_here (λ i h. absurd (unentering_hash k.unfinished o hash_here i h)) (undumped_hash k.unfinished o hash_here) untold_here)
+        (live_carries k.log k.wait k.holds k.unfinished x.still live_here (λ i h. absurd (unentering_hash k.unfinished o hash_here i h)) (undumped_hash k.unfinished o hash_here) untold_here)
 
   -- A LOAD that finds no hash leaves all that, and behind one that finds a hash the thread is at rest.
   after_none : (at : Name) (n : ℕ) (k : Known) → Hashes k → hash_in n ≡ 0 → Hashes (known_hit heap.shape heap.start (find_hash_plan e at o) n k)
@@ -126,6 +127,7 @@ module _ (heap : Heap) (e : Purpose) (o : ℕ) (here : Local) (draws : ℕ) (sta
       record {
         runs = runs_load at n k ∙ x.runs;
         unasks = asks_load at n k ∙ x.unasks;
+        still = x.still;
         calm = refl;
         check = refl;
         mine = ap (λ (b : Bool). cond b e.unfinished None) test;
@@ -136,11 +138,11 @@ module _ (heap : Heap) (e : Purpose) (o : ℕ) (here : Local) (draws : ℕ) (sta
   after_found : (at : Name) (n : ℕ) (k : Known) → Hashes k → (hash_in n == 0) ≡ false → AtRest heap.shape (known_hit heap.shape heap.start (find_hash_plan e at o) n k)
   after_found at n k x some =
       let log = with_entry (entry.Hash o (hash_in n) None) n k.log in
-      let alone : Carries log k.wait k.holds k.shots None = logged_carries k.log _ k.wait k.holds (live_here k x) refl (untold_here k x) in
-      let waits : Carries log (wait_after at Load k) k.holds k.shots None = subst (λ w. Carries log w k.holds k.shots None) (sym (wait_load at k)) alone in
-      let holds : Carries log (wait_after at Load k) (holds_after at Load k) k.shots None = subst (λ h. Carries log (wait_after at Load k) h k.shots None) (sym (holds_load at k)) waits in
+      let alone : Carries k.moving log k.wait k.holds k.shots None = logged_carries k.log _ k.wait k.holds x.still (live_here k x) refl (untold_here k x) in
+      let waits : Carries k.moving log (wait_after at Load k) k.holds k.shots None = subst (λ w. Carries k.moving log w k.holds k.shots None) (sym (wait_load at k)) alone in
+      let holds : Carries k.moving log (wait_after at Load k) (holds_after at Load k) k.shots None = subst (λ h. Carries k.moving log (wait_after at Load k) h k.shots None) (sym (holds_load at k)) waits in
       rests heap.shape _ refl (asks_load at n k ∙ x.unasks) start.unchecks
-      (subst (λ (b : Bool). Carries (cond b k.log log) (wait_after at Load k) (holds_after at Load k) k.shots (cond b e.unfinished None)) (sym some) holds)
+      (subst (λ (b : Bool). Carries k.moving (cond b k.log log) (wait_after at Load k) (holds_after at Load k) k.shots (cond b e.unfinished None)) (sym some) holds)
 
   -- THE DRAW
   draw_does : (at : Name) (header : ℕ) (k : Known) → Hashes k → Keeps heap (draw_plan e draw at o header) k → ((n : ℕ) → AtRest heap.shape (known_hit heap.shape heap.start (draw_plan e draw at o header) n k))
@@ -149,7 +151,7 @@ module _ (heap : Heap) (e : Purpose) (o : ℕ) (here : Local) (draws : ℕ) (sta
       swapping heap false (draw_plan e draw at o header) header (mark_of (Neutral draw.value 0)) (λ n. done_with draw.value) (λ n. pending_for (why.Raced header n)) k Rests refl (λ i. keeps)
       (λ n i was h. answers heap false (Done draw.value) _ Rests (drawn n))
       (λ n i was h. answers heap false (Pending (why.Raced header n)) _ Rests (hash_rests (known_miss heap.shape heap.start (draw_plan e draw at o header) n k)
-      (record { runs = x.runs; unasks = x.unasks; calm = x.calm; check = x.check; mine = x.mine; same = x.same; draws_are = x.draws_are })))
+      (record { runs = x.runs; unasks = x.unasks; still = x.still; calm = x.calm; check = x.check; mine = x.mine; same = x.same; draws_are = x.draws_are })))
 
   -- BY THE MONITOR, which a mark names that was seen
   monitor_does : (k : Known) (m : ℕ) → Hashes k → SawInflated k o m → Does heap false (hash_monitor_steps e draw o m) k Rests
@@ -163,22 +165,22 @@ module _ (heap : Heap) (e : Purpose) (o : ℕ) (here : Local) (draws : ℕ) (sta
       let y = after_none (name.Header m) header k x bare in
       draw_does (name.Header m) header l y
       (draws_header_rule heap l e draw o m header (may_hash l y) (saw.0, saw_any heap look header k (name.Mark o) i refl ∙ saw.1, saw.2) bare (next_here l y))
-      (λ n. rests heap.shape _ refl y.unasks start.unchecks (logged_carries l.log _ l.wait l.holds (live_here l y) refl (untold_here l y))))
+      (λ n. rests heap.shape _ refl y.unasks start.unchecks (logged_carries l.log _ l.wait l.holds y.still (live_here l y) refl (untold_here l y))))
       (λ some. answers heap false _ l _ (after_found (name.Header m) header k x some)))
 
   -- steps that leave those parts leave all that
   hashes_apart : (k l : Known) → Apart heap e o k l → l.stage ≡ Calm → Hashes k → Hashes l
-  hashes_apart k l a calm x = record { runs = a.running ∙ x.runs; unasks = a.requesting ∙ x.unasks; calm = calm; check = a.check; mine = a.mine; same = a.local ∙ x.same; draws_are = a.draws ∙ x.draws_are }
+  hashes_apart k l a calm x = record { runs = a.running ∙ x.runs; unasks = a.requesting ∙ x.unasks; still = a.still; calm = calm; check = a.check; mine = a.mine; same = a.local ∙ x.same; draws_are = a.draws ∙ x.draws_are }
 
-  inflates_does : (kept : Option ℕ) (k : Known) → Hashes k → k.kept ≡ kept → SawNone heap e o k → Unseen heap e o k → SawUnbiased k o → Does heap false (hash_inflate_steps e kept draw o) k Rests
+  inflates_does : (kept : Option ℕ) (k : Known) → Hashes k → k.kept ≡ kept → SawNone heap e o k → Unseen heap e o k → SawUnbiased k o → Does heap false (hash_inflate_steps heap.shape e kept draw o) k Rests
   inflates_does kept k x same none unseen unbiased =
-      binds heap false (inflate_steps e kept o) (hash_inflated e draw o) k _ (
+      binds heap false (inflate_steps heap.shape e kept o) (hash_inflated e draw o) k _ (
       inflate_does heap e o kept k _
       (record {
         found = λ l m a calm saw none. monitor_does l m (hashes_apart k l a calm x) saw;
         pends = λ l w a calm. answers heap false _ l _ (hash_rests l (hashes_apart k l a calm x));
       })
-      (record { runs = x.runs; object = start.object; mine = x.mine; check = x.check }) x.calm none unseen (inr (refl, unbiased)) same)
+      (record { runs = x.runs; still = x.still; object = start.object; mine = x.mine; check = x.check }) x.calm none unseen (inr (refl, unbiased)) same)
 
   -- its record of the object, with depth 1
   abbrev OwnRecord : Known → Type 0
@@ -197,7 +199,7 @@ module _ (heap : Heap) (e : Purpose) (o : ℕ) (here : Local) (draws : ℕ) (sta
     saw_own u q header true e saw = let same = same_named (name.Displaced u q) own_word e in inr (cc same)
     saw_own u q header false e saw = elim (unseen u q) [ inl a ↦ inl (saw ∙ a) | inr a ↦ inr a ]
 
-    unless_does : (header : ℕ) (b : Bool) → (hash_in header == 0) ≡ b → is_idle heap.shape k ≡ false → Does heap false (hash_unless (cond b None (Some (hash_in header))) e kept draw o) (look_after header) Rests
+    unless_does : (header : ℕ) (b : Bool) → (hash_in header == 0) ≡ b → is_idle heap.shape k ≡ false → Does heap false (hash_unless (cond b None (Some (hash_in header))) heap.shape e kept draw o) (look_after header) Rests
     unless_does header true bare i =
         inflates_does kept (look_after header) (after_none own_word header k x (eqb-true (hash_in header) 0 bare)) same
         (λ m r saw. none m r (sym (saw_any heap (find_hash_plan e own_word o) header k (name.Recursions m) i refl) ∙ saw))
@@ -205,16 +207,16 @@ module _ (heap : Heap) (e : Purpose) (o : ℕ) (here : Local) (draws : ℕ) (sta
         (unbiased.0, saw_older heap (find_hash_plan e own_word o) header k (name.Mark o) i refl refl ∙ unbiased.1, unbiased.2)
     unless_does header false some i = answers heap false (Done (hash_in header)) (look_after header) Rests (after_found own_word header k x some)
 
-    record_does : OwnRecord k → Does heap false (hash_displaced_steps e here o >>= (λ found. hash_unless found e kept draw o)) k Rests
+    record_does : OwnRecord k → Does heap false (hash_displaced_steps e here o >>= (λ found. hash_unless found heap.shape e kept draw o)) k Rests
     record_does has =
-        subst (λ z. Does heap false (hash_displaced_steps e z o >>= (λ found. hash_unless found e kept draw o)) k Rests) x.same
+        subst (λ z. Does heap false (hash_displaced_steps e z o >>= (λ found. hash_unless found heap.shape e kept draw o)) k Rests) x.same
         (hitting heap false (find_hash_plan e own_word o) _ k _ (λ n. refl) (λ i. finds_record_rule heap k e o (first_place o k.holds) (may_hash k x) has.0 (λ v. has.1) (inl (sym x.mine)))
         (λ header i was. unless_does header (hash_in header == 0) refl i))
 
   -- BY THE FORM of the mark, which has no bias pattern; `found` is that of a mark that has a hash
   module _ (kept : Option ℕ) (l : Known) (mark : ℕ) (same : l.kept ≡ kept) (none : SawNone heap e o l) (unseen : Unseen heap e o l) (saw : last_seen (name.Mark o) l.seen ≡ Some mark) where
     form_does : (f : Option MarkForm) → (hash_form f ≡ 0 → Hashes l) → ((hash_form f == 0) ≡ false → AtRest heap.shape l) → read_mark mark ≡ f → IsMark heap.shape f → is_biased_form f ≡ false
-        → ((p : ℕ) → f ≡ Some (Locked l.thread p) → OwnRecord l) → Does heap false (hash_mark_steps f e here kept draw o mark) l Rests
+        → ((p : ℕ) → f ≡ Some (Locked l.thread p) → OwnRecord l) → Does heap false (hash_mark_steps f heap.shape e here kept draw o mark) l Rests
     form_does None bare found reads form unbiased has = absurd form
     form_does (Some Inflating) bare found reads form unbiased has = answers heap false (Pending why.Inflating) l Rests (hash_rests l (bare refl))
     form_does (Some (Neutral hash age)) bare found reads form unbiased has =
@@ -223,7 +225,7 @@ module _ (heap : Heap) (e : Purpose) (o : ℕ) (here : Local) (draws : ℕ) (sta
         let is0 = eqb-true hash 0 yes in
         let x = bare is0 in
         draw_does (name.Mark o) mark l x (draws_mark_rule heap l e draw o mark (may_hash l x) (age, reads ∙ ap (λ h. Some (Neutral h age)) is0) (next_here l x))
-        (λ n. rests heap.shape _ refl x.unasks start.unchecks (logged_carries l.log _ l.wait l.holds (live_here l x) refl (untold_here l x))))
+        (λ n. rests heap.shape _ refl x.unasks start.unchecks (logged_carries l.log _ l.wait l.holds x.still (live_here l x) refl (untold_here l x))))
         (λ some. answers heap false (Done hash) l Rests (found some))
     form_does (Some (Anonymous epoch age)) bare found reads form unbiased has = absurd (cc unbiased)
     form_does (Some (Biased t epoch age)) bare found reads form unbiased has = absurd (cc unbiased)
@@ -245,7 +247,7 @@ module _ (heap : Heap) (e : Purpose) (o : ℕ) (here : Local) (draws : ℕ) (sta
       (home heap k v (λ s y. 1 ≤ hold_count o y.holds)
       (standing_names v.world v.objects fits k.thread (first_place o (v.world.known k.thread).holds) o 1 (omega arith) first))
 
-  header_does : (kept : Option ℕ) (k : Known) → Hashes k → k.kept ≡ kept → SawNone heap e o k → Unseen heap e o k → SawUnbiased k o → Does heap false (hash_header_steps e here kept draw o) k Rests
+  header_does : (kept : Option ℕ) (k : Known) → Hashes k → k.kept ≡ kept → SawNone heap e o k → Unseen heap e o k → SawUnbiased k o → Does heap false (hash_header_steps heap.shape e here kept draw o) k Rests
   header_does kept k x same none unseen bare =
       let look = find_hash_plan e (name.Mark o) o in
       hitting heap false look _ k _ (λ n. refl) (λ i. finds_mark_rule heap k e o (may_hash k x) (inl (sym x.mine))) (λ mark i was.
@@ -277,13 +279,13 @@ module _ (heap : Heap) where
         untold = rest.untold;
       } in
       closes heap true _ k (
-      binds heap true (unbias_steps heap.shape e s (no_bias o now)) (λ turn. and_then turn (λ u. hash_header_steps e (local_of k) k.kept (draw heap e o (local_of k) k.draws call) o)) k _ (
+      binds heap true (unbias_steps heap.shape e s (no_bias o now)) (λ turn. and_then turn (λ u. hash_header_steps heap.shape e (local_of k) k.kept (draw heap e o (local_of k) k.draws call) o)) k _ (
       unbias_does heap e (no_bias o now) op.Hash refl refl refl call.object refl k
       (starts_unbias heap e (no_bias o now) op.Hash k refl refl rest a (unentering_hash e.unfinished o refl) (undumped_hash e.unfinished o refl) (λ z. z) (λ waits. absurd (cc waits)) (inl refl)) _
       (record {
         unbiased = λ l x bare.
             header_does heap e o (local_of k) k.draws call k.kept l
-            (record { runs = x.runs; unasks = x.unasks; calm = x.calm; check = x.check; mine = x.mine; same = x.local; draws_are = x.draws }) x.kept
+            (record { runs = x.runs; unasks = x.unasks; still = x.still; calm = x.calm; check = x.check; mine = x.mine; same = x.local; draws_are = x.draws }) x.kept
             (λ m r saw. absurd (cc (sym saw ∙ x.headers (name.Recursions m) refl refl)))
             (λ u p. inl (x.headers (name.Displaced u p) refl refl)) bare;
         pends = λ f l w x. answers heap f _ l _ x;

@@ -17,9 +17,9 @@ use Rattle.core_world.specs.declared.name.Name.TheVariants as name
 use Rattle.core_world.specs.declared.stage.Stage.{Stage}
 use Rattle.core_world.specs.declared.stage.Stage.TheVariants.{Calm, Inflates}
 use Rattle.core_world.specs.Words.Forms.{monitor_in, monitor_form, is_neutral, is_neutral_form, is_biased, is_biased_form}
-use Rattle.core_world.specs.Threads.Known.{Known, local_of, last_seen}
+use Rattle.core_world.specs.Threads.Known.{Known, Still, local_of, last_seen}
 use Rattle.core_world.specs.Locks.{marks}
-use Rattle.core_world.specs.Trees.MonitorSteps.{prepare_steps, inflate_locked, inflate_neutral, inflate_with, inflate_by, inflate_at, inflate_steps, claim_plan, inflate_plan, name_neutral_plan, name_plan, prepare_plan}
+use Rattle.core_world.specs.Trees.MonitorSteps.{prepare_steps, inflate_locked, inflate_neutral, inflate_with, inflate_by, inflate_at, inflate_steps, claim_plan, fetch_plan, inflate_plan, name_neutral_plan, name_plan, prepare_plan}
 use Rattle.core_world.specs.Words.Names.{same_name, its_monitor}
 use Rattle.core_world.specs.Trees.Plans.{Purpose, load, done_with, pending_for, load_plan}
 use Rattle.core_world.specs.Steps.{is_idle, known_hit}
@@ -33,7 +33,7 @@ use Rattle.core_law.specs.Logic.{Heap, Stands, Keeps, Does}
 use Rattle.core_steps.proofs.Facts.{Unbiased}
 use Rattle.core_law.proofs.Standing.{fits_here, away}
 use Rattle.core_steps.proofs.LawRules.{looks}
-use Rattle.core_steps.proofs.MonitorRules.{claims_rule, prepares_owner_rule, prepares_recursions_rule, prepares_header_rule, prepares_object_rule, inflates_rule, names_rule, names_neutral_rule}
+use Rattle.core_steps.proofs.MonitorRules.{claims_rule, fetches_rule, prepares_owner_rule, prepares_recursions_rule, prepares_header_rule, prepares_object_rule, inflates_rule, names_rule, names_neutral_rule}
 use Rattle.core_steps.proofs.SeenSteps.{saw_newest, saw_any}
 use Rattle.core_steps.proofs.StackExits.{unbiased_here, look_mark}
 use Rattle.core_steps.proofs.Trees.{answers, binds, hitting, swapping}
@@ -50,6 +50,7 @@ module _ (heap : Heap) (e : Purpose) (o : ℕ) where
   -- what the thread counts on all the way
   pub record Works (k : Known) : Type 0 where
     pub runs : k.running ≡ true
+    pub still : k.moving ≡ Still
     pub object : o < length heap.shape.objects
     pub mine : k.unfinished ≡ e.unfinished
     pub check : e.check ≡ k.checking
@@ -62,11 +63,12 @@ module _ (heap : Heap) (e : Purpose) (o : ℕ) where
   abbrev pub Unseen : Known → Type 0
   Unseen k = (u p : ℕ) → (last_seen (name.Displaced u p) k.seen ≡ None) ⊎ (u ≡ k.thread)
 
-  -- the parts that the steps leave
+  -- the parts that the steps leave; behind them it has nothing in hand of the ring
   pub record Apart (k l : Known) : Type 0 where
     pub local : local_of l ≡ local_of k
     pub running : l.running ≡ k.running
     pub requesting : l.requesting ≡ k.requesting
+    pub still : l.moving ≡ Still
     pub saved : l.saved ≡ k.saved
     pub draws : l.draws ≡ k.draws
     pub mine : l.unfinished ≡ e.unfinished
@@ -136,7 +138,7 @@ module _ (heap : Heap) (e : Purpose) (o : ℕ) where
       hitting heap false _ _ _ _ (λ n. refl) (λ i. prepares_recursions_rule heap _ e m 0 (λ v. record { runs = x.runs; kept = kept; goes_on = inl refl })) (λ n2 i2 was2.
       hitting heap false _ _ _ _ (λ n. refl) (λ i. prepares_object_rule heap _ e m o (λ v. record { prepares = record { runs = x.runs; kept = kept; goes_on = inl refl }; object = x.object })) (λ n3 i3 was3.
       answers heap false _ _ _ (then_so (with_object m header owner k stage n0 n1 n2 n3)
-      (record { local = refl; running = refl; requesting = refl; saved = refl; draws = refl; mine = refl; check = refl }) kept refl
+      (record { local = refl; running = refl; requesting = refl; still = x.still; saved = refl; draws = refl; mine = refl; check = refl }) kept refl
       (prepared m header owner k stage n0 n1 n2 n3 i0 i1 i2 i3 none))))))
 
   -- what follows: the monitor is found, or made; or the inflation goes on in another call
@@ -156,6 +158,7 @@ module _ (heap : Heap) (e : Purpose) (o : ℕ) where
         local = b.local ∙ a.local;
         running = b.running ∙ a.running;
         requesting = b.requesting ∙ a.requesting;
+        still = b.still;
         saved = b.saved ∙ a.saved;
         draws = b.draws ∙ a.draws;
         mine = b.mine;
@@ -187,14 +190,14 @@ module _ (heap : Heap) (e : Purpose) (o : ℕ) where
       (λ n i was h.
       let y = known_hit heap.shape heap.start exchange n l in
       answers heap false (Done m) y Q (
-      outs.found y m (record { local = a.local; running = a.running; requesting = a.requesting; saved = a.saved; draws = a.draws; mine = refl; check = refl }) refl (
+      outs.found y m (record { local = a.local; running = a.running; requesting = a.requesting; still = a.still; saved = a.saved; draws = a.draws; mine = refl; check = refl }) refl (
         cond (n == mark) (mark_of (Inflated m)) n,
         saw_newest heap exchange n l,
         ap (λ (b : Bool). monitor_in (cond b (mark_of (Inflated m)) n)) (eq-eqb n mark h) ∙ reads_kept l m was.stands (a.running ∙ x.runs) kept_l,
       )
       (λ b r saw. ready.none b r (sym (saw_any heap exchange n l (name.Recursions b) i refl) ∙ saw))))
       (λ n i was h. answers heap false _ _ Q (
-      outs.pends _ _ (record { local = a.local; running = a.running; requesting = a.requesting; saved = a.saved; draws = a.draws; mine = a.mine; check = a.check }) calm_l))))
+      outs.pends _ _ (record { local = a.local; running = a.running; requesting = a.requesting; still = a.still; saved = a.saved; draws = a.draws; mine = a.mine; check = a.check }) calm_l))))
 
   -- LOCKED: the mark is exchanged for 0, and the record's displaced word becomes the header
   locked_does : (m mark u p : ℕ) (k : Known) (Q : Bool → Turn ℕ → Known → Type 0) → FindsMonitor k Q → Works k → k.kept ≡ Some m → k.stage ≡ Calm → read_mark mark ≡ Some (Locked u p) → u < heap.shape.threads
@@ -220,7 +223,7 @@ module _ (heap : Heap) (e : Purpose) (o : ℕ) where
       }) (λ v. (within, small.0.1))) (λ header j was1.
       let k2 = known_hit heap.shape heap.start look header k1 in
       binds heap false (prepare_steps e (Inflates o u p) o m header (owner_of (ByRecord u p))) (λ z. ask name_it >>= (λ n. done_with m)) k2 Q (
-      prepare_does (Inflates o u p) m header (owner_of (ByRecord u p)) k2 _ (record { runs = x.runs; object = x.object; mine = refl; check = refl }) kept refl
+      prepare_does (Inflates o u p) m header (owner_of (ByRecord u p)) k2 _ (record { runs = x.runs; still = x.still; object = x.object; mine = refl; check = refl }) kept refl
       (λ v. subst (IsOwner heap.shape) (sym owner_reads) within)
       (λ b r saw. none b r (sym (saw_any heap look header k1 (name.Recursions b) j refl ∙ saw_any heap out n k (name.Recursions b) i refl) ∙ saw)) (λ l a kept_l stage_l ready.
       hitting heap false name_it _ l Q (λ n. refl)
@@ -236,11 +239,11 @@ module _ (heap : Heap) (e : Purpose) (o : ℕ) where
       (λ n3 i3 was3.
       let y = known_hit heap.shape heap.start name_it n3 l in
       answers heap false (Done m) y Q (
-      outs.found y m (record { local = a.local; running = a.running; requesting = a.requesting; saved = a.saved; draws = a.draws; mine = refl; check = refl }) refl
+      outs.found y m (record { local = a.local; running = a.running; requesting = a.requesting; still = a.still; saved = a.saved; draws = a.draws; mine = refl; check = refl }) refl
       (mark_of (Inflated m), saw_newest heap name_it n3 l, reads_kept l m was3.stands (a.running ∙ x.runs) kept_l)
       (λ b r saw. ready.none b r (sym (saw_any heap name_it n3 l (name.Recursions b) i3 refl) ∙ saw))))))))
       (λ n i was h. answers heap false _ _ Q (
-      outs.pends _ _ (record { local = refl; running = refl; requesting = refl; saved = refl; draws = refl; mine = x.mine; check = x.check }) calm))
+      outs.pends _ _ (record { local = refl; running = refl; requesting = refl; still = x.still; saved = refl; draws = refl; mine = x.mine; check = x.check }) calm))
 
   -- BY THE FORM of a mark with no bias pattern
   module _ (mark : ℕ) (k : Known) (Q : Bool → Turn ℕ → Known → Type 0) (outs : FindsMonitor k Q) (x : Works k) (calm : k.stage ≡ Calm) (none : SawNone k) (unseen : Unseen k) where
@@ -258,27 +261,30 @@ module _ (heap : Heap) (e : Purpose) (o : ℕ) where
 
   -- with the monitor that it keeps, or else with one that it claims
   by_does : (kept : Option ℕ) (mark : ℕ) (f : Option MarkForm) (k : Known) (Q : Bool → Turn ℕ → Known → Type 0) → FindsMonitor k Q → Works k → k.stage ≡ Calm → SawNone k → Unseen k
-      → read_mark mark ≡ f → IsMark heap.shape f → is_biased_form f ≡ false → monitor_form f ≡ None → f ≢ Some Inflating → k.kept ≡ kept → Does heap false (inflate_by kept e o mark) k Q
+      → read_mark mark ≡ f → IsMark heap.shape f → is_biased_form f ≡ false → monitor_form f ≡ None → f ≢ Some Inflating → k.kept ≡ kept → Does heap false (inflate_by kept heap.shape e o mark) k Q
   by_does (Some m) mark f k Q outs x calm none unseen reads form plain other whole kept =
       subst (λ z. Does heap false (inflate_with z e o mark m) k Q) (sym reads) (with_does mark k Q outs x calm none unseen f m reads form plain other whole kept)
   by_does None mark f k Q outs x calm none unseen reads form plain other whole kept =
       let claim = claim_plan e in
-      hitting heap false claim _ k Q (λ n. refl) (λ i. claims_rule heap k e (λ v. record { runs = x.runs; calm = calm; none = kept; goes_on = inl (sym x.mine) })) (λ m i was.
-      let l = known_hit heap.shape heap.start claim m k in
+      hitting heap false claim _ k Q (λ n. refl) (λ i. claims_rule heap k e (λ v. record { runs = x.runs; calm = calm; none = kept; still = x.still; goes_on = inl (sym x.mine) })) (λ position i was.
+      let k1 = known_hit heap.shape heap.start claim position k in
+      let fetch = fetch_plan e heap.shape position in
+      hitting heap false fetch _ k1 Q (λ n. refl) (λ j. fetches_rule heap k1 e position (λ v. record { runs = x.runs; calm = refl; claimed = refl; goes_on = inl refl })) (λ m j was1.
+      let l = known_hit heap.shape heap.start fetch m k1 in
       subst (λ z. Does heap false (inflate_with z e o mark m) l Q) (sym reads)
-      (with_does mark l Q (from_there k l Q (record { local = refl; running = refl; requesting = refl; saved = refl; draws = refl; mine = refl; check = refl }) outs)
-      (record { runs = x.runs; object = x.object; mine = refl; check = refl }) refl
-      (λ b r saw. none b r (sym (saw_any heap claim m k (name.Recursions b) i refl) ∙ saw))
-      (λ u p. subst (λ z. (z ≡ None) ⊎ (u ≡ k.thread)) (sym (saw_any heap claim m k (name.Displaced u p) i refl)) (unseen u p))
-      f m reads form plain other whole refl))
+      (with_does mark l Q (from_there k l Q (record { local = refl; running = refl; requesting = refl; still = refl; saved = refl; draws = refl; mine = refl; check = refl }) outs)
+      (record { runs = x.runs; still = refl; object = x.object; mine = refl; check = refl }) refl
+      (λ b r saw. none b r (sym (saw_any heap fetch m k1 (name.Recursions b) j refl ∙ saw_any heap claim position k (name.Recursions b) i refl) ∙ saw))
+      (λ u p. subst (λ z. (z ≡ None) ⊎ (u ≡ k.thread)) (sym (saw_any heap fetch m k1 (name.Displaced u p) j refl ∙ saw_any heap claim position k (name.Displaced u p) i refl)) (unseen u p))
+      f m reads form plain other whole refl)))
 
   at_does : (kept : Option ℕ) (mark : ℕ) (f : Option MarkForm) (k : Known) (Q : Bool → Turn ℕ → Known → Type 0) → FindsMonitor k Q → Works k → k.stage ≡ Calm → SawNone k → Unseen k
-      → last_seen (name.Mark o) k.seen ≡ Some mark → read_mark mark ≡ f → IsMark heap.shape f → is_biased_form f ≡ false → k.kept ≡ kept → Does heap false (inflate_at f e kept o mark) k Q
+      → last_seen (name.Mark o) k.seen ≡ Some mark → read_mark mark ≡ f → IsMark heap.shape f → is_biased_form f ≡ false → k.kept ≡ kept → Does heap false (inflate_at f heap.shape e kept o mark) k Q
   at_does kept mark (Some Inflating) k Q outs x calm none unseen sees reads form plain same =
-      answers heap false (Pending why.Inflating) k Q (outs.pends k why.Inflating (record { local = refl; running = refl; requesting = refl; saved = refl; draws = refl; mine = x.mine; check = x.check }) calm)
+      answers heap false (Pending why.Inflating) k Q (outs.pends k why.Inflating (record { local = refl; running = refl; requesting = refl; still = x.still; saved = refl; draws = refl; mine = x.mine; check = x.check }) calm)
   at_does kept mark (Some (Inflated m)) k Q outs x calm none unseen sees reads form plain same =
       answers heap false (Done m) k Q (
-      outs.found k m (record { local = refl; running = refl; requesting = refl; saved = refl; draws = refl; mine = x.mine; check = x.check }) calm (mark, sees, ap monitor_form reads) none)
+      outs.found k m (record { local = refl; running = refl; requesting = refl; still = x.still; saved = refl; draws = refl; mine = x.mine; check = x.check }) calm (mark, sees, ap monitor_form reads) none)
   at_does kept mark None k Q outs x calm none unseen sees reads form plain same = absurd form
   at_does kept mark (Some (Neutral hash age)) k Q outs x calm none unseen sees reads form plain same =
       by_does kept mark (Some (Neutral hash age)) k Q outs x calm none unseen reads form plain refl (λ z. cc z) same
@@ -294,13 +300,13 @@ module _ (heap : Heap) (e : Purpose) (o : ℕ) where
       subst (λ n. IsMark heap.shape (read_mark n)) found (subst (λ (z : Heap). IsMark z.shape (read_mark (marks v.world o))) v.is_of ((fits_here heap k v runs).forms.marks o))
 
   pub inflate_does : (kept : Option ℕ) (k : Known) (Q : Bool → Turn ℕ → Known → Type 0) → FindsMonitor k Q → Works k → k.stage ≡ Calm → SawNone k → Unseen k → Unbiased heap false k o → k.kept ≡ kept
-      → Does heap false (inflate_steps e kept o) k Q
+      → Does heap false (inflate_steps heap.shape e kept o) k Q
   inflate_does kept k Q outs x calm none unseen unbiased same =
       let look = load e (name.Mark o) in
       hitting heap false look _ k Q (λ n. refl) (λ i. looks heap k look (look_mark heap k e x.runs calm x.check (inl (sym x.mine)) o) (λ v. x.object)) (λ mark i was.
       let l = known_hit heap.shape heap.start look mark k in
-      at_does kept mark (read_mark mark) l Q (from_there k l Q (record { local = refl; running = refl; requesting = refl; saved = refl; draws = refl; mine = refl; check = refl }) outs)
-      (record { runs = x.runs; object = x.object; mine = refl; check = refl }) refl
+      at_does kept mark (read_mark mark) l Q (from_there k l Q (record { local = refl; running = refl; requesting = refl; still = x.still; saved = refl; draws = refl; mine = refl; check = refl }) outs)
+      (record { runs = x.runs; still = x.still; object = x.object; mine = refl; check = refl }) refl
       (λ b r saw. none b r (sym (saw_any heap look mark k (name.Recursions b) i refl) ∙ saw))
       (λ u p. subst (λ z. (z ≡ None) ⊎ (u ≡ k.thread)) (sym (saw_any heap look mark k (name.Displaced u p) i refl)) (unseen u p))
       (saw_newest heap look mark k) refl (form_found k mark was.stands x.runs was.found)

@@ -65,7 +65,7 @@ module _ (heap : Heap) where
       chooses heap true (hold_count o k.holds == 0) _ _ _ _ (λ h. answers heap true _ _ _ rest) (λ h.
       hitting heap true _ _ k _ (λ n. refl) (λ i. gets heap k (lone_purpose (Get o slot)) o slot (λ v. record { touches = touches k o slot rest a n.0 n.1 h v; nothing = refl })) (λ n i was.
       answers heap false _ _ _ (rests heap.shape _ refl (unasking heap.shape k rest a.runs) refl
-      (logged_carries k.log _ k.wait k.holds a.live refl rest.untold)))))
+      (logged_carries k.log _ k.wait k.holds rest.still a.live refl rest.untold)))))
 
   pub get_begins : (o slot : ℕ) → BeginsWell heap (Get o slot)
   get_begins o slot = record { does = λ k v rest may. get_finishes k o slot rest may }
@@ -91,7 +91,7 @@ module _ (heap : Heap) where
       chooses heap true (hold_count o k.holds == 0) _ _ _ _ (λ h. answers heap true _ _ _ rest) (λ h.
       hitting heap true _ _ k _ (λ n. refl) (λ i. puts heap k (lone_purpose (Put o slot value)) o slot value (λ v. may_put k o slot value m.1 v (touches k o slot rest a n.0 n.1 h v))) (λ n i was.
       answers heap false _ _ _ (rests heap.shape _ refl (unasking heap.shape k rest a.runs) refl
-      (logged_carries k.log _ k.wait k.holds a.live refl rest.untold)))))
+      (logged_carries k.log _ k.wait k.holds rest.still a.live refl rest.untold)))))
 
   pub put_begins : (o slot : ℕ) (value : Value) → BeginsWell heap (Put o slot value)
   put_begins o slot value = record { does = λ k v rest may. put_finishes k o slot value rest may }
@@ -108,7 +108,7 @@ module _ (heap : Heap) where
       let a = acts k m.1 in
       hitting heap true _ _ k _ (λ n. refl) (λ i. publishes heap k (lone_purpose (Print value)) (entry.Print value) (λ v. (prints k value rest a v, tt))) (λ n i was.
       answers heap false _ _ _ (rests heap.shape _ refl (unasking heap.shape k rest a.runs) refl
-      (logged_carries k.log _ k.wait k.holds a.live refl rest.untold)))
+      (logged_carries k.log _ k.wait k.holds rest.still a.live refl rest.untold)))
 
   pub print_begins : (value : Value) → BeginsWell heap (Print value)
   print_begins value = record { does = λ k v rest may. print_finishes k value rest may }
@@ -162,6 +162,7 @@ module _ (heap : Heap) where
       })) (λ n i was.
       let says : cond (k.thread == k.thread) (wait_of Ended) k.wait ≡ wait_of Ended = ap (λ (b : Bool). cond b (wait_of Ended) k.wait) (eq-eqb k.thread k.thread refl) in
       answers heap false _ _ _ (rests heap.shape _ refl (unasking heap.shape k rest a.runs) refl (record {
+        still = rest.still;
         ended = λ h. (ap says_ended says ∙ ap ended_form (read_wait-wait_of Ended tt), refl);
         place = λ o h. absurd (cc h);
         shots_logged = λ h. absurd (cc h);

@@ -12,7 +12,7 @@ use Rattle.plain_monitor.specs.History.{last_stamp}
 use Rattle.core_world.specs.declared.name.Name.TheVariants as name
 use Rattle.core_world.specs.declared.plan.Note.TheVariants.{Quiet}
 use Rattle.core_world.specs.declared.plan.StepPlan.{StepPlan}
-use Rattle.core_world.specs.declared.stage.Stage.TheVariants.{Calm}
+use Rattle.core_world.specs.declared.stage.Stage.TheVariants.{Calm, Takes}
 use Rattle.core_world.specs.Words.Shape.{Shape, IsInLimits, class_of, monitor_count}
 use Rattle.core_world.specs.There.{HasPlace, IsIn, IsThere}
 use Rattle.core_world.specs.Threads.Known.{Known, local_of}
@@ -34,11 +34,11 @@ use Rattle.core_world.proofs.OwnersShown.{inflated_form}
 use Rattle.core_world.proofs.LookWhileRevoking.{look_valid_with, miss_valid_with}
 use Rattle.core_world.proofs.KnowledgeParts.{by_equal}
 use Rattle.core_locks.specs.Knowing.{KeepsValid, LogsFound, SawInflated}
-use Rattle.core_locks.specs.SafepointLaws.{MayStop, MayResume, MayRequest, MayRelease, MayHalt}
+use Rattle.core_locks.specs.SafepointLaws.{MayStop, MayResume, MayRequest, MayRelease, MayReleaseTaking, MayHalt}
 use Rattle.core_locks.specs.JournalLaws.{MayGet, MayPut, get_entry, MayTell, MayPublish, MayPublishLog, MayRaise, MayLogEnter, MayBeReady, MayEnd}
 use Rattle.core_locks.specs.LockLaws.{MayDisplace, MaySeize, MayHold, MayLeave, MayClear, MayLetGo}
 use Rattle.core_locks.proofs.SafeStops.{stopping_valid, resuming_valid, requesting_valid}
-use Rattle.core_locks.proofs.SafeEnds.{releasing_valid, halting_valid}
+use Rattle.core_locks.proofs.SafeEnds.{releasing_valid, releasing_taking, halting_valid}
 use Rattle.core_locks.proofs.TouchSlots.{get_law, put_law}
 use Rattle.core_locks.proofs.Publishes.{publish_law}
 use Rattle.core_locks.proofs.PublishesAll.{publish_all_law}
@@ -64,7 +64,7 @@ use Rattle.core_law.specs.Takings.{StampsTaking, StampsNote, TakesExactly}
 use Rattle.core_law.specs.Logic.{Heap, Stands, Keeps}
 use Rattle.core_world.proofs.There.{class_there, slot_there, limits_there, kept_there}
 use Rattle.core_law.proofs.Standing.{home, away, inside, valid_here}
-use Rattle.core_law.proofs.Wholes.{All, all_unless, stops_all, was_asked, not_calm, kept_whole}
+use Rattle.core_law.proofs.Wholes.{All, all_unless, stops_all, was_asked, requester_is, kept_whole}
 
 -- A step that logs nothing takes nothing, nor does one that tells what others may see.
 quiet_exactly : (w : World) (t : ℕ) (p : StepPlan) → p.note ≡ Quiet → TakesExactly w t p
@@ -104,11 +104,17 @@ module _ (heap : Heap) (k : Known) where
       home heap k v (λ s y. m < monitor_count s)
       (inflated_there v.world v.objects k.thread o m (runs_in_all v runs).fits (away heap k v (λ s y. y.running ≡ true) runs) (away heap k v (λ s y. SawInflated y o m) saw))
 
-  -- and so it is at its reached safepoint, in the middle of nothing
+  -- and so it is at its reached safepoint, where it revokes no bias: in the middle of nothing, for one
+  pub standing_in_all : (v : Stands heap k) → k.reached ≡ true → revocation_in k.stage ≡ None → All v.world v.objects
+  standing_in_all v reached unrevoking =
+      all_unless v.world v.objects (λ s.
+      let same = requester_is v.world v.objects s k.thread (away heap k v (λ z y. y.reached ≡ true) reached) in
+      let none = ap (λ u. revocation_in (v.world.known u).stage) same ∙ away heap k v (λ z y. revocation_in y.stage ≡ None) unrevoking in
+      let some = s.its_revocation in
+      absurd (cc (none, some))) v.valid
+
   pub calm_in_all : (v : Stands heap k) → k.reached ≡ true → k.stage ≡ Calm → All v.world v.objects
-  calm_in_all v reached calm =
-      all_unless v.world v.objects
-      (λ s. not_calm v.world v.objects s k.thread (away heap k v (λ z y. y.reached ≡ true) reached) (away heap k v (λ z y. y.stage ≡ Calm) calm)) v.valid
+  calm_in_all v reached calm = standing_in_all v reached (ap revocation_in calm)
 
   -- whether the step revokes nothing, by its stage: that is another one, or where the thread stood
   abbrev pub Unrevoking : (ℕ → Known → StepPlan) → Type 0
@@ -226,6 +232,12 @@ module _ (heap : Heap) (k : Known) where
   releases e may =
       keeps_calm (λ s y. MayRelease y e) (λ t y. release_plan e Calm t) (releasing_valid e) (quiet.releases e) (λ t y h. refl) (λ v. tt) may.reached may.calm
       (λ v. (tt, tt)) (λ v. may)
+
+  -- where it has given itself a bias
+  pub releases_taking : (e : Purpose) (o : ℕ) → MayReleaseTaking k e o → Keeps heap (release_plan e (Takes o) k.thread) k
+  releases_taking e o may =
+      keeps_in_all (λ s y. MayReleaseTaking y e o) (λ t y. release_plan e (Takes o) t) (releasing_taking e o) (quiet.releases_taking e o) (λ t y h. refl) (λ v. tt)
+      (λ v. standing_in_all v may.reached (ap revocation_in may.takes)) (λ v. (tt, tt)) (λ v. may)
 
   pub halts : (e : Purpose) → MayHalt heap.shape.threads k e → Keeps heap (halt_plan e k.thread) k
   halts e may =

@@ -21,6 +21,8 @@ pub mod EnterCalls
 pub mod HashRules
 pub mod HashCalls
 pub mod SafepointLooks
+pub mod Ringed
+pub mod Deflations
 pub mod Requests
 pub mod AskedRevocations
 pub mod BiasFacts

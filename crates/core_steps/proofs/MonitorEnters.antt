@@ -40,7 +40,7 @@ use Rattle.core_steps.proofs.WaitRules.{stands_rule}
 module _ (heap : Heap) (e : Purpose) (o m : ℕ) where
   -- what a thread counts on that enters o by its monitor m
   pub record Entering (k : Known) : Type 0 where
-    pub takes : Taking heap k.running k.requesting k.log e o
+    pub takes : Taking heap k.running k.requesting k.moving k.log e o
     pub enters : IsUnfinished e.unfinished op.Enter o
     pub mine : k.unfinished ≡ e.unfinished
     pub check : e.check ≡ k.checking
@@ -53,7 +53,7 @@ module _ (heap : Heap) (e : Purpose) (o m : ℕ) where
     out v = out_here heap k v x.takes.runs (λ i h. x.takes.unwaiting i (sym x.mine ∙ h)) x.untold
 
   -- the displaced word 3, and the hold word, where one of the ways is gone that lead there
-  record_does : (k : Known) (stage : Stage) (path : Path) → Taking heap k.running k.requesting k.log e o → k.unfinished ≡ e.unfinished → Untold k → free_place k.holds < 64 → k.stage ≡ stage
+  record_does : (k : Known) (stage : Stage) (path : Path) → Taking heap k.running k.requesting k.moving k.log e o → k.unfinished ≡ e.unfinished → Untold k → free_place k.holds < 64 → k.stage ≡ stage
       → ((i p : ℕ) → stage ≡ Seizes i p → ⊥)
       → ((n : ℕ) → is_idle heap.shape k ≡ false → Comes heap (known_hit heap.shape heap.start (displace_plan e stage k.thread (free_place k.holds) 3) n k) o (free_place k.holds) path)
       → Does heap false (record_steps e stage (local_of k) o path) k (λ b r l. AtRest heap.shape l)
@@ -155,7 +155,7 @@ module _ (heap : Heap) (e : Purpose) (o m : ℕ) where
       }))
       (λ r i was.
       let says : cond (k.thread == k.thread) (wait_of (wait.Entering o)) k.wait ≡ wait_of (wait.Entering o) = ap (λ (b : Bool). cond b (wait_of (wait.Entering o)) k.wait) (eq-eqb k.thread k.thread refl) in
-      answers heap false _ _ _ (rests heap.shape _ refl x.takes.unasks x.takes.unchecks (live_carries k.log _ k.holds e.unfinished x.takes.live (λ i h. x.place) (undumped_enter e o (inr x.enters))
+      answers heap false _ _ _ (rests heap.shape _ refl x.takes.unasks x.takes.unchecks (live_carries k.log _ k.holds e.unfinished x.takes.still x.takes.live (λ i h. x.place) (undumped_enter e o (inr x.enters))
       (λ i. ap (λ z. says_notified z i) says ∙ ap (λ f. notified_form f i) (read_wait-wait_of (wait.Entering o) (few was.stands))))))
 
   -- what the owner word tells that was found

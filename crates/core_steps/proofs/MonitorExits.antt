@@ -33,7 +33,7 @@ use Rattle.core_steps.proofs.Trees.{answers, chooses, hitting}
 
 -- what the thread counts on all the way, wherever it stands
 pub record Exiting (heap : Heap) (e : Purpose) (o m : ℕ) (k : Known) : Type 0 where
-  pub leaving : Leaving heap k.running k.requesting k.log k.holds e o
+  pub leaving : Leaving heap k.running k.requesting k.moving k.log k.holds e o
   pub mine : k.unfinished ≡ e.unfinished
   pub check : e.check ≡ k.checking
   pub untold : Untold k
@@ -109,7 +109,7 @@ module _ (heap : Heap) (e : Purpose) (o m : ℕ) where
       }))
       (λ n i was. hitting heap false _ _ _ _ (λ n. refl)
       (λ j. clears_rule heap _ (record e { unfinished = None }) o p (λ v. (top_here heap k was.stands a.runs o a.some).1) (λ v. record { runs = a.runs; stage = refl; hold = hold was.stands; last = one; goes_on = refl }))
-      (λ n j was. answers heap false _ _ _ (rests heap.shape _ refl a.unasks a.unchecks (logged_carries k.log _ k.wait _ a.live refl x.untold))))
+      (λ n j was. answers heap false _ _ _ (rests heap.shape _ refl a.unasks a.unchecks (logged_carries k.log _ k.wait _ a.still a.live refl x.untold))))
 
   -- another one: the recursions are lowered, and then the hold word is cleared, which logs Exit
   lower_does : (k : Known) (r : ℕ) → Exiting heap e o m k → k.stage ≡ Calm → SawOwn k k.thread m → last_seen (name.Recursions m) k.seen ≡ Some r → r ≢ 0
@@ -133,7 +133,7 @@ module _ (heap : Heap) (e : Purpose) (o m : ℕ) where
         own_entry = record { operation = inr a.exits; shot = tt };
         room = a.room;
       }))
-      (λ n j was. answers heap false _ _ _ (rests heap.shape _ refl a.unasks a.unchecks (logged_carries k.log _ k.wait _ a.live refl x.untold))))
+      (λ n j was. answers heap false _ _ _ (rests heap.shape _ refl a.unasks a.unchecks (logged_carries k.log _ k.wait _ a.still a.live refl x.untold))))
 
   abbrev counted_steps : Known → Todo (Unit {0})
   counted_steps k = ask (load e (name.Recursions m)) >>= (λ r. cond (r == 0) (release_steps e (local_of k) o m)

@@ -1,5 +1,6 @@
 -- The laws of core_locks on the words of monitors, as rules of the logic.
 use Rattle.std.proofs.Common.{◌≡◌, ℕ, ◌<◌, true, length, refl, sym, ◌∙◌, subst, arith}
+use Rattle.std.proofs.lemmas.Nat.{mod_below, pow_pos}
 use Rattle.std.proofs.lemmas.Option.{same_Some}
 use Rattle.plain_monitor.specs.declared.entry.Entry.TheVariants.{Exit}
 use Rattle.core_world.specs.declared.name.Name.{Name}
@@ -7,15 +8,18 @@ use Rattle.core_world.specs.declared.name.Name.TheVariants as name
 use Rattle.core_world.specs.declared.stage.Stage.TheVariants.{Calm}
 use Rattle.core_world.specs.Threads.Known.{Known}
 use Rattle.core_world.specs.Looking.{HasFound, IsOfMonitor}
-use Rattle.core_world.specs.Trees.MonitorSteps.{claim_plan, prepare_plan, inflate_plan, name_plan, name_neutral_plan, grab_plan, take_over_plan, raise_count_plan, lower_count_plan, reset_count_plan, free_plan}
+use Rattle.core_world.specs.Trees.MonitorSteps.{claim_plan, fetch_plan, prepare_plan, inflate_plan, name_plan, name_neutral_plan, grab_plan, take_over_plan, raise_count_plan, lower_count_plan, reset_count_plan, free_plan}
 use Rattle.core_world.specs.Trees.Plans.{Purpose, load_plan}
 use Rattle.core_world.specs.Trees.WaitSteps.{save_count_plan, drop_plan, quit_plan, regain_plan, restore_plan}
 use Rattle.core_world.specs.There.{IsIn}
-use Rattle.core_world.specs.Words.Shape.{Shape, monitor_count}
-use Rattle.core_locks.specs.Knowing.{GoesOn, SawInflated}
-use Rattle.core_locks.specs.MonitorLaws.{MayClaim, MayPrepare, MayPrepareOwner, MayPrepareObject, MayCount, MaySaveCount, MayRaiseCount, MayLowerCount, MayResetCount, MayTakeOver, MayGrab, MayInflate, MayName, MayNameNeutral, MayFree, MayDrop, MayQuit, MayRegain, MayRestore}
+use Rattle.core_world.specs.Words.Shape.{Shape, monitor_count, ring_bits, ring_places}
+use Rattle.core_world.specs.Steps.{world_after}
+use Rattle.core_world.specs.Valid.{IsValid}
+use Rattle.core_locks.specs.Knowing.{GoesOn, KeepsValid, SawInflated}
+use Rattle.core_locks.specs.MonitorLaws.{MayClaim, MayFetch, MayPrepare, MayPrepareOwner, MayPrepareObject, MayCount, MaySaveCount, MayRaiseCount, MayLowerCount, MayResetCount, MayTakeOver, MayGrab, MayInflate, MayName, MayNameNeutral, MayFree, MayDrop, MayQuit, MayRegain, MayRestore}
 use Rattle.core_locks.proofs.SwapLaws.{found_by_mark}
 use Rattle.core_locks.proofs.Claims.{claims_one}
+use Rattle.core_locks.proofs.Fetches.{fetches_one}
 use Rattle.core_locks.proofs.Prepares.{prepares_owner, prepares_recursions, prepares_header, prepares_object}
 use Rattle.core_locks.proofs.Counting.{raises_count, lowers_count, resets_count}
 use Rattle.core_locks.proofs.TakesOver.{takes_over_own}
@@ -29,6 +33,8 @@ use Rattle.core_locks.proofs.Restores.{restores_recursions}
 use Rattle.core_locks.proofs.Saves.{saves_count}
 use Rattle.core_counts.proofs.LoggedKinds as logged
 use Rattle.core_counts.proofs.QuietKinds as quiet
+use Rattle.core_counts.specs.Steps.{KeepsBiases}
+use Rattle.core_law.specs.BiasLaw.{BiasLawHolds}
 use Rattle.core_law.specs.Logic.{Heap, Stands, Keeps}
 use Rattle.core_steps.proofs.LawRules.{kept_in, monitor_in_heap, keeps, enters_in_log, looks}
 
@@ -39,6 +45,13 @@ word_in s (name.Recursions i) m its h = let same = same_Some i m its in omega (a
 word_in s (name.Header i) m its h = let same = same_Some i m its in omega (arith, same, h)
 word_in s (name.Object i) m its h = let same = same_Some i m its in omega (arith, same, h)
 word_in s _ m its h = absurd (cc its)
+
+-- the laws of the load of a ring place, whose plan names the shape, for the shape that a heap has
+fetches_in : (s : Shape) (e : Purpose) (p : ℕ) → KeepsValid (λ w t. (w.shape ≡ s) × MayFetch (w.known t) e p) (λ w t. fetch_plan e s p)
+fetches_in s e p w P t within (same, may) valid = subst (λ z. IsValid (world_after (fetch_plan e z p) t w) P) same (fetches_one e p w P t within may valid)
+
+fetches_biases : (s : Shape) (e : Purpose) (p : ℕ) → KeepsBiases (λ w t. (w.shape ≡ s) × MayFetch (w.known t) e p) (λ w t. fetch_plan e s p)
+fetches_biases s e p w P t within (same, may) v law = subst (λ z. BiasLawHolds (world_after (fetch_plan e z p) t w)) same (quiet.fetches e p w P t within may v law)
 
 module _ (heap : Heap) (k : Known) where
   -- LOOKS at a word of o's monitor, which a mark that was seen in this call names
@@ -63,10 +76,15 @@ module _ (heap : Heap) (k : Known) where
       (λ s y a. a.counts.runs)
       (λ v. let a = may v in (monitor_in_heap heap k o m a.0.runs a.0.inflated v, tt)) (λ v. let a = may v in record { counts = a.0; calm = a.1 })
 
-  -- A NEW MONITOR is claimed, and its words are stored.
+  -- A NEW MONITOR is claimed by its ring position, which is loaded, and its words are stored.
   pub claims_rule : (e : Purpose) → (Stands heap k → MayClaim k e) → Keeps heap (claim_plan e) k
   claims_rule e may =
       keeps heap k (λ s y. MayClaim y e) (λ t y. claim_plan e) (claims_one e) (quiet.claims e) (λ t y h. refl) (λ v. tt) (λ s y a. a.runs) (λ v. (tt, tt)) may
+
+  pub fetches_rule : (e : Purpose) (p : ℕ) → (Stands heap k → MayFetch k e p) → Keeps heap (fetch_plan e heap.shape p) k
+  fetches_rule e p may =
+      keeps heap k (λ s y. (s ≡ heap.shape) × MayFetch y e p) (λ t y. fetch_plan e heap.shape p) (fetches_in heap.shape e p) (fetches_biases heap.shape e p)
+      (λ t y h. refl) (λ v. tt) (λ s y a. a.1.runs) (λ v. (mod_below p (ring_places heap.shape) (pow_pos (ring_bits heap.shape)), tt)) (λ v. (refl, may v))
 
   pub prepares_owner_rule : (e : Purpose) (m word : ℕ) → (Stands heap k → MayPrepareOwner heap.shape k e m word)
       → Keeps heap (prepare_plan e k.stage (name.Owner m) word) k

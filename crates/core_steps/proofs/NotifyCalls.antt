@@ -66,6 +66,7 @@ module _ (heap : Heap) (e : Purpose) (o : ℕ) where
     tells = record {
       runs = x.runs;
       unasks = x.unasks;
+      still = x.still;
       unchecks = x.unchecks;
       live = x.live;
       room = x.room;
@@ -135,6 +136,7 @@ module _ (heap : Heap) (k : Known) (o now : ℕ) (rest : AtRest heap.shape k) wh
             let tells : Telling heap e o l = record {
               runs = x.runs;
               unasks = x.unasks;
+              still = x.still;
               unchecks = unchecks;
               live = ap (λ z. ends z.log) x.local ∙ operates_here.live;
               room = subst (λ z. length z.log < log_limit) (sym x.local) (let r = operates_here.room in omega arith);

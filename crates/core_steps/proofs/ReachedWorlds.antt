@@ -26,7 +26,7 @@ use Rattle.core_steps.proofs.Table.{calls_begin}
 
 -- THE OPENING WORLD is sound: no call was begun, and every thread is at rest.
 first_rests : (s : Shape) (t : ℕ) → AtRest s (first_known t)
-first_rests s t = rests s (first_known t) refl refl refl (record { ended = λ h. absurd (cc h); place = λ o h. absurd (cc h); untold = no_told; shots_logged = λ h. refl })
+first_rests s t = rests s (first_known t) refl refl refl (record { still = refl; ended = λ h. absurd (cc h); place = λ o h. absurd (cc h); untold = no_told; shots_logged = λ h. refl })
 
 pub opening_sound : (heap : Heap) → IsInLimits heap.shape → Sound (opening heap.shape heap.start heap.biasing)
 opening_sound heap limits = record {

@@ -15,6 +15,7 @@ use Rattle.core_world.specs.Locks.{hold_count, holds_by_monitor, monitor_of}
 use Rattle.core_world.specs.Trees.Plans.{Purpose, with_stage, store, free_place, top_place}
 use Rattle.core_world.specs.Trees.SafepointSteps.{all_but, stop_plan}
 use Rattle.core_world.specs.Threads.Stages.{hold_words_ahead, one_if}
+use Rattle.core_world.specs.Clauses.Safepoints.{IsQuiet}
 use Rattle.core_world.specs.Steps.{is_idle, world_after, known_hit}
 use Rattle.core_world.specs.Trees.Todo.{Todo, step}
 use Rattle.core_world.specs.Valid.{Valid, IsValid, Fits}
@@ -76,13 +77,20 @@ module _ (heap : Heap) (k : Known) (fresh : Bool) (v : Stands heap k) (at_first 
       (away heap k v (λ s y. slice_index y.holds p ≡ hold_word o (hold_count o y.holds)) (top_here heap k v runs o some).0)
       (away heap k v (λ s y. 1 ≤ hold_count o y.holds) some) (away heap k v (λ s y. hold_count o y.holds ≤ 64) (few_here heap k v runs o))
 
-  -- A STOP AT ANOTHER STAGE: a thread that doesn't run stands in the middle of nothing
+  -- A STOP AT ANOTHER STAGE: a thread that doesn't run stands in the middle of nothing, where its safepoint is not reached
+  quiet_calm : (reached : Bool) (stage : Stage) → IsQuiet reached stage → reached ≡ false → stage ≡ Calm
+  quiet_calm reached stage (inl calm) unreached = calm
+  quiet_calm reached stage (inr takes) unreached = let there = takes.0 in absurd (cc (there, unreached))
+
   still_calm : (w : World) (P : List PlainObject) (t : ℕ) → IsValid w P → (w.known t).running ≡ false → (w.known t).reached ≡ false → (w.known t).stage ≡ Calm
   still_calm w P t valid stopped unreached = elim valid [
-    | inl a ↦ a.quiet.quiet t stopped
+    | inl a ↦ quiet_calm (w.known t).reached (w.known t).stage (a.quiet.quiet t stopped) unreached
     | inr s ↦ by_equal t s.requester
         (λ same. let reached = ap (λ z. (w.known z).reached) same ∙ ap (λ (y : Known). y.reached) s.knows ∙ s.reached in absurd (cc (reached, unreached)))
-        (λ d. let same = s.others t d in ap (λ (y : Known). y.stage) same ∙ s.fits.quiet.quiet t (ap (λ (y : Known). y.running) (sym same) ∙ stopped))
+        (λ d.
+        let same = s.others t d in
+        ap (λ (y : Known). y.stage) same ∙ quiet_calm (s.before.known t).reached (s.before.known t).stage (s.fits.quiet.quiet t (ap (λ (y : Known). y.running) (sym same) ∙ stopped))
+        (ap (λ (y : Known). y.reached) (sym same) ∙ unreached))
   ]
 
   pub stop_at_stage_fails : (e : Purpose) (stage : Stage) → k.running ≡ true → stage ≢ Calm → DoesSteps heap fresh (stop_at_stage_steps e stage (local_of k)) k → ⊥

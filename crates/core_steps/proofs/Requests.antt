@@ -1,9 +1,10 @@
 -- A safepoint that a call requests, or for which the request of an earlier call stands: up to where it is reached.
-use Rattle.std.proofs.Common.{◌≡◌, ℕ, ◌==◌, ◌||◌, ◌&&◌, not, eq-eqb, Bool, true, false, cond, List, [], ◌++◌, refl, sym, ap, ◌∙◌, inl}
+use Rattle.std.proofs.Common.{◌≡◌, ◌⊎◌, ℕ, ◌==◌, ◌||◌, ◌&&◌, not, eq-eqb, Bool, true, false, cond, List, [], ◌++◌, Some, refl, sym, ap, ◌∙◌, inl, inr}
 use Rattle.mark_word.specs.Safe.{read_safe}
 use Rattle.core_world.specs.declared.answer.Turn.{Turn}
 use Rattle.core_world.specs.declared.answer.Turn.TheVariants.{Done, Pending}
 use Rattle.core_world.specs.declared.answer.Why.TheVariants as why
+use Rattle.core_world.specs.declared.name.Name.{Name}
 use Rattle.core_world.specs.declared.name.Name.TheVariants as name
 use Rattle.core_world.specs.declared.stage.Stage.TheVariants.{Calm}
 use Rattle.core_world.specs.Threads.AtRest.{AtRest}
@@ -21,6 +22,7 @@ use Rattle.core_steps.proofs.Resting.{Carries, unasking, unchecking, rests}
 use Rattle.core_steps.proofs.SafeCalls.{look_safe}
 use Rattle.core_steps.proofs.SafepointLooks.{Reaches}
 use Rattle.core_steps.proofs.SafeWords.{requested_asks, requested_runs}
+use Rattle.core_steps.proofs.SeenSteps.{newest_or}
 use Rattle.core_steps.proofs.Tests.{unsome}
 use Rattle.core_steps.proofs.Trees.{answers, chooses, follows, binds, hitting, swapping}
 
@@ -34,10 +36,10 @@ module _ (heap : Heap) (e : Purpose) (me : ℕ) where
     pub check : e.check ≡ k.checking
     pub mine : e.unfinished ≡ k.unfinished
     pub live : ends k.log ≡ false
-    pub carries : Carries k.log k.wait k.holds k.shots e.unfinished
+    pub carries : Carries k.moving k.log k.wait k.holds k.shots e.unfinished
 
   -- The parts that the steps up to there leave, and what the thread has seen of marks and prototypes: what it had seen before, by what a step of
-  -- the call keeps of that.
+  -- the call keeps of that. They are on the safepoint word alone.
   pub record Since (k l : Known) : Type 0 where
     pub local : local_of l ≡ local_of k
     pub shots : l.shots ≡ k.shots
@@ -46,6 +48,7 @@ module _ (heap : Heap) (e : Purpose) (me : ℕ) where
     pub draws : l.draws ≡ k.draws
     pub mark : (o : ℕ) → last_seen (name.Mark o) l.seen ≡ last_seen (name.Mark o) (seen_before heap.shape k)
     pub prototype : (c : ℕ) → last_seen (name.Prototype c) l.seen ≡ last_seen (name.Prototype c) (seen_before heap.shape k)
+    pub alone : (n : Name) (v : ℕ) → last_seen n l.seen ≡ Some v → (n ≡ name.Safepoint) ⊎ (last_seen n (seen_before heap.shape k) ≡ Some v)
 
   -- what is known behind the look whether the safepoint is reached, and behind the request
   abbrev pub Stood : Known → Turn (Unit {0}) → Known → Type 0
@@ -61,7 +64,7 @@ module _ (heap : Heap) (e : Purpose) (me : ℕ) where
     pub number : k.thread ≡ me
     pub rest : AtRest heap.shape k
     pub live : ends k.log ≡ false
-    pub carries : Carries k.log k.wait k.holds k.shots e.unfinished
+    pub carries : Carries k.moving k.log k.wait k.holds k.shots e.unfinished
     pub asking : k.requesting ≡ true → (e.check ≡ k.checking) × (e.unfinished ≡ k.unfinished)
     pub running : k.requesting ≡ false → (k.running ≡ true) × GoesOn k e
 
@@ -101,6 +104,10 @@ module _ (heap : Heap) (e : Purpose) (me : ℕ) where
           draws = since.draws;
           mark = λ o. ap (last_seen (name.Mark o)) (asking_saw k a.asks) ∙ since.mark o;
           prototype = λ c. ap (last_seen (name.Prototype c)) (asking_saw k a.asks) ∙ since.prototype c;
+          alone = λ n v saw. elim (newest_or n name.Safepoint word v (last_seen n (seen_before heap.shape k)) saw) [
+            | inl is ↦ inl is
+            | inr g ↦ since.alone n v (ap (last_seen n) (sym (asking_saw k a.asks)) ∙ g)
+          ];
         } in
         chooses heap false (is_still word) _ _ _ _
         (λ still. answers heap false _ _ _ (
@@ -128,7 +135,7 @@ module _ (heap : Heap) (e : Purpose) (me : ℕ) where
         let exchange = request_plan e k.thread word in
         chooses heap false (has_requester word) _ _ _ _ (λ h. answers heap false _ _ _ (refl, rests heap.shape _ refl unasks refl may.carries)) (λ free.
         swapping heap false exchange word _ (λ n. done_with tt) (λ n. cond (has_requester n) (pending_for (why.Requested n)) (pending_for (why.Raced word n))) l _ refl
-        (λ i. requests heap _ e word (record { runs = runs; calm = refl; ended = λ h. let live = may.live in absurd (cc (h, live)); unasked = unsome _ free; goes_on = inl refl }))
+        (λ i. requests heap _ e word (record { runs = runs; calm = refl; ended = λ h. let live = may.live in absurd (cc (h, live)); unasked = unsome _ free; still = may.carries.still; goes_on = inl refl }))
         (λ n i was h.
         let left = cond (n == word) (requested_by (read_safe word) k.thread) n in
         let asks : asks_in left k.thread ≡ true = ap (λ z. asks_in (cond z (requested_by (read_safe word) k.thread) n) k.thread) (eq-eqb n word h) ∙ requested_asks heap _ word was.stands (was.found ∙ h) runs in
@@ -157,6 +164,10 @@ module _ (heap : Heap) (e : Purpose) (me : ℕ) where
               draws = refl;
               mark = λ o. ap (last_seen (name.Mark o)) kept;
               prototype = λ c. ap (last_seen (name.Prototype c)) kept;
+              alone = λ m v saw. elim (newest_or m name.Safepoint left v _ saw) [
+                | inl is ↦ inl is
+                | inr g ↦ newest_or m name.Safepoint word v (last_seen m (seen_before heap.shape k)) (ap (last_seen m) (sym kept) ∙ g)
+              ];
             },
             λ first. ap (λ (b : Bool). b && asks_in left k.thread) (nor_first k.reached k.requesting (is_still word) first unasks),
           ),
@@ -186,6 +197,7 @@ module _ (heap : Heap) (e : Purpose) (me : ℕ) where
           draws = refl;
           mark = λ o. ap (last_seen (name.Mark o)) (sym saw);
           prototype = λ c. ap (last_seen (name.Prototype c)) (sym saw);
+          alone = λ n v h. inr (ap (last_seen n) saw ∙ h);
         })
         (λ first. first))
         (λ free. let a = may.running free in

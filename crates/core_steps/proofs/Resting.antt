@@ -8,19 +8,20 @@ use Rattle.core_world.specs.declared.task.Unfinished.{Unfinished}
 use Rattle.core_world.specs.Threads.AtRest.{AtRest, MayAsk}
 use Rattle.core_world.specs.Words.Forms.{says_notified, says_ended}
 use Rattle.core_world.specs.Words.Shape.{Shape}
-use Rattle.core_world.specs.Threads.Known.{Known, DumpShot}
+use Rattle.core_world.specs.Threads.Known.{Known, Moving, Still, DumpShot}
 use Rattle.core_world.specs.Trees.Plans.{free_place}
 use Rattle.core_world.specs.Clauses.Safepoints.{ends, is_ending, IsUnfinished}
 use Rattle.core_world.specs.Shots.{dumps_from}
 
-pub record Carries (log : List Logged) (wait : ℕ) (holds : List ℕ) (shots : List DumpShot) (unfinished : Option Unfinished) : Type 0 where
+pub record Carries (moving : Moving) (log : List Logged) (wait : ℕ) (holds : List ℕ) (shots : List DumpShot) (unfinished : Option Unfinished) : Type 0 where
+  pub still : moving ≡ Still
   pub ended : ends log ≡ true → (says_ended wait ≡ true) × (unfinished ≡ None)
   pub place : (o : ℕ) → IsUnfinished unfinished op.Enter o → free_place holds < 64
   pub untold : (o : ℕ) → says_notified wait o ≡ false
   pub shots_logged : IsUnfinished unfinished op.Dump 0 → length shots ≡ length (dumps_from 0 log)
 
-pub carried : (s : Shape) (k : Known) → AtRest s k → Carries k.log k.wait k.holds k.shots k.unfinished
-carried s k rest = record { ended = rest.ended; place = rest.place; untold = rest.untold; shots_logged = rest.shots }
+pub carried : (s : Shape) (k : Known) → AtRest s k → Carries k.moving k.log k.wait k.holds k.shots k.unfinished
+carried s k rest = record { still = rest.still; ended = rest.ended; place = rest.place; untold = rest.untold; shots_logged = rest.shots }
 
 -- a thread that runs asks for no safepoint, and one that asks for none has no check unfinished
 pub unasking : (s : Shape) (k : Known) → AtRest s k → k.running ≡ true → k.requesting ≡ false
@@ -38,9 +39,10 @@ unchecking s k rest unasks = cases k.checking rest.checks
     cases false f = refl
 
 -- so the thread is at rest where it asks for nothing
-pub rests : (s : Shape) (k : Known) → k.stage ≡ Calm → k.requesting ≡ false → k.checking ≡ false → Carries k.log k.wait k.holds k.shots k.unfinished → AtRest s k
+pub rests : (s : Shape) (k : Known) → k.stage ≡ Calm → k.requesting ≡ false → k.checking ≡ false → Carries k.moving k.log k.wait k.holds k.shots k.unfinished → AtRest s k
 rests s k calm unasks unchecks carries = record {
   calm = calm;
+  still = carries.still;
   ended = carries.ended;
   place = carries.place;
   untold = carries.untold;
@@ -51,9 +53,10 @@ rests s k calm unasks unchecks carries = record {
 }
 
 -- and where it has nothing unfinished but its request
-pub rests_asking : (s : Shape) (k : Known) → k.stage ≡ Calm → k.running ≡ false → k.unfinished ≡ None → k.checking ≡ false → Carries k.log k.wait k.holds k.shots k.unfinished → AtRest s k
+pub rests_asking : (s : Shape) (k : Known) → k.stage ≡ Calm → k.running ≡ false → k.unfinished ≡ None → k.checking ≡ false → Carries k.moving k.log k.wait k.holds k.shots k.unfinished → AtRest s k
 rests_asking s k calm stopped nothing unchecks carries = record {
   calm = calm;
+  still = carries.still;
   ended = carries.ended;
   place = carries.place;
   untold = carries.untold;
@@ -67,9 +70,10 @@ rests_asking s k calm stopped nothing unchecks carries = record {
     asks_nothing e = subst (MayAsk s k) (sym e) tt
 
 -- or only its check
-pub rests_checking : (s : Shape) (k : Known) → k.stage ≡ Calm → k.running ≡ false → k.requesting ≡ true → k.checking ≡ true → Carries k.log k.wait k.holds k.shots k.unfinished → AtRest s k
+pub rests_checking : (s : Shape) (k : Known) → k.stage ≡ Calm → k.running ≡ false → k.requesting ≡ true → k.checking ≡ true → Carries k.moving k.log k.wait k.holds k.shots k.unfinished → AtRest s k
 rests_checking s k calm stopped asks checks carries = record {
   calm = calm;
+  still = carries.still;
   ended = carries.ended;
   place = carries.place;
   untold = carries.untold;
@@ -96,14 +100,14 @@ ends_behind (m ∷ log) l e = let a = ends_behind log l e in cases (is_ending m.
     cases true a = refl
     cases false a = a
 
--- A thread whose log is live and whose unfinished operation is no dump carries that it is live, a free place where an enter is unfinished, and that it
--- was not told.
-pub live_carries : {shots : List DumpShot} (log : List Logged) (wait : ℕ) (holds : List ℕ) (unfinished : Option Unfinished) → ends log ≡ false
-    → ((o : ℕ) → IsUnfinished unfinished op.Enter o → free_place holds < 64) → (IsUnfinished unfinished op.Dump 0 → ⊥) → ((o : ℕ) → says_notified wait o ≡ false) → Carries log wait holds shots unfinished
-live_carries log wait holds unfinished live place undumped untold =
-    record { ended = λ ended. absurd (cc (ended, live)); place = place; untold = untold; shots_logged = λ dumps. absurd (undumped dumps) }
+-- A thread whose log is live and whose unfinished operation is no dump carries that it has nothing in hand of the ring, that its log is live, a free place
+-- where an enter is unfinished, and that it was not told.
+pub live_carries : {moving : Moving} {shots : List DumpShot} (log : List Logged) (wait : ℕ) (holds : List ℕ) (unfinished : Option Unfinished) → moving ≡ Still → ends log ≡ false
+    → ((o : ℕ) → IsUnfinished unfinished op.Enter o → free_place holds < 64) → (IsUnfinished unfinished op.Dump 0 → ⊥) → ((o : ℕ) → says_notified wait o ≡ false) → Carries moving log wait holds shots unfinished
+live_carries log wait holds unfinished still live place undumped untold =
+    record { still = still; ended = λ ended. absurd (cc (ended, live)); place = place; untold = untold; shots_logged = λ dumps. absurd (undumped dumps) }
 
 -- and so it does after an entry that ends nothing, with which its operation ends
-pub logged_carries : {shots : List DumpShot} (log : List Logged) (l : Logged) (wait : ℕ) (holds : List ℕ) → ends log ≡ false → is_ending l.entry ≡ false → ((o : ℕ) → says_notified wait o ≡ false)
-    → Carries (log ++ l ∷ []) wait holds shots None
-logged_carries log l wait holds live e untold = live_carries (log ++ l ∷ []) wait holds None (live_behind log l live e) (λ o h. absurd (cc h)) (λ h. absurd (cc h)) untold
+pub logged_carries : {moving : Moving} {shots : List DumpShot} (log : List Logged) (l : Logged) (wait : ℕ) (holds : List ℕ) → moving ≡ Still → ends log ≡ false → is_ending l.entry ≡ false
+    → ((o : ℕ) → says_notified wait o ≡ false) → Carries moving (log ++ l ∷ []) wait holds shots None
+logged_carries log l wait holds still live e untold = live_carries (log ++ l ∷ []) wait holds None still (live_behind log l live e) (λ o h. absurd (cc h)) (λ h. absurd (cc h)) untold

@@ -1,5 +1,6 @@
--- A revocation at a reached safepoint: its steps, from the loads by which the policy decides up to the release.
-use Rattle.std.proofs.Common.{◌≡◌, ℕ, ◌<◌, ◌==◌, ◌&&◌, ◌++◌, not, eq-eqb, Bool, true, false, cond, List, [], ◌∷◌, length, Option, Some, None, refl, sym, ap, ◌∙◌, subst, inl, inr}
+-- A revocation at a reached safepoint: its steps, from the loads by which the policy decides on, and behind them those that give idle monitors back, up
+-- to the release.
+use Rattle.std.proofs.Common.{◌≡◌, ◌⊎◌, ℕ, ◌<◌, ◌==◌, ◌&&◌, ◌++◌, not, eq-eqb, Bool, true, false, cond, List, [], ◌∷◌, length, Option, Some, None, refl, sym, ap, ◌∙◌, subst, arith, inl, inr}
 use Rattle.mark_word.specs.Mark.{read_mark}
 use Rattle.lock_policy.specs.declared.policy.Verdict.{Verdict}
 use Rattle.lock_policy.specs.Policy.{decided, is_reset}
@@ -11,10 +12,10 @@ use Rattle.core_world.specs.declared.plan.Own.TheVariants as own
 use Rattle.core_world.specs.declared.plan.StepPlan.{StepPlan}
 use Rattle.core_world.specs.declared.stage.Stage.TheVariants.{Calm}
 use Rattle.core_world.specs.declared.task.Op.{Op}
-use Rattle.core_world.specs.Threads.AtRest.{AtRest, SawValidBias}
+use Rattle.core_world.specs.Threads.AtRest.{AtRest, SawValidBias, SawNoOther}
 use Rattle.core_world.specs.Trees.BiasSteps.{stage_after}
 use Rattle.core_world.specs.Words.Forms.{asks_in, runs_in, epoch_in, is_biased}
-use Rattle.core_world.specs.Threads.Known.{Known, StepMade, local_of, last_seen, left_by}
+use Rattle.core_world.specs.Threads.Known.{Known, Still, StepMade, local_of, last_seen, left_by}
 use Rattle.core_world.specs.Locks.{is_valid_bias}
 use Rattle.core_world.specs.Words.Names.{same_name, its_monitor}
 use Rattle.core_world.specs.Trees.Plans.{Purpose, with_stage, load, store, done_with}
@@ -23,29 +24,31 @@ use Rattle.core_world.specs.Clauses.SeenWords.{IsValidBias}
 use Rattle.core_world.specs.RevocationRules.{writes_in}
 use Rattle.core_world.specs.Trees.RevocationSteps.{revocation_stage, revoke_plan, verdict_steps, decided_steps, RevocationOutcome, revoke_at_safepoint_steps}
 use Rattle.core_world.specs.There.{IsIn}
-use Rattle.core_world.specs.Words.Shape.{class_of}
+use Rattle.core_world.specs.Words.Shape.{Shape, class_of}
+use Rattle.core_world.specs.Trees.DeflateSteps.{deflate_steps}
 use Rattle.core_world.specs.Threads.Stages.{Revocation, revocation_in}
-use Rattle.core_world.specs.Steps.{known_hit, seen_before, only_headers, is_header}
+use Rattle.core_world.specs.Steps.{is_idle, known_hit, seen_before, only_headers, is_header}
 use Rattle.core_world.specs.Trees.Todo.{Todo, done, never, step, ◌>>=◌}
 use Rattle.core_world.specs.Valid.{RevokesWithin}
 use Rattle.core_world.proofs.ActsLook.{headers_are_part}
 use Rattle.core_world.proofs.Naming.{same_named, same_as_itself}
-use Rattle.core_bias.specs.Revoking.{IsNextStore, AreAllStores, Leads, TellsBias}
+use Rattle.core_bias.specs.Revoking.{IsNextStore, AreAllStores, Leads, TellsBias, is_kept_on_request}
 use Rattle.core_bias.proofs.NewBias.{answer_tells}
 use Rattle.core_bias.proofs.RevocationRuns.{steps_next, steps_all}
 use Rattle.core_locks.proofs.LookOn.{may_look}
 use Rattle.core_locks.specs.Knowing.{IsBiasTo}
-use Rattle.core_law.specs.Logic.{Heap, Stands, Was, Does}
+use Rattle.core_law.specs.Logic.{Heap, Stands, Keeps, Was, Does}
 use Rattle.core_steps.proofs.BiasFacts.{valid_is}
-use Rattle.core_steps.proofs.BiasRules.{begins_revoking_rule, goes_on_revoking_rule, ends_revoking_rule}
-use Rattle.core_steps.proofs.LawRules.{looks, class_in}
+use Rattle.core_steps.proofs.BiasRules.{bias_biased, begins_revoking_rule, goes_on_revoking_rule, looks_behind_rule}
+use Rattle.core_steps.proofs.Deflations.{Idles, deflate_ends}
+use Rattle.core_steps.proofs.LawRules.{looks, class_in, releases, releases_taking}
 use Rattle.core_law.proofs.Standing.{home, away, valid_here, few_threads}
 use Rattle.core_steps.proofs.RevocationTrees.{IsLooked, IsStored, InMiddle, middle_binds, middle_verdict, answers_left, revocation_untaken}
-use Rattle.core_steps.proofs.SafepointLooks.{Reaches, keeps_look}
+use Rattle.core_steps.proofs.SafepointLooks.{Reaches, keeps_look, going}
 use Rattle.core_law.proofs.SafepointSights.{found_formed, is_as_seen, fits_reached}
 use Rattle.core_world.proofs.There.{IsFormed}
 use Rattle.core_steps.proofs.SafeWords.{reached_there, released_asks, released_runs}
-use Rattle.core_steps.proofs.Trees.{answers, chooses_then, hitting, finding}
+use Rattle.core_steps.proofs.Trees.{answers, chooses_then, follows, hitting, finding}
 
 -- some step of these was on the word of this name
 abbrev pub HasSeen : Name → List StepMade → Type 0
@@ -80,6 +83,37 @@ headers_alone n h ms = cases (last_seen n (only_headers ms)) refl
     cases None e = refl
     cases (Some v) e = let is = (headers_are_part ms n v e).0 in absurd (cc (is, h))
 
+-- WHAT STAYS WHILE A REQUEST STANDS, marks and words of classes: whatever all steps last saw of such a word, those since the safepoint was reached saw too.
+abbrev SeenSince : List StepMade → List StepMade → Type 0
+SeenSince all since = (n : Name) (v : ℕ) → is_kept_on_request n ≡ true → last_seen n all ≡ Some v → last_seen n since ≡ Some v
+
+-- So it is with one step more,
+since_more : (m : StepMade) (all since : List StepMade) → SeenSince all since → SeenSince (m ∷ all) (m ∷ since)
+since_more m all since f n v kept = by_name (same_name n m.plan.at)
+  where
+    by_name : (c : Bool) → cond c (Some (left_by m)) (last_seen n all) ≡ Some v → cond c (Some (left_by m)) (last_seen n since) ≡ Some v
+    by_name true h = h
+    by_name false h = f n v kept h
+
+-- and where some words are left out, each step leaves out one less.
+abbrev SeenBut : (Name → Type 0) → List StepMade → List StepMade → Type 0
+SeenBut But all since = (n : Name) (v : ℕ) → is_kept_on_request n ≡ true → last_seen n all ≡ Some v → (last_seen n since ≡ Some v) ⊎ But n
+
+but_more : (But : Name → Type 0) (m : StepMade) (all since : List StepMade) → SeenBut But all since → SeenBut (λ n. But n × (same_name n m.plan.at ≡ false)) (m ∷ all) (m ∷ since)
+but_more But m all since f n v kept = by_name (same_name n m.plan.at) refl
+  where
+    by_name : (c : Bool) → same_name n m.plan.at ≡ c → cond c (Some (left_by m)) (last_seen n all) ≡ Some v
+        → (cond c (Some (left_by m)) (last_seen n since) ≡ Some v) ⊎ (But n × (same_name n m.plan.at ≡ false))
+    by_name true same h = inl h
+    by_name false other h = elim (f n v kept h) [
+      | inl a ↦ inl a
+      | inr a ↦ inr (a, other)
+    ]
+
+-- within a call a step forgets nothing that was seen before
+goes_on_seeing : (s : Shape) (k : Known) → is_idle s k ≡ false → seen_before s k ≡ k.seen
+goes_on_seeing s k going = ap (λ (z : Bool). cond (z && not k.requesting) [] k.seen) going
+
 module _ (heap : Heap) (e : Purpose) (b : Revocation) (me : ℕ) where
   abbrev T : Todo RevocationOutcome
   T = revoke_at_safepoint_steps heap.shape me e b
@@ -93,6 +127,7 @@ module _ (heap : Heap) (e : Purpose) (b : Revocation) (me : ℕ) where
     pub running : l.running ≡ k.running
     pub reached : l.reached ≡ k.reached
     pub kept : l.kept ≡ k.kept
+    pub moving : l.moving ≡ k.moving
     pub saved : l.saved ≡ k.saved
     pub draws : l.draws ≡ k.draws
     pub shots : l.shots ≡ k.shots
@@ -105,6 +140,7 @@ module _ (heap : Heap) (e : Purpose) (b : Revocation) (me : ℕ) where
     running = y.running ∙ x.running;
     reached = y.reached ∙ x.reached;
     kept = y.kept ∙ x.kept;
+    moving = y.moving ∙ x.moving;
     saved = y.saved ∙ x.saved;
     draws = y.draws ∙ x.draws;
     shots = y.shots ∙ x.shots;
@@ -116,6 +152,7 @@ module _ (heap : Heap) (e : Purpose) (b : Revocation) (me : ℕ) where
   record Adds (p : StepPlan) (n : ℕ) (k l : Known) : Type 0 where
     leaves : Leaves k l
     seen_at_safepoint : l.seen_at_safepoint ≡ record { plan = p; found = n } ∷ k.seen_at_safepoint
+    seen : l.seen ≡ record { plan = p; found = n } ∷ seen_before heap.shape k
     stage : l.stage ≡ p.stage
 
   abbrev then_known : StepPlan → ℕ → Known → Known
@@ -129,26 +166,26 @@ module _ (heap : Heap) (e : Purpose) (b : Revocation) (me : ℕ) where
 
   look_adds : (at : Name) → IsLooked at → (n : ℕ) (k : Known) → Adds (looking at) n k (then_known (looking at) n k)
   look_adds (name.Prototype a) h n k =
-      record { leaves = record { local = refl; running = refl; reached = refl; kept = refl; saved = refl; draws = refl; shots = refl; mine = refl; check = refl }; seen_at_safepoint = refl; stage = refl }
+      record { leaves = record { local = refl; running = refl; reached = refl; kept = refl; moving = refl; saved = refl; draws = refl; shots = refl; mine = refl; check = refl }; seen_at_safepoint = refl; seen = refl; stage = refl }
   look_adds (name.Revocations a) h n k =
-      record { leaves = record { local = refl; running = refl; reached = refl; kept = refl; saved = refl; draws = refl; shots = refl; mine = refl; check = refl }; seen_at_safepoint = refl; stage = refl }
+      record { leaves = record { local = refl; running = refl; reached = refl; kept = refl; moving = refl; saved = refl; draws = refl; shots = refl; mine = refl; check = refl }; seen_at_safepoint = refl; seen = refl; stage = refl }
   look_adds (name.LastBulk a) h n k =
-      record { leaves = record { local = refl; running = refl; reached = refl; kept = refl; saved = refl; draws = refl; shots = refl; mine = refl; check = refl }; seen_at_safepoint = refl; stage = refl }
+      record { leaves = record { local = refl; running = refl; reached = refl; kept = refl; moving = refl; saved = refl; draws = refl; shots = refl; mine = refl; check = refl }; seen_at_safepoint = refl; seen = refl; stage = refl }
   look_adds (name.Mark a) h n k =
-      record { leaves = record { local = refl; running = refl; reached = refl; kept = refl; saved = refl; draws = refl; shots = refl; mine = refl; check = refl }; seen_at_safepoint = refl; stage = refl }
+      record { leaves = record { local = refl; running = refl; reached = refl; kept = refl; moving = refl; saved = refl; draws = refl; shots = refl; mine = refl; check = refl }; seen_at_safepoint = refl; seen = refl; stage = refl }
   look_adds (name.Hold u p) h n k =
-      record { leaves = record { local = refl; running = refl; reached = refl; kept = refl; saved = refl; draws = refl; shots = refl; mine = refl; check = refl }; seen_at_safepoint = refl; stage = refl }
+      record { leaves = record { local = refl; running = refl; reached = refl; kept = refl; moving = refl; saved = refl; draws = refl; shots = refl; mine = refl; check = refl }; seen_at_safepoint = refl; seen = refl; stage = refl }
   look_adds _ h n k = absurd h
 
   store_adds : (at : Name) (word : ℕ) → IsStored at → (n : ℕ) (k : Known) → Adds (storing at word) n k (then_known (storing at word) n k)
   store_adds (name.Prototype a) word h n k =
-      record { leaves = record { local = refl; running = refl; reached = refl; kept = refl; saved = refl; draws = refl; shots = refl; mine = refl; check = refl }; seen_at_safepoint = refl; stage = refl }
+      record { leaves = record { local = refl; running = refl; reached = refl; kept = refl; moving = refl; saved = refl; draws = refl; shots = refl; mine = refl; check = refl }; seen_at_safepoint = refl; seen = refl; stage = refl }
   store_adds (name.LastBulk a) word h n k =
-      record { leaves = record { local = refl; running = refl; reached = refl; kept = refl; saved = refl; draws = refl; shots = refl; mine = refl; check = refl }; seen_at_safepoint = refl; stage = refl }
+      record { leaves = record { local = refl; running = refl; reached = refl; kept = refl; moving = refl; saved = refl; draws = refl; shots = refl; mine = refl; check = refl }; seen_at_safepoint = refl; seen = refl; stage = refl }
   store_adds (name.Mark a) word h n k =
-      record { leaves = record { local = refl; running = refl; reached = refl; kept = refl; saved = refl; draws = refl; shots = refl; mine = refl; check = refl }; seen_at_safepoint = refl; stage = refl }
+      record { leaves = record { local = refl; running = refl; reached = refl; kept = refl; moving = refl; saved = refl; draws = refl; shots = refl; mine = refl; check = refl }; seen_at_safepoint = refl; seen = refl; stage = refl }
   store_adds (name.Displaced u p) word h n k =
-      record { leaves = record { local = refl; running = refl; reached = refl; kept = refl; saved = refl; draws = refl; shots = refl; mine = refl; check = refl }; seen_at_safepoint = refl; stage = refl }
+      record { leaves = record { local = refl; running = refl; reached = refl; kept = refl; moving = refl; saved = refl; draws = refl; shots = refl; mine = refl; check = refl }; seen_at_safepoint = refl; seen = refl; stage = refl }
   store_adds _ word h n k = absurd h
 
   looked_shared : (at : Name) → IsLooked at → (m : ℕ) → its_monitor at ≡ Some m → ⊥
@@ -169,6 +206,7 @@ module _ (heap : Heap) (e : Purpose) (b : Revocation) (me : ℕ) where
       pub path : Leads T ms d
       pub mark : HasSeen (name.Mark b.object) k.seen_at_safepoint
       pub prototype : HasSeen (name.Prototype c) k.seen_at_safepoint
+      pub since : SeenSince k.seen k.seen_at_safepoint
 
     number_of : (k : Known) → Leaves k0 k → k.thread ≡ me
     number_of k x = ap (λ z. z.thread) x.local ∙ r.number
@@ -180,9 +218,9 @@ module _ (heap : Heap) (e : Purpose) (b : Revocation) (me : ℕ) where
     abbrev Q : Bool → RevocationOutcome → Known → Type 0
     Q f a l = (f ≡ false) × Made_all a l
 
-    then_revokes : (p : StepPlan) (n : ℕ) (f : ℕ → Todo RevocationOutcome) (k l : Known) (ms : List StepMade) → Revokes k ms (step p f) → Adds p n k l
+    then_revokes : (p : StepPlan) (n : ℕ) (f : ℕ → Todo RevocationOutcome) (k l : Known) (ms : List StepMade) → is_idle heap.shape k ≡ false → Revokes k ms (step p f) → Adds p n k l
         → p.stage ≡ revocation_stage b → Revokes l (record { plan = p; found = n } ∷ ms) (f n)
-    then_revokes p n f k l ms x a at =
+    then_revokes p n f k l ms going x a at =
         let m : StepMade = record { plan = p; found = n } in
         record {
           leaves = leaves_on k0 k l x.leaves a.leaves;
@@ -191,6 +229,8 @@ module _ (heap : Heap) (e : Purpose) (b : Revocation) (me : ℕ) where
           path = (f, x.path, refl);
           mark = subst (HasSeen (name.Mark b.object)) (sym a.seen_at_safepoint) (seen_more (name.Mark b.object) m k.seen_at_safepoint x.mark);
           prototype = subst (HasSeen (name.Prototype c)) (sym a.seen_at_safepoint) (seen_more (name.Prototype c) m k.seen_at_safepoint x.prototype);
+          since = subst (λ z. SeenSince l.seen z) (sym a.seen_at_safepoint)
+              (subst (λ z. SeenSince z (m ∷ k.seen_at_safepoint)) (ap (λ z. m ∷ z) (sym (goes_on_seeing heap.shape k going)) ∙ sym a.seen) (since_more m k.seen k.seen_at_safepoint x.since));
         }
 
     by_look : (at : Name) (f : ℕ → Todo RevocationOutcome) (k : Known) (ms : List StepMade) → IsLooked at → IsIn heap.shape at
@@ -208,7 +248,7 @@ module _ (heap : Heap) (e : Purpose) (b : Revocation) (me : ℕ) where
           after = inl x.leaves.mine;
           may = may_look k at (inr (x.leaves.reached ∙ r.reached)) (looked_shared at h);
         }) (λ v. there))
-        (λ n i was. go n (then_known (looking at) n k) (record { plan = looking at; found = n } ∷ ms) (found_formed heap k at n refl was) (then_revokes (looking at) n f k (then_known (looking at) n k) ms x (look_adds at h n k) refl))
+        (λ n i was. go n (then_known (looking at) n k) (record { plan = looking at; found = n } ∷ ms) (found_formed heap k at n refl was) (then_revokes (looking at) n f k (then_known (looking at) n k) ms i x (look_adds at h n k) refl))
 
     by_store : (at : Name) (word : ℕ) (f : ℕ → Todo RevocationOutcome) (k : Known) (ms : List StepMade) → IsStored at → IsIn heap.shape at
         → Revokes k ms (step (storing at word) f)
@@ -226,7 +266,7 @@ module _ (heap : Heap) (e : Purpose) (b : Revocation) (me : ℕ) where
             check = x.leaves.check;
           };
         }))
-        (λ n i was. go n (then_known (storing at word) n k) (record { plan = storing at word; found = n } ∷ ms) (found_formed heap k at n refl was) (then_revokes (storing at word) n f k (then_known (storing at word) n k) ms x (store_adds at word h n k) refl))
+        (λ n i was. go n (then_known (storing at word) n k) (record { plan = storing at word; found = n } ∷ ms) (found_formed heap k at n refl was) (then_revokes (storing at word) n f k (then_known (storing at word) n k) ms i x (store_adds at word h n k) refl))
 
     middle_does : (d : Todo RevocationOutcome) (k : Known) (ms : List StepMade) → InMiddle heap.shape e b d → Revokes k ms d → Does heap false d k Q
     middle_does (done a) k ms h x = answers heap false a k Q (refl, (ms, x))
@@ -323,8 +363,8 @@ module _ (heap : Heap) (e : Purpose) (b : Revocation) (me : ℕ) where
       saw_last : last_seen (name.LastBulk c) k4.seen_at_safepoint ≡ Some last
       saw_last = ap (λ (z : Bool). cond z (Some last) (last_seen (name.LastBulk c) k0.seen_at_safepoint)) (same_as_itself (name.LastBulk c))
 
-      decides : Does heap false (decided_steps heap.shape me c e b (epoch_in prototype) count last) k4 (λ f a l. (f ≡ false) × Made_all k0 r unwritten a l)
-      decides =
+      decides : SeenSince k4.seen k4.seen_at_safepoint → Does heap false (decided_steps heap.shape me c e b (epoch_in prototype) count last) k4 (λ f a l. (f ≡ false) × Made_all k0 r unwritten a l)
+      decides since =
           hitting heap false first_store rest_of k4 _ (λ n. refl)
           (λ i. begins_revoking_rule heap k4 e b verdict (is_reset count last b.now) (name.Revocations c) word (class_in heap k4 b.object object) (λ v. record {
             reached = r.reached;
@@ -348,17 +388,33 @@ module _ (heap : Heap) (e : Purpose) (b : Revocation) (me : ℕ) where
           (middle_binds heap.shape e b (verdict_steps heap.shape me c e b (epoch_in prototype) verdict) (λ took. done (record { verdict = verdict; took = took }))
           (middle_verdict heap.shape e b object c (class_in heap k4 b.object object was.stands) me (epoch_in prototype) verdict) (λ took. tt))
           (record {
-            leaves = record { local = refl; running = refl; reached = refl; kept = refl; saved = refl; draws = refl; shots = refl; mine = refl; check = refl };
+            leaves = record { local = refl; running = refl; reached = refl; kept = refl; moving = refl; saved = refl; draws = refl; shots = refl; mine = refl; check = refl };
             stage = refl;
             seen_at_safepoint = refl;
             path = (rest_of, path, refl);
             mark = (mark, saw_mark);
             prototype = (prototype, saw_prototype);
+            since = subst (λ z. SeenSince (record { plan = first_store; found = n } ∷ z) (record { plan = first_store; found = n } ∷ k4.seen_at_safepoint)) (sym (goes_on_seeing heap.shape k4 i))
+                (since_more (record { plan = first_store; found = n }) k4.seen k4.seen_at_safepoint since);
           }))
 
-    pub revoke_does : (k0 : Known) (r : Reaches me k0 e) (unwritten : writes_in k0.seen_at_safepoint ≡ []) → SawValidBias heap.shape k0 b.object
+    -- what the calls of the request saw of these words they saw of the object's mark and prototype alone
+    saw_two_before : (k0 : Known) → SawNoOther heap.shape k0 b.object → SeenBut (λ n. (n ≡ name.Mark b.object) ⊎ (n ≡ name.Prototype c)) k0.seen k0.seen_at_safepoint
+    saw_two_before k0 alone n v kept saw = elim (alone n v saw) [
+      | inl is ↦ let no = ap is_kept_on_request is in absurd (cc (no, kept))
+      | inr a ↦ inr a
+    ]
+
+    -- which are loaded again at the safepoint
+    but_looked : (But : Name → Type 0) (at : Name) (n : ℕ) (k : Known) → is_idle heap.shape k ≡ false → SeenBut But k.seen k.seen_at_safepoint
+        → SeenBut (λ m. But m × (same_name m at ≡ false)) (record { plan = load e at; found = n } ∷ seen_before heap.shape k) (record { plan = load e at; found = n } ∷ k.seen_at_safepoint)
+    but_looked But at n k going f =
+        subst (λ z. SeenBut (λ m. But m × (same_name m at ≡ false)) (record { plan = load e at; found = n } ∷ z) (record { plan = load e at; found = n } ∷ k.seen_at_safepoint)) (sym (goes_on_seeing heap.shape k going))
+        (but_more But (record { plan = load e at; found = n }) k.seen k.seen_at_safepoint f)
+
+    pub revoke_does : (k0 : Known) (r : Reaches me k0 e) (unwritten : writes_in k0.seen_at_safepoint ≡ []) → SawValidBias heap.shape k0 b.object → SawNoOther heap.shape k0 b.object
         → Does heap false T k0 (λ f a l. (f ≡ false) × Made_all k0 r unwritten a l)
-    revoke_does k0 r unwritten saw =
+    revoke_does k0 r unwritten saw alone =
         let R : Bool → RevocationOutcome → Known → Type 0 = λ f a l. (f ≡ false) × Made_all k0 r unwritten a l in
         hitting heap false (load e (name.Mark b.object)) _ k0 R (λ n. refl) (λ i. keeps_look heap me e (name.Mark b.object) k0 r (λ v. object)) (λ mark i0 was0.
         let k1 = then_known (load e (name.Mark b.object)) mark k0 in
@@ -377,7 +433,22 @@ module _ (heap : Heap) (e : Purpose) (b : Revocation) (me : ℕ) where
         (ap (λ (z : Bool). last_seen (name.Prototype c) (cond (z && not k0.requesting) [] k0.seen)) i0 ∙ saw.3) in
         let valid : is_valid_bias (read_mark mark) prototype ≡ true = (λ j. is_valid_bias (read_mark (mark_is j)) (prototype_is j)) ∙ saw.4 in
         subst (λ (z : Bool). Does heap false (cond z (decided_steps heap.shape me c e b (epoch_in prototype) count last) never) (then_known (load e (name.LastBulk c)) last k3) R) (sym valid)
-        (decides k0 r unwritten mark prototype count last valid)))))
+        (decides k0 r unwritten mark prototype count last valid
+        (all_looked (then_known (load e (name.LastBulk c)) last k3)
+        (but_looked _ (name.LastBulk c) last k3 i3 (but_looked _ (name.Revocations c) count k2 i2 (but_looked _ (name.Prototype c) prototype k1 i1 (but_looked _ (name.Mark b.object) mark k0 i0 (saw_two_before k0 alone)))))))))))
+      where
+        -- none is left
+        all_looked : (k : Known)
+            → SeenBut (λ n. (((((n ≡ name.Mark b.object) ⊎ (n ≡ name.Prototype c)) × (same_name n (name.Mark b.object) ≡ false)) × (same_name n (name.Prototype c) ≡ false)) × (same_name n (name.Revocations c) ≡ false))
+            × (same_name n (name.LastBulk c) ≡ false)) k.seen k.seen_at_safepoint
+            → SeenSince k.seen k.seen_at_safepoint
+        all_looked k f n v kept h = elim (f n v kept h) [
+          | inl a ↦ a
+          | inr a ↦ absurd (elim a.0.0.0.0 [
+            | inl is ↦ let other = a.0.0.0.1 in let same = ap (λ z. same_name z (name.Mark b.object)) is ∙ same_as_itself (name.Mark b.object) in cc (other, same)
+            | inr is ↦ let other = a.0.0.1 in let same = ap (λ z. same_name z (name.Prototype c)) is ∙ same_as_itself (name.Prototype c) in cc (other, same)
+          ])
+        ]
 
   -- THE RELEASE. What these words of mark and prototype tell of the bias, by whether the thread gave itself a new one.
   abbrev pub Tells : ℕ → Bool → ℕ → ℕ → Type 0
@@ -399,6 +470,7 @@ module _ (heap : Heap) (e : Purpose) (b : Revocation) (me : ℕ) where
     pub shots : l.shots ≡ k.shots
     pub runs : l.running ≡ true
     pub unasks : l.requesting ≡ false
+    pub still : l.moving ≡ Still
     pub unchecks : l.checking ≡ false
     pub mine : e.unfinished ≡ l.unfinished
     pub stage : l.stage ≡ stage_after took b.object
@@ -424,68 +496,128 @@ module _ (heap : Heap) (e : Purpose) (b : Revocation) (me : ℕ) where
       (away heap k v (λ s y. y.seen_at_safepoint ≡ all.0 ++ k0.seen_at_safepoint) x.seen_at_safepoint) unwritten
       (away heap k v (λ s y. Leads (revoke_at_safepoint_steps s k.thread e b) all.0 (done a)) (subst (λ t. Leads (revoke_at_safepoint_steps heap.shape t e b) all.0 (done a)) (sym number) x.path)) (valid_here heap k v))
 
-  pub release_does : (k0 : Known) (r : Reaches me k0 e) (unwritten : writes_in k0.seen_at_safepoint ≡ []) (k : Known) (a : RevocationOutcome)
-      → Made_all k0 r unwritten a k
-      → Does heap false (release_to (stage_after a.took b.object) e me >>= (λ u. done_with a.took)) k (λ f turn l. (f ≡ false) × Revoked k0 turn l)
-  release_does k0 r unwritten k a all =
-      let x = all.1 in
+  -- BEHIND THE STORES idle monitors are given back, and the first look of that ends the revocation. Then the safepoint is released.
+  abbrev pub release_steps : Bool → Todo (Turn Bool)
+  release_steps took = release_to (stage_after took b.object) e me >>= (λ u. done_with took)
+
+  abbrev pub ending_steps : Bool → Todo (Turn Bool)
+  ending_steps took = deflate_steps heap.shape e (stage_after took b.object) >>= (λ u. release_steps took)
+
+  plain_after : (took : Bool) → revocation_in (stage_after took b.object) ≡ None
+  plain_after true = refl
+  plain_after false = refl
+
+  -- what is known between the two: the thread saw its object's mark and prototype, and what they tell
+  record Deflated (k0 : Known) (took : Bool) (k : Known) : Type 0 where
+    idles : Idles heap e k0 (stage_after took b.object) (plain_after took) k
+    mark : (v p : ℕ) × (last_seen (name.Mark b.object) k.seen_at_safepoint ≡ Some v) × (last_seen (name.Prototype c) k.seen_at_safepoint ≡ Some p) × Tells k.thread took v p
+
+  -- a mark that stays, or had no bias pattern and has none, tells the same
+  tells_on : (t : ℕ) (took : Bool) (v u p : ℕ) → Tells t took v p → (u ≡ v) ⊎ ((is_biased v ≡ false) × (is_biased u ≡ false)) → Tells t took u p
+  tells_on t true v u p h (inl same) = subst (λ z. IsBiasTo t (read_mark z) (epoch_in p)) (sym same) h
+  tells_on t true v u p h (inr none) = let yes = bias_biased t (read_mark v) (epoch_in p) h in let no = none.0 in absurd (cc (yes, no))
+  tells_on t false v u p h (inl same) = ap is_biased same ∙ h
+  tells_on t false v u p h (inr none) = none.1
+
+  release_keeps : (took : Bool) (k : Known) (a : Purpose) → k.reached ≡ true → k.stage ≡ stage_after took b.object → k.moving ≡ Still → a.unfinished ≡ k.unfinished
+      → Keeps heap (release_plan a (stage_after took b.object) k.thread) k
+  release_keeps true k a reached stands still goes_on = releases_taking heap k a b.object (record { reached = reached; takes = stands; still = still; goes_on = goes_on })
+  release_keeps false k a reached stands still goes_on = releases heap k a (record { reached = reached; calm = stands; still = still; goes_on = goes_on })
+
+  release_does : (k0 k : Known) (took : Bool) → k0.thread ≡ me → (b.rebias ≡ false → took ≡ false) → Deflated k0 took k
+      → Does heap false (release_steps took) k (λ f turn l. (f ≡ false) × Revoked k0 turn l)
+  release_does k0 k took number untaken d =
+      let x = d.idles in
       let R : Bool → Turn Bool → Known → Type 0 = λ f turn l. (f ≡ false) × Revoked k0 turn l in
-      let reached : k.reached ≡ true = x.leaves.reached ∙ r.reached in
-      let number : k.thread ≡ me = number_of k0 r unwritten k x.leaves in
-      let finds : (n : ℕ) → Was heap (release_plan (record e { check = false }) (stage_after a.took b.object) k.thread) k n → (n == reached_word k.thread) ≡ true =
-      λ n was. eq-eqb n (reached_word k.thread) (reached_there heap k n was.stands was.found reached) in
-      subst (λ t. Does heap false (release_to (stage_after a.took b.object) e t >>= (λ u. done_with a.took)) k R) number (
-      finding heap false (release_plan (record e { check = false }) (stage_after a.took b.object) k.thread) _ k R finds
-      (λ i. ends_revoking_rule heap k (record e { check = false }) b a.took (λ v. record {
-        reached = reached;
-        its_revocation = ap revocation_in x.stage;
-        all = subst (λ t. AreAllStores heap.shape t b k.seen_at_safepoint) (sym number) (subst (λ z. AreAllStores heap.shape me b z) (sym x.seen_at_safepoint) (steps_all heap.shape me e b all.0 k0.seen_at_safepoint unwritten a x.path));
-        goes_on = x.leaves.mine;
-      }) (λ v. told_there k0 r unwritten k a all v))
+      let finds : (n : ℕ) → Was heap (release_plan (record e { check = false }) (stage_after took b.object) k.thread) k n → (n == reached_word k.thread) ≡ true =
+      λ n was. eq-eqb n (reached_word k.thread) (reached_there heap k n was.stands was.found x.reached) in
+      subst (λ t. Does heap false (release_to (stage_after took b.object) e t >>= (λ u. done_with took)) k R) (ap (λ z. z.thread) x.local ∙ number) (
+      finding heap false (release_plan (record e { check = false }) (stage_after took b.object) k.thread) _ k R finds
+      (λ i. release_keeps took k (record e { check = false }) x.reached x.stands x.still x.mine)
       (λ n i was.
-      let l = then_known (release_plan (record e { check = false }) (stage_after a.took b.object) k.thread) n k in
+      let l = then_known (release_plan (record e { check = false }) (stage_after took b.object) k.thread) n k in
       let hit = finds n was in
-      chooses_then heap false (n == reached_word k.thread) (done tt) never (λ u. done_with a.took) l R
-      (λ yes. answers heap false (Done a.took) l R (refl, released k0 r unwritten k a all n was hit))
+      chooses_then heap false (n == reached_word k.thread) (done tt) never (λ u. done_with took) l R
+      (λ yes. answers heap false (Done took) l R (refl, released n was hit))
       (λ no. absurd (cc (hit, no)))))
     where
-      released : (k0 : Known) (r : Reaches me k0 e) (unwritten : writes_in k0.seen_at_safepoint ≡ []) (k : Known) (a : RevocationOutcome)
-          → Made_all k0 r unwritten a k → (n : ℕ)
-          → Was heap (release_plan (record e { check = false }) (stage_after a.took b.object) k.thread) k n → (n == reached_word k.thread) ≡ true
-          → Released k0 a.took (then_known (release_plan (record e { check = false }) (stage_after a.took b.object) k.thread) n k)
-      released k0 r unwritten k a all n was hit =
-          let x = all.1 in
-          let v = was.stands in
-          let few = few_threads heap k v in
-          let reached : k.reached ≡ true = x.leaves.reached ∙ r.reached in
-          let number : k.thread ≡ me = number_of k0 r unwritten k x.leaves in
+      released : (n : ℕ) → Was heap (release_plan (record e { check = false }) (stage_after took b.object) k.thread) k n → (n == reached_word k.thread) ≡ true
+          → Released k0 took (then_known (release_plan (record e { check = false }) (stage_after took b.object) k.thread) n k)
+      released n was hit =
+          let x = d.idles in
+          let few = few_threads heap k was.stands in
           let left : ℕ = cond (n == reached_word k.thread) (released_word k.thread) n in
           let unasks : asks_in left k.thread ≡ false = ap (λ (z : Bool). asks_in (cond z (released_word k.thread) n) k.thread) hit ∙ released_asks k.thread few in
           let call : List StepMade = cond k.running (seen_before heap.shape k) [] in
           let kept : cond (k.reached && not (asks_in left k.thread)) (only_headers k.seen_at_safepoint) call ≡ only_headers k.seen_at_safepoint =
-          ap (λ (z : Bool). cond (z && not (asks_in left k.thread)) (only_headers k.seen_at_safepoint) call) reached ∙ ap
+          ap (λ (z : Bool). cond (z && not (asks_in left k.thread)) (only_headers k.seen_at_safepoint) call) x.reached ∙ ap
           (λ (z : Bool). cond (not z) (only_headers k.seen_at_safepoint) call) unasks in
-          let told = told_there k0 r unwritten k a all v in
           record {
-            local = x.leaves.local;
-            kept = x.leaves.kept;
-            saved = x.leaves.saved;
-            draws = x.leaves.draws;
-            shots = x.leaves.shots;
+            local = x.local;
+            kept = x.kept;
+            saved = x.saved;
+            draws = x.draws;
+            shots = x.shots;
             runs = ap (λ (z : Bool). runs_in (cond z (released_word k.thread) n) k.thread) hit ∙ released_runs k.thread few;
             unasks = unasks;
+            still = x.still;
             unchecks = refl;
             mine = refl;
             stage = refl;
             mark = (
-              x.mark.0,
-              x.prototype.0,
-              ap (last_seen (name.Mark b.object)) kept ∙ headers_stay (name.Mark b.object) refl k.seen_at_safepoint ∙ x.mark.1,
-              ap (last_seen (name.Prototype c)) kept ∙ headers_stay (name.Prototype c) refl k.seen_at_safepoint ∙ x.prototype.1,
-              tells_of k.thread a.took v.world.words x.mark.0 x.prototype.0 (is_as_seen heap k v reached (name.Mark b.object) x.mark.0 x.mark.1)
-                  (is_as_seen heap k v reached (name.Prototype c) x.prototype.0 x.prototype.1) told,
+              d.mark.0,
+              d.mark.1,
+              ap (last_seen (name.Mark b.object)) kept ∙ headers_stay (name.Mark b.object) refl k.seen_at_safepoint ∙ d.mark.2,
+              ap (last_seen (name.Prototype c)) kept ∙ headers_stay (name.Prototype c) refl k.seen_at_safepoint ∙ d.mark.3,
+              d.mark.4,
             );
             unseen = λ m hidden other. ap (λ (z : Bool). cond z (Some left) (last_seen m (cond (k.reached && not (asks_in left k.thread)) (only_headers k.seen_at_safepoint) call))) other
                 ∙ ap (last_seen m) kept ∙ headers_alone m hidden k.seen_at_safepoint;
-            untaken = λ none. answers_left (λ (a : RevocationOutcome). a.took ≡ false) T (done a) all.0 x.path (revocation_untaken e b none heap.shape me);
+            untaken = untaken;
           }
+
+  -- where all its stores are made
+  pub ending_does : b.object < length heap.shape.objects → (k0 : Known) (r : Reaches me k0 e) (unwritten : writes_in k0.seen_at_safepoint ≡ []) (k : Known) (a : RevocationOutcome)
+      → Made_all k0 r unwritten a k → Does heap false (ending_steps a.took) k (λ f turn l. (f ≡ false) × Revoked k0 turn l)
+  ending_does object k0 r unwritten k a all =
+      let x = all.1 in
+      let reached : k.reached ≡ true = x.leaves.reached ∙ r.reached in
+      let number : k.thread ≡ me = number_of k0 r unwritten k x.leaves in
+      let stage = stage_after a.took b.object in
+      going heap (deflate_steps heap.shape e stage) (λ u. release_steps a.took) k _ (
+      follows heap false _ k _ _ (deflate_ends heap e k0 stage (plain_after a.took) k (omega (arith, object)) (record {
+        keeps = looks_behind_rule heap k e b a.took (name.Object 0) (λ v. omega (arith, object)) (λ v. record {
+          ends = record {
+            reached = reached;
+            its_revocation = ap revocation_in x.stage;
+            still = x.leaves.moving ∙ r.carries.still;
+            all = subst (λ t. AreAllStores heap.shape t b k.seen_at_safepoint) (sym number) (subst (λ z. AreAllStores heap.shape me b z) (sym x.seen_at_safepoint) (steps_all heap.shape me e b all.0 k0.seen_at_safepoint unwritten a x.path));
+            goes_on = x.leaves.mine;
+          };
+          check = x.leaves.check;
+          since = x.since;
+        }) (λ v. told_there k0 r unwritten k a all v);
+        reached = reached;
+        idles = λ n. record {
+          reached = reached;
+          stopped = x.leaves.running ∙ r.stopped;
+          stands = refl;
+          check = refl;
+          mine = refl;
+          still = x.leaves.moving ∙ r.carries.still;
+          local = x.leaves.local;
+          kept = x.leaves.kept;
+          saved = x.leaves.saved;
+          draws = x.leaves.draws;
+          shots = x.leaves.shots;
+        };
+      })) (λ f u l y.
+      let v = y.2 in
+      let now = y.1.marks b.object x.mark.0 x.mark.1 in
+      let told = tells_of k.thread a.took v.world.words x.mark.0 x.prototype.0 (is_as_seen heap k v reached (name.Mark b.object) x.mark.0 x.mark.1)
+      (is_as_seen heap k v reached (name.Prototype c) x.prototype.0 x.prototype.1) (told_there k0 r unwritten k a all v) in
+      let same : k.thread ≡ l.thread = ap (λ z. z.thread) x.leaves.local ∙ ap (λ z. z.thread) (sym y.0.local) in
+      release_does k0 l a.took r.number (λ none. answers_left (λ (a : RevocationOutcome). a.took ≡ false) T (done a) all.0 x.path (revocation_untaken e b none heap.shape me)) (record {
+        idles = y.0;
+        mark = (now.0, x.prototype.0, now.1, y.1.prototypes c x.prototype.0 x.prototype.1, tells_on l.thread a.took x.mark.0 now.0 x.prototype.0 (subst (λ t. Tells t a.took x.mark.0 x.prototype.0) same told) now.2);
+      })))

@@ -44,7 +44,7 @@ module _ (heap : Heap) where
       let unasks = unasking heap.shape k rest runs in
       let unchecks = unchecking heap.shape k rest unasks in
       hitting heap true _ _ k _ (λ n. refl) (λ i. publishes_all heap k e (record { runs = runs; calm = rest.calm; goes_on = refl })) (λ n i was.
-      hitting heap false _ _ _ _ (λ n. refl) (λ i. stops heap _ e (record { runs = runs; calm = refl; published = refl; ended = λ h. (rest.ended h).0; goes_on = refl })) (λ n i was.
+      hitting heap false _ _ _ _ (λ n. refl) (λ i. stops heap _ e (record { runs = runs; calm = refl; published = refl; ended = λ h. (rest.ended h).0; still = rest.still; goes_on = refl })) (λ n i was.
       answers heap false _ _ _ (rests heap.shape _ refl (stopped_asks heap _ n was.stands was.found runs ∙ unasks) unchecks (carried heap.shape k rest))))
 
   pub stop_begins : BeginsWell heap Stop
@@ -68,7 +68,7 @@ module _ (heap : Heap) where
   resume_does : (k : Known) (e : Purpose) → AtRest heap.shape k → k.running ≡ false → k.requesting ≡ false → e.check ≡ k.checking → e.unfinished ≡ k.unfinished
       → Does heap true (resume_steps e (local_of k)) k (λ b a l. AtRest heap.shape l)
   resume_does k e rest stopped unasks check goes =
-      let carries : Carries k.log k.wait k.holds k.shots e.unfinished = subst (Carries k.log k.wait k.holds k.shots) (sym goes) (carried heap.shape k rest) in
+      let carries : Carries k.moving k.log k.wait k.holds k.shots e.unfinished = subst (Carries k.moving k.log k.wait k.holds k.shots) (sym goes) (carried heap.shape k rest) in
       let unchecks = check ∙ unchecking heap.shape k rest unasks in
       hitting heap true _ _ k _ (λ n. refl) (λ i. looks heap k _ (look_safe k e rest.calm check (inl goes)) (λ v. tt)) (λ word i was.
       by_bar (bar word) _ _ _ (λ b a. rests heap.shape _ refl unasks unchecks carries) (λ free.
@@ -113,12 +113,12 @@ module _ (heap : Heap) where
       let nothing = none_is _ n.1 in
       let e = lone_purpose Request in
       let unasks = unasking heap.shape k rest n.0 in
-      let carries : Carries k.log k.wait k.holds k.shots None = subst (Carries k.log k.wait k.holds k.shots) nothing (carried heap.shape k rest) in
+      let carries : Carries k.moving k.log k.wait k.holds k.shots None = subst (Carries k.moving k.log k.wait k.holds k.shots) nothing (carried heap.shape k rest) in
       closes true (request_steps e k.thread) k (
       hitting heap true _ _ k _ (λ n. refl) (λ i. looks heap k _ (look_safe k e rest.calm (sym (not_true _ m.1)) (inr nothing)) (λ v. tt)) (λ word i was.
       chooses heap false (has_requester word) _ _ _ _ (λ h. answers heap false _ _ _ (rests heap.shape _ refl unasks refl carries)) (λ free.
       swapping heap false _ word _ (λ n. done_with tt) (λ n. cond (has_requester n) (pending_for (why.Requested n)) (pending_for (why.Raced word n))) _ _ refl
-      (λ i. requests heap _ e word (record { runs = n.0; calm = refl; ended = λ h. (rest.ended h).0; unasked = unsome _ free; goes_on = inl refl }))
+      (λ i. requests heap _ e word (record { runs = n.0; calm = refl; ended = λ h. (rest.ended h).0; unasked = unsome _ free; still = rest.still; goes_on = inl refl }))
       (λ n' i was h. answers heap false _ _ _ (rests_asking heap.shape _ refl
       (ap (λ (b : Bool). runs_in (cond b (requested_by (read_safe word) k.thread) n') k.thread) (eq-eqb n' word h) ∙ requested_runs heap _ word was.stands (was.found ∙ h) n.0)
       refl refl carries))
@@ -134,7 +134,7 @@ module _ (heap : Heap) where
   reached_finishes k v rest may =
       let m = both _ _ may in let n = both _ _ m.0 in
       let nothing = none_is _ n.1 in
-      let carries : Carries k.log k.wait k.holds k.shots None = subst (Carries k.log k.wait k.holds k.shots) nothing (carried heap.shape k rest) in
+      let carries : Carries k.moving k.log k.wait k.holds k.shots None = subst (Carries k.moving k.log k.wait k.holds k.shots) nothing (carried heap.shape k rest) in
       closes true (reached_steps (lone_purpose Reached)) k (
       hitting heap true _ _ k _ (λ n. refl) (λ i. looks heap k _ (look_safe k (lone_purpose Reached) rest.calm (sym (not_true _ m.1)) (inr nothing)) (λ v. tt)) (λ word i was.
       chooses heap false (is_still word) _ _ _ _
@@ -154,11 +154,11 @@ module _ (heap : Heap) where
       let m = both _ _ may in let n = both _ _ m.0 in
       let nothing = none_is _ n.1 in
       finding heap true _ _ k _ (λ word was. eq-eqb word (reached_word k.thread) (reached_there heap k word was.stands was.found n.0))
-      (λ i. releases heap k (lone_purpose Release) (record { reached = n.0; calm = rest.calm; goes_on = sym nothing })) (λ word i was.
+      (λ i. releases heap k (lone_purpose Release) (record { reached = n.0; calm = rest.calm; still = rest.still; goes_on = sym nothing })) (λ word i was.
       let there = reached_there heap k word was.stands was.found n.0 in
       chooses heap false (word == reached_word k.thread) _ _ _ _
       (λ hit. answers heap false _ _ _ (rests heap.shape _ refl (released_unasks k word v there) refl
-      (subst (Carries k.log k.wait k.holds k.shots) nothing (carried heap.shape k rest))))
+      (subst (Carries k.moving k.log k.wait k.holds k.shots) nothing (carried heap.shape k rest))))
       (λ miss. absurd (cc (miss, eq-eqb word (reached_word k.thread) there))))
 
   pub release_begins : BeginsWell heap Release

@@ -1,12 +1,15 @@
 -- A thread that looks at words of the heap at its reached safepoint; and a loop over threads.
-use Rattle.std.proofs.Common.{◌≡◌, ℕ, zero, suc, ◌+◌, Bool, true, false, List, [], ◌∷◌, refl, sym, ap, inl, ◌<◌, ◌≤◌, arith}
+use Rattle.std.proofs.Common.{◌≡◌, ℕ, zero, suc, ◌+◌, ◌||◌, Bool, true, false, cond, List, [], ◌∷◌, refl, sym, ap, inl, ◌<◌, ◌≤◌, arith}
+use Rattle.core_world.specs.declared.act.Act.TheVariants.{Load}
 use Rattle.core_world.specs.declared.name.Name.{Name}
+use Rattle.core_world.specs.declared.name.Name.TheVariants as name
 use Rattle.core_world.specs.declared.stage.Stage.TheVariants.{Calm}
 use Rattle.core_world.specs.Threads.Known.{Known}
 use Rattle.core_world.specs.Trees.Plans.{Purpose, load}
 use Rattle.core_world.specs.Clauses.Safepoints.{ends}
 use Rattle.core_world.specs.Trees.Todo.{Todo, done, never, step, each_from, ◌>>=◌}
 use Rattle.core_steps.proofs.Resting.{Carries}
+use Rattle.core_world.specs.Steps.{seen_at_safepoint_before}
 use Rattle.core_world.specs.There.{IsIn}
 use Rattle.core_law.specs.Logic.{Heap, Stands, Keeps, Does}
 use Rattle.core_steps.proofs.LawRules.{looks}
@@ -22,7 +25,16 @@ pub record Reaches (me : ℕ) (k : Known) (e : Purpose) : Type 0 where
   pub check : e.check ≡ k.checking
   pub mine : e.unfinished ≡ k.unfinished
   pub live : ends k.log ≡ false
-  pub carries : Carries k.log k.wait k.holds k.shots e.unfinished
+  pub carries : Carries k.moving k.log k.wait k.holds k.shots e.unfinished
+
+-- a load there leaves the safepoint reached, and forgets nothing
+pub stays_reached : (a b : Bool) → a ≡ true → (a || b) ≡ true
+stays_reached true b e = refl
+stays_reached false b e = absurd (cc e)
+
+pub stood_kept : (at : Name) (k : Known) → k.reached ≡ true → seen_at_safepoint_before at Load k ≡ k.seen_at_safepoint
+stood_kept name.Safepoint k reached = ap (λ (b : Bool). cond b k.seen_at_safepoint []) reached
+stood_kept _ k reached = refl
 
 module _ (heap : Heap) where
   -- a load there
@@ -47,7 +59,8 @@ module _ (heap : Heap) where
   module _ {A : Type 0} (f : ℕ → Todo A) (Stays : Known → Type 0) (Fact : ℕ → A → Known → Type 0) (more : (i : ℕ) (a : A) (k l : Known) → Seeing k l → Fact i a k → Fact i a l)
       (most : ℕ) (turn : (i : ℕ) (k : Known) → i < most → Stays k → Does heap false (f i) k (λ b a l. Stays l × Seeing k l × Fact i a l)) where
     abbrev pub Facts : ℕ → ℕ → List A → Known → Type 0
-    Facts i zero xs l = Unit {0}
+    Facts i zero [] l = Unit {0}
+    Facts i zero (a ∷ xs) l = ⊥
     Facts i (suc n) [] l = ⊥
     Facts i (suc n) (a ∷ xs) l = Fact i a l × Facts (i + 1) n xs l
 

@@ -13,7 +13,7 @@ use Rattle.core_world.specs.declared.stage.Stage.TheVariants.{Calm, Enters}
 use Rattle.core_world.specs.declared.task.Op.TheVariants as op
 use Rattle.core_world.specs.declared.task.Task.TheVariants.{StackEnter}
 use Rattle.core_world.specs.Words.Forms.{is_neutral, is_neutral_form, is_entering, says_notified}
-use Rattle.core_world.specs.Threads.Known.{Known, Local, local_of, start_of}
+use Rattle.core_world.specs.Threads.Known.{Known, Local, Moving, Still, local_of, start_of}
 use Rattle.core_world.specs.Threads.AtRest.{AtRest}
 use Rattle.core_world.specs.Trees.Calls.{steps_of, may_begin, may_log_once, is_object, is_own_first}
 use Rattle.core_world.specs.Clauses.Lengths.{log_limit}
@@ -40,9 +40,10 @@ use Rattle.core_steps.proofs.SafeCalls.{closes}
 use Rattle.core_steps.proofs.Tests.{both, none_is, or_false, below, logs_once, is_of_kind, not_true}
 
 -- what a thread that takes o by this purpose counts on all the way, by parts of its knowledge that don't change until the entry is logged
-pub record Taking (heap : Heap) (running requesting : Bool) (log : List Logged) (e : Purpose) (o : ℕ) : Type 0 where
+pub record Taking (heap : Heap) (running requesting : Bool) (moving : Moving) (log : List Logged) (e : Purpose) (o : ℕ) : Type 0 where
   pub runs : running ≡ true
   pub unasks : requesting ≡ false
+  pub still : moving ≡ Still
   pub unchecks : e.check ≡ false
   pub live : ends log ≡ false
   pub room : length log < log_limit
@@ -57,15 +58,15 @@ undumped_enter e o (inl none) dumps = absurd (cc (none, dumps))
 undumped_enter e o (inr enters) dumps = let a = ap (is_of_kind op.Enter) (sym enters ∙ dumps) in cc a
 
 module _ (heap : Heap) where
-  log_enter_does : (k : Known) (e : Purpose) (o p : ℕ) (path : Path) → Taking heap k.running k.requesting k.log e o → k.stage ≡ Enters o p path → k.unfinished ≡ e.unfinished
+  log_enter_does : (k : Known) (e : Purpose) (o p : ℕ) (path : Path) → Taking heap k.running k.requesting k.moving k.log e o → k.stage ≡ Enters o p path → k.unfinished ≡ e.unfinished
       → (Stands heap k → k.wait ≡ 0) → Untold k → Does heap false (log_enter_steps e o path) k (λ b r l. AtRest heap.shape l)
   log_enter_does k e o p path a stage mine ready untold =
       hitting heap false _ _ k _ (λ n. refl)
       (λ i. logs_enter heap k e o p path (λ v. record { runs = a.runs; stage = stage; ready = ready v; own_entry = record { operation = elim a.enters [ inl none ↦ inl (mine ∙ none) | inr enters ↦ inr (mine ∙ enters) ]; shot = tt }; object = a.object; room = a.room }))
-      (λ n i was. answers heap false _ _ _ (rests heap.shape _ refl a.unasks a.unchecks (logged_carries k.log _ k.wait k.holds a.live refl untold)))
+      (λ n i was. answers heap false _ _ _ (rests heap.shape _ refl a.unasks a.unchecks (logged_carries k.log _ k.wait k.holds a.still a.live refl untold)))
 
   -- the steps behind the one that stored the hold word, which find the waiting word as the thread stored it
-  entered_does : (k : Known) (e : Purpose) (o : ℕ) (path : Path) (l : Local) → Taking heap k.running k.requesting k.log e o → k.stage ≡ Enters o (free_place l.holds) path → k.unfinished ≡ e.unfinished → Untold k
+  entered_does : (k : Known) (e : Purpose) (o : ℕ) (path : Path) (l : Local) → Taking heap k.running k.requesting k.moving k.log e o → k.stage ≡ Enters o (free_place l.holds) path → k.unfinished ≡ e.unfinished → Untold k
       → l.thread ≡ k.thread → l.wait ≡ k.wait → Does heap false (entered_steps e l o path) k (λ b r l. AtRest heap.shape l)
   entered_does k e o path l a stage mine untold thread wait =
       let none : Unwaiting k = λ i h. a.unwaiting i (sym mine ∙ h) in
@@ -85,7 +86,7 @@ module _ (heap : Heap) where
   abbrev pub Comes : Known → ℕ → ℕ → Path → Type 0
   Comes k o p path = Precedes heap.shape k o p × WentBefore heap.biasing heap.shape k o p path
 
-  pub hold_does : (k : Known) (e : Purpose) (o : ℕ) (path : Path) → Taking heap k.running k.requesting k.log e o → k.unfinished ≡ e.unfinished → Untold k
+  pub hold_does : (k : Known) (e : Purpose) (o : ℕ) (path : Path) → Taking heap k.running k.requesting k.moving k.log e o → k.unfinished ≡ e.unfinished → Untold k
       → free_place k.holds < 64 → Comes k o (free_place k.holds) path → Does heap false (hold_steps e (local_of k) o path) k (λ b r l. AtRest heap.shape l)
   hold_does k e o path a mine untold place before =
       let none : Unwaiting k = λ i h. a.unwaiting i (sym mine ∙ h) in
@@ -113,7 +114,7 @@ module _ (heap : Heap) where
       subst (λ z. Keeps heap (displace_plan e z k.thread (free_place k.holds) d) k) calm
       (displaces_rule heap k e (free_place k.holds) d (λ v. record { runs = runs; free = free_here heap k v runs place; unseized = λ o h. absurd (cc (calm, h)); goes_on = goes }))
 
-  pub stack_first_does : (fresh : Bool) (k : Known) (e : Purpose) (o mark : ℕ) → Taking heap k.running k.requesting k.log e o → k.stage ≡ Calm → GoesOn k e → Untold k
+  pub stack_first_does : (fresh : Bool) (k : Known) (e : Purpose) (o mark : ℕ) → Taking heap k.running k.requesting k.moving k.log e o → k.stage ≡ Calm → GoesOn k e → Untold k
       → free_place k.holds < 64 → is_neutral mark ≡ true → Does heap fresh (stack_first_steps e (local_of k) o mark) k (λ b r l. AtRest heap.shape l)
   stack_first_does fresh k e o mark a calm goes untold place neutral =
       let p = free_place k.holds in
@@ -130,9 +131,9 @@ module _ (heap : Heap) where
       (λ n i was h. binds heap false (hold_steps e (local_of k) o StackFirst) done_with _ _ (
       follows heap false _ _ _ _ (hold_does _ e o StackFirst a refl untold place (inl refl, refl))
       (λ b r l h. answers heap b _ l _ h)))
-      (λ n i was h. answers heap false _ _ _ (rests heap.shape _ refl a.unasks a.unchecks (live_carries k.log k.wait k.holds e.unfinished a.live (λ i h. place) (undumped_enter e o a.enters) untold))))
+      (λ n i was h. answers heap false _ _ _ (rests heap.shape _ refl a.unasks a.unchecks (live_carries k.log k.wait k.holds e.unfinished a.still a.live (λ i h. place) (undumped_enter e o a.enters) untold))))
 
-  pub stack_again_does : (fresh : Bool) (k : Known) (e : Purpose) (o : ℕ) → Taking heap k.running k.requesting k.log e o → k.stage ≡ Calm → GoesOn k e → Untold k
+  pub stack_again_does : (fresh : Bool) (k : Known) (e : Purpose) (o : ℕ) → Taking heap k.running k.requesting k.moving k.log e o → k.stage ≡ Calm → GoesOn k e → Untold k
       → free_place k.holds < 64 → 1 ≤ hold_count o k.holds → Unbiased heap fresh k o → Does heap fresh (stack_again_steps e (local_of k) o) k (λ b r l. AtRest heap.shape l)
   stack_again_does fresh k e o a calm goes untold place holds unbiased =
       let p = free_place k.holds in
@@ -162,7 +163,7 @@ module _ (heap : Heap) where
   neutral_reads (Some Marked) h = absurd (cc h)
 
   -- an enter by a neutral mark, or by one that names the thread's first record of o
-  pub stack_enter_does : (fresh : Bool) (k : Known) (e : Purpose) (o mark : ℕ) → Stands heap k → Taking heap k.running k.requesting k.log e o → k.stage ≡ Calm → GoesOn k e → Untold k
+  pub stack_enter_does : (fresh : Bool) (k : Known) (e : Purpose) (o mark : ℕ) → Stands heap k → Taking heap k.running k.requesting k.moving k.log e o → k.stage ≡ Calm → GoesOn k e → Untold k
       → free_place k.holds < 64 → (is_neutral mark || is_own_first k o mark) ≡ true → Unbiased heap fresh k o → Does heap fresh (stack_enter_steps e (local_of k) o mark) k (λ b r l. AtRest heap.shape l)
   stack_enter_does fresh k e o mark v a calm goes untold place by unbiased = cases (is_neutral mark) refl by
     where
@@ -192,7 +193,7 @@ module _ (heap : Heap) where
       let m3 = both (not heap.biasing) (is_object heap.shape o) m2.0 in
       let a = logs_once k false m2.1 in
       closes heap true _ k (stack_enter_does true k (lone_purpose (StackEnter o mark)) o mark v
-      (record { runs = a.runs; unasks = unasking heap.shape k rest a.runs; unchecks = refl; live = a.live; room = a.room; object = below o (length heap.shape.objects) m3.1; unwaiting = λ i h. absurd (cc h); enters = inl refl })
+      (record { runs = a.runs; unasks = unasking heap.shape k rest a.runs; still = rest.still; unchecks = refl; live = a.live; room = a.room; object = below o (length heap.shape.objects) m3.1; unwaiting = λ i h. absurd (cc h); enters = inl refl })
       rest.calm (inr (none_is _ (or_false _ a.free))) rest.untold (below (free_place k.holds) 64 m1.1) m.1 (inl (not_true heap.biasing m3.0)))
 
   pub stack_enter_begins : (o mark : ℕ) → BeginsWell heap (StackEnter o mark)

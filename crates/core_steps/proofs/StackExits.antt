@@ -13,7 +13,7 @@ use Rattle.core_world.specs.declared.stage.Stage.TheVariants.{Calm}
 use Rattle.core_world.specs.declared.task.Op.TheVariants as op
 use Rattle.core_world.specs.declared.task.Task.TheVariants.{StackExit}
 use Rattle.core_world.specs.Words.Forms.{monitor_form, is_biased, hold_word}
-use Rattle.core_world.specs.Threads.Known.{Known, Local, local_of, start_of, last_seen}
+use Rattle.core_world.specs.Threads.Known.{Known, Local, Moving, Still, local_of, start_of, last_seen}
 use Rattle.core_world.specs.Looking.{IsLook}
 use Rattle.core_world.specs.Threads.AtRest.{AtRest}
 use Rattle.core_world.specs.Trees.Calls.{steps_of, may_begin, may_log_once, is_object}
@@ -45,9 +45,10 @@ use Rattle.core_steps.proofs.SafeCalls.{closes}
 use Rattle.core_steps.proofs.Tests.{both, not_true, below, logs_once, nothing_goes, goes_on_or_begins, is_of_kind}
 
 -- what a thread that leaves o by this purpose counts on all the way, by parts of its knowledge that don't change until the entry is logged
-pub record Leaving (heap : Heap) (running requesting : Bool) (log : List Logged) (holds : List ℕ) (e : Purpose) (o : ℕ) : Type 0 where
+pub record Leaving (heap : Heap) (running requesting : Bool) (moving : Moving) (log : List Logged) (holds : List ℕ) (e : Purpose) (o : ℕ) : Type 0 where
   pub runs : running ≡ true
   pub unasks : requesting ≡ false
+  pub still : moving ≡ Still
   pub unchecks : e.check ≡ false
   pub live : ends log ≡ false
   pub room : length log < log_limit
@@ -73,7 +74,7 @@ max_right a b = omega arith
 
 -- the exit goes on by the monitor m: nothing was let go, this mark was seen, the record isn't recursive, and the stamp is raised for the last hold
 pub record ByMonitor (heap : Heap) (e : Purpose) (o m : ℕ) (l : Known) : Type 0 where
-  pub leaving : Leaving heap l.running l.requesting l.log l.holds e o
+  pub leaving : Leaving heap l.running l.requesting l.moving l.log l.holds e o
   pub calm : l.stage ≡ Calm
   pub mine : l.unfinished ≡ e.unfinished
   pub check : e.check ≡ l.checking
@@ -100,11 +101,11 @@ module _ (heap : Heap) where
   ]
 
   -- where it answers that the exit goes on in another call, the thread is at rest
-  pub exit_rests : (k : Known) (e : Purpose) (o : ℕ) → Leaving heap k.running k.requesting k.log k.holds e o → k.stage ≡ Calm → k.checking ≡ false → k.unfinished ≡ e.unfinished → Untold k → AtRest heap.shape k
-  exit_rests k e o a calm unchecks mine untold = rests heap.shape k calm a.unasks unchecks (live_carries k.log k.wait k.holds k.unfinished a.live (λ i h. absurd (unentering_exit k o (mine ∙ a.exits) i h)) (undumped_exit k o (mine ∙ a.exits)) untold)
+  pub exit_rests : (k : Known) (e : Purpose) (o : ℕ) → Leaving heap k.running k.requesting k.moving k.log k.holds e o → k.stage ≡ Calm → k.checking ≡ false → k.unfinished ≡ e.unfinished → Untold k → AtRest heap.shape k
+  exit_rests k e o a calm unchecks mine untold = rests heap.shape k calm a.unasks unchecks (live_carries k.log k.wait k.holds k.unfinished a.still a.live (λ i h. absurd (unentering_exit k o (mine ∙ a.exits) i h)) (undumped_exit k o (mine ∙ a.exits)) untold)
 
   -- the lock that is left by exchanging the mark
-  exit_by_does : (Q : Bool → StackOut → Known → Type 0) (k : Known) (e : Purpose) (o header stamp : ℕ) → Outs heap e o (local_of k) Q → e.check ≡ k.checking → Leaving heap k.running k.requesting k.log k.holds e o → k.stage ≡ Calm → k.unfinished ≡ e.unfinished → Untold k
+  exit_by_does : (Q : Bool → StackOut → Known → Type 0) (k : Known) (e : Purpose) (o header stamp : ℕ) → Outs heap e o (local_of k) Q → e.check ≡ k.checking → Leaving heap k.running k.requesting k.moving k.log k.holds e o → k.stage ≡ Calm → k.unfinished ≡ e.unfinished → Untold k
       → hold_count o k.holds ≡ 1 → last_seen (name.Displaced k.thread (top_place o k.holds)) k.seen ≡ Some header
       → last_seen (name.Stamp o) k.seen ≡ Some stamp → next_stamp (local_of k) ≤ stamp
       → Does heap false (stack_exit_by e (local_of k) o header (mark_of (Locked k.thread (top_place o k.holds)))) k Q
@@ -130,12 +131,12 @@ module _ (heap : Heap) where
       }))
       (λ n i was h. hitting heap false _ _ _ _ (λ n. refl)
       (λ j. clears_rule heap _ (record e { unfinished = None }) o p (λ v. (top_here heap k was.stands a.runs o a.some).1) (λ v. record { runs = a.runs; stage = refl; hold = hold was.stands; last = one; goes_on = refl }))
-      (λ n j was. answers heap false _ _ Q (outs.left _ (rests heap.shape _ refl a.unasks a.unchecks (logged_carries k.log _ k.wait _ a.live refl untold)))))
+      (λ n j was. answers heap false _ _ Q (outs.left _ (rests heap.shape _ refl a.unasks a.unchecks (logged_carries k.log _ k.wait _ a.still a.live refl untold)))))
       (λ n i was h. answers heap false _ _ Q (outs.raced _ _ (exit_rests _ e o a calm (sym check ∙ a.unchecks) mine untold)))
 
   -- by the form of the mark that was found
   exit_at_does : (Q : Bool → StackOut → Known → Type 0) (f : Option MarkForm) (k : Known) (e : Purpose) (o header mark : ℕ) → Outs heap e o (local_of k) Q → e.check ≡ k.checking → last_seen (name.Mark o) k.seen ≡ Some mark → read_mark mark ≡ f → OnExit k.thread (top_place o k.holds) (hold_count o k.holds) f
-      → Leaving heap k.running k.requesting k.log k.holds e o → k.stage ≡ Calm → k.unfinished ≡ e.unfinished → Untold k
+      → Leaving heap k.running k.requesting k.moving k.log k.holds e o → k.stage ≡ Calm → k.unfinished ≡ e.unfinished → Untold k
       → last_seen (name.Displaced k.thread (top_place o k.holds)) k.seen ≡ Some header → header ≢ 0
       → (hold_count o k.holds ≡ 1 → (stamp : ℕ) × (last_seen (name.Stamp o) k.seen ≡ Some stamp) × (next_stamp (local_of k) ≤ stamp))
       → Does heap false (stack_exit_at f e (local_of k) o header mark) k Q
@@ -194,7 +195,7 @@ module _ (heap : Heap) where
       (on_exit v.world v.objects k.thread o (fits_here heap k v runs) (away heap k v (λ s y. y.stage ≡ Calm) calm) out (away heap k v (λ s y. 1 ≤ hold_count o y.holds) some) (top_place o k.holds) unbiased
       (away heap k v (λ s y. slice_index y.holds (top_place o k.holds) ≡ hold_word o (hold_count o y.holds)) top.0) (away heap k v (λ s y. hold_count o y.holds ≤ 64) (few_here heap k v runs o)) (λ e. nonzero (sym word ∙ e)))
 
-  record_does : (Q : Bool → StackOut → Known → Type 0) (fresh : Bool) (k : Known) (e : Purpose) (o : ℕ) → Outs heap e o (local_of k) Q → Leaving heap k.running k.requesting k.log k.holds e o → k.stage ≡ Calm → GoesOn k e → e.check ≡ k.checking → Untold k
+  record_does : (Q : Bool → StackOut → Known → Type 0) (fresh : Bool) (k : Known) (e : Purpose) (o : ℕ) → Outs heap e o (local_of k) Q → Leaving heap k.running k.requesting k.moving k.log k.holds e o → k.stage ≡ Calm → GoesOn k e → e.check ≡ k.checking → Untold k
       → Unbiased heap fresh k o → (hold_count o k.holds ≡ 1 → RaisedStamp fresh k o) → Does heap fresh (stack_exit_record e (local_of k) o) k Q
   record_does Q fresh k e o outs a calm goes check untold unbiased stamped =
       let p = top_place o k.holds in
@@ -222,7 +223,7 @@ module _ (heap : Heap) where
         own_entry = record { operation = inr a.exits; shot = tt };
         room = a.room;
       }))
-      (λ n i1 was1. answers heap false _ _ Q (outs.left _ (rests heap.shape _ refl a.unasks a.unchecks (logged_carries k.log _ k.wait _ a.live refl untold)))))
+      (λ n i1 was1. answers heap false _ _ Q (outs.left _ (rests heap.shape _ refl a.unasks a.unchecks (logged_carries k.log _ k.wait _ a.still a.live refl untold)))))
       (λ not0. let nonzero : header ≢ 0 = λ e. absurd (cc (eq-eqb header 0 e, not0)) in
       hitting heap false _ _ k1 _ (λ n. refl) (λ i1. looks heap k1 lm (look_mark k1 e a.runs refl refl (inl refl) o) (λ v. a.object)) (λ mark i1 was1.
       let k2 = known_hit heap.shape heap.start lm mark k1 in
@@ -234,7 +235,7 @@ module _ (heap : Heap) where
       (λ one. let st = stamped one in
       (st.1.0, saw_older heap lm mark k1 (name.Stamp o) i1 refl refl ∙ saw_older heap ld header k (name.Stamp o) (i0 ∙ st.0) refl refl ∙ st.1.1, st.1.2)))))
 
-  pub stack_exit_does : (Q : Bool → StackOut → Known → Type 0) (fresh : Bool) (k : Known) (e : Purpose) (o : ℕ) → Outs heap e o (local_of k) Q → Leaving heap k.running k.requesting k.log k.holds e o → k.stage ≡ Calm → GoesOn k e → e.check ≡ k.checking → Untold k
+  pub stack_exit_does : (Q : Bool → StackOut → Known → Type 0) (fresh : Bool) (k : Known) (e : Purpose) (o : ℕ) → Outs heap e o (local_of k) Q → Leaving heap k.running k.requesting k.moving k.log k.holds e o → k.stage ≡ Calm → GoesOn k e → e.check ≡ k.checking → Untold k
       → Unwaiting k → Unbiased heap fresh k o → Does heap fresh (stack_exit_steps e (local_of k) o) k Q
   stack_exit_does Q fresh k e o outs a calm goes check untold none unbiased =
       let raise = raise_stamp_plan e o (next_stamp (local_of k)) in
@@ -269,7 +270,7 @@ module _ (heap : Heap) where
       let e = purpose (StackExit o) op.Exit o in
       closes heap true _ k (stack_exit_does (λ b r l. AtRest heap.shape l) true k e o
       (record { left = λ l x. x; raced = λ l w x. x; monitor = λ l m same b. exit_rests l e o b.leaving b.calm (sym b.check ∙ b.leaving.unchecks) b.mine b.untold })
-      (record { runs = a.runs; unasks = unasking heap.shape k rest a.runs; unchecks = refl; live = a.live; room = a.room; object = below o (length heap.shape.objects) l.1; some = let x = below 0 (hold_count o k.holds) n.1 in omega arith; exits = refl })
+      (record { runs = a.runs; unasks = unasking heap.shape k rest a.runs; still = rest.still; unchecks = refl; live = a.live; room = a.room; object = below o (length heap.shape.objects) l.1; some = let x = below 0 (hold_count o k.holds) n.1 in omega arith; exits = refl })
       rest.calm goes (sym a.unchecking) rest.untold (elim goes [
         | inl g ↦ unwaiting_exit k o (sym g)
         | inr g ↦ nothing_goes k g

@@ -12,7 +12,7 @@ use Rattle.core_world.specs.declared.task.Op.TheVariants as op
 use Rattle.core_world.specs.declared.task.Unfinished.{Unfinished}
 use Rattle.core_world.specs.Threads.AtRest.{AtRest}
 use Rattle.core_world.specs.Words.Forms.{waits_form, says_notified}
-use Rattle.core_world.specs.Threads.Known.{Known, local_of, last_seen}
+use Rattle.core_world.specs.Threads.Known.{Known, Still, local_of, last_seen}
 use Rattle.core_world.specs.Clauses.Lengths.{log_limit}
 use Rattle.core_world.specs.Locks.{hold_count}
 use Rattle.core_world.specs.Looking.{IsLook}
@@ -59,6 +59,7 @@ module _ (heap : Heap) (e : Purpose) (o : ℕ) where
   pub record Telling (k : Known) : Type 0 where
     pub runs : k.running ≡ true
     pub unasks : k.requesting ≡ false
+    pub still : k.moving ≡ Still
     pub unchecks : e.check ≡ false
     pub live : ends k.log ≡ false
     pub room : length k.log < log_limit
@@ -76,7 +77,7 @@ module _ (heap : Heap) (e : Purpose) (o : ℕ) where
   -- where it goes on in another call
   pub telling_rests : (k : Known) → Telling k → k.stage ≡ Calm → AtRest heap.shape k
   telling_rests k x calm = rests heap.shape k calm x.unasks (sym x.check ∙ x.unchecks)
-      (live_carries k.log k.wait k.holds k.unfinished x.live (λ i h. absurd (x.telling.unentering i (sym x.mine ∙ h))) (λ h. x.telling.undumped (sym x.mine ∙ h)) x.untold)
+      (live_carries k.log k.wait k.holds k.unfinished x.still x.live (λ i h. absurd (x.telling.unentering i (sym x.mine ∙ h))) (λ h. x.telling.undumped (sym x.mine ∙ h)) x.untold)
 
   -- THE LOOKS at n words from the i-th on
   pub record Looked (i n : ℕ) (words : List ℕ) (k l : Known) : Type 0 where
@@ -99,6 +100,7 @@ module _ (heap : Heap) (e : Purpose) (o : ℕ) where
       let y : Telling l = record {
         runs = x.runs;
         unasks = x.unasks;
+        still = x.still;
         unchecks = x.unchecks;
         live = x.live;
         room = x.room;
@@ -154,7 +156,7 @@ module _ (heap : Heap) (e : Purpose) (o : ℕ) where
   publishes_does answer told k x calm tells own_entry none unending =
       hitting heap false _ _ k _ (λ n. refl)
       (λ i. publishes heap k e told (λ v. (record { runs = x.runs; calm = calm; ready = telling_ready k x v; tells = tells; room = x.room; own_entry = own_entry }, none)))
-      (λ n i was. answers heap false _ _ _ (rests heap.shape _ refl x.unasks x.unchecks (logged_carries k.log _ k.wait _ x.live unending x.untold)))
+      (λ n i was. answers heap false _ _ _ (rests heap.shape _ refl x.unasks x.unchecks (logged_carries k.log _ k.wait _ x.still x.live unending x.untold)))
 
   -- NOTIFY
   first_does : (ps : List (ℕ × ℕ)) (k : Known) → Telling k → k.stage ≡ Calm → IsUnfinished e.unfinished op.Notify o → Remain heap.shape.threads k o ps
@@ -167,7 +169,7 @@ module _ (heap : Heap) (e : Purpose) (o : ℕ) where
         calm = calm;
         room = x.room;
         own_entry = record { operation = inr (x.mine ∙ notifies); shot = tt };
-      })) (λ n i was. answers heap false _ _ _ (rests heap.shape _ refl x.unasks x.unchecks (logged_carries k.log _ _ _ x.live refl
+      })) (λ n i was. answers heap false _ _ _ (rests heap.shape _ refl x.unasks x.unchecks (logged_carries k.log _ _ _ x.still x.live refl
       (λ z. ap (λ y. says_notified y z) (wait_stays k x p ps 0 (inl (calm, refl)) left was.stands) ∙ x.untold z))))
 
   pub monitor_notify_does : (k : Known) → Telling k → k.stage ≡ Calm → IsUnfinished e.unfinished op.Notify o
@@ -187,7 +189,7 @@ module _ (heap : Heap) (e : Purpose) (o : ℕ) where
         last = no_other_seen heap.shape.threads k o p left;
         room = x.room;
         own_entry = record { operation = inr (x.mine ∙ notifies); shot = tt };
-      })) (λ n i was. answers heap false _ _ _ (rests heap.shape _ refl x.unasks x.unchecks (logged_carries k.log _ _ _ x.live refl
+      })) (λ n i was. answers heap false _ _ _ (rests heap.shape _ refl x.unasks x.unchecks (logged_carries k.log _ _ _ x.still x.live refl
       (λ z. ap (λ y. says_notified y z) (wait_stays k x p [] told before left was.stands) ∙ x.untold z))))
   each_does (q ∷ ps) p told k x before notifies left =
       let tell = wake_next_plan e o p.0 (told + 1) in
@@ -198,6 +200,7 @@ module _ (heap : Heap) (e : Purpose) (o : ℕ) where
       (record {
         runs = x.runs;
         unasks = x.unasks;
+        still = x.still;
         unchecks = x.unchecks;
         live = x.live;
         room = x.room;

@@ -13,11 +13,11 @@ use Rattle.core_world.specs.declared.name.Name.TheVariants as name
 use Rattle.core_world.specs.declared.stage.Stage.TheVariants.{Calm}
 use Rattle.core_world.specs.declared.task.Op.{Op}
 use Rattle.core_world.specs.declared.task.Op.TheVariants as op
-use Rattle.core_world.specs.Threads.AtRest.{AtRest, MayAsk, MayRevoke}
+use Rattle.core_world.specs.Threads.AtRest.{AtRest, MayAsk, MayRevoke, SawNoOther}
 use Rattle.core_world.specs.Trees.BiasSteps.{unbias_plan, bias_drop_at, bias_drop_by, bias_drop_steps}
 use Rattle.core_world.specs.Trees.BiasSteps as bias_steps
 use Rattle.core_world.specs.Words.Forms.{is_biased, is_biased_form, epoch_in, waits_on}
-use Rattle.core_world.specs.Threads.Known.{Known, local_of, last_seen, start_of}
+use Rattle.core_world.specs.Threads.Known.{Known, Still, local_of, last_seen, start_of}
 use Rattle.core_world.specs.Locks.{is_valid_bias, hold_count}
 use Rattle.core_world.specs.Trees.Operations.{and_then, goes_on_with, revocation_steps, revoked_steps, unbias_tried, unbias_steps}
 use Rattle.core_world.specs.Trees.Plans.{Purpose, load, done_with}
@@ -32,7 +32,7 @@ use Rattle.core_counts.specs.Steps.{SawUnbiased}
 use Rattle.core_locks.specs.Knowing.{HasHold}
 use Rattle.core_law.specs.Logic.{Heap, Does}
 use Rattle.core_steps.proofs.AskedRevocations.{BeginsRevocation, revocation_does}
-use Rattle.core_steps.proofs.BiasFacts.{SawHeaders, headers_first, headers_more, look_prototype, unreached_here, biasing_here, IsPrototype, prototype_here, prototype_neutral, neutral_reads_so, loose_unepoched, stale_epoch, own_epoch, free_bias}
+use Rattle.core_steps.proofs.BiasFacts.{SawHeaders, headers_first, headers_more, saw_two, look_prototype, unreached_here, biasing_here, IsPrototype, prototype_here, prototype_neutral, neutral_reads_so, loose_unepoched, stale_epoch, own_epoch, free_bias}
 use Rattle.core_steps.proofs.BiasRules.{unbiases_rule}
 use Rattle.core_steps.proofs.LawRules.{looks, class_in}
 use Rattle.core_steps.proofs.Requests.{BeginsSafepoint, asking_saw}
@@ -53,6 +53,7 @@ module _ (heap : Heap) (e : Purpose) (b : Revocation) where
     pub shots : l.shots ≡ k.shots
     pub runs : l.running ≡ true
     pub unasks : l.requesting ≡ false
+    pub still : l.moving ≡ Still
     pub calm : l.stage ≡ Calm
     pub check : e.check ≡ l.checking
     pub mine : l.unfinished ≡ e.unfinished
@@ -80,12 +81,14 @@ module _ (heap : Heap) (e : Purpose) (b : Revocation) where
     abbrev c : ℕ
     c = class_of heap.shape o
 
-    looked_carries : (l : Known) → HasLooked k l → Carries l.log l.wait l.holds l.shots e.unfinished
+    looked_carries : (l : Known) → HasLooked k l → Carries l.moving l.log l.wait l.holds l.shots e.unfinished
     looked_carries l x =
-        subst (λ z. Carries z.log z.wait z.holds l.shots e.unfinished) (sym x.local) (subst (λ z. Carries k.log k.wait k.holds z e.unfinished) (sym x.shots) may.begins.carries)
+        let carries = may.begins.carries in
+        subst (λ z. Carries l.moving z.log z.wait z.holds l.shots e.unfinished) (sym x.local)
+        (subst (λ z. Carries l.moving k.log k.wait k.holds z e.unfinished) (sym x.shots) (subst (λ z. Carries z k.log k.wait k.holds k.shots e.unfinished) (carries.still ∙ sym x.still) carries))
 
     looked_rests : (l : Known) → HasLooked k l → AtRest heap.shape l
-    looked_rests l x = rests heap.shape l x.calm x.unasks (sym x.check ∙ unchecks) (subst (Carries l.log l.wait l.holds l.shots) (sym x.mine) (looked_carries l x))
+    looked_rests l x = rests heap.shape l x.calm x.unasks (sym x.check ∙ unchecks) (subst (Carries l.moving l.log l.wait l.holds l.shots) (sym x.mine) (looked_carries l x))
 
     -- A REVOCATION
     abbrev after : Turn Bool → Todo (Turn (Unit {0}))
@@ -103,6 +106,7 @@ module _ (heap : Heap) (e : Purpose) (b : Revocation) where
           shots = released.shots ∙ shots;
           runs = released.runs;
           unasks = released.unasks;
+          still = released.still;
           calm = released.stage;
           check = unchecks ∙ sym released.unchecks;
           mine = sym released.mine;
@@ -124,7 +128,7 @@ module _ (heap : Heap) (e : Purpose) (b : Revocation) where
     abbrev dropping : ℕ → ℕ → Todo BiasTry
     dropping mark neutral = bias_steps.unbias_swap_steps e o mark neutral
 
-    module _ (l : Known) (mark prototype : ℕ) (x : HasLooked k l) (unreached : l.reached ≡ false) (saw_mark : last_seen (name.Mark o) l.seen ≡ Some mark) (saw_prototype : last_seen (name.Prototype c) l.seen ≡ Some prototype) where
+    module _ (l : Known) (mark prototype : ℕ) (x : HasLooked k l) (unreached : l.reached ≡ false) (saw_mark : last_seen (name.Mark o) l.seen ≡ Some mark) (saw_prototype : last_seen (name.Prototype c) l.seen ≡ Some prototype) (alone : SawNoOther heap.shape l o) where
       -- an anonymous or stale mark becomes neutral
       drop_does : (neutral : ℕ) → IsLoose (read_mark mark) (epoch_in prototype) → (neutral ≡ mark_of (Neutral 0 0)) ⊎ ((neutral ≡ prototype) × (epoch_in prototype ≡ None)) → is_biased neutral ≡ false
           → Does heap false (dropping mark neutral) l R
@@ -156,6 +160,7 @@ module _ (heap : Heap) (e : Purpose) (b : Revocation) where
             shots = x.shots;
             runs = x.runs;
             unasks = x.unasks;
+            still = x.still;
             calm = refl;
             check = refl;
             mine = refl;
@@ -164,7 +169,7 @@ module _ (heap : Heap) (e : Purpose) (b : Revocation) where
           (λ n i was h.
           let m = known_miss heap.shape heap.start exchange n l in
           answers heap false (Raced mark n) m R (answers heap false (Pending (why.Raced mark n)) m Q (outs.pends false m (why.Raced mark n)
-          (rests heap.shape m x.calm x.unasks (sym x.check ∙ unchecks) (subst (Carries l.log l.wait l.holds l.shots) (sym x.mine) (looked_carries l x))))))
+          (rests heap.shape m x.calm x.unasks (sym x.check ∙ unchecks) (subst (Carries l.moving l.log l.wait l.holds l.shots) (sym x.mine) (looked_carries l x))))))
 
       -- another's valid bias, or the thread's own
       valid_does : is_valid_bias (read_mark mark) prototype ≡ true → Does heap false (revoked_steps heap.shape k.thread false e b) l Q
@@ -182,6 +187,7 @@ module _ (heap : Heap) (e : Purpose) (b : Revocation) where
               running = λ free. (x.runs, inl (sym x.mine));
             };
             saw = (mark, prototype, ap (last_seen (name.Mark o)) before ∙ saw_mark, ap (last_seen (name.Prototype c)) before ∙ saw_prototype, valid);
+            alone = λ n v h. alone n v (ap (last_seen n) (sym before) ∙ h);
             unreached = unreached;
             unwaiting = λ waits. ap (λ z. waits_on z.wait o) x.local ∙ may.unwaiting waits;
           }) x.local x.kept x.saved x.draws x.shots))
@@ -229,12 +235,13 @@ module _ (heap : Heap) (e : Purpose) (b : Revocation) where
           shots = refl;
           runs = runs;
           unasks = free;
+          still = may.begins.carries.still;
           calm = refl;
           check = refl;
           mine = refl;
           headers = headers_more heap ask_prototype prototype l refl j refl headers;
         }) (unreached_here heap k was.stands runs)
-        (saw_older heap ask_prototype prototype l (name.Mark o) j refl refl ∙ saw_newest heap look mark k) (saw_newest heap ask_prototype prototype l)
+        (saw_older heap ask_prototype prototype l (name.Mark o) j refl refl ∙ saw_newest heap look mark k) (saw_newest heap ask_prototype prototype l) (saw_two heap e o mark prototype k i free j)
         (epoch_in prototype) refl yes (prototype_here heap l was1.stands runs c prototype biasing was1.found)))
         (λ no. answers heap false (Unbiased mark) l R (answers heap false (Done tt) l Q (outs.unbiased l (record {
           local = refl;
@@ -244,6 +251,7 @@ module _ (heap : Heap) (e : Purpose) (b : Revocation) where
           shots = refl;
           runs = runs;
           unasks = free;
+          still = may.begins.carries.still;
           calm = refl;
           check = refl;
           mine = refl;
@@ -261,6 +269,7 @@ module _ (heap : Heap) (e : Purpose) (b : Revocation) where
         (revoked_does true k (record {
           begins = may.begins;
           saw = (saw.0, saw.1, ap (last_seen (name.Mark o)) before ∙ saw.2, ap (last_seen (name.Prototype c)) before ∙ saw.3, saw.4);
+          alone = λ n v h. asked.2 n v (ap (last_seen n) (sym before) ∙ h);
           unreached = asked.1;
           unwaiting = may.unwaiting;
         }) refl refl refl refl refl))
@@ -276,7 +285,7 @@ starts_unbias heap e b a k unfinished unchecks rest may unentering undumped revo
     number = refl;
     rest = rest;
     live = may.live;
-    carries = live_carries k.log k.wait k.holds e.unfinished may.live (λ i h. absurd (unentering i h)) undumped rest.untold;
+    carries = live_carries k.log k.wait k.holds e.unfinished rest.still may.live (λ i h. absurd (unentering i h)) undumped rest.untold;
     asking = λ asks. (unchecks ∙ sym may.unchecking, unfinished ∙ sym (goes asks));
     running = λ free. (
       free_runs k.running k.requesting (goes_on_with a b.object k.unfinished) may.runs free,

@@ -8,7 +8,7 @@ use Rattle.core_world.specs.declared.task.Unfinished.{Unfinished}
 use Rattle.core_world.specs.Threads.AtRest.{AtRest, MayAsk}
 use Rattle.core_world.specs.Trees.Calls.{steps_of, may_begin, may_operate, is_object}
 use Rattle.core_world.specs.Words.Forms.{waits_on, says_notified}
-use Rattle.core_world.specs.Threads.Known.{Known, Local, local_of, start_of}
+use Rattle.core_world.specs.Threads.Known.{Known, Local, Still, local_of, start_of}
 use Rattle.core_world.specs.Clauses.Lengths.{log_limit}
 use Rattle.core_world.specs.Locks.{hold_count}
 use Rattle.core_world.specs.Trees.MonitorSteps.{inflate_steps}
@@ -51,6 +51,7 @@ module _ (heap : Heap) (e : Purpose) (o : ℕ) where
   record Beginning (k : Known) : Type 0 where
     runs : k.running ≡ true
     unasks : k.requesting ≡ false
+    still : k.moving ≡ Still
     unchecks : e.check ≡ false
     live : ends k.log ≡ false
     room : length k.log + 2 ≤ log_limit
@@ -66,6 +67,7 @@ module _ (heap : Heap) (e : Purpose) (o : ℕ) where
   beginning_apart k l a x = record {
     runs = a.running ∙ x.runs;
     unasks = a.requesting ∙ x.unasks;
+    still = a.still;
     unchecks = x.unchecks;
     live = ap (λ (z : Local). ends z.log) a.local ∙ x.live;
     room = subst (λ (z : Local). length z.log + 2 ≤ log_limit) (sym a.local) x.room;
@@ -78,7 +80,7 @@ module _ (heap : Heap) (e : Purpose) (o : ℕ) where
   }
 
   beginning_rests : (k : Known) → Beginning k → k.stage ≡ Calm → AtRest heap.shape k
-  beginning_rests k x calm = rests heap.shape k calm x.unasks (sym x.check ∙ x.unchecks) (live_carries k.log k.wait k.holds k.unfinished x.live
+  beginning_rests k x calm = rests heap.shape k calm x.unasks (sym x.check ∙ x.unchecks) (live_carries k.log k.wait k.holds k.unfinished x.still x.live
       (λ i h. absurd (unentering_wait e.unfinished o i x.waits (sym x.mine ∙ h))) (λ h. undumped_wait e.unfinished o x.waits (sym x.mine ∙ h)) (λ i. ap (λ z. says_notified z i) x.ready ∙ no_told i))
 
   abbrev lets_go : Local → ℕ → Todo (Turn (Unit {0}))
@@ -93,6 +95,7 @@ module _ (heap : Heap) (e : Purpose) (o : ℕ) where
       follows heap false _ k _ _ (monitor_wait_does heap e o m k (record {
         runs = x.runs;
         unasks = x.unasks;
+        still = x.still;
         unchecks = x.unchecks;
         live = x.live;
         room = x.room;
@@ -112,15 +115,15 @@ module _ (heap : Heap) (e : Purpose) (o : ℕ) where
 
   -- behind the look that found no bias pattern
   begun_does : (kept : Option ℕ) (k : Known) → Beginning k → k.stage ≡ Calm → k.kept ≡ kept → SawNone heap e o k → Unseen heap e o k → SawUnbiased k o
-      → Does heap false (inflate_steps e kept o >>= (λ turn. and_then turn (lets_go (local_of k)))) k (λ b r l. AtRest heap.shape l)
+      → Does heap false (inflate_steps heap.shape e kept o >>= (λ turn. and_then turn (lets_go (local_of k)))) k (λ b r l. AtRest heap.shape l)
   begun_does kept k x calm same none unseen unbiased =
-      binds heap false (inflate_steps e kept o) (λ turn. and_then turn (lets_go (local_of k))) k _ (
+      binds heap false (inflate_steps heap.shape e kept o) (λ turn. and_then turn (lets_go (local_of k))) k _ (
       inflate_does heap e o kept k _
       (record {
         found = λ l m a calm saw none. subst (λ z. Does heap false (lets_go z m) l (λ b r l. AtRest heap.shape l)) a.local (lets_go_does l m (beginning_apart k l a x) calm saw none);
         pends = λ l w a calm. answers heap false _ l _ (beginning_rests l (beginning_apart k l a x) calm);
       })
-      (record { runs = x.runs; object = x.object; mine = x.mine; check = x.check }) calm none unseen (inr (refl, unbiased)) same)
+      (record { runs = x.runs; still = x.still; object = x.object; mine = x.mine; check = x.check }) calm none unseen (inr (refl, unbiased)) same)
 
 module _ (heap : Heap) (k : Known) (o now : ℕ) (v : Stands heap k) (rest : AtRest heap.shape k) where
   abbrev e : Purpose
@@ -153,6 +156,7 @@ module _ (heap : Heap) (k : Known) (o now : ℕ) (v : Stands heap k) (rest : AtR
         (record {
           runs = runs;
           unasks = unasks;
+          still = rest.still;
           unchecks = refl;
           live = a.live;
           room = let r = a.room in omega arith;
@@ -176,16 +180,17 @@ module _ (heap : Heap) (k : Known) (o now : ℕ) (v : Stands heap k) (rest : AtR
         let s = start_of heap.start k in
         let ready : k.wait ≡ 0 = home heap k v (λ z y. IsOut y → Unentering y → ends y.log ≡ false → y.wait ≡ 0) (ready_outside v.world v.objects k.thread fits)
         (out_to_wait heap k v fits o goes out rest.untold) unentering a.live in
-        binds heap true (unbias_steps heap.shape e s (no_bias o now)) (λ turn. and_then turn (λ u. inflate_steps e k.kept o >>= (λ turn. and_then turn (lets_go heap e o (local_of k))))) k _ (
+        binds heap true (unbias_steps heap.shape e s (no_bias o now)) (λ turn. and_then turn (λ u. inflate_steps heap.shape e k.kept o >>= (λ turn. and_then turn (lets_go heap e o (local_of k))))) k _ (
         unbias_does heap e (no_bias o now) op.Wait refl refl refl object refl k
         (starts_unbias heap e (no_bias o now) op.Wait k refl refl rest a (λ i h. unentering_wait e.unfinished o i refl h) (undumped_wait e.unfinished o refl) (λ z. z.1) (λ waits. out) (inr (some_named (hold_count o k.holds) some))) _
         (record {
           unbiased = λ l x bare.
-              subst (λ z. Does heap false (inflate_steps e k.kept o >>= (λ turn. and_then turn (lets_go heap e o z))) l (λ b r l. AtRest heap.shape l)) x.local
+              subst (λ z. Does heap false (inflate_steps heap.shape e k.kept o >>= (λ turn. and_then turn (lets_go heap e o z))) l (λ b r l. AtRest heap.shape l)) x.local
               (begun_does heap e o k.kept l
               (record {
                 runs = x.runs;
                 unasks = x.unasks;
+                still = x.still;
                 unchecks = refl;
                 live = ap (λ z. ends z.log) x.local ∙ a.live;
                 room = subst (λ z. length z.log + 2 ≤ log_limit) (sym x.local) a.room;

@@ -13,7 +13,7 @@ use Rattle.core_world.specs.declared.stage.Stage.TheVariants.{Calm, Resumes}
 use Rattle.core_world.specs.declared.task.Op.TheVariants as op
 use Rattle.core_world.specs.Threads.AtRest.{AtRest}
 use Rattle.core_world.specs.Words.Forms.{waits_on, waits_form, says_notified, notified_form}
-use Rattle.core_world.specs.Threads.Known.{Known, last_seen}
+use Rattle.core_world.specs.Threads.Known.{Known, Still, last_seen}
 use Rattle.core_world.specs.Clauses.Lengths.{log_limit}
 use Rattle.core_world.specs.Trees.Plans.{Purpose, load}
 use Rattle.core_world.specs.Clauses.Safepoints.{IsUnfinished, ends}
@@ -45,6 +45,7 @@ module _ (heap : Heap) (e : Purpose) (o : ℕ) where
   pub record LetGo (k : Known) : Type 0 where
     pub runs : k.running ≡ true
     pub unasks : k.requesting ≡ false
+    pub still : k.moving ≡ Still
     pub unchecks : e.check ≡ false
     pub live : ends k.log ≡ false
     pub room : length k.log < log_limit
@@ -55,7 +56,7 @@ module _ (heap : Heap) (e : Purpose) (o : ℕ) where
 
   -- where it goes on in another call
   let_go_rests : (k : Known) → LetGo k → k.stage ≡ Calm → waits_on k.wait o ≡ true → AtRest heap.shape k
-  let_go_rests k x calm waits = rests heap.shape k calm x.unasks (sym x.check ∙ x.unchecks) (live_carries k.log k.wait k.holds k.unfinished x.live
+  let_go_rests k x calm waits = rests heap.shape k calm x.unasks (sym x.check ∙ x.unchecks) (live_carries k.log k.wait k.holds k.unfinished x.still x.live
       (λ i h. let a = ap (is_of_kind op.Wait) (sym x.waits ∙ sym x.mine ∙ h) in absurd (cc a)) (λ h. let a = ap (is_of_kind op.Wait) (sym x.waits ∙ sym x.mine ∙ h) in cc a)
       (λ i. waits_untold (read_wait k.wait) o i waits))
 
@@ -81,7 +82,7 @@ module _ (heap : Heap) (e : Purpose) (o : ℕ) where
         recursions = saw_older heap ready n1 k1 (name.Recursions m) i1 refl refl ∙ saw_newest heap restore n0 k;
         room = x.room;
       })) (λ n2 i2 was2.
-      answers heap false _ _ _ (rests heap.shape _ refl x.unasks x.unchecks (logged_carries k.log _ _ k.holds x.live refl (λ i. ap (λ z. says_notified z i) is_ready ∙ no_told i))))))
+      answers heap false _ _ _ (rests heap.shape _ refl x.unasks x.unchecks (logged_carries k.log _ _ k.holds x.still x.live refl (λ i. ap (λ z. says_notified z i) is_ready ∙ no_told i))))))
 
   -- IT IS ANOTHER'S
   missed_does : (f : Option OwnerForm) (k : Known) (m n : ℕ) → LetGo k → k.stage ≡ Calm → waits_on k.wait o ≡ true → read_owner n ≡ f → IsOwner heap.shape f → (read_owner n ≡ Some Free → ⊥) → (IsOwned k.thread f → ⊥)
@@ -104,12 +105,12 @@ module _ (heap : Heap) (e : Purpose) (o : ℕ) where
       let l = known_hit heap.shape heap.start regain n k in
       subst (λ f. Does heap false (resume_owner_at f e k.thread k.saved o m n) l (λ b r l. AtRest heap.shape l)) (sym (ap read_owner h ∙ read_owner-owner_of Free tt))
       (resumed_does l m
-      (record { runs = x.runs; unasks = x.unasks; unchecks = x.unchecks; live = x.live; room = x.room; object = x.object; mine = refl; check = refl; waits = x.waits }) refl
+      (record { runs = x.runs; unasks = x.unasks; still = x.still; unchecks = x.unchecks; live = x.live; room = x.room; object = x.object; mine = refl; check = refl; waits = x.waits }) refl
       (inflated.0, saw_older heap regain n k (name.Mark o) i refl refl ∙ inflated.1, inflated.2)
       (saw_newest heap regain n k ∙ ap (λ (b : Bool). Some (cond b (owner_of (ByThread k.thread)) n)) (eq-eqb n (owner_of Free) h))))
       (λ n i was h.
       missed_does (read_owner n) (known_miss heap.shape heap.start regain n k) m n
-      (record { runs = x.runs; unasks = x.unasks; unchecks = x.unchecks; live = x.live; room = x.room; object = x.object; mine = x.mine; check = x.check; waits = x.waits }) calm waits refl
+      (record { runs = x.runs; unasks = x.unasks; still = x.still; unchecks = x.unchecks; live = x.live; room = x.room; object = x.object; mine = x.mine; check = x.check; waits = x.waits }) calm waits refl
       (owner_form heap e o m k n was.stands x.runs calm inflated was.found)
       (λ free. let same = (read_owner-spells n Free free).1 in absurd (cc (eq-eqb n (owner_of Free) same, h)))
       (unowned_here heap k was.stands x.runs o word saw told m n calm inflated was.found))
@@ -135,7 +136,7 @@ module _ (heap : Heap) (e : Purpose) (o : ℕ) where
       let is = inflated_here heap k was.stands x.runs o word saw told mark was.found in
       subst (λ f. Does heap false (resume_mark_at f e k.thread k.saved o) l (λ b r l. AtRest heap.shape l)) (sym (inflated_form (read_mark mark) is.0 is.1))
       (owner_does l is.0 word
-      (record { runs = x.runs; unasks = x.unasks; unchecks = x.unchecks; live = x.live; room = x.room; object = x.object; mine = refl; check = refl; waits = x.waits }) refl waits
+      (record { runs = x.runs; unasks = x.unasks; still = x.still; unchecks = x.unchecks; live = x.live; room = x.room; object = x.object; mine = refl; check = refl; waits = x.waits }) refl waits
       (mark, saw_newest heap look mark k, is.1) (saw_older heap look mark k (name.Waiting k.thread) j refl refl ∙ saw) told
       (λ a r sees. none a r (sym (saw_older heap look mark k (name.Recursions a) j refl refl) ∙ sees))))
 
@@ -149,5 +150,5 @@ module _ (heap : Heap) (e : Purpose) (o : ℕ) where
       (λ i. looks heap k look (record { act = refl; note = refl; own = refl; stage = sym calm; check = x.check; after = inl (sym x.mine); may = may_look k (name.Waiting k.thread) (inl x.runs) (λ m is. absurd (cc is)) }) (λ v. v.within))
       (λ word i was.
       at_does (read_wait word) (known_hit heap.shape heap.start look word k) word
-      (record { runs = x.runs; unasks = x.unasks; unchecks = x.unchecks; live = x.live; room = x.room; object = x.object; mine = refl; check = refl; waits = x.waits }) refl waits
+      (record { runs = x.runs; unasks = x.unasks; still = x.still; unchecks = x.unchecks; live = x.live; room = x.room; object = x.object; mine = refl; check = refl; waits = x.waits }) refl waits
       (saw_newest heap look word k) (none word i) refl (says_here heap k was.stands x.runs o word waits was.found))

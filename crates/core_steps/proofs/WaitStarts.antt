@@ -21,13 +21,13 @@ use Rattle.core_world.specs.declared.stage.Stage.TheVariants.{Calm, TakesOver}
 use Rattle.core_world.specs.declared.task.Op.TheVariants as op
 use Rattle.core_world.specs.Words.Acts.{word_after}
 use Rattle.core_world.specs.Words.Forms.{waits_on, waits_form}
-use Rattle.core_world.specs.Threads.Known.{Known, Local, local_of, last_seen}
+use Rattle.core_world.specs.Threads.Known.{Known, Local, Still, local_of, last_seen}
 use Rattle.core_world.specs.Clauses.Lengths.{log_limit}
 use Rattle.core_world.specs.Locks.{hold_count}
 use Rattle.core_world.specs.Trees.MonitorSteps.{own_steps, take_over_plan, reset_count_plan}
 use Rattle.core_world.specs.Trees.Plans.{Purpose, quiet_plan, with_stage, with_own, load, next_stamp}
 use Rattle.core_world.specs.Clauses.Safepoints.{IsUnfinished, ends}
-use Rattle.core_world.specs.Steps.{is_idle, known_hit}
+use Rattle.core_world.specs.Steps.{is_idle, known_hit, moving_after}
 use Rattle.core_world.specs.Trees.Todo.{Todo, done, ask, ◌>>=◌}
 use Rattle.core_world.specs.Trees.WaitSteps.{log_wait_steps, monitor_wait_steps, save_count_plan, drop_plan, quit_plan, log_wait_plan}
 use Rattle.core_world.specs.Trees.LockSteps.{raise_stamp_plan}
@@ -53,6 +53,7 @@ module _ (heap : Heap) (e : Purpose) (o m : ℕ) where
   pub record Letting (k : Known) : Type 0 where
     pub runs : k.running ≡ true
     pub unasks : k.requesting ≡ false
+    pub still : k.moving ≡ Still
     pub unchecks : e.check ≡ false
     pub live : ends k.log ≡ false
     pub room : length k.log + 2 ≤ log_limit
@@ -74,6 +75,7 @@ module _ (heap : Heap) (e : Purpose) (o m : ℕ) where
         record {
           runs = x.runs;
           unasks = x.unasks;
+          still = x.still;
           unchecks = x.unchecks;
           live = x.live;
           room = x.room;
@@ -87,12 +89,13 @@ module _ (heap : Heap) (e : Purpose) (o m : ℕ) where
           none = λ a r d saw. x.none a r d (sym (older (name.Recursions a) i refl refl) ∙ saw);
         }
 
-    after_recursions : (keep : Own) → Letting (known_hit heap.shape heap.start (with_own keep (quiet_plan e (name.Recursions m) act)) n k)
-    after_recursions keep =
+    after_recursions : (keep : Own) → moving_after keep n k.moving ≡ Still → Letting (known_hit heap.shape heap.start (with_own keep (quiet_plan e (name.Recursions m) act)) n k)
+    after_recursions keep still =
         let p = with_own keep (quiet_plan e (name.Recursions m) act) in
         record {
           runs = x.runs;
           unasks = x.unasks;
+          still = still;
           unchecks = x.unchecks;
           live = x.live;
           room = x.room;
@@ -132,7 +135,7 @@ module _ (heap : Heap) (e : Purpose) (o m : ℕ) where
       let y = after_owner k x i (Store (owner_of (ByThread k.thread))) n (TakesOver o) in
       let owns : SawOwn l l.thread m = saw_newest heap man n k in
       hitting heap false reset _ l _ (λ n. refl) (λ j. resets_count_rule heap l e o m (λ v. record { counts = may_count l y owns; takes_over = refl })) (λ r j was.
-      answers heap false tt _ Q (then_so (known_hit heap.shape heap.start reset r l) refl refl (after_recursions l y j (Store 0) r own.Same) (saw_older heap reset r l (name.Owner m) j refl refl ∙ owns))))
+      answers heap false tt _ Q (then_so (known_hit heap.shape heap.start reset r l) refl refl (after_recursions l y j (Store 0) r own.Same y.still) (saw_older heap reset r l (name.Owner m) j refl refl ∙ owns))))
 
   -- what it leaves: the wait has let go
   pub record HasLetGo (k : Known) (saved : ℕ) (l : Known) : Type 0 where
@@ -171,7 +174,7 @@ module _ (heap : Heap) (e : Purpose) (o m : ℕ) where
       let room = x.room in
       hitting heap false save _ k _ (λ n. refl) (λ i. saves_rule heap k e o m (λ v. (may_count k x owns, calm))) (λ n0 i0 was0.
       let k1 = known_hit heap.shape heap.start save n0 k in
-      let x1 = after_recursions k x i0 Load n0 own.Save in
+      let x1 = after_recursions k x i0 Load n0 own.Save x.still in
       let owns1 : SawOwn k1 k1.thread m = saw_older heap save n0 k (name.Owner m) i0 refl refl ∙ owns in
       hitting heap false raise _ k1 _ (λ n. refl)
       (λ i. raises heap k1 e o x.object (λ v. record { runs = x.runs; calm = refl; out = ready_is_out k1 x.ready; holds = x.holds; goes_on = inl refl; letting = inl x.waits })) (λ n1 i1 was1.
@@ -210,6 +213,7 @@ module _ (heap : Heap) (e : Purpose) (o m : ℕ) where
         let_go = record {
           runs = x.runs;
           unasks = x.unasks;
+          still = x.still;
           unchecks = x.unchecks;
           live = live_behind k.log _ x.live refl;
           room = fits_one k.log _ x.room;

@@ -1,2 +1,3 @@
 pub mod Weakened
 pub mod SmallWorlds
+pub mod Deflated

@@ -9,6 +9,7 @@ pub use refused::{
     no_stop_between_steps_on_a_lock, no_stop_in_the_middle_of_a_lock,
 };
 pub use stepping::{
+    a_deflation_does_its_steps, a_deflation_leaves_no_monitor_idle,
     draws_of_reached_worlds_come_first, every_call_begins_well, every_heap_has_its_law,
     next_steps_keep_worlds_sound, reached_worlds_are_valid, stamps_of_reached_worlds_are_exact,
 };

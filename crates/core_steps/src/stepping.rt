@@ -1,13 +1,16 @@
 //! The law of all steps. The functions do nothing.
 
-ghost use Rattle.std.specs.Prelude.{◌≡◌, ℕ, ◌<◌, true};
+ghost use Rattle.std.specs.Prelude.{◌≡◌, ℕ, ◌<◌, true, false, length, None};
 ghost use Rattle.core_world.specs.declared.plan.StepPlan.{StepPlan};
 ghost use Rattle.core_world.specs.declared.task.Task.{Task};
 ghost use Rattle.core_world.specs.Threads.AtRest.{AtRest};
 ghost use Rattle.core_world.specs.Due.{IsNext};
-ghost use Rattle.core_world.specs.Threads.Known.{Known};
+ghost use Rattle.core_world.specs.Threads.Known.{Known, Still};
+ghost use Rattle.core_world.specs.Threads.Stages.{revocation_in};
+ghost use Rattle.core_world.specs.Trees.DeflateSteps.{deflate_steps};
+ghost use Rattle.core_world.specs.Trees.Plans.{Purpose};
 ghost use Rattle.core_world.specs.Opening.{opening};
-ghost use Rattle.core_world.specs.Words.Shape.{IsInLimits};
+ghost use Rattle.core_world.specs.Words.Shape.{IsInLimits, monitor_count};
 ghost use Rattle.core_world.specs.Steps.{world_after, rest_of_call, is_idle};
 ghost use Rattle.core_world.specs.There.{IsThere};
 ghost use Rattle.core_world.specs.World.{World, logs};
@@ -18,9 +21,10 @@ ghost use Rattle.plain_history.specs.FirstDraws.{DrawsComeFirst};
 ghost use Rattle.core_law.specs.Begins.{BeginsWell};
 ghost use Rattle.core_law.specs.Draws.{HasDraws};
 ghost use Rattle.core_law.specs.HeapLaw.{HeapLaw};
-ghost use Rattle.core_law.specs.Logic.{Heap, heap_of};
+ghost use Rattle.core_law.specs.Logic.{Heap, Does, DoesSteps, heap_of};
 ghost use Rattle.core_law.specs.Reached.{Comes, comes};
 ghost use Rattle.core_law.specs.Sound.{Sound};
+ghost use Rattle.core_steps.specs.Deflated.{IsSettled, NamedAreInUse};
 
 /// In a sound world the next step of any thread leads to a sound world: in whatever call, whether it begins the call or goes on with it, and
 /// whatever the other threads are in the middle of. The step is a function of what its thread knows alone. The heap has the word that it is
@@ -88,6 +92,28 @@ pub fn draws_of_reached_worlds_come_first()
 /// ends at rest.
 pub fn every_call_begins_well()
     ensures { (heap : Heap) (task : Task) → BeginsWell heap task }
+{}
+
+/// The steps that give idle monitors back keep every valid world valid, of a thread whose safepoint is reached, which revokes no bias and has nothing in hand
+/// of the ring: each has its conditions from what the thread has seen there.
+pub fn a_deflation_does_its_steps()
+    ensures { (heap : Heap) (e : Purpose) (k : Known) → revocation_in k.stage ≡ None → k.reached ≡ true
+        → k.running ≡ false → k.moving ≡ Still → e.check ≡ k.checking → e.unfinished ≡ k.unfinished
+        → DoesSteps heap false (deflate_steps heap.shape e k.stage) k }
+{}
+
+/// Behind such a deflation no monitor is idle. In each valid world in which the thread stands there, every monitor that a mark names has an owner, or
+/// somebody who waits on its object, was notified from it or enters it. And by what the thread saw at its safepoint, each monitor of the heap was given
+/// back, or the mark of the object in its object word doesn't name it, or it is so in use.
+pub fn a_deflation_leaves_no_monitor_idle()
+    ensures in_use { (heap : Heap) (e : Purpose) (k : Known) → revocation_in k.stage ≡ None → k.reached ≡ true
+        → k.running ≡ false → k.moving ≡ Still → e.check ≡ k.checking → e.unfinished ≡ k.unfinished
+        → Does heap false (deflate_steps heap.shape e k.stage) k (λ b a l. NamedAreInUse heap l) }
+    ensures settled { (heap : Heap) (e : Purpose) (k : Known) → revocation_in k.stage ≡ None → k.reached ≡ true
+        → k.running ≡ false → k.moving ≡ Still → e.check ≡ k.checking → e.unfinished ≡ k.unfinished
+        → 0 < length heap.shape.objects
+        → Does heap false (deflate_steps heap.shape e k.stage) k
+        (λ b a l. (m : ℕ) → m < monitor_count heap.shape → IsSettled heap.shape l m) }
 {}
 
 /// Every heap in the limits has its law, which whoever makes a heap hands in. It has four parts, each a law by itself.

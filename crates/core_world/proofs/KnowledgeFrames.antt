@@ -25,7 +25,7 @@ use Rattle.core_world.specs.Clauses.Draws.{DrawsFit}
 use Rattle.core_world.specs.Clauses.Waits.{WaitsFit}
 use Rattle.core_world.specs.Clauses.Stamps.{StampsFit, lets_go}
 use Rattle.core_world.specs.Clauses.Lengths.{LengthsFit}
-use Rattle.core_world.specs.Clauses.Claims.{MonitorsAreClaimed}
+use Rattle.core_world.specs.Clauses.Claims.{MonitorsAreClaimed, MovesFit}
 use Rattle.core_world.specs.Clauses.Classes.{ClassesFit, bulk_rebiases, bulk_revokes}
 use Rattle.core_world.specs.Shots.{ShotsFit}
 use Rattle.core_world.specs.Valid.{Fits, SeenFit, SafepointFits}
@@ -42,6 +42,7 @@ pub record SameBut (k l : Known) : Type 0 where
   pub running : k.running ≡ l.running
   pub requesting : k.requesting ≡ l.requesting
   pub kept : k.kept ≡ l.kept
+  pub moving : k.moving ≡ l.moving
   pub saved : k.saved ≡ l.saved
   pub holds : k.holds ≡ l.holds
   pub wait : k.wait ≡ l.wait
@@ -96,8 +97,8 @@ module _ (w : World) (P : List PlainObject) (t : ℕ) (l : Known) (within : t < 
     exact = λ o. stamp_goes_on (λ u. (w.known u).log) (monitor_of P o).owner t l w.known o (w.words (Stamp o)) b.unfinished (v.stamps.exact o);
   }
 
-  pub with_knowledge_fits : SeenFit x P → SafepointFits x P → ShotsFit w.shape.objects (logs w) (λ u. (w.known u).log) (λ u. (x.known u).shots) (λ u. (x.known u).unfinished) → Fits w P → Fits x P
-  with_knowledge_fits seen safe shots v =
+  pub with_knowledge_fits : SeenFit x P → SafepointFits x P → MovesFit (λ u. (x.known u).running) (λ u. (x.known u).reached) (λ u. (x.known u).moving) → StoppedAreQuiet (λ u. (x.known u).running) (λ u. (x.known u).reached) (λ u. (x.known u).stage) → ShotsFit w.shape.objects (logs w) (λ u. (w.known u).log) (λ u. (x.known u).shots) (λ u. (x.known u).unfinished) → Fits w P → Fits x P
+  with_knowledge_fits seen safe moves quiet shots v =
       let holds = part_moves (λ y. y.holds) t l w.known b.holds in
       let stage = part_moves (λ y. y.stage) t l w.known b.stage in
       let running = part_moves (λ y. y.running) t l w.known b.running in
@@ -119,7 +120,7 @@ module _ (w : World) (P : List PlainObject) (t : ℕ) (l : Known) (within : t < 
         seen = seen;
         forms = v.forms;
         safe = safe;
-        quiet = frame2 StoppedAreQuiet running stage v.quiet;
+        quiet = quiet;
         holds = frame4 HoldsFitLogs refl holds (λ i. λ u o. hold_words_ahead (stage i u) o) refl v.holds;
         owners = frame3 LocksArePlain (who_stays w x lock_is holds) stage refl v.owners;
         biases = frame6 BiasedAreFree refl lock_is holds refl refl refl v.biases;
@@ -133,7 +134,8 @@ module _ (w : World) (P : List PlainObject) (t : ℕ) (l : Known) (within : t < 
         waits = frame9 WaitsFit refl refl (part_moves (λ y. y.wait) t l w.known b.wait) log stage refl running refl refl (waits_law v);
         stamps = frame5 StampsFit all log refl refl refl (stamps_law v);
         lengths = frame6 LengthsFit refl (part_moves (λ y. y.published) t l w.known b.published) log running requesting refl v.lengths;
-        claims = frame3 (MonitorsAreClaimed w.shape.threads _) refl refl (part_moves (λ y. y.kept) t l w.known b.kept) v.claims;
+        claims = frame2 (MonitorsAreClaimed w.shape.threads _ _ _ _ _ _ _) (part_moves (λ y. y.kept) t l w.known b.kept) (part_moves (λ y. y.moving) t l w.known b.moving) v.claims;
+        moves = moves;
         shots = frame4 (ShotsFit w.shape.objects) all log refl refl shots;
         classes = frame6 (ClassesFit w.biasing) refl refl refl refl (λ i. bulk_rebiases w.shape.threads (counts i)) (λ i. bulk_revokes w.shape.threads (counts i)) v.classes;
       }

@@ -7,6 +7,7 @@ pub mod OwnersShown
 pub mod KnowledgeParts
 pub mod LockFrames
 pub mod Naming
+pub mod Rings
 pub mod SeenBack
 pub mod SeenMoves
 pub mod SeenNoted
@@ -22,5 +23,4 @@ pub mod CallRests
 pub mod SafeBits
 pub mod Updates
 pub mod ObjectSlots
-pub mod MonitorCounts
 pub mod There

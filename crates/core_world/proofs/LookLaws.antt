@@ -70,6 +70,11 @@ module _ (w : World) (P : List PlainObject) (t : ℕ) (seen : SeenFit w P) (safe
       cases false q = record { before = w.words; found = tt; same = refl }
   since_alone _ r e = seen.alone t r e
 
+  -- a safepoint that was reached is
+  still_reached : (at : Name) → (w.known t).reached ≡ true → reached_after at Load (w.words at) (w.known t) ≡ true
+  still_reached name.Safepoint e = ap (λ b. b || ((w.known t).requesting && is_still (w.words Safepoint))) e
+  still_reached _ e = e
+
   -- a load, as it is written down
   pub look_glance : (p : StepPlan) → IsLook (w.known t) p → Glance w P (w.known t) (known_after w.shape w.start p (w.words p.at) (w.known t)) p
   look_glance p look =
@@ -83,6 +88,7 @@ module _ (w : World) (P : List PlainObject) (t : ℕ) (seen : SeenFit w P) (safe
           running = sym (runs_load p.at (w.words p.at) (w.known t));
           requesting = sym (asks_load p.at (w.words p.at) (w.known t));
           kept = refl;
+          moving = refl;
           saved = refl;
           holds = sym (holds_load p.at (w.known t));
           wait = sym (wait_load p.at (w.known t));
@@ -112,6 +118,7 @@ module _ (w : World) (P : List PlainObject) (t : ℕ) (seen : SeenFit w P) (safe
         };
         reached = λ e. let a = learnt p.at e in (asks_load p.at (w.words p.at) (w.known t) ∙ a.0, a.1);
         halted = halt_learnt p.at;
+        stands = still_reached p.at;
       })
 
   -- an exchange that missed
@@ -122,7 +129,7 @@ module _ (w : World) (P : List PlainObject) (t : ℕ) (seen : SeenFit w P) (safe
       ap (λ (b : Bool). cond b hit (known_miss w.shape w.start p (w.words p.at) (w.known t))) (sym miss.missed) in
       subst (λ z. Glance w P (w.known t) z p) missed
       (record {
-        same = record { thread = refl; log = refl; running = refl; requesting = refl; kept = refl; saved = refl; holds = refl; wait = refl; published = refl; stage = refl; counts = refl; draws = refl; unfinished = inl refl };
+        same = record { thread = refl; log = refl; running = refl; requesting = refl; kept = refl; moving = refl; saved = refl; holds = refl; wait = refl; published = refl; stage = refl; counts = refl; draws = refl; unfinished = inl refl };
         looks = record {
           word = missed_word p.act (w.words p.at) miss.missed;
           as_found = refl;
@@ -143,6 +150,7 @@ module _ (w : World) (P : List PlainObject) (t : ℕ) (seen : SeenFit w P) (safe
         };
         reached = safe.safepoint t;
         halted = halt_learnt p.at;
+        stands = λ e. e;
       })
 
 -- neither keeps a shot

@@ -101,6 +101,7 @@ module _ (w : World) (P : List PlainObject) (s : IsRevoking w P) where
           biasing = s.biasing;
           requester = s.requester;
           reached = s.reached;
+          was_calm = s.was_calm;
           revocation = s.revocation;
           its_revocation = ap (λ k. revocation_in k.stage) here ∙ ap revocation_in (sym g.same.stage) ∙ s.its_revocation;
           operation = s.operation;
@@ -144,6 +145,7 @@ module _ (w : World) (P : List PlainObject) (s : IsRevoking w P) where
           biasing = s.biasing;
           requester = s.requester;
           reached = ap (λ (k : Known). k.reached) kept_before ∙ s.reached;
+          was_calm = ap (λ (k : Known). k.stage) kept_before ∙ s.was_calm;
           revocation = s.revocation;
           its_revocation = ap (λ (k : Known). revocation_in k.stage) kept ∙ s.its_revocation;
           operation = s.operation;

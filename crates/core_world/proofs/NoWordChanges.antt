@@ -9,10 +9,12 @@ use Rattle.plain_monitor.specs.Objects.{PlainObject}
 use Rattle.core_world.specs.declared.name.Name.TheVariants.{Safepoint}
 use Rattle.core_world.specs.declared.plan.StepPlan.{StepPlan}
 use Rattle.core_world.specs.Words.Forms.{runs_in, runs_form, asks_in, is_halted, is_still, still_form}
-use Rattle.core_world.specs.Threads.Known.{Known}
+use Rattle.core_world.specs.Threads.Known.{Known, Fetches, Returns}
 use Rattle.core_world.specs.World.{World, with_known}
 use Rattle.core_world.specs.Locks.{monitor_of, owner_at, waits_at}
-use Rattle.core_world.specs.Clauses.Safepoints.{IsHeldUp, ends}
+use Rattle.core_world.specs.Clauses.Safepoints.{IsHeldUp, ends, StoppedAreQuiet, IsQuiet}
+use Rattle.core_world.specs.Threads.Stages.{revocation_in}
+use Rattle.core_world.specs.Clauses.Claims.{MovesFit}
 use Rattle.core_world.specs.Shots.{ShotsFit}
 use Rattle.core_world.specs.Valid.{Fits, SeenFit, SafepointFits}
 use Rattle.core_world.proofs.Frames.{frame4}
@@ -46,6 +48,7 @@ pub record Glance (w : World) (P : List PlainObject) (k l : Known) (p : StepPlan
   pub looks : Looks w (waits_at P) k l p (w.words p.at)
   pub reached : l.reached ≡ true → (l.requesting ≡ true) × ((u : ℕ) → (w.known u).running ≡ false)
   pub halted : l.halted ≡ true → is_halted (w.words Safepoint) ≡ true
+  pub stands : k.reached ≡ true → l.reached ≡ true
 
 module _ (w : World) (P : List PlainObject) (t : ℕ) (l : Known) (p : StepPlan) (g : Glance w P (w.known t) l p) where
   -- a thread with nothing unfinished that is held up is so whatever it has unfinished
@@ -97,4 +100,15 @@ module _ (w : World) (P : List PlainObject) (t : ℕ) (l : Known) (p : StepPlan)
       let goes_on : (u : ℕ) → ((w.known u).unfinished ≡ (with_known t l w.known u).unfinished) ⊎ ((w.known u).unfinished ≡ None) =
       λ u. each_with_known (λ u y. ((w.known u).unfinished ≡ y.unfinished) ⊎ ((w.known u).unfinished ≡ None)) t l w.known u g.same.unfinished (λ d. inl refl) in
       let shots = frame4 (ShotsFit w.shape.objects) refl refl (part_moves (λ y. y.shots) t l w.known same) refl (shots_go_on goes_on v.shots) in
-      with_knowledge_fits w P t l within g.same (glance_seen v.seen) (glance_safe v.safe) shots v
+      let moves : MovesFit (λ u. (with_known t l w.known u).running) (λ u. (with_known t l w.known u).reached) (λ u. (with_known t l w.known u).moving) =
+      record {
+        runs = λ u p. each_with_known (λ u y. y.moving ≡ Fetches p → y.running ≡ true) t l w.known u (λ e. sym g.same.running ∙ v.moves.runs t p (g.same.moving ∙ e)) (λ d. v.moves.runs u p);
+        reaches = λ u m. each_with_known (λ u y. y.moving ≡ Returns m → y.reached ≡ true) t l w.known u (λ e. g.stands (v.moves.reaches t m (g.same.moving ∙ e))) (λ d. v.moves.reaches u m);
+      } in
+      let quiet : StoppedAreQuiet (λ u. (with_known t l w.known u).running) (λ u. (with_known t l w.known u).reached) (λ u. (with_known t l w.known u).stage) =
+      record {
+        quiet = λ u. each_with_known (λ u y. y.running ≡ false → IsQuiet y.reached y.stage) t l w.known u
+            (λ r. elim (v.quiet.quiet t (g.same.running ∙ r)) [ inl a ↦ inl (sym g.same.stage ∙ a) | inr a ↦ inr (g.stands a.0, (a.1.0, sym g.same.stage ∙ a.1.1)) ]) (λ d. v.quiet.quiet u);
+        none_revokes = λ u. each_with_known (λ u y. revocation_in y.stage ≡ None) t l w.known u (ap revocation_in (sym g.same.stage) ∙ v.quiet.none_revokes t) (λ d. v.quiet.none_revokes u);
+      } in
+      with_knowledge_fits w P t l within g.same (glance_seen v.seen) (glance_safe v.safe) moves quiet shots v

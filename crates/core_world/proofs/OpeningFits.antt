@@ -1,5 +1,5 @@
 -- The opening world is valid.
-use Rattle.std.proofs.Common.{◌≡◌, ℕ, zero, suc, ◌+◌, ◌*◌, ◌%◌, ◌==◌, Bool, true, false, if◌then◌else◌, List, [], ◌∷◌, length, slice_get, replicate, Some, None, refl, sym, ap, ◌∙◌, arith, subst, inl, inr, pos}
+use Rattle.std.proofs.Common.{◌≡◌, ℕ, zero, suc, ◌+◌, ◌*◌, ◌%◌, ◌^◌, ◌<◌, ◌==◌, Bool, true, false, if◌then◌else◌, List, [], ◌∷◌, length, slice_get, replicate, Some, None, refl, sym, ap, ◌∙◌, arith, subst, inl, inr, pos}
 use Rattle.std.specs.List.{AllByRecursion}
 use Rattle.std.proofs.lemmas.List.{length-map}
 use Rattle.std.proofs.lemmas.Option.{same_Some}
@@ -12,11 +12,14 @@ use Rattle.plain_monitor.specs.History.{LegalObjects, RisesAbove, objects_after,
 use Rattle.core_world.specs.declared.name.Name.TheVariants.{Slot}
 use Rattle.core_world.specs.declared.stage.Stage.{Stage}
 use Rattle.core_world.specs.declared.stage.Stage.TheVariants.{Calm}
-use Rattle.core_world.specs.Words.Shape.{Shape, IsInLimits}
+use Rattle.core_world.specs.Words.Shape.{Shape, IsInLimits, monitor_count, ring_bits}
 use Rattle.core_world.specs.Words.Forms.{hash_in, is_halted, monitor_in}
 use Rattle.core_world.specs.World.{World, logs, logs_from}
 use Rattle.core_world.specs.Locks.{Lock, Open, lock, lock_form, header, header_form, marks, inflations, displaced_words, headers, object_of, monitor_of, hold_count, holder, who, holds_by_monitor, owner_at, hash_at, waits_at, notified_at}
 use Rattle.core_world.specs.Opening.{opening, first_known, first_mark}
+use Rattle.core_world.specs.Threads.Known.{Still}
+use Rattle.core_world.proofs.Rings.{ring_enough}
+use Rattle.std.proofs.Math.Nat.{mod-eq_of_lt}
 use Rattle.core_world.specs.Clauses.Holds.{HoldsFitLogs}
 use Rattle.core_world.specs.Clauses.Owners.{LocksArePlain}
 use Rattle.core_world.specs.Clauses.Biases.{BiasedAreFree}
@@ -30,7 +33,7 @@ use Rattle.core_world.specs.Clauses.Slots.{SlotsFit, IsHere}
 use Rattle.core_world.specs.Clauses.Waits.{WaitsFit}
 use Rattle.core_world.specs.Clauses.Stamps.{StampsFit}
 use Rattle.core_world.specs.Clauses.Lengths.{LengthsFit}
-use Rattle.core_world.specs.Clauses.Claims.{MonitorsAreClaimed}
+use Rattle.core_world.specs.Clauses.Claims.{MonitorsAreClaimed, MovesFit, InRing}
 use Rattle.core_world.specs.Clauses.Classes.{ClassesFit, bulk_rebiases, bulk_revokes}
 use Rattle.core_world.specs.Shots.{ShotsFit}
 use Rattle.core_world.specs.Valid.{Fits, Valid, SeenFit, FormsFit, SafepointFits}
@@ -276,19 +279,38 @@ module _ (s : Shape) (start : ℕ) (biasing : Bool) where
   lengths : LengthsFit (λ t. 0) (λ t. 0) (λ t. []) (λ t. false) (λ t. false) (is_halted 0)
   lengths = record { few = λ t. omega arith; stored = λ t. refl; most = λ t. omega arith; all = λ t e g h. refl }
 
-  claims : MonitorsAreClaimed s.threads (length s.objects) 0 (λ o. monitor_in (marks world o)) (λ t. None)
-  claims =
+  -- each monitor stands at the position of its number
+  claims : IsInLimits s → MonitorsAreClaimed s.threads (length s.objects) (monitor_count s) (ring_bits s) 0 (monitor_count s) (λ p. p) (λ o. monitor_in (marks world o)) (λ t. None) (λ t. Still)
+  claims limits =
       record {
-        holder = λ t m e. absurd (cc e);
-        named = λ o m e. absurd (no_monitor biasing m e);
-        once = λ t u m e. absurd (cc e);
-        apart = λ t o m e. absurd (cc e);
-        all = λ m h. absurd (omega arith);
+        first = 0;
+        ringed = monitor_count s;
+        claim_word = refl;
+        end_word = let same : monitor_count s ≡ 0 + monitor_count s = omega arith in same ∙ sym (mod-eq_of_lt (omega (arith, limits.threads, limits.objects)));
+        place = InRing;
+        keeps = λ t m e. absurd (cc e);
+        fetches = λ t p e. absurd (cc e);
+        names = λ o m e. absurd (no_monitor biasing m e);
+        returns = λ t m e. absurd (cc e);
+        stands = λ p a b. let same = in_round p (omega (arith, b)) in (omega (arith, same, b), ap InRing same);
+        kept_there = λ t m h e. absurd (cc e);
+        named_there = λ o m h e. absurd (cc e);
+        returned_there = λ t m h e. absurd (cc e);
+        ringed_there = λ p m h e. let same : m ≡ p = at_position m p e in (omega arith, omega (arith, same, h), in_round p (omega (arith, same, h)) ∙ sym same);
         counted =
             let a = with_monitor_none s.threads (λ t. None) (λ t. refl) in
             let b = with_monitor_none (length s.objects) (λ o. monitor_in (first_mark biasing)) (λ o. first_monitor biasing) in
             omega (arith, a, b);
       }
+    where
+      in_round : (p : ℕ) → p < monitor_count s → p % 2 ^ ring_bits s ≡ p
+      in_round p h = mod-eq_of_lt (omega (arith, h, ring_enough s limits))
+
+      at_position : (m p : ℕ) → InRing m ≡ InRing p → m ≡ p
+      at_position m p e = cc e
+
+  moves : MovesFit (λ t. false) (λ t. false) (λ t. Still)
+  moves = record { runs = λ t p e. absurd (cc e); reaches = λ t m e. absurd (cc e) }
 
   classes : ClassesFit biasing (λ c. first_mark biasing) (λ c. 0) (λ c. 0) (marks world) (bulk_rebiases s.threads (λ t. [])) (bulk_revokes s.threads (λ t. []))
   classes =
@@ -321,7 +343,7 @@ module _ (s : Shape) (start : ℕ) (biasing : Bool) where
         seen = seen;
         forms = forms;
         safe = safe;
-        quiet = record { quiet = λ t e. refl; none_revokes = λ t. refl };
+        quiet = record { quiet = λ t e. inl refl; none_revokes = λ t. refl };
         holds = held;
         owners = owners;
         biases = biases;
@@ -335,7 +357,8 @@ module _ (s : Shape) (start : ℕ) (biasing : Bool) where
         waits = waits;
         stamps = stamps;
         lengths = lengths;
-        claims = claims;
+        claims = claims limits;
+        moves = moves;
         classes = classes;
         shots = shots;
       }

@@ -86,14 +86,18 @@ at_rest_shown w objects o fits rest =
     let n : hold_count o (w.known t).holds ≡ holds_by_monitor (monitor_of objects o) t = omega (arith, fits.holds.number t o, owner_even w objects o t fits own (rest t)) in n in
     shows ∙ plain_shown (monitor_of objects o) (λ t. hold_count o (w.known t).holds) (sound w objects fits o) held
 
--- at a reached safepoint each thread is calm
-pub safepoint_calm : (w : World) (objects : List PlainObject) (t u : ℕ) → Fits w objects → (w.known t).reached ≡ true → (w.known u).stage ≡ Calm
-safepoint_calm w objects t u fits e = fits.quiet.quiet u ((fits.safe.safepoint t e).1 u)
+-- at a reached safepoint each thread is calm, or about to take a bias: what says the same of both stages says so of each thread's
+pub safepoint_part : {A : Type 0} (part : Stage → A) (a : A) → part Calm ≡ a → ((i : ℕ) → part (Takes i) ≡ a) → (w : World) (objects : List PlainObject) (t u : ℕ) → Fits w objects → (w.known t).reached ≡ true
+    → part (w.known u).stage ≡ a
+safepoint_part part a calm takes w objects t u fits e = elim (fits.quiet.quiet u ((fits.safe.safepoint t e).1 u)) [
+  | inl b ↦ ap part b ∙ calm
+  | inr b ↦ ap part b.1.1 ∙ takes b.1.0
+]
 
 -- at a reached safepoint every object shows its plain owner and count
 pub at_safepoint_shown : (w : World) (objects : List PlainObject) (t o : ℕ) → Fits w objects → (w.known t).reached ≡ true
     → owner_and_count w o ≡ ((monitor_of objects o).owner, (monitor_of objects o).count)
-at_safepoint_shown w objects t o fits e = at_rest_shown w objects o fits (λ u. ap (λ s. bears s o) (safepoint_calm w objects t u fits e))
+at_safepoint_shown w objects t o fits e = at_rest_shown w objects o fits (λ u. safepoint_part (λ s. bears s o) false refl (λ i. refl) w objects t u fits e)
 
 -- an object that a thread is taking, or has not let go since its Wait, shows that thread with its hold words
 pub taken_shown : (w : World) (objects : List PlainObject) (o t : ℕ) → Fits w objects → bears (w.known t).stage o ≡ true

@@ -74,8 +74,8 @@ busy_fits w P t o e (inr s) =
     (λ same. absurd (cc (s.its_revocation, ap (λ u. revocation_in (w.known u).stage) (sym same) ∙ ap revocation_in e)))
     (λ d.
     let stopped = (s.fits.safe.safepoint s.requester s.reached).1 t in
-    let calm = ap (λ k. k.stage) (s.others t d) ∙ s.fits.quiet.quiet t stopped in
-    absurd (cc (calm, e)))
+    let was = ap (λ k. k.stage) (s.others t d) in
+    elim (s.fits.quiet.quiet t stopped) [ inl a ↦ absurd (cc (was, a, e)) | inr a ↦ (let taking = a.1.1 in absurd (cc (was, taking, e))) ])
 
 -- a record above depth 1 whose displaced word is 3 counts
 counts_again : (o : ℕ) (f : ℕ → ℕ) (hs : List ℕ) (i p : ℕ) → is_deeper o (slice_index hs p) ≡ true → f (i + p) ≡ 3 → 1 ≤ count_where (λ q h. is_deeper o h && (f q == 3)) i hs

@@ -16,10 +16,8 @@ use Rattle.core_world.specs.Clauses.WordForms.{IsMark, IsHold, IsWait, IsOwner}
 use Rattle.core_world.specs.Words.Forms.{waits_on, waits_form}
 use Rattle.core_world.specs.Words.Shape.{Shape, IsInLimits, class_of, slots_of, monitor_count}
 use Rattle.core_world.specs.Threads.Known.{Known}
-use Rattle.core_world.specs.Locks.{marks, inflated_to}
 use Rattle.core_world.specs.Valid.{Fits, FormsFit, IsValid}
 use Rattle.core_world.specs.World.{World}
-use Rattle.core_world.proofs.MonitorCounts.{with_most}
 
 -- what the forms of words say of one that was found at this name
 abbrev pub IsFormed : Shape → Name → ℕ → Type 0
@@ -56,10 +54,7 @@ limits_there w P valid = elim valid [ inl v ↦ v.limits | inr s ↦ subst IsInL
 
 module _ (w : World) (P : List PlainObject) (v : Fits w P) where
   pub kept_there : (t m : ℕ) → (w.known t).kept ≡ Some m → m < monitor_count w.shape
-  kept_there t m kept =
-      let a = with_most w.shape.threads (λ u. (w.known u).kept) in
-      let b = with_most (length w.shape.objects) (inflated_to w) in
-      omega (arith, a, b, v.claims.holder t m kept, v.claims.counted)
+  kept_there t m kept = (v.claims.keeps t m kept).0
 
   -- a thread that the heap lacks waits for nothing
   pub waiter_there : (u o : ℕ) → waits_on (w.words (Waiting u)) o ≡ true → u < w.shape.threads

@@ -5,22 +5,25 @@ use Rattle.mark_word.specs.declared.mark.MarkForm.TheVariants.{Neutral, Anonymou
 use Rattle.plain_monitor.specs.ValueWords.{word_of}
 use Rattle.plain_monitor.specs.declared.entry.Value.TheVariants.{Int}
 use Rattle.core_world.specs.declared.name.Name.{Name}
-use Rattle.core_world.specs.declared.name.Name.TheVariants.{Prototype, Mark, Slot}
+use Rattle.core_world.specs.declared.name.Name.TheVariants.{Prototype, Mark, Slot, End, Ring}
 use Rattle.core_world.specs.declared.stage.Stage.TheVariants.{Calm}
-use Rattle.core_world.specs.Words.Shape.{Shape}
-use Rattle.core_world.specs.Threads.Known.{Known}
+use Rattle.core_world.specs.Words.Shape.{Shape, monitor_count}
+use Rattle.core_world.specs.Threads.Known.{Known, Still}
 use Rattle.core_world.specs.World.{World}
 
 -- the prototype of each class, and so the mark of each object: biased to nobody at epoch 0, or neutral
 abbrev pub first_mark : Bool → ℕ
 first_mark biasing = if biasing then mark_of (Anonymous 0 0) else mark_of (Neutral 0 0)
 
--- each slot has the number 0, and every other word is 0
-abbrev pub first_word : Bool → Name → ℕ
-first_word biasing (Prototype c) = first_mark biasing
-first_word biasing (Mark o) = first_mark biasing
-first_word biasing (Slot o i) = word_of (Int (pos 0))
-first_word biasing _ = 0
+-- each slot has the number 0, the ring has each monitor at the place of its number, and every other word is 0; a place behind the monitors has its
+-- own number, which nobody reads
+abbrev pub first_word : Shape → Bool → Name → ℕ
+first_word s biasing (Prototype c) = first_mark biasing
+first_word s biasing (Mark o) = first_mark biasing
+first_word s biasing (Slot o i) = word_of (Int (pos 0))
+first_word s biasing End = monitor_count s
+first_word s biasing (Ring p) = p
+first_word s biasing _ = 0
 
 -- a thread that is stopped and has made no step
 abbrev pub first_known : ℕ → Known
@@ -33,6 +36,7 @@ first_known t =
       reached = false;
       halted = false;
       kept = None;
+      moving = Still;
       saved = 0;
       holds = replicate 64 0;
       wait = 0;
@@ -51,4 +55,4 @@ first_known t =
 
 abbrev pub opening : Shape → ℕ → Bool → World
 opening s start biasing =
-    record { shape = s; start = start; biasing = biasing; words = first_word biasing; known = first_known }
+    record { shape = s; start = start; biasing = biasing; words = first_word s biasing; known = first_known }

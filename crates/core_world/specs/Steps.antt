@@ -12,14 +12,14 @@ use Rattle.core_world.specs.declared.name.Name.TheVariants as name
 use Rattle.core_world.specs.declared.plan.Note.{Note}
 use Rattle.core_world.specs.declared.plan.Note.TheVariants.{Quiet, Log, LogGet, LogHash}
 use Rattle.core_world.specs.declared.plan.Own.{Own}
-use Rattle.core_world.specs.declared.plan.Own.TheVariants.{Claim, Spend, Save, CountVerdict, TakeShot}
+use Rattle.core_world.specs.declared.plan.Own.TheVariants.{Position, Claim, Unname, Enring, Spend, Save, CountVerdict, TakeShot}
 use Rattle.core_world.specs.declared.plan.StepPlan.{StepPlan}
 use Rattle.core_world.specs.declared.task.Unfinished.{Unfinished}
 use Rattle.core_world.specs.Words.Shape.{Shape, class_of}
 use Rattle.core_world.specs.Words.Acts.{word_after, hits}
 use Rattle.core_world.specs.Words.Forms.{runs_in, asks_in, is_halted, is_still, hash_in}
 use Rattle.core_world.specs.Threads.Counts.{CountedVerdict, with_verdict_counted}
-use Rattle.core_world.specs.Threads.Known.{Known, StepMade, CallUnderway, last_seen, start_of}
+use Rattle.core_world.specs.Threads.Known.{Known, Moving, Still, Fetches, Returns, StepMade, CallUnderway, last_seen, start_of}
 use Rattle.core_world.specs.Threads.Known as known
 use Rattle.core_world.specs.World.{World, with_word_and_known}
 use Rattle.core_world.specs.Locks.{lock_form, holder, hold_count, or_zero, owner_and_count_by}
@@ -119,6 +119,14 @@ kept_after Claim found kept = Some found
 kept_after Spend found kept = None
 kept_after _ found kept = kept
 
+-- a step that claims a position, loads it, takes a monitor from its object, or stands it in the ring
+abbrev pub moving_after : Own → ℕ → Moving → Moving
+moving_after Position found moving = Fetches found
+moving_after Claim found moving = Still
+moving_after (Unname monitor) found moving = Returns monitor
+moving_after Enring found moving = Still
+moving_after _ found moving = moving
+
 abbrev pub saved_after : Own → ℕ → ℕ → ℕ
 saved_after Save found saved = found
 saved_after _ found saved = saved
@@ -203,6 +211,7 @@ known_hit s start p n k =
       reached = reached_after p.at p.act left k;
       halted = halted_after p.at left k;
       kept = kept_after p.own n k.kept;
+      moving = moving_after p.own n k.moving;
       saved = saved_after p.own n k.saved;
       holds = holds_after p.at p.act k;
       wait = wait_after p.at p.act k;

@@ -1,12 +1,12 @@
 -- What a step asks of its heap and its thread besides: that the heap has the word, and that there is a place for the shot that it takes.
 use Rattle.std.specs.Prelude.{ℕ, ◌<◌, length}
 use Rattle.core_world.specs.declared.name.Name.{Name}
-use Rattle.core_world.specs.declared.name.Name.TheVariants.{Safepoint, Prototype, Revocations, LastBulk, Mark, Stamp, Slot, Hold, Displaced, Waiting, Length, Owner, Recursions, Header, Object, Claim}
+use Rattle.core_world.specs.declared.name.Name.TheVariants.{Safepoint, Prototype, Revocations, LastBulk, Mark, Stamp, Slot, Hold, Displaced, Waiting, Length, Owner, Recursions, Header, Object, Claim, End, Ring}
 use Rattle.core_world.specs.declared.plan.Own.{Own}
 use Rattle.core_world.specs.declared.plan.Own.TheVariants.{TakeShot}
 use Rattle.core_world.specs.declared.plan.StepPlan.{StepPlan}
 use Rattle.core_world.specs.Threads.Known.{Known}
-use Rattle.core_world.specs.Words.Shape.{Shape, monitor_count}
+use Rattle.core_world.specs.Words.Shape.{Shape, monitor_count, ring_places}
 
 -- the heap has such a word: each object has room for 16 slots, and each thread for 64 lock records
 abbrev pub IsIn : Shape → Name → Type 0
@@ -26,6 +26,8 @@ IsIn s (Recursions m) = m < monitor_count s
 IsIn s (Header m) = m < monitor_count s
 IsIn s (Object m) = m < monitor_count s
 IsIn s Claim = Unit {0}
+IsIn s End = Unit {0}
+IsIn s (Ring p) = p < ring_places s
 
 -- there is a place for the shot: a thread takes at most 4
 abbrev pub HasPlace : Own → ℕ → Type 0

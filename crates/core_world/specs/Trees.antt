@@ -7,6 +7,7 @@ pub mod WaitSteps
 pub mod BiasSteps
 pub mod SafepointSteps
 pub mod RevocationSteps
+pub mod DeflateSteps
 pub mod HashSteps
 pub mod LookSteps
 pub mod Operations

@@ -4,10 +4,11 @@ use Rattle.mark_word.specs.Mark.{read_mark}
 use Rattle.lock_policy.specs.Policy.{decided, is_reset}
 use Rattle.plain_monitor.specs.Objects.{PlainObject}
 use Rattle.plain_monitor.specs.History.{LegalObjects, objects_after}
-use Rattle.core_world.specs.declared.name.Name.TheVariants.{Safepoint, Prototype, Revocations, LastBulk, Mark, Stamp, Slot, Hold, Waiting, Length, Recursions, Object, Claim}
+use Rattle.core_world.specs.declared.name.Name.TheVariants.{Safepoint, Prototype, Revocations, LastBulk, Mark, Stamp, Slot, Hold, Waiting, Length, Recursions, Object, Claim, End, Ring}
+use Rattle.core_world.specs.declared.stage.Stage.TheVariants.{Calm}
 use Rattle.core_world.specs.declared.task.Op.{Op}
 use Rattle.core_world.specs.declared.task.Op.TheVariants as op
-use Rattle.core_world.specs.Words.Shape.{IsInLimits, class_of}
+use Rattle.core_world.specs.Words.Shape.{IsInLimits, class_of, monitor_count, ring_bits}
 use Rattle.core_world.specs.Words.Forms.{is_halted}
 use Rattle.core_world.specs.Threads.Stages.{Revocation, hold_words_ahead, inflation_in, revocation_in}
 use Rattle.core_world.specs.Threads.Counts.{with_verdict_counted}
@@ -31,7 +32,7 @@ use Rattle.core_world.specs.Clauses.Slots.{SlotsFit}
 use Rattle.core_world.specs.Clauses.Waits.{WaitsFit}
 use Rattle.core_world.specs.Clauses.Stamps.{StampsFit}
 use Rattle.core_world.specs.Clauses.Lengths.{LengthsFit}
-use Rattle.core_world.specs.Clauses.Claims.{MonitorsAreClaimed}
+use Rattle.core_world.specs.Clauses.Claims.{MonitorsAreClaimed, MovesFit}
 use Rattle.core_world.specs.Clauses.Classes.{ClassesFit, bulk_rebiases, bulk_revokes}
 use Rattle.core_world.specs.Shots.{ShotsFit}
 use Rattle.core_world.specs.RevocationRules.{Write, FoundAfter, revocation_writes, words_after, writes_in}
@@ -63,7 +64,7 @@ pub record Fits (w : World) (objects : List PlainObject) : Type 0 where
   pub seen : SeenFit w objects
   pub forms : FormsFit w
   pub safe : SafepointFits w objects
-  pub quiet : StoppedAreQuiet (λ t. (w.known t).running) (λ t. (w.known t).stage)
+  pub quiet : StoppedAreQuiet (λ t. (w.known t).running) (λ t. (w.known t).reached) (λ t. (w.known t).stage)
   pub holds : HoldsFitLogs (λ t p. w.words (Hold t p)) (λ t. (w.known t).holds)
       (λ t o. hold_words_ahead (w.known t).stage o) (λ o t. holds_by_monitor (monitor_of objects o) t)
   pub owners : LocksArePlain (who w) (λ t. (w.known t).stage) (owner_at objects)
@@ -85,8 +86,10 @@ pub record Fits (w : World) (objects : List PlainObject) : Type 0 where
       (λ o. (monitor_of objects o).owner) (λ t. (w.known t).unfinished)
   pub lengths : LengthsFit (λ t. w.words (Length t)) (λ t. (w.known t).published) (λ t. (w.known t).log)
       (λ t. (w.known t).running) (λ t. (w.known t).requesting) (is_halted (w.words Safepoint))
-  pub claims : MonitorsAreClaimed w.shape.threads (length w.shape.objects) (w.words Claim) (inflated_to w)
-      (λ t. (w.known t).kept)
+  pub claims : MonitorsAreClaimed w.shape.threads (length w.shape.objects) (monitor_count w.shape) (ring_bits w.shape)
+      (w.words Claim) (w.words End) (λ p. w.words (Ring p)) (inflated_to w) (λ t. (w.known t).kept)
+      (λ t. (w.known t).moving)
+  pub moves : MovesFit (λ t. (w.known t).running) (λ t. (w.known t).reached) (λ t. (w.known t).moving)
   pub classes : ClassesFit w.biasing (λ c. w.words (Prototype c)) (λ c. w.words (Revocations c))
       (λ c. w.words (LastBulk c)) (marks w) (bulk_rebiases w.shape.threads (λ t. (w.known t).counts))
       (bulk_revokes w.shape.threads (λ t. (w.known t).counts))
@@ -125,6 +128,8 @@ pub record IsRevoking (w : World) (objects : List PlainObject) : Type 0 where
   pub biasing : w.biasing ≡ before.biasing
   pub requester : ℕ
   pub reached : (before.known requester).reached ≡ true
+  -- where it stood in the middle of nothing
+  pub was_calm : (before.known requester).stage ≡ Calm
   -- the operation that it works for
   pub revocation : Revocation
   pub its_revocation : revocation_in (w.known requester).stage ≡ Some revocation

@@ -33,6 +33,10 @@ pub enum Name {
     Header { monitor: u32 },
     /// The monitor's object.
     Object { monitor: u32 },
-    /// How many monitors have been claimed.
+    /// How many ring positions have been claimed, modulo 2^64: the next one to be claimed.
     Claim,
+    /// The ring position behind the last one at which a monitor stands, modulo 2^64.
+    End,
+    /// The monitor that stands at the ring's positions of this remainder.
+    Ring { place: u32 },
 }

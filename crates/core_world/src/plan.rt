@@ -27,8 +27,16 @@ pub enum Note {
 pub enum Own {
     /// Nothing.
     Same,
-    /// The number found is the monitor that it keeps from now on.
+    /// The number found is the ring position whose monitor it loads next.
+    Position,
+    /// The number found is the monitor that it keeps from now on, and it has loaded its position.
     Claim,
+    /// It gives this monitor back, which no mark names any more.
+    Unname {
+        monitor: u32,
+    },
+    /// The monitor that it gave back stands in the ring.
+    Enring,
     /// It keeps no monitor any more.
     Spend,
     /// The number found is the recursions that its wait saves.

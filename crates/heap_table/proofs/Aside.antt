@@ -1,5 +1,5 @@
 -- Steps that leave what a call takes of its thread's knowledge at its beginning: they log nothing, store none of its hold words nor its waiting word, and
--- keep nothing for themselves but verdicts.
+-- keep nothing for themselves but verdicts, and which monitor they give back.
 use Rattle.std.proofs.Common.{◌≡◌, ℕ, zero, suc, ◌+◌, ◌<◌, Bool, true, false, cond, if◌then◌else◌, Option, List, length, refl, sym, ap, ◌∙◌, subst}
 use Rattle.plain_monitor.specs.declared.entry.Logged.{Logged}
 use Rattle.core_world.specs.declared.act.Act.{Act}
@@ -26,9 +26,11 @@ leaves_own_words (name.Hold t p) (act.Store word) = false
 leaves_own_words (name.Waiting t) (act.Store word) = false
 leaves_own_words _ _ = true
 
--- it keeps nothing, or a verdict
+-- it keeps nothing, or a verdict, or gives a monitor back, which no call's beginning goes by
 abbrev pub keeps_aside : Own → Bool
 keeps_aside own.Same = true
+keeps_aside (own.Unname m) = true
+keeps_aside own.Enring = true
 keeps_aside (own.CountVerdict c v r) = true
 keeps_aside _ = false
 
@@ -69,7 +71,10 @@ same_wait _ _ k e = refl
 same_kept : (o : Own) (n : ℕ) (kept : Option ℕ) → keeps_aside o ≡ true → kept_after o n kept ≡ kept
 same_kept own.Same n kept e = refl
 same_kept (own.CountVerdict c v r) n kept e = refl
+same_kept own.Position n kept e = absurd (cc e)
 same_kept own.Claim n kept e = absurd (cc e)
+same_kept (own.Unname m) n kept e = refl
+same_kept own.Enring n kept e = refl
 same_kept own.Spend n kept e = absurd (cc e)
 same_kept own.Save n kept e = absurd (cc e)
 same_kept own.TakeShot n kept e = absurd (cc e)
@@ -77,7 +82,10 @@ same_kept own.TakeShot n kept e = absurd (cc e)
 same_saved : (o : Own) (n saved : ℕ) → keeps_aside o ≡ true → saved_after o n saved ≡ saved
 same_saved own.Same n saved e = refl
 same_saved (own.CountVerdict c v r) n saved e = refl
+same_saved own.Position n saved e = absurd (cc e)
 same_saved own.Claim n saved e = absurd (cc e)
+same_saved (own.Unname m) n saved e = refl
+same_saved own.Enring n saved e = refl
 same_saved own.Spend n saved e = absurd (cc e)
 same_saved own.Save n saved e = absurd (cc e)
 same_saved own.TakeShot n saved e = absurd (cc e)
@@ -85,7 +93,10 @@ same_saved own.TakeShot n saved e = absurd (cc e)
 same_shots : (o : Own) (s : Shape) (k : Known) → keeps_aside o ≡ true → shots_after o s k ≡ k.shots
 same_shots own.Same s k e = refl
 same_shots (own.CountVerdict c v r) s k e = refl
+same_shots own.Position s k e = absurd (cc e)
 same_shots own.Claim s k e = absurd (cc e)
+same_shots (own.Unname m) s k e = refl
+same_shots own.Enring s k e = refl
 same_shots own.Spend s k e = absurd (cc e)
 same_shots own.Save s k e = absurd (cc e)
 same_shots own.TakeShot s k e = absurd (cc e)

@@ -87,6 +87,8 @@ known_stand a c word k s r q e h = same a c word k ∙ ap (stand_after a c word 
     same (name.Header x) c word k = refl
     same (name.Object x) c word k = refl
     same name.Claim c word k = refl
+    same name.End c word k = refl
+    same (name.Ring x) c word k = refl
 
 most_draws : (e : Entry) (draws : ℕ) → draws_after (Log e) draws ≤ draws + 1
 most_draws (entry.Hash o value (Some number)) draws = omega arith
@@ -111,7 +113,10 @@ shots_follow : (o : Own) (s : Shape) (k : Known) (taken : List DumpShot) (cut : 
     → shots_after o s k ≡ taken_after o taken cut cells
 shots_follow own.TakeShot s k taken cut cells e d = λ i. e i ++ record { number = length (e i) + 1; cut = sym d.0 i; cells = sym d.1 i } ∷ []
 shots_follow own.Same s k taken cut cells e d = e
+shots_follow own.Position s k taken cut cells e d = e
 shots_follow own.Claim s k taken cut cells e d = e
+shots_follow (own.Unname m) s k taken cut cells e d = e
+shots_follow own.Enring s k taken cut cells e d = e
 shots_follow own.Spend s k taken cut cells e d = e
 shots_follow own.Save s k taken cut cells e d = e
 shots_follow (own.CountVerdict class verdict reset) s k taken cut cells e d = e

@@ -1,4 +1,5 @@
 pub mod Places
+pub mod RingPlaces
 pub mod Lawful
 pub mod Knows
 pub mod Allowed

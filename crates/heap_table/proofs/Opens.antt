@@ -1,16 +1,17 @@
 -- The world at the start is sound, and the first seat knows all of it.
-use Rattle.std.proofs.Common.{◌≡◌, ◌≢◌, ℕ, zero, suc, ◌+◌, ◌*◌, ◌-◌, ◌<◌, ◌≤◌, Bool, List, [], ◌∷◌, ◌++◌, length, get_or, refl, sym, ap, ◌∙◌, subst, arith, add-one, append-nil}
+use Rattle.std.proofs.Common.{◌≡◌, ◌≢◌, ℕ, zero, suc, ◌+◌, ◌*◌, ◌-◌, ◌<◌, ◌≤◌, Bool, List, [], ◌∷◌, ◌++◌, length, get_or, refl, sym, ap, ◌∙◌, subst, arith, inl, inr, add-one, append-nil}
 use Rattle.std.proofs.Math.Nat.{mul-suc}
 use Rattle.std.specs.Prelude.{All, map, slice_index, replicate}
 use Rattle.std.specs.List.{AllByRecursion}
+use Rattle.std.proofs.lemmas.Bool.{cases_lt}
 use Rattle.std.proofs.lemmas.List.{get_or-replicate}
 use mathlib.Core.Option.{some, some-injective, some-ne-none}
 use lib.ListN.{get_elem?}
 use Rattle.atomic_table.specs.Table.{Me, opening as opening_state}
 use Rattle.core_world.specs.declared.name.Name.{Name}
-use Rattle.core_world.specs.declared.name.Name.TheVariants.{Safepoint, Prototype, Revocations, LastBulk, Mark, Stamp, Slot, Hold, Displaced, Waiting, Length, Owner, Recursions, Header, Object, Claim}
+use Rattle.core_world.specs.declared.name.Name.TheVariants.{Safepoint, Prototype, Revocations, LastBulk, Mark, Stamp, Slot, Hold, Displaced, Waiting, Length, Owner, Recursions, Header, Object, Claim, End, Ring}
 use Rattle.core_world.specs.Opening.{first_mark, first_word, first_known, opening}
-use Rattle.core_world.specs.Words.Shape.{Shape, IsInLimits}
+use Rattle.core_world.specs.Words.Shape.{Shape, IsInLimits, ring_places}
 use Rattle.core_world.specs.World.{World}
 use Rattle.core_law.specs.HeapLaw.{HeapLaw}
 use Rattle.core_law.specs.Logic.{Heap}
@@ -20,7 +21,7 @@ use Rattle.heap_table.specs.Layout.{place_of, word_count}
 use Rattle.core_world.specs.Threads.Known.{Known}
 use Rattle.heap_table.specs.Fresh.{IsFresh}
 use Rattle.heap_table.specs.inner.Firsts.{first_knowns}
-use Rattle.heap_table.specs.inner.Openings.{copies, spread, object_words, opening_groups}
+use Rattle.heap_table.specs.inner.Openings.{copies, spread, object_words, opening_groups, numbers, opening_words}
 use Rattle.heap_table.specs.Kept.{Follows}
 use Rattle.heap_table.specs.declared.mirror.Mirror.{Mirror}
 use Rattle.heap_table.specs.Ruled.{heap_in, only}
@@ -72,25 +73,50 @@ length_copies : (n : ℕ) (g : List ℕ) → length (copies n g) ≡ length g * 
 length_copies zero g = let e : length g * 0 ≡ 0 = omega arith in sym e
 length_copies (suc n) g = let a = length_append g (copies n g) in let b = length_copies n g in let d : length g * suc n ≡ length g * n + length g = mul-suc (length g) n in omega (arith, a, b, d)
 
-in_run : (k : ℕ) (rs : List (ℕ × List ℕ)) (a i at : ℕ) → at ≡ begins k rs + (length (run k rs).1 * a + i) → a < (run k rs).0 → i < length (run k rs).1
-    → get_or (spread rs) at 0 ≡ get_or (run k rs).1 i 0
-in_run zero [] a i at e h l = absurd (omega (arith, h))
-in_run (suc k) [] a i at e h l = absurd (omega (arith, h))
-in_run zero (r ∷ rs) a i at e h l = in_copies r.0 r.1 (spread rs) a i at (omega (arith, e)) h l
-in_run (suc k) (r ∷ rs) a i at e h l =
+in_run : (k : ℕ) (rs : List (ℕ × List ℕ)) (ws : List ℕ) (a i at : ℕ) → at ≡ begins k rs + (length (run k rs).1 * a + i) → a < (run k rs).0 → i < length (run k rs).1
+    → get_or (spread rs ws) at 0 ≡ get_or (run k rs).1 i 0
+in_run zero [] ws a i at e h l = absurd (omega (arith, h))
+in_run (suc k) [] ws a i at e h l = absurd (omega (arith, h))
+in_run zero (r ∷ rs) ws a i at e h l = in_copies r.0 r.1 (spread rs ws) a i at (omega (arith, e)) h l
+in_run (suc k) (r ∷ rs) ws a i at e h l =
     let w = length_copies r.0 r.1 in
-    behind (copies r.0 r.1) (spread rs) at (begins k rs + (length (run k rs).1 * a + i)) (omega (arith, e, w)) ∙ in_run k rs a i (begins k rs + (length (run k rs).1 * a + i)) refl h l
+    behind (copies r.0 r.1) (spread rs ws) at (begins k rs + (length (run k rs).1 * a + i)) (omega (arith, e, w)) ∙ in_run k rs ws a i (begins k rs + (length (run k rs).1 * a + i)) refl h l
 
 found : (s : Shape) (biasing : Bool) (k a i at : ℕ) → at ≡ begins k (opening_groups s biasing) + (length (run k (opening_groups s biasing)).1 * a + i)
-    → a < (run k (opening_groups s biasing)).0 → i < length (run k (opening_groups s biasing)).1 → get_or (spread (opening_groups s biasing)) at 0 ≡ get_or (run k (opening_groups s biasing)).1 i 0
-found s biasing k a i at e h l = in_run k (opening_groups s biasing) a i at e h l
+    → a < (run k (opening_groups s biasing)).0 → i < length (run k (opening_groups s biasing)).1 → get_or (opening_words s biasing) at 0 ≡ get_or (run k (opening_groups s biasing)).1 i 0
+found s biasing k a i at e h l = in_run k (opening_groups s biasing) (numbers (ring_places s)) a i at e h l
+
+abbrev total : List (ℕ × List ℕ) → ℕ
+total [] = 0
+total (r ∷ rs) = length r.1 * r.0 + total rs
+
+-- behind the groups
+in_rest : (rs : List (ℕ × List ℕ)) (ws : List ℕ) (i at : ℕ) → at ≡ total rs + i → get_or (spread rs ws) at 0 ≡ get_or ws i 0
+in_rest [] ws i at e = let same : at ≡ i = omega (arith, e) in ap (λ (x : ℕ). get_or ws x 0) same
+in_rest (r ∷ rs) ws i at e =
+    let w = length_copies r.0 r.1 in
+    behind (copies r.0 r.1) (spread rs ws) at (total rs + i) (omega (arith, e, w)) ∙ in_rest rs ws i (total rs + i) refl
+
+length_numbers : (n : ℕ) → length (numbers n) ≡ n
+length_numbers zero = refl
+length_numbers (suc n) = let a = length_append (numbers n) (n ∷ []) in let h = length_numbers n in omega (arith, a, h)
+
+in_numbers : (n i : ℕ) → i < n → get_or (numbers n) i 0 ≡ i
+in_numbers zero i h = absurd (omega (arith, h))
+in_numbers (suc n) i h =
+    let long = length_numbers n in
+    elim (cases_lt i n) [
+      | inl low ↦ in_front (numbers n) (n ∷ []) i (omega (arith, long, low)) ∙ in_numbers n i low
+      | inr top ↦ let last : n ≡ i = omega (arith, h, top) in behind (numbers n) (n ∷ []) i 0 (omega (arith, long, last)) ∙ last
+    ]
 
 slot_word : (mark i : ℕ) → i < 16 → get_or (object_words mark) (2 + i) 0 ≡ 9223372036854775809
 slot_word mark i h = behind (mark ∷ 0 ∷ []) (replicate 16 9223372036854775809 ++ replicate 14 0) (2 + i) i (omega arith) ∙ in_front (replicate 16 9223372036854775809) (replicate 14 0) i h ∙ get_or-replicate 16 i 9223372036854775809 0 h
 
-words_at : (s : Shape) (biasing : Bool) (n : Name) → IsIn s n → get_or (spread (opening_groups s biasing)) (place_of s n) 0 ≡ first_word biasing n
+words_at : (s : Shape) (biasing : Bool) (n : Name) → IsIn s n → get_or (opening_words s biasing) (place_of s n) 0 ≡ first_word s biasing n
 words_at s biasing Safepoint h = found s biasing 0 0 0 (place_of s Safepoint) (omega arith) (omega arith) (omega arith)
-words_at s biasing Claim h = found s biasing 0 8 0 (place_of s Claim) (omega arith) (omega arith) (omega arith)
+words_at s biasing Claim h = found s biasing 0 0 8 (place_of s Claim) (omega arith) (omega arith) (omega arith)
+words_at s biasing End h = found s biasing 0 0 7 (place_of s End) (omega arith) (omega arith) (omega arith)
 words_at s biasing (Prototype c) h = found s biasing 1 c 0 (place_of s (Prototype c)) (omega arith) h (omega arith)
 words_at s biasing (Revocations c) h = found s biasing 1 c 1 (place_of s (Revocations c)) (omega arith) h (omega arith)
 words_at s biasing (LastBulk c) h = found s biasing 1 c 2 (place_of s (LastBulk c)) (omega arith) h (omega arith)
@@ -105,23 +131,25 @@ words_at s biasing (Owner m) h = found s biasing 3 (144 * s.threads + 16 * m) 0 
 words_at s biasing (Recursions m) h = found s biasing 3 (144 * s.threads + 16 * m + 1) 0 (place_of s (Recursions m)) (omega arith) (omega (arith, h)) (omega arith)
 words_at s biasing (Header m) h = found s biasing 3 (144 * s.threads + 16 * m + 2) 0 (place_of s (Header m)) (omega arith) (omega (arith, h)) (omega arith)
 words_at s biasing (Object m) h = found s biasing 3 (144 * s.threads + 16 * m + 3) 0 (place_of s (Object m)) (omega arith) (omega (arith, h)) (omega arith)
+words_at s biasing (Ring p) h = in_rest (opening_groups s biasing) (numbers (ring_places s)) p (place_of s (Ring p)) (omega arith) ∙ in_numbers (ring_places s) p h
 
-abbrev total : List (ℕ × List ℕ) → ℕ
-total [] = 0
-total (r ∷ rs) = length r.1 * r.0 + total rs
+wide_as : (rs : List (ℕ × List ℕ)) (ws : List ℕ) → length (spread rs ws) ≡ total rs + length ws
+wide_as [] ws = omega arith
+wide_as (r ∷ rs) ws = let a = length_append (copies r.0 r.1) (spread rs ws) in let b = length_copies r.0 r.1 in let c = wide_as rs ws in omega (arith, a, b, c)
 
-wide_as : (rs : List (ℕ × List ℕ)) → length (spread rs) ≡ total rs
-wide_as [] = refl
-wide_as (r ∷ rs) = let a = length_append (copies r.0 r.1) (spread rs) in let b = length_copies r.0 r.1 in let c = wide_as rs in omega (arith, a, b, c)
+pub opening_count : (s : Shape) (biasing : Bool) (ws : List ℕ) → ws ≡ opening_words s biasing → length ws ≡ word_count s
+opening_count s biasing ws e =
+    let h = wide_as (opening_groups s biasing) (numbers (ring_places s)) in
+    let n = length_numbers (ring_places s) in
+    let g : length ws ≡ length (spread (opening_groups s biasing) (numbers (ring_places s))) = ap length e in omega (arith, h, n, g)
 
-pub opening_count : (s : Shape) (biasing : Bool) (ws : List ℕ) → ws ≡ spread (opening_groups s biasing) → length ws ≡ word_count s
-opening_count s biasing ws e = let h = wide_as (opening_groups s biasing) in let g : length ws ≡ length (spread (opening_groups s biasing)) = ap length e in omega (arith, h, g)
-
--- four kinds of group that were put behind one another
-pub chained : (w x y z v a b c d : List ℕ) → w ≡ [] → x ≡ w ++ a → y ≡ x ++ b → z ≡ y ++ c → v ≡ z ++ d → v ≡ a ++ (b ++ (c ++ (d ++ [])))
-chained w x y z v a b c d e f g h i =
-    i ∙ (λ j. (h ∙ (λ k. (g ∙ (λ l. (f ∙ (λ m. e m ++ a)) l ++ b)) k ++ c)) j ++ d) ∙ append_append (a ++ b) c d ∙ append_append a b (c ++ d)
-    ∙ ap (λ (u : List ℕ). a ++ (b ++ (c ++ u))) (sym (append-nil d))
+-- four kinds of group that were put behind one another, and the ring behind them
+pub chained : (w x y z v u a b c d r : List ℕ) → w ≡ [] → x ≡ w ++ a → y ≡ x ++ b → z ≡ y ++ c → v ≡ z ++ d → u ≡ v ++ r → u ≡ a ++ (b ++ (c ++ (d ++ r)))
+chained w x y z v u a b c d r e f g h i j =
+    let groups : v ≡ a ++ (b ++ (c ++ d)) =
+    i ∙ (λ k. (h ∙ (λ l. (g ∙ (λ m. (f ∙ (λ n. e n ++ a)) m ++ b)) l ++ c)) k ++ d) ∙ append_append (a ++ b) c d ∙ append_append a b (c ++ d) in
+    j ∙ ap (λ (l : List ℕ). l ++ r) groups ∙ append_append a (b ++ (c ++ d)) r ∙ ap (λ (l : List ℕ). a ++ l) (append_append b (c ++ d) r)
+    ∙ ap (λ (l : List ℕ). a ++ (b ++ l)) (append_append c d r)
 
 -- the objects of a shape that is made are in its limits
 pub each_fits : (slots classes : List ℕ) → All (λ n. n ≤ 16) slots → All (λ c. c < length slots) classes
@@ -158,7 +186,7 @@ knowns_differ t (suc n) = (knowns_above t (suc t) n (omega arith), knowns_differ
 abbrev first_of : Heap → World
 first_of b = opening b.shape b.start b.biasing
 
-pub opens : {S : Type 0} (b : Setting) (ws : List ℕ) → HeapLaw (heap_in b) → ws ≡ spread (opening_groups b.shape b.biasing) → Ruled {S = S} b (opening_state ws [] (first_knowns 0 b.shape.threads))
+pub opens : {S : Type 0} (b : Setting) (ws : List ℕ) → HeapLaw (heap_in b) → ws ≡ opening_words b.shape b.biasing → Ruled {S = S} b (opening_state ws [] (first_knowns 0 b.shape.threads))
 opens {S} b ws law e = (
   first_of (heap_in b),
   nobody_else,
@@ -193,6 +221,10 @@ others_next t n v h e = ap others (e ∙ knowns_next t n h) ∙ rw (add-one t) r
 copies_more : (n : ℕ) (g : List ℕ) → copies n g ++ g ≡ copies (suc n) g
 copies_more zero g = sym (append-nil g)
 copies_more (suc n) g = append_append g (copies n g) g ∙ ap (λ (l : List ℕ). g ++ l) (copies_more n g)
+
+-- one more number behind those that were put there
+pub numbers_more : (ws xs : List ℕ) (n : ℕ) → ws ≡ xs ++ numbers n → ws ++ n ∷ [] ≡ xs ++ numbers (n + 1)
+numbers_more ws xs n e = ap (λ (l : List ℕ). l ++ n ∷ []) e ∙ append_append xs (numbers n) (n ∷ []) ∙ ap (λ (k : ℕ). xs ++ numbers k) (sym (add-one n))
 
 -- one more copy behind those that were put there
 pub one_more : (ws xs g : List ℕ) (n : ℕ) → ws ≡ xs ++ copies n g → ws ++ g ≡ xs ++ copies (n + 1) g

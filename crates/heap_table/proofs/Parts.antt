@@ -22,7 +22,10 @@ use Rattle.heap_table.specs.Stepping.{CanStep, HasStepped}
 undrafted : (o : Own) (s : Shape) (k : Known) (p : PassSeen) → is_shot o ≡ false → IsDrafted o s k p.cut p.cells
 undrafted own.TakeShot s k p e = absurd (cc e)
 undrafted own.Same s k p e = tt
+undrafted own.Position s k p e = tt
 undrafted own.Claim s k p e = tt
+undrafted (own.Unname m) s k p e = tt
+undrafted own.Enring s k p e = tt
 undrafted own.Spend s k p e = tt
 undrafted own.Save s k p e = tt
 undrafted (own.CountVerdict c v r) s k p e = tt
@@ -30,7 +33,10 @@ undrafted (own.CountVerdict c v r) s k p e = tt
 draft_stays : (o : Own) (p q : PassSeen) → is_shot o ≡ false → IsLeft o p.cut p.cells q.cut q.cells → (q.cut ≡ p.cut) × (q.cells ≡ p.cells)
 draft_stays own.TakeShot p q e h = absurd (cc e)
 draft_stays own.Same p q e h = h
+draft_stays own.Position p q e h = h
 draft_stays own.Claim p q e h = h
+draft_stays (own.Unname m) p q e h = h
+draft_stays own.Enring p q e h = h
 draft_stays own.Spend p q e h = h
 draft_stays own.Save p q e h = h
 draft_stays (own.CountVerdict c v r) p q e h = h

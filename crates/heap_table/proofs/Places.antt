@@ -1,18 +1,19 @@
 -- No two names have one place.
 use Rattle.std.proofs.Common.{◌≡◌, ◌⊎◌, ℕ, zero, suc, ◌+◌, ◌-◌, ◌*◌, ◌<◌, ◌≤◌, ◌==◌, ◌&&◌, nat_lt, List, [], ◌∷◌, true, false, cond, if◌then◌else◌, true≢false, eq-eqb, inl, inr, ⊎_elim, ◌≢◌, refl, sym, ap, ◌∙◌, subst, arith}
 use Rattle.core_world.specs.declared.name.Name.{Name}
-use Rattle.core_world.specs.declared.name.Name.TheVariants.{Safepoint, Prototype, Revocations, LastBulk, Mark, Stamp, Slot, Hold, Displaced, Waiting, Length, Owner, Recursions, Header, Object, Claim}
+use Rattle.core_world.specs.declared.name.Name.TheVariants.{Safepoint, Prototype, Revocations, LastBulk, Mark, Stamp, Slot, Hold, Displaced, Waiting, Length, Owner, Recursions, Header, Object, Claim, End, Ring}
 use Rattle.core_world.specs.Words.Names.{kind_of, first_index, second_index, same_name}
-use Rattle.core_world.specs.Words.Shape.{Shape}
+use Rattle.core_world.specs.Words.Shape.{Shape, ring_places}
 use Rattle.core_world.proofs.Naming.{same_named}
 use Rattle.core_world.specs.There.{IsIn}
-use Rattle.heap_table.specs.Layout.{group, many, place_of, word_count}
+use Rattle.heap_table.specs.Layout.{group, number, many, place_of, word_count}
 use Rattle.heap_table.specs.inner.Layout.{IsPlaced}
 
--- where it lies in its group
+-- where it lies in its group; here each place of the ring is a group of one word
 abbrev pub offset : Name → ℕ
 offset Safepoint = 0
 offset Claim = 8
+offset End = 7
 offset (Prototype c) = 0
 offset (Revocations c) = 1
 offset (LastBulk c) = 2
@@ -27,14 +28,20 @@ offset (Owner m) = 0
 offset (Recursions m) = 1
 offset (Header m) = 2
 offset (Object m) = 3
+offset (Ring p) = 0
 
 -- how many words a group of each kind has
 abbrev width : ℕ → ℕ
-width g = if g == 2 then 32 else if g == 3 then 144 else 16
+width g = if g == 2 then 32 else if g == 3 then 144 else if g == 5 then 1 else 16
+
+-- how many words its group has at least from it on
+abbrev room : Name → ℕ
+room (Ring p) = 1
+room _ = 8
 
 -- how many words all groups of each kind have
 abbrev pub sizes : Shape → List ℕ
-sizes s = 16 ∷ (16 * s.classes) ∷ (32 * many s) ∷ (144 * s.threads) ∷ (16 * (many s + s.threads)) ∷ []
+sizes s = 16 ∷ (16 * s.classes) ∷ (32 * many s) ∷ (144 * s.threads) ∷ (16 * (many s + s.threads)) ∷ ring_places s ∷ []
 
 abbrev pub before : ℕ → List ℕ → ℕ
 before zero xs = 0
@@ -47,16 +54,17 @@ rising [] a (suc b) h = omega arith
 rising (x ∷ xs) zero (suc b) h = omega arith
 rising (x ∷ xs) (suc a) (suc b) h = let r = rising xs a b (omega (arith, h)) in omega (arith, r)
 
--- a word lies within the groups of its kind, and not in the last 8 words of its group but for the first of these
+-- a word lies within the groups of its kind, and outside the ring not in the last 8 words of its group but for the first of these
 record Lies (s : Shape) (n : Name) : Type 0 where
   from : before (group n) (sizes s) ≤ place_of s n
-  to : place_of s n + 8 ≤ before (suc (group n)) (sizes s)
+  to : place_of s n + room n ≤ before (suc (group n)) (sizes s)
   at : place_of s n ≡ before (group n) (sizes s) + (width (group n) * first_index n + offset n)
-  low : offset n + 8 ≤ width (group n)
+  low : offset n + room n ≤ width (group n)
 
 lies : (s : Shape) (n : Name) → IsIn s n → Lies s n
 lies s Safepoint h = record { from = omega arith; to = omega arith; at = omega arith; low = omega arith }
 lies s Claim h = record { from = omega arith; to = omega arith; at = omega arith; low = omega arith }
+lies s End h = record { from = omega arith; to = omega arith; at = omega arith; low = omega arith }
 lies s (Prototype c) h = record { from = omega (arith, h); to = omega (arith, h); at = omega arith; low = omega arith }
 lies s (Revocations c) h = record { from = omega (arith, h); to = omega (arith, h); at = omega arith; low = omega arith }
 lies s (LastBulk c) h = record { from = omega (arith, h); to = omega (arith, h); at = omega arith; low = omega arith }
@@ -71,10 +79,30 @@ lies s (Owner m) h = record { from = omega (arith, h); to = omega (arith, h); at
 lies s (Recursions m) h = record { from = omega (arith, h); to = omega (arith, h); at = omega arith; low = omega arith }
 lies s (Header m) h = record { from = omega (arith, h); to = omega (arith, h); at = omega arith; low = omega arith }
 lies s (Object m) h = record { from = omega (arith, h); to = omega (arith, h); at = omega arith; low = omega arith }
+lies s (Ring p) h = record { from = omega (arith, h); to = omega (arith, h); at = omega arith; low = omega arith }
 
-few_groups : (n : Name) → group n ≤ 4
+some_room : (n : Name) → 1 ≤ room n
+some_room (Ring p) = omega arith
+some_room _ = omega arith
+
+-- but for the words of the ring
+much_room : (n : Name) → group n < 5 → room n ≡ 8
+much_room (Ring p) h = absurd (omega (arith, h))
+much_room _ h = refl
+
+number_is : (n : Name) → group n < 5 → number n ≡ first_index n
+number_is (Ring p) h = absurd (omega (arith, h))
+number_is _ h = refl
+
+-- there is one ring
+one_ring : (n : Name) → 0 < number n → group n < 5
+one_ring (Ring p) h = absurd (omega (arith, h))
+one_ring _ h = omega arith
+
+few_groups : (n : Name) → group n ≤ 5
 few_groups Safepoint = omega arith
 few_groups Claim = omega arith
+few_groups End = omega arith
 few_groups (Prototype c) = omega arith
 few_groups (Revocations c) = omega arith
 few_groups (LastBulk c) = omega arith
@@ -89,25 +117,28 @@ few_groups (Owner m) = omega arith
 few_groups (Recursions m) = omega arith
 few_groups (Header m) = omega arith
 few_groups (Object m) = omega arith
+few_groups (Ring p) = omega arith
 
-all_before : (s : Shape) → before 5 (sizes s) ≡ word_count s
+all_before : (s : Shape) → before 6 (sizes s) ≡ word_count s
 all_before s = omega arith
 
 pub within : (s : Shape) (n : Name) → IsIn s n → place_of s n < word_count s
 within s n h =
     let a = lies s n h in
-    let b = rising (sizes s) (group n) 5 (let f = few_groups n in omega (arith, f)) in
+    let b = rising (sizes s) (group n) 6 (let f = few_groups n in omega (arith, f)) in
     let c = all_before s in
-    omega (arith, a.to, b, c)
+    let some = some_room n in
+    omega (arith, a.to, b, c, some)
 
 -- the kind of a word, and its second number, by where it lies in its group
 abbrev kind_in : ℕ → ℕ → ℕ
 kind_in g i =
-    if g == 0 then cond (i == 0) 0 15
+    if g == 0 then cond (i == 0) 0 (cond (i == 8) 15 16)
     else if g == 1 then 1 + i
     else if g == 2 then cond (i == 0) 4 (cond (i == 1) 5 6)
     else if g == 3 then cond (nat_lt i 64) 7 (cond (nat_lt i 128) 8 (cond (i == 128) 10 9))
-    else 11 + i
+    else if g == 4 then 11 + i
+    else 17
 
 abbrev second_in : ℕ → ℕ → ℕ
 second_in g i = if g == 2 then i - 2 else if g == 3 then cond (nat_lt i 64) i (cond (nat_lt i 128) (i - 64) 0) else 0
@@ -128,6 +159,7 @@ record Told (n : Name) : Type 0 where
 told : (s : Shape) (n : Name) → IsIn s n → Told n
 told s Safepoint h = record { kind_is = refl; second_is = refl }
 told s Claim h = record { kind_is = refl; second_is = refl }
+told s End h = record { kind_is = refl; second_is = refl }
 told s (Prototype c) h = record { kind_is = refl; second_is = refl }
 told s (Revocations c) h = record { kind_is = refl; second_is = refl }
 told s (LastBulk c) h = record { kind_is = refl; second_is = refl }
@@ -154,39 +186,48 @@ told s (Owner m) h = record { kind_is = refl; second_is = refl }
 told s (Recursions m) h = record { kind_is = refl; second_is = refl }
 told s (Header m) h = record { kind_is = refl; second_is = refl }
 told s (Object m) h = record { kind_is = refl; second_is = refl }
+told s (Ring p) h = record { kind_is = refl; second_is = refl }
 
-widths : (n : Name) → (width (group n) ≡ 16) ⊎ (width (group n) ≡ 32) ⊎ (width (group n) ≡ 144)
+abbrev IsWidth : ℕ → Type 0
+IsWidth d = (d ≡ 16) ⊎ (d ≡ 32) ⊎ (d ≡ 144) ⊎ (d ≡ 1)
+
+widths : (n : Name) → IsWidth (width (group n))
 widths Safepoint = inl refl
 widths Claim = inl refl
+widths End = inl refl
 widths (Prototype c) = inl refl
 widths (Revocations c) = inl refl
 widths (LastBulk c) = inl refl
 widths (Mark o) = inr (inl refl)
 widths (Stamp o) = inr (inl refl)
 widths (Slot o i) = inr (inl refl)
-widths (Hold t p) = inr (inr refl)
-widths (Displaced t p) = inr (inr refl)
-widths (Waiting t) = inr (inr refl)
-widths (Length t) = inr (inr refl)
+widths (Hold t p) = inr (inr (inl refl))
+widths (Displaced t p) = inr (inr (inl refl))
+widths (Waiting t) = inr (inr (inl refl))
+widths (Length t) = inr (inr (inl refl))
 widths (Owner m) = inl refl
 widths (Recursions m) = inl refl
 widths (Header m) = inl refl
 widths (Object m) = inl refl
+widths (Ring p) = inr (inr (inr refl))
 
 abbrev Parts : ℕ → ℕ → ℕ → ℕ → ℕ → Type 0
 Parts d a i b j = i < d → j < d → d * a + i ≡ d * b + j → (a ≡ b) × (i ≡ j)
 
-parts : (d a i b j : ℕ) → (d ≡ 16) ⊎ (d ≡ 32) ⊎ (d ≡ 144) → Parts d a i b j
+parts : (d a i b j : ℕ) → IsWidth d → Parts d a i b j
 parts d a i b j (inl e) = subst (λ (x : ℕ). Parts x a i b j) (sym e) (λ p q h. (omega (arith, p, q, h), omega (arith, p, q, h)))
 parts d a i b j (inr (inl e)) = subst (λ (x : ℕ). Parts x a i b j) (sym e) (λ p q h. (omega (arith, p, q, h), omega (arith, p, q, h)))
-parts d a i b j (inr (inr e)) = subst (λ (x : ℕ). Parts x a i b j) (sym e) (λ p q h. (omega (arith, p, q, h), omega (arith, p, q, h)))
+parts d a i b j (inr (inr (inl e))) = subst (λ (x : ℕ). Parts x a i b j) (sym e) (λ p q h. (omega (arith, p, q, h), omega (arith, p, q, h)))
+parts d a i b j (inr (inr (inr e))) = subst (λ (x : ℕ). Parts x a i b j) (sym e) (λ p q h. (omega (arith, p, q, h), omega (arith, p, q, h)))
 
 one_group : (s : Shape) (m n : Name) → IsIn s m → IsIn s n → place_of s m ≡ place_of s n → group m ≡ group n
 one_group s m n h g e =
     let a = lies s m h in
     let b = lies s n g in
-    let up : group m < group n → ⊥ = λ lt. let r = rising (sizes s) (group m) (group n) lt in omega (arith, r, a.to, b.from, e) in
-    let down : group n < group m → ⊥ = λ lt. let r = rising (sizes s) (group n) (group m) lt in omega (arith, r, b.to, a.from, e) in
+    let some = some_room m in
+    let too = some_room n in
+    let up : group m < group n → ⊥ = λ lt. let r = rising (sizes s) (group m) (group n) lt in omega (arith, r, a.to, b.from, some, e) in
+    let down : group n < group m → ⊥ = λ lt. let r = rising (sizes s) (group n) (group m) lt in omega (arith, r, b.to, a.from, too, e) in
     grind (arith, up, down)
 
 pub same_place : (s : Shape) (m n : Name) → IsIn s m → IsIn s n → place_of s m ≡ place_of s n → same_name m n ≡ true
@@ -199,7 +240,9 @@ same_place s m n h g e =
     let wide : width (group m) ≡ width (group n) = ap width k in
     let low : before (group m) (sizes s) ≡ before (group n) (sizes s) = ap (λ (x : ℕ). before x (sizes s)) k in
     let at : place_of s n ≡ before (group n) (sizes s) + (width (group m) * first_index n + offset n) = b.at ∙ ap (λ (x : ℕ). before (group n) (sizes s) + (x * first_index n + offset n)) (sym wide) in
-    let x = parts (width (group m)) (first_index m) (offset m) (first_index n) (offset n) (widths m) (omega (arith, a.low)) (omega (arith, b.low, wide)) (omega (arith, a.at, at, low, e)) in
+    let some = some_room m in
+    let too = some_room n in
+    let x = parts (width (group m)) (first_index m) (offset m) (first_index n) (offset n) (widths m) (omega (arith, a.low, some)) (omega (arith, b.low, too, wide)) (omega (arith, a.at, at, low, e)) in
     let f : (kind_of m == kind_of n) ≡ true = eq-eqb _ _ (c.kind_is ∙ (λ i. kind_in (k i) (x.1 i)) ∙ sym d.kind_is) in
     let t : (second_index m == second_index n) ≡ true = eq-eqb _ _ (c.second_is ∙ (λ i. second_in (k i) (x.1 i)) ∙ sym d.second_is) in
     let u : (first_index m == first_index n) ≡ true = eq-eqb _ _ x.0 in
@@ -208,20 +251,32 @@ same_place s m n h g e =
 abbrev Far : ℕ → ℕ → ℕ → ℕ → ℕ → Type 0
 Far d a i b j = i + 8 ≤ d → a < b → d * a + i + 8 ≤ d * b + j
 
-far : (d a i b j : ℕ) → (d ≡ 16) ⊎ (d ≡ 32) ⊎ (d ≡ 144) → Far d a i b j
+far : (d a i b j : ℕ) → IsWidth d → Far d a i b j
 far d a i b j (inl e) = subst (λ (x : ℕ). Far x a i b j) (sym e) (λ p h. omega (arith, p, h))
 far d a i b j (inr (inl e)) = subst (λ (x : ℕ). Far x a i b j) (sym e) (λ p h. omega (arith, p, h))
-far d a i b j (inr (inr e)) = subst (λ (x : ℕ). Far x a i b j) (sym e) (λ p h. omega (arith, p, h))
+far d a i b j (inr (inr (inl e))) = subst (λ (x : ℕ). Far x a i b j) (sym e) (λ p h. omega (arith, p, h))
+far d a i b j (inr (inr (inr e))) = subst (λ (x : ℕ). Far x a i b j) (sym e) (λ p h. omega (arith, p, h))
 
 -- the words of a group lie 8 words or more before those of a later one
-before_by_8 : (s : Shape) (m n : Name) → IsIn s m → IsIn s n → (group m < group n) ⊎ ((group m ≡ group n) × (first_index m < first_index n)) → place_of s m + 8 ≤ place_of s n
-before_by_8 s m n h g (inl lt) = let a = lies s m h in let b = lies s n g in let r = rising (sizes s) (group m) (group n) lt in omega (arith, r, a.to, b.from)
+before_by_8 : (s : Shape) (m n : Name) → IsIn s m → IsIn s n → (group m < group n) ⊎ ((group m ≡ group n) × (number m < number n)) → place_of s m + 8 ≤ place_of s n
+before_by_8 s m n h g (inl lt) =
+    let a = lies s m h in
+    let b = lies s n g in
+    let few = few_groups n in
+    let much = much_room m (omega (arith, few, lt)) in
+    let r = rising (sizes s) (group m) (group n) lt in omega (arith, r, a.to, b.from, much)
 before_by_8 s m n h g (inr (k, lt)) =
     let a = lies s m h in
     let b = lies s n g in
     let low : before (group m) (sizes s) ≡ before (group n) (sizes s) = ap (λ (x : ℕ). before x (sizes s)) k in
     let at : place_of s n ≡ before (group n) (sizes s) + (width (group m) * first_index n + offset n) = b.at ∙ ap (λ (x : ℕ). before (group n) (sizes s) + (width x * first_index n + offset n)) (sym k) in
-    let r = far (width (group m)) (first_index m) (offset m) (first_index n) (offset n) (widths m) a.low lt in omega (arith, a.at, at, low, r)
+    let no_ring : group n < 5 = one_ring n (omega (arith, lt)) in
+    let nor_there : group m < 5 = omega (arith, k, no_ring) in
+    let much = much_room m nor_there in
+    let first = number_is m nor_there in
+    let second = number_is n no_ring in
+    let r = far (width (group m)) (first_index m) (offset m) (first_index n) (offset n) (widths m) (omega (arith, a.low, much)) (omega (arith, lt, first, second)) in
+    omega (arith, a.at, at, low, r)
 
 order : (a b : ℕ) → (a < b) ⊎ (b < a) ⊎ (a ≡ b)
 order zero zero = inr (inr refl)
@@ -229,16 +284,16 @@ order zero (suc b) = inl (omega arith)
 order (suc a) zero = inr (inl (omega arith))
 order (suc a) (suc b) = elim (order a b) [ inl h ↦ inl (omega (arith, h)) | inr r ↦ elim r [ inl h ↦ inr (inl (omega (arith, h))) | inr e ↦ inr (inr (ap suc e)) ] ]
 
-pub apart_by_8 : (s : Shape) (m n : Name) → IsIn s m → IsIn s n → (group m ≢ group n) ⊎ (first_index m ≢ first_index n) → (place_of s m + 8 ≤ place_of s n) ⊎ (place_of s n + 8 ≤ place_of s m)
+pub apart_by_8 : (s : Shape) (m n : Name) → IsIn s m → IsIn s n → (group m ≢ group n) ⊎ (number m ≢ number n) → (place_of s m + 8 ≤ place_of s n) ⊎ (place_of s n + 8 ≤ place_of s m)
 apart_by_8 s m n h g d = elim (order (group m) (group n)) [
   | inl lt ↦ inl (before_by_8 s m n h g (inl lt))
   | inr r ↦ elim r [
     | inl lt ↦ inr (before_by_8 s n m g h (inl lt))
-    | inr e ↦ by_number e (order (first_index m) (first_index n))
+    | inr e ↦ by_number e (order (number m) (number n))
   ]
 ]
   where
-    by_number : group m ≡ group n → (first_index m < first_index n) ⊎ (first_index n < first_index m) ⊎ (first_index m ≡ first_index n) → (place_of s m + 8 ≤ place_of s n) ⊎ (place_of s n + 8 ≤ place_of s m)
+    by_number : group m ≡ group n → (number m < number n) ⊎ (number n < number m) ⊎ (number m ≡ number n) → (place_of s m + 8 ≤ place_of s n) ⊎ (place_of s n + 8 ≤ place_of s m)
     by_number e (inl lt) = inl (before_by_8 s m n h g (inr (e, lt)))
     by_number e (inr (inl lt)) = inr (before_by_8 s n m g h (inr (sym e, lt)))
     by_number e (inr (inr same)) = absurd (⊎_elim (λ f. f e) (λ f. f same) d)
@@ -266,3 +321,5 @@ placed s (Recursions m) h = tt
 placed s (Header m) h = tt
 placed s (Object m) h = tt
 placed s Claim h = tt
+placed s End h = tt
+placed s (Ring p) h = tt

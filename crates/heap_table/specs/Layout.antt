@@ -1,8 +1,9 @@
 -- Where each word lies.
 use Rattle.std.specs.Prelude.{ℕ, ◌+◌, ◌*◌, List, length, map, slice_index}
 use Rattle.core_world.specs.declared.name.Name.{Name}
-use Rattle.core_world.specs.declared.name.Name.TheVariants.{Safepoint, Prototype, Revocations, LastBulk, Mark, Stamp, Slot, Hold, Displaced, Waiting, Length, Owner, Recursions, Header, Object, Claim}
-use Rattle.core_world.specs.Words.Shape.{Shape}
+use Rattle.core_world.specs.declared.name.Name.TheVariants.{Safepoint, Prototype, Revocations, LastBulk, Mark, Stamp, Slot, Hold, Displaced, Waiting, Length, Owner, Recursions, Header, Object, Claim, End, Ring}
+use Rattle.core_world.specs.Words.Names.{first_index}
+use Rattle.core_world.specs.Words.Shape.{Shape, ring_places}
 
 -- the shape with so many threads, with classes of so many slots, and with an object of each of these classes
 abbrev pub shape_of : ℕ → List ℕ → List ℕ → Shape
@@ -18,7 +19,8 @@ abbrev pub many : Shape → ℕ
 many s = length s.objects
 
 -- The words lie in groups: one of the heap, of 16 words; one for each class, of 16 words; one for each object, of 32
--- words; one for each thread, of 144 words; one for each monitor, of 16 words. Here the groups of each kind begin.
+-- words; one for each thread, of 144 words; one for each monitor, of 16 words; and one of the ring, with a word for
+-- each of its places. Here the groups of each kind begin.
 abbrev pub classes_from : ℕ
 classes_from = 16
 
@@ -31,15 +33,20 @@ threads_from s = objects_from s + 32 * many s
 abbrev pub monitors_from : Shape → ℕ
 monitors_from s = threads_from s + 144 * s.threads
 
-abbrev pub word_count : Shape → ℕ
-word_count s = monitors_from s + 16 * (many s + s.threads)
+abbrev pub ring_from : Shape → ℕ
+ring_from s = monitors_from s + 16 * (many s + s.threads)
 
--- A word's place. The words of one group are mostly stored by one thread at a time; those of two groups, and the words
--- of the heap, and a thread's waiting word and its other words, lie 8 words apart or more, and so in different lines of
--- a cache.
+abbrev pub word_count : Shape → ℕ
+word_count s = ring_from s + ring_places s
+
+-- A word's place. The words of one group are mostly stored by one thread at a time; those of two groups, and the
+-- safepoint word and the claim word, and a thread's waiting word and its other words, lie 8 words apart or more, and so
+-- in different lines of a cache. The ring's end lies beside the claim word, and the words of the ring lie side by side:
+-- they are stored only at a reached safepoint, where nobody claims, and a claim only loads one.
 abbrev pub place_of : Shape → Name → ℕ
 place_of s Safepoint = 0
 place_of s Claim = 8
+place_of s End = 7
 place_of s (Prototype c) = classes_from + 16 * c
 place_of s (Revocations c) = classes_from + 16 * c + 1
 place_of s (LastBulk c) = classes_from + 16 * c + 2
@@ -54,11 +61,13 @@ place_of s (Owner m) = monitors_from s + 16 * m
 place_of s (Recursions m) = monitors_from s + 16 * m + 1
 place_of s (Header m) = monitors_from s + 16 * m + 2
 place_of s (Object m) = monitors_from s + 16 * m + 3
+place_of s (Ring p) = ring_from s + p
 
--- the kind of group that a word is in: the heap's, a class's, an object's, a thread's, a monitor's
+-- the kind of group that a word is in: the heap's, a class's, an object's, a thread's, a monitor's, the ring
 abbrev pub group : Name → ℕ
 group Safepoint = 0
 group Claim = 0
+group End = 0
 group (Prototype c) = 1
 group (Revocations c) = 1
 group (LastBulk c) = 1
@@ -73,3 +82,9 @@ group (Owner m) = 4
 group (Recursions m) = 4
 group (Header m) = 4
 group (Object m) = 4
+group (Ring p) = 5
+
+-- and the number of its group among those of that kind
+abbrev pub number : Name → ℕ
+number (Ring p) = 0
+number n = first_index n

@@ -1,7 +1,7 @@
 //! Steps of which the thread keeps something for itself.
 ghost use Rattle.core_world.specs.Trees.Plans.{with_own, load, swap};
 ghost use Rattle.heap_table.specs.StepPlans.{store_plan};
-ghost use Rattle.core_world.specs.Trees.MonitorSteps.{claim_plan};
+ghost use Rattle.core_world.specs.Trees.MonitorSteps.{claim_plan, fetch_plan};
 ghost use Rattle.heap_table.specs.Stepping.{CanStep, HasStepped};
 
 use crate::heap::Heap;
@@ -57,7 +57,8 @@ impl Heap {
         self.step(pass, keeping(why, Stage::Calm, own, at, act))
     }
 
-    /// The count of claimed monitors rises by one, and the thread keeps the monitor whose number it was.
+    /// The count of claimed ring positions rises by one, modulo 2^64. It answers the position that the thread has
+    /// claimed, which is the number that the count was; the thread fetches its monitor next.
     #[inline(always)]
     pub fn claim(&self, pass: &mut Pass, why: &Purpose) -> u64
         requires { CanStep self.now pass.old (claim_plan why.now) }
@@ -65,7 +66,18 @@ impl Heap {
     {
         self.step(
             pass,
-            keeping(why, Stage::Calm, Own::Claim, Name::Claim, Act::Count),
+            keeping(why, Stage::Calm, Own::Position, Name::Claim, Act::Count),
         )
+    }
+
+    /// A load of the ring's place of this position. It answers the monitor that stands there, and the thread keeps it.
+    #[inline(always)]
+    pub fn fetch(&self, pass: &mut Pass, why: &Purpose, position: u64) -> u64
+        requires { CanStep self.now pass.old (fetch_plan why.now self.now.heap.shape position) }
+        ensures { HasStepped self.now pass.old pass.new (fetch_plan why.now self.now.heap.shape position) result }
+    {
+        let places = self.shape().ring_places() as u64;
+        let place = (position % places) as u32;
+        self.load_and_keep(pass, why, Own::Claim, Name::Ring { place })
     }
 }

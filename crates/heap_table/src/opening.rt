@@ -2,7 +2,7 @@
 ghost use Rattle.std.specs.Prelude.{◌≡◌, ◌++◌, IfOk, length};
 ghost use Rattle.core_world.specs.Opening.{first_mark};
 ghost use Rattle.heap_table.specs.Layout.{word_count};
-ghost use Rattle.heap_table.specs.inner.Openings.{copies, spread, opening_groups};
+ghost use Rattle.heap_table.specs.inner.Openings.{copies, numbers, opening_words};
 
 use crate::setting::Setting;
 use std::alloc::{AllocError, Global};
@@ -20,6 +20,16 @@ fn push_copies(words: &mut Vec<u64>, count: usize, group: &[u64]) -> Result<(), 
     Ok(())
 }
 
+// Puts the numbers below this behind the words.
+fn push_numbers(words: &mut Vec<u64>, count: u32) -> Result<(), AllocError>
+    ensures { IfOk result (λ _. words.new.items ≡ words.old.items ++ numbers count) }
+{
+    for number in 0..count {
+        words.push(number as u64)?;
+    }
+    Ok(())
+}
+
 // Each class's prototype at first, and each object's mark.
 fn mark_word(biasing: bool) -> u64
     ensures { result ≡ first_mark biasing }
@@ -29,23 +39,28 @@ fn mark_word(biasing: bool) -> u64
 
 /// The words of the opening world, by their places.
 pub fn opening_words(alloc: Global, setting: &Setting) -> Result<Vec<u64>, AllocError>
-    ensures words { IfOk result (λ v. v.items ≡ spread (opening_groups setting.now.shape setting.now.biasing)) }
+    ensures words { IfOk result (λ v. v.items ≡ opening_words setting.now.shape setting.now.biasing) }
     ensures count { IfOk result (λ v. length v.items ≡ word_count setting.now.shape) }
 {
     let threads = setting.shape.threads() as usize;
     let classes = setting.shape.classes() as usize;
     let objects = setting.shape.objects();
     let mark = mark_word(setting.biasing);
-    let rest = 144 * threads + 16 * (objects + threads);
+    let monitors = objects + threads;
+    let places = setting.shape.ring_places();
+    let rest = 144 * threads + 16 * monitors;
+    let own = [0, 0, 0, 0, 0, 0, 0, monitors as u64, 0, 0, 0, 0, 0, 0, 0, 0];
     let class = [mark, 0, 0, 0, 0, 0, 0, 0, 0, 0, 0, 0, 0, 0, 0, 0];
     let object = [
         mark, 0, ZERO, ZERO, ZERO, ZERO, ZERO, ZERO, ZERO, ZERO, ZERO, ZERO, ZERO, ZERO, ZERO,
         ZERO, ZERO, ZERO, 0, 0, 0, 0, 0, 0, 0, 0, 0, 0, 0, 0, 0, 0,
     ];
-    let mut words = Vec::with_capacity(alloc, 16 + 16 * classes + 32 * objects + rest)?;
-    push_copies(&mut words, 16, &[0])?;
+    let count = 16 + 16 * classes + 32 * objects + rest + places as usize;
+    let mut words = Vec::with_capacity(alloc, count)?;
+    push_copies(&mut words, 1, &own)?;
     push_copies(&mut words, classes, &class)?;
     push_copies(&mut words, objects, &object)?;
     push_copies(&mut words, rest, &[0])?;
+    push_numbers(&mut words, places)?;
     Ok(words)
 }

@@ -1,9 +1,8 @@
 //! How many there are of everything, and where each word lies.
 ghost use Rattle.std.specs.Prelude.{◌≡◌, ◌≢◌, ◌⊎◌, ◌<◌, ◌≤◌, ◌+◌, ◌*◌, All, IfOk, length, map, slice_index};
-ghost use Rattle.core_world.specs.Words.Shape.{Shape, IsInLimits, class_of, slots_of};
-ghost use Rattle.core_world.specs.Words.Names.{first_index};
+ghost use Rattle.core_world.specs.Words.Shape.{Shape, IsInLimits, class_of, slots_of, ring_places};
 ghost use Rattle.core_world.specs.There.{IsIn};
-ghost use Rattle.heap_table.specs.Layout.{group, place_of, word_count, many, shape_of, classes_from, objects_from, threads_from, monitors_from};
+ghost use Rattle.heap_table.specs.Layout.{group, number, place_of, word_count, many, shape_of, classes_from, objects_from, threads_from, monitors_from, ring_from};
 
 use core_world::Name;
 use plain_monitor::NoMemory;
@@ -42,12 +41,31 @@ impl HeapShape {
         0
     }
 
-    /// How many monitors have been claimed.
+    /// How many ring positions have been claimed.
     #[inline(always)]
     pub fn claim_at(&self) -> usize
         ensures { result ≡ place_of self.now Name.Claim }
     {
         8
+    }
+
+    /// The ring position behind the last monitor in the ring. It lies beside the claim word: it is stored only at a
+    /// reached safepoint, where nobody claims.
+    #[inline(always)]
+    pub fn end_at(&self) -> usize
+        ensures { result ≡ place_of self.now Name.End }
+    {
+        7
+    }
+
+    /// The monitor at the ring's positions of this remainder. The ring's words lie side by side behind all others: a
+    /// claim only loads one, so that threads that claim don't take lines of a cache from one another.
+    #[inline(always)]
+    pub fn ring_at(&self, place: u32) -> usize
+        requires { place < ring_places self.now }
+        ensures { result ≡ place_of self.now (Name.Ring place) }
+    {
+        self.ring_from() + place as usize
     }
 
     /// The prototype of the class.
@@ -200,6 +218,8 @@ impl HeapShape {
             Name::Header { monitor } => self.header_at(monitor),
             Name::Object { monitor } => self.object_at(monitor),
             Name::Claim => self.claim_at(),
+            Name::End => self.end_at(),
+            Name::Ring { place } => self.ring_at(place),
         }
     }
 }
@@ -243,6 +263,16 @@ impl HeapShape {
         let objects = 16 + 16 * self.classes as usize;
         let threads = objects + 32 * self.objects.len();
         threads + 144 * self.threads as usize + 16 * monitor as usize
+    }
+
+    #[inline(always)]
+    fn ring_from(&self) -> usize
+        ensures place { result ≡ ring_from self.now }
+        ensures low { result < 1000000 }
+    {
+        let threads = 16 + 16 * self.classes as usize + 32 * self.objects.len();
+        let monitors = self.objects.len() + self.threads as usize;
+        threads + 144 * self.threads as usize + 16 * monitors
     }
 }
 
@@ -304,6 +334,15 @@ impl HeapShape {
         self.objects.len()
     }
 
+    /// How many places the ring of monitors has: the least power of two that is at least the number of monitors, one
+    /// for each object and each thread. From 1 to 8192.
+    pub fn ring_places(&self) -> u32
+        ensures places { result ≡ ring_places self.now }
+        ensures few { (1 ≤ result) × (result ≤ 8192) }
+    {
+        (self.objects.len() as u32 + self.threads).next_power_of_two()
+    }
+
     /// The class of the object.
     pub fn class_of(&self, object: u32) -> u32
         requires { object < many self.now }
@@ -329,8 +368,9 @@ pub fn no_two_names_have_one_place()
 {}
 
 /// The words of two groups, which different threads may store, lie 8 words or more apart, and so in different lines of
-/// a cache of 64 bytes a line. A group is that of one class, object, thread or monitor, or has the words of the heap.
+/// a cache of 64 bytes a line. A group is that of one class, object, thread or monitor, or has the words of the heap, or
+/// those of the ring.
 pub fn words_of_two_groups_lie_apart()
-    ensures { (s : Shape) (m n : Name) → IsIn s m → IsIn s n → (group m ≢ group n) ⊎ (first_index m ≢ first_index n)
+    ensures { (s : Shape) (m n : Name) → IsIn s m → IsIn s n → (group m ≢ group n) ⊎ (number m ≢ number n)
         → (place_of s m + 8 ≤ place_of s n) ⊎ (place_of s n + 8 ≤ place_of s m) }
 {}

@@ -1,6 +1,6 @@
-//! Tests of the words of a heap and of the operations on them: single acts, steps that two threads make on one heap, safepoints, holds
-//! by lock records and under biases. They stand in a crate of their own, so that `core_world`, `heap_table`, `safepoint`, `stack_lock`
-//! and `bias_lock` aren't proved once more with them.
+//! Tests of the words of a heap and of the operations on them: single acts, steps that two threads make on one heap, the ring of
+//! monitors, safepoints, holds by lock records and under biases. They stand in a crate of their own, so that `core_world`,
+//! `heap_table`, `safepoint`, `stack_lock` and `bias_lock` aren't proved once more with them.
 #![tactic(auto)]
 
 #[cfg(test)]
@@ -13,6 +13,8 @@ mod compare;
 mod races;
 #[cfg(test)]
 mod records;
+#[cfg(test)]
+mod rings;
 #[cfg(test)]
 mod safepoints;
 #[cfg(test)]

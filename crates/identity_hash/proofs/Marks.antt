@@ -6,14 +6,15 @@ use Rattle.core_world.specs.Threads.Known.{Local}
 use Rattle.core_world.specs.Trees.HashSteps.{NextDraw, hash_mark_steps}
 use Rattle.core_world.specs.Trees.Plans.{Purpose}
 use Rattle.core_world.specs.Trees.Todo.{never}
+use Rattle.core_world.specs.Words.Shape.{Shape}
 
-pub never_hashed : (f : MarkForm) (e : Purpose) (k : Local) (kept : Option ℕ) (d : NextDraw) (o mark : ℕ) → (f ≡ Inflating → ⊥)
+pub never_hashed : (f : MarkForm) (s : Shape) (e : Purpose) (k : Local) (kept : Option ℕ) (d : NextDraw) (o mark : ℕ) → (f ≡ Inflating → ⊥)
     → ((hash age : ℕ) → f ≡ Neutral hash age → ⊥) → ((t p : ℕ) → f ≡ Locked t p → ⊥) → ((m : ℕ) → f ≡ Inflated m → ⊥)
-    → hash_mark_steps (Some f) e k kept d o mark ≡ never
-never_hashed Inflating e k kept d o mark inflating neutral locked inflated = absurd (inflating refl)
-never_hashed (Neutral hash age) e k kept d o mark inflating neutral locked inflated = absurd (neutral hash age refl)
-never_hashed (Anonymous epoch age) e k kept d o mark inflating neutral locked inflated = refl
-never_hashed (Biased t epoch age) e k kept d o mark inflating neutral locked inflated = refl
-never_hashed (Locked t p) e k kept d o mark inflating neutral locked inflated = absurd (locked t p refl)
-never_hashed (Inflated m) e k kept d o mark inflating neutral locked inflated = absurd (inflated m refl)
-never_hashed Marked e k kept d o mark inflating neutral locked inflated = refl
+    → hash_mark_steps (Some f) s e k kept d o mark ≡ never
+never_hashed Inflating s e k kept d o mark inflating neutral locked inflated = absurd (inflating refl)
+never_hashed (Neutral hash age) s e k kept d o mark inflating neutral locked inflated = absurd (neutral hash age refl)
+never_hashed (Anonymous epoch age) s e k kept d o mark inflating neutral locked inflated = refl
+never_hashed (Biased t epoch age) s e k kept d o mark inflating neutral locked inflated = refl
+never_hashed (Locked t p) s e k kept d o mark inflating neutral locked inflated = absurd (locked t p refl)
+never_hashed (Inflated m) s e k kept d o mark inflating neutral locked inflated = absurd (inflated m refl)
+never_hashed Marked s e k kept d o mark inflating neutral locked inflated = refl

@@ -63,19 +63,19 @@ by_form (Some (Locked t place)) e o mark m = locked e o mark m t place
 by_form (Some (Inflated n)) e o mark m = tt
 by_form (Some Marked) e o mark m = tt
 
-by_kept : (kept : Option ℕ) (e : Purpose) (o mark : ℕ) → AreSilent (inflate_by kept e o mark)
-by_kept (Some m) e o mark = by_form (read_mark mark) e o mark m
-by_kept None e o mark = (refl, λ m. by_form (read_mark mark) e o mark m)
+by_kept : (kept : Option ℕ) (s : Shape) (e : Purpose) (o mark : ℕ) → AreSilent (inflate_by kept s e o mark)
+by_kept (Some m) s e o mark = by_form (read_mark mark) e o mark m
+by_kept None s e o mark = (refl, λ position. (refl, λ m. by_form (read_mark mark) e o mark m))
 
-at_mark : (f : Option MarkForm) (e : Purpose) (kept : Option ℕ) (o mark : ℕ) → AreSilent (inflate_at f e kept o mark)
-at_mark None e kept o mark = by_kept kept e o mark
-at_mark (Some Inflating) e kept o mark = tt
-at_mark (Some (Neutral hash age)) e kept o mark = by_kept kept e o mark
-at_mark (Some (Anonymous epoch age)) e kept o mark = by_kept kept e o mark
-at_mark (Some (Biased t epoch age)) e kept o mark = by_kept kept e o mark
-at_mark (Some (Locked t place)) e kept o mark = by_kept kept e o mark
-at_mark (Some (Inflated m)) e kept o mark = tt
-at_mark (Some Marked) e kept o mark = by_kept kept e o mark
+at_mark : (f : Option MarkForm) (s : Shape) (e : Purpose) (kept : Option ℕ) (o mark : ℕ) → AreSilent (inflate_at f s e kept o mark)
+at_mark None s e kept o mark = by_kept kept s e o mark
+at_mark (Some Inflating) s e kept o mark = tt
+at_mark (Some (Neutral hash age)) s e kept o mark = by_kept kept s e o mark
+at_mark (Some (Anonymous epoch age)) s e kept o mark = by_kept kept s e o mark
+at_mark (Some (Biased t epoch age)) s e kept o mark = by_kept kept s e o mark
+at_mark (Some (Locked t place)) s e kept o mark = by_kept kept s e o mark
+at_mark (Some (Inflated m)) s e kept o mark = tt
+at_mark (Some Marked) s e kept o mark = by_kept kept s e o mark
 
-pub inflating : (e : Purpose) (kept : Option ℕ) (o : ℕ) → AreSilent (inflate_steps e kept o)
-inflating e kept o = (refl, λ mark. at_mark (read_mark mark) e kept o mark)
+pub inflating : (s : Shape) (e : Purpose) (kept : Option ℕ) (o : ℕ) → AreSilent (inflate_steps s e kept o)
+inflating s e kept o = (refl, λ mark. at_mark (read_mark mark) s e kept o mark)

@@ -106,10 +106,12 @@ fn hash_inflate(
 ) -> Turn<u32>
     requires heap { IsOf heap.now pass.old }
     requires due { IsDueOn heap.now pass.old why.now.task
-        (hash_inflate_steps why.now pass.old.known.kept (record { number = number; value = value }) object) }
+        (hash_inflate_steps heap.now.heap.shape why.now pass.old.known.kept
+        (record { number = number; value = value }) object) }
     requires room { length pass.old.known.log < pass.old.limit }
     ensures { HasRun heap.now
-        (hash_inflate_steps why.now pass.old.known.kept (record { number = number; value = value }) object)
+        (hash_inflate_steps heap.now.heap.shape why.now pass.old.known.kept
+        (record { number = number; value = value }) object)
         pass.old pass.new result }
 {
     match inflate(heap, pass, why, object) {
@@ -129,11 +131,14 @@ fn hash_owned(
 ) -> Turn<u32>
     requires heap { IsOf heap.now pass.old }
     requires object { object < length heap.now.heap.shape.objects }
-    requires due { IsDueOn heap.now pass.old why.now.task (hash_owned_steps why.now (local_of pass.old.known)
-        pass.old.known.kept (record { number = number; value = value }) object) }
+    requires due { IsDueOn heap.now pass.old why.now.task
+        (hash_owned_steps heap.now.heap.shape why.now (local_of pass.old.known) pass.old.known.kept
+        (record { number = number; value = value }) object) }
     requires room { length pass.old.known.log < pass.old.limit }
-    ensures { HasRun heap.now (hash_owned_steps why.now (local_of pass.old.known)
-        pass.old.known.kept (record { number = number; value = value }) object) pass.old pass.new result }
+    ensures { HasRun heap.now
+        (hash_owned_steps heap.now.heap.shape why.now (local_of pass.old.known) pass.old.known.kept
+        (record { number = number; value = value }) object)
+        pass.old pass.new result }
 {
     match hash_displaced(heap, pass, why, object) {
         Some(hash) => Turn::Done(hash),
@@ -166,11 +171,14 @@ pub fn header_hash(
 ) -> Turn<u32>
     requires heap { IsOf heap.now pass.old }
     requires object { object < length heap.now.heap.shape.objects }
-    requires due { IsDueOn heap.now pass.old why.now.task (hash_header_steps why.now (local_of pass.old.known)
-        pass.old.known.kept (record { number = number; value = value }) object) }
+    requires due { IsDueOn heap.now pass.old why.now.task
+        (hash_header_steps heap.now.heap.shape why.now (local_of pass.old.known) pass.old.known.kept
+        (record { number = number; value = value }) object) }
     requires room { length pass.old.known.log < pass.old.limit }
-    ensures { HasRun heap.now (hash_header_steps why.now (local_of pass.old.known)
-        pass.old.known.kept (record { number = number; value = value }) object) pass.old pass.new result }
+    ensures { HasRun heap.now
+        (hash_header_steps heap.now.heap.shape why.now (local_of pass.old.known) pass.old.known.kept
+        (record { number = number; value = value }) object)
+        pass.old pass.new result }
 {
     let at = Name::Mark { object };
     let mark = heap.find_hash(pass, why, at, object);

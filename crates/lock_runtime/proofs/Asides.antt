@@ -20,6 +20,7 @@ use Rattle.core_world.specs.Threads.Known.{Start}
 use Rattle.core_world.specs.Threads.Stages.{Revocation}
 use Rattle.core_world.specs.Words.Forms.{epoch_in, is_biased, is_still, names, hold_word}
 use Rattle.core_world.specs.Words.Shape.{Shape, class_of}
+use Rattle.core_world.specs.Trees.DeflateSteps.{deflate_steps}
 use Rattle.core_world.specs.Trees.Operations.{and_then, revocation_steps, revoked_steps, unbias_tried, unbias_steps}
 use Rattle.core_world.specs.Trees.Plans.{Purpose, done_with}
 use Rattle.core_world.specs.Trees.RevocationSteps.{look, store_steps, revoke_at, revoke_steps, visit_held, walk_steps, take_bias_steps, next_epoch, bulk_rebias_steps, bulk_revoke_steps, verdict_steps, decided_steps, revoke_at_safepoint_steps}
@@ -27,6 +28,7 @@ use Rattle.core_world.specs.Trees.SafepointSteps.{has_requester, request_swap_st
 use Rattle.core_world.specs.Trees.Todo.{Todo, ◌>>=◌, each_from, all_from}
 use Rattle.core_world.specs.Trees.BiasSteps.{stage_after, unbias_swap_steps, bias_drop_at, bias_drop_by, bias_drop_steps}
 use Rattle.lock_runtime.specs.inner.Parts.{reached_revocation}
+use Rattle.revoke_walk.proofs.Deflating.{deflate_aside}
 use Rattle.heap_table.proofs.Aside.{AreAside, leaves_own_words, either_aside, then_aside, all_aside, each_aside}
 
 -- THE SAFEPOINT
@@ -173,7 +175,8 @@ module _ (e : Purpose) (b : Revocation) where
       → AreAside (and_then turn (λ _. reached_revocation s t e b))
   behind_safepoint s t (Done x) =
       then_aside (revoke_at_safepoint_steps s t e b) _ (at_safepoint s t)
-      (λ outcome. then_aside (release_to (stage_after outcome.took b.object) e t) _ (release (stage_after outcome.took b.object) e t) (λ _. tt))
+      (λ outcome. then_aside (deflate_steps s e (stage_after outcome.took b.object)) _ (deflate_aside s e (stage_after outcome.took b.object))
+      (λ _. then_aside (release_to (stage_after outcome.took b.object) e t) _ (release (stage_after outcome.took b.object) e t) (λ _. tt)))
   behind_safepoint s t (Pending cause) = tt
 
   pub revocation_aside : (s : Shape) (t : ℕ) (requesting : Bool) → AreAside (revocation_steps s t requesting e b)

@@ -1,17 +1,19 @@
 -- Dumps: runs whatever became of the pass's draft of a shot.
-use Rattle.std.proofs.Common.{◌≡◌, ℕ, zero, suc, ◌+◌, Bool, true, false, [], length, Result, Ok, Err, refl}
+use Rattle.std.proofs.Common.{◌≡◌, ℕ, zero, suc, ◌+◌, ◌==◌, Bool, true, false, [], length, Result, Ok, Err, refl}
 use Rattle.mark_word.specs.Mark.{read_mark}
 use Rattle.core_world.specs.declared.answer.TooManyDumps.{TooManyDumps}
 use Rattle.core_world.specs.declared.answer.Turn.{Turn}
 use Rattle.core_world.specs.declared.answer.Turn.TheVariants.{Done, Pending}
 use Rattle.core_world.specs.declared.name.Name.TheVariants as name
+use Rattle.core_world.specs.declared.stage.Stage.{Stage}
 use Rattle.core_world.specs.declared.task.Task.{Task}
+use Rattle.core_world.specs.Trees.DeflateSteps.{deflate_monitor, deflate_steps}
 use Rattle.core_world.specs.Trees.LookSteps.{look_behind, look_at_objects, take_shot_steps}
 use Rattle.core_world.specs.Trees.Operations.{dump_steps}
 use Rattle.core_world.specs.Trees.Plans.{Purpose, load}
 use Rattle.core_world.specs.Trees.Todo.{Todo, done, ◌>>=◌, ask, all_from}
 use Rattle.core_world.specs.Threads.Known.{Known, Local, start_of}
-use Rattle.core_world.specs.Words.Shape.{Shape}
+use Rattle.core_world.specs.Words.Shape.{Shape, monitor_count}
 use Rattle.revoke_walk.specs.ShotParts.{HasShot}
 use Rattle.heap_table.specs.Parts.{HasRun}
 use Rattle.heap_table.specs.Seen.{HeapSeen, PassSeen, IsOf}
@@ -23,7 +25,7 @@ use Rattle.core_calls.proofs.ShotsKept.{dump_shoots, dump_pends, dump_refuses}
 use Rattle.lock_runtime.specs.LookParts.{HasDumped}
 use Rattle.lock_runtime.specs.inner.LookParts.{numbered_dump}
 use Rattle.lock_runtime.specs.Shots.{HasShots}
-use Rattle.lock_runtime.proofs.Behind.{first_then}
+use Rattle.lock_runtime.proofs.Behind.{first_then, arm_first}
 
 -- the pass without its draft
 abbrev pub bare : PassSeen → PassSeen
@@ -71,6 +73,11 @@ first_shot e s = first_then e.task (look_at_objects e s) _
     (all_first e.task 0 (length s.objects) (λ o. ask (load e (name.Mark o)) >>= (λ mark. look_behind (read_mark mark) e s o)) (λ o. refl))
     (λ _. first_then e.task (all_from 0 s.threads (λ t. ask (load e (name.Length t)) >>= (λ _. done tt))) _
     (all_first e.task 0 s.threads (λ t. ask (load e (name.Length t)) >>= (λ _. done tt)) (λ t. refl)) (λ _. refl))
+
+pub first_deflation : (s : Shape) (e : Purpose) (stage : Stage) → IsCallOf e.task (deflate_steps s e stage)
+first_deflation s e stage =
+    arm_first e.task (length s.objects == 0) (done tt) (all_from 0 (monitor_count s) (λ m. deflate_monitor s e stage m)) tt
+    (all_first e.task 0 (monitor_count s) (λ m. deflate_monitor s e stage m) (λ m. refl))
 
 pub first_dump : (s : Shape) (requesting : Bool) (e : Purpose) (k : Local) (number : ℕ) → IsCallOf e.task (numbered_dump s requesting e k number)
 first_dump s true e k number = refl

@@ -12,25 +12,26 @@ use Rattle.core_world.specs.Trees.MonitorSteps.{inflate_steps, monitor_enter_ste
 use Rattle.core_world.specs.Trees.Operations.{and_then, enter_at, enter_monitor_steps, enter_unbiased}
 use Rattle.core_world.specs.Trees.Plans.{Purpose}
 use Rattle.core_world.specs.Trees.Todo.{never, ◌>>=◌}
+use Rattle.core_world.specs.Words.Shape.{Shape}
 
-pub never_entered : (f : MarkForm) (e : Purpose) (k : Start) (o mark : ℕ) → (f ≡ Inflating → ⊥) → ((hash age : ℕ) → f ≡ Neutral hash age → ⊥)
-    → ((t p : ℕ) → f ≡ Locked t p → ⊥) → ((m : ℕ) → f ≡ Inflated m → ⊥) → enter_at (Some f) e k o mark ≡ never
-never_entered Inflating e k o mark inflating neutral locked inflated = absurd (inflating refl)
-never_entered (Neutral hash age) e k o mark inflating neutral locked inflated = absurd (neutral hash age refl)
-never_entered (Anonymous epoch age) e k o mark inflating neutral locked inflated = refl
-never_entered (Biased t epoch age) e k o mark inflating neutral locked inflated = refl
-never_entered (Locked t p) e k o mark inflating neutral locked inflated = absurd (locked t p refl)
-never_entered (Inflated m) e k o mark inflating neutral locked inflated = absurd (inflated m refl)
-never_entered Marked e k o mark inflating neutral locked inflated = refl
+pub never_entered : (f : MarkForm) (s : Shape) (e : Purpose) (k : Start) (o mark : ℕ) → (f ≡ Inflating → ⊥) → ((hash age : ℕ) → f ≡ Neutral hash age → ⊥)
+    → ((t p : ℕ) → f ≡ Locked t p → ⊥) → ((m : ℕ) → f ≡ Inflated m → ⊥) → enter_at (Some f) s e k o mark ≡ never
+never_entered Inflating s e k o mark inflating neutral locked inflated = absurd (inflating refl)
+never_entered (Neutral hash age) s e k o mark inflating neutral locked inflated = absurd (neutral hash age refl)
+never_entered (Anonymous epoch age) s e k o mark inflating neutral locked inflated = refl
+never_entered (Biased t epoch age) s e k o mark inflating neutral locked inflated = refl
+never_entered (Locked t p) s e k o mark inflating neutral locked inflated = absurd (locked t p refl)
+never_entered (Inflated m) s e k o mark inflating neutral locked inflated = absurd (inflated m refl)
+never_entered Marked s e k o mark inflating neutral locked inflated = refl
 
-module _ (e : Purpose) (k l : Start) (o : ℕ) (local : k.local ≡ l.local) (kept : k.kept ≡ l.kept) where
+module _ (s : Shape) (e : Purpose) (k l : Start) (o : ℕ) (local : k.local ≡ l.local) (kept : k.kept ≡ l.kept) where
   by_record : (mark t : ℕ)
-      → (if t == k.local.thread then stack_enter_steps e k.local o mark else enter_monitor_steps e k o)
-      ≡ (if t == l.local.thread then stack_enter_steps e l.local o mark else enter_monitor_steps e l o)
+      → (if t == k.local.thread then stack_enter_steps e k.local o mark else enter_monitor_steps s e k o)
+      ≡ (if t == l.local.thread then stack_enter_steps e l.local o mark else enter_monitor_steps s e l o)
   by_record mark t = λ i. if t == (local i).thread then stack_enter_steps e (local i) o mark
-      else (inflate_steps e (kept i) o >>= (λ (turn : Turn ℕ). and_then turn (λ m. monitor_enter_steps e (local i) o m)))
+      else (inflate_steps s e (kept i) o >>= (λ (turn : Turn ℕ). and_then turn (λ m. monitor_enter_steps e (local i) o m)))
 
-  pub enters_alike : (f : Option MarkForm) (mark : ℕ) → enter_at f e k o mark ≡ enter_at f e l o mark
+  pub enters_alike : (f : Option MarkForm) (mark : ℕ) → enter_at f s e k o mark ≡ enter_at f s e l o mark
   enters_alike None mark = refl
   enters_alike (Some Inflating) mark = refl
   enters_alike (Some (Neutral hash age)) mark = λ i. stack_enter_steps e (local i) o mark
@@ -40,7 +41,7 @@ module _ (e : Purpose) (k l : Start) (o : ℕ) (local : k.local ≡ l.local) (ke
   enters_alike (Some (Inflated m)) mark = λ i. monitor_enter_steps e (local i) o m
   enters_alike (Some Marked) mark = refl
 
-  pub unbiased_alike : (tried : BiasTry) → enter_unbiased tried e k o ≡ enter_unbiased tried e l o
+  pub unbiased_alike : (tried : BiasTry) → enter_unbiased tried s e k o ≡ enter_unbiased tried s e l o
   unbiased_alike (Took path) = refl
   unbiased_alike (Unbiased mark) = enters_alike (read_mark mark) mark
   unbiased_alike (Valid mark) = refl

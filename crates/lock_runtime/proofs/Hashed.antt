@@ -54,15 +54,15 @@ few_draws h p is_of =
     omega (arith, few.draws, few.log)
 
 -- THE NEXT DRAW is the one of the pass's generator
-pub hash_alike : (h : HeapSeen) (p q : PassSeen) (e : Purpose) (o : ℕ) → StartsAlike p.known q.known → hash_unbiased e (start_now h p) o ≡ hash_unbiased e (start_now h q) o
+pub hash_alike : (h : HeapSeen) (p q : PassSeen) (e : Purpose) (o : ℕ) → StartsAlike p.known q.known → hash_unbiased h.heap.shape e (start_now h p) o ≡ hash_unbiased h.heap.shape e (start_now h q) o
 hash_alike h p q e o alike = λ i.
-    hash_header_steps e (sym alike.local i) (sym alike.kept i)
+    hash_header_steps h.heap.shape e (sym alike.local i) (sym alike.kept i)
     (record { number = sym alike.draws i + 1; value = draw_of h.heap.start (sym alike.local i).thread (sym alike.draws i + 1) }) o
 
 -- its first step is one of its call
 pub first_hash : (s : Shape) (e : Purpose) (k : Start) (o now : ℕ) → IsCallOf e.task (hash_going s e k o now)
-first_hash s e k o now = first_then e.task (unbias_steps s e k (no_bias o now)) (λ turn. and_then turn (λ _. hash_unbiased e k o)) (first_unbias s e k (no_bias o now)) behind
+first_hash s e k o now = first_then e.task (unbias_steps s e k (no_bias o now)) (λ turn. and_then turn (λ _. hash_unbiased s e k o)) (first_unbias s e k (no_bias o now)) behind
   where
-    behind : (turn : Turn (Unit {0})) → IsCallOf e.task (and_then turn (λ _. hash_unbiased e k o))
+    behind : (turn : Turn (Unit {0})) → IsCallOf e.task (and_then turn (λ _. hash_unbiased s e k o))
     behind (Done x) = refl
     behind (Pending cause) = tt

@@ -1,13 +1,15 @@
 -- A dump whose safepoint is done has reached it: its release, which is to come, finds the word of a reached safepoint.
+use Rattle.std.specs.List.{list_all}
 use Rattle.std.proofs.Common.{◌≡◌, ℕ, zero, suc, ◌+◌, ◌<◌, ◌==◌, ◌||◌, ◌&&◌, Bool, true, false, cond, if◌then◌else◌, Option, Some, None, length, inl, inr, refl, sym, ap, ◌∙◌, subst, eq-eqb, eqb-true, arith}
 use Rattle.mark_word.specs.declared.mark.MarkForm.{MarkForm}
 use Rattle.mark_word.specs.declared.mark.MarkForm.TheVariants.{Inflating, Neutral, Anonymous, Biased, Locked, Inflated, Marked}
 use Rattle.mark_word.specs.declared.owner.OwnerForm.{OwnerForm}
 use Rattle.mark_word.specs.declared.owner.OwnerForm.TheVariants.{Free, ByThread, ByRecord}
 use Rattle.mark_word.specs.Mark.{read_mark}
-use Rattle.mark_word.specs.Owner.{read_owner}
+use Rattle.mark_word.specs.Owner.{owner_of, read_owner}
 use Rattle.mark_word.proofs.ReadingSafepoints.{read_safe-safe_of}
 use Rattle.plain_monitor.specs.Monitor.{is_thread}
+use Rattle.core_world.specs.declared.act.Act.{Act}
 use Rattle.core_world.specs.declared.act.Act.TheVariants.{Load}
 use Rattle.core_world.specs.declared.name.Name.{Name}
 use Rattle.core_world.specs.declared.name.Name.TheVariants as name
@@ -15,6 +17,7 @@ use Rattle.core_world.specs.declared.answer.Turn.{Turn}
 use Rattle.core_world.specs.declared.answer.Turn.TheVariants.{Done}
 use Rattle.core_world.specs.declared.answer.Why.TheVariants as why
 use Rattle.core_world.specs.declared.plan.StepPlan.{StepPlan}
+use Rattle.core_world.specs.declared.stage.Stage.{Stage}
 use Rattle.core_world.specs.declared.stage.Stage.TheVariants.{Calm}
 use Rattle.core_world.specs.Due.{Runs}
 use Rattle.core_world.specs.Locks.{has_epoch}
@@ -26,17 +29,17 @@ use Rattle.plain_monitor.specs.declared.entry.Entry.TheVariants as entry
 use Rattle.core_world.specs.Trees.Calls.{steps_of}
 use Rattle.core_world.specs.Trees.Operations.{and_then}
 use Rattle.core_world.specs.Trees.WaitSteps.{publish_steps}
+use Rattle.core_world.specs.Trees.DeflateSteps.{deflate_free, deflate_monitor, deflate_named, deflate_steps, give_back_steps, is_untouched, look_at, names_monitor}
 use Rattle.core_world.specs.Trees.LookSteps.{look_at_holds, look_at_owner, look_behind, look_at_objects, take_shot_steps}
 use Rattle.core_world.specs.Trees.Plans.{Purpose, load, done_with, pending_for}
 use Rattle.core_world.specs.Trees.SafepointSteps.{has_requester, reached_word, reached_steps, then_reached, request_plan, request_swap_steps, release_plan, release_safepoint, safepoint_steps}
-use Rattle.core_world.specs.Trees.Todo.{Todo, done, never, step, ◌>>=◌, ask, after_answer, all_from, is_over}
+use Rattle.core_world.specs.Trees.Todo.{Todo, done, never, step, ◌>>=◌, ask, after_answer, all_from, each_from, is_over}
 use Rattle.core_world.specs.Words.Acts.{hits, word_after}
-use Rattle.core_world.specs.Words.Forms.{asks_in, epoch_in, is_still, requester_form}
-use Rattle.core_world.specs.Words.Names.{same_name, with_word}
-use Rattle.core_world.specs.Words.Shape.{Shape}
+use Rattle.core_world.specs.Words.Forms.{asks_in, epoch_in, is_still, monitor_in, requester_form}
+use Rattle.core_world.specs.Words.Names.{with_word}
+use Rattle.core_world.specs.Words.Shape.{Shape, monitor_count}
 use Rattle.core_world.specs.World.{World}
 use Rattle.core_world.proofs.CallRests.{gone_rest, begun_rest}
-use Rattle.core_world.proofs.Naming.{same_named}
 use Rattle.core_law.specs.Logic.{Heap, heap_of, Stands, Doing}
 use Rattle.core_law.specs.Sound.{Finishes}
 use Rattle.core_law.proofs.Standing.{asks_is, few_threads}
@@ -46,66 +49,98 @@ use Rattle.heap_table.proofs.Loops.{binds}
 use Rattle.heap_table.proofs.Knows.{same_thread, told_here}
 use Rattle.lock_runtime.specs.inner.LookParts.{reached_dump, numbered_dump}
 
--- LOADS alone
-abbrev pub AreLoads : {A : Type 0} → Todo A → Type 0
-AreLoads (done a) = Unit {0}
-AreLoads never = Unit {0}
-AreLoads (step p f) = (p.act ≡ Load) × ((n : ℕ) → AreLoads (f n))
+-- STEPS THAT LEAVE THE SAFEPOINT WORD: loads, and whatever is done with other words
+abbrev leaves_safepoint : Name → Act → Bool
+leaves_safepoint name.Safepoint Load = true
+leaves_safepoint name.Safepoint _ = false
+leaves_safepoint _ act = true
 
-loads_then : {A B : Type 0} (d : Todo A) (g : A → Todo B) → AreLoads d → ((a : A) → AreLoads (g a)) → AreLoads (d >>= g)
-loads_then (done a) g one two = two a
-loads_then never g one two = tt
-loads_then (step p f) g one two = (one.0, λ n. loads_then (f n) g (one.1 n) two)
+abbrev pub LeaveSafepoint : {A : Type 0} → Todo A → Type 0
+LeaveSafepoint (done a) = Unit {0}
+LeaveSafepoint never = Unit {0}
+LeaveSafepoint (step p f) = (leaves_safepoint p.at p.act ≡ true) × ((n : ℕ) → LeaveSafepoint (f n))
 
-all_loads : (i n : ℕ) (f : ℕ → Todo (Unit {0})) → ((j : ℕ) → AreLoads (f j)) → AreLoads (all_from i n f)
-all_loads i zero f each = tt
-all_loads i (suc n) f each = loads_then (f i) _ (each i) (λ _. all_loads (i + 1) n f each)
+leave_then : {A B : Type 0} (d : Todo A) (g : A → Todo B) → LeaveSafepoint d → ((a : A) → LeaveSafepoint (g a)) → LeaveSafepoint (d >>= g)
+leave_then (done a) g one two = two a
+leave_then never g one two = tt
+leave_then (step p f) g one two = (one.0, λ n. leave_then (f n) g (one.1 n) two)
+
+all_leave : (i n : ℕ) (f : ℕ → Todo (Unit {0})) → ((j : ℕ) → LeaveSafepoint (f j)) → LeaveSafepoint (all_from i n f)
+all_leave i zero f each = tt
+all_leave i (suc n) f each = leave_then (f i) _ (each i) (λ _. all_leave (i + 1) n f each)
+
+each_leave : {A : Type 0} (i n : ℕ) (f : ℕ → Todo A) → ((j : ℕ) → LeaveSafepoint (f j)) → LeaveSafepoint (each_from i n f)
+each_leave i zero f each = tt
+each_leave i (suc n) f each = leave_then (f i) _ (each i) (λ first. leave_then (each_from (i + 1) n f) _ (each_leave (i + 1) n f each) (λ others. tt))
+
+either_leave : {A : Type 0} (b : Bool) (x y : Todo A) → LeaveSafepoint x → LeaveSafepoint y → LeaveSafepoint (if b then x else y)
+either_leave true x y one two = one
+either_leave false x y one two = two
 
 module _ (e : Purpose) (s : Shape) where
-  hold_loads : (t : ℕ) → AreLoads (look_at_holds e t)
-  hold_loads t = all_loads 0 64 (λ p. ask (load e (name.Hold t p)) >>= (λ _. done tt)) (λ p. (refl, λ n. tt))
+  holds_leave : (t : ℕ) → LeaveSafepoint (look_at_holds e t)
+  holds_leave t = all_leave 0 64 (λ p. ask (load e (name.Hold t p)) >>= (λ _. done tt)) (λ p. (refl, λ n. tt))
 
-  owner_loads : (f : Option OwnerForm) → AreLoads (look_at_owner f e)
-  owner_loads (Some (ByThread thread)) = hold_loads thread
-  owner_loads (Some (ByRecord thread place)) = hold_loads thread
-  owner_loads (Some Free) = tt
-  owner_loads None = tt
+  owner_leaves : (f : Option OwnerForm) → LeaveSafepoint (look_at_owner f e)
+  owner_leaves (Some (ByThread thread)) = holds_leave thread
+  owner_leaves (Some (ByRecord thread place)) = holds_leave thread
+  owner_leaves (Some Free) = tt
+  owner_leaves None = tt
 
-  either_loads : (b : Bool) (x y : Todo (Unit {0})) → AreLoads x → AreLoads y → AreLoads (if b then x else y)
-  either_loads true x y one two = one
-  either_loads false x y one two = two
+  mark_leaves : (f : Option MarkForm) (o : ℕ) → LeaveSafepoint (look_behind f e s o)
+  mark_leaves (Some (Biased thread epoch age)) o = (refl, λ n. either_leave (has_epoch (epoch_in n) epoch) _ _ (holds_leave thread) tt)
+  mark_leaves (Some (Locked thread place)) o = holds_leave thread
+  mark_leaves (Some (Inflated monitor)) o = (refl, λ n. owner_leaves (read_owner n))
+  mark_leaves None o = tt
+  mark_leaves (Some Inflating) o = tt
+  mark_leaves (Some (Neutral hash age)) o = tt
+  mark_leaves (Some (Anonymous epoch age)) o = tt
+  mark_leaves (Some Marked) o = tt
 
-  mark_loads : (f : Option MarkForm) (o : ℕ) → AreLoads (look_behind f e s o)
-  mark_loads (Some (Biased thread epoch age)) o = (refl, λ n. either_loads (has_epoch (epoch_in n) epoch) _ _ (hold_loads thread) tt)
-  mark_loads (Some (Locked thread place)) o = hold_loads thread
-  mark_loads (Some (Inflated monitor)) o = (refl, λ n. owner_loads (read_owner n))
-  mark_loads None o = tt
-  mark_loads (Some Inflating) o = tt
-  mark_loads (Some (Neutral hash age)) o = tt
-  mark_loads (Some (Anonymous epoch age)) o = tt
-  mark_loads (Some Marked) o = tt
+  pub shot_leaves : LeaveSafepoint (take_shot_steps e s)
+  shot_leaves = leave_then (look_at_objects e s) _ (all_leave 0 (length s.objects) (λ o. ask (load e (name.Mark o)) >>= (λ mark. look_behind (read_mark mark) e s o)) (λ o. (refl, λ mark. mark_leaves (read_mark mark) o)))
+      (λ _. leave_then (all_from 0 s.threads (λ t. ask (load e (name.Length t)) >>= (λ _. done tt))) _
+      (all_leave 0 s.threads (λ t. ask (load e (name.Length t)) >>= (λ _. done tt)) (λ t. (refl, λ n. tt))) (λ _. (refl, λ n. tt)))
 
-  pub shot_loads : AreLoads (take_shot_steps e s)
-  shot_loads = loads_then (look_at_objects e s) _ (all_loads 0 (length s.objects) (λ o. ask (load e (name.Mark o)) >>= (λ mark. look_behind (read_mark mark) e s o)) (λ o. (refl, λ mark. mark_loads (read_mark mark) o)))
-      (λ _. loads_then (all_from 0 s.threads (λ t. ask (load e (name.Length t)) >>= (λ _. done tt))) _
-      (all_loads 0 s.threads (λ t. ask (load e (name.Length t)) >>= (λ _. done tt)) (λ t. (refl, λ n. tt))) (λ _. (refl, λ n. tt)))
+  module _ (stage : Stage) where
+    gives_leave : (o m : ℕ) → LeaveSafepoint (give_back_steps s e stage o m)
+    gives_leave o m = (refl, λ header. (refl, λ end. (refl, λ _. (refl, λ _. (refl, λ _. (refl, λ _. (refl, λ _. (refl, λ _. (refl, λ _. tt)))))))))
 
--- A load leaves the word of the safepoint and the request.
-word_stays : (at m : Name) (f : Name → ℕ) → with_word at (f at) f m ≡ f m
-word_stays at m f = cases (same_name m at) refl
+    free_leaves : (o m : ℕ) → LeaveSafepoint (deflate_free s e stage o m)
+    free_leaves o m = leave_then (each_from 0 s.threads (λ t. look_at e stage (name.Waiting t))) _ (each_leave 0 s.threads (λ t. look_at e stage (name.Waiting t)) (λ t. (refl, λ n. tt)))
+        (λ words. either_leave (list_all (λ w. is_untouched o w) words) (give_back_steps s e stage o m) (done tt) (gives_leave o m) tt)
+
+    monitor_leaves : (m : ℕ) → LeaveSafepoint (deflate_monitor s e stage m)
+    monitor_leaves m = (
+      refl,
+      λ o. (
+        refl,
+        λ mark. either_leave (names_monitor (monitor_in mark) m) (deflate_named s e stage o m) (done tt)
+            (refl, λ owner. either_leave (owner == owner_of Free) (deflate_free s e stage o m) (done tt) (free_leaves o m) tt) tt,
+      ),
+    )
+
+    pub deflation_leaves : LeaveSafepoint (deflate_steps s e stage)
+    deflation_leaves = either_leave (length s.objects == 0) (done tt) (all_from 0 (monitor_count s) (λ m. deflate_monitor s e stage m)) tt
+        (all_leave 0 (monitor_count s) (λ m. deflate_monitor s e stage m) monitor_leaves)
+
+-- Such a step leaves the word, and the request.
+word_stays : (at : Name) (a : Act) (f : Name → ℕ) → leaves_safepoint at a ≡ true → with_word at (word_after a (f at)) f name.Safepoint ≡ f name.Safepoint
+word_stays name.Safepoint Load f leaves = refl
+word_stays name.Safepoint _ f leaves = absurd (cc leaves)
+word_stays _ a f leaves = refl
+
+asks_stay : (at : Name) (a : Act) (word : ℕ) (k : Known) → leaves_safepoint at a ≡ true → asks_after at a word k ≡ k.requesting
+asks_stay name.Safepoint Load word k leaves = refl
+asks_stay name.Safepoint _ word k leaves = absurd (cc leaves)
+asks_stay _ a word k leaves = refl
+
+step_asks : (s : Shape) (start : ℕ) (p : StepPlan) (n : ℕ) (k : Known) → leaves_safepoint p.at p.act ≡ true → (known_after s start p n k).requesting ≡ k.requesting
+step_asks s start p n k leaves = cases (hits p.act n)
   where
-    cases : (b : Bool) → same_name m at ≡ b → cond b (f at) (f m) ≡ f m
-    cases true same = ap f (sym (same_named m at same))
-    cases false other = refl
-
-asks_as_before : (at : Name) (word : ℕ) (k : Known) → asks_after at Load word k ≡ k.requesting
-asks_as_before name.Safepoint word k = refl
-asks_as_before _ word k = refl
-
-load_asks : (s : Shape) (start : ℕ) (p : StepPlan) (n : ℕ) (k : Known) → p.act ≡ Load → (known_after s start p n k).requesting ≡ k.requesting
-load_asks s start p n k is =
-    (λ i. (cond (hits (is i) n) (known_hit s start p n k) (known_miss s start p n k)).requesting)
-    ∙ (λ i. asks_after p.at (is i) (word_after (is i) n) k) ∙ asks_as_before p.at n k
+    cases : (b : Bool) → (cond b (known_hit s start p n k) (known_miss s start p n k)).requesting ≡ k.requesting
+    cases true = asks_stay p.at p.act (word_after p.act n) k leaves
+    cases false = refl
 
 -- WHERE A THREAD STANDS in the middle of its call: this is left of it, in a world with this safepoint word, and so its request stands or doesn't.
 record At (heap : Heap) (word : ℕ) (asks : Bool) (t : ℕ) (d : Todo (Unit {0})) (k : Known) : Type 0 where
@@ -140,10 +175,10 @@ module _ (heap : Heap) (word : ℕ) (asks : Bool) (t : ℕ) where
         valid = whole.is;
       }
 
-  load_on : (plan : StepPlan) (f : ℕ → Todo (Unit {0})) (k : Known) → plan.act ≡ Load → At heap word asks t (step plan f) k
+  step_on : (plan : StepPlan) (f : ℕ → Todo (Unit {0})) (k : Known) → leaves_safepoint plan.at plan.act ≡ true → At heap word asks t (step plan f) k
       → (n : ℕ) × At heap word asks t (f n) (known_after heap.shape heap.start plan n k)
   unfolding stands_behind
-  load_on plan f k is at =
+  step_on plan f k leaves at =
       let v = at.stands in
       let w : World = v.world in
       let n = w.words plan.at in
@@ -151,20 +186,20 @@ module _ (heap : Heap) (word : ℕ) (asks : Bool) (t : ℕ) where
         n,
         record {
           stands = stands_behind plan f k at;
-          found = (λ i. with_word plan.at (word_after (is i) n) w.words name.Safepoint) ∙ word_stays plan.at name.Safepoint w.words ∙ at.found;
-          requesting = load_asks heap.shape heap.start plan n k is ∙ at.requesting;
+          found = word_stays plan.at plan.act w.words leaves ∙ at.found;
+          requesting = step_asks heap.shape heap.start plan n k leaves ∙ at.requesting;
           thread = same_thread heap.shape heap.start plan n k ∙ at.thread;
           left = gone_rest heap.shape heap.start k plan n not_over ∙ ap (λ z. after_answer z n) at.left;
           does = record { by = at.does.by.1 n not_over (record { stands = v; found = refl }) };
         },
       )
 
-  loads_on : {A : Type 0} (d : Todo A) (g : A → Todo (Unit {0})) (k : Known) → AreLoads d → At heap word asks t (d >>= g) k → (a : A) × (l : Known) × At heap word asks t (g a) l
-  loads_on (done a) g k loads at = (a, k, at)
-  loads_on never g k loads at = absurd at.does.by
-  loads_on (step p f) g k loads at =
-      let x = load_on p (λ n. f n >>= g) k loads.0 at in
-      loads_on (f x.0) g (known_after heap.shape heap.start p x.0 k) (loads.1 x.0) x.1
+  steps_on : {A : Type 0} (d : Todo A) (g : A → Todo (Unit {0})) (k : Known) → LeaveSafepoint d → At heap word asks t (d >>= g) k → (a : A) × (l : Known) × At heap word asks t (g a) l
+  steps_on (done a) g k leave at = (a, k, at)
+  steps_on never g k leave at = absurd at.does.by
+  steps_on (step p f) g k leave at =
+      let x = step_on p (λ n. f n >>= g) k leave.0 at in
+      steps_on (f x.0) g (known_after heap.shape heap.start p x.0 k) (leave.1 x.0) x.1
 
   -- a release that is to come finds the word of a reached safepoint
   release_finds : (e : Purpose) (g : Unit {0} → Todo (Unit {0})) (k : Known) → At heap word asks t (release_safepoint e t >>= g) k → word ≡ reached_word t
@@ -193,8 +228,8 @@ asks_at heap word asks t e g k at =
     let is : asks_in word t ≡ asks = ap (asks_in word) (sym at.thread) ∙ asks_is heap k word at.stands at.found ∙ at.requesting in
     sym is ∙ ap (λ n. asks_in n t) (release_finds heap word asks t e g k at) ∙ reached_asks t low
 
--- a pass whose next steps are these loads, and then the release of its safepoint
-pub still_asks : {A : Type 0} (h : HeapSeen) (q : PassSeen) (t : ℕ) (d : Todo A) (e : Purpose) (g : Unit {0} → Todo (Unit {0})) → IsOf h q → q.known.thread ≡ t → AreLoads d
+-- a pass whose next steps are these, and then the release of its safepoint
+pub still_asks : {A : Type 0} (h : HeapSeen) (q : PassSeen) (t : ℕ) (d : Todo A) (e : Purpose) (g : Unit {0} → Todo (Unit {0})) → IsOf h q → q.known.thread ≡ t → LeaveSafepoint d
     → rest_of_call h.heap.shape q.known ≡ (d >>= (λ _. release_safepoint e t >>= g)) → q.known.requesting ≡ true
 still_asks h q t d e g is_of thread loads left =
     let r = is_of.real in
@@ -212,7 +247,7 @@ still_asks h q t d e g is_of thread loads left =
       left = left;
       does = subst (λ (x : Todo (Unit {0})). Finishes h.heap false x k) left goes;
     } in
-    let there = loads_on h.heap word k.requesting t d (λ _. release_safepoint e t >>= g) k loads here in
+    let there = steps_on h.heap word k.requesting t d (λ _. release_safepoint e t >>= g) k loads here in
     asks_at h.heap word k.requesting t e g there.1 there.2
 
 -- A SAFEPOINT THAT IS DONE: its last step saw that no thread runs.
@@ -303,8 +338,13 @@ dump_is_reached h p q e k number requesting due run thread =
     let s = h.heap.shape in
     let next : Turn (Unit {0}) → Todo (Turn ℕ) = λ turn. and_then turn (λ _. reached_dump s e k number) in
     let told : Unit {0} → Todo (Turn ℕ) = λ _. publish_steps (entry.Dump number) e k >>= (λ _. done_with number) in
+    let shot = take_shot_steps e s in
+    let deflation = deflate_steps s e Calm in
+    let release = release_safepoint e k.thread in
     let left = left_behind h p q e.task (safepoint_steps e k.thread requesting) next (Done tt) (begins_safepoint e k.thread requesting) due run in
-    let rest = left.1 ∙ binds (take_shot_steps e s) (λ _. release_safepoint e k.thread >>= told) left.0
-    ∙ (λ i. take_shot_steps e s >>= (λ _. binds (release_safepoint e k.thread) told left.0 i)) in
+    let rest = left.1 ∙ binds shot (λ _. deflation >>= (λ _. release >>= told)) left.0
+    ∙ (λ i. shot >>= (λ _. binds deflation (λ _. release >>= told) left.0 i))
+    ∙ (λ i. shot >>= (λ _. deflation >>= (λ _. binds release told left.0 i)))
+    ∙ sym (binds shot (λ _. deflation) (λ _. release >>= (λ u. told u >>= left.0))) in
     done_reached s h.heap.start e q.known k.thread requesting p.known run.ran.by
-    (still_asks h q k.thread (take_shot_steps e s) e (λ u. told u >>= left.0) run.heap thread (shot_loads e s) rest)
+    (still_asks h q k.thread (shot >>= (λ _. deflation)) e (λ u. told u >>= left.0) run.heap thread (leave_then shot (λ _. deflation) (shot_leaves e s) (λ _. deflation_leaves e s Calm)) rest)

@@ -29,7 +29,7 @@ first_revoked s t false e b = refl
 pub revoked_alike : (s : Shape) (requesting : Bool) (e : Purpose) (k l : Start) (b : Revocation) → k.local ≡ l.local → k.kept ≡ l.kept
     → enter_revoked s requesting e k b ≡ enter_revoked s requesting e l b
 revoked_alike s requesting e k l b local kept = λ i. revocation_steps s (local i).thread requesting e b >>= (λ (turn : Turn Bool). and_then turn
-    (λ took. bias_after_steps e (local i) b.object took >>= (λ tried. unbiased_alike e k l b.object local kept tried i)))
+    (λ took. bias_after_steps e (local i) b.object took >>= (λ tried. unbiased_alike s e k l b.object local kept tried i)))
 
-pub again_alike : (e : Purpose) (k l : Start) (o : ℕ) (took : Bool) → k.local ≡ l.local → k.kept ≡ l.kept → enter_again e k o took ≡ enter_again e l o took
-again_alike e k l o took local kept = λ i. bias_after_steps e (local i) o took >>= (λ tried. unbiased_alike e k l o local kept tried i)
+pub again_alike : (s : Shape) (e : Purpose) (k l : Start) (o : ℕ) (took : Bool) → k.local ≡ l.local → k.kept ≡ l.kept → enter_again s e k o took ≡ enter_again s e l o took
+again_alike s e k l o took local kept = λ i. bias_after_steps e (local i) o took >>= (λ tried. unbiased_alike s e k l o local kept tried i)

@@ -76,7 +76,7 @@ never_all_notified Marked s e k o inflating locked inflated = refl
 pub first_to_wait : (s : Shape) (e : Purpose) (k : Start) (o now : ℕ) → IsCallOf e.task (wait_going s e k o now)
 first_to_wait s e k o now =
     arm_first e.task (waits_on k.local.wait o) (monitor_resume_steps e k.local.thread k.saved o) (wait_beginning s e k o now) refl
-    (first_behind s e k (no_bias o now) (inflated_wait e k.kept k.local o) refl)
+    (first_behind s e k (no_bias o now) (inflated_wait s e k.kept k.local o) refl)
 
 pub first_to_notify : (s : Shape) (e : Purpose) (k : Start) (o now : ℕ) → IsCallOf e.task (notify_going s e k o now)
 first_to_notify s e k o now = first_behind s e k (no_bias o now) (marked_notify s e k.local o) refl

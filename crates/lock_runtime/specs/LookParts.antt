@@ -1,7 +1,7 @@
 -- Parts of checks and of dumps, by what their threads know as they begin.
 use Rattle.std.specs.Prelude.{◌≡◌}
 use Rattle.core_world.specs.Due.{Ran}
-use Rattle.core_world.specs.Trees.Todo.{Todo, ◌>>=◌}
+use Rattle.core_world.specs.Trees.Todo.{Todo}
 use Rattle.heap_table.specs.Seen.{HeapSeen, PassSeen, IsOf}
 
 -- DUMPS. The pass was p, and is q behind these steps, with this answer. It is a pass of this heap still, with the same limit, whatever became of its

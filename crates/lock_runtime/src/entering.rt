@@ -28,9 +28,10 @@ fn enter_monitor(heap: &Heap, pass: &mut Pass, why: &Purpose, object: u32) -> Tu
     requires heap { IsOf heap.now pass.old }
     requires object { object < length heap.now.heap.shape.objects }
     requires due { IsDueOn heap.now pass.old why.now.task
-        (enter_monitor_steps why.now (start_now heap.now pass.old) object) }
+        (enter_monitor_steps heap.now.heap.shape why.now (start_now heap.now pass.old) object) }
     requires room { length pass.old.known.log < pass.old.limit }
-    ensures { HasRun heap.now (enter_monitor_steps why.now (start_now heap.now pass.old) object)
+    ensures { HasRun heap.now
+        (enter_monitor_steps heap.now.heap.shape why.now (start_now heap.now pass.old) object)
         pass.old pass.new result }
 {
     match inflate(heap, pass, why, object) {
@@ -52,9 +53,10 @@ fn enter_by(
     requires object { object < length heap.now.heap.shape.objects }
     requires form { read_mark mark ≡ Some form }
     requires due { IsDueOn heap.now pass.old why.now.task
-        (enter_at (Some form) why.now (start_now heap.now pass.old) object mark) }
+        (enter_at (Some form) heap.now.heap.shape why.now (start_now heap.now pass.old) object mark) }
     requires room { length pass.old.known.log < pass.old.limit }
-    ensures { HasRun heap.now (enter_at (Some form) why.now (start_now heap.now pass.old) object mark)
+    ensures { HasRun heap.now
+        (enter_at (Some form) heap.now.heap.shape why.now (start_now heap.now pass.old) object mark)
         pass.old pass.new result }
 {
     match form {
@@ -77,9 +79,10 @@ fn enter_marked(heap: &Heap, pass: &mut Pass, why: &Purpose, object: u32, mark: 
     requires heap { IsOf heap.now pass.old }
     requires object { object < length heap.now.heap.shape.objects }
     requires due { IsDueOn heap.now pass.old why.now.task
-        (enter_at (read_mark mark) why.now (start_now heap.now pass.old) object mark) }
+        (enter_at (read_mark mark) heap.now.heap.shape why.now (start_now heap.now pass.old) object mark) }
     requires room { length pass.old.known.log < pass.old.limit }
-    ensures { HasRun heap.now (enter_at (read_mark mark) why.now (start_now heap.now pass.old) object mark)
+    ensures { HasRun heap.now
+        (enter_at (read_mark mark) heap.now.heap.shape why.now (start_now heap.now pass.old) object mark)
         pass.old pass.new result }
 {
     match mark_of_word(mark) {
@@ -94,9 +97,10 @@ fn enter_again(heap: &Heap, pass: &mut Pass, why: &Purpose, object: u32, took: b
     requires heap { IsOf heap.now pass.old }
     requires object { object < length heap.now.heap.shape.objects }
     requires due { IsDueOn heap.now pass.old why.now.task
-        (enter_again why.now (start_now heap.now pass.old) object took) }
+        (enter_again heap.now.heap.shape why.now (start_now heap.now pass.old) object took) }
     requires room { length pass.old.known.log < pass.old.limit }
-    ensures { HasRun heap.now (enter_again why.now (start_now heap.now pass.old) object took)
+    ensures { HasRun heap.now
+        (enter_again heap.now.heap.shape why.now (start_now heap.now pass.old) object took)
         pass.old pass.new result }
 {
     match bias_after(heap, pass, why, object, took) {

@@ -22,9 +22,11 @@ use revoke_walk::Revocation;
 fn hash_unbiased(heap: &Heap, pass: &mut Pass, why: &Purpose, object: u32) -> Turn<u32>
     requires heap { IsOf heap.now pass.old }
     requires object { object < length heap.now.heap.shape.objects }
-    requires due { IsDueOn heap.now pass.old why.now.task (hash_unbiased why.now (start_now heap.now pass.old) object) }
+    requires due { IsDueOn heap.now pass.old why.now.task
+        (hash_unbiased heap.now.heap.shape why.now (start_now heap.now pass.old) object) }
     requires room { length pass.old.known.log < pass.old.limit }
-    ensures { HasRun heap.now (hash_unbiased why.now (start_now heap.now pass.old) object) pass.old pass.new result }
+    ensures { HasRun heap.now (hash_unbiased heap.now.heap.shape why.now (start_now heap.now pass.old) object)
+        pass.old pass.new result }
 {
     let number = pass.draws() as u32 + 1;
     let value = pass.draw();

@@ -1,4 +1,5 @@
-//! Calls that look at all threads and objects at a safepoint: a check whether the run is stuck, and a dump.
+//! Calls that look at all threads and objects at a safepoint: a check whether the run is stuck, and a dump. Both give
+//! idle monitors back before the safepoint ends.
 ghost use Rattle.std.specs.Prelude.{◌≡◌, ◌+◌, ◌<◌, ℕ, length, true, Ok};
 ghost use Rattle.core_world.specs.declared.task.Task.TheVariants.{Check, Dump};
 ghost use Rattle.core_world.specs.declared.answer.Turn.TheVariants as turn;
@@ -18,11 +19,11 @@ ghost use Rattle.lock_runtime.specs.Others.{PendsForAnother, PendsOrRefused};
 ghost use Rattle.lock_runtime.specs.Shots.{HasShots};
 
 use crate::purposes::unfinished;
-use core_world::{Op, Task, TooManyDumps, Turn};
+use core_world::{Op, Stage, Task, TooManyDumps, Turn};
 use heap_table::{Heap, Pass, Purpose};
 use object_monitor::publish;
 use plain_monitor::Entry;
-use revoke_walk::{stands_still, take_shot};
+use revoke_walk::{deflate_idle, stands_still, take_shot};
 use safepoint::{halt, release, safepoint};
 
 // The thread's safepoint ends: by the halt where the run stands still, and else by the release.
@@ -48,6 +49,7 @@ fn check_reached(heap: &Heap, pass: &mut Pass, why: &Purpose) -> Turn<bool>
         pass.old pass.new result }
 {
     let still = stands_still(heap, pass, why);
+    deflate_idle(heap, pass, why, Stage::Calm);
     end_check(heap, pass, why, still)
 }
 
@@ -86,6 +88,7 @@ fn checking(pass: &Pass) -> Purpose
 /// thread runs still, and that the check is unfinished; `Requested { word }` that by `word`, which was loaded or found by
 /// the exchange, another thread has a request, and `Raced { expected, found }` that the exchange found another word with
 /// none: then the thread runs on, and no check is unfinished.
+/// Where it is done, idle monitors were given back before the halt or the release.
 /// Nothing is logged, and an unfinished operation stays so.
 pub fn check_stuck(heap: &Heap, pass: &mut Pass) -> Turn<bool>
     requires { MayCall heap.now pass.old Check }
@@ -125,6 +128,7 @@ fn dump_reached(heap: &Heap, pass: &mut Pass, why: &Purpose, number: u32) -> Tur
         pass.old pass.new result }
 {
     take_shot(heap, pass, why);
+    deflate_idle(heap, pass, why, Stage::Calm);
     tell_dump(heap, pass, why, number)
 }
 
@@ -151,7 +155,7 @@ fn dump_asking(
 }
 
 /// Takes a shot of all locks and logs at a safepoint of the thread's own, which is over then: for each object who has its
-/// lock and how often, and the length of each thread's log.
+/// lock and how often, and the length of each thread's log. Behind the shot idle monitors are given back.
 ///
 /// `Done(number)` says that the pass has one more shot, the last of `Pass::shots`, and that this is its number, from 1:
 /// the Dump is logged, behind the shot, and nothing is unfinished. Pending, no shot is taken and nothing logged, and the

@@ -4,15 +4,35 @@ ghost use Rattle.core_world.specs.Trees.Operations.{revocation_steps, revoked_st
 ghost use Rattle.heap_table.specs.Parts.{IsDueOn, HasRun};
 ghost use Rattle.heap_table.specs.Resting.{start_now};
 ghost use Rattle.heap_table.specs.Seen.{IsOf};
-ghost use Rattle.lock_runtime.specs.inner.Parts.{reached_revocation, unbias_first};
+ghost use Rattle.lock_runtime.specs.inner.Parts.{ended_revocation, reached_revocation, unbias_first};
 
 use bias_lock::{bias_drop, stage_after};
-use core_world::{BiasTry, Turn, Why};
+use core_world::{BiasTry, Stage, Turn, Why};
 use heap_table::{Heap, Pass, Purpose};
-use revoke_walk::{Revocation, revoke_at_safepoint};
+use revoke_walk::{Revocation, deflate_idle, revoke_at_safepoint};
 use safepoint::{release_to, safepoint};
 
-// The thread has its safepoint: the object's bias is revoked, and the safepoint ends.
+// The bias is revoked, and the thread stands at this stage: idle monitors are given back, and the safepoint ends. It
+// answers whether the thread gave itself a new bias.
+fn end_revocation(
+    heap: &Heap,
+    pass: &mut Pass,
+    why: &Purpose,
+    stage: Stage,
+    took: bool,
+) -> Turn<bool>
+    requires heap { IsOf heap.now pass.old }
+    requires due { IsDueOn heap.now pass.old why.now.task
+        (ended_revocation heap.now.heap.shape pass.old.known.thread why.now stage took) }
+    ensures { HasRun heap.now (ended_revocation heap.now.heap.shape pass.old.known.thread why.now stage took)
+        pass.old pass.new result }
+{
+    deflate_idle(heap, pass, why, stage);
+    release_to(heap, pass, why, stage);
+    Turn::Done(took)
+}
+
+// The thread has its safepoint: the object's bias is revoked, idle monitors are given back, and the safepoint ends.
 fn revoke_reached(
     heap: &Heap,
     pass: &mut Pass,
@@ -35,12 +55,11 @@ fn revoke_reached(
         revocation.moment,
     );
     let stage = stage_after(outcome.took, revocation.object);
-    release_to(heap, pass, why, stage);
-    Turn::Done(outcome.took)
+    end_revocation(heap, pass, why, stage, outcome.took)
 }
 
-/// Revokes the object's bias at a safepoint of the thread's own, whose request stands already or is made. It answers
-/// whether the thread gave itself a new bias.
+/// Revokes the object's bias at a safepoint of the thread's own, whose request stands already or is made, and gives idle
+/// monitors back there. It answers whether the thread gave itself a new bias.
 pub fn revocation(
     heap: &Heap,
     pass: &mut Pass,

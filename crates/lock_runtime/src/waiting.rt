@@ -61,9 +61,10 @@ fn wait_inflated(heap: &Heap, pass: &mut Pass, why: &Purpose, object: u32) -> Tu
     requires heap { IsOf heap.now pass.old }
     requires object { object < length heap.now.heap.shape.objects }
     requires due { IsDueOn heap.now pass.old why.now.task
-        (inflated_wait why.now pass.old.known.kept (local_of pass.old.known) object) }
+        (inflated_wait heap.now.heap.shape why.now pass.old.known.kept (local_of pass.old.known) object) }
     requires room { length pass.old.known.log + 2 ≤ pass.old.limit }
-    ensures { HasRun heap.now (inflated_wait why.now pass.old.known.kept (local_of pass.old.known) object)
+    ensures { HasRun heap.now
+        (inflated_wait heap.now.heap.shape why.now pass.old.known.kept (local_of pass.old.known) object)
         pass.old pass.new result }
 {
     match inflate(heap, pass, why, object) {

@@ -9,7 +9,7 @@ use Rattle.core_world.specs.declared.name.Name.TheVariants.{Mark}
 use Rattle.core_world.specs.Due.{Runs}
 use Rattle.core_world.specs.Steps.{known_after, known_hit, known_miss}
 use Rattle.core_world.specs.Threads.Known.{Known, local_of}
-use Rattle.core_world.specs.Trees.MonitorSteps.{claim_plan, inflate_plan, name_neutral_plan}
+use Rattle.core_world.specs.Trees.MonitorSteps.{claim_plan, fetch_plan, inflate_plan, name_neutral_plan}
 use Rattle.core_world.specs.Trees.MonitorSteps.{inflate_locked, inflate_neutral, inflate_with, inflate_by, inflate_at, inflate_steps}
 use Rattle.core_world.specs.Trees.Plans.{Purpose, load, done_with, pending_for}
 use Rattle.core_world.specs.Words.Shape.{Shape}
@@ -71,11 +71,12 @@ module _ (s : Shape) (start : ℕ) (e : Purpose) (o : ℕ) (l : Known) (a : Turn
   by_form (Some (Inflated n)) mark m k run = absurd run
   by_form (Some Marked) mark m k run = absurd run
 
-  by_kept : (kept : Option ℕ) (mark : ℕ) (k : Known) → Runs s start (inflate_by kept e o mark) k l a → local_of l ≡ local_of k
+  by_kept : (kept : Option ℕ) (mark : ℕ) (k : Known) → Runs s start (inflate_by kept s e o mark) k l a → local_of l ≡ local_of k
   by_kept (Some m) mark k run = by_form (read_mark mark) mark m k run
-  by_kept None mark k run = by_form (read_mark mark) mark run.0 (known_after s start (claim_plan e) run.0 k) run.1
+  by_kept None mark k run =
+      by_form (read_mark mark) mark run.1.0 (known_after s start (fetch_plan e s run.0) run.1.0 (known_after s start (claim_plan e) run.0 k)) run.1.1
 
-  by_mark : (f : Option MarkForm) (kept : Option ℕ) (mark : ℕ) (k : Known) → Runs s start (inflate_at f e kept o mark) k l a → local_of l ≡ local_of k
+  by_mark : (f : Option MarkForm) (kept : Option ℕ) (mark : ℕ) (k : Known) → Runs s start (inflate_at f s e kept o mark) k l a → local_of l ≡ local_of k
   by_mark None kept mark k run = by_kept kept mark k run
   by_mark (Some Inflating) kept mark k run = ap local_of run.0
   by_mark (Some (Neutral hash age)) kept mark k run = by_kept kept mark k run
@@ -86,7 +87,7 @@ module _ (s : Shape) (start : ℕ) (e : Purpose) (o : ℕ) (l : Known) (a : Turn
   by_mark (Some Marked) kept mark k run = by_kept kept mark k run
 
 -- the whole of them
-pub local_stays : (h : HeapSeen) (p q : PassSeen) (e : Purpose) (kept : Option ℕ) (o : ℕ) (a : Turn ℕ) → HasRun h (inflate_steps e kept o) p q a
+pub local_stays : (h : HeapSeen) (p q : PassSeen) (e : Purpose) (kept : Option ℕ) (o : ℕ) (a : Turn ℕ) → HasRun h (inflate_steps h.heap.shape e kept o) p q a
     → local_of q.known ≡ local_of p.known
 local_stays h p q e kept o a run =
     let made = run.ran.by in

@@ -1,11 +1,11 @@
 -- An inflation: what the law of the heap says of the numbers that it names, and its parts.
-use Rattle.std.proofs.Common.{◌≡◌, ℕ, ◌^◌, ◌<◌, ◌==◌, Bool, true, false, if◌then◌else◌, Option, Some, inl, inr}
+use Rattle.std.proofs.Common.{◌≡◌, ℕ, ◌^◌, ◌<◌, ◌==◌, Bool, true, false, if◌then◌else◌, Option, Some, None, inl, inr}
 use Rattle.std.proofs.Common.{refl, sym, ap, ◌∙◌, subst, arith}
 use borrow.Author.Tests.{eqb-true, eqb-false}
 use Rattle.mark_word.specs.declared.mark.MarkForm.{MarkForm}
 use Rattle.mark_word.specs.declared.mark.MarkForm.TheVariants.{Inflating, Neutral, Anonymous, Biased, Locked, Inflated, Marked}
 use Rattle.mark_word.specs.declared.owner.OwnerForm.TheVariants.{ByRecord}
-use Rattle.mark_word.specs.Mark.{mark_of}
+use Rattle.mark_word.specs.Mark.{mark_of, read_mark}
 use Rattle.mark_word.specs.Owner.{owner_of}
 use Rattle.core_world.specs.declared.answer.Turn.{Turn}
 use Rattle.core_world.specs.declared.answer.Why.TheVariants as why
@@ -14,7 +14,7 @@ use Rattle.core_world.specs.declared.plan.Own.TheVariants.{Spend}
 use Rattle.core_world.specs.declared.stage.Stage.{Stage}
 use Rattle.core_world.specs.declared.stage.Stage.TheVariants.{Calm, Inflates}
 use Rattle.core_world.specs.Threads.Known.{Known}
-use Rattle.core_world.specs.Trees.MonitorSteps.{inflate_plan, prepare_plan, name_plan, name_neutral_plan}
+use Rattle.core_world.specs.Trees.MonitorSteps.{claim_plan, fetch_plan, inflate_plan, prepare_plan, name_plan, name_neutral_plan}
 use Rattle.core_world.specs.Trees.MonitorSteps.{prepare_steps, inflate_locked, inflate_with, inflate_by, inflate_at}
 use Rattle.core_world.specs.Trees.Plans.{Purpose, with_own, swap, load_plan, done_with, pending_for}
 use Rattle.core_world.specs.Trees.Todo.{Todo, never, ◌>>=◌, ask}
@@ -68,7 +68,13 @@ kept_in h p m is_of kept =
 pub fits : (h : HeapSeen) (p : PassSeen) (m : ℕ) → IsOf h p → m < monitor_count h.heap.shape → m < 2 ^ 20
 fits h p m is_of within = let l = limits h p is_of in omega (arith, within, l.objects, l.threads)
 
--- THE PARTS of an inflation: what comes behind the exchange of a mark that named a lock record,
+-- THE PARTS of an inflation: what comes behind the claim of a ring position,
+abbrev pub claimed_on : Shape → Purpose → ℕ → ℕ → ℕ → Todo (Turn ℕ)
+claimed_on s e o mark position = do
+  m ← ask (fetch_plan e s position)
+  inflate_with (read_mark mark) e o mark m
+
+-- behind the exchange of a mark that named a lock record,
 abbrev pub locked_on : Purpose → ℕ → ℕ → ℕ → ℕ → Todo (Turn ℕ)
 locked_on e o m t place = do
   header ← ask (load_plan e (Inflates o t place) (Displaced t place))
@@ -102,6 +108,11 @@ module _ {A : Type 0} (h : HeapSeen) (p : PassSeen) (e : Purpose) (stage : Stage
   pub prepared : (q : PassSeen) → HasRun h (prepare_steps e stage o m header owner) p q tt → IsDueOn h q e.task g
   prepared q run = part_then h p q e.task (prepare_plan e stage (Header m) header) _ (λ _. g) tt due refl run
 
+-- behind the claim of a ring position its monitor is loaded
+pub claimed_due : (h : HeapSeen) (p q : PassSeen) (e : Purpose) (o mark position : ℕ) → IsDueOn h p e.task (inflate_by None h.heap.shape e o mark)
+    → HasStepped h p q (claim_plan e) position → IsDueOn h q e.task (claimed_on h.heap.shape e o mark position)
+claimed_due h p q e o mark position due s = rest_due h p e.task (claim_plan e) (claimed_on h.heap.shape e o mark) due refl q position s
+
 -- where the exchange of a mark that named a lock record hit, it goes on
 module _ (h : HeapSeen) (p q : PassSeen) (e : Purpose) (o mark m t place found : ℕ) where
   pub locked_due : IsDueOn h p e.task (inflate_locked e o mark m t place) → HasStepped h p q (inflate_plan e o mark t place) found
@@ -129,12 +140,12 @@ never_with (Locked t p) e o mark m locked neutral = absurd (locked t p refl)
 never_with (Inflated n) e o mark m locked neutral = refl
 never_with Marked e o mark m locked neutral = refl
 
-pub is_made : (f : MarkForm) (e : Purpose) (kept : Option ℕ) (o mark : ℕ) → (f ≡ Inflating → ⊥) → ((m : ℕ) → f ≡ Inflated m → ⊥)
-    → inflate_at (Some f) e kept o mark ≡ inflate_by kept e o mark
-is_made Inflating e kept o mark inflating inflated = absurd (inflating refl)
-is_made (Neutral hash age) e kept o mark inflating inflated = refl
-is_made (Anonymous epoch age) e kept o mark inflating inflated = refl
-is_made (Biased t epoch age) e kept o mark inflating inflated = refl
-is_made (Locked t p) e kept o mark inflating inflated = refl
-is_made (Inflated m) e kept o mark inflating inflated = absurd (inflated m refl)
-is_made Marked e kept o mark inflating inflated = refl
+pub is_made : (f : MarkForm) (s : Shape) (e : Purpose) (kept : Option ℕ) (o mark : ℕ) → (f ≡ Inflating → ⊥) → ((m : ℕ) → f ≡ Inflated m → ⊥)
+    → inflate_at (Some f) s e kept o mark ≡ inflate_by kept s e o mark
+is_made Inflating s e kept o mark inflating inflated = absurd (inflating refl)
+is_made (Neutral hash age) s e kept o mark inflating inflated = refl
+is_made (Anonymous epoch age) s e kept o mark inflating inflated = refl
+is_made (Biased t epoch age) s e kept o mark inflating inflated = refl
+is_made (Locked t p) s e kept o mark inflating inflated = refl
+is_made (Inflated m) s e kept o mark inflating inflated = absurd (inflated m refl)
+is_made Marked s e kept o mark inflating inflated = refl

@@ -15,8 +15,9 @@ use Rattle.core_world.specs.declared.answer.Turn.{Turn}
 use Rattle.core_world.specs.declared.name.Name.TheVariants.{Displaced, Hold, Recursions}
 use Rattle.core_world.specs.declared.plan.StepPlan.{StepPlan}
 use Rattle.core_world.specs.declared.stage.Stage.{Stage}
-use Rattle.core_world.specs.declared.stage.Stage.TheVariants.{Calm, Ahead, Enters}
+use Rattle.core_world.specs.declared.stage.Stage.TheVariants.{Calm, Takes, Ahead, Enters}
 use Rattle.core_world.specs.declared.task.Task.{Task}
+use Rattle.core_world.specs.Clauses.Safepoints.{IsQuiet}
 use Rattle.core_world.specs.Due.{IsDue, IsNext}
 use Rattle.core_world.specs.Locks.{Lock, Open, BiasedTo, OnRecord, OwnedBy, lock, lock_form, owner_lock, holder, who, has_epoch, owner_at}
 use Rattle.core_world.specs.Locks.{marks, owner_words, prototype_of, inflations, displaced_words, hold_count, recursion_count}
@@ -94,15 +95,15 @@ or_true : (b c : Bool) → c ≡ true → (b || c) ≡ true
 or_true true c e = refl
 or_true false c e = e
 
--- a thread that stands in the middle of something other than a revocation runs, and every clause holds
+-- a thread that stands in the middle of something other than a revocation or a bias that it takes runs, and every clause holds
 record InMiddle (w : World) (v : WhollyValid w) (t : ℕ) : Type 0 where
   pub fits : Fits w v.objects
   pub law : BiasLawHolds w
   pub runs : (w.known t).running ≡ true
 
 in_middle : (w : World) (v : WhollyValid w) (t : ℕ) (stage : Stage) → (w.known t).stage ≡ stage → (stage ≡ Calm → ⊥)
-    → revocation_in stage ≡ None → InMiddle w v t
-in_middle w v t stage at some none = elim v.is [
+    → ((i : ℕ) → stage ≡ Takes i → ⊥) → revocation_in stage ≡ None → InMiddle w v t
+in_middle w v t stage at some other none = elim v.is [
   | inl a ↦ record { fits = a.0; law = a.1; runs = running (w.known t).running refl a.0 }
   | inr s ↦ absurd (by_equal t s.0.requester
       (λ e.
@@ -112,12 +113,16 @@ in_middle w v t stage at some none = elim v.is [
       (λ n.
       let stopped : (w.known t).running ≡ false = (s.0.safe.safepoint s.0.requester (ap (λ (k : Known). k.reached) s.0.knows ∙ s.0.reached)).1 t in
       let same = s.0.others t n in
-      some (sym at ∙ ap (λ (k : Known). k.stage) same ∙ s.0.fits.quiet.quiet t (ap (λ (k : Known). k.running) (sym same) ∙ stopped))))
+      unquiet (sym at ∙ ap (λ (k : Known). k.stage) same) (s.0.fits.quiet.quiet t (ap (λ (k : Known). k.running) (sym same) ∙ stopped))))
 ]
   where
+    unquiet : {b : Bool} {s : Stage} → stage ≡ s → IsQuiet b s → ⊥
+    unquiet same (inl a) = some (same ∙ a)
+    unquiet same (inr a) = other a.1.0 (same ∙ a.1.1)
+
     running : (b : Bool) → (w.known t).running ≡ b → Fits w v.objects → (w.known t).running ≡ true
     running true e a = e
-    running false e a = absurd (some (sym at ∙ a.quiet.quiet t e))
+    running false e a = absurd (unquiet (sym at) (a.quiet.quiet t e))
 
 -- THE WORLD BEHIND A STEP that is due
 module _ {A : Type 0} (w : World) (t : ℕ) (within : t < w.shape.threads) (law : HeapLaw (heap_of w)) (sound : Sound w) (task : Task) (p : StepPlan) (f : ℕ → Todo A)
@@ -139,7 +144,7 @@ module _ {A : Type 0} (w : World) (t : ℕ) (within : t < w.shape.threads) (law 
 module _ (w : World) (v : WhollyValid w) (t o q d : ℕ) (at : (w.known t).stage ≡ Enters o q MonitorAgain) (low : d ≤ 64)
     (three : displaced_words w t q ≡ 3) (holds : w.words (Hold t q) ≡ hold_word o d) where
   middle : InMiddle w v t
-  middle = in_middle w v t (Enters o q MonitorAgain) at (λ e. cc e) refl
+  middle = in_middle w v t (Enters o q MonitorAgain) at (λ e. cc e) (λ i e. cc e) refl
 
   unbiased : is_biased (marks w o) ≡ false
   unbiased =
@@ -244,7 +249,7 @@ module _ (w : World) (t : ℕ) (within : t < w.shape.threads) (law : HeapLaw (he
   raised_at = ap (λ (y : Known). y.stage) raised_knows
 
   raised_middle : InMiddle raised raised_sound.valid t
-  raised_middle = in_middle raised raised_sound.valid t (Ahead o) raised_at (λ e. cc e) refl
+  raised_middle = in_middle raised raised_sound.valid t (Ahead o) raised_at (λ e. cc e) (λ i e. cc e) refl
 
   runs : (w.known t).running ≡ true
   runs = ap (λ (y : Known). y.running) (sym raised_knows) ∙ raised_middle.runs

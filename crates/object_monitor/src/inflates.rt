@@ -127,13 +127,15 @@ fn inflate_with(
 fn inflate_by(heap: &Heap, pass: &mut Pass, why: &Purpose, object: u32, mark: u64) -> Turn<u32>
     requires heap { IsOf heap.now pass.old }
     requires due { IsDueOn heap.now pass.old why.now.task
-        (inflate_by pass.old.known.kept why.now object mark) }
-    ensures { HasRun heap.now (inflate_by pass.old.known.kept why.now object mark) pass.old pass.new result }
+        (inflate_by pass.old.known.kept heap.now.heap.shape why.now object mark) }
+    ensures { HasRun heap.now (inflate_by pass.old.known.kept heap.now.heap.shape why.now object mark)
+        pass.old pass.new result }
 {
     match pass.kept() {
         Some(kept) => inflate_with(heap, pass, why, object, mark, kept as u32),
         None => {
-            let claimed = heap.claim(pass, why);
+            let position = heap.claim(pass, why);
+            let claimed = heap.fetch(pass, why, position);
             inflate_with(heap, pass, why, object, mark, claimed as u32)
         }
     }
@@ -143,9 +145,9 @@ fn inflate_by(heap: &Heap, pass: &mut Pass, why: &Purpose, object: u32, mark: u6
 /// gives it. The object's mark has no bias pattern.
 ///
 /// `Done(monitor)` says that the object's mark names this monitor. Where the thread gave it, it is the one that the
-/// thread kept, or else one that it claimed, and the thread keeps none any more. Its header is the neutral mark that
-/// the object had, or that the object's lock record had displaced; its owner is nobody, or that record; and its
-/// recursions are 0.
+/// thread kept, or else the one at the ring position that it claimed, and the thread keeps none any more. Its header is
+/// the neutral mark that the object had, or that the object's lock record had displaced; its owner is nobody, or that
+/// record; and its recursions are 0.
 /// `Pending(Inflating)` says that another thread is inflating the lock: nothing was stored.
 /// `Pending(Raced { expected, found })` says that the exchange expected the mark that the thread had seen and found
 /// another: the mark is left as it was. The thread keeps its monitor, the one that it claimed as well, for the next
@@ -154,8 +156,9 @@ fn inflate_by(heap: &Heap, pass: &mut Pass, why: &Purpose, object: u32, mark: u6
 pub fn inflate(heap: &Heap, pass: &mut Pass, why: &Purpose, object: u32) -> Turn<u32>
     requires heap { IsOf heap.now pass.old }
     requires due { IsDueOn heap.now pass.old why.now.task
-        (inflate_steps why.now pass.old.known.kept object) }
-    ensures run { HasRun heap.now (inflate_steps why.now pass.old.known.kept object) pass.old pass.new result }
+        (inflate_steps heap.now.heap.shape why.now pass.old.known.kept object) }
+    ensures run { HasRun heap.now (inflate_steps heap.now.heap.shape why.now pass.old.known.kept object)
+        pass.old pass.new result }
     ensures local { local_of pass.new.known ≡ local_of pass.old.known }
 {
     let mark = heap.load(pass, why, Stage::Calm, Name::Mark { object });

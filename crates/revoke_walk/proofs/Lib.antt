@@ -8,3 +8,5 @@ mod StandLoop
 mod Later
 mod Parting
 mod Cells
+mod UntouchedLoop
+pub mod Deflating

@@ -32,7 +32,7 @@ use Rattle.heap_table.proofs.Lawful.{law_of}
 use Rattle.heap_table.specs.Seen.{HeapSeen, PassSeen, IsOf}
 use Rattle.heap_table.specs.Stepping.{HasStepped}
 
-sound_forms : (w : World) → Sound w → FormsFit w
+pub sound_forms : (w : World) → Sound w → FormsFit w
 sound_forms w sound = elim sound.valid.is [ inl a ↦ a.0.forms | inr s ↦ s.0.forms ]
 
 -- the word that a step found

@@ -1,7 +1,7 @@
 -- Parts of the steps that take a shot, and what they see.
 use Rattle.std.specs.Prelude.{◌≡◌}
 use Rattle.core_world.specs.Due.{Ran}
-use Rattle.core_world.specs.Trees.Todo.{Todo, ◌>>=◌}
+use Rattle.core_world.specs.Trees.Todo.{Todo}
 use Rattle.heap_table.specs.Seen.{HeapSeen, PassSeen, IsOf}
 
 -- The pass was p, and is q behind these steps. It is a pass of this heap still, with the same limit.

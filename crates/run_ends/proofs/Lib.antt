@@ -3,3 +3,4 @@ pub mod Draws
 pub mod Shots
 pub mod Stuck
 pub mod Prototypes
+pub mod Monitors

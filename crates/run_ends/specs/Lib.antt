@@ -1,2 +1,3 @@
 pub mod OfARun
 pub mod Prototypes
+pub mod Monitors

@@ -10,6 +10,7 @@ ghost use Rattle.core_law.specs.Logic.{Heap};
 ghost use Rattle.heap_table.specs.BiasesAtEnd.{counted_by};
 ghost use Rattle.heap_table.specs.Layout.{place_of};
 ghost use Rattle.plain_history.specs.ExactStamps.{StampsAreExact};
+ghost use Rattle.run_ends.specs.Monitors.{MonitorsAreApart};
 ghost use Rattle.run_ends.specs.OfARun.{IsEnd, HasShots, IsStuckEnd, logs_in, shots_in, unfinished_in};
 ghost use Rattle.core_law.specs.Draws.{HasDraws};
 ghost use Rattle.run_ends.specs.Prototypes.{prototype_by};
@@ -41,4 +42,11 @@ pub fn the_end_of_a_heap_tells_its_prototypes()
     ensures plain { (heap : Heap) (words : List ℕ) (ks : List Known) (c : ℕ) → IsEnd heap words ks
         → c < heap.shape.classes
         → heap.biasing ≡ false → slice_index words (place_of heap.shape (Prototype c)) ≡ 1 }
+{}
+
+/// Each monitor is named by the mark of one object, kept by one thread, or stands at one position of the ring: never in
+/// two of these places, and none is lost. An object that a thread waits on, was notified from or enters has one.
+pub fn monitors_at_the_end_are_apart()
+    ensures { (heap : Heap) (words : List ℕ) (ks : List Known) → IsEnd heap words ks
+        → MonitorsAreApart heap.shape words ks }
 {}

@@ -4,9 +4,13 @@
 //! hashes are, their stamps are exact, each dump's shot is right over the logs as it cuts them, and where the halt is
 //! set the run is stuck.
 //! And the prototypes are those that the counted verdicts make.
+//! Each monitor is in one place then: at a mark, with a thread or in the ring.
 //! `specs/` has the definitions.
 #![tactic(auto)]
 
 mod laws;
 
-pub use laws::{the_end_of_a_heap_tells_its_prototypes, the_end_of_a_heap_tells_its_run};
+pub use laws::{
+    monitors_at_the_end_are_apart, the_end_of_a_heap_tells_its_prototypes,
+    the_end_of_a_heap_tells_its_run,
+};

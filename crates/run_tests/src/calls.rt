@@ -1,6 +1,6 @@
 //! Calls from words and a text in memory to what a sink in memory holds.
 
-use bias_cli::replay;
+use bias_cli::{Closed, replay};
 use run_io::{FreeGate, Gate, MemorySink, MemorySource, StepClock};
 use std::alloc::{AllocError, Global};
 use std::process::Abort;
@@ -34,13 +34,13 @@ pub fn calling<'a>(words: &'a [&'a str], text: &'a str) -> Call<'a> {
     }
 }
 
-/// What became of a call: its status, whether it has a record, and a closed heap, whether the machine behind the record is stuck, and what the sink
-/// holds then.
+/// What became of a call: its status, whether it has a record, its closed heap, whether the machine behind the record is stuck, and what
+/// the sink holds then.
 #[derive(Drop)]
 pub struct Made {
     pub status: u8,
     pub has_record: bool,
-    pub has_closed: bool,
+    pub closed: Option<Closed>,
     pub is_stuck: bool,
     pub held: Vec<u8>,
 }
@@ -114,7 +114,7 @@ pub fn make_by<R: Threads + Wait + Abort + AllocGlobal + Sync, G: Gate + Sync>(
     Ok(Made {
         status: finish.status,
         has_record: finish.run.is_some(),
-        has_closed: finish.closed.is_some(),
+        closed: finish.closed,
         is_stuck,
         held: Vec::from_slice(rt.alloc(), sink.held())?,
     })
@@ -132,7 +132,7 @@ pub fn expect<R: Threads + Wait + Abort + AllocGlobal + Sync>(
     assert_eq!(rt; made.held.as_slice(), held.as_bytes(), "{held}");
     assert_eq!(rt; made.status, status, "{held}");
     assert_eq!(rt; made.has_record, has_record, "{held}");
-    assert_eq!(rt; made.has_closed, has_record, "{held}");
+    assert_eq!(rt; made.closed.is_some(), has_record, "{held}");
     assert_eq!(rt; made.is_stuck, status == 4, "{held}");
     Ok(())
 }

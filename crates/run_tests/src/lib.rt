@@ -11,6 +11,8 @@ mod makes;
 #[cfg(test)]
 mod meets;
 #[cfg(test)]
+mod monitors;
+#[cfg(test)]
 mod reports;
 #[cfg(test)]
 mod rows;

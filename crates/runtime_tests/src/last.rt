@@ -115,6 +115,25 @@ pub fn monitor(closed: &Closed, monitor: u32) -> Option<[u64; 4]> {
     }
 }
 
+/// How many ring positions were claimed.
+pub fn claim(closed: &Closed) -> Option<u64> {
+    word(closed, closed.shape().claim_at())
+}
+
+/// The ring position behind the last monitor that stands there.
+pub fn end(closed: &Closed) -> Option<u64> {
+    word(closed, closed.shape().end_at())
+}
+
+/// The monitor at this place of the ring.
+pub fn ring(closed: &Closed, place: u32) -> Option<u64> {
+    if place < closed.shape().ring_places() {
+        word(closed, closed.shape().ring_at(place))
+    } else {
+        None
+    }
+}
+
 /// Whether the entries have these stamps, in order.
 pub fn has_stamps(log: &[Logged], stamps: &[u64]) -> bool {
     if log.len() != stamps.len() {

@@ -11,6 +11,8 @@ mod calls;
 #[cfg(test)]
 mod compare;
 #[cfg(test)]
+mod deflated;
+#[cfg(test)]
 mod dumped;
 #[cfg(test)]
 mod hashed;

@@ -36,7 +36,7 @@ use Rattle.core_calls.specs.CallsSay.{is_full}
 use Rattle.core_calls.specs.Causes.{is_other_form, names_other}
 use Rattle.solo_progress.specs.Alone.{AnswersAlone, Quiet, word_of_one}
 use Rattle.solo_progress.specs.Answers.{is_other, is_anothers, is_others_form, is_others_bias, PendsWhere, PendsForOwner, RefusedWhere}
-use Rattle.solo_progress.proofs.OneRun.{Alone, alone_then, alone_so, alone_either, answers_alone, load_leaves, alone_past}
+use Rattle.solo_progress.proofs.OneRun.{Alone, QuietAt, quiet_at, alone_then, alone_so, alone_either, answers_alone, load_leaves, alone_past}
 use Rattle.solo_progress.proofs.Safe.{alone_turn, revocation_alone}
 use Rattle.solo_progress.proofs.Monitors.{own_word, owned_by, enter_at_alone}
 use Rattle.solo_progress.proofs.Spares.{put_some}
@@ -53,9 +53,9 @@ same_epoch : (a b : ℕ) → (a == b) ≡ false → (b == a) ≡ false
 same_epoch a b h = grind (arith, nat_tests, h)
 
 -- a loaded word leaves quiet words
-pub quiet_load : (safe : ℕ) (o : ℕ) (f : Name → ℕ) → Quiet safe f → Quiet safe (λ n. cond (same_name n (Mark o)) (f (Mark o)) (f n))
+pub quiet_load : (safe : ℕ) (o : ℕ) (f : Name → ℕ) → QuietAt o safe f → QuietAt o safe (λ n. cond (same_name n (Mark o)) (f (Mark o)) (f n))
 quiet_load safe o f q = record {
-  marks = λ i. subst (λ n. n ≢ 0) (sym (load_leaves (Mark o) (Mark i) f)) (q.marks i);
+  mark = subst (λ n. n ≢ 0) (sym (load_leaves (Mark o) (Mark o) f)) q.mark;
   safepoint = q.safepoint;
 }
 
@@ -100,8 +100,8 @@ module _ (s : Shape) (safe : ℕ) (e : Purpose) (k : Start) (o : ℕ) where
   -- AN ATTEMPT ON THE BIAS of o, by the words f before and g after
   abbrev pub Tried : (Name → ℕ) → (Name → ℕ) → BiasTry → Type 0
   Tried f g (Took path) = is_anothers s f o t ≡ false
-  Tried f g (Unbiased mark) = (g (Mark o) ≡ mark) × Quiet safe g × (owned_by (read_mark mark) g t ≡ is_anothers s f o t)
-  Tried f g (Valid mark) = Quiet safe g × (is_others_bias s f o t ≡ true)
+  Tried f g (Unbiased mark) = (g (Mark o) ≡ mark) × QuietAt o safe g × (owned_by (read_mark mark) g t ≡ is_anothers s f o t)
+  Tried f g (Valid mark) = QuietAt o safe g × (is_others_bias s f o t ≡ true)
   Tried f g (Raced expected found) = ⊥
 
   took_alone : (f g : Name → ℕ) (by : Path) → is_anothers s f o t ≡ false → Alone (λ h tried. Tried f h tried) g (took_steps e k.local o by)
@@ -114,7 +114,7 @@ module _ (s : Shape) (safe : ℕ) (e : Purpose) (k : Start) (o : ℕ) where
       alone_either (λ h tried. Tried f h tried) _ (g (Mark o) == f (Mark o)) _ _
       (λ _. took_alone f _ BiasTaken free) (λ miss. let same = eq-eqb (g (Mark o)) (f (Mark o)) is in absurd (cc (miss, same)))
 
-  module _ (f : Name → ℕ) (q : Quiet safe f) where
+  module _ (f : Name → ℕ) (q : QuietAt o safe f) where
     abbrev count : ℕ → ℕ
     count u = hold_count o (holds_in f u)
 
@@ -152,9 +152,9 @@ module _ (s : Shape) (safe : ℕ) (e : Purpose) (k : Start) (o : ℕ) where
         (ap (others (f (Prototype c)) t f count) reads ∙ stale_other (f (Prototype c)) t f count thread old oldage
         (ap (λ p. has_epoch (epoch_form p) old) proto ∙ same_epoch old epoch stale)))
       where
-        quiet_loaded : Quiet safe loaded
+        quiet_loaded : QuietAt o safe loaded
         quiet_loaded = record {
-          marks = λ i. subst (λ n. n ≢ 0) (sym (load_leaves (Mark o) (Mark i) f)) (q.marks i);
+          mark = subst (λ n. n ≢ 0) (sym (load_leaves (Mark o) (Mark o) f)) q.mark;
           safepoint = q.safepoint;
         }
     by_mark (Some (Anonymous old oldage)) epoch age reads proto =
@@ -168,10 +168,10 @@ module _ (s : Shape) (safe : ℕ) (e : Purpose) (k : Start) (o : ℕ) where
         (λ hit. (
           own_word (Mark o) _ _ ∙ ap (λ (b : Bool). cond b (f (Prototype c)) (loaded (Mark o))) hit,
           record {
-            marks = λ i. put_some (same_name (Mark i) (Mark o)) _ _
+            mark = put_some (same_name (Mark o) (Mark o)) _ _
                 (put_some (loaded (Mark o) == f (Mark o)) (f (Prototype c)) (loaded (Mark o)) (proto_some hash age reads)
-                (subst (λ n. n ≢ 0) (sym (load_leaves (Mark o) (Mark o) f)) (q.marks o)))
-                (subst (λ n. n ≢ 0) (sym (load_leaves (Mark o) (Mark i) f)) (q.marks i));
+                (subst (λ n. n ≢ 0) (sym (load_leaves (Mark o) (Mark o) f)) q.mark))
+                (subst (λ n. n ≢ 0) (sym (load_leaves (Mark o) (Mark o) f)) q.mark);
             safepoint = q.safepoint;
           },
           neutral_unowned (f (Prototype c)) hash age t _ reads ∙ sym
@@ -193,12 +193,12 @@ module _ (s : Shape) (safe : ℕ) (e : Purpose) (k : Start) (o : ℕ) where
         ))
 
   -- AN ENTER after the attempt
-  pub unbiased_alone : (b : Bool) (g : Name → ℕ) (mark : ℕ) → g (Mark o) ≡ mark → Quiet safe g → owned_by (read_mark mark) g t ≡ b
-      → Alone (λ h turn. PendsWhere b turn) g (enter_unbiased (Unbiased mark) e k o)
+  pub unbiased_alone : (b : Bool) (g : Name → ℕ) (mark : ℕ) → g (Mark o) ≡ mark → QuietAt o safe g → owned_by (read_mark mark) g t ≡ b
+      → Alone (λ h turn. PendsWhere b turn) g (enter_unbiased (Unbiased mark) s e k o)
   unbiased_alone b g mark is q owned =
-      subst (λ n. Alone (λ h turn. PendsWhere b turn) g (enter_unbiased (Unbiased n) e k o)) is
-      (subst (λ x. Alone (λ h turn. PendsWhere x turn) g (enter_unbiased (Unbiased (g (Mark o))) e k o))
-      (ap (λ n. owned_by (read_mark n) g t) is ∙ owned) (enter_at_alone safe e k o g q))
+      subst (λ n. Alone (λ h turn. PendsWhere b turn) g (enter_unbiased (Unbiased n) s e k o)) is
+      (subst (λ x. Alone (λ h turn. PendsWhere x turn) g (enter_unbiased (Unbiased (g (Mark o))) s e k o))
+      (ap (λ n. owned_by (read_mark n) g t) is ∙ owned) (enter_at_alone safe e k o s g q))
 
 -- the weaker word
 pub for_owner : {A : Type 0} (b : Bool) (turn : Turn A) → PendsWhere b turn → PendsForOwner turn
@@ -216,11 +216,11 @@ module _ (s : Shape) (e : Purpose) (k : Start) (o now : ℕ) (rebias : Bool) (lo
   -- an attempt after a revocation
   abbrev Again : (Name → ℕ) → BiasTry → Type 0
   Again g (Took path) = Unit {0}
-  Again g (Unbiased mark) = (g (Mark o) ≡ mark) × Quiet (released_word u) g
+  Again g (Unbiased mark) = (g (Mark o) ≡ mark) × QuietAt o (released_word u) g
   Again g (Valid mark) = Unit {0}
   Again g (Raced expected found) = ⊥
 
-  again_alone : (took : Bool) (f : Name → ℕ) → Quiet (released_word u) f → Alone Again f (bias_after_steps e k.local o took)
+  again_alone : (took : Bool) (f : Name → ℕ) → QuietAt o (released_word u) f → Alone Again f (bias_after_steps e k.local o took)
   again_alone took f q =
       alone_either Again _ (is_biased (f (Mark o))) _ _
       (λ _. by_form (read_mark (f (Mark o))) _)
@@ -233,18 +233,18 @@ module _ (s : Shape) (e : Purpose) (k : Start) (o now : ℕ) (rebias : Bool) (lo
           (λ _. tt)
       by_form _ g = tt
 
-  revoked_alone : (requesting : Bool) (f : Name → ℕ) → Quiet (word_of_one requesting u) f
+  revoked_alone : (requesting : Bool) (f : Name → ℕ) → QuietAt o (word_of_one requesting u) f
       → Alone (λ g turn. PendsForOwner turn) f (enter_revoked s requesting e k b)
   revoked_alone requesting f q =
-      alone_turn (λ g (x : Bool). Quiet (released_word u) g) (λ g turn. PendsForOwner turn) (revocation_steps s u requesting e b) _ f
+      alone_turn (λ g (x : Bool). QuietAt o (released_word u) g) (λ g turn. PendsForOwner turn) (revocation_steps s u requesting e b) _ f
       (revocation_alone u low s requesting e b f q)
       (λ g took q. alone_then Again (λ h turn. PendsForOwner turn) (bias_after_steps e k.local o took) _ g (again_alone took g q) by_tried)
     where
-      by_tried : (g : Name → ℕ) (tried : BiasTry) → Again g tried → Alone (λ h turn. PendsForOwner turn) g (enter_unbiased tried e k o)
+      by_tried : (g : Name → ℕ) (tried : BiasTry) → Again g tried → Alone (λ h turn. PendsForOwner turn) g (enter_unbiased tried s e k o)
       by_tried g (Took path) h = tt
       by_tried g (Unbiased mark) h =
           alone_so (λ h turn. PendsWhere (owned_by (read_mark mark) g u) turn) (λ h turn. PendsForOwner turn)
-          (enter_unbiased (Unbiased mark) e k o) g
+          (enter_unbiased (Unbiased mark) s e k o) g
           (unbiased_alone s (released_word u) e k o (owned_by (read_mark mark) g u) g mark h.0 h.1 refl)
           (λ h turn x. for_owner (owned_by (read_mark mark) g u) turn x)
       by_tried g (Valid mark) h = tt
@@ -253,11 +253,11 @@ module _ (s : Shape) (e : Purpose) (k : Start) (o now : ℕ) (rebias : Bool) (lo
   -- the same exactly, by the words after the revocation
   abbrev Anew : (Name → ℕ) → (Name → ℕ) → BiasTry → Type 0
   Anew f g (Took path) = is_anothers s f o u ≡ false
-  Anew f g (Unbiased mark) = (g (Mark o) ≡ mark) × Quiet (released_word u) g × (owned_by (read_mark mark) g u ≡ is_anothers s f o u)
+  Anew f g (Unbiased mark) = (g (Mark o) ≡ mark) × QuietAt o (released_word u) g × (owned_by (read_mark mark) g u ≡ is_anothers s f o u)
   Anew f g (Valid mark) = Unit {0}
   Anew f g (Raced expected found) = ⊥
 
-  anew_alone : (took : Bool) (f : Name → ℕ) → Quiet (released_word u) f
+  anew_alone : (took : Bool) (f : Name → ℕ) → QuietAt o (released_word u) f
       → Alone (λ g tried. Anew f g tried) f (bias_after_steps e k.local o took)
   anew_alone took f q =
       alone_either (λ g tried. Anew f g tried) _ (is_biased (f (Mark o))) _ _
@@ -279,22 +279,22 @@ module _ (s : Shape) (e : Purpose) (k : Start) (o now : ℕ) (rebias : Bool) (lo
           (λ _. tt)
       by_form _ reads g = tt
 
-  pub after_alone : (took : Bool) (f : Name → ℕ) → Quiet (released_word u) f
+  pub after_alone : (took : Bool) (f : Name → ℕ) → QuietAt o (released_word u) f
       → Alone (λ g turn. PendsWhere (is_anothers s f o u) turn) f
-      (bias_after_steps e k.local o took >>= λ tried. enter_unbiased tried e k o)
+      (bias_after_steps e k.local o took >>= λ tried. enter_unbiased tried s e k o)
   after_alone took f q =
       alone_then (λ g tried. Anew f g tried) (λ g turn. PendsWhere (is_anothers s f o u) turn) (bias_after_steps e k.local o took) _ f
       (anew_alone took f q) by_tried
     where
       by_tried : (g : Name → ℕ) (tried : BiasTry) → Anew f g tried
-          → Alone (λ h turn. PendsWhere (is_anothers s f o u) turn) g (enter_unbiased tried e k o)
+          → Alone (λ h turn. PendsWhere (is_anothers s f o u) turn) g (enter_unbiased tried s e k o)
       by_tried g (Took path) h = h
       by_tried g (Unbiased mark) h = unbiased_alone s (released_word u) e k o (is_anothers s f o u) g mark h.0 h.1 h.2
       by_tried g (Valid mark) h = tt
       by_tried g (Raced expected found) h = absurd h
 
   -- without a revocation: exactly where another has the lock
-  exact_alone : (f : Name → ℕ) → k.requesting ≡ false → is_others_bias s f o u ≡ false → Quiet (released_word u) f
+  exact_alone : (f : Name → ℕ) → k.requesting ≡ false → is_others_bias s f o u ≡ false → QuietAt o (released_word u) f
       → Alone (λ g turn. PendsWhere (is_anothers s f o u) turn) f (enter_going s e k b)
   exact_alone f none unrevoked q =
       alone_either (λ g turn. PendsWhere (is_anothers s f o u) turn) f k.requesting _ _ (λ asks. absurd (cc (none, asks)))
@@ -310,19 +310,19 @@ module _ (s : Shape) (e : Purpose) (k : Start) (o now : ℕ) (rebias : Bool) (lo
       by_tried g (Raced expected found) h = absurd h
 
   -- with one: pending for an owner alone
-  going_alone : (f : Name → ℕ) → Quiet (word_of_one k.requesting u) f → Alone (λ g turn. PendsForOwner turn) f (enter_going s e k b)
+  going_alone : (f : Name → ℕ) → QuietAt o (word_of_one k.requesting u) f → Alone (λ g turn. PendsForOwner turn) f (enter_going s e k b)
   going_alone f q =
       alone_either (λ g turn. PendsForOwner turn) f k.requesting _ _
-      (λ asks. revoked_alone true f (subst (λ (r : Bool). Quiet (word_of_one r u) f) asks q))
+      (λ asks. revoked_alone true f (subst (λ (r : Bool). QuietAt o (word_of_one r u) f) asks q))
       (λ none. alone_then (λ g tried. Tried s (released_word u) e k o f g tried) (λ g turn. PendsForOwner turn)
       (bias_enter_steps e k.local (class_of s o) o) _ f
-      (bias_enter_alone s (released_word u) e k o f (subst (λ (r : Bool). Quiet (word_of_one r u) f) none q)) by_tried)
+      (bias_enter_alone s (released_word u) e k o f (subst (λ (r : Bool). QuietAt o (word_of_one r u) f) none q)) by_tried)
     where
       by_tried : (g : Name → ℕ) (tried : BiasTry) → Tried s (released_word u) e k o f g tried
           → Alone (λ h turn. PendsForOwner turn) g (enter_tried tried s e k b)
       by_tried g (Took path) h = tt
       by_tried g (Unbiased mark) h =
-          alone_so (λ i turn. PendsWhere (is_anothers s f o u) turn) (λ i turn. PendsForOwner turn) (enter_unbiased (Unbiased mark) e k o) g
+          alone_so (λ i turn. PendsWhere (is_anothers s f o u) turn) (λ i turn. PendsForOwner turn) (enter_unbiased (Unbiased mark) s e k o) g
           (unbiased_alone s (released_word u) e k o (is_anothers s f o u) g mark h.0 h.1 h.2)
           (λ i turn x. for_owner (is_anothers s f o u) turn x)
       by_tried g (Valid mark) h = revoked_alone false g h.0
@@ -353,7 +353,7 @@ enters_where s k o now f low none q unrevoked =
     (λ few. alone_then (λ g turn. PendsWhere (is_anothers s f o k.local.thread) turn)
     (λ g a. RefusedWhere (is_full k o) (PendsWhere (is_anothers s f o k.local.thread)) a)
     (enter_going s (purpose (task.Enter o now) op.Enter o) k (record { object = o; rebias = true; now = now })) answer f
-    (exact_alone s (purpose (task.Enter o now) op.Enter o) k o now true low f none unrevoked q) (λ g a h. (few_free k o few, h))))
+    (exact_alone s (purpose (task.Enter o now) op.Enter o) k o now true low f none unrevoked (quiet_at o q)) (λ g a h. (few_free k o few, h))))
 
 pub enters_through : (s : Shape) (k : Start) (o now : ℕ) (f : Name → ℕ) → k.local.thread < 32
     → Quiet (word_of_one k.requesting k.local.thread) f
@@ -363,4 +363,4 @@ enters_through s k o now f low q = answers_alone (RefusedWhere (is_full k o) Pen
     (λ full. full_alone k o _ f full)
     (λ few. alone_then (λ g turn. PendsForOwner turn) (λ g a. RefusedWhere (is_full k o) PendsForOwner a)
     (enter_going s (purpose (task.Enter o now) op.Enter o) k (record { object = o; rebias = true; now = now })) answer f
-    (going_alone s (purpose (task.Enter o now) op.Enter o) k o now true low f q) (λ g a h. (few_free k o few, h))))
+    (going_alone s (purpose (task.Enter o now) op.Enter o) k o now true low f (quiet_at o q)) (λ g a h. (few_free k o few, h))))

@@ -30,7 +30,7 @@ use Rattle.solo_progress.specs.Alone.{FoundAlone, words_left, Quiet, word_of_one
 use Rattle.solo_progress.specs.Answers.{is_other, is_anothers, PendsWhere, RefusedWhere}
 use Rattle.solo_progress.specs.LeftAlone.{IsReady, start_in}
 use Rattle.solo_progress.specs.Moves.{Moves, goes, GetsThrough}
-use Rattle.solo_progress.proofs.OneRun.{Alone, always_left}
+use Rattle.solo_progress.proofs.OneRun.{Alone, QuietAt, quiet_at, always_left}
 use Rattle.solo_progress.proofs.Enters.{Tried, bias_enter_alone, unbiased_alone, after_alone, few_free, new_full}
 use Rattle.solo_progress.proofs.Laws.{fits, mine, low_own, low, quiet_words, enters_any}
 use Rattle.solo_progress.proofs.Mids.{anothers_then}
@@ -105,10 +105,10 @@ module _ (heap : Heap) (w : World) (objects : List PlainObject) (t o now : ℕ) 
       PartTurn w.shape k (task.Enter o now) (unfinished_on op.Enter o) o (EnterCause k.requesting u o) (enter_reasons k.requesting u o) Bool
 
   abbrev Quietly : List StepMade → Turn Bool → Type 0
-  Quietly ms turn = FoundAlone w.words ms → IsQuietTurn (released_word u) (words_left w.words ms) turn
+  Quietly ms turn = FoundAlone w.words ms → IsQuietTurn o (released_word u) (words_left w.words ms) turn
 
   abbrev again : Bool → Todo (Turn Path)
-  again took = bias_after_steps e k.local o took >>= λ tried. enter_unbiased tried e k o
+  again took = bias_after_steps e k.local o took >>= λ tried. enter_unbiased tried w.shape e k o
 
   turn_after : (ms : List StepMade) (turn : Turn Bool) → Says ms turn × Quietly ms turn → Always Turns ms (and_then turn again)
   turn_after ms (Done took) h =
@@ -116,15 +116,15 @@ module _ (heap : Heap) (w : World) (objects : List PlainObject) (t o now : ℕ) 
       (λ run. subst (λ x. Alone (λ g turn. PendsWhere x turn) (words_left w.words ms) (again took))
       (ap (is_anothers w.shape (words_left w.words ms) o) (mine heap w objects t (task.Enter o now) ready)
       ∙ anothers_then heap ready.call.limits w objects t ready.alone (low heap w objects t (task.Enter o now) ready)
-      (fits heap w objects t (task.Enter o now) ready) ready.call.reached ms run.last run.moved h.0.entries
-      (subst (λ i. Quiet (released_word i) (words_left w.words ms)) (mine heap w objects t (task.Enter o now) ready)
-      (h.1 (found ms run))) o)
+      (fits heap w objects t (task.Enter o now) ready) ready.call.reached ms run.last run.moved h.0.entries o
+      (subst (λ i. QuietAt o (released_word i) (words_left w.words ms)) (mine heap w objects t (task.Enter o now) ready)
+      (h.1 (found ms run))))
       (after_alone w.shape e k o now true (low_own heap w objects t (task.Enter o now) ready) took (words_left w.words ms)
       (h.1 (found ms run))))
   turn_after ms (Pending why) h = λ run. absurd (h.1 (found ms run))
 
   revoked_exactly : (requesting : Bool) (ms : List StepMade) → k.requesting ≡ requesting → Still ms
-      → (FoundAlone w.words ms → Quiet (word_of_one requesting u) (words_left w.words ms))
+      → (FoundAlone w.words ms → QuietAt o (word_of_one requesting u) (words_left w.words ms))
       → Always Turns ms (enter_revoked w.shape requesting e k b)
   revoked_exactly requesting ms same silent quiet =
       always_then (λ ms turn. Says ms turn × Quietly ms turn) Turns (revocation_steps w.shape u requesting e b)
@@ -132,7 +132,7 @@ module _ (heap : Heap) (w : World) (objects : List PlainObject) (t o now : ℕ) 
       (always_both Says Quietly (revocation_steps w.shape u requesting e b) ms
       (revocation_says w.shape k (task.Enter o now) (unfinished_on op.Enter o) o (EnterCause k.requesting u o)
       (enter_reasons k.requesting u o) requesting same b ms silent)
-      (always_left (IsQuietTurn (released_word u)) w.words (revocation_steps w.shape u requesting e b) ms
+      (always_left (IsQuietTurn o (released_word u)) w.words (revocation_steps w.shape u requesting e b) ms
       (λ run. revocation_alone u (low_own heap w objects t (task.Enter o now) ready) w.shape requesting e b (words_left w.words ms)
       (quiet run))))
       turn_after
@@ -145,9 +145,9 @@ module _ (heap : Heap) (w : World) (objects : List PlainObject) (t o now : ℕ) 
       → Always Turns ms (enter_tried tried w.shape e k b)
   try_after none ms (Took path) h = λ run. sym same_at_first ∙ h.1 (found ms run)
   try_after none ms (Unbiased mark) h =
-      by_words (PendsWhere anothers) (enter_unbiased (Unbiased mark) e k o) ms
+      by_words (PendsWhere anothers) (enter_unbiased (Unbiased mark) w.shape e k o) ms
       (λ run. let x = h.1 (found ms run) in
-      subst (λ y. Alone (λ g turn. PendsWhere y turn) (words_left w.words ms) (enter_unbiased (Unbiased mark) e k o)) same_at_first
+      subst (λ y. Alone (λ g turn. PendsWhere y turn) (words_left w.words ms) (enter_unbiased (Unbiased mark) w.shape e k o)) same_at_first
       (unbiased_alone w.shape (released_word u) e k o (is_anothers w.shape w.words o u) (words_left w.words ms) mark x.0 x.1 x.2))
   try_after none ms (Valid mark) h = revoked_exactly false ms none (still h.0) (λ run. (h.1 run).0)
   try_after none ms (Raced expected found') h = λ run. absurd (h.1 (found ms run))
@@ -156,7 +156,7 @@ module _ (heap : Heap) (w : World) (objects : List PlainObject) (t o now : ℕ) 
   going_exactly =
       either_way Turns [] k.requesting _ _
       (λ asks. revoked_exactly true [] asks (record { are = refl })
-      (λ _. subst (λ (r : Bool). Quiet (word_of_one r u) w.words) asks (quiet_words heap w objects t (task.Enter o now) ready)))
+      (λ _. quiet_at o (subst (λ (r : Bool). Quiet (word_of_one r u) w.words) asks (quiet_words heap w objects t (task.Enter o now) ready))))
       (λ none. always_then (λ ms tried. TrySays e k.local o ms tried × Attempts ms tried) Turns
       (bias_enter_steps e k.local (class_of w.shape o) o) (λ tried. enter_tried tried w.shape e k b) []
       (always_both (TrySays e k.local o) Attempts (bias_enter_steps e k.local (class_of w.shape o) o) []
@@ -164,7 +164,7 @@ module _ (heap : Heap) (w : World) (objects : List PlainObject) (t o now : ℕ) 
       (always_left (λ g tried. Tried w.shape (released_word u) e k o w.words g tried) w.words
       (bias_enter_steps e k.local (class_of w.shape o) o) []
       (λ _. bias_enter_alone w.shape (released_word u) e k o w.words
-      (subst (λ (r : Bool). Quiet (word_of_one r u) w.words) none (quiet_words heap w objects t (task.Enter o now) ready)))))
+      (quiet_at o (subst (λ (r : Bool). Quiet (word_of_one r u) w.words) none (quiet_words heap w objects t (task.Enter o now) ready))))))
       (try_after none))
 
   enter_exactly : Always (So (RefusedWhere (is_full k o) (PendsWhere anothers))) [] (enter_steps w.shape k o now)

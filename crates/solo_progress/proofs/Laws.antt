@@ -47,7 +47,7 @@ use Rattle.solo_progress.proofs.Monitors.{stack_enter_alone}
 use Rattle.solo_progress.proofs.Safe.{requests_done, reaches_done}
 use Rattle.solo_progress.proofs.Operations.{hashes_through, notifies_through, notify_alls_through, waits_go, waits_end, waits_done, polls_through, resumes_through, dumps_through, checks_through, puts_through}
 use Rattle.solo_progress.proofs.Runs.{gets_through}
-use Rattle.solo_progress.proofs.OneRun.{answers_alone, alone_all}
+use Rattle.solo_progress.proofs.OneRun.{quiet_at, answers_alone, alone_all}
 use Rattle.plain_monitor.specs.declared.entry.Ending.{Ending}
 use Rattle.solo_progress.proofs.Worlds.{alone_fits, no_mark_0, prototype_some, quiet, who_is_owner}
 
@@ -275,8 +275,8 @@ module _ (heap : Heap) (w : World) (objects : List PlainObject) (t : ℕ) where
       let runs = first_holds (w.known t).running (is_none (w.known t).unfinished) (not (w.known t).checking) ready.call.may in
       let none = not_asks (w.known t).requesting (sym ready.alone.runs ∙ runs) in
       through task.Request ready d IsDone refl
-      (answers_alone IsDone w.words d (requests_done k.local.thread (low_own task.Request ready) (lone_purpose task.Request) w.words
-      (subst (λ (r : Bool). Quiet (word_of_one r k.local.thread) w.words) none (quiet_words task.Request ready))))
+      (answers_alone IsDone w.words d (requests_done k.local.thread 0 (low_own task.Request ready) (lone_purpose task.Request) w.words
+      (quiet_at 0 (subst (λ (r : Bool). Quiet (word_of_one r k.local.thread) w.words) none (quiet_words task.Request ready)))))
     where
       not_asks : (b : Bool) → not b ≡ true → b ≡ false
       not_asks false e = refl
@@ -289,8 +289,8 @@ module _ (heap : Heap) (w : World) (objects : List PlainObject) (t : ℕ) where
       let d = reached_steps (lone_purpose task.Reached) in
       let asks = first_holds (w.known t).requesting (is_none (w.known t).unfinished) (not (w.known t).checking) ready.call.may in
       through task.Reached ready d IsDone refl
-      (answers_alone IsDone w.words d (reaches_done k.local.thread (low_own task.Reached ready) (lone_purpose task.Reached) w.words
-      (subst (λ (r : Bool). Quiet (word_of_one r k.local.thread) w.words) asks (quiet_words task.Reached ready))))
+      (answers_alone IsDone w.words d (reaches_done k.local.thread 0 (low_own task.Reached ready) (lone_purpose task.Reached) w.words
+      (quiet_at 0 (subst (λ (r : Bool). Quiet (word_of_one r k.local.thread) w.words) asks (quiet_words task.Reached ready)))))
 
 -- CALLS THAT NEED NO OTHER THREAD. A release answers nothing.
 release_ends : (e : Purpose) (t : ℕ) → release_safepoint e t ≡ (release_safepoint e t >>= end)

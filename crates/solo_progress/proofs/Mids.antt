@@ -23,11 +23,11 @@ use Rattle.core_law.specs.Logic.{Heap}
 use Rattle.core_law.specs.Reached.{Comes, moves}
 use Rattle.core_steps.proofs.ReachedWorlds.{reached_worlds_valid}
 use Rattle.core_world.specs.Words.Shape.{IsInLimits}
-use Rattle.solo_progress.specs.Alone.{words_left, Quiet}
+use Rattle.solo_progress.specs.Alone.{words_left}
 use Rattle.solo_progress.specs.Answers.{is_other, is_anothers, who_in}
 use Rattle.solo_progress.specs.LeftAlone.{IsLeftAlone}
 use Rattle.solo_progress.specs.Moves.{Moves, stays, goes}
-use Rattle.solo_progress.proofs.OneRun.{not_inflating}
+use Rattle.solo_progress.proofs.OneRun.{QuietAt, not_inflating}
 use Rattle.solo_progress.proofs.Runs.{moves_found}
 use Rattle.solo_progress.proofs.Safe.{no_requester}
 use Rattle.solo_progress.proofs.Worlds.{all_calm}
@@ -108,7 +108,7 @@ unnamed _ p owners x d = refl
 
 module _ (heap : Heap) (limits : IsInLimits heap.shape) (w : World) (P : List PlainObject) (t : ℕ) (a : IsLeftAlone w t) (low : t < 32)
     (before : Fits w P) (c : Comes heap w) (ms : List StepMade) (v : World) (m : Moves w t ms v) (silent : entries_of ms ≡ [])
-    (q : Quiet (released_word t) (words_left w.words ms)) where
+    (o : ℕ) (q : QuietAt o (released_word t) (words_left w.words ms)) where
   words : v.words ≡ words_left w.words ms
   words = λ i n. (moves_found w t ms v m).words n i
 
@@ -132,30 +132,30 @@ module _ (heap : Heap) (limits : IsInLimits heap.shape) (w : World) (P : List Pl
       (sym fits.taken ∙ ap (objects_after v.shape.objects) same_logs ∙ ap (λ (s : Shape). objects_after s.objects (logs w))
       (went w t ms v m).shape ∙ before.taken)) fits
 
-  some : (o : ℕ) → v.words (Mark o) ≢ 0
-  some o z = q.marks o (ap (λ (f : Name → ℕ). f (Mark o)) (sym words) ∙ z)
+  some : v.words (Mark o) ≢ 0
+  some z = q.mark (ap (λ (f : Name → ℕ). f (Mark o)) (sym words) ∙ z)
 
   -- by the words as they are then
-  held_then : (o u : ℕ) → hold_count o (holds_in v.words u) ≡ hold_count o (v.known u).holds
-  held_then o u = ap (hold_count o) (holds_are v.words u (v.known u).holds (middle.holds.places u) (middle.holds.stored u))
+  held_then : (u : ℕ) → hold_count o (holds_in v.words u) ≡ hold_count o (v.known u).holds
+  held_then u = ap (hold_count o) (holds_are v.words u (v.known u).holds (middle.holds.places u) (middle.holds.stored u))
 
-  who_then : (o : ℕ) → who_in v.shape v.words o ≡ who v o
-  who_then o =
+  who_then : who_in v.shape v.words o ≡ who v o
+  who_then =
       (λ i. holder (lock_form (read_mark (v.words (Mark o))) (v.words (Prototype (class_of v.shape o))) (owner_words v) None)
-      (λ u. held_then o u i))
+      (λ u. held_then u i))
       ∙ ap (λ l. holder l (λ u. hold_count o (v.known u).holds))
       (unnamed (read_mark (v.words (Mark o))) (v.words (Prototype (class_of v.shape o))) (owner_words v) (inflations v o)
-      (not_inflating (v.words (Mark o)) (some o)))
+      (not_inflating (v.words (Mark o)) some))
 
-  others_then : (o u : ℕ) → u ≢ t → is_thread (who v o) u ≡ is_thread (monitor_of P o).owner u
-  others_then o u d =
+  others_then : (u : ℕ) → u ≢ t → is_thread (who v o) u ≡ is_thread (monitor_of P o).owner u
+  others_then u d =
       middle.owners.same o u
       ∙ ap (λ (k : Known). owner_at P o u || bears k.stage o) ((went w t ms v m).others u d)
       ∙ ap (λ s. owner_at P o u || bears s o) (all_calm w P t a before u)
       ∙ or-false (owner_at P o u)
 
-  pub anothers_then : (o : ℕ) → is_anothers w.shape (words_left w.words ms) o t ≡ is_other (monitor_of P o).owner t
-  anothers_then o =
+  pub anothers_then : is_anothers w.shape (words_left w.words ms) o t ≡ is_other (monitor_of P o).owner t
+  anothers_then =
       (λ i. is_anothers (sym (went w t ms v m).shape i) (sym words i) o t)
-      ∙ ap (λ b. is_other b t) (who_then o)
-      ∙ other_same (who v o) (monitor_of P o).owner t (others_then o)
+      ∙ ap (λ b. is_other b t) who_then
+      ∙ other_same (who v o) (monitor_of P o).owner t others_then

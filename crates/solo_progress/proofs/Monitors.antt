@@ -16,6 +16,7 @@ use Rattle.core_world.specs.declared.stage.Stage.{Stage}
 use Rattle.core_world.specs.declared.stage.Stage.TheVariants.{Grabs, Ahead}
 use Rattle.core_world.specs.declared.answer.Turn.{Turn}
 use Rattle.core_world.specs.Words.Names.{same_name}
+use Rattle.core_world.specs.Words.Shape.{Shape}
 use Rattle.core_world.specs.Threads.Known.{Local, Start}
 use Rattle.core_world.specs.Trees.LockSteps.{hold_steps, stack_enter_at, stack_enter_steps}
 use Rattle.core_world.specs.Trees.MonitorSteps.{inflate_steps, inflate_at, inflate_by, inflate_with, monitor_enter_steps, monitor_enter_at, record_steps}
@@ -23,9 +24,8 @@ use Rattle.core_world.specs.Trees.Operations.{enter_monitor_steps, enter_at}
 use Rattle.core_world.specs.Trees.Plans.{Purpose}
 use Rattle.core_world.proofs.OwnersShown.{with_word_there}
 use Rattle.core_calls.specs.Causes.{is_other_form, names_other}
-use Rattle.solo_progress.specs.Alone.{Quiet}
 use Rattle.solo_progress.specs.Answers.{IsDone, PendsWhere}
-use Rattle.solo_progress.proofs.OneRun.{Alone, alone_either, load_leaves, not_inflating, DoneWith, alone_past}
+use Rattle.solo_progress.proofs.OneRun.{Alone, QuietAt, alone_either, load_leaves, not_inflating, DoneWith, alone_past}
 use Rattle.solo_progress.proofs.Safe.{alone_turn}
 
 -- who owns the monitor that an inflation of a mark of this form finds or makes, by the words f before and g after
@@ -54,18 +54,18 @@ own_word n v w = with_word_there n v (λ _. w)
 
 module _ (safe : ℕ) (e : Purpose) (o : ℕ) where
   abbrev Makes : Option MarkForm → (Name → ℕ) → (Name → ℕ) → Turn ℕ → Type 0
-  Makes form f g turn = DoneWith (λ m. Quiet safe g × OwnerAfter form f g m) turn
+  Makes form f g turn = DoneWith (λ m. QuietAt o safe g × OwnerAfter form f g m) turn
 
-  with_alone : (form : Option MarkForm) (mark m : ℕ) (f g : Name → ℕ) → g (Mark o) ≡ mark → Quiet safe g
+  with_alone : (form : Option MarkForm) (mark m : ℕ) (f g : Name → ℕ) → g (Mark o) ≡ mark → QuietAt o safe g
       → Alone (λ h turn. Makes form f h turn) g (inflate_with form e o mark m)
   with_alone (Some (Locked thread place)) mark m f g is q =
       alone_either (λ h turn. Makes (Some (Locked thread place)) f h turn) _ (g (Mark o) == mark) _ _
       (λ hit. (
         record {
-          marks = λ i. subst (λ n. cond (same_name (Mark i) (Mark o)) (mark_of (Inflated m))
-              (cond (same_name (Mark i) (Mark o)) n (g (Mark i))) ≢ 0)
+          mark = subst (λ n. cond (same_name (Mark o) (Mark o)) (mark_of (Inflated m))
+              (cond (same_name (Mark o) (Mark o)) n (g (Mark o))) ≢ 0)
               (sym (ap (λ (b : Bool). cond b 0 (g (Mark o))) hit))
-              (named_some (same_name (Mark i) (Mark o)) (mark_of (Inflated m)) (g (Mark i)) (some_of m) (q.marks i));
+              (named_some (same_name (Mark o) (Mark o)) (mark_of (Inflated m)) (g (Mark o)) (some_of m) q.mark);
           safepoint = q.safepoint;
         },
         own_word (Owner m) (owner_of (ByRecord thread place)) _,
@@ -75,8 +75,8 @@ module _ (safe : ℕ) (e : Purpose) (o : ℕ) where
       alone_either (λ h turn. Makes (Some (Neutral hash age)) f h turn) _ (g (Mark o) == mark) _ _
       (λ hit. (
         record {
-          marks = λ i. one_some (same_name (Mark i) (Mark o)) (g (Mark o) == mark) (mark_of (Inflated m)) (g (Mark i)) (g (Mark o))
-              (some_of m) (q.marks i) (q.marks o);
+          mark = one_some (same_name (Mark o) (Mark o)) (g (Mark o) == mark) (mark_of (Inflated m)) (g (Mark o)) (g (Mark o))
+              (some_of m) q.mark q.mark;
           safepoint = q.safepoint;
         },
         own_word (Owner m) (owner_of Free) _,
@@ -84,24 +84,24 @@ module _ (safe : ℕ) (e : Purpose) (o : ℕ) where
       (λ miss. let same = eq-eqb (g (Mark o)) mark is in absurd (cc (miss, same)))
   with_alone _ mark m f g is q = tt
 
-  by_alone : (kept : Option ℕ) (mark : ℕ) (f g : Name → ℕ) → g (Mark o) ≡ mark → Quiet safe g
-      → Alone (λ h turn. Makes (read_mark mark) f h turn) g (inflate_by kept e o mark)
-  by_alone (Some m) mark f g is q = with_alone (read_mark mark) mark m f g is q
-  by_alone None mark f g is q = with_alone (read_mark mark) mark _ f _ is (record { marks = q.marks; safepoint = q.safepoint })
+  by_alone : (s : Shape) (kept : Option ℕ) (mark : ℕ) (f g : Name → ℕ) → g (Mark o) ≡ mark → QuietAt o safe g
+      → Alone (λ h turn. Makes (read_mark mark) f h turn) g (inflate_by kept s e o mark)
+  by_alone s (Some m) mark f g is q = with_alone (read_mark mark) mark m f g is q
+  by_alone s None mark f g is q = with_alone (read_mark mark) mark _ f _ is (record { mark = q.mark; safepoint = q.safepoint })
 
-  at_alone : (form : Option MarkForm) (kept : Option ℕ) (mark : ℕ) (f g : Name → ℕ) → read_mark mark ≡ form → mark ≢ 0 → g (Mark o) ≡ mark
-      → ((m : ℕ) → g (Owner m) ≡ f (Owner m)) → Quiet safe g
-      → Alone (λ h turn. Makes form f h turn) g (inflate_at form e kept o mark)
-  at_alone (Some Inflating) kept mark f g reads some is owners q = absurd (not_inflating mark some reads)
-  at_alone (Some (Inflated monitor)) kept mark f g reads some is owners q = (q, (refl, owners monitor))
-  at_alone form kept mark f g reads some is owners q =
-      subst (λ x. Alone (λ h turn. Makes x f h turn) g (inflate_by kept e o mark)) reads (by_alone kept mark f g is q)
+  at_alone : (form : Option MarkForm) (s : Shape) (kept : Option ℕ) (mark : ℕ) (f g : Name → ℕ) → read_mark mark ≡ form → mark ≢ 0 → g (Mark o) ≡ mark
+      → ((m : ℕ) → g (Owner m) ≡ f (Owner m)) → QuietAt o safe g
+      → Alone (λ h turn. Makes form f h turn) g (inflate_at form s e kept o mark)
+  at_alone (Some Inflating) s kept mark f g reads some is owners q = absurd (not_inflating mark some reads)
+  at_alone (Some (Inflated monitor)) s kept mark f g reads some is owners q = (q, (refl, owners monitor))
+  at_alone form s kept mark f g reads some is owners q =
+      subst (λ x. Alone (λ h turn. Makes x f h turn) g (inflate_by kept s e o mark)) reads (by_alone s kept mark f g is q)
 
-  pub inflate_alone : (kept : Option ℕ) (f : Name → ℕ) → Quiet safe f
-      → Alone (λ h turn. Makes (read_mark (f (Mark o))) f h turn) f (inflate_steps e kept o)
-  inflate_alone kept f q =
-      at_alone (read_mark (f (Mark o))) kept (f (Mark o)) f _ refl (q.marks o) (load_leaves (Mark o) (Mark o) f) (λ m. refl)
-      (record { marks = λ i. subst (λ n. n ≢ 0) (sym (load_leaves (Mark o) (Mark i) f)) (q.marks i); safepoint = q.safepoint })
+  pub inflate_alone : (s : Shape) (kept : Option ℕ) (f : Name → ℕ) → QuietAt o safe f
+      → Alone (λ h turn. Makes (read_mark (f (Mark o))) f h turn) f (inflate_steps s e kept o)
+  inflate_alone s kept f q =
+      at_alone (read_mark (f (Mark o))) s kept (f (Mark o)) f _ refl q.mark (load_leaves (Mark o) (Mark o) f) (λ m. refl)
+      (record { mark = subst (λ n. n ≢ 0) (sym (load_leaves (Mark o) (Mark o) f)) q.mark; safepoint = q.safepoint })
 
 module _ (e : Purpose) (k : Local) (o : ℕ) where
   -- an enter by a lock record that is given the object's mark
@@ -147,12 +147,12 @@ module _ (safe : ℕ) (e : Purpose) (k : Start) (o : ℕ) where
   abbrev t : ℕ
   t = k.local.thread
 
-  by_monitor_alone : (f : Name → ℕ) → Quiet safe f
-      → Alone (λ g turn. PendsWhere (owned_by (read_mark (f (Mark o))) f t) turn) f (enter_monitor_steps e k o)
-  by_monitor_alone f q =
-      alone_turn (λ g m. Quiet safe g × OwnerAfter (read_mark (f (Mark o))) f g m)
+  by_monitor_alone : (s : Shape) (f : Name → ℕ) → QuietAt o safe f
+      → Alone (λ g turn. PendsWhere (owned_by (read_mark (f (Mark o))) f t) turn) f (enter_monitor_steps s e k o)
+  by_monitor_alone s f q =
+      alone_turn (λ g m. QuietAt o safe g × OwnerAfter (read_mark (f (Mark o))) f g m)
       (λ g turn. PendsWhere (owned_by (read_mark (f (Mark o))) f t) turn)
-      (inflate_steps e k.kept o) (λ m. monitor_enter_steps e k.local o m) f (inflate_alone safe e o k.kept f q)
+      (inflate_steps s e k.kept o) (λ m. monitor_enter_steps e k.local o m) f (inflate_alone safe e o s k.kept f q)
       (λ g m h. subst (λ b. Alone (λ g turn. PendsWhere b turn) g (monitor_enter_steps e k.local o m))
       (owner_told (read_mark (f (Mark o))) refl g m h.1) (monitor_enter_alone e k.local o m g))
     where
@@ -166,9 +166,9 @@ module _ (safe : ℕ) (e : Purpose) (k : Start) (o : ℕ) where
           ap (λ n. names_other n t) h ∙ ap (λ form. is_other_form form t) (read_owner-owner_of Free tt)
       owner_told _ reads g m h = absurd h
 
-  pub enter_at_alone : (f : Name → ℕ) → Quiet safe f
-      → Alone (λ g turn. PendsWhere (owned_by (read_mark (f (Mark o))) f t) turn) f (enter_at (read_mark (f (Mark o))) e k o (f (Mark o)))
-  enter_at_alone f q = by_form (read_mark (f (Mark o))) refl
+  pub enter_at_alone : (s : Shape) (f : Name → ℕ) → QuietAt o safe f
+      → Alone (λ g turn. PendsWhere (owned_by (read_mark (f (Mark o))) f t) turn) f (enter_at (read_mark (f (Mark o))) s e k o (f (Mark o)))
+  enter_at_alone s f q = by_form (read_mark (f (Mark o))) refl
     where
       by_stack : (form : Option MarkForm) → (read_mark (f (Mark o)) ≡ form) → owned_by form f t ≡ false
           → Alone (λ g turn. PendsWhere (owned_by form f t) turn) f (stack_enter_at form e k.local o (f (Mark o)))
@@ -187,13 +187,13 @@ module _ (safe : ℕ) (e : Purpose) (k : Start) (o : ℕ) where
           (by_stack form reads free)
 
       by_form : (form : Option MarkForm) → read_mark (f (Mark o)) ≡ form
-          → Alone (λ g turn. PendsWhere (owned_by form f t) turn) f (enter_at form e k o (f (Mark o)))
-      by_form (Some Inflating) reads = absurd (not_inflating (f (Mark o)) (q.marks o) reads)
+          → Alone (λ g turn. PendsWhere (owned_by form f t) turn) f (enter_at form s e k o (f (Mark o)))
+      by_form (Some Inflating) reads = absurd (not_inflating (f (Mark o)) q.mark reads)
       by_form (Some (Neutral hash age)) reads = whole_stack (Some (Neutral hash age)) reads refl
       by_form (Some (Locked thread place)) reads =
           alone_either (λ g turn. PendsWhere (not (thread == t)) turn) f (thread == t) _ _
           (λ own. whole_stack (Some (Locked thread place)) reads (ap not own))
-          (λ _. subst (λ form. Alone (λ g turn. PendsWhere (owned_by form f t) turn) f (enter_monitor_steps e k o)) reads
-          (by_monitor_alone f q))
+          (λ _. subst (λ form. Alone (λ g turn. PendsWhere (owned_by form f t) turn) f (enter_monitor_steps s e k o)) reads
+          (by_monitor_alone s f q))
       by_form (Some (Inflated monitor)) reads = monitor_enter_alone e k.local o monitor f
       by_form _ reads = tt

@@ -1,20 +1,21 @@
 -- The one run of a tree that a thread left alone makes.
-use Rattle.std.proofs.Common.{◌≡◌, ◌≢◌, ℕ, cond, Bool, true, false, List, [], ◌∷◌, Some, Err, refl, sym, ap, subst}
+use Rattle.std.proofs.Common.{◌≡◌, ◌≢◌, ℕ, zero, suc, ◌+◌, cond, Bool, true, false, List, [], ◌∷◌, Some, Err, refl, sym, ap, subst}
 use Rattle.mark_word.specs.declared.mark.MarkForm.TheVariants.{Inflating}
 use Rattle.mark_word.specs.Mark.{read_mark}
 use Rattle.mark_word.proofs.ReadingMarks.{read_mark-spells}
 use Rattle.core_world.specs.declared.answer.Turn.{Turn}
 use Rattle.core_world.specs.declared.answer.Turn.TheVariants.{Done, Pending}
 use Rattle.core_world.specs.declared.name.Name.{Name}
+use Rattle.core_world.specs.declared.name.Name.TheVariants.{Mark, Safepoint}
 use Rattle.core_world.specs.declared.plan.StepPlan.{StepPlan}
 use Rattle.core_world.specs.Words.Acts.{word_after}
 use Rattle.core_world.specs.Words.Names.{with_word}
 use Rattle.core_world.specs.Threads.Known.{StepMade}
 use Rattle.core_world.specs.Trees.Operations.{answer}
-use Rattle.core_world.specs.Trees.Todo.{Todo, done, never, step, ◌>>=◌}
+use Rattle.core_world.specs.Trees.Todo.{Todo, done, never, step, ◌>>=◌, all_from}
 use Rattle.core_world.proofs.Naming.{with_word_same}
 use Rattle.core_calls.specs.Paths.{made, Always}
-use Rattle.solo_progress.specs.Alone.{words_left, FoundAlone, AnswersAlone}
+use Rattle.solo_progress.specs.Alone.{words_left, FoundAlone, AnswersAlone, Quiet}
 use Rattle.solo_progress.specs.Answers.{RefusedWhere}
 
 -- the words after one step
@@ -102,3 +103,19 @@ load_leaves at n f = ap (λ (g : Name → ℕ). g n) (with_word_same at (f at) f
 -- a mark that isn't 0 isn't being inflated
 pub not_inflating : (n : ℕ) → n ≢ 0 → read_mark n ≢ Some Inflating
 not_inflating n some e = some ((read_mark-spells n Inflating e).1)
+
+-- Of quiet words a call on o needs these two: o's mark isn't 0, and the safepoint word is this one. At a safepoint other marks change too.
+pub record QuietAt (o safe : ℕ) (f : Name → ℕ) : Type 0 where
+  pub mark : f (Mark o) ≢ 0
+  pub safepoint : f Safepoint ≡ safe
+
+pub quiet_at : {safe : ℕ} {f : Name → ℕ} (o : ℕ) → Quiet safe f → QuietAt o safe f
+quiet_at o q = record { mark = q.marks o; safepoint = q.safepoint }
+
+-- the steps for each of n numbers leave of the words what each of them leaves
+pub alone_each : (P : (Name → ℕ) → Type 0) (i n : ℕ) (d : ℕ → Todo (Unit {0})) (f : Name → ℕ) → P f
+    → ((j : ℕ) (g : Name → ℕ) → P g → Alone (λ h x. P h) g (d j)) → Alone (λ h x. P h) f (all_from i n d)
+alone_each P i zero d f h each = h
+alone_each P i (suc n) d f h each =
+    alone_then (λ g (x : Unit {0}). P g) (λ g x. P g) (d i) (λ _. all_from (i + 1) n d) f (each i f h)
+    (λ g x so. alone_each P (i + 1) n d g so each)

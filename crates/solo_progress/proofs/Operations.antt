@@ -29,6 +29,7 @@ use Rattle.core_world.specs.Locks.{hold_count}
 use Rattle.core_world.specs.RevocationRules.{first_place, holds_in}
 use Rattle.core_world.specs.Threads.Known.{Local, Start}
 use Rattle.core_world.specs.Trees.BiasSteps.{unbias_swap_steps, bias_drop_steps, bias_drop_by, bias_drop_at}
+use Rattle.core_world.specs.Trees.DeflateSteps.{deflate_steps}
 use Rattle.core_world.specs.Trees.HashSteps.{NextDraw, draw_steps, hash_monitor_steps, hash_inflated, hash_inflate_steps, hash_unless, hash_mark_steps, hash_header_steps}
 use Rattle.core_world.specs.Trees.LookSteps.{take_shot_steps, stands_still_steps}
 use Rattle.core_world.specs.Trees.MonitorSteps.{inflate_steps, own_steps}
@@ -41,11 +42,8 @@ use Rattle.core_calls.specs.CallsSay.{has_none}
 use Rattle.core_calls.specs.Causes.{is_other_form}
 use Rattle.solo_progress.specs.Alone.{AnswersAlone, Quiet, word_of_one}
 use Rattle.solo_progress.specs.Answers.{is_anothers, is_told, is_told_form, WaitsWhere, LetsGo, RefusedWhere, is_pending, IsDone, guarded}
-use Rattle.solo_progress.proofs.OneRun.{Alone, alone_then, alone_either, answers_alone, refused_or, load_leaves, not_inflating, DoneWith, alone_past}
-use Rattle.solo_progress.proofs.Safe.{alone_turn, safepoint_alone, release_alone, revocation_alone}
-use Rattle.core_calls.proofs.Stays.{Whatever}
-use Rattle.core_calls.proofs.StaysLooks.{shot_spares}
-use Rattle.solo_progress.proofs.Spares.{Still, quiet_alone}
+use Rattle.solo_progress.proofs.OneRun.{Alone, QuietAt, quiet_at, alone_then, alone_either, answers_alone, refused_or, load_leaves, not_inflating, DoneWith, alone_past}
+use Rattle.solo_progress.proofs.Safe.{alone_turn, safepoint_alone, revocation_alone}
 use Rattle.solo_progress.proofs.Monitors.{OwnerAfter, one_some, own_word, inflate_alone, owned_by}
 use Rattle.solo_progress.proofs.Enters.{quiet_load, unbiased_other}
 
@@ -63,26 +61,26 @@ module _ (s : Shape) (e : Purpose) (k : Start) (o now : ℕ) (low : k.local.thre
 
   abbrev Dropped : (Name → ℕ) → BiasTry → Type 0
   Dropped g (Raced expected found) = ⊥
-  Dropped g _ = Quiet (released_word t) g
+  Dropped g _ = QuietAt o (released_word t) g
 
-  swap_alone : (mark neutral : ℕ) (g : Name → ℕ) → g (Mark o) ≡ mark → neutral ≢ 0 → Quiet (released_word t) g
+  swap_alone : (mark neutral : ℕ) (g : Name → ℕ) → g (Mark o) ≡ mark → neutral ≢ 0 → QuietAt o (released_word t) g
       → Alone Dropped g (unbias_swap_steps e o mark neutral)
   swap_alone mark neutral g is some q =
       alone_either Dropped _ (g (Mark o) == mark) _ _
       (λ hit. record {
-        marks = λ i. one_some (same_name (Mark i) (Mark o)) (g (Mark o) == mark) neutral (g (Mark i)) (g (Mark o)) some
-            (q.marks i) (q.marks o);
+        mark = one_some (same_name (Mark o) (Mark o)) (g (Mark o) == mark) neutral (g (Mark o)) (g (Mark o)) some
+            q.mark q.mark;
         safepoint = q.safepoint;
       })
       (λ miss. let same = eq-eqb (g (Mark o)) mark is in absurd (cc (miss, same)))
 
-  drop_alone : (f : Name → ℕ) → f (Prototype c) ≢ 0 → Quiet (released_word t) f → Alone Dropped f (bias_drop_steps e c o)
+  drop_alone : (f : Name → ℕ) → f (Prototype c) ≢ 0 → QuietAt o (released_word t) f → Alone Dropped f (bias_drop_steps e c o)
   drop_alone f some q =
       alone_either Dropped _ (is_biased (f (Mark o))) _ _ (λ _. by_epoch (epoch_in (f (Prototype c))))
       (λ _. quiet_load (released_word t) o f q)
     where
-      quiet_loaded : Quiet (released_word t) (λ n. cond (same_name n (Prototype c)) (f (Prototype c)) (cond (same_name n (Mark o)) (f (Mark o)) (f n)))
-      quiet_loaded = record { marks = (quiet_load (released_word t) o f q).marks; safepoint = q.safepoint }
+      quiet_loaded : QuietAt o (released_word t) (λ n. cond (same_name n (Prototype c)) (f (Prototype c)) (cond (same_name n (Mark o)) (f (Mark o)) (f n)))
+      quiet_loaded = record { mark = (quiet_load (released_word t) o f q).mark; safepoint = q.safepoint }
 
       neutral_some : mark_of (Neutral 0 0) ≢ 0
       neutral_some z = absurd (omega (arith, z))
@@ -104,21 +102,21 @@ module _ (s : Shape) (e : Purpose) (k : Start) (o now : ℕ) (low : k.local.thre
       by_epoch (Some epoch) = by_mark (read_mark (f (Mark o))) epoch
 
   abbrev Unbiases : (Name → ℕ) → Turn (Unit {0}) → Type 0
-  Unbiases g turn = DoneWith (λ x. Quiet (released_word t) g) turn
+  Unbiases g turn = DoneWith (λ x. QuietAt o (released_word t) g) turn
 
-  revoked_alone : (requesting : Bool) (f : Name → ℕ) → Quiet (word_of_one requesting t) f
+  revoked_alone : (requesting : Bool) (f : Name → ℕ) → QuietAt o (word_of_one requesting t) f
       → Alone Unbiases f (revoked_steps s t requesting e (no_bias o now))
   revoked_alone requesting f q =
-      alone_turn (λ g (x : Bool). Quiet (released_word t) g) Unbiases (revocation_steps s t requesting e (no_bias o now))
+      alone_turn (λ g (x : Bool). QuietAt o (released_word t) g) Unbiases (revocation_steps s t requesting e (no_bias o now))
       (λ _. done_with tt) f (revocation_alone t low s requesting e (no_bias o now) f q) (λ g x q. q)
 
-  pub unbias_alone : (f : Name → ℕ) → f (Prototype c) ≢ 0 → Quiet (word_of_one k.requesting t) f
+  pub unbias_alone : (f : Name → ℕ) → f (Prototype c) ≢ 0 → QuietAt o (word_of_one k.requesting t) f
       → Alone Unbiases f (unbias_steps s e k (no_bias o now))
   unbias_alone f some q =
       alone_either Unbiases f k.requesting _ _
-      (λ asks. revoked_alone true f (subst (λ (r : Bool). Quiet (word_of_one r t) f) asks q))
+      (λ asks. revoked_alone true f (subst (λ (r : Bool). QuietAt o (word_of_one r t) f) asks q))
       (λ none. alone_then Dropped Unbiases (bias_drop_steps e c o) (λ tried. unbias_tried tried s e k (no_bias o now)) f
-      (drop_alone f some (subst (λ (r : Bool). Quiet (word_of_one r t) f) none q)) by_tried)
+      (drop_alone f some (subst (λ (r : Bool). QuietAt o (word_of_one r t) f) none q)) by_tried)
     where
       by_tried : (g : Name → ℕ) (tried : BiasTry) → Dropped g tried → Alone Unbiases g (unbias_tried tried s e k (no_bias o now))
       by_tried g (Took path) q = tt
@@ -140,28 +138,28 @@ module _ (s : Shape) (e : Purpose) (k : Start) (o now : ℕ) (low : k.local.thre
         alone_either Through _ (hash_in (g (Header m)) == 0) _ _
         (λ _. draw_alone (Header m) (g (Header m)) (loaded (Header m) g) (load_leaves (Header m) (Header m) g)) (λ _. tt)
 
-    hash_inflate_alone : (g : Name → ℕ) → Quiet (released_word t) g → Alone Through g (hash_inflate_steps e k.kept draw o)
+    hash_inflate_alone : (g : Name → ℕ) → QuietAt o (released_word t) g → Alone Through g (hash_inflate_steps s e k.kept draw o)
     hash_inflate_alone g q =
-        alone_then (λ h turn. DoneWith (λ m. Quiet (released_word t) h × OwnerAfter (read_mark (g (Mark o))) g h m) turn) Through
-        (inflate_steps e k.kept o) (hash_inflated e draw o) g
-        (inflate_alone (released_word t) e o k.kept g q) by_turn
+        alone_then (λ h turn. DoneWith (λ m. QuietAt o (released_word t) h × OwnerAfter (read_mark (g (Mark o))) g h m) turn) Through
+        (inflate_steps s e k.kept o) (hash_inflated e draw o) g
+        (inflate_alone (released_word t) e o s k.kept g q) by_turn
       where
         by_turn : (h : Name → ℕ) (turn : Turn ℕ)
-            → DoneWith (λ m. Quiet (released_word t) h × OwnerAfter (read_mark (g (Mark o))) g h m) turn
+            → DoneWith (λ m. QuietAt o (released_word t) h × OwnerAfter (read_mark (g (Mark o))) g h m) turn
             → Alone Through h (hash_inflated e draw o turn)
         by_turn h (Done m) q = hash_monitor_alone m h
         by_turn h (Pending why) q = absurd q
 
-    hash_header_alone : (g : Name → ℕ) → Quiet (released_word t) g → Alone Through g (hash_header_steps e k.local k.kept draw o)
+    hash_header_alone : (g : Name → ℕ) → QuietAt o (released_word t) g → Alone Through g (hash_header_steps s e k.local k.kept draw o)
     hash_header_alone g q = by_form (read_mark (g (Mark o))) refl
       where
-        found_alone : (found : Option ℕ) (h : Name → ℕ) → Quiet (released_word t) h → Alone Through h (hash_unless found e k.kept draw o)
+        found_alone : (found : Option ℕ) (h : Name → ℕ) → QuietAt o (released_word t) h → Alone Through h (hash_unless found s e k.kept draw o)
         found_alone (Some value) h q = tt
         found_alone None h q = hash_inflate_alone h q
 
         by_form : (form : Option MarkForm) → read_mark (g (Mark o)) ≡ form
-            → Alone Through (loaded (Mark o) g) (hash_mark_steps form e k.local k.kept draw o (g (Mark o)))
-        by_form (Some Inflating) reads = absurd (not_inflating (g (Mark o)) (q.marks o) reads)
+            → Alone Through (loaded (Mark o) g) (hash_mark_steps form s e k.local k.kept draw o (g (Mark o)))
+        by_form (Some Inflating) reads = absurd (not_inflating (g (Mark o)) q.mark reads)
         by_form (Some (Neutral hash age)) reads =
             alone_either Through (loaded (Mark o) g) (hash == 0) _ _
             (λ _. draw_alone (Mark o) (g (Mark o)) (loaded (Mark o) g) (load_leaves (Mark o) (Mark o) g)) (λ _. tt)
@@ -170,7 +168,7 @@ module _ (s : Shape) (e : Purpose) (k : Start) (o now : ℕ) (low : k.local.thre
             (λ _. found_alone (cond (hash_in (g (Displaced t (first_place o k.local.holds))) == 0) None
             (Some (hash_in (g (Displaced t (first_place o k.local.holds))))))
             (loaded (Displaced t (first_place o k.local.holds)) (loaded (Mark o) g))
-            (record { marks = (quiet_load (released_word t) o g q).marks; safepoint = q.safepoint }))
+            (record { mark = (quiet_load (released_word t) o g q).mark; safepoint = q.safepoint }))
             (λ _. hash_inflate_alone (loaded (Mark o) g) (quiet_load (released_word t) o g q))
         by_form (Some (Inflated monitor)) reads = hash_monitor_alone monitor (loaded (Mark o) g)
         by_form _ reads = tt
@@ -192,19 +190,19 @@ module _ (s : Shape) (e : Purpose) (k : Start) (o now : ℕ) (low : k.local.thre
       alone_past (λ h turn. IsDone turn) (monitor_notify_all_steps e k.local s.threads o) _ g (λ h x. tt)
   notify_all_at_alone _ mark g reads some = tt
 
-  pub notify_going_alone : (f : Name → ℕ) → f (Prototype c) ≢ 0 → Quiet (word_of_one k.requesting t) f
+  pub notify_going_alone : (f : Name → ℕ) → f (Prototype c) ≢ 0 → QuietAt o (word_of_one k.requesting t) f
       → Alone (λ h turn. IsDone turn) f (notify_going s e k o now)
   notify_going_alone f some q =
-      alone_turn (λ g (x : Unit {0}). Quiet (released_word t) g) (λ h turn. IsDone turn) (unbias_steps s e k (no_bias o now)) _ f
+      alone_turn (λ g (x : Unit {0}). QuietAt o (released_word t) g) (λ h turn. IsDone turn) (unbias_steps s e k (no_bias o now)) _ f
       (unbias_alone f some q)
-      (λ g x q. notify_at_alone (read_mark (g (Mark o))) (g (Mark o)) _ refl (q.marks o))
+      (λ g x q. notify_at_alone (read_mark (g (Mark o))) (g (Mark o)) _ refl q.mark)
 
-  pub notify_all_going_alone : (f : Name → ℕ) → f (Prototype c) ≢ 0 → Quiet (word_of_one k.requesting t) f
+  pub notify_all_going_alone : (f : Name → ℕ) → f (Prototype c) ≢ 0 → QuietAt o (word_of_one k.requesting t) f
       → Alone (λ h turn. IsDone turn) f (notify_all_going s e k o now)
   notify_all_going_alone f some q =
-      alone_turn (λ g (x : Unit {0}). Quiet (released_word t) g) (λ h turn. IsDone turn) (unbias_steps s e k (no_bias o now)) _ f
+      alone_turn (λ g (x : Unit {0}). QuietAt o (released_word t) g) (λ h turn. IsDone turn) (unbias_steps s e k (no_bias o now)) _ f
       (unbias_alone f some q)
-      (λ g x q. notify_all_at_alone (read_mark (g (Mark o))) (g (Mark o)) _ refl (q.marks o))
+      (λ g x q. notify_all_at_alone (read_mark (g (Mark o))) (g (Mark o)) _ refl q.mark)
 
   -- A WAIT that lets go waits then
   lets_alone : (saved : ℕ) (g : Name → ℕ) (stamp : ℕ) → g (Waiting t) ≡ wait_of (wait.Waiting o stamp)
@@ -226,12 +224,12 @@ module _ (s : Shape) (e : Purpose) (k : Start) (o now : ℕ) (low : k.local.thre
   wait_alone m f =
       alone_past Waits (own_steps (read_owner (f (Owner m))) e k.local o m) _ _ (λ g x. (next_stamp k.local, own_word (Waiting t) _ _))
 
-  pub beginning_alone : (f : Name → ℕ) → f (Prototype c) ≢ 0 → Quiet (word_of_one k.requesting t) f
+  pub beginning_alone : (f : Name → ℕ) → f (Prototype c) ≢ 0 → QuietAt o (word_of_one k.requesting t) f
       → Alone (λ h turn. LetsGo turn) f (wait_beginning s e k o now)
   beginning_alone f some q =
-      alone_goes (λ g (x : Unit {0}). Quiet (released_word t) g) (unbias_steps s e k (no_bias o now)) _ f (unbias_alone f some q)
-      (λ g x q. alone_goes (λ h m. Quiet (released_word t) h × OwnerAfter (read_mark (g (Mark o))) g h m) (inflate_steps e k.kept o) _ g
-      (inflate_alone (released_word t) e o k.kept g q)
+      alone_goes (λ g (x : Unit {0}). QuietAt o (released_word t) g) (unbias_steps s e k (no_bias o now)) _ f (unbias_alone f some q)
+      (λ g x q. alone_goes (λ h m. QuietAt o (released_word t) h × OwnerAfter (read_mark (g (Mark o))) g h m) (inflate_steps s e k.kept o) _ g
+      (inflate_alone (released_word t) e o s k.kept g q)
       (λ h m q. alone_then Waits (λ i turn. LetsGo turn) (monitor_wait_steps e k.local o m) (λ saved. monitor_resume_steps e t saved o) h
       (wait_alone m h)
       (λ i saved w. lets_alone saved i w.0 w.1)))
@@ -294,7 +292,7 @@ module _ (s : Shape) (k : Start) (o now : ℕ) (f : Name → ℕ) (low : k.local
       let e = purpose (task.Wait o now) op.Wait o in
       refused_or (has_none k o) _ LetsGo (wait_going s e k o now) f
       (alone_either (λ g turn. LetsGo turn) f (waits_on k.local.wait o) _ _ (λ old. absurd (cc (old, new)))
-      (λ _. beginning_alone s e k o now low f some q))
+      (λ _. beginning_alone s e k o now low f some (quiet_at o q)))
 
   -- by its waiting word, and who has the lock
   abbrev Ends : Turn (Unit {0}) → Type 0
@@ -327,20 +325,20 @@ module _ (s : Shape) (k : Start) (o now : ℕ) (f : Name → ℕ) (low : k.local
   hashes_through some q =
       let e = purpose (task.Hash o now) op.Hash o in
       answers_alone IsDone f (hash_steps s k o now)
-      (alone_turn (λ g (x : Unit {0}). Quiet (released_word k.local.thread) g) (λ g turn. IsDone turn)
+      (alone_turn (λ g (x : Unit {0}). QuietAt o (released_word k.local.thread) g) (λ g turn. IsDone turn)
       (unbias_steps s e k (no_bias o now)) _ f
-      (unbias_alone s e k o now low f some q)
+      (unbias_alone s e k o now low f some (quiet_at o q))
       (λ g x quiet. hash_header_alone s e k o now low (record { number = k.draws + 1; value = k.draw }) g quiet))
 
   pub notifies_through : p ≢ 0 → QuietHere → AnswersAlone f (notify_steps s k o now) (RefusedWhere (has_none k o) IsDone)
   notifies_through some q =
       let e = purpose (task.Notify o now) op.Notify o in
-      refused_or (has_none k o) _ IsDone (notify_going s e k o now) f (notify_going_alone s e k o now low f some q)
+      refused_or (has_none k o) _ IsDone (notify_going s e k o now) f (notify_going_alone s e k o now low f some (quiet_at o q))
 
   pub notify_alls_through : p ≢ 0 → QuietHere → AnswersAlone f (notify_all_steps s k o now) (RefusedWhere (has_none k o) IsDone)
   notify_alls_through some q =
       let e = purpose (task.NotifyAll o now) op.NotifyAll o in
-      refused_or (has_none k o) _ IsDone (notify_all_going s e k o now) f (notify_all_going_alone s e k o now low f some q)
+      refused_or (has_none k o) _ IsDone (notify_all_going s e k o now) f (notify_all_going_alone s e k o now low f some (quiet_at o q))
 
 -- AT THE SAFEPOINT WORD
 pub polls_through : (e : Purpose) (f : Name → ℕ) → AnswersAlone f (poll_steps e) (λ turn. is_pending turn ≡ has_requester (f Safepoint))
@@ -365,14 +363,19 @@ module _ (s : Shape) (k : Start) (f : Name → ℕ) (low : k.local.thread < 32) 
   abbrev u : ℕ
   u = k.local.thread
 
+  -- what follows the safepoint answers the same whatever the words are
+  safely : {A : Type 0} (P : Turn A → Type 0) (e : Purpose) (d : Unit {0} → Todo (Turn A)) → ((g : Name → ℕ) → Alone (λ h turn. P turn) g (d tt))
+      → Alone (λ g turn. P turn) f (safepoint_steps e u k.requesting >>= λ turn. and_then turn d)
+  safely P e d more =
+      alone_turn (λ g (x : Unit {0}). QuietAt 0 (reached_word u) g) (λ g turn. P turn) (safepoint_steps e u k.requesting) d f
+      (safepoint_alone u 0 low e k.requesting f (quiet_at 0 q)) (λ g x q. more g)
+
   dump_alone : (e : Purpose) → Alone (λ g turn. turn ≡ Done (k.shots + 1)) f (dump_going s e k)
   dump_alone e =
-      alone_turn (λ g (x : Unit {0}). Quiet (reached_word u) g) (λ g turn. turn ≡ Done (k.shots + 1))
-      (safepoint_steps e u k.requesting) _ f (safepoint_alone u low e k.requesting f q)
-      (λ g x q. alone_then (Still {A = Unit {0}} Whatever (reached_word u)) (λ g turn. turn ≡ Done (k.shots + 1)) (take_shot_steps e s) _ g
-      (quiet_alone Whatever (reached_word u) (take_shot_steps e s) g (shot_spares e s) q)
-      (λ h x q. alone_then (λ i (x : Unit {0}). Quiet (released_word u) i) (λ g turn. turn ≡ Done (k.shots + 1))
-      (release_safepoint e u) _ h (release_alone u low Calm e h q.1) (λ i x q. refl)))
+      safely (λ turn. turn ≡ Done (k.shots + 1)) e _ (λ g.
+      alone_past (λ g turn. turn ≡ Done (k.shots + 1)) (take_shot_steps e s) _ g (λ h x.
+      alone_past (λ g turn. turn ≡ Done (k.shots + 1)) (deflate_steps s e Calm) _ h (λ i x.
+      alone_past (λ g turn. turn ≡ Done (k.shots + 1)) (release_safepoint e u) _ i (λ j x. refl))))
 
   pub dumps_through : AnswersAlone f (dump_steps s k) (RefusedWhere (k.shots == 4) (λ turn. turn ≡ Done (k.shots + 1)))
   dumps_through =
@@ -389,9 +392,8 @@ module _ (s : Shape) (k : Start) (f : Name → ℕ) (low : k.local.thread < 32) 
   checks_through =
       let e : Purpose = record { task = task.Check; unfinished = k.unfinished; check = true } in
       answers_alone IsDone f (check_steps s k)
-      (alone_turn (λ g (x : Unit {0}). Quiet (reached_word u) g) (λ g turn. IsDone turn) (safepoint_steps e u k.requesting) _ f
-      (safepoint_alone u low e k.requesting f q)
-      (λ g x q. alone_past (λ g turn. IsDone turn) (stands_still_steps e s) _ g (λ h still. ending_alone still e h)))
+      (safely IsDone e _ (λ g. alone_past (λ g turn. IsDone turn) (stands_still_steps e s) _ g (λ h still.
+      alone_past (λ g turn. IsDone turn) (deflate_steps s e Calm) _ h (λ i x. ending_alone still e i))))
 
 pub puts_through : (k : Start) (o slot : ℕ) (value : Value) (f : Name → ℕ)
     → AnswersAlone f (put_steps k o slot value) (λ a. a ≡ guarded k o tt)

@@ -13,17 +13,16 @@ use Rattle.core_world.specs.Threads.Stages.{Revocation}
 use Rattle.core_world.specs.Words.Forms.{requester_in, requester_form, still_form, is_still}
 use Rattle.core_world.specs.Words.Shape.{Shape}
 use Rattle.core_world.specs.Trees.BiasSteps.{stage_after}
+use Rattle.core_world.specs.Trees.DeflateSteps.{deflate_steps}
 use Rattle.core_world.specs.Trees.Operations.{and_then, revocation_steps}
 use Rattle.core_world.specs.Trees.Plans.{Purpose}
 use Rattle.core_world.specs.Trees.RevocationSteps.{RevocationOutcome, revoke_at_safepoint_steps}
 use Rattle.core_world.specs.Trees.SafepointSteps.{has_requester, requested_by, reached_word, released_word, request_steps, reached_steps, then_reached, safepoint_steps, release_to}
 use Rattle.core_world.specs.Trees.Todo.{Todo, ◌>>=◌}
-use Rattle.solo_progress.specs.Alone.{Quiet, word_of_one}
+use Rattle.solo_progress.specs.Alone.{word_of_one}
 use Rattle.solo_progress.specs.Answers.{IsDone}
-use Rattle.solo_progress.proofs.OneRun.{Alone, alone_then, alone_so, alone_either, DoneWith}
-use Rattle.core_calls.proofs.Stays.{Whatever}
-use Rattle.core_calls.proofs.StaysLooks.{revocation_spares}
-use Rattle.solo_progress.proofs.Spares.{Still, quiet_alone}
+use Rattle.solo_progress.proofs.OneRun.{Alone, QuietAt, alone_then, alone_so, alone_either, DoneWith}
+use Rattle.solo_progress.proofs.Spares.{PlainAt, plain_quiet, revocation_plain, deflation_plain}
 
 -- A TURN that is done goes on.
 pub alone_turn : {A B : Type 0} (Q : (Name → ℕ) → A → Type 0) (P : (Name → ℕ) → Turn B → Type 0) (d : Todo (Turn A)) (k : A → Todo (Turn B)) (f : Name → ℕ)
@@ -35,8 +34,8 @@ alone_turn {A} Q P d k f h more = alone_then (λ g turn. DoneWith (Q g) turn) P 
     by_turn g (Done a) h = more g a h
     by_turn g (Pending why) h = absurd h
 
-abbrev pub IsQuietTurn : {A : Type 0} → ℕ → (Name → ℕ) → Turn A → Type 0
-IsQuietTurn safe g turn = DoneWith (λ a. Quiet safe g) turn
+abbrev pub IsQuietTurn : {A : Type 0} → ℕ → ℕ → (Name → ℕ) → Turn A → Type 0
+IsQuietTurn o safe g turn = DoneWith (λ a. QuietAt o safe g) turn
 
 module _ (t : ℕ) (low : t < 32) where
   abbrev released : SafeForm
@@ -65,69 +64,76 @@ module _ (t : ℕ) (low : t < 32) where
   still : is_still (reached_word t) ≡ true
   still = ap still_form reads_reached
 
-  reached_alone : (e : Purpose) (f : Name → ℕ) → Quiet (reached_word t) f
-      → Alone (IsQuietTurn {A = Unit {0}} (reached_word t)) f (reached_steps e)
+-- a call on o at a safepoint
+module _ (t o : ℕ) (low : t < 32) where
+  reached_alone : (e : Purpose) (f : Name → ℕ) → QuietAt o (reached_word t) f
+      → Alone (IsQuietTurn {A = Unit {0}} o (reached_word t)) f (reached_steps e)
   reached_alone e f q =
-      alone_either (IsQuietTurn {A = Unit {0}} (reached_word t)) _ (is_still (f Safepoint)) _ _
-      (λ _. record { marks = q.marks; safepoint = q.safepoint })
-      (λ no_still. let yes_still = ap is_still q.safepoint ∙ still in absurd (cc (no_still, yes_still)))
+      alone_either (IsQuietTurn {A = Unit {0}} o (reached_word t)) _ (is_still (f Safepoint)) _ _
+      (λ _. record { mark = q.mark; safepoint = q.safepoint })
+      (λ no_still. let yes_still = ap is_still q.safepoint ∙ still t low in absurd (cc (no_still, yes_still)))
 
-  request_alone : (e : Purpose) (f : Name → ℕ) → Quiet (released_word t) f
-      → Alone (IsQuietTurn {A = Unit {0}} (reached_word t)) f (request_steps e t)
+  request_alone : (e : Purpose) (f : Name → ℕ) → QuietAt o (released_word t) f
+      → Alone (IsQuietTurn {A = Unit {0}} o (reached_word t)) f (request_steps e t)
   request_alone e f q =
-      alone_either (IsQuietTurn {A = Unit {0}} (reached_word t)) _ (has_requester (f Safepoint)) _ _
-      (λ asked. let none = ap has_requester q.safepoint ∙ unasked in absurd (cc (asked, none)))
-      (λ _. alone_either (IsQuietTurn {A = Unit {0}} (reached_word t)) _ (f Safepoint == f Safepoint) _ _
+      alone_either (IsQuietTurn {A = Unit {0}} o (reached_word t)) _ (has_requester (f Safepoint)) _ _
+      (λ asked. let none = ap has_requester q.safepoint ∙ unasked t low in absurd (cc (asked, none)))
+      (λ _. alone_either (IsQuietTurn {A = Unit {0}} o (reached_word t)) _ (f Safepoint == f Safepoint) _ _
       (λ hit. record {
-        marks = q.marks;
+        mark = q.mark;
         safepoint = ap (λ (b : Bool). cond b (requested_by (read_safe (f Safepoint)) t) (f Safepoint)) hit
-            ∙ ap (λ n. requested_by (read_safe n) t) q.safepoint ∙ requested;
+            ∙ ap (λ n. requested_by (read_safe n) t) q.safepoint ∙ requested t low;
       })
       (λ miss. let same = eq-eqb (f Safepoint) (f Safepoint) refl in absurd (cc (miss, same))))
 
   -- each of the two by itself
-  is_done : {A : Type 0} (safe : ℕ) (g : Name → ℕ) (turn : Turn A) → IsQuietTurn safe g turn → IsDone turn
+  is_done : {A : Type 0} (safe : ℕ) (g : Name → ℕ) (turn : Turn A) → IsQuietTurn o safe g turn → IsDone turn
   is_done safe g (Done a) h = tt
   is_done safe g (Pending why) h = absurd h
 
-  pub requests_done : (e : Purpose) (f : Name → ℕ) → Quiet (released_word t) f → Alone (λ g turn. IsDone turn) f (request_steps e t)
+  pub requests_done : (e : Purpose) (f : Name → ℕ) → QuietAt o (released_word t) f → Alone (λ g turn. IsDone turn) f (request_steps e t)
   requests_done e f q =
-      alone_so (IsQuietTurn {A = Unit {0}} (reached_word t)) (λ g turn. IsDone turn) (request_steps e t) f (request_alone e f q)
+      alone_so (IsQuietTurn {A = Unit {0}} o (reached_word t)) (λ g turn. IsDone turn) (request_steps e t) f (request_alone e f q)
       (λ g turn h. is_done (reached_word t) g turn h)
 
-  pub reaches_done : (e : Purpose) (f : Name → ℕ) → Quiet (reached_word t) f → Alone (λ g turn. IsDone turn) f (reached_steps e)
+  pub reaches_done : (e : Purpose) (f : Name → ℕ) → QuietAt o (reached_word t) f → Alone (λ g turn. IsDone turn) f (reached_steps e)
   reaches_done e f q =
-      alone_so (IsQuietTurn {A = Unit {0}} (reached_word t)) (λ g turn. IsDone turn) (reached_steps e) f (reached_alone e f q)
+      alone_so (IsQuietTurn {A = Unit {0}} o (reached_word t)) (λ g turn. IsDone turn) (reached_steps e) f (reached_alone e f q)
       (λ g turn h. is_done (reached_word t) g turn h)
 
-  pub safepoint_alone : (e : Purpose) (requesting : Bool) (f : Name → ℕ) → Quiet (word_of_one requesting t) f
-      → Alone (IsQuietTurn {A = Unit {0}} (reached_word t)) f (safepoint_steps e t requesting)
+  pub safepoint_alone : (e : Purpose) (requesting : Bool) (f : Name → ℕ) → QuietAt o (word_of_one requesting t) f
+      → Alone (IsQuietTurn {A = Unit {0}} o (reached_word t)) f (safepoint_steps e t requesting)
   safepoint_alone e true f q = reached_alone e f q
   safepoint_alone e false f q =
-      alone_then (IsQuietTurn {A = Unit {0}} (reached_word t)) (IsQuietTurn {A = Unit {0}} (reached_word t)) (request_steps e t)
+      alone_then (IsQuietTurn {A = Unit {0}} o (reached_word t)) (IsQuietTurn {A = Unit {0}} o (reached_word t)) (request_steps e t)
       (then_reached e) f (request_alone e f q) by_turn
     where
-      by_turn : (g : Name → ℕ) (turn : Turn (Unit {0})) → IsQuietTurn (reached_word t) g turn
-          → Alone (IsQuietTurn {A = Unit {0}} (reached_word t)) g (then_reached e turn)
+      by_turn : (g : Name → ℕ) (turn : Turn (Unit {0})) → IsQuietTurn o (reached_word t) g turn
+          → Alone (IsQuietTurn {A = Unit {0}} o (reached_word t)) g (then_reached e turn)
       by_turn g (Done x) q = reached_alone e g q
       by_turn g (Pending why) q = absurd q
 
-  pub release_alone : (stage : Stage) (e : Purpose) (f : Name → ℕ) → Quiet (reached_word t) f
-      → Alone (λ g (x : Unit {0}). Quiet (released_word t) g) f (release_to stage e t)
+  pub release_alone : (stage : Stage) (e : Purpose) (f : Name → ℕ) → QuietAt o (reached_word t) f
+      → Alone (λ g (x : Unit {0}). QuietAt o (released_word t) g) f (release_to stage e t)
   release_alone stage e f q =
-      alone_either (λ g (x : Unit {0}). Quiet (released_word t) g) _ (f Safepoint == reached_word t) _ _
-      (λ hit. record { marks = q.marks; safepoint = ap (λ (b : Bool). cond b (released_word t) (f Safepoint)) hit })
+      alone_either (λ g (x : Unit {0}). QuietAt o (released_word t) g) _ (f Safepoint == reached_word t) _ _
+      (λ hit. record { mark = q.mark; safepoint = ap (λ (b : Bool). cond b (released_word t) (f Safepoint)) hit })
       (λ _. tt)
 
-  -- so a revocation at a safepoint isn't pending
-  pub revocation_alone : (s : Shape) (requesting : Bool) (e : Purpose) (b : Revocation) (f : Name → ℕ) → Quiet (word_of_one requesting t) f
-      → Alone (IsQuietTurn {A = Bool} (released_word t)) f (revocation_steps s t requesting e b)
-  revocation_alone s requesting e b f q =
-      alone_turn (λ g (x : Unit {0}). Quiet (reached_word t) g) (IsQuietTurn {A = Bool} (released_word t))
-      (safepoint_steps e t requesting) _ f (safepoint_alone e requesting f q)
-      (λ g x q. alone_then (Still {A = RevocationOutcome} Whatever (reached_word t)) (IsQuietTurn {A = Bool} (released_word t))
-      (revoke_at_safepoint_steps s t e b) _ g
-      (quiet_alone Whatever (reached_word t) (revoke_at_safepoint_steps s t e b) g (revocation_spares e b s t) q)
-      (λ h outcome q. alone_then (λ i (x : Unit {0}). Quiet (released_word t) i) (IsQuietTurn {A = Bool} (released_word t))
-      (release_to (stage_after outcome.took b.object) e t) _ h
-      (release_alone (stage_after outcome.took b.object) e h q.1) (λ i x q. q)))
+-- so a revocation at a safepoint isn't pending, and idle monitors are given back there
+pub revocation_alone : (t : ℕ) → t < 32 → (s : Shape) (requesting : Bool) (e : Purpose) (b : Revocation) (f : Name → ℕ)
+    → QuietAt b.object (word_of_one requesting t) f
+    → Alone (IsQuietTurn {A = Bool} b.object (released_word t)) f (revocation_steps s t requesting e b)
+revocation_alone t low s requesting e b f q =
+    alone_turn (λ g (x : Unit {0}). QuietAt o (reached_word t) g) (IsQuietTurn {A = Bool} o (released_word t))
+    (safepoint_steps e t requesting) _ f (safepoint_alone t o low e requesting f q)
+    (λ g x q. alone_then (λ h (x : RevocationOutcome). PlainAt o (reached_word t) h) (IsQuietTurn {A = Bool} o (released_word t))
+    (revoke_at_safepoint_steps s t e b) _ g (revocation_plain s t (reached_word t) e b g q)
+    (λ h outcome q. alone_then (λ i (x : Unit {0}). PlainAt o (reached_word t) i) (IsQuietTurn {A = Bool} o (released_word t))
+    (deflate_steps s e (stage_after outcome.took o)) _ h (deflation_plain s o (reached_word t) e (stage_after outcome.took o) h q)
+    (λ i x q. alone_then (λ j (x : Unit {0}). QuietAt o (released_word t) j) (IsQuietTurn {A = Bool} o (released_word t))
+    (release_to (stage_after outcome.took o) e t) _ i
+    (release_alone t o low (stage_after outcome.took o) e i (plain_quiet q)) (λ j x q. q))))
+  where
+    o : ℕ
+    o = b.object

@@ -28,7 +28,12 @@ alone_fits w P t a (inr s) =
 
 module _ (w : World) (P : List PlainObject) (t : ℕ) (a : IsLeftAlone w t) (fits : Fits w P) where
   pub all_calm : (u : ℕ) → (w.known u).stage ≡ Calm
-  all_calm u = by_equal u t (λ e. ap (λ i. (w.known i).stage) e ∙ a.calm) (λ d. fits.quiet.quiet u (a.stopped u d))
+  all_calm u =
+      by_equal u t (λ e. ap (λ i. (w.known i).stage) e ∙ a.calm)
+      (λ d. elim (fits.quiet.quiet u (a.stopped u d)) [
+        | inl calm ↦ calm
+        | inr (reached, takes) ↦ (let none = a.unasked u d in let asks = (fits.safe.safepoint u reached).0 in absurd (cc (none, asks)))
+      ])
 
   pub no_mark_0 : (o : ℕ) → w.words (Mark o) ≢ 0
   no_mark_0 o z =

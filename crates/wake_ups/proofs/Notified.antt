@@ -62,7 +62,7 @@ reads w P (inr s) = record {
   waiting = λ t. word_before w P s (Waiting t) (within_heap s.before P s.requester s.fits s.reached) refl;
   safepoint = s.untouched;
   stage = λ t. by_equal t s.requester
-      (λ e. inr (s.fits.quiet.quiet t ((s.fits.safe.safepoint s.requester s.reached).1 t)))
+      (λ e. inr (ap (λ u. (s.before.known u).stage) e ∙ s.was_calm))
       (λ d. inl (ap (λ (k : Known). k.stage) (s.others t d)));
 }
 
@@ -120,13 +120,13 @@ module _ (heap : Heap) (w : World) (objects : List PlainObject) (limits : IsInLi
         × IsStuck v.shape.threads (λ t. ends (v.known t).log) (λ t. (v.known t).unfinished) (monitor_of objects)
     still = fits.safe.still (ap is_halted (sym read.safepoint) ∙ halted)
 
-    quiet : (t : ℕ) → (v.known t).stage ≡ Calm
-    quiet t = fits.quiet.quiet t (still.1 t)
-
     says : (t o : ℕ) → is_listed (notified_at objects o) t ≡ true → says_notified (v.words (Waiting t)) o ≡ true
     says t o listed = elim (fits.waits.notified t o listed) [
       | inl b ↦ b
-      | inr (ready, resumes) ↦ absurd (cc (quiet t, resumes))
+      | inr (ready, resumes) ↦ elim (fits.quiet.quiet t (still.1 t)) [
+        | inl calm ↦ absurd (cc (calm, resumes))
+        | inr (reached, (i, takes)) ↦ absurd (cc (takes, resumes))
+      ]
     ]
 
     no_end : (n o : ℕ) → says_notified n o ≡ true → says_ended n ≡ true → ⊥

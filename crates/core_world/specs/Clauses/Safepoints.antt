@@ -8,7 +8,7 @@ use Rattle.core_world.specs.declared.task.Op.{Op}
 use Rattle.core_world.specs.declared.task.Op.TheVariants as op
 use Rattle.core_world.specs.declared.task.Unfinished.{Unfinished}
 use Rattle.core_world.specs.declared.stage.Stage.{Stage}
-use Rattle.core_world.specs.declared.stage.Stage.TheVariants.{Calm}
+use Rattle.core_world.specs.declared.stage.Stage.TheVariants.{Calm, Takes}
 use Rattle.core_world.specs.Words.Forms.{runs_in, asks_in, requester_in, is_halted}
 use Rattle.core_world.specs.Threads.Stages.{revocation_in}
 
@@ -53,7 +53,11 @@ pub record SafepointIsKnown (n safe : ℕ) (running requesting reached halted en
   pub still : is_halted safe ≡ true → (requester_in safe ≡ None) × ((u : ℕ) → running u ≡ false)
       × IsStuck n ended unfinished monitors
 
--- a thread that doesn't run stands in the middle of nothing, and no bias is being revoked
-pub record StoppedAreQuiet (running : ℕ → Bool) (stage : ℕ → Stage) : Type 0 where
-  pub quiet : (t : ℕ) → running t ≡ false → stage t ≡ Calm
+-- the thread stands in the middle of nothing; or at its reached safepoint it has given itself a bias, which it takes behind the release
+abbrev pub IsQuiet : Bool → Stage → Type 0
+IsQuiet reached stage = (stage ≡ Calm) ⊎ ((reached ≡ true) × ((o : ℕ) × (stage ≡ Takes o)))
+
+-- so stands a thread that doesn't run, and no bias is being revoked
+pub record StoppedAreQuiet (running reached : ℕ → Bool) (stage : ℕ → Stage) : Type 0 where
+  pub quiet : (t : ℕ) → running t ≡ false → IsQuiet (reached t) (stage t)
   pub none_revokes : (t : ℕ) → revocation_in (stage t) ≡ None

@@ -4,7 +4,7 @@ use Rattle.mark_word.specs.declared.mark.MarkForm.{MarkForm}
 use Rattle.mark_word.specs.declared.mark.MarkForm.TheVariants.{Biased}
 use Rattle.mark_word.specs.Mark.{read_mark}
 use Rattle.core_world.specs.declared.name.Name.{Name}
-use Rattle.core_world.specs.declared.name.Name.TheVariants.{Safepoint, Prototype, Revocations, LastBulk, Mark, Stamp, Slot, Hold, Displaced, Waiting, Length, Owner, Recursions, Header, Object, Claim}
+use Rattle.core_world.specs.declared.name.Name.TheVariants.{Safepoint, Prototype, Revocations, LastBulk, Mark, Stamp, Slot, Hold, Displaced, Waiting, Length, Owner, Recursions, Header, Object, Claim, End, Ring}
 use Rattle.core_world.specs.Words.Names.{its_monitor}
 use Rattle.core_world.specs.Words.Forms.{epoch_in, is_biased, monitor_in, waits_on, says_notified}
 use Rattle.core_world.specs.Threads.Stages.{Inflation, inflation_in, bears, revocation_in}
@@ -48,6 +48,8 @@ StaysWhileRunning w k owner t (Recursions m) v = (k.kept ≡ Some m) ⊎ IsOwnMo
 StaysWhileRunning w k owner t (Header m) v = k.kept ≡ Some m
 StaysWhileRunning w k owner t (Object m) v = k.kept ≡ Some m
 StaysWhileRunning w k owner t Claim v = ⊥
+StaysWhileRunning w k owner t End v = ⊥
+StaysWhileRunning w k owner t (Ring p) v = ⊥
 
 -- a word that stays while a thread's request stands
 abbrev pub StaysWhileAsking : World → Name → ℕ → Type 0

@@ -1,14 +1,15 @@
 -- What each thread knows between its calls, whatever its last call was. A call may begin from there where its own conditions hold.
-use Rattle.std.specs.Prelude.{◌≡◌, ℕ, ◌<◌, true, false, length, Option, Some, None}
+use Rattle.std.specs.Prelude.{◌≡◌, ◌⊎◌, ℕ, ◌<◌, true, false, length, Option, Some, None}
 use Rattle.mark_word.specs.Mark.{read_mark}
-use Rattle.core_world.specs.declared.name.Name.TheVariants.{Mark, Prototype}
+use Rattle.core_world.specs.declared.name.Name.{Name}
+use Rattle.core_world.specs.declared.name.Name.TheVariants.{Safepoint, Mark, Prototype}
 use Rattle.core_world.specs.declared.stage.Stage.TheVariants.{Calm}
 use Rattle.core_world.specs.declared.task.Op.{Op}
 use Rattle.core_world.specs.declared.task.Op.TheVariants as op
 use Rattle.core_world.specs.declared.task.Unfinished.{Unfinished}
 use Rattle.core_world.specs.Words.Forms.{waits_on, says_notified, says_ended}
 use Rattle.core_world.specs.Words.Shape.{Shape, class_of}
-use Rattle.core_world.specs.Threads.Known.{Known, last_seen}
+use Rattle.core_world.specs.Threads.Known.{Known, Still, last_seen}
 use Rattle.core_world.specs.Locks.{is_valid_bias}
 use Rattle.core_world.specs.Trees.Plans.{free_place}
 use Rattle.core_world.specs.Clauses.Safepoints.{ends, IsUnfinished}
@@ -20,9 +21,14 @@ SawValidBias s k o =
     (v p : ℕ) × (last_seen (Mark o) k.seen ≡ Some v) × (last_seen (Prototype (class_of s o)) k.seen ≡ Some p)
     × (is_valid_bias (read_mark v) p ≡ true)
 
+-- since then it has seen no words but these two and the safepoint word
+abbrev pub SawNoOther : Shape → Known → ℕ → Type 0
+SawNoOther s k o = (n : Name) (v : ℕ) → last_seen n k.seen ≡ Some v
+    → (n ≡ Safepoint) ⊎ (n ≡ Mark o) ⊎ (n ≡ Prototype (class_of s o))
+
 -- that, and it has not reached its safepoint: in the call in which it does, it goes on up to the release
 abbrev pub MayRevoke : Shape → Known → ℕ → Type 0
-MayRevoke s k o = SawValidBias s k o × (k.reached ≡ false)
+MayRevoke s k o = SawValidBias s k o × (k.reached ≡ false) × SawNoOther s k o
 
 -- what a thread has seen that asks for a safepoint for this operation. An exit asks for none, nor does a wait that has let go; a dump looks at the
 -- words at the safepoint alone, and each other operation revokes a bias that it saw
@@ -38,6 +44,8 @@ MayAsk s k (Some u) = by_op u.op
 
 pub record AtRest (s : Shape) (k : Known) : Type 0 where
   pub calm : k.stage ≡ Calm
+  -- and has nothing in hand of the ring
+  pub still : k.moving ≡ Still
   -- it has ended with nothing unfinished, and says so
   pub ended : ends k.log ≡ true → (says_ended k.wait ≡ true) × (k.unfinished ≡ None)
   -- an unfinished enter has a place for its hold word

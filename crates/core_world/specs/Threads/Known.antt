@@ -60,6 +60,13 @@ pub record CallUnderway : Type 0 where
   pub start : Start
   pub answers : List ℕ
 
+-- What a thread has in hand of the ring: nothing; a position that it has claimed and not loaded yet; or a monitor that no mark names any more,
+-- and that it gives back at its safepoint.
+pub data Moving : Type 0 where
+  Still : Moving
+  Fetches : (position : ℕ) → Moving
+  Returns : (monitor : ℕ) → Moving
+
 pub record Known : Type 0 where
   pub thread : ℕ
   pub log : List Logged
@@ -71,6 +78,8 @@ pub record Known : Type 0 where
   pub halted : Bool
   -- the monitor that it has claimed and no mark names
   pub kept : Option ℕ
+  -- what it has in hand of the ring
+  pub moving : Moving
   -- the recursions that its wait saved
   pub saved : ℕ
   -- its own hold words, waiting word and published length, as it last stored them

@@ -15,6 +15,7 @@ use Rattle.core_world.specs.declared.answer.Why.TheVariants as why
 use Rattle.core_world.specs.Words.Forms.{hash_in}
 use Rattle.core_world.specs.Threads.Known.{Local}
 use Rattle.core_world.specs.RevocationRules.{first_place}
+use Rattle.core_world.specs.Words.Shape.{Shape}
 use Rattle.core_world.specs.Trees.Todo.{Todo, done, never, ◌>>=◌, ask}
 use Rattle.core_world.specs.Trees.Plans.{Purpose, logging_plan, load, done_with, pending_for}
 use Rattle.core_world.specs.Trees.MonitorSteps.{inflate_steps}
@@ -60,25 +61,25 @@ abbrev pub hash_inflated : Purpose → NextDraw → ℕ → Turn ℕ → Todo (T
 hash_inflated e draw o (Done m) = hash_monitor_steps e draw o m
 hash_inflated e draw o (Pending why) = pending_for why
 
-abbrev pub hash_inflate_steps : Purpose → Option ℕ → NextDraw → ℕ → Todo (Turn ℕ)
-hash_inflate_steps e kept draw o = inflate_steps e kept o >>= hash_inflated e draw o
+abbrev pub hash_inflate_steps : Shape → Purpose → Option ℕ → NextDraw → ℕ → Todo (Turn ℕ)
+hash_inflate_steps s e kept draw o = inflate_steps s e kept o >>= hash_inflated e draw o
 
-abbrev pub hash_unless : Option ℕ → Purpose → Option ℕ → NextDraw → ℕ → Todo (Turn ℕ)
-hash_unless (Some value) e kept draw o = done_with value
-hash_unless None e kept draw o = hash_inflate_steps e kept draw o
+abbrev pub hash_unless : Option ℕ → Shape → Purpose → Option ℕ → NextDraw → ℕ → Todo (Turn ℕ)
+hash_unless (Some value) s e kept draw o = done_with value
+hash_unless None s e kept draw o = hash_inflate_steps s e kept draw o
 
-abbrev pub hash_mark_steps : Option MarkForm → Purpose → Local → Option ℕ → NextDraw → ℕ → ℕ → Todo (Turn ℕ)
-hash_mark_steps (Some Inflating) e k kept draw o mark = pending_for why.Inflating
-hash_mark_steps (Some (Neutral hash age)) e k kept draw o mark =
+abbrev pub hash_mark_steps : Option MarkForm → Shape → Purpose → Local → Option ℕ → NextDraw → ℕ → ℕ → Todo (Turn ℕ)
+hash_mark_steps (Some Inflating) s e k kept draw o mark = pending_for why.Inflating
+hash_mark_steps (Some (Neutral hash age)) s e k kept draw o mark =
     if hash == 0 then hash_neutral_steps e draw o mark else done_with hash
-hash_mark_steps (Some (Locked thread place)) e k kept draw o mark =
-    if thread == k.thread then (hash_displaced_steps e k o >>= λ found. hash_unless found e kept draw o)
-    else hash_inflate_steps e kept draw o
-hash_mark_steps (Some (Inflated monitor)) e k kept draw o mark = hash_monitor_steps e draw o monitor
-hash_mark_steps _ e k kept draw o mark = never
+hash_mark_steps (Some (Locked thread place)) s e k kept draw o mark =
+    if thread == k.thread then (hash_displaced_steps e k o >>= λ found. hash_unless found s e kept draw o)
+    else hash_inflate_steps s e kept draw o
+hash_mark_steps (Some (Inflated monitor)) s e k kept draw o mark = hash_monitor_steps e draw o monitor
+hash_mark_steps _ s e k kept draw o mark = never
 
 -- the hash of o, whose mark has no bias pattern
-abbrev pub hash_header_steps : Purpose → Local → Option ℕ → NextDraw → ℕ → Todo (Turn ℕ)
-hash_header_steps e k kept draw o = do
+abbrev pub hash_header_steps : Shape → Purpose → Local → Option ℕ → NextDraw → ℕ → Todo (Turn ℕ)
+hash_header_steps s e k kept draw o = do
   mark ← ask (find_hash_plan e (Mark o) o)
-  hash_mark_steps (read_mark mark) e k kept draw o mark
+  hash_mark_steps (read_mark mark) s e k kept draw o mark

@@ -1,6 +1,6 @@
 -- The steps that inflate a lock, and that take and leave a monitor, after OpenJDK 8's synchronizer.cpp (inflate) and objectMonitor.cpp
 -- (enter, exit).
-use Rattle.std.specs.Prelude.{ℕ, ◌+◌, ◌-◌, ◌==◌, if◌then◌else◌, Option, Some, None}
+use Rattle.std.specs.Prelude.{ℕ, ◌+◌, ◌-◌, ◌%◌, ◌==◌, if◌then◌else◌, Option, Some, None}
 use Rattle.mark_word.specs.declared.mark.MarkForm.{MarkForm}
 use Rattle.mark_word.specs.declared.mark.MarkForm.TheVariants.{Inflating, Neutral, Locked, Inflated}
 use Rattle.mark_word.specs.declared.owner.OwnerForm.{OwnerForm}
@@ -14,21 +14,25 @@ use Rattle.plain_monitor.specs.declared.entry.Path.{Path}
 use Rattle.plain_monitor.specs.declared.entry.Path.TheVariants.{MonitorFirst, MonitorAgain}
 use Rattle.core_world.specs.declared.act.Act.TheVariants as act
 use Rattle.core_world.specs.declared.name.Name.{Name}
-use Rattle.core_world.specs.declared.name.Name.TheVariants.{Mark, Displaced, Waiting, Owner, Recursions, Header, Object, Claim}
+use Rattle.core_world.specs.declared.name.Name.TheVariants.{Mark, Displaced, Waiting, Owner, Recursions, Header, Object, Claim, Ring}
 use Rattle.core_world.specs.declared.plan.Own.TheVariants as own
 use Rattle.core_world.specs.declared.plan.StepPlan.{StepPlan}
 use Rattle.core_world.specs.declared.stage.Stage.{Stage}
 use Rattle.core_world.specs.declared.stage.Stage.TheVariants.{Calm, Grabs, Exits, TakesOver, Ahead, Behind, Inflates}
 use Rattle.core_world.specs.declared.answer.Turn.{Turn}
 use Rattle.core_world.specs.declared.answer.Why.TheVariants as why
+use Rattle.core_world.specs.Words.Shape.{Shape, ring_places}
 use Rattle.core_world.specs.Threads.Known.{Local}
 use Rattle.core_world.specs.Trees.Todo.{Todo, done, never, ◌>>=◌, ask}
 use Rattle.core_world.specs.Trees.Plans.{Purpose, quiet_plan, with_stage, with_own, logging_plan, load_plan, load, store, swap, done_with, pending_for, free_place, top_place}
 use Rattle.core_world.specs.Trees.LockSteps.{displace_plan, hold_steps, leave_steps, clear_steps}
 
--- THE PLANS, of thread t's steps. It claims a monitor.
+-- THE PLANS, of thread t's steps. It claims a ring position, and keeps the monitor that stands there.
 abbrev pub claim_plan : Purpose → StepPlan
-claim_plan e = with_own own.Claim (quiet_plan e Claim act.Count)
+claim_plan e = with_own own.Position (quiet_plan e Claim act.Count)
+
+abbrev pub fetch_plan : Purpose → Shape → ℕ → StepPlan
+fetch_plan e s position = with_own own.Claim (load e (Ring (position % ring_places s)))
 
 -- It stores a word of the monitor that it keeps, wherever it stands.
 abbrev pub prepare_plan : Purpose → Stage → Name → ℕ → StepPlan
@@ -104,22 +108,23 @@ inflate_with (Some (Neutral hash age)) e o mark m = inflate_neutral e o mark m
 inflate_with _ e o mark m = never
 
 -- with the monitor that the thread keeps, or else with one that it claims
-abbrev pub inflate_by : Option ℕ → Purpose → ℕ → ℕ → Todo (Turn ℕ)
-inflate_by (Some m) e o mark = inflate_with (read_mark mark) e o mark m
-inflate_by None e o mark = do
-  m ← ask (claim_plan e)
+abbrev pub inflate_by : Option ℕ → Shape → Purpose → ℕ → ℕ → Todo (Turn ℕ)
+inflate_by (Some m) s e o mark = inflate_with (read_mark mark) e o mark m
+inflate_by None s e o mark = do
+  position ← ask (claim_plan e)
+  m ← ask (fetch_plan e s position)
   inflate_with (read_mark mark) e o mark m
 
-abbrev pub inflate_at : Option MarkForm → Purpose → Option ℕ → ℕ → ℕ → Todo (Turn ℕ)
-inflate_at (Some Inflating) e kept o mark = pending_for why.Inflating
-inflate_at (Some (Inflated monitor)) e kept o mark = done_with monitor
-inflate_at _ e kept o mark = inflate_by kept e o mark
+abbrev pub inflate_at : Option MarkForm → Shape → Purpose → Option ℕ → ℕ → ℕ → Todo (Turn ℕ)
+inflate_at (Some Inflating) s e kept o mark = pending_for why.Inflating
+inflate_at (Some (Inflated monitor)) s e kept o mark = done_with monitor
+inflate_at _ s e kept o mark = inflate_by kept s e o mark
 
 -- the number of o's monitor, found or made; o's mark has no bias pattern
-abbrev pub inflate_steps : Purpose → Option ℕ → ℕ → Todo (Turn ℕ)
-inflate_steps e kept o = do
+abbrev pub inflate_steps : Shape → Purpose → Option ℕ → ℕ → Todo (Turn ℕ)
+inflate_steps s e kept o = do
   mark ← ask (load e (Mark o))
-  inflate_at (read_mark mark) e kept o mark
+  inflate_at (read_mark mark) s e kept o mark
 
 -- The displaced word 3 says that the hold goes by the monitor.
 abbrev pub record_steps : Purpose → Stage → Local → ℕ → Path → Todo (Turn Path)

@@ -5,7 +5,6 @@ use Rattle.mark_word.specs.declared.mark.MarkForm.TheVariants.{Inflating, Neutra
 use Rattle.mark_word.specs.declared.wait.WaitForm.TheVariants.{Ended}
 use Rattle.mark_word.specs.Mark.{read_mark}
 use Rattle.mark_word.specs.Wait.{wait_of}
-use Rattle.plain_monitor.specs.declared.entry.Entry.{Entry}
 use Rattle.plain_monitor.specs.declared.entry.Entry.TheVariants as entry
 use Rattle.plain_monitor.specs.declared.entry.Ending.{Ending}
 use Rattle.plain_monitor.specs.declared.entry.Path.{Path}
@@ -47,6 +46,8 @@ use Rattle.core_world.specs.Trees.BiasSteps.{bias_enter_steps, bias_exit_steps, 
 use Rattle.core_world.specs.Trees.SafepointSteps.{safepoint_steps, release_to, release_safepoint, halt_steps}
 use Rattle.core_world.specs.Trees.RevocationSteps.{revoke_at_safepoint_steps}
 use Rattle.core_world.specs.Trees.HashSteps.{hash_header_steps}
+use Rattle.core_world.specs.declared.stage.Stage.TheVariants.{Calm}
+use Rattle.core_world.specs.Trees.DeflateSteps.{deflate_steps}
 use Rattle.core_world.specs.Trees.LookSteps.{take_shot_steps, stands_still_steps}
 
 abbrev pub same_op : Op → Op → Bool
@@ -78,29 +79,30 @@ revocation_steps s t requesting e b = do
   turn ← safepoint_steps e t requesting
   and_then turn (λ _. do
     outcome ← revoke_at_safepoint_steps s t e b
+    _ ← deflate_steps s e (stage_after outcome.took b.object)
     _ ← release_to (stage_after outcome.took b.object) e t
     done_with outcome.took)
 
 -- ENTER. Locked by another, or inflated: by the monitor.
-abbrev pub enter_monitor_steps : Purpose → Start → ℕ → Todo (Turn Path)
-enter_monitor_steps e k o = do
-  turn ← inflate_steps e k.kept o
+abbrev pub enter_monitor_steps : Shape → Purpose → Start → ℕ → Todo (Turn Path)
+enter_monitor_steps s e k o = do
+  turn ← inflate_steps s e k.kept o
   and_then turn (λ m. monitor_enter_steps e k.local o m)
 
 -- a mark without the bias pattern
-abbrev pub enter_at : Option MarkForm → Purpose → Start → ℕ → ℕ → Todo (Turn Path)
-enter_at (Some Inflating) e k o mark = pending_for why.Inflating
-enter_at (Some (Neutral hash age)) e k o mark = stack_enter_steps e k.local o mark
-enter_at (Some (Locked thread place)) e k o mark =
-    if thread == k.local.thread then stack_enter_steps e k.local o mark else enter_monitor_steps e k o
-enter_at (Some (Inflated monitor)) e k o mark = monitor_enter_steps e k.local o monitor
-enter_at _ e k o mark = never
+abbrev pub enter_at : Option MarkForm → Shape → Purpose → Start → ℕ → ℕ → Todo (Turn Path)
+enter_at (Some Inflating) s e k o mark = pending_for why.Inflating
+enter_at (Some (Neutral hash age)) s e k o mark = stack_enter_steps e k.local o mark
+enter_at (Some (Locked thread place)) s e k o mark =
+    if thread == k.local.thread then stack_enter_steps e k.local o mark else enter_monitor_steps s e k o
+enter_at (Some (Inflated monitor)) s e k o mark = monitor_enter_steps e k.local o monitor
+enter_at _ s e k o mark = never
 
-abbrev pub enter_unbiased : BiasTry → Purpose → Start → ℕ → Todo (Turn Path)
-enter_unbiased (Took path) e k o = done_with path
-enter_unbiased (Unbiased mark) e k o = enter_at (read_mark mark) e k o mark
-enter_unbiased (Valid mark) e k o = never
-enter_unbiased (Raced expected found) e k o = pending_for (why.Raced expected found)
+abbrev pub enter_unbiased : BiasTry → Shape → Purpose → Start → ℕ → Todo (Turn Path)
+enter_unbiased (Took path) s e k o = done_with path
+enter_unbiased (Unbiased mark) s e k o = enter_at (read_mark mark) s e k o mark
+enter_unbiased (Valid mark) s e k o = never
+enter_unbiased (Raced expected found) s e k o = pending_for (why.Raced expected found)
 
 -- a bias of another thread: it is revoked at a safepoint, and the mark is loaded again
 abbrev pub enter_revoked : Shape → Bool → Purpose → Start → Revocation → Todo (Turn Path)
@@ -108,11 +110,11 @@ enter_revoked s requesting e k b = do
   turn ← revocation_steps s k.local.thread requesting e b
   and_then turn (λ took. do
     tried ← bias_after_steps e k.local b.object took
-    enter_unbiased tried e k b.object)
+    enter_unbiased tried s e k b.object)
 
 abbrev pub enter_tried : BiasTry → Shape → Purpose → Start → Revocation → Todo (Turn Path)
 enter_tried (Valid mark) s e k b = enter_revoked s false e k b
-enter_tried tried s e k b = enter_unbiased tried e k b.object
+enter_tried tried s e k b = enter_unbiased tried s e k b.object
 
 abbrev pub enter_going : Shape → Purpose → Start → Revocation → Todo (Turn Path)
 enter_going s e k b = if k.requesting then enter_revoked s true e k b else (do
@@ -174,7 +176,7 @@ abbrev pub wait_beginning : Shape → Purpose → Start → ℕ → ℕ → Todo
 wait_beginning s e k o now = do
   turn ← unbias_steps s e k (no_bias o now)
   and_then turn (λ _. do
-    turn ← inflate_steps e k.kept o
+    turn ← inflate_steps s e k.kept o
     and_then turn (λ m. do
       saved ← monitor_wait_steps e k.local o m
       monitor_resume_steps e k.local.thread saved o))
@@ -239,7 +241,7 @@ abbrev pub hash_steps : Shape → Start → ℕ → ℕ → Todo (Turn ℕ)
 hash_steps s k o now = do
   turn ← unbias_steps s (purpose (task.Hash o now) op.Hash o) k (no_bias o now)
   and_then turn
-      (λ _. hash_header_steps (purpose (task.Hash o now) op.Hash o) k.local k.kept
+      (λ _. hash_header_steps s (purpose (task.Hash o now) op.Hash o) k.local k.kept
       (record { number = k.draws + 1; value = k.draw }) o)
 
 -- GET and PUT: one load or store of the slot, which logs the entry.
@@ -287,6 +289,7 @@ dump_going s e k = do
   turn ← safepoint_steps e k.local.thread k.requesting
   and_then turn (λ _. do
     _ ← take_shot_steps e s
+    _ ← deflate_steps s e Calm
     _ ← release_safepoint e k.local.thread
     _ ← publish_steps (entry.Dump (k.shots + 1)) e k.local
     done_with (k.shots + 1))
@@ -309,4 +312,5 @@ check_steps s k = do
       k.local.thread k.requesting
   and_then turn (λ _. do
     still ← stands_still_steps (record { task = task.Check; unfinished = k.unfinished; check = true }) s
+    _ ← deflate_steps s (record { task = task.Check; unfinished = k.unfinished; check = true }) Calm
     check_ending still (record { task = task.Check; unfinished = k.unfinished; check = true }) k.local.thread)

@@ -1,7 +1,7 @@
 -- The words of the heap by name.
 use Rattle.std.specs.Prelude.{ℕ, ◌==◌, ◌&&◌, Bool, if◌then◌else◌, Option, Some, None}
 use Rattle.core_world.specs.declared.name.Name.{Name}
-use Rattle.core_world.specs.declared.name.Name.TheVariants.{Safepoint, Prototype, Revocations, LastBulk, Mark, Stamp, Slot, Hold, Displaced, Waiting, Length, Owner, Recursions, Header, Object, Claim}
+use Rattle.core_world.specs.declared.name.Name.TheVariants.{Safepoint, Prototype, Revocations, LastBulk, Mark, Stamp, Slot, Hold, Displaced, Waiting, Length, Owner, Recursions, Header, Object, Claim, End, Ring}
 
 -- the monitor of which this is a word
 abbrev pub its_monitor : Name → Option ℕ
@@ -29,6 +29,8 @@ kind_of (Recursions m) = 12
 kind_of (Header m) = 13
 kind_of (Object m) = 14
 kind_of Claim = 15
+kind_of End = 16
+kind_of (Ring p) = 17
 
 abbrev pub first_index : Name → ℕ
 first_index Safepoint = 0
@@ -47,6 +49,8 @@ first_index (Recursions m) = m
 first_index (Header m) = m
 first_index (Object m) = m
 first_index Claim = 0
+first_index End = 0
+first_index (Ring p) = p
 
 abbrev pub second_index : Name → ℕ
 second_index (Slot o s) = s

@@ -1,7 +1,7 @@
 -- The words before the first step.
 use Rattle.std.specs.Prelude.{ℕ, zero, suc, ◌+◌, ◌*◌, Bool, List, [], ◌∷◌, ◌++◌, replicate}
 use Rattle.core_world.specs.Opening.{first_mark}
-use Rattle.core_world.specs.Words.Shape.{Shape}
+use Rattle.core_world.specs.Words.Shape.{Shape, monitor_count, ring_places}
 use Rattle.heap_table.specs.Layout.{many}
 
 -- this many copies of a group's words
@@ -9,10 +9,14 @@ abbrev pub copies : ℕ → List ℕ → List ℕ
 copies zero group = []
 copies (suc n) group = group ++ copies n group
 
--- one kind of group behind the other
-abbrev pub spread : List (ℕ × List ℕ) → List ℕ
-spread [] = []
-spread (x ∷ xs) = copies x.0 x.1 ++ spread xs
+-- one kind of group behind the other, and these words behind them all
+abbrev pub spread : List (ℕ × List ℕ) → List ℕ → List ℕ
+spread [] ws = ws
+spread (x ∷ xs) ws = copies x.0 x.1 ++ spread xs ws
+
+-- the heap's own words: the ring's end is the number of monitors, and every other word is 0
+abbrev pub heap_words : ℕ → List ℕ
+heap_words monitors = replicate 7 0 ++ (monitors ∷ replicate 8 0)
 
 -- a class's prototype, and its count and moment of revocations
 abbrev pub class_words : ℕ → List ℕ
@@ -24,5 +28,14 @@ object_words mark = mark ∷ 0 ∷ (replicate 16 9223372036854775809 ++ replicat
 
 abbrev pub opening_groups : Shape → Bool → List (ℕ × List ℕ)
 opening_groups s biasing =
-    (16, 0 ∷ []) ∷ (s.classes, class_words (first_mark biasing)) ∷ (many s, object_words (first_mark biasing))
-    ∷ (144 * s.threads + 16 * (many s + s.threads), 0 ∷ []) ∷ []
+    (1, heap_words (monitor_count s)) ∷ (s.classes, class_words (first_mark biasing))
+    ∷ (many s, object_words (first_mark biasing)) ∷ (144 * s.threads + 16 * (many s + s.threads), 0 ∷ []) ∷ []
+
+-- the numbers below n, in their order
+abbrev pub numbers : ℕ → List ℕ
+numbers zero = []
+numbers (suc n) = numbers n ++ n ∷ []
+
+-- each place of the ring has its own number
+abbrev pub opening_words : Shape → Bool → List ℕ
+opening_words s biasing = spread (opening_groups s biasing) (numbers (ring_places s))

@@ -5,7 +5,8 @@ use Rattle.core_world.specs.Threads.Known.{Local}
 use Rattle.core_world.specs.Trees.HashSteps.{NextDraw, hash_displaced_steps, hash_unless}
 use Rattle.core_world.specs.Trees.Plans.{Purpose}
 use Rattle.core_world.specs.Trees.Todo.{Todo, ◌>>=◌}
+use Rattle.core_world.specs.Words.Shape.{Shape}
 
 -- o is locked by a record of this thread: where the record's header has no hash, the lock is inflated
-abbrev pub hash_owned_steps : Purpose → Local → Option ℕ → NextDraw → ℕ → Todo (Turn ℕ)
-hash_owned_steps e k kept draw o = hash_displaced_steps e k o >>= λ found. hash_unless found e kept draw o
+abbrev pub hash_owned_steps : Shape → Purpose → Local → Option ℕ → NextDraw → ℕ → Todo (Turn ℕ)
+hash_owned_steps s e k kept draw o = hash_displaced_steps e k o >>= λ found. hash_unless found s e kept draw o

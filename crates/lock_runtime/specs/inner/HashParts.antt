@@ -9,11 +9,11 @@ use Rattle.core_world.specs.Trees.Todo.{Todo, ◌>>=◌}
 use Rattle.core_world.specs.Words.Shape.{Shape}
 
 -- a hash of o, whose mark has no bias pattern, by the thread's next draw
-abbrev pub hash_unbiased : Purpose → Start → ℕ → Todo (Turn ℕ)
-hash_unbiased e k o = hash_header_steps e k.local k.kept (record { number = k.draws + 1; value = k.draw }) o
+abbrev pub hash_unbiased : Shape → Purpose → Start → ℕ → Todo (Turn ℕ)
+hash_unbiased s e k o = hash_header_steps s e k.local k.kept (record { number = k.draws + 1; value = k.draw }) o
 
 -- the whole of one
 abbrev pub hash_going : Shape → Purpose → Start → ℕ → ℕ → Todo (Turn ℕ)
 hash_going s e k o now = do
   turn ← unbias_steps s e k (no_bias o now)
-  and_then turn (λ _. hash_unbiased e k o)
+  and_then turn (λ _. hash_unbiased s e k o)

@@ -2,9 +2,11 @@
 use Rattle.std.specs.Prelude.{ℕ, Bool}
 use Rattle.plain_monitor.specs.declared.entry.Path.{Path}
 use Rattle.core_world.specs.declared.answer.Turn.{Turn}
+use Rattle.core_world.specs.declared.stage.Stage.{Stage}
 use Rattle.core_world.specs.Threads.Known.{Local, Start}
 use Rattle.core_world.specs.Threads.Stages.{Revocation}
 use Rattle.core_world.specs.Trees.BiasSteps.{bias_enter_steps, bias_drop_steps, stage_after, bias_after_steps}
+use Rattle.core_world.specs.Trees.DeflateSteps.{deflate_steps}
 use Rattle.core_world.specs.Trees.LockSteps.{stack_exit_steps}
 use Rattle.core_world.specs.Trees.Operations.{exit_at, enter_tried, enter_unbiased, unbias_tried}
 use Rattle.core_world.specs.Trees.Plans.{Purpose, done_with}
@@ -19,18 +21,24 @@ exit_unbiased e k o = do
   out ← stack_exit_steps e k o
   exit_at out e k o
 
+-- behind the revocation of a bias, where thread t stands at this stage: idle monitors are given back, and the safepoint ends
+abbrev pub ended_revocation : Shape → ℕ → Purpose → Stage → Bool → Todo (Turn Bool)
+ended_revocation s t e stage took = do
+  _ ← deflate_steps s e stage
+  _ ← release_to stage e t
+  done_with took
+
 -- the revocation of a bias at thread t's reached safepoint, which then ends
 abbrev pub reached_revocation : Shape → ℕ → Purpose → Revocation → Todo (Turn Bool)
 reached_revocation s t e b = do
   outcome ← revoke_at_safepoint_steps s t e b
-  _ ← release_to (stage_after outcome.took b.object) e t
-  done_with outcome.took
+  ended_revocation s t e (stage_after outcome.took b.object) outcome.took
 
 -- an enter of the revoked object, whether the thread gave itself a new bias or not
-abbrev pub enter_again : Purpose → Start → ℕ → Bool → Todo (Turn Path)
-enter_again e k o took = do
+abbrev pub enter_again : Shape → Purpose → Start → ℕ → Bool → Todo (Turn Path)
+enter_again s e k o took = do
   tried ← bias_after_steps e k.local o took
-  enter_unbiased tried e k o
+  enter_unbiased tried s e k o
 
 -- an enter that asks for no safepoint, unless it finds a valid bias of another thread
 abbrev pub enter_first : Shape → Purpose → Start → Revocation → Todo (Turn Path)

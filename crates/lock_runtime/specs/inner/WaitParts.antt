@@ -18,9 +18,9 @@ letting_go e k o m = do
   monitor_resume_steps e k.thread saved o
 
 -- o is inflated for that, with the monitor that the thread keeps if it needs one
-abbrev pub inflated_wait : Purpose → Option ℕ → Local → ℕ → Todo (Turn (Unit {0}))
-inflated_wait e kept k o = do
-  turn ← inflate_steps e kept o
+abbrev pub inflated_wait : Shape → Purpose → Option ℕ → Local → ℕ → Todo (Turn (Unit {0}))
+inflated_wait s e kept k o = do
+  turn ← inflate_steps s e kept o
   and_then turn (λ m. letting_go e k o m)
 
 -- a notify, and a notify of all, by o's mark

@@ -1,4 +1,4 @@
-use Rattle.core_counts.proofs.QuietKinds.{claims, prepares_owner, prepares_recursions, prepares_header, prepares_object, inflates, names, names_neutral}
+use Rattle.core_counts.proofs.QuietKinds.{claims, fetches, prepares_owner, prepares_recursions, prepares_header, prepares_object, inflates, names, names_neutral}
 use Rattle.core_counts.proofs.kinds.making_a_monitor_keeps_the_law_of_biases.Goals as goal
 
 pub returns-clause-claimed : goal.returns-clause-claimed
@@ -24,3 +24,6 @@ returns-clause-named c = names
 
 pub returns-clause-named_neutral : goal.returns-clause-named_neutral
 returns-clause-named_neutral c = names_neutral
+
+pub returns-clause-fetched : goal.returns-clause-fetched
+returns-clause-fetched c = fetches

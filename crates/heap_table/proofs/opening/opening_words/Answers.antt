@@ -1,5 +1,5 @@
 use Rattle.std.proofs.Common.{◌+◌, ◌*◌, [], ◌∷◌, ◌++◌, ◌∙◌}
-use Rattle.heap_table.specs.inner.Openings.{copies, class_words, object_words}
+use Rattle.heap_table.specs.inner.Openings.{copies, heap_words, class_words, object_words, numbers}
 use Rattle.heap_table.proofs.Opens.{chained, opening_count}
 use Rattle.heap_table.proofs.opening.opening_words.Goals as goal
 
@@ -9,8 +9,11 @@ returns-clause-words c =
     let classes = c.classes-classes.ensures in
     let objects = c.objects-objects.ensures in
     let threads = c.threads-threads.ensures.same in
-    chained _ _ _ _ _ _ _ _ _ c.in_ok-words.ensures.items c.in_ok-push_copies.ensures c.in_ok-push_copies-2.ensures c.in_ok-push_copies-3.ensures c.in_ok-push_copies-4.ensures
-    ∙ λ i. copies 16 (0 ∷ []) ++ (copies (classes i) (class_words (mark i)) ++ (copies (objects i) (object_words (mark i)) ++ (copies (144 * threads i + 16 * (objects i + threads i)) (0 ∷ []) ++ [])))
+    let places = c.ring_places-places.ensures.places in
+    chained _ _ _ _ _ _ _ _ _ _ _ c.in_ok-words.ensures.items c.in_ok-push_copies.ensures c.in_ok-push_copies-2.ensures c.in_ok-push_copies-3.ensures c.in_ok-push_copies-4.ensures
+    c.in_ok-push_numbers.ensures
+    ∙ λ i. copies 1 (heap_words (objects i + threads i)) ++ (copies (classes i) (class_words (mark i)) ++ (copies (objects i) (object_words (mark i))
+    ++ (copies (144 * threads i + 16 * (objects i + threads i)) (0 ∷ []) ++ numbers (places i))))
 
 pub returns-clause-count : goal.returns-clause-count
 returns-clause-count c = opening_count c.args.setting.now.shape c.args.setting.now.biasing _ (returns-clause-words c)

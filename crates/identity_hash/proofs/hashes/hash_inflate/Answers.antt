@@ -17,7 +17,7 @@ inflate-requires-clause-due c =
     let e = a.why.now in
     let k = a.pass.now.known in
     let d : NextDraw = record { number = a.number; value = a.value } in
-    part_due h.heap.shape h.heap.start h.heap.biasing k e.task (inflate_steps e k.kept a.object) (hash_inflated e d a.object) c.requires.due
+    part_due h.heap.shape h.heap.start h.heap.biasing k e.task (inflate_steps h.heap.shape e k.kept a.object) (hash_inflated e d a.object) c.requires.due
 
 pub hash_monitor-requires-clause-due : goal.hash_monitor-requires-clause-due
 hash_monitor-requires-clause-due c =
@@ -26,7 +26,7 @@ hash_monitor-requires-clause-due c =
     let e = a.why.now in
     let d : NextDraw = record { number = a.number; value = a.value } in
     let q = c.inflate.new.pass in
-    let run = subst (HasRun h (inflate_steps e a.pass.now.known.kept a.object) a.pass.now q) c.in-Done.is c.inflate.ensures.run in
+    let run = subst (HasRun h (inflate_steps h.heap.shape e a.pass.now.known.kept a.object) a.pass.now q) c.in-Done.is c.inflate.ensures.run in
     part_then h a.pass.now q e.task (load e (Mark a.object)) _ (hash_inflated e d a.object) (Done c.in-Done.monitor) c.requires.due refl run
 
 pub hash_monitor-requires-clause-room : goal.hash_monitor-requires-clause-room
@@ -34,8 +34,9 @@ hash_monitor-requires-clause-room c =
     let a = c.args in
     let e = a.why.now in
     let kept = a.pass.now.known.kept in
-    room_behind a.heap.now (inflate_steps e kept a.object) a.pass.now c.inflate.new.pass c.inflate.result
-    (inflating e kept a.object) c.inflate.ensures.run c.requires.room
+    let s = a.heap.now.heap.shape in
+    room_behind a.heap.now (inflate_steps s e kept a.object) a.pass.now c.inflate.new.pass c.inflate.result
+    (inflating s e kept a.object) c.inflate.ensures.run c.requires.room
 
 pub returns-in-Done : goal.returns-in-Done
 returns-in-Done c =
@@ -44,7 +45,7 @@ returns-in-Done c =
     let e = a.why.now in
     let d : NextDraw = record { number = a.number; value = a.value } in
     let q = c.inflate.new.pass in
-    let first = inflate_steps e a.pass.now.known.kept a.object in
+    let first = inflate_steps h.heap.shape e a.pass.now.known.kept a.object in
     let run = subst (HasRun h first a.pass.now q) c.in-Done.is c.inflate.ensures.run in
     in_turn h a.pass.now q c.hash_monitor.new.pass first (hash_inflated e d a.object) (Done c.in-Done.monitor) c.hash_monitor.result run c.hash_monitor.ensures
 
@@ -55,7 +56,7 @@ returns-in-Pending c =
     let e = a.why.now in
     let d : NextDraw = record { number = a.number; value = a.value } in
     let q = c.inflate.new.pass in
-    let first = inflate_steps e a.pass.now.known.kept a.object in
+    let first = inflate_steps h.heap.shape e a.pass.now.known.kept a.object in
     let run = subst (HasRun h first a.pass.now q) c.in-Pending.is c.inflate.ensures.run in
     let out = Pending c.in-Pending.reason in
     in_turn h a.pass.now q q first (hash_inflated e d a.object) out out run (ends h q out run.heap)

@@ -18,7 +18,7 @@ hash_displaced-requires-clause-due c =
     let k = a.pass.now.known in
     let d : NextDraw = record { number = a.number; value = a.value } in
     part_due h.heap.shape h.heap.start h.heap.biasing k e.task (hash_displaced_steps e (local_of k) a.object)
-    (λ found. hash_unless found e k.kept d a.object) c.requires.due
+    (λ found. hash_unless found h.heap.shape e k.kept d a.object) c.requires.due
 
 pub returns-in-Some : goal.returns-in-Some
 returns-in-Some c =
@@ -31,7 +31,7 @@ returns-in-Some c =
     let first = hash_displaced_steps e (local_of k) a.object in
     let run = subst (HasRun h first a.pass.now q) c.in-Some.is c.hash_displaced.ensures in
     let out = Done c.in-Some.hash in
-    in_turn h a.pass.now q q first (λ found. hash_unless found e k.kept d a.object) (Some c.in-Some.hash) out run (ends h q out run.heap)
+    in_turn h a.pass.now q q first (λ found. hash_unless found h.heap.shape e k.kept d a.object) (Some c.in-Some.hash) out run (ends h q out run.heap)
 
 pub hash_inflate-requires-clause-due : goal.hash_inflate-requires-clause-due
 hash_inflate-requires-clause-due c =
@@ -43,8 +43,8 @@ hash_inflate-requires-clause-due c =
     let q = c.hash_displaced.new.pass in
     let run = subst (HasRun h (hash_displaced_steps e (local_of k) a.object) a.pass.now q) c.in-None.is c.hash_displaced.ensures in
     let plan = find_hash_plan e (Displaced k.thread (first_place a.object k.holds)) a.object in
-    subst (λ (x : Option ℕ). IsDueOn h q e.task (hash_inflate_steps e x d a.object)) (sym (behind_kept h a.pass.now q e (local_of k) a.object run))
-    (part_then h a.pass.now q e.task plan _ (λ found. hash_unless found e k.kept d a.object) None c.requires.due refl run)
+    subst (λ (x : Option ℕ). IsDueOn h q e.task (hash_inflate_steps h.heap.shape e x d a.object)) (sym (behind_kept h a.pass.now q e (local_of k) a.object run))
+    (part_then h a.pass.now q e.task plan _ (λ found. hash_unless found h.heap.shape e k.kept d a.object) None c.requires.due refl run)
 
 pub hash_inflate-requires-clause-room : goal.hash_inflate-requires-clause-room
 hash_inflate-requires-clause-room c =
@@ -69,6 +69,6 @@ returns-in-None c =
     let first = hash_displaced_steps e (local_of k) a.object in
     let run = subst (HasRun h first a.pass.now q) c.in-None.is c.hash_displaced.ensures in
     let rest =
-    subst (λ (x : Option ℕ). HasRun h (hash_inflate_steps e x d a.object) q r out)
+    subst (λ (x : Option ℕ). HasRun h (hash_inflate_steps h.heap.shape e x d a.object) q r out)
     (behind_kept h a.pass.now q e (local_of k) a.object run) c.hash_inflate.ensures in
-    in_turn h a.pass.now q r first (λ found. hash_unless found e k.kept d a.object) None out run rest
+    in_turn h a.pass.now q r first (λ found. hash_unless found h.heap.shape e k.kept d a.object) None out run rest

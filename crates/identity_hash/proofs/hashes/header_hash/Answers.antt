@@ -35,7 +35,7 @@ returns-in-Inflating c =
     let form : read_mark mark ≡ Some Inflating = sym c.mark_of_word.ensures ∙ c.in-Some.is ∙ ap Some c.in-Inflating.is in
     let out = Pending why.Inflating in
     stepped h a.pass.now q q (find_hash_plan e (Mark a.object) a.object) _ mark out s refl
-    (subst (λ (f : Option MarkForm). HasRun h (hash_mark_steps f e (local_of k) k.kept d a.object mark) q q out) (sym form)
+    (subst (λ (f : Option MarkForm). HasRun h (hash_mark_steps f h.heap.shape e (local_of k) k.kept d a.object mark) q q out) (sym form)
     (ends h q out s.heap))
 
 pub returns-then-hash-ne0 : goal.returns-then-hash-ne0
@@ -52,7 +52,7 @@ returns-then-hash-ne0 c =
     let has : (c.in-Neutral.hash == 0) ≡ false = ne_eqb _ _ c.if-hash-ne0.true in
     let out = Done c.in-Neutral.hash in
     stepped h a.pass.now q q (find_hash_plan e (Mark a.object) a.object) _ mark out s refl
-    (subst (λ (f : Option MarkForm). HasRun h (hash_mark_steps f e (local_of k) k.kept d a.object mark) q q out) (sym form)
+    (subst (λ (f : Option MarkForm). HasRun h (hash_mark_steps f h.heap.shape e (local_of k) k.kept d a.object mark) q q out) (sym form)
     (run_else h q (c.in-Neutral.hash == 0) (hash_neutral_steps e d a.object mark) (done_with c.in-Neutral.hash) q out has (ends h q out s.heap)))
 
 pub draw-requires-clause-due : goal.draw-requires-clause-due
@@ -68,7 +68,7 @@ draw-requires-clause-due c =
     let form : read_mark mark ≡ Some (Neutral c.in-Neutral.hash c.in-Neutral.age) = sym c.mark_of_word.ensures ∙ c.in-Some.is ∙ ap Some c.in-Neutral.is in
     let zero : (c.in-Neutral.hash == 0) ≡ true = eq-eqb _ _ c.if-hash-ne0.false in
     let rest = rest_due h a.pass.now e.task (find_hash_plan e (Mark a.object) a.object) _ c.requires.due refl q mark s in
-    let due = subst (λ (f : Option MarkForm). IsDueOn h q e.task (hash_mark_steps f e (local_of k) k.kept d a.object mark)) form rest in
+    let due = subst (λ (f : Option MarkForm). IsDueOn h q e.task (hash_mark_steps f h.heap.shape e (local_of k) k.kept d a.object mark)) form rest in
     due_then h q (c.in-Neutral.hash == 0) (hash_neutral_steps e d a.object mark) (done_with c.in-Neutral.hash) e.task due zero
 
 pub draw-requires-clause-room : goal.draw-requires-clause-room
@@ -98,7 +98,7 @@ returns-else-hash-ne0 c =
     let form : read_mark mark ≡ Some (Neutral c.in-Neutral.hash c.in-Neutral.age) = sym c.mark_of_word.ensures ∙ c.in-Some.is ∙ ap Some c.in-Neutral.is in
     let zero : (c.in-Neutral.hash == 0) ≡ true = eq-eqb _ _ c.if-hash-ne0.false in
     stepped h a.pass.now q c.draw.new.pass (find_hash_plan e (Mark a.object) a.object) _ mark c.draw.result s refl
-    (subst (λ (f : Option MarkForm). HasRun h (hash_mark_steps f e (local_of k) k.kept d a.object mark) q c.draw.new.pass c.draw.result) (sym form)
+    (subst (λ (f : Option MarkForm). HasRun h (hash_mark_steps f h.heap.shape e (local_of k) k.kept d a.object mark) q c.draw.new.pass c.draw.result) (sym form)
     (run_then h q (c.in-Neutral.hash == 0) (hash_neutral_steps e d a.object mark) (done_with c.in-Neutral.hash) c.draw.new.pass c.draw.result zero c.draw.ensures))
 
 pub hash_inflate-requires-clause-due : goal.hash_inflate-requires-clause-due
@@ -118,9 +118,9 @@ hash_inflate-requires-clause-due c =
     let thread = c.thread.ensures.same ∙ ap (λ (l : Local). l.thread) local in
     let other : (c.in-Locked.thread == k.thread) ≡ false = ap (λ n. c.in-Locked.thread == n) (sym thread) ∙ ne_eqb _ _ c.if-thread.true in
     let rest = rest_due h a.pass.now e.task (find_hash_plan e (Mark a.object) a.object) _ c.requires.due refl q mark s in
-    let due = subst (λ (f : Option MarkForm). IsDueOn h q e.task (hash_mark_steps f e (local_of k) k.kept d a.object mark)) form rest in
-    subst (λ (x : Option ℕ). IsDueOn h q e.task (hash_inflate_steps e x d a.object)) (sym kept)
-    (due_else h q (c.in-Locked.thread == k.thread) (hash_owned_steps e (local_of k) k.kept d a.object) (hash_inflate_steps e k.kept d a.object) e.task due other)
+    let due = subst (λ (f : Option MarkForm). IsDueOn h q e.task (hash_mark_steps f h.heap.shape e (local_of k) k.kept d a.object mark)) form rest in
+    subst (λ (x : Option ℕ). IsDueOn h q e.task (hash_inflate_steps h.heap.shape e x d a.object)) (sym kept)
+    (due_else h q (c.in-Locked.thread == k.thread) (hash_owned_steps h.heap.shape e (local_of k) k.kept d a.object) (hash_inflate_steps h.heap.shape e k.kept d a.object) e.task due other)
 
 pub hash_inflate-requires-clause-room : goal.hash_inflate-requires-clause-room
 hash_inflate-requires-clause-room c =
@@ -153,10 +153,10 @@ returns-then-thread c =
     let other : (c.in-Locked.thread == k.thread) ≡ false = ap (λ n. c.in-Locked.thread == n) (sym thread) ∙ ne_eqb _ _ c.if-thread.true in
     let r = c.hash_inflate.new.pass in
     let out = c.hash_inflate.result in
-    let run = subst (λ (x : Option ℕ). HasRun h (hash_inflate_steps e x d a.object) q r out) kept c.hash_inflate.ensures in
+    let run = subst (λ (x : Option ℕ). HasRun h (hash_inflate_steps h.heap.shape e x d a.object) q r out) kept c.hash_inflate.ensures in
     stepped h a.pass.now q r (find_hash_plan e (Mark a.object) a.object) _ mark out s refl
-    (subst (λ (f : Option MarkForm). HasRun h (hash_mark_steps f e (local_of k) k.kept d a.object mark) q r out) (sym form)
-    (run_else h q (c.in-Locked.thread == k.thread) (hash_owned_steps e (local_of k) k.kept d a.object) (hash_inflate_steps e k.kept d a.object) r out other run))
+    (subst (λ (f : Option MarkForm). HasRun h (hash_mark_steps f h.heap.shape e (local_of k) k.kept d a.object mark) q r out) (sym form)
+    (run_else h q (c.in-Locked.thread == k.thread) (hash_owned_steps h.heap.shape e (local_of k) k.kept d a.object) (hash_inflate_steps h.heap.shape e k.kept d a.object) r out other run))
 
 pub hash_owned-requires-clause-due : goal.hash_owned-requires-clause-due
 hash_owned-requires-clause-due c =
@@ -175,11 +175,11 @@ hash_owned-requires-clause-due c =
     let thread = c.thread.ensures.same ∙ ap (λ (l : Local). l.thread) local in
     let own : (c.in-Locked.thread == k.thread) ≡ true = ap (λ n. c.in-Locked.thread == n) (sym thread) ∙ eq-eqb _ _ c.if-thread.false in
     let rest = rest_due h a.pass.now e.task (find_hash_plan e (Mark a.object) a.object) _ c.requires.due refl q mark s in
-    let due = subst (λ (f : Option MarkForm). IsDueOn h q e.task (hash_mark_steps f e (local_of k) k.kept d a.object mark)) form rest in
+    let due = subst (λ (f : Option MarkForm). IsDueOn h q e.task (hash_mark_steps f h.heap.shape e (local_of k) k.kept d a.object mark)) form rest in
     let both =
     due_then h q (c.in-Locked.thread == k.thread)
-    (hash_owned_steps e (local_of k) k.kept d a.object) (hash_inflate_steps e k.kept d a.object) e.task due own in
-    subst (λ (x : Local × Option ℕ). IsDueOn h q e.task (hash_owned_steps e x.0 x.1 d a.object)) (λ i. (sym local i, sym kept i)) both
+    (hash_owned_steps h.heap.shape e (local_of k) k.kept d a.object) (hash_inflate_steps h.heap.shape e k.kept d a.object) e.task due own in
+    subst (λ (x : Local × Option ℕ). IsDueOn h q e.task (hash_owned_steps h.heap.shape e x.0 x.1 d a.object)) (λ i. (sym local i, sym kept i)) both
 
 pub hash_owned-requires-clause-room : goal.hash_owned-requires-clause-room
 hash_owned-requires-clause-room c =
@@ -212,10 +212,10 @@ returns-else-thread c =
     let own : (c.in-Locked.thread == k.thread) ≡ true = ap (λ n. c.in-Locked.thread == n) (sym thread) ∙ eq-eqb _ _ c.if-thread.false in
     let r = c.hash_owned.new.pass in
     let out = c.hash_owned.result in
-    let run = subst (λ (x : Local × Option ℕ). HasRun h (hash_owned_steps e x.0 x.1 d a.object) q r out) (λ i. (local i, kept i)) c.hash_owned.ensures in
+    let run = subst (λ (x : Local × Option ℕ). HasRun h (hash_owned_steps h.heap.shape e x.0 x.1 d a.object) q r out) (λ i. (local i, kept i)) c.hash_owned.ensures in
     stepped h a.pass.now q r (find_hash_plan e (Mark a.object) a.object) _ mark out s refl
-    (subst (λ (f : Option MarkForm). HasRun h (hash_mark_steps f e (local_of k) k.kept d a.object mark) q r out) (sym form)
-    (run_then h q (c.in-Locked.thread == k.thread) (hash_owned_steps e (local_of k) k.kept d a.object) (hash_inflate_steps e k.kept d a.object) r out own run))
+    (subst (λ (f : Option MarkForm). HasRun h (hash_mark_steps f h.heap.shape e (local_of k) k.kept d a.object mark) q r out) (sym form)
+    (run_then h q (c.in-Locked.thread == k.thread) (hash_owned_steps h.heap.shape e (local_of k) k.kept d a.object) (hash_inflate_steps h.heap.shape e k.kept d a.object) r out own run))
 
 pub hash_monitor-requires-clause-due : goal.hash_monitor-requires-clause-due
 hash_monitor-requires-clause-due c =
@@ -229,7 +229,7 @@ hash_monitor-requires-clause-due c =
     let s = c.find_hash-mark.ensures in
     let form : read_mark mark ≡ Some (Inflated c.in-Inflated.monitor) = sym c.mark_of_word.ensures ∙ c.in-Some.is ∙ ap Some c.in-Inflated.is in
     let rest = rest_due h a.pass.now e.task (find_hash_plan e (Mark a.object) a.object) _ c.requires.due refl q mark s in
-    subst (λ (f : Option MarkForm). IsDueOn h q e.task (hash_mark_steps f e (local_of k) k.kept d a.object mark)) form rest
+    subst (λ (f : Option MarkForm). IsDueOn h q e.task (hash_mark_steps f h.heap.shape e (local_of k) k.kept d a.object mark)) form rest
 
 pub hash_monitor-requires-clause-room : goal.hash_monitor-requires-clause-room
 hash_monitor-requires-clause-room c =
@@ -256,7 +256,7 @@ returns-in-Inflated c =
     let s = c.find_hash-mark.ensures in
     let form : read_mark mark ≡ Some (Inflated c.in-Inflated.monitor) = sym c.mark_of_word.ensures ∙ c.in-Some.is ∙ ap Some c.in-Inflated.is in
     stepped h a.pass.now q c.hash_monitor.new.pass (find_hash_plan e (Mark a.object) a.object) _ mark c.hash_monitor.result s refl
-    (subst (λ (f : Option MarkForm). HasRun h (hash_mark_steps f e (local_of k) k.kept d a.object mark) q c.hash_monitor.new.pass c.hash_monitor.result) (sym form)
+    (subst (λ (f : Option MarkForm). HasRun h (hash_mark_steps f h.heap.shape e (local_of k) k.kept d a.object mark) q c.hash_monitor.new.pass c.hash_monitor.result) (sym form)
     c.hash_monitor.ensures)
 
 pub unreachable-requires : goal.unreachable-requires
@@ -270,8 +270,8 @@ unreachable-requires c =
     let mark = c.find_hash-mark.result in
     let s = c.find_hash-mark.ensures in
     never_left h a.pass.now e.task (find_hash_plan e (Mark a.object) a.object) _ c.requires.due refl mark q s
-    (ap (λ (f : Option MarkForm). hash_mark_steps f e (local_of k) k.kept d a.object mark) (sym c.mark_of_word.ensures ∙ c.in-Some.is)
-    ∙ never_hashed c.in-Some.form e (local_of k) k.kept d a.object mark
+    (ap (λ (f : Option MarkForm). hash_mark_steps f h.heap.shape e (local_of k) k.kept d a.object mark) (sym c.mark_of_word.ensures ∙ c.in-Some.is)
+    ∙ never_hashed c.in-Some.form h.heap.shape e (local_of k) k.kept d a.object mark
     c.in_default.not-Inflating c.in_default.not-Neutral c.in_default.not-Locked c.in_default.not-Inflated)
 
 pub unreachable-requires-in-None : goal.unreachable-requires-in-None
@@ -285,4 +285,4 @@ unreachable-requires-in-None c =
     let mark = c.find_hash-mark.result in
     let s = c.find_hash-mark.ensures in
     never_left h a.pass.now e.task (find_hash_plan e (Mark a.object) a.object) _ c.requires.due refl mark q s
-    (ap (λ (f : Option MarkForm). hash_mark_steps f e (local_of k) k.kept d a.object mark) (sym c.mark_of_word.ensures ∙ c.in-None.is))
+    (ap (λ (f : Option MarkForm). hash_mark_steps f h.heap.shape e (local_of k) k.kept d a.object mark) (sym c.mark_of_word.ensures ∙ c.in-None.is))

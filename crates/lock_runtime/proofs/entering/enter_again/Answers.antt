@@ -30,7 +30,7 @@ bias_after-requires-clause-due c =
     let p = a.pass.now in
     let k = start_now h p in
     let d = bias_after_steps e k.local o a.took in
-    let next : BiasTry → Todo (Turn Path) = λ tried. enter_unbiased tried e k o in
+    let next : BiasTry → Todo (Turn Path) = λ tried. enter_unbiased tried h.heap.shape e k o in
     part_due h.heap.shape h.heap.start h.heap.biasing p.known e.task d next c.requires.due
 
 pub enter_marked-requires-clause-due : goal.enter_marked-requires-clause-due
@@ -43,12 +43,12 @@ enter_marked-requires-clause-due c =
     let k = start_now h p in
     let q = c.bias_after.new.pass in
     let d = bias_after_steps e k.local o a.took in
-    let next : BiasTry → Todo (Turn Path) = λ tried. enter_unbiased tried e k o in
+    let next : BiasTry → Todo (Turn Path) = λ tried. enter_unbiased tried h.heap.shape e k o in
     let ran = subst (λ (x : BiasTry). HasRun h d p q x) c.in-Unbiased.is c.bias_after.ensures.run in
     let local = subst (λ (x : BiasTry). IsKeptUnlessTook x (local_of p.known) (local_of q.known)) c.in-Unbiased.is c.bias_after.ensures.kept in
     let m = c.in-Unbiased.mark in
     let same = keeps h d p q (Unbiased c.in-Unbiased.mark) (after_keeps e k.local o a.took) ran in
-    subst (IsDueOn h q e.task) (enters_alike e k (start_now h q) o (sym local) (sym same) (read_mark m) m)
+    subst (IsDueOn h q e.task) (enters_alike h.heap.shape e k (start_now h q) o (sym local) (sym same) (read_mark m) m)
     (next_part h p q e.task d next (Unbiased c.in-Unbiased.mark) c.requires.due refl ran)
 
 pub enter_marked-requires-clause-room : goal.enter_marked-requires-clause-room
@@ -61,7 +61,7 @@ enter_marked-requires-clause-room c =
     let k = start_now h p in
     let q = c.bias_after.new.pass in
     let d = bias_after_steps e k.local o a.took in
-    let next : BiasTry → Todo (Turn Path) = λ tried. enter_unbiased tried e k o in
+    let next : BiasTry → Todo (Turn Path) = λ tried. enter_unbiased tried h.heap.shape e k o in
     let ran = subst (λ (x : BiasTry). HasRun h d p q x) c.in-Unbiased.is c.bias_after.ensures.run in
     let local = subst (λ (x : BiasTry). IsKeptUnlessTook x (local_of p.known) (local_of q.known)) c.in-Unbiased.is c.bias_after.ensures.kept in
     room_kept h d p q (Unbiased c.in-Unbiased.mark) local ran c.requires.room
@@ -76,7 +76,7 @@ unreachable-requires c =
     let k = start_now h p in
     let q = c.bias_after.new.pass in
     let d = bias_after_steps e k.local o a.took in
-    let next : BiasTry → Todo (Turn Path) = λ tried. enter_unbiased tried e k o in
+    let next : BiasTry → Todo (Turn Path) = λ tried. enter_unbiased tried h.heap.shape e k o in
     let ran = subst (λ (x : BiasTry). HasRun h d p q x) c.in-Valid.is c.bias_after.ensures.run in
     not_due h q e.task (next (Valid c.in-Valid.mark)) ran.heap (next_part h p q e.task d next (Valid c.in-Valid.mark) c.requires.due refl ran) refl
 
@@ -90,7 +90,7 @@ returns-in-Took c =
     let k = start_now h p in
     let q = c.bias_after.new.pass in
     let d = bias_after_steps e k.local o a.took in
-    let next : BiasTry → Todo (Turn Path) = λ tried. enter_unbiased tried e k o in
+    let next : BiasTry → Todo (Turn Path) = λ tried. enter_unbiased tried h.heap.shape e k o in
     let ran = subst (λ (x : BiasTry). HasRun h d p q x) c.in-Took.is c.bias_after.ensures.run in
     let out : Turn Path = Done c.in-Took.path in
     in_turn h p q q d next (Took c.in-Took.path) out ran (ends h q out ran.heap)
@@ -105,7 +105,7 @@ returns-in-Raced c =
     let k = start_now h p in
     let q = c.bias_after.new.pass in
     let d = bias_after_steps e k.local o a.took in
-    let next : BiasTry → Todo (Turn Path) = λ tried. enter_unbiased tried e k o in
+    let next : BiasTry → Todo (Turn Path) = λ tried. enter_unbiased tried h.heap.shape e k o in
     let ran = subst (λ (x : BiasTry). HasRun h d p q x) c.in-Raced.is c.bias_after.ensures.run in
     let out : Turn Path = Pending (why.Raced c.in-Raced.expected c.in-Raced.found) in
     in_turn h p q q d next (Raced c.in-Raced.expected c.in-Raced.found) out ran (ends h q out ran.heap)
@@ -120,11 +120,11 @@ returns-in-Unbiased c =
     let k = start_now h p in
     let q = c.bias_after.new.pass in
     let d = bias_after_steps e k.local o a.took in
-    let next : BiasTry → Todo (Turn Path) = λ tried. enter_unbiased tried e k o in
+    let next : BiasTry → Todo (Turn Path) = λ tried. enter_unbiased tried h.heap.shape e k o in
     let ran = subst (λ (x : BiasTry). HasRun h d p q x) c.in-Unbiased.is c.bias_after.ensures.run in
     let local = subst (λ (x : BiasTry). IsKeptUnlessTook x (local_of p.known) (local_of q.known)) c.in-Unbiased.is c.bias_after.ensures.kept in
     let m = c.in-Unbiased.mark in
     let r = c.enter_marked.new.pass in
     let same = keeps h d p q (Unbiased c.in-Unbiased.mark) (after_keeps e k.local o a.took) ran in
-    let rest = subst (λ (x : Todo (Turn Path)). HasRun h x q r c.enter_marked.result) (sym (enters_alike e k (start_now h q) o (sym local) (sym same) (read_mark m) m)) c.enter_marked.ensures in
+    let rest = subst (λ (x : Todo (Turn Path)). HasRun h x q r c.enter_marked.result) (sym (enters_alike h.heap.shape e k (start_now h q) o (sym local) (sym same) (read_mark m) m)) c.enter_marked.ensures in
     in_turn h p q r d next (Unbiased c.in-Unbiased.mark) c.enter_marked.result ran rest

@@ -12,6 +12,6 @@ pub unreachable-requires : goal.unreachable-requires
 unreachable-requires c =
     let a = c.args in
     let k = start_now a.heap.now a.pass.now in
-    let d : Todo (Turn Path) = enter_at (Some a.form) a.why.now k a.object a.mark in
+    let d : Todo (Turn Path) = enter_at (Some a.form) a.heap.now.heap.shape a.why.now k a.object a.mark in
     let b = c.in_default in
-    not_due a.heap.now a.pass.now a.why.now.task d c.requires.heap c.requires.due (never_entered a.form a.why.now k a.object a.mark b.not-Inflating b.not-Neutral b.not-Locked b.not-Inflated)
+    not_due a.heap.now a.pass.now a.why.now.task d c.requires.heap c.requires.due (never_entered a.form a.heap.now.heap.shape a.why.now k a.object a.mark b.not-Inflating b.not-Neutral b.not-Locked b.not-Inflated)

@@ -55,7 +55,7 @@ enter_marked-requires-clause-due c =
     let local = subst (λ (x : BiasTry). IsKeptUnlessTook x (local_of p.known) (local_of q.known)) c.in-Unbiased.is c.bias_enter.ensures.kept in
     let same = keeps h d p q (Unbiased c.in-Unbiased.mark) (enter_keeps e k.local (class_of h.heap.shape b.object) b.object) ran in
     let m = c.in-Unbiased.mark in
-    subst (IsDueOn h q e.task) (enters_alike e k (start_now h q) b.object (sym local) (sym same) (read_mark m) m ∙ λ i. enter_at (read_mark m) e (start_now h q) (sym ob i) m)
+    subst (IsDueOn h q e.task) (enters_alike h.heap.shape e k (start_now h q) b.object (sym local) (sym same) (read_mark m) m ∙ λ i. enter_at (read_mark m) h.heap.shape e (start_now h q) (sym ob i) m)
     (next_part h p q e.task d next (Unbiased c.in-Unbiased.mark) c.requires.due refl ran)
 
 pub enter_marked-requires-clause-room : goal.enter_marked-requires-clause-room
@@ -163,7 +163,7 @@ returns-in-Unbiased c =
     let same = keeps h d p q (Unbiased c.in-Unbiased.mark) (enter_keeps e k.local (class_of h.heap.shape b.object) b.object) ran in
     let m = c.in-Unbiased.mark in
     let r = c.enter_marked.new.pass in
-    let rest = subst (λ (x : Todo (Turn Path)). HasRun h x q r c.enter_marked.result) (sym (enters_alike e k (start_now h q) b.object (sym local) (sym same) (read_mark m) m ∙ λ i. enter_at (read_mark m) e (start_now h q) (sym ob i) m)) c.enter_marked.ensures in
+    let rest = subst (λ (x : Todo (Turn Path)). HasRun h x q r c.enter_marked.result) (sym (enters_alike h.heap.shape e k (start_now h q) b.object (sym local) (sym same) (read_mark m) m ∙ λ i. enter_at (read_mark m) h.heap.shape e (start_now h q) (sym ob i) m)) c.enter_marked.ensures in
     in_turn h p q r d next (Unbiased c.in-Unbiased.mark) c.enter_marked.result ran rest
 
 pub returns-in-Valid : goal.returns-in-Valid

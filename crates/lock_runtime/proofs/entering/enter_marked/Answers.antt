@@ -13,6 +13,6 @@ pub unreachable-requires : goal.unreachable-requires
 unreachable-requires c =
     let a = c.args in
     let k = start_now a.heap.now a.pass.now in
-    let d : Todo (Turn Path) = enter_at (read_mark a.mark) a.why.now k a.object a.mark in
+    let d : Todo (Turn Path) = enter_at (read_mark a.mark) a.heap.now.heap.shape a.why.now k a.object a.mark in
     not_due a.heap.now a.pass.now a.why.now.task d c.requires.heap c.requires.due
-    (ap (λ (f : Option MarkForm). enter_at f a.why.now k a.object a.mark) (sym c.mark_of_word.ensures ∙ c.in-None.is))
+    (ap (λ (f : Option MarkForm). enter_at f a.heap.now.heap.shape a.why.now k a.object a.mark) (sym c.mark_of_word.ensures ∙ c.in-None.is))

@@ -19,7 +19,7 @@ inflate-requires-clause-due c =
     let e = a.why.now in
     let k = a.pass.now.known in
     let next : Turn ℕ → Todo (Turn Path) = λ turn. and_then turn (λ m. monitor_enter_steps e (local_of k) a.object m) in
-    part_due h.heap.shape h.heap.start h.heap.biasing k e.task (inflate_steps e k.kept a.object) next c.requires.due
+    part_due h.heap.shape h.heap.start h.heap.biasing k e.task (inflate_steps h.heap.shape e k.kept a.object) next c.requires.due
 
 pub monitor_enter-requires-clause-due : goal.monitor_enter-requires-clause-due
 monitor_enter-requires-clause-due c =
@@ -30,14 +30,14 @@ monitor_enter-requires-clause-due c =
     let q = c.inflate.new.pass in
     let m = c.in-Done.monitor in
     let next : Turn ℕ → Todo (Turn Path) = λ turn. and_then turn (λ m. monitor_enter_steps e (local_of k) a.object m) in
-    let ran = subst (λ (t : Turn ℕ). HasRun h (inflate_steps e k.kept a.object) a.pass.now q t) c.in-Done.is c.inflate.ensures.run in
+    let ran = subst (λ (t : Turn ℕ). HasRun h (inflate_steps h.heap.shape e k.kept a.object) a.pass.now q t) c.in-Done.is c.inflate.ensures.run in
     subst (λ (x : Local). IsDueOn h q e.task (monitor_enter_steps e x a.object m)) (sym c.inflate.ensures.local)
-    (next_part h a.pass.now q e.task (inflate_steps e k.kept a.object) next (Done m) c.requires.due refl ran)
+    (next_part h a.pass.now q e.task (inflate_steps h.heap.shape e k.kept a.object) next (Done m) c.requires.due refl ran)
 
 pub monitor_enter-requires-clause-room : goal.monitor_enter-requires-clause-room
 monitor_enter-requires-clause-room c =
     let a = c.args in
-    room_kept a.heap.now (inflate_steps a.why.now a.pass.now.known.kept a.object) a.pass.now c.inflate.new.pass c.inflate.result c.inflate.ensures.local c.inflate.ensures.run c.requires.room
+    room_kept a.heap.now (inflate_steps a.heap.now.heap.shape a.why.now a.pass.now.known.kept a.object) a.pass.now c.inflate.new.pass c.inflate.result c.inflate.ensures.local c.inflate.ensures.run c.requires.room
 
 pub returns-in-Done : goal.returns-in-Done
 returns-in-Done c =
@@ -49,9 +49,9 @@ returns-in-Done c =
     let r = c.monitor_enter.new.pass in
     let m = c.in-Done.monitor in
     let next : Turn ℕ → Todo (Turn Path) = λ turn. and_then turn (λ m. monitor_enter_steps e (local_of k) a.object m) in
-    let ran = subst (λ (t : Turn ℕ). HasRun h (inflate_steps e k.kept a.object) a.pass.now q t) c.in-Done.is c.inflate.ensures.run in
+    let ran = subst (λ (t : Turn ℕ). HasRun h (inflate_steps h.heap.shape e k.kept a.object) a.pass.now q t) c.in-Done.is c.inflate.ensures.run in
     let rest = subst (λ (x : Local). HasRun h (monitor_enter_steps e x a.object m) q r c.monitor_enter.result) c.inflate.ensures.local c.monitor_enter.ensures in
-    in_turn h a.pass.now q r (inflate_steps e k.kept a.object) next (Done m) c.monitor_enter.result ran rest
+    in_turn h a.pass.now q r (inflate_steps h.heap.shape e k.kept a.object) next (Done m) c.monitor_enter.result ran rest
 
 pub returns-in-Pending : goal.returns-in-Pending
 returns-in-Pending c =
@@ -62,5 +62,5 @@ returns-in-Pending c =
     let q = c.inflate.new.pass in
     let out : Turn Path = Pending c.in-Pending.cause in
     let next : Turn ℕ → Todo (Turn Path) = λ turn. and_then turn (λ m. monitor_enter_steps e (local_of k) a.object m) in
-    let ran = subst (λ (t : Turn ℕ). HasRun h (inflate_steps e k.kept a.object) a.pass.now q t) c.in-Pending.is c.inflate.ensures.run in
-    in_turn h a.pass.now q q (inflate_steps e k.kept a.object) next (Pending c.in-Pending.cause) out ran (ends h q out ran.heap)
+    let ran = subst (λ (t : Turn ℕ). HasRun h (inflate_steps h.heap.shape e k.kept a.object) a.pass.now q t) c.in-Pending.is c.inflate.ensures.run in
+    in_turn h a.pass.now q q (inflate_steps h.heap.shape e k.kept a.object) next (Pending c.in-Pending.cause) out ran (ends h q out ran.heap)

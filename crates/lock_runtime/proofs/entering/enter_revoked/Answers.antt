@@ -25,7 +25,7 @@ revocation-requires-clause-due c =
     let p = a.pass.now in
     let k = start_now h p in
     let d = revocation_steps h.heap.shape k.local.thread a.requesting e b in
-    let next : Turn Bool → Todo (Turn Path) = λ turn. and_then turn (λ took. enter_again e k b.object took) in
+    let next : Turn Bool → Todo (Turn Path) = λ turn. and_then turn (λ took. enter_again h.heap.shape e k b.object took) in
     part_due h.heap.shape h.heap.start h.heap.biasing p.known e.task d next c.requires.due
 
 pub enter_again-requires-clause-due : goal.enter_again-requires-clause-due
@@ -38,12 +38,12 @@ enter_again-requires-clause-due c =
     let k = start_now h p in
     let q = c.revocation.new.pass in
     let d = revocation_steps h.heap.shape k.local.thread a.requesting e b in
-    let next : Turn Bool → Todo (Turn Path) = λ turn. and_then turn (λ took. enter_again e k b.object took) in
+    let next : Turn Bool → Todo (Turn Path) = λ turn. and_then turn (λ took. enter_again h.heap.shape e k b.object took) in
     let took = c.in-Done.took in
     let ran = subst (λ (x : Turn Bool). HasRun h d p q x) c.in-Done.is c.revocation.ensures in
     let alike = aside h d p q (Done took) (revocation_aside e b h.heap.shape k.local.thread a.requesting) ran in
     let ob : c.bias.inside.object ≡ b.object = ap (λ (r : Revocation). r.object) c.bias.view_is in
-    let same = again_alike e k (start_now h q) b.object took (sym alike.local) (sym alike.kept) ∙ λ i. enter_again e (start_now h q) (sym ob i) took in
+    let same = again_alike h.heap.shape e k (start_now h q) b.object took (sym alike.local) (sym alike.kept) ∙ λ i. enter_again h.heap.shape e (start_now h q) (sym ob i) took in
     subst (IsDueOn h q e.task) same (next_part h p q e.task d next (Done took) c.requires.due (first_revocation h.heap.shape k.local.thread a.requesting e b) ran)
 
 pub enter_again-requires-clause-room : goal.enter_again-requires-clause-room
@@ -56,12 +56,12 @@ enter_again-requires-clause-room c =
     let k = start_now h p in
     let q = c.revocation.new.pass in
     let d = revocation_steps h.heap.shape k.local.thread a.requesting e b in
-    let next : Turn Bool → Todo (Turn Path) = λ turn. and_then turn (λ took. enter_again e k b.object took) in
+    let next : Turn Bool → Todo (Turn Path) = λ turn. and_then turn (λ took. enter_again h.heap.shape e k b.object took) in
     let took = c.in-Done.took in
     let ran = subst (λ (x : Turn Bool). HasRun h d p q x) c.in-Done.is c.revocation.ensures in
     let alike = aside h d p q (Done took) (revocation_aside e b h.heap.shape k.local.thread a.requesting) ran in
     let ob : c.bias.inside.object ≡ b.object = ap (λ (r : Revocation). r.object) c.bias.view_is in
-    let same = again_alike e k (start_now h q) b.object took (sym alike.local) (sym alike.kept) ∙ λ i. enter_again e (start_now h q) (sym ob i) took in
+    let same = again_alike h.heap.shape e k (start_now h q) b.object took (sym alike.local) (sym alike.kept) ∙ λ i. enter_again h.heap.shape e (start_now h q) (sym ob i) took in
     room_aside p q alike ran.limit c.requires.room
 
 pub returns-in-Done : goal.returns-in-Done
@@ -74,12 +74,12 @@ returns-in-Done c =
     let k = start_now h p in
     let q = c.revocation.new.pass in
     let d = revocation_steps h.heap.shape k.local.thread a.requesting e b in
-    let next : Turn Bool → Todo (Turn Path) = λ turn. and_then turn (λ took. enter_again e k b.object took) in
+    let next : Turn Bool → Todo (Turn Path) = λ turn. and_then turn (λ took. enter_again h.heap.shape e k b.object took) in
     let took = c.in-Done.took in
     let ran = subst (λ (x : Turn Bool). HasRun h d p q x) c.in-Done.is c.revocation.ensures in
     let alike = aside h d p q (Done took) (revocation_aside e b h.heap.shape k.local.thread a.requesting) ran in
     let ob : c.bias.inside.object ≡ b.object = ap (λ (r : Revocation). r.object) c.bias.view_is in
-    let same = again_alike e k (start_now h q) b.object took (sym alike.local) (sym alike.kept) ∙ λ i. enter_again e (start_now h q) (sym ob i) took in
+    let same = again_alike h.heap.shape e k (start_now h q) b.object took (sym alike.local) (sym alike.kept) ∙ λ i. enter_again h.heap.shape e (start_now h q) (sym ob i) took in
     let r = c.enter_again.new.pass in
     let rest = subst (λ (x : Todo (Turn Path)). HasRun h x q r c.enter_again.result) (sym same) c.enter_again.ensures in
     in_turn h p q r d next (Done took) c.enter_again.result ran rest
@@ -94,7 +94,7 @@ returns-in-Pending c =
     let k = start_now h p in
     let q = c.revocation.new.pass in
     let d = revocation_steps h.heap.shape k.local.thread a.requesting e b in
-    let next : Turn Bool → Todo (Turn Path) = λ turn. and_then turn (λ took. enter_again e k b.object took) in
+    let next : Turn Bool → Todo (Turn Path) = λ turn. and_then turn (λ took. enter_again h.heap.shape e k b.object took) in
     let ran = subst (λ (x : Turn Bool). HasRun h d p q x) c.in-Pending.is c.revocation.ensures in
     let out : Turn Path = Pending c.in-Pending.cause in
     in_turn h p q q d next (Pending c.in-Pending.cause) out ran (ends h q out ran.heap)

@@ -23,7 +23,7 @@ unbias-requires-clause-due c =
     let p = a.pass.now in
     let k = start_now h p in
     let d = unbias_steps h.heap.shape e k (no_bias a.object a.now) in
-    let next : Turn (Unit {0}) → Todo (Turn ℕ) = λ turn. and_then turn (λ _. hash_unbiased e k a.object) in
+    let next : Turn (Unit {0}) → Todo (Turn ℕ) = λ turn. and_then turn (λ _. hash_unbiased h.heap.shape e k a.object) in
     part_due h.heap.shape h.heap.start h.heap.biasing p.known e.task d next c.requires.due
 
 pub hash_unbiased-requires-clause-due : goal.hash_unbiased-requires-clause-due
@@ -36,7 +36,7 @@ hash_unbiased-requires-clause-due c =
     let q = c.unbias.new.pass in
     let b = no_bias a.object a.now in
     let d = unbias_steps h.heap.shape e k b in
-    let next : Turn (Unit {0}) → Todo (Turn ℕ) = λ turn. and_then turn (λ _. hash_unbiased e k a.object) in
+    let next : Turn (Unit {0}) → Todo (Turn ℕ) = λ turn. and_then turn (λ _. hash_unbiased h.heap.shape e k a.object) in
     let ran = subst (λ (x : Turn (Unit {0})). HasRun h d p q x) c.in-Done.is c.unbias.ensures in
     let alike = aside h d p q (Done tt) (unbias_aside h.heap.shape e k b) ran in
     subst (IsDueOn h q e.task) (hash_alike h p q e a.object alike)
@@ -66,7 +66,7 @@ returns-in-Done c =
     let r = c.hash_unbiased.new.pass in
     let b = no_bias a.object a.now in
     let d = unbias_steps h.heap.shape e k b in
-    let next : Turn (Unit {0}) → Todo (Turn ℕ) = λ turn. and_then turn (λ _. hash_unbiased e k a.object) in
+    let next : Turn (Unit {0}) → Todo (Turn ℕ) = λ turn. and_then turn (λ _. hash_unbiased h.heap.shape e k a.object) in
     let ran = subst (λ (x : Turn (Unit {0})). HasRun h d p q x) c.in-Done.is c.unbias.ensures in
     let alike = aside h d p q (Done tt) (unbias_aside h.heap.shape e k b) ran in
     let rest = subst (λ (x : Todo (Turn ℕ)). HasRun h x q r c.hash_unbiased.result) (sym (hash_alike h p q e a.object alike)) c.hash_unbiased.ensures in
@@ -82,6 +82,6 @@ returns-in-Pending c =
     let q = c.unbias.new.pass in
     let d = unbias_steps h.heap.shape e k (no_bias a.object a.now) in
     let out : Turn ℕ = Pending c.in-Pending.cause in
-    let next : Turn (Unit {0}) → Todo (Turn ℕ) = λ turn. and_then turn (λ _. hash_unbiased e k a.object) in
+    let next : Turn (Unit {0}) → Todo (Turn ℕ) = λ turn. and_then turn (λ _. hash_unbiased h.heap.shape e k a.object) in
     let ran = subst (λ (x : Turn (Unit {0})). HasRun h d p q x) c.in-Pending.is c.unbias.ensures in
     in_turn h p q q d next (Pending c.in-Pending.cause) out ran (ends h q out ran.heap)

@@ -22,7 +22,7 @@ header_hash-requires-clause-due c =
     let p = a.pass.now in
     let k = p.known in
     let value : c.draw-value.result ≡ draw_of h.heap.start k.thread (k.draws + 1) = c.draw-value.ensures ∙ ap (λ n. nth_value n (k.draws + 1)) c.requires.heap.first in
-    subst (IsDueOn h p e.task) (λ i. hash_header_steps e (local_of k) k.kept (record { number = sym c.draws.ensures i + 1; value = sym value i }) a.object) c.requires.due
+    subst (IsDueOn h p e.task) (λ i. hash_header_steps h.heap.shape e (local_of k) k.kept (record { number = sym c.draws.ensures i + 1; value = sym value i }) a.object) c.requires.due
 
 pub returns : goal.returns
 returns c =
@@ -33,4 +33,4 @@ returns c =
     let k = p.known in
     let q = c.header_hash.new.pass in
     let value : c.draw-value.result ≡ draw_of h.heap.start k.thread (k.draws + 1) = c.draw-value.ensures ∙ ap (λ n. nth_value n (k.draws + 1)) c.requires.heap.first in
-    subst (λ (d : Todo (Turn ℕ)). HasRun h d p q c.header_hash.result) (λ i. hash_header_steps e (local_of k) k.kept (record { number = c.draws.ensures i + 1; value = value i }) a.object) c.header_hash.ensures
+    subst (λ (d : Todo (Turn ℕ)). HasRun h d p q c.header_hash.result) (λ i. hash_header_steps h.heap.shape e (local_of k) k.kept (record { number = c.draws.ensures i + 1; value = value i }) a.object) c.header_hash.ensures

@@ -17,7 +17,7 @@ unbias-requires-clause-due c =
     let e = a.why.now in
     let p = a.pass.now in
     let b = no_bias a.object a.now in
-    let g = inflated_wait e p.known.kept (local_of p.known) a.object in
+    let g = inflated_wait h.heap.shape e p.known.kept (local_of p.known) a.object in
     unbias_due h p e b g c.requires.due
 
 pub wait_inflated-requires-clause-due : goal.wait_inflated-requires-clause-due
@@ -28,10 +28,10 @@ wait_inflated-requires-clause-due c =
     let p = a.pass.now in
     let q = c.unbias.new.pass in
     let b = no_bias a.object a.now in
-    let g = inflated_wait e p.known.kept (local_of p.known) a.object in
+    let g = inflated_wait h.heap.shape e p.known.kept (local_of p.known) a.object in
     let ran = subst (λ (x : Turn (Unit {0})). HasRun h (unbias_steps h.heap.shape e (start_now h p) b) p q x) c.in-Done.is c.unbias.ensures in
     let alike = alike_behind h p q e b (Done tt) ran in
-    subst (IsDueOn h q e.task) (λ i. inflated_wait e (sym alike.kept i) (sym alike.local i) a.object) (behind_due h p e b g q c.requires.due ran)
+    subst (IsDueOn h q e.task) (λ i. inflated_wait h.heap.shape e (sym alike.kept i) (sym alike.local i) a.object) (behind_due h p e b g q c.requires.due ran)
 
 pub wait_inflated-requires-clause-room : goal.wait_inflated-requires-clause-room
 wait_inflated-requires-clause-room c =
@@ -49,10 +49,10 @@ returns-in-Done c =
     let r = c.wait_inflated.new.pass in
     let out = c.wait_inflated.result in
     let b = no_bias a.object a.now in
-    let g = inflated_wait e p.known.kept (local_of p.known) a.object in
+    let g = inflated_wait h.heap.shape e p.known.kept (local_of p.known) a.object in
     let ran = subst (λ (x : Turn (Unit {0})). HasRun h (unbias_steps h.heap.shape e (start_now h p) b) p q x) c.in-Done.is c.unbias.ensures in
     let alike = alike_behind h p q e b (Done tt) ran in
-    let rest = subst (λ (x : Todo (Turn (Unit {0}))). HasRun h x q r out) (λ i. inflated_wait e (alike.kept i) (alike.local i) a.object) c.wait_inflated.ensures in
+    let rest = subst (λ (x : Todo (Turn (Unit {0}))). HasRun h x q r out) (λ i. inflated_wait h.heap.shape e (alike.kept i) (alike.local i) a.object) c.wait_inflated.ensures in
     behind_run h p e b g q r out ran rest
 
 pub returns-in-Pending : goal.returns-in-Pending
@@ -63,6 +63,6 @@ returns-in-Pending c =
     let p = a.pass.now in
     let q = c.unbias.new.pass in
     let b = no_bias a.object a.now in
-    let g = inflated_wait e p.known.kept (local_of p.known) a.object in
+    let g = inflated_wait h.heap.shape e p.known.kept (local_of p.known) a.object in
     let ran = subst (λ (x : Turn (Unit {0})). HasRun h (unbias_steps h.heap.shape e (start_now h p) b) p q x) c.in-Pending.is c.unbias.ensures in
     pending_run h p e b g q c.in-Pending.cause ran

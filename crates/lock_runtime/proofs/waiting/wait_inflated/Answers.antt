@@ -19,7 +19,7 @@ inflate-requires-clause-due c =
     let e = a.why.now in
     let k = a.pass.now.known in
     let next : Turn ℕ → Todo (Turn (Unit {0})) = λ turn. and_then turn (λ m. letting_go e (local_of k) a.object m) in
-    part_due h.heap.shape h.heap.start h.heap.biasing k e.task (inflate_steps e k.kept a.object) next c.requires.due
+    part_due h.heap.shape h.heap.start h.heap.biasing k e.task (inflate_steps h.heap.shape e k.kept a.object) next c.requires.due
 
 pub let_go-requires-clause-due : goal.let_go-requires-clause-due
 let_go-requires-clause-due c =
@@ -30,9 +30,9 @@ let_go-requires-clause-due c =
     let q = c.inflate.new.pass in
     let m = c.in-Done.monitor in
     let next : Turn ℕ → Todo (Turn (Unit {0})) = λ turn. and_then turn (λ m. letting_go e (local_of k) a.object m) in
-    let ran = subst (λ (t : Turn ℕ). HasRun h (inflate_steps e k.kept a.object) a.pass.now q t) c.in-Done.is c.inflate.ensures.run in
+    let ran = subst (λ (t : Turn ℕ). HasRun h (inflate_steps h.heap.shape e k.kept a.object) a.pass.now q t) c.in-Done.is c.inflate.ensures.run in
     subst (λ (x : Local). IsDueOn h q e.task (letting_go e x a.object m)) (sym c.inflate.ensures.local)
-    (next_part h a.pass.now q e.task (inflate_steps e k.kept a.object) next (Done m) c.requires.due refl ran)
+    (next_part h a.pass.now q e.task (inflate_steps h.heap.shape e k.kept a.object) next (Done m) c.requires.due refl ran)
 
 pub returns-in-Done : goal.returns-in-Done
 returns-in-Done c =
@@ -44,9 +44,9 @@ returns-in-Done c =
     let r = c.let_go.new.pass in
     let m = c.in-Done.monitor in
     let next : Turn ℕ → Todo (Turn (Unit {0})) = λ turn. and_then turn (λ m. letting_go e (local_of k) a.object m) in
-    let ran = subst (λ (t : Turn ℕ). HasRun h (inflate_steps e k.kept a.object) a.pass.now q t) c.in-Done.is c.inflate.ensures.run in
+    let ran = subst (λ (t : Turn ℕ). HasRun h (inflate_steps h.heap.shape e k.kept a.object) a.pass.now q t) c.in-Done.is c.inflate.ensures.run in
     let rest = subst (λ (x : Local). HasRun h (letting_go e x a.object m) q r c.let_go.result) c.inflate.ensures.local c.let_go.ensures in
-    in_turn h a.pass.now q r (inflate_steps e k.kept a.object) next (Done m) c.let_go.result ran rest
+    in_turn h a.pass.now q r (inflate_steps h.heap.shape e k.kept a.object) next (Done m) c.let_go.result ran rest
 
 pub returns-in-Pending : goal.returns-in-Pending
 returns-in-Pending c =
@@ -57,5 +57,5 @@ returns-in-Pending c =
     let q = c.inflate.new.pass in
     let out : Turn (Unit {0}) = Pending c.in-Pending.cause in
     let next : Turn ℕ → Todo (Turn (Unit {0})) = λ turn. and_then turn (λ m. letting_go e (local_of k) a.object m) in
-    let ran = subst (λ (t : Turn ℕ). HasRun h (inflate_steps e k.kept a.object) a.pass.now q t) c.in-Pending.is c.inflate.ensures.run in
-    in_turn h a.pass.now q q (inflate_steps e k.kept a.object) next (Pending c.in-Pending.cause) out ran (ends h q out ran.heap)
+    let ran = subst (λ (t : Turn ℕ). HasRun h (inflate_steps h.heap.shape e k.kept a.object) a.pass.now q t) c.in-Pending.is c.inflate.ensures.run in
+    in_turn h a.pass.now q q (inflate_steps h.heap.shape e k.kept a.object) next (Pending c.in-Pending.cause) out ran (ends h q out ran.heap)

@@ -27,10 +27,10 @@ inflate_by-requires-clause-due c =
     let mark = c.load-mark.result in
     let s = c.load-mark.ensures in
     let same : q.known.kept ≡ k = ap (λ (x : Known). x.kept) s.known in
-    let form = ap (λ (f : Option MarkForm). inflate_at f e k a.object mark) (sym c.mark_of_word.ensures ∙ c.in-Some.is)
-    ∙ is_made c.in-Some.form e k a.object mark c.in_default.not-Inflating c.in_default.not-Inflated in
+    let form = ap (λ (f : Option MarkForm). inflate_at f h.heap.shape e k a.object mark) (sym c.mark_of_word.ensures ∙ c.in-Some.is)
+    ∙ is_made c.in-Some.form h.heap.shape e k a.object mark c.in_default.not-Inflating c.in_default.not-Inflated in
     let rest = rest_due h a.pass.now e.task (load e (Mark a.object)) _ c.requires.due refl q mark s in
-    subst (λ (x : Option ℕ). IsDueOn h q e.task (inflate_by x e a.object mark)) (sym same) (subst (IsDueOn h q e.task) form rest)
+    subst (λ (x : Option ℕ). IsDueOn h q e.task (inflate_by x h.heap.shape e a.object mark)) (sym same) (subst (IsDueOn h q e.task) form rest)
 
 pub inflate_by-requires-in-None-clause-due : goal.inflate_by-requires-in-None-clause-due
 inflate_by-requires-in-None-clause-due c =
@@ -43,8 +43,8 @@ inflate_by-requires-in-None-clause-due c =
     let s = c.load-mark.ensures in
     let same : q.known.kept ≡ k = ap (λ (x : Known). x.kept) s.known in
     let rest = rest_due h a.pass.now e.task (load e (Mark a.object)) _ c.requires.due refl q mark s in
-    subst (λ (x : Option ℕ). IsDueOn h q e.task (inflate_by x e a.object mark)) (sym same)
-    (subst (λ (f : Option MarkForm). IsDueOn h q e.task (inflate_at f e k a.object mark)) (sym c.mark_of_word.ensures ∙ c.in-None.is) rest)
+    subst (λ (x : Option ℕ). IsDueOn h q e.task (inflate_by x h.heap.shape e a.object mark)) (sym same)
+    (subst (λ (f : Option MarkForm). IsDueOn h q e.task (inflate_at f h.heap.shape e k a.object mark)) (sym c.mark_of_word.ensures ∙ c.in-None.is) rest)
 
 pub returns-in-Inflating-clause-run : goal.returns-in-Inflating-clause-run
 returns-in-Inflating-clause-run c =
@@ -58,7 +58,7 @@ returns-in-Inflating-clause-run c =
     let form : read_mark mark ≡ Some Inflating = sym c.mark_of_word.ensures ∙ c.in-Some.is ∙ ap Some c.in-Inflating.is in
     let out = Pending why.Inflating in
     stepped h a.pass.now q q (load e (Mark a.object)) _ mark out s refl
-    (subst (λ (f : Option MarkForm). HasRun h (inflate_at f e k a.object mark) q q out) (sym form) (ends h q out s.heap))
+    (subst (λ (f : Option MarkForm). HasRun h (inflate_at f h.heap.shape e k a.object mark) q q out) (sym form) (ends h q out s.heap))
 
 pub returns-in-Inflated-clause-run : goal.returns-in-Inflated-clause-run
 returns-in-Inflated-clause-run c =
@@ -72,7 +72,7 @@ returns-in-Inflated-clause-run c =
     let m = c.in-Inflated.monitor in
     let form : read_mark mark ≡ Some (Inflated m) = sym c.mark_of_word.ensures ∙ c.in-Some.is ∙ ap Some c.in-Inflated.is in
     stepped h a.pass.now q q (load e (Mark a.object)) _ mark (Done m) s refl
-    (subst (λ (f : Option MarkForm). HasRun h (inflate_at f e k a.object mark) q q (Done m)) (sym form) (ends h q (Done m) s.heap))
+    (subst (λ (f : Option MarkForm). HasRun h (inflate_at f h.heap.shape e k a.object mark) q q (Done m)) (sym form) (ends h q (Done m) s.heap))
 
 pub returns-in_default-clause-run : goal.returns-in_default-clause-run
 returns-in_default-clause-run c =
@@ -86,9 +86,9 @@ returns-in_default-clause-run c =
     let out = c.inflate_by.result in
     let s = c.load-mark.ensures in
     let same : q.known.kept ≡ k = ap (λ (x : Known). x.kept) s.known in
-    let form = ap (λ (f : Option MarkForm). inflate_at f e k a.object mark) (sym c.mark_of_word.ensures ∙ c.in-Some.is)
-    ∙ is_made c.in-Some.form e k a.object mark c.in_default.not-Inflating c.in_default.not-Inflated in
-    let run = subst (λ (x : Option ℕ). HasRun h (inflate_by x e a.object mark) q r out) same c.inflate_by.ensures in
+    let form = ap (λ (f : Option MarkForm). inflate_at f h.heap.shape e k a.object mark) (sym c.mark_of_word.ensures ∙ c.in-Some.is)
+    ∙ is_made c.in-Some.form h.heap.shape e k a.object mark c.in_default.not-Inflating c.in_default.not-Inflated in
+    let run = subst (λ (x : Option ℕ). HasRun h (inflate_by x h.heap.shape e a.object mark) q r out) same c.inflate_by.ensures in
     stepped h a.pass.now q r (load e (Mark a.object)) _ mark out s refl (subst (λ d. HasRun h d q r out) (sym form) run)
 
 pub returns-in-None-clause-run : goal.returns-in-None-clause-run
@@ -103,9 +103,9 @@ returns-in-None-clause-run c =
     let out = c.inflate_by-in-None.result in
     let s = c.load-mark.ensures in
     let same : q.known.kept ≡ k = ap (λ (x : Known). x.kept) s.known in
-    let run = subst (λ (x : Option ℕ). HasRun h (inflate_by x e a.object mark) q r out) same c.inflate_by-in-None.ensures in
+    let run = subst (λ (x : Option ℕ). HasRun h (inflate_by x h.heap.shape e a.object mark) q r out) same c.inflate_by-in-None.ensures in
     stepped h a.pass.now q r (load e (Mark a.object)) _ mark out s refl
-    (subst (λ (f : Option MarkForm). HasRun h (inflate_at f e k a.object mark) q r out) (sym (sym c.mark_of_word.ensures ∙ c.in-None.is)) run)
+    (subst (λ (f : Option MarkForm). HasRun h (inflate_at f h.heap.shape e k a.object mark) q r out) (sym (sym c.mark_of_word.ensures ∙ c.in-None.is)) run)
 
 pub returns-in-Inflating-clause-local : goal.returns-in-Inflating-clause-local
 returns-in-Inflating-clause-local c =

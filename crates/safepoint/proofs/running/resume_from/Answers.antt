@@ -1,5 +1,6 @@
-use Rattle.std.proofs.Common.{◌≡◌, ℕ, ◌==◌, ne_eqb, Bool, false, cond, Option, None, refl, sym, ap, ◌∙◌, subst}
+use Rattle.std.proofs.Common.{◌≡◌, ℕ, ◌==◌, eq-eqb, ne_eqb, Bool, true, false, cond, Option, None, refl, sym, ap, ◌∙◌, subst}
 use Rattle.mark_word.specs.Safe.{read_safe}
+use Rattle.core_world.specs.declared.answer.Turn.TheVariants.{Done}
 use Rattle.core_world.specs.declared.answer.Why.{Why}
 use Rattle.core_world.specs.declared.answer.Why.TheVariants.{Raced}
 use Rattle.core_world.specs.declared.name.Name.TheVariants.{Safepoint}
@@ -33,3 +34,18 @@ returns-in-None c =
     last_step h p _ (resume_plan e p.known.thread word) _ found _ made refl
     (ap (λ (b : Bool). cond b (done_with tt) (unless (bar found) (pending_for (Raced word found)))) missed
     ∙ ap (λ (x : Option Why). unless x (pending_for (Raced word found))) free)
+
+pub returns-then-found-word : goal.returns-then-found-word
+returns-then-found-word c =
+    let e = c.args.why.now in
+    let h = c.args.heap.now in
+    let p = c.args.pass.now in
+    let word = c.args.word in
+    let found = c.exchange-found.result in
+    let left : c.running_too-left.result ≡ running_too (read_safe word) p.known.thread =
+    c.running_too-left.ensures ∙ λ i. running_too (c.requires.form i) (c.thread.ensures.same i) in
+    let q = c.exchange-found.new.pass in
+    let made = subst (λ (w : ℕ). HasStepped h p q (swap e Safepoint word w) found) left c.exchange-found.ensures in
+    let hit : (found == word) ≡ true = eq-eqb found word c.if-found-word.true in
+    last_step h p q (resume_plan e p.known.thread word) _ found (Done tt) made refl
+    (ap (λ (b : Bool). cond b (done_with tt) (unless (bar found) (pending_for (Raced word found)))) hit)

@@ -1,0 +1,26 @@
+use Rattle.core_counts.proofs.QuietKinds.{unnames, cleans_owner, cleans_recursions, cleans_header, cleans_object, enrings, advances, releases_taking}
+use Rattle.core_counts.proofs.kinds.giving_a_monitor_back_keeps_the_law_of_biases.Goals as goal
+
+pub returns-clause-unnamed : goal.returns-clause-unnamed
+returns-clause-unnamed c = unnames
+
+pub returns-clause-owner : goal.returns-clause-owner
+returns-clause-owner c = cleans_owner
+
+pub returns-clause-recursions : goal.returns-clause-recursions
+returns-clause-recursions c = cleans_recursions
+
+pub returns-clause-header : goal.returns-clause-header
+returns-clause-header c = cleans_header
+
+pub returns-clause-object : goal.returns-clause-object
+returns-clause-object c = cleans_object
+
+pub returns-clause-enringed : goal.returns-clause-enringed
+returns-clause-enringed c = enrings
+
+pub returns-clause-advanced : goal.returns-clause-advanced
+returns-clause-advanced c = advances
+
+pub returns-clause-released : goal.returns-clause-released
+returns-clause-released c = releases_taking

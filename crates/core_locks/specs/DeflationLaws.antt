@@ -1,0 +1,54 @@
+-- When a thread at its reached safepoint may make the steps that give an idle monitor back.
+use Rattle.std.specs.Prelude.{◌≡◌, ℕ, ◌%◌, ◌<◌, true, false, length, Some, None}
+use Rattle.mark_word.specs.declared.owner.OwnerForm.TheVariants.{Free}
+use Rattle.mark_word.specs.Owner.{owner_of}
+use Rattle.core_world.specs.declared.name.Name.{Name}
+use Rattle.core_world.specs.declared.name.Name.TheVariants.{Mark, Waiting, Owner, Header, End, Ring}
+use Rattle.core_world.specs.Words.Forms.{monitor_in, waits_on, says_notified, enters_on}
+use Rattle.core_world.specs.Words.Shape.{Shape, ring_places}
+use Rattle.core_world.specs.Threads.Stages.{revocation_in}
+use Rattle.core_world.specs.Threads.Known.{Known, Still, Returns, last_seen}
+use Rattle.core_world.specs.Trees.Plans.{Purpose}
+use Rattle.core_locks.specs.Knowing.{GoesOn}
+
+-- its safepoint is reached, and it revokes no bias: where it did, all stores of that are made
+pub record Stands (k : Known) (e : Purpose) : Type 0 where
+  pub reached : k.reached ≡ true
+  pub unrevoking : revocation_in k.stage ≡ None
+  pub goes_on : GoesOn k e
+
+-- at its safepoint it saw this word so
+abbrev pub Saw : Known → Name → ℕ → Type 0
+Saw k n v = last_seen n k.seen_at_safepoint ≡ Some v
+
+-- the waiting word of thread u, as it saw it there, says that u neither waits on o nor was notified from it nor enters it
+abbrev pub SawUntouched : Known → ℕ → ℕ → Type 0
+SawUntouched k o u = (v : ℕ) × Saw k (Waiting u) v × (waits_on v o ≡ false) × (says_notified v o ≡ false) × (enters_on v o ≡ false)
+
+-- Storing its header as the mark of o: the monitor m is idle by what the thread saw at its safepoint, and it gives back no other.
+pub record MayUnname (s : Shape) (k : Known) (e : Purpose) (o m header : ℕ) : Type 0 where
+  pub stands : Stands k e
+  pub still : k.moving ≡ Still
+  pub object : o < length s.objects
+  pub inflated : (v : ℕ) × Saw k (Mark o) v × (monitor_in v ≡ Some m)
+  pub owner : Saw k (Owner m) (owner_of Free)
+  pub its_header : Saw k (Header m) header
+  pub untouched : (u : ℕ) → u < s.threads → SawUntouched k o u
+
+-- Clearing a word of the monitor that it gives back.
+pub record MayClean (k : Known) (e : Purpose) (m : ℕ) : Type 0 where
+  pub stands : Stands k e
+  pub returns : k.moving ≡ Returns m
+
+-- Storing the monitor at the place of the end position, which it saw.
+pub record MayEnring (k : Known) (e : Purpose) (m end : ℕ) : Type 0 where
+  pub stands : Stands k e
+  pub returns : k.moving ≡ Returns m
+  pub at_end : Saw k End end
+
+-- Moving the end behind that position: it stored the monitor there.
+pub record MayAdvance (s : Shape) (k : Known) (e : Purpose) (m end : ℕ) : Type 0 where
+  pub stands : Stands k e
+  pub returns : k.moving ≡ Returns m
+  pub at_end : Saw k End end
+  pub stored : Saw k (Ring (end % ring_places s)) m

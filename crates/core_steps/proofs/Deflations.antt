@@ -1,0 +1,659 @@
+-- Deflation at a reached safepoint: whatever monitors are idle, the steps keep every valid world valid. What its thread carries it leaves, and of what
+-- the thread saw there before, all that is still needed behind it. And behind it no monitor that a mark names is idle.
+use Rattle.std.proofs.Common.{◌≡◌, ◌≢◌, ◌⊎◌, ℕ, zero, suc, ◌+◌, ◌%◌, ◌^◌, ◌<◌, ◌≤◌, ◌==◌, ◌&&◌, ◌||◌, eq-eqb, ne_eqb, eqb-true, not, Bool, true, false, cond, List, [], ◌∷◌, length, Option, Some, None, refl, sym, ap, ◌∙◌, subst, arith, inl, inr}
+use Rattle.std.specs.List.{list_all}
+use Rattle.std.proofs.lemmas.Option.{same_Some}
+use Rattle.std.proofs.lemmas.Nat.{mod_below, pow_pos}
+use Rattle.mark_word.specs.declared.mark.MarkForm.{MarkForm}
+use Rattle.mark_word.specs.declared.mark.MarkForm.TheVariants.{Neutral}
+use Rattle.mark_word.specs.Mark.{read_mark}
+use Rattle.mark_word.specs.declared.owner.OwnerForm.TheVariants.{Free}
+use Rattle.mark_word.specs.Owner.{owner_of}
+use Rattle.core_world.specs.declared.name.Name.{Name}
+use Rattle.core_world.specs.declared.name.Name.TheVariants as name
+use Rattle.core_world.specs.declared.stage.Stage.{Stage}
+use Rattle.core_world.specs.declared.act.Act.TheVariants.{Load}
+use Rattle.core_world.specs.declared.task.Unfinished.{Unfinished}
+use Rattle.core_world.specs.Words.Forms.{monitor_in, monitor_form, waits_on, says_notified, enters_on, is_biased, is_biased_form, is_neutral_form}
+use Rattle.core_world.specs.Words.Shape.{Shape, monitor_count, ring_bits, ring_places}
+use Rattle.core_world.specs.Threads.Known.{Known, Still, last_seen, local_of}
+use Rattle.core_world.specs.Steps.{known_hit, seen_at_safepoint_before, world_after}
+use Rattle.core_world.specs.There.{IsIn}
+use Rattle.core_world.specs.Trees.Todo.{Todo, done, ask, each_from, all_from, ◌>>=◌}
+use Rattle.core_world.specs.Trees.Plans.{Purpose, load_plan}
+use Rattle.core_world.specs.Trees.DeflateSteps.{unname_plan, clean_plan, enring_plan, advance_plan, is_untouched, names_monitor, look_at, deflate_free, deflate_named, deflate_monitor, deflate_steps}
+use Rattle.core_world.specs.Threads.Stages.{revocation_in}
+use Rattle.core_world.specs.Valid.{IsValid, Fits}
+use Rattle.core_world.specs.Words.Names.{same_name}
+use Rattle.core_world.proofs.KnowledgeParts.{by_equal}
+use Rattle.core_world.proofs.Naming.{same_named, same_as_itself}
+use Rattle.core_locks.specs.Knowing.{KeepsValid}
+use Rattle.core_locks.specs.SafepointLaws.{SeesEnded, SeesHeldUp}
+use Rattle.core_locks.specs.DeflationLaws.{Saw, SawUntouched, MayUnname, MayClean, MayEnring, MayAdvance}
+use Rattle.core_locks.proofs.Unnames.{unnames}
+use Rattle.core_locks.proofs.Cleans.{cleans_owner, cleans_count, cleans_head, cleans_object}
+use Rattle.core_locks.proofs.Enrings.{enrings}
+use Rattle.core_locks.proofs.Advances.{advances}
+use Rattle.core_counts.specs.Steps.{KeepsBiases}
+use Rattle.core_counts.proofs.Leaning.{inflated_unbiased}
+use Rattle.core_counts.proofs.QuietKinds as quiet
+use Rattle.core_law.specs.BiasLaw.{BiasLawHolds}
+use Rattle.core_law.specs.Logic.{Heap, Stands, Keeps, Was, Does}
+use Rattle.core_law.proofs.Standing.{away, home}
+use Rattle.core_law.proofs.Wholes.{All}
+use Rattle.core_law.proofs.SafepointSights.{Seeing, seeing_all, seeing_itself, is_as_seen, forms_fit}
+use Rattle.core_steps.specs.Deflated.{GaveBack, SawInUse, IsSettled, NamedAreInUse, is_taken_by}
+use Rattle.core_steps.proofs.Ringed.{IsOut, out_on, within_ring, unnamed, none_returns, comes_out, stays_out}
+use Rattle.core_steps.proofs.LawRules.{keeps_in_all, standing_in_all, looks}
+use Rattle.core_steps.proofs.SafepointLooks.{stays_reached, stood_kept, Facts, each_does, going}
+use Rattle.core_steps.proofs.Trees.{answers, chooses, follows, hitting}
+use Rattle.core_steps.proofs.Tests.{both}
+use Rattle.core_steps.proofs.Resting.{Carries}
+
+-- a law for the shape that a heap has
+enrings_in : (s : Shape) (e : Purpose) (m end : ℕ) → KeepsValid (λ w t. (w.shape ≡ s) × MayEnring (w.known t) e m end) (λ w t. enring_plan e (w.known t).stage s end m)
+enrings_in s e m end w P t within (same, may) valid = subst (λ z. IsValid (world_after (enring_plan e (w.known t).stage z end m) t w) P) same (enrings e m end w P t within may valid)
+
+enrings_biases : (s : Shape) (e : Purpose) (m end : ℕ) → KeepsBiases (λ w t. (w.shape ≡ s) × MayEnring (w.known t) e m end) (λ w t. enring_plan e (w.known t).stage s end m)
+enrings_biases s e m end w P t within (same, may) v law = subst (λ z. BiasLawHolds (world_after (enring_plan e (w.known t).stage z end m) t w)) same (quiet.enrings e m end w P t within may v law)
+
+none_of : (a b c : Bool) → (not a && not b && not c) ≡ true → (a ≡ false) × (b ≡ false) × (c ≡ false)
+none_of false false false h = (refl, refl, refl)
+none_of true b c h = absurd (cc h)
+none_of false true c h = absurd (cc h)
+none_of false false true h = absurd (cc h)
+
+-- a header is no bias
+neutral_unbiased : (f : Option MarkForm) → is_neutral_form f ≡ true → is_biased_form f ≡ false
+neutral_unbiased (Some (Neutral hash age)) e = refl
+neutral_unbiased _ e = absurd (cc e)
+
+-- nor does it name a monitor
+neutral_none : (f : Option MarkForm) → is_neutral_form f ≡ true → monitor_form f ≡ None
+neutral_none (Some (Neutral hash age)) e = refl
+neutral_none (Some _) e = absurd (cc e)
+neutral_none None e = refl
+
+abbrev finished : Todo (Unit {0})
+finished = done tt
+
+-- The thread, which knew k0 once, stands at this stage, in which it revokes nothing: in the middle of nothing, or about to take a bias that it gave itself.
+module _ (heap : Heap) (e : Purpose) (k0 : Known) (st : Stage) (plain : revocation_in st ≡ None) where
+  -- its safepoint is reached, it works for this purpose and has nothing in hand of the ring; and what its operation goes by is as it was
+  pub record Idles (k : Known) : Type 0 where
+    pub reached : k.reached ≡ true
+    pub stopped : k.running ≡ false
+    pub stands : k.stage ≡ st
+    pub check : e.check ≡ k.checking
+    pub mine : e.unfinished ≡ k.unfinished
+    pub still : k.moving ≡ Still
+    pub local : local_of k ≡ local_of k0
+    pub kept : k.kept ≡ k0.kept
+    pub saved : k.saved ≡ k0.saved
+    pub draws : k.draws ≡ k0.draws
+    pub shots : k.shots ≡ k0.shots
+
+  -- so it carries what it carried
+  pub still_carries : {u : Option Unfinished} (k : Known) → Idles k → Carries k0.moving k0.log k0.wait k0.holds k0.shots u → Carries k.moving k.log k.wait k.holds k.shots u
+  still_carries {u} k x carries =
+      subst (λ z. Carries k.moving z.log z.wait z.holds k.shots u) (sym x.local)
+      (subst (λ z. Carries k.moving k0.log k0.wait k0.holds z u) (sym x.shots) (subst (λ z. Carries z k0.log k0.wait k0.holds k0.shots u) (carries.still ∙ sym x.still) carries))
+
+  -- and every clause holds there, and the law of biases
+  all_at : (k : Known) (v : Stands heap k) → k.reached ≡ true → k.stage ≡ st → All v.world v.objects
+  all_at k v reached at = standing_in_all heap k v reached (ap revocation_in at ∙ plain)
+
+  keeps_look_at : (at : Name) (k : Known) → Idles k → (Stands heap k → IsIn heap.shape at) → Keeps heap (load_plan e st at) k
+  keeps_look_at at k r there = looks heap k (load_plan e st at) (record {
+    act = refl;
+    note = refl;
+    own = refl;
+    stage = sym r.stands;
+    check = r.check;
+    after = inl r.mine;
+    may = record { outside = λ a b. let c = r.reached in absurd (cc (b, c)); found = λ a m is. let c = r.stopped in absurd (cc (a, c)) };
+  }) there
+
+  saw_at : (at : Name) (k : Known) (n : ℕ) → seen_at_safepoint_before at Load k ≡ k.seen_at_safepoint → last_seen at (known_hit heap.shape heap.start (load_plan e st at) n k).seen_at_safepoint ≡ Some n
+  saw_at at k n kept = ap (λ (b : Bool). cond b (Some n) (last_seen at (seen_at_safepoint_before at Load k))) (same_as_itself at)
+
+  still_seen_at : (at : Name) (k : Known) (n : ℕ) → k.reached ≡ true → seen_at_safepoint_before at Load k ≡ k.seen_at_safepoint → Was heap (load_plan e st at) k n
+      → Seeing k (known_hit heap.shape heap.start (load_plan e st at) n k)
+  still_seen_at at k n reached kept was = record { saw = λ m v saw. cases m v saw (same_name m at) refl }
+    where
+      cases : (m : Name) (v : ℕ) → last_seen m k.seen_at_safepoint ≡ Some v → (b : Bool) → same_name m at ≡ b → cond b (Some n) (last_seen m (seen_at_safepoint_before at Load k)) ≡ Some v
+      cases m v saw true same =
+          let is : m ≡ at = same_named m at same in
+          ap Some (sym was.found ∙ ap was.stands.world.words (sym is) ∙ is_as_seen heap k was.stands reached m v saw)
+      cases m v saw false other = ap (last_seen m) kept ∙ saw
+
+  -- A LOOK forgets no word, and no monitor that was given back.
+  record Looked (k l : Known) : Type 0 where
+    pub sights : Seeing k l
+    pub back : (m : ℕ) → GaveBack k m → GaveBack l m
+
+  looked_all : (k l m : Known) → Looked k l → Looked l m → Looked k m
+  looked_all k l m a b = record { sights = seeing_all k l m a.sights b.sights; back = λ i h. b.back i (a.back i h) }
+
+  looked_itself : (k : Known) → Looked k k
+  looked_itself k = record { sights = seeing_itself k; back = λ i h. h }
+
+  still_looked_at : (at : Name) (k : Known) (n : ℕ) → k.reached ≡ true → seen_at_safepoint_before at Load k ≡ k.seen_at_safepoint → Was heap (load_plan e st at) k n
+      → Looked k (known_hit heap.shape heap.start (load_plan e st at) n k)
+  still_looked_at at k n reached kept was = record { sights = still_seen_at at k n reached kept was; back = λ m h. ap (λ z. is_taken_by z m) kept ∙ h }
+
+  idles_on : (at : Name) (n : ℕ) (k : Known) → Idles k → Idles (known_hit heap.shape heap.start (load_plan e st at) n k)
+  idles_on name.Safepoint n k x = record {
+    reached = stays_reached k.reached _ x.reached;
+    stopped = x.stopped;
+    stands = refl;
+    check = refl;
+    mine = refl;
+    still = x.still;
+    local = x.local;
+    kept = x.kept;
+    saved = x.saved;
+    draws = x.draws;
+    shots = x.shots;
+  }
+  idles_on _ n k x = record {
+    reached = x.reached;
+    stopped = x.stopped;
+    stands = refl;
+    check = refl;
+    mine = refl;
+    still = x.still;
+    local = x.local;
+    kept = x.kept;
+    saved = x.saved;
+    draws = x.draws;
+    shots = x.shots;
+  }
+
+  abbrev pub Held : Known → ℕ → Type 0
+  Held k u = SeesEnded k u ⊎ SeesHeldUp k u
+
+  -- The monitor m was given back, and stands in the ring; or the mark of the object in its object word doesn't name it, or it is in use.
+  abbrev pub Settles : Known → ℕ → Type 0
+  Settles k m =
+      (GaveBack k m × IsOut heap.shape k m)
+      ⊎ ((o v : ℕ) × Saw k (name.Object m) o × Saw k (name.Mark o) v × (monitor_in v ≡ Some m → SawInUse heap.shape k o m))
+
+  pub settled_of : (k : Known) (m : ℕ) → Settles k m → IsSettled heap.shape k m
+  settled_of k m h = elim h [ inl a ↦ inl a.0 | inr a ↦ inr a ]
+
+  -- WHAT STAYS of what was seen: whoever had ended or was held up is so still, each prototype is what it was, and so is each mark, but for such as had
+  -- no bias pattern and have none; and no monitor that wasn't idle is so now
+  pub record Holding (k l : Known) : Type 0 where
+    pub held : (u : ℕ) → u < heap.shape.threads → Held k u → Held l u
+    pub marks : (i v : ℕ) → last_seen (name.Mark i) k.seen_at_safepoint ≡ Some v → (u : ℕ) × (last_seen (name.Mark i) l.seen_at_safepoint ≡ Some u) × ((u ≡ v) ⊎ ((is_biased v ≡ false) × (is_biased u ≡ false)))
+    pub prototypes : (i v : ℕ) → last_seen (name.Prototype i) k.seen_at_safepoint ≡ Some v → last_seen (name.Prototype i) l.seen_at_safepoint ≡ Some v
+    pub settled : (m : ℕ) → Settles k m → Settles l m
+
+  holding_all : (k l m : Known) → Holding k l → Holding l m → Holding k m
+  holding_all k l m a b = record {
+    held = λ u h x. b.held u h (a.held u h x);
+    marks = λ i v h.
+        let x = a.marks i v h in
+        let y = b.marks i x.0 x.1 in (
+          y.0,
+          y.1,
+          elim x.2 [
+            | inl p ↦ elim y.2 [
+              | inl q ↦ inl (q ∙ p)
+              | inr q ↦ inr (ap is_biased (sym p) ∙ q.0, q.1)
+            ]
+            | inr p ↦ inr (
+              p.0,
+              elim y.2 [
+                | inl q ↦ ap is_biased q ∙ p.1
+                | inr q ↦ q.1
+              ],
+            )
+          ],
+        );
+    prototypes = λ i v h. b.prototypes i v (a.prototypes i v h);
+    settled = λ i h. b.settled i (a.settled i h);
+  }
+
+  in_use_on : (k l : Known) (o m : ℕ) → Seeing k l → SawInUse heap.shape k o m → SawInUse heap.shape l o m
+  in_use_on k l o m s h = elim h [
+    | inl a ↦ inl (a.0, s.saw (name.Owner m) a.0 a.1, a.2)
+    | inr a ↦ inr (a.0, a.1, a.2, s.saw (name.Waiting a.0) a.1 a.3, a.4)
+  ]
+
+  looked_holds : (k l : Known) → Looked k l → Holding k l
+  looked_holds k l x = let s = x.sights in record {
+    held = λ u h x. elim x [
+      | inl a ↦ inl (a.0, s.saw (name.Waiting u) a.0 a.1, a.2)
+      | inr a ↦ inr (
+        a.0,
+        a.1,
+        s.saw (name.Waiting u) a.1 a.2,
+        elim a.3 [
+          | inl b ↦ inl b
+          | inr b ↦ let c = b.1 in inr (b.0, (c.0, c.1, c.2, s.saw (name.Mark a.0) c.0 c.3, c.4, s.saw (name.Owner c.1) c.2 c.5, c.6))
+        ],
+      )
+    ];
+    marks = λ i v h. (v, s.saw (name.Mark i) v h, inl refl);
+    prototypes = λ i v h. s.saw (name.Prototype i) v h;
+    settled = λ m h. elim h [
+      | inl a ↦ inl (x.back m a.0, out_on heap.shape k l m s.saw a.1)
+      | inr a ↦ inr (a.0, a.1, s.saw (name.Object m) a.0 a.2, s.saw (name.Mark a.0) a.1 a.3, λ q. in_use_on k l a.0 m s (a.4 q))
+    ];
+  }
+
+  -- a look, and what follows by the word that it finds
+  look : {A : Type 0} (at : Name) (f : ℕ → Todo A) (k : Known) (Q : Bool → A → Known → Type 0) → Idles k → (Stands heap k → IsIn heap.shape at)
+      → ((n : ℕ) (l : Known) → Idles l → Looked k l → last_seen at l.seen_at_safepoint ≡ Some n → Was heap (load_plan e st at) k n → Does heap false (f n) l Q)
+      → Does heap false (ask (load_plan e st at) >>= f) k Q
+  look at f k Q x there then_so =
+      let kept = stood_kept at k x.reached in
+      hitting heap false (load_plan e st at) f k Q (λ n. refl) (λ i. keeps_look_at at k x there) (λ n i was.
+      then_so n (known_hit heap.shape heap.start (load_plan e st at) n k) (idles_on at n k x) (still_looked_at at k n x.reached kept was) (saw_at at k n kept) was)
+
+  -- GIVING BACK
+  module _ (o m mark header end : ℕ) (k k2 : Known) (x : Idles k2) (looked : Looked k k2) (object : o < length heap.shape.objects) (there : m < monitor_count heap.shape)
+      (saw_mark : last_seen (name.Mark o) k.seen_at_safepoint ≡ Some mark) (named : monitor_in mark ≡ Some m) (saw_owner : last_seen (name.Owner m) k.seen_at_safepoint ≡ Some (owner_of Free))
+      (untouched : (u : ℕ) → u < heap.shape.threads → SawUntouched k o u) (saw_header : last_seen (name.Header m) k2.seen_at_safepoint ≡ Some header) (saw_end : last_seen name.End k2.seen_at_safepoint ≡ Some end) where
+    s : Seeing k k2
+    s = looked.sights
+
+    abbrev k3 : ℕ → Known
+    k3 n = known_hit heap.shape heap.start (unname_plan e st o m header) n k2
+
+    abbrev k4 : ℕ → ℕ → Known
+    k4 a n = known_hit heap.shape heap.start (clean_plan e st (name.Owner m)) n (k3 a)
+
+    abbrev k5 : ℕ → ℕ → ℕ → Known
+    k5 a b n = known_hit heap.shape heap.start (clean_plan e st (name.Recursions m)) n (k4 a b)
+
+    abbrev k6 : ℕ → ℕ → ℕ → ℕ → Known
+    k6 a b c n = known_hit heap.shape heap.start (clean_plan e st (name.Header m)) n (k5 a b c)
+
+    abbrev k7 : ℕ → ℕ → ℕ → ℕ → ℕ → Known
+    k7 a b c d n = known_hit heap.shape heap.start (clean_plan e st (name.Object m)) n (k6 a b c d)
+
+    abbrev k8 : ℕ → ℕ → ℕ → ℕ → ℕ → ℕ → Known
+    k8 a b c d f n = known_hit heap.shape heap.start (enring_plan e st heap.shape end m) n (k7 a b c d f)
+
+    abbrev k9 : ℕ → ℕ → ℕ → ℕ → ℕ → ℕ → ℕ → Known
+    k9 a b c d f g n = known_hit heap.shape heap.start (advance_plan e st end) n (k8 a b c d f g)
+
+    reached : k2.reached ≡ true
+    reached = x.reached
+
+    -- the header of a monitor that a mark names is neutral
+    header_is_neutral : Stands heap k2 → is_neutral_form (read_mark header) ≡ true
+    header_is_neutral v =
+        let inflated = is_as_seen heap k2 v reached (name.Mark o) mark (s.saw (name.Mark o) mark saw_mark) in
+        let neutral = (all_at k2 v reached x.stands).fits.monitors.neutral o m (ap monitor_in inflated ∙ named) in
+        let head = is_as_seen heap k2 v reached (name.Header m) header saw_header in
+        ap (λ z. is_neutral_form (read_mark z)) (sym head) ∙ neutral
+
+    -- the mark of o was that of a monitor, and is a header now; each other mark is as it was
+    mark_on : (v : Stands heap k2) (i u : ℕ) (b : Bool) → (i == o) ≡ b → last_seen (name.Mark i) k2.seen_at_safepoint ≡ Some u
+        → (n : ℕ) × (cond b (Some header) (last_seen (name.Mark i) k2.seen_at_safepoint) ≡ Some n) × ((n ≡ u) ⊎ ((is_biased u ≡ false) × (is_biased n ≡ false)))
+    mark_on v i u false other saw = (u, saw, inl refl)
+    mark_on v i u true same saw =
+        let is : i ≡ o = eqb-true i o same in
+        let at_o : last_seen (name.Mark o) k2.seen_at_safepoint ≡ Some u = subst (λ z. last_seen (name.Mark z) k2.seen_at_safepoint ≡ Some u) is saw in
+        let here = s.saw (name.Mark o) mark saw_mark in
+        let u_is : u ≡ mark = same_Some u mark (sym at_o ∙ here) in
+        (header, refl, inr (ap is_biased u_is ∙ inflated_unbiased mark m named, neutral_unbiased (read_mark header) (header_is_neutral v)))
+
+    -- another object and its monitor, of which a thread was seen held up, are as they were
+    held_on : (v : Stands heap k2) (a b c d f g n : ℕ) (u : ℕ) → u < heap.shape.threads → Held k u → Held (k9 a b c d f g n) u
+    held_on v a b c d f g n u h y = elim y [
+      | inl z ↦ inl (z.0, s.saw (name.Waiting u) z.0 z.1, z.2)
+      | inr z ↦ inr (
+        z.0,
+        z.1,
+        s.saw (name.Waiting u) z.1 z.2,
+        elim z.3 [
+          | inl w ↦ inl w
+          | inr w ↦
+              let i = w.1 in
+              let mine = untouched u h in
+              let word : z.1 ≡ mine.0 = same_Some _ _ (sym z.2 ∙ mine.1) in
+              let other : z.0 ≢ o = λ q. elim w.0 [
+                | inl t ↦ let no = mine.3 in let yes = ap (λ j. says_notified mine.0 j) (sym q) ∙ ap (λ j. says_notified j z.0) (sym word) ∙ t in absurd (cc (no, yes))
+                | inr t ↦ let no = mine.4 in let yes = ap (λ j. enters_on mine.0 j) (sym q) ∙ ap (λ j. enters_on j z.0) (sym word) ∙ t in absurd (cc (no, yes))
+              ] in
+              let fits = (all_at k2 v reached x.stands).fits in
+              let here = is_as_seen heap k2 v reached (name.Mark o) mark (s.saw (name.Mark o) mark saw_mark) in
+              let apart = is_as_seen heap k2 v reached (name.Mark z.0) i.0 (s.saw (name.Mark z.0) i.0 i.3) in
+              let elsewhere : i.1 ≢ m = λ q. other (fits.monitors.alone z.0 o m (ap monitor_in apart ∙ i.4 ∙ ap Some q) (ap monitor_in here ∙ named)) in
+              inr (
+                w.0,
+                (
+                  i.0,
+                  i.1,
+                  i.2,
+                  ap (λ t. cond t (Some header) (last_seen (name.Mark z.0) k2.seen_at_safepoint)) (ne_eqb z.0 o other) ∙ s.saw (name.Mark z.0) i.0 i.3,
+                  i.4,
+                  ap (λ t. cond t (Some 0) (last_seen (name.Owner i.1) k2.seen_at_safepoint)) (ne_eqb i.1 m elsewhere) ∙ s.saw (name.Owner i.1) i.2 i.5,
+                  i.6,
+                ),
+              )
+        ],
+      )
+    ]
+
+    -- the monitor stands in the ring now, and so do those that were given back before
+    module _ (v : Stands heap k2) (a b c d f g n : ℕ) where
+      abbrev k10 : Known
+      k10 = k9 a b c d f g n
+
+      abbrev place : ℕ
+      place = end % ring_places heap.shape
+
+      at_end_now : Saw k10 name.End ((end + 1) % 2 ^ 64)
+      at_end_now = refl
+
+      in_ring_now : Saw k10 (name.Ring place) m
+      in_ring_now = ap (λ t. cond t (Some m) (last_seen (name.Ring place) k2.seen_at_safepoint)) (eq-eqb place place refl)
+
+      headed_now : Saw k10 (name.Mark o) header
+      headed_now = ap (λ t. cond t (Some header) (last_seen (name.Mark o) k2.seen_at_safepoint)) (eq-eqb o o refl)
+
+      rings_now : (q u : ℕ) → q ≢ place → Saw k2 (name.Ring q) u → Saw k10 (name.Ring q) u
+      rings_now q u other saw = ap (λ t. cond t (Some m) (last_seen (name.Ring q) k2.seen_at_safepoint)) (ne_eqb q place other) ∙ saw
+
+      marks_now : (i u : ℕ) → i ≢ o → Saw k2 (name.Mark i) u → Saw k10 (name.Mark i) u
+      marks_now i u other saw = ap (λ t. cond t (Some header) (last_seen (name.Mark i) k2.seen_at_safepoint)) (ne_eqb i o other) ∙ saw
+
+      names_none : monitor_in header ≡ None
+      names_none = neutral_none (read_mark header) (header_is_neutral v)
+
+      saw_mark_still : Saw k2 (name.Mark o) mark
+      saw_mark_still = s.saw (name.Mark o) mark saw_mark
+
+      out_now : IsOut heap.shape k10 m
+      out_now = comes_out heap.shape k2 k10 o m mark header end saw_end object saw_mark_still named names_none at_end_now in_ring_now headed_now rings_now marks_now
+
+      out_still : (j : ℕ) → IsOut heap.shape k j → IsOut heap.shape k10 j
+      out_still j x1 =
+          let x2 : IsOut heap.shape k2 j = out_on heap.shape k k2 j s.saw x1 in
+          let fits = (all_at k2 v reached x.stands).fits in
+          let threads : 0 < heap.shape.threads = let t = v.within in omega (arith, t) in
+          let small = home heap k2 v (λ z y. (q : IsOut z k2 j) → 0 < z.threads → q.more + 1 < 2 ^ ring_bits z) (λ q t. within_ring v.world v.objects fits k2 j (is_as_seen heap k2 v reached) q t) x2 threads in
+          stays_out heap.shape k2 k10 o m mark header end saw_end object saw_mark_still named names_none at_end_now in_ring_now headed_now rings_now marks_now j x2 small
+
+    -- another monitor that is in use is so still, and the header names none
+    settled_on : (v : Stands heap k2) (a b c d f g n : ℕ) (j : ℕ) → Settles k j → Settles (k9 a b c d f g n) j
+    settled_on v a b c d f g n j h = by_number (m == j) refl
+      where
+        by_mark : (i u : ℕ) → (j == m) ≡ false → last_seen (name.Object j) k.seen_at_safepoint ≡ Some i → last_seen (name.Mark i) k.seen_at_safepoint ≡ Some u → (monitor_in u ≡ Some j → SawInUse heap.shape k i j)
+            → (same : Bool) → (i == o) ≡ same → Settles (k9 a b c d f g n) j
+        by_mark i u other saw_object saw_it used true same =
+            inr (
+              i,
+              header,
+              ap (λ t. cond t (Some 0) (last_seen (name.Object j) k2.seen_at_safepoint)) other ∙ s.saw (name.Object j) i saw_object,
+              ap (λ t. cond t (Some header) (last_seen (name.Mark i) k2.seen_at_safepoint)) same,
+              λ q. let none = neutral_none (read_mark header) (header_is_neutral v) in absurd (cc (none, q)),
+            )
+        by_mark i u other saw_object saw_it used false apart =
+            inr (
+              i,
+              u,
+              ap (λ t. cond t (Some 0) (last_seen (name.Object j) k2.seen_at_safepoint)) other ∙ s.saw (name.Object j) i saw_object,
+              ap (λ t. cond t (Some header) (last_seen (name.Mark i) k2.seen_at_safepoint)) apart ∙ s.saw (name.Mark i) u saw_it,
+              λ q. elim (used q) [
+                | inl y ↦ inl (y.0, ap (λ t. cond t (Some 0) (last_seen (name.Owner j) k2.seen_at_safepoint)) other ∙ s.saw (name.Owner j) y.0 y.1, y.2)
+                | inr y ↦ inr (y.0, y.1, y.2, s.saw (name.Waiting y.0) y.1 y.3, y.4)
+              ],
+            )
+
+        by_number : (same : Bool) → (m == j) ≡ same → Settles (k9 a b c d f g n) j
+        by_number true same =
+            let is : m ≡ j = eqb-true m j same in
+            inl (ap (λ z. z || is_taken_by k2.seen_at_safepoint j) same, subst (IsOut heap.shape (k9 a b c d f g n)) is (out_now v a b c d f g n))
+        by_number false apart = elim h [
+          | inl y ↦ inl (ap (λ z. z || is_taken_by k2.seen_at_safepoint j) apart ∙ looked.back j y.0, out_still v a b c d f g n j y.1)
+          | inr y ↦
+              let other : (j == m) ≡ false = ne_eqb j m (λ q. let yes = eq-eqb m j (sym q) in absurd (cc (apart, yes))) in
+              by_mark y.0 y.1 other y.2 y.3 y.4 (y.0 == o) refl
+        ]
+
+    holds_on : (v : Stands heap k2) (a b c d f g n : ℕ) → Holding k (k9 a b c d f g n)
+    holds_on v a b c d f g n = record {
+      held = held_on v a b c d f g n;
+      marks = λ i u saw. mark_on v i u (i == o) refl (s.saw (name.Mark i) u saw);
+      prototypes = λ i u saw. s.saw (name.Prototype i) u saw;
+      settled = λ j h. settled_on v a b c d f g n j h;
+    }
+
+    gives_back : Does heap false (ask (unname_plan e st o m header) >>= (λ a. ask (clean_plan e st (name.Owner m)) >>= (λ b. ask (clean_plan e st (name.Recursions m)) >>= (λ c. ask (clean_plan e st (name.Header m)) >>= (λ d.
+        ask (clean_plan e st (name.Object m)) >>= (λ f. ask (enring_plan e st heap.shape end m) >>= (λ g. ask (advance_plan e st end) >>= (λ n. finished)))))))) k2 (λ b a l. Idles l × Holding k l × Settles l m)
+    gives_back =
+        hitting heap false _ _ k2 _ (λ n. refl) (λ i. subst (λ z. Keeps heap (unname_plan e z o m header) k2) x.stands
+        (keeps_in_all heap k2 (λ s y. MayUnname s y e o m header) (λ t y. unname_plan e y.stage o m header) (unnames e o m header) (quiet.unnames e o m header) (λ t y r. r) (λ v. tt)
+        (λ v. all_at k2 v reached x.stands) (λ v. (object, tt)) (λ v. record {
+          stands = record { reached = reached; unrevoking = ap revocation_in x.stands ∙ plain; goes_on = inl x.mine };
+          still = x.still;
+          object = object;
+          inflated = (mark, s.saw (name.Mark o) mark saw_mark, named);
+          owner = s.saw (name.Owner m) (owner_of Free) saw_owner;
+          its_header = saw_header;
+          untouched = λ u h. let y = untouched u h in (y.0, s.saw (name.Waiting u) y.0 y.1, y.2, y.3, y.4);
+        }))) (λ a ia wa.
+        hitting heap false _ _ _ _ (λ n. refl) (λ i. keeps_in_all heap (k3 a) (λ s y. MayClean y e m) (λ t y. clean_plan e y.stage (name.Owner m)) (cleans_owner e m) (quiet.cleans_owner e m) (λ t y r. r) (λ v. tt)
+        (λ v. all_at (k3 a) v reached refl) (λ v. (there, tt)) (λ v. record { stands = record { reached = reached; unrevoking = plain; goes_on = inl refl }; returns = refl })) (λ b ib wb.
+        hitting heap false _ _ _ _ (λ n. refl) (λ i. keeps_in_all heap (k4 a b) (λ s y. MayClean y e m) (λ t y. clean_plan e y.stage (name.Recursions m)) (cleans_count e m) (quiet.cleans_recursions e m) (λ t y r. r) (λ v. tt)
+        (λ v. all_at (k4 a b) v reached refl) (λ v. (there, tt)) (λ v. record { stands = record { reached = reached; unrevoking = plain; goes_on = inl refl }; returns = refl })) (λ c ic wc.
+        hitting heap false _ _ _ _ (λ n. refl) (λ i. keeps_in_all heap (k5 a b c) (λ s y. MayClean y e m) (λ t y. clean_plan e y.stage (name.Header m)) (cleans_head e m) (quiet.cleans_header e m) (λ t y r. r) (λ v. tt)
+        (λ v. all_at (k5 a b c) v reached refl) (λ v. (there, tt)) (λ v. record { stands = record { reached = reached; unrevoking = plain; goes_on = inl refl }; returns = refl })) (λ d id wd.
+        hitting heap false _ _ _ _ (λ n. refl) (λ i. keeps_in_all heap (k6 a b c d) (λ s y. MayClean y e m) (λ t y. clean_plan e y.stage (name.Object m)) (cleans_object e m) (quiet.cleans_object e m) (λ t y r. r) (λ v. tt)
+        (λ v. all_at (k6 a b c d) v reached refl) (λ v. (there, tt)) (λ v. record { stands = record { reached = reached; unrevoking = plain; goes_on = inl refl }; returns = refl })) (λ f if_ wf.
+        hitting heap false _ _ _ _ (λ n. refl) (λ i. keeps_in_all heap (k7 a b c d f) (λ s y. (s ≡ heap.shape) × MayEnring y e m end) (λ t y. enring_plan e y.stage heap.shape end m) (enrings_in heap.shape e m end) (enrings_biases heap.shape e m end)
+        (λ t y r. r) (λ v. tt) (λ v. all_at (k7 a b c d f) v reached refl) (λ v. (mod_below end (ring_places heap.shape) (pow_pos (ring_bits heap.shape)), tt))
+        (λ v. (refl, record { stands = record { reached = reached; unrevoking = plain; goes_on = inl refl }; returns = refl; at_end = saw_end }))) (λ g ig wg.
+        hitting heap false _ _ _ _ (λ n. refl) (λ i. keeps_in_all heap (k8 a b c d f g) (λ s y. MayAdvance s y e m end) (λ t y. advance_plan e y.stage end) (advances e m end) (quiet.advances e m end) (λ t y r. r) (λ v. tt)
+        (λ v. all_at (k8 a b c d f g) v reached refl) (λ v. (tt, tt))
+        (λ v. record {
+          stands = record { reached = reached; unrevoking = plain; goes_on = inl refl };
+          returns = refl;
+          at_end = saw_end;
+          stored = ap (λ t. cond t (Some m) (last_seen (name.Ring (end % ring_places heap.shape)) (k7 a b c d f).seen_at_safepoint)) (same_as_itself (name.Ring (end % ring_places heap.shape)));
+        })) (λ n j wn.
+        answers heap false _ _ _ (record { reached = x.reached; stopped = x.stopped; stands = refl; check = refl; mine = refl; still = refl; local = x.local; kept = x.kept; saved = x.saved; draws = x.draws; shots = x.shots }, holds_on wa.stands a b c d f g n, inl (ap (λ z. z || is_taken_by k2.seen_at_safepoint m) (eq-eqb m m refl), out_now wa.stands a b c d f g n)))))))))
+
+  -- LOOKING AT ALL WAITING WORDS
+  abbrev WasSeen : ℕ → ℕ → Known → Type 0
+  WasSeen u w l = last_seen (name.Waiting u) l.seen_at_safepoint ≡ Some w
+
+  was_seen_more : (u w : ℕ) (k l : Known) → Seeing k l → WasSeen u w k → WasSeen u w l
+  was_seen_more u w k l s h = s.saw (name.Waiting u) w h
+
+  abbrev look_of : ℕ → Todo ℕ
+  look_of u = look_at e st (name.Waiting u)
+
+  -- what had been given back where the loop began still is
+  record IdlesSince (k l : Known) : Type 0 where
+    pub idles : Idles l
+    pub back : (m : ℕ) → GaveBack k m → GaveBack l m
+
+  look_does : (k : Known) (u : ℕ) (l : Known) → u < heap.shape.threads → IdlesSince k l → Does heap false (look_of u) l (λ b a z. IdlesSince k z × Seeing l z × WasSeen u a z)
+  look_does k u l thread x =
+      look (name.Waiting u) done l _ x.idles (λ v. thread) (λ n z y s saw was. answers heap false n z _ (record { idles = y; back = λ m h. s.back m (x.back m h) }, s.sights, saw))
+
+  abbrev AllSeen : Known → ℕ → ℕ → List ℕ → Known → Type 0
+  AllSeen k i n xs l = Facts heap look_of (IdlesSince k) WasSeen was_seen_more heap.shape.threads (look_does k) i n xs l
+
+  -- what was seen of all waiting words, where each passes the test
+  untouched_all : (k : Known) (o i n : ℕ) (xs : List ℕ) (l : Known) → AllSeen k i n xs l → list_all (λ w. is_untouched o w) xs ≡ true → (t : ℕ) → t < n → SawUntouched l o (i + t)
+  untouched_all k o i zero xs l facts all t h = absurd (omega (arith, h))
+  untouched_all k o i (suc n) [] l facts all t h = absurd facts
+  untouched_all k o i (suc n) (w ∷ xs) l facts all zero h =
+      let a = both (is_untouched o w) (list_all (λ w. is_untouched o w) xs) all in
+      let b = none_of (waits_on w o) (says_notified w o) (enters_on w o) a.0 in
+      let same : i ≡ i + 0 = omega arith in
+      subst (SawUntouched l o) same (w, facts.0, b.0, b.1, b.2)
+  untouched_all k o i (suc n) (w ∷ xs) l facts all (suc t) h =
+      let a = both (is_untouched o w) (list_all (λ w. is_untouched o w) xs) all in
+      let same : i + 1 + t ≡ i + suc t = omega arith in
+      subst (SawUntouched l o) same (untouched_all k o (i + 1) n xs l facts.1 a.1 t (omega (arith, h)))
+
+  -- and where one doesn't, the thread whose word that is
+  touched_one : (k : Known) (o i n : ℕ) (xs : List ℕ) (l : Known) → AllSeen k i n xs l → list_all (λ w. is_untouched o w) xs ≡ false
+      → (u w : ℕ) × (u < i + n) × WasSeen u w l × (is_untouched o w ≡ false)
+  touched_one k o i zero [] l facts none = absurd (cc none)
+  touched_one k o i zero (w ∷ xs) l facts none = absurd facts
+  touched_one k o i (suc n) [] l facts none = absurd facts
+  touched_one k o i (suc n) (w ∷ xs) l facts none = by_word (is_untouched o w) refl (λ rest. touched_one k o (i + 1) n xs l facts.1 rest)
+    where
+      by_word : (b : Bool) → is_untouched o w ≡ b → (list_all (λ w. is_untouched o w) xs ≡ false → (u v : ℕ) × (u < i + 1 + n) × WasSeen u v l × (is_untouched o v ≡ false)) → (u v : ℕ) × (u < i + suc n) × WasSeen u v l × (is_untouched o v ≡ false)
+      by_word false h more = (i, w, omega arith, facts.0, h)
+      by_word true h more =
+          let rest : list_all (λ w. is_untouched o w) xs ≡ false = ap (λ (b : Bool). b && list_all (λ w. is_untouched o w) xs) (sym h) ∙ none in
+          let y = more rest in
+          (y.0, y.1, (let z = y.2 in omega (arith, z)), y.3, y.4)
+
+  -- THE VISIT of a monitor
+  object_there : (k : Known) (m : ℕ) → 0 < length heap.shape.objects → (v : Stands heap k) → v.world.words (name.Object m) < length heap.shape.objects
+  object_there k m some v = home heap k v (λ s y. 0 < length s.objects → v.world.words (name.Object m) < length s.objects) (λ h. within h) some
+    where
+      within : 0 < length v.world.shape.objects → v.world.words (name.Object m) < length v.world.shape.objects
+      within h = by_equal (v.world.words (name.Object m)) 0 (λ z. omega (arith, z, h)) (λ d. (forms_fit heap k v).objects m d)
+
+  names_it : (n : Option ℕ) (m : ℕ) → names_monitor n m ≡ true → n ≡ Some m
+  names_it None m h = absurd (cc h)
+  names_it (Some n) m h = ap Some (eqb-true n m h)
+
+  names_not : (n : Option ℕ) (m : ℕ) → names_monitor n m ≡ false → n ≢ Some m
+  names_not None m h q = absurd (cc q)
+  names_not (Some n) m h q = let yes = eq-eqb n m (same_Some n m q) in absurd (cc (h, yes))
+
+  -- where its object's mark names it and nobody owns it
+  free_does : (o m mark : ℕ) (k : Known) → m < monitor_count heap.shape → o < length heap.shape.objects → Idles k → Saw k (name.Object m) o → Saw k (name.Mark o) mark → monitor_in mark ≡ Some m
+      → Saw k (name.Owner m) (owner_of Free) → Does heap false (deflate_free heap.shape e st o m) k (λ b a l. Idles l × Holding k l × Settles l m)
+  free_does o m mark k there object x saw_object saw_mark named saw_owner =
+      going heap (each_from 0 heap.shape.threads look_of) _ k _ (follows heap false _ k _ _
+      (each_does heap look_of (IdlesSince k) WasSeen was_seen_more heap.shape.threads (look_does k) 0 heap.shape.threads k (omega arith) (record { idles = x; back = λ i h. h })) (λ b words l y.
+      let s = y.1 in
+      let looked : Looked k l = record { sights = s; back = y.0.back } in
+      chooses heap false (list_all (λ w. is_untouched o w) words) _ _ l _ (λ idle.
+      let untouched : (u : ℕ) → u < heap.shape.threads → SawUntouched l o u = λ u h. subst (λ z. SawUntouched l o z) (let z : 0 + u ≡ u = omega arith in z) (untouched_all k o 0 heap.shape.threads words l y.2 idle u h) in
+      look (name.Header m) _ l _ y.0.idles (λ v. there) (λ header l1 x1 s1 saw_header was1.
+      look name.End _ l1 _ x1 (λ v. tt) (λ end l2 x2 s2 saw_end was2.
+      follows heap false _ l2 _ _ (gives_back o m mark header end l l2 x2 (looked_all l l1 l2 s1 s2) object there (s.saw (name.Mark o) mark saw_mark) named (s.saw (name.Owner m) (owner_of Free) saw_owner) untouched
+      (s2.sights.saw (name.Header m) header saw_header) saw_end)
+      (λ b a z h. (h.0, holding_all k l z (looked_holds k l looked) h.1, h.2)))))
+      (λ busy.
+      let one = touched_one k o 0 heap.shape.threads words l y.2 busy in
+      let thread : one.0 < heap.shape.threads = let z = one.2 in omega (arith, z) in
+      answers heap false _ l _ (y.0.idles, looked_holds k l looked, inr (o, mark, s.saw (name.Object m) o saw_object, s.saw (name.Mark o) mark saw_mark, λ q. inr (one.0, one.1, thread, one.3, one.4))))))
+
+  -- where its object's mark names it
+  named_does : (o m mark : ℕ) (k : Known) → m < monitor_count heap.shape → o < length heap.shape.objects → Idles k → Saw k (name.Object m) o → Saw k (name.Mark o) mark → monitor_in mark ≡ Some m
+      → Does heap false (deflate_named heap.shape e st o m) k (λ b a l. Idles l × Holding k l × Settles l m)
+  named_does o m mark k there object x saw_object saw_mark named =
+      look (name.Owner m) _ k _ x (λ v. there) (λ owner l y looked saw_owner was.
+      let s = looked.sights in
+      chooses heap false (owner == owner_of Free) _ _ l _ (λ free.
+      follows heap false _ l _ _ (free_does o m mark l there object y (s.saw (name.Object m) o saw_object) (s.saw (name.Mark o) mark saw_mark) named (saw_owner ∙ ap Some (eqb-true owner (owner_of Free) free)))
+      (λ b a z h. (h.0, holding_all k l z (looked_holds k l looked) h.1, h.2)))
+      (λ busy.
+      let owned : owner ≢ owner_of Free = λ q. let yes = eq-eqb owner (owner_of Free) q in absurd (cc (busy, yes)) in
+      answers heap false _ l _ (y, looked_holds k l looked, inr (o, mark, s.saw (name.Object m) o saw_object, s.saw (name.Mark o) mark saw_mark, λ q. inl (owner, saw_owner, owned)))))
+
+  -- behind the look at its object word
+  abbrev behind_object : ℕ → ℕ → Todo (Unit {0})
+  behind_object m o = look_at e st (name.Mark o) >>= (λ mark. cond (names_monitor (monitor_in mark) m) (deflate_named heap.shape e st o m) (done tt))
+
+  behind_does : (m o : ℕ) (k : Known) → m < monitor_count heap.shape → o < length heap.shape.objects → Idles k → Saw k (name.Object m) o → Does heap false (behind_object m o) k (λ b a l. Idles l × Holding k l × Settles l m)
+  behind_does m o k there object x saw_object =
+      look (name.Mark o) _ k _ x (λ v. object) (λ mark l y looked saw_mark was.
+      let saw_it = looked.sights.saw (name.Object m) o saw_object in
+      chooses heap false (names_monitor (monitor_in mark) m) _ _ l _ (λ yes.
+      follows heap false _ l _ _ (named_does o m mark l there object y saw_it saw_mark (names_it (monitor_in mark) m yes)) (λ b a z h. (h.0, holding_all k l z (looked_holds k l looked) h.1, h.2)))
+      (λ no. answers heap false _ l _ (y, looked_holds k l looked, inr (o, mark, saw_it, saw_mark, λ q. absurd (names_not (monitor_in mark) m no q)))))
+
+  monitor_does : (m : ℕ) (k : Known) → m < monitor_count heap.shape → 0 < length heap.shape.objects → Idles k → Does heap false (deflate_monitor heap.shape e st m) k (λ b a l. Idles l × Holding k l × Settles l m)
+  monitor_does m k there some x =
+      look (name.Object m) (behind_object m) k _ x (λ v. there) (λ o l y looked saw_object was.
+      let object : o < length heap.shape.objects = subst (λ z. z < length heap.shape.objects) was.found (object_there k m some was.stands) in
+      follows heap false _ l _ _ (behind_does m o l there object y saw_object) (λ b a z h. (h.0, holding_all k l z (looked_holds k l looked) h.1, h.2)))
+
+  -- ALL MONITORS, n of them from the number i on
+  abbrev AreSettled : ℕ → ℕ → Known → Type 0
+  AreSettled i n l = (m : ℕ) → i ≤ m → m < i + n → Settles l m
+
+  settled_first : (i n m : ℕ) (l : Known) → Settles l i → AreSettled (i + 1) n l → i ≤ m → m < i + suc n → Settles l m
+  settled_first i n m l one others h g = by_equal m i (λ q. subst (Settles l) (sym q) one) (λ d. others m (omega (arith, h, d)) (omega (arith, g)))
+
+  all_do : (i n : ℕ) (k : Known) → i + n ≤ monitor_count heap.shape → 0 < length heap.shape.objects → Idles k → Does heap false (all_from i n (λ m. deflate_monitor heap.shape e st m)) k (λ b a l. Idles l × Holding k l × AreSettled i n l)
+  all_do i zero k few some x = answers heap false _ k _ (x, looked_holds k k (looked_itself k), λ m h g. absurd (omega (arith, h, g)))
+  all_do i (suc n) k few some x =
+      going heap (deflate_monitor heap.shape e st i) _ k _ (follows heap false _ k _ _ (monitor_does i k (omega (arith, few)) some x) (λ b a l y.
+      follows heap false _ l _ _ (all_do (i + 1) n l (omega (arith, few)) some y.0) (λ c d z x.
+      (x.0, holding_all k l z y.1 x.1, λ m h g. settled_first i n m z (x.1.settled i y.2) x.2 h g))))
+
+  some_objects : (length heap.shape.objects == 0) ≡ false → 0 < length heap.shape.objects
+  some_objects some = by_equal (length heap.shape.objects) 0 (λ z. let yes = eq-eqb (length heap.shape.objects) 0 z in absurd (cc (yes, some))) (λ d. omega (arith, d))
+
+  pub deflate_settles : (k : Known) → Idles k → Does heap false (deflate_steps heap.shape e st) k
+      (λ b a l. Idles l × Holding k l × (0 < length heap.shape.objects → (m : ℕ) → m < monitor_count heap.shape → Settles l m))
+  deflate_settles k x =
+      chooses heap false (length heap.shape.objects == 0) _ _ k _ (λ none. answers heap false _ k _ (x, looked_holds k k (looked_itself k), λ h. absurd (let z = eqb-true (length heap.shape.objects) 0 none in omega (arith, z, h))))
+      (λ some. follows heap false _ k _ _ (all_do 0 (monitor_count heap.shape) k (omega arith) (some_objects some) x) (λ b a l y. (y.0, y.1, λ h m g. y.2 m (omega arith) (omega (arith, g)))))
+
+  pub deflate_does : (k : Known) → Idles k → Does heap false (deflate_steps heap.shape e st) k (λ b a l. Idles l × Holding k l)
+  deflate_does k x = follows heap false _ k _ _ (deflate_settles k x) (λ b a l y. (y.0, y.1))
+
+  -- so in the world there, each monitor that a mark names is in use: its object word is that of this object, and it isn't one that was given back
+  pub deflate_leaves : (l : Known) → Idles l → (0 < length heap.shape.objects → (m : ℕ) → m < monitor_count heap.shape → Settles l m) → NamedAreInUse heap l
+  deflate_leaves l x settled v o m object named =
+      elim (settled (omega (arith, object)) m within) [
+        | inl a ↦
+            let out : IsOut v.world.shape l m = away heap l v (λ s y. IsOut s l m) a.1 in
+            let none = none_returns v.world v.objects l.thread fits (away heap l v (λ s y. y.reached ≡ true) x.reached) (away heap l v (λ s y. y.moving ≡ Still) x.still) in
+            absurd (unnamed v.world v.objects fits l m (is_as_seen heap l v x.reached) out none o named)
+        | inr a ↦
+            let is : o ≡ a.0 = sym (fits.monitors.own o m named) ∙ is_as_seen heap l v x.reached (name.Object m) a.0 a.2 in
+            let mark = ap marks_of is ∙ is_as_seen heap l v x.reached (name.Mark a.0) a.1 a.3 in
+            elim (a.4 (ap monitor_in (sym mark) ∙ named)) [
+              | inl y ↦ inl (λ q. y.2 (sym (is_as_seen heap l v x.reached (name.Owner m) y.0 y.1) ∙ q))
+              | inr y ↦ inr (y.0, there y.0 y.2, ap (λ z. is_untouched z (v.world.words (name.Waiting y.0))) is ∙ ap (λ z. is_untouched a.0 z) (is_as_seen heap l v x.reached (name.Waiting y.0) y.1 y.3) ∙ y.4)
+            ]
+      ]
+    where
+      marks_of : ℕ → ℕ
+      marks_of i = v.world.words (name.Mark i)
+
+      fits : Fits v.world v.objects
+      fits = (all_at l v x.reached x.stands).fits
+
+      within : m < monitor_count heap.shape
+      within = home heap l v (λ s y. m < monitor_count s) (fits.claims.names o m named).0
+
+      there : (u : ℕ) → u < heap.shape.threads → u < v.world.shape.threads
+      there u h = away heap l v (λ s y. u < s.threads) h
+
+  -- FROM THE MIDDLE of something else that the first step ends, which is the look at the object word of the first monitor
+  pub record Ends (k : Known) : Type 0 where
+    pub keeps : Keeps heap (load_plan e st (name.Object 0)) k
+    pub reached : k.reached ≡ true
+    pub idles : (n : ℕ) → Idles (known_hit heap.shape heap.start (load_plan e st (name.Object 0)) n k)
+
+  first_does : (k : Known) → 0 < monitor_count heap.shape → 0 < length heap.shape.objects → Ends k → Does heap false (deflate_monitor heap.shape e st 0) k (λ b a l. Idles l × Holding k l × Stands heap k)
+  first_does k there some x =
+      hitting heap false (load_plan e st (name.Object 0)) (behind_object 0) k _ (λ n. refl) (λ i. x.keeps) (λ o i was.
+      let l = known_hit heap.shape heap.start (load_plan e st (name.Object 0)) o k in
+      let looked : Looked k l = still_looked_at (name.Object 0) k o x.reached refl was in
+      let object : o < length heap.shape.objects = subst (λ z. z < length heap.shape.objects) was.found (object_there k 0 some was.stands) in
+      follows heap false _ l _ _ (behind_does 0 o l there object (x.idles o) (saw_at (name.Object 0) k o refl)) (λ b a z h. (h.0, holding_all k l z (looked_holds k l looked) h.1, was.stands)))
+
+  all_first : (n : ℕ) (k : Known) → n ≤ monitor_count heap.shape → 0 < n → 0 < length heap.shape.objects → Ends k → Does heap false (all_from 0 n (λ m. deflate_monitor heap.shape e st m)) k (λ b a l. Idles l × Holding k l × Stands heap k)
+  all_first zero k few many some x = absurd (omega (arith, many))
+  all_first (suc n) k few many some x =
+      going heap (deflate_monitor heap.shape e st 0) _ k _ (follows heap false _ k _ _ (first_does k (omega (arith, few)) some x) (λ b a l y.
+      follows heap false _ l _ _ (all_do (0 + 1) n l (omega (arith, few)) some y.0) (λ c d m z. (z.0, holding_all k l m y.1 z.1, y.2))))
+
+  pub deflate_ends : (k : Known) → 0 < length heap.shape.objects → Ends k → Does heap false (deflate_steps heap.shape e st) k (λ b a l. Idles l × Holding k l × Stands heap k)
+  deflate_ends k object x =
+      chooses heap false (length heap.shape.objects == 0) _ _ k _ (λ none. absurd (let z = eqb-true (length heap.shape.objects) 0 none in omega (arith, z, object)))
+      (λ some. all_first (monitor_count heap.shape) k (omega arith) (omega (arith, object)) object x)

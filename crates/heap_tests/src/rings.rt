@@ -1,0 +1,76 @@
+//! The ring of monitors as a heap begins.
+ghost use Rattle.std.specs.Prelude.{◌≡◌, [], ◌∷◌, IfOk};
+ghost use Rattle.heap_table.specs.Fresh.{IsStill};
+ghost use Rattle.heap_table.specs.Layout.{shape_of};
+
+use crate::compare::same;
+use heap_table::{Closed, Heap, HeapShape, Pass, close};
+use lawful_heap::new_heap;
+use plain_monitor::{List, NoMemory};
+use std::alloc::Global;
+use std::test::Fail;
+
+// A heap of two threads and three objects of a class with one slot, without biases, and the passes.
+fn begin(alloc: Global) -> Result<(Heap, Pass, Pass), NoMemory>
+    ensures { IfOk result (λ r. IsStill r.0 0 r.1 × IsStill r.0 1 r.2
+        × (r.0.heap.shape ≡ shape_of 2 (1 ∷ []) (0 ∷ 0 ∷ 0 ∷ []))) }
+{
+    let shape = HeapShape::of(alloc, 2, &[1], &[0, 0, 0])?;
+    let (heap, passes) = new_heap(alloc, shape, 10, 7, false)?;
+    let mut passes = passes.into_vec();
+    let Some(second) = passes.pop() else {
+        return Err(NoMemory);
+    };
+    let Some(first) = passes.pop() else {
+        return Err(NoMemory);
+    };
+    Ok((heap, first, second))
+}
+
+// The end of such a heap.
+fn end(alloc: Global, heap: Heap, first: Pass, second: Pass) -> Result<Closed, NoMemory>
+    requires passes { IsStill heap 0 first × IsStill heap 1 second }
+    requires shape { heap.heap.shape ≡ shape_of 2 (1 ∷ []) (0 ∷ 0 ∷ 0 ∷ []) }
+{
+    let Ok(mut passes) = Vec::with_capacity(alloc, 2) else {
+        return Err(NoMemory);
+    };
+    passes.push_reserved(first);
+    passes.push_reserved(second);
+    Ok(close(heap, List::of(passes)))
+}
+
+fn word(closed: &Closed, at: usize) -> Option<u64> {
+    match closed.words().items().get(at) {
+        Some(word) => Some(*word),
+        None => None,
+    }
+}
+
+// The monitor at this place of the ring. `None` where the ring hasn't so many places.
+fn monitor(closed: &Closed, place: u32) -> Option<u64> {
+    if place < closed.shape().ring_places() {
+        word(closed, closed.shape().ring_at(place))
+    } else {
+        None
+    }
+}
+
+#[test]
+fn each_monitor_stands_in_the_ring_at_first(rt: HostRuntime) -> Result<(), Fail> {
+    let (heap, first, second) = begin(rt.alloc())?;
+    let closed = end(rt.alloc(), heap, first, second)?;
+    let shape = closed.shape();
+    // Three objects and two threads have 3 + 2 = 5 monitors, with the numbers 0 to 4, each at the place of its number. The
+    // least power of two that is at least 5 is 8.
+    same(&rt, word(&closed, shape.claim_at()), Some(0));
+    same(&rt, word(&closed, shape.end_at()), Some(5));
+    same(&rt, shape.ring_places(), 8);
+    for (place, number) in [(0, 0), (1, 1), (2, 2), (3, 3), (4, 4)] {
+        same(&rt, monitor(&closed, place), Some(number));
+    }
+    same(&rt, monitor(&closed, 8), None);
+    // 16 words of the heap, 16 of a class, 3 * 32 of objects, 2 * 144 of threads, 5 * 16 of monitors, and the 8 places.
+    same(&rt, closed.words().items().len(), 504);
+    Ok(())
+}
