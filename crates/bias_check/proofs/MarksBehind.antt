@@ -15,7 +15,7 @@ use Rattle.plain_monitor.specs.declared.entry.Entry.TheVariants.{Hash}
 use Rattle.plain_monitor.specs.declared.entry.Logged.{Logged}
 use Rattle.object_program.specs.Program.{ProgramText, objects_total}
 use Rattle.bias_check.specs.Lines.{IsEntryIn}
-use Rattle.bias_check.specs.Hashes.{first_word, hash_in, hashes_of, is_draw, is_draw_of, draws_by, is_right, are_right, hash_fits}
+use Rattle.lock_journal.specs.Hashes.{first_word, hash_in, hashes_of, is_draw, is_draw_of, draws_by, is_right, are_right, hash_fits}
 use Rattle.bias_check.specs.inner.HashState.{HashState}
 use Rattle.bias_check.specs.declared.hashes.Mark.{Mark}
 use Rattle.bias_check.specs.declared.hashes.Mark.TheVariants.{Unseen}

@@ -4,8 +4,7 @@ use Rattle.std.specs.List.{list_all}
 use Rattle.std.proofs.lemmas.Bool.{and_parts}
 use Rattle.std.proofs.lemmas.Bool.Decides.{nat_tests}
 use Rattle.std.proofs.lemmas.List.Folds.{list_all-append}
-use Rattle.program_syntax.specs.Text.{is_empty}
-use Rattle.bias_check.specs.Hashes.{all_same}
+use Rattle.lock_journal.specs.Hashes.{all_same, has_none}
 use Rattle.bias_check.specs.declared.hashes.Mark.{Mark}
 use Rattle.bias_check.specs.declared.hashes.Mark.TheVariants.{Unseen, Undrawn, Drawn, Bad}
 use Rattle.bias_check.specs.inner.Marks.{first_mark, second_mark, marked, is_bad}
@@ -13,9 +12,9 @@ use Rattle.bias_check.specs.inner.Marks.{first_mark, second_mark, marked, is_bad
 -- the values of an object's hash entries, how many have a draw, and whether each draw is right, by the object's mark
 abbrev pub IsMark : List ℕ → ℕ → Bool → Mark → Type 0
 IsMark values draws right Unseen = (values ≡ []) × (draws ≡ 0) × (right ≡ true)
-IsMark values draws right (Undrawn v) = (is_empty values ≡ false) × (list_all (λ w. v == w) values ≡ true) × (draws ≡ 0) × (right ≡ true)
-IsMark values draws right (Drawn v) = (is_empty values ≡ false) × (list_all (λ w. v == w) values ≡ true) × (draws ≡ 1) × (right ≡ true)
-IsMark values draws right Bad = (is_empty values ≡ false) × ((all_same values ≡ false) ⊎ ((2 ≤ draws) ⊎ (right ≡ false)))
+IsMark values draws right (Undrawn v) = (has_none values ≡ false) × (list_all (λ w. v == w) values ≡ true) × (draws ≡ 0) × (right ≡ true)
+IsMark values draws right (Drawn v) = (has_none values ≡ false) × (list_all (λ w. v == w) values ≡ true) × (draws ≡ 1) × (right ≡ true)
+IsMark values draws right Bad = (has_none values ≡ false) × ((all_same values ≡ false) ⊎ ((2 ≤ draws) ⊎ (right ≡ false)))
 
 abbrev pub draw_count : Option Bool → ℕ
 draw_count None = 0
@@ -26,7 +25,7 @@ draw_right None = true
 draw_right (Some b) = b
 
 -- one more value
-some_push : (values : List ℕ) (v : ℕ) → is_empty (values ++ v ∷ []) ≡ false
+some_push : (values : List ℕ) (v : ℕ) → has_none (values ++ v ∷ []) ≡ false
 some_push [] v = refl
 some_push (w ∷ ws) v = refl
 
@@ -41,7 +40,7 @@ other_push : (p : ℕ → Bool) (values : List ℕ) (v : ℕ) → p v ≡ false 
 other_push p values v k = list_all-append p values (v ∷ []) ∙ rw k (and_no (list_all p values))
 
 -- another value than the others
-differ_push : (values : List ℕ) (v w : ℕ) → is_empty values ≡ false → list_all (λ u. v == u) values ≡ true → (v == w) ≡ false → all_same (values ++ w ∷ []) ≡ false
+differ_push : (values : List ℕ) (v w : ℕ) → has_none values ≡ false → list_all (λ u. v == u) values ≡ true → (v == w) ≡ false → all_same (values ++ w ∷ []) ≡ false
 differ_push [] v w h k e = absurd (cc h)
 differ_push (u ∷ us) v w h k e =
     let parts = and_parts (v == u) (list_all (λ u. v == u) us) k in
@@ -103,7 +102,7 @@ one_value (u ∷ us) v h =
     rw same at parts.1
 
 abbrev pub fitting : List ℕ → ℕ → Bool → Bool
-fitting values draws right = is_empty values || (all_same values && (draws == 1) && right)
+fitting values draws right = has_none values || (all_same values && (draws == 1) && right)
 
 unfit : (a b c : Bool) → (a ≡ false) ⊎ ((b ≡ false) ⊎ (c ≡ false)) → (a && b && c) ≡ false
 unfit false b c h = refl

@@ -18,7 +18,7 @@ use Rattle.bias_check.specs.declared.hashes.Mark.TheVariants.{Unseen}
 use Rattle.bias_check.specs.inner.HashState.{HashState}
 use Rattle.bias_check.specs.Lines.{Tells, IsReadable}
 use Rattle.bias_check.specs.Steps.{IsStep, IsRun, last_of}
-use Rattle.bias_check.specs.Hashes.{hash_fits}
+use Rattle.lock_journal.specs.Hashes.{hash_fits}
 use Rattle.bias_check.specs.inner.Marks.{new_hashes, is_bad}
 use Rattle.bias_check.specs.inner.Table.{names_of}
 use Rattle.bias_check.specs.Answer.{IsFirstUnreadable, IsFirstWithoutStep, IsLeastBadHash, IsLegalRun, IsTrueOf}

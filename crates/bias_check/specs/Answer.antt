@@ -12,7 +12,7 @@ use Rattle.bias_check.specs.declared.answer.CheckFault.{CheckFault}
 use Rattle.bias_check.specs.declared.answer.CheckFault.TheVariants.{Unreadable, NoMemory}
 use Rattle.bias_check.specs.Lines.{Tells, IsReadable}
 use Rattle.bias_check.specs.Steps.{IsStep, IsRun, last_of}
-use Rattle.bias_check.specs.Hashes.{hash_fits}
+use Rattle.lock_journal.specs.Hashes.{hash_fits}
 
 -- how the threads stand
 abbrev pub state_of : PlainMachine → Reached

@@ -1,6 +1,5 @@
 pub mod Lines
 pub mod Steps
-pub mod Hashes
 pub mod Answer
 pub mod Logs
 pub mod Printed

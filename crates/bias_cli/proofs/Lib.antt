@@ -7,3 +7,5 @@ pub mod Under
 pub mod Replayed
 pub mod Statuses
 pub mod LoneRuns
+pub mod PlainRuns
+pub mod JournalsLegal

@@ -6,4 +6,5 @@ pub mod Report
 pub mod Verdict
 pub mod Asked
 pub mod Finish
+pub mod MayBeWritten
 pub mod inner

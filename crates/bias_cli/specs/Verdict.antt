@@ -1,8 +1,10 @@
 -- What is written of a journal that was checked, and the status.
-use Rattle.std.specs.Prelude.{◌≢◌, ℕ, List, [], ◌++◌, codes, decimal, Result, Ok, Err}
+use Rattle.std.specs.Prelude.{◌≢◌, ℕ, if◌then◌else◌, List, [], ◌++◌, codes, decimal, length, Result, Ok, Err}
+use Rattle.plain_monitor.specs.Order.{order}
 use Rattle.object_program.specs.Program.{ProgramText}
 use Rattle.lock_journal.specs.Words.{object_text}
 use Rattle.lock_journal.specs.RunText.{newline}
+use Rattle.lock_journal.specs.declared.record.RunRecord.{RunRecord}
 use Rattle.bias_check.specs.declared.answer.Checked.{Checked}
 use Rattle.bias_check.specs.declared.answer.Checked.TheVariants.{Legal, NoStep, BadHash}
 use Rattle.bias_check.specs.declared.answer.Reached.{Reached}
@@ -36,3 +38,8 @@ pub record IsVerdict (p : ProgramText) (fuel start : ℕ) (lines : List (List �
     (answer : Result Checked CheckFault) : Type 0 where
   pub holds : IsTrueOf p fuel start lines answer
   pub given : answer ≢ Err NoMemory
+
+-- what a check answers to the journal of this run: it is legal, with all entries that were logged, and its threads have ended, or are stuck where
+-- the run was halted
+abbrev pub answer_to : RunRecord → Result Checked CheckFault
+answer_to r = Ok (Legal (length (order r.logs)) (if r.halted then Stuck else Ended))

@@ -1,18 +1,26 @@
 //! What follows from the contract of the top call.
 
-ghost use Rattle.std.specs.Prelude.{◌≡◌, ◌≢◌, ◌⊎◌, false, length, Option, Some};
+ghost use Rattle.std.specs.Prelude.{◌≡◌, ◌≢◌, ◌⊎◌, ℕ, ◌≤◌, Bool, true, false, List, ◌++◌, length, Option, Some, Result};
 ghost use Rattle.heap_table.specs.Seen.{ClosedSeen};
 ghost use Rattle.object_program.specs.Program.{ProgramText};
+ghost use Rattle.object_program.specs.Valid.{IsProgram};
 ghost use Rattle.plain_machine.specs.Legal.{IsLegal};
 ghost use Rattle.plain_machine.specs.Machine.{PlainMachine};
-ghost use Rattle.lock_journal.specs.RunText.{text_of_run};
+ghost use Rattle.lock_journal.specs.RunText.{lines_of_run, text_of_lines, text_of_run};
 ghost use Rattle.lock_journal.specs.declared.record.RunRecord.{RunRecord};
 ghost use Rattle.lone_logs.specs.LoneRun.{AreSameButForPaths};
+ghost use Rattle.bias_check.specs.declared.answer.Checked.{Checked};
+ghost use Rattle.bias_check.specs.declared.answer.CheckFault.{CheckFault};
+ghost use Rattle.bias_check.specs.Answer.{IsTrueOf};
+ghost use Rattle.bias_check.specs.Lines.{lines_of};
+ghost use Rattle.bias_check.specs.Printed.{journal_of};
+ghost use Rattle.run_words.specs.Command.{accepted};
 ghost use Rattle.run_words.specs.declared.options.Command.{Command};
 ghost use Rattle.run_words.specs.declared.options.Options.{Options};
 ghost use Rattle.bias_cli.specs.declared.finish.Finish.{Finish};
 ghost use Rattle.bias_cli.specs.Seen.{SourceSeen, SinkSeen};
 ghost use Rattle.bias_cli.specs.Finish.{IsGivenUp, IsFinish, IsRunOf, status_of};
+ghost use Rattle.bias_cli.specs.Verdict.{IsVerdict, answer_to};
 
 /// Status 7 says that memory was wanting, and no other call has it: what is due has a status from 0 to 5, and a failed write has 6.
 /// So by the two clauses of `biasrun` each call either was given up or did what was due.
@@ -60,4 +68,28 @@ pub fn one_thread_decides_what_is_written()
     ensures status { (o q : Options) (p : ProgramText) (r s : RunRecord) (c d : ClosedSeen) (m n : PlainMachine)
         → length p.threads ≡ 1 → o.fuel ≡ q.fuel → o.start ≡ q.start
         → IsRunOf o p r c m → IsRunOf q p s d n → status_of m ≡ status_of n }
+{}
+
+/// The journal of each run is legal for a check. Its lines are those that `--journal` writes behind the others, and the text of them falls into
+/// just these lines. Of them the answer holds that they are legal, that they are as many as the run logged, and that all threads
+/// have ended, or are stuck where the run was halted. No other answer holds; so by its own contract, and unless memory runs out, `check_journal`
+/// answers just this to the lines, under the fuel and the start of the generators of hashes that the run had. A record that any call
+/// leaves is that of such a run.
+pub fn the_journal_of_each_run_is_legal_for_check()
+    ensures written { (o : Options) (p : ProgramText) (r : RunRecord) (c : ClosedSeen) (m : PlainMachine) (stats : Bool)
+        → IsRunOf o p r c m → lines_of_run stats true r m ≡ lines_of_run stats false r m ++ journal_of p r.logs }
+    ensures lines { (o : Options) (p : ProgramText) (r : RunRecord) (c : ClosedSeen) (m : PlainMachine)
+        → IsProgram p → o.fuel ≤ 200000 → IsRunOf o p r c m
+        → lines_of (text_of_lines (journal_of p r.logs)) ≡ journal_of p r.logs }
+    ensures legal { (o : Options) (p : ProgramText) (r : RunRecord) (c : ClosedSeen) (m : PlainMachine)
+        → IsProgram p → o.fuel ≤ 200000 → IsRunOf o p r c m
+        → IsTrueOf p o.fuel o.start (journal_of p r.logs) (answer_to r) }
+    ensures only { (o : Options) (p : ProgramText) (r : RunRecord) (c : ClosedSeen) (m : PlainMachine)
+        (answer : Result Checked CheckFault)
+        → IsProgram p → o.fuel ≤ 200000 → IsRunOf o p r c m
+        → IsVerdict p o.fuel o.start (journal_of p r.logs) answer → answer ≡ answer_to r }
+    ensures call { (words : List (List ℕ)) (source_before source_after : SourceSeen)
+        (sink_before sink_after : SinkSeen) (finish : Finish) (r : RunRecord)
+        → IsFinish (accepted words) source_before source_after sink_before sink_after finish
+        → finish.run ≡ Some r → IsVerdict r.program r.fuel r.start (journal_of r.program r.logs) (answer_to r) }
 {}

@@ -19,6 +19,7 @@ mod output;
 mod refusal;
 mod report;
 mod run;
+mod settings_laws;
 mod text;
 mod verdict;
 
@@ -26,10 +27,12 @@ pub use finish::Finish;
 pub use heap_table::{ClassCounts, Closed};
 pub use laws::{
     one_thread_decides_what_is_written, records_can_be_replayed, status_7_is_want_of_memory,
+    the_journal_of_each_run_is_legal_for_check,
 };
 pub use lock_journal::{Cell, ClassLine, Line, Lines, Merge, RunRecord, Shot, replay};
 use run_io::{Clock, Gate, Sink, Source};
 pub use run_words::{Command, Options, WordsFault, read_words};
+pub use settings_laws::settings_change_nothing_that_may_be_written;
 use std::alloc::Global;
 use std::sync::Wait;
 use std::thread::Threads;

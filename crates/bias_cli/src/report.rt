@@ -1,6 +1,6 @@
 //! What is reported of a run: the cycles of a machine that is stuck, and how each object was locked and passed on.
 
-ghost use Rattle.std.specs.Prelude.{◌≡◌, ◌≤◌, ◌++◌, ◌∷◌, [], length, map, IfOk, OnOk};
+ghost use Rattle.std.specs.Prelude.{◌≡◌, ◌++◌, ◌∷◌, [], length, map, IfOk, OnOk};
 ghost use Rattle.plain_machine.specs.Legal.{IsLegal};
 ghost use Rattle.lock_journal.specs.Words.{object_text};
 ghost use Rattle.bias_cli.specs.Report.{link_text, cycle_line, cycle_lines, number_text, count_line, IsReport, IsReportWhere};
@@ -20,7 +20,6 @@ pub(crate) fn report_where(
     machine: &Machine,
 ) -> Result<Vec<List<u8>>, NoMemory>
     requires legal { IsLegal run.now.program run.now.fuel run.now.logs }
-    requires few { length run.now.logs ≤ 16 }
     requires threads { length machine.now.threads ≡ length run.now.program.threads }
     ensures { IfOk result (λ lines. IsReportWhere asked run.now machine.now lines.items) }
 {
@@ -38,7 +37,6 @@ fn report_lines(
     machine: &Machine,
 ) -> Result<Vec<List<u8>>, NoMemory>
     requires legal { IsLegal run.now.program run.now.fuel run.now.logs }
-    requires few { length run.now.logs ≤ 16 }
     requires threads { length machine.now.threads ≡ length run.now.program.threads }
     ensures { IfOk result (λ lines. IsReport run.now machine.now lines.items) }
 {

@@ -92,7 +92,8 @@ pub fn the_answer_tells_the_new_bias()
 {}
 
 /// The release after all stores leads to a world in which every clause holds, with the same plain objects: the thread stands in the
-/// middle of nothing, or, where it gave itself a new bias, in that of taking the object.
+/// middle of nothing, or, where it gave itself a new bias, in that of taking the object. No tree makes this step: between a revocation and its
+/// release idle monitors are given back, and the first load of that ends the revocation. The law says that the revocation is whole without them.
 pub fn the_release_ends_the_revocation()
     // `MayEndRevoking`: where the thread stands, and its steps since its safepoint was reached, which are all that the tree of a revocation has;
     // so is whether it gave itself a new bias (`the_answer_tells_the_new_bias`)
@@ -101,8 +102,9 @@ pub fn the_release_ends_the_revocation()
         → IsValid w objects → Fits (world_after (release_plan e (stage_after took b.object) t) t w) objects }
 {}
 
-/// So does a load at the safepoint after all stores, and its safepoint is still reached: the thread stands in the middle of nothing then, or, where it
-/// gave itself a new bias, in that of taking the object. Every clause holds wherever of the two it stands; the law of biases only where it took one.
+/// So does a load at the safepoint after all stores, and its safepoint is still reached: the thread stands in the middle of nothing then, or,
+/// where it gave itself a new bias, in that of taking the object. Every clause holds wherever of the two it stands. The law of biases asks for
+/// more: that it stands before taking the object where it took a bias, and in the middle of nothing where it took none.
 pub fn a_load_ends_the_revocation()
     // `MayLookAfterRevoking`: besides, that it loaded or stored at its safepoint each mark and each word of a class that it saw before in the
     // calls of the request: a revocation loads the object's mark and the words of its class, and an operation sees no others before

@@ -9,7 +9,7 @@ use Rattle.core_world.specs.declared.plan.StepPlan.{StepPlan}
 use Rattle.core_world.specs.declared.stage.Stage.{Stage}
 use Rattle.core_world.specs.Words.Forms.{monitor_in}
 use Rattle.core_world.specs.Words.Shape.{Shape, monitor_count}
-use Rattle.core_world.specs.Trees.DeflateSteps.{unname_plan, clean_plan, enring_plan, advance_plan, look_at, give_back_steps, is_untouched, deflate_free, deflate_named, names_monitor, deflate_monitor, deflate_steps}
+use Rattle.core_world.specs.Trees.DeflateSteps.{detach_plan, clean_plan, enqueue_plan, advance_plan, look_at, give_back_steps, is_untouched, deflate_free, deflate_named, names_monitor, deflate_monitor, deflate_steps}
 use Rattle.core_world.specs.Trees.Plans.{Purpose, load_plan}
 use Rattle.core_calls.specs.Bounds.{a_deflation}
 use Rattle.core_calls.proofs.Paths.{IsQuiet}
@@ -17,17 +17,17 @@ use Rattle.core_calls.proofs.Spends.{Spend, spend_done, spend_more, spend_step, 
 
 -- each plan of a deflation is of this kind
 module _ {Q : StepPlan → Type 0} (s : Shape) (e : Purpose) (stage : Stage) (looks : (at : Name) → Q (load_plan e stage at))
-    (unnames : (o m header : ℕ) → Q (unname_plan e stage o m header)) (cleans : (at : Name) → Q (clean_plan e stage at))
-    (enrings : (end m : ℕ) → Q (enring_plan e stage s end m)) (advances : (end : ℕ) → Q (advance_plan e stage end)) where
+    (detaches : (o m header : ℕ) → Q (detach_plan e stage o m header)) (cleans : (at : Name) → Q (clean_plan e stage at))
+    (enqueues : (end m : ℕ) → Q (enqueue_plan e stage s end m)) (advances : (end : ℕ) → Q (advance_plan e stage end)) where
   look_spends : (at : Name) → Spend Q (λ _. 0) 1 (look_at e stage at)
   look_spends at = spend_step {n = 0} (looks at) (λ word. spend_done {a = word} (omega arith))
 
   give_back_spends : (o m : ℕ) → Spend Q (λ _. 0) 9 (give_back_steps s e stage o m)
   give_back_spends o m =
       spend_step {n = 8} (looks _) (λ header. spend_step {n = 7} (looks _) (λ end.
-      spend_step {n = 6} (unnames o m header) (λ _. spend_step {n = 5} (cleans _) (λ _. spend_step {n = 4} (cleans _) (λ _.
+      spend_step {n = 6} (detaches o m header) (λ _. spend_step {n = 5} (cleans _) (λ _. spend_step {n = 4} (cleans _) (λ _.
       spend_step {n = 3} (cleans _) (λ _. spend_step {n = 2} (cleans _) (λ _.
-      spend_step {n = 1} (enrings end m) (λ _. spend_step {n = 0} (advances end) (λ _. spend_done (omega arith))))))))))
+      spend_step {n = 1} (enqueues end m) (λ _. spend_step {n = 0} (advances end) (λ _. spend_done (omega arith))))))))))
 
   free_spends : (o m : ℕ) → Spend Q (λ _. 0) (s.threads + 9) (deflate_free s e stage o m)
   free_spends o m =

@@ -205,8 +205,8 @@ module _ (s : Shape) (start : ℕ) where
   own_grows k own.Same n before g = kept_as_before (0 + n) n before k.shots k.shots (omega arith) refl g
   own_grows k own.Position n before g = kept_as_before (0 + n) n before k.shots k.shots (omega arith) refl g
   own_grows k own.Claim n before g = kept_as_before (0 + n) n before k.shots k.shots (omega arith) refl g
-  own_grows k (own.Unname monitor) n before g = kept_as_before (0 + n) n before k.shots k.shots (omega arith) refl g
-  own_grows k own.Enring n before g = kept_as_before (0 + n) n before k.shots k.shots (omega arith) refl g
+  own_grows k (own.Detach monitor) n before g = kept_as_before (0 + n) n before k.shots k.shots (omega arith) refl g
+  own_grows k own.Enqueue n before g = kept_as_before (0 + n) n before k.shots k.shots (omega arith) refl g
   own_grows k own.Spend n before g = kept_as_before (0 + n) n before k.shots k.shots (omega arith) refl g
   own_grows k own.Save n before g = kept_as_before (0 + n) n before k.shots k.shots (omega arith) refl g
   own_grows k (own.CountVerdict class verdict reset) n before g = kept_as_before (0 + n) n before k.shots k.shots (omega arith) refl g

@@ -1,5 +1,5 @@
 -- The bias law of worlds after steps that log nothing: one that leaves the biases, and the store of a hold word.
-use Rattle.std.proofs.Common.{◌≡◌, ◌⊎◌, ℕ, cond, Bool, true, false, List, Some, None, refl, sym, ap, ◌∙◌, subst, inl, inr}
+use Rattle.std.proofs.Common.{◌≡◌, ◌⊎◌, ℕ, cond, Bool, true, false, List, Some, None, refl, sym, ap, ◌∙◌, subst, arith, inl, inr}
 use Rattle.plain_monitor.specs.declared.entry.Entry.TheVariants as entry
 use Rattle.plain_monitor.specs.declared.entry.Logged.{Logged}
 use Rattle.plain_monitor.specs.declared.entry.Path.{Path}
@@ -26,6 +26,7 @@ use Rattle.plain_history.specs.EnterPaths.{PathFits, entries_on, is_by_bias}
 use Rattle.plain_history.specs.HeldByLog.{held_by, nothing_held}
 use Rattle.core_law.specs.CountsAndVerdicts.{sum_below}
 use Rattle.core_counts.specs.Moves.{BiasesKept, OthersStay, LogsNothing}
+use Rattle.core_counts.specs.inner.FreeBiases.{TakesFreeBiases}
 use Rattle.core_world.proofs.KnowledgeParts.{with_known_here, with_known_else, part_moves, logs_stay}
 use Rattle.core_counts.proofs.Whole.{quiet_law}
 
@@ -36,6 +37,9 @@ module _ (w : World) (at : Name) (v t : ℕ) (l : Known) (law : BiasLawHolds w) 
 
   abbrev revoked : ℕ → ℕ
   revoked c = sum_below w.shape.threads (λ u. (counts_of (w.known u).counts c).revoke)
+
+  abbrev rebiased : ℕ → ℕ
+  rebiased c = sum_below w.shape.threads (λ u. (counts_of (w.known u).counts c).rebias)
 
   rest_stays : OthersStay t (λ u. (w.known u).log) (λ u. (w.known u).stage) (λ u. (w.known u).unfinished) (λ u. (w.known u).log) (λ u. (x.known u).stage) (λ u. (x.known u).unfinished)
   rest_stays = record {
@@ -53,8 +57,9 @@ module _ (w : World) (at : Name) (v t : ℕ) (l : Known) (law : BiasLawHolds w) 
   -- any step that logs nothing
   pub quiet_world : LogsNothing w.biasing t (class_of w.shape) (marks w) (lock w) (λ i. entries_on i (order (logs w))) (λ u. (w.known u).stage) (λ u. (w.known u).unfinished) revoked
       (marks x) (lock x) (λ u. (x.known u).stage) (λ u. (x.known u).unfinished) revoked
+      → TakesFreeBiases t (class_of w.shape) (marks w) (lock w) (λ u. (w.known u).stage) rebiased revoked (marks x) (lock x) (λ u. (x.known u).stage) rebiased revoked
       → ((i : ℕ) (path : Path) → path_into l.stage i ≡ Some path → PathFits (held_by nothing_held (w.known t).log) (entry.Enter i path)) → BiasLawHolds x
-  quiet_world a fits =
+  quiet_world a free fits =
       subst (λ (f : ℕ → ℕ). BiasLaw w.biasing w.shape.threads w.shape.classes (class_of w.shape) (marks x) (lock x) (λ i. entries_on i (order (logs x)))
       (λ u. (x.known u).log) (λ u. (x.known u).stage) (λ u. (x.known u).unfinished) f (λ u. counts_of (x.known u).counts))
       (λ i. λ c. sym (same_count c) i)
@@ -69,7 +74,16 @@ module _ (w : World) (at : Name) (v t : ℕ) (l : Known) (law : BiasLawHolds w) 
       (sym (logs_stay 0 w.shape.threads t l w.known same_log))
       (quiet_law w.biasing w.shape.threads w.shape.classes (class_of w.shape) (marks w) (lock w) (λ i. entries_on i (order (logs w))) (λ u. (w.known u).log) (λ u. (w.known u).stage)
       (λ u. (w.known u).unfinished) (λ c. w.words (Revocations c)) (λ u. counts_of (w.known u).counts) (marks x) (lock x) (λ u. (x.known u).stage) (λ u. (x.known u).unfinished) t law
-      rest_stays a (λ i path h. fits i path (ap (λ s. path_into s i) (sym stage_is) ∙ h)) mine_goes))))
+      rest_stays a free (λ i path h. fits i path (ap (λ s. path_into s i) (sym stage_is) ∙ h)) mine_goes))))
+
+  -- a step that leaves the biases frees none
+  takes_none : BiasesKept (marks w) (lock w) (marks x) (lock x) → ((i : ℕ) → path_into (x.known t).stage i ≡ Some BiasTaken → path_into (w.known t).stage i ≡ Some BiasTaken)
+      → TakesFreeBiases t (class_of w.shape) (marks w) (lock w) (λ u. (w.known u).stage) rebiased revoked (marks x) (lock x) (λ u. (x.known u).stage) rebiased revoked
+  takes_none kept back = record {
+    more = λ c. omega arith;
+    comes = λ i h. inl (back i h);
+    free = λ i f. inl (f.0, sym (kept.pattern i) ∙ f.1, λ u h. f.2 u (kept.leans i u h));
+  }
 
   -- one that leaves the biases, and is about to log the enter that it was about to log
   pub same_world : BiasesKept (marks w) (lock w) (marks x) (lock x) → ((i : ℕ) → path_into l.stage i ≡ path_into (w.known t).stage i) → BiasLawHolds x
@@ -79,6 +93,7 @@ module _ (w : World) (at : Name) (v t : ℕ) (l : Known) (law : BiasLawHolds w) 
       quiet_world
       (record {
         pattern = λ i h. sym (kept.pattern i) ∙ h;
+        owners = λ i u h. inl (sym (kept.owners i) ∙ h);
         leans = λ i u path d h g. kept.leans i u g;
         biased = λ i path h g. kept.leans i t (law.marks.biased t i path (back i path h) g);
         unbiased = λ i path h g. kept.pattern i ∙ law.marks.unbiased t i path (back i path h) g;
@@ -87,17 +102,19 @@ module _ (w : World) (at : Name) (v t : ℕ) (l : Known) (law : BiasLawHolds w) 
         nobody = λ b i r f h. inl (kept.nobody i ∙ h);
         fewer = λ c h. h;
       })
+      (takes_none kept (λ i h. back i BiasTaken h))
       (λ i path h. law.paths.coming t i path (sym (into i) ∙ h))
 
   -- one that leaves the biases, and by which the thread is about to log this enter
   pub coming_world : (o : ℕ) (path : Path) → BiasesKept (marks w) (lock w) (marks x) (lock x) → ((i : ℕ) (other : Path) → path_into l.stage i ≡ Some other → (o ≡ i) × (path ≡ other)) → path_into l.stage o ≡ Some path
       → ((i : ℕ) → path_into (w.known t).stage i ≡ Some BiasTaken → (o ≡ i) × (path ≡ BiasTaken)) → (is_by_bias path ≡ true → lock w o ≡ BiasedTo t) → (is_by_bias path ≡ false → is_biased (marks w o) ≡ false)
-      → PathFits (held_by nothing_held (w.known t).log) (entry.Enter o path) → BiasLawHolds x
-  coming_world o path kept only into taken by_bias not_by fits =
+      → (path ≡ BiasTaken → ⊥) → PathFits (held_by nothing_held (w.known t).log) (entry.Enter o path) → BiasLawHolds x
+  coming_world o path kept only into taken by_bias not_by not_taken fits =
       let mine : (i : ℕ) (other : Path) → path_into (x.known t).stage i ≡ Some other → (o ≡ i) × (path ≡ other) = λ i other h. only i other (ap (λ s. path_into s i) (sym stage_is) ∙ h) in
       quiet_world
       (record {
         pattern = λ i h. sym (kept.pattern i) ∙ h;
+        owners = λ i u h. inl (sym (kept.owners i) ∙ h);
         leans = λ i u other d h g. kept.leans i u g;
         biased = λ i other h g. let k = mine i other h in kept.leans i t (ap (lock w) (sym k.0) ∙ by_bias (ap is_by_bias k.1 ∙ g));
         unbiased = λ i other h g. let k = mine i other h in kept.pattern i ∙ ap (λ j. is_biased (marks w j)) (sym k.0) ∙ not_by (ap is_by_bias k.1 ∙ g);
@@ -106,6 +123,7 @@ module _ (w : World) (at : Name) (v t : ℕ) (l : Known) (law : BiasLawHolds w) 
         nobody = λ b i r f h. inl (kept.nobody i ∙ h);
         fewer = λ c h. h;
       })
+      (takes_none kept (λ i h. absurd (not_taken (mine i BiasTaken h).1)))
       (λ i other h. let k = only i other h in
       subst (λ j. PathFits (held_by nothing_held (w.known t).log) (entry.Enter j other)) k.0
       (subst (λ q. PathFits (held_by nothing_held (w.known t).log) (entry.Enter o q)) k.1 fits))

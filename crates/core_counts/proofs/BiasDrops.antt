@@ -1,5 +1,5 @@
 -- The law of biases after an exchange of a mark that is validly biased to nobody for one without the bias pattern.
-use Rattle.std.proofs.Common.{◌≡◌, ◌≢◌, ◌⊎◌, ℕ, zero, suc, ◌+◌, ◌*◌, ◌%◌, ◌<◌, ◌==◌, ne_eqb, eqb-true, cond, Bool, true, false, List, Some, None, refl, sym, ap, ◌∙◌, subst, arith, inl, inr}
+use Rattle.std.proofs.Common.{◌≡◌, ◌≢◌, ◌⊎◌, ℕ, zero, suc, ◌+◌, ◌*◌, ◌%◌, ◌<◌, ◌==◌, eq-eqb, ne_eqb, eqb-true, cond, Bool, true, false, List, Some, None, refl, sym, ap, ◌∙◌, subst, arith, inl, inr}
 use Rattle.std.proofs.Math.Nat.{mod-lt}
 use Rattle.mark_word.specs.Mark.{read_mark}
 use Rattle.plain_monitor.specs.Objects.{PlainObject}
@@ -21,10 +21,12 @@ use Rattle.core_world.specs.World.{World, with_word_and_known}
 use Rattle.core_world.proofs.KnowledgeParts.{by_equal, with_known_here}
 use Rattle.core_law.specs.BiasLaw.{BiasLawHolds}
 use Rattle.core_law.specs.CountsAndVerdicts.{sum_below}
+use Rattle.core_law.specs.BiasOwners.{bias_owner}
 use Rattle.core_law.specs.MarksAndLogs.{is_anonymous}
 use Rattle.core_counts.specs.Steps.{MayDropBias}
 use Rattle.core_world.specs.Trees.BiasSteps.{unbias_plan}
 use Rattle.core_counts.proofs.Leaning.{still_leans, unleaning}
+use Rattle.core_counts.proofs.Owners.{unbiased_unowned}
 use Rattle.core_counts.proofs.Beside.{quiet_world, hit_keeps}
 
 -- Where nobody has entered the object, and its class wasn't revoked in bulk, a hash of it is open now.
@@ -34,6 +36,9 @@ module _ (w : World) (t o new : ℕ) (l : Known) (law : BiasLawHolds w) (same_lo
     (hash : w.biasing ≡ true → sum_below w.shape.threads (λ u. (counts_of (w.known u).counts (class_of w.shape o)).revoke) ≡ 0 → IsUnfinished l.unfinished op.Hash o) where
   abbrev x : World
   x = with_word_and_known (Mark o) new t l w
+
+  here : marks x o ≡ new
+  here = ap (λ (b : Bool). cond b new (marks w o)) (eq-eqb o o refl)
 
   away : (i : ℕ) → i ≢ o → marks x i ≡ marks w i
   away i d = ap (λ (b : Bool). cond b new (marks w i)) (ne_eqb i o d)
@@ -51,6 +56,9 @@ module _ (w : World) (t o new : ℕ) (l : Known) (law : BiasLawHolds w) (same_lo
   dropped_hit = quiet_world w (Mark o) new t l law same_log same_counts goes (λ c. refl)
       (record {
         pattern = λ i h. by_equal i o (λ s. ap (λ j. is_biased (marks w j)) s ∙ biased) (λ d. ap is_biased (sym (away i d)) ∙ h);
+        owners = λ i u h. by_equal i o
+            (λ s. absurd (let g = unbiased_unowned new neutral in let k = ap (λ j. bias_owner (marks x j)) s ∙ ap bias_owner here in cc (g, k, h)))
+            (λ d. inl (ap bias_owner (sym (away i d)) ∙ h));
         leans = λ i u path d h g. by_equal i o (λ s. absurd (unleaning w o u free (ap (lock w) (sym s) ∙ g))) (λ n. still_leans w x i (away i n) refl u g);
         biased = λ i path h g. absurd (let n = no_path i in cc (n, h));
         unbiased = λ i path h g. absurd (let n = no_path i in cc (n, h));
@@ -61,10 +69,17 @@ module _ (w : World) (t o new : ℕ) (l : Known) (law : BiasLawHolds w) (same_lo
             (λ d. inl (ap is_anonymous (away i d) ∙ h));
         fewer = λ c h. h;
       })
+      (record {
+        more = λ c. omega arith;
+        comes = λ i h. absurd (let n = no_path i in cc (n, h));
+        free = λ i f. by_equal i o
+            (λ s. absurd (let g = ap (λ j. is_biased (marks x j)) s ∙ ap is_biased here ∙ neutral in let k = f.1 in cc (g, k)))
+            (λ d. inl (f.0, ap is_biased (sym (away i d)) ∙ f.1, λ u h. f.2 u (still_leans w x i (away i d) refl u h)));
+      })
       (λ i path h. absurd (let s = ap (λ s. path_into s i) still in cc (s, h)))
 
 -- the sum of the bulk revokes, in either way of writing it
-revokes_sum : (n : ℕ) (counts : ℕ → List CountedVerdict) (c : ℕ) → bulk_revokes n counts c ≡ sum_below n (λ u. (counts_of (counts u) c).revoke)
+pub revokes_sum : (n : ℕ) (counts : ℕ → List CountedVerdict) (c : ℕ) → bulk_revokes n counts c ≡ sum_below n (λ u. (counts_of (counts u) c).revoke)
 revokes_sum zero counts c = refl
 revokes_sum (suc n) counts c = ap (λ m. m + (counts_of (counts n) c).revoke) (revokes_sum n counts c)
 

@@ -14,7 +14,8 @@ use Rattle.plain_history.specs.HeldByLog.{held_by, nothing_held}
 use Rattle.core_world.specs.declared.name.Name.TheVariants.{Mark, Prototype}
 use Rattle.core_world.specs.declared.stage.Stage.TheVariants.{Calm, Takes}
 use Rattle.core_world.specs.Threads.Counts.{counts_of}
-use Rattle.core_world.specs.Words.Forms.{is_biased, epoch_in}
+use Rattle.core_world.specs.Clauses.Classes.{bulk_revokes}
+use Rattle.core_world.specs.Words.Forms.{is_biased, epoch_form, epoch_in}
 use Rattle.core_world.specs.Threads.Known.{Known}
 use Rattle.core_world.specs.Locks.{BiasedTo, lock, has_epoch, is_valid_bias, marks, prototype_of}
 use Rattle.core_world.specs.Trees.Plans.{Purpose, with_stage, swap}
@@ -27,10 +28,14 @@ use Rattle.core_world.proofs.KnowledgeParts.{by_equal, with_known_here}
 use Rattle.core_locks.specs.Knowing.{GoesOn}
 use Rattle.core_law.specs.BiasLaw.{BiasLawHolds}
 use Rattle.core_law.specs.CountsAndVerdicts.{sum_below}
+use Rattle.core_law.specs.BiasOwners.{IsFree, bias_owner, owner_form}
 use Rattle.core_law.specs.MarksAndLogs.{is_anonymous}
 use Rattle.core_counts.specs.Moves.{LogsNothing}
+use Rattle.core_counts.specs.inner.FreeBiases.{TakesFreeBiases}
 use Rattle.core_counts.specs.Steps.{MayTakeBias}
 use Rattle.core_world.specs.Trees.BiasSteps.{rebias_plan}
+use Rattle.core_world.proofs.Readings.{mark_one}
+use Rattle.core_counts.proofs.BiasDrops.{revokes_sum}
 use Rattle.core_counts.proofs.Holds.{unheld_of}
 use Rattle.core_counts.proofs.Leaning.{leans, still_leans, unleaning}
 use Rattle.core_counts.proofs.Beside.{quiet_world, hit_keeps}
@@ -38,7 +43,8 @@ use Rattle.core_counts.proofs.Walks.{epoch_small}
 
 -- An exchange that hits, of a mark that is validly biased to nobody for the bias to the thread.
 module _ (w : World) (t o mark found epoch : ℕ) (e : Purpose) (within : t < w.shape.threads) (few : w.shape.threads ≤ 16) (small : epoch < 4) (law : BiasLawHolds w) (calm : (w.known t).stage ≡ Calm) (goes : GoesOn (w.known t) e)
-    (biased : is_biased (marks w o) ≡ true) (unleaning : (u : ℕ) → lock w o ≡ BiasedTo u → ⊥) (valid : epoch_in (prototype_of w o) ≡ Some epoch) (unheld : held_by nothing_held (w.known t).log o ≡ 0) where
+    (biased : is_biased (marks w o) ≡ true) (unleaning : (u : ℕ) → lock w o ≡ BiasedTo u → ⊥) (valid : epoch_in (prototype_of w o) ≡ Some epoch) (unheld : held_by nothing_held (w.known t).log o ≡ 0)
+    (unrevoked : sum_below w.shape.threads (λ u. (counts_of (w.known u).counts (class_of w.shape o)).revoke) ≡ 0) where
   abbrev bias : ℕ
   bias = mark_of (Biased t epoch 0)
 
@@ -89,6 +95,9 @@ module _ (w : World) (t o mark found epoch : ℕ) (e : Purpose) (within : t < w.
       (marks z) (lock z) (λ u. (z.known u).stage) (λ u. (z.known u).unfinished) (λ c. sum_below w.shape.threads (λ u. (counts_of (w.known u).counts c).revoke))
   quietly = record {
     pattern = λ i h. by_equal i o (λ s. ap (λ j. is_biased (marks w j)) s ∙ biased) (λ d. ap is_biased (sym (away i d)) ∙ h);
+    owners = λ i u h. by_equal i o
+        (λ s. inr (same_Some u t (sym h ∙ ap (λ j. bias_owner (marks z j)) s ∙ ap owner_form reads), ap (λ j. path_into (z.known t).stage j) s ∙ into_here))
+        (λ d. inl (ap bias_owner (sym (away i d)) ∙ h));
     leans = λ i u path d h g. by_equal i o (λ s. absurd (unleaning u (ap (lock w) (sym s) ∙ g))) (λ n. lock_away i u n g);
     biased = λ i path h b. ap (lock z) (sym (into_only i path h).0) ∙ lock_here;
     unbiased = λ i path h b. absurd (let s = ap is_by_bias (into_only i path h).1 in cc (s, b));
@@ -96,6 +105,15 @@ module _ (w : World) (t o mark found epoch : ℕ) (e : Purpose) (within : t < w.
     hash = λ i h. elim mine_goes [ inl g ↦ g ∙ h | inr g ↦ absurd (cc (g, h)) ];
     nobody = λ b i r f h. by_equal i o (λ s. inr (inl (ap (λ j. path_into (z.known t).stage j) s ∙ into_here))) (λ d. inl (ap is_anonymous (away i d) ∙ h));
     fewer = λ c h. h;
+  }
+
+  -- the bias was free
+  takes_free : TakesFreeBiases t (class_of w.shape) (marks w) (lock w) (λ u. (w.known u).stage) (λ c. sum_below w.shape.threads (λ u. (counts_of (w.known u).counts c).rebias)) (λ c. sum_below w.shape.threads (λ u. (counts_of (w.known u).counts c).revoke))
+      (marks z) (lock z) (λ u. (z.known u).stage) (λ c. sum_below w.shape.threads (λ u. (counts_of (w.known u).counts c).rebias)) (λ c. sum_below w.shape.threads (λ u. (counts_of (w.known u).counts c).revoke))
+  takes_free = record {
+    more = λ c. omega arith;
+    comes = λ i h. inr (inl (subst (IsFree (class_of w.shape) (marks w) (lock w) (λ c. sum_below w.shape.threads (λ u. (counts_of (w.known u).counts c).revoke))) (into_only i BiasTaken h).0 (unrevoked, biased, unleaning)));
+    free = λ i f. by_equal i o (λ s. absurd (f.2 t (ap (lock z) s ∙ lock_here))) (λ d. inl (f.0, ap is_biased (sym (away i d)) ∙ f.1, λ u h. f.2 u (lock_away i u d h)));
   }
 
   path_fits : (i : ℕ) (path : Path) → path_into (z.known t).stage i ≡ Some path → PathFits (held_by nothing_held (w.known t).log) (entry.Enter i path)
@@ -106,7 +124,24 @@ module _ (w : World) (t o mark found epoch : ℕ) (e : Purpose) (within : t < w.
       (subst (λ q. PathFits (held_by nothing_held (w.known t).log) (entry.Enter o q)) only.1 first)
 
   taken_hit : BiasLawHolds z
-  taken_hit = quiet_world w (Mark o) (mark_of (Biased t epoch 0)) t k law refl refl goes (λ c. refl) quietly (λ i path h. path_fits i path (ap (λ s. path_into s i) stage_is ∙ h))
+  taken_hit = quiet_world w (Mark o) (mark_of (Biased t epoch 0)) t k law refl refl goes (λ c. refl) quietly takes_free (λ i path h. path_fits i path (ap (λ s. path_into s i) stage_is ∙ h))
+
+-- a class with such a prototype wasn't revoked in bulk
+unrevoked_of : (w : World) (P : List PlainObject) (o epoch : ℕ) → Fits w P → is_biased (marks w o) ≡ true → epoch_in (prototype_of w o) ≡ Some epoch
+    → sum_below w.shape.threads (λ u. (counts_of (w.known u).counts (class_of w.shape o)).revoke) ≡ 0
+unrevoked_of w P o epoch v biased valid = by_biasing w.biasing refl
+  where
+    none_revoked : (r : ℕ) (b : Bool) → (r == 0) ≡ b → (m : ℕ) → epoch_in (cond b m 1) ≡ Some epoch → r ≡ 0
+    none_revoked r true e m h = eqb-true r 0 e
+    none_revoked r false e m h = absurd (let none = ap epoch_form mark_one in cc (none, h))
+
+    by_biasing : (b : Bool) → w.biasing ≡ b → sum_below w.shape.threads (λ u. (counts_of (w.known u).counts (class_of w.shape o)).revoke) ≡ 0
+    by_biasing true e =
+        let c = class_of w.shape o in
+        let is = v.classes.prototypes e c in
+        sym (revokes_sum w.shape.threads (λ u. (w.known u).counts) c)
+        ∙ none_revoked (bulk_revokes w.shape.threads (λ u. (w.known u).counts) c) _ refl _ (ap epoch_in (sym is) ∙ valid)
+    by_biasing false e = absurd (let none = v.classes.unbiased e o in cc (none, biased))
 
 pub bias_taken : (w : World) (P : List PlainObject) (t : ℕ) (e : Purpose) (o mark prototype epoch : ℕ) → t < w.shape.threads → MayTakeBias w.shape (w.known t) e o mark prototype epoch
     → Fits w P → BiasLawHolds w → BiasLawHolds (world_after (rebias_plan e t o mark epoch) t w)
@@ -120,4 +155,4 @@ bias_taken w P t e o mark prototype epoch within may v law =
     subst (λ n. BiasLawHolds (with_word_and_known (Mark o) n t (known_hit w.shape w.start (rebias_plan e t o mark epoch) (marks w o) (w.known t)) w))
     (ap (λ (b : Bool). cond b (mark_of (Biased t epoch 0)) (marks w o)) (sym h))
     (taken_hit w t o mark (marks w o) epoch e within v.limits.threads (epoch_small _ (prototype_of w o) epoch refl valid) law may.calm may.goes_on biased
-    (λ u. unleaning w o u free) valid (unheld_of w P t o within v biased (unleaning w o t free))))
+    (λ u. unleaning w o u free) valid (unheld_of w P t o within v biased (unleaning w o t free)) (unrevoked_of w P o epoch v biased valid)))

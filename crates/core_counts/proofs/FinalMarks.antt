@@ -1,6 +1,6 @@
 -- What the stores of a revocation as a whole leave of its object, which was validly biased to a thread: no bias pattern, or the bias of the
 -- requester, where nobody held the object.
-use Rattle.std.proofs.Common.{◌≡◌, ◌≢◌, ◌⊎◌, ℕ, zero, suc, ◌+◌, ◌*◌, ◌%◌, ◌<◌, ◌==◌, ◌&&◌, eq-eqb, eqb-true, cond, Bool, true, false, List, [], ◌∷◌, ◌++◌, Option, Some, None, refl, sym, ap, ◌∙◌, subst, arith, inl, inr}
+use Rattle.std.proofs.Common.{◌≡◌, ◌≢◌, ◌⊎◌, ℕ, zero, suc, ◌+◌, ◌%◌, ◌<◌, ◌==◌, ◌&&◌, eq-eqb, eqb-true, cond, Bool, true, false, List, [], ◌∷◌, ◌++◌, Option, Some, None, refl, sym, ap, ◌∙◌, subst, arith, inl, inr}
 use Rattle.std.proofs.Math.Nat.{mod-lt}
 use Rattle.std.specs.List.{AllByRecursion}
 use Rattle.mark_word.specs.declared.mark.MarkForm.{MarkForm}
@@ -12,33 +12,16 @@ use Rattle.lock_policy.specs.declared.policy.Verdict.{Verdict}
 use Rattle.lock_policy.specs.declared.policy.Verdict.TheVariants.{Single, BulkRebias, BulkRevoke}
 use Rattle.lock_policy.specs.Policy.{decided}
 use Rattle.core_world.specs.declared.name.Name.{Name}
-use Rattle.core_world.specs.declared.name.Name.TheVariants.{Prototype, Revocations, LastBulk, Mark, Hold, Displaced}
+use Rattle.core_world.specs.declared.name.Name.TheVariants.{Prototype, Revocations, LastBulk, Mark, Hold}
 use Rattle.core_world.specs.Words.Shape.{Shape, class_of}
-use Rattle.core_world.specs.Words.Names.{same_name, with_word}
-use Rattle.core_world.specs.Words.Forms.{names, hold_word, is_biased, is_biased_form, epoch_in, epoch_form}
+use Rattle.core_world.specs.Words.Names.{with_word}
+use Rattle.core_world.specs.Words.Forms.{is_biased, is_biased_form, epoch_in, epoch_form}
 use Rattle.core_world.specs.Threads.Stages.{Revocation}
 use Rattle.core_world.specs.Locks.{hold_count}
 use Rattle.core_world.specs.RevocationRules.{Write, write, words_after, Rule, in_turn, each_below, words_from, holds_in, record_writes, first_place, revoke_biased, revoke_form, revoke, raised_form, raise_epoch, store_one, with_epoch, store_where, renew, object_held, on_held, on_records, biased_word, take_bias, verdict_rules, revocation_writes}
-use Rattle.core_world.proofs.Naming.{same_named}
 use Rattle.core_world.proofs.KnowledgeParts.{by_equal}
-use Rattle.core_counts.proofs.Walks.{stored_append, epoch_small}
-
--- a word with an even number has no bias pattern
-even_unbiased : (n m : ℕ) → n ≡ m * 8 → is_biased n ≡ false
-even_unbiased n m e = by_form (read_mark n) refl
-  where
-    by_form : (f : Option MarkForm) → read_mark n ≡ f → is_biased_form f ≡ false
-    by_form None h = refl
-    by_form (Some Inflating) h = refl
-    by_form (Some (Neutral x a)) h = refl
-    by_form (Some (Anonymous d a)) h = absurd (let s = (read_mark-spells n (Anonymous d a) h).1 in omega (arith, s, e))
-    by_form (Some (Biased t d a)) h = absurd (let s = (read_mark-spells n (Biased t d a) h).1 in omega (arith, s, e))
-    by_form (Some (Locked t q)) h = refl
-    by_form (Some (Inflated k)) h = refl
-    by_form (Some Marked) h = refl
-
-locked_unbiased : (t p : ℕ) → is_biased (mark_of (Locked t p)) ≡ false
-locked_unbiased t p = even_unbiased (mark_of (Locked t p)) ((t + 1) * 512 + p) (omega arith)
+use Rattle.core_counts.proofs.FarWords.{all_away, records_away, revoked_away, stored_away}
+use Rattle.core_counts.proofs.Walks.{stored_append, epoch_small, locked_unbiased}
 
 neutral_unbiased : is_biased (mark_of (Neutral 0 0)) ≡ false
 neutral_unbiased = ap is_biased_form (read_mark-mark_of (Neutral 0 0) (omega arith, omega arith))
@@ -83,56 +66,16 @@ module _ (f : Name → ℕ) (o c u q : ℕ) where
   Elsewhere (Mark j) = j ≢ o
   Elsewhere _ = Unit {0}
 
-  away : (at : Name) (word : ℕ) (g : Name → ℕ) (n : Name) → Elsewhere at → (Elsewhere n → ⊥) → with_word at word g n ≡ g n
-  away at word g n a b = by_test (same_name n at) refl
-    where
-      by_test : (d : Bool) → same_name n at ≡ d → cond d word (g n) ≡ g n
-      by_test true h = absurd (b (subst Elsewhere (sym (same_named n at h)) a))
-      by_test false h = refl
-
-  all_away : (xs : List Write) (g : Name → ℕ) (n : Name) → AllByRecursion (λ x. Elsewhere x.at) xs → (Elsewhere n → ⊥) → words_after xs g n ≡ g n
-  all_away [] g n a b = refl
-  all_away (x ∷ xs) g n a b = all_away xs (with_word x.at x.word g) n a.1 b ∙ away x.at x.word g n a.0 b
-
   spares : (xs : List Write) (g : Name → ℕ) → AllByRecursion (λ x. Elsewhere x.at) xs → Stands g → Stands (words_after xs g)
   spares xs g a k =
-      let at_mark : words_after xs g (Mark o) ≡ g (Mark o) = all_away xs g (Mark o) a (λ d. d refl) in
+      let at_mark : words_after xs g (Mark o) ≡ g (Mark o) = all_away Elsewhere xs g (Mark o) a (λ d. d refl) in
       record {
-        holds = λ v p. all_away xs g (Hold v p) a (λ d. d) ∙ k.holds v p;
-        prototype = all_away xs g (Prototype c) a (λ d. d) ∙ k.prototype;
+        holds = λ v p. all_away Elsewhere xs g (Hold v p) a (λ d. d) ∙ k.holds v p;
+        prototype = all_away Elsewhere xs g (Prototype c) a (λ d. d) ∙ k.prototype;
         mark = elim k.mark [ inl h ↦ inl (h.0, h.1, ap read_mark at_mark ∙ h.2) | inr h ↦ inr (ap is_biased at_mark ∙ h) ];
       }
 
-  both : (xs ys : List Write) → AllByRecursion (λ x. Elsewhere x.at) xs → AllByRecursion (λ x. Elsewhere x.at) ys → AllByRecursion (λ x. Elsewhere x.at) (xs ++ ys)
-  both [] ys a b = b
-  both (x ∷ xs) ys a b = (a.0, both xs ys a.1 b)
-
-  records_away : (j t p : ℕ) (hs : List ℕ) → AllByRecursion (λ x. Elsewhere x.at) (record_writes j t p hs)
-  records_away j t p [] = tt
-  records_away j t p (h ∷ hs) = by_test (names j h) (records_away j t (p + 1) hs)
-    where
-      by_test : (b : Bool) → AllByRecursion (λ x. Elsewhere x.at) (record_writes j t (p + 1) hs)
-          → AllByRecursion (λ x. Elsewhere x.at) (cond b (write (Displaced t p) (cond (h == hold_word j 1) (mark_of (Neutral 0 0)) 0) ∷ []) [] ++ record_writes j t (p + 1) hs)
-      by_test true r = (tt, r)
-      by_test false r = r
-
-  -- the revocation of another object
-  revoked_away : (j : ℕ) (allowed : Bool) (m : Option MarkForm) (g : Name → ℕ) → j ≢ o → AllByRecursion (λ x. Elsewhere x.at) (revoke_form m j allowed g)
-  revoked_away j true (Some (Anonymous e a)) g d = tt
-  revoked_away j false (Some (Anonymous e a)) g d = (d, tt)
-  revoked_away j allowed (Some (Biased t e a)) g d = by_test (hold_count j (holds_in g t) == 0)
-    where
-      by_test : (b : Bool) → AllByRecursion (λ x. Elsewhere x.at) (cond b (write (Mark j) (mark_of (cond allowed (Anonymous 0 0) (Neutral 0 0))) ∷ []) (record_writes j t 0 (holds_in g t) ++ write (Mark j) (mark_of (Locked t (first_place j (holds_in g t)))) ∷ []))
-      by_test true = (d, tt)
-      by_test false = both (record_writes j t 0 (holds_in g t)) (write (Mark j) (mark_of (Locked t (first_place j (holds_in g t)))) ∷ []) (records_away j t 0 (holds_in g t)) (d, tt)
-  revoked_away j allowed None g d = tt
-  revoked_away j allowed (Some Inflating) g d = tt
-  revoked_away j allowed (Some (Neutral x a)) g d = tt
-  revoked_away j allowed (Some (Locked t p)) g d = tt
-  revoked_away j allowed (Some (Inflated m)) g d = tt
-  revoked_away j allowed (Some Marked) g d = tt
-
-  -- and of its own: where nobody holds it and a new bias is allowed, it is biased to nobody
+  -- The revocation of its own object: where nobody holds it and a new bias is allowed, it is biased to nobody
   abbrev Revoked : Bool → (Name → ℕ) → Type 0
   Revoked allowed g = (is_biased (g (Mark o)) ≡ false) ⊎ ((allowed ≡ true) × (read_mark (g (Mark o)) ≡ Some (Anonymous 0 0)) × (hold_count o (holds_in f u) ≡ 0))
 
@@ -174,12 +117,12 @@ module _ (f : Name → ℕ) (o c u q : ℕ) where
       by_held true e = (abandoned allowed refl (eqb-true _ 0 e), k.holds, k.prototype)
       by_held false e =
           let ws = record_writes o u 0 (holds_in g u) in
-          let a = records_away o u 0 (holds_in g u) in
+          let a = records_away Elsewhere (λ v p. tt) o u 0 (holds_in g u) in
           let word = mark_of (Locked u (first_place o (holds_in g u))) in
           let after = stored_append ws (write (Mark o) word ∷ []) g in (
             inl (ap (λ (z : Name → ℕ). is_biased (z (Mark o))) after ∙ ap is_biased (here word (words_after ws g)) ∙ locked_unbiased u (first_place o (holds_in g u))),
-            λ v p. ap (λ (z : Name → ℕ). z (Hold v p)) after ∙ all_away ws g (Hold v p) a (λ d. d) ∙ k.holds v p,
-            ap (λ (z : Name → ℕ). z (Prototype c)) after ∙ all_away ws g (Prototype c) a (λ d. d) ∙ k.prototype,
+            λ v p. ap (λ (z : Name → ℕ). z (Hold v p)) after ∙ all_away Elsewhere ws g (Hold v p) a (λ d. d) ∙ k.holds v p,
+            ap (λ (z : Name → ℕ). z (Prototype c)) after ∙ all_away Elsewhere ws g (Prototype c) a (λ d. d) ∙ k.prototype,
           )
 
   unbiased_now : (g : Name → ℕ) → Revoked false g → is_biased (g (Mark o)) ≡ false
@@ -190,13 +133,9 @@ module _ (f : Name → ℕ) (o c u q : ℕ) where
   kept_revoke j g k = by_equal j o
       (λ e. let r = own_revoked false g k in
       subst (λ i. Stands (words_after (revoke i false g) g)) (sym e) (record { holds = r.1; prototype = r.2; mark = inr (unbiased_now (words_after (revoke o false g) g) r.0) }))
-      (λ d. spares (revoke j false g) g (revoked_away j false (read_mark (g (Mark j))) g d) k)
+      (λ d. spares (revoke j false g) g (revoked_away Elsewhere (λ v p. tt) j false (read_mark (g (Mark j))) g d) k)
 
-  -- a mark gets its class's epoch: its own, and another's
-  renewed_away : (j : ℕ) (word : Option ℕ) → j ≢ o → AllByRecursion (λ x. Elsewhere x.at) (store_where (Mark j) word)
-  renewed_away j None d = tt
-  renewed_away j (Some n) d = (d, tt)
-
+  -- a mark gets its class's epoch
   no_epoch : (m : Option MarkForm) (e : Option ℕ) → is_biased_form m ≡ false → with_epoch m e ≡ None
   no_epoch None e h = refl
   no_epoch (Some Inflating) e h = refl
@@ -231,13 +170,13 @@ module _ (f : Name → ℕ) (o c u q : ℕ) where
   kept_renew : (d j : ℕ) → KeepsIt Stands (renew d j)
   kept_renew d j g k = by_equal j o
       (λ e. subst (λ i. Stands (words_after (renew d i g) g)) (sym e) (own_renewed d g k))
-      (λ n. spares (renew d j g) g (renewed_away j (with_epoch (read_mark (g (Mark j))) (epoch_in (g (Prototype d)))) n) k)
+      (λ n. spares (renew d j g) g (stored_away Elsewhere (Mark j) (with_epoch (read_mark (g (Mark j))) (epoch_in (g (Prototype d)))) n) k)
 
--- WHAT IS LEFT, of the object o of a class c that was biased to u
-abbrev pub Final : (Name → ℕ) → ℕ → ℕ → ℕ → ℕ → (Name → ℕ) → Type 0
-Final f o c u t g =
+-- WHAT IS LEFT, of the object o of a class c that was biased to u, by the verdict
+abbrev pub Final : (Name → ℕ) → ℕ → ℕ → ℕ → ℕ → Verdict → (Name → ℕ) → Type 0
+Final f o c u t v g =
     (is_biased (g (Mark o)) ≡ false)
-    ⊎ ((e : ℕ) × (read_mark (g (Mark o)) ≡ Some (Biased t e 0)) × (epoch_in (g (Prototype c)) ≡ Some e) × (hold_count o (holds_in f u) ≡ 0))
+    ⊎ ((e : ℕ) × (read_mark (g (Mark o)) ≡ Some (Biased t e 0)) × (epoch_in (g (Prototype c)) ≡ Some e) × (hold_count o (holds_in f u) ≡ 0) × (v ≡ BulkRebias))
 
 module _ (s : Shape) (t : ℕ) (b : Revocation) (f : Name → ℕ) (u e a epoch : ℕ) (was : read_mark (f (Mark b.object)) ≡ Some (Biased u e a)) (proto : epoch_in (f (Prototype (class_of s b.object))) ≡ Some epoch) (small : t < 32) where
   abbrev o : ℕ
@@ -246,12 +185,12 @@ module _ (s : Shape) (t : ℕ) (b : Revocation) (f : Name → ℕ) (u e a epoch 
   abbrev c : ℕ
   c = class_of s b.object
 
-  abbrev F : (Name → ℕ) → Type 0
+  abbrev F : Verdict → (Name → ℕ) → Type 0
   F = Final f b.object (class_of s b.object) u t
 
   -- a revocation without a new bias
-  revoked_last : (q : ℕ) (g : Name → ℕ) → Stands f o c u q g → F (words_after (in_turn (revoke o false ∷ []) g) g)
-  revoked_last q g k = subst F (sym (turned (revoke o false) [] g)) (inl (unbiased_now f o c u q (words_after (revoke o false g) g) (own_revoked f o c u q false g k).0))
+  revoked_last : (v : Verdict) (q : ℕ) (g : Name → ℕ) → Stands f o c u q g → F v (words_after (in_turn (revoke o false ∷ []) g) g)
+  revoked_last v q g k = subst (F v) (sym (turned (revoke o false) [] g)) (inl (unbiased_now f o c u q (words_after (revoke o false g) g) (own_revoked f o c u q false g k).0))
 
   -- the next epoch, and the prototype that has it
   abbrev n : ℕ
@@ -263,43 +202,43 @@ module _ (s : Shape) (t : ℕ) (b : Revocation) (f : Name → ℕ) (u e a epoch 
   next_epoch : epoch_in (mark_of (Anonymous ((epoch + 1) % 4) 0)) ≡ Some ((epoch + 1) % 4)
   next_epoch = ap epoch_form (read_mark-mark_of (Anonymous ((epoch + 1) % 4) 0) (mod-lt (epoch + 1) (omega arith), omega arith))
 
-  taken_last : (g : Name → ℕ) → Revoked f o c u (mark_of (Anonymous ((epoch + 1) % 4) 0)) true g → g (Prototype c) ≡ mark_of (Anonymous ((epoch + 1) % 4) 0) → F (words_after (in_turn (take_bias c o t ∷ []) g) g)
+  taken_last : (g : Name → ℕ) → Revoked f o c u (mark_of (Anonymous ((epoch + 1) % 4) 0)) true g → g (Prototype c) ≡ mark_of (Anonymous ((epoch + 1) % 4) 0) → F BulkRebias (words_after (in_turn (take_bias c o t ∷ []) g) g)
   taken_last g (inl free) at =
       let nothing : take_bias c o t g ≡ [] = ap (λ d. store_where (Mark o) (biased_word d (epoch_in (g (Prototype c))) t)) free in
-      subst F (sym (turned (take_bias c o t) [] g)) (subst (λ ws. F (words_after ws g)) (sym nothing) (inl free))
+      subst (F BulkRebias) (sym (turned (take_bias c o t) [] g)) (subst (λ ws. F BulkRebias (words_after ws g)) (sym nothing) (inl free))
   taken_last g (inr h) at =
       let stands : epoch_in (g (Prototype c)) ≡ Some n = ap epoch_in at ∙ next_epoch in
       let is : take_bias c o t g ≡ write (Mark o) (mark_of (Biased t n 0)) ∷ [] =
       ap (λ d. store_where (Mark o) (biased_word d (epoch_in (g (Prototype c))) t)) (ap is_biased_form h.1) ∙ ap (λ d. store_where (Mark o) (biased_word true d t)) stands in
       let read : read_mark (with_word (Mark o) (mark_of (Biased t n 0)) g (Mark o)) ≡ Some (Biased t n 0) =
       ap (λ (d : Bool). read_mark (cond d (mark_of (Biased t n 0)) (g (Mark o)))) (eq-eqb o o refl) ∙ read_mark-mark_of (Biased t n 0) (small, mod-lt (epoch + 1) (omega arith), omega arith) in
-      subst F (sym (turned (take_bias c o t) [] g)) (subst (λ ws. F (words_after ws g)) (sym is) (inr (n, read, stands, h.2)))
+      subst (F BulkRebias) (sym (turned (take_bias c o t) [] g)) (subst (λ ws. F BulkRebias (words_after ws g)) (sym is) (inr (n, read, stands, h.2, refl)))
 
-  rebiased_last : (rebias : Bool) (g : Name → ℕ) → Stands f o c u (mark_of (Anonymous ((epoch + 1) % 4) 0)) g → F (words_after (in_turn (revoke o rebias ∷ cond rebias (take_bias c o t ∷ []) []) g) g)
-  rebiased_last false g k = revoked_last (mark_of (Anonymous ((epoch + 1) % 4) 0)) g k
+  rebiased_last : (rebias : Bool) (g : Name → ℕ) → Stands f o c u (mark_of (Anonymous ((epoch + 1) % 4) 0)) g → F BulkRebias (words_after (in_turn (revoke o rebias ∷ cond rebias (take_bias c o t ∷ []) []) g) g)
+  rebiased_last false g k = revoked_last BulkRebias (mark_of (Anonymous ((epoch + 1) % 4) 0)) g k
   rebiased_last true g k =
       let r = own_revoked f o c u (mark_of (Anonymous ((epoch + 1) % 4) 0)) true g k in
-      subst F (sym (turned (revoke o true) (take_bias c o t ∷ []) g)) (taken_last (words_after (revoke o true g) g) r.0 r.2)
+      subst (F BulkRebias) (sym (turned (revoke o true) (take_bias c o t ∷ []) g)) (taken_last (words_after (revoke o true g) g) r.0 r.2)
 
   stands_at : (word : ℕ) (g : Name → ℕ) → ((v p : ℕ) → g (Hold v p) ≡ f (Hold v p)) → read_mark (g (Mark o)) ≡ Some (Biased u e a) → Stands f o c u word (with_word (Prototype c) word g)
   stands_at word g holds mark = record { holds = holds; prototype = ap (λ (d : Bool). cond d word (g (Prototype c))) (eq-eqb c c refl); mark = inl (e, a, mark) }
 
-  by_verdict : (v : Verdict) (count : ℕ) → F (words_after (in_turn (store_one (Revocations c) count ∷ verdict_rules s t c b v) f) f)
+  by_verdict : (v : Verdict) (count : ℕ) → F v (words_after (in_turn (store_one (Revocations c) count ∷ verdict_rules s t c b v) f) f)
   by_verdict Single count =
       let g = with_word (Revocations c) count f in
-      subst F (sym (turned (store_one (Revocations c) count) (revoke o false ∷ []) f))
-      (revoked_last (f (Prototype c)) g (record { holds = λ v p. refl; prototype = refl; mark = inl (e, a, was) }))
+      subst (F Single) (sym (turned (store_one (Revocations c) count) (revoke o false ∷ []) f))
+      (revoked_last Single (f (Prototype c)) g (record { holds = λ v p. refl; prototype = refl; mark = inl (e, a, was) }))
   by_verdict BulkRevoke count =
       let g = with_word (LastBulk c) b.now (with_word (Revocations c) count f) in
       let word = mark_of (Neutral 0 0) in
       let h = with_word (Prototype c) word g in
       let k = stands_at word g (λ v p. refl) was in
       let rest = on_records s c (λ i. revoke i false) ∷ revoke o false ∷ [] in
-      subst F (sym (turned (store_one (Revocations c) count) (store_one (LastBulk c) b.now ∷ store_one (Prototype c) word ∷ rest) f))
-      (subst F (sym (turned (store_one (LastBulk c) b.now) (store_one (Prototype c) word ∷ rest) (with_word (Revocations c) count f)))
-      (subst F (sym (turned (store_one (Prototype c) word) rest g))
-      (subst F (sym (turned (on_records s c (λ i. revoke i false)) (revoke o false ∷ []) h))
-      (revoked_last word (words_after (on_records s c (λ i. revoke i false) h) h)
+      subst (F BulkRevoke) (sym (turned (store_one (Revocations c) count) (store_one (LastBulk c) b.now ∷ store_one (Prototype c) word ∷ rest) f))
+      (subst (F BulkRevoke) (sym (turned (store_one (LastBulk c) b.now) (store_one (Prototype c) word ∷ rest) (with_word (Revocations c) count f)))
+      (subst (F BulkRevoke) (sym (turned (store_one (Prototype c) word) rest g))
+      (subst (F BulkRevoke) (sym (turned (on_records s c (λ i. revoke i false)) (revoke o false ∷ []) h))
+      (revoked_last BulkRevoke word (words_after (on_records s c (λ i. revoke i false) h) h)
       (visits (Stands f o c u word) s c (λ i. revoke i false) (kept_revoke f o c u word) h k)))))
   by_verdict BulkRebias count =
       let g = with_word (LastBulk c) b.now (with_word (Revocations c) count f) in
@@ -309,14 +248,14 @@ module _ (s : Shape) (t : ℕ) (b : Revocation) (f : Name → ℕ) (u e a epoch 
       let last = revoke o b.rebias ∷ cond b.rebias (take_bias c o t ∷ []) [] in
       let rest = on_records s c (renew c) ∷ last in
       let raised : raise_epoch c g ≡ write (Prototype c) word ∷ [] = ap (λ m. raised_form m c) proto in
-      subst F (sym (turned (store_one (Revocations c) count) (store_one (LastBulk c) b.now ∷ raise_epoch c ∷ rest) f))
-      (subst F (sym (turned (store_one (LastBulk c) b.now) (raise_epoch c ∷ rest) (with_word (Revocations c) count f)))
-      (subst F (sym (turned (raise_epoch c) rest g))
-      (subst (λ ws. F (words_after (in_turn rest (words_after ws g)) (words_after ws g))) (sym raised)
-      (subst F (sym (turned (on_records s c (renew c)) last h))
+      subst (F BulkRebias) (sym (turned (store_one (Revocations c) count) (store_one (LastBulk c) b.now ∷ raise_epoch c ∷ rest) f))
+      (subst (F BulkRebias) (sym (turned (store_one (LastBulk c) b.now) (raise_epoch c ∷ rest) (with_word (Revocations c) count f)))
+      (subst (F BulkRebias) (sym (turned (raise_epoch c) rest g))
+      (subst (λ ws. F BulkRebias (words_after (in_turn rest (words_after ws g)) (words_after ws g))) (sym raised)
+      (subst (F BulkRebias) (sym (turned (on_records s c (renew c)) last h))
       (rebiased_last b.rebias (words_after (on_records s c (renew c) h) h)
       (visits (Stands f o c u word) s c (renew c) (kept_renew f o c u word c) h k))))))
 
-  pub mark_at_the_end : F (words_after (revocation_writes s t b f) f)
+  pub mark_at_the_end : F (decided (f (Revocations c)) (f (LastBulk c)) b.now).0 (words_after (revocation_writes s t b f) f)
   unfolding revocation_writes
   mark_at_the_end = let d = decided (f (Revocations c)) (f (LastBulk c)) b.now in by_verdict d.0 d.1

@@ -53,6 +53,7 @@ record Comes (w : World) (t o : ℕ) (path : Path) : Type 0 where
   first : is_first path ≡ ((hold_count o (w.known t).holds == 0) && not (is_own path))
   leaning : is_by_bias path ≡ true → lock w o ≡ BiasedTo t
   unbiased : is_by_bias path ≡ false → is_biased (marks w o) ≡ false
+  other : path ≡ BiasTaken → ⊥
 
 module _ (w : World) (P : List PlainObject) (t o p : ℕ) (v : Fits w P) (runs : (w.known t).running ≡ true) where
   -- a first hold, and a further one
@@ -74,6 +75,7 @@ module _ (w : World) (P : List PlainObject) (t o p : ℕ) (v : Fits w P) (runs :
     first = own_bias (hold_count o (w.known t).holds == 0);
     leaning = λ b. own_still w P t o v runs h.1;
     unbiased = λ b. absurd (cc b);
+    other = λ e. cc e;
   })
   by_path StackFirst h = let seized = v.records.seized o t p h in inr (record {
     none = λ i. ap (λ s. path_into s i) h;
@@ -81,6 +83,7 @@ module _ (w : World) (P : List PlainObject) (t o p : ℕ) (v : Fits w P) (runs :
     first = empty (hold_count o (w.known t).holds) seized.3;
     leaning = λ b. absurd (cc b);
     unbiased = λ b. rests_unbiased w o t p seized.0;
+    other = λ e. cc e;
   })
   by_path StackAgain h = inr (record {
     none = λ i. ap (λ s. path_into s i) h.0;
@@ -88,6 +91,7 @@ module _ (w : World) (P : List PlainObject) (t o p : ℕ) (v : Fits w P) (runs :
     first = some (hold_count o (w.known t).holds) h.1;
     leaning = λ b. absurd (cc b);
     unbiased = λ b. elim h.2 [ inl plain ↦ v.classes.unbiased plain o | inr saw ↦ unbiased_still w P t o v runs saw ];
+    other = λ e. cc e;
   })
   by_path MonitorFirst h = let grabbed = v.records.grabbed o t h in inr (record {
     none = λ i. ap (λ s. path_into s i) h;
@@ -95,6 +99,7 @@ module _ (w : World) (P : List PlainObject) (t o p : ℕ) (v : Fits w P) (runs :
     first = empty (hold_count o (w.known t).holds) grabbed.1;
     leaning = λ b. absurd (cc b);
     unbiased = λ b. manned_unbiased w o t grabbed.0;
+    other = λ e. cc e;
   })
   by_path MonitorAgain h = let saw = h.2.1 in inr (record {
     none = λ i. ap (λ s. path_into s i) h.0;
@@ -102,6 +107,7 @@ module _ (w : World) (P : List PlainObject) (t o p : ℕ) (v : Fits w P) (runs :
     first = some (hold_count o (w.known t).holds) h.1;
     leaning = λ b. absurd (cc b);
     unbiased = λ b. unbiased_still w P t o v runs (saw.0, saw.1, inflated_unbiased saw.0 h.2.0 saw.2);
+    other = λ e. cc e;
   })
 
 module _ (w : World) (P : List PlainObject) (t : ℕ) (e : Purpose) (o d p : ℕ) (path : Path) (within : t < w.shape.threads) (may : MayComeBy w.biasing w.shape (w.known t) e o p path) (v : Fits w P) (law : BiasLawHolds w) where
@@ -134,7 +140,7 @@ module _ (w : World) (P : List PlainObject) (t : ℕ) (e : Purpose) (o d p : ℕ
       let named_is : hold_count o (w.known t).holds ≡ held_by nothing_held (w.known t).log o = let a = h.even in let b = held_named w P t o within v in omega (arith, a, b) in
       coming_world w (Hold t p) (hold_word o d) t l law refl refl may.goes_on (left_counts w (Hold t p) (hold_word o d) t l (inl refl)) o path
       (left_biases w (Hold t p) (hold_word o d) t l (inl refl)) only (ap (λ (b : Bool). cond b (Some path) None) (eq-eqb o o refl))
-      (λ i g. absurd (let n = h.none i in cc (n, g))) h.leaning h.unbiased
+      (λ i g. absurd (let n = h.none i in cc (n, g))) h.leaning h.unbiased h.other
       (h.first ∙ ap (λ n. (n == 0) && not (is_own path)) named_is))
 
   pub hold_stored : BiasLawHolds (world_after (hold_plan e t o d p path) t w)

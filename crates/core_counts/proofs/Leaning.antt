@@ -19,10 +19,12 @@ use Rattle.core_world.proofs.Naming.{same_named, with_word_same}
 use Rattle.core_world.specs.Threads.Stages.{Inflation}
 use Rattle.core_world.specs.World.{World, with_word_and_known}
 use Rattle.core_world.proofs.KnowledgeParts.{by_equal}
+use Rattle.core_law.specs.BiasOwners.{bias_owner, owner_form}
 use Rattle.core_law.specs.MarksAndLogs.{is_anonymous, is_anonymous_form}
 use Rattle.core_counts.specs.Moves.{LeansByMark, BiasesKept}
 use Rattle.core_counts.specs.Steps.{LeavesBiases, is_bias_word}
 use Rattle.core_counts.proofs.Enters.{anonymous_is_biased}
+use Rattle.core_counts.proofs.Owners.{unbiased_unowned}
 
 -- the mark is validly biased to this thread
 abbrev pub LeansTo : Option MarkForm → ℕ → ℕ → Type 0
@@ -58,9 +60,9 @@ leans w o u h =
     let valid : has_epoch (epoch_in (prototype_of w o)) h.0 ≡ true = sym (ap (λ m. is_valid_bias m (prototype_of w o)) h.2) ∙ h.3 in
     ap (λ m. lock_form m (prototype_of w o) (λ n. w.words (Owner n)) (inflations w o)) h.2 ∙ ap (λ b. cond b (BiasedTo u) Open) valid
 
--- so it says of the mark that it has the bias pattern, and isn't anonymous
+-- so it says of the mark that it has the bias pattern, isn't anonymous, and whose bias it is
 pub leans_by_mark : (w : World) → LeansByMark (marks w) (lock w)
-leans_by_mark w o u e = let h = leans_to w o u e in (ap is_biased_form h.2, ap is_anonymous_form h.2)
+leans_by_mark w o u e = let h = leans_to w o u e in (ap is_biased_form h.2, ap is_anonymous_form h.2, ap owner_form h.2)
 
 -- a mark that is validly biased to nobody leans to no thread
 pub unleaning : (w : World) (o u : ℕ) → is_valid_bias (read_mark (marks w o)) (prototype_of w o) ≡ false → lock w o ≡ BiasedTo u → ⊥
@@ -133,6 +135,7 @@ module _ (w : World) (at : Name) (v t : ℕ) (l : Known) where
   unchanged h = record {
     pattern = λ i. ap is_biased (h (Mark i) refl);
     nobody = λ i. ap is_anonymous (h (Mark i) refl);
+    owners = λ i. ap bias_owner (h (Mark i) refl);
     leans = λ i u e. still_leans w x i (h (Mark i) refl) (h (Prototype (class_of w.shape i)) refl) u e;
   }
 
@@ -141,6 +144,7 @@ module _ (w : World) (at : Name) (v t : ℕ) (l : Known) where
   marked o is was now = record {
     pattern = λ i. by_equal i o (λ s. ap is_biased (here i s) ∙ now ∙ sym (old i s)) (λ d. ap is_biased (away i d));
     nobody = λ i. by_equal i o (λ s. ap is_anonymous (here i s) ∙ not_anonymous v now ∙ sym (not_anonymous (marks w i) (old i s))) (λ d. ap is_anonymous (away i d));
+    owners = λ i. by_equal i o (λ s. ap bias_owner (here i s) ∙ unbiased_unowned v now ∙ sym (unbiased_unowned (marks w i) (old i s))) (λ d. ap bias_owner (away i d));
     leans = λ i u e. by_equal i o (λ s. absurd (let b = (leans_by_mark w i u e).0 in cc (b, old i s))) (λ d. still_leans w x i (away i d) (prototypes (class_of w.shape i)) u e);
   }
     where

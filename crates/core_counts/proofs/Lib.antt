@@ -1,5 +1,9 @@
 pub mod Counts
 pub mod Opening
+pub mod LastEntry
+pub mod Owners
+pub mod Takings
+pub mod FarWords
 pub mod Enters
 pub mod Quiets
 pub mod Paths

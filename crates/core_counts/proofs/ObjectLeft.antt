@@ -21,6 +21,9 @@ use Rattle.core_locks.proofs.ShotWords.{words_are}
 use Rattle.core_counts.specs.Steps.{LeavesObject}
 use Rattle.core_counts.proofs.FinalMarks.{Final, mark_at_the_end}
 use Rattle.core_counts.proofs.Leaning.{leans_by_mark}
+use Rattle.core_counts.proofs.Walks.{verdict_of}
+use Rattle.lock_policy.specs.declared.policy.Verdict.{Verdict}
+use Rattle.lock_policy.specs.declared.policy.Verdict.TheVariants.{BulkRebias}
 
 -- a valid bias is one of a thread
 pub valid_leans : (m : Option MarkForm) (prototype : ℕ) → is_valid_bias m prototype ≡ true → (u : ℕ) × LeansTo m prototype u
@@ -83,13 +86,20 @@ module _ (w : World) (P : List PlainObject) (s : IsRevoking w P) (over : s.rest 
       (λ e. ap (λ v. hold_count o (b.known v).holds) e ∙ ap (hold_count o) (sym holds_are) ∙ none)
       (λ d. s.fits.biases.unheld o t (leans_by_mark b o u leant).0 (λ e. d (let same : BiasedTo t ≡ BiasedTo u = sym e ∙ leant in cc same)))
 
-  final : Final b.words o (class_of b.shape o) u t w.words
+  abbrev verdict : Verdict
+  verdict = (verdict_of s.before.shape s.revocation s.before.words).0
+
+  final : Final b.words o (class_of b.shape o) u t verdict w.words
   final =
       let h = leaner.1 in
       let valid : has_epoch (epoch_in (prototype_of b o)) h.0 ≡ true = sym (ap (λ m. is_valid_bias m (prototype_of b o)) h.2) ∙ h.3 in
       let proto = has_some (epoch_in (prototype_of b o)) h.0 valid in
       let small : t < 32 = let few = s.fits.limits.threads in omega (arith, few, requester_within) in
-      subst (Final b.words o (class_of b.shape o) u t) (sym all_made) (mark_at_the_end b.shape t s.revocation b.words u h.0 h.1 proto.0 h.2 proto.1 small)
+      subst (Final b.words o (class_of b.shape o) u t verdict) (sym all_made) (mark_at_the_end b.shape t s.revocation b.words u h.0 h.1 proto.0 h.2 proto.1 small)
+
+  -- the new bias is that of a bulk rebias
+  pub took_by_rebias : is_biased (marks w o) ≡ true → verdict ≡ BulkRebias
+  took_by_rebias biased = elim final [ inl free ↦ absurd (cc (free, biased)) | inr h ↦ h.4 ]
 
   pub leaves_object : LeavesObject w t o (is_biased (marks w o))
   leaves_object = record {

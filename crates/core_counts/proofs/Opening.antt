@@ -1,5 +1,5 @@
 -- The bias law holds of the opening world.
-use Rattle.std.proofs.Common.{◌≡◌, ℕ, zero, suc, ◌+◌, Bool, true, false, None, List, [], refl, sym, ap, arith, subst, inl}
+use Rattle.std.proofs.Common.{◌≡◌, ℕ, zero, suc, ◌+◌, Bool, true, false, Some, None, List, [], refl, sym, ap, arith, subst, inl}
 use Rattle.plain_monitor.specs.declared.entry.Entry.{Entry}
 use Rattle.plain_monitor.specs.Order.{order, ordered, with_threads}
 use Rattle.core_world.specs.declared.stage.Stage.TheVariants.{Calm}
@@ -10,9 +10,11 @@ use Rattle.core_world.specs.Locks.{lock}
 use Rattle.core_world.specs.Opening.{opening, first_known, first_mark}
 use Rattle.core_law.specs.BiasLaw.{BiasLaw, BiasLawHolds}
 use Rattle.core_law.specs.CountsAndVerdicts.{CountFits, sum_below}
+use Rattle.core_law.specs.BiasOwners.{bias_owner, owner_form}
 use Rattle.core_law.specs.MarksAndLogs.{is_anonymous, is_anonymous_form}
 use Rattle.plain_history.specs.EnterPaths.{entries_on}
-use Rattle.core_world.proofs.Readings.{mark_five}
+use Rattle.core_world.proofs.Readings.{mark_five, mark_one}
+use Rattle.core_counts.proofs.LastEntry.{no_entries as none_before}
 
 no_entries : (u v n : ℕ) → with_threads u (logs_from v n first_known) ≡ []
 no_entries u v zero = refl
@@ -28,6 +30,10 @@ sum_none (suc n) = let a = sum_none n in omega (arith, a)
 first_anonymous : (biasing : Bool) → biasing ≡ true → is_anonymous (first_mark biasing) ≡ true
 first_anonymous true e = ap is_anonymous_form mark_five
 first_anonymous false e = absurd (cc e)
+
+first_unowned : (biasing : Bool) (t : ℕ) → bias_owner (first_mark biasing) ≡ Some t → ⊥
+first_unowned true t e = let first = ap owner_form mark_five in cc (first, e)
+first_unowned false t e = let first = ap owner_form mark_one in cc (first, e)
 
 counts_none : (n : ℕ) → n ≡ 0 → CountFits 0 n n n n
 counts_none n e = subst (λ (m : ℕ). CountFits 0 m m m m) (sym e) (record {
@@ -54,6 +60,11 @@ opening_meets s start biasing =
         unentered = λ e o f g. inl (first_anonymous biasing e);
         entered = λ e o path f g. absurd (cc g);
       };
+      taken = record {
+        logged = λ t o before l later e. absurd (none_before before later l e);
+        owners = λ t o e. absurd (first_unowned biasing t e);
+      };
+      few = record { logged = λ o. omega arith; coming = λ o c. absurd (cc c.1); free = λ o f. omega arith };
       paths = record { logged = λ t. tt; coming = λ t o path e. absurd (cc e) };
       count_fits = λ c. counts_none _ (sum_none s.threads);
       verdicts = λ t. inl (let a = sum_none s.classes in omega (arith, a));

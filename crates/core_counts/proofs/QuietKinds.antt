@@ -28,11 +28,11 @@ use Rattle.core_world.specs.Trees.LockSteps.{displace_plan, seize_plan, clear_pl
 use Rattle.core_world.specs.Trees.LookSteps.{keep_shot_plan}
 use Rattle.core_world.specs.Trees.MonitorSteps.{claim_plan, fetch_plan, prepare_plan, inflate_plan, name_plan, name_neutral_plan, grab_plan, take_over_plan, raise_count_plan, lower_count_plan, reset_count_plan, store_entering_plan}
 use Rattle.core_world.specs.Trees.Operations.{store_ended_plan}
-use Rattle.core_world.specs.Trees.DeflateSteps.{unname_plan, clean_plan, enring_plan, advance_plan}
+use Rattle.core_world.specs.Trees.DeflateSteps.{detach_plan, clean_plan, enqueue_plan, advance_plan}
 use Rattle.core_world.specs.Words.Shape.{ring_places}
 use Rattle.core_world.specs.Words.Forms.{monitor_in, is_neutral}
 use Rattle.core_world.proofs.OwnersShown.{inflated_form}
-use Rattle.core_locks.specs.DeflationLaws.{MayUnname, MayClean, MayEnring, MayAdvance}
+use Rattle.core_locks.specs.DeflationLaws.{MayDetach, MayClean, MayEnqueue, MayAdvance}
 use Rattle.core_world.specs.Trees.WaitSteps.{save_count_plan, drop_plan, quit_plan, regain_plan, restore_plan, wake_next_plan}
 use Rattle.core_world.specs.Trees.SafepointSteps.{publish_log_plan, stop_plan, resume_plan, request_plan, release_plan, halt_plan, all_but, running_too, requested_by, reached_word, released_word, halted_word}
 use Rattle.core_world.specs.Threads.Stages.{inflation_in, path_into}
@@ -103,12 +103,12 @@ pub fetches : (e : Purpose) (p : ℕ) → KeepsBiases (λ w t. MayFetch (w.known
 fetches e p w P t within may v law = quietly w t e (Ring (p % ring_places w.shape)) act.Load own.Claim Calm (λ c. refl) may.goes_on (from (w.known t) Calm may.calm) (inl refl) law
 
 -- GIVING A MONITOR BACK
-pub unnames : (e : Purpose) (o m header : ℕ) → KeepsBiases (λ w t. MayUnname w.shape (w.known t) e o m header) (λ w t. unname_plan e (w.known t).stage o m header)
-unnames e o m header w P t within may v law =
+pub detaches : (e : Purpose) (o m header : ℕ) → KeepsBiases (λ w t. MayDetach w.shape (w.known t) e o m header) (λ w t. detach_plan e (w.known t).stage o m header)
+detaches e o m header w P t within may v law =
     let saw = may.inflated in
     let named : monitor_in (marks w o) ≡ Some m = ap monitor_in (v.seen.stands t (Mark o) saw.0 may.stands.reached saw.1) ∙ saw.2 in
     let neutral : is_neutral header ≡ true = ap is_neutral (sym (v.seen.stands t (Header m) header may.stands.reached may.its_header)) ∙ v.monitors.neutral o m named in
-    quietly w t e (Mark o) (act.Store header) (own.Unname m) (w.known t).stage (λ c. refl) may.stands.goes_on (λ i. refl)
+    quietly w t e (Mark o) (act.Store header) (own.Detach m) (w.known t).stage (λ c. refl) may.stands.goes_on (λ i. refl)
     (inr (inr (o, refl, ap is_biased_form (inflated_form (read_mark (marks w o)) m named), (neutral_bare header neutral).unbiased))) law
 
 pub cleans_owner : (e : Purpose) (m : ℕ) → KeepsBiases (λ w t. MayClean (w.known t) e m) (λ w t. clean_plan e (w.known t).stage (Owner m))
@@ -123,11 +123,11 @@ cleans_header e m w P t within may v law = quietly w t e (Header m) (act.Store 0
 pub cleans_object : (e : Purpose) (m : ℕ) → KeepsBiases (λ w t. MayClean (w.known t) e m) (λ w t. clean_plan e (w.known t).stage (Object m))
 cleans_object e m w P t within may v law = quietly w t e (Object m) (act.Store 0) own.Same (w.known t).stage (λ c. refl) may.stands.goes_on (λ i. refl) (inl refl) law
 
-pub enrings : (e : Purpose) (m end : ℕ) → KeepsBiases (λ w t. MayEnring (w.known t) e m end) (λ w t. enring_plan e (w.known t).stage w.shape end m)
-enrings e m end w P t within may v law = quietly w t e (Ring (end % ring_places w.shape)) (act.Store m) own.Same (w.known t).stage (λ c. refl) may.stands.goes_on (λ i. refl) (inl refl) law
+pub enqueues : (e : Purpose) (m end : ℕ) → KeepsBiases (λ w t. MayEnqueue (w.known t) e m end) (λ w t. enqueue_plan e (w.known t).stage w.shape end m)
+enqueues e m end w P t within may v law = quietly w t e (Ring (end % ring_places w.shape)) (act.Store m) own.Same (w.known t).stage (λ c. refl) may.stands.goes_on (λ i. refl) (inl refl) law
 
 pub advances : (e : Purpose) (m end : ℕ) → KeepsBiases (λ w t. MayAdvance w.shape (w.known t) e m end) (λ w t. advance_plan e (w.known t).stage end)
-advances e m end w P t within may v law = quietly w t e End (act.Store ((end + 1) % 2 ^ 64)) own.Enring (w.known t).stage (λ c. refl) may.stands.goes_on (λ i. refl) (inl refl) law
+advances e m end w P t within may v law = quietly w t e End (act.Store ((end + 1) % 2 ^ 64)) own.Enqueue (w.known t).stage (λ c. refl) may.stands.goes_on (λ i. refl) (inl refl) law
 
 pub prepares_owner : (e : Purpose) (m word : ℕ) → KeepsBiases (λ w t. MayPrepareOwner w.shape (w.known t) e m word) (λ w t. prepare_plan e (w.known t).stage (Owner m) word)
 prepares_owner e m word w P t within may v law = quietly w t e (Owner m) (act.Store word) own.Same (w.known t).stage (λ c. refl) may.prepares.goes_on (λ i. refl) (inl refl) law

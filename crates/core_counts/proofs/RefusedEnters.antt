@@ -1,10 +1,12 @@
--- An Enter by a bias that is logged behind an entry which ended the bias: the law of biases refuses it.
-use Rattle.std.proofs.Common.{◌≡◌, ℕ, ◌+◌, ◌<◌, ◌||◌, Bool, true, false, List, [], ◌∷◌, ◌++◌, slice_set, Some, refl, sym, ap, ◌∙◌, subst}
+-- An Enter by a bias that is logged behind an entry which ended the bias, by an own bias that was never taken, or by one that was taken too often: the law
+-- of biases refuses it.
+use Rattle.std.proofs.Common.{◌≡◌, ℕ, ◌+◌, ◌<◌, ◌||◌, eq-eqb, arith, Bool, true, false, List, [], ◌∷◌, ◌++◌, slice_set, Some, refl, sym, ap, ◌∙◌, subst}
 use Rattle.std.specs.List.{list_any}
 use Rattle.plain_monitor.specs.declared.entry.Entry.{Entry}
 use Rattle.plain_monitor.specs.declared.entry.Entry.TheVariants as entry
 use Rattle.plain_monitor.specs.declared.entry.Logged.{Logged}
 use Rattle.plain_monitor.specs.declared.entry.Path.{Path}
+use Rattle.plain_monitor.specs.declared.entry.Path.TheVariants.{BiasOwn, BiasTaken}
 use Rattle.plain_monitor.specs.Objects.{PlainObject}
 use Rattle.plain_monitor.specs.Monitor.{PlainMonitor}
 use Rattle.plain_monitor.specs.Order.{order}
@@ -13,18 +15,23 @@ use Rattle.plain_history.specs.EnterPaths.{entries_on, ends_bias, needs_bias, is
 use Rattle.plain_history.proofs.EntriesOn.{any_push, appended_on}
 use Rattle.core_world.specs.declared.act.Act.TheVariants.{Load}
 use Rattle.core_world.specs.declared.name.Name.TheVariants.{Stamp}
+use Rattle.core_world.specs.Threads.Counts.{ClassCounts, counts_of}
 use Rattle.core_world.specs.Threads.Known.{Known}
+use Rattle.core_world.specs.Threads.Stages.{one_if}
+use Rattle.core_world.specs.Words.Shape.{class_of}
 use Rattle.core_world.specs.Locks.{monitor_of, object_of}
 use Rattle.core_world.specs.Trees.Plans.{Purpose, logging_plan}
 use Rattle.core_world.specs.Steps.{world_after, known_after, stamp_by}
 use Rattle.core_world.specs.Valid.{Fits}
 use Rattle.core_world.specs.World.{World, logs}
-use Rattle.core_world.proofs.KnowledgeParts.{logs_grow}
+use Rattle.core_world.proofs.KnowledgeParts.{logs_grow, part_moves, with_known_here}
 use Rattle.core_locks.specs.JournalLaws.{MayLogEnter}
 use Rattle.core_locks.proofs.Logging.{IsLogging, may_log}
 use Rattle.core_locks.proofs.EnterLogs.{is_taking}
 use Rattle.core_locks.proofs.EnterFits as fits
-use Rattle.core_law.specs.BiasLaw.{BiasLawHolds}
+use Rattle.core_law.specs.BiasLaw.{BiasLawHolds, summed}
+use Rattle.core_law.specs.TakenBiases.{has_taken, times_taken}
+use Rattle.core_counts.proofs.Takings.{times_push}
 
 or_right : (a b : Bool) → b ≡ true → (a || b) ≡ true
 or_right true b e = refl
@@ -71,3 +78,29 @@ module _ (w : World) (P : List PlainObject) (t o p : ℕ) (path : Path) (r : Pur
 
   pub no_ended_bias : is_by_bias path ≡ true → list_any ends_bias (entries_on o (order (logs w))) ≡ true → BiasLawHolds x → ⊥
   no_ended_bias by ended law = ended_before (entries_on o (order (logs w))) (entry.Enter o path) (subst EndsStay comes_last (law.marks.stays o)) ended by
+
+-- the log of its thread has it as the last
+module _ (w : World) (P : List PlainObject) (t o p : ℕ) (r : Purpose) (within : t < w.shape.threads) (may : MayLogEnter w.shape (w.known t) o p BiasOwn) (v : Fits w P) where
+  abbrev own : Logged
+  own = y w P t o p BiasOwn r within may v
+
+  pub no_untaken_bias : has_taken o (w.known t).log ≡ false → BiasLawHolds (x w P t o p BiasOwn r within may v) → ⊥
+  no_untaken_bias none law =
+      let place : ((x w P t o p BiasOwn r within may v).known t).log ≡ (w.known t).log ++ own ∷ [] =
+      ap (λ (k : Known). k.log) (with_known_here t (l w P t o p BiasOwn r within may v) w.known) ∙ (logs_it w P t o p BiasOwn r within may v).grows in
+      let has = law.taken.logged t o (w.known t).log own [] place refl in
+      cc (none, has)
+
+-- it takes the bias once more
+module _ (w : World) (P : List PlainObject) (t o p : ℕ) (r : Purpose) (within : t < w.shape.threads) (may : MayLogEnter w.shape (w.known t) o p BiasTaken) (v : Fits w P) where
+  abbrev rebiases : (ℕ → ℕ → ClassCounts) → ℕ
+  rebiases counts = (summed w.shape.threads counts (class_of w.shape o)).rebias
+
+  pub no_bias_too_often : rebiases (λ u. counts_of (w.known u).counts) < times_taken o (entries_on o (order (logs w))) → BiasLawHolds (x w P t o p BiasTaken r within may v) → ⊥
+  no_bias_too_often often law =
+      let few = law.few.logged o in
+      let times : times_taken o (entries_on o (order (logs (x w P t o p BiasTaken r within may v)))) ≡ times_taken o (entries_on o (order (logs w))) + 1 =
+      ap (times_taken o) (comes_last w P t o p BiasTaken r within may v) ∙ times_push o (entries_on o (order (logs w))) (entry.Enter o BiasTaken)
+      ∙ ap (λ (b : Bool). times_taken o (entries_on o (order (logs w))) + one_if b) (eq-eqb o o refl) in
+      let counts = ap rebiases (part_moves (λ k. counts_of k.counts) t (l w P t o p BiasTaken r within may v) w.known refl) in
+      omega (arith, few, times, counts, often)

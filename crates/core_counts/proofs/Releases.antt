@@ -9,16 +9,17 @@ use Rattle.plain_monitor.specs.declared.entry.Path.{Path}
 use Rattle.plain_monitor.specs.declared.entry.Path.TheVariants.{BiasTaken}
 use Rattle.plain_monitor.specs.Objects.{PlainObject}
 use Rattle.plain_monitor.specs.Order.{order}
-use Rattle.core_world.specs.declared.name.Name.TheVariants.{Safepoint, Revocations, LastBulk}
+use Rattle.core_world.specs.declared.name.Name.{Name}
+use Rattle.core_world.specs.declared.name.Name.TheVariants.{Safepoint, Mark, Prototype, Revocations, LastBulk}
 use Rattle.core_world.specs.declared.stage.Stage.{Stage}
 use Rattle.core_world.specs.declared.stage.Stage.TheVariants.{Calm}
 use Rattle.core_world.specs.declared.task.Unfinished.{Unfinished}
-use Rattle.core_world.specs.Words.Shape.{class_of}
+use Rattle.core_world.specs.Words.Shape.{Shape, class_of}
 use Rattle.core_world.specs.Words.Names.{with_word}
 use Rattle.core_world.specs.Threads.Counts.{CountedVerdict, with_verdict_counted, counts_of}
 use Rattle.core_world.specs.Words.Forms.{is_biased}
 use Rattle.core_world.specs.Threads.Known.{Known}
-use Rattle.core_world.specs.Locks.{BiasedTo, lock, marks}
+use Rattle.core_world.specs.Locks.{BiasedTo, lock, marks, prototype_of}
 use Rattle.core_world.specs.Threads.Stages.{path_into}
 use Rattle.core_world.specs.Trees.BiasSteps.{stage_after}
 use Rattle.core_world.specs.RevocationRules.{Write, writes_in, words_after, revocation_writes}
@@ -27,13 +28,17 @@ use Rattle.core_world.specs.World.{World, with_word_and_known, logs}
 use Rattle.core_law.specs.BiasLaw.{BiasLaw, BiasLawHolds}
 use Rattle.core_law.specs.CountsAndVerdicts.{IsDecided, sum_below}
 use Rattle.plain_history.specs.EnterPaths.{PathFits, entries_on, is_by_bias}
+use Rattle.core_law.specs.BiasOwners.{IsFree, bias_owner}
 use Rattle.core_law.specs.MarksAndLogs.{is_anonymous}
 use Rattle.plain_history.specs.HeldByLog.{held_by, nothing_held}
 use Rattle.core_counts.specs.Moves.{IsGentle, Touched, OthersStay, LogsNothing}
-use Rattle.core_world.proofs.KnowledgeParts.{with_known_here, with_known_else}
+use Rattle.core_counts.specs.inner.FreeBiases.{TakesFreeBiases}
+use Rattle.core_world.proofs.KnowledgeParts.{by_equal, with_known_here, with_known_else}
 use Rattle.core_counts.proofs.Walks.{revokes_gently, verdict_of}
-use Rattle.core_counts.proofs.Whole.{revocation_law, fewer_revoked, revoked_here, bulk_revokes}
-use Rattle.core_counts.proofs.Leaning.{leans_by_mark}
+use Rattle.core_counts.proofs.Whole.{revocation_law, fewer_revoked, revoked_here, rebiased_here, rebiased_more, bulk_rebiases, bulk_revokes}
+use Rattle.core_counts.proofs.FarWords.{IsFar, left_alone}
+use Rattle.core_counts.proofs.Leaning.{leans_by_mark, still_leans}
+use Rattle.core_counts.proofs.Owners.{unbiased_unowned}
 -- The world w is in the middle of a revocation, all of whose stores are made; its requester releases, and then knows l. What its object's mark
 -- was before the first store, the first premise says, and what it is now the last but one.
 use Rattle.core_world.proofs.NoWordChanges.{one_requester}
@@ -42,7 +47,7 @@ module _ (w : World) (P : List PlainObject) (s : IsRevoking w P) (leaner : ℕ) 
     (l : Known) (word : ℕ) (took : Bool) (same_log : l.log ≡ (s.before.known s.requester).log) (same_counts : l.counts ≡ (w.known s.requester).counts) (same_unfinished : l.unfinished ≡ (w.known s.requester).unfinished)
     (stage_now : l.stage ≡ stage_after took s.revocation.object) (within : s.requester < s.before.shape.threads) (class_within : class_of s.before.shape s.revocation.object < s.before.shape.classes)
     (taken : took ≡ true → lock (with_word_and_known Safepoint word s.requester l w) s.revocation.object ≡ BiasedTo s.requester) (dropped : took ≡ false → is_biased (marks w s.revocation.object) ≡ false)
-    (unheld : took ≡ true → held_by nothing_held (s.before.known s.requester).log s.revocation.object ≡ 0) where
+    (unheld : took ≡ true → held_by nothing_held (s.before.known s.requester).log s.revocation.object ≡ 0) (by_rebias : took ≡ true → (verdict_of s.before.shape s.revocation s.before.words).0 ≡ BulkRebias) where
   abbrev b : World
   b = s.before
 
@@ -69,8 +74,8 @@ module _ (w : World) (P : List PlainObject) (s : IsRevoking w P) (leaner : ℕ) 
       append_none [] = refl
       append_none (z ∷ ws) = ap (λ r. z ∷ r) (append_none ws)
 
-  gentle : IsGentle (Touched b.shape o d.0) (with_word (Revocations c) d.1 b.words) w.words
-  gentle = subst (IsGentle (Touched b.shape o d.0) (with_word (Revocations c) d.1 b.words)) (sym all_made) (revokes_gently b.shape t s.revocation b.words)
+  gentle : IsGentle o (Touched b.shape o d.0) (with_word (Revocations c) d.1 b.words) w.words
+  gentle = subst (IsGentle o (Touched b.shape o d.0) (with_word (Revocations c) d.1 b.words)) (sym all_made) (revokes_gently b.shape t s.revocation b.words)
 
   -- nobody runs before, so all threads are in the middle of nothing
   calm : (u : ℕ) → (b.known u).stage ≡ Calm
@@ -127,11 +132,20 @@ module _ (w : World) (P : List PlainObject) (s : IsRevoking w P) (leaner : ℕ) 
       by_took true e g = let r = by_test (o == i) refl (ap (λ (k : Bool). path_into (stage_after k o) i) (sym e) ∙ g) in (e, r.0, r.1)
       by_took false e g = absurd (let k = ap (λ (k : Bool). path_into (stage_after k o) i) e in cc (k, g))
 
+  takes_it : took ≡ true → path_into (x.known t).stage o ≡ Some BiasTaken
+  takes_it e = ap (λ g. path_into g o) stage_is ∙ ap (λ (k : Bool). path_into (stage_after k o) o) e ∙ ap (λ (k : Bool). cond k (Some BiasTaken) None) (eq-eqb o o refl)
+
+  -- the object's mark is biased to nobody, or to the thread, where that took the bias
+  own_owner : (u : ℕ) → bias_owner (marks x o) ≡ Some u → (q : Bool) → took ≡ q → (i : ℕ) → i ≡ o
+      → (bias_owner (marks b i) ≡ Some u) ⊎ ((u ≡ t) × (path_into (x.known t).stage i ≡ Some BiasTaken))
+  own_owner u h true e i same = inr (same_Some u t (sym h ∙ (leans_by_mark x o t (taken e)).2), ap (λ j. path_into (x.known t).stage j) same ∙ takes_it e)
+  own_owner u h false e i same = absurd (let none = unbiased_unowned (marks w o) (dropped e) in cc (none, h))
+
   was_decided : IsDecided (marks x) (x.known t).stage (Some (record { op = s.operation; object = o }))
   was_decided = by_took took refl
     where
       by_took : (q : Bool) → took ≡ q → (is_biased (marks x o) ≡ false) ⊎ (path_into (x.known t).stage o ≡ Some BiasTaken)
-      by_took true e = inr (ap (λ g. path_into g o) stage_is ∙ ap (λ (k : Bool). path_into (stage_after k o) o) e ∙ ap (λ (k : Bool). cond k (Some BiasTaken) None) (eq-eqb o o refl))
+      by_took true e = inr (takes_it e)
       by_took false e = inl (dropped e)
 
   -- its verdict was counted on the class
@@ -140,14 +154,35 @@ module _ (w : World) (P : List PlainObject) (s : IsRevoking w P) (leaner : ℕ) 
       (λ e. b.words (Revocations e)) (λ u. counts_of (b.known u).counts) (marks x) (lock x) (λ u. (x.known u).stage) (λ u. (x.known u).unfinished) t law
       c (b.words (LastBulk c)) s.revocation.now (record { op = s.operation; object = o }) (λ u. counts_of (x.known u).counts) (λ e. x.words (Revocations e)) within class_within (ap counts_of counts_now) (λ u n. ap counts_of (counts_else u n)) count_here count_else
 
+  more_rebiased : sum_below b.shape.threads (λ v. (counts_of (x.known v).counts c).rebias) ≡ sum_below b.shape.threads (λ v. (counts_of (b.known v).counts c).rebias) + bulk_rebiases d.0
+  more_rebiased = rebiased_here b.biasing b.shape.threads b.shape.classes (class_of b.shape) (marks b) (lock b) (λ i. entries_on i (order (logs b))) (λ u. (b.known u).log) (λ u. (b.known u).stage) (λ u. (b.known u).unfinished)
+      (λ e. b.words (Revocations e)) (λ u. counts_of (b.known u).counts) (marks x) (lock x) (λ u. (x.known u).stage) (λ u. (x.known u).unfinished) t law
+      c (b.words (LastBulk c)) s.revocation.now (record { op = s.operation; object = o }) (λ u. counts_of (x.known u).counts) (λ e. x.words (Revocations e)) within class_within (ap counts_of counts_now) (λ u n. ap counts_of (counts_else u n)) count_here count_else
+
+  still_unrevoked : (e : ℕ) → sum_below b.shape.threads (λ u. (counts_of (x.known u).counts e).revoke) ≡ 0 → sum_below b.shape.threads (λ u. (counts_of (b.known u).counts e).revoke) ≡ 0
+  still_unrevoked = fewer_revoked b.biasing b.shape.threads b.shape.classes (class_of b.shape) (marks b) (lock b) (λ i. entries_on i (order (logs b))) (λ u. (b.known u).log) (λ u. (b.known u).stage) (λ u. (b.known u).unfinished)
+      (λ e. b.words (Revocations e)) (λ u. counts_of (b.known u).counts) (marks x) (lock x) (λ u. (x.known u).stage) (λ u. (x.known u).unfinished) t law
+      c (b.words (LastBulk c)) s.revocation.now (record { op = s.operation; object = o }) (λ u. counts_of (x.known u).counts) (λ e. x.words (Revocations e)) within class_within (ap counts_of counts_now) (λ u n. ap counts_of (counts_else u n)) count_here count_else
+
+  -- a class that is revoked in bulk now is counted so
+  revoked_now : d.0 ≡ BulkRevoke → (i : ℕ) → class_of b.shape i ≡ c → sum_below b.shape.threads (λ u. (counts_of (x.known u).counts (class_of b.shape i)).revoke) ≡ 0 → ⊥
+  revoked_now e i q r =
+      let k = ap bulk_revokes e in
+      let n : sum_below b.shape.threads (λ u. (counts_of (x.known u).counts c).revoke) ≡ 0 = subst (λ j. sum_below b.shape.threads (λ u. (counts_of (x.known u).counts j).revoke) ≡ 0) q r in
+      omega (arith, k, n, more)
+
+  -- and one that is rebiased in bulk is counted so
+  abbrev IsRebiased : ℕ → Type 0
+  IsRebiased e = sum_below s.before.shape.threads (λ u. (counts_of (s.before.known u).counts e).rebias) < sum_below s.before.shape.threads (λ u. (counts_of ((with_word_and_known Safepoint word s.requester l w).known u).counts e).rebias)
+
+  rebiased_now : d.0 ≡ BulkRebias → (i : ℕ) → class_of b.shape i ≡ c → IsRebiased (class_of b.shape i)
+  rebiased_now e i q = let k = ap bulk_rebiases e in subst IsRebiased (sym q) (omega (arith, k, more_rebiased))
+
   -- an object of a class that isn't revoked in bulk stays biased to nobody
   untouched : (v : Verdict) → d.0 ≡ v → (i : ℕ) → sum_below b.shape.threads (λ u. (counts_of (x.known u).counts (class_of b.shape i)).revoke) ≡ 0 → is_anonymous (marks b i) ≡ true → Touched b.shape o v i → ⊥
   untouched Single e i r h q = absurd (let k = ap (λ j. is_anonymous (marks b j)) q in cc (k, h, not_anonymous))
   untouched BulkRebias e i r h q = absurd (let k = ap (λ j. is_anonymous (marks b j)) q in cc (k, h, not_anonymous))
-  untouched BulkRevoke e i r h q =
-      let k = ap bulk_revokes e in
-      let n : sum_below b.shape.threads (λ u. (counts_of (x.known u).counts c).revoke) ≡ 0 = subst (λ j. sum_below b.shape.threads (λ u. (counts_of (x.known u).counts j).revoke) ≡ 0) q r in
-      absurd (omega (arith, k, n, more))
+  untouched BulkRevoke e i r h q = absurd (revoked_now e i q r)
 
   rest_stays : OthersStay t (λ u. (b.known u).log) (λ u. (b.known u).stage) (λ u. (b.known u).unfinished) (λ u. (b.known u).log) (λ u. (x.known u).stage) (λ u. (x.known u).unfinished)
   rest_stays = record {
@@ -160,15 +195,52 @@ module _ (w : World) (P : List PlainObject) (s : IsRevoking w P) (leaner : ℕ) 
       (λ e. sum_below b.shape.threads (λ u. (counts_of (b.known u).counts e).revoke)) (marks x) (lock x) (λ u. (x.known u).stage) (λ u. (x.known u).unfinished) (λ e. sum_below b.shape.threads (λ u. (counts_of (x.known u).counts e).revoke))
   quietly = record {
     pattern = λ i h. gentle.pattern i h;
+    owners = λ i u h. by_equal i o (λ e. own_owner u (ap (λ j. bias_owner (marks x j)) (sym e) ∙ h) took refl i e) (λ n. inl (gentle.owners i u n h));
     leans = λ i u path n h g. absurd (let k = into_none u i in cc (k, h));
     biased = λ i path h g. let k = into_took i path h in ap (lock x) (sym k.1) ∙ taken k.0;
     unbiased = λ i path h g. absurd (let k = into_took i path h in let j = ap is_by_bias k.2 in cc (j, g));
     taking = λ i h. absurd (let k = into_none t i in cc (k, h));
     hash = λ i h. open_now ∙ h;
     nobody = λ e i r f h. inl (gentle.nobody i (λ q. untouched d.0 refl i r h q) h);
-    fewer = fewer_revoked b.biasing b.shape.threads b.shape.classes (class_of b.shape) (marks b) (lock b) (λ i. entries_on i (order (logs b))) (λ u. (b.known u).log) (λ u. (b.known u).stage) (λ u. (b.known u).unfinished)
+    fewer = still_unrevoked;
+  }
+
+  -- a bias that is free afterwards was free before, or its class is rebiased in bulk
+  abbrev WasFree : ℕ → Type 0
+  WasFree = IsFree (class_of s.before.shape) (marks s.before) (lock s.before) (λ e. sum_below s.before.shape.threads (λ u. (counts_of (s.before.known u).counts e).revoke))
+
+  abbrev NowFree : ℕ → Type 0
+  NowFree = IsFree (class_of s.before.shape) (marks (with_word_and_known Safepoint word s.requester l w)) (lock (with_word_and_known Safepoint word s.requester l w))
+      (λ e. sum_below s.before.shape.threads (λ u. (counts_of ((with_word_and_known Safepoint word s.requester l w).known u).counts e).revoke))
+
+  far_free : (i : ℕ) → IsFar b.shape o d.0 i → NowFree i → WasFree i
+  far_free i far f =
+      let alone = left_alone b.shape t s.revocation i b.words far in
+      let mark : marks x i ≡ marks b i = ap (λ (g : Name → ℕ). g (Mark i)) all_made ∙ alone.0 in
+      let prototype : prototype_of x i ≡ prototype_of b i =
+      ap (λ (z : Shape). w.words (Prototype (class_of z i))) s.shape ∙ ap (λ (g : Name → ℕ). g (Prototype (class_of b.shape i))) all_made ∙ alone.1 in
+      (still_unrevoked (class_of b.shape i) f.0, ap is_biased (sym mark) ∙ f.1, λ u h. f.2 u (still_leans b x i mark prototype u h))
+
+  own_unfree : (i : ℕ) → i ≡ o → NowFree i → ⊥
+  own_unfree i same f = by_took took refl
+    where
+      by_took : (q : Bool) → took ≡ q → ⊥
+      by_took true e = f.2 t (ap (lock x) same ∙ taken e)
+      by_took false e = let none = dropped e in let biased = ap (λ j. is_biased (marks x j)) (sym same) ∙ f.1 in cc (none, biased)
+
+  freed : (v : Verdict) → d.0 ≡ v → (i : ℕ) → NowFree i → WasFree i ⊎ IsRebiased (class_of b.shape i)
+  freed Single e i f = by_equal i o (λ q. absurd (own_unfree i q f)) (λ n. inl (far_free i (subst (λ v. IsFar b.shape o v i) (sym e) n) f))
+  freed BulkRebias e i f = by_equal (class_of b.shape i) c (λ q. inr (rebiased_now e i q)) (λ n. inl (far_free i (subst (λ v. IsFar b.shape o v i) (sym e) n) f))
+  freed BulkRevoke e i f = by_equal (class_of b.shape i) c (λ q. absurd (revoked_now e i q f.0)) (λ n. inl (far_free i (subst (λ v. IsFar b.shape o v i) (sym e) n) f))
+
+  takes_free : TakesFreeBiases t (class_of b.shape) (marks b) (lock b) (λ u. (b.known u).stage) (λ e. sum_below b.shape.threads (λ u. (counts_of (b.known u).counts e).rebias)) (λ e. sum_below b.shape.threads (λ u. (counts_of (b.known u).counts e).revoke))
+      (marks x) (lock x) (λ u. (x.known u).stage) (λ e. sum_below b.shape.threads (λ u. (counts_of (x.known u).counts e).rebias)) (λ e. sum_below b.shape.threads (λ u. (counts_of (x.known u).counts e).revoke))
+  takes_free = record {
+    more = rebiased_more b.biasing b.shape.threads b.shape.classes (class_of b.shape) (marks b) (lock b) (λ i. entries_on i (order (logs b))) (λ u. (b.known u).log) (λ u. (b.known u).stage) (λ u. (b.known u).unfinished)
         (λ e. b.words (Revocations e)) (λ u. counts_of (b.known u).counts) (marks x) (lock x) (λ u. (x.known u).stage) (λ u. (x.known u).unfinished) t law
         c (b.words (LastBulk c)) s.revocation.now (record { op = s.operation; object = o }) (λ u. counts_of (x.known u).counts) (λ e. x.words (Revocations e)) within class_within (ap counts_of counts_now) (λ u n. ap counts_of (counts_else u n)) count_here count_else;
+    comes = λ i h. let k = into_took i BiasTaken h in inr (inr (rebiased_now (by_rebias k.0) i (ap (class_of b.shape) (sym k.1))));
+    free = freed d.0 refl;
   }
 
   path_fits : (i : ℕ) (path : Path) → path_into (x.known t).stage i ≡ Some path → PathFits (held_by nothing_held (b.known t).log) (entry.Enter i path)
@@ -188,4 +260,4 @@ module _ (w : World) (P : List PlainObject) (s : IsRevoking w P) (leaner : ℕ) 
   released = revocation_law b.biasing b.shape.threads b.shape.classes (class_of b.shape) (marks b) (lock b) (λ i. entries_on i (order (logs b))) (λ u. (b.known u).log) (λ u. (b.known u).stage) (λ u. (b.known u).unfinished)
       (λ e. b.words (Revocations e)) (λ u. counts_of (b.known u).counts) (marks x) (lock x) (λ u. (x.known u).stage) (λ u. (x.known u).unfinished) t law
       c (b.words (LastBulk c)) s.revocation.now (record { op = s.operation; object = o }) (λ u. counts_of (x.known u).counts) (λ e. x.words (Revocations e)) within class_within (ap counts_of counts_now) (λ u n. ap counts_of (counts_else u n)) count_here count_else
-      (biased_heap b.biasing refl) open_before (open_now ∙ open_before) was (into_none t o) was_decided rest_stays quietly path_fits
+      (biased_heap b.biasing refl) open_before (open_now ∙ open_before) was (into_none t o) was_decided rest_stays quietly takes_free path_fits

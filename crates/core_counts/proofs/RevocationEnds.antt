@@ -26,7 +26,7 @@ use Rattle.core_law.specs.BiasLaw.{BiasLaw, BiasLawHolds}
 use Rattle.core_counts.specs.Steps.{MayEndRevocation}
 use Rattle.core_world.specs.Trees.BiasSteps.{stage_after}
 use Rattle.core_world.specs.Trees.SafepointSteps.{release_plan}
-use Rattle.core_counts.proofs.ObjectLeft.{requester_within, valid_leans, leaves_object}
+use Rattle.core_counts.proofs.ObjectLeft.{requester_within, valid_leans, took_by_rebias, leaves_object}
 use Rattle.core_counts.specs.Steps.{LeavesObject}
 use Rattle.core_counts.proofs.Holds.{held_named}
 use Rattle.core_counts.proofs.Leaning.{LeansTo, leans, still_leans}
@@ -90,7 +90,7 @@ module _ (w : World) (P : List PlainObject) (s : IsRevoking w P) (e : Purpose) (
   after_release : BiasLaw b.biasing b.shape.threads b.shape.classes (class_of b.shape) (marks x) (lock x) (λ i. entries_on i (order (logs b))) (λ u. (b.known u).log) (λ u. (x.known u).stage)
       (λ u. (x.known u).unfinished) (λ c. x.words (Revocations c)) (λ u. counts_of (x.known u).counts)
   after_release = released w P s leaner.0 (leans b o leaner.0 leaner.1) law may.over l (released_word t) took log_is refl may.goes_on refl within
-      (class_within b.shape.objects b.shape.classes o s.fits.limits.each s.object) taken left.dropped unheld
+      (class_within b.shape.objects b.shape.classes o s.fits.limits.each s.object) taken left.dropped unheld (λ h. took_by_rebias w P s may.over (sym may.says ∙ h))
 
   -- nobody has logged anything since the revocation began
   log_now : (u : ℕ) → (x.known u).log ≡ (b.known u).log

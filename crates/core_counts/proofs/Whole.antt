@@ -1,5 +1,5 @@
 -- The whole bias law after a step that logs an entry, after a quiet step, and after a revocation.
-use Rattle.std.proofs.Common.{◌≡◌, ◌≢◌, ◌⊎◌, ℕ, ◌+◌, ◌<◌, ◌==◌, ◌||◌, eq-eqb, ne_eqb, cond, Bool, true, false, List, [], ◌∷◌, ◌++◌, length, Option, Some, None, refl, sym, ap, ◌∙◌, subst, arith, inl}
+use Rattle.std.proofs.Common.{◌≡◌, ◌≢◌, ◌⊎◌, ℕ, ◌+◌, ◌<◌, ◌≤◌, ◌==◌, ◌||◌, eq-eqb, ne_eqb, cond, Bool, true, false, List, [], ◌∷◌, ◌++◌, length, Option, Some, None, refl, sym, ap, ◌∙◌, subst, arith, inl}
 use Rattle.std.specs.List.{list_any}
 use Rattle.lock_policy.specs.declared.policy.Verdict.{Verdict}
 use Rattle.lock_policy.specs.declared.policy.Verdict.TheVariants.{Single, BulkRebias, BulkRevoke}
@@ -8,6 +8,7 @@ use Rattle.plain_monitor.specs.declared.entry.Entry.{Entry}
 use Rattle.plain_monitor.specs.declared.entry.Entry.TheVariants as entry
 use Rattle.plain_monitor.specs.declared.entry.Logged.{Logged}
 use Rattle.plain_monitor.specs.declared.entry.Path.{Path}
+use Rattle.plain_monitor.specs.declared.entry.Path.TheVariants.{BiasOwn, BiasTaken}
 use Rattle.plain_history.specs.Tied.{bound_to, is_same_object}
 use Rattle.core_world.specs.declared.stage.Stage.{Stage}
 use Rattle.core_world.specs.declared.task.Unfinished.{Unfinished}
@@ -20,12 +21,15 @@ use Rattle.core_law.specs.CountsAndVerdicts.{CountFits, VerdictsFit, IsDecided, 
 use Rattle.plain_history.specs.EnterPaths.{PathFits, needs_bias}
 use Rattle.plain_history.specs.HeldByLog.{held_by, nothing_held}
 use Rattle.core_counts.specs.Moves.{LeansByMark, BiasesKept, OthersStay, LogsEntry, LogsNothing}
+use Rattle.core_counts.specs.inner.FreeBiases.{TakesFreeBiases}
 use Rattle.core_world.proofs.KnowledgeParts.{by_equal}
 use Rattle.core_world.proofs.Frames.{frame5}
 use Rattle.core_counts.proofs.Counts.{counted_fits}
 use Rattle.plain_history.proofs.EntriesOn.{any_push}
 use Rattle.core_counts.proofs.Enters.{entry_keeps, is_by}
+use Rattle.core_counts.proofs.Owners.{entry_keeps_owners, quiet_keeps_owners}
 use Rattle.core_counts.proofs.Quiets.{quiet_keeps}
+use Rattle.core_counts.proofs.Takings.{entry_keeps_takings, quiet_keeps_takings}
 use Rattle.core_counts.proofs.Paths.{entry_keeps_paths, quiet_keeps_paths, entry_keeps_verdicts, quiet_keeps_verdicts, revocation_keeps_verdicts, sum_same, sum_more}
 
 -- by how much a verdict raises each part of the counts
@@ -33,7 +37,7 @@ abbrev singles : Verdict → ℕ
 singles Single = 1
 singles _ = 0
 
-abbrev bulk_rebiases : Verdict → ℕ
+abbrev pub bulk_rebiases : Verdict → ℕ
 bulk_rebiases BulkRebias = 1
 bulk_rebiases _ = 0
 
@@ -61,6 +65,8 @@ module _ (biasing : Bool) (threads classes : ℕ) (class mark : ℕ → ℕ) (lo
   entry_law y entries2 log2 none by_mark kept others a = record {
     marks = entry_keeps biasing class mark lock entries log stage unfinished _ mark2 lock2 entries2 log2 stage2 unfinished2 t y law.marks by_mark kept others a;
     paths = entry_keeps_paths log stage log2 stage2 t y law.paths others.logs others.stages a.grows a.left a.enters;
+    taken = entry_keeps_owners mark entries log stage unfinished mark2 entries2 log2 stage2 unfinished2 t y law.taken kept.owners (λ i into. (by_mark i t (law.marks.biased t i BiasOwn into refl)).2) others a;
+    few = entry_keeps_takings class mark lock entries log stage unfinished _ _ mark2 lock2 entries2 log2 stage2 unfinished2 t y law.few (λ u i h. law.marks.biased u i BiasTaken h refl) kept others a;
     count_fits = law.count_fits;
     verdicts = λ u. by_equal u t
         (λ e. subst (λ v. VerdictsFit mark2 (sum_below classes (λ c. verdicts_on (counts v c))) (log2 v) (stage2 v) (unfinished2 v)) (sym e)
@@ -88,11 +94,14 @@ module _ (biasing : Bool) (threads classes : ℕ) (class mark : ℕ → ℕ) (lo
   -- A QUIET STEP
   pub quiet_law : OthersStay t log stage unfinished log stage2 unfinished2
       → LogsNothing biasing t class mark lock entries stage unfinished (λ c. sum_below threads (λ u. (counts u c).revoke)) mark2 lock2 stage2 unfinished2 (λ c. sum_below threads (λ u. (counts u c).revoke))
+      → TakesFreeBiases t class mark lock stage (λ c. sum_below threads (λ u. (counts u c).rebias)) (λ c. sum_below threads (λ u. (counts u c).revoke)) mark2 lock2 stage2 (λ c. sum_below threads (λ u. (counts u c).rebias)) (λ c. sum_below threads (λ u. (counts u c).revoke))
       → ((i : ℕ) (path : Path) → path_into (stage2 t) i ≡ Some path → PathFits (held_by nothing_held (log t)) (entry.Enter i path)) → (unfinished2 t ≡ unfinished t) ⊎ (unfinished t ≡ None)
       → BiasLaw biasing threads classes class mark2 lock2 entries log stage2 unfinished2 count counts
-  quiet_law others a fits goes = record {
+  quiet_law others a free fits goes = record {
     marks = quiet_keeps biasing class mark lock entries log stage unfinished _ mark2 lock2 stage2 unfinished2 _ t law.marks others a;
     paths = quiet_keeps_paths log stage stage2 t law.paths others.stages fits;
+    taken = quiet_keeps_owners mark log stage mark2 stage2 t law.taken others.stages a.taking a.owners;
+    few = quiet_keeps_takings class mark lock entries stage _ _ mark2 lock2 stage2 _ _ t law.few others.stages free;
     count_fits = law.count_fits;
     verdicts = λ u. by_equal u t
         (λ e. subst (λ v. VerdictsFit mark2 (sum_below classes (λ c. verdicts_on (counts v c))) (log v) (stage2 v) (unfinished2 v)) (sym e)
@@ -157,6 +166,14 @@ module _ (biasing : Bool) (threads classes : ℕ) (class mark : ℕ → ℕ) (lo
     pub revoked_here : sum_below threads (λ v. (counts2 v c).revoke) ≡ sum_below threads (λ v. (counts v c).revoke) + bulk_revokes k
     revoked_here = sum_here (λ x. x.revoke) (bulk_revokes k) (revoke_more (counts t c) k)
 
+    pub rebiased_here : sum_below threads (λ v. (counts2 v c).rebias) ≡ sum_below threads (λ v. (counts v c).rebias) + bulk_rebiases k
+    rebiased_here = sum_here (λ x. x.rebias) (bulk_rebiases k) (rebias_more (counts t c) k)
+
+    pub rebiased_more : (d : ℕ) → sum_below threads (λ v. (counts v d).rebias) ≤ sum_below threads (λ v. (counts2 v d).rebias)
+    rebiased_more d = by_equal d c
+        (λ e. let a = rebiased_here in subst (λ j. sum_below threads (λ v. (counts v j).rebias) ≤ sum_below threads (λ v. (counts2 v j).rebias)) (sym e) (omega (arith, a)))
+        (λ n. let a = sum_else (λ x. x.rebias) d n in omega (arith, a))
+
     -- the counts of the class fit afterwards
     fits_here : CountFits (count2 c) (summed threads counts2 c).single (summed threads counts2 c).rebias (summed threads counts2 c).revoke (summed threads counts2 c).reset
     fits_here = frame5 CountFits (sym new)
@@ -185,11 +202,14 @@ module _ (biasing : Bool) (threads classes : ℕ) (class mark : ℕ → ℕ) (lo
     pub revocation_law : biasing ≡ true → unfinished t ≡ Some u → unfinished2 t ≡ Some u → is_biased (mark u.object) ≡ true → path_into (stage t) u.object ≡ None
         → IsDecided mark2 (stage2 t) (Some u) → OthersStay t log stage unfinished log stage2 unfinished2
         → LogsNothing biasing t class mark lock entries stage unfinished (λ d. sum_below threads (λ v. (counts v d).revoke)) mark2 lock2 stage2 unfinished2 (λ d. sum_below threads (λ v. (counts2 v d).revoke))
+        → TakesFreeBiases t class mark lock stage (λ d. sum_below threads (λ v. (counts v d).rebias)) (λ d. sum_below threads (λ v. (counts v d).revoke)) mark2 lock2 stage2 (λ d. sum_below threads (λ v. (counts2 v d).rebias)) (λ d. sum_below threads (λ v. (counts2 v d).revoke))
         → ((i : ℕ) (path : Path) → path_into (stage2 t) i ≡ Some path → PathFits (held_by nothing_held (log t)) (entry.Enter i path))
         → BiasLaw biasing threads classes class mark2 lock2 entries log stage2 unfinished2 count2 counts2
-    revocation_law biased going going2 was calm was_decided others a fits = record {
+    revocation_law biased going going2 was calm was_decided others a free fits = record {
       marks = quiet_keeps biasing class mark lock entries log stage unfinished _ mark2 lock2 stage2 unfinished2 _ t law.marks others a;
       paths = quiet_keeps_paths log stage stage2 t law.paths others.stages fits;
+      taken = quiet_keeps_owners mark log stage mark2 stage2 t law.taken others.stages a.taking a.owners;
+      few = quiet_keeps_takings class mark lock entries stage _ _ mark2 lock2 stage2 _ _ t law.few others.stages free;
       count_fits = λ d. by_equal d c
           (λ e. subst (λ j. CountFits (count2 j) (summed threads counts2 j).single (summed threads counts2 j).rebias (summed threads counts2 j).revoke (summed threads counts2 j).reset) (sym e) fits_here) (fits_else d);
       verdicts = λ v. by_equal v t

@@ -1,5 +1,5 @@
 -- What a step changes of that which the bias law reads, and what it has to respect.
-use Rattle.std.specs.Prelude.{◌≡◌, ◌≢◌, ◌⊎◌, ℕ, Bool, true, false, List, [], ◌∷◌, ◌++◌, Option, Some, None}
+use Rattle.std.specs.Prelude.{◌≡◌, ◌≢◌, ◌⊎◌, ℕ, ◌<◌, ◌≤◌, Bool, true, false, List, [], ◌∷◌, ◌++◌, Option, Some, None}
 use Rattle.plain_monitor.specs.declared.entry.Entry.{Entry}
 use Rattle.plain_monitor.specs.declared.entry.Entry.TheVariants as entry
 use Rattle.plain_monitor.specs.declared.entry.Logged.{Logged}
@@ -19,16 +19,20 @@ use Rattle.core_world.specs.Locks.{Lock, BiasedTo}
 use Rattle.core_world.specs.Clauses.Safepoints.{IsUnfinished}
 use Rattle.core_world.specs.Threads.Stages.{path_into}
 use Rattle.plain_history.specs.EnterPaths.{ends_bias, first_path, is_by_bias, is_hash}
+use Rattle.core_law.specs.BiasOwners.{bias_owner}
 use Rattle.core_law.specs.MarksAndLogs.{is_anonymous}
 
 -- what a lock under a bias says of the mark, in every world
 abbrev pub LeansByMark : (ℕ → ℕ) → (ℕ → Lock) → Type 0
-LeansByMark mark lock = (i u : ℕ) → lock i ≡ BiasedTo u → (is_biased (mark i) ≡ true) × (is_anonymous (mark i) ≡ false)
+LeansByMark mark lock =
+    (i u : ℕ) → lock i ≡ BiasedTo u
+    → (is_biased (mark i) ≡ true) × (is_anonymous (mark i) ≡ false) × (bias_owner (mark i) ≡ Some u)
 
 -- each mark is as biased as it was
 pub record BiasesKept (mark : ℕ → ℕ) (lock : ℕ → Lock) (mark2 : ℕ → ℕ) (lock2 : ℕ → Lock) : Type 0 where
   pub pattern : (i : ℕ) → is_biased (mark2 i) ≡ is_biased (mark i)
   pub nobody : (i : ℕ) → is_anonymous (mark2 i) ≡ is_anonymous (mark i)
+  pub owners : (i : ℕ) → bias_owner (mark2 i) ≡ bias_owner (mark i)
   pub leans : (i u : ℕ) → lock i ≡ BiasedTo u → lock2 i ≡ BiasedTo u
 
 -- the other threads have what they had
@@ -63,6 +67,9 @@ pub record LogsNothing (biasing : Bool) (t : ℕ) (class mark : ℕ → ℕ) (lo
     (revoked2 : ℕ → ℕ) : Type 0 where
   -- no mark gets the bias pattern that hadn't it
   pub pattern : (i : ℕ) → is_biased (mark2 i) ≡ true → is_biased (mark i) ≡ true
+  -- a mark is biased to whom it was, or to the thread, which is taking the bias
+  pub owners : (i u : ℕ) → bias_owner (mark2 i) ≡ Some u
+      → (bias_owner (mark i) ≡ Some u) ⊎ ((u ≡ t) × (path_into (stage2 t) i ≡ Some BiasTaken))
   -- who is about to log an enter by a bias keeps it
   pub leans : (i u : ℕ) (path : Path) → u ≢ t → path_into (stage u) i ≡ Some path → lock i ≡ BiasedTo u
       → lock2 i ≡ BiasedTo u
@@ -81,9 +88,11 @@ pub record LogsNothing (biasing : Bool) (t : ℕ) (class mark : ℕ → ℕ) (lo
       ⊎ ((path_into (stage2 t) i ≡ Some BiasTaken) ⊎ IsUnfinished (unfinished2 t) op.Hash i)
   pub fewer : (c : ℕ) → revoked2 c ≡ 0 → revoked c ≡ 0
 
--- From these words to those no mark gets the bias pattern, and an object that was biased to nobody is so, but where Q says so.
-pub record IsGentle (Q : ℕ → Type 0) (f g : Name → ℕ) : Type 0 where
+-- From these words to those no mark gets the bias pattern, none but that of o gets another bias owner, and an object that was biased to
+-- nobody is so, but where Q says so.
+pub record IsGentle (o : ℕ) (Q : ℕ → Type 0) (f g : Name → ℕ) : Type 0 where
   pub pattern : (i : ℕ) → is_biased (g (Mark i)) ≡ true → is_biased (f (Mark i)) ≡ true
+  pub owners : (i u : ℕ) → i ≢ o → bias_owner (g (Mark i)) ≡ Some u → bias_owner (f (Mark i)) ≡ Some u
   pub nobody : (i : ℕ) → (Q i → ⊥) → is_anonymous (f (Mark i)) ≡ true → is_anonymous (g (Mark i)) ≡ true
   -- the counts stay
   pub counts : (c : ℕ) → g (Revocations c) ≡ f (Revocations c)

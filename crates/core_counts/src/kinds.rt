@@ -29,8 +29,8 @@ ghost use Rattle.core_locks.specs.MonitorLaws.{MayFetch, MaySaveCount, MayClaim,
 ghost use Rattle.core_locks.specs.SafepointLaws.{MayStop, MayResume, MayRequest, MayRelease, MayReleaseTaking, MayHalt};
 ghost use Rattle.core_locks.specs.ShotLaws.{MayKeepShot};
 ghost use Rattle.core_locks.specs.WakeLaws.{MayWakeNext, MayNotify, MayNotifyAll};
-ghost use Rattle.core_world.specs.Trees.DeflateSteps.{unname_plan, clean_plan, enring_plan, advance_plan};
-ghost use Rattle.core_locks.specs.DeflationLaws.{MayUnname, MayClean, MayEnring, MayAdvance};
+ghost use Rattle.core_world.specs.Trees.DeflateSteps.{detach_plan, clean_plan, enqueue_plan, advance_plan};
+ghost use Rattle.core_locks.specs.DeflationLaws.{MayDetach, MayClean, MayEnqueue, MayAdvance};
 ghost use Rattle.core_world.specs.declared.stage.Stage.TheVariants.{Takes};
 ghost use Rattle.core_law.specs.BiasLaw.{BiasLawHolds};
 ghost use Rattle.core_counts.specs.Steps.{SawNone, KeepsBiases};
@@ -54,7 +54,8 @@ pub fn steps_of_lock_records_keep_the_law_of_biases()
 /// The steps on words of monitors: claiming a position of the ring and loading the monitor there, preparing its words, and naming it in a mark.
 pub fn making_a_monitor_keeps_the_law_of_biases()
     ensures claimed { (e : Purpose) → KeepsBiases (λ w t. MayClaim (w.known t) e) (λ w t. claim_plan e) }
-    ensures fetched { (e : Purpose) (p : ℕ) → KeepsBiases (λ w t. MayFetch (w.known t) e p) (λ w t. fetch_plan e w.shape p) }
+    ensures fetched { (e : Purpose) (p : ℕ) → KeepsBiases (λ w t. MayFetch (w.known t) e p)
+        (λ w t. fetch_plan e w.shape p) }
     ensures owner { (e : Purpose) (m word : ℕ) → KeepsBiases
         (λ w t. MayPrepareOwner w.shape (w.known t) e m word)
         (λ w t. prepare_plan e (w.known t).stage (Owner m) word) }
@@ -77,9 +78,9 @@ pub fn making_a_monitor_keeps_the_law_of_biases()
 
 /// The steps that give an idle monitor back at a reached safepoint, and the release after them of a thread that gave itself a bias there.
 pub fn giving_a_monitor_back_keeps_the_law_of_biases()
-    ensures unnamed { (e : Purpose) (o m header : ℕ) → KeepsBiases
-        (λ w t. MayUnname w.shape (w.known t) e o m header)
-        (λ w t. unname_plan e (w.known t).stage o m header) }
+    ensures detached { (e : Purpose) (o m header : ℕ) → KeepsBiases
+        (λ w t. MayDetach w.shape (w.known t) e o m header)
+        (λ w t. detach_plan e (w.known t).stage o m header) }
     ensures owner { (e : Purpose) (m : ℕ)
         → KeepsBiases (λ w t. MayClean (w.known t) e m) (λ w t. clean_plan e (w.known t).stage (Owner m)) }
     ensures recursions { (e : Purpose) (m : ℕ)
@@ -88,8 +89,8 @@ pub fn giving_a_monitor_back_keeps_the_law_of_biases()
         → KeepsBiases (λ w t. MayClean (w.known t) e m) (λ w t. clean_plan e (w.known t).stage (Header m)) }
     ensures object { (e : Purpose) (m : ℕ)
         → KeepsBiases (λ w t. MayClean (w.known t) e m) (λ w t. clean_plan e (w.known t).stage (Object m)) }
-    ensures enringed { (e : Purpose) (m end : ℕ) → KeepsBiases (λ w t. MayEnring (w.known t) e m end)
-        (λ w t. enring_plan e (w.known t).stage w.shape end m) }
+    ensures enqueued { (e : Purpose) (m end : ℕ) → KeepsBiases (λ w t. MayEnqueue (w.known t) e m end)
+        (λ w t. enqueue_plan e (w.known t).stage w.shape end m) }
     ensures advanced { (e : Purpose) (m end : ℕ) → KeepsBiases
         (λ w t. MayAdvance w.shape (w.known t) e m end)
         (λ w t. advance_plan e (w.known t).stage end) }
@@ -135,7 +136,8 @@ pub fn steps_of_the_journal_keep_the_law_of_biases()
         (λ w t. wake_next_plan e o u (n + 1)) }
 {}
 
-/// The steps on the safepoint word, but for the release that ends a revocation.
+/// The steps on the safepoint word, but for the release that ends a revocation, and that of a thread which gave itself a bias: this one stands with
+/// the steps that give monitors back, behind which it comes.
 pub fn steps_of_the_safepoint_keep_the_law_of_biases()
     ensures stops { (e : Purpose) → KeepsBiases (λ w t. MayStop (w.known t) e) (λ w t. stop_plan e t) }
     ensures resumes { (e : Purpose) (word : ℕ) → KeepsBiases (λ w t. MayResume (w.known t) e word)

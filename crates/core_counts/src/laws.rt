@@ -57,11 +57,12 @@ pub fn a_quiet_step_keeps_enters_and_marks()
         → EntersFitMarks biasing class mark2 lock2 entries log stage2 unfinished2 revoked2 }
 {}
 
-/// What the stores of a revocation as a whole do to marks: none gets the bias pattern, and an anonymous mark stays so, but for the
-/// revocation's own object, and in a bulk revoke for the objects of its class. After its first store, the counts of classes stay.
+/// What the stores of a revocation as a whole do to marks: none gets the bias pattern, none but that of the revocation's own object gets
+/// another bias owner, and an anonymous mark stays so, but for the own object's, and in a bulk revoke for those of its class. After its
+/// first store, the counts of classes stay.
 pub fn a_revocation_is_gentle()
     ensures { (s : Shape) (t : ℕ) (b : Revocation) (f : Name → ℕ)
-        → IsGentle (Touched s b.object
+        → IsGentle b.object (Touched s b.object
         (decided (f (Revocations (class_of s b.object))) (f (LastBulk (class_of s b.object))) b.now).0)
         (with_word (Revocations (class_of s b.object))
         (decided (f (Revocations (class_of s b.object))) (f (LastBulk (class_of s b.object))) b.now).1 f)

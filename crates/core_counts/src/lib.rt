@@ -21,9 +21,10 @@ pub use laws::{
     the_opening_world_meets_the_law_of_biases,
 };
 pub use refused::{
-    no_bulk_rebias_at_a_count_below_20, no_bulk_revoke_at_a_count_below_40,
-    no_count_of_20_without_a_bulk_rebias, no_count_of_40_without_a_bulk_revoke,
-    no_enter_by_a_bias_that_has_ended, no_reset_that_is_not_counted,
+    no_bias_taken_more_often_than_rebiases_allow, no_bulk_rebias_at_a_count_below_20,
+    no_bulk_revoke_at_a_count_below_40, no_count_of_20_without_a_bulk_rebias,
+    no_count_of_40_without_a_bulk_revoke, no_enter_by_a_bias_that_has_ended,
+    no_enter_by_an_own_bias_that_was_not_taken, no_reset_that_is_not_counted,
     no_verdict_counted_twice_or_never,
 };
 pub use runs::the_law_of_biases_holds_of_runs;

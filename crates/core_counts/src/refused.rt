@@ -1,5 +1,6 @@
-//! Laws of wrong counts and of a wrong step: a verdict, a bulk operation or a reset that is counted wrongly, and an Enter by a bias that
-//! has ended. None leads to a world that meets the law of biases. The functions do nothing.
+//! Laws of wrong counts and of wrong steps: a verdict, a bulk operation or a reset that is counted wrongly, and an Enter by a bias that has
+//! ended, that its thread never took, or that was taken too often. None leads to a world that meets the law of biases. The functions do
+//! nothing.
 
 ghost use Rattle.std.specs.Prelude.{◌≡◌, ℕ, ◌<◌, ◌≤◌, true, false, List};
 ghost use Rattle.std.specs.List.{list_any};
@@ -7,6 +8,7 @@ ghost use Rattle.lock_policy.specs.declared.policy.Verdict.{Verdict};
 ghost use Rattle.lock_policy.specs.Policy.{decided, is_reset};
 ghost use Rattle.plain_monitor.specs.declared.entry.Entry.TheVariants.{Enter};
 ghost use Rattle.plain_monitor.specs.declared.entry.Path.{Path};
+ghost use Rattle.plain_monitor.specs.declared.entry.Path.TheVariants.{BiasOwn, BiasTaken};
 ghost use Rattle.plain_monitor.specs.Objects.{PlainObject};
 ghost use Rattle.plain_monitor.specs.Order.{order};
 ghost use Rattle.plain_history.specs.EnterPaths.{entries_on, ends_bias, is_by_bias};
@@ -16,9 +18,11 @@ ghost use Rattle.core_world.specs.Threads.Counts.{CountedVerdict, counts_of, wit
 ghost use Rattle.core_world.specs.Trees.Plans.{Purpose, logging_plan};
 ghost use Rattle.core_world.specs.Steps.{world_after};
 ghost use Rattle.core_world.specs.Valid.{Fits};
+ghost use Rattle.core_world.specs.Words.Shape.{class_of};
 ghost use Rattle.core_world.specs.World.{World, with_word_and_known, logs};
 ghost use Rattle.core_locks.specs.JournalLaws.{MayLogEnter};
-ghost use Rattle.core_law.specs.BiasLaw.{BiasLawHolds};
+ghost use Rattle.core_law.specs.BiasLaw.{BiasLawHolds, summed};
+ghost use Rattle.core_law.specs.TakenBiases.{has_taken, times_taken};
 ghost use Rattle.core_counts.specs.Miscounts.{NothingReset, with_counts, with_counts_of};
 
 /// A verdict that is counted twice, or never, where nothing of its class was reset and the class's count is below 41, at which it stays. Of
@@ -81,4 +85,24 @@ pub fn no_enter_by_a_bias_that_has_ended()
         → MayLogEnter w.shape (w.known t) o p path → Fits w objects → is_by_bias path ≡ true
         → list_any ends_bias (entries_on o (order (logs w))) ≡ true
         → BiasLawHolds (world_after (logging_plan (Enter o path) e (Stamp o) Load) t w) → ⊥ }
+{}
+
+/// A load of a stamp that logs an Enter by a bias of the thread's own, of an object of which the thread has logged no Enter with which
+/// it took the bias. It is refused from every world of which the other clauses hold.
+pub fn no_enter_by_an_own_bias_that_was_not_taken()
+    ensures { (w : World) (objects : List PlainObject) (t : ℕ) (e : Purpose) (o p : ℕ)
+        → t < w.shape.threads
+        → MayLogEnter w.shape (w.known t) o p BiasOwn → Fits w objects → has_taken o (w.known t).log ≡ false
+        → BiasLawHolds (world_after (logging_plan (Enter o BiasOwn) e (Stamp o) Load) t w) → ⊥ }
+{}
+
+/// A load of a stamp that logs an Enter with which its thread takes the bias of an object, where that was taken already once more than its
+/// class was rebiased in bulk. It is refused from every world of which the other clauses hold.
+pub fn no_bias_taken_more_often_than_rebiases_allow()
+    ensures { (w : World) (objects : List PlainObject) (t : ℕ) (e : Purpose) (o p : ℕ)
+        → t < w.shape.threads
+        → MayLogEnter w.shape (w.known t) o p BiasTaken → Fits w objects
+        → (summed w.shape.threads (λ u. counts_of (w.known u).counts) (class_of w.shape o)).rebias
+        < times_taken o (entries_on o (order (logs w)))
+        → BiasLawHolds (world_after (logging_plan (Enter o BiasTaken) e (Stamp o) Load) t w) → ⊥ }
 {}

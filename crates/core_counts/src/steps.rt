@@ -90,7 +90,8 @@ pub fn a_revocation_leaves_no_bias_or_its_own()
 {}
 
 /// The release that ends a revocation, all of whose stores are made, or a load at the same safepoint that does: where the law of biases held of the
-/// world before the first store, it holds of the world after that step, with the verdict counted.
+/// world before the first store, it holds of the world after that step, with the verdict counted. No tree makes that release (`core_bias`,
+/// `the_release_ends_the_revocation`).
 pub fn ending_a_revocation_keeps_the_law_of_biases()
     ensures released { (w : World) (objects : List PlainObject) (s : IsRevoking w objects) (e : Purpose) (took : Bool)
         → MayEndRevocation w objects s e took

@@ -21,6 +21,7 @@ use Rattle.core_law.specs.BiasLaw.{BiasLawHolds}
 use Rattle.core_law.specs.CountsAndVerdicts.{IsDecided, VerdictsFit}
 use Rattle.core_law.specs.MarksAndLogs.{IsHashed}
 use Rattle.core_law.specs.OfARun.{IsHashLogged, BiasesOfRun, VerdictsAtMost}
+use Rattle.core_law.specs.TakenBiases.{OwnsAreTaken}
 
 module _ (w : World) (P : List PlainObject) (v : Fits w P) (law : BiasLawHolds w) where
   log_is : (t : ℕ) → t < w.shape.threads → log_of (logs w) t ≡ (w.known t).log
@@ -43,6 +44,8 @@ module _ (w : World) (P : List PlainObject) (v : Fits w P) (law : BiasLawHolds w
     counts = law.count_fits;
     plain = law.plain;
     uncounted = law.uncounted;
+    taken = λ t within. subst OwnsAreTaken (sym (log_is t within)) (law.taken.logged t);
+    few = law.few.logged;
   }
 
   -- one more at most, and none where the thread has nothing unfinished

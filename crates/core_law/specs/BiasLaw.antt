@@ -14,6 +14,7 @@ use Rattle.core_world.specs.Locks.{Lock, lock, marks}
 use Rattle.core_world.specs.Words.Shape.{class_of}
 use Rattle.core_world.specs.Valid.{IsValidWith, ValidWith}
 use Rattle.core_world.specs.World.{World, logs}
+use Rattle.core_law.specs.BiasOwners.{BiasesTakenAtMost, OwnersHaveTaken}
 use Rattle.core_law.specs.MarksAndLogs.{EntersFitMarks, PathsFitHolds}
 use Rattle.core_law.specs.CountsAndVerdicts.{ClassFits, VerdictsFit, sum_below, verdicts_on}
 
@@ -34,6 +35,9 @@ pub record BiasLaw (biasing : Bool) (threads classes : ℕ) (class mark : ℕ �
   pub marks : EntersFitMarks biasing class mark lock entries log stage unfinished
       (λ c. (summed threads counts c).revoke)
   pub paths : PathsFitHolds log stage
+  pub taken : OwnersHaveTaken mark log stage
+  pub few : BiasesTakenAtMost class mark lock entries stage (λ c. (summed threads counts c).rebias)
+      (λ c. (summed threads counts c).revoke)
   pub count_fits : (c : ℕ) → ClassFits (count c) (summed threads counts c)
   pub verdicts : (t : ℕ) → VerdictsFit mark (sum_below classes (λ c. verdicts_on (counts t c))) (log t)
       (stage t) (unfinished t)

@@ -1,4 +1,6 @@
 pub mod MarksAndLogs
+pub mod TakenBiases
+pub mod BiasOwners
 pub mod CountsAndVerdicts
 pub mod BiasLaw
 pub mod OfARun

@@ -11,6 +11,7 @@ use Rattle.plain_history.specs.HeldByLog.{nothing_held}
 use Rattle.core_world.specs.Threads.Counts.{CountedVerdict, counts_of}
 use Rattle.core_law.specs.BiasLaw.{summed}
 use Rattle.core_law.specs.CountsAndVerdicts.{ClassFits, sum_below, verdicts_on}
+use Rattle.core_law.specs.TakenBiases.{OwnsAreTaken, times_taken}
 
 -- some thread has logged a Hash of o
 abbrev pub IsHashLogged : List (List Logged) → ℕ → Type 0
@@ -32,6 +33,11 @@ pub record BiasesOfRun (biasing : Bool) (threads : ℕ) (class : ℕ → ℕ) (l
   -- without biases no Enter has a bias path, and no verdict is counted
   pub plain : biasing ≡ false → (o : ℕ) → list_any needs_bias (entries_on o (order logs)) ≡ false
   pub uncounted : biasing ≡ false → (t c : ℕ) → verdicts_on (counts_of (counted t) c) ≡ 0
+  -- in each log an Enter by the path BiasOwn comes after one of its object by BiasTaken
+  pub taken : (t : ℕ) → t < threads → OwnsAreTaken (log_of logs t)
+  -- the bias of an object was taken at most once more than its class was rebiased in bulk
+  pub few : (o : ℕ) → times_taken o (entries_on o (order logs))
+      ≤ (summed threads (λ t. counts_of (counted t)) (class o)).rebias + 1
 
 -- each thread has counted, over all classes, at most `more` verdicts beyond its logged entries
 abbrev pub VerdictsAtMost : ℕ → ℕ → ℕ → List (List Logged) → (ℕ → List CountedVerdict) → Type 0

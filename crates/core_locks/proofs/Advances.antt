@@ -9,7 +9,7 @@ use Rattle.core_locks.proofs.Clauses.{kept_parts, parts_stand, seen, claims, mov
 use Rattle.core_locks.proofs.OwnSeen.{left_with, hit_world}
 use Rattle.core_locks.proofs.Standing.{IsStore, standing_seen, standing_step, fits_standing}
 use Rattle.core_locks.proofs.Steps.{handling, IsStep, next, step_fits, seen_next}
-use Rattle.core_locks.proofs.Enrings.{one_returned, one_leaver, one_position, gone, end_is, same_place, none_fetches}
+use Rattle.core_locks.proofs.Enqueues.{one_returned, one_leaver, one_position, gone, end_is, same_place, none_fetches}
 
 -- THE STORE OF THE END
 module _ (w : World) (P : List PlainObject) (t : ℕ) (e : Purpose) (m end : ℕ) (within : t < w.shape.threads) (may : MayAdvance w.shape (w.known t) e m end) (v : Fits w P) where

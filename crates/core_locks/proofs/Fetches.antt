@@ -1,6 +1,7 @@
 -- A running thread loads the place of the position that it claimed, and keeps the monitor that stands there.
-use Rattle.core_locks.proofs.Prelude.{◌≡◌, ◌≢◌, ℕ, ◌%◌, ◌<◌, ◌^◌, ◌||◌, true, List, length, Some, None, refl, sym, ap, ◌∙◌, subst, arith, inl, inr, same_Some, is_some, PlainObject, Name, Claim, End, Ring, StepPlan, inflation_in, bears, its_monitor, Known, Fetches, Returns, last_seen, World, with_known, owner_at, inflated_to, Stays, Purpose, Fits, MonitorsAreClaimed, claimed_or_kept, given_back, by_equal, each_with_known, with_known_here, with_known_else, with_word_same, header_stays, fits_running, stays_back, KeepsValid, MayFetch, fetch_plan, monitor_count, ring_bits, ring_places, IsValid, monitor_in, Mark}
+use Rattle.core_locks.proofs.Prelude.{◌≡◌, ◌≢◌, ℕ, ◌%◌, ◌<◌, ◌^◌, ◌||◌, true, List, length, Some, None, refl, sym, ap, ◌∙◌, subst, arith, inl, inr, same_Some, is_some, PlainObject, Name, Claim, End, Ring, StepPlan, inflation_in, bears, its_monitor, Known, Fetches, Returns, last_seen, World, with_known, owner_at, inflated_to, Stays, Purpose, Fits, MonitorsAreClaimed, claimed_or_kept, given_back, by_equal, each_with_known, with_known_here, with_known_else, with_word_same, header_stays, fits_running, stays_back, KeepsValid, MayFetch, fetch_plan, monitor_count, ring_bits, ring_places, IsValid}
 use Rattle.core_world.specs.Clauses.Claims.{With, Leaves}
+use Rattle.core_locks.specs.DeflationLaws.{IsOnlyFor}
 use Rattle.core_locks.proofs.Places.{with_same}
 use Rattle.core_locks.proofs.Clauses.{kept_parts, parts_stand, seen, claims, moves, AllHold}
 use Rattle.core_locks.proofs.Steps.{keeping, IsStep, next, step_fits, seen_next, quiet_step}
@@ -128,20 +129,23 @@ module _ (w : World) (P : List PlainObject) (t : ℕ) (e : Purpose) (p : ℕ) (w
 pub fetches_one : (e : Purpose) (p : ℕ) → KeepsValid (λ w t. MayFetch (w.known t) e p) (λ w t. fetch_plan e w.shape p)
 fetches_one e p w P t within may valid = inl (fetched_fits w P t e p within may (fits_running w P t may.runs valid))
 
--- the monitor that it finds is nobody's: no mark names it, and no thread keeps it
-pub of_nobody : (w : World) (P : List PlainObject) (t : ℕ) (e : Purpose) (p : ℕ) → MayFetch (w.known t) e p → IsValid w P
-    → (w.words (Ring (p % ring_places w.shape)) < monitor_count w.shape) × ((o : ℕ) → monitor_in (w.words (Mark o)) ≡ Some (w.words (Ring (p % ring_places w.shape))) → ⊥)
-    × ((u : ℕ) → (w.known u).kept ≡ Some (w.words (Ring (p % ring_places w.shape))) → ⊥)
+-- the monitor that it finds is nobody else's: no mark names it, no thread keeps it or gives it back, and no other has claimed its place
+pub of_nobody : (w : World) (P : List PlainObject) (t : ℕ) (e : Purpose) (p : ℕ) → MayFetch (w.known t) e p → IsValid w P → IsOnlyFor w t (w.words (Ring (p % ring_places w.shape)))
 of_nobody w P t e p may valid =
     let v = fits_running w P t may.runs valid in
-    let mine = v.claims.fetches t p may.claimed in (
-      mine.1,
-      λ o h. let here = mine.2 in let there = (v.claims.names o (w.words (Ring (p % ring_places w.shape))) h).1 in absurd (cc (here, there)),
-      λ u h.
+    let mine = v.claims.fetches t p may.claimed in
+    record {
+      there = mine.1;
+      unnamed = λ o h. let here = mine.2 in let there = (v.claims.names o (w.words (Ring (p % ring_places w.shape))) h).1 in absurd (cc (here, there));
+      unkept = λ u h.
           let there = (v.claims.keeps u (w.words (Ring (p % ring_places w.shape))) h).1 in
           let same : u ≡ t = one_keeper u t (sym there ∙ mine.2) in
-          let none = mine.0 in let some = ap (λ y. (w.known y).kept) (sym same) ∙ h in absurd (cc (none, some)),
-    )
+          let none = mine.0 in
+          let some = ap (λ y. (w.known y).kept) (sym same) ∙ h in
+          absurd (cc (none, some));
+      unclaimed = λ u q other h is. let there = (v.claims.fetches u q h).2 in other (one_keeper u t (sym there ∙ ap v.claims.place is ∙ mine.2));
+      unreturned = λ u h. let here = mine.2 in let there = (v.claims.returns u (w.words (Ring (p % ring_places w.shape))) h).1 in absurd (cc (here, there));
+    }
   where
     one_keeper : (u y : ℕ) → With u ≡ With y → u ≡ y
     one_keeper u y q = cc q

@@ -62,9 +62,9 @@ pub mod MonitorSeen
 pub mod Claims
 pub mod Fetches
 pub mod Standing
-pub mod Unnames
+pub mod Detaches
 pub mod Cleans
-pub mod Enrings
+pub mod Enqueues
 pub mod Advances
 pub mod Prepares
 pub mod EvenSteps
@@ -111,6 +111,8 @@ pub mod ShotTree
 pub mod RefutedSilent
 pub mod RefutedInflations
 pub mod RefutedMarks
+pub mod RefutedDeflations
+pub mod RefutedClaims
 pub mod RefutedOwners
 pub mod RefutedTaken
 pub mod RefutedWaits

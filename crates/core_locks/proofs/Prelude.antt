@@ -109,7 +109,7 @@ pub use Rattle.core_world.proofs.StampWords.{stamp_goes_on}
 pub use Rattle.core_locks.specs.Knowing.{KeepsValid, Logs, GoesOn, SawInflated, IsOut, SawOwn, LogsValid, LogsFound, FindsWord, HasHold, WorksFor, operation_of, IsOwnEntry}
 pub use Rattle.core_locks.specs.LoadLaws.{MayLoad, MayLoadSafepoint, MayLoadRequested, MayLoadOfMonitor}
 pub use Rattle.core_world.specs.Trees.LookSteps.{keep_shot_plan}
-pub use Rattle.core_locks.specs.WakeLaws.{MayWake, SawNoOther, MayWakeNext, MayNotify, MayNotifyAll, SawOldest}
+pub use Rattle.core_locks.specs.WakeLaws.{MayWake, SawNoOtherWaiter, MayWakeNext, MayNotify, MayNotifyAll, SawOldest}
 pub use Rattle.core_locks.specs.HashLaws.{MayHash, IsItsNext, IsHashless, HasRecord, MayFind, MayFindInRecord, MayFindInMonitor, HasHash, HasNoHash, hash_entry, MayDraw, MayDrawInMark, MayDrawInMonitor}
 pub use Rattle.core_locks.specs.LockLaws.{MayHold, MayLeave, MaySeize, MayClear, Precedes, MayDisplace, MayLetGo}
 pub use Rattle.core_locks.specs.MonitorLaws.{MayFetch, MayCount, MayDrop, MayQuit, MayRegain, MayRestore, MayTakeOver, IsReady, MayRaiseCount, MayLowerCount, MayResetCount, MayFree, MayClaim, MayPrepare, MayPrepareOwner, MayPrepareObject, MayName, MayNameNeutral, MayInflate, MayGrab, MaySaveCount}

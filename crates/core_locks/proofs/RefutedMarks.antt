@@ -1,5 +1,5 @@
 -- Stores and exchanges of an object's mark that lead to no valid world: where it would name a monitor, where it names one, and where it is 0.
-use Rattle.core_locks.proofs.Prelude.{with_known, ◌≡◌, ◌≢◌, ℕ, ◌||◌, Bool, true, false, List, Option, Some, None, refl, sym, ap, ◌∙◌, subst, inl, inr, read_mark, is_thread, PlainObject, Name, Mark, Owner, Header, StepPlan, Stage, Calm, Seizes, Inflates, is_neutral, is_biased, hash_in, monitor_in, Inflation, inflation_in, bears, Known, World, with_word_and_known, Open, OnRecord, lock, header, header_form, marks, displaced_words, headers, owner_words, prototype_of, inflations, who, holder, hold_count, owner_at, hash_at, Purpose, with_stage, store, swap, world_after, Fits, by_equal, with_known_here, with_known_else, each_with_known, same_Some, mark_zero, thread_is, arith, MarkForm, Inflating, Neutral, Anonymous, Biased, Locked, Inflated, Marked, OwnerForm, Free, ByThread, ByRecord, mark_of, read_owner, owner_of, read_mark-spells, monitor_form, is_biased_form, owner_lock, lock_form, with_own, Valid, IsMark, IsOwner, running_fits, lock_by_form, with_word_there, same_number, ◌+◌, ◌-◌, ◌%◌, ◌^◌, ◌<◌, ◌≤◌, Ring, ring_bits, monitor_count}
+use Rattle.core_locks.proofs.Prelude.{with_known, ◌≡◌, ◌≢◌, ℕ, ◌||◌, Bool, true, false, List, Option, Some, None, refl, sym, ap, ◌∙◌, subst, inl, inr, read_mark, is_thread, PlainObject, Name, Mark, Owner, Header, StepPlan, Stage, Calm, Seizes, Inflates, is_neutral, is_biased, hash_in, monitor_in, Inflation, inflation_in, bears, Known, World, with_word_and_known, Open, OnRecord, lock, header, header_form, marks, displaced_words, headers, owner_words, prototype_of, inflations, who, holder, hold_count, owner_at, hash_at, Purpose, with_stage, store, swap, world_after, Fits, by_equal, with_known_here, with_known_else, each_with_known, same_Some, mark_zero, thread_is, arith, MarkForm, Inflating, Neutral, Anonymous, Biased, Locked, Inflated, Marked, OwnerForm, Free, ByThread, ByRecord, mark_of, read_owner, owner_of, read_mark-spells, monitor_form, is_biased_form, owner_lock, Fetches, Returns, lock_form, with_own, Valid, IsMark, IsOwner, running_fits, lock_by_form, with_word_there, same_number, ◌+◌, ◌-◌, ◌%◌, ◌^◌, ◌<◌, ◌≤◌, Ring, ring_bits, monitor_count}
 use Rattle.core_world.specs.Clauses.Claims.{Place, With, At, Leaves, InRing}
 use Rattle.core_world.proofs.Rings.{ring_few, place_of_word}
 use Rattle.core_locks.proofs.Claims.{next_word}
@@ -130,13 +130,11 @@ no_owner_exchanged w o m t mark e v runs found neutral owned valid =
     owner_is_free w v.objects a.0 o m _ t (knows plan t w) refl refl refl test.1 (running_fits w v t runs) a.1 was owned
 
 -- A MARK THAT NAMES A MONITOR is stored over: nobody keeps the monitor or gives it back, no mark names it, and it isn't in the ring.
-module _ (w : World) (P Q : List PlainObject) (o m n t : ℕ) (l : Known) (kept : (a : ℕ) → l.kept ≡ Some a → (w.known t).kept ≡ Some a) (moving : l.moving ≡ (w.known t).moving) (before : Fits w P)
+module _ (w : World) (P Q : List PlainObject) (o m n t : ℕ) (l : Known) (kept : (a : ℕ) → l.kept ≡ Some a → (w.known t).kept ≡ Some a) (fetches : (p : ℕ) → l.moving ≡ Fetches p → (w.known t).moving ≡ Fetches p)
+    (returns : l.moving ≡ Returns m → (w.known t).moving ≡ Returns m) (before : Fits w P)
     (afterwards : Fits (with_word_and_known (Mark o) n t l w) Q) (names : monitor_in (marks w o) ≡ Some m) (other : monitor_in n ≢ Some m) where
   was : (m < monitor_count w.shape) × (before.claims.place m ≡ At o)
   was = before.claims.names o m names
-
-  moving_same : (u : ℕ) → (with_known t l w.known u).moving ≡ (w.known u).moving
-  moving_same u = each_with_known (λ u k. k.moving ≡ (w.known u).moving) t l w.known u moving (λ d. refl)
 
   -- the same positions, counted modulo 2 ^ 64
   as_many : before.claims.ringed ≡ afterwards.claims.ringed
@@ -162,17 +160,17 @@ module _ (w : World) (P Q : List PlainObject) (o m n t : ℕ) (l : Known) (kept 
   no_place : (a : Place) → afterwards.claims.place m ≡ a → ⊥
   no_place (With h) e = elim (afterwards.claims.kept_there h m was.0 e) [
     | inl k ↦ kept_apart before.claims h o m (each_with_known (λ u k. k.kept ≡ Some m → (w.known u).kept ≡ Some m) t l w.known h (kept m) (λ d e. e) k) names
-    | inr k ↦ let it = was.1 in let there = ap before.claims.place (sym k.2) ∙ (before.claims.fetches h k.0 (sym (moving_same h) ∙ k.1)).2 in absurd (cc (it, there))
+    | inr k ↦ let it = was.1 in let there = ap before.claims.place (sym k.2) ∙ (before.claims.fetches h k.0 (each_with_known (λ u y. y.moving ≡ Fetches k.0 → (w.known u).moving ≡ Fetches k.0) t l w.known h (fetches k.0) (λ d e. e) k.1)).2 in absurd (cc (it, there))
   ]
   no_place (At i) e =
       let h = afterwards.claims.named_there i m was.0 e in
       by_equal i o
       (λ s. other (ap monitor_in (sym (with_word_there (Mark o) n w.words)) ∙ ap (λ i. monitor_in (marks (with_word_and_known (Mark o) n t l w) i)) (sym s) ∙ h))
       (λ d. d (before.monitors.alone i o m (ap monitor_in (sym (mark_else w o n t l i d)) ∙ h) names))
-  no_place (Leaves u) e = let it = was.1 in let there = (before.claims.returns u m (sym (moving_same u) ∙ afterwards.claims.returned_there u m was.0 e)).1 in absurd (cc (it, there))
+  no_place (Leaves u) e = let it = was.1 in let there = (before.claims.returns u m (each_with_known (λ u y. y.moving ≡ Returns m → (w.known u).moving ≡ Returns m) t l w.known u returns (λ d e. e) (afterwards.claims.returned_there u m was.0 e))).1 in absurd (cc (it, there))
   no_place (InRing p) e = let h = afterwards.claims.ringed_there p m was.0 e in in_ring p h.0 h.1 h.2
 
-  no_monitor_lost : ⊥
+  pub no_monitor_lost : ⊥
   no_monitor_lost = no_place (afterwards.claims.place m) refl
 
 pub no_store_keeps : (w : World) (o m t mark : ℕ) (e : Purpose) (s : Stage) → Valid w → (w.known t).running ≡ true → monitor_in (w.words (Mark o)) ≡ Some m → monitor_in mark ≢ Some m
@@ -180,14 +178,14 @@ pub no_store_keeps : (w : World) (o m t mark : ℕ) (e : Purpose) (s : Stage) �
 no_store_keeps w o m t mark e s v runs names other valid =
     let plan : StepPlan = with_stage s (store e (Mark o) mark) in
     let a = hit_fits plan t w refl runs valid in
-    no_monitor_lost w v.objects a.0 o m mark t (knows plan t w) (λ a k. k) refl (running_fits w v t runs) a.1 names other
+    no_monitor_lost w v.objects a.0 o m mark t (knows plan t w) (λ a k. k) (λ p h. h) (λ h. h) (running_fits w v t runs) a.1 names other
 
 pub no_store_spends : (w : World) (o m t mark : ℕ) (e : Purpose) → Valid w → (w.known t).running ≡ true → monitor_in (w.words (Mark o)) ≡ Some m → monitor_in mark ≢ Some m
     → Valid (world_after (with_own Spend (store e (Mark o) mark)) t w) → ⊥
 no_store_spends w o m t mark e v runs names other valid =
     let plan = storing o mark e in
     let a = hit_fits plan t w refl runs valid in
-    no_monitor_lost w v.objects a.0 o m mark t (knows plan t w) (λ a k. absurd (cc k)) refl (running_fits w v t runs) a.1 names other
+    no_monitor_lost w v.objects a.0 o m mark t (knows plan t w) (λ a k. absurd (cc k)) (λ p h. h) (λ h. h) (running_fits w v t runs) a.1 names other
 
 -- A MARK THAT ANOTHER THREAD INFLATES is 0, and that thread alone inflates it.
 still_inflates : (w : World) (t u o a b : ℕ) (at : Name) (n : ℕ) (l : Known) → u ≢ t → (w.known u).stage ≡ Inflates o a b → ((with_word_and_known at n t l w).known u).stage ≡ Inflates o a b
@@ -260,7 +258,7 @@ module _ (w : World) (P Q : List PlainObject) (o t u p : ℕ) (l : Known) (silen
           let place : b ≡ p = same_record w z P Q o u b p before afterwards (holds_stay w t l u own) (λ c. unseized w t l u o c (λ e. cc (at, e))) was rests in
           other (locked_word (marks w o) a b r ∙ ap (λ k. mark_of (Locked k b)) same ∙ ap (λ k. mark_of (Locked u k)) place)
       by_form (Some (Inflated m)) r h =
-          no_monitor_lost w P Q o m 0 t l (λ c k. sym kept ∙ k) moved before afterwards (ap monitor_form r) (λ e. cc (sym e ∙ ap monitor_form mark_zero))
+          no_monitor_lost w P Q o m 0 t l (λ c k. sym kept ∙ k) (λ c h. sym moved ∙ h) (λ h. sym moved ∙ h) before afterwards (ap monitor_form r) (λ e. cc (sym e ∙ ap monitor_form mark_zero))
 
 pub no_store_of_zero : (w : World) (o t u p : ℕ) (e : Purpose) → Valid w → (w.known t).running ≡ true → is_biased (w.words (Mark o)) ≡ false → w.words (Mark o) ≢ 0
     → w.words (Mark o) ≢ mark_of (Locked u p) → Valid (world_after (with_stage (Inflates o u p) (store e (Mark o) 0)) t w) → ⊥

@@ -1,16 +1,22 @@
--- A shot that shows a thread as an owner without its enter, or that differs from its own cut of the logs, is right over no logs.
-use Rattle.core_locks.proofs.Prelude.{◌≡◌, ◌≢◌, ℕ, zero, suc, ◌+◌, ◌<◌, Bool, true, false, cond, List, [], ◌∷◌, ◌++◌, length, slice_index, Option, Some, None, refl, sym, ap, ◌∙◌, subst, arith, same_Some, eq-eqb, is_thread, PlainObject, Logged, Name, Safepoint, World, logs, world_after, known_hit, monitor_of, Purpose, one_if, AllByRecursion, LegalObjects, objects_after, log_of, Entry, Enter, Exit, Shape, Valid, logs_stay, log_at, keep_shot_plan}
+-- A shot that shows a thread as an owner without its enter, that differs from its own cut of the logs, or that leaves out an entry which stands
+-- before one that it has, is right over no logs.
+use Rattle.core_locks.proofs.Prelude.{◌≡◌, ◌≢◌, ℕ, zero, suc, ◌+◌, ◌<◌, ◌≤◌, Bool, true, false, cond, List, [], ◌∷◌, ◌++◌, length, slice_index, Option, Some, None, refl, sym, ap, ◌∙◌, subst, arith, same_Some, eq-eqb, is_thread, PlainObject, Logged, Name, Safepoint, World, logs, world_after, known_hit, monitor_of, Purpose, one_if, AllByRecursion, LegalObjects, objects_after, log_of, Entry, Enter, Exit, Shape, Valid, logs_stay, log_at, logs_length, keep_shot_plan}
 use Rattle.std.proofs.Common.{slice_get, take}
 use Rattle.std.specs.Prelude.{MatchOption}
 use Rattle.plain_monitor.specs.Objects.{new_object}
 use Rattle.plain_monitor.proofs.Lists.{all_or}
+use Rattle.plain_monitor.specs.Order.{is_before}
+use Rattle.plain_monitor.proofs.Orders.{before_asym}
+use Rattle.plain_history.specs.Cuts.{cut_logs}
+use Rattle.plain_history.specs.Tied.{is_tied}
+use Rattle.plain_history.proofs.InOrder.{in_order_at}
 use Rattle.plain_history.specs.HeldByLog.{held_by, held_after, nothing_held}
 use Rattle.plain_history.specs.Sound.{IsSound}
 use Rattle.plain_history.proofs.HeldByLog.{holds_by_log}
 use Rattle.plain_history.proofs.SoundHistories.{history_sound}
 use Rattle.plain_history.proofs.SoundSteps.{free_sound}
 use Rattle.core_world.specs.Threads.Known.{DumpShot}
-use Rattle.core_world.specs.Shots.{IsRightShot, cell_in, cells_of, cut_logs}
+use Rattle.core_world.specs.Shots.{IsRightShot, cell_in, cells_of}
 use Rattle.core_world.specs.Steps.{shot_of, owner_and_count_in, cells_from, seen_words}
 use Rattle.core_locks.specs.ShotLaws.{enters}
 use Rattle.core_locks.proofs.Shoots.{shot_kept}
@@ -97,6 +103,21 @@ module _ (w : World) (t u o : ℕ) (e : Purpose) (valid : Valid (world_after (ke
       let same : right.objects ≡ P = same_Some _ _ (sym right.taken ∙ behind) in
       let cell = seen_cell 0 o o w.shape.objects w.shape (seen_words (w.known t)) (omega arith) object in
       other (plain_cell right.objects o _ (ap (λ cs. slice_get cs o) (sym right.cells) ∙ cell) ∙ ap (λ R. cell_in (monitor_of R o)) same)
+
+  -- it leaves out nothing that stands before what it has
+  pub no_earlier_left_out : (v i j : ℕ) (l m : Logged) → u < w.shape.threads → v < w.shape.threads
+      → slice_get (w.known u).log i ≡ Some l → i < slice_index shot.cut u → slice_get (w.known v).log j ≡ Some m → slice_index shot.cut v ≤ j
+      → is_tied l.entry m.entry ≡ true → is_before (v, m) (u, l) ≡ true → ⊥
+  no_earlier_left_out v i j l m u-there v-there at-l before at-m since tied earlier =
+      let log_is : (n : ℕ) → n < w.shape.threads → log_of (logs w) n ≡ (w.known n).log =
+      λ n there. log_at 0 w.shape.threads n n w.known (omega arith) there in
+      let many = logs_length 0 w.shape.threads w.known in
+      let as_many = right.threads in
+      let at-u = ap (λ log. slice_get log i) (log_is u u-there) ∙ at-l in
+      let at-v = ap (λ log. slice_get log j) (log_is v v-there) ∙ at-m in
+      let first = in_order_at shot.cut (logs w) u v i j l m right.in_order at-u before at-v since (omega (arith, many, as_many, v-there)) tied in
+      let not_first = before_asym (v, m) (u, l) earlier in
+      absurd (cc (first, not_first))
 
   pub no_cut_refused : objects_after w.shape.objects (cut_logs shot.cut (logs w)) ≡ None → ⊥
   no_cut_refused none = let some = right.taken in cc (some, none)

@@ -1,9 +1,11 @@
 -- A dump keeps its shot.
 use Rattle.core_locks.proofs.Prelude.{◌≡◌, ℕ, ◌<◌, ◌⊎◌, ◌||◌, Bool, true, false, cond, List, [], ◌∷◌, ◌++◌, length, slice_index, None, refl, sym, ap, ◌∙◌, subst, arith, inl, PlainObject, Safepoint, StepPlan, is_halted, Known, last_seen, World, with_known, logs, Purpose, world_after, known_hit, seen_before, Fits, IsValid, each_with_known, with_known_here, LegalObjects, objects_after, log_of, seen_is_part, with_knowledge, with_knowledge_alone, log_at, KeepsValid, keep_shot_plan, ◌&&◌, is_still}
 use Rattle.std.proofs.lemmas.List.{length-map}
+use Rattle.plain_history.specs.Cuts.{cut_logs, IsCutInOrder}
+use Rattle.plain_history.proofs.InOrder.{whole_in_order}
 use Rattle.core_world.specs.Threads.Known.{DumpShot}
 use Rattle.core_world.specs.Clauses.SeenWords.{AreTheSteps}
-use Rattle.core_world.specs.Shots.{cut_logs, IsRightShot, ShotsFit}
+use Rattle.core_world.specs.Shots.{IsRightShot, ShotsFit}
 use Rattle.core_world.specs.Steps.{shot_of}
 use Rattle.core_world.proofs.NoWordChanges.{Glance, glance_seen, glance_safe}
 use Rattle.core_world.proofs.ShotsStay.{IsNext, all_logged, shots_go_on, shots_taken}
@@ -31,6 +33,7 @@ module _ (w : World) (P : List PlainObject) (t : ℕ) (e : Purpose) (within : t 
       record {
         threads = ap (λ ns. length ns) cut ∙ length-map (logs w) _;
         within = λ u. let a = ap (λ ns. slice_index ns u) cut in let b = length_at (logs w) u in omega (arith, a, b);
+        in_order = subst (λ ns. IsCutInOrder ns (logs w)) (sym cut) (whole_in_order (logs w));
         legal = subst (LegalObjects w.shape.objects) (sym whole) v.legal;
         objects = P;
         taken = ap (objects_after w.shape.objects) whole ∙ v.taken;

@@ -1,8 +1,8 @@
 -- At a reached safepoint the lengths that were seen are those of the logs: each other thread is stopped and has published its whole log.
 use Rattle.core_locks.proofs.Prelude.{◌≡◌, ◌≢◌, ℕ, zero, suc, ◌+◌, ◌<◌, ◌==◌, Bool, true, false, cond, List, [], ◌∷◌, length, slice_index, refl, sym, ap, ◌∙◌, arith, PlainObject, Logged, Length, Known, World, logs, Fits, by_equal, eq-eqb, ne_eqb, log_of, logs_from}
 use Rattle.std.proofs.Common.{map, take_all}
+use Rattle.plain_history.specs.Cuts.{cut_logs}
 use Rattle.core_world.specs.RevocationRules.{words_from}
-use Rattle.core_world.specs.Shots.{cut_logs}
 use Rattle.core_world.specs.Steps.{seen_words, cut_from}
 use Rattle.core_world.proofs.NoWordChanges.{one_requester}
 use Rattle.core_locks.specs.ShotLaws.{SawAll}

@@ -1,10 +1,10 @@
 -- The shots stay right where a thread logs an entry of its own.
-use Rattle.core_locks.proofs.Prelude.{◌≡◌, ◌⊎◌, ℕ, ◌<◌, false, List, [], ◌∷◌, ◌++◌, length, Option, refl, sym, ap, ◌∙◌, subst, arith, inl, inr, PlainObject, Logged, Known, World, with_known, logs, Fits, Entry, Dump, Unfinished, goes_on_with, IsUnfinished, logs_from, logs_length}
+use Rattle.core_locks.proofs.Prelude.{◌≡◌, ◌⊎◌, ℕ, false, List, [], ◌∷◌, ◌++◌, length, Option, refl, sym, ap, ◌∙◌, subst, arith, inl, inr, PlainObject, Logged, Known, World, with_known, logs, Fits, Entry, Dump, Unfinished, goes_on_with, IsUnfinished, logs_from}
 use Rattle.core_world.specs.declared.task.Op.TheVariants as op
 use Rattle.core_world.specs.Shots.{AreOfDumps, ShotsFit}
 use Rattle.core_world.proofs.ShotsStay.{IsDump, IsNoDump, dump_or_not, dumps_dump, dumps_other, shots_with}
 use Rattle.core_locks.specs.Knowing.{IsOfLastShot, operation_of}
-use Rattle.core_locks.proofs.Logging.{IsLogging, logs_are}
+use Rattle.core_locks.proofs.Logging.{IsLogging, logs_are, may_log}
 
 -- an entry that is no dump is no dump's own
 undumped : (e : Entry) → IsNoDump e → goes_on_with op.Dump 0 (operation_of e) ≡ false
@@ -29,6 +29,5 @@ module _ (w : World) (P Q : List PlainObject) (t : ℕ) (y : Logged) (l : Known)
   -- whatever it has unfinished afterwards
   pub shots_logged : ShotsFit w.shape.objects (logs_from 0 w.shape.threads (with_known t l w.known)) (λ u. (with_known t l w.known u).log) (λ u. (w.known u).shots) (λ u. (with_known t l w.known u).unfinished)
   shots_logged =
-      let within : t < length (logs w) = let b = logs_length 0 w.shape.threads w.known in let c = a.within in omega (arith, b, c) in
       subst (λ z. ShotsFit w.shape.objects z (λ u. (with_known t l w.known u).log) (λ u. (w.known u).shots) (λ u. (with_known t l w.known u).unfinished)) (sym (logs_are w P Q t y l v a))
-      (shots_with w.shape.objects (logs w) t y l w.known within mine v.shots)
+      (shots_with w.shape.objects (logs w) t y l w.known (may_log w P Q t y l v a) mine v.shots)

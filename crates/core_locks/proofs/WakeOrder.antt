@@ -1,5 +1,5 @@
 -- The trees of notify and notifyAll supply what their laws ask: the list of the waiters by age, of words that were seen, has the oldest first.
-use Rattle.core_locks.proofs.Prelude.{◌≡◌, ◌≢◌, ◌⊎◌, ℕ, zero, suc, ◌+◌, ◌<◌, ◌≤◌, ◌==◌, ◌&&◌, ◌||◌, nat_lt, eq-eqb, ne_eqb, Bool, true, false, cond, List, [], ◌∷◌, length, slice_index, Some, refl, sym, ap, ◌∙◌, subst, arith, inl, inr, nat_tests, same_Some, Waiting, waits_on, stamp_in, Known, last_seen, is_older, insert_waiter, by_age, waiters, by_equal, SawNoOther, SawOldest}
+use Rattle.core_locks.proofs.Prelude.{◌≡◌, ◌≢◌, ◌⊎◌, ℕ, zero, suc, ◌+◌, ◌<◌, ◌≤◌, ◌==◌, ◌&&◌, ◌||◌, nat_lt, eq-eqb, ne_eqb, Bool, true, false, cond, List, [], ◌∷◌, length, slice_index, Some, refl, sym, ap, ◌∙◌, subst, arith, inl, inr, nat_tests, same_Some, Waiting, waits_on, stamp_in, Known, last_seen, is_older, insert_waiter, by_age, waiters, by_equal, SawNoOtherWaiter, SawOldest}
 
 abbrev pub In : ℕ × ℕ → List (ℕ × ℕ) → Type 0
 In q [] = ⊥
@@ -148,7 +148,7 @@ oldest_seen n k o p ps h =
           );
     }
 
-pub no_other_seen : (n : ℕ) (k : Known) (o : ℕ) (p : ℕ × ℕ) → Remain n k o (p ∷ []) → SawNoOther n k o p.0
+pub no_other_seen : (n : ℕ) (k : Known) (o : ℕ) (p : ℕ × ℕ) → Remain n k o (p ∷ []) → SawNoOtherWaiter n k o p.0
 no_other_seen n k o p h z low = let a = h.sights z low in (a.0, a.1, λ waits. elim (a.2 waits) [ inl e ↦ ap (λ (q : ℕ × ℕ). q.0) e | inr e ↦ absurd e ])
 
 -- After the store that tells the first, the others remain.

@@ -1,5 +1,5 @@
 -- An owner's Notify calls the oldest of those who wait, and its NotifyAll calls all of them.
-use Rattle.core_locks.proofs.Prelude.{◌≡◌, ◌≢◌, ℕ, suc, ◌+◌, ◌<◌, ◌==◌, ◌&&◌, ◌||◌, eq-eqb, ne_eqb, Bool, true, false, cond, List, [], ◌∷◌, ◌++◌, length, Some, None, refl, sym, ap, ◌∙◌, subst, arith, inl, inr, wait_of, Notified, PlainMonitor, is_listed, owns, only_if, calls, PlainObject, with_monitor, Notify, NotifyAll, Waiting, waits_on, says_notified, with_word, last_seen, World, object_of, monitor_of, waits_at, notified_at, Purpose, Fits, StandByStamps, AreNotified, by_equal, fits_running, Logs, LogsValid, MayWake, SawNoOther, MayNotify, MayNotifyAll, notify_plan, notify_all_plan}
+use Rattle.core_locks.proofs.Prelude.{◌≡◌, ◌≢◌, ℕ, suc, ◌+◌, ◌<◌, ◌==◌, ◌&&◌, ◌||◌, eq-eqb, ne_eqb, Bool, true, false, cond, List, [], ◌∷◌, ◌++◌, length, Some, None, refl, sym, ap, ◌∙◌, subst, arith, inl, inr, wait_of, Notified, PlainMonitor, is_listed, owns, only_if, calls, PlainObject, with_monitor, Notify, NotifyAll, Waiting, waits_on, says_notified, with_word, last_seen, World, object_of, monitor_of, waits_at, notified_at, Purpose, Fits, StandByStamps, AreNotified, by_equal, fits_running, Logs, LogsValid, MayWake, SawNoOtherWaiter, MayNotify, MayNotifyAll, notify_plan, notify_all_plan}
 use Rattle.core_locks.proofs.TellLists.{waits_untold, told_or_waits, told_all, none_told}
 use Rattle.core_locks.proofs.TellNobody.{waiter_below}
 use Rattle.core_locks.proofs.WaitStores.{sorted_stays}
@@ -19,7 +19,7 @@ module _ (w : World) (P : List PlainObject) (t o u n : ℕ) (within : t < w.shap
       (λ h. let no = word_unwaiting w P t o u n within may v o in absurd (cc (no, h))) (λ d h. (d, h))
 
   -- so it is nobody, where nobody else was seen
-  pub nobody : SawNoOther w.shape.threads (w.known t) o u → (z : ℕ) → is_listed (waits_at P o) z ≡ true → waits_on (g z) o ≡ true → ⊥
+  pub nobody : SawNoOtherWaiter w.shape.threads (w.known t) o u → (z : ℕ) → is_listed (waits_at P o) z ≡ true → waits_on (g z) o ≡ true → ⊥
   nobody last z h waits = by_word (last z (waiter_below w P o z v h)) _ refl
     where
       by_word : (saw : (y : ℕ) × (last_seen (Waiting z) (w.known t).seen ≡ Some y) × (waits_on y o ≡ true → z ≡ u)) (b : Bool) → waits_on saw.0 o ≡ b → ⊥
@@ -27,7 +27,7 @@ module _ (w : World) (P : List PlainObject) (t o u n : ℕ) (within : t < w.shap
       by_word saw false e = let no = v.seen.unwaiting t z o saw.0 saw.1 may.runs (owned w P t o u n within may v) e in cc (no, (waits_else z waits).1)
 
   -- NOTIFYALL: all of them were notified
-  pub all_called : SawNoOther w.shape.threads (w.known t) o u → IsCall w P t o u (waits_at P o) [] (NotifyAll o (n + 1))
+  pub all_called : SawNoOtherWaiter w.shape.threads (w.known t) o u → IsCall w P t o u (waits_at P o) [] (NotifyAll o (n + 1))
   all_called last = record {
     split = join_nothing (waits_at P o);
     told = λ z h. elim (told_or_waits g o (suc n) (waits_at P o) z (told_more w P t o u n within may v) h) [ inl b ↦ absurd (nobody last z h b) | inr b ↦ b ];

@@ -1,14 +1,15 @@
 -- When a thread at its reached safepoint may make the steps that give an idle monitor back.
-use Rattle.std.specs.Prelude.{◌≡◌, ℕ, ◌%◌, ◌<◌, true, false, length, Some, None}
+use Rattle.std.specs.Prelude.{◌≡◌, ◌≢◌, ℕ, ◌+◌, ◌%◌, ◌^◌, ◌<◌, ◌≤◌, true, false, length, Some, None}
 use Rattle.mark_word.specs.declared.owner.OwnerForm.TheVariants.{Free}
 use Rattle.mark_word.specs.Owner.{owner_of}
 use Rattle.core_world.specs.declared.name.Name.{Name}
-use Rattle.core_world.specs.declared.name.Name.TheVariants.{Mark, Waiting, Owner, Header, End, Ring}
+use Rattle.core_world.specs.declared.name.Name.TheVariants.{Mark, Waiting, Owner, Header, Claim, End, Ring}
 use Rattle.core_world.specs.Words.Forms.{monitor_in, waits_on, says_notified, enters_on}
-use Rattle.core_world.specs.Words.Shape.{Shape, ring_places}
+use Rattle.core_world.specs.Words.Shape.{Shape, monitor_count, ring_places}
 use Rattle.core_world.specs.Threads.Stages.{revocation_in}
-use Rattle.core_world.specs.Threads.Known.{Known, Still, Returns, last_seen}
+use Rattle.core_world.specs.Threads.Known.{Known, Still, Fetches, Returns, last_seen}
 use Rattle.core_world.specs.Trees.Plans.{Purpose}
+use Rattle.core_world.specs.World.{World}
 use Rattle.core_locks.specs.Knowing.{GoesOn}
 
 -- its safepoint is reached, and it revokes no bias: where it did, all stores of that are made
@@ -25,8 +26,22 @@ Saw k n v = last_seen n k.seen_at_safepoint ≡ Some v
 abbrev pub SawUntouched : Known → ℕ → ℕ → Type 0
 SawUntouched k o u = (v : ℕ) × Saw k (Waiting u) v × (waits_on v o ≡ false) × (says_notified v o ≡ false) × (enters_on v o ≡ false)
 
+-- The d-th position behind that of the claim word is filled: it lies before that of the end word. Both words count modulo 2 ^ 64.
+abbrev pub IsFilled : World → ℕ → Type 0
+IsFilled w d = (n : ℕ) × (n ≤ monitor_count w.shape) × (w.words End ≡ (w.words Claim + n) % 2 ^ 64) × (d < n)
+
+-- The monitor m, which thread t is about to keep, is one that the heap has and nobody else's.
+pub record IsOnlyFor (w : World) (t m : ℕ) : Type 0 where
+  pub there : m < monitor_count w.shape
+  -- no mark names it, and no thread keeps it
+  pub unnamed : (o : ℕ) → monitor_in (w.words (Mark o)) ≢ Some m
+  pub unkept : (u : ℕ) → (w.known u).kept ≢ Some m
+  -- no other thread has claimed a position of its place, and none gives it back
+  pub unclaimed : (u q : ℕ) → u ≢ t → (w.known u).moving ≡ Fetches q → w.words (Ring (q % ring_places w.shape)) ≢ m
+  pub unreturned : (u : ℕ) → (w.known u).moving ≢ Returns m
+
 -- Storing its header as the mark of o: the monitor m is idle by what the thread saw at its safepoint, and it gives back no other.
-pub record MayUnname (s : Shape) (k : Known) (e : Purpose) (o m header : ℕ) : Type 0 where
+pub record MayDetach (s : Shape) (k : Known) (e : Purpose) (o m header : ℕ) : Type 0 where
   pub stands : Stands k e
   pub still : k.moving ≡ Still
   pub object : o < length s.objects
@@ -41,7 +56,7 @@ pub record MayClean (k : Known) (e : Purpose) (m : ℕ) : Type 0 where
   pub returns : k.moving ≡ Returns m
 
 -- Storing the monitor at the place of the end position, which it saw.
-pub record MayEnring (k : Known) (e : Purpose) (m end : ℕ) : Type 0 where
+pub record MayEnqueue (k : Known) (e : Purpose) (m end : ℕ) : Type 0 where
   pub stands : Stands k e
   pub returns : k.moving ≡ Returns m
   pub at_end : Saw k End end

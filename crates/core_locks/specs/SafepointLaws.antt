@@ -1,4 +1,5 @@
--- When a thread may make the steps on the safepoint word. Each leaves what is unfinished, by its plan.
+-- When a thread may make the steps on the safepoint word. Each leaves what is unfinished, by its plan. That it has nothing in hand of the ring
+-- (`still`) is so between calls (`AtRest`); and in a call a claim is followed by its load, and a deflation ends with its last monitor in the ring.
 use Rattle.std.specs.Prelude.{◌≡◌, ◌⊎◌, ℕ, ◌<◌, true, false, length, Some, None}
 use Rattle.mark_word.specs.Owner.{read_owner}
 use Rattle.core_world.specs.declared.name.Name.TheVariants.{Mark, Waiting, Owner}

@@ -21,8 +21,8 @@ pub record SawOldest (n : ℕ) (k : Known) (o u : ℕ) : Type 0 where
       × (waits_on y o ≡ true → (z ≡ u) ⊎ (is_older (u, stamp_in word) (z, stamp_in y) ≡ true))
 
 -- and nobody else waits there
-abbrev pub SawNoOther : ℕ → Known → ℕ → ℕ → Type 0
-SawNoOther n k o u = (z : ℕ) → z < n → (y : ℕ) × (last_seen (Waiting z) k.seen ≡ Some y) × (waits_on y o ≡ true → z ≡ u)
+abbrev pub SawNoOtherWaiter : ℕ → Known → ℕ → ℕ → Type 0
+SawNoOtherWaiter n k o u = (z : ℕ) → z < n → (y : ℕ) × (last_seen (Waiting z) k.seen ≡ Some y) × (waits_on y o ≡ true → z ≡ u)
 
 -- it has told n of those who wait on o: none at first
 abbrev pub HasNotified : Known → ℕ → ℕ → Type 0
@@ -52,6 +52,6 @@ pub record MayNotify (s : Shape) (k : Known) (o u : ℕ) : Type 0 where
 -- the last one in a notifyAll, or the only one
 pub record MayNotifyAll (s : Shape) (k : Known) (o u n : ℕ) : Type 0 where
   pub wakes : MayWake s k o u n
-  pub last : SawNoOther s.threads k o u
+  pub last : SawNoOtherWaiter s.threads k o u
   pub room : length k.log < log_limit
   pub own_entry : IsOwnEntry k (entry.NotifyAll o (n + 1))

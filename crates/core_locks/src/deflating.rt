@@ -3,25 +3,24 @@
 //! After the first of these stores no mark names the monitor, and it doesn't stand in the ring yet: until then it is with the thread that gives
 //! it back. Every clause holds between any two of them.
 
-ghost use Rattle.std.specs.Prelude.{◌≡◌, ℕ, ◌<◌, ◌%◌, List, Some};
+ghost use Rattle.std.specs.Prelude.{ℕ, ◌%◌, List};
 ghost use Rattle.plain_monitor.specs.Objects.{PlainObject};
 ghost use Rattle.core_world.specs.World.{World};
 ghost use Rattle.core_world.specs.Valid.{IsValid};
-ghost use Rattle.core_world.specs.Words.Forms.{monitor_in};
-ghost use Rattle.core_world.specs.Words.Shape.{monitor_count, ring_places};
+ghost use Rattle.core_world.specs.Words.Shape.{ring_places};
 ghost use Rattle.core_locks.specs.MonitorLaws.{MayFetch};
-ghost use Rattle.core_world.specs.declared.name.Name.TheVariants.{Mark, Owner, Recursions, Header, Object, Ring};
-ghost use Rattle.core_world.specs.Trees.DeflateSteps.{unname_plan, clean_plan, enring_plan, advance_plan};
+ghost use Rattle.core_world.specs.declared.name.Name.TheVariants.{Owner, Recursions, Header, Object, Ring};
+ghost use Rattle.core_world.specs.Trees.DeflateSteps.{detach_plan, clean_plan, enqueue_plan, advance_plan};
 ghost use Rattle.core_world.specs.Trees.Plans.{Purpose};
 ghost use Rattle.core_locks.specs.Knowing.{KeepsValid};
-ghost use Rattle.core_locks.specs.DeflationLaws.{MayUnname, MayClean, MayEnring, MayAdvance};
+ghost use Rattle.core_locks.specs.DeflationLaws.{MayDetach, MayClean, MayEnqueue, MayAdvance, IsOnlyFor};
 
 /// A thread at its reached safepoint stores the header of a monitor as the mark of its object. By what it saw there the monitor is idle: the
 /// mark names it, nobody owns it, and nobody waits on the object, was notified from it or enters it.
 pub fn giving_an_object_its_header_keeps_the_world_valid()
     ensures { (e : Purpose) (o m header : ℕ)
-        → KeepsValid (λ w t. MayUnname w.shape (w.known t) e o m header)
-        (λ w t. unname_plan e (w.known t).stage o m header) }
+        → KeepsValid (λ w t. MayDetach w.shape (w.known t) e o m header)
+        (λ w t. detach_plan e (w.known t).stage o m header) }
 {}
 
 /// It clears a word of the monitor that it gives back, which no mark names and no thread keeps.
@@ -39,8 +38,8 @@ pub fn clearing_an_idle_monitor_keeps_the_world_valid()
 /// It stores the monitor at the place of the end position, at which no other one stands, since the monitor isn't in the ring.
 pub fn storing_into_the_ring_keeps_the_world_valid()
     ensures { (e : Purpose) (m end : ℕ)
-        → KeepsValid (λ w t. MayEnring (w.known t) e m end)
-        (λ w t. enring_plan e (w.known t).stage w.shape end m) }
+        → KeepsValid (λ w t. MayEnqueue (w.known t) e m end)
+        (λ w t. enqueue_plan e (w.known t).stage w.shape end m) }
 {}
 
 /// And it moves the end behind that position: the monitor stands in the ring.
@@ -50,12 +49,10 @@ pub fn moving_the_end_of_the_ring_keeps_the_world_valid()
         (λ w t. advance_plan e (w.known t).stage end) }
 {}
 
-/// A claim gives only a monitor that the heap has, that no mark names and that no thread keeps: so one that nobody owns, waits on or stands
-/// before.
+/// A claim gives only a monitor that the heap has, that no mark names, that no thread keeps or gives back, and whose place no other thread has
+/// claimed: so one that nobody owns, waits on or stands before.
 pub fn a_claim_gives_a_monitor_of_nobody()
     ensures { (w : World) (objects : List PlainObject) (t : ℕ) (e : Purpose) (p : ℕ) → MayFetch (w.known t) e p
         → IsValid w objects
-        → (w.words (Ring (p % ring_places w.shape)) < monitor_count w.shape)
-        × ((o : ℕ) → monitor_in (w.words (Mark o)) ≡ Some (w.words (Ring (p % ring_places w.shape))) → ⊥)
-        × ((u : ℕ) → (w.known u).kept ≡ Some (w.words (Ring (p % ring_places w.shape))) → ⊥) }
+        → IsOnlyFor w t (w.words (Ring (p % ring_places w.shape))) }
 {}

@@ -63,15 +63,17 @@ pub use monitors::{
     storing_the_owner_keeps_the_world_valid,
 };
 pub use refused::{
-    no_draw_out_of_turn, no_entry_without_the_lock, no_exchange_of_another_mark,
+    no_claim_of_a_second_monitor, no_deflation_of_a_monitor_in_use,
+    no_deflation_of_another_monitor, no_deflation_to_another_header, no_draw_out_of_turn,
+    no_end_moved_before_the_store, no_entry_without_the_lock, no_exchange_of_another_mark,
     no_exchange_without_the_displaced_word, no_exit_below_the_stamp, no_exit_by_another,
     no_exit_with_another_stamp, no_free_monitor_with_recursions, no_get_without_the_lock,
     no_halt_while_one_can_go_on, no_hash_in_a_displaced_word_that_is_copied,
     no_inflation_by_a_store, no_inflation_without_the_header, no_inflation_without_the_owner,
     no_length_ahead_of_the_log, no_notify_all_that_misses_one, no_notify_of_a_later_waiter,
     no_notify_of_nobody, no_recursion_without_a_hold, no_resume_untold,
-    no_resume_with_another_count, no_second_draw, no_second_owner, no_store_over_an_inflated_mark,
-    no_store_over_anothers_inflation,
+    no_resume_with_another_count, no_second_draw, no_second_owner, no_store_over_a_filled_position,
+    no_store_over_an_inflated_mark, no_store_over_anothers_inflation,
 };
 pub use safepoint::{
     halting_keeps_the_world_valid, releasing_keeps_the_world_valid,
@@ -81,7 +83,7 @@ pub use safepoint::{
 pub use shooting::{
     each_shot_is_right, keeping_a_shot_keeps_the_world_valid,
     no_shot_of_an_owner_without_its_enter, no_shot_that_differs_from_its_cut,
-    the_looks_of_a_dump_see_all,
+    no_shot_that_leaves_out_an_earlier_entry, the_looks_of_a_dump_see_all,
 };
 pub use telling::{
     logging_a_get_keeps_the_world_valid, logging_a_put_keeps_the_world_valid,

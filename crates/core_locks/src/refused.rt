@@ -21,10 +21,16 @@ ghost use Rattle.core_world.specs.Trees.WaitSteps.{publish_plan};
 ghost use Rattle.core_world.specs.World.{World};
 ghost use Rattle.core_locks.specs.HashLaws.{IsItsNext};
 
+mod deflating;
 mod inflating;
 mod owning;
 mod waiting;
 
+pub use deflating::{
+    no_claim_of_a_second_monitor, no_deflation_of_a_monitor_in_use,
+    no_deflation_of_another_monitor, no_deflation_to_another_header, no_end_moved_before_the_store,
+    no_store_over_a_filled_position,
+};
 pub use inflating::{
     no_hash_in_a_displaced_word_that_is_copied, no_inflation_by_a_store,
     no_inflation_without_the_header, no_inflation_without_the_owner,

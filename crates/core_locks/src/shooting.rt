@@ -1,16 +1,20 @@
-//! The law of the load with which a dump keeps its shot, what every valid world says of the shots that were kept, and a shot that no
+//! The law of the load with which a dump keeps its shot, what every valid world says of the shots that were kept, and shots that no
 //! valid world has. The functions do nothing.
 
-ghost use Rattle.std.specs.Prelude.{◌≡◌, ◌≢◌, ◌<◌, ◌++◌, ℕ, false, List, [], ◌∷◌, length, take, slice_index, Some, None};
+ghost use Rattle.std.specs.Prelude.{◌≡◌, ◌≢◌, ◌<◌, ◌≤◌, ◌++◌, ℕ, false, List, [], ◌∷◌, length, take, slice_get, slice_index, Some, None, IsTrue};
 ghost use Rattle.std.specs.List.{AllByRecursion};
+ghost use Rattle.plain_monitor.specs.declared.entry.Logged.{Logged};
 ghost use Rattle.plain_monitor.specs.History.{objects_after};
 ghost use Rattle.plain_monitor.specs.Objects.{PlainObject};
+ghost use Rattle.plain_monitor.specs.Order.{is_before};
+ghost use Rattle.plain_history.specs.Cuts.{cut_logs};
+ghost use Rattle.plain_history.specs.Tied.{is_tied};
 ghost use Rattle.core_world.specs.Threads.Known.{Known};
 ghost use Rattle.core_world.specs.Locks.{monitor_of};
 ghost use Rattle.core_world.specs.Trees.LookSteps.{keep_shot_plan, take_shot_steps};
 ghost use Rattle.core_world.specs.Trees.Plans.{Purpose};
 ghost use Rattle.core_world.specs.Words.Shape.{Shape};
-ghost use Rattle.core_world.specs.Shots.{ShotsFit, cell_in, cut_logs};
+ghost use Rattle.core_world.specs.Shots.{ShotsFit, cell_in};
 ghost use Rattle.core_world.specs.Steps.{world_after, shot_of, owner_and_count_in, seen_words};
 ghost use Rattle.core_world.specs.Valid.{IsValid, Valid};
 ghost use Rattle.core_world.specs.World.{World, logs};
@@ -72,5 +76,16 @@ pub fn no_shot_that_differs_from_its_cut()
         → Valid (world_after (keep_shot_plan e) t w) → ⊥ }
     ensures cut { (w : World) (t : ℕ) (e : Purpose)
         → objects_after w.shape.objects (cut_logs (shot_of w.shape (w.known t)).cut (logs w)) ≡ None
+        → Valid (world_after (keep_shot_plan e) t w) → ⊥ }
+{}
+
+/// A thread that keeps a shot which leaves out an entry of thread v, as it cuts that log, though the entry stands before one of thread u that it
+/// has, and is tied to it. So a shot can't be kept that looks at its own thread's log alone, where another thread had one of its objects before.
+/// Nothing is asked of the world before.
+pub fn no_shot_that_leaves_out_an_earlier_entry()
+    ensures { (w : World) (t u v i j : ℕ) (e : Purpose) (l m : Logged) → u < w.shape.threads → v < w.shape.threads
+        → slice_get (w.known u).log i ≡ Some l → i < slice_index (shot_of w.shape (w.known t)).cut u
+        → slice_get (w.known v).log j ≡ Some m → slice_index (shot_of w.shape (w.known t)).cut v ≤ j
+        → IsTrue (is_tied l.entry m.entry) → IsTrue (is_before (v, m) (u, l))
         → Valid (world_after (keep_shot_plan e) t w) → ⊥ }
 {}

@@ -21,7 +21,7 @@ use Rattle.core_world.specs.Steps.{known_hit, seen_at_safepoint_before, world_af
 use Rattle.core_world.specs.There.{IsIn}
 use Rattle.core_world.specs.Trees.Todo.{Todo, done, ask, each_from, all_from, ◌>>=◌}
 use Rattle.core_world.specs.Trees.Plans.{Purpose, load_plan}
-use Rattle.core_world.specs.Trees.DeflateSteps.{unname_plan, clean_plan, enring_plan, advance_plan, is_untouched, names_monitor, look_at, deflate_free, deflate_named, deflate_monitor, deflate_steps}
+use Rattle.core_world.specs.Trees.DeflateSteps.{detach_plan, clean_plan, enqueue_plan, advance_plan, is_untouched, names_monitor, look_at, deflate_free, deflate_named, deflate_monitor, deflate_steps}
 use Rattle.core_world.specs.Threads.Stages.{revocation_in}
 use Rattle.core_world.specs.Valid.{IsValid, Fits}
 use Rattle.core_world.specs.Words.Names.{same_name}
@@ -29,10 +29,10 @@ use Rattle.core_world.proofs.KnowledgeParts.{by_equal}
 use Rattle.core_world.proofs.Naming.{same_named, same_as_itself}
 use Rattle.core_locks.specs.Knowing.{KeepsValid}
 use Rattle.core_locks.specs.SafepointLaws.{SeesEnded, SeesHeldUp}
-use Rattle.core_locks.specs.DeflationLaws.{Saw, SawUntouched, MayUnname, MayClean, MayEnring, MayAdvance}
-use Rattle.core_locks.proofs.Unnames.{unnames}
+use Rattle.core_locks.specs.DeflationLaws.{Saw, SawUntouched, MayDetach, MayClean, MayEnqueue, MayAdvance}
+use Rattle.core_locks.proofs.Detaches.{detaches}
 use Rattle.core_locks.proofs.Cleans.{cleans_owner, cleans_count, cleans_head, cleans_object}
-use Rattle.core_locks.proofs.Enrings.{enrings}
+use Rattle.core_locks.proofs.Enqueues.{enqueues}
 use Rattle.core_locks.proofs.Advances.{advances}
 use Rattle.core_counts.specs.Steps.{KeepsBiases}
 use Rattle.core_counts.proofs.Leaning.{inflated_unbiased}
@@ -42,8 +42,8 @@ use Rattle.core_law.specs.Logic.{Heap, Stands, Keeps, Was, Does}
 use Rattle.core_law.proofs.Standing.{away, home}
 use Rattle.core_law.proofs.Wholes.{All}
 use Rattle.core_law.proofs.SafepointSights.{Seeing, seeing_all, seeing_itself, is_as_seen, forms_fit}
-use Rattle.core_steps.specs.Deflated.{GaveBack, SawInUse, IsSettled, NamedAreInUse, is_taken_by}
-use Rattle.core_steps.proofs.Ringed.{IsOut, out_on, within_ring, unnamed, none_returns, comes_out, stays_out}
+use Rattle.core_steps.specs.Deflated.{GaveBack, SawInUse, IsSettled, NamedAreInUse, GivenBackAreClean, is_taken_by}
+use Rattle.core_steps.proofs.Ringed.{IsOut, out_on, within_ring, unnamed, stands_in_ring, none_returns, comes_out, stays_out}
 use Rattle.core_steps.proofs.LawRules.{keeps_in_all, standing_in_all, looks}
 use Rattle.core_steps.proofs.SafepointLooks.{stays_reached, stood_kept, Facts, each_does, going}
 use Rattle.core_steps.proofs.Trees.{answers, chooses, follows, hitting}
@@ -51,11 +51,11 @@ use Rattle.core_steps.proofs.Tests.{both}
 use Rattle.core_steps.proofs.Resting.{Carries}
 
 -- a law for the shape that a heap has
-enrings_in : (s : Shape) (e : Purpose) (m end : ℕ) → KeepsValid (λ w t. (w.shape ≡ s) × MayEnring (w.known t) e m end) (λ w t. enring_plan e (w.known t).stage s end m)
-enrings_in s e m end w P t within (same, may) valid = subst (λ z. IsValid (world_after (enring_plan e (w.known t).stage z end m) t w) P) same (enrings e m end w P t within may valid)
+enqueues_in : (s : Shape) (e : Purpose) (m end : ℕ) → KeepsValid (λ w t. (w.shape ≡ s) × MayEnqueue (w.known t) e m end) (λ w t. enqueue_plan e (w.known t).stage s end m)
+enqueues_in s e m end w P t within (same, may) valid = subst (λ z. IsValid (world_after (enqueue_plan e (w.known t).stage z end m) t w) P) same (enqueues e m end w P t within may valid)
 
-enrings_biases : (s : Shape) (e : Purpose) (m end : ℕ) → KeepsBiases (λ w t. (w.shape ≡ s) × MayEnring (w.known t) e m end) (λ w t. enring_plan e (w.known t).stage s end m)
-enrings_biases s e m end w P t within (same, may) v law = subst (λ z. BiasLawHolds (world_after (enring_plan e (w.known t).stage z end m) t w)) same (quiet.enrings e m end w P t within may v law)
+enqueues_biases : (s : Shape) (e : Purpose) (m end : ℕ) → KeepsBiases (λ w t. (w.shape ≡ s) × MayEnqueue (w.known t) e m end) (λ w t. enqueue_plan e (w.known t).stage s end m)
+enqueues_biases s e m end w P t within (same, may) v law = subst (λ z. BiasLawHolds (world_after (enqueue_plan e (w.known t).stage z end m) t w)) same (quiet.enqueues e m end w P t within may v law)
 
 none_of : (a b c : Bool) → (not a && not b && not c) ≡ true → (a ≡ false) × (b ≡ false) × (c ≡ false)
 none_of false false false h = (refl, refl, refl)
@@ -127,20 +127,20 @@ module _ (heap : Heap) (e : Purpose) (k0 : Known) (st : Stage) (plain : revocati
           ap Some (sym was.found ∙ ap was.stands.world.words (sym is) ∙ is_as_seen heap k was.stands reached m v saw)
       cases m v saw false other = ap (last_seen m) kept ∙ saw
 
-  -- A LOOK forgets no word, and no monitor that was given back.
+  -- A LOOK forgets no word, and gives no monitor back.
   record Looked (k l : Known) : Type 0 where
     pub sights : Seeing k l
-    pub back : (m : ℕ) → GaveBack k m → GaveBack l m
+    pub back : (m : ℕ) → is_taken_by l.seen_at_safepoint m ≡ is_taken_by k.seen_at_safepoint m
 
   looked_all : (k l m : Known) → Looked k l → Looked l m → Looked k m
-  looked_all k l m a b = record { sights = seeing_all k l m a.sights b.sights; back = λ i h. b.back i (a.back i h) }
+  looked_all k l m a b = record { sights = seeing_all k l m a.sights b.sights; back = λ i. b.back i ∙ a.back i }
 
   looked_itself : (k : Known) → Looked k k
-  looked_itself k = record { sights = seeing_itself k; back = λ i h. h }
+  looked_itself k = record { sights = seeing_itself k; back = λ i. refl }
 
   still_looked_at : (at : Name) (k : Known) (n : ℕ) → k.reached ≡ true → seen_at_safepoint_before at Load k ≡ k.seen_at_safepoint → Was heap (load_plan e st at) k n
       → Looked k (known_hit heap.shape heap.start (load_plan e st at) n k)
-  still_looked_at at k n reached kept was = record { sights = still_seen_at at k n reached kept was; back = λ m h. ap (λ z. is_taken_by z m) kept ∙ h }
+  still_looked_at at k n reached kept was = record { sights = still_seen_at at k n reached kept was; back = λ m. ap (λ z. is_taken_by z m) kept }
 
   idles_on : (at : Name) (n : ℕ) (k : Known) → Idles k → Idles (known_hit heap.shape heap.start (load_plan e st at) n k)
   idles_on name.Safepoint n k x = record {
@@ -182,6 +182,23 @@ module _ (heap : Heap) (e : Purpose) (k0 : Known) (st : Stage) (plain : revocati
   pub settled_of : (k : Known) (m : ℕ) → Settles k m → IsSettled heap.shape k m
   settled_of k m h = elim h [ inl a ↦ inl a.0 | inr a ↦ inr a ]
 
+  -- it stands in the ring, and its words are 0
+  pub record Clears (k : Known) (m : ℕ) : Type 0 where
+    pub out : IsOut heap.shape k m
+    pub owner : Saw k (name.Owner m) 0
+    pub recursions : Saw k (name.Recursions m) 0
+    pub header : Saw k (name.Header m) 0
+    pub object : Saw k (name.Object m) 0
+
+  clears_on : (k l : Known) (m : ℕ) → Seeing k l → Clears k m → Clears l m
+  clears_on k l m s x = record {
+    out = out_on heap.shape k l m s.saw x.out;
+    owner = s.saw (name.Owner m) 0 x.owner;
+    recursions = s.saw (name.Recursions m) 0 x.recursions;
+    header = s.saw (name.Header m) 0 x.header;
+    object = s.saw (name.Object m) 0 x.object;
+  }
+
   -- WHAT STAYS of what was seen: whoever had ended or was held up is so still, each prototype is what it was, and so is each mark, but for such as had
   -- no bias pattern and have none; and no monitor that wasn't idle is so now
   pub record Holding (k l : Known) : Type 0 where
@@ -189,6 +206,9 @@ module _ (heap : Heap) (e : Purpose) (k0 : Known) (st : Stage) (plain : revocati
     pub marks : (i v : ℕ) → last_seen (name.Mark i) k.seen_at_safepoint ≡ Some v → (u : ℕ) × (last_seen (name.Mark i) l.seen_at_safepoint ≡ Some u) × ((u ≡ v) ⊎ ((is_biased v ≡ false) × (is_biased u ≡ false)))
     pub prototypes : (i v : ℕ) → last_seen (name.Prototype i) k.seen_at_safepoint ≡ Some v → last_seen (name.Prototype i) l.seen_at_safepoint ≡ Some v
     pub settled : (m : ℕ) → Settles k m → Settles l m
+    -- what was given back since is clear, and what was clear is
+    pub fresh : (m : ℕ) → GaveBack l m → GaveBack k m ⊎ Clears l m
+    pub clear : (m : ℕ) → Clears k m → Clears l m
 
   holding_all : (k l m : Known) → Holding k l → Holding l m → Holding k m
   holding_all k l m a b = record {
@@ -214,6 +234,14 @@ module _ (heap : Heap) (e : Purpose) (k0 : Known) (st : Stage) (plain : revocati
         );
     prototypes = λ i v h. b.prototypes i v (a.prototypes i v h);
     settled = λ i h. b.settled i (a.settled i h);
+    fresh = λ i h. elim (b.fresh i h) [
+      | inl x ↦ elim (a.fresh i x) [
+        | inl y ↦ inl y
+        | inr y ↦ inr (b.clear i y)
+      ]
+      | inr x ↦ inr x
+    ];
+    clear = λ i h. b.clear i (a.clear i h);
   }
 
   in_use_on : (k l : Known) (o m : ℕ) → Seeing k l → SawInUse heap.shape k o m → SawInUse heap.shape l o m
@@ -239,9 +267,11 @@ module _ (heap : Heap) (e : Purpose) (k0 : Known) (st : Stage) (plain : revocati
     marks = λ i v h. (v, s.saw (name.Mark i) v h, inl refl);
     prototypes = λ i v h. s.saw (name.Prototype i) v h;
     settled = λ m h. elim h [
-      | inl a ↦ inl (x.back m a.0, out_on heap.shape k l m s.saw a.1)
+      | inl a ↦ inl (x.back m ∙ a.0, out_on heap.shape k l m s.saw a.1)
       | inr a ↦ inr (a.0, a.1, s.saw (name.Object m) a.0 a.2, s.saw (name.Mark a.0) a.1 a.3, λ q. in_use_on k l a.0 m s (a.4 q))
     ];
+    fresh = λ m h. inl (sym (x.back m) ∙ h);
+    clear = λ m h. clears_on k l m s h;
   }
 
   -- a look, and what follows by the word that it finds
@@ -261,7 +291,7 @@ module _ (heap : Heap) (e : Purpose) (k0 : Known) (st : Stage) (plain : revocati
     s = looked.sights
 
     abbrev k3 : ℕ → Known
-    k3 n = known_hit heap.shape heap.start (unname_plan e st o m header) n k2
+    k3 n = known_hit heap.shape heap.start (detach_plan e st o m header) n k2
 
     abbrev k4 : ℕ → ℕ → Known
     k4 a n = known_hit heap.shape heap.start (clean_plan e st (name.Owner m)) n (k3 a)
@@ -276,7 +306,7 @@ module _ (heap : Heap) (e : Purpose) (k0 : Known) (st : Stage) (plain : revocati
     k7 a b c d n = known_hit heap.shape heap.start (clean_plan e st (name.Object m)) n (k6 a b c d)
 
     abbrev k8 : ℕ → ℕ → ℕ → ℕ → ℕ → ℕ → Known
-    k8 a b c d f n = known_hit heap.shape heap.start (enring_plan e st heap.shape end m) n (k7 a b c d f)
+    k8 a b c d f n = known_hit heap.shape heap.start (enqueue_plan e st heap.shape end m) n (k7 a b c d f)
 
     abbrev k9 : ℕ → ℕ → ℕ → ℕ → ℕ → ℕ → ℕ → Known
     k9 a b c d f g n = known_hit heap.shape heap.start (advance_plan e st end) n (k8 a b c d f g)
@@ -412,11 +442,42 @@ module _ (heap : Heap) (e : Purpose) (k0 : Known) (st : Stage) (plain : revocati
             let is : m ≡ j = eqb-true m j same in
             inl (ap (λ z. z || is_taken_by k2.seen_at_safepoint j) same, subst (IsOut heap.shape (k9 a b c d f g n)) is (out_now v a b c d f g n))
         by_number false apart = elim h [
-          | inl y ↦ inl (ap (λ z. z || is_taken_by k2.seen_at_safepoint j) apart ∙ looked.back j y.0, out_still v a b c d f g n j y.1)
+          | inl y ↦ inl (ap (λ z. z || is_taken_by k2.seen_at_safepoint j) apart ∙ looked.back j ∙ y.0, out_still v a b c d f g n j y.1)
           | inr y ↦
               let other : (j == m) ≡ false = ne_eqb j m (λ q. let yes = eq-eqb m j (sym q) in absurd (cc (apart, yes))) in
               by_mark y.0 y.1 other y.2 y.3 y.4 (y.0 == o) refl
         ]
+
+    -- a word of a monitor that was 0 is so still
+    zero_still : (at : ℕ → Name) (j : ℕ) (b : Bool) → Saw k (at j) 0 → cond b (Some 0) (last_seen (at j) k2.seen_at_safepoint) ≡ Some 0
+    zero_still at j true saw = refl
+    zero_still at j false saw = s.saw (at j) 0 saw
+
+    clear_still : (v : Stands heap k2) (a b c d f g n : ℕ) (j : ℕ) → Clears k j → Clears (k9 a b c d f g n) j
+    clear_still v a b c d f g n j h = record {
+      out = out_still v a b c d f g n j h.out;
+      owner = zero_still name.Owner j (j == m) h.owner;
+      recursions = zero_still name.Recursions j (j == m) h.recursions;
+      header = zero_still name.Header j (j == m) h.header;
+      object = zero_still name.Object j (j == m) h.object;
+    }
+
+    -- the monitor is clear now
+    clear_now : (v : Stands heap k2) (a b c d f g n : ℕ) → Clears (k9 a b c d f g n) m
+    clear_now v a b c d f g n = record {
+      out = out_now v a b c d f g n;
+      owner = ap (λ t. cond t (Some 0) (last_seen (name.Owner m) k2.seen_at_safepoint)) (eq-eqb m m refl);
+      recursions = ap (λ t. cond t (Some 0) (last_seen (name.Recursions m) k2.seen_at_safepoint)) (eq-eqb m m refl);
+      header = ap (λ t. cond t (Some 0) (last_seen (name.Header m) k2.seen_at_safepoint)) (eq-eqb m m refl);
+      object = ap (λ t. cond t (Some 0) (last_seen (name.Object m) k2.seen_at_safepoint)) (eq-eqb m m refl);
+    }
+
+    fresh_on : (v : Stands heap k2) (a b c d f g n : ℕ) (j : ℕ) → GaveBack (k9 a b c d f g n) j → GaveBack k j ⊎ Clears (k9 a b c d f g n) j
+    fresh_on v a b c d f g n j h = by_number (m == j) refl
+      where
+        by_number : (same : Bool) → (m == j) ≡ same → GaveBack k j ⊎ Clears (k9 a b c d f g n) j
+        by_number true same = inr (subst (Clears (k9 a b c d f g n)) (eqb-true m j same) (clear_now v a b c d f g n))
+        by_number false apart = inl (sym (looked.back j) ∙ ap (λ z. z || is_taken_by k2.seen_at_safepoint j) (sym apart) ∙ h)
 
     holds_on : (v : Stands heap k2) (a b c d f g n : ℕ) → Holding k (k9 a b c d f g n)
     holds_on v a b c d f g n = record {
@@ -424,13 +485,15 @@ module _ (heap : Heap) (e : Purpose) (k0 : Known) (st : Stage) (plain : revocati
       marks = λ i u saw. mark_on v i u (i == o) refl (s.saw (name.Mark i) u saw);
       prototypes = λ i u saw. s.saw (name.Prototype i) u saw;
       settled = λ j h. settled_on v a b c d f g n j h;
+      fresh = λ j h. fresh_on v a b c d f g n j h;
+      clear = λ j h. clear_still v a b c d f g n j h;
     }
 
-    gives_back : Does heap false (ask (unname_plan e st o m header) >>= (λ a. ask (clean_plan e st (name.Owner m)) >>= (λ b. ask (clean_plan e st (name.Recursions m)) >>= (λ c. ask (clean_plan e st (name.Header m)) >>= (λ d.
-        ask (clean_plan e st (name.Object m)) >>= (λ f. ask (enring_plan e st heap.shape end m) >>= (λ g. ask (advance_plan e st end) >>= (λ n. finished)))))))) k2 (λ b a l. Idles l × Holding k l × Settles l m)
+    gives_back : Does heap false (ask (detach_plan e st o m header) >>= (λ a. ask (clean_plan e st (name.Owner m)) >>= (λ b. ask (clean_plan e st (name.Recursions m)) >>= (λ c. ask (clean_plan e st (name.Header m)) >>= (λ d.
+        ask (clean_plan e st (name.Object m)) >>= (λ f. ask (enqueue_plan e st heap.shape end m) >>= (λ g. ask (advance_plan e st end) >>= (λ n. finished)))))))) k2 (λ b a l. Idles l × Holding k l × Settles l m)
     gives_back =
-        hitting heap false _ _ k2 _ (λ n. refl) (λ i. subst (λ z. Keeps heap (unname_plan e z o m header) k2) x.stands
-        (keeps_in_all heap k2 (λ s y. MayUnname s y e o m header) (λ t y. unname_plan e y.stage o m header) (unnames e o m header) (quiet.unnames e o m header) (λ t y r. r) (λ v. tt)
+        hitting heap false _ _ k2 _ (λ n. refl) (λ i. subst (λ z. Keeps heap (detach_plan e z o m header) k2) x.stands
+        (keeps_in_all heap k2 (λ s y. MayDetach s y e o m header) (λ t y. detach_plan e y.stage o m header) (detaches e o m header) (quiet.detaches e o m header) (λ t y r. r) (λ v. tt)
         (λ v. all_at k2 v reached x.stands) (λ v. (object, tt)) (λ v. record {
           stands = record { reached = reached; unrevoking = ap revocation_in x.stands ∙ plain; goes_on = inl x.mine };
           still = x.still;
@@ -448,7 +511,7 @@ module _ (heap : Heap) (e : Purpose) (k0 : Known) (st : Stage) (plain : revocati
         (λ v. all_at (k5 a b c) v reached refl) (λ v. (there, tt)) (λ v. record { stands = record { reached = reached; unrevoking = plain; goes_on = inl refl }; returns = refl })) (λ d id wd.
         hitting heap false _ _ _ _ (λ n. refl) (λ i. keeps_in_all heap (k6 a b c d) (λ s y. MayClean y e m) (λ t y. clean_plan e y.stage (name.Object m)) (cleans_object e m) (quiet.cleans_object e m) (λ t y r. r) (λ v. tt)
         (λ v. all_at (k6 a b c d) v reached refl) (λ v. (there, tt)) (λ v. record { stands = record { reached = reached; unrevoking = plain; goes_on = inl refl }; returns = refl })) (λ f if_ wf.
-        hitting heap false _ _ _ _ (λ n. refl) (λ i. keeps_in_all heap (k7 a b c d f) (λ s y. (s ≡ heap.shape) × MayEnring y e m end) (λ t y. enring_plan e y.stage heap.shape end m) (enrings_in heap.shape e m end) (enrings_biases heap.shape e m end)
+        hitting heap false _ _ _ _ (λ n. refl) (λ i. keeps_in_all heap (k7 a b c d f) (λ s y. (s ≡ heap.shape) × MayEnqueue y e m end) (λ t y. enqueue_plan e y.stage heap.shape end m) (enqueues_in heap.shape e m end) (enqueues_biases heap.shape e m end)
         (λ t y r. r) (λ v. tt) (λ v. all_at (k7 a b c d f) v reached refl) (λ v. (mod_below end (ring_places heap.shape) (pow_pos (ring_bits heap.shape)), tt))
         (λ v. (refl, record { stands = record { reached = reached; unrevoking = plain; goes_on = inl refl }; returns = refl; at_end = saw_end }))) (λ g ig wg.
         hitting heap false _ _ _ _ (λ n. refl) (λ i. keeps_in_all heap (k8 a b c d f g) (λ s y. MayAdvance s y e m end) (λ t y. advance_plan e y.stage end) (advances e m end) (quiet.advances e m end) (λ t y r. r) (λ v. tt)
@@ -474,11 +537,11 @@ module _ (heap : Heap) (e : Purpose) (k0 : Known) (st : Stage) (plain : revocati
   -- what had been given back where the loop began still is
   record IdlesSince (k l : Known) : Type 0 where
     pub idles : Idles l
-    pub back : (m : ℕ) → GaveBack k m → GaveBack l m
+    pub back : (m : ℕ) → is_taken_by l.seen_at_safepoint m ≡ is_taken_by k.seen_at_safepoint m
 
   look_does : (k : Known) (u : ℕ) (l : Known) → u < heap.shape.threads → IdlesSince k l → Does heap false (look_of u) l (λ b a z. IdlesSince k z × Seeing l z × WasSeen u a z)
   look_does k u l thread x =
-      look (name.Waiting u) done l _ x.idles (λ v. thread) (λ n z y s saw was. answers heap false n z _ (record { idles = y; back = λ m h. s.back m (x.back m h) }, s.sights, saw))
+      look (name.Waiting u) done l _ x.idles (λ v. thread) (λ n z y s saw was. answers heap false n z _ (record { idles = y; back = λ m. s.back m ∙ x.back m }, s.sights, saw))
 
   abbrev AllSeen : Known → ℕ → ℕ → List ℕ → Known → Type 0
   AllSeen k i n xs l = Facts heap look_of (IdlesSince k) WasSeen was_seen_more heap.shape.threads (look_does k) i n xs l
@@ -532,7 +595,7 @@ module _ (heap : Heap) (e : Purpose) (k0 : Known) (st : Stage) (plain : revocati
       → Saw k (name.Owner m) (owner_of Free) → Does heap false (deflate_free heap.shape e st o m) k (λ b a l. Idles l × Holding k l × Settles l m)
   free_does o m mark k there object x saw_object saw_mark named saw_owner =
       going heap (each_from 0 heap.shape.threads look_of) _ k _ (follows heap false _ k _ _
-      (each_does heap look_of (IdlesSince k) WasSeen was_seen_more heap.shape.threads (look_does k) 0 heap.shape.threads k (omega arith) (record { idles = x; back = λ i h. h })) (λ b words l y.
+      (each_does heap look_of (IdlesSince k) WasSeen was_seen_more heap.shape.threads (look_does k) 0 heap.shape.threads k (omega arith) (record { idles = x; back = λ i. refl })) (λ b words l y.
       let s = y.1 in
       let looked : Looked k l = record { sights = s; back = y.0.back } in
       chooses heap false (list_all (λ w. is_untouched o w) words) _ _ l _ (λ idle.
@@ -632,6 +695,27 @@ module _ (heap : Heap) (e : Purpose) (k0 : Known) (st : Stage) (plain : revocati
 
       there : (u : ℕ) → u < heap.shape.threads → u < v.world.shape.threads
       there u h = away heap l v (λ s y. u < s.threads) h
+
+  -- and each that was given back is clean there, and stands in the ring
+  pub deflate_cleans : (k l : Known) → Idles l → Holding k l → GivenBackAreClean heap k l
+  deflate_cleans k l x y v m back unless =
+      elim (y.fresh m back) [
+        | inl a ↦ absurd (unless a)
+        | inr a ↦
+            let fits : Fits v.world v.objects = (all_at l v x.reached x.stands).fits in
+            let sees = is_as_seen heap l v x.reached in
+            let out : IsOut v.world.shape l m = away heap l v (λ s y. IsOut s l m) a.out in
+            let none = none_returns v.world v.objects l.thread fits (away heap l v (λ s y. y.reached ≡ true) x.reached) (away heap l v (λ s y. y.moving ≡ Still) x.still) in (
+              record {
+                owner = sees (name.Owner m) 0 a.owner;
+                recursions = sees (name.Recursions m) 0 a.recursions;
+                header = sees (name.Header m) 0 a.header;
+                object = sees (name.Object m) 0 a.object;
+              },
+              stands_in_ring v.world v.objects fits l m sees out none,
+              unnamed v.world v.objects fits l m sees out none,
+            )
+      ]
 
   -- FROM THE MIDDLE of something else that the first step ends, which is the look at the object word of the first monitor
   pub record Ends (k : Known) : Type 0 where

@@ -13,7 +13,8 @@ use Rattle.core_world.specs.Steps.{stamp_by}
 use Rattle.core_world.proofs.KnowledgeParts.{by_equal}
 use Rattle.plain_history.specs.ExactStamps.{IsTakingStamp, IsExactStamp, StampsAreExact}
 use Rattle.core_law.specs.Takings.{StampsTaking}
-use Rattle.core_steps.proofs.LetGoes.{last_let_go, last_or_before, let_go_stays, let_go_was}
+use Rattle.core_counts.proofs.LastEntry.{last_or_before}
+use Rattle.core_steps.proofs.LetGoes.{last_let_go, let_go_stays, let_go_was}
 
 -- no entry on o, but a hash, is above this stamp
 abbrev pub NoneAbove : List (List Logged) → ℕ → ℕ → Type 0

@@ -39,7 +39,7 @@ use Rattle.core_law.specs.Takings.{StampsTaking, StampsNote, TakesExactly}
 use Rattle.core_law.specs.Logic.{Heap, heap_of}
 use Rattle.core_law.specs.Reached.{Comes, opens, moves}
 use Rattle.core_law.specs.Sound.{Sound}
-use Rattle.core_steps.proofs.LetGoes.{no_entries}
+use Rattle.core_counts.proofs.LastEntry.{no_entries}
 use Rattle.core_steps.proofs.ExactLogs.{NoneAbove, exact_appended}
 use Rattle.core_steps.proofs.ReachedWorlds.{next_step_sound, next_step_exact, reached_worlds_sound}
 

@@ -36,7 +36,7 @@ use Rattle.core_law.specs.Logic.{Heap}
 use Rattle.core_law.specs.Reached.{Comes, opens, moves}
 use Rattle.core_law.specs.Sound.{Sound}
 use Rattle.core_steps.proofs.ExactWorlds.{empty_logs}
-use Rattle.core_steps.proofs.LetGoes.{no_entries, last_or_before}
+use Rattle.core_counts.proofs.LastEntry.{no_entries, last_or_before}
 use Rattle.core_steps.proofs.ReachedWorlds.{comes_sound, next_step_sound, reached_worlds_sound}
 
 -- ONE ENTRY MORE, which is no draw for an object of which its thread has logged a hash

@@ -7,10 +7,7 @@ use Rattle.plain_monitor.specs.declared.entry.Logged.{Logged}
 use Rattle.plain_monitor.specs.History.{log_of}
 use Rattle.plain_history.specs.HeldByLog.{held_after, held_by, nothing_held, LetsGoOf, HasLetGo, IsLastLetGo}
 use Rattle.core_world.proofs.KnowledgeParts.{by_equal}
-
-pub no_entries : (before later : List Logged) (l : Logged) → [] ≡ (before ++ l ∷ later) → ⊥
-no_entries [] later l e = cc e
-no_entries (b ∷ before) later l e = cc e
+use Rattle.core_counts.proofs.LastEntry.{no_entries, last_or_before}
 
 -- ONE ENTRY lets go of an object, or it doesn't.
 lets_or_not : (held : ℕ → ℕ) (e : Entry) (o : ℕ) → LetsGoOf held e o ⊎ (LetsGoOf held e o → ⊥)
@@ -115,21 +112,7 @@ last_let_go (log ∷ logs) o = by_greater (last_from nothing_held log o) (last_l
       )
     ]
 
--- ONE ENTRY MORE. What stands in the log with it stood there before, or is the last.
-pub last_or_before : (log : List Logged) (y : Logged) (before : List Logged) (l : Logged) (later : List Logged) → (log ++ y ∷ []) ≡ (before ++ l ∷ later)
-    → ((rest : List Logged) × (log ≡ before ++ l ∷ rest)) ⊎ ((log ≡ before) × (y ≡ l))
-last_or_before [] y [] l later e = let same : y ≡ l = cc e in inr (refl, same)
-last_or_before [] y (b ∷ before) l later e = let rest : [] ≡ (before ++ l ∷ later) = cc e in absurd (no_entries before later l rest)
-last_or_before (z ∷ log) y [] l later e = let same : z ≡ l = cc e in inl (log, ap (λ x. x ∷ log) same)
-last_or_before (z ∷ log) y (b ∷ before) l later e =
-    let same : z ≡ b = cc e in
-    let rest : (log ++ y ∷ []) ≡ (before ++ l ∷ later) = cc e in
-    elim (last_or_before log y before l later rest) [
-      | inl was ↦ inl (was.0, ap (λ x. x ∷ log) same ∙ ap (λ xs. b ∷ xs) was.1)
-      | inr new ↦ inr (ap (λ x. x ∷ log) same ∙ ap (λ xs. b ∷ xs) new.0, new.1)
-    ]
-
--- So the log lets go where it did,
+-- ONE ENTRY MORE. The log lets go where it did,
 pub let_go_stays : (log : List Logged) (y : Logged) (o stamp : ℕ) → HasLetGo log o stamp → HasLetGo (log ++ y ∷ []) o stamp
 let_go_stays log y o stamp h = record {
   before = h.before;

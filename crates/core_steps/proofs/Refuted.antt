@@ -1,6 +1,7 @@
 -- What a tree's steps would have to keep, followed from a world in which the tree begins. So weakened trees are refuted.
 use Rattle.std.proofs.Common.{◌≡◌, ◌≢◌, ℕ, ◌+◌, ◌^◌, ◌<◌, ◌≤◌, ◌&&◌, Bool, true, false, List, length, slice_index, slice_set, eq-eqb, refl, sym, ap, ◌∙◌, arith, inl, inr}
 use Rattle.std.proofs.lemmas.Option.{same_Some}
+use Rattle.std.specs.Prelude.{Some, None}
 use Rattle.plain_monitor.specs.History.{objects_after}
 use Rattle.plain_monitor.specs.Objects.{PlainObject}
 use Rattle.core_world.specs.declared.act.Act.TheVariants.{Mask}
@@ -9,25 +10,30 @@ use Rattle.core_world.specs.declared.plan.StepPlan.{StepPlan}
 use Rattle.core_world.specs.declared.stage.Stage.{Stage}
 use Rattle.core_world.specs.declared.stage.Stage.TheVariants.{Calm}
 use Rattle.core_world.specs.Words.Acts.{word_after}
-use Rattle.core_world.specs.Words.Forms.{is_neutral, hold_word, asks_in}
+use Rattle.core_world.specs.Words.Forms.{is_neutral, is_neutral_form, monitor_in, hold_word, asks_in}
 use Rattle.core_world.specs.Threads.Known.{Known, local_of}
 use Rattle.core_world.specs.Locks.{hold_count, holds_by_monitor, monitor_of}
 use Rattle.core_world.specs.Trees.Plans.{Purpose, with_stage, store, free_place, top_place}
 use Rattle.core_world.specs.Trees.SafepointSteps.{all_but, stop_plan}
-use Rattle.core_world.specs.Threads.Stages.{hold_words_ahead, one_if}
+use Rattle.core_world.specs.Threads.Stages.{hold_words_ahead, one_if, revocation_in}
 use Rattle.core_world.specs.Clauses.Safepoints.{IsQuiet}
 use Rattle.core_world.specs.Steps.{is_idle, world_after, known_hit}
 use Rattle.core_world.specs.Trees.Todo.{Todo, step}
 use Rattle.core_world.specs.Valid.{Valid, IsValid, Fits}
 use Rattle.core_world.specs.World.{World}
+use Rattle.core_world.specs.Words.Names.{with_word}
 use Rattle.core_world.specs.Trees.LockSteps.{clear_plan}
+use Rattle.core_world.specs.Trees.DeflateSteps.{clean_plan}
+use Rattle.core_world.proofs.OwnersShown.{with_word_there}
+use Rattle.core_world.proofs.Readings.{mark_zero}
 use Rattle.core_world.proofs.KnowledgeParts.{by_equal, with_known_here, logs_stay}
 use Rattle.core_locks.proofs.HoldCounts.{named_clear}
-use Rattle.core_locks.proofs.RefutedSteps.{knows, hit, hit_fits}
+use Rattle.core_locks.proofs.RefutedSteps.{knows, hit, hit_fits, standing_fits}
+use Rattle.core_locks.proofs.RefutedClaims.{no_claim_of_a_keeper}
 use Rattle.core_locks.proofs.SafeFacts.{running_unreached}
 use Rattle.core_locks.proofs.RefutedExchanges.{exchange_refused}
 use Rattle.core_law.specs.Logic.{Heap, Stands, DoesSteps}
-use Rattle.core_steps.specs.Weakened.{late_displaced_steps, early_clearing_steps, stop_at_stage_steps}
+use Rattle.core_steps.specs.Weakened.{late_displaced_steps, early_clearing_steps, stop_at_stage_steps, always_claiming_steps, early_cleaning_steps}
 use Rattle.core_steps.proofs.Facts.{limits_here}
 use Rattle.core_law.proofs.Standing.{fits_here, away, valid_here, safe_fits}
 use Rattle.core_world.proofs.LookWhileRevoking.{without_clause}
@@ -108,3 +114,22 @@ module _ (heap : Heap) (k : Known) (fresh : Bool) (v : Stands heap k) (at_first 
       unreached true reached =
           absurd (running_unreached v.world v.objects k.thread k.thread (safe_fits heap k (v.world.words name.Safepoint) v refl) (runs_there runs) (away heap k v (λ s y. y.reached ≡ true) reached))
       unreached false reached = reached
+
+  -- A SECOND MONITOR CLAIMED
+  pub always_claiming_fails : (e : Purpose) (o mark m : ℕ) → k.running ≡ true → k.kept ≡ Some m → DoesSteps heap fresh (always_claiming_steps heap.shape e o mark) k → ⊥
+  always_claiming_fails e o mark m runs keeps does =
+      no_claim_of_a_keeper v.world m k.thread e (runs_there runs) (away heap k v (λ s y. y.kept ≡ Some m) keeps) (first_valid _ _ does)
+
+  -- A HEADER CLEARED BEFORE IT IS THE MARK: the monitor that the mark names has no header
+  pub early_cleaning_fails : (e : Purpose) (stage : Stage) (o m header : ℕ) → k.reached ≡ true → revocation_in stage ≡ None → monitor_in (v.world.words (name.Mark o)) ≡ Some m
+      → DoesSteps heap fresh (early_cleaning_steps e stage o m header) k → ⊥
+  early_cleaning_fails e stage o m header reached unrevoking named does =
+      let plan = clean_plan e stage (name.Header m) in
+      let afterwards = standing_fits plan k.thread v.world refl (away heap k v (λ s y. y.reached ≡ true) reached) unrevoking (first_valid _ _ does) in
+      let head : with_word (name.Header m) 0 v.world.words (name.Header m) ≡ 0 = with_word_there (name.Header m) 0 v.world.words in
+      let neutral = afterwards.1.monitors.neutral o m named in
+      let none : is_neutral 0 ≡ true = ap is_neutral (sym head) ∙ neutral in
+      absurd (cc (none, not_neutral))
+    where
+      not_neutral : is_neutral 0 ≡ false
+      not_neutral = ap is_neutral_form mark_zero

@@ -7,7 +7,7 @@ use Rattle.std.proofs.lemmas.Nat.{pow_pos}
 use Rattle.std.proofs.Math.Nat.{suc-mul, add-mul-mod_self_left}
 use Rattle.plain_monitor.specs.Objects.{PlainObject}
 use Rattle.core_world.specs.declared.name.Name.{Name}
-use Rattle.core_world.specs.declared.name.Name.TheVariants.{Mark, End, Ring}
+use Rattle.core_world.specs.declared.name.Name.TheVariants.{Mark, Claim, End, Ring}
 use Rattle.core_world.specs.Words.Forms.{monitor_in}
 use Rattle.core_world.specs.Words.Shape.{Shape, monitor_count, ring_bits, ring_places}
 use Rattle.core_world.specs.Threads.Known.{Known, Moving, Still, Fetches, Returns}
@@ -21,6 +21,7 @@ use Rattle.core_world.proofs.Rings.{ring_few, ring_enough, place_of_word, places
 use Rattle.core_locks.specs.DeflationLaws.{Saw}
 use Rattle.core_locks.proofs.Claims.{next_word}
 use Rattle.core_locks.proofs.Places.{with_most, with_more, with_none}
+use Rattle.core_steps.specs.Deflated.{StandsInRing}
 
 -- COUNTS. A function with another value at n, below n + 1.
 abbrev put : ℕ → ℕ → (ℕ → ℕ) → ℕ → ℕ
@@ -104,24 +105,48 @@ module _ (w : World) (P : List PlainObject) (v : Fits w P) (l : Known) (m : ℕ)
       let all : monitor_count w.shape ≡ length w.shape.objects + w.shape.threads = refl in
       omega (arith, few, enough, all, some)
 
-  -- where nobody gives a monitor back, no mark names it
-  pub unnamed : ((u : ℕ) → given_back (w.known u).moving ≡ None) → (o : ℕ) → inflated_to w o ≢ Some m
-  unnamed none o q =
-      let kept = with_most w.shape.threads (λ t. claimed_or_kept (w.known t).moving (w.known t).kept) in
-      let moved = with_none w.shape.threads (λ t. given_back (w.known t).moving) none in
-      let all : monitor_count w.shape ≡ length w.shape.objects + w.shape.threads = refl in
-      let enough : x.more + 1 ≤ v.claims.ringed = omega (arith, few, kept, moved, all, v.claims.counted) in
-      let p : ℕ = v.claims.first + v.claims.ringed - (x.more + 1) in
-      let behind : v.claims.first + v.claims.ringed ≡ p + (x.more + 1) = omega (arith, enough) in
-      let bits : ring_bits w.shape ≤ 64 = let most = ring_few w.shape in omega (arith, most) in
-      let words : (x.base + (x.more + 1)) % 2 ^ 64 ≡ (p + (x.more + 1)) % 2 ^ 64 = sym (sees End _ x.at_end) ∙ v.claims.end_word ∙ ap (λ z. z % 2 ^ 64) behind in
-      let ends = sym (place_of_word (x.base + (x.more + 1)) (ring_bits w.shape) bits) ∙ ap (λ z. z % 2 ^ ring_bits w.shape) words ∙ place_of_word (p + (x.more + 1)) (ring_bits w.shape) bits in
-      let place : x.base % 2 ^ ring_bits w.shape ≡ p % 2 ^ ring_bits w.shape = same_back x.base p (x.more + 1) (ring_bits w.shape) ends in
-      let here : w.words (Ring (p % 2 ^ ring_bits w.shape)) ≡ m = ap (λ z. w.words (Ring z)) (sym place) ∙ sees (Ring (x.base % 2 ^ ring_bits w.shape)) m x.in_ring in
-      let stood = v.claims.stands p (omega (arith, enough)) (omega (arith, enough)) in
-      let a : v.claims.place m ≡ InRing p = ap v.claims.place (sym here) ∙ stood.1 in
-      let b : v.claims.place m ≡ At o = (v.claims.names o m q).1 in
-      absurd (cc (a, b))
+  -- where nobody gives a monitor back, it stands at a filled position
+  module _ (none : (u : ℕ) → given_back (w.known u).moving ≡ None) where
+    enough : x.more + 1 ≤ v.claims.ringed
+    enough =
+        let kept = with_most w.shape.threads (λ t. claimed_or_kept (w.known t).moving (w.known t).kept) in
+        let moved = with_none w.shape.threads (λ t. given_back (w.known t).moving) none in
+        let all : monitor_count w.shape ≡ length w.shape.objects + w.shape.threads = refl in
+        omega (arith, few, kept, moved, all, v.claims.counted)
+
+    abbrev p : ℕ
+    p = v.claims.first + v.claims.ringed - (x.more + 1)
+
+    bits : ring_bits w.shape ≤ 64
+    bits = let most = ring_few w.shape in omega (arith, most)
+
+    here : w.words (Ring (p % 2 ^ ring_bits w.shape)) ≡ m
+    here =
+        let behind : v.claims.first + v.claims.ringed ≡ p + (x.more + 1) = omega (arith, enough) in
+        let words : (x.base + (x.more + 1)) % 2 ^ 64 ≡ (p + (x.more + 1)) % 2 ^ 64 = sym (sees End _ x.at_end) ∙ v.claims.end_word ∙ ap (λ z. z % 2 ^ 64) behind in
+        let ends = sym (place_of_word (x.base + (x.more + 1)) (ring_bits w.shape) bits) ∙ ap (λ z. z % 2 ^ ring_bits w.shape) words ∙ place_of_word (p + (x.more + 1)) (ring_bits w.shape) bits in
+        let place : x.base % 2 ^ ring_bits w.shape ≡ p % 2 ^ ring_bits w.shape = same_back x.base p (x.more + 1) (ring_bits w.shape) ends in
+        ap (λ z. w.words (Ring z)) (sym place) ∙ sees (Ring (x.base % 2 ^ ring_bits w.shape)) m x.in_ring
+
+    -- so no mark names it
+    pub unnamed : (o : ℕ) → inflated_to w o ≢ Some m
+    unnamed o q =
+        let stood = v.claims.stands p (omega (arith, enough)) (omega (arith, enough)) in
+        let a : v.claims.place m ≡ InRing p = ap v.claims.place (sym here) ∙ stood.1 in
+        let b : v.claims.place m ≡ At o = (v.claims.names o m q).1 in
+        absurd (cc (a, b))
+
+    pub stands_in_ring : StandsInRing w m
+    stands_in_ring =
+        let d : ℕ = v.claims.ringed - (x.more + 1) in
+        let most : v.claims.ringed ≤ monitor_count w.shape = (let all = v.claims.counted in omega (arith, all)) in
+        let end : w.words End ≡ (w.words Claim + v.claims.ringed) % 2 ^ 64 =
+        v.claims.end_word ∙ sym (next_word v.claims.first (2 ^ 64) v.claims.ringed) ∙ ap (λ z. (z + v.claims.ringed) % 2 ^ 64) (sym v.claims.claim_word) in
+        let word : (w.words Claim + d) % 2 ^ 64 ≡ p % 2 ^ 64 =
+        ap (λ z. (z + d) % 2 ^ 64) v.claims.claim_word ∙ next_word v.claims.first (2 ^ 64) d ∙ ap (λ z. z % 2 ^ 64) (let same : v.claims.first + d ≡ p = omega (arith, enough) in same) in
+        let place : (w.words Claim + d) % 2 ^ ring_bits w.shape ≡ p % 2 ^ ring_bits w.shape =
+        sym (place_of_word (w.words Claim + d) (ring_bits w.shape) bits) ∙ ap (λ z. z % 2 ^ ring_bits w.shape) word ∙ place_of_word p (ring_bits w.shape) bits in
+        (d, (v.claims.ringed, most, end, omega (arith, enough)), ap (λ z. w.words (Ring z)) place ∙ here)
 
 -- AT A REACHED SAFEPOINT nobody but its thread gives a monitor back
 pub none_returns : (w : World) (P : List PlainObject) (t : ℕ) → Fits w P → (w.known t).reached ≡ true → (w.known t).moving ≡ Still → (u : ℕ) → given_back (w.known u).moving ≡ None

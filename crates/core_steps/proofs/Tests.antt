@@ -1,5 +1,5 @@
 -- What the tests say with which the calls begin.
-use Rattle.std.proofs.Common.{◌≡◌, ◌⊎◌, ℕ, ◌<◌, ◌≤◌, ◌+◌, ◌==◌, ◌&&◌, ◌||◌, nat_lt, nat_le, eqb-true, not, is_none, is_some, Bool, true, false, length, Option, Some, None, refl, sym, ap, inl, inr, arith}
+use Rattle.std.proofs.Common.{◌≡◌, ◌⊎◌, ℕ, ◌<◌, ◌≤◌, ◌==◌, ◌&&◌, ◌||◌, nat_lt, nat_le, eqb-true, not, is_none, is_some, Bool, true, false, length, Option, Some, None, refl, sym, ap, inl, inr, arith}
 use Rattle.std.proofs.lemmas.Bool.Decides.{nat_tests}
 use Rattle.core_world.specs.declared.task.Op.{Op}
 use Rattle.core_world.specs.declared.task.Op.TheVariants as op
@@ -33,6 +33,9 @@ unsome (Some x) e = absurd (cc e)
 pub below : (a b : ℕ) → nat_lt a b ≡ true → a < b
 below a b e = grind (arith, nat_tests, e)
 
+pub at_most : (a b : ℕ) → nat_le a b ≡ true → a ≤ b
+at_most a b e = grind (arith, nat_tests, e)
+
 pub some_named : (n : ℕ) → (n == 0) ≡ false → 1 ≤ n
 some_named n e = grind (arith, nat_tests, e)
 
@@ -42,15 +45,15 @@ pub record Operates (k : Known) (going : Bool) : Type 0 where
   pub runs : (k.running || (k.requesting && going)) ≡ true
   pub free : is_free_for k going ≡ true
   pub live : ends k.log ≡ false
-  pub room : length k.log + 2 ≤ log_limit
+  pub room : length k.log < log_limit
 
 pub operates : (k : Known) (going : Bool) → may_operate k going ≡ true → Operates k going
 operates k going e =
-    let a = both (not k.checking && (k.running || (k.requesting && going)) && is_free_for k going && not (ends k.log)) (nat_le (length k.log + 2) log_limit) e in
+    let a = both (not k.checking && (k.running || (k.requesting && going)) && is_free_for k going && not (ends k.log)) (nat_lt (length k.log) log_limit) e in
     let b = both (not k.checking && (k.running || (k.requesting && going)) && is_free_for k going) (not (ends k.log)) a.0 in
     let c = both (not k.checking && (k.running || (k.requesting && going))) (is_free_for k going) b.0 in
     let d = both (not k.checking) (k.running || (k.requesting && going)) c.0 in
-    record { unchecking = not_true k.checking d.0; runs = d.1; free = c.1; live = not_true (ends k.log) b.1; room = grind (arith, nat_tests, a.1) }
+    record { unchecking = not_true k.checking d.0; runs = d.1; free = c.1; live = not_true (ends k.log) b.1; room = below (length k.log) log_limit a.1 }
 
 -- where its thread doesn't run, it is the one whose request stands; and where no request stands, its thread runs
 pub asking_goes : (runs asks going : Bool) → (runs || (asks && going)) ≡ true → runs ≡ false → going ≡ true
@@ -68,7 +71,7 @@ pub record Acts (k : Known) : Type 0 where
   pub runs : k.running ≡ true
   pub nothing : k.unfinished ≡ None
   pub live : ends k.log ≡ false
-  pub room : length k.log + 2 ≤ log_limit
+  pub room : length k.log < log_limit
 
 pub acts : (k : Known) → may_act k ≡ true → Acts k
 acts k e =

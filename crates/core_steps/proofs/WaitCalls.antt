@@ -1,12 +1,12 @@
 -- Wait begins well: a call that begins it, and each later one.
-use Rattle.std.proofs.Common.{◌≡◌, ℕ, ◌+◌, ◌<◌, ◌≤◌, ◌==◌, Bool, true, false, length, Option, Some, refl, sym, ap, ◌∙◌, subst, arith, inl, inr}
+use Rattle.std.proofs.Common.{◌≡◌, ℕ, ◌+◌, ◌<◌, ◌≤◌, ◌==◌, ◌&&◌, nat_le, Bool, true, false, cond, length, Option, Some, refl, sym, ap, ◌∙◌, subst, inl, inr}
 use Rattle.core_world.specs.declared.name.Name.TheVariants as name
 use Rattle.core_world.specs.declared.stage.Stage.TheVariants.{Calm}
 use Rattle.core_world.specs.declared.task.Op.TheVariants as op
 use Rattle.core_world.specs.declared.task.Task.TheVariants.{Wait}
 use Rattle.core_world.specs.declared.task.Unfinished.{Unfinished}
 use Rattle.core_world.specs.Threads.AtRest.{AtRest, MayAsk}
-use Rattle.core_world.specs.Trees.Calls.{steps_of, may_begin, may_operate, is_object}
+use Rattle.core_world.specs.Trees.Calls.{steps_of, may_begin, may_operate, is_object, most_logged}
 use Rattle.core_world.specs.Words.Forms.{waits_on, says_notified}
 use Rattle.core_world.specs.Threads.Known.{Known, Local, Still, local_of, start_of}
 use Rattle.core_world.specs.Clauses.Lengths.{log_limit}
@@ -32,7 +32,7 @@ use Rattle.core_steps.proofs.Resting.{rests, live_carries}
 use Rattle.core_steps.proofs.SafeCalls.{closes}
 use Rattle.core_steps.proofs.SafepointLooks.{going}
 use Rattle.core_steps.proofs.SeenSteps.{saw_older, first_any}
-use Rattle.core_steps.proofs.Tests.{asking_goes, free_runs, going_is, both, below, some_named, Operates, operates, nothing_enters, goes_on_or_begins, is_of_kind}
+use Rattle.core_steps.proofs.Tests.{asking_goes, free_runs, going_is, both, below, at_most, some_named, Operates, operates, nothing_enters, goes_on_or_begins, is_of_kind}
 use Rattle.core_steps.proofs.Trees.{answers, binds, chooses, follows}
 use Rattle.core_steps.proofs.Unbiases.{unbias_does, starts_unbias}
 use Rattle.core_steps.proofs.WaitEnds.{monitor_resume_does}
@@ -159,7 +159,7 @@ module _ (heap : Heap) (k : Known) (o now : ℕ) (v : Stands heap k) (rest : AtR
           still = rest.still;
           unchecks = refl;
           live = a.live;
-          room = let r = a.room in omega arith;
+          room = a.room;
           object = object;
           mine = waiting_unfinished heap k v fits o waits;
           check = sym a.unchecking;
@@ -175,9 +175,10 @@ module _ (heap : Heap) (k : Known) (o now : ℕ) (v : Stands heap k) (rest : AtR
     ]
 
     -- A CALL THAT BEGINS IT
-    beginning_does : waits_on k.wait o ≡ false → Does heap true (wait_beginning heap.shape e (start_of heap.start k) o now) k (λ b r l. AtRest heap.shape l)
-    beginning_does out =
+    beginning_does : length k.log + most_logged k (Wait o now) ≤ log_limit → waits_on k.wait o ≡ false → Does heap true (wait_beginning heap.shape e (start_of heap.start k) o now) k (λ b r l. AtRest heap.shape l)
+    beginning_does room out =
         let s = start_of heap.start k in
+        let two : length k.log + 2 ≤ log_limit = subst (λ (b : Bool). length k.log + cond b 1 2 ≤ log_limit) out room in
         let ready : k.wait ≡ 0 = home heap k v (λ z y. IsOut y → Unentering y → ends y.log ≡ false → y.wait ≡ 0) (ready_outside v.world v.objects k.thread fits)
         (out_to_wait heap k v fits o goes out rest.untold) unentering a.live in
         binds heap true (unbias_steps heap.shape e s (no_bias o now)) (λ turn. and_then turn (λ u. inflate_steps heap.shape e k.kept o >>= (λ turn. and_then turn (lets_go heap e o (local_of k))))) k _ (
@@ -193,7 +194,7 @@ module _ (heap : Heap) (k : Known) (o now : ℕ) (v : Stands heap k) (rest : AtR
                 still = x.still;
                 unchecks = refl;
                 live = ap (λ z. ends z.log) x.local ∙ a.live;
-                room = subst (λ z. length z.log + 2 ≤ log_limit) (sym x.local) a.room;
+                room = subst (λ z. length z.log + 2 ≤ log_limit) (sym x.local) two;
                 object = object;
                 holds = subst (λ z. 1 ≤ hold_count o z.holds) (sym x.local) (some_named (hold_count o k.holds) some);
                 mine = x.mine;
@@ -210,13 +211,16 @@ module _ (heap : Heap) (k : Known) (o now : ℕ) (v : Stands heap k) (rest : AtR
   wait_finishes : may_begin heap.shape heap.biasing k (Wait o now) ≡ true → Finishes heap true (steps_of heap.shape (Wait o now) (start_of heap.start k)) k
   unfolding steps_of
   wait_finishes may =
-      let m = both (is_object heap.shape o) (may_operate k (goes_on_with op.Wait o k.unfinished)) may in
-      let a = operates k (goes_on_with op.Wait o k.unfinished) m.1 in
+      let going = goes_on_with op.Wait o k.unfinished in
+      let all = both (is_object heap.shape o && may_operate k going) (nat_le (length k.log + most_logged k (Wait o now)) log_limit) may in
+      let m = both (is_object heap.shape o) (may_operate k going) all.0 in
+      let a = operates k going m.1 in
+      let room = at_most (length k.log + most_logged k (Wait o now)) log_limit all.1 in
       closes heap true _ k (
       chooses heap true (hold_count o k.holds == 0) _ _ k _ (λ h. answers heap true _ k _ rest) (λ h.
       binds heap true (wait_going heap.shape e (start_of heap.start k) o now) answer k _ (
       follows heap true _ k _ _ (
-      chooses heap true (waits_on k.wait o) _ _ k (λ b r l. AtRest heap.shape l) (λ yes. later_does m.0 a h yes) (λ no. beginning_does m.0 a h no))
+      chooses heap true (waits_on k.wait o) _ _ k (λ b r l. AtRest heap.shape l) (λ yes. later_does m.0 a h yes) (λ no. beginning_does m.0 a h room no))
       (λ b r l x. answers heap b _ l _ x))))
 
 pub wait_begins : (heap : Heap) (o now : ℕ) → BeginsWell heap (Wait o now)

@@ -1,17 +1,23 @@
 -- A small heap without biases, of one thread and one object, and worlds to which it comes by the steps of its thread.
 use Rattle.std.specs.Prelude.{ℕ, [], ◌∷◌, false}
 use Rattle.mark_word.specs.Mark.{mark_of}
-use Rattle.mark_word.specs.declared.mark.MarkForm.TheVariants.{Neutral}
+use Rattle.mark_word.specs.Owner.{owner_of}
+use Rattle.mark_word.specs.declared.mark.MarkForm.TheVariants.{Neutral, Locked}
+use Rattle.mark_word.specs.declared.owner.OwnerForm.TheVariants.{ByRecord}
 use Rattle.plain_monitor.specs.declared.entry.Path.TheVariants.{StackFirst}
-use Rattle.core_world.specs.declared.name.Name.TheVariants.{Safepoint}
-use Rattle.core_world.specs.declared.stage.Stage.TheVariants.{Calm}
-use Rattle.core_world.specs.declared.task.Task.TheVariants.{Resume, StackEnter}
+use Rattle.core_world.specs.declared.name.Name.TheVariants.{Safepoint, Mark, Displaced, Owner, Recursions, Header, Object}
+use Rattle.core_world.specs.declared.stage.Stage.{Stage}
+use Rattle.core_world.specs.declared.stage.Stage.TheVariants.{Calm, Inflates}
+use Rattle.core_world.specs.declared.task.Op.TheVariants as op
+use Rattle.core_world.specs.declared.task.Task.TheVariants.{Resume, StackEnter, Hash, Request, Reached}
 use Rattle.core_world.specs.Trees.Calls.{side_purpose}
-use Rattle.core_world.specs.Threads.Known.{Known, start_of}
+use Rattle.core_world.specs.Threads.Known.{Known, start_of, draw_of}
 use Rattle.core_world.specs.Opening.{opening, first_known}
 use Rattle.core_world.specs.Trees.Operations.{lone_purpose}
-use Rattle.core_world.specs.Trees.Plans.{Purpose, load}
-use Rattle.core_world.specs.Trees.SafepointSteps.{resume_plan}
+use Rattle.core_world.specs.Trees.Plans.{Purpose, purpose, load, load_plan}
+use Rattle.core_world.specs.Trees.HashSteps.{NextDraw, find_hash_plan, draw_plan}
+use Rattle.core_world.specs.Trees.MonitorSteps.{claim_plan, fetch_plan, inflate_plan, prepare_plan, name_plan}
+use Rattle.core_world.specs.Trees.SafepointSteps.{resume_plan, request_plan, released_word}
 use Rattle.core_world.specs.Steps.{world_after}
 use Rattle.core_world.specs.World.{World}
 use Rattle.core_world.specs.Trees.LockSteps.{hold_plan, log_enter_plan, seize_plan, displace_plan}
@@ -48,6 +54,61 @@ held = world_after (hold_plan entering 0 0 1 0 StackFirst) 0 seized
 
 abbrev pub entered : World
 entered = world_after (log_enter_plan entering 0 StackFirst) 0 held
+
+-- It goes on to draw the object's hash, for which it inflates the lock with the monitor 0: it has looked at the mark and at the displaced word, loaded
+-- the mark to inflate it, claimed a position, and loaded its place; exchanged the mark for 0, and loaded the displaced word.
+abbrev pub hashing : Purpose
+hashing = purpose (Hash 0 0) op.Hash 0
+
+abbrev pub unbiased : World
+unbiased = world_after (load hashing (Mark 0)) 0 entered
+
+abbrev pub unfound : World
+unfound = world_after (find_hash_plan hashing (Displaced 0 0) 0) 0 (world_after (find_hash_plan hashing (Mark 0) 0) 0 unbiased)
+
+abbrev pub claimed : World
+claimed = world_after (claim_plan hashing) 0 (world_after (load hashing (Mark 0)) 0 unfound)
+
+abbrev pub keeping : World
+keeping = world_after (fetch_plan hashing small.shape 0) 0 claimed
+
+abbrev pub locked : ℕ
+locked = mark_of (Locked 0 0)
+
+abbrev pub inflating : Stage
+inflating = Inflates 0 0 0
+
+abbrev pub copied : World
+copied = world_after (load_plan hashing inflating (Displaced 0 0)) 0 (world_after (inflate_plan hashing 0 locked 0 0) 0 keeping)
+
+-- It has stored the words of the monitor, and the mark that names it; found no hash in its header, and exchanged that for one with the hash.
+abbrev pub headed : World
+headed = world_after (prepare_plan hashing inflating (Header 0) neutral) 0 copied
+
+abbrev pub owned : World
+owned = world_after (prepare_plan hashing inflating (Owner 0) (owner_of (ByRecord 0 0))) 0 headed
+
+abbrev pub counted : World
+counted = world_after (prepare_plan hashing inflating (Recursions 0) 0) 0 owned
+
+abbrev pub prepared : World
+prepared = world_after (prepare_plan hashing inflating (Object 0) 0) 0 counted
+
+abbrev pub named : World
+named = world_after (name_plan hashing 0 0) 0 prepared
+
+abbrev pub drawing : NextDraw
+drawing = record { number = 1; value = draw_of small.start 0 1 }
+
+abbrev pub drawn : World
+drawn = world_after (draw_plan hashing drawing (Header 0) 0 neutral) 0 (world_after (find_hash_plan hashing (Header 0) 0) 0 named)
+
+-- And it asks for a safepoint: it has requested it, and seen that nobody runs.
+abbrev pub requested : World
+requested = world_after (request_plan (lone_purpose Request) 0 (released_word 0)) 0 (world_after (load (lone_purpose Request) Safepoint) 0 drawn)
+
+abbrev pub reached : World
+reached = world_after (load (lone_purpose Reached) Safepoint) 0 requested
 
 -- what the thread knows in such a world
 abbrev pub known_in : World → Known

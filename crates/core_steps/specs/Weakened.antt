@@ -1,5 +1,5 @@
 -- Trees of steps that are wrong in one way each, and the stages at which no thread may stop.
-use Rattle.std.specs.Prelude.{ℕ, ◌==◌, nat_lt, cond, Bool, true, false}
+use Rattle.std.specs.Prelude.{ℕ, ◌==◌, nat_lt, cond, Bool, true, false, None}
 use Rattle.plain_monitor.specs.declared.entry.Path.{Path}
 use Rattle.plain_monitor.specs.declared.entry.Path.TheVariants.{StackFirst}
 use Rattle.core_world.specs.declared.answer.StackOut.{StackOut}
@@ -8,7 +8,11 @@ use Rattle.core_world.specs.declared.answer.Turn.{Turn}
 use Rattle.core_world.specs.declared.answer.Why.TheVariants as why
 use Rattle.core_world.specs.declared.stage.Stage.{Stage}
 use Rattle.core_world.specs.declared.stage.Stage.TheVariants.{Seizes, Grabs, Enters, Resumes, Exits, Waits, Inflates, Notifies}
+use Rattle.core_world.specs.declared.name.Name.TheVariants.{Header}
+use Rattle.core_world.specs.Words.Shape.{Shape}
 use Rattle.core_world.specs.Threads.Known.{Local}
+use Rattle.core_world.specs.Trees.DeflateSteps.{detach_plan, clean_plan}
+use Rattle.core_world.specs.Trees.MonitorSteps.{inflate_by}
 use Rattle.core_world.specs.Trees.LockSteps.{displace_plan, seize_plan, let_go_plan, clear_plan, hold_steps}
 use Rattle.core_world.specs.Trees.Plans.{Purpose, with_stage, done_with, pending_for, free_place, top_place}
 use Rattle.core_world.specs.Trees.SafepointSteps.{stop_plan}
@@ -34,6 +38,17 @@ early_clearing_steps e k o header mark = do
 abbrev pub stop_at_stage_steps : Purpose → Stage → Local → Todo (Unit {0})
 stop_at_stage_steps e stage k = do
   _ ← ask (with_stage stage (stop_plan e k.thread))
+  done tt
+
+-- An inflation that claims a position even where its thread keeps a monitor, from one that didn't come about.
+abbrev pub always_claiming_steps : Shape → Purpose → ℕ → ℕ → Todo (Turn ℕ)
+always_claiming_steps s e o mark = inflate_by None s e o mark
+
+-- A deflation that clears the header of the monitor m before it stores it as the mark of o.
+abbrev pub early_cleaning_steps : Purpose → Stage → ℕ → ℕ → ℕ → Todo (Unit {0})
+early_cleaning_steps e stage o m header = do
+  _ ← ask (clean_plan e stage (Header m))
+  _ ← ask (detach_plan e stage o m header)
   done tt
 
 -- A thread at this stage is in the middle of taking or leaving a lock, of a wait, of an inflation, or of telling several of those who wait, so

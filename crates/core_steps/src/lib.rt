@@ -5,7 +5,8 @@ mod refused;
 mod stepping;
 
 pub use refused::{
-    no_displaced_word_after_the_exchange, no_hold_word_cleared_before_the_exchange,
+    no_claim_with_a_kept_monitor, no_displaced_word_after_the_exchange,
+    no_header_cleared_before_the_mark, no_hold_word_cleared_before_the_exchange,
     no_stop_between_steps_on_a_lock, no_stop_in_the_middle_of_a_lock,
 };
 pub use stepping::{

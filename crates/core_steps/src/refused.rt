@@ -5,20 +5,21 @@
 //! steps: they don't keep that world valid, whatever is to hold behind them. The last names a world to which a small heap comes by its calls,
 //! so that there is such a world.
 
-ghost use Rattle.std.specs.Prelude.{◌≡◌, ◌≢◌, ◌⊎◌, ℕ, ◌<◌, ◌≤◌, Bool, true, false, length, Some};
+ghost use Rattle.std.specs.Prelude.{◌≡◌, ◌≢◌, ◌⊎◌, ℕ, ◌<◌, ◌≤◌, Bool, true, false, length, Some, None};
 ghost use Rattle.core_world.specs.declared.name.Name.TheVariants.{Mark, Displaced};
 ghost use Rattle.core_world.specs.declared.stage.Stage.{Stage};
 ghost use Rattle.core_world.specs.declared.stage.Stage.TheVariants.{Calm, Seizes, Ahead, Behind};
 ghost use Rattle.core_world.specs.Words.Forms.{is_neutral, monitor_in};
 ghost use Rattle.core_world.specs.Threads.Known.{Known, local_of};
+ghost use Rattle.core_world.specs.Threads.Stages.{revocation_in};
 ghost use Rattle.core_world.specs.Locks.{OwnedBy, lock, hold_count};
 ghost use Rattle.core_world.specs.Trees.Plans.{Purpose, free_place};
 ghost use Rattle.core_world.specs.Trees.SafepointSteps.{stop_steps};
 ghost use Rattle.core_world.specs.Steps.{is_idle};
 ghost use Rattle.core_law.specs.Logic.{Heap, Stands, DoesSteps};
 ghost use Rattle.core_law.specs.Reached.{Comes};
-ghost use Rattle.core_steps.specs.SmallWorlds.{small, neutral, running, seized, entered, known_in};
-ghost use Rattle.core_steps.specs.Weakened.{late_displaced_steps, early_clearing_steps, stop_at_stage_steps, is_between};
+ghost use Rattle.core_steps.specs.SmallWorlds.{small, neutral, locked, running, seized, entered, keeping, reached, known_in};
+ghost use Rattle.core_steps.specs.Weakened.{late_displaced_steps, early_clearing_steps, stop_at_stage_steps, always_claiming_steps, early_cleaning_steps, is_between};
 
 /// An enter that stores the displaced word only after it has exchanged the neutral mark: the exchange leads to a world in which
 /// a mark names a record that has no header.
@@ -71,4 +72,25 @@ pub fn no_stop_in_the_middle_of_a_lock()
     ensures there { (e : Purpose)
         → Comes small seized
         × (DoesSteps small false (stop_steps e (local_of (known_in seized))) (known_in seized) → ⊥) }
+{}
+
+/// An inflation that claims a position though its thread keeps a monitor already, from an inflation that didn't come about: it would have two.
+pub fn no_claim_with_a_kept_monitor()
+    ensures refused { (heap : Heap) (k : Known) (fresh : Bool) (v : Stands heap k) (e : Purpose) (o mark m : ℕ)
+        → is_idle heap.shape k ≡ fresh → k.running ≡ true → k.kept ≡ Some m
+        → DoesSteps heap fresh (always_claiming_steps heap.shape e o mark) k → ⊥ }
+    ensures there { (e : Purpose)
+        → Comes small keeping
+        × (DoesSteps small false (always_claiming_steps small.shape e 0 locked) (known_in keeping) → ⊥) }
+{}
+
+/// A deflation that clears the header of a monitor before that is the mark again: the mark would name a monitor without a header.
+pub fn no_header_cleared_before_the_mark()
+    ensures refused { (heap : Heap) (k : Known) (fresh : Bool) (v : Stands heap k) (e : Purpose) (stage : Stage)
+        (o m header : ℕ) → is_idle heap.shape k ≡ fresh → k.reached ≡ true → revocation_in stage ≡ None
+        → monitor_in (v.world.words (Mark o)) ≡ Some m
+        → DoesSteps heap fresh (early_cleaning_steps e stage o m header) k → ⊥ }
+    ensures there { (e : Purpose) (header : ℕ)
+        → Comes small reached
+        × (DoesSteps small true (early_cleaning_steps e Calm 0 0 header) (known_in reached) → ⊥) }
 {}

@@ -24,7 +24,7 @@ ghost use Rattle.core_law.specs.HeapLaw.{HeapLaw};
 ghost use Rattle.core_law.specs.Logic.{Heap, Does, DoesSteps, heap_of};
 ghost use Rattle.core_law.specs.Reached.{Comes, comes};
 ghost use Rattle.core_law.specs.Sound.{Sound};
-ghost use Rattle.core_steps.specs.Deflated.{IsSettled, NamedAreInUse};
+ghost use Rattle.core_steps.specs.Deflated.{IsSettled, NamedAreInUse, GivenBackAreClean};
 
 /// In a sound world the next step of any thread leads to a sound world: in whatever call, whether it begins the call or goes on with it, and
 /// whatever the other threads are in the middle of. The step is a function of what its thread knows alone. The heap has the word that it is
@@ -102,9 +102,10 @@ pub fn a_deflation_does_its_steps()
         → DoesSteps heap false (deflate_steps heap.shape e k.stage) k }
 {}
 
-/// Behind such a deflation no monitor is idle. In each valid world in which the thread stands there, every monitor that a mark names has an owner, or
-/// somebody who waits on its object, was notified from it or enters it. And by what the thread saw at its safepoint, each monitor of the heap was given
-/// back, or the mark of the object in its object word doesn't name it, or it is so in use.
+/// Behind such a deflation no monitor is idle. In each valid world in which the thread stands there, every monitor that a mark names has an
+/// owner, or somebody who waits on its object, was notified from it or enters it. And by what the thread saw at its safepoint, each monitor of
+/// the heap was given back, or the mark of the object in its object word doesn't name it, or it is so in use. Those that were given back have
+/// their four words 0 in each such world and stand in the ring, and no mark names them.
 pub fn a_deflation_leaves_no_monitor_idle()
     ensures in_use { (heap : Heap) (e : Purpose) (k : Known) → revocation_in k.stage ≡ None → k.reached ≡ true
         → k.running ≡ false → k.moving ≡ Still → e.check ≡ k.checking → e.unfinished ≡ k.unfinished
@@ -114,6 +115,9 @@ pub fn a_deflation_leaves_no_monitor_idle()
         → 0 < length heap.shape.objects
         → Does heap false (deflate_steps heap.shape e k.stage) k
         (λ b a l. (m : ℕ) → m < monitor_count heap.shape → IsSettled heap.shape l m) }
+    ensures clean { (heap : Heap) (e : Purpose) (k : Known) → revocation_in k.stage ≡ None → k.reached ≡ true
+        → k.running ≡ false → k.moving ≡ Still → e.check ≡ k.checking → e.unfinished ≡ k.unfinished
+        → Does heap false (deflate_steps heap.shape e k.stage) k (λ b a l. GivenBackAreClean heap k l) }
 {}
 
 /// Every heap in the limits has its law, which whoever makes a heap hands in. It has four parts, each a law by itself.

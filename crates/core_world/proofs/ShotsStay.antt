@@ -6,11 +6,14 @@ use Rattle.plain_monitor.specs.declared.entry.Entry.{Entry}
 use Rattle.plain_monitor.specs.declared.entry.Entry.TheVariants.{Enter, Exit, Get, Put, Wait, Resume, Notify, NotifyAll, Hash, Print, Dump, Trap, Spent, Done}
 use Rattle.plain_monitor.specs.declared.entry.Logged.{Logged}
 use Rattle.plain_monitor.specs.History.{LegalObjects, objects_after, log_of, appended}
+use Rattle.plain_history.specs.Appending.{MayAppend}
+use Rattle.plain_history.specs.Cuts.{cut_logs}
+use Rattle.plain_history.proofs.InOrder.{in_order_with}
 use Rattle.core_world.specs.declared.task.Op.TheVariants as op
 use Rattle.core_world.specs.declared.task.Unfinished.{Unfinished}
 use Rattle.core_world.specs.Threads.Known.{Known, DumpShot}
 use Rattle.core_world.specs.Clauses.Safepoints.{IsUnfinished}
-use Rattle.core_world.specs.Shots.{cut_logs, placed, dumps_from, places_of, IsRightShot, AreOfDumps, IsNoLater, ShotsFit}
+use Rattle.core_world.specs.Shots.{placed, dumps_from, places_of, IsRightShot, AreOfDumps, IsNoLater, ShotsFit}
 use Rattle.core_world.specs.World.{with_known}
 use Rattle.core_world.proofs.KnowledgeParts.{by_equal, each_with_known}
 
@@ -45,12 +48,14 @@ longer_with logs t u l h =
     (λ d. let same = ap (λ z. length z) (get_or-set_other logs t u (log_of logs t ++ l ∷ []) [] d) in omega (arith, same))
 
 -- a right shot stays right
-pub right_with : (shape : List (ℕ × ℕ)) (logs : List (List Logged)) (t : ℕ) (l : Logged) (shot : DumpShot) → t < length logs → IsRightShot shape logs shot → IsRightShot shape (appended logs t l) shot
-right_with shape logs t l shot h r =
+pub right_with : (shape : List (ℕ × ℕ)) (logs : List (List Logged)) (t : ℕ) (l : Logged) (shot : DumpShot) → MayAppend logs t l
+    → IsRightShot shape logs shot → IsRightShot shape (appended logs t l) shot
+right_with shape logs t l shot may r =
     let same : cut_logs shot.cut (appended logs t l) ≡ cut_logs shot.cut logs = cut_appended shot.cut logs t (l ∷ []) r.threads (r.within t) in
     record {
       threads = r.threads ∙ sym (length-set logs t (log_of logs t ++ l ∷ []));
-      within = λ u. let a = r.within u in let b = longer_with logs t u l h in omega (arith, a, b);
+      within = λ u. let a = r.within u in let b = longer_with logs t u l may.thread in omega (arith, a, b);
+      in_order = in_order_with shot.cut logs t l may same r.in_order;
       legal = subst (LegalObjects shape) (sym same) r.legal;
       objects = r.objects;
       taken = ap (objects_after shape) same ∙ r.taken;
@@ -112,12 +117,13 @@ dumps_other t log l shots u v silent none (inl e) = inl (e ∙ sym (dumps_silent
 dumps_other t log l shots u v silent none (inr a) = absurd (none a.1)
 
 -- with an entry of thread t, all shots fit that did, where its own are those of its dumps
-pub shots_with : (shape : List (ℕ × ℕ)) (logs : List (List Logged)) (t : ℕ) (y : Logged) (l : Known) (f : ℕ → Known) → t < length logs → AreOfDumps t l.log (f t).shots l.unfinished
+pub shots_with : (shape : List (ℕ × ℕ)) (logs : List (List Logged)) (t : ℕ) (y : Logged) (l : Known) (f : ℕ → Known) → MayAppend logs t y
+    → AreOfDumps t l.log (f t).shots l.unfinished
     → ShotsFit shape logs (λ u. (f u).log) (λ u. (f u).shots) (λ u. (f u).unfinished)
     → ShotsFit shape (appended logs t y) (λ u. (with_known t l f u).log) (λ u. (f u).shots) (λ u. (with_known t l f u).unfinished)
-shots_with shape logs t y l f within mine h =
+shots_with shape logs t y l f may mine h =
     record {
-      right = λ u i s e. right_with shape logs t y s within (h.right u i s e);
+      right = λ u i s e. right_with shape logs t y s may (h.right u i s e);
       numbered = h.numbered;
       dumps = λ u. each_with_known (λ u k. AreOfDumps u k.log (f u).shots k.unfinished) t l f u mine (λ d. h.dumps u);
       few = h.few;

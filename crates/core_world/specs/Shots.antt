@@ -1,11 +1,12 @@
 -- The shots of dumps are right over the logs, each stands for one dump of its thread, and of any two one was made no later than the other.
-use Rattle.std.specs.Prelude.{◌≡◌, ◌⊎◌, ℕ, ◌+◌, ◌≤◌, List, [], ◌∷◌, ◌++◌, length, map, take, slice_get, slice_index, Option, Some}
+use Rattle.std.specs.Prelude.{◌≡◌, ◌⊎◌, ℕ, ◌+◌, ◌≤◌, List, [], ◌∷◌, ◌++◌, length, map, slice_get, slice_index, Option, Some}
 use Rattle.plain_monitor.specs.declared.entry.Entry.{Entry}
 use Rattle.plain_monitor.specs.declared.entry.Entry.TheVariants.{Dump}
 use Rattle.plain_monitor.specs.declared.entry.Logged.{Logged}
 use Rattle.plain_monitor.specs.Monitor.{PlainMonitor}
 use Rattle.plain_monitor.specs.Objects.{PlainObject}
 use Rattle.plain_monitor.specs.History.{LegalObjects, objects_after, log_of}
+use Rattle.plain_history.specs.Cuts.{cut_logs, IsCutInOrder}
 use Rattle.core_world.specs.declared.task.Op.TheVariants as op
 use Rattle.core_world.specs.declared.task.Unfinished.{Unfinished}
 use Rattle.core_world.specs.Threads.Known.{DumpShot}
@@ -17,12 +18,6 @@ cell_in m = (m.owner, m.count)
 
 abbrev pub cells_of : List PlainObject → List (Option ℕ × ℕ)
 cells_of objects = map (λ x. cell_in x.monitor) objects
-
--- the front of each log, of the length that stands in its place
-abbrev pub cut_logs : List ℕ → List (List Logged) → List (List Logged)
-cut_logs [] logs = logs
-cut_logs (n ∷ ns) [] = []
-cut_logs (n ∷ ns) (log ∷ logs) = take n log ∷ cut_logs ns logs
 
 -- a dump's place and number before those behind it
 abbrev pub placed : ℕ → Entry → List (ℕ × ℕ) → List (ℕ × ℕ)
@@ -43,6 +38,8 @@ pub record IsRightShot (shape : List (ℕ × ℕ)) (logs : List (List Logged)) (
   -- it says of each log how long it was, which is now no shorter
   pub threads : length shot.cut ≡ length logs
   pub within : (u : ℕ) → slice_index shot.cut u ≤ length (log_of logs u)
+  -- what was logged since stands behind all that was logged then and that it is tied to
+  pub in_order : IsCutInOrder shot.cut logs
   pub legal : LegalObjects shape (cut_logs shot.cut logs)
   pub objects : List PlainObject
   pub taken : objects_after shape (cut_logs shot.cut logs) ≡ Some objects

@@ -12,7 +12,7 @@ use Rattle.core_world.specs.declared.name.Name.TheVariants as name
 use Rattle.core_world.specs.declared.plan.Note.{Note}
 use Rattle.core_world.specs.declared.plan.Note.TheVariants.{Quiet, Log, LogGet, LogHash}
 use Rattle.core_world.specs.declared.plan.Own.{Own}
-use Rattle.core_world.specs.declared.plan.Own.TheVariants.{Position, Claim, Unname, Enring, Spend, Save, CountVerdict, TakeShot}
+use Rattle.core_world.specs.declared.plan.Own.TheVariants.{Position, Claim, Detach, Enqueue, Spend, Save, CountVerdict, TakeShot}
 use Rattle.core_world.specs.declared.plan.StepPlan.{StepPlan}
 use Rattle.core_world.specs.declared.task.Unfinished.{Unfinished}
 use Rattle.core_world.specs.Words.Shape.{Shape, class_of}
@@ -123,8 +123,8 @@ kept_after _ found kept = kept
 abbrev pub moving_after : Own → ℕ → Moving → Moving
 moving_after Position found moving = Fetches found
 moving_after Claim found moving = Still
-moving_after (Unname monitor) found moving = Returns monitor
-moving_after Enring found moving = Still
+moving_after (Detach monitor) found moving = Returns monitor
+moving_after Enqueue found moving = Still
 moving_after _ found moving = moving
 
 abbrev pub saved_after : Own → ℕ → ℕ → ℕ

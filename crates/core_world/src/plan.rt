@@ -32,11 +32,11 @@ pub enum Own {
     /// The number found is the monitor that it keeps from now on, and it has loaded its position.
     Claim,
     /// It gives this monitor back, which no mark names any more.
-    Unname {
+    Detach {
         monitor: u32,
     },
     /// The monitor that it gave back stands in the ring.
-    Enring,
+    Enqueue,
     /// It keeps no monitor any more.
     Spend,
     /// The number found is the recursions that its wait saves.

@@ -3,7 +3,7 @@ use Rattle.std.specs.Prelude.{◌≡◌, ◌+◌, ◌≤◌, true, length}
 use Rattle.core_world.specs.declared.task.Task.{Task}
 use Rattle.core_world.specs.Steps.{is_idle}
 use Rattle.core_world.specs.Threads.Known.{Start, start_of}
-use Rattle.core_world.specs.Trees.Calls.{may_begin}
+use Rattle.core_world.specs.Trees.Calls.{may_begin, most_logged}
 use Rattle.heap_table.specs.Seen.{HeapSeen, PassSeen, IsOf}
 
 -- It is in the middle of nothing: its last call is over.
@@ -16,10 +16,10 @@ pub record MayCall (h : HeapSeen) (p : PassSeen) (t : Task) : Type 0 where
   pub rests : Rests h p
   pub may : may_begin h.heap.shape h.heap.biasing p.known t ≡ true
 
--- So may an operation, which logs two entries at most: the log has room for them.
+-- So may an operation: the log has room for the entries that it logs at most.
 pub record MayOperate (h : HeapSeen) (p : PassSeen) (t : Task) : Type 0 where
   pub call : MayCall h p t
-  pub room : length p.known.log + 2 ≤ p.limit
+  pub room : length p.known.log + most_logged p.known t ≤ p.limit
 
 -- what a call that begins now takes of the thread's knowledge
 abbrev pub start_now : HeapSeen → PassSeen → Start

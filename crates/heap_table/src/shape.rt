@@ -49,8 +49,8 @@ impl HeapShape {
         8
     }
 
-    /// The ring position behind the last monitor in the ring. It lies beside the claim word: it is stored only at a
-    /// reached safepoint, where nobody claims.
+    /// The ring position behind the last monitor in the ring. It lies beside the claim word, and may lie in the line of
+    /// the safepoint word: it is stored only at a reached safepoint, where nobody runs.
     #[inline(always)]
     pub fn end_at(&self) -> usize
         ensures { result ≡ place_of self.now Name.End }

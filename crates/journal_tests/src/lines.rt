@@ -1,8 +1,9 @@
 //! The lines of a small run, written by hand.
 
-ghost use Rattle.std.specs.Prelude.{◌≡◌, ◌≤◌, [], ◌∷◌, length, true, IfOk};
+ghost use Rattle.std.specs.Prelude.{◌≡◌, [], ◌∷◌, length, true, IfOk};
 ghost use Rattle.std.specs.List.{AllByRecursion};
 ghost use Rattle.plain_monitor.specs.History.{RisesAbove};
+ghost use Rattle.lock_journal.specs.Merging.{AreOfSixteen};
 ghost use Rattle.object_program.specs.Name.{is_name};
 ghost use Rattle.object_program.specs.declared.program.Code.TheVariants.{End};
 
@@ -222,7 +223,7 @@ fn two_threads(alloc: Global) -> Result<Program, AllocError> {
 /// The logs of both threads.
 fn two_logs(alloc: Global) -> Result<List<List<Logged>>, AllocError>
     ensures rising { IfOk result (AllByRecursion (RisesAbove 0)) }
-    ensures few { IfOk result (λ logs. length logs ≤ 16) }
+    ensures few { IfOk result AreOfSixteen }
 {
     let mut logs = Vec::new(alloc);
     logs.push(List::of(Vec::from_slice(alloc, &LOG_OF_T1)?))?;
@@ -233,7 +234,7 @@ fn two_logs(alloc: Global) -> Result<List<List<Logged>>, AllocError>
 /// A log of two prints, of the least number and of 0.
 fn prints(alloc: Global) -> Result<List<List<Logged>>, AllocError>
     ensures rising { IfOk result (AllByRecursion (RisesAbove 0)) }
-    ensures few { IfOk result (λ logs. length logs ≤ 16) }
+    ensures few { IfOk result AreOfSixteen }
 {
     let mut logs = Vec::new(alloc);
     logs.push(List::of(Vec::from_slice(alloc, &PRINTS)?))?;
@@ -257,9 +258,9 @@ fn one_dump(alloc: Global) -> Result<List<List<Shot>>, AllocError> {
 /// The record of a run with these logs.
 pub fn run_of(alloc: Global, logs: List<List<Logged>>) -> Result<RunRecord, AllocError>
     requires rising { AllByRecursion (RisesAbove 0) logs }
-    requires few { length logs ≤ 16 }
+    requires few { AreOfSixteen logs }
     ensures rising { IfOk result (λ run. AllByRecursion (RisesAbove 0) run.logs) }
-    ensures few { IfOk result (λ run. length run.logs ≤ 16) }
+    ensures few { IfOk result (λ run. AreOfSixteen run.logs) }
 {
     Ok(RunRecord {
         program: two_threads(alloc)?,

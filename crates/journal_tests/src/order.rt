@@ -1,13 +1,15 @@
 //! The order of known logs.
 
-ghost use Rattle.std.specs.Prelude.{◌<◌, ◌≤◌, length, IfOk};
+ghost use Rattle.std.specs.Prelude.{◌<◌, IfOk};
 ghost use Rattle.std.specs.List.{AllByRecursion};
 ghost use Rattle.plain_monitor.specs.History.{RisesAbove};
+ghost use Rattle.lock_journal.specs.Merging.{AreOfSixteen};
 
 use crate::lines::run_of;
 use lock_journal::Merge;
 use plain_monitor::{Entry, List, Logged};
 use std::alloc::{AllocError, Global};
+use std::process::Abort;
 use std::test::Fail;
 
 /// A log of two entries with these stamps.
@@ -31,7 +33,7 @@ fn two(alloc: Global, first: u64, second: u64) -> Result<List<Logged>, AllocErro
 /// Two logs with one stamp in common, and an empty one.
 fn three_logs(alloc: Global) -> Result<List<List<Logged>>, AllocError>
     ensures rising { IfOk result (AllByRecursion (RisesAbove 0)) }
-    ensures few { IfOk result (λ logs. length logs ≤ 16) }
+    ensures few { IfOk result AreOfSixteen }
 {
     let mut logs = Vec::new(alloc);
     logs.push(two(alloc, 1, 4)?)?;
@@ -40,9 +42,30 @@ fn three_logs(alloc: Global) -> Result<List<List<Logged>>, AllocError>
     Ok(List::of(logs))
 }
 
+/// The same with 17 more that are empty: more logs than a program has threads.
+fn twenty_logs(alloc: Global) -> Result<List<List<Logged>>, AllocError>
+    ensures rising { IfOk result (AllByRecursion (RisesAbove 0)) }
+    ensures few { IfOk result AreOfSixteen }
+{
+    let mut logs = three_logs(alloc)?.into_vec();
+    for _ in 0..17 {
+        logs.push(List::of(Vec::new(alloc)))?;
+    }
+    Ok(List::of(logs))
+}
+
 #[test]
 fn entries_come_by_stamp_and_thread(rt: HostRuntime) -> Result<(), Fail> {
-    let run = run_of(rt.alloc(), three_logs(rt.alloc())?)?;
+    expect_merged(&rt, three_logs(rt.alloc())?)?;
+    expect_merged(&rt, twenty_logs(rt.alloc())?)
+}
+
+/// Merges the logs, which have four entries.
+fn expect_merged<R: Abort + AllocGlobal>(rt: &R, logs: List<List<Logged>>) -> Result<(), Fail>
+    requires rising { AllByRecursion (RisesAbove 0) logs }
+    requires few { AreOfSixteen logs }
+{
+    let run = run_of(rt.alloc(), logs)?;
     let mut merge = Merge::new(&run);
     for expected in [(0, 1), (1, 2), (0, 4), (1, 4)] {
         let given = merge

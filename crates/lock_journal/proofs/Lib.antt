@@ -6,3 +6,5 @@ pub mod ThreadsLeft
 pub mod EntersOfLogs
 pub mod Counts
 pub mod ClassesLeft
+pub mod Sixteen
+pub mod LegalLogs

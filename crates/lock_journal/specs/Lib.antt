@@ -4,4 +4,5 @@ pub mod Merging
 pub mod LineView
 pub mod LinesLeft
 pub mod MachineCells
+pub mod Hashes
 pub mod inner

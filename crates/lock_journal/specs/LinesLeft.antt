@@ -1,5 +1,5 @@
 -- What is still to come of the lines of a run's text.
-use Rattle.std.specs.Prelude.{◌≡◌, ℕ, ◌-◌, ◌≤◌, List, [], ◌++◌, drop, length, map, slice_get, slice_index_or, Option, Some, None}
+use Rattle.std.specs.Prelude.{◌≡◌, ℕ, ◌-◌, List, [], ◌++◌, drop, length, map, slice_get, slice_index_or, Option, Some, None}
 use Rattle.std.specs.List.{AllByRecursion, flat_map}
 use Rattle.plain_monitor.specs.declared.entry.Logged.{Logged}
 use Rattle.plain_monitor.specs.Order.{order}
@@ -9,7 +9,7 @@ use Rattle.lock_journal.specs.declared.record.RunRecord.{RunRecord}
 use Rattle.lock_journal.specs.declared.record.Cell.{Cell}
 use Rattle.lock_journal.specs.declared.lines.Lines.{Lines}
 use Rattle.lock_journal.specs.declared.cells.Place.{Place}
-use Rattle.lock_journal.specs.Merging.{left_of}
+use Rattle.lock_journal.specs.Merging.{left_of, AreOfSixteen}
 use Rattle.lock_journal.specs.RunText.{printed, shot_cells, cells_lines, thread_lines, class_lines, journal_line, only_where}
 
 -- the lines of these entries
@@ -54,7 +54,7 @@ lines_left run m lines =
 pub record IsShown (run : RunRecord) (m : PlainMachine) : Type 0 where
   -- each log's stamps rise
   pub rising : AllByRecursion (RisesAbove 0) run.logs
-  -- as many logs as a program has threads at most
-  pub few : length run.logs ≤ 16
+  -- no thread after the sixteenth has logged anything
+  pub few : AreOfSixteen run.logs
   pub program : m.program ≡ run.program
   pub threads : length m.threads ≡ length run.program.threads

@@ -1,6 +1,7 @@
 //! The lines on classes.
 
 ghost use Rattle.std.specs.Prelude.{◌≡◌, ◌+◌, ◌<◌, ◌≤◌, ◌++◌, ◌∷◌, [], length, decimal, slice_get, IfSome, MatchBool};
+ghost use Rattle.lock_journal.specs.Merging.{AreOfSixteen};
 ghost use Rattle.lock_journal.specs.RunText.{newline, class_name};
 ghost use Rattle.lock_journal.specs.LinesLeft.{classes_left};
 ghost use Rattle.lock_journal.specs.inner.Enters.{class_start, counts_text};
@@ -13,7 +14,7 @@ use object_program::{ClassDef, Program};
 /// Writes the line on the next class. False exactly where there is none, and then nothing changes.
 pub(crate) fn next_class(class: &mut usize, run: &RunRecord, out: &mut Line) -> bool
     requires clear { out.old ≡ [] }
-    requires few { length run.now.logs ≤ 16 }
+    requires few { AreOfSixteen run.now.logs }
     ensures { MatchBool result
         (classes_left run.now class.old ≡ out.new ∷ classes_left run.now class.new)
         ((classes_left run.now class.old ≡ []) × (class.new ≡ class.old) × (out.new ≡ [])) }

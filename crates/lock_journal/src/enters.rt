@@ -1,12 +1,14 @@
 //! How often the objects of a class were entered by each path.
 
-ghost use Rattle.std.specs.Prelude.{◌≡◌, ◌+◌, ◌<◌, ◌≤◌, ◌^◌, length};
+ghost use Rattle.std.specs.Prelude.{◌≡◌, ◌+◌, ◌<◌, ◌≤◌, ◌^◌};
 ghost use Rattle.plain_monitor.specs.declared.entry.Path.{Path};
 ghost use Rattle.plain_monitor.specs.Order.{order};
 ghost use Rattle.object_program.specs.Program.{class_of, class_from, has_object};
+ghost use Rattle.lock_journal.specs.Merging.{AreOfSixteen};
 ghost use Rattle.lock_journal.specs.RunText.{path_number};
 ghost use Rattle.lock_journal.specs.inner.Enters.{enter_by, enters_in, enters_of, count_at, AreAtMost};
 
+use crate::order::first_logs;
 use crate::record::RunRecord;
 use object_program::{ObjectDef, Program};
 use plain_monitor::{Entry, Logged, Path};
@@ -16,11 +18,11 @@ pub(crate) const PATHS: usize = 6;
 
 /// How often the entries of the run enter the objects of class `c`, by path, in the order of the paths.
 pub(crate) fn enters_of(run: &RunRecord, c: usize) -> [u128; PATHS]
-    requires { length run.now.logs ≤ 16 }
+    requires { AreOfSixteen run.now.logs }
     ensures { result ≡ enters_of run.now.program c (order run.now.logs) }
 {
     let mut counts = [0; PATHS];
-    for log in run.logs.items() {
+    for log in first_logs(run) {
         count_log(&mut counts, &run.program, c, log.items());
     }
     counts

@@ -3,6 +3,7 @@
 ghost use Rattle.std.specs.Prelude.{◌≡◌, ◌+◌, ◌≤◌, ◌++◌, ◌∷◌, [], length, codes, decimal, MatchBool};
 ghost use Rattle.std.specs.List.{AllByRecursion};
 ghost use Rattle.plain_monitor.specs.History.{RisesAbove};
+ghost use Rattle.lock_journal.specs.Merging.{AreOfSixteen};
 ghost use Rattle.lock_journal.specs.Words.{object_text, value_text};
 ghost use Rattle.lock_journal.specs.RunText.{woken_text, draw_text, entry_text, journal_line};
 ghost use Rattle.lock_journal.specs.LinesLeft.{journal_left};
@@ -17,7 +18,7 @@ use plain_monitor::{Ending, Entry, Logged, Value};
 /// Writes the line of the next entry. False exactly where no entry is left, and then nothing changes.
 pub(crate) fn next_entry(entries: &mut Merge, run: &RunRecord, out: &mut Line) -> bool
     requires rising { AllByRecursion (RisesAbove 0) run.now.logs }
-    requires few { length run.now.logs ≤ 16 }
+    requires few { AreOfSixteen run.now.logs }
     requires clear { out.old ≡ [] }
     ensures { MatchBool result
         (journal_left run.now entries.old ≡ out.new ∷ journal_left run.now entries.new)

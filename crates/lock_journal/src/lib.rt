@@ -21,5 +21,5 @@ pub use line::Line;
 pub use lines::Lines;
 pub use order::Merge;
 pub use record::{Cell, ClassLine, RunRecord, Shot};
-pub use replaying::replay;
+pub use replaying::{legal_logs_can_be_merged, replay};
 pub use words::{push_object, push_thread};

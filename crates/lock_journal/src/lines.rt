@@ -54,8 +54,8 @@ impl Lines {
     }
 
     /// Writes the next line with its line feed into `out`, in place of what it held. False exactly after the last, and then
-    /// `out` is empty. Every call is given one run, of at most 16 logs whose stamps rise, and the machine under it: with the
-    /// program of the run and all of its threads.
+    /// `out` is empty. Every call is given one run, of logs whose stamps rise and that are empty after the sixteenth, and the machine
+    /// under it: with the program of the run and all of its threads.
     pub fn next(&mut self, run: &RunRecord, machine: &Machine, out: &mut Line) -> bool
         requires { IsShown run.now machine.now }
         ensures { MatchBool result

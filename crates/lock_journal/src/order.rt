@@ -1,11 +1,11 @@
 //! The entries of all threads in one order.
 
-ghost use Rattle.std.specs.Prelude.{◌≡◌, ℕ, ◌+◌, ◌<◌, ◌≤◌, List, [], ◌∷◌, length, slice_get, slice_index, slice_set, None, MatchOption, IfSome};
+ghost use Rattle.std.specs.Prelude.{◌≡◌, ℕ, ◌+◌, ◌<◌, ◌≤◌, List, [], ◌∷◌, length, take, slice_get, slice_index, slice_set, None, MatchOption, IfSome};
 ghost use Rattle.std.specs.List.{AllByRecursion};
 ghost use Rattle.plain_monitor.specs.Order.{order};
 ghost use Rattle.plain_monitor.specs.History.{RisesAbove, log_of};
 ghost use Rattle.plain_monitor.specs.declared.entry.Logged.{Logged};
-ghost use Rattle.lock_journal.specs.Merging.{left_of};
+ghost use Rattle.lock_journal.specs.Merging.{left_of, AreOfSixteen};
 ghost use Rattle.lock_journal.specs.inner.Heads.{stamp_in, or_greatest, earlier, IsLeastOf, IsLeastHead, IsFirstLeast, HasStamps};
 
 use crate::record::RunRecord;
@@ -50,27 +50,28 @@ impl Merge {
     }
 
     /// The next entry with its thread, the first in the order of those not yet given. `None` exactly after the last, and then
-    /// nothing changes. `run` is the one that `new` was given. It has at most 16 threads, and the stamps of each log rise.
+    /// nothing changes. `run` is the one that `new` was given. The stamps of each of its logs rise, and those after the sixteenth are empty,
+    /// as in a run of a program (`legal_logs_can_be_merged`).
     pub fn next(&mut self, run: &RunRecord) -> Option<(u32, Logged)>
         requires rising { AllByRecursion (RisesAbove 0) run.now.logs }
-        requires few { length run.now.logs ≤ 16 }
+        requires few { AreOfSixteen run.now.logs }
         ensures first { MatchOption result (order (left_of run.now.logs self.old) ≡ [])
             (λ x. order (left_of run.now.logs self.old) ≡ x ∷ order (left_of run.now.logs self.new)) }
         ensures thread { IfSome result (λ x. x.0 < length run.now.logs) }
         ensures end { result ≡ None → self.new ≡ self.old }
     {
-        take_least(run.logs.items(), &mut self.places)
+        take_least(first_logs(run), &mut self.places)
     }
 
     /// The same merge with the stamps of the heads at hand.
     pub(crate) fn ahead(&self, run: &RunRecord) -> Ahead
-        requires { length run.now.logs ≤ 16 }
+        requires { AreOfSixteen run.now.logs }
         ensures places { result.places ≡ self.now }
         ensures stamps { HasStamps run.now.logs result.places result.stamps }
     {
         Ahead {
             places: self.places,
-            stamps: head_stamps(run.logs.items(), &self.places),
+            stamps: head_stamps(first_logs(run), &self.places),
         }
     }
 
@@ -96,20 +97,29 @@ impl Ahead {
     /// The next entry with its thread, as `Merge::next` gives it. `run` is the one that it was made for.
     pub(crate) fn next(&mut self, run: &RunRecord) -> Option<(u32, Logged)>
         requires rising { AllByRecursion (RisesAbove 0) run.now.logs }
-        requires few { length run.now.logs ≤ 16 }
+        requires few { AreOfSixteen run.now.logs }
         requires stamps { HasStamps run.now.logs self.old.places self.old.stamps }
         ensures first { MatchOption result (order (left_of run.now.logs self.old.places) ≡ [])
             (λ x. order (left_of run.now.logs self.old.places) ≡ x ∷ order (left_of run.now.logs self.new.places)) }
         ensures end { result ≡ None → self.new ≡ self.old }
         ensures stamps { HasStamps run.now.logs self.new.places self.new.stamps }
     {
-        let logs = run.logs.items();
+        let logs = first_logs(run);
         let least = first_head(logs, &self.places, &self.stamps)?;
         let head = take_head(logs, &mut self.places, least);
         let index = least.0 as usize;
         self.stamps[index] = cached_stamp(&logs[index], self.places[index]);
         Some((least.0, head))
     }
+}
+
+/// The logs of as many threads as a program has at most. Behind them a run has none but empty ones.
+pub(crate) fn first_logs(run: &RunRecord) -> &[List<Logged>]
+    ensures first { result.now ≡ take 16 run.now.logs }
+    ensures few { length result.now ≤ 16 }
+{
+    let logs = run.logs.items();
+    &logs[..logs.len().min(MOST_THREADS)]
 }
 
 /// The stamp of each thread's head, as `Ahead` holds them.

@@ -1,9 +1,10 @@
 //! The lines of prints, and the first lines of dumps.
 
-ghost use Rattle.std.specs.Prelude.{◌≡◌, ◌+◌, ◌≤◌, ◌++◌, ◌∷◌, [], length, MatchBool, MatchOption, IfNone};
+ghost use Rattle.std.specs.Prelude.{◌≡◌, ◌+◌, ◌≤◌, ◌++◌, ◌∷◌, [], MatchBool, MatchOption, IfNone};
 ghost use Rattle.std.specs.List.{AllByRecursion};
 ghost use Rattle.plain_monitor.specs.History.{RisesAbove};
 ghost use Rattle.lock_journal.specs.LinesLeft.{cells_left, prints_left};
+ghost use Rattle.lock_journal.specs.Merging.{AreOfSixteen};
 ghost use Rattle.lock_journal.specs.inner.Heads.{HasStamps};
 ghost use Rattle.lock_journal.specs.inner.LineTexts.{printed_in, print_line, dump_line, lines_of};
 
@@ -33,7 +34,7 @@ pub(crate) fn next_print(
     out: &mut Line,
 ) -> bool
     requires rising { AllByRecursion (RisesAbove 0) run.now.logs }
-    requires few { length run.now.logs ≤ 16 }
+    requires few { AreOfSixteen run.now.logs }
     requires clear { out.old ≡ [] }
     ensures { MatchBool result
         (prints_left run.now merge.old ≡ out.new ∷ (cells_left run.now cells.new ++ prints_left run.now merge.new))
@@ -52,7 +53,7 @@ pub(crate) fn next_print(
 /// Takes the next entry that prints or dumps, with its thread, and those before it. `None` exactly where no such entry is left.
 fn next_printed(merge: &mut Merge, run: &RunRecord) -> Option<(u32, Printed)>
     requires rising { AllByRecursion (RisesAbove 0) run.now.logs }
-    requires few { length run.now.logs ≤ 16 }
+    requires few { AreOfSixteen run.now.logs }
     ensures first { MatchOption result (prints_left run.now merge.old ≡ [])
         (λ x. prints_left run.now merge.old ≡ lines_of run.now.program run.now.shots x.0 x.1
         ++ prints_left run.now merge.new) }
@@ -67,7 +68,7 @@ fn next_printed(merge: &mut Merge, run: &RunRecord) -> Option<(u32, Printed)>
 /// The same with the stamps of the heads at hand.
 fn next_printed_ahead(ahead: &mut Ahead, run: &RunRecord) -> Option<(u32, Printed)>
     requires rising { AllByRecursion (RisesAbove 0) run.now.logs }
-    requires few { length run.now.logs ≤ 16 }
+    requires few { AreOfSixteen run.now.logs }
     requires stamps { HasStamps run.now.logs ahead.old.places ahead.old.stamps }
     ensures first { MatchOption result (prints_left run.now ahead.old.places ≡ [])
         (λ x. prints_left run.now ahead.old.places ≡ lines_of run.now.program run.now.shots x.0 x.1

@@ -4,10 +4,10 @@ ghost use Rattle.std.specs.Prelude.{◌≡◌};
 ghost use Rattle.lock_policy.specs.Policy.{decided, is_reset};
 
 // The count at which a class is rebiased in bulk, and from which a count may be reset.
-const BULK_REBIAS_THRESHOLD: u32 = 20;
+const BULK_REBIAS_THRESHOLD: u64 = 20;
 
 // The count at which a class is revoked in bulk, and above which a count no longer rises.
-const BULK_REVOKE_THRESHOLD: u32 = 40;
+const BULK_REVOKE_THRESHOLD: u64 = 40;
 
 // After so many milliseconds without a bulk operation a count is reset.
 const DECAY_TIME: u64 = 25_000;
@@ -31,7 +31,7 @@ pub enum Verdict {
 /// operation, and 25,000 or more passed from `last` to `now`. Then a count up to 40 rises by one: the verdict is
 /// `BulkRebias` where it comes to 20, `BulkRevoke` where it comes to 40, else `Single`. All numbers are taken, also a
 /// `now` before `last`, which resets nothing. A count above 40 stays as it is, so that no count wraps.
-pub fn decide(count: u32, last: u64, now: u64) -> (Verdict, u32)
+pub fn decide(count: u64, last: u64, now: u64) -> (Verdict, u64)
     ensures { result ≡ decided count last now }
 {
     let count = if has_decayed(count, last, now) {
@@ -52,7 +52,9 @@ pub fn decide(count: u32, last: u64, now: u64) -> (Verdict, u32)
     (verdict, count)
 }
 
-fn has_decayed(count: u32, last: u64, now: u64) -> bool
+/// Whether that count is reset: it is from 20 to 39, there was a bulk operation, which is not later than `now`, and 25,000 or more passed
+/// since.
+pub fn has_decayed(count: u64, last: u64, now: u64) -> bool
     ensures { result ≡ is_reset count last now }
 {
     BULK_REBIAS_THRESHOLD <= count

@@ -1,12 +1,15 @@
 -- What the conditions of a call give its code.
-use Rattle.std.proofs.Common.{◌≡◌, ℕ, ◌<◌, ◌≤◌, ◌&&◌, Bool, true, false, length, refl, arith, ltb-true}
+use Rattle.std.proofs.Common.{◌≡◌, ℕ, ◌<◌, ◌≤◌, ◌&&◌, Bool, true, false, cond, length, refl, arith, ltb-true}
 use Rattle.std.proofs.lemmas.Float.{T_from_true}
 use Rattle.std.specs.Int.Signed.{le_z_yes}
 use Rattle.plain_monitor.specs.declared.entry.Value.{Value}
 use Rattle.plain_monitor.specs.declared.entry.Value.TheVariants.{Nil, Int, Ref}
 use Rattle.plain_monitor.specs.ValueWords.{IsSpellable}
 use Rattle.core_world.specs.declared.task.Task.{Task}
-use Rattle.core_world.specs.Trees.Calls.{is_object, is_value}
+use Rattle.core_world.specs.declared.task.Task.TheVariants.{Wait}
+use Rattle.core_world.specs.Threads.Known.{Known}
+use Rattle.core_world.specs.Trees.Calls.{is_object, is_value, most_logged}
+use Rattle.core_world.specs.Words.Forms.{waits_on}
 use Rattle.core_world.specs.Words.Shape.{Shape}
 use Rattle.heap_table.specs.Resting.{MayOperate}
 use Rattle.heap_table.specs.Seen.{HeapSeen, PassSeen}
@@ -23,9 +26,18 @@ second_of false b e = absurd (cc e)
 pub object_there : (s : Shape) (o : ℕ) (b : Bool) → (is_object s o && b) ≡ true → o < length s.objects
 object_there s o b e = ltb-true o (length s.objects) (first_of (is_object s o) b e)
 
--- and the log has room for an entry
+-- an operation may log an entry
+one_or_more : (b : Bool) → 1 ≤ cond b 1 2
+one_or_more true = omega arith
+one_or_more false = omega arith
+
+may_log : (k : Known) (t : Task) → 1 ≤ most_logged k t
+may_log k (Wait o now) = one_or_more (waits_on k.wait o)
+may_log k t = omega arith
+
+-- and the log has room for one
 pub room_one : (h : HeapSeen) (p : PassSeen) (t : Task) → MayOperate h p t → length p.known.log < p.limit
-room_one h p t c = let room = c.room in omega (arith, room)
+room_one h p t c = let room = c.room in let one = may_log p.known t in omega (arith, room, one)
 
 -- a value that may stand in a slot has its word
 pub spellable : (s : Shape) (v : Value) → length s.objects ≤ 4096 → is_value s v ≡ true → IsSpellable v

@@ -1,5 +1,5 @@
 -- How a thread stands as a call begins.
-use Rattle.std.proofs.Common.{◌≡◌, ℕ, ◌==◌, ◌&&◌, ◌||◌, not, cond, Bool, true, false, Option, Some, None, refl, sym, ap, ◌∙◌, true≢false, eqb-true, nat_le, ◌+◌, length}
+use Rattle.std.proofs.Common.{◌≡◌, ℕ, ◌==◌, ◌&&◌, ◌||◌, not, cond, Bool, true, false, Option, Some, None, refl, sym, ap, ◌∙◌, true≢false, eqb-true, nat_lt, length}
 use Rattle.core_world.specs.declared.task.Op.{Op}
 use Rattle.core_world.specs.declared.task.Op.TheVariants as op
 use Rattle.core_world.specs.declared.task.Unfinished.{Unfinished}
@@ -71,7 +71,7 @@ module _ (s : Shape) (k : Known) (rest : AtRest s k) where
 
   module _ (going : Bool) (may : may_operate k going ≡ true) where
     either : (k.running || (k.requesting && going)) ≡ true
-    either = runs_or_asks k.checking k.running k.requesting going (is_free_for k going) (ends k.log) (nat_le (length k.log + 2) log_limit) may
+    either = runs_or_asks k.checking k.running k.requesting going (is_free_for k going) (ends k.log) (nat_lt (length k.log) log_limit) may
 
     -- it runs, unless it asks
     pub stands_before : not k.requesting ≡ k.running
@@ -80,7 +80,7 @@ module _ (s : Shape) (k : Known) (rest : AtRest s k) where
     asking : k.requesting ≡ true → (going ≡ true) × MayAsk s k k.unfinished
     asking asks = (
       asks_going k.running k.requesting going either rest.stopped asks,
-      rest.asks asks (no_check k.checking (k.running || (k.requesting && going)) (is_free_for k going) (ends k.log) (nat_le (length k.log + 2) log_limit) may),
+      rest.asks asks (no_check k.checking (k.running || (k.requesting && going)) (is_free_for k going) (ends k.log) (nat_lt (length k.log) log_limit) may),
     )
 
   pub exit_unasked : (o : ℕ) → may_operate k (goes_on_with op.Exit o k.unfinished) ≡ true → k.requesting ≡ false

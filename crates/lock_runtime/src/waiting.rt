@@ -2,6 +2,7 @@
 ghost use Rattle.std.specs.Prelude.{◌≡◌, ◌+◌, ◌<◌, ◌≤◌, length, Some};
 ghost use Rattle.core_world.specs.declared.task.Task.TheVariants.{Wait, Notify, NotifyAll};
 ghost use Rattle.core_world.specs.Threads.Known.{local_of};
+ghost use Rattle.core_world.specs.Trees.Calls.{most_logged};
 ghost use Rattle.core_world.specs.Trees.Operations.{wait_beginning, wait_going, wait_steps};
 ghost use Rattle.core_world.specs.Trees.Operations.{notify_at, notify_going, notify_steps};
 ghost use Rattle.core_world.specs.Trees.Operations.{notify_all_at, notify_all_going, notify_all_steps};
@@ -101,7 +102,7 @@ fn wait_held(heap: &Heap, pass: &mut Pass, why: &Purpose, object: u32, now: u64)
     requires object { object < length heap.now.heap.shape.objects }
     requires due { IsDueOn heap.now pass.old why.now.task
         (wait_going heap.now.heap.shape why.now (start_now heap.now pass.old) object now) }
-    requires room { length pass.old.known.log + 2 ≤ pass.old.limit }
+    requires room { length pass.old.known.log + most_logged pass.old.known (Wait object now) ≤ pass.old.limit }
     ensures { HasRun heap.now (wait_going heap.now.heap.shape why.now (start_now heap.now pass.old) object now)
         pass.old pass.new result }
 {
@@ -125,6 +126,7 @@ fn wait_held(heap: &Heap, pass: &mut Pass, why: &Purpose, object: u32, now: u64)
 /// `Owned { word }` that the thread was notified, and that the owner word of the object's monitor, which is `word`,
 /// names another thread.
 /// `IllegalMonitorState` comes exactly where the thread has no hold on the object; then no step is made.
+/// The log needs room for two entries where the wait begins, and for the Resume alone where it has let go.
 pub fn wait(
     heap: &Heap,
     pass: &mut Pass,

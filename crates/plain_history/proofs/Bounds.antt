@@ -145,59 +145,81 @@ monitor_left : (before after : List PlainObject) (t : ℕ) (e : Entry) (o : ℕ)
     → take_entry before t e ≡ Some after → slice_get after o ≡ Some z → SameMonitor before o z
 monitor_left before after t e o z d h at = monitor_left_by before after t e o z (named e) refl d h at
 
--- an entry above the bounds keeps them, where what is kept now is no less for other objects, and the new bound of its own is no less than its stamp
-pub bounds_kept : (before after : List PlainObject) (logs : List (List Logged)) (kept now : List ℕ) (t : ℕ) (l : Logged)
+-- the bounds rise: what is kept now is no less than before for other objects, and the new bound of an entry's own object is no less than its stamp
+record BoundsRise (after : List PlainObject) (logs : List (List Logged)) (kept now : List ℕ) (t : ℕ) (l : Logged) : Type 0 where
+  others : (o : ℕ) → bound_to l.entry ≢ Some o → slice_index kept o ≤ slice_index now o
+  own : (o : ℕ) (z : PlainObject) → bound_to l.entry ≡ Some o → slice_get after o ≡ Some z → l.stamp ≤ bound_of (appended logs t l) now o z.monitor.owner
+
+-- an entry above the bounds keeps them, where they rise so
+bounds_kept : (before after : List PlainObject) (logs : List (List Logged)) (kept now : List ℕ) (t : ℕ) (l : Logged)
     → AllByRecursion (RisesAbove 0) logs → StampsBound before logs kept → IsAboveBounds before logs kept t l → take_entry before t l.entry ≡ Some after
-    → ((o : ℕ) → bound_to l.entry ≢ Some o → slice_index kept o ≤ slice_index now o)
-    → ((o : ℕ) (z : PlainObject) → bound_to l.entry ≡ Some o → slice_get after o ≡ Some z → l.stamp ≤ bound_of (appended logs t l) now o z.monitor.owner)
-    → StampsBound after (appended logs t l) now
-bounds_kept before after logs kept now t l r bounds above step others own o z at =
+    → BoundsRise after logs kept now t l → StampsBound after (appended logs t l) now
+bounds_kept before after logs kept now t l r bounds above step rise o z at =
     elim (bound_or_not (bound_to l.entry) o) [
       | inl b ↦
           let a = taken_at before after t l.entry o (ap (take_named before t l.entry) (sym (bound_is_named l.entry o b)) ∙ step) in
-          let new = own o z b at in
+          let new = rise.own o z b at in
           let le : bound_of logs kept o a.x.monitor.owner ≤ bound_of (appended logs t l) now o z.monitor.owner = omega (arith, above.bound o a.x b a.was, new) in
           bounded_with logs t l o (bound_of logs kept o a.x.monitor.owner) (bound_of (appended logs t l) now o z.monitor.owner) r above.thread above.stamp (bounds o a.x a.was) le (λ q. new)
       | inr d ↦
           let m = monitor_left before after t l.entry o z d step at in
-          let le = bound_grows logs kept now t l o z.monitor.owner above.thread above.stamp (others o d) in
+          let le = bound_grows logs kept now t l o z.monitor.owner above.thread above.stamp (rise.others o d) in
           let old : IsBounded logs o (bound_of logs kept o z.monitor.owner) = subst (λ v. IsBounded logs o (bound_of logs kept o v.owner)) m.same (bounds o m.x m.was) in
           bounded_with logs t l o (bound_of logs kept o z.monitor.owner) (bound_of (appended logs t l) now o z.monitor.owner) r above.thread above.stamp old le (λ q. absurd (d q))
     ]
+
+-- the bounds rise where an entry is bound to no object
+rise_unbound : (after : List PlainObject) (logs : List (List Logged)) (kept : List ℕ) (t : ℕ) (l : Logged) → bound_to l.entry ≡ None → BoundsRise after logs kept kept t l
+rise_unbound after logs kept t l b = record { others = λ o d. omega arith; own = λ o z e at. absurd (cc (b, e)) }
 
 -- an entry that is bound to no object keeps the bounds
 pub kept_by_unbound : (before after : List PlainObject) (logs : List (List Logged)) (kept : List ℕ) (t : ℕ) (l : Logged)
     → AllByRecursion (RisesAbove 0) logs → StampsBound before logs kept → IsAboveBounds before logs kept t l → take_entry before t l.entry ≡ Some after
     → bound_to l.entry ≡ None → StampsBound after (appended logs t l) kept
 kept_by_unbound before after logs kept t l r bounds above step b =
-    bounds_kept before after logs kept kept t l r bounds above step (λ o d. omega arith) (λ o z e at. absurd (cc (b, e)))
+    bounds_kept before after logs kept kept t l r bounds above step (rise_unbound after logs kept t l b)
+
+-- they rise where its thread owns the object afterwards
+rise_by_owner : (after : List PlainObject) (logs : List (List Logged)) (kept : List ℕ) (t : ℕ) (l : Logged) (o : ℕ) (y : PlainObject) → t < length logs
+    → bound_to l.entry ≡ Some o → slice_get after o ≡ Some y → y.monitor.owner ≡ Some t → BoundsRise after logs kept kept t l
+rise_by_owner after logs kept t l o y h b now owner =
+    let last = last_of_own logs t l h in
+    record {
+      others = λ i d. omega arith;
+      own = λ i z e at.
+          let same : o ≡ i = same_Some o i (sym b ∙ e) in
+          let is : y ≡ z = same_Some y z (sym now ∙ ap (slice_get after) same ∙ at) in
+          let new : bound_of (appended logs t l) kept i z.monitor.owner ≡ l.stamp = ap (λ v. bound_of (appended logs t l) kept i v.monitor.owner) (sym is) ∙ ap (bound_of (appended logs t l) kept i) owner ∙ last in
+          omega (arith, new);
+    }
 
 -- an entry whose thread owns the object afterwards keeps the bounds
 pub kept_by_owner : (before after : List PlainObject) (logs : List (List Logged)) (kept : List ℕ) (t : ℕ) (l : Logged) (o : ℕ) (y : PlainObject)
     → AllByRecursion (RisesAbove 0) logs → StampsBound before logs kept → IsAboveBounds before logs kept t l → take_entry before t l.entry ≡ Some after
     → bound_to l.entry ≡ Some o → slice_get after o ≡ Some y → y.monitor.owner ≡ Some t → StampsBound after (appended logs t l) kept
 kept_by_owner before after logs kept t l o y r bounds above step b now owner =
-    let last = last_of_own logs t l above.thread in
-    bounds_kept before after logs kept kept t l r bounds above step (λ i d. omega arith)
-    (λ i z e at.
-    let same : o ≡ i = same_Some o i (sym b ∙ e) in
-    let is : y ≡ z = same_Some y z (sym now ∙ ap (slice_get after) same ∙ at) in
-    let new : bound_of (appended logs t l) kept i z.monitor.owner ≡ l.stamp = ap (λ v. bound_of (appended logs t l) kept i v.monitor.owner) (sym is) ∙ ap (bound_of (appended logs t l) kept i) owner ∙ last in
-    omega (arith, new))
+    bounds_kept before after logs kept kept t l r bounds above step (rise_by_owner after logs kept t l o y above.thread b now owner)
+
+-- they rise where it leaves the object without an owner, and its stamp is then kept for the object
+rise_where_let_go : (after : List PlainObject) (logs : List (List Logged)) (kept : List ℕ) (t : ℕ) (l : Logged) (o : ℕ) (y : PlainObject)
+    → bound_to l.entry ≡ Some o → slice_get after o ≡ Some y → y.monitor.owner ≡ None → o < length kept → BoundsRise after logs kept (slice_set kept o l.stamp) t l
+rise_where_let_go after logs kept t l o y b now owner room =
+    record {
+      others = λ i d. let other = get_or-set_other kept o i l.stamp 0 (λ e. d (b ∙ ap Some (sym e))) in omega (arith, other);
+      own = λ i z e at.
+          let same : o ≡ i = same_Some o i (sym b ∙ e) in
+          let is : y ≡ z = same_Some y z (sym now ∙ ap (slice_get after) same ∙ at) in
+          let new : bound_of (appended logs t l) (slice_set kept o l.stamp) i z.monitor.owner ≡ l.stamp =
+          ap (λ v. bound_of (appended logs t l) (slice_set kept o l.stamp) i v.monitor.owner) (sym is)
+          ∙ ap (bound_of (appended logs t l) (slice_set kept o l.stamp) i) owner
+          ∙ ap (slice_index (slice_set kept o l.stamp)) (sym same)
+          ∙ get_or-set_same kept o l.stamp 0 room in
+          omega (arith, new);
+    }
 
 -- an entry that leaves the object without an owner keeps the bounds, where its stamp is then kept for the object
 pub kept_where_let_go : (before after : List PlainObject) (logs : List (List Logged)) (kept : List ℕ) (t : ℕ) (l : Logged) (o : ℕ) (y : PlainObject)
     → AllByRecursion (RisesAbove 0) logs → StampsBound before logs kept → IsAboveBounds before logs kept t l → take_entry before t l.entry ≡ Some after
     → bound_to l.entry ≡ Some o → slice_get after o ≡ Some y → y.monitor.owner ≡ None → o < length kept → StampsBound after (appended logs t l) (slice_set kept o l.stamp)
 kept_where_let_go before after logs kept t l o y r bounds above step b now owner room =
-    bounds_kept before after logs kept (slice_set kept o l.stamp) t l r bounds above step
-    (λ i d. let other = get_or-set_other kept o i l.stamp 0 (λ e. d (b ∙ ap Some (sym e))) in omega (arith, other))
-    (λ i z e at.
-    let same : o ≡ i = same_Some o i (sym b ∙ e) in
-    let is : y ≡ z = same_Some y z (sym now ∙ ap (slice_get after) same ∙ at) in
-    let new : bound_of (appended logs t l) (slice_set kept o l.stamp) i z.monitor.owner ≡ l.stamp =
-    ap (λ v. bound_of (appended logs t l) (slice_set kept o l.stamp) i v.monitor.owner) (sym is)
-    ∙ ap (bound_of (appended logs t l) (slice_set kept o l.stamp) i) owner
-    ∙ ap (slice_index (slice_set kept o l.stamp)) (sym same)
-    ∙ get_or-set_same kept o l.stamp 0 room in
-    omega (arith, new))
+    bounds_kept before after logs kept (slice_set kept o l.stamp) t l r bounds above step (rise_where_let_go after logs kept t l o y b now owner room)

@@ -1,4 +1,6 @@
 pub mod Swaps
+pub mod Ordering
+pub mod Passing
 pub mod Inserting
 pub mod Bounds
 pub mod SoundSteps
@@ -9,3 +11,6 @@ pub mod HoldSteps
 pub mod HeldByLog
 pub mod Owners
 pub mod EntriesOn
+pub mod InOrder
+pub mod Selected
+pub mod ThroughCuts

@@ -4,7 +4,7 @@ use Rattle.plain_monitor.specs.declared.entry.Entry.{Entry}
 use Rattle.plain_monitor.specs.declared.entry.Logged.{Logged}
 use Rattle.plain_monitor.specs.Objects.{PlainObject, take_entry}
 use Rattle.plain_monitor.specs.Order.{of_thread}
-use Rattle.plain_monitor.specs.History.{log_of}
+use Rattle.plain_monitor.specs.History.{log_of, run_all}
 
 -- the state of a thread after these entries, one after the other, where it takes each
 abbrev pub run_log : {S : Type 0} → (S → Entry → Option S) → S → List Logged → Option S
@@ -30,9 +30,7 @@ take_joined step objects states t e = both (take_entry objects t e) (take_state 
 -- objects and threads after these entries, one after the other, where both take each
 abbrev pub take_all_joined : {S : Type 0} → (S → Entry → Option S) → List PlainObject → List S
     → List (ℕ × Logged) → Option (List PlainObject × List S)
-take_all_joined step objects states [] = Some (objects, states)
-take_all_joined step objects states (x ∷ xs) =
-    option_and_then (λ p. take_all_joined step p.0 p.1 xs) (take_joined step objects states x.0 x.1.entry)
+take_all_joined step objects states xs = run_all (λ p t e. take_joined step p.0 p.1 t e) (objects, states) xs
 
 -- each thread's state takes all of the thread's own entries among these, and is then its final one
 pub record EachTakesItsOwn {S : Type 0} (step : S → Entry → Option S) (states finals : List S)

@@ -7,3 +7,4 @@ pub mod HeldByLog
 pub mod EnterPaths
 pub mod ExactStamps
 pub mod FirstDraws
+pub mod Cuts

@@ -1,16 +1,15 @@
 -- Which logs are those of a program: the plain machine takes all their entries in stamped order.
-use Rattle.std.specs.Prelude.{ℕ, List, [], ◌∷◌, Option, Some, IsSome, option_and_then}
+use Rattle.std.specs.Prelude.{ℕ, List, Option, IsSome}
 use Rattle.std.specs.List.{AllByRecursion}
 use Rattle.plain_monitor.specs.declared.entry.Logged.{Logged}
 use Rattle.plain_monitor.specs.Order.{order}
-use Rattle.plain_monitor.specs.History.{RisesAbove}
+use Rattle.plain_monitor.specs.History.{RisesAbove, run_all}
 use Rattle.object_program.specs.Program.{ProgramText}
 use Rattle.plain_machine.specs.Machine.{PlainMachine, new_machine, take}
 
 -- the machine behind these entries, each with its thread, where it takes each
 abbrev pub behind_all : PlainMachine → List (ℕ × Logged) → Option PlainMachine
-behind_all m [] = Some m
-behind_all m (x ∷ xs) = option_and_then (λ next. behind_all next xs) (take m x.0 x.1.entry)
+behind_all m xs = run_all take m xs
 
 -- the machine under the logs: the one behind all their entries in stamped order
 abbrev pub machine_after : ProgramText → ℕ → List (List Logged) → Option PlainMachine

@@ -1,14 +1,19 @@
 -- Which logs are legal.
 use Rattle.std.specs.Prelude.{ℕ, ◌<◌, List, [], ◌∷◌, ◌++◌, slice_index_or, slice_set, Option, Some, IsSome, option_and_then}
 use Rattle.std.specs.List.{AllByRecursion}
+use Rattle.plain_monitor.specs.declared.entry.Entry.{Entry}
 use Rattle.plain_monitor.specs.declared.entry.Logged.{Logged}
 use Rattle.plain_monitor.specs.Objects.{PlainObject, new_objects, take_entry}
 use Rattle.plain_monitor.specs.Order.{order}
 
+-- what these entries make of a state, one after the other, where it takes each
+abbrev pub run_all : {S : Type 0} → (S → ℕ → Entry → Option S) → S → List (ℕ × Logged) → Option S
+run_all take s [] = Some s
+run_all take s (x ∷ xs) = option_and_then (λ after. run_all take after xs) (take s x.0 x.1.entry)
+
 -- the objects after these entries, one after the other, where they take each
 abbrev pub take_all : List PlainObject → List (ℕ × Logged) → Option (List PlainObject)
-take_all objects [] = Some objects
-take_all objects (x ∷ xs) = option_and_then (λ after. take_all after xs) (take_entry objects x.0 x.1.entry)
+take_all objects xs = run_all take_entry objects xs
 
 -- the stamps rise strictly, and the first is above n
 abbrev pub RisesAbove : ℕ → List Logged → Type 0

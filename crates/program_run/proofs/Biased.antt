@@ -1,10 +1,10 @@
 -- The law of biases, by the record of a run.
 use Rattle.std.proofs.Common.{◌≡◌, ℕ, zero, suc, ◌+◌, ◌*◌, ◌%◌, ◌<◌, ◌≤◌, ◌==◌, if◌then◌else◌}
 use Rattle.std.proofs.Common.{Bool, true, false, List, [], ◌∷◌, length, refl, sym, ap, ◌∙◌, subst, arith, inl, inr}
-use Rattle.std.specs.Prelude.{◌^◌, slice_index}
+use Rattle.std.specs.Prelude.{◌^◌, slice_index, slice_index_or}
 use Rattle.std.specs.List.{AllByRecursion}
 use Rattle.std.proofs.lemmas.Bool.{cases_lt}
-use Rattle.std.proofs.lemmas.List.{get_or_past}
+use Rattle.std.proofs.lemmas.List.{get_or_past, length-map}
 use Rattle.plain_history.specs.EnterPaths.{PathsFit}
 use Rattle.plain_history.specs.HeldByLog.{nothing_held}
 use Rattle.plain_monitor.specs.History.{log_of}
@@ -24,16 +24,18 @@ use Rattle.heap_table.specs.BiasesAtEnd.{counted_by}
 use Rattle.heap_table.specs.declared.counts.ClassCounts.{ClassCounts}
 use Rattle.heap_table.specs.Layout.{place_of}
 use Rattle.heap_table.specs.Seen.{ClosedSeen}
-use Rattle.heap_table.specs.Tallies.{capped, capped_counts}
+use Rattle.heap_table.specs.Tallies.{capped, capped_counts, counts_shown}
 use Rattle.lock_journal.specs.declared.record.ClassLine.{ClassLine}
 use Rattle.run_ends.specs.OfARun.{IsEnd}
 use Rattle.run_ends.specs.Prototypes as ends
-use Rattle.run_rounds.specs.Outcome.{HasBiases as LeftBiases}
+use Rattle.run_rounds.specs.Outcome.{HasBiases as LeftBiases, verdicts_beyond, was_halted}
 use Rattle.run_rounds.specs.Timed.{IsTimed}
 use Rattle.program_run.specs.Biases.{IsEven, IsIdle, IsLine, prototype_by}
 use Rattle.program_run.specs.Lines.{line_of, lines_below, total_on}
+use Rattle.program_run.specs.Verdicts.{IsSum, verdicts_by}
 use Rattle.program_run.proofs.Counted.{capped_few, sum_few, sum_none, term_few, total_is}
 use Rattle.program_run.proofs.Even.{none_reset, counted_timed}
+use Rattle.program_run.proofs.Verdicts.{shown_by, shown_few}
 
 -- the laws that are asked of a heap's end
 abbrev pub Biased : Type 0
@@ -78,6 +80,10 @@ resets_few (v ∷ vs) k = by_class (k == v.class) (resets_few vs k)
     by_class true h = by_verdict v.verdict v.reset h
     by_class false h = h
 
+beyond_few : (halted : Bool) → verdicts_beyond halted ≤ 1
+beyond_few true = omega arith
+beyond_few false = omega arith
+
 module _ {tick : ℕ} (heap : Heap) (c : ClosedSeen) (left : LeftBiases heap tick c) (same : c.heap ≡ heap)
     (many : heap.shape.threads ≤ 16) (short : (t : ℕ) → length (log_of c.logs t) ≤ 6400016) where
   abbrev counts : ℕ → ℕ → known.ClassCounts
@@ -92,7 +98,8 @@ module _ {tick : ℕ} (heap : Heap) (c : ClosedSeen) (left : LeftBiases heap tic
       let all = left.biases.verdicts t here in
       let one = term_few heap.shape.classes k (λ d. verdicts_on (counts t d)) within in
       let log = short t in
-      omega (arith, all, one, log)
+      let beyond = beyond_few (was_halted c) in
+      omega (arith, all, one, log, beyond)
 
   module _ (k : ℕ) (within : k < heap.shape.classes) (number : ClassCounts → ℕ) (f : known.ClassCounts → ℕ)
       (shown : (x : known.ClassCounts) → f x ≤ verdicts_on x → verdicts_on x ≤ 6400017 → number (capped_counts x) ≡ f x)
@@ -112,11 +119,14 @@ module _ {tick : ℕ} (heap : Heap) (c : ClosedSeen) (left : LeftBiases heap tic
         (λ t h. let one = few t in let verdicts = verdicts_few t k h within in omega (arith, one, verdicts)) in
         capped_few (total_on number c.counts k) (omega (arith, total, low, many)) ∙ total
 
+    uncapped : capped (total_on number c.counts k) ≡ total_on number c.counts k
+    uncapped = total_capped ∙ sym total_here
+
   module _ (k : ℕ) (within : k < heap.shape.classes) where
     single_is : (line_of c k).single ≡ (sums k).single
     single_is = total_capped k within (λ n. n.single) (λ x. x.single) (λ x h g. omega (arith, h, g)) (λ t. omega arith)
 
-    rebias_is : (line_of c k).rebias ≡ (sums k).rebias
+    pub rebias_is : (line_of c k).rebias ≡ (sums k).rebias
     rebias_is = total_capped k within (λ n. n.rebias) (λ x. x.rebias) (λ x h g. omega (arith, h, g)) (λ t. omega arith)
 
     pub revoke_is : (line_of c k).revoke ≡ (sums k).revoke
@@ -125,6 +135,14 @@ module _ {tick : ℕ} (heap : Heap) (c : ClosedSeen) (left : LeftBiases heap tic
     reset_is : total_on (λ n. n.reset) c.counts k ≡ (sums k).reset
     reset_is = total_here k within (λ n. n.reset) (λ x. x.reset) (λ x h g. omega (arith, h, g))
         (λ t. resets_few (counted_by left.knowns t) k)
+
+    pub sums_are : IsSum c.counts k (line_of c k)
+    sums_are =
+        record {
+          single = uncapped k within (λ n. n.single) (λ x. x.single) (λ x h g. omega (arith, h, g)) (λ t. omega arith);
+          rebias = uncapped k within (λ n. n.rebias) (λ x. x.rebias) (λ x h g. omega (arith, h, g)) (λ t. omega arith);
+          revoke = uncapped k within (λ n. n.revoke) (λ x. x.revoke) (λ x h g. omega (arith, h, g)) (λ t. omega arith);
+        }
 
     count_is : (line_of c k).count ≡ left.biases.count k
     count_is =
@@ -187,6 +205,31 @@ module _ {tick : ℕ} (heap : Heap) (c : ClosedSeen) (left : LeftBiases heap tic
   log_fits t count = elim (cases_lt t heap.shape.threads) [
     | inl here ↦ left.biases.biases.paths t here
     | inr past ↦ subst (PathsFit nothing_held) (sym (get_or_past c.logs t [] (omega (arith, past, count)))) tt
+  ]
+
+  pub counted_all : length c.counts ≡ heap.shape.threads
+  counted_all =
+      ap length left.counts
+      ∙ length-map left.knowns (λ (k : Known). counts_shown 0 heap.shape.classes k.counts)
+      ∙ left.end.all
+
+  -- what a thread shows to have counted is no more than it counted
+  pub verdicts_within : (t : ℕ) → verdicts_by (slice_index_or c.counts t []) ≤ length (log_of c.logs t) + verdicts_beyond (was_halted c)
+  verdicts_within t = elim (cases_lt t heap.shape.threads) [
+    | inl here ↦
+        let counted = counted_by left.knowns t in
+        let all = left.end.all in
+        let shown : slice_index_or c.counts t [] ≡ counts_shown 0 heap.shape.classes counted =
+        ap (λ (x : List (List ClassCounts)). slice_index_or x t []) left.counts
+        ∙ shown_by heap.shape.classes left.knowns t (omega (arith, here, all)) in
+        let same = ap verdicts_by shown in
+        let few = shown_few heap.shape.classes counted in
+        let most = left.biases.verdicts t here in
+        omega (arith, same, few, most)
+    | inr past ↦
+        let many = counted_all in
+        let same = ap verdicts_by (get_or_past c.counts t [] (omega (arith, past, many))) in
+        omega (arith, same)
   ]
 
 -- each count of revocations is small

@@ -13,7 +13,7 @@ use Rattle.heap_table.proofs.Counting.{counts_at}
 use Rattle.program_run.specs.Lines.{counts_on, no_counts, total_on}
 
 -- the first number may be added first
-sum_front : (n : ℕ) (f : ℕ → ℕ) → sum_below (suc n) f ≡ f 0 + sum_below n (λ t. f (suc t))
+pub sum_front : (n : ℕ) (f : ℕ → ℕ) → sum_below (suc n) f ≡ f 0 + sum_below n (λ t. f (suc t))
 sum_front zero f = omega arith
 sum_front (suc n) f = let others = sum_front n f in omega (arith, others)
 

@@ -7,10 +7,10 @@ use Rattle.plain_monitor.specs.declared.entry.Logged.{Logged}
 use Rattle.plain_monitor.specs.History.{objects_after, log_of}
 use Rattle.plain_monitor.specs.Objects.{PlainObject}
 use Rattle.plain_monitor.proofs.Lists.{all_weaker, all_map}
+use Rattle.plain_history.specs.Cuts.{cut_logs}
 use Rattle.object_program.specs.Program.{ProgramText, shape_of}
 use Rattle.plain_machine.specs.Legal.{IsLegal, machine_after}
 use Rattle.plain_machine.specs.Machine.{PlainMachine}
-use Rattle.core_world.specs.Shots.{cut_logs}
 use Rattle.core_world.specs.Shots as core
 use Rattle.core_world.specs.Threads.Known.{DumpShot}
 use Rattle.run_ends.specs.OfARun.{HasShots, shots_at}
@@ -75,6 +75,7 @@ module _ (fronts : Fronts) (legals : Legals) (theirs : TheirObjects)
       record {
         threads = h.threads;
         within = h.within;
+        in_order = h.in_order;
         machine = m.0;
         under = m.1;
         cells = ap cells_left h.cells ∙ cells_same h.objects ∙ ap (λ (xs : List PlainObject). map (λ (x : PlainObject). cell_in x.monitor) xs) same;

@@ -1,7 +1,8 @@
 -- A run of a program of one thread is one of a log alone.
 use Rattle.std.proofs.Common.{◌≡◌, ℕ, Bool, true, false, List, [], ◌∷◌, length, take, slice_index, Some, refl, sym, ap, ◌∙◌, inl, inr, arith}
 use Rattle.std.specs.List.{AllByRecursion}
-use Rattle.core_world.specs.Shots.{cut_logs}
+use Rattle.core_law.specs.Draws.{HasDraws}
+use Rattle.hash_laws.proofs.LegalHashes.{fitting_hashes_are_draws}
 use Rattle.heap_table.specs.Seen.{ClosedSeen}
 use Rattle.lock_journal.specs.declared.record.RunRecord.{RunRecord}
 use Rattle.lock_journal.specs.declared.record.Shot.{Shot}
@@ -13,6 +14,7 @@ use Rattle.plain_machine.specs.Legal.{machine_after}
 use Rattle.plain_machine.specs.Machine.{PlainMachine}
 use Rattle.plain_monitor.specs.declared.entry.Logged.{Logged}
 use Rattle.plain_monitor.specs.History.{log_of}
+use Rattle.plain_history.specs.Cuts.{cut_logs}
 use Rattle.run_rounds.specs.Outcome.{IsOver}
 use Rattle.program_run.specs.declared.settings.Settings.{Settings}
 use Rattle.program_run.specs.Ran.{IsRan}
@@ -41,13 +43,16 @@ shots_right p fuel logs (s ∷ shots) one all = (shot_of p fuel logs s one all.0
 has_shots : (p : ProgramText) (fuel : ℕ) (r : RunRecord) → length r.logs ≡ 1 → AreRightShots p fuel r.logs r.shots → HasShotsOf p fuel r
 has_shots p fuel r one s = record { right = shots_right p fuel r.logs (shots_of r.shots 0) one (s.right 0); dumps = s.dumps 0 }
 
-is_over : (m : PlainMachine) (halted : Bool) → IsOver m halted → lone.NoneGoesOn m
+pub is_over : (m : PlainMachine) (halted : Bool) → IsOver m halted → lone.NoneGoesOn m
 is_over m true h = inl h
 is_over m false h = inr h
 
 module _ (s : Settings) (p : ProgramText) (r : RunRecord) (c : ClosedSeen) (alone : length p.threads ≡ 1) (ran : IsRan s p r c) where
   one_log : length r.logs ≡ 1
   one_log = ran.all.logs ∙ alone
+
+  draws : HasDraws s.start r.logs
+  draws = fitting_hashes_are_draws p s.fuel s.start r.logs ran.legal ran.hashes ran.first
 
   pub lone_run : (m : PlainMachine) → machine_after p s.fuel r.logs ≡ Some m → IsLoneRun p s.fuel s.start r.logs m
   lone_run m under =
@@ -56,9 +61,9 @@ module _ (s : Settings) (p : ProgramText) (r : RunRecord) (c : ClosedSeen) (alon
         rises = ran.legal.rises;
         under = under;
         over = is_over m r.halted (ran.over m under);
-        drawn = ran.draws.drawn;
-        one_drawn = ran.draws.one;
-        drawn_first = ran.draws.first;
+        drawn = draws.drawn;
+        one_drawn = draws.one;
+        drawn_first = ran.first;
         exact = ran.stamps;
       }
 

@@ -1,10 +1,11 @@
 -- A run of a program, told by its record.
-use Rattle.std.proofs.Common.{◌≡◌, ℕ, ◌<◌, ◌≤◌, Bool, true, false, List, length, Some, refl, sym, ap, ◌∙◌, subst, arith}
+use Rattle.std.proofs.Common.{◌≡◌, ℕ, ◌+◌, ◌<◌, ◌≤◌, Bool, true, false, List, [], length, Some, refl, sym, ap, ◌∙◌, subst, arith}
 use Rattle.std.specs.Prelude.{◌⊎◌, slice_get, slice_index_or}
 use Rattle.std.specs.List.{AllByRecursion, list_any}
 use Rattle.plain_history.specs.HeldByLog.{nothing_held}
 use Rattle.std.proofs.lemmas.List.{length-map}
 use Rattle.plain_history.specs.ExactStamps.{StampsAreExact}
+use Rattle.plain_history.specs.FirstDraws.{DrawsComeFirst}
 use Rattle.plain_history.specs.EnterPaths.{entries_on, first_path, needs_bias, EndsStay, PathsFit}
 use Rattle.plain_monitor.specs.declared.entry.Logged.{Logged}
 use Rattle.plain_monitor.specs.declared.entry.Path.{Path}
@@ -12,9 +13,11 @@ use Rattle.plain_monitor.specs.declared.entry.Path.TheVariants.{BiasTaken}
 use Rattle.plain_monitor.specs.History.{log_of}
 use Rattle.plain_monitor.specs.Order.{order}
 use Rattle.core_law.specs.OfARun.{IsHashLogged}
+use Rattle.core_law.specs.TakenBiases.{times_taken, OwnsAreTaken}
 use Rattle.core_law.specs.Logic.{Heap}
 use Rattle.core_world.specs.Threads.Known.{DumpShot, Known}
 use Rattle.heap_table.specs.Seen.{ClosedSeen}
+use Rattle.lock_journal.specs.Hashes.{hash_fits}
 use Rattle.lock_journal.specs.declared.record.ClassLine.{ClassLine}
 use Rattle.lock_journal.specs.declared.record.RunRecord.{RunRecord}
 use Rattle.lock_journal.specs.declared.record.Shot.{Shot}
@@ -22,8 +25,8 @@ use Rattle.object_program.specs.Program.{ProgramText, class_of, shape_of}
 use Rattle.object_program.specs.Valid.{IsProgram}
 use Rattle.plain_machine.specs.Legal.{IsLegal, machine_after}
 use Rattle.plain_machine.specs.Machine.{PlainMachine}
-use Rattle.core_law.specs.Draws.{HasDraws}
-use Rattle.run_rounds.specs.Outcome.{HasRun, IsOver}
+use Rattle.hash_laws.proofs.LegalHashes.{legal_hashes_fit}
+use Rattle.run_rounds.specs.Outcome.{HasRun, IsOver, verdicts_beyond}
 use Rattle.program_run.specs.declared.settings.Settings.{Settings}
 use Rattle.program_run.specs.Biases.{HasBiases, IsEven, IsIdle, IsLine, IsUnrevoked, prototype_by}
 use Rattle.program_run.specs.HeapFor.{heap_for}
@@ -32,7 +35,9 @@ use Rattle.program_run.specs.Lines.{line_of, lines_below, total_on}
 use Rattle.program_run.specs.inner.Lines.{HasSmallCounts}
 use Rattle.program_run.specs.Ran.{HasAll, IsRan, IsRecordOf}
 use Rattle.program_run.specs.Shots.{AreRightShots}
-use Rattle.program_run.proofs.Biased.{Biased, Plain, all_idle, all_lines, even, fits, log_fits, prototype_is, revoke_is, small_here}
+use Rattle.program_run.specs.Verdicts.{IsSum, verdicts_by}
+use Rattle.program_run.proofs.Biased.{Biased, Plain, all_idle, all_lines, counted_all, even, fits, log_fits, prototype_is, revoke_is, small_here, sums_are, verdicts_within}
+use Rattle.program_run.proofs.BiasesTaken.{log_owned, taken_few}
 use Rattle.program_run.proofs.Classes.{class_is}
 use Rattle.program_run.proofs.Cut.{Fronts, Legals, TheirObjects, right_shots}
 use Rattle.program_run.proofs.Few.{First, Stay, UseUp, Begins, Works, log_few}
@@ -79,6 +84,17 @@ module _ (fronts : Fronts) (legals : Legals) (theirs : TheirObjects) (first : Fi
       subst (IsLine (total_on (λ n. n.reset) c.counts k)) at.1
       (fits heap c ran.biases ran.heap_is is.threads_few short k at.0)
 
+  sums : (k : ℕ) (line : ClassLine) → slice_get r.classes k ≡ Some line → IsSum c.counts k line
+  sums k line e =
+      let at = line_here k line e in
+      subst (IsSum c.counts k) at.1 (sums_are heap c ran.biases ran.heap_is is.threads_few short k at.0)
+
+  verdicts : (t : ℕ) → verdicts_by (slice_index_or c.counts t []) ≤ length (log_of r.logs t) + verdicts_beyond r.halted
+  verdicts t =
+      subst (λ (x : List (List Logged) × Bool). verdicts_by (slice_index_or c.counts t []) ≤ length (log_of x.0 t) + verdicts_beyond x.1)
+      (λ i. (sym copy.logs i, sym copy.halted i))
+      (verdicts_within heap c ran.biases ran.heap_is is.threads_few short t)
+
   entered : r.bias ≡ true → (o : ℕ) (path : Path) → IsUnrevoked r (class_of r.program o)
       → first_path (entries_on o (order r.logs)) ≡ Some path → (path ≡ BiasTaken) ⊎ IsHashLogged r.logs o
   entered biased o path unrevoked e =
@@ -92,6 +108,19 @@ module _ (fronts : Fronts) (legals : Legals) (theirs : TheirObjects) (first : Fi
       (ran.biases.biases.biases.entered (sym of.bias ∙ biased) o path
       (sym (revoke_is heap c ran.biases ran.heap_is is.threads_few short (slice_index_or (shape_of p) o (0, 0)).0 within) ∙ none)
       (ap (λ (x : List (List Logged)). first_path (entries_on o (order x))) (sym copy.logs) ∙ e))
+
+  taken_at_most : (o : ℕ) (line : ClassLine) → slice_get r.classes (class_of r.program o) ≡ Some line
+      → times_taken o (entries_on o (order r.logs)) ≤ line.rebias + 1
+  taken_at_most o line e =
+      let k : ℕ = class_of r.program o in
+      let at = line_here k line e in
+      let class : (slice_index_or (shape_of p) o (0, 0)).0 ≡ k = class_is p is o ∙ ap (λ (x : ProgramText). class_of x o) (sym of.program) in
+      let within : (slice_index_or (shape_of p) o (0, 0)).0 < length p.classes = subst (λ n. n < length p.classes) (sym class) at.0 in
+      let few : times_taken o (entries_on o (order c.logs)) ≤ (line_of c (slice_index_or (shape_of p) o (0, 0)).0).rebias + 1 =
+      taken_few heap c ran.biases ran.heap_is is.threads_few short o within in
+      let times = ap (λ (x : List (List Logged)). times_taken o (entries_on o (order x))) copy.logs in
+      let counted = ap (λ n. (line_of c n).rebias) class ∙ ap (λ (x : ClassLine). x.rebias) at.1 in
+      omega (arith, few, times, counted)
 
   evens : s.tick ≡ 0 → AllByRecursion IsEven r.classes
   evens still =
@@ -131,12 +160,20 @@ module _ (fronts : Fronts) (legals : Legals) (theirs : TheirObjects) (first : Fi
             (log_fits heap c ran.biases ran.heap_is is.threads_few short t (sym ran.followed.count));
         entered = entered;
         counts = counts;
+        counted = counted_all heap c ran.biases ran.heap_is is.threads_few short ∙ sym ran.followed.count
+            ∙ ap (λ (x : List (List Logged)). length x) (sym copy.logs);
+        verdicts = verdicts;
+        sums = sums;
         even = evens;
         prototypes = prototypes;
         plain = λ none o.
             ap (λ (x : List (List Logged)). list_any needs_bias (entries_on o (order x))) copy.logs
             ∙ ran.biases.biases.biases.plain (sym of.bias ∙ none) o;
         idle = idle;
+        taken = λ t.
+            subst (λ (x : List (List Logged)). OwnsAreTaken (log_of x t)) (sym copy.logs)
+            (log_owned heap c ran.biases t (sym ran.followed.count));
+        few = taken_at_most;
       }
 
   pub told : IsRan s p r c
@@ -149,7 +186,8 @@ module _ (fronts : Fronts) (legals : Legals) (theirs : TheirObjects) (first : Fi
         legal = subst (IsLegal p s.fuel) (sym copy.logs) legal;
         over = over;
         shots = shots;
-        draws = subst (HasDraws s.start) (sym copy.logs) ran.draws;
+        hashes = λ o. subst (λ (x : List (List Logged)). hash_fits s.start (order x) o ≡ true) (sym copy.logs) (legal_hashes_fit p s.fuel s.start c.logs legal ran.draws o);
+        first = subst DrawsComeFirst (sym copy.logs) ran.draws.first;
         stamps = subst StampsAreExact (sym copy.logs) ran.stamps;
         biases = biases;
       }

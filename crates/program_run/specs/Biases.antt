@@ -1,8 +1,9 @@
 -- What the law of biases says of a run, by its record.
-use Rattle.std.specs.Prelude.{◌≡◌, ◌⊎◌, ℕ, ◌+◌, ◌*◌, ◌%◌, ◌==◌, ◌&&◌, min, nat_le, if◌then◌else◌, Bool, true, false, slice_get, Some}
+use Rattle.std.specs.Prelude.{◌≡◌, ◌⊎◌, ℕ, ◌+◌, ◌*◌, ◌%◌, ◌==◌, ◌&&◌, ◌≤◌, min, nat_le, if◌then◌else◌, Bool, true, false, [], length, slice_get, slice_index_or, Some}
 use Rattle.std.specs.List.{AllByRecursion, list_any}
 use Rattle.core_law.specs.CountsAndVerdicts.{CountFits}
 use Rattle.core_law.specs.OfARun.{IsHashLogged}
+use Rattle.core_law.specs.TakenBiases.{times_taken, OwnsAreTaken}
 use Rattle.heap_table.specs.Seen.{ClosedSeen}
 use Rattle.lock_journal.specs.declared.record.ClassLine.{ClassLine}
 use Rattle.lock_journal.specs.declared.record.RunRecord.{RunRecord}
@@ -13,7 +14,9 @@ use Rattle.plain_monitor.specs.declared.entry.Path.{Path}
 use Rattle.plain_monitor.specs.declared.entry.Path.TheVariants.{BiasTaken}
 use Rattle.plain_monitor.specs.History.{log_of}
 use Rattle.plain_monitor.specs.Order.{order}
+use Rattle.run_rounds.specs.Outcome.{verdicts_beyond}
 use Rattle.program_run.specs.Lines.{total_on}
+use Rattle.program_run.specs.Verdicts.{IsSum, verdicts_by}
 
 -- the class with this line wasn't revoked in bulk
 abbrev pub IsUnrevoked : RunRecord → ℕ → Type 0
@@ -56,9 +59,19 @@ pub record HasBiases (tick : ℕ) (r : RunRecord) (c : ClosedSeen) : Type 0 wher
   -- the count of each class fits the verdicts on it, and how often it was set to 0
   pub counts : (k : ℕ) (line : ClassLine) → slice_get r.classes k ≡ Some line
       → IsLine (total_on (λ n. n.reset) c.counts k) line
+  -- there are counts of each thread; over all classes it counted no more verdicts than it logged entries, but for one where the run
+  -- was halted; and the lines of the classes are the sums of these counts
+  pub counted : length c.counts ≡ length r.logs
+  pub verdicts : (t : ℕ) → verdicts_by (slice_index_or c.counts t []) ≤ length (log_of r.logs t) + verdicts_beyond r.halted
+  pub sums : (k : ℕ) (line : ClassLine) → slice_get r.classes k ≡ Some line → IsSum c.counts k line
   -- where a tick has no length, the verdicts alone tell it
   pub even : tick ≡ 0 → AllByRecursion IsEven r.classes
   pub prototypes : AllByRecursion (λ (line : ClassLine). line.prototype ≡ prototype_by r.bias line) r.classes
   -- without biases no Enter has a bias path, and no verdict is counted
   pub plain : r.bias ≡ false → (o : ℕ) → list_any needs_bias (entries_on o (order r.logs)) ≡ false
   pub idle : r.bias ≡ false → AllByRecursion IsIdle r.classes
+  -- in each log an Enter by the path BiasOwn stands after one of its object by BiasTaken
+  pub taken : (t : ℕ) → OwnsAreTaken (log_of r.logs t)
+  -- the bias of an object was taken at most once more than its class was rebiased in bulk
+  pub few : (o : ℕ) (line : ClassLine) → slice_get r.classes (class_of r.program o) ≡ Some line
+      → times_taken o (entries_on o (order r.logs)) ≤ line.rebias + 1

@@ -2,6 +2,8 @@ pub mod HeapFor
 pub mod Lines
 pub mod Left
 pub mod Shots
+pub mod Verdicts
 pub mod Biases
 pub mod Ran
+pub mod PlainRun
 pub mod inner

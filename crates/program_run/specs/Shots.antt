@@ -1,7 +1,7 @@
 -- What a dump saw.
 use Rattle.std.specs.Prelude.{◌≡◌, ◌⊎◌, ℕ, ◌≤◌, List, [], length, map, slice_get, slice_index, slice_index_or, Some}
 use Rattle.std.specs.List.{AllByRecursion}
-use Rattle.core_world.specs.Shots.{cut_logs, dumps_from}
+use Rattle.core_world.specs.Shots.{dumps_from}
 use Rattle.lock_journal.specs.declared.record.Shot.{Shot}
 use Rattle.lock_journal.specs.MachineCells.{cells_in}
 use Rattle.object_program.specs.Program.{ProgramText}
@@ -9,11 +9,14 @@ use Rattle.plain_machine.specs.Legal.{machine_after}
 use Rattle.plain_machine.specs.Machine.{PlainMachine}
 use Rattle.plain_monitor.specs.declared.entry.Logged.{Logged}
 use Rattle.plain_monitor.specs.History.{log_of}
+use Rattle.plain_history.specs.Cuts.{cut_logs, IsCutInOrder}
 
--- the shot cuts each log somewhere, and has the owner and the count of each object of the machine after the logs that are cut so
+-- the shot cuts each log somewhere, so that tied entries keep their order, and has the owner and the count of each object of the machine after
+-- the logs that are cut so
 pub record IsRightShot (p : ProgramText) (fuel : ℕ) (logs : List (List Logged)) (shot : Shot) : Type 0 where
   pub threads : length shot.cut ≡ length logs
   pub within : (u : ℕ) → slice_index shot.cut u ≤ length (log_of logs u)
+  pub in_order : IsCutInOrder shot.cut logs
   pub machine : PlainMachine
   pub under : machine_after p fuel (cut_logs shot.cut logs) ≡ Some machine
   pub cells : shot.cells ≡ cells_in machine

@@ -8,10 +8,17 @@ mod copies;
 mod laws;
 mod lines;
 mod opening;
+mod plain_laws;
 mod record;
+mod refused;
 mod run;
 mod settings;
 mod shape;
+mod verdict_laws;
 
+pub use laws::a_dump_shows_a_state_that_the_run_passes_through;
+pub use plain_laws::{plain_runs_are_runs_of_all_settings, runs_without_paths_are_plain};
+pub use refused::{no_record_with_a_bias_from_nowhere, no_record_with_a_bias_that_wanders};
 pub use run::run_program;
 pub use settings::{Ran, Settings};
+pub use verdict_laws::verdicts_come_of_entries;

@@ -1,6 +1,6 @@
 //! The counts of a record.
 
-ghost use Rattle.std.specs.Prelude.{◌≡◌, ◌≤◌, [], ◌∷◌, false, codes, length, true, IfOk};
+ghost use Rattle.std.specs.Prelude.{◌≡◌, [], ◌∷◌, false, codes, true, IfOk};
 ghost use Rattle.plain_machine.specs.Legal.{IsLegal};
 ghost use Rattle.object_program.specs.Name.{is_name};
 ghost use Rattle.object_program.specs.declared.program.Code.{Code};
@@ -166,8 +166,7 @@ fn program(alloc: Global) -> Result<Program, AllocError>
 
 /// The record of a run of it.
 fn record_of_run(alloc: Global) -> Result<RunRecord, AllocError>
-    ensures legal { IfOk result (λ run. IsLegal run.program run.fuel run.logs) }
-    ensures few { IfOk result (λ run. length run.logs ≤ 16) }
+    ensures { IfOk result (λ run. IsLegal run.program run.fuel run.logs) }
 {
     let mut logs = Vec::new(alloc);
     logs.push(List::of(Vec::from_slice(alloc, &LOG_OF_T1)?))?;

@@ -9,7 +9,7 @@ ghost use Rattle.core_world.specs.Words.Forms.{monitor_in};
 ghost use Rattle.core_world.specs.Words.Shape.{ring_places};
 ghost use Rattle.heap_table.specs.Parts.{IsDueOn, HasRun};
 ghost use Rattle.heap_table.specs.Seen.{IsOf};
-ghost use Rattle.revoke_walk.specs.inner.DeflateParts.{clean_steps, enring_steps, untouched_steps};
+ghost use Rattle.revoke_walk.specs.inner.DeflateParts.{clean_steps, enqueue_steps, untouched_steps};
 
 use core_world::{Name, Own, Stage};
 use heap_table::{Heap, Pass, Purpose, mark_of_word, wait_of_word};
@@ -57,16 +57,16 @@ fn clean(heap: &Heap, pass: &mut Pass, why: &Purpose, stage: Stage, monitor: u32
 }
 
 // The monitor comes to stand in the ring, at this position, which is its end.
-fn enring(heap: &Heap, pass: &mut Pass, why: &Purpose, stage: Stage, end: u64, monitor: u32)
+fn enqueue(heap: &Heap, pass: &mut Pass, why: &Purpose, stage: Stage, end: u64, monitor: u32)
     requires heap { IsOf heap.now pass.old }
     requires due { IsDueOn heap.now pass.old why.now.task
-        (enring_steps heap.now.heap.shape why.now stage end monitor) }
-    ensures { HasRun heap.now (enring_steps heap.now.heap.shape why.now stage end monitor) pass.old pass.new tt }
+        (enqueue_steps heap.now.heap.shape why.now stage end monitor) }
+    ensures { HasRun heap.now (enqueue_steps heap.now.heap.shape why.now stage end monitor) pass.old pass.new tt }
 {
     let place = ring_place(heap, end);
     heap.store(pass, why, stage, Name::Ring { place }, monitor as u64);
     let next = end.wrapping_add(1);
-    heap.store_and_keep(pass, why, stage, Own::Enring, Name::End, next);
+    heap.store_and_keep(pass, why, stage, Own::Enqueue, Name::End, next);
 }
 
 // The object's monitor is idle: its header becomes the object's mark, and it comes to stand in the ring with all of its
@@ -80,10 +80,10 @@ fn give_back(heap: &Heap, pass: &mut Pass, why: &Purpose, stage: Stage, object: 
 {
     let header = heap.load(pass, why, stage, Name::Header { monitor });
     let end = heap.load(pass, why, stage, Name::End);
-    let own = Own::Unname { monitor };
+    let own = Own::Detach { monitor };
     heap.store_and_keep(pass, why, stage, own, Name::Mark { object }, header);
     clean(heap, pass, why, stage, monitor);
-    enring(heap, pass, why, stage, end, monitor);
+    enqueue(heap, pass, why, stage, end, monitor);
 }
 
 // Whether, by the waiting words, no thread waits on the object, was notified from it or enters it.

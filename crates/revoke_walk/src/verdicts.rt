@@ -1,6 +1,5 @@
 //! The revocation of a bias at a reached safepoint, by the verdict on the object's class.
 ghost use Rattle.std.specs.Prelude.{◌≡◌, ◌<◌, length, Some};
-ghost use Rattle.lock_policy.specs.Policy.{decided, is_reset};
 ghost use Rattle.core_world.specs.Trees.RevocationSteps.{verdict_steps, decided_steps, revoke_at_safepoint_steps};
 ghost use Rattle.heap_table.specs.Parts.{IsDueOn, HasRun};
 ghost use Rattle.heap_table.specs.Seen.{IsOf};
@@ -11,25 +10,7 @@ use crate::revocation::Revocation;
 use crate::revokes::revoke;
 use core_world::{Name, Own, Stage};
 use heap_table::{Heap, Pass, Purpose, class_epoch};
-use lock_policy::{Verdict, decide};
-
-// The verdict on a class with this count, and its new count. A count above 40 stays, and its verdict is `Single`.
-fn verdict_on(count: u64, last: u64, now: u64) -> (Verdict, u64)
-    ensures { result ≡ decided count last now }
-{
-    if count > 40 {
-        return (Verdict::Single, count);
-    }
-    let (verdict, new) = decide(count as u32, last, now);
-    (verdict, new as u64)
-}
-
-// Whether the count was reset before the verdict.
-fn was_reset(count: u64, last: u64, now: u64) -> bool
-    ensures { result ≡ is_reset count last now }
-{
-    20 <= count && count < 40 && last != 0 && last <= now && now - last >= 25_000
-}
+use lock_policy::{Verdict, decide, has_decayed};
 
 // Does what the verdict says. It answers whether the thread gave itself a new bias.
 fn carry_out(
@@ -85,8 +66,8 @@ fn decide_and_revoke(
         pass.old pass.new result }
 {
     let moment = revocation.moment;
-    let (verdict, new) = verdict_on(count, last, moment);
-    let reset = was_reset(count, last, moment);
+    let (verdict, new) = decide(count, last, moment);
+    let reset = has_decayed(count, last, moment);
     let own = Own::CountVerdict {
         class,
         verdict,

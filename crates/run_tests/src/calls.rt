@@ -108,8 +108,8 @@ pub fn make_by<R: Threads + Wait + Abort + AllocGlobal + Sync, G: Gate + Sync>(
     );
     bias_cli::records_can_be_replayed();
     let is_stuck = match &finish.run {
-        Some(run) if run.logs.items().len() <= 16 => replay(rt.alloc(), run)?.is_stuck(),
-        _ => false,
+        Some(run) => replay(rt.alloc(), run)?.is_stuck(),
+        None => false,
     };
     Ok(Made {
         status: finish.status,

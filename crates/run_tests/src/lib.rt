@@ -18,3 +18,5 @@ mod reports;
 mod rows;
 #[cfg(test)]
 mod settings;
+#[cfg(test)]
+mod turns;

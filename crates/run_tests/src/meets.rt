@@ -9,8 +9,11 @@ use std::sync::atomic::{AtomicBool, Ordering};
 use std::test::Fail;
 use std::thread::Threads;
 
-/// How often a thread looks whether the other one has come.
+/// How often a thread looks whether the other one has come, where it should.
 const LOOKS: u32 = 100_000_000;
+
+/// How often it looks where it shouldn't, and so looks to the end: still far longer than a worker takes to start.
+const FEWER_LOOKS: u32 = 20_000_000;
 
 /// What one of two threads tells the other: that it has come, and that it saw the other one.
 #[derive(Drop)]
@@ -28,11 +31,11 @@ impl Side {
     }
 
     /// At the first call this says that the thread has come, and waits for the other one, but not for ever.
-    fn meet(&self, other: &Side) {
+    fn meet(&self, other: &Side, looks: u32) {
         if self.came.swap(true, Ordering::SeqCst) {
             return;
         }
-        for _ in 0..LOOKS {
+        for _ in 0..looks {
             if other.came.load(Ordering::SeqCst) {
                 self.saw.store(true, Ordering::SeqCst);
                 return;
@@ -41,18 +44,20 @@ impl Side {
     }
 }
 
-/// A gate at which threads 0 and 1 meet before their first turns.
+/// A gate at which threads 0 and 1 meet before their first turns. `Runner::turn` visits it, which no contract says: where no turn did, the
+/// tests here and those of `turns` would fail.
 #[derive(Drop)]
 struct Meeting {
     first: Side,
     second: Side,
+    looks: u32,
 }
 
 impl Gate for Meeting {
     fn visit(&self, thread: u32) {
         match thread {
-            0 => self.first.meet(&self.second),
-            1 => self.second.meet(&self.first),
+            0 => self.first.meet(&self.second, self.looks),
+            1 => self.second.meet(&self.first, self.looks),
             _ => {}
         }
     }
@@ -65,18 +70,49 @@ fn two_threads_run_at_once(rt: HostRuntime) -> Result<(), Fail> {
     meet(&rt, &["run", "--workers", "2", "--bias", "off"])
 }
 
+/// With one worker no turn begins before the one under way is over: the thread that comes first looks for the other one in vain, and that
+/// one finds it there. The worker goes from the least thread up.
+#[test]
+fn one_worker_runs_one_thread_at_a_time(rt: HostRuntime) -> Result<(), Fail> {
+    miss(&rt, &["run", "--workers", "1"])?;
+    miss(&rt, &["run", "--workers", "1", "--quantum", "1"])
+}
+
 /// A run with these words in which each of two threads sees the other one's flag.
 fn meet<R: Threads + Wait + Abort + AllocGlobal + Sync>(
     rt: &R,
     words: &[&str],
 ) -> Result<(), Fail> {
+    let saw = seen(rt, words, LOOKS)?;
+    assert_eq!(rt; saw, (true, true));
+    Ok(())
+}
+
+/// A run with these words in which the second thread alone sees the other one's flag.
+fn miss<R: Threads + Wait + Abort + AllocGlobal + Sync>(
+    rt: &R,
+    words: &[&str],
+) -> Result<(), Fail> {
+    let saw = seen(rt, words, FEWER_LOOKS)?;
+    assert_eq!(rt; saw, (false, true));
+    Ok(())
+}
+
+/// Whether in a run with these words the first of two threads sees the flag of the second, and the second that of the first.
+fn seen<R: Threads + Wait + Abort + AllocGlobal + Sync>(
+    rt: &R,
+    words: &[&str],
+    looks: u32,
+) -> Result<(bool, bool), Fail> {
     let gate = Meeting {
         first: Side::new(),
         second: Side::new(),
+        looks,
     };
     let made = make_by(rt, calling(words, CONTENTION), &gate)?;
     assert_eq!(rt; made.status, 0);
-    assert!(rt; gate.first.saw.load(Ordering::SeqCst));
-    assert!(rt; gate.second.saw.load(Ordering::SeqCst));
-    Ok(())
+    Ok((
+        gate.first.saw.load(Ordering::SeqCst),
+        gate.second.saw.load(Ordering::SeqCst),
+    ))
 }

@@ -4,9 +4,9 @@ ghost use Rattle.std.specs.Prelude.{is_none, length};
 ghost use Rattle.std.specs.List.{list_all};
 ghost use Rattle.core_world.specs.Clauses.Lengths.{log_limit};
 ghost use Rattle.core_world.specs.declared.task.Task.TheVariants.{Check};
-ghost use Rattle.core_world.specs.Trees.Calls.{is_object, is_value, may_operate, may_begin};
+ghost use Rattle.core_world.specs.Trees.Calls.{is_object, is_value, may_operate, may_begin, most_logged};
 ghost use Rattle.core_world.specs.Trees.Operations.{same_op, goes_on_with};
-ghost use Rattle.core_world.specs.Words.Forms.{says_ended};
+ghost use Rattle.core_world.specs.Words.Forms.{says_ended, waits_on};
 ghost use Rattle.core_world.specs.Words.Shape.{slots_of};
 ghost use Rattle.heap_table.specs.Resting.{Rests, MayCall, MayOperate};
 
@@ -64,11 +64,49 @@ fn said_ended(pass: &Pass) -> bool
     }
 }
 
-// Whether the log may have two entries more, in any heap.
+// Whether the log may have an entry more, in any heap.
 fn is_short(pass: &Pass) -> bool
-    ensures { result ≡ nat_le (length pass.now.known.log + 2) log_limit }
+    ensures { result ≡ nat_lt (length pass.now.known.log) log_limit }
 {
-    pass.log().len() <= 400064
+    pass.log().len() < 400066
+}
+
+// Whether this waiting word says that its thread waits on the object.
+fn waits_on(word: u64, object: u32) -> bool
+    ensures { result ≡ waits_on word object }
+{
+    match wait_of_word(word) {
+        Some(form) => match form {
+            WaitForm::Waiting { object: on, .. } => on == object,
+            _ => false,
+        },
+        None => false,
+    }
+}
+
+// How many entries the call logs at most.
+fn most_logged(pass: &Pass, task: Task) -> u32
+    ensures most { result ≡ most_logged pass.now.known task }
+    ensures few { result ≤ 2 }
+{
+    match task {
+        Task::Wait { object, .. } => {
+            if waits_on(pass.wait_word(), object) {
+                1
+            } else {
+                2
+            }
+        }
+        _ => 1,
+    }
+}
+
+// Whether the log may have so many more, in any heap.
+fn is_short_for(pass: &Pass, most: u32) -> bool
+    requires { most ≤ 2 }
+    ensures { result ≡ nat_le (length pass.now.known.log + most) log_limit }
+{
+    pass.log().len() <= 400066 - most as usize
 }
 
 fn may_operate(heap: &Heap, pass: &Pass, going: bool) -> bool
@@ -153,7 +191,9 @@ fn may_begin(heap: &Heap, pass: &Pass, task: Task) -> bool
     match task {
         Task::Enter { object, .. } => may_take(heap, pass, Op::Enter, object),
         Task::Exit { object } => may_take(heap, pass, Op::Exit, object),
-        Task::Wait { object, .. } => may_take(heap, pass, Op::Wait, object),
+        Task::Wait { object, .. } => {
+            may_take(heap, pass, Op::Wait, object) && is_short_for(pass, most_logged(pass, task))
+        }
         Task::Notify { object, .. } => may_take(heap, pass, Op::Notify, object),
         Task::NotifyAll { object, .. } => may_take(heap, pass, Op::NotifyAll, object),
         Task::Hash { object, .. } => may_take(heap, pass, Op::Hash, object),
@@ -176,10 +216,10 @@ fn may_begin(heap: &Heap, pass: &Pass, task: Task) -> bool
     }
 }
 
-fn has_room(pass: &Pass) -> bool
-    ensures { result ≡ true → length pass.now.known.log + 2 ≤ pass.now.limit }
+fn has_room(pass: &Pass, task: Task) -> bool
+    ensures { result ≡ true → length pass.now.known.log + most_logged pass.now.known task ≤ pass.now.limit }
 {
-    pass.room() >= 2
+    pass.room() >= most_logged(pass, task)
 }
 
 /// Whether a call of this task may begin that makes no operation.
@@ -195,5 +235,5 @@ pub fn may_make(heap: &Heap, pass: &Pass, task: Task) -> bool
     requires { Rests heap.now pass.now }
     ensures { result ≡ true → MayOperate heap.now pass.now task }
 {
-    may_call(heap, pass, task) && has_room(pass)
+    may_call(heap, pass, task) && has_room(pass, task)
 }

@@ -1,12 +1,14 @@
 //! Heaps without biases: locks by records and by monitors.
 ghost use Rattle.heap_table.specs.Resting.{Rests};
 
-use crate::calls::{DONE, LEFT, begin, enter, entered, exit, get, not_entered, put, resume, stop};
+use crate::calls::{
+    DONE, LEFT, begin, enter, entered, exit, get, not_entered, print, put, resume, stop,
+};
 use crate::compare::{holds, same};
 use crate::last::{closed, displaced, has_stamps, mark, monitor, stamp, waiting};
 use core_world::{IllegalMonitorState, TooDeep, Turn, Unguarded, Why};
 use heap_table::{Heap, Pass};
-use plain_monitor::{Path, Value};
+use plain_monitor::{Entry, Path, Value};
 use std::process::Abort;
 use std::test::Fail;
 
@@ -93,6 +95,25 @@ fn enter_times(heap: &Heap, pass: &mut Pass, object: u32, times: u32) -> bool
         };
     }
     true
+}
+
+#[test]
+fn a_print_has_the_next_stamp_of_its_thread(rt: HostRuntime) -> Result<(), Fail> {
+    let (heap, mut p0, mut p1) = begin(rt.alloc(), false)?;
+    same(&rt, resume(&heap, &mut p0), DONE);
+    same(&rt, resume(&heap, &mut p1), DONE);
+    same(&rt, enter(&heap, &mut p0, 0, 1), entered(Path::StackFirst));
+    holds(&rt, print(&heap, &mut p0, Value::Int(7)));
+    same(&rt, exit(&heap, &mut p0, 0), LEFT);
+    holds(&rt, print(&heap, &mut p1, Value::Ref(100)));
+    holds(&rt, !print(&heap, &mut p1, Value::Ref(101)));
+    same(&rt, enter(&heap, &mut p1, 0, 1), entered(Path::StackFirst));
+    holds(&rt, has_stamps(p0.log(), &[1, 2, 3]));
+    holds(&rt, has_stamps(p1.log(), &[1, 4]));
+    let value = Value::Int(7);
+    let printed = p0.log().get(1).map(|logged| logged.entry);
+    same(&rt, printed, Some(Entry::Print { value }));
+    Ok(())
 }
 
 #[test]

@@ -1,12 +1,15 @@
 //! Threads that wait, are notified, and are stuck.
+ghost use Rattle.heap_table.specs.Resting.{Rests};
+
 use crate::calls::{
     DONE, LEFT, begin, check_stuck, enter, entered, exit, finish, notify, notify_all, pending,
-    resume, stop, wait,
+    print, resume, stop, wait,
 };
 use crate::compare::{holds, same};
 use crate::last::{closed, count, has_stamps, mark};
 use core_world::{IllegalMonitorState, Turn, Why};
-use plain_monitor::{Ending, Path};
+use heap_table::{Heap, Pass};
+use plain_monitor::{Ending, Path, Value};
 use std::test::Fail;
 
 #[test]
@@ -45,6 +48,60 @@ fn a_notified_thread_waits_for_the_monitor(rt: HostRuntime) -> Result<(), Fail> 
         notify_all(&heap, &mut p0, 0, 1),
         Some(Ok(Turn::Done(0))),
     );
+    Ok(())
+}
+
+// Prints until the log has room for so many entries. Whether it has.
+fn fill(heap: &Heap, pass: &mut Pass, room: u32) -> bool
+    requires { Rests heap.now pass.old }
+    ensures { Rests heap.now pass.new }
+{
+    for _ in 0..pass.room().saturating_sub(room) {
+        if !print(heap, pass, Value::Nil) {
+            return false;
+        }
+    }
+    pass.room() == room
+}
+
+/// A wait logs two entries, in two calls here: the room that the first one needs does for both.
+#[test]
+fn a_wait_that_has_room_to_begin_has_room_to_end(rt: HostRuntime) -> Result<(), Fail> {
+    let (heap, mut p0, mut p1) = begin(rt.alloc(), false)?;
+    same(&rt, resume(&heap, &mut p0), DONE);
+    same(&rt, resume(&heap, &mut p1), DONE);
+    same(&rt, enter(&heap, &mut p0, 0, 1), entered(Path::StackFirst));
+    holds(&rt, fill(&heap, &mut p0, 2));
+    let waits = wait(&heap, &mut p0, 0, 1);
+    let unheard = matches!(waits, Some(Ok(Turn::Pending(Why::NotNotified { .. }))));
+    holds(&rt, unheard);
+    same(&rt, p0.room(), 1);
+    same(
+        &rt,
+        enter(&heap, &mut p1, 0, 1),
+        entered(Path::MonitorFirst),
+    );
+    same(
+        &rt,
+        notify(&heap, &mut p1, 0, 1),
+        Some(Ok(Turn::Done(Some(0)))),
+    );
+    same(&rt, exit(&heap, &mut p1, 0), LEFT);
+    same(&rt, wait(&heap, &mut p0, 0, 1), LEFT);
+    same(&rt, p0.room(), 0);
+    Ok(())
+}
+
+/// A wait with room for one entry may not begin, and an exit may.
+#[test]
+fn a_call_begins_where_there_is_room_for_what_it_logs(rt: HostRuntime) -> Result<(), Fail> {
+    let (heap, mut p0, _) = begin(rt.alloc(), false)?;
+    same(&rt, resume(&heap, &mut p0), DONE);
+    same(&rt, enter(&heap, &mut p0, 0, 1), entered(Path::StackFirst));
+    holds(&rt, fill(&heap, &mut p0, 1));
+    same(&rt, wait(&heap, &mut p0, 0, 1), None);
+    same(&rt, exit(&heap, &mut p0, 0), LEFT);
+    holds(&rt, !print(&heap, &mut p0, Value::Nil));
     Ok(())
 }
 

@@ -30,7 +30,7 @@ use Rattle.thread_frame.specs.Frames.{FrameSeen, frame_behind, frame_behind_call
 use Rattle.thread_frame.specs.Sights.{counts_from}
 use Rattle.thread_logs.specs.Followed.{HasValue}
 use Rattle.thread_logs.proofs.Standing.{waits_told}
-use Rattle.thread_calls.specs.Advances.{HasAdvanced, MayAdvance, HasPended, HasSpent}
+use Rattle.thread_calls.specs.Advances.{HasAdvanced, MayAdvance, DoneIn, PendedIn, MadeCall, HasSpent}
 use Rattle.thread_calls.specs.Asked.{unfinished_of}
 use Rattle.thread_calls.specs.Between.{IsHeapOf, state_by}
 use Rattle.thread_calls.specs.inner.Made.{IsBehind, HasLogged, HasLeft, HasTold}
@@ -69,7 +69,7 @@ pub record IsLeftWith (h : HeapSeen) (k q : PassSeen) (u : Option Unfinished) (w
   pub behind : IsBehind h k q
   pub unfinished : q.known.unfinished ≡ u
   pub stands : StandsBehind {A = Bool} q.known (Pending why)
-  pub pended : HasPended h q why
+  pub call : MadeCall (PendedIn h why) k q
 
 module _ (h : HeapSeen) (p : ProgramText) (fuel : ℕ) (k : PassSeen) (f : FrameSeen) (of : IsHeapOf h p) (may : MayAdvance h p fuel k f) where
   abbrev t : ℕ
@@ -126,9 +126,9 @@ module _ (h : HeapSeen) (p : ProgramText) (fuel : ℕ) (k : PassSeen) (f : Frame
   module _ (q : PassSeen) where
     -- ONE TURN, done or pending
     pub turn_over : (g : FrameSeen) (done : Bool) (holds : List ℕ) → IsFramed p fuel t q.known.log holds g → IsBehind h k q → q.known.unfinished ≡ None
-        → IsRunning q.known → g.fuel ≤ f.fuel → HasSpent h q f g (Done done) → rank_of g + sum holds < rank_of f + sum counts
+        → IsRunning q.known → MadeCall (DoneIn h) k q → g.fuel ≤ f.fuel → HasSpent f g (Done done) → rank_of g + sum holds < rank_of f + sum counts
         → HasAdvanced h p fuel k q f g (Done done)
-    turn_over g done holds is b none runs fewer spent falls =
+    turn_over g done holds is b none runs call fewer spent falls =
         let before = sum_holds h p of fuel k may.on.rests counts framed.count framed.each in
         let after = sum_holds h p of fuel q b.rests holds is.count is.each in
         record {
@@ -136,6 +136,7 @@ module _ (h : HeapSeen) (p : ProgramText) (fuel : ℕ) (k : PassSeen) (f : Frame
           unchecked = b.unchecked;
           thread = b.thread;
           stands = runs;
+          calls = inr call;
           spent = spent;
           fallen = omega (arith, before, after, falls);
         }
@@ -155,7 +156,8 @@ module _ (h : HeapSeen) (p : ProgramText) (fuel : ℕ) (k : PassSeen) (f : Frame
           unchecked = l.behind.unchecked;
           thread = l.behind.thread;
           stands = l.stands;
-          spent = (spent, live, l.pended);
+          calls = l.call;
+          spent = (spent, live);
           fallen = tt;
         }
 
@@ -168,7 +170,7 @@ module _ (h : HeapSeen) (p : ProgramText) (fuel : ℕ) (k : PassSeen) (f : Frame
         → is_some u ≡ true → HasAdvanced h p fuel k q f f (Pending why)
     still_waits why m u mode l asked some =
         turn_waits f why counts u (at_log k.known.log counts f l.log framed)
-        (record { behind = l.behind; unfinished = l.unfinished; stands = l.stands; pended = l.pended })
+        (record { behind = l.behind; unfinished = l.unfinished; stands = l.stands; call = l.call })
         asked some (ap is_some mode) may.live refl (omega arith)
 
     -- A CALL that isn't a wait
@@ -193,7 +195,7 @@ module _ (h : HeapSeen) (p : ProgramText) (fuel : ℕ) (k : PassSeen) (f : Frame
         let v = ap is_in_wait ran in
         let r = ap mode_rank mode in
         let z = ap mode_rank ran in
-        turn_over g true holds is m.is.behind m.is.unfinished m.is.runs (omega (arith, less))
+        turn_over g true holds is m.is.behind m.is.unfinished m.is.runs m.is.call (omega (arith, less))
         (omega (arith, paid, same, less, w, v)) (omega (arith, paid, same, less, r, z, grows))
 
     -- A HOLD LEFT, AND THE END, of a thread that unwinds
@@ -210,7 +212,7 @@ module _ (h : HeapSeen) (p : ProgramText) (fuel : ℕ) (k : PassSeen) (f : Frame
         let one = held.1 in
         let same = ap (λ (hs : List ℕ). slice_index hs o) (holds_are (Unwinding g) mode) in
         let falls = sum_left o holds counts behind (omega (arith, held.0, next.count)) (omega (arith, one, same)) in
-        turn_over f false holds is m.behind m.unfinished m.runs (omega arith) refl (omega (arith, falls))
+        turn_over f false holds is m.behind m.unfinished m.runs m.call (omega arith) refl (omega (arith, falls))
 
     pub end_done : (g : Ending) → f.mode ≡ Some (Unwinding g) → held_from 0 counts ≡ None → HasLogged h k q (ending_entry g)
         → HasAdvanced h p fuel k q f (frame_behind f (Ends g) (ending_entry g)) (Done false)
@@ -227,4 +229,4 @@ module _ (h : HeapSeen) (p : ProgramText) (fuel : ℕ) (k : PassSeen) (f : Frame
         (holds_behind_entry p fuel t k.known.log counts f of.program framed (Unwinding g) (Ends g) l mode asks (fits_end g) value) in
         let w = ap is_in_wait mode in
         let r = ap mode_rank mode in
-        turn_over over false holds is m.behind m.unfinished m.runs (omega arith) (omega (arith, w)) (omega (arith, r, stays))
+        turn_over over false holds is m.behind m.unfinished m.runs m.call (omega arith) (omega (arith, w)) (omega (arith, r, stays))

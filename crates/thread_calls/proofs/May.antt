@@ -1,5 +1,5 @@
 -- A thread of a program may make the call that it asks, and isn't refused.
-use Rattle.std.proofs.Common.{◌≡◌, ℕ, ◌+◌, ◌*◌, ◌<◌, ◌≤◌, ◌==◌, ◌&&◌, ◌||◌, not, nat_le, nat_lt, lt-ltb, le-leb, eq-eqb, Bool, true, false, List, [], ◌∷◌, length, sum, Option, Some, None, is_some, is_none, refl, sym, ap, ◌∙◌, arith, inl, inr}
+use Rattle.std.proofs.Common.{◌≡◌, ℕ, ◌+◌, ◌*◌, ◌<◌, ◌≤◌, ◌==◌, ◌&&◌, ◌||◌, not, nat_le, nat_lt, lt-ltb, le-leb, eq-eqb, Bool, true, false, cond, List, [], ◌∷◌, length, sum, Option, Some, None, is_some, is_none, refl, sym, ap, ◌∙◌, arith, inl, inr}
 use Rattle.std.proofs.lemmas.Bool.{and_from, or_left, or_right, and_left}
 use Rattle.plain_monitor.specs.declared.entry.Entry.{Entry}
 use Rattle.plain_monitor.specs.declared.entry.Entry.TheVariants as entry
@@ -13,8 +13,10 @@ use Rattle.core_world.specs.declared.task.Unfinished.{Unfinished}
 use Rattle.core_world.specs.Clauses.Lengths.{log_limit}
 use Rattle.core_world.specs.Clauses.Safepoints.{ends, is_ending}
 use Rattle.core_world.specs.Shots.{dumps_from, placed}
-use Rattle.core_world.specs.Trees.Calls.{is_object, may_begin, may_operate, is_free_for}
+use Rattle.core_world.specs.Threads.Known.{Known}
+use Rattle.core_world.specs.Trees.Calls.{is_object, may_begin, may_operate, is_free_for, most_logged}
 use Rattle.core_world.specs.Trees.Operations.{goes_on_with, same_op}
+use Rattle.core_world.specs.Words.Forms.{waits_on}
 use Rattle.core_world.specs.Words.Shape.{slots_of as slots_in_heap}
 use Rattle.heap_table.specs.Resting.{MayOperate}
 use Rattle.heap_table.specs.Seen.{HeapSeen, PassSeen}
@@ -67,6 +69,15 @@ dumps_length n (l ∷ log) =
 -- OPERATIONS
 all_five : (a b c d e : Bool) → a ≡ true → b ≡ true → c ≡ true → d ≡ true → e ≡ true → (a && b && c && d && e) ≡ true
 all_five a b c d e p q r s t = rw (p, q, r, s, t) refl
+
+-- no call logs more than two entries
+waits_two : (b : Bool) → cond b 1 2 ≤ 2
+waits_two true = omega arith
+waits_two false = omega arith
+
+two_at_most : (k : Known) (w : Task) → most_logged k w ≤ 2
+two_at_most k (task.Wait o now) = waits_two (waits_on k.wait o)
+two_at_most k w = omega arith
 
 same_self : (o : Op) → same_op o o ≡ true
 same_self op.Enter = refl
@@ -139,8 +150,12 @@ module _ (h : HeapSeen) (p : ProgramText) (fuel : ℕ) (k : PassSeen) (f : _) (o
         let one = asks_work s s.mode a asks in
         omega (arith, work, one)
 
-    short : nat_le (length k.known.log + 2) log_limit ≡ true
-    short = le-leb (length k.known.log + 2) log_limit (omega (arith, one_more, may.on.few))
+    short : nat_lt (length k.known.log) log_limit ≡ true
+    short = lt-ltb (length k.known.log) log_limit (omega (arith, one_more, may.on.few))
+
+    -- in any heap for each call
+    short_for : (w : Task) → nat_le (length k.known.log + most_logged k.known w) log_limit ≡ true
+    short_for w = le-leb (length k.known.log + most_logged k.known w) log_limit (omega (arith, one_more, may.on.few, two_at_most k.known w))
 
     pub room : length k.known.log + 2 ≤ k.limit
     room = omega (arith, one_more, may.on.limit)
@@ -180,7 +195,7 @@ module _ (h : HeapSeen) (p : ProgramText) (fuel : ℕ) (k : PassSeen) (f : _) (o
         free = or_left (is_none k.known.unfinished) false (at_most_none k.known.unfinished (unfinished_of (ask s)) may.on.unfinished is)
 
     pub may_do : (w : Task) → may_begin h.heap.shape h.heap.biasing k.known w ≡ true → MayOperate h k w
-    may_do w begins = record { call = record { rests = may.on.rests; may = begins }; room = room }
+    may_do w begins = record { call = record { rests = may.on.rests; may = begins }; room = omega (arith, room, two_at_most k.known w) }
 
     -- an operation on an object of the program
     pub may_on : (o : ℕ) (w : Op) → o < objects_total p → unfinished_of (ask s) ≡ unfinished_on w o
@@ -231,7 +246,8 @@ module _ (h : HeapSeen) (p : ProgramText) (fuel : ℕ) (k : PassSeen) (f : _) (o
   -- a wait that it asks, or goes on with
   pub may_wait : (a : Asked) (o now : ℕ) → ask s ≡ Some a → unfinished_of (Some a) ≡ unfinished_on op.Wait o → o < objects_total p
       → MayOperate h k (task.Wait o now)
-  may_wait a o now asks is l = may_do a asks (task.Wait o now) (may_on a asks o op.Wait l (ap unfinished_of asks ∙ is))
+  may_wait a o now asks is l =
+      may_do a asks (task.Wait o now) (and_from _ _ (may_on a asks o op.Wait l (ap unfinished_of asks ∙ is)) (short_for a asks (task.Wait o now)))
 
   pub may_leave : (o : ℕ) → ask s ≡ Some (Leaves o) → o < objects_total p → MayOperate h k (task.Exit o)
   may_leave o asks l = may_do (Leaves o) asks (task.Exit o) (may_on (Leaves o) asks o op.Exit l (ap unfinished_of asks))

@@ -24,11 +24,11 @@ use Rattle.plain_machine.specs.declared.call.Mode.TheVariants.{Calling, Waiting}
 use Rattle.machine_laws.proofs.ReachedAsked.{asked_of}
 use Rattle.thread_frame.specs.Frames.{FrameSeen, frame_behind, is_in_wait, mode_rank}
 use Rattle.thread_frame.specs.Sights.{counts_from}
-use Rattle.thread_calls.specs.Advances.{HasAdvanced, MayAdvance, HasPended, RanFrom}
+use Rattle.thread_calls.specs.Advances.{HasAdvanced, MayAdvance, DoneIn, PendedIn, MadeCall, RanFrom}
 use Rattle.thread_calls.specs.Asked.{unfinished_of, unfinished_on}
 use Rattle.thread_calls.specs.Between.{IsHeapOf, state_by}
 use Rattle.thread_calls.proofs.Advanced.{asks_call, asks_resume, at_log, fuel_is, framed, still_waits, turn_over, turn_waits, waits_are}
-use Rattle.thread_calls.proofs.Behind.{Came, logged, left, behind_did, tells_so, stands_same}
+use Rattle.thread_calls.proofs.Behind.{Came, logged, left, behind_did, cause_some, entries_some, stepped_by, tells_so, stands_same}
 use Rattle.thread_calls.proofs.Counts.{sum_kept}
 use Rattle.thread_calls.proofs.Framed.{IsFramed, holds_with, framed_next, holds_behind_entry}
 use Rattle.thread_calls.proofs.May.{thread_is}
@@ -63,8 +63,17 @@ module _ (h : HeapSeen) (p : ProgramText) (fuel : ℕ) (k : PassSeen) (f : Frame
   told : (z : Turn (Unit {0})) → turn ≡ z → Tells k.known q.known (λ ms. WaitSays (start_now h k) o ms (Ok z))
   told z is = subst (λ (x : Turn (Unit {0})). Tells k.known q.known (λ ms. WaitSays (start_now h k) o ms (Ok x))) is tells
 
-  pended : (why : Why) → turn ≡ Pending why → HasPended h q why
-  pended why is = (k, task.Wait o now, subst (λ (x : Turn (Unit {0})). RanFrom h (wait_steps h.heap.shape (start_now h k) o now) k q (Ok x)) is ran)
+  came_by : (z : Turn (Unit {0})) → turn ≡ z → RanFrom h (wait_steps h.heap.shape (start_now h k) o now) k q (Ok z)
+  came_by z is = subst (λ (x : Turn (Unit {0})). RanFrom h (wait_steps h.heap.shape (start_now h k) o now) k q (Ok x)) is ran
+
+  pended : (why : Why) → turn ≡ Pending why → MadeCall (PendedIn h why) k q
+  pended why is =
+      let by = told (Pending why) is in
+      record {
+        task = task.Wait o now;
+        is = came_by (Pending why) is;
+        stepped = stepped_by k q by (cause_some t o why by.steps by.says.1.1.0.cause);
+      }
 
   -- FROM THE WAIT, which has let go: it logs the Resume, or nothing
   goes_on : f.mode ≡ Some (Waiting o) → lets_go (start_now h k) o ≡ false
@@ -74,7 +83,7 @@ module _ (h : HeapSeen) (p : ProgramText) (fuel : ℕ) (k : PassSeen) (f : Frame
       → HasAdvanced h p fuel k q f (frame_behind f (Resumes o) (entry.Resume o)) (Done true)
   resume_done x mode is =
       let one = tells_so (told (Done x) is) (λ ms z. subst (λ b. Leaves (begins_with b o (entry.Resume o ∷ [])) None false ms) (goes_on mode) z.1) in
-      let m = logged h k q c (entry.Resume o) one (subst (StandsBehind q.known) is stands) in
+      let m = logged h k q c (entry.Resume o) one (subst (StandsBehind q.known) is stands) (task.Wait o now) (came_by (Done x) is) in
       let l : Logged = record { stamp = m.stamp; entry = entry.Resume o } in
       let asks = asks_resume h p fuel k f of may o mode in
       let before = framed h p fuel k f of may in
@@ -86,7 +95,7 @@ module _ (h : HeapSeen) (p : ProgramText) (fuel : ℕ) (k : PassSeen) (f : Frame
       (holds_behind_entry p fuel t k.known.log counts f of.program before (Waiting o) (Resumes o) l mode asks (eq-eqb o o refl) tt) in
       let w = ap is_in_wait mode in
       let r = ap mode_rank mode in
-      turn_over h p fuel k f of may q g true holds is_now m.behind m.unfinished m.runs (omega arith) (omega (arith, w)) (omega (arith, r, stays))
+      turn_over h p fuel k f of may q g true holds is_now m.behind m.unfinished m.runs m.call (omega arith) (omega (arith, w)) (omega (arith, r, stays))
 
   pub resume_left : (why : Why) → f.mode ≡ Some (Waiting o) → turn ≡ Pending why → HasAdvanced h p fuel k q f f (Pending why)
   resume_left why mode is =
@@ -155,7 +164,7 @@ module _ (h : HeapSeen) (p : ProgramText) (fuel : ℕ) (k : PassSeen) (f : Frame
         behind = behind_did h k q c d;
         unfinished = d.unfinished;
         stands = stands_same (Unit {0}) q.known why (subst (StandsBehind q.known) is stands);
-        pended = pended why is;
+        call = pended why is;
       })
       refl refl refl refl (omega (arith, w, one_paid)) (omega arith)
 
@@ -183,5 +192,7 @@ module _ (h : HeapSeen) (p : ProgramText) (fuel : ℕ) (k : PassSeen) (f : Frame
       let one_paid = paid mode e.0 in
       let v = ap is_in_wait mode in
       let r = ap mode_rank mode in
-      turn_over h p fuel k f of may q g true holds is_now (behind_did h k q c d) d.unfinished (subst (StandsBehind q.known) is stands)
+      let call : MadeCall (DoneIn h) k q =
+      record { task = task.Wait o now; is = came_by (Done x) is; stepped = stepped_by k q both (entries_some both.steps _ _ both.says.entries) } in
+      turn_over h p fuel k f of may q g true holds is_now (behind_did h k q c d) d.unfinished (subst (StandsBehind q.known) is stands) call
       (omega arith) (omega (arith, v, one_paid)) (omega (arith, r, one_paid, stays, before))

@@ -14,7 +14,7 @@ use Rattle.thread_frame.specs.Frames.{FrameSeen, next_state, is_ended_mode, is_i
 use Rattle.thread_frame.specs.Sights.{counts_from, AreOf}
 use Rattle.thread_frame.specs.Walking.{HasWalked, IsBehindLocal}
 use Rattle.thread_logs.specs.Followed.{Follows}
-use Rattle.thread_calls.specs.Advances.{HasAdvanced, HasFallen, HasSpent, MayAdvance}
+use Rattle.thread_calls.specs.Advances.{HasAdvanced, HasFallen, HasSpent, MakesCall, MayAdvance}
 use Rattle.thread_calls.specs.Asked.{unfinished_of, IsAtMost}
 use Rattle.thread_calls.specs.Between.{IsHeapOf, IsOn}
 use Rattle.thread_calls.proofs.Framed.{counts_are, counts_count, sum_holds}
@@ -35,10 +35,15 @@ none_before : (m : Option Mode) → m ≡ None → is_some m ≡ true → ⊥
 none_before m e s = let z = ap is_some e in absurd (cc (z, s))
 
 -- from a frame that has as much left and to do
-same_spent : (h : HeapSeen) (q : PassSeen) (f g e : FrameSeen) (turn : Turn Bool) → unspent f ≡ unspent g → HasSpent h q g e turn → HasSpent h q f e turn
-same_spent h q f g e (Done true) s x = s ∙ x
-same_spent h q f g e (Done false) s x = s ∙ x
-same_spent h q f g e (Pending why) s x = (s ∙ x.0, x.1, x.2)
+same_spent : (f g e : FrameSeen) (turn : Turn Bool) → unspent f ≡ unspent g → HasSpent g e turn → HasSpent f e turn
+same_spent f g e (Done true) s x = s ∙ x
+same_spent f g e (Done false) s x = s ∙ x
+same_spent f g e (Pending why) s x = (s ∙ x.0, x.1)
+
+same_calls : (h : HeapSeen) (k q : PassSeen) (f g : FrameSeen) (turn : Turn Bool) → f.mode ≡ None → MakesCall h k q g turn → MakesCall h k q f turn
+same_calls h k q f g (Done b) local (inl none) = inl (local, none.1)
+same_calls h k q f g (Done b) local (inr one) = inr one
+same_calls h k q f g (Pending why) local one = one
 
 same_fallen : (k q : PassSeen) (f g e : FrameSeen) (turn : Turn Bool) → rank_of f ≡ rank_of g → HasFallen k q g e turn → HasFallen k q f e turn
 same_fallen k q f g e (Done b) s x = omega (arith, s, x)
@@ -96,6 +101,7 @@ module _ (h : HeapSeen) (p : ProgramText) (fuel : ℕ) (k : PassSeen) (f : Frame
           unchecked = may.unchecked;
           thread = refl;
           stands = is_running;
+          calls = inl (local, refl);
           spent = omega (arith, paid, v, low.wait);
           fallen = omega (arith, paid, r, low.rank);
         }
@@ -112,6 +118,7 @@ module _ (h : HeapSeen) (p : ProgramText) (fuel : ℕ) (k : PassSeen) (f : Frame
           unchecked = may.unchecked;
           thread = refl;
           stands = is_running;
+          calls = inl (local, refl);
           spent = omega (arith, same, v, x);
           fallen = omega (arith, same, r, y);
         }
@@ -134,6 +141,7 @@ module _ (h : HeapSeen) (p : ProgramText) (fuel : ℕ) (k : PassSeen) (f : Frame
           unchecked = a.unchecked;
           thread = a.thread;
           stands = a.stands;
-          spent = same_spent h q f g e turn (omega (arith, same, v, x)) a.spent;
+          calls = same_calls h k q f g turn local a.calls;
+          spent = same_spent f g e turn (omega (arith, same, v, x)) a.spent;
           fallen = same_fallen k q f g e turn (omega (arith, same, r, y)) a.fallen;
         }

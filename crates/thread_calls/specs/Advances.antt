@@ -1,13 +1,16 @@
 -- What one instruction or one entry does.
-use Rattle.std.specs.Prelude.{◌≡◌, ◌⊎◌, ℕ, ◌+◌, ◌<◌, Bool, true, false, Ok}
+use Rattle.std.specs.Prelude.{◌≡◌, ◌⊎◌, ℕ, ◌+◌, ◌<◌, ◌≤◌, Bool, true, false, List, ◌++◌, length, Option, None, Ok}
+use Rattle.plain_monitor.specs.declared.entry.Path.{Path}
+use Rattle.plain_monitor.specs.declared.entry.Value.{Value}
 use Rattle.core_world.specs.declared.answer.Turn.{Turn}
 use Rattle.core_world.specs.declared.answer.Turn.TheVariants.{Done, Pending}
 use Rattle.core_world.specs.declared.answer.Why.{Why}
 use Rattle.core_world.specs.declared.task.Task.{Task}
 use Rattle.core_world.specs.declared.task.Task.TheVariants as task
 use Rattle.core_world.specs.Trees.Calls.{side_purpose}
-use Rattle.core_world.specs.Trees.Operations.{enter_steps, exit_steps, wait_steps, notify_steps, notify_all_steps, hash_steps, dump_steps}
-use Rattle.core_world.specs.Trees.SafepointSteps.{poll_steps, resume_steps}
+use Rattle.core_world.specs.Trees.Operations.{enter_steps, exit_steps, wait_steps, notify_steps, notify_all_steps, hash_steps, get_steps, put_steps, print_steps, finish_steps, dump_steps}
+use Rattle.core_world.specs.Trees.SafepointSteps.{poll_steps, stop_steps, resume_steps}
+use Rattle.core_world.specs.Threads.Known.{StepMade}
 use Rattle.core_world.specs.Due.{Ran}
 use Rattle.core_world.specs.Trees.Todo.{Todo}
 use Rattle.heap_table.specs.Kept.{all_holds}
@@ -18,37 +21,74 @@ use Rattle.object_program.specs.Program.{ProgramText}
 use Rattle.thread_calls.specs.Between.{IsOn}
 use Rattle.thread_frame.specs.Frames.{FrameSeen, unspent, rank_of, has_ended}
 
--- WHICH CALL IS PENDING. The pass was p, and is q behind these steps, with this answer.
+-- WHICH CALL WAS MADE. The pass was p, and is q behind these steps, with this answer.
 abbrev pub RanFrom : {A : Type 0} → HeapSeen → Todo A → PassSeen → PassSeen → A → Type 0
 RanFrom h d p q a = Ran h.heap.shape h.heap.start d p.known q.known a
 
--- the call of this task, begun by the pass p, was pending for this, and left q
-abbrev pub PendedIn : HeapSeen → PassSeen → PassSeen → Why → Task → Type 0
-PendedIn h p q why (task.Enter o now) =
+-- the call of this task, begun by the pass p, was done, and left q
+abbrev pub DoneIn : HeapSeen → PassSeen → PassSeen → Task → Type 0
+DoneIn h p q (task.Enter o now) =
+    (path : Path) × RanFrom h (enter_steps h.heap.shape (start_now h p) o now) p q (Ok (Done path))
+DoneIn h p q (task.Exit o) = RanFrom h (exit_steps (start_now h p) o) p q (Ok (Done tt))
+DoneIn h p q (task.Wait o now) = RanFrom h (wait_steps h.heap.shape (start_now h p) o now) p q (Ok (Done tt))
+DoneIn h p q (task.Notify o now) =
+    (woken : Option ℕ) × RanFrom h (notify_steps h.heap.shape (start_now h p) o now) p q (Ok (Done woken))
+DoneIn h p q (task.NotifyAll o now) =
+    (woken : ℕ) × RanFrom h (notify_all_steps h.heap.shape (start_now h p) o now) p q (Ok (Done woken))
+DoneIn h p q (task.Hash o now) =
+    (value : ℕ) × RanFrom h (hash_steps h.heap.shape (start_now h p) o now) p q (Done value)
+DoneIn h p q (task.Get o slot) = (value : Value) × RanFrom h (get_steps (start_now h p) o slot) p q (Ok value)
+DoneIn h p q (task.Put o slot value) = RanFrom h (put_steps (start_now h p) o slot value) p q (Ok tt)
+DoneIn h p q (task.Print value) = RanFrom h (print_steps (start_now h p) value) p q tt
+DoneIn h p q task.Dump = (number : ℕ) × RanFrom h (dump_steps h.heap.shape (start_now h p)) p q (Ok (Done number))
+DoneIn h p q (task.Finish ending) = RanFrom h (finish_steps (start_now h p) ending) p q tt
+DoneIn h p q task.Poll = RanFrom h (poll_steps (side_purpose task.Poll (start_now h p))) p q (Done tt)
+DoneIn h p q task.Stop =
+    RanFrom h (stop_steps (side_purpose task.Stop (start_now h p)) (start_now h p).local) p q tt
+DoneIn h p q task.Resume =
+    RanFrom h (resume_steps (side_purpose task.Resume (start_now h p)) (start_now h p).local) p q (Done tt)
+DoneIn h p q t = ⊥
+
+-- or it was pending for this
+abbrev pub PendedIn : HeapSeen → Why → PassSeen → PassSeen → Task → Type 0
+PendedIn h why p q (task.Enter o now) =
     RanFrom h (enter_steps h.heap.shape (start_now h p) o now) p q (Ok (Pending why))
-PendedIn h p q why (task.Exit o) = RanFrom h (exit_steps (start_now h p) o) p q (Ok (Pending why))
-PendedIn h p q why (task.Wait o now) = RanFrom h (wait_steps h.heap.shape (start_now h p) o now) p q (Ok (Pending why))
-PendedIn h p q why (task.Notify o now) =
+PendedIn h why p q (task.Exit o) = RanFrom h (exit_steps (start_now h p) o) p q (Ok (Pending why))
+PendedIn h why p q (task.Wait o now) = RanFrom h (wait_steps h.heap.shape (start_now h p) o now) p q (Ok (Pending why))
+PendedIn h why p q (task.Notify o now) =
     RanFrom h (notify_steps h.heap.shape (start_now h p) o now) p q (Ok (Pending why))
-PendedIn h p q why (task.NotifyAll o now) =
+PendedIn h why p q (task.NotifyAll o now) =
     RanFrom h (notify_all_steps h.heap.shape (start_now h p) o now) p q (Ok (Pending why))
-PendedIn h p q why (task.Hash o now) = RanFrom h (hash_steps h.heap.shape (start_now h p) o now) p q (Pending why)
-PendedIn h p q why task.Dump = RanFrom h (dump_steps h.heap.shape (start_now h p)) p q (Ok (Pending why))
-PendedIn h p q why task.Poll = RanFrom h (poll_steps (side_purpose task.Poll (start_now h p))) p q (Pending why)
-PendedIn h p q why task.Resume =
+PendedIn h why p q (task.Hash o now) = RanFrom h (hash_steps h.heap.shape (start_now h p) o now) p q (Pending why)
+PendedIn h why p q task.Dump = RanFrom h (dump_steps h.heap.shape (start_now h p)) p q (Ok (Pending why))
+PendedIn h why p q task.Poll = RanFrom h (poll_steps (side_purpose task.Poll (start_now h p))) p q (Pending why)
+PendedIn h why p q task.Resume =
     RanFrom h (resume_steps (side_purpose task.Resume (start_now h p)) (start_now h p).local) p q
     (Pending why)
-PendedIn h p q why t = ⊥
+PendedIn h why p q t = ⊥
 
--- the thread's last call was pending for this
-abbrev pub HasPended : HeapSeen → PassSeen → Why → Type 0
-HasPended h q why = (p : PassSeen) × (t : Task) × PendedIn h p q why t
+-- the thread made steps, one at least, which are now the first of its list
+pub record HasStepped (p q : PassSeen) : Type 0 where
+  pub steps : List StepMade
+  pub added : q.known.steps ≡ steps ++ p.known.steps
+  pub some : 1 ≤ length steps
+
+-- one call was made, of which this holds
+pub record MadeCall (Is : PassSeen → PassSeen → Task → Type 0) (p q : PassSeen) : Type 0 where
+  pub task : Task
+  pub is : Is p q task
+  pub stepped : HasStepped p q
+
+-- Done: a call that was done, or none for a local instruction. Pending: a call that was pending for just that.
+abbrev pub MakesCall : HeapSeen → PassSeen → PassSeen → FrameSeen → Turn Bool → Type 0
+MakesCall h p q f (Done b) = ((f.mode ≡ None) × (q ≡ p)) ⊎ MadeCall (DoneIn h) p q
+MakesCall h p q f (Pending why) = MadeCall (PendedIn h why) p q
 
 -- HOW FAR IT CAME. Done, it says whether an instruction was done, for which fuel was spent. Pending, the thread hasn't ended.
-abbrev pub HasSpent : HeapSeen → PassSeen → FrameSeen → FrameSeen → Turn Bool → Type 0
-HasSpent h q f g (Done true) = unspent f ≡ unspent g + 1
-HasSpent h q f g (Done false) = unspent f ≡ unspent g
-HasSpent h q f g (Pending why) = (unspent f ≡ unspent g) × (has_ended g ≡ false) × HasPended h q why
+abbrev pub HasSpent : FrameSeen → FrameSeen → Turn Bool → Type 0
+HasSpent f g (Done true) = unspent f ≡ unspent g + 1
+HasSpent f g (Done false) = unspent f ≡ unspent g
+HasSpent f g (Pending why) = (unspent f ≡ unspent g) × (has_ended g ≡ false)
 
 -- what falls with each instruction and each entry
 abbrev pub rank_with : PassSeen → FrameSeen → ℕ
@@ -65,7 +105,8 @@ pub record HasAdvanced (h : HeapSeen) (text : ProgramText) (fuel : ℕ) (p q : P
   pub unchecked : q.known.checking ≡ false
   pub thread : q.known.thread ≡ p.known.thread
   pub stands : StandsBehind q.known turn
-  pub spent : HasSpent h q f g turn
+  pub calls : MakesCall h p q f turn
+  pub spent : HasSpent f g turn
   pub fallen : HasFallen p q f g turn
 
 -- the thread may make its next call: it runs, or its request stands for just that

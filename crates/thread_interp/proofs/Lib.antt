@@ -1,3 +1,4 @@
+pub mod Added
 pub mod Alive
 pub mod Asides
 pub mod CallsTimed

@@ -1,11 +1,13 @@
 -- The parts of a turn, and of a check, one behind the other.
-use Rattle.std.proofs.Common.{◌≡◌, ◌≢◌, ◌⊎◌, ℕ, ◌+◌, ◌<◌, ◌≤◌, not, ◌&&◌, if◌then◌else◌, Bool, true, false, refl, sym, ap, ◌∙◌, subst, arith, inl, inr, true≢false}
+use Rattle.std.proofs.Common.{◌≡◌, ◌≢◌, ◌⊎◌, ℕ, ◌+◌, ◌<◌, ◌≤◌, not, ◌&&◌, if◌then◌else◌, Bool, true, false, ◌++◌, None, is_some, refl, sym, ap, ◌∙◌, subst, arith, inl, inr, true≢false}
 use Rattle.core_world.specs.declared.answer.Turn.{Turn}
 use Rattle.core_world.specs.declared.answer.Turn.TheVariants.{Done, Pending}
 use Rattle.core_world.specs.declared.answer.Why.{Why}
 use Rattle.core_world.specs.declared.answer.Why.TheVariants.{Stopping}
+use Rattle.core_world.specs.declared.task.Task.{Task}
 use Rattle.core_world.specs.declared.task.Task.TheVariants as task
 use Rattle.core_world.specs.Threads.Known.{Known, Start}
+use Rattle.core_world.specs.Threads.Stages.{one_if}
 use Rattle.core_world.specs.Trees.Calls.{side_purpose}
 use Rattle.core_world.specs.Trees.Operations.{check_steps}
 use Rattle.core_world.specs.Trees.SafepointSteps.{poll_steps, stop_steps, resume_steps}
@@ -18,23 +20,28 @@ use Rattle.heap_table.specs.Resting.{Rests, MayCall, start_now}
 use Rattle.heap_table.specs.Seen.{HeapSeen, PassSeen}
 use Rattle.lock_runtime.specs.Standing.{IsRunning, IsStopped, IsAsking, HasStopped, StandsBehind, StandsBehindResume, StandsBehindCheck}
 use Rattle.object_program.specs.Program.{ProgramText}
-use Rattle.thread_calls.specs.Advances.{HasPended, HasSpent, HasFallen, HasAdvanced, MayAdvance}
+use Rattle.thread_calls.specs.Advances.{DoneIn, PendedIn, HasStepped, MadeCall, MakesCall, HasSpent, HasFallen, HasAdvanced, MayAdvance}
 use Rattle.thread_calls.specs.Between.{IsOn}
 use Rattle.thread_frame.specs.Frames.{FrameSeen, unspent, has_ended}
 use Rattle.thread_interp.specs.declared.moved.Moved.{Moved}
 use Rattle.thread_interp.specs.declared.moved.RunState.{RunState}
 use Rattle.thread_interp.specs.declared.moved.RunState.TheVariants.{Live, Blocked, Ended}
-use Rattle.thread_interp.specs.Checks.{HasChecked, StandsAfterCheck}
-use Rattle.thread_interp.specs.Moves.{HasMoved, IsState, PendedBeforeStop, StandsAfter}
-use Rattle.thread_interp.specs.inner.Running.{StandsReady, IsReady, IsGoing, IsGoneTo, StandsGone, HasGone, IsStill}
+use Rattle.thread_interp.specs.Checks.{IsSetRunning, HasChecked, StandsAfterCheck}
+use Rattle.thread_interp.specs.Moves.{HasMoved, IsState, CalledLast, LastCall, IsSetStill, StandsAfter, polls_in}
+use Rattle.thread_interp.specs.inner.Running.{HasAdded, IsSet, StandsReady, IsReady, CalledBy, HasPolled, IsGoing, IsGoneTo, StandsGone, HasGone, IsStill}
 use Rattle.thread_interp.specs.Runners.{IsRunner}
 use Rattle.thread_interp.specs.inner.Runners.{runner_of}
+use Rattle.thread_interp.proofs.Added.{polls_both, none_added, some_added, stepped_then, then_stepped, called_then, called_once, call_added, ran_added, ran_stepped, poll_stepped, poll_counts}
 use Rattle.thread_interp.proofs.Alive.{log_goes_on}
 use Rattle.thread_interp.proofs.Asides.{IsBeside, still_on}
 use Rattle.thread_interp.proofs.Sides.{is_unfinished, poll_beside, poll_other, poll_holds, resume_beside, resume_other, stop_beside, check_beside}
 
 both : {b : Bool} {A : Type 0} → b ≡ true → b ≡ false → A
 both is not_so = absurd (true≢false (sym is ∙ not_so))
+
+pub turn_done : (turn : Turn (Unit {0})) → ((why : Why) → turn ≡ Pending why → ⊥) → turn ≡ Done tt
+turn_done (Done x) other = refl
+turn_done (Pending why) other = absurd (other why refl)
 
 -- SET RUNNING
 module _ (h : HeapSeen) (text : ProgramText) (fuel : ℕ) (p : PassSeen) (f : FrameSeen) (on : IsOn h text fuel p f) (still : p.known.running ≡ false) where
@@ -44,7 +51,18 @@ module _ (h : HeapSeen) (text : ProgramText) (fuel : ℕ) (p : PassSeen) (f : Fr
   -- its request stands already
   pub ready_asking : p.known.requesting ≡ true → IsReady h text fuel p p f (Done tt)
   ready_asking asks =
-      record { on = on; checking = refl; asking = refl; thread = refl; stands = inr (record { runs = still; asks = asks }) }
+      record {
+        on = on;
+        checking = refl;
+        asking = refl;
+        thread = refl;
+        log = refl;
+        stands = record {
+          goes = inr (record { runs = still; asks = asks });
+          set = subst (λ b. IsSetRunning b h p p) (sym asks) refl;
+          added = none_added p;
+        };
+      }
 
   module _ (q : PassSeen) (asks : p.known.requesting ≡ false) (rests : Rests h q) where
     abbrev start : Start
@@ -55,10 +73,21 @@ module _ (h : HeapSeen) (text : ProgramText) (fuel : ℕ) (p : PassSeen) (f : Fr
     resumed_free (Pending why) stands = stands.asks
 
     resumed_stands : (turn : Turn (Unit {0})) → HasRun h (resume_steps (side_purpose task.Resume start) start.local) p q turn
-        → Tells p.known q.known (λ ms. ResumeSays start ms turn) → StandsBehindResume q.known turn → StandsReady h q turn
-    resumed_stands (Done x) run says stands = inl stands
+        → Tells p.known q.known (λ ms. ResumeSays start ms turn) → StandsBehindResume q.known turn → StandsReady h p q turn
+    resumed_stands (Done x) run says stands =
+        record {
+          goes = inl stands;
+          set = subst (λ b. IsSetRunning b h p q) (sym asks) run.ran;
+          added = ran_added h p q (resume_steps (side_purpose task.Resume start) start.local) (Done x) run.ran;
+        }
     resumed_stands (Pending why) run says stands =
-        record { stopped = stands; other = resume_other h p q on.rests rests why says; pended = (p, task.Resume, run.ran) }
+        record {
+          stopped = stands;
+          other = resume_other h p q on.rests rests why says;
+          free = asks;
+          pended = run.ran;
+          stepped = ran_stepped h p q (resume_steps (side_purpose task.Resume start) start.local) (Pending why) refl run.ran;
+        }
 
     pub ready_resumed : (turn : Turn (Unit {0})) → HasRun h (resume_steps (side_purpose task.Resume start) start.local) p q turn
         → Tells p.known q.known (λ ms. ResumeSays start ms turn) → StandsBehindResume q.known turn → IsReady h text fuel p q f turn
@@ -70,6 +99,7 @@ module _ (h : HeapSeen) (text : ProgramText) (fuel : ℕ) (p : PassSeen) (f : Fr
           checking = is.checking;
           asking = free ∙ sym asks;
           thread = is.thread;
+          log = is.log;
           stands = resumed_stands turn run says stands;
         }
 
@@ -93,7 +123,13 @@ module _ (h : HeapSeen) (text : ProgramText) (fuel : ℕ) (p q : PassSeen) (f : 
   pub may_advance : MayAdvance h text fuel q f
   may_advance = record { on = polled_on; unchecked = polled_unchecked; goes = inl stands.runs; live = may.live }
 
-  pub poll_pended : (why : Why) → turn ≡ Pending why → HasAdvanced h text fuel p q f f (Pending why)
+  abbrev poll : HasStepped p q
+  poll = poll_stepped h p q turn run.ran
+
+  one_poll : polls_in poll.steps ≡ 1
+  one_poll = poll_counts h p q turn run.ran
+
+  pub poll_pended : (why : Why) → turn ≡ Pending why → HasPolled h text fuel p q f f (Pending why)
   poll_pended why is =
       let says_why = subst (λ (x : Turn (Unit {0})). Tells p.known q.known (λ ms. PollSays (start_now h p) ms x)) is says in
       let run_why = subst (λ (x : Turn (Unit {0})). HasRun h (poll_steps (side_purpose task.Poll (start_now h p))) p q x) is run in
@@ -102,27 +138,83 @@ module _ (h : HeapSeen) (text : ProgramText) (fuel : ℕ) (p q : PassSeen) (f : 
         unchecked = polled_unchecked;
         thread = polled.thread;
         stands = runs_behind q.known why (poll_other h p q may.on.rests rests why says_why) stands;
-        spent = (refl, may.live, (p, task.Poll, run_why.ran));
+        spent = (refl, may.live);
         fallen = tt;
+        stepped = poll;
+        polls = omega (arith, one_poll);
+        called = called_once (PendedIn h why) p q (record { task = task.Poll; is = run_why.ran; stepped = poll });
       }
 
   -- what is done behind the poll is done
-  pub advanced : (r : PassSeen) (g : FrameSeen) (next : Turn Bool) → HasAdvanced h text fuel q r f g next → HasAdvanced h text fuel p r f g next
-  advanced r g next did =
+  module _ (done : turn ≡ Done tt) (r : PassSeen) (g : FrameSeen) where
+    -- the poll was the last call, where a local instruction was done behind it
+    poll_last : r ≡ q → CalledLast (DoneIn h) p r
+    poll_last same =
+        let run_done = subst (λ (x : Turn (Unit {0})). HasRun h (poll_steps (side_purpose task.Poll (start_now h p))) p q x) done run in
+        subst (CalledLast (DoneIn h) p) (sym same)
+        (called_once (DoneIn h) p q (record { task = task.Poll; is = run_done.ran; stepped = poll }))
+
+    called_behind : (next : Turn Bool) → MakesCall h q r f next → CalledBy h p r next
+    called_behind (Done b) (inl none) = poll_last none.1
+    called_behind (Done b) (inr one) = called_then p q r (DoneIn h) (some_added p q poll) (called_once (DoneIn h) q r one)
+    called_behind (Pending why) one = called_then p q r (PendedIn h why) (some_added p q poll) (called_once (PendedIn h why) q r one)
+
+    falls : (next : Turn Bool) → HasFallen q r f g next → HasFallen p r f g next
+    falls (Done b) fell =
+        let same = ap all_holds (poll_holds h.heap.shape h.heap.start (side_purpose task.Poll (start_now h p)) p.known q.known turn run.ran) in
+        omega (arith, fell, same)
+    falls (Pending why) fell = tt
+
+    pub advanced : (next : Turn Bool) → HasAdvanced h text fuel q r f g next → HasPolled h text fuel p r f g next
+    advanced next did =
+        let more = call_added h q r f next did.calls in
+        let both = polls_both more.steps poll.steps in
+        record {
+          on = did.on;
+          unchecked = did.unchecked;
+          thread = did.thread ∙ polled.thread;
+          stands = did.stands;
+          spent = did.spent;
+          fallen = falls next did.fallen;
+          stepped = stepped_then p q r poll more;
+          polls = omega (arith, both, one_poll);
+          called = called_behind next did.calls;
+        }
+
+-- A STEP without a poll, of a thread whose request stands
+module _ (h : HeapSeen) (text : ProgramText) (fuel : ℕ) (p q : PassSeen) (f g : FrameSeen) (may : MayAdvance h text fuel p f)
+    (still : p.known.running ≡ false) where
+  asks : p.known.requesting ≡ true
+  asks = elim may.goes [ inl runs ↦ both runs still | inr asked ↦ asked ]
+
+  -- its frame stands before a call
+  not_local : f.mode ≡ None → ⊥
+  not_local local = let some = ap is_some local in absurd (cc (some, (may.on.asks asks may.unchecked).before))
+
+  called_at_once : (next : Turn Bool) → MakesCall h p q f next → CalledBy h p q next
+  called_at_once (Done b) (inl none) = absurd (not_local none.0)
+  called_at_once (Done b) (inr one) = called_once (DoneIn h) p q one
+  called_at_once (Pending why) one = called_once (PendedIn h why) p q one
+
+  stepped_at_once : (next : Turn Bool) → MakesCall h p q f next → HasStepped p q
+  stepped_at_once (Done b) (inl none) = absurd (not_local none.0)
+  stepped_at_once (Done b) (inr one) = one.stepped
+  stepped_at_once (Pending why) one = one.stepped
+
+  pub went_on : (next : Turn Bool) → HasAdvanced h text fuel p q f g next → HasPolled h text fuel p q f g next
+  went_on next did =
+      let asked : one_if p.known.requesting ≡ 1 = ap one_if asks in
       record {
         on = did.on;
         unchecked = did.unchecked;
-        thread = did.thread ∙ polled.thread;
+        thread = did.thread;
         stands = did.stands;
         spent = did.spent;
-        fallen = falls next did.fallen;
+        fallen = did.fallen;
+        stepped = stepped_at_once next did.calls;
+        polls = omega (arith, asked);
+        called = called_at_once next did.calls;
       }
-    where
-      falls : (next : Turn Bool) → HasFallen q r f g next → HasFallen p r f g next
-      falls (Done b) fell =
-          let same = ap all_holds (poll_holds h.heap.shape h.heap.start (side_purpose task.Poll (start_now h p)) p.known q.known turn run.ran) in
-          omega (arith, fell, same)
-      falls (Pending why) fell = tt
 
 below : (m n : ℕ) → m ≤ n → m ≢ n → m < n
 below m n most less = omega (arith, most, less)
@@ -133,18 +225,25 @@ Counts b count now = ((b ≡ true) × (now ≡ count + 1)) ⊎ ((b ≡ false) ×
 
 module _ (h : HeapSeen) (text : ProgramText) (fuel quantum : ℕ) (p q r : PassSeen) (f g g2 : FrameSeen) (count : ℕ)
     (going : IsGoing h text fuel quantum p q f g count) where
+  -- the polls, of which the step has one unless the request stands
+  polls_now : (step : HasStepped q r) → polls_in (step.steps ++ going.added.steps) ≡ polls_in step.steps + polls_in going.added.steps
+  polls_now step = polls_both step.steps going.added.steps
+
   -- the last call was pending
-  pub gone_blocked : (why : Why) → HasAdvanced h text fuel q r g g2 (Pending why)
+  pub gone_blocked : (why : Why) → HasPolled h text fuel q r g g2 (Pending why)
       → HasGone h text fuel quantum p r f g2 (record { instructions = count; state = Blocked why })
   gone_blocked why did =
       let e = did.spent.0 in
+      let polls = polls_now did.stepped in
       record {
         on = did.on;
         unchecked = did.unchecked;
         thread = did.thread ∙ going.thread;
         most = omega (arith, going.few);
         spent = omega (arith, going.spent, e);
-        state = (did.spent.1, did.spent.2);
+        stepped = then_stepped p q r going.added did.stepped;
+        polls = omega (arith, polls, going.polls);
+        state = (did.spent.1, called_then p q r (PendedIn h why) going.added did.called);
         stands = standing why did.stands;
       }
     where
@@ -153,19 +252,31 @@ module _ (h : HeapSeen) (text : ProgramText) (fuel quantum : ℕ) (p q r : PassS
       standing why stands = stands
 
   -- or it was done, and the thread has done so many instructions now
-  module _ (b : Bool) (did : HasAdvanced h text fuel q r g g2 (Done b)) (now : ℕ) (counts : Counts b count now) where
+  module _ (b : Bool) (did : HasPolled h text fuel q r g g2 (Done b)) (now : ℕ) (counts : Counts b count now) where
     spent_now : unspent f ≡ unspent g2 + now
     spent_now = elim counts [
       | inl one ↦
-          let spent : unspent g ≡ unspent g2 + 1 = subst (λ (x : Bool). HasSpent h r g g2 (Done x)) one.0 did.spent in
+          let spent : unspent g ≡ unspent g2 + 1 = subst (λ (x : Bool). HasSpent g g2 (Done x)) one.0 did.spent in
           omega (arith, going.spent, spent, one.1)
       | inr none ↦
-          let spent : unspent g ≡ unspent g2 = subst (λ (x : Bool). HasSpent h r g g2 (Done x)) none.0 did.spent in
+          let spent : unspent g ≡ unspent g2 = subst (λ (x : Bool). HasSpent g g2 (Done x)) none.0 did.spent in
           omega (arith, going.spent, spent, none.1)
     ]
 
     most : now ≤ quantum
     most = elim counts [ inl one ↦ omega (arith, going.few, one.1) | inr none ↦ omega (arith, going.few, none.1) ]
+
+    one_more : now ≤ count + 1
+    one_more = elim counts [ inl one ↦ omega (arith, one.1) | inr none ↦ omega (arith, none.1) ]
+
+    abbrev stepped : HasStepped p r
+    stepped = then_stepped p q r going.added did.stepped
+
+    polled_enough : now ≤ polls_in stepped.steps + one_if p.known.requesting
+    polled_enough = let polls = polls_now did.stepped in omega (arith, polls, going.polls, did.polls, one_more)
+
+    last : CalledLast (DoneIn h) p r
+    last = called_then p q r (DoneIn h) going.added did.called
 
     pub gone_ended : has_ended g2 ≡ true → HasGone h text fuel quantum p r f g2 (record { instructions = now; state = Ended })
     gone_ended over =
@@ -175,7 +286,9 @@ module _ (h : HeapSeen) (text : ProgramText) (fuel quantum : ℕ) (p q r : PassS
           thread = did.thread ∙ going.thread;
           most = most;
           spent = spent_now;
-          state = over;
+          stepped = stepped;
+          polls = polled_enough;
+          state = (over, last);
           stands = did.stands;
         }
 
@@ -187,17 +300,22 @@ module _ (h : HeapSeen) (text : ProgramText) (fuel quantum : ℕ) (p q r : PassS
           thread = did.thread ∙ going.thread;
           most = most;
           spent = spent_now;
-          state = (all, live);
+          stepped = stepped;
+          polls = polled_enough;
+          state = (all, live, last);
           stands = did.stands;
         }
 
     pub goes_on : has_ended g2 ≡ false → now ≢ quantum → IsGoing h text fuel quantum p r f g2 now
     goes_on live less =
+        let asks : one_if r.known.requesting ≡ 0 = ap one_if did.stands.asks in
         record {
           may = record { on = did.on; unchecked = did.unchecked; goes = inl did.stands.runs; live = live };
           thread = did.thread ∙ going.thread;
           spent = spent_now;
           few = below now quantum most less;
+          added = some_added p r stepped;
+          polls = omega (arith, polled_enough, asks);
         }
 
 -- STOPPED
@@ -206,7 +324,15 @@ module _ (h : HeapSeen) (text : ProgramText) (fuel : ℕ) (p : PassSeen) (f : Fr
   may_stop runs = record { rests = on.rests; may = runs }
 
   pub still_kept : p.known.running ≡ false → IsStill h text fuel p p f
-  still_kept still = record { on = on; checking = refl; thread = refl; stands = inl (record { still = still; same = refl }) }
+  still_kept still =
+      record {
+        on = on;
+        checking = refl;
+        thread = refl;
+        log = refl;
+        added = none_added p;
+        stands = inl (record { still = still; same = refl });
+      }
 
   pub still_stopped : (q : PassSeen) → p.known.running ≡ true → Rests h q
       → HasRun h (stop_steps (side_purpose task.Stop (start_now h p)) (start_now h p).local) p q tt
@@ -218,6 +344,8 @@ module _ (h : HeapSeen) (text : ProgramText) (fuel : ℕ) (p : PassSeen) (f : Fr
             (λ asked unchecked. both asked stands.stopped.asks) (λ checks. on.checks (sym is.checking ∙ checks));
         checking = is.checking;
         thread = is.thread;
+        log = is.log;
+        added = ran_added h p q (stop_steps (side_purpose task.Stop (start_now h p)) (start_now h p).local) tt run.ran;
         stands = inr (record { ran_before = runs; stopped = stands.stopped; ran = run.ran });
       }
 
@@ -235,17 +363,22 @@ module _ (h : HeapSeen) (text : ProgramText) (fuel : ℕ) (p q : PassSeen) (f : 
   stood : p.known.running ≡ false → q ≡ p
   stood still = elim is.stands [ inl kept ↦ kept.same | inr been ↦ both been.ran_before still ]
 
-  -- A TURN that was blocked, behind its stop
-  pended_before : (why : Why) → HasPended h p why → PendedBeforeStop h q why
-  pended_before why pended = elim is.stands [
-    | inl kept ↦ inl (subst (λ (x : PassSeen). HasPended h x why) (sym kept.same) pended)
-    | inr been ↦ inr (p, pended, been.ran)
+  pub set_still : IsSetStill p.known.running h p q
+  set_still = elim is.stands [
+    | inl kept ↦ subst (λ b. IsSetStill b h p q) (sym kept.still) kept.same
+    | inr been ↦ subst (λ b. IsSetStill b h p q) (sym been.ran_before) been.ran
   ]
 
-  stopped_state : (quantum count : ℕ) (state : RunState) → IsGoneTo h quantum count p f state → IsState h quantum count (runner_of q f fuel) state
-  stopped_state quantum count Live so = so
-  stopped_state quantum count (Blocked why) so = (so.0, pended_before why so.1)
-  stopped_state quantum count Ended so = so
+  -- A TURN behind its stop, from the pass before it
+  module _ (before ready : PassSeen) (first : HasAdded before ready) where
+    last_call : (Is : PassSeen → PassSeen → Task → Type 0) → CalledLast Is ready p → LastCall Is h before q
+    last_call Is called = record { behind = p; called = called_then before ready p Is first called; still = set_still }
+
+    stopped_state : (quantum count : ℕ) (state : RunState) → IsGoneTo h quantum count ready p f state
+        → IsState h quantum count before (runner_of q f fuel) state
+    stopped_state quantum count Live so = (so.0, so.1, last_call (DoneIn h) so.2)
+    stopped_state quantum count (Blocked why) so = (so.0, last_call (PendedIn h why) so.1)
+    stopped_state quantum count Ended so = (so.0, last_call (DoneIn h) so.1)
 
   asked_still : IsAsking p.known → IsAsking q.known
   asked_still asks = subst (λ (x : PassSeen). IsAsking x.known) (sym (stood asks.runs)) asks
@@ -256,13 +389,19 @@ module _ (h : HeapSeen) (text : ProgramText) (fuel : ℕ) (p q : PassSeen) (f : 
   stopped_stands (Blocked why) so = was_stopped so
   stopped_stands Ended so = was_stopped so
 
-  pub has_moved : (quantum : ℕ) (before ready : PassSeen) (first : FrameSeen) (m : Moved) → HasGone h text fuel quantum ready p first f m
+  pub has_moved : (quantum : ℕ) (before ready : PassSeen) (first : FrameSeen) (set : IsSet h before ready)
+      → ready.known.requesting ≡ before.known.requesting → (m : Moved) → HasGone h text fuel quantum ready p first f m
       → HasMoved h quantum (runner_of before first fuel) (runner_of q f fuel) m
-  has_moved quantum before ready first m gone =
+  has_moved quantum before ready first set asking m gone =
+      let one = polls_both gone.stepped.steps set.added.steps in
+      let two = polls_both is.added.steps (gone.stepped.steps ++ set.added.steps) in
+      let same = ap one_if asking in
       record {
         most = gone.most;
         spent = gone.spent;
-        state = stopped_state quantum m.instructions m.state gone.state;
+        stepped = stepped_then before p q (then_stepped before ready p set.added gone.stepped) is.added;
+        polls = omega (arith, gone.polls, one, two, same);
+        state = stopped_state before ready set.added quantum m.instructions m.state gone.state;
         stands = stopped_stands m.state gone.stands;
       }
 
@@ -295,10 +434,21 @@ module _ (h : HeapSeen) (text : ProgramText) (fuel quantum : ℕ) (p q : PassSee
       record {
         most = omega arith;
         spent = omega arith;
-        state = (live, inl ready.stands.pended);
+        stepped = ready.stands.stepped;
+        polls = omega arith;
+        state = (live, last);
         stands = standing why ready.stands.other ready.stands.stopped;
       }
     where
+      last : LastCall (PendedIn h why) h p q
+      last =
+          let call : MadeCall (PendedIn h why) p q = record { task = task.Resume; is = ready.stands.pended; stepped = ready.stands.stepped } in
+          record {
+            behind = q;
+            called = called_once (PendedIn h why) p q call;
+            still = subst (λ b. IsSetStill b h q q) (sym ready.stands.stopped.runs) refl;
+          }
+
       standing : (why : Why) → is_stopping why ≡ false → IsStopped q.known → StandsAfter q.known (Blocked why)
       standing (Stopping word) other stopped = absurd (cc other)
       standing why other stopped = stopped
@@ -360,6 +510,9 @@ module _ (h : HeapSeen) (text : ProgramText) (fuel : ℕ) (p q : PassSeen) (f : 
 
   pub check_thread : q.known.thread ≡ p.known.thread
   check_thread = is_checked.thread
+
+  pub check_log : q.known.log ≡ p.known.log
+  check_log = is_checked.log
 
   -- a request that stands behind it is the check's
   asks_as_check : (turn : Turn Bool) → StandsBehindCheck q.known turn → q.known.checking ≡ is_unfinished turn

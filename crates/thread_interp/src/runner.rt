@@ -1,7 +1,7 @@
 //! A pass and the state of its thread.
 ghost use Rattle.std.specs.Prelude.{◌≡◌, ◌≤◌, ℕ, false};
 ghost use Rattle.thread_frame.specs.Frames.{first_frame, has_ended};
-ghost use Rattle.thread_interp.specs.Checks.{StandsAfterCheck};
+ghost use Rattle.thread_interp.specs.Checks.{LooksOrBarred, StandsAfterCheck};
 ghost use Rattle.thread_interp.specs.Moves.{HasMoved};
 ghost use Rattle.thread_calls.specs.Between.{IsHeapOf};
 ghost use Rattle.thread_calls.specs.Timed.{StaysTimed};
@@ -43,10 +43,11 @@ impl Runner {
 
     /// A turn of the thread: it goes on by at most `quantum` instructions.
     ///
-    /// The gate is visited first, and the thread set running where it is stopped. Before each instruction, and each exit of a thread that
-    /// unwinds, it polls where it runs. The turn ends behind so many instructions, at the thread's end, or where a call is pending; behind
-    /// it the thread is stopped, or its request for a safepoint stands. Each call that takes a moment gets the clock's time then, by `tick`:
-    /// the time after some count of ticks, from 1 on.
+    /// The gate is visited first, and the thread set running, unless its request for a safepoint stands. Before each instruction, and each
+    /// exit of a thread that unwinds, it polls where it runs: as often as it does instructions at least, or once less where its request
+    /// stood. The turn ends behind so many instructions, at the thread's end, or where a call that it began is pending, be that a poll or
+    /// the resume; behind it the thread is stopped, or its request stands. It makes one step of the heap at least. Each call that takes a
+    /// moment gets the clock's time then, by `tick`: the time after some count of ticks, from 1 on.
     pub fn turn<C: Clock, G: Gate>(
         &mut self,
         program: &Program,
@@ -80,8 +81,9 @@ impl Runner {
         )
     }
 
-    /// Looks at a safepoint whether the run is stuck, as `check_stuck`: the thread is set running before it where it is stopped, and
-    /// stopped after it where it runs. What the thread stands before stays as it is.
+    /// Looks at a safepoint whether the run is stuck, as `check_stuck`: the thread is set running before it, unless its request stands, and
+    /// stopped after it where it runs. The answer is that of `check_stuck`; where the resume was pending before it, for `Raced`,
+    /// `Requested` or `Halted`, it is the resume's. Nothing is logged, and what the thread stands before stays as it is.
     pub fn check(&mut self, program: &Program, heap: &Heap) -> Turn<bool>
         requires heap { IsHeapOf heap.now program.now }
         requires runner { IsRunner heap.now program.now self.old }
@@ -90,6 +92,8 @@ impl Runner {
         ensures runner { IsRunner heap.now program.now self.new }
         ensures same { IsSame self.old self.new }
         ensures frame { self.new.frame ≡ self.old.frame }
+        ensures log { self.new.pass.known.log ≡ self.old.pass.known.log }
+        ensures looked { LooksOrBarred heap.now self.old.pass self.new.pass result }
         ensures stands { StandsAfterCheck self.new.pass.known result }
         ensures timed { (tick : ℕ) → StaysTimed tick self.old.pass self.new.pass }
     {

@@ -1,13 +1,13 @@
 //! Turns of a thread, and its checks.
 
 ghost use Rattle.std.specs.Prelude.{◌≡◌, ◌≤◌, ℕ, false};
-ghost use Rattle.thread_calls.specs.Advances.{HasAdvanced, MayAdvance};
+ghost use Rattle.thread_calls.specs.Advances.{MayAdvance};
 ghost use Rattle.thread_calls.specs.Between.{IsHeapOf, IsOn};
 ghost use Rattle.thread_calls.specs.Timed.{StaysTimed};
 ghost use Rattle.thread_frame.specs.Frames.{has_ended};
-ghost use Rattle.thread_interp.specs.Checks.{StandsAfterCheck};
+ghost use Rattle.thread_interp.specs.Checks.{LooksOrBarred, StandsAfterCheck};
 ghost use Rattle.thread_interp.specs.Moves.{HasMoved};
-ghost use Rattle.thread_interp.specs.inner.Running.{IsReady, HasGone, IsStill};
+ghost use Rattle.thread_interp.specs.inner.Running.{IsReady, HasPolled, HasGone, IsStill};
 ghost use Rattle.thread_interp.specs.Runners.{IsRunner};
 ghost use Rattle.thread_interp.specs.inner.Runners.{runner_of};
 
@@ -51,7 +51,7 @@ fn step<C: Clock>(
 ) -> Turn<bool>
     requires heap { IsHeapOf heap.now program.now }
     requires may { MayAdvance heap.now program.now fuel pass.old frame.old }
-    ensures advanced { HasAdvanced heap.now program.now fuel pass.old pass.new frame.old frame.new result }
+    ensures polled { HasPolled heap.now program.now fuel pass.old pass.new frame.old frame.new result }
     ensures timed { StaysTimed tick pass.old pass.new }
 {
     if pass.running() {
@@ -114,9 +114,10 @@ fn set_still(program: &Program, heap: &Heap, fuel: u32, pass: &mut Pass, frame: 
     ensures still { IsStill heap.now program.now fuel pass.old pass.new frame.now }
     ensures timed { (tick : ℕ) → StaysTimed tick pass.old pass.new }
 {
-    if pass.running() {
-        stop(heap, pass);
+    if !pass.running() {
+        return;
     }
+    stop(heap, pass);
 }
 
 /// A turn of the thread.
@@ -167,6 +168,8 @@ pub fn check(
     requires live { has_ended frame.now ≡ false }
     ensures runner { IsRunner heap.now program.now (runner_of pass.new frame.now fuel) }
     ensures thread { pass.new.known.thread ≡ pass.old.known.thread }
+    ensures log { pass.new.known.log ≡ pass.old.known.log }
+    ensures looked { LooksOrBarred heap.now pass.old pass.new result }
     ensures stands { StandsAfterCheck pass.new.known result }
     ensures timed { (tick : ℕ) → StaysTimed tick pass.old pass.new }
 {

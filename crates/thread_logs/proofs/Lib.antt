@@ -5,3 +5,4 @@ pub mod Logs
 pub mod Told
 pub mod Standing
 pub mod Joining
+pub mod MachineSwaps

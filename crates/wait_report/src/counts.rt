@@ -3,11 +3,12 @@
 ghost use Rattle.std.specs.Prelude.{◌≡◌, ◌≤◌, ◌<◌, ◌^◌, ◌++◌, [], ◌∷◌, IfOk, OnOk, length};
 ghost use Rattle.plain_monitor.specs.Order.{order};
 ghost use Rattle.plain_machine.specs.Legal.{IsLegal};
+ghost use Rattle.lock_journal.specs.Merging.{AreOfSixteen};
 ghost use Rattle.wait_report.specs.Counts.{counts_of};
 ghost use Rattle.wait_report.specs.inner.Tallies.{count_in, counts_from};
 
 use crate::tallies::{Tally, count_entry, is_counted, new_tallies};
-use lock_journal::{Merge, RunRecord};
+use lock_journal::{Merge, RunRecord, legal_logs_can_be_merged};
 use plain_monitor::{List, NoMemory};
 use std::alloc::Global;
 
@@ -21,11 +22,10 @@ pub struct ObjectCount {
     pub handovers: u64,
 }
 
-/// The counts of each object that a thread entered, by rising number. The logs are legal for the record's program and fuel, and
-/// are at most 16. It goes through the entries once.
+/// The counts of each object that a thread entered, by rising number. The logs are legal for the record's program and fuel. It goes through
+/// the entries once.
 pub fn count_objects(alloc: Global, run: &RunRecord) -> Result<List<ObjectCount>, NoMemory>
     requires legal { IsLegal run.now.program run.now.fuel run.now.logs }
-    requires few { length run.now.logs ≤ 16 }
     ensures { IfOk result (λ counts. counts ≡ counts_of run.now.program (order run.now.logs)) }
 {
     entries_are_few(run, run.fuel);
@@ -37,12 +37,14 @@ pub fn count_objects(alloc: Global, run: &RunRecord) -> Result<List<ObjectCount>
     list_counts(alloc, &tallies)
 }
 
-/// A machine takes fewer entries than a number of 64 bits counts, since each costs fuel or ends a hold or a wait.
+/// A machine takes fewer entries than a number of 64 bits counts, since each costs fuel or ends a hold or a wait. And legal logs can be merged.
 fn entries_are_few(run: &RunRecord, fuel: u32)
     requires legal { IsLegal run.now.program run.now.fuel run.now.logs }
     requires fuel { fuel ≡ run.now.fuel }
-    ensures { length (order run.now.logs) < 2 ^ 64 }
+    ensures few { length (order run.now.logs) < 2 ^ 64 }
+    ensures merged { AreOfSixteen run.now.logs }
 {
+    legal_logs_can_be_merged();
     machine_laws::machines_stay_reached();
     machine_laws::each_entry_uses_up_work();
     let _threads = run.program.threads.items();

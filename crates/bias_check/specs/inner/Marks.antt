@@ -8,7 +8,7 @@ use Rattle.bias_check.specs.declared.hashes.Mark.{Mark}
 use Rattle.bias_check.specs.declared.hashes.Mark.TheVariants.{Unseen, Undrawn, Drawn, Bad}
 use Rattle.bias_check.specs.declared.hashes.Drawer.{Drawer}
 use Rattle.bias_check.specs.inner.HashState.{HashState}
-use Rattle.bias_check.specs.Hashes.{first_word}
+use Rattle.lock_journal.specs.Hashes.{first_word}
 
 -- thread t's generator before its first draw
 abbrev pub new_drawer : ℕ → ℕ → Drawer

@@ -26,7 +26,7 @@ abbrev pub SawNoOther : Shape → Known → ℕ → Type 0
 SawNoOther s k o = (n : Name) (v : ℕ) → last_seen n k.seen ≡ Some v
     → (n ≡ Safepoint) ⊎ (n ≡ Mark o) ⊎ (n ≡ Prototype (class_of s o))
 
--- that, and it has not reached its safepoint: in the call in which it does, it goes on up to the release
+-- It saw a valid bias of o and nothing else, and has not reached its safepoint: in the call in which it reaches that, it goes on up to the release.
 abbrev pub MayRevoke : Shape → Known → ℕ → Type 0
 MayRevoke s k o = SawValidBias s k o × (k.reached ≡ false) × SawNoOther s k o
 

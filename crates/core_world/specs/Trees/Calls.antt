@@ -10,7 +10,7 @@ use Rattle.core_world.specs.declared.task.Task.TheVariants.{Enter, Exit, Wait, N
 use Rattle.core_world.specs.Words.Shape.{Shape, slots_of}
 use Rattle.mark_word.specs.Mark.{mark_of}
 use Rattle.mark_word.specs.declared.mark.MarkForm.TheVariants.{Locked}
-use Rattle.core_world.specs.Words.Forms.{is_neutral}
+use Rattle.core_world.specs.Words.Forms.{is_neutral, waits_on}
 use Rattle.core_world.specs.Locks.{hold_count}
 use Rattle.core_world.specs.RevocationRules.{first_place}
 use Rattle.core_world.specs.Clauses.Safepoints.{ends}
@@ -68,11 +68,17 @@ abbrev pub is_free_for : Known → Bool → Bool
 is_free_for k going_on = is_none k.unfinished || going_on
 
 -- an operation may begin: its thread runs, or has a standing request that this same operation made; no check is unfinished; the log has
--- no ending entry, and room for two entries
+-- no ending entry, and room for one entry
 abbrev pub may_operate : Known → Bool → Bool
 may_operate k going_on =
     not k.checking && (k.running || (k.requesting && going_on)) && is_free_for k going_on && not (ends k.log)
-    && nat_le (length k.log + 2) log_limit
+    && nat_lt (length k.log) log_limit
+
+-- How many entries an operation logs at most. A wait that begins may log that its thread waits, and that it has the object again; one that
+-- has let go logs the latter alone. So a wait that begins with room for what it logs can end.
+abbrev pub most_logged : Known → Task → ℕ
+most_logged k (Wait o now) = if waits_on k.wait o then 1 else 2
+most_logged k t = 1
 
 -- a call that makes one entry at once may begin: nothing is unfinished
 abbrev pub may_act : Known → Bool
@@ -93,7 +99,9 @@ is_own_first k o mark = nat_lt 0 (hold_count o k.holds) && (mark == mark_of (Loc
 abbrev pub may_begin : Shape → Bool → Known → Task → Bool
 may_begin s biasing k (Enter o now) = is_object s o && may_operate k (goes_on_with op.Enter o k.unfinished)
 may_begin s biasing k (Exit o) = is_object s o && may_operate k (goes_on_with op.Exit o k.unfinished)
-may_begin s biasing k (Wait o now) = is_object s o && may_operate k (goes_on_with op.Wait o k.unfinished)
+may_begin s biasing k (Wait o now) =
+    is_object s o && may_operate k (goes_on_with op.Wait o k.unfinished)
+    && nat_le (length k.log + most_logged k (Wait o now)) log_limit
 may_begin s biasing k (Notify o now) = is_object s o && may_operate k (goes_on_with op.Notify o k.unfinished)
 may_begin s biasing k (NotifyAll o now) = is_object s o && may_operate k (goes_on_with op.NotifyAll o k.unfinished)
 may_begin s biasing k (Hash o now) = is_object s o && may_operate k (goes_on_with op.Hash o k.unfinished)

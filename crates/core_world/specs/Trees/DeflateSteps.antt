@@ -14,19 +14,19 @@ use Rattle.core_world.specs.Trees.Todo.{Todo, done, ◌>>=◌, ask, each_from, a
 use Rattle.core_world.specs.Trees.Plans.{Purpose, with_stage, with_own, load_plan, store}
 
 -- THE PLANS, of a thread at its reached safepoint that stands at this stage. The mark of o becomes the header of its monitor m.
-abbrev pub unname_plan : Purpose → Stage → ℕ → ℕ → ℕ → StepPlan
-unname_plan e stage o m header = with_own (own.Unname m) (with_stage stage (store e (Mark o) header))
+abbrev pub detach_plan : Purpose → Stage → ℕ → ℕ → ℕ → StepPlan
+detach_plan e stage o m header = with_own (own.Detach m) (with_stage stage (store e (Mark o) header))
 
 -- A word of the monitor that it gives back is cleared.
 abbrev pub clean_plan : Purpose → Stage → Name → StepPlan
 clean_plan e stage at = with_stage stage (store e at 0)
 
 -- The monitor is stored at the ring's place of the end position, and then the end goes on by one: the monitor stands there.
-abbrev pub enring_plan : Purpose → Stage → Shape → ℕ → ℕ → StepPlan
-enring_plan e stage s end m = with_stage stage (store e (Ring (end % ring_places s)) m)
+abbrev pub enqueue_plan : Purpose → Stage → Shape → ℕ → ℕ → StepPlan
+enqueue_plan e stage s end m = with_stage stage (store e (Ring (end % ring_places s)) m)
 
 abbrev pub advance_plan : Purpose → Stage → ℕ → StepPlan
-advance_plan e stage end = with_own own.Enring (with_stage stage (store e End ((end + 1) % 2 ^ 64)))
+advance_plan e stage end = with_own own.Enqueue (with_stage stage (store e End ((end + 1) % 2 ^ 64)))
 
 -- THE STEPS. The thread looks at a word.
 abbrev pub look_at : Purpose → Stage → Name → Todo ℕ
@@ -37,12 +37,12 @@ abbrev pub give_back_steps : Shape → Purpose → Stage → ℕ → ℕ → Tod
 give_back_steps s e stage o m = do
   header ← look_at e stage (Header m)
   end ← look_at e stage End
-  _ ← ask (unname_plan e stage o m header)
+  _ ← ask (detach_plan e stage o m header)
   _ ← ask (clean_plan e stage (Owner m))
   _ ← ask (clean_plan e stage (Recursions m))
   _ ← ask (clean_plan e stage (Header m))
   _ ← ask (clean_plan e stage (Object m))
-  _ ← ask (enring_plan e stage s end m)
+  _ ← ask (enqueue_plan e stage s end m)
   _ ← ask (advance_plan e stage end)
   done tt
 

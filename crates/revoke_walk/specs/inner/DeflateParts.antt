@@ -3,7 +3,7 @@ use Rattle.std.specs.Prelude.{ℕ, ◌&&◌, Bool, List}
 use Rattle.std.specs.List.{list_all}
 use Rattle.core_world.specs.declared.name.Name.TheVariants.{Waiting, Owner, Recursions, Header, Object}
 use Rattle.core_world.specs.declared.stage.Stage.{Stage}
-use Rattle.core_world.specs.Trees.DeflateSteps.{clean_plan, enring_plan, advance_plan, look_at, is_untouched}
+use Rattle.core_world.specs.Trees.DeflateSteps.{clean_plan, enqueue_plan, advance_plan, look_at, is_untouched}
 use Rattle.core_world.specs.Trees.Plans.{Purpose}
 use Rattle.core_world.specs.Trees.Todo.{Todo, done, ◌>>=◌, ask, each_from}
 use Rattle.core_world.specs.Words.Shape.{Shape}
@@ -18,9 +18,9 @@ clean_steps e stage m = do
   done tt
 
 -- it comes to stand in the ring, whose end this position is
-abbrev pub enring_steps : Shape → Purpose → Stage → ℕ → ℕ → Todo (Unit {0})
-enring_steps s e stage end m = do
-  _ ← ask (enring_plan e stage s end m)
+abbrev pub enqueue_steps : Shape → Purpose → Stage → ℕ → ℕ → Todo (Unit {0})
+enqueue_steps s e stage end m = do
+  _ ← ask (enqueue_plan e stage s end m)
   _ ← ask (advance_plan e stage end)
   done tt
 

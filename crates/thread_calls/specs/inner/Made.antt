@@ -14,7 +14,7 @@ use Rattle.plain_machine.specs.Asking.{is_call}
 use Rattle.plain_machine.specs.declared.call.Call.{Call}
 use Rattle.plain_machine.specs.declared.call.Call.TheVariants as call
 use Rattle.plain_monitor.specs.declared.entry.Entry.{Entry}
-use Rattle.thread_calls.specs.Advances.{HasPended}
+use Rattle.thread_calls.specs.Advances.{DoneIn, PendedIn, MadeCall}
 use Rattle.thread_calls.specs.Asked.{unfinished_of_call}
 use Rattle.thread_frame.specs.Frames.{FrameSeen, frame_behind_call}
 use Rattle.thread_logs.specs.Followed.{HasValue}
@@ -43,13 +43,14 @@ pub record IsBehind (h : HeapSeen) (p q : PassSeen) : Type 0 where
   pub thread : q.known.thread ≡ p.known.thread
   pub unchecked : q.known.checking ≡ false
 
--- it logged this entry, nothing is unfinished, and the thread runs
+-- it was done and logged this entry, nothing is unfinished, and the thread runs
 pub record HasLogged (h : HeapSeen) (p q : PassSeen) (e : Entry) : Type 0 where
   pub behind : IsBehind h p q
   pub stamp : ℕ
   pub log : q.known.log ≡ p.known.log ++ record { stamp = stamp; entry = e } ∷ []
   pub unfinished : q.known.unfinished ≡ None
   pub runs : IsRunning q.known
+  pub call : MadeCall (DoneIn h) p q
 
 -- it was pending for this, logged nothing, and left this unfinished
 pub record HasLeft (h : HeapSeen) (p q : PassSeen) (u : Option Unfinished) (why : Why) : Type 0 where
@@ -57,7 +58,7 @@ pub record HasLeft (h : HeapSeen) (p q : PassSeen) (u : Option Unfinished) (why 
   pub log : q.known.log ≡ p.known.log
   pub unfinished : q.known.unfinished ≡ u
   pub stands : StandsBehind {A = Bool} q.known (Pending why)
-  pub pended : HasPended h q why
+  pub call : MadeCall (PendedIn h why) p q
 
 -- an entry that is the call, with a value that may stand beside so many objects
 pub record IsEntryOf (objects : ℕ) (c : Call) (e : Entry) : Type 0 where

@@ -1,32 +1,47 @@
 -- What the parts of a turn do.
-use Rattle.std.specs.Prelude.{◌≡◌, ◌⊎◌, ℕ, ◌+◌, ◌<◌, ◌≤◌, true, false}
+use Rattle.std.specs.Prelude.{◌≡◌, ◌⊎◌, ℕ, ◌+◌, ◌<◌, ◌≤◌, Bool, true, false, List, ◌++◌}
 use Rattle.core_calls.specs.Causes.{is_stopping}
 use Rattle.core_world.specs.declared.answer.Turn.{Turn}
 use Rattle.core_world.specs.declared.answer.Turn.TheVariants.{Done, Pending}
 use Rattle.core_world.specs.declared.answer.Why.{Why}
 use Rattle.core_world.specs.declared.answer.Why.TheVariants.{Stopping}
-use Rattle.core_world.specs.Threads.Known.{Known}
+use Rattle.core_world.specs.declared.task.Task.TheVariants as task
+use Rattle.core_world.specs.Threads.Known.{Known, StepMade}
+use Rattle.core_world.specs.Threads.Stages.{one_if}
 use Rattle.heap_table.specs.Seen.{HeapSeen, PassSeen}
-use Rattle.lock_runtime.specs.Standing.{IsRunning, IsAsking, IsStopped}
+use Rattle.lock_runtime.specs.Standing.{IsRunning, IsAsking, IsStopped, StandsBehind}
 use Rattle.object_program.specs.Program.{ProgramText}
-use Rattle.thread_calls.specs.Advances.{HasPended, MayAdvance}
+use Rattle.thread_calls.specs.Advances.{DoneIn, PendedIn, HasStepped, HasSpent, HasFallen, MayAdvance}
 use Rattle.thread_calls.specs.Between.{IsOn}
 use Rattle.thread_frame.specs.Frames.{FrameSeen, unspent, has_ended}
 use Rattle.thread_interp.specs.declared.moved.Moved.{Moved}
 use Rattle.thread_interp.specs.declared.moved.RunState.{RunState}
 use Rattle.thread_interp.specs.declared.moved.RunState.TheVariants.{Live, Blocked, Ended}
-use Rattle.thread_interp.specs.Moves.{IsStopRun}
+use Rattle.thread_interp.specs.Checks.{IsSetRunning}
+use Rattle.thread_interp.specs.Moves.{CalledLast, polls_in}
 
--- SET RUNNING. A resume was pending for this, and left the thread stopped.
-pub record IsBarred (h : HeapSeen) (q : PassSeen) (why : Why) : Type 0 where
+-- the thread made steps, or none, which are now the first of its list
+pub record HasAdded (p q : PassSeen) : Type 0 where
+  pub steps : List StepMade
+  pub added : q.known.steps ≡ steps ++ p.known.steps
+
+-- SET RUNNING. It runs, or its request stands;
+pub record IsSet (h : HeapSeen) (p q : PassSeen) : Type 0 where
+  pub goes : IsRunning q.known ⊎ IsAsking q.known
+  pub set : IsSetRunning p.known.requesting h p q
+  pub added : HasAdded p q
+
+-- or its resume was pending for this, and left the thread stopped
+pub record StaysStopped (h : HeapSeen) (p q : PassSeen) (why : Why) : Type 0 where
   pub stopped : IsStopped q.known
   pub other : is_stopping why ≡ false
-  pub pended : HasPended h q why
+  pub free : p.known.requesting ≡ false
+  pub pended : PendedIn h why p q task.Resume
+  pub stepped : HasStepped p q
 
--- it runs, or its request stands; or its resume was pending
-abbrev pub StandsReady : HeapSeen → PassSeen → Turn (Unit {0}) → Type 0
-StandsReady h q (Done x) = IsRunning q.known ⊎ IsAsking q.known
-StandsReady h q (Pending why) = IsBarred h q why
+abbrev pub StandsReady : HeapSeen → PassSeen → PassSeen → Turn (Unit {0}) → Type 0
+StandsReady h p q (Done x) = IsSet h p q
+StandsReady h p q (Pending why) = StaysStopped h p q why
 
 -- the pass was p, and is q
 pub record IsReady (h : HeapSeen) (text : ProgramText) (fuel : ℕ) (p q : PassSeen) (f : FrameSeen)
@@ -35,7 +50,25 @@ pub record IsReady (h : HeapSeen) (text : ProgramText) (fuel : ℕ) (p q : PassS
   pub checking : q.known.checking ≡ p.known.checking
   pub asking : q.known.requesting ≡ p.known.requesting
   pub thread : q.known.thread ≡ p.known.thread
-  pub stands : StandsReady h q turn
+  pub log : q.known.log ≡ p.known.log
+  pub stands : StandsReady h p q turn
+
+-- A STEP OF A TURN: a poll where the thread runs, and then one instruction or entry. The pass and the frame were p and f, and are q and g.
+abbrev pub CalledBy : HeapSeen → PassSeen → PassSeen → Turn Bool → Type 0
+CalledBy h p q (Done b) = CalledLast (DoneIn h) p q
+CalledBy h p q (Pending why) = CalledLast (PendedIn h why) p q
+
+pub record HasPolled (h : HeapSeen) (text : ProgramText) (fuel : ℕ) (p q : PassSeen) (f g : FrameSeen)
+    (turn : Turn Bool) : Type 0 where
+  pub on : IsOn h text fuel q g
+  pub unchecked : q.known.checking ≡ false
+  pub thread : q.known.thread ≡ p.known.thread
+  pub stands : StandsBehind q.known turn
+  pub spent : HasSpent f g turn
+  pub fallen : HasFallen p q f g turn
+  pub stepped : HasStepped p q
+  pub polls : 1 ≤ polls_in stepped.steps + one_if p.known.requesting
+  pub called : CalledBy h p q turn
 
 -- GOING ON. The pass and the frame were p and f; so many instructions were done, and more may be.
 pub record IsGoing (h : HeapSeen) (text : ProgramText) (fuel quantum : ℕ) (p q : PassSeen) (f g : FrameSeen)
@@ -44,12 +77,14 @@ pub record IsGoing (h : HeapSeen) (text : ProgramText) (fuel quantum : ℕ) (p q
   pub thread : q.known.thread ≡ p.known.thread
   pub spent : unspent f ≡ unspent g + count
   pub few : count < quantum
+  pub added : HasAdded p q
+  pub polls : count + one_if q.known.requesting ≤ polls_in added.steps + one_if p.known.requesting
 
 -- GONE ON. As `IsState`, and the thread wasn't stopped yet.
-abbrev pub IsGoneTo : HeapSeen → ℕ → ℕ → PassSeen → FrameSeen → RunState → Type 0
-IsGoneTo h quantum count q g Live = (count ≡ quantum) × (has_ended g ≡ false)
-IsGoneTo h quantum count q g (Blocked why) = (has_ended g ≡ false) × HasPended h q why
-IsGoneTo h quantum count q g Ended = has_ended g ≡ true
+abbrev pub IsGoneTo : HeapSeen → ℕ → ℕ → PassSeen → PassSeen → FrameSeen → RunState → Type 0
+IsGoneTo h quantum count p q g Live = (count ≡ quantum) × (has_ended g ≡ false) × CalledLast (DoneIn h) p q
+IsGoneTo h quantum count p q g (Blocked why) = (has_ended g ≡ false) × CalledLast (PendedIn h why) p q
+IsGoneTo h quantum count p q g Ended = (has_ended g ≡ true) × CalledLast (DoneIn h) p q
 
 -- it runs, unless it is blocked for running threads: then its request stands
 abbrev pub StandsGone : Known → RunState → Type 0
@@ -64,7 +99,9 @@ pub record HasGone (h : HeapSeen) (text : ProgramText) (fuel quantum : ℕ) (p q
   pub thread : q.known.thread ≡ p.known.thread
   pub most : m.instructions ≤ quantum
   pub spent : unspent f ≡ unspent g + m.instructions
-  pub state : IsGoneTo h quantum m.instructions q g m.state
+  pub stepped : HasStepped p q
+  pub polls : m.instructions ≤ polls_in stepped.steps + one_if p.known.requesting
+  pub state : IsGoneTo h quantum m.instructions p q g m.state
   pub stands : StandsGone q.known m.state
 
 -- STOPPED. It didn't run, and nothing was done; or a stop was made, and it is stopped.
@@ -75,10 +112,12 @@ pub record HasKept (p q : PassSeen) : Type 0 where
 pub record HasBeenStopped (h : HeapSeen) (p q : PassSeen) : Type 0 where
   pub ran_before : p.known.running ≡ true
   pub stopped : IsStopped q.known
-  pub ran : IsStopRun h p q
+  pub ran : DoneIn h p q task.Stop
 
 pub record IsStill (h : HeapSeen) (text : ProgramText) (fuel : ℕ) (p q : PassSeen) (f : FrameSeen) : Type 0 where
   pub on : IsOn h text fuel q f
   pub checking : q.known.checking ≡ p.known.checking
   pub thread : q.known.thread ≡ p.known.thread
+  pub log : q.known.log ≡ p.known.log
+  pub added : HasAdded p q
   pub stands : HasKept p q ⊎ HasBeenStopped h p q

@@ -1,5 +1,6 @@
 use Rattle.std.proofs.Common.{◌≡◌, ◌≤◌, length, ap, subst, arith}
 use Rattle.plain_machine.specs.Machine.{PlainMachine}
+use Rattle.lock_journal.proofs.Sixteen.{few_of_sixteen}
 use Rattle.bias_cli.proofs.Under.{under_logs}
 use Rattle.bias_cli.proofs.run.run_of.Goals as goal
 
@@ -18,7 +19,7 @@ returns-clause-shown g c =
     let of_program : length run.program.threads ≡ length c.args.program.threads = ap (λ p. length p.threads) ran.of.program in
     record {
       rising = ran.legal.rises;
-      few = omega (arith, few, like.threads, of_program, ran.all.logs);
+      few = few_of_sixteen run.logs (omega (arith, few, like.threads, of_program, ran.all.logs));
       program = like.program;
       threads = like.threads;
     }

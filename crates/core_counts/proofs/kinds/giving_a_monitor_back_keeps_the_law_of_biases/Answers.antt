@@ -1,8 +1,8 @@
-use Rattle.core_counts.proofs.QuietKinds.{unnames, cleans_owner, cleans_recursions, cleans_header, cleans_object, enrings, advances, releases_taking}
+use Rattle.core_counts.proofs.QuietKinds.{detaches, cleans_owner, cleans_recursions, cleans_header, cleans_object, enqueues, advances, releases_taking}
 use Rattle.core_counts.proofs.kinds.giving_a_monitor_back_keeps_the_law_of_biases.Goals as goal
 
-pub returns-clause-unnamed : goal.returns-clause-unnamed
-returns-clause-unnamed c = unnames
+pub returns-clause-detached : goal.returns-clause-detached
+returns-clause-detached c = detaches
 
 pub returns-clause-owner : goal.returns-clause-owner
 returns-clause-owner c = cleans_owner
@@ -16,8 +16,8 @@ returns-clause-header c = cleans_header
 pub returns-clause-object : goal.returns-clause-object
 returns-clause-object c = cleans_object
 
-pub returns-clause-enringed : goal.returns-clause-enringed
-returns-clause-enringed c = enrings
+pub returns-clause-enqueued : goal.returns-clause-enqueued
+returns-clause-enqueued c = enqueues
 
 pub returns-clause-advanced : goal.returns-clause-advanced
 returns-clause-advanced c = advances

@@ -1,5 +1,5 @@
-use Rattle.core_locks.proofs.Unnames.{unnames}
+use Rattle.core_locks.proofs.Detaches.{detaches}
 use Rattle.core_locks.proofs.deflating.giving_an_object_its_header_keeps_the_world_valid.Goals as goal
 
 pub returns : goal.returns
-returns c = unnames
+returns c = detaches

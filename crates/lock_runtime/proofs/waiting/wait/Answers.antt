@@ -10,6 +10,7 @@ use Rattle.core_calls.proofs.WaitCallsSay.{wait_says}
 use Rattle.heap_table.specs.Parts.{IsDueOn, HasRun}
 use Rattle.heap_table.specs.Resting.{start_now}
 use Rattle.heap_table.proofs.Resting.{whole_due, behind}
+use Rattle.lock_runtime.proofs.Begins.{first_of}
 use Rattle.lock_runtime.proofs.Behind.{going_due, going_run, going_first}
 use Rattle.lock_runtime.proofs.Waits.{first_to_wait}
 use Rattle.lock_runtime.proofs.StandsCalls.{wait_leaves}
@@ -69,13 +70,13 @@ pub returns-clause-stands : goal.returns-clause-stands
 returns-clause-stands c =
     let a = c.args in
     let run = returns-clause-run c in
-    (wait_leaves a.heap.now a.pass.now c.wait_held.new.pass run.heap c.requires.call.rests a.object a.now (Ok c.wait_held.result) c.requires.call.may run.ran).0
+    (wait_leaves a.heap.now a.pass.now c.wait_held.new.pass run.heap c.requires.call.rests a.object a.now (Ok c.wait_held.result) (first_of _ _ c.requires.call.may) run.ran).0
 
 pub returns-clause-others : goal.returns-clause-others
 returns-clause-others c =
     let a = c.args in
     let run = returns-clause-run c in
-    (wait_leaves a.heap.now a.pass.now c.wait_held.new.pass run.heap c.requires.call.rests a.object a.now (Ok c.wait_held.result) c.requires.call.may run.ran).1
+    (wait_leaves a.heap.now a.pass.now c.wait_held.new.pass run.heap c.requires.call.rests a.object a.now (Ok c.wait_held.result) (first_of _ _ c.requires.call.may) run.ran).1
 
 pub returns-then-held-eq0-clause-owner : goal.returns-then-held-eq0-clause-owner
 returns-then-held-eq0-clause-owner c =

@@ -31,7 +31,7 @@ taken = refl
 legal : IsLegal two_threads 100 two_logs
 legal = record { rises = grind arith; taken = taken }
 
-pub returns-clause-legal : goal.returns-clause-legal
-returns-clause-legal c =
+pub returns : goal.returns
+returns c =
     let logs : c.of-3.result ≡ two_logs = grind (arith, common_steps) in
     subst (λ (p : ProgramText). IsLegal p 100 c.of-3.result) (sym c.in_ok-program.ensures) (subst (IsLegal two_threads 100) (sym logs) legal)

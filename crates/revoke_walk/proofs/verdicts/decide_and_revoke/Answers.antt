@@ -23,11 +23,11 @@ store_and_keep-requires c =
     let e = a.why.now in
     let b = a.revocation.now in
     let moment : c.revocation.inside.moment ≡ b.now = ap (λ (r : Revocation). r.now) c.revocation.view_is in
-    let its : c.verdict_on-verdict.result ≡ decided a.count a.last b.now = c.verdict_on-verdict.ensures ∙ ap (λ (m : ℕ). decided a.count a.last m) moment in
-    let reset : c.was_reset-reset.result ≡ is_reset a.count a.last b.now = c.was_reset-reset.ensures ∙ ap (λ (m : ℕ). is_reset a.count a.last m) moment in
+    let its : c.decide-verdict.result ≡ decided a.count a.last b.now = c.decide-verdict.ensures ∙ ap (λ (m : ℕ). decided a.count a.last m) moment in
+    let reset : c.has_decayed-reset.result ≡ is_reset a.count a.last b.now = c.has_decayed-reset.ensures ∙ ap (λ (m : ℕ). is_reset a.count a.last m) moment in
     let d = decided a.count a.last b.now in
     let plan = revoke_plan e b (CountVerdict a.class d.0 (is_reset a.count a.last b.now)) (Revocations a.class) d.1 in
-    let same : with_own (CountVerdict a.class c.verdict_on-verdict.result.0 c.was_reset-reset.result) (store_plan e c.stage.result (Revocations a.class) c.verdict_on-verdict.result.1) ≡ plan =
+    let same : with_own (CountVerdict a.class c.decide-verdict.result.0 c.has_decayed-reset.result) (store_plan e c.stage.result (Revocations a.class) c.decide-verdict.result.1) ≡ plan =
     λ i. with_own (CountVerdict a.class (its i).0 (reset i)) (store_plan e (c.stage.ensures i) (Revocations a.class) (its i).1) in
     subst (CanStep h p) (sym same) (can h p e.task plan _ c.requires.due refl c.requires.heap tt refl)
 
@@ -40,11 +40,11 @@ carry_out-took-requires-clause-due c =
     let b = a.revocation.now in
     let s = h.heap.shape in
     let moment : c.revocation.inside.moment ≡ b.now = ap (λ (r : Revocation). r.now) c.revocation.view_is in
-    let its : c.verdict_on-verdict.result ≡ decided a.count a.last b.now = c.verdict_on-verdict.ensures ∙ ap (λ (m : ℕ). decided a.count a.last m) moment in
-    let reset : c.was_reset-reset.result ≡ is_reset a.count a.last b.now = c.was_reset-reset.ensures ∙ ap (λ (m : ℕ). is_reset a.count a.last m) moment in
+    let its : c.decide-verdict.result ≡ decided a.count a.last b.now = c.decide-verdict.ensures ∙ ap (λ (m : ℕ). decided a.count a.last m) moment in
+    let reset : c.has_decayed-reset.result ≡ is_reset a.count a.last b.now = c.has_decayed-reset.ensures ∙ ap (λ (m : ℕ). is_reset a.count a.last m) moment in
     let d = decided a.count a.last b.now in
     let plan = revoke_plan e b (CountVerdict a.class d.0 (is_reset a.count a.last b.now)) (Revocations a.class) d.1 in
-    let same : with_own (CountVerdict a.class c.verdict_on-verdict.result.0 c.was_reset-reset.result) (store_plan e c.stage.result (Revocations a.class) c.verdict_on-verdict.result.1) ≡ plan =
+    let same : with_own (CountVerdict a.class c.decide-verdict.result.0 c.has_decayed-reset.result) (store_plan e c.stage.result (Revocations a.class) c.decide-verdict.result.1) ≡ plan =
     λ i. with_own (CountVerdict a.class (its i).0 (reset i)) (store_plan e (c.stage.ensures i) (Revocations a.class) (its i).1) in
     let q = c.store_and_keep.new.pass in
     let n = c.store_and_keep.result in
@@ -64,11 +64,11 @@ returns c =
     let b = a.revocation.now in
     let s = h.heap.shape in
     let moment : c.revocation.inside.moment ≡ b.now = ap (λ (r : Revocation). r.now) c.revocation.view_is in
-    let its : c.verdict_on-verdict.result ≡ decided a.count a.last b.now = c.verdict_on-verdict.ensures ∙ ap (λ (m : ℕ). decided a.count a.last m) moment in
-    let reset : c.was_reset-reset.result ≡ is_reset a.count a.last b.now = c.was_reset-reset.ensures ∙ ap (λ (m : ℕ). is_reset a.count a.last m) moment in
+    let its : c.decide-verdict.result ≡ decided a.count a.last b.now = c.decide-verdict.ensures ∙ ap (λ (m : ℕ). decided a.count a.last m) moment in
+    let reset : c.has_decayed-reset.result ≡ is_reset a.count a.last b.now = c.has_decayed-reset.ensures ∙ ap (λ (m : ℕ). is_reset a.count a.last m) moment in
     let d = decided a.count a.last b.now in
     let plan = revoke_plan e b (CountVerdict a.class d.0 (is_reset a.count a.last b.now)) (Revocations a.class) d.1 in
-    let same : with_own (CountVerdict a.class c.verdict_on-verdict.result.0 c.was_reset-reset.result) (store_plan e c.stage.result (Revocations a.class) c.verdict_on-verdict.result.1) ≡ plan =
+    let same : with_own (CountVerdict a.class c.decide-verdict.result.0 c.has_decayed-reset.result) (store_plan e c.stage.result (Revocations a.class) c.decide-verdict.result.1) ≡ plan =
     λ i. with_own (CountVerdict a.class (its i).0 (reset i)) (store_plan e (c.stage.ensures i) (Revocations a.class) (its i).1) in
     let q = c.store_and_keep.new.pass in
     let n = c.store_and_keep.result in

@@ -1,4 +1,4 @@
-use Rattle.std.proofs.Common.{◌≡◌, ℕ, ◌==◌, eq-eqb, ne_eqb, Bool, true, false, cond, Option, None, refl, sym, ap, ◌∙◌, subst}
+use Rattle.std.proofs.Common.{◌≡◌, ℕ, ◌==◌, eq-eqb, ne_eqb, Bool, true, false, cond, Option, None, Some, refl, sym, ap, ◌∙◌, subst}
 use Rattle.mark_word.specs.Safe.{read_safe}
 use Rattle.core_world.specs.declared.answer.Turn.TheVariants.{Done}
 use Rattle.core_world.specs.declared.answer.Why.{Why}
@@ -34,6 +34,23 @@ returns-in-None c =
     last_step h p _ (resume_plan e p.known.thread word) _ found _ made refl
     (ap (λ (b : Bool). cond b (done_with tt) (unless (bar found) (pending_for (Raced word found)))) missed
     ∙ ap (λ (x : Option Why). unless x (pending_for (Raced word found))) free)
+
+pub returns-in-Some : goal.returns-in-Some
+returns-in-Some c =
+    let e = c.args.why.now in
+    let h = c.args.heap.now in
+    let p = c.args.pass.now in
+    let word = c.args.word in
+    let found = c.exchange-found.result in
+    let left : c.running_too-left.result ≡ running_too (read_safe word) p.known.thread =
+    c.running_too-left.ensures ∙ λ i. running_too (c.requires.form i) (c.thread.ensures.same i) in
+    let q = c.exchange-found.new.pass in
+    let made = subst (λ (w : ℕ). HasStepped h p q (swap e Safepoint word w) found) left c.exchange-found.ensures in
+    let missed : (found == word) ≡ false = ne_eqb found word c.if-found-word.false in
+    let barred : bar found ≡ Some c.in-Some.cause = sym c.bar.ensures ∙ c.in-Some.is in
+    last_step h p _ (resume_plan e p.known.thread word) _ found _ made refl
+    (ap (λ (b : Bool). cond b (done_with tt) (unless (bar found) (pending_for (Raced word found)))) missed
+    ∙ ap (λ (x : Option Why). unless x (pending_for (Raced word found))) barred)
 
 pub returns-then-found-word : goal.returns-then-found-word
 returns-then-found-word c =

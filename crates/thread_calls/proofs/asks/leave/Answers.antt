@@ -15,7 +15,7 @@ use Rattle.thread_calls.specs.Advances.{RanFrom, HasAdvanced}
 use Rattle.thread_calls.specs.Asked.{unfinished_of, unfinished_on}
 use Rattle.thread_calls.specs.Between.{state_by}
 use Rattle.thread_calls.proofs.Advanced.{asks_leave, leave_done, still_waits}
-use Rattle.thread_calls.proofs.Behind.{came, turn_done, turn_left}
+use Rattle.thread_calls.proofs.Behind.{came, cause_some, turn_done, turn_left}
 use Rattle.thread_calls.proofs.May.{may_leave, held_is, thread_is}
 use Rattle.thread_calls.proofs.OnTime.{timed_still}
 use Rattle.thread_calls.proofs.asks.leave.Goals as goal
@@ -48,8 +48,9 @@ returns-in-Done-clause-advanced c =
     let k = a.pass.now in
     let q = c.exit.new.pass in
     let e = c.in-Ok.ensures in
+    let ran = subst (λ z. RanFrom h (exit_steps (start_now h k) a.object) k q (Ok z)) c.in-Done.is e.run.ran in
     let one = turn_done h k q (came e.rests e.run) (λ ms z. ExitSays (start_now h k) a.object ms (Ok z)) c.in-Ok.turn e.says e.stands
-    c.in-Done.field-0 (entry.Exit a.object) c.in-Done.is (λ ms z. z.1) in
+    c.in-Done.field-0 (entry.Exit a.object) c.in-Done.is (λ ms z. z.1) (task.Exit a.object) ran in
     subst (λ g. HasAdvanced h a.program.now a.fuel k q a.frame.now g (Done false)) (sym c.follow.ensures)
     (leave_done h a.program.now a.fuel k a.frame.now r.heap r.may q a.ending a.object r.at r.least one)
 
@@ -65,7 +66,8 @@ returns-in-Pending-clause-advanced c =
     let ran = subst (λ z. RanFrom h (exit_steps (start_now h k) a.object) k q (Ok z)) c.in-Pending.is e.run.ran in
     let asks = asks_leave h a.program.now a.fuel k a.frame.now r.heap r.may a.ending a.object r.at r.least in
     let one = turn_left h k q (came e.rests e.run) (λ ms z. ExitSays (start_now h k) a.object ms (Ok z)) c.in-Ok.turn e.says e.stands
-    (unfinished_on op.Exit a.object) why c.in-Pending.is (λ ms z. z.1.0) (k, task.Exit a.object, ran) in
+    (unfinished_on op.Exit a.object) why c.in-Pending.is (λ ms z. z.1.0)
+    (λ ms z. cause_some k.known.thread a.object why ms z.1.1.cause) (task.Exit a.object) ran in
     still_waits h a.program.now a.fuel k a.frame.now r.heap r.may q why (Unwinding a.ending) (unfinished_on op.Exit a.object) r.at one
     (sym (ap unfinished_of asks)) refl
 

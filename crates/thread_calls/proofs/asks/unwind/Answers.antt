@@ -37,7 +37,7 @@ returns-in-None-clause-advanced c =
     let e = c.finish.ensures in
     let least = sym c.least_held.ensures ∙ c.in-None.is in
     let moved = c.follow.ensures ∙ ap (λ x. frame_behind a.frame.now (Ends a.ending) x) c.ending_entry.ensures in
-    let one = logged h k q (came e.rests e.run) (ending_entry a.ending) e.says e.stands in
+    let one = logged h k q (came e.rests e.run) (ending_entry a.ending) e.says e.stands (task.Finish a.ending) e.run.ran in
     subst (λ f. HasAdvanced h a.program.now a.fuel k q a.frame.now f (Done false)) (sym moved)
     (end_done h a.program.now a.fuel k a.frame.now r.heap r.may q a.ending r.at least one)
 

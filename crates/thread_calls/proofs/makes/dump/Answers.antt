@@ -9,7 +9,7 @@ use Rattle.core_calls.specs.Paths.{Tells}
 use Rattle.heap_table.specs.Resting.{start_now}
 use Rattle.thread_calls.specs.Advances.{RanFrom}
 use Rattle.thread_calls.specs.Asked.{unfinished_on}
-use Rattle.thread_calls.proofs.Behind.{came_dumped, turn_done, turn_left}
+use Rattle.thread_calls.proofs.Behind.{came_dumped, cause_some, turn_done, turn_left}
 use Rattle.core_calls.proofs.Called.{called}
 use Rattle.core_calls.proofs.NamedCalls.{dump_named}
 use Rattle.thread_calls.proofs.makes.dump.Goals as goal
@@ -28,12 +28,13 @@ returns-in-Done-clause-made c =
     let e = c.in-Ok.ensures in
     let x = c.in-Done.number in
     let is : c.in-Ok.turn ≡ Done x = c.in-Done.is in
+    let ran = subst (λ z. RanFrom h (dump_steps h.heap.shape (start_now h k)) k q (Ok z)) is e.run.ran in
     let told = subst (λ z. Tells k.known q.known (λ ms. DumpSays (start_now h k) ms (Ok z))) is e.says in
     let number : a.number ≡ x = c.requires.number ∙ sym told.says.1.0 in
     record {
       logged = entry.Dump x;
       is = turn_done h k q (came_dumped e.rests e.run) (λ ms z. DumpSays (start_now h k) ms (Ok z)) c.in-Ok.turn
-          e.says e.stands x (entry.Dump x) is (λ ms z. z.1.1);
+          e.says e.stands x (entry.Dump x) is (λ ms z. z.1.1) task.Dump (x, ran);
       of = record { is = eq-eqb a.number x number; value = tt };
       same = λ f. refl;
     }
@@ -49,7 +50,8 @@ returns-in-Pending-clause-made c =
     let is : c.in-Ok.turn ≡ Pending why = c.in-Pending.is in
     let ran = subst (λ z. RanFrom h (dump_steps h.heap.shape (start_now h k)) k q (Ok (z))) is e.run.ran in (
       turn_left h k q (came_dumped e.rests e.run) (λ ms z. DumpSays (start_now h k) ms (Ok z)) c.in-Ok.turn
-          e.says e.stands (unfinished_on op.Dump 0) why is (λ ms z. z.1.0) (k, task.Dump, ran),
+          e.says e.stands (unfinished_on op.Dump 0) why is (λ ms z. z.1.0)
+          (λ ms z. cause_some k.known.thread 0 why ms z.1.1.0.cause) task.Dump ran,
       refl,
     )
 

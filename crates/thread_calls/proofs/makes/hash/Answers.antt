@@ -6,7 +6,7 @@ use Rattle.plain_monitor.specs.declared.entry.Entry.TheVariants as entry
 use Rattle.core_calls.specs.CallsSay.{HashSays}
 use Rattle.heap_table.specs.Resting.{start_now}
 use Rattle.thread_calls.specs.Asked.{unfinished_on}
-use Rattle.thread_calls.proofs.Behind.{came, turn_left, logged, tells_at}
+use Rattle.thread_calls.proofs.Behind.{came, cause_some, turn_left, logged, tells_at}
 use Rattle.core_calls.proofs.Called.{called}
 use Rattle.core_calls.proofs.NamedCalls.{hash_named}
 use Rattle.thread_calls.proofs.makes.hash.Goals as goal
@@ -22,7 +22,8 @@ returns-in-Done-clause-made c =
     let entry = entry.Hash a.object c.in-Done.value drawn in
     record {
       logged = entry;
-      is = logged h k q (came e.rests e.run) entry (tells_at e.says e.says.says.2) e.stands;
+      is = logged h k q (came e.rests e.run) entry (tells_at e.says e.says.says.2) e.stands
+          (task.Hash a.object a.now) (c.in-Done.value, e.run.ran);
       of = record { is = eq-eqb _ _ refl; value = omega arith };
       same = λ f. refl;
     }
@@ -36,7 +37,8 @@ returns-in-Pending-clause-made c =
     let e = c.in-Pending.ensures in
     let why = c.in-Pending.why in (
       turn_left h k q (came e.rests e.run) (λ ms z. HashSays (start_now h k) a.object ms z) (Pending why) e.says e.stands
-          (unfinished_on op.Hash a.object) why refl (λ ms z. z.0) (k, task.Hash a.object a.now, e.run.ran),
+          (unfinished_on op.Hash a.object) why refl (λ ms z. z.0)
+          (λ ms z. cause_some k.known.thread a.object why ms z.1.0.cause) (task.Hash a.object a.now) e.run.ran,
       refl,
     )
 

@@ -8,7 +8,7 @@ use Rattle.core_calls.specs.CallsSay.{NotifyAllSays}
 use Rattle.heap_table.specs.Resting.{start_now}
 use Rattle.thread_calls.specs.Advances.{RanFrom}
 use Rattle.thread_calls.specs.Asked.{unfinished_on}
-use Rattle.thread_calls.proofs.Behind.{came, turn_done, turn_left}
+use Rattle.thread_calls.proofs.Behind.{came, cause_some, turn_done, turn_left}
 use Rattle.core_calls.proofs.Called.{called}
 use Rattle.core_calls.proofs.NamedCalls.{notify_all_call_named}
 use Rattle.thread_calls.proofs.makes.notify_all.Goals as goal
@@ -26,10 +26,11 @@ returns-in-Done-clause-made c =
     let x = c.in-Done.woken in
     let entry = entry.NotifyAll a.object x in
     let is : c.in-Ok.turn ≡ Done x = c.in-Done.is in
+    let ran = subst (λ z. RanFrom h (notify_all_steps h.heap.shape (start_now h k) a.object a.now) k q (Ok z)) is e.run.ran in
     record {
       logged = entry;
       is = turn_done h k q (came e.rests e.run) (λ ms z. NotifyAllSays (start_now h k) a.object ms (Ok z)) c.in-Ok.turn
-          e.says e.stands x entry is (λ ms z. z.1);
+          e.says e.stands x entry is (λ ms z. z.1) (task.NotifyAll a.object a.now) (x, ran);
       of = record { is = eq-eqb _ _ refl; value = tt };
       same = λ f. refl;
     }
@@ -45,7 +46,8 @@ returns-in-Pending-clause-made c =
     let is : c.in-Ok.turn ≡ Pending why = c.in-Pending.is in
     let ran = subst (λ z. RanFrom h (notify_all_steps h.heap.shape (start_now h k) a.object a.now) k q (Ok (z))) is e.run.ran in (
       turn_left h k q (came e.rests e.run) (λ ms z. NotifyAllSays (start_now h k) a.object ms (Ok z)) c.in-Ok.turn
-          e.says e.stands (unfinished_on op.NotifyAll a.object) why is (λ ms z. z.1.0) (k, task.NotifyAll a.object a.now, ran),
+          e.says e.stands (unfinished_on op.NotifyAll a.object) why is (λ ms z. z.1.0)
+          (λ ms z. cause_some k.known.thread a.object why ms z.1.1.0.cause) (task.NotifyAll a.object a.now) ran,
       refl,
     )
 

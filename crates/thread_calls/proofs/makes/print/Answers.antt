@@ -1,4 +1,5 @@
 use Rattle.std.proofs.Common.{refl}
+use Rattle.core_world.specs.declared.task.Task.TheVariants as task
 use Rattle.plain_monitor.specs.declared.entry.Entry.TheVariants as entry
 use Rattle.machine_laws.proofs.ReachedStanding.{same_itself}
 use Rattle.heap_table.specs.Resting.{start_now}
@@ -17,7 +18,7 @@ returns-clause-made c =
     let entry = entry.Print a.value in
     record {
       logged = entry;
-      is = logged h k q (came e.rests e.run) entry e.says e.stands;
+      is = logged h k q (came e.rests e.run) entry e.says e.stands (task.Print a.value) e.run.ran;
       of = record { is = same_itself a.value; value = tt };
       same = λ f. refl;
     }

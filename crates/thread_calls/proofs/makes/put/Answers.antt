@@ -1,5 +1,6 @@
 use Rattle.std.proofs.Common.{eq-eqb, refl, arith}
 use Rattle.std.proofs.lemmas.Bool.{and_from}
+use Rattle.core_world.specs.declared.task.Task.TheVariants as task
 use Rattle.plain_monitor.specs.declared.entry.Entry.TheVariants as entry
 use Rattle.machine_laws.proofs.ReachedStanding.{same_itself}
 use Rattle.heap_table.specs.Resting.{start_now}
@@ -21,7 +22,8 @@ returns-clause-made c =
     let entry = entry.Put a.object a.slot a.value in
     record {
       logged = entry;
-      is = logged h k q (came e.rests e.run) entry (tells_so e.says (λ ms z. z.1.0)) e.stands;
+      is = logged h k q (came e.rests e.run) entry (tells_so e.says (λ ms z. z.1.0)) e.stands
+          (task.Put a.object a.slot a.value) e.run.ran;
       of = record { is = and_from _ _ (and_from _ _ (eq-eqb a.object a.object refl) (eq-eqb a.slot a.slot refl)) (same_itself a.value); value = tt };
       same = λ f. refl;
     }

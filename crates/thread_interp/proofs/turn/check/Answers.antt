@@ -1,6 +1,6 @@
-use Rattle.std.proofs.Common.{◌∙◌}
+use Rattle.std.proofs.Common.{◌∙◌, inl, inr}
 use Rattle.thread_interp.proofs.CallsTimed.{check_timed}
-use Rattle.thread_interp.proofs.Turns.{may_check, not_checked, barred_runner, check_on, check_left, check_thread, has_checked, is_runner}
+use Rattle.thread_interp.proofs.Turns.{may_check, not_checked, barred_runner, check_on, check_left, check_thread, check_log, has_checked, is_runner, set_still}
 use Rattle.thread_interp.proofs.turn.check.Goals as goal
 
 pub set_running-requires-clause-on : goal.set_running-requires-clause-on
@@ -24,7 +24,7 @@ pub check_stuck-stuck-requires : goal.check_stuck-stuck-requires
 check_stuck-stuck-requires c =
     let a = c.args in
     may_check a.heap.now a.program.now a.fuel a.pass.now c.set_running.new.pass a.frame.now c.requires.free c.requires.live
-    c.set_running.result c.set_running.ensures.ready c.in_default.ensures.ready.stands
+    c.set_running.result c.set_running.ensures.ready c.in_default.ensures.ready.stands.goes
 
 pub set_still-requires : goal.set_still-requires
 set_still-requires c =
@@ -48,6 +48,36 @@ returns-clause-thread c =
     ∙ check_thread a.heap.now a.program.now a.fuel c.set_running.new.pass c.check_stuck-stuck.new.pass a.frame.now
     c.set_running.ensures.ready.on c.requires.live e.rests c.check_stuck-stuck.result e.run e.says e.stands
     ∙ c.set_running.ensures.ready.thread
+
+pub returns-in-Pending-clause-log : goal.returns-in-Pending-clause-log
+returns-in-Pending-clause-log c = c.set_running.ensures.ready.log
+
+pub returns-in-Pending-clause-looked : goal.returns-in-Pending-clause-looked
+returns-in-Pending-clause-looked c =
+    let kept = c.in-Pending.ensures.ready.stands in
+    inr (kept.free, kept.pended)
+
+pub returns-clause-log : goal.returns-clause-log
+returns-clause-log c =
+    let a = c.args in
+    let e = c.check_stuck-stuck.ensures in
+    c.set_still.ensures.still.log
+    ∙ check_log a.heap.now a.program.now a.fuel c.set_running.new.pass c.check_stuck-stuck.new.pass a.frame.now
+    c.set_running.ensures.ready.on c.requires.live e.rests c.check_stuck-stuck.result e.run e.says e.stands
+    ∙ c.set_running.ensures.ready.log
+
+pub returns-clause-looked : goal.returns-clause-looked
+returns-clause-looked c =
+    let a = c.args in
+    let behind = c.check_stuck-stuck in
+    inl (record {
+      ready = c.set_running.new.pass;
+      behind = behind.new.pass;
+      set_running = c.in_default.ensures.ready.stands.set;
+      ran = behind.ensures.run.ran;
+      finds = behind.ensures.finds;
+      set_still = set_still a.heap.now a.program.now a.fuel behind.new.pass c.set_still.new.pass a.frame.now c.set_still.ensures.still;
+    })
 
 pub returns-clause-stands : goal.returns-clause-stands
 returns-clause-stands c =

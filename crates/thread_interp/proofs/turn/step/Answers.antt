@@ -3,7 +3,7 @@ use Rattle.heap_table.specs.Seen.{PassSeen}
 use Rattle.thread_calls.specs.Advances.{MayAdvance, HasAdvanced}
 use Rattle.thread_calls.specs.Timed.{StaysTimed}
 use Rattle.thread_interp.proofs.CallsTimed.{poll_timed}
-use Rattle.thread_interp.proofs.Turns.{may_advance, poll_pended, advanced}
+use Rattle.thread_interp.proofs.Turns.{turn_done, may_advance, poll_pended, advanced, went_on}
 use Rattle.thread_interp.proofs.turn.step.Goals.{then-running+in_default, else-running}
 use Rattle.thread_interp.proofs.turn.step.Goals as goal
 
@@ -11,8 +11,8 @@ pub poll-requires : goal.poll-requires
 poll-requires g c =
     record { rests = c.requires.may.on.rests; may = sym c.running.ensures ∙ c.if-running.true }
 
-pub returns-in-Pending-clause-advanced : goal.returns-in-Pending-clause-advanced
-returns-in-Pending-clause-advanced g c =
+pub returns-in-Pending-clause-polled : goal.returns-in-Pending-clause-polled
+returns-in-Pending-clause-polled g c =
     let a = c.args in
     let e = c.poll.ensures in
     poll_pended a.heap.now a.program.now a.fuel a.pass.now c.poll.new.pass a.frame.now c.requires.may e.rests
@@ -30,8 +30,8 @@ advance-requires-clause-may g c =
       | else-running w ↦ subst (λ (x : PassSeen). MayAdvance a.heap.now a.program.now a.fuel x a.frame.now) (sym w.pass-is) c.requires.may
     ]
 
-pub returns-clause-advanced : goal.returns-clause-advanced
-returns-clause-advanced g c =
+pub returns-clause-polled : goal.returns-clause-polled
+returns-clause-polled g c =
     let a = c.args in
     let q = c.advance.new.pass in
     let f = c.advance.new.frame in
@@ -40,10 +40,11 @@ returns-clause-advanced g c =
       | then-running+in_default w ↦
           let e = w.poll.ensures in
           advanced a.heap.now a.program.now a.fuel a.pass.now w.poll.new.pass a.frame.now c.requires.may e.rests
-          w.poll.result e.run e.says e.stands q f c.advance.result
+          w.poll.result e.run e.says e.stands (turn_done w.poll.result w.in_default.not-Pending) q f c.advance.result
           (subst (λ (x : PassSeen). HasAdvanced a.heap.now a.program.now a.fuel x q a.frame.now f c.advance.result) w.pass-is did)
       | else-running w ↦
-          subst (λ (x : PassSeen). HasAdvanced a.heap.now a.program.now a.fuel x q a.frame.now f c.advance.result) w.pass-is did
+          went_on a.heap.now a.program.now a.fuel a.pass.now q a.frame.now f c.requires.may (sym c.running.ensures ∙ w.if-running.false) c.advance.result
+          (subst (λ (x : PassSeen). HasAdvanced a.heap.now a.program.now a.fuel x q a.frame.now f c.advance.result) w.pass-is did)
     ]
 
 pub returns-in-Pending-clause-timed : goal.returns-in-Pending-clause-timed

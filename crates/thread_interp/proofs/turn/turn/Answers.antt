@@ -9,7 +9,7 @@ pub go_on-moved-requires-clause-may : goal.go_on-moved-requires-clause-may
 go_on-moved-requires-clause-may g c =
     let a = c.args in
     may_go a.heap.now a.program.now a.fuel a.pass.now c.set_running.new.pass a.frame.now c.set_running.result c.requires.unchecked c.requires.live
-    c.set_running.ensures.ready c.in_default.ensures.ready.stands
+    c.set_running.ensures.ready c.in_default.ensures.ready.stands.goes
 
 pub set_still-requires : goal.set_still-requires
 set_still-requires g c = record { on = c.go_on-moved.ensures.gone.on }
@@ -45,7 +45,8 @@ pub returns-clause-moved : goal.returns-clause-moved
 returns-clause-moved g c =
     let a = c.args in
     has_moved a.heap.now a.program.now a.fuel c.go_on-moved.new.pass c.set_still.new.pass c.go_on-moved.new.frame c.set_still.ensures.still
-    a.quantum a.pass.now c.set_running.new.pass a.frame.now c.go_on-moved.result c.go_on-moved.ensures.gone
+    a.quantum a.pass.now c.set_running.new.pass a.frame.now c.in_default.ensures.ready.stands c.set_running.ensures.ready.asking
+    c.go_on-moved.result c.go_on-moved.ensures.gone
 
 pub returns-in-Pending-clause-timed : goal.returns-in-Pending-clause-timed
 returns-in-Pending-clause-timed g c = c.set_running.ensures.timed c.args.tick

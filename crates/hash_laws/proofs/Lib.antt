@@ -1,0 +1,5 @@
+pub mod Placed
+pub mod HashValues
+pub mod DrawsFit
+pub mod DrawsAgain
+pub mod LegalHashes

@@ -1,0 +1,6 @@
+use Rattle.lock_journal.proofs.Sixteen.{held_by_first}
+use Rattle.lock_journal.proofs.order.Merge.ahead.Goals as goal
+
+pub returns-clause-stamps : goal.returns-clause-stamps
+returns-clause-stamps c =
+    held_by_first c.args.run.now.logs c.first_logs.result.now c.self.inside.places c.head_stamps.result c.first_logs.ensures.first c.head_stamps.ensures

@@ -1,0 +1,54 @@
+//! How many turns a thread has.
+
+use crate::calls::{calling, make_by};
+use example_programs::ANSWER;
+use run_io::Gate;
+use std::process::Abort;
+use std::sync::Wait;
+use std::sync::atomic::{AtomicU32, Ordering};
+use std::test::Fail;
+use std::thread::Threads;
+
+/// A gate that counts how often it is visited: once at the start of each turn.
+#[derive(Drop)]
+struct Counting {
+    visits: AtomicU32,
+}
+
+impl Gate for Counting {
+    fn visit(&self, _thread: u32) {
+        self.visits.fetch_add(1, Ordering::SeqCst);
+    }
+}
+
+/// The thread of the program executes six instructions, and then ends, which is no instruction. A turn is over behind as many instructions
+/// as are asked for: so with six to a turn it has a second one, in which it ends, and with seven it hasn't.
+#[test]
+fn a_quantum_is_how_long_a_turn_is(rt: HostRuntime) -> Result<(), Fail> {
+    let rows = [
+        ("1000", 1),
+        ("7", 1),
+        ("6", 2),
+        ("4", 2),
+        ("3", 3),
+        ("1", 7),
+    ];
+    for (quantum, turns) in rows {
+        let found = turns_of(&rt, &["run", "--quantum", quantum])?;
+        assert_eq!(rt; found, turns, "{quantum}");
+    }
+    Ok(())
+}
+
+/// The turns of a run with these words.
+fn turns_of<R: Threads + Wait + Abort + AllocGlobal + Sync>(
+    rt: &R,
+    words: &[&str],
+) -> Result<u32, Fail> {
+    let gate = Counting {
+        visits: AtomicU32::new(0),
+    };
+    let made = make_by(rt, calling(words, ANSWER), &gate)?;
+    assert_eq!(rt; made.status, 0);
+    Ok(gate.visits.load(Ordering::SeqCst))
+}
