@@ -1,5 +1,5 @@
 -- A line of the journal as words.
-use Rattle.std.proofs.Common.{◌≡◌, ℕ, ◌+◌, ◌<◌, ◌^◌, ◌==◌, ◌||◌, Bool, true, false, not, List, [], ◌∷◌, ◌++◌, length, map, get_or, refl, subst, ◌∙◌, ap, arith, append_assoc, append-nil, codes, Option, Some, None}
+use Rattle.std.proofs.Common.{◌≡◌, ℕ, ◌+◌, ◌<◌, ◌^◌, ◌==◌, ◌||◌, Bool, true, false, not, List, [], ◌∷◌, ◌++◌, length, map, get_or, refl, subst, ◌∙◌, ap, arith, append_assoc, append-nil, codes, slice_get, Option, Some, None}
 use Rattle.std.specs.Prelude.{decimal}
 use Rattle.std.specs.Fmt.{signed_decimal}
 use Rattle.std.specs.List.{AllByRecursion, list_all, join_with_byte}
@@ -13,9 +13,9 @@ use Rattle.plain_monitor.specs.declared.entry.Value.TheVariants.{Nil, Int, Ref}
 use Rattle.plain_monitor.specs.declared.entry.Path.{Path}
 use Rattle.plain_monitor.specs.declared.entry.Path.TheVariants.{BiasOwn, BiasTaken, StackFirst, StackAgain, MonitorFirst, MonitorAgain}
 use Rattle.plain_monitor.specs.declared.entry.Fault.{Fault}
-use Rattle.plain_monitor.specs.declared.entry.Fault.TheVariants.{IllegalMonitorState, Unguarded, NotRef, NotInt, Range, Overflow, TooDeep, TooManyDumps}
+use Rattle.plain_monitor.specs.declared.entry.Fault.TheVariants.{IllegalMonitorState, Unguarded, NotRef, NotInt, Range, Overflow, TooDeep, TooManyDumps, TooMany}
 use Rattle.plain_monitor.specs.declared.entry.Entry.{Entry}
-use Rattle.plain_monitor.specs.declared.entry.Entry.TheVariants.{Enter, Exit, Get, Put, Wait, Resume, Notify, NotifyAll, Hash, Print, Dump, Trap, Spent, Done}
+use Rattle.plain_monitor.specs.declared.entry.Entry.TheVariants.{Enter, Exit, Get, Put, Wait, Resume, Notify, NotifyAll, Hash, New, Print, Dump, Trap, Spent, Done}
 use Rattle.plain_monitor.specs.declared.entry.Logged.{Logged}
 use Rattle.object_program.specs.declared.program.ObjectDef.{ObjectDef}
 use Rattle.object_program.specs.Program.{ProgramText, objects_total}
@@ -26,13 +26,14 @@ use Rattle.program_syntax.proofs.CanonicalNames.{name_word, nth_is_name}
 use Rattle.program_syntax.proofs.CanonicalNumbers.{decimal_word, signed_word}
 use Rattle.plain_machine.specs.Values.{IsValueOf}
 use Rattle.lock_journal.specs.Words.{element_text, object_text, thread_text, value_text, path_text, fault_text}
-use Rattle.lock_journal.specs.RunText.{journal_line, entry_text, newline, woken_text, draw_text}
+use Rattle.lock_journal.proofs.Names.{declared_is as text_of_declared}
+use Rattle.lock_journal.specs.RunText.{journal_line, entry_text, newline, class_name, woken_text, draw_text}
 use Rattle.bias_check.specs.declared.spelled.Verb.{Verb}
 use Rattle.bias_check.specs.declared.spelled.Verb.TheVariants as verb
 use Rattle.bias_check.specs.Lines.{IsEntryIn, Tells}
 use Rattle.bias_check.specs.inner.Words.{words_of}
 use Rattle.bias_check.proofs.Spellings.{verb_text}
-use Rattle.bias_check.proofs.ThreadsRead.{thread_name}
+use Rattle.bias_check.proofs.ThreadsRead.{thread_name, class_at_name}
 use Rattle.bias_check.proofs.ObjectsRead.{stands, array_text, single_text, object_is_name}
 
 abbrev pub verb_in : Entry → Verb
@@ -45,6 +46,7 @@ verb_in (Put o k v) = verb.Put
 verb_in (Notify o woken) = verb.Notify
 verb_in (NotifyAll o n) = verb.NotifyAll
 verb_in (Hash o v drawn) = verb.Hash
+verb_in (New o c) = verb.New
 verb_in (Print v) = verb.Print
 verb_in (Dump n) = verb.Dump
 verb_in (Trap fault index) = verb.Fault
@@ -66,6 +68,7 @@ args_of p (Put o k v) = object_text p o ∷ decimal k ∷ value_text p v ∷ []
 args_of p (Notify o woken) = object_text p o ∷ woken_text p woken ∷ []
 args_of p (NotifyAll o n) = object_text p o ∷ decimal n ∷ []
 args_of p (Hash o v drawn) = object_text p o ∷ decimal v ∷ draw_words drawn
+args_of p (New o c) = object_text p o ∷ class_name (slice_get p.classes c) ∷ []
 args_of p (Print v) = value_text p v ∷ []
 args_of p (Dump n) = decimal n ∷ []
 args_of p (Trap fault index) = fault_text fault ∷ codes "at" ∷ decimal index ∷ []
@@ -98,6 +101,7 @@ entry_is p (Hash o v None) =
 entry_is p (Hash o v (Some n)) =
     ap (λ x. x ++ draw_text (Some n)) (spaced (codes "hash " ++ object_text p o) (decimal v))
     ∙ append_assoc (codes "hash " ++ object_text p o) (32 ∷ decimal v) (draw_text (Some n))
+entry_is p (New o c) = spaced (codes "new " ++ object_text p o) (class_name (slice_get p.classes c))
 entry_is p (Print v) = refl
 entry_is p (Dump n) = refl
 entry_is p (Trap fault index) = append_assoc (codes "fault " ++ fault_text fault) (codes " at ") (decimal index)
@@ -149,7 +153,7 @@ object_spaceless p o h lt =
     let r = stands (length p.classes) 0 0 p.objects o h.objects (omega arith) (omega (arith, lt)) in
     let s = r.3 in
     let number : 0 + r.0 ≡ r.0 = omega arith in
-    let text : object_text p o ≡ element_text r.1 (Some r.2) = rw (s.place, number, s.at) refl in
+    let text : object_text p o ≡ element_text r.1 (Some r.2) = text_of_declared p o lt ∙ rw (s.place, number, s.at) refl in
     let few = h.objects_few in
     rw text (element_spaceless r.2 r.1 r.2.array refl (object_is_name p r.0 r.2 h s.at) (omega (arith, s.object, few, lt)))
 
@@ -157,6 +161,11 @@ thread_spaceless : (p : ProgramText) (t : ℕ) → IsProgram p → t < length p.
 thread_spaceless p t h lt =
     let within : t < length (map (λ d. d.name) p.threads) = omega (arith, lt, length-map p.threads (λ d. d.name)) in
     rw (thread_name p.threads t) (name_spaceless (get_or (map (λ d. d.name) p.threads) t []) (nth_is_name (map (λ d. d.name) p.threads) t h.thread_names within))
+
+class_spaceless : (p : ProgramText) (c : ℕ) → IsProgram p → c < length p.classes → spaceless (class_name (slice_get p.classes c)) ≡ true
+class_spaceless p c h lt =
+    let within : c < length (map (λ d. d.name) p.classes) = omega (arith, lt, length-map p.classes (λ d. d.name)) in
+    rw (class_at_name p.classes c) (name_spaceless (get_or (map (λ d. d.name) p.classes) c []) (nth_is_name (map (λ d. d.name) p.classes) c h.class_names within))
 
 value_spaceless : (p : ProgramText) (v : Value) → IsProgram p → IsValueOf (objects_total p) v → spaceless (value_text p v) ≡ true
 value_spaceless p Nil h valid = refl
@@ -180,6 +189,7 @@ fault_spaceless Range = refl
 fault_spaceless Overflow = refl
 fault_spaceless TooDeep = refl
 fault_spaceless TooManyDumps = refl
+fault_spaceless TooMany = refl
 
 verb_spaceless : (v : Verb) → spaceless (verb_text v) ≡ true
 verb_spaceless verb.Enter = refl
@@ -191,6 +201,7 @@ verb_spaceless verb.Put = refl
 verb_spaceless verb.Notify = refl
 verb_spaceless verb.NotifyAll = refl
 verb_spaceless verb.Hash = refl
+verb_spaceless verb.New = refl
 verb_spaceless verb.Print = refl
 verb_spaceless verb.Dump = refl
 verb_spaceless verb.Fault = refl
@@ -215,6 +226,7 @@ args_spaceless p (Notify o (Some t)) h valid = (object_spaceless p o h valid.0, 
 args_spaceless p (NotifyAll o n) h valid = (object_spaceless p o h valid.0, (word_small n valid.1, tt))
 args_spaceless p (Hash o v None) h valid = (object_spaceless p o h valid.0, (word_small v valid.1, tt))
 args_spaceless p (Hash o v (Some n)) h valid = (object_spaceless p o h valid.0, (word_small v valid.1, (refl, (word_small n valid.2, tt))))
+args_spaceless p (New o c) h valid = (object_spaceless p o h valid.0, (class_spaceless p c h valid.1, tt))
 args_spaceless p (Print v) h valid = (value_spaceless p v h valid, tt)
 args_spaceless p (Dump n) h valid = (word_small n valid, tt)
 args_spaceless p (Trap fault index) h valid = (fault_spaceless fault, (refl, (word_small index valid, tt)))

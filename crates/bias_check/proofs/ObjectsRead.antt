@@ -11,6 +11,7 @@ use Rattle.object_program.specs.declared.program.ObjectDef.{ObjectDef}
 use Rattle.object_program.specs.Program.{ProgramText, total_of, objects_total, has_object, place_from, place_of}
 use Rattle.object_program.specs.Valid.{AreObjects, IsProgram}
 use Rattle.lock_journal.specs.Words.{element_text, object_text}
+use Rattle.lock_journal.proofs.Names.{declared_is as text_of_declared}
 use Rattle.bias_check.specs.inner.Words.{before_last}
 use Rattle.bias_check.specs.inner.Table.{names_of, declared_in, unbracketed, element_of, element_in, object_by, object_in}
 use Rattle.bias_check.proofs.Options.{and_then, mapped, where_true}
@@ -153,7 +154,8 @@ element_word p n i o d w h at lt same text =
     let r = found_at (length p.classes) 0 0 p.objects n i d h.objects at lt in
     let place : place_of p o ≡ (0 + n, i) = rw (← same) r.2 in
     let number : 0 + n ≡ n = omega arith in
-    record { text = rw (place, number, at) text; within = omega (arith, same, r.1) }
+    let within : o < objects_total p = omega (arith, same, r.1) in
+    record { text = text_of_declared p o within ∙ rw (place, number, at) text; within = within }
 
 single_is : (p : ProgramText) (name : List ℕ) (o : ℕ) (d : ObjectDef) (n : ℕ) (b : Bool) → d.array ≡ b → IsProgram p → slice_get p.objects n ≡ Some d → d.name ≡ name
     → element_of d None ≡ Some o → IsObjectWord p name o
@@ -259,6 +261,6 @@ object_read p o h lt =
     let r = stands (length p.classes) 0 0 p.objects o h.objects (omega arith) (omega (arith, lt)) in
     let s = r.3 in
     let number : 0 + r.0 ≡ r.0 = omega arith in
-    let text : object_text p o ≡ element_text r.1 (Some r.2) = rw (s.place, number, s.at) refl in
+    let text : object_text p o ≡ element_text r.1 (Some r.2) = text_of_declared p o lt ∙ rw (s.place, number, s.at) refl in
     let few = h.objects_few in
     rw text (read_by p r.0 r.1 r.2 r.2.array h s.at s.within refl (omega (arith, s.object, few, lt)) ∙ ap Some s.object)

@@ -18,7 +18,7 @@ use Rattle.plain_machine.specs.declared.call.Asked.{Asked}
 use Rattle.plain_machine.specs.declared.call.Asked.TheVariants.{Calls, Resumes, Leaves, Ends}
 use Rattle.plain_machine.specs.Thread.{ThreadState}
 use Rattle.plain_machine.specs.Asking.{ask, fits, is_call, thread_after, behind_entry}
-use Rattle.plain_machine.specs.Machine.{PlainMachine, moved, take, code_of}
+use Rattle.plain_machine.specs.Machine.{PlainMachine, moved, take, code_of, made_behind}
 use Rattle.bias_check.proofs.Options.{where_true}
 use Rattle.bias_check.proofs.TellsRead.{IsRival}
 
@@ -31,17 +31,18 @@ not_both (Some (Ref o)) n h = refl
 
 -- where the objects refuse an entry, so does the machine
 refused_by_objects : (m : PlainMachine) (t : ℕ) (e : Entry) (s : Option ThreadState) → take_entry m.objects t e ≡ None
-    → option_and_then (λ s. moved m t (thread_after m.program (code_of m.program t) s e) (take_entry m.objects t e)) s ≡ None
+    → option_and_then (λ s. moved m t (thread_after m.program (code_of m.program t) s e) (made_behind m t e) (take_entry m.objects t e)) s ≡ None
 refused_by_objects m t e None h = refl
-refused_by_objects m t e (Some s) h = rw h (unmoved (thread_after m.program (code_of m.program t) s e))
+refused_by_objects m t e (Some s) h = rw h (unmoved (thread_after m.program (code_of m.program t) s e) (made_behind m t e))
   where
-    unmoved : (after : Option ThreadState) → moved m t after None ≡ None
-    unmoved None = refl
-    unmoved (Some s) = refl
+    unmoved : (after : Option ThreadState) (made : Option (List (List ℕ))) → moved m t after made None ≡ None
+    unmoved None made = refl
+    unmoved (Some s) None = refl
+    unmoved (Some s) (Some made) = refl
 
 -- where the objects' answer is another, so is the machine's
 objects_took : (m n : PlainMachine) (t : ℕ) (e : Entry) (objects : Option (List PlainObject)) (s : Option ThreadState) → take_entry m.objects t e ≡ objects
-    → option_and_then (λ s. moved m t (thread_after m.program (code_of m.program t) s e) (take_entry m.objects t e)) s ≡ Some n → (o : List PlainObject) × (objects ≡ Some o)
+    → option_and_then (λ s. moved m t (thread_after m.program (code_of m.program t) s e) (made_behind m t e) (take_entry m.objects t e)) s ≡ Some n → (o : List PlainObject) × (objects ≡ Some o)
 objects_took m n t e (Some o) s h k = (o, refl)
 objects_took m n t e None s h k = absurd (cc (sym (refused_by_objects m t e s h) ∙ k))
 
@@ -130,13 +131,13 @@ unasked_by p instructions s after e f (Some b) apart h =
 
 -- where a thread asks for one entry and so not for another, the machine that takes the first refuses the other
 unasked : (m n : PlainMachine) (t : ℕ) (e f : Entry) (s : Option ThreadState) → ((b : Asked) → fits b f ≡ true → fits b e ≡ false)
-    → option_and_then (λ s. moved m t (thread_after m.program (code_of m.program t) s f) (take_entry m.objects t f)) s ≡ Some n
-    → option_and_then (λ s. moved m t (thread_after m.program (code_of m.program t) s e) (take_entry m.objects t e)) s ≡ None
+    → option_and_then (λ s. moved m t (thread_after m.program (code_of m.program t) s f) (made_behind m t f) (take_entry m.objects t f)) s ≡ Some n
+    → option_and_then (λ s. moved m t (thread_after m.program (code_of m.program t) s e) (made_behind m t e) (take_entry m.objects t e)) s ≡ None
 unasked m n t e f None apart h = refl
 unasked m n t e f (Some s) apart h = by_after (thread_after m.program (code_of m.program t) s f) refl h
   where
-    by_after : (after : Option ThreadState) → thread_after m.program (code_of m.program t) s f ≡ after → moved m t after (take_entry m.objects t f) ≡ Some n
-        → moved m t (thread_after m.program (code_of m.program t) s e) (take_entry m.objects t e) ≡ None
+    by_after : (after : Option ThreadState) → thread_after m.program (code_of m.program t) s f ≡ after → moved m t after (made_behind m t f) (take_entry m.objects t f) ≡ Some n
+        → moved m t (thread_after m.program (code_of m.program t) s e) (made_behind m t e) (take_entry m.objects t e) ≡ None
     by_after None g h = absurd (cc h)
     by_after (Some a) g h =
         let none : thread_after m.program (code_of m.program t) s e ≡ None = unasked_by m.program (code_of m.program t) s a e f (ask s) apart g in

@@ -6,7 +6,7 @@ use Rattle.std.proofs.lemmas.Slice.Eq.{bytes_eq-Decides}
 use Rattle.plain_monitor.specs.declared.entry.Path.{Path}
 use Rattle.plain_monitor.specs.declared.entry.Path.TheVariants.{BiasOwn, BiasTaken, StackFirst, StackAgain, MonitorFirst, MonitorAgain}
 use Rattle.plain_monitor.specs.declared.entry.Fault.{Fault}
-use Rattle.plain_monitor.specs.declared.entry.Fault.TheVariants.{IllegalMonitorState, Unguarded, NotRef, NotInt, Range, Overflow, TooDeep, TooManyDumps}
+use Rattle.plain_monitor.specs.declared.entry.Fault.TheVariants.{IllegalMonitorState, Unguarded, NotRef, NotInt, Range, Overflow, TooDeep, TooManyDumps, TooMany}
 use Rattle.lock_journal.specs.Words.{path_text, fault_text}
 use Rattle.bias_check.specs.declared.spelled.Verb.{Verb}
 use Rattle.bias_check.specs.declared.spelled.Verb.TheVariants as verb
@@ -23,6 +23,7 @@ verb_text verb.Put = codes "put"
 verb_text verb.Notify = codes "notify"
 verb_text verb.NotifyAll = codes "notifyall"
 verb_text verb.Hash = codes "hash"
+verb_text verb.New = codes "new"
 verb_text verb.Print = codes "print"
 verb_text verb.Dump = codes "dump"
 verb_text verb.Fault = codes "fault"
@@ -49,7 +50,7 @@ spelled_is P (s ∷ ss) w x all h =
 
 pub verb_is : (w : List ℕ) (v : Verb) → spelled_among verbs w ≡ Some v → verb_text v ≡ w
 verb_is w v h =
-    spelled_is (λ (w : List ℕ) (v : Verb). verb_text v ≡ w) verbs w v (refl, (refl, (refl, (refl, (refl, (refl, (refl, (refl, (refl, (refl, (refl, (refl, (refl, (refl, tt)))))))))))))) h
+    spelled_is (λ (w : List ℕ) (v : Verb). verb_text v ≡ w) verbs w v (refl, (refl, (refl, (refl, (refl, (refl, (refl, (refl, (refl, (refl, (refl, (refl, (refl, (refl, (refl, tt))))))))))))))) h
 
 pub path_is : (w : List ℕ) (v : Path) → spelled_among paths w ≡ Some v → path_text v ≡ w
 path_is w v h =
@@ -57,7 +58,7 @@ path_is w v h =
 
 pub fault_is : (w : List ℕ) (v : Fault) → spelled_among faults w ≡ Some v → fault_text v ≡ w
 fault_is w v h =
-    spelled_is (λ (w : List ℕ) (v : Fault). fault_text v ≡ w) faults w v (refl, (refl, (refl, (refl, (refl, (refl, (refl, (refl, tt)))))))) h
+    spelled_is (λ (w : List ℕ) (v : Fault). fault_text v ≡ w) faults w v (refl, (refl, (refl, (refl, (refl, (refl, (refl, (refl, (refl, tt))))))))) h
 
 pub verb_read : (v : Verb) → spelled_among verbs (verb_text v) ≡ Some v
 verb_read verb.Enter = refl
@@ -69,6 +70,7 @@ verb_read verb.Put = refl
 verb_read verb.Notify = refl
 verb_read verb.NotifyAll = refl
 verb_read verb.Hash = refl
+verb_read verb.New = refl
 verb_read verb.Print = refl
 verb_read verb.Dump = refl
 verb_read verb.Fault = refl
@@ -92,3 +94,4 @@ fault_read Range = refl
 fault_read Overflow = refl
 fault_read TooDeep = refl
 fault_read TooManyDumps = refl
+fault_read TooMany = refl

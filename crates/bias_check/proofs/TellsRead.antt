@@ -7,7 +7,7 @@ use Rattle.std.proofs.lemmas.List.Splits.{join_with_byte-slice_split}
 use Rattle.plain_monitor.specs.declared.entry.Value.{Value}
 use Rattle.plain_monitor.specs.declared.entry.Value.TheVariants.{Nil, Ref}
 use Rattle.plain_monitor.specs.declared.entry.Entry.{Entry}
-use Rattle.plain_monitor.specs.declared.entry.Entry.TheVariants.{Enter, Exit, Get, Put, Wait, Resume, Notify, NotifyAll, Hash, Print, Dump, Trap, Spent, Done}
+use Rattle.plain_monitor.specs.declared.entry.Entry.TheVariants.{Enter, Exit, Get, Put, Wait, Resume, Notify, NotifyAll, Hash, New, Print, Dump, Trap, Spent, Done}
 use Rattle.plain_monitor.specs.declared.entry.Logged.{Logged}
 use Rattle.object_program.specs.Program.{ProgramText}
 use Rattle.object_program.specs.Valid.{IsProgram}
@@ -21,12 +21,12 @@ use Rattle.program_syntax.specs.Line.{spelled_among}
 use Rattle.bias_check.specs.inner.Spelled.{verbs, paths, faults}
 use Rattle.bias_check.specs.inner.Words.{unended, words_of}
 use Rattle.bias_check.specs.Lines.{IsEntryIn, Tells}
-use Rattle.bias_check.specs.inner.Table.{names_of, thread_in, object_in, count_in, stamp_in, value_in, woken_in, sure, print_read, notify_read, get_read, put_read, none_told, one_told, two_told, slot_told, three_told, four_told, told, read_words, read_line}
+use Rattle.bias_check.specs.inner.Table.{names_of, thread_in, class_in, object_in, count_in, stamp_in, value_in, woken_in, sure, print_read, notify_read, get_read, put_read, none_told, one_told, two_told, slot_told, three_told, four_told, told, read_words, read_line}
 use Rattle.bias_check.proofs.Options.{and_then, mapped}
 use Rattle.bias_check.proofs.Cuts.{last_byte}
 use Rattle.bias_check.proofs.Spellings.{same_word, verb_text, verb_is, path_is, fault_is, verb_read, path_read, fault_read}
 use Rattle.bias_check.proofs.Numerals.{IsCount, count_is, count_read, IsStamp, stamp_is, stamp_read}
-use Rattle.bias_check.proofs.ThreadsRead.{IsThreadWord, thread_is, thread_read}
+use Rattle.bias_check.proofs.ThreadsRead.{IsThreadWord, thread_is, thread_read, class_is, class_read}
 use Rattle.bias_check.proofs.ObjectsRead.{IsObjectWord, object_is, object_read, last_is}
 use Rattle.bias_check.proofs.ValuesRead.{ReadsValue, value_is, HasValue, value_read, ReadsWoken, woken_is, HasWoken, woken_read}
 use Rattle.bias_check.proofs.LineWords.{verb_in, args_of, line_words, line_is, line_spaceless, words_again}
@@ -110,6 +110,12 @@ two_is p verb.Hash a b r h e =
     let object = object_is p a o h some in
     let count = count_is b n at in
     rw (← same) (only_one p verb.Hash (a ∷ b ∷ []) (Hash o n None) (record { verb = refl; args = two_words _ _ _ _ object.text count.text; valid = (object.within, omega (arith, count.high_is), tt) }))))
+two_is p verb.New a b r h e =
+    and_then _ (object_in (names_of p) a) r e (λ o some f.
+    mapped _ (class_in (names_of p) b) r f (λ c at same.
+    let object = object_is p a o h some in
+    let class = class_is p b c at in
+    rw (← same) (only_one p verb.New (a ∷ b ∷ []) (New o c) (record { verb = refl; args = two_words _ _ _ _ object.text class.text; valid = (object.within, class.within) }))))
 two_is p v a b r h e = absurd (cc e)
 
 three_words : (a b c d e f : List ℕ) → a ≡ d → b ≡ e → c ≡ f → a ∷ b ∷ c ∷ [] ≡ d ∷ e ∷ f ∷ []
@@ -265,6 +271,7 @@ entry_told p (Notify o woken) h valid =
 entry_told p (NotifyAll o n) h valid = record { read = sure (NotifyAll o n); is = rw (object_read p o h valid.0, count_read n valid.1) refl; has = inl refl }
 entry_told p (Hash o v None) h valid = record { read = sure (Hash o v None); is = rw (object_read p o h valid.0, count_read v valid.1) refl; has = inl refl }
 entry_told p (Hash o v (Some n)) h valid = record { read = sure (Hash o v (Some n)); is = rw (object_read p o h valid.0, count_read v valid.1, count_read n valid.2) refl; has = inl refl }
+entry_told p (New o c) h valid = record { read = sure (New o c); is = rw (object_read p o h valid.0, class_read p c h valid.1) refl; has = inl refl }
 entry_told p (Print v) h valid =
     let r = value_read p v h valid in
     record { read = print_read r.0; is = rw r.1 refl; has = value_among Print v r.0 r.2 }

@@ -3,7 +3,9 @@ use Rattle.std.proofs.Common.{◌≡◌, ℕ, zero, suc, ◌<◌, Bool, true, fa
 use Rattle.std.specs.Prelude.{nat_lt}
 use Rattle.std.proofs.lemmas.Bool.Decides.{nat_tests}
 use Rattle.std.proofs.lemmas.List.{length-map}
+use Rattle.plain_monitor.specs.Limits.{most_threads}
 use Rattle.object_program.specs.declared.program.ThreadDef.{ThreadDef}
+use Rattle.object_program.specs.declared.program.ClassDef.{ClassDef}
 use Rattle.object_program.specs.declared.program.ObjectDef.{ObjectDef}
 use Rattle.object_program.specs.Program.{ProgramText}
 use Rattle.program_syntax.specs.Reading.{number_among}
@@ -11,7 +13,8 @@ use Rattle.object_program.specs.Valid.{is_among, AreNames, IsProgram}
 use Rattle.program_syntax.proofs.AllowedNames.{number_among-lt}
 use Rattle.program_syntax.proofs.CanonicalNames.{nth_is_among, number_among-nth}
 use Rattle.lock_journal.specs.Words.{name_of, thread_text}
-use Rattle.bias_check.specs.inner.Table.{names_of, place_in, thread_in, declared_in}
+use Rattle.lock_journal.specs.RunText.{class_name}
+use Rattle.bias_check.specs.inner.Table.{names_of, place_in, thread_in, class_in, declared_in}
 use Rattle.bias_check.proofs.Options.{and_then, where_true}
 use Rattle.bias_check.proofs.Spellings.{same_word}
 
@@ -53,7 +56,7 @@ pub record IsThreadWord (p : ProgramText) (w : List ℕ) (t : ℕ) : Type 0 wher
 pub thread_is : (p : ProgramText) (w : List ℕ) (t : ℕ) → thread_in (names_of p) w ≡ Some t → IsThreadWord p w t
 thread_is p w t h =
     and_then _ (place_in (names_of p).threads w) t h (λ n some e.
-    where_true (nat_lt n 16) n t e (λ few same.
+    where_true (nat_lt n most_threads) n t e (λ few same.
     let at = place_is (names_of p).threads w n some in
     rw (← same) (record {
       text = thread_name p.threads n ∙ at.name;
@@ -64,8 +67,35 @@ pub thread_read : (p : ProgramText) (t : ℕ) → IsProgram p → t < length p.t
 thread_read p t h k =
     let names = (names_of p).threads in
     let counted : length names ≡ length p.threads = length-map p.threads (λ d. d.name) in
-    let few : nat_lt t 16 ≡ true = let m = h.threads_few in grind (arith, nat_tests) in
+    let few : nat_lt t most_threads ≡ true = let m = h.threads_few in grind (arith, nat_tests) in
     rw (thread_name p.threads t, place_read names t h.thread_names (omega (arith, counted, k)), few) refl
+
+-- the name of a class
+pub class_at_name : (cs : List ClassDef) (c : ℕ) → class_name (slice_get cs c) ≡ get_or (map (λ d. d.name) cs) c []
+class_at_name [] c = refl
+class_at_name (d ∷ ds) zero = refl
+class_at_name (d ∷ ds) (suc c) = class_at_name ds c
+
+pub record IsClassWord (p : ProgramText) (w : List ℕ) (c : ℕ) : Type 0 where
+  pub text : class_name (slice_get p.classes c) ≡ w
+  pub within : c < length p.classes
+
+pub class_is : (p : ProgramText) (w : List ℕ) (c : ℕ) → class_in (names_of p) w ≡ Some c → IsClassWord p w c
+class_is p w c h =
+    and_then _ (place_in (names_of p).classes w) c h (λ n some e.
+    where_true (nat_lt n 64) n c e (λ few same.
+    let at = place_is (names_of p).classes w n some in
+    rw (← same) (record {
+      text = class_at_name p.classes n ∙ at.name;
+      within = omega (arith, at.within, length-map p.classes (λ d. d.name));
+    })))
+
+pub class_read : (p : ProgramText) (c : ℕ) → IsProgram p → c < length p.classes → class_in (names_of p) (class_name (slice_get p.classes c)) ≡ Some c
+class_read p c h k =
+    let names = (names_of p).classes in
+    let counted : length names ≡ length p.classes = length-map p.classes (λ d. d.name) in
+    let few : nat_lt c 64 ≡ true = let m = h.classes_few in grind (arith, nat_tests) in
+    rw (class_at_name p.classes c, place_read names c h.class_names (omega (arith, counted, k)), few) refl
 
 -- the declaration with a name
 pub object_name : (ds : List ObjectDef) (n : ℕ) (d : ObjectDef) → slice_get ds n ≡ Some d → get_or (map (λ d. d.name) ds) n [] ≡ d.name

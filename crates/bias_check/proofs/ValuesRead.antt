@@ -17,6 +17,7 @@ use Rattle.object_program.specs.Valid.{IsProgram}
 use Rattle.program_syntax.proofs.CanonicalNumbers.{number_of_signed}
 use Rattle.plain_machine.specs.Values.{IsValueOf}
 use Rattle.lock_journal.specs.Words.{element_text, object_text, thread_text, value_text}
+use Rattle.lock_journal.proofs.Names.{declared_is as text_of_declared}
 use Rattle.lock_journal.specs.RunText.{woken_text}
 use Rattle.bias_check.specs.declared.entries.ValueRead.{ValueRead}
 use Rattle.bias_check.specs.declared.entries.WokenRead.{WokenRead}
@@ -100,7 +101,7 @@ object_is_no_number p o h lt =
     let r = stands (length p.classes) 0 0 p.objects o h.objects (omega arith) (omega (arith, lt)) in
     let s = r.3 in
     let number : 0 + r.0 ≡ r.0 = omega arith in
-    let text : object_text p o ≡ element_text r.1 (Some r.2) = rw (s.place, number, s.at) refl in
+    let text : object_text p o ≡ element_text r.1 (Some r.2) = text_of_declared p o lt ∙ rw (s.place, number, s.at) refl in
     rw text (element_is_no_number r.2 r.1 r.2.array refl (object_is_name p r.0 r.2 h s.at))
 
 int_read_by : (p : ProgramText) (z : ℤ) (b : Bool) → bytes_eq (codes "nil") (signed_decimal z) ≡ b → IsInRange z

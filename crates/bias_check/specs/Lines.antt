@@ -2,7 +2,7 @@
 use Rattle.std.specs.Prelude.{◌≡◌, ℕ, ◌<◌, ◌≤◌, ◌^◌, ◌==◌, if◌then◌else◌, List, [], ◌∷◌, length, MatchOption}
 use Rattle.std.specs.List.{onto_first}
 use Rattle.plain_monitor.specs.declared.entry.Entry.{Entry}
-use Rattle.plain_monitor.specs.declared.entry.Entry.TheVariants.{Enter, Exit, Get, Put, Wait, Resume, Notify, NotifyAll, Hash, Print, Dump, Trap, Spent, Done}
+use Rattle.plain_monitor.specs.declared.entry.Entry.TheVariants.{Enter, Exit, Get, Put, Wait, Resume, Notify, NotifyAll, Hash, New, Print, Dump, Trap, Spent, Done}
 use Rattle.plain_monitor.specs.declared.entry.Logged.{Logged}
 use Rattle.object_program.specs.Program.{ProgramText, objects_total}
 use Rattle.plain_machine.specs.Values.{IsObject, IsValueOf}
@@ -28,6 +28,7 @@ IsEntryIn p (Put o k v) = IsObject p o × IsWord k × IsValueOf (objects_total p
 IsEntryIn p (Notify o woken) = IsObject p o × MatchOption woken (Unit {0}) (λ t. t < length p.threads)
 IsEntryIn p (NotifyAll o n) = IsObject p o × IsWord n
 IsEntryIn p (Hash o v drawn) = IsObject p o × IsWord v × MatchOption drawn (Unit {0}) IsWord
+IsEntryIn p (New o c) = IsObject p o × c < length p.classes
 IsEntryIn p (Print v) = IsValueOf (objects_total p) v
 IsEntryIn p (Dump n) = IsWord n
 IsEntryIn p (Trap fault index) = IsWord index

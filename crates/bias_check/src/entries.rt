@@ -225,6 +225,11 @@ impl Names {
                     drawn,
                 }))
             }
+            Verb::New => {
+                let object = self.object(a)?;
+                let class = self.class(b)?;
+                Some(sure(Entry::New { object, class }))
+            }
             _ => None,
         }
     }

@@ -1,24 +1,28 @@
 //! The names of a program, and the words that stand for numbers and names.
 
 ghost use Rattle.std.specs.Prelude.{◌≡◌, ◌<◌, ◌==◌, map, length, position, IfOk, IfSome, MatchOption, Some, None};
-ghost use Rattle.bias_check.specs.inner.Table.{names_of, place_in, thread_in, declared_in, element_in, object_in, int_in, count_below, count_in, stamp_in, unbracketed};
+ghost use Rattle.bias_check.specs.inner.Table.{names_of, place_in, thread_in, class_in, declared_in, element_in, object_in, int_in, count_below, count_in, stamp_in, unbracketed};
 
 use itoa::Buffer;
 use object_program::{Name, ObjectDef, Program};
 use plain_monitor::NoMemory;
+use plain_monitor::limits::{CLASSES, THREADS};
 use program_syntax::{Directory, number_within};
 use std::alloc::Global;
 
 /// The greatest stamp is below this.
 const STAMP_LIMIT: i64 = 1 << 46;
 /// The most threads that a program has.
-const MOST_THREADS: usize = 16;
+const MOST_THREADS: usize = THREADS as usize;
+/// The most classes that a program has.
+const MOST_CLASSES: usize = CLASSES as usize;
 
-/// The names of a program's threads and its declarations of objects.
+/// The names of a program's threads and classes, and its declarations of objects.
 #[derive(Drop)]
 pub(crate) struct Names {
     pub(crate) threads: Directory<Name>,
     pub(crate) objects: Directory<ObjectDef>,
+    pub(crate) classes: Directory<Name>,
 }
 
 impl Names {
@@ -28,7 +32,12 @@ impl Names {
     {
         let threads = thread_names(alloc, program)?;
         let objects = object_names(alloc, program)?;
-        Ok(Names { threads, objects })
+        let classes = class_names(alloc, program)?;
+        Ok(Names {
+            threads,
+            objects,
+            classes,
+        })
     }
 
     /// The number of the thread with this name.
@@ -38,6 +47,18 @@ impl Names {
     {
         let place = self.threads.place_of(word)?;
         if place < MOST_THREADS {
+            Some(place as u32)
+        } else {
+            None
+        }
+    }
+
+    /// The number of the class with this name.
+    pub(crate) fn class(&self, word: &[u8]) -> Option<u32>
+        ensures { result ≡ class_in self.now word.now }
+    {
+        let place = self.classes.place_of(word)?;
+        if place < MOST_CLASSES {
             Some(place as u32)
         } else {
             None
@@ -94,6 +115,17 @@ fn thread_names(alloc: Global, program: &Program) -> Result<Directory<Name>, NoM
     let mut names = Directory::new(alloc);
     for thread in program.threads.items() {
         names = names.with(thread.name)?;
+    }
+    Ok(names)
+}
+
+/// The names of the program's classes.
+fn class_names(alloc: Global, program: &Program) -> Result<Directory<Name>, NoMemory>
+    ensures { IfOk result (λ names. names ≡ map (λ c. c.name) program.now.classes) }
+{
+    let mut names = Directory::new(alloc);
+    for class in program.classes.items() {
+        names = names.with(class.name)?;
     }
     Ok(names)
 }

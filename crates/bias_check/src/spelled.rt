@@ -19,6 +19,7 @@ pub(crate) enum Verb {
     Notify,
     NotifyAll,
     Hash,
+    New,
     Print,
     Dump,
     Fault,
@@ -64,6 +65,8 @@ fn act_of(word: &[u8]) -> Option<Verb>
         Some(Verb::NotifyAll)
     } else if is_word(b"hash", word) {
         Some(Verb::Hash)
+    } else if is_word(b"new", word) {
+        Some(Verb::New)
     } else if is_word(b"print", word) {
         Some(Verb::Print)
     } else if is_word(b"dump", word) {
@@ -120,6 +123,8 @@ pub(crate) fn fault_of(word: &[u8]) -> Option<Fault>
         Some(Fault::TooDeep)
     } else if is_word(b"TooManyDumps", word) {
         Some(Fault::TooManyDumps)
+    } else if is_word(b"TooMany", word) {
+        Some(Fault::TooMany)
     } else {
         None
     }

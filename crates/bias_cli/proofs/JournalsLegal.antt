@@ -1,5 +1,5 @@
 -- The journal of a run is legal for a check.
-use Rattle.std.proofs.Common.{◌≡◌, ◌≢◌, ℕ, ◌≤◌, cond, Bool, true, false, List, [], ◌++◌, length, nat_lt, Option, Some, None, Result, Ok, Err, refl, sym, ap, ◌∙◌, subst}
+use Rattle.std.proofs.Common.{◌≡◌, ◌≢◌, ℕ, ◌<◌, ◌≤◌, ◌^◌, cond, Bool, true, false, List, [], ◌++◌, length, nat_lt, Option, Some, None, Result, Ok, Err, refl, sym, ap, ◌∙◌, subst}
 use Rattle.std.specs.List.{flat_map}
 use Rattle.std.proofs.lemmas.List.{append-nil}
 use Rattle.std.proofs.lemmas.Option.{none-some, same_Some}
@@ -10,11 +10,13 @@ use Rattle.program_syntax.specs.Refusal.{program_of}
 use Rattle.program_syntax.specs.declared.error.ProgramError.{ProgramError}
 use Rattle.program_syntax.proofs.Allowed.{allowed_law}
 use Rattle.plain_machine.specs.Machine.{PlainMachine}
+use Rattle.plain_monitor.specs.Limits.{most_fuel}
 use Rattle.plain_monitor.specs.Order.{order}
 use Rattle.lock_journal.specs.RunText.{class_lines, lines_of_run, only_where, printed, text_of_lines, thread_lines}
 use Rattle.lock_journal.specs.declared.record.RunRecord.{RunRecord}
 use Rattle.journal_laws.proofs.EntriesTold.{all_tellable}
 use Rattle.journal_laws.proofs.LegalJournals.{ended_state, legal_journal, stuck_state}
+use Rattle.journal_laws.proofs.ShortJournals.{journal_short}
 use Rattle.bias_check.specs.declared.answer.Checked.{Checked}
 use Rattle.bias_check.specs.declared.answer.Checked.TheVariants.{Legal}
 use Rattle.bias_check.specs.declared.answer.CheckFault.{CheckFault}
@@ -51,9 +53,12 @@ module _ (o : Options) (p : ProgramText) (r : RunRecord) (c : ClosedSeen) (m : P
       told : List (List ℕ)
       told = flat_map (λ x. printed r.program r.shots x.0 x.1.entry) (order r.logs)
 
-  module _ (is : IsProgram p) (few : o.fuel ≤ 200000) (run : IsRunOf o p r c m) where
+  module _ (is : IsProgram p) (few : o.fuel ≤ most_fuel) (run : IsRunOf o p r c m) where
     pub journal_lines_again : lines_of (text_of_lines (journal_of p r.logs)) ≡ journal_of p r.logs
     journal_lines_again = journal_lines p r.logs is (all_tellable p o.fuel o.start r.logs is few run.ran.legal run.ran.stamps run.ran.hashes)
+
+    pub journal_few_bytes : length (text_of_lines (journal_of p r.logs)) < 2 ^ 32
+    journal_few_bytes = journal_short p o.fuel o.start r.logs is few run.ran.legal run.ran.stamps run.ran.hashes
 
     -- the halt says how the threads stand
     over_state : state_of m ≡ cond r.halted Stuck Ended
@@ -72,7 +77,7 @@ module _ (o : Options) (p : ProgramText) (r : RunRecord) (c : ClosedSeen) (m : P
     pub journal_verdict : IsVerdict p o.fuel o.start (journal_of p r.logs) (answer_to r)
     journal_verdict = record { holds = journal_legal; given = given _ }
 
-pub journal_only : (o : Options) (p : ProgramText) (r : RunRecord) (c : ClosedSeen) (m : PlainMachine) (answer : Result Checked CheckFault) → IsProgram p → o.fuel ≤ 200000
+pub journal_only : (o : Options) (p : ProgramText) (r : RunRecord) (c : ClosedSeen) (m : PlainMachine) (answer : Result Checked CheckFault) → IsProgram p → o.fuel ≤ most_fuel
     → IsRunOf o p r c m → IsVerdict p o.fuel o.start (journal_of p r.logs) answer → answer ≡ answer_to r
 journal_only o p r c m answer is few run h =
     sym (found_only p o.fuel o.start (journal_of p r.logs) answer is h.holds h.given)
@@ -83,7 +88,7 @@ journal_only o p r c m answer is few run h =
 abbrev IsLegalOf : RunRecord → Type 0
 IsLegalOf r = IsVerdict r.program r.fuel r.start (journal_of r.program r.logs) (answer_to r)
 
-run_legal : (o : Options) (p : ProgramText) (r : RunRecord) (c : ClosedSeen) (m : PlainMachine) → IsProgram p → o.fuel ≤ 200000 → IsRunOf o p r c m → IsLegalOf r
+run_legal : (o : Options) (p : ProgramText) (r : RunRecord) (c : ClosedSeen) (m : PlainMachine) → IsProgram p → o.fuel ≤ most_fuel → IsRunOf o p r c m → IsLegalOf r
 run_legal o p r c m is few run =
     rw (run.ran.of.program, run.ran.of.fuel, run.ran.of.start) (journal_verdict o p r c m is few run)
 
@@ -96,7 +101,7 @@ module _ (before after : SinkSeen) (f : Finish) where
   check_leaves fuel start a b lines false true (Ok p) met = met.0.0
   check_leaves fuel start a b lines false true (Err e) met = met.0.0
 
-  run_leaves : (o : Options) (p : Result ProgramText ProgramError) (r : RunRecord) → o.fuel ≤ 200000 → ((q : ProgramText) → p ≡ Ok q → IsProgram q)
+  run_leaves : (o : Options) (p : Result ProgramText ProgramError) (r : RunRecord) → o.fuel ≤ most_fuel → ((q : ProgramText) → p ≡ Ok q → IsProgram q)
       → Meets before after f (run_due o p) → f.run ≡ Some r → IsLegalOf r
   run_leaves o (Err e) r few is met h = absurd (none-some r (sym met.0.0 ∙ h))
   run_leaves o (Ok p) r few is met h =

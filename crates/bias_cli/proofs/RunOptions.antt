@@ -5,6 +5,7 @@ use Rattle.std.specs.Bool.{⊤}
 use Rattle.std.specs.Str.{bytes_eq}
 use Rattle.std.specs.Str.Parse.{digits_value}
 use Rattle.std.proofs.lemmas.Bool.{leb-true}
+use Rattle.plain_monitor.specs.Limits.{most_threads, most_fuel}
 use Rattle.run_words.specs.declared.options.Options.{Options}
 use Rattle.run_words.specs.declared.options.Command.{Command}
 use Rattle.run_words.specs.declared.options.Command.TheVariants.{Run, Check, Make}
@@ -51,7 +52,7 @@ joined v workers fuel quantum bias start tick =
       report = v.report;
     })) tick) start) bias) quantum) fuel) workers
 
-of_parts : (v : Values) (workers fuel quantum : Option ℕ) (bias : Option Bool) (start tick : Option ℕ) → IsBetween 1 16 workers → IsBetween 1 200000 fuel → IsBetween 1 100000 quantum
+of_parts : (v : Values) (workers fuel quantum : Option ℕ) (bias : Option Bool) (start tick : Option ℕ) → IsBetween 1 most_threads workers → IsBetween 1 most_fuel fuel → IsBetween 1 100000 quantum
     → AreRunnable (joined v workers fuel quantum bias start tick)
 of_parts v None fuel quantum bias start tick w f q = tt
 of_parts v (Some a) None quantum bias start tick w f q = tt
@@ -63,10 +64,10 @@ of_parts v (Some a) (Some b) (Some c) (Some d) (Some e) (Some g) w f q = record 
 
 of_options : (v : Values) → AreRunnable (options_of v)
 of_options v =
-    of_parts v (read_or 4 (number 1 16) v.workers) (fuel_of v) (read_or 1000 (number 1 100000) v.quantum) (read_or true switch v.bias) (start_of v)
+    of_parts v (read_or 4 (number 1 most_threads) v.workers) (fuel_of v) (read_or 1000 (number 1 100000) v.quantum) (read_or true switch v.bias) (start_of v)
     (read_or 0 (number 0 4294967295) v.tick)
-    (of_text 4 1 16 (omega arith) (omega arith) v.workers)
-    (of_text 20000 1 200000 (omega arith) (omega arith) v.fuel)
+    (of_text 4 1 most_threads (omega arith) (omega arith) v.workers)
+    (of_text 20000 1 most_fuel (omega arith) (omega arith) v.fuel)
     (of_text 1000 1 100000 (omega arith) (omega arith) v.quantum)
 
 of_values : (v : Option Values) → AreRunnable (option_and_then options_of v)

@@ -9,7 +9,7 @@ use Rattle.plain_history.proofs.Joined.{first_some}
 use Rattle.object_program.specs.Program.{ProgramText}
 use Rattle.plain_machine.specs.Thread.{ThreadState}
 use Rattle.plain_machine.specs.Asking.{thread_after}
-use Rattle.plain_machine.specs.Machine.{PlainMachine, code_of, moved, new_machine, take}
+use Rattle.plain_machine.specs.Machine.{PlainMachine, code_of, made_behind, moved, new_machine, take}
 use Rattle.plain_machine.specs.Legal.{behind_all, machine_after}
 
 -- one machine has the program of the other, and as many threads
@@ -17,11 +17,12 @@ pub record IsLike (m n : PlainMachine) : Type 0 where
   pub program : n.program ≡ m.program
   pub threads : length n.threads ≡ length m.threads
 
-like_moved : (m n : PlainMachine) (t : ℕ) (after : Option ThreadState) (objects : Option (List PlainObject)) → moved m t after objects ≡ Some n → IsLike m n
-like_moved m n t None objects h = absurd (cc h)
-like_moved m n t (Some next) None h = absurd (cc h)
-like_moved m n t (Some next) (Some objects) h =
-    let same : record m { objects = objects; threads = slice_set m.threads t next } ≡ n = same_Some _ n h in
+like_moved : (m n : PlainMachine) (t : ℕ) (after : Option ThreadState) (made : Option (List (List ℕ))) (objects : Option (List PlainObject)) → moved m t after made objects ≡ Some n → IsLike m n
+like_moved m n t None made objects h = absurd (cc h)
+like_moved m n t (Some next) None objects h = absurd (cc h)
+like_moved m n t (Some next) (Some made) None h = absurd (cc h)
+like_moved m n t (Some next) (Some made) (Some objects) h =
+    let same : record m { objects = objects; made = made; threads = slice_set m.threads t next } ≡ n = same_Some _ n h in
     record {
       program = sym (ap (λ (k : PlainMachine). k.program) same);
       threads = sym (ap (λ (k : PlainMachine). length k.threads) same) ∙ length-set m.threads t next;
@@ -33,8 +34,8 @@ like_behind m n [] h =
     record { program = sym (ap (λ (k : PlainMachine). k.program) same); threads = sym (ap (λ (k : PlainMachine). length k.threads) same) }
 like_behind m n (x ∷ xs) h =
     let a = first_some (λ k. behind_all k xs) (take m x.0 x.1.entry) n h in
-    let s = first_some (λ s. moved m x.0 (thread_after m.program (code_of m.program x.0) s x.1.entry) (take_entry m.objects x.0 x.1.entry)) (slice_get m.threads x.0) a.0 a.1 in
-    let first = like_moved m a.0 x.0 (thread_after m.program (code_of m.program x.0) s.0 x.1.entry) (take_entry m.objects x.0 x.1.entry) s.2 in
+    let s = first_some (λ s. moved m x.0 (thread_after m.program (code_of m.program x.0) s x.1.entry) (made_behind m x.0 x.1.entry) (take_entry m.objects x.0 x.1.entry)) (slice_get m.threads x.0) a.0 a.1 in
+    let first = like_moved m a.0 x.0 (thread_after m.program (code_of m.program x.0) s.0 x.1.entry) (made_behind m x.0 x.1.entry) (take_entry m.objects x.0 x.1.entry) s.2 in
     let rest = like_behind a.0 n xs a.2 in
     record { program = rest.program ∙ first.program; threads = rest.threads ∙ first.threads }
 

@@ -1,6 +1,7 @@
 //! What follows from the contract of the top call.
 
-ghost use Rattle.std.specs.Prelude.{◌≡◌, ◌≢◌, ◌⊎◌, ℕ, ◌≤◌, Bool, true, false, List, ◌++◌, length, Option, Some, Result};
+ghost use Rattle.std.specs.Prelude.{◌≡◌, ◌≢◌, ◌⊎◌, ℕ, ◌<◌, ◌≤◌, ◌^◌, Bool, true, false, List, ◌++◌, length, Option, Some, Result};
+ghost use Rattle.plain_monitor.specs.Limits.{most_fuel};
 ghost use Rattle.heap_table.specs.Seen.{ClosedSeen};
 ghost use Rattle.object_program.specs.Program.{ProgramText};
 ghost use Rattle.object_program.specs.Valid.{IsProgram};
@@ -70,23 +71,26 @@ pub fn one_thread_decides_what_is_written()
         → IsRunOf o p r c m → IsRunOf q p s d n → status_of m ≡ status_of n }
 {}
 
-/// The journal of each run is legal for a check. Its lines are those that `--journal` writes behind the others, and the text of them falls into
-/// just these lines. Of them the answer holds that they are legal, that they are as many as the run logged, and that all threads
-/// have ended, or are stuck where the run was halted. No other answer holds; so by its own contract, and unless memory runs out, `check_journal`
-/// answers just this to the lines, under the fuel and the start of the generators of hashes that the run had. A record that any call
-/// leaves is that of such a run.
+/// The journal of each run is legal for a check. Its lines are those that `--journal` writes behind the prints and dumps, the threads and the
+/// statistics, and the text of them falls into just these lines. Of them the answer holds that they are legal, that they are as many as the run
+/// logged, and that all threads have ended, or are stuck where the run was halted. No other answer holds, and the lines have fewer than 2^32
+/// bytes, as `check_journal` asks; so by its own contract, and unless memory runs out, it answers just this to the lines, under the fuel
+/// and the start of the generators of hashes that the run had. A record that any call leaves is that of such a run.
 pub fn the_journal_of_each_run_is_legal_for_check()
     ensures written { (o : Options) (p : ProgramText) (r : RunRecord) (c : ClosedSeen) (m : PlainMachine) (stats : Bool)
         → IsRunOf o p r c m → lines_of_run stats true r m ≡ lines_of_run stats false r m ++ journal_of p r.logs }
     ensures lines { (o : Options) (p : ProgramText) (r : RunRecord) (c : ClosedSeen) (m : PlainMachine)
-        → IsProgram p → o.fuel ≤ 200000 → IsRunOf o p r c m
+        → IsProgram p → o.fuel ≤ most_fuel → IsRunOf o p r c m
         → lines_of (text_of_lines (journal_of p r.logs)) ≡ journal_of p r.logs }
+    ensures short { (o : Options) (p : ProgramText) (r : RunRecord) (c : ClosedSeen) (m : PlainMachine)
+        → IsProgram p → o.fuel ≤ most_fuel → IsRunOf o p r c m
+        → length (text_of_lines (journal_of p r.logs)) < 2 ^ 32 }
     ensures legal { (o : Options) (p : ProgramText) (r : RunRecord) (c : ClosedSeen) (m : PlainMachine)
-        → IsProgram p → o.fuel ≤ 200000 → IsRunOf o p r c m
+        → IsProgram p → o.fuel ≤ most_fuel → IsRunOf o p r c m
         → IsTrueOf p o.fuel o.start (journal_of p r.logs) (answer_to r) }
     ensures only { (o : Options) (p : ProgramText) (r : RunRecord) (c : ClosedSeen) (m : PlainMachine)
         (answer : Result Checked CheckFault)
-        → IsProgram p → o.fuel ≤ 200000 → IsRunOf o p r c m
+        → IsProgram p → o.fuel ≤ most_fuel → IsRunOf o p r c m
         → IsVerdict p o.fuel o.start (journal_of p r.logs) answer → answer ≡ answer_to r }
     ensures call { (words : List (List ℕ)) (source_before source_after : SourceSeen)
         (sink_before sink_after : SinkSeen) (finish : Finish) (r : RunRecord)

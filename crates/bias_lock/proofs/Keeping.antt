@@ -12,7 +12,7 @@ use Rattle.core_world.specs.Due.{Runs}
 use Rattle.core_world.specs.Steps.{known_after}
 use Rattle.core_world.specs.Threads.Known.{Known, Local, local_of}
 use Rattle.core_world.specs.Words.Forms.{is_biased, epoch_in}
-use Rattle.core_world.specs.Words.Shape.{Shape}
+use Rattle.core_world.specs.Words.Shape.{Shape, class_of}
 use Rattle.core_world.specs.Trees.BiasSteps.{unbias_plan, rebias_plan, took_steps, unbias_swap_steps}
 use Rattle.core_world.specs.Trees.BiasSteps.{rebias_steps, bias_valid_steps, bias_enter_at, bias_enter_by, bias_enter_steps}
 use Rattle.core_world.specs.Trees.BiasSteps.{bias_drop_at, bias_drop_by, bias_drop_steps, stage_after, bias_after_at, bias_after_steps}
@@ -93,10 +93,13 @@ module _ (s : Shape) (start : ℕ) where
     by_keeps (Some (Inflated m)) prototype k run = absurd run
     by_keeps (Some Marked) prototype k run = absurd run
 
-  pub enter_keeps : (e : Purpose) (t : Local) (c o : ℕ) (k l : Known) (out : BiasTry) → Runs s start (bias_enter_steps e t c o) k l out
+  pub enter_keeps : (e : Purpose) (t : Local) (o : ℕ) (k l : Known) (out : BiasTry) → Runs s start (bias_enter_steps s e t o) k l out
       → IsKeptUnlessTook out (local_of k) (local_of l)
-  enter_keeps e t c o k l out (mark, rest) = cases (is_biased mark) rest
+  enter_keeps e t o k l out (mark, rest) = cases (is_biased mark) rest
     where
+      c : ℕ
+      c = class_of s o
+
       m : Known
       m = known_after s start (load e (Mark o)) mark k
 
@@ -162,9 +165,12 @@ module _ (s : Shape) (start : ℕ) where
   drop_by_keeps None e o mark prototype k l out run = swapped e o mark prototype k l out run
   drop_by_keeps (Some epoch) e o mark prototype k l out run = drop_at_keeps (read_mark mark) epoch e o mark k l out run
 
-  pub drop_keeps : (e : Purpose) (c o : ℕ) (k l : Known) (out : BiasTry) → Runs s start (bias_drop_steps e c o) k l out → local_of l ≡ local_of k
-  drop_keeps e c o k l out (mark, rest) = cases (is_biased mark) rest
+  pub drop_keeps : (e : Purpose) (o : ℕ) (k l : Known) (out : BiasTry) → Runs s start (bias_drop_steps s e o) k l out → local_of l ≡ local_of k
+  drop_keeps e o k l out (mark, rest) = cases (is_biased mark) rest
     where
+      c : ℕ
+      c = class_of s o
+
       m : Known
       m = known_after s start (load e (Mark o)) mark k
 

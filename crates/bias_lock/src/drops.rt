@@ -116,21 +116,22 @@ fn drop_biased(
     drop_by(heap, pass, why, object, mark, prototype, epoch)
 }
 
-/// Ends the bias of the object of this class, as far as that needs no safepoint.
+/// Ends the object's bias, as far as that needs no safepoint.
 ///
 /// `Unbiased { mark }` says that the mark has no bias pattern: it was found so, or it was biased, and was exchanged for
-/// this one. That is the class's prototype, where the prototype is not biased, and else the neutral mark without a hash,
+/// this one. That is its class's prototype, where the prototype is not biased, and else the neutral mark without a hash,
 /// where the bias was to nobody or in an epoch that is over. `Valid { mark }` says that the mark is validly biased to a
 /// thread, and is left as it is. `Raced { expected, found }` says that an exchange expected the biased mark and found
 /// another, which it left. Nothing is logged, and no hold changes.
-pub fn bias_drop(heap: &Heap, pass: &mut Pass, why: &Purpose, class: u32, object: u32) -> BiasTry
+pub fn bias_drop(heap: &Heap, pass: &mut Pass, why: &Purpose, object: u32) -> BiasTry
     requires heap { IsOf heap.now pass.old }
-    requires due { IsDueOn heap.now pass.old why.now.task (bias_drop_steps why.now class object) }
-    ensures run { HasRun heap.now (bias_drop_steps why.now class object) pass.old pass.new result }
+    requires due { IsDueOn heap.now pass.old why.now.task (bias_drop_steps heap.now.heap.shape why.now object) }
+    ensures run { HasRun heap.now (bias_drop_steps heap.now.heap.shape why.now object) pass.old pass.new result }
     ensures kept { local_of pass.new.known ≡ local_of pass.old.known }
 {
     let mark = heap.load(pass, why, Stage::Calm, Name::Mark { object });
     if is_biased(mark) {
+        let class = heap.shape().class_of(object);
         return drop_biased(heap, pass, why, class, object, mark);
     }
     BiasTry::Unbiased { mark }

@@ -167,7 +167,7 @@ fn enter_biased(
     }
 }
 
-/// Enters the object of this class under a bias to the thread, as far as that needs no safepoint.
+/// Enters the object under a bias to the thread, as far as that needs no safepoint.
 ///
 /// `Took(BiasOwn)` says that the mark was validly biased to the thread and is left as it is. `Took(BiasTaken)` says that
 /// the mark was biased to nobody, or in an epoch that is over, and was exchanged for a valid bias to the thread. Either
@@ -176,18 +176,20 @@ fn enter_biased(
 /// `Valid { mark }` says that the mark is validly biased to another thread. `Raced { expected, found }` says that an
 /// exchange expected the biased mark and found another, which it left. In these three no hold was taken and nothing
 /// logged, and the thread's own words are as they were.
-pub fn bias_enter(heap: &Heap, pass: &mut Pass, why: &Purpose, class: u32, object: u32) -> BiasTry
+pub fn bias_enter(heap: &Heap, pass: &mut Pass, why: &Purpose, object: u32) -> BiasTry
     requires heap { IsOf heap.now pass.old }
     requires object { object < length heap.now.heap.shape.objects }
     requires due { IsDueOn heap.now pass.old why.now.task
-        (bias_enter_steps why.now (local_of pass.old.known) class object) }
+        (bias_enter_steps heap.now.heap.shape why.now (local_of pass.old.known) object) }
     requires room { length pass.old.known.log < pass.old.limit }
-    ensures run { HasRun heap.now (bias_enter_steps why.now (local_of pass.old.known) class object)
+    ensures run { HasRun heap.now
+        (bias_enter_steps heap.now.heap.shape why.now (local_of pass.old.known) object)
         pass.old pass.new result }
     ensures kept { IsKeptUnlessTook result (local_of pass.old.known) (local_of pass.new.known) }
 {
     let mark = heap.load(pass, why, Stage::Calm, Name::Mark { object });
     if is_biased(mark) {
+        let class = heap.shape().class_of(object);
         return enter_biased(heap, pass, why, class, object, mark);
     }
     BiasTry::Unbiased { mark }

@@ -1,5 +1,6 @@
 -- A revocation of single objects reads and stores no word of a class, so that the words of classes may be stored before it or after it.
-use Rattle.core_locks.proofs.Prelude.{◌≡◌, ℕ, zero, suc, ◌+◌, ◌==◌, ◌&&◌, ◌++◌, Bool, true, false, cond, if◌then◌else◌, List, [], ◌∷◌, Option, Some, None, refl, ap, ◌∙◌, subst, AllByRecursion, MarkForm, Neutral, Anonymous, Biased, mark_of, read_mark, read_hold, Name, Mark, Hold, Shape, class_of, same_name, with_word, is_biased, names, hold_word, hold_count}
+use Rattle.plain_monitor.specs.Limits.{most_holds}
+use Rattle.core_locks.proofs.Prelude.{◌≡◌, ℕ, zero, suc, ◌+◌, ◌==◌, ◌&&◌, ◌++◌, Bool, true, false, cond, if◌then◌else◌, List, [], ◌∷◌, Option, Some, None, refl, ap, ◌∙◌, subst, AllByRecursion, MarkForm, Neutral, Anonymous, Biased, mark_of, read_mark, read_hold, Name, Mark, Hold, Shape, same_name, with_word, is_biased, names, hold_word, hold_count}
 use Rattle.core_world.specs.declared.name.Name.TheVariants as name
 use Rattle.core_world.specs.RevocationRules.{Write, write, words_after, Rule, in_turn, each_below, holds_in, record_writes, revoke_biased, revoke_form, revoke, object_held, on_held, on_records}
 use Rattle.core_world.proofs.Naming.{same_named}
@@ -106,22 +107,22 @@ blind_revoke o allowed = record {
     none (Some (Biased t epoch age)) f = count (hold_count o (holds_in f t) == 0) _ t _ (holds_in f t)
     none _ f = tt
 
-pub blind_walk : (s : Shape) (c : ℕ) (r : ℕ → Rule) → ((o : ℕ) → IsBlind (r o)) → IsBlind (on_records s c r)
+pub blind_walk : (s : Shape) (class : ℕ → ℕ) (c : ℕ) (r : ℕ → Rule) → ((o : ℕ) → IsBlind (r o)) → IsBlind (on_records s class c r)
 unfolding on_records
-blind_walk s c r h = blind_below s.threads _ (λ t. blind_below 64 _ (λ p. record {
-  reads = λ f g a. ap (λ z. on_held s c r (object_held (read_hold z)) f) (a (Hold t p) refl) ∙ held f g a (object_held (read_hold (g (Hold t p))));
+blind_walk s class c r h = blind_below s.threads _ (λ t. blind_below most_holds _ (λ p. record {
+  reads = λ f g a. ap (λ z. on_held class c r (object_held (read_hold z)) f) (a (Hold t p) refl) ∙ held f g a (object_held (read_hold (g (Hold t p))));
   stores = λ f. free f (object_held (read_hold (f (Hold t p))));
 }))
   where
-    held : (f g : Name → ℕ) → Agree f g → (x : Option ℕ) → on_held s c r x f ≡ on_held s c r x g
+    held : (f g : Name → ℕ) → Agree f g → (x : Option ℕ) → on_held class c r x f ≡ on_held class c r x g
     held f g a None = refl
     held f g a (Some o) =
-        ap (λ z. if (class_of s o == c) && is_biased z then r o f else []) (a (Mark o) refl)
-        ∙ ap (λ z. if (class_of s o == c) && is_biased (g (Mark o)) then z else []) ((h o).reads f g a)
+        ap (λ z. if (class o == c) && is_biased z then r o f else []) (a (Mark o) refl)
+        ∙ ap (λ z. if (class o == c) && is_biased (g (Mark o)) then z else []) ((h o).reads f g a)
 
-    free : (f : Name → ℕ) (x : Option ℕ) → Classless (on_held s c r x f)
+    free : (f : Name → ℕ) (x : Option ℕ) → Classless (on_held class c r x f)
     free f None = tt
-    free f (Some o) = cases ((class_of s o == c) && is_biased (f (Mark o)))
+    free f (Some o) = cases ((class o == c) && is_biased (f (Mark o)))
       where
         cases : (b : Bool) → Classless (if b then r o f else [])
         cases true = (h o).stores f

@@ -1,13 +1,14 @@
 -- A bulk rebias as a whole: the class's next epoch, which each held object of the class gets; then the object's own revocation, and the bias
 -- that an enter takes.
-use Rattle.core_locks.proofs.Prelude.{◌≡◌, ◌≢◌, ◌⊎◌, ℕ, zero, suc, ◌+◌, ◌*◌, ◌<◌, ◌≤◌, ◌==◌, nat_lt, eq-eqb, ne_eqb, Bool, true, false, cond, if◌then◌else◌, List, [], ◌∷◌, length, slice_index, Option, Some, None, refl, sym, ap, ◌∙◌, subst, arith, inl, inr, nat_tests, MarkForm, Anonymous, Biased, mark_of, read_mark, read_mark-mark_of, PlainObject, Name, Mark, Hold, Prototype, Revocations, LastBulk, Calm, class_of, same_name, with_word, is_biased, is_biased_form, names, epoch_in, Known, World, with_known, Open, BiasedTo, has_epoch, lock, lock_form, marks, owner_words, inflations, hold_count, IsMark, ClassesFit, bulk_rebiases, bulk_revokes, with_knowledge, by_equal, with_known_here, with_known_else, each_with_known, not, is_none}
+use Rattle.core_locks.proofs.Prelude.{◌≡◌, ◌≢◌, ◌⊎◌, ℕ, zero, suc, ◌+◌, ◌*◌, ◌<◌, ◌≤◌, ◌==◌, nat_lt, eq-eqb, ne_eqb, Bool, true, false, cond, if◌then◌else◌, List, [], ◌∷◌, length, slice_index, Option, Some, None, refl, sym, ap, ◌∙◌, subst, arith, inl, inr, nat_tests, MarkForm, Anonymous, Biased, mark_of, read_mark, read_mark-mark_of, PlainObject, Name, Mark, Hold, Prototype, Revocations, LastBulk, Calm, class_by, same_name, with_word, is_biased, is_biased_form, names, epoch_in, Known, World, with_known, Open, BiasedTo, has_epoch, lock, lock_form, marks, owner_words, inflations, hold_count, IsMark, ClassesFit, bulk_rebiases, bulk_revokes, with_knowledge, by_equal, with_known_here, with_known_else, each_with_known, not, is_none}
 use Rattle.core_locks.specs.Knowing.{IsBiasTo}
 use Rattle.core_bias.proofs.BlindRules.{blind_revoke, classless_stays}
 use Rattle.core_bias.proofs.RevocationRuns.{takes_by}
 use Rattle.std.proofs.Common.{◌%◌}
+use Rattle.plain_monitor.specs.Limits.{most_holds}
 use Rattle.lock_policy.specs.declared.policy.Verdict.{Verdict}
 use Rattle.lock_policy.specs.declared.policy.Verdict.TheVariants.{BulkRebias}
-use Rattle.lock_policy.specs.Policy.{decided, is_reset}
+use Rattle.lock_policy.specs.Policy.{decided, is_reset, most_revocations}
 use Rattle.core_world.specs.declared.name.Name.TheVariants as name
 use Rattle.core_world.specs.Words.Forms.{epoch_form}
 use Rattle.core_world.specs.Threads.Counts.{ClassCounts, CountedVerdict, counts_of, CountedVerdict, counts_of, with_verdict_counted, with_verdict, with_reset}
@@ -59,8 +60,11 @@ turn_stored : (r : Rule) (rs : List Rule) (f : Name → ℕ) → words_after (in
 turn_stored r rs f = stored_append (r f) (in_turn rs (words_after (r f) f)) f
 
 module _ (w : World) (P : List PlainObject) (r : ℕ) (b : Revocation) (l : Known) (reached : (w.known r).reached ≡ true) (on : w.biasing ≡ true) (k : HasCounted w r b l) (v : FitsUnseen w P) where
+  abbrev class : ℕ → ℕ
+  class = class_by w.shape w.words
+
   abbrev c : ℕ
-  c = class_of w.shape b.object
+  c = class b.object
 
   abbrev d : Verdict × ℕ
   d = decided (w.words (Revocations c)) (w.words (LastBulk c)) b.now
@@ -97,13 +101,13 @@ module _ (w : World) (P : List PlainObject) (r : ℕ) (b : Revocation) (l : Know
 
   -- and with the held objects' marks
   abbrev f3 : Name → ℕ
-  f3 = words_after (on_records w.shape c (renew c) f2) f2
+  f3 = words_after (on_records w.shape class c (renew c) f2) f2
 
-  walked : IsWalked w.shape c f2 (v clause.limits).threads forms2 f3
-  walked = walk_is w.shape c f2 (v clause.limits).threads forms2
+  walked : IsWalked w.shape class c f2 (v clause.limits).threads forms2 f3
+  walked = walk_is w.shape class c f2 (v clause.limits).threads forms2
 
   abbrev aim : ℕ → ℕ
-  aim o = target w.shape c f2 (v clause.limits).threads forms2 o
+  aim o = target w.shape class c f2 (v clause.limits).threads forms2 o
 
   abbrev y : World
   y = with_knowledge r l w
@@ -130,26 +134,26 @@ module _ (w : World) (P : List PlainObject) (r : ℕ) (b : Revocation) (l : Know
   x = with_words (rewords mark prototype count last f) y
 
   -- a mark of another class, or without the bias pattern, stays
-  mark_stays : (o : ℕ) → (class_of w.shape o ≡ c → is_biased (f (Mark o)) ≡ true → ⊥) → mark o ≡ f (Mark o)
+  mark_stays : (o : ℕ) → (class o ≡ c → is_biased (f (Mark o)) ≡ true → ⊥) → mark o ≡ f (Mark o)
   mark_stays o away = elim (walked.marks o) [ inl a ↦ a ∙ mark_same o | inr a ↦ absurd (away a.0 (ap is_biased (sym (mark_same o)) ∙ a.1)) ]
 
   still_biased : (o : ℕ) → is_biased (f (Mark o)) ≡ true → is_biased (mark o) ≡ true
   still_biased o e = elim (walked.marks o) [
     | inl a ↦ ap is_biased (a ∙ mark_same o) ∙ e
-    | inr a ↦ ap is_biased a.2 ∙ (target_form w.shape c f2 (v clause.limits).threads forms2 o).1 ∙ a.1
+    | inr a ↦ ap is_biased a.2 ∙ (target_form w.shape class c f2 (v clause.limits).threads forms2 o).1 ∙ a.1
   ]
 
   still_form : (o : ℕ) → IsMark w.shape (read_mark (mark o))
   still_form o = elim (walked.marks o) [
     | inl a ↦ subst (λ m. IsMark w.shape (read_mark m)) (sym a) (forms2 o)
-    | inr a ↦ subst (λ m. IsMark w.shape (read_mark m)) (sym a.2) (target_form w.shape c f2 (v clause.limits).threads forms2 o).0
+    | inr a ↦ subst (λ m. IsMark w.shape (read_mark m)) (sym a.2) (target_form w.shape class c f2 (v clause.limits).threads forms2 o).0
   ]
 
   -- A HELD OBJECT of the class leans to the same thread, at the next epoch
-  held_lock : (o t : ℕ) → class_of w.shape o ≡ c → is_biased (f (Mark o)) ≡ true → lock y o ≡ BiasedTo t → 1 ≤ hold_count o (y.known t).holds → lock x o ≡ BiasedTo t
-  held_lock o t class biased leans held =
-      ap (λ m. lock_form (read_mark m) (prototype (class_of w.shape o)) (owner_words y) (inflations y o)) at
-      ∙ ap (λ i. lock_form (read_mark (aim o)) (prototype i) (owner_words y) (inflations y o)) class
+  held_lock : (o t : ℕ) → class o ≡ c → is_biased (f (Mark o)) ≡ true → lock y o ≡ BiasedTo t → 1 ≤ hold_count o (y.known t).holds → lock x o ≡ BiasedTo t
+  held_lock o t its biased leans held =
+      ap (λ m. lock_form (read_mark m) (prototype (class o)) (owner_words y) (inflations y o)) at
+      ∙ ap (λ i. lock_form (read_mark (aim o)) (prototype i) (owner_words y) (inflations y o)) its
       ∙ (λ j. lock_form (read_mark (renewed_form (read_mark (mark_same o j)) (epoch_in (raised_here j)) (mark_same o j))) (raised_here j) (owner_words y) (inflations y o))
       ∙ by_form (read_mark (f (Mark o))) refl (epoch_in (f (Prototype c))) refl
     where
@@ -159,7 +163,7 @@ module _ (w : World) (P : List PlainObject) (r : ℕ) (b : Revocation) (l : Know
           by_test : (a : Bool) → nat_lt t w.shape.threads ≡ a → t < w.shape.threads
           by_test true e = grind (arith, nat_tests, e)
           by_test false e =
-              let none : hold_count o (y.known t).holds ≡ 0 = ap (λ (z : Known). hold_count o z.holds) ((known_before clause.absent) t (grind (arith, nat_tests, e))) ∙ named_none o 64 in
+              let none : hold_count o (y.known t).holds ≡ 0 = ap (λ (z : Known). hold_count o z.holds) ((known_before clause.absent) t (grind (arith, nat_tests, e))) ∙ named_none o most_holds in
               absurd (omega (arith, none, held))
 
       record_at : (p : ℕ) × (p < length (y.known t).holds) × (names o (slice_index (y.known t).holds p) ≡ true)
@@ -167,11 +171,11 @@ module _ (w : World) (P : List PlainObject) (r : ℕ) (b : Revocation) (l : Know
 
       at : mark o ≡ aim o
       at =
-          walk_done w.shape c f2 (v clause.limits).threads forms2 t within record_at.0 (omega (arith, record_at.1, (known_before clause.holds).places t)) o
-          (ap (names o) (raised_other (Hold t record_at.0) refl ∙ (known_before clause.holds).stored t record_at.0) ∙ record_at.2) class (ap is_biased (mark_same o) ∙ biased)
+          walk_done w.shape class c f2 (v clause.limits).threads forms2 t within record_at.0 (omega (arith, record_at.1, (known_before clause.holds).places t)) o
+          (ap (names o) (raised_other (Hold t record_at.0) refl ∙ (known_before clause.holds).stored t record_at.0) ∙ record_at.2) its (ap is_biased (mark_same o) ∙ biased)
 
       lock_was : lock y o ≡ lock_form (read_mark (f (Mark o))) (f (Prototype c)) (owner_words y) (inflations y o)
-      lock_was = ap (λ i. lock_form (read_mark (f (Mark o))) (f (Prototype i)) (owner_words y) (inflations y o)) class
+      lock_was = ap (λ i. lock_form (read_mark (f (Mark o))) (f (Prototype i)) (owner_words y) (inflations y o)) its
 
       by_form : (a : Option MarkForm) → read_mark (f (Mark o)) ≡ a → (e : Option ℕ) → epoch_in (f (Prototype c)) ≡ e
           → lock_form (read_mark (renewed_form a (epoch_in (raised_word e (f (Prototype c)))) (f (Mark o)))) (raised_word e (f (Prototype c))) (owner_words y) (inflations y o) ≡ BiasedTo t
@@ -202,23 +206,23 @@ module _ (w : World) (P : List PlainObject) (r : ℕ) (b : Revocation) (l : Know
       by_form _ a e q = let no = ap is_biased_form a in absurd (cc (no, biased))
 
   moves : (o : ℕ) → Moves y x o
-  moves o = by_equal (class_of w.shape o) c
+  moves o = by_equal (class o) c
       (λ e. by_bias e (is_biased (f (Mark o))) refl)
       (λ e.
       let same = mark_stays o (λ s z. e s) in
-      let proto : prototype (class_of w.shape o) ≡ f (Prototype (class_of w.shape o)) = raised_other (Prototype (class_of w.shape o)) (ne_eqb (class_of w.shape o) c e) in
+      let proto : prototype (class o) ≡ f (Prototype (class o)) = raised_other (Prototype (class o)) (ne_eqb (class o) c e) in
       inl (same, λ j. lock_form (read_mark (same j)) (proto j) (owner_words y) (inflations y o)))
     where
       freed : is_biased (f (Mark o)) ≡ true → (t : ℕ) → lock y o ≡ BiasedTo t → hold_count o (y.known t).holds ≡ 0 → (u : ℕ) → hold_count o (y.known u).holds ≡ 0
       freed z t leans none u = by_equal u t (λ s. ap (λ i. hold_count o (y.known i).holds) s ∙ none)
           (λ s. (known_before clause.biases).unheld o u z (λ q. let same : t ≡ u = cc (leans, q) in s (sym same)))
 
-      by_count : class_of w.shape o ≡ c → is_biased (f (Mark o)) ≡ true → (t : ℕ) → lock y o ≡ BiasedTo t → (n : ℕ) → hold_count o (y.known t).holds ≡ n
+      by_count : class o ≡ c → is_biased (f (Mark o)) ≡ true → (t : ℕ) → lock y o ≡ BiasedTo t → (n : ℕ) → hold_count o (y.known t).holds ≡ n
           → (lock x o ≡ lock y o) ⊎ ((u : ℕ) → hold_count o (y.known u).holds ≡ 0)
       by_count e z t leans zero none = inr (freed z t leans none)
       by_count e z t leans (suc n) some = inl (held_lock o t e z leans (omega (arith, some)) ∙ sym leans)
 
-      by_bias : class_of w.shape o ≡ c → (a : Bool) → is_biased (f (Mark o)) ≡ a → Moves y x o
+      by_bias : class o ≡ c → (a : Bool) → is_biased (f (Mark o)) ≡ a → Moves y x o
       by_bias e true z = inr (
         z,
         still_biased o z,
@@ -230,7 +234,7 @@ module _ (w : World) (P : List PlainObject) (r : ℕ) (b : Revocation) (l : Know
       )
       by_bias e false z =
           let same = mark_stays o (λ s q. absurd (cc (q, z))) in
-          inl (same, ap (λ m. lock_form (read_mark m) (prototype (class_of w.shape o)) (owner_words y) (inflations y o)) same ∙ plain_lock (read_mark (f (Mark o))) _ _ (owner_words y) (inflations y o) z)
+          inl (same, ap (λ m. lock_form (read_mark m) (prototype (class o)) (owner_words y) (inflations y o)) same ∙ plain_lock (read_mark (f (Mark o))) _ _ (owner_words y) (inflations y o) z)
 
   module _ (bulk : d.0 ≡ BulkRebias) where
     counts : l.counts ≡ with_verdict_counted (w.known r).counts c BulkRebias (is_reset (f (Revocations c)) (f (LastBulk c)) b.now)
@@ -289,7 +293,7 @@ module _ (w : World) (P : List PlainObject) (r : ℕ) (b : Revocation) (l : Know
           λ j. if q j == 0 then p j % 4 * 256 + 5 else 1));
     }
       where
-        few : {n : ℕ} (a : Bool) → n ≤ 41 → cond a d.1 n ≤ 41
+        few : {n : ℕ} (a : Bool) → n ≤ most_revocations → cond a d.1 n ≤ most_revocations
         few true h = raised_few (f (Revocations c)) (f (LastBulk c)) b.now ((v clause.classes).few on c)
         few false h = h
 
@@ -335,9 +339,9 @@ module _ (w : World) (P : List PlainObject) (r : ℕ) (b : Revocation) (l : Know
     words : words_after (revocation_writes w.shape r b f) f ≡ words_after (in_turn (rest b.rebias) f3) f3
     unfolding revocation_writes
     words =
-        ap (λ z. words_after (in_turn (revocation_rules w.shape r c b (z, d.1)) f) f) bulk
-        ∙ turn_stored (raise_epoch c) (on_records w.shape c (renew c) ∷ rest b.rebias) f0
-        ∙ turn_stored (on_records w.shape c (renew c)) (rest b.rebias) f2
+        ap (λ z. words_after (in_turn (revocation_rules w.shape class r c b (z, d.1)) f) f) bulk
+        ∙ turn_stored (raise_epoch c) (on_records w.shape class c (renew c) ∷ rest b.rebias) f0
+        ∙ turn_stored (on_records w.shape class c (renew c)) (rest b.rebias) f2
 
     pub rebiased_fits : FitsUnseen (revoked_world w r b l) P
     rebiased_fits = subst (λ z. FitsUnseen (with_words z y) P) (sym words) (rest_fits b.rebias)

@@ -1,9 +1,10 @@
 -- A bulk revoke as a whole: each held object of the class is revoked, then the object itself, and the class's prototype is neutral.
-use Rattle.core_locks.proofs.Prelude.{◌≡◌, ◌≢◌, ℕ, zero, suc, ◌+◌, ◌*◌, ◌<◌, ◌≤◌, ◌==◌, ◌&&◌, ◌++◌, nat_lt, eq-eqb, ne_eqb, eqb-true, Bool, true, false, cond, if◌then◌else◌, List, [], ◌∷◌, length, slice_index, Option, Some, None, refl, sym, ap, ◌∙◌, subst, arith, inl, inr, nat_tests, MarkForm, Anonymous, Biased, HoldForm, Holds, read_mark, read_hold, PlainObject, Name, Mark, Hold, Prototype, Revocations, LastBulk, Calm, class_of, with_word, is_biased, is_biased_form, names, names_form, one_if, Known, World, with_known, lock_form, marks, owner_words, inflations, count_where, hold_count, ClassesFit, bulk_rebiases, bulk_revokes, with_knowledge, by_equal, with_known_here, each_with_known}
+use Rattle.core_locks.proofs.Prelude.{◌≡◌, ◌≢◌, ℕ, zero, suc, ◌+◌, ◌*◌, ◌<◌, ◌≤◌, ◌==◌, ◌&&◌, ◌++◌, nat_lt, eq-eqb, ne_eqb, eqb-true, Bool, true, false, cond, if◌then◌else◌, List, [], ◌∷◌, length, slice_index, Option, Some, None, refl, sym, ap, ◌∙◌, subst, arith, inl, inr, nat_tests, MarkForm, Anonymous, Biased, HoldForm, Holds, read_mark, read_hold, PlainObject, Name, Mark, Hold, Prototype, Revocations, LastBulk, Calm, class_by, with_word, is_biased, is_biased_form, names, names_form, one_if, Known, World, with_known, lock_form, marks, owner_words, inflations, count_where, hold_count, ClassesFit, bulk_rebiases, bulk_revokes, with_knowledge, by_equal, with_known_here, each_with_known}
 use Rattle.std.proofs.Common.{◌%◌}
+use Rattle.plain_monitor.specs.Limits.{most_holds}
 use Rattle.lock_policy.specs.declared.policy.Verdict.{Verdict}
 use Rattle.lock_policy.specs.declared.policy.Verdict.TheVariants.{BulkRevoke}
-use Rattle.lock_policy.specs.Policy.{decided, is_reset}
+use Rattle.lock_policy.specs.Policy.{decided, is_reset, most_revocations}
 use Rattle.core_world.specs.declared.name.Name.TheVariants as name
 use Rattle.core_world.specs.Threads.Counts.{ClassCounts, CountedVerdict, counts_of, CountedVerdict, counts_of, with_verdict_counted, with_verdict, with_reset}
 use Rattle.core_world.specs.Threads.Stages.{Revocation}
@@ -104,21 +105,21 @@ module _ (w : World) (P : List PlainObject) (calm : AllCalm w) where
   }
 
   -- THE WALK over the records of all threads, for class c
-  module _ (c : ℕ) where
+  module _ (class : ℕ → ℕ) (c : ℕ) where
     abbrev visit : ℕ → ℕ → Rule
-    visit t p f = on_held w.shape c (λ o. revoke o false) (object_held (read_hold (f (Hold t p)))) f
+    visit t p f = on_held class c (λ o. revoke o false) (object_held (read_hold (f (Hold t p)))) f
 
-    kept_held : (a : Option ℕ) (g : Name → ℕ) → F g → IsKept (on_held w.shape c (λ o. revoke o false) a) g
+    kept_held : (a : Option ℕ) (g : Name → ℕ) → F g → IsKept (on_held class c (λ o. revoke o false) a) g
     kept_held None g v = kept_none g v
-    kept_held (Some o) g v = cases ((class_of w.shape o == c) && is_biased (g (Mark o))) refl
+    kept_held (Some o) g v = cases ((class o == c) && is_biased (g (Mark o))) refl
       where
-        cases : (b : Bool) → ((class_of w.shape o == c) && is_biased (g (Mark o))) ≡ b → IsKept (on_held w.shape c (λ o. revoke o false) (Some o)) g
+        cases : (b : Bool) → ((class o == c) && is_biased (g (Mark o))) ≡ b → IsKept (on_held class c (λ o. revoke o false) (Some o)) g
         cases true e =
-            let same : on_held w.shape c (λ o. revoke o false) (Some o) g ≡ revoke o false g = ap (λ b. if b then revoke o false g else []) e in
+            let same : on_held class c (λ o. revoke o false) (Some o) g ≡ revoke o false g = ap (λ b. if b then revoke o false g else []) e in
             let k = kept_revoke o g v in
             record { fits = subst (λ xs. F (words_after xs g)) (sym same) k.fits; plain = λ i h. subst (λ xs. U (words_after xs g) i) (sym same) (k.plain i h) }
         cases false e =
-            let same : on_held w.shape c (λ o. revoke o false) (Some o) g ≡ [] = ap (λ b. if b then revoke o false g else []) e in
+            let same : on_held class c (λ o. revoke o false) (Some o) g ≡ [] = ap (λ b. if b then revoke o false g else []) e in
             record { fits = subst (λ xs. F (words_after xs g)) (sym same) v; plain = λ i h. subst (λ xs. U (words_after xs g) i) (sym same) h }
 
     kept_visit : (t p : ℕ) (g : Name → ℕ) → F g → IsKept (visit t p) g
@@ -126,33 +127,33 @@ module _ (w : World) (P : List PlainObject) (calm : AllCalm w) where
 
     -- the object of t's record at place p has no bias, if it is of the class
     abbrev Done : ℕ → ℕ → (Name → ℕ) → Type 0
-    Done t p g = (o : ℕ) → names o (slice_index (w.known t).holds p) ≡ true → class_of w.shape o ≡ c → U g o
+    Done t p g = (o : ℕ) → names o (slice_index (w.known t).holds p) ≡ true → class o ≡ c → U g o
 
     visit_done : (t p : ℕ) (g : Name → ℕ) → F g → Done t p (words_after (visit t p g) g)
     visit_done t p g v o e k =
         let word : g (Hold t p) ≡ slice_index (w.known t).holds p = (v clause.holds).stored t p in
         let object : object_held (read_hold (g (Hold t p))) ≡ Some o = ap (λ h. object_held (read_hold h)) word ∙ held_object (slice_index (w.known t).holds p) o e in
-        subst (λ a. U (words_after (on_held w.shape c (λ o. revoke o false) a g) g) o) (sym object) (cases (is_biased (g (Mark o))) refl)
+        subst (λ a. U (words_after (on_held class c (λ o. revoke o false) a g) g) o) (sym object) (cases (is_biased (g (Mark o))) refl)
       where
-        class : (class_of w.shape o == c) ≡ true
-        class = eq-eqb (class_of w.shape o) c k
+        its : (class o == c) ≡ true
+        its = eq-eqb (class o) c k
 
-        cases : (b : Bool) → is_biased (g (Mark o)) ≡ b → U (words_after (if (class_of w.shape o == c) && is_biased (g (Mark o)) then revoke o false g else []) g) o
-        cases true z = subst (λ b. U (words_after (if b then revoke o false g else []) g) o) (λ i. sym class i && sym z i) (revoke_unbiased (with_words g w) P o calm v)
-        cases false z = subst (λ b. U (words_after (if b then revoke o false g else []) g) o) (λ i. sym class i && sym z i) z
+        cases : (b : Bool) → is_biased (g (Mark o)) ≡ b → U (words_after (if (class o == c) && is_biased (g (Mark o)) then revoke o false g else []) g) o
+        cases true z = subst (λ b. U (words_after (if b then revoke o false g else []) g) o) (λ i. sym its i && sym z i) (revoke_unbiased (with_words g w) P o calm v)
+        cases false z = subst (λ b. U (words_after (if b then revoke o false g else []) g) o) (λ i. sym its i && sym z i) z
 
     abbrev row : ℕ → Rule
-    row t = each_below 64 (visit t)
+    row t = each_below most_holds (visit t)
 
-    pub kept_walk : (g : Name → ℕ) → F g → IsKept (on_records w.shape c (λ o. revoke o false)) g
+    pub kept_walk : (g : Name → ℕ) → F g → IsKept (on_records w.shape class c (λ o. revoke o false)) g
     unfolding on_records
-    kept_walk g v = kept_below w.shape.threads row (λ t. kept_below 64 (visit t) (kept_visit t)) g v
+    kept_walk g v = kept_below w.shape.threads row (λ t. kept_below most_holds (visit t) (kept_visit t)) g v
 
-    pub walk_done : (g : Name → ℕ) → F g → (t : ℕ) → t < w.shape.threads → (p : ℕ) → p < 64 → Done t p (words_after (on_records w.shape c (λ o. revoke o false) g) g)
+    pub walk_done : (g : Name → ℕ) → F g → (t : ℕ) → t < w.shape.threads → (p : ℕ) → p < most_holds → Done t p (words_after (on_records w.shape class c (λ o. revoke o false) g) g)
     unfolding on_records
     walk_done g v =
-        done_below w.shape.threads row (λ t f. (p : ℕ) → p < 64 → Done t p f) (λ t. kept_below 64 (visit t) (kept_visit t)) (λ t f h mono d p small o e k. mono o (d p small o e k))
-        (λ t f u. done_below 64 (visit t) (Done t) (kept_visit t) (λ p f h mono d o e k. mono o (d o e k)) (visit_done t) f u) g v
+        done_below w.shape.threads row (λ t f. (p : ℕ) → p < most_holds → Done t p f) (λ t. kept_below most_holds (visit t) (kept_visit t)) (λ t f h mono d p small o e k. mono o (d p small o e k))
+        (λ t f u. done_below most_holds (visit t) (Done t) (kept_visit t) (λ p f h mono d o e k. mono o (d o e k)) (visit_done t) f u) g v
 
 -- a thread that revoked in bulk is counted
 pub revokes_some : (n : ℕ) (f : ℕ → List CountedVerdict) (c r : ℕ) → r < n → 1 ≤ (counts_of (f r) c).revoke → 1 ≤ bulk_revokes n f c
@@ -175,8 +176,11 @@ pub counted_here : (f : List CountedVerdict) (c : ℕ) (verdict : Verdict) (rese
 counted_here f c verdict reset = ap (λ (b : Bool). cond b (with_reset (with_verdict (counts_of f c) verdict) reset) (counts_of f c)) (eq-eqb c c refl)
 
 module _ (w : World) (P : List PlainObject) (r : ℕ) (b : Revocation) (l : Known) (reached : (w.known r).reached ≡ true) (on : w.biasing ≡ true) (k : HasCounted w r b l) (v : FitsUnseen w P) where
+  abbrev class : ℕ → ℕ
+  class = class_by w.shape w.words
+
   abbrev c : ℕ
-  c = class_of w.shape b.object
+  c = class b.object
 
   abbrev d : Verdict × ℕ
   d = decided (w.words (Revocations c)) (w.words (LastBulk c)) b.now
@@ -186,7 +190,7 @@ module _ (w : World) (P : List PlainObject) (r : ℕ) (b : Revocation) (l : Know
 
   -- the walk and the revocation of the object, by the words before
   abbrev walk : Rule
-  walk = on_records w.shape c (λ o. revoke o false)
+  walk = on_records w.shape class c (λ o. revoke o false)
 
   abbrev single : Rule
   single = revoke b.object false
@@ -201,26 +205,26 @@ module _ (w : World) (P : List PlainObject) (r : ℕ) (b : Revocation) (l : Know
   calm = all_calm w P r reached k.calm v
 
   walked : IsKept w P calm walk f
-  walked = kept_walk w P calm c f v
+  walked = kept_walk w P calm class c f v
 
   revoked : IsKept w P calm single (words_after (walk f) f)
   revoked = kept_revoke w P calm b.object (words_after (walk f) f) walked.fits
 
   -- nobody holds an object of the class that has a bias still
-  free : (o : ℕ) → class_of w.shape o ≡ c → is_biased (g (Mark o)) ≡ true → (u : ℕ) → hold_count o (w.known u).holds ≡ 0
-  free o class biased u = by_thread (nat_lt u w.shape.threads) refl
+  free : (o : ℕ) → class o ≡ c → is_biased (g (Mark o)) ≡ true → (u : ℕ) → hold_count o (w.known u).holds ≡ 0
+  free o its biased u = by_thread (nat_lt u w.shape.threads) refl
     where
       by_count : (n : ℕ) → hold_count o (w.known u).holds ≡ n → u < w.shape.threads → hold_count o (w.known u).holds ≡ 0
       by_count zero e within = e
       by_count (suc n) e within =
           let at = some_named o 0 (w.known u).holds (omega (arith, e)) in
-          let place : at.0 < 64 = omega (arith, at.1, (v clause.holds).places u) in
-          let plain = revoked.plain o (walk_done w P calm c f v u within at.0 place o at.2 class) in
+          let place : at.0 < most_holds = omega (arith, at.1, (v clause.holds).places u) in
+          let plain = revoked.plain o (walk_done w P calm class c f v u within at.0 place o at.2 its) in
           absurd (cc (plain, biased))
 
       by_thread : (a : Bool) → nat_lt u w.shape.threads ≡ a → hold_count o (w.known u).holds ≡ 0
       by_thread true e = by_count (hold_count o (w.known u).holds) refl (grind (arith, nat_tests, e))
-      by_thread false e = ap (λ (y : Known). hold_count o y.holds) ((v clause.absent) u (grind (arith, nat_tests, e))) ∙ named_none o 64
+      by_thread false e = ap (λ (y : Known). hold_count o y.holds) ((v clause.absent) u (grind (arith, nat_tests, e))) ∙ named_none o most_holds
 
   -- the world before the words of the class are stored
   abbrev y : World
@@ -247,16 +251,16 @@ module _ (w : World) (P : List PlainObject) (r : ℕ) (b : Revocation) (l : Know
   class_word : (n : Name) → of_class n ≡ true → g n ≡ f n
   class_word n e =
       classless_stays (single (words_after (walk f) f)) (words_after (walk f) f) n ((blind_revoke b.object false).stores (words_after (walk f) f)) e
-      ∙ classless_stays (walk f) f n ((blind_walk w.shape c (λ o. revoke o false) (λ o. blind_revoke o false)).stores f) e
+      ∙ classless_stays (walk f) f n ((blind_walk w.shape class c (λ o. revoke o false) (λ o. blind_revoke o false)).stores f) e
 
   moves : (o : ℕ) → Moves y x o
-  moves o = by_equal (class_of w.shape o) c
+  moves o = by_equal (class o) c
       (λ e. by_bias e (is_biased (g (Mark o))) refl)
       (λ e.
-      let proto : prototype (class_of w.shape o) ≡ g (Prototype (class_of w.shape o)) = ap (λ (a : Bool). cond a 1 (f (Prototype (class_of w.shape o)))) (ne_eqb (class_of w.shape o) c e) ∙ sym (class_word (Prototype (class_of w.shape o)) refl) in
+      let proto : prototype (class o) ≡ g (Prototype (class o)) = ap (λ (a : Bool). cond a 1 (f (Prototype (class o)))) (ne_eqb (class o) c e) ∙ sym (class_word (Prototype (class o)) refl) in
       inl (refl, ap (λ z. lock_form (read_mark (g (Mark o))) z (owner_words y) (inflations y o)) proto))
     where
-      by_bias : class_of w.shape o ≡ c → (a : Bool) → is_biased (g (Mark o)) ≡ a → Moves y x o
+      by_bias : class o ≡ c → (a : Bool) → is_biased (g (Mark o)) ≡ a → Moves y x o
       by_bias e true z = inr (z, z, (known_before clause.forms).marks o, inr (λ u. each_with_known (λ u m. hold_count o m.holds ≡ 0) r l w.known u (ap (hold_count o) (sym k.same.holds) ∙ free o e z r) (λ d. free o e z u)))
       by_bias e false z = inl (refl, plain_lock (read_mark (g (Mark o))) _ _ (owner_words y) (inflations y o) z)
 
@@ -272,7 +276,7 @@ module _ (w : World) (P : List PlainObject) (r : ℕ) (b : Revocation) (l : Know
     agree _ e = refl
 
     turning : IsBlind turn
-    turning = blind_turn (walk ∷ single ∷ []) (blind_walk w.shape c (λ o. revoke o false) (λ o. blind_revoke o false), (blind_revoke b.object false, tt))
+    turning = blind_turn (walk ∷ single ∷ []) (blind_walk w.shape class c (λ o. revoke o false) (λ o. blind_revoke o false), (blind_revoke b.object false, tt))
 
     turned : words_after (turn f) f ≡ g
     turned = stored_append (walk f) (single (words_after (walk f) f) ++ []) f ∙ stored_append (single (words_after (walk f) f)) [] (words_after (walk f) f)
@@ -282,13 +286,13 @@ module _ (w : World) (P : List PlainObject) (r : ℕ) (b : Revocation) (l : Know
         sym (ap (λ (z : Name → ℕ). z n) turned) ∙ sym (stored_agree (turn f) f2 f agree n e)
         ∙ sym (ap (λ xs. words_after xs f2 n) (turning.reads f2 f agree))
 
-    class : (n : Name) → of_class n ≡ true → f2 n ≡ words_after (turn f2) f2 n
-    class n e = sym (classless_stays (turn f2) f2 n (turning.stores f2) e)
+    of_classes : (n : Name) → of_class n ≡ true → f2 n ≡ words_after (turn f2) f2 n
+    of_classes n e = sym (classless_stays (turn f2) f2 n (turning.stores f2) e)
 
     each : (n : Name) → rewords (marks y) prototype count last g n ≡ words_after (turn f2) f2 n
-    each (name.Prototype i) = class (Prototype i) refl
-    each (name.Revocations i) = class (Revocations i) refl
-    each (name.LastBulk i) = class (LastBulk i) refl
+    each (name.Prototype i) = of_classes (Prototype i) refl
+    each (name.Revocations i) = of_classes (Revocations i) refl
+    each (name.LastBulk i) = of_classes (LastBulk i) refl
     each (name.Safepoint) = other name.Safepoint refl
     each (name.Mark o) = other (name.Mark o) refl
     each (name.Stamp o) = other (name.Stamp o) refl
@@ -307,7 +311,7 @@ module _ (w : World) (P : List PlainObject) (r : ℕ) (b : Revocation) (l : Know
 
     words : words_after (revocation_writes w.shape r b f) f ≡ words_after (turn f2) f2
     unfolding revocation_writes
-    words = ap (λ z. words_after (in_turn (revocation_rules w.shape r c b (z, d.1)) f) f) bulk
+    words = ap (λ z. words_after (in_turn (revocation_rules w.shape class r c b (z, d.1)) f) f) bulk
 
     world : x ≡ revoked_world w r b l
     world =
@@ -350,7 +354,7 @@ module _ (w : World) (P : List PlainObject) (r : ℕ) (b : Revocation) (l : Know
           λ j. if b j == 0 then a j % 4 * 256 + 5 else 1));
     }
       where
-        few : {n : ℕ} (a : Bool) → n ≤ 41 → cond a d.1 n ≤ 41
+        few : {n : ℕ} (a : Bool) → n ≤ most_revocations → cond a d.1 n ≤ most_revocations
         few true h = raised_few (f (Revocations c)) (f (LastBulk c)) b.now ((v clause.classes).few on c)
         few false h = h
 

@@ -1,5 +1,6 @@
 -- A revocation stores the count of its class first, and no count again.
-use Rattle.core_locks.proofs.Prelude.{◌≡◌, ℕ, zero, suc, ◌==◌, ◌&&◌, ◌++◌, Bool, true, false, if◌then◌else◌, List, [], ◌∷◌, Option, Some, None, refl, ap, read_mark, read_hold, Name, Mark, Prototype, LastBulk, AllByRecursion, Shape, class_of, is_biased, epoch_in}
+use Rattle.plain_monitor.specs.Limits.{most_holds}
+use Rattle.core_locks.proofs.Prelude.{◌≡◌, ℕ, zero, suc, ◌==◌, ◌&&◌, ◌++◌, Bool, true, false, if◌then◌else◌, List, [], ◌∷◌, Option, Some, None, refl, ap, read_mark, read_hold, Name, Mark, Prototype, LastBulk, AllByRecursion, Shape, class_by, is_biased, epoch_in}
 use Rattle.lock_policy.specs.declared.policy.Verdict.{Verdict}
 use Rattle.lock_policy.specs.declared.policy.Verdict.TheVariants.{Single, BulkRebias, BulkRevoke}
 use Rattle.lock_policy.specs.Policy.{decided}
@@ -47,13 +48,13 @@ below_none (suc n) r h f = countless_append (each_below n r f) _ (below_none n r
 revoke_none : (o : ℕ) (allowed : Bool) → IsCountless (revoke o allowed)
 revoke_none o allowed f = by_class (revoke o allowed f) ((blind_revoke o allowed).stores f)
 
-walk_none : (s : Shape) (c : ℕ) (r : ℕ → Rule) → ((o : ℕ) → IsCountless (r o)) → IsCountless (on_records s c r)
+walk_none : (s : Shape) (class : ℕ → ℕ) (c : ℕ) (r : ℕ → Rule) → ((o : ℕ) → IsCountless (r o)) → IsCountless (on_records s class c r)
 unfolding on_records
-walk_none s c r h = below_none s.threads _ (λ t. below_none 64 _ (λ p f. held f (object_held (read_hold (f (name.Hold t p))))))
+walk_none s class c r h = below_none s.threads _ (λ t. below_none most_holds _ (λ p f. held f (object_held (read_hold (f (name.Hold t p))))))
   where
-    held : (f : Name → ℕ) (x : Option ℕ) → Countless (on_held s c r x f)
+    held : (f : Name → ℕ) (x : Option ℕ) → Countless (on_held class c r x f)
     held f None = tt
-    held f (Some o) = cases ((class_of s o == c) && is_biased (f (Mark o)))
+    held f (Some o) = cases ((class o == c) && is_biased (f (Mark o)))
       where
         cases : (b : Bool) → Countless (if b then r o f else [])
         cases true = h o f
@@ -70,19 +71,19 @@ raise_none c f = by_epoch (epoch_in (f (Prototype c)))
     by_epoch None = tt
     by_epoch (Some epoch) = (refl, tt)
 
-verdict_none : (s : Shape) (t c : ℕ) (b : Revocation) (d : Verdict) → AreCountless (verdict_rules s t c b d)
-verdict_none s t c b Single = (revoke_none b.object false, tt)
-verdict_none s t c b BulkRebias = (
+verdict_none : (s : Shape) (class : ℕ → ℕ) (t c : ℕ) (b : Revocation) (d : Verdict) → AreCountless (verdict_rules s class t c b d)
+verdict_none s class t c b Single = (revoke_none b.object false, tt)
+verdict_none s class t c b BulkRebias = (
   λ f. (refl, tt),
-  (raise_none c, (walk_none s c (renew c) (λ o f. mark_none o (with_epoch (read_mark (f (Mark o))) (epoch_in (f (Prototype c))))), (revoke_none b.object b.rebias, taking b.rebias))),
+  (raise_none c, (walk_none s class c (renew c) (λ o f. mark_none o (with_epoch (read_mark (f (Mark o))) (epoch_in (f (Prototype c))))), (revoke_none b.object b.rebias, taking b.rebias))),
 )
   where
     taking : (a : Bool) → AreCountless (if a then take_bias c b.object t ∷ [] else [])
     taking true = (λ f. mark_none b.object (biased_word (is_biased (f (Mark b.object))) (epoch_in (f (Prototype c))) t), tt)
     taking false = tt
-verdict_none s t c b BulkRevoke = (
+verdict_none s class t c b BulkRevoke = (
   λ f. (refl, tt),
-  (λ f. (refl, tt), (walk_none s c (λ o. revoke o false) (λ o. revoke_none o false), (revoke_none b.object false, tt))),
+  (λ f. (refl, tt), (walk_none s class c (λ o. revoke o false) (λ o. revoke_none o false), (revoke_none b.object false, tt))),
 )
 
 -- what comes after the first of these stores is no count
@@ -99,6 +100,7 @@ tail_none x xs none first before after n word count e = none_there before xs non
 pub count_once : (s : Shape) (t : ℕ) (b : Revocation) (f : Name → ℕ) (first : Write) (before after : List Write) (c word : ℕ) → (first ∷ before) ++ write (name.Revocations c) word ∷ after ≡ revocation_writes s t b f → ⊥
 unfolding revocation_writes
 count_once s t b f first before after c word e =
-    let class = class_of s b.object in
-    let d = decided (f (name.Revocations class)) (f (name.LastBulk class)) b.now in
-    tail_none (write (name.Revocations class) d.1) _ (in_turn_none (verdict_rules s t class b d.0) (verdict_none s t class b d.0) _) first before after (name.Revocations c) word refl e
+    let class = class_by s f in
+    let its = class b.object in
+    let d = decided (f (name.Revocations its)) (f (name.LastBulk its)) b.now in
+    tail_none (write (name.Revocations its) d.1) _ (in_turn_none (verdict_rules s class t its b d.0) (verdict_none s class t its b d.0) _) first before after (name.Revocations c) word refl e

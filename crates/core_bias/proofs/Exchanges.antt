@@ -96,7 +96,7 @@ module _ (w : World) (P : List PlainObject) (t : ℕ) (e : Purpose) (o mark m : 
         (mark_back w o n t l (w.known u) (w.known u) (owner_at P) (owner_at P) u (λ i a h. names i ∙ h) refl refl refl (λ z. z) refl (λ i h. h) (λ i a h b. b)) name s g;
     owned = λ u i d h. h;
     word = λ u s d st is. absurd (uncounted u s st is);
-    bias = bias_forth;
+    bias = λ u i s e r. bias_forth i;
     waits = λ u i j d h g. g;
     unwaited = λ u i d h g. g;
     unreached = none_reached w P t l v runs refl;

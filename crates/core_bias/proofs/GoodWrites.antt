@@ -1,5 +1,6 @@
 -- What a revocation stores: words of classes, displaced words, and marks that spell a form and name no monitor, in the place of such.
-use Rattle.core_locks.proofs.Prelude.{◌≡◌, ◌≢◌, ℕ, zero, suc, ◌+◌, ◌<◌, ◌==◌, ◌&&◌, ◌++◌, Bool, true, false, if◌then◌else◌, List, [], ◌∷◌, Option, Some, None, refl, sym, ap, ◌∙◌, subst, arith, eq-eqb, ◌≤◌, AllByRecursion, MarkForm, Neutral, Anonymous, Biased, Locked, mark_of, read_mark, read_hold, read_mark-mark_of, read_mark-spells, Name, Mark, Hold, Shape, class_of, with_word, is_biased, is_biased_form, monitor_in, monitor_form, epoch_in, hold_word, names, hold_count, IsMark}
+use Rattle.plain_monitor.specs.Limits.{most_threads, most_holds}
+use Rattle.core_locks.proofs.Prelude.{◌≡◌, ◌≢◌, ℕ, zero, suc, ◌+◌, ◌<◌, ◌==◌, ◌&&◌, ◌++◌, Bool, true, false, if◌then◌else◌, List, [], ◌∷◌, Option, Some, None, refl, sym, ap, ◌∙◌, subst, arith, eq-eqb, ◌≤◌, AllByRecursion, MarkForm, Neutral, Anonymous, Biased, Locked, mark_of, read_mark, read_hold, read_mark-mark_of, read_mark-spells, Name, Mark, Hold, Shape, class_by, with_word, is_biased, is_biased_form, monitor_in, monitor_form, epoch_in, hold_word, names, hold_count, IsMark}
 use Rattle.lock_policy.specs.declared.policy.Verdict.{Verdict}
 use Rattle.lock_policy.specs.declared.policy.Verdict.TheVariants.{Single, BulkRebias, BulkRevoke}
 use Rattle.lock_policy.specs.Policy.{decided}
@@ -23,7 +24,7 @@ is_revocation_word _ = false
 -- equal hold words
 pub holds_same : (f g : Name → ℕ) (t : ℕ) → ((p : ℕ) → g (Hold t p) ≡ f (Hold t p)) → holds_in g t ≡ holds_in f t
 unfolding holds_in
-holds_same f g t h = λ i. words_from 0 64 (λ p. h p i)
+holds_same f g t h = λ i. words_from 0 most_holds (λ p. h p i)
 
 -- an epoch is below 4
 pub epoch_few : (n epoch : ℕ) → epoch_in n ≡ Some epoch → epoch < 4
@@ -105,7 +106,7 @@ module _ (s : Shape) (f : Name → ℕ) where
       cases false h = h
 
   -- the threads are few, and who holds an object has a record of it with depth 1
-  module _ (threads : s.threads ≤ 16) (first : (t o : ℕ) → hold_count o (holds_in f t) ≢ 0 → first_place o (holds_in f t) < 64) where
+  module _ (threads : s.threads ≤ most_threads) (first : (t o : ℕ) → hold_count o (holds_in f t) ≢ 0 → first_place o (holds_in f t) < most_holds) where
     bare : (g : Name → ℕ) → Follows g → (o : ℕ) → is_biased (g (Mark o)) ≡ true → monitor_in (f (Mark o)) ≡ None
     bare g h o e = sym (h.names o) ∙ biased_unnamed (g (Mark o)) e
 
@@ -178,37 +179,38 @@ module _ (s : Shape) (f : Name → ℕ) where
             ((refl, (subst (IsMark s) (sym spelled) (within, refl), ap monitor_form spelled, bare g h o r)), tt)
         by_form _ r _ q = tt
 
-    good_held : (c : ℕ) (r : ℕ → Rule) → ((o : ℕ) → IsGoodRule (r o)) → (a : Option ℕ) → IsGoodRule (on_held s c r a)
-    good_held c r good None g h = tt
-    good_held c r good (Some o) g h = cases ((class_of s o == c) && is_biased (g (Mark o)))
+    good_held : (class : ℕ → ℕ) (c : ℕ) (r : ℕ → Rule) → ((o : ℕ) → IsGoodRule (r o)) → (a : Option ℕ) → IsGoodRule (on_held class c r a)
+    good_held class c r good None g h = tt
+    good_held class c r good (Some o) g h = cases ((class o == c) && is_biased (g (Mark o)))
       where
         cases : (b : Bool) → AreGood (if b then r o g else [])
         cases true = good o g h
         cases false = tt
 
-    good_walk : (c : ℕ) (r : ℕ → Rule) → ((o : ℕ) → IsGoodRule (r o)) → IsGoodRule (on_records s c r)
+    good_walk : (class : ℕ → ℕ) (c : ℕ) (r : ℕ → Rule) → ((o : ℕ) → IsGoodRule (r o)) → IsGoodRule (on_records s class c r)
     unfolding on_records
-    good_walk c r good = good_below s.threads _ (λ t. good_below 64 _ (λ p g h. good_held c r good (object_held (read_hold (g (Hold t p)))) g h))
+    good_walk class c r good = good_below s.threads _ (λ t. good_below most_holds _ (λ p g h. good_held class c r good (object_held (read_hold (g (Hold t p)))) g h))
 
-    good_verdict : (t c : ℕ) (b : Revocation) → t < s.threads → (d : Verdict) → AreGoodRules (verdict_rules s t c b d)
-    good_verdict t c b within Single = (good_revoke b.object false, tt)
-    good_verdict t c b within BulkRebias = (
+    good_verdict : (class : ℕ → ℕ) (t c : ℕ) (b : Revocation) → t < s.threads → (d : Verdict) → AreGoodRules (verdict_rules s class t c b d)
+    good_verdict class t c b within Single = (good_revoke b.object false, tt)
+    good_verdict class t c b within BulkRebias = (
       good_one (name.LastBulk c) b.now refl tt,
-      (good_raise c, (good_walk c (renew c) (good_renew c), (good_revoke b.object b.rebias, taking b.rebias))),
+      (good_raise c, (good_walk class c (renew c) (good_renew c), (good_revoke b.object b.rebias, taking b.rebias))),
     )
       where
         taking : (a : Bool) → AreGoodRules (if a then take_bias c b.object t ∷ [] else [])
         taking true = (good_take c b.object t within, tt)
         taking false = tt
-    good_verdict t c b within BulkRevoke = (
+    good_verdict class t c b within BulkRevoke = (
       good_one (name.LastBulk c) b.now refl tt,
-      (good_one (name.Prototype c) (mark_of (Neutral 0 0)) refl tt, (good_walk c (λ o. revoke o false) (λ o. good_revoke o false), (good_revoke b.object false, tt))),
+      (good_one (name.Prototype c) (mark_of (Neutral 0 0)) refl tt, (good_walk class c (λ o. revoke o false) (λ o. good_revoke o false), (good_revoke b.object false, tt))),
     )
 
     -- ALL STORES of a revocation by thread t
     pub good_writes : (t : ℕ) (b : Revocation) → t < s.threads → ((o : ℕ) → IsMark s (read_mark (f (Mark o)))) → AreGood (revocation_writes s t b f)
     unfolding revocation_writes
     good_writes t b within forms =
-        let c = class_of s b.object in
+        let class = class_by s f in
+        let c = class b.object in
         let d = decided (f (name.Revocations c)) (f (name.LastBulk c)) b.now in
-        good_in_turn (revocation_rules s t c b d) (good_one (name.Revocations c) d.1 refl tt, good_verdict t c b within d.0) f (record { forms = forms; names = λ o. refl; holds = λ t p. refl })
+        good_in_turn (revocation_rules s class t c b d) (good_one (name.Revocations c) d.1 refl tt, good_verdict class t c b within d.0) f (record { forms = forms; names = λ o. refl; holds = λ t p. refl })

@@ -1,5 +1,5 @@
 -- What the answer of a revocation tells of its object's mark once all stores are made.
-use Rattle.core_locks.proofs.Prelude.{◌≡◌, ℕ, ◌++◌, true, List, [], Option, Some, None, refl, sym, ap, ◌∙◌, subst, MarkForm, Biased, read_mark, PlainObject, Prototype, Revocations, LastBulk, class_of, with_word, epoch_in, revocation_in, Known, StepMade, World, marks, prototype_of, has_epoch, Purpose, IsRevoking, IsValid}
+use Rattle.core_locks.proofs.Prelude.{◌≡◌, ℕ, ◌++◌, true, List, [], Option, Some, None, refl, sym, ap, ◌∙◌, subst, MarkForm, Biased, read_mark, PlainObject, Prototype, Revocations, LastBulk, class_by, with_word, epoch_in, revocation_in, Known, StepMade, World, marks, prototype_of, has_epoch, Purpose, IsRevoking, IsValid}
 use Rattle.lock_policy.specs.declared.policy.Verdict.{Verdict}
 use Rattle.lock_policy.specs.declared.policy.Verdict.TheVariants.{Single, BulkRebias, BulkRevoke}
 use Rattle.lock_policy.specs.Policy.{decided}
@@ -29,7 +29,7 @@ valid_epoch _ p e = absurd (cc e)
 -- BY THE RULES
 module _ (w : World) (P : List PlainObject) (r : ℕ) (b : Revocation) (l : Known) (reached : (w.known r).reached ≡ true) (valid : IsBiasedToOne w.shape w.words b.object) (k : HasCounted w r b l) (v : FitsUnseen w P) where
   abbrev c : ℕ
-  c = class_of w.shape b.object
+  c = class_by w.shape w.words b.object
 
   abbrev d : Verdict × ℕ
   d = decided (w.words (Revocations c)) (w.words (LastBulk c)) b.now
@@ -42,7 +42,7 @@ module _ (w : World) (P : List PlainObject) (r : ℕ) (b : Revocation) (l : Know
 
   -- with this verdict, where this was the epoch of the class
   abbrev Tells : Verdict → Option ℕ → Type 0
-  Tells z epoch = TellsBias r b.object c (took_by w.shape r c b (next_epoch epoch) z (with_word (Revocations c) d.1 w.words)) (words_after (revocation_writes w.shape r b w.words) w.words)
+  Tells z epoch = TellsBias r b.object c (took_by w.shape (class_by w.shape w.words) r c b (next_epoch epoch) z (with_word (Revocations c) d.1 w.words)) (words_after (revocation_writes w.shape r b w.words) w.words)
 
   by_verdict : (z : Verdict) → d.0 ≡ z → Tells z (epoch_in (w.words (Prototype c)))
   by_verdict Single e = single_plain w P r b l reached on k v e
@@ -54,11 +54,11 @@ module _ (w : World) (P : List PlainObject) (r : ℕ) (b : Revocation) (l : Know
 
 -- THE LAW, by the steps that the thread made
 pub answer_tells : (w : World) (P : List PlainObject) (t : ℕ) (e : Purpose) (b : Revocation) (ms earlier : List StepMade) (a : RevocationOutcome) → (w.known t).reached ≡ true → revocation_in (w.known t).stage ≡ Some b
-    → (w.known t).seen_at_safepoint ≡ ms ++ earlier → writes_in earlier ≡ [] → Leads (revoke_at_safepoint_steps w.shape t e b) ms (done a) → IsValid w P → TellsBias t b.object (class_of w.shape b.object) a.took w.words
+    → (w.known t).seen_at_safepoint ≡ ms ++ earlier → writes_in earlier ≡ [] → Leads (revoke_at_safepoint_steps w.shape t e b) ms (done a) → IsValid w P → TellsBias t b.object (class_by w.shape w.words b.object) a.took w.words
 answer_tells w P t e b ms earlier a reached its_revocation since looked path =
-    by_requester w P t b reached its_revocation (λ u. TellsBias t b.object (class_of w.shape b.object) a.took w.words) told
+    by_requester w P t b reached its_revocation (λ u. TellsBias t b.object (class_by w.shape w.words b.object) a.took w.words) told
   where
-    told : (s : IsRevoking w P) → s.requester ≡ t → TellsBias t b.object (class_of w.shape b.object) a.took w.words
+    told : (s : IsRevoking w P) → s.requester ≡ t → TellsBias t b.object (class_by w.shape w.words b.object) a.took w.words
     told s it =
         let same : s.revocation ≡ b = let both : Some s.revocation ≡ Some b = sym s.its_revocation ∙ ap (λ u. revocation_in (w.known u).stage) it ∙ its_revocation in cc both in
         let f = s.before.words in
@@ -69,8 +69,8 @@ answer_tells w P t e b ms earlier a reached its_revocation since looked path =
         let words : w.words ≡ words_after (revocation_writes w.shape t b f) f = s.words ∙ ap (λ u. words_after (writes_in (w.known u).seen_at_safepoint) f) it ∙ ap (λ xs. words_after xs f) all in
         let answer : a ≡ answer_of w.shape t b f = steps_answer w.shape t e b ms earlier looked a path f valid found in
         let whole = whole_tells s.before P s.requester s.revocation (blank w P s e) s.reached s.biased (was_counted w P s e) (unseen s.before P s.fits) in
-        let here : TellsBias t b.object (class_of w.shape b.object) (answer_of w.shape t b f).took (words_after (revocation_writes w.shape t b f) f) =
-        subst (λ z. TellsBias t z.object (class_of w.shape z.object) (answer_of w.shape t z f).took (words_after (revocation_writes w.shape t z f) f)) same
-        (subst (λ u. TellsBias u s.revocation.object (class_of w.shape s.revocation.object) (answer_of w.shape u s.revocation f).took (words_after (revocation_writes w.shape u s.revocation f) f)) it
-        (subst (λ z. TellsBias s.requester s.revocation.object (class_of z s.revocation.object) (answer_of z s.requester s.revocation f).took (words_after (revocation_writes z s.requester s.revocation f) f)) (sym shape) whole)) in
-        subst (λ g. TellsBias t b.object (class_of w.shape b.object) a.took g) (sym words) (subst (λ z. TellsBias t b.object (class_of w.shape b.object) z.took (words_after (revocation_writes w.shape t b f) f)) (sym answer) here)
+        let here : TellsBias t b.object (class_by w.shape w.words b.object) (answer_of w.shape t b f).took (words_after (revocation_writes w.shape t b f) f) =
+        subst (λ z. TellsBias t z.object (class_by w.shape f z.object) (answer_of w.shape t z f).took (words_after (revocation_writes w.shape t z f) f)) same
+        (subst (λ u. TellsBias u s.revocation.object (class_by w.shape f s.revocation.object) (answer_of w.shape u s.revocation f).took (words_after (revocation_writes w.shape u s.revocation f) f)) it
+        (subst (λ z. TellsBias s.requester s.revocation.object (class_by z f s.revocation.object) (answer_of z s.requester s.revocation f).took (words_after (revocation_writes z s.requester s.revocation f) f)) (sym shape) whole)) in
+        subst (λ g. TellsBias t b.object (class_by w.shape w.words b.object) a.took g) (sym words) (subst (λ z. TellsBias t b.object (class_by w.shape w.words b.object) z.took (words_after (revocation_writes w.shape t b f) f)) (sym answer) here)

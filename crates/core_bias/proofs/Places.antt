@@ -1,4 +1,5 @@
 -- Where the hold word with depth 1 stands among a thread's hold words, and what a revocation stores in the displaced words.
+use Rattle.plain_monitor.specs.Limits.{most_holds}
 use Rattle.core_locks.proofs.Prelude.{◌≡◌, ℕ, zero, suc, ◌+◌, ◌<◌, ◌≤◌, ◌==◌, ◌&&◌, ◌++◌, not, eq-eqb, ne_eqb, eqb-true, Bool, true, false, cond, if◌then◌else◌, List, [], ◌∷◌, length, slice_index, refl, sym, ap, ◌∙◌, subst, arith, zero-add, add-zero, position_or_len, Neutral, mark_of, Name, Hold, Displaced, same_name, with_word, names, hold_word, one_if, count_where, names_none}
 use Rattle.core_world.specs.RevocationRules.{Write, write, words_after, words_from, holds_in, record_writes}
 
@@ -10,7 +11,7 @@ words_are p (y ∷ hs) f h =
     let others = words_are (p + 1) hs f (λ i. let e : p + 1 + i ≡ p + suc i = omega arith in ap f e ∙ h (suc i)) in
     ap (λ z. z ∷ words_from (p + 1) (length hs) f) here ∙ ap (λ zs. y ∷ zs) others
 
-pub holds_are : (f : Name → ℕ) (t : ℕ) (hs : List ℕ) → length hs ≡ 64 → ((p : ℕ) → f (Hold t p) ≡ slice_index hs p) → holds_in f t ≡ hs
+pub holds_are : (f : Name → ℕ) (t : ℕ) (hs : List ℕ) → length hs ≡ most_holds → ((p : ℕ) → f (Hold t p) ≡ slice_index hs p) → holds_in f t ≡ hs
 unfolding holds_in
 holds_are f t hs few h = ap (λ n. words_from 0 n (λ p. f (Hold t p))) (sym few) ∙ words_are 0 hs (λ p. f (Hold t p)) (λ i. ap (λ p. f (Hold t p)) (zero-add i) ∙ h i)
 

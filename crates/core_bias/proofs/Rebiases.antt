@@ -1,5 +1,5 @@
 -- The exchanges of an anonymous or stale mark, whether they hit or miss.
-use Rattle.core_locks.proofs.Prelude.{◌≡◌, ℕ, ◌+◌, ◌*◌, ◌<◌, ◌==◌, eq-eqb, eqb-true, Bool, true, false, if◌then◌else◌, List, Option, Some, None, refl, sym, ap, ◌∙◌, subst, arith, inl, inr, MarkForm, Anonymous, Biased, mark_of, read_mark, read_mark-mark_of, PlainObject, Mark, Prototype, StepPlan, hits, class_of, is_biased, is_biased_form, epoch_in, World, Open, BiasedTo, has_epoch, lock, lock_form, marks, owner_words, prototype_of, inflations, hold_count, Purpose, world_after, Fits, IsValid, IsMark, miss_valid, fits_running, KeepsValid, MayLoad, load_plan}
+use Rattle.core_locks.proofs.Prelude.{◌≡◌, ℕ, ◌+◌, ◌*◌, ◌<◌, ◌==◌, eq-eqb, eqb-true, Bool, true, false, if◌then◌else◌, List, Option, Some, None, refl, sym, ap, ◌∙◌, subst, arith, inl, inr, MarkForm, Anonymous, Biased, mark_of, read_mark, read_mark-mark_of, PlainObject, Mark, Prototype, StepPlan, hits, class_by, is_biased, is_biased_form, epoch_in, World, Open, BiasedTo, has_epoch, lock, lock_form, marks, owner_words, prototype_of, inflations, hold_count, Purpose, world_after, Fits, IsValid, IsMark, miss_valid, fits_running, KeepsValid, MayLoad, load_plan}
 use Rattle.std.proofs.Common.{◌%◌}
 use Rattle.core_world.specs.Words.Forms.{epoch_form}
 use Rattle.core_bias.specs.Biasing.{IsLoose, MayExchange, MayRebias, MayUnbias}
@@ -7,6 +7,7 @@ use Rattle.core_world.specs.Trees.BiasSteps.{rebias_plan, unbias_plan}
 use Rattle.core_locks.proofs.LookOn.{loads}
 use Rattle.core_bias.proofs.Exchanges.{exchanged_fits, taken_fits}
 use Rattle.core_bias.proofs.GoodWrites.{epoch_few}
+use Rattle.core_world.proofs.There.{class_seen}
 use Rattle.core_bias.proofs.Revokes.{freed}
 use Rattle.core_bias.proofs.Takes.{other_bias}
 use Rattle.core_bias.proofs.Unseen.{unseen}
@@ -19,7 +20,9 @@ module _ (w : World) (P : List PlainObject) (t : ℕ) (e : Purpose) (o mark prot
 
     -- the prototype is as it was seen
     pub prototype_is : prototype_of w o ≡ prototype
-    prototype_is = v.seen.stays t (Prototype (class_of w.shape o)) prototype may.saw (inl (may.runs, tt))
+    prototype_is =
+        ap (λ c. w.words (Prototype c)) (class_seen w.shape w.words (w.known t).seen o may.class may.saw_class)
+        ∙ v.seen.stays t (Prototype may.class) prototype may.saw (inl (may.runs, tt))
 
     loose_now : IsLoose (read_mark (marks w o)) (epoch_in (prototype_of w o))
     loose_now = subst (λ z. IsLoose (read_mark z) (epoch_in (prototype_of w o))) (sym was) (subst (λ z. IsLoose (read_mark mark) (epoch_in z)) (sym prototype_is) may.loose)
@@ -77,7 +80,7 @@ drop_valid e o mark neutral w P t within may =
     let now = prototype_is w P t e o mark may.prototype within may.exchange hit v in
     let one : 1 ≡ neutral = elim may.to [
       | inl a ↦ sym a
-      | inr a ↦ sym (a.0 ∙ unepoched _ may.prototype _ (sym now ∙ v.classes.prototypes (biasing_on w P o is.1 (unseen w P v)) (class_of w.shape o)) a.1)
+      | inr a ↦ sym (a.0 ∙ unepoched _ may.prototype _ (sym now ∙ v.classes.prototypes (biasing_on w P o is.1 (unseen w P v)) (class_by w.shape w.words o)) a.1)
     ] in
     subst (λ m. Fits (world_after (unbias_plan e o mark m) t w) P) one
     (exchanged_fits w P t e o mark 1 Open within may.exchange.runs may.exchange.calm may.exchange.goes_on hit is.0

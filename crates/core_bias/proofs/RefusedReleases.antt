@@ -1,5 +1,5 @@
 -- Releases of a safepoint after which some clause fails: a revocation has left something undone.
-use Rattle.core_locks.proofs.Prelude.{◌≡◌, ◌≢◌, ◌⊎◌, ℕ, ◌<◌, ◌≤◌, ◌^◌, ◌==◌, ◌||◌, ne_eqb, Bool, true, false, cond, if◌then◌else◌, List, slice_index, Some, None, refl, sym, ap, ◌∙◌, arith, inl, inr, pow_below, bit_at-pow_same, bit_at-pow_other, read_mark, mark_of, Biased, Locked, read_safe-safe_of, is_thread, is_listed, PlainObject, Safepoint, Prototype, Mark, Displaced, StepPlan, hold_word, is_biased_form, is_neutral, monitor_in, runs_in, runs_form, epoch_in, bears, hold_words_ahead, Known, World, Open, BiasedTo, OnRecord, lock, lock_form, has_epoch, holder, hold_count, owner_words, prototype_of, inflations, holds_by_monitor, monitor_of, owner_at, waits_at, notified_at, Purpose, hits, word_after, Fits, Valid, world_after, reached_word, released_word, each_with_known, with_known_here, by_equal, unlisted_count, hold_some, class_of}
+use Rattle.core_locks.proofs.Prelude.{◌≡◌, ◌≢◌, ◌⊎◌, ℕ, ◌<◌, ◌≤◌, ◌^◌, ◌==◌, ◌||◌, ne_eqb, Bool, true, false, cond, if◌then◌else◌, List, slice_index, Some, None, refl, sym, ap, ◌∙◌, arith, inl, inr, pow_below, bit_at-pow_same, bit_at-pow_other, read_mark, mark_of, Biased, Locked, read_safe-safe_of, is_thread, is_listed, PlainObject, Safepoint, Mark, Displaced, StepPlan, hold_word, is_biased_form, is_neutral, monitor_in, runs_in, runs_form, epoch_in, bears, hold_words_ahead, Known, World, Open, BiasedTo, OnRecord, lock, lock_form, has_epoch, holder, hold_count, owner_words, prototype_of, inflations, holds_by_monitor, monitor_of, owner_at, waits_at, notified_at, Purpose, hits, word_after, Fits, Valid, world_after, reached_word, released_word, each_with_known, with_known_here, by_equal, unlisted_count, hold_some}
 use Rattle.core_world.specs.Trees.BiasSteps.{stage_after}
 use Rattle.core_world.specs.Threads.Stages.{Revocation}
 use Rattle.core_locks.proofs.HoldCounts.{hold_tells}
@@ -77,7 +77,7 @@ module _ (w : World) (r : ℕ) (e : Purpose) (b : Revocation) (took : Bool) (is 
         omega (arith, waits, called, owns)
 
   -- A MARK THAT IS BIASED to a thread, and not validly
-  stale : (t o epoch age : ℕ) → read_mark (w.words (Mark o)) ≡ Some (Biased t epoch age) → has_epoch (epoch_in (w.words (Prototype (class_of w.shape o)))) epoch ≡ false → 1 ≤ hold_count o (w.known t).holds → ⊥
+  stale : (t o epoch age : ℕ) → read_mark (w.words (Mark o)) ≡ Some (Biased t epoch age) → has_epoch (epoch_in (prototype_of w o)) epoch ≡ false → 1 ≤ hold_count o (w.known t).holds → ⊥
   stale t o epoch age reads old held =
       let open_now : lock x o ≡ Open = ap (λ f. lock_form f (prototype_of x o) (owner_words x) (inflations x o)) reads ∙ ap (λ (c : Bool). if c then BiasedTo t else Open) old in
       let none = v.biases.unheld o t (ap is_biased_form reads) (λ h. absurd (cc (open_now, h))) in
@@ -105,9 +105,9 @@ no_header w r t o p q d e b took is few place mark held deep small some valid =
     some (f.records.others o t p q d rests hold small other)
 
 pub no_old_epoch : (w : World) (r t o epoch age now : ℕ) (e : Purpose) (b : Revocation) (took : Bool) → IsReleasing w r → read_mark (w.words (Mark o)) ≡ Some (Biased t epoch age)
-    → epoch_in (w.words (Prototype (class_of w.shape o))) ≡ Some now → now ≢ epoch → 1 ≤ hold_count o (w.known t).holds → Valid (world_after (release_plan e (stage_after took b.object) r) r w) → ⊥
+    → epoch_in (prototype_of w o) ≡ Some now → now ≢ epoch → 1 ≤ hold_count o (w.known t).holds → Valid (world_after (release_plan e (stage_after took b.object) r) r w) → ⊥
 no_old_epoch w r t o epoch age now e b took is reads class old held valid = stale w r e b took is valid t o epoch age reads (ap (λ z. has_epoch z epoch) class ∙ ne_eqb now epoch old) held
 
 pub no_revoked : (w : World) (r t o epoch age : ℕ) (e : Purpose) (b : Revocation) (took : Bool) → IsReleasing w r → read_mark (w.words (Mark o)) ≡ Some (Biased t epoch age)
-    → epoch_in (w.words (Prototype (class_of w.shape o))) ≡ None → 1 ≤ hold_count o (w.known t).holds → Valid (world_after (release_plan e (stage_after took b.object) r) r w) → ⊥
+    → epoch_in (prototype_of w o) ≡ None → 1 ≤ hold_count o (w.known t).holds → Valid (world_after (release_plan e (stage_after took b.object) r) r w) → ⊥
 no_revoked w r t o epoch age e b took is reads class held valid = stale w r e b took is valid t o epoch age reads (ap (λ z. has_epoch z epoch) class) held

@@ -230,7 +230,7 @@ module _ (w : World) (P : List PlainObject) (s : IsRevoking w P) (e : Purpose) w
             (record { run = λ a. a; ask = λ a. a; not_revoking = λ a. a; inflates = λ i a. a; kept = λ m a. a; prototype = λ o. refl; monitor = λ o m a. a; owned = λ o a. a; held = λ o m a b. b }) n m st;
         owned = λ u o d h. h;
         word = λ u m d st was. elim st [ inl a ↦ absurd a.1 | inr a ↦ absurd a.2 ];
-        bias = λ o h. h;
+        bias = λ u o s e r h. h;
         waits = λ u i o d a h. h;
         unwaited = λ u o d a h. h;
         unreached = λ u. each_with_known (λ u k. k.reached ≡ true → ⊥) r l w.known u

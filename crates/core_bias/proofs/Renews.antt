@@ -1,5 +1,6 @@
 -- The walk of a bulk rebias: each biased object of the class that a record names gets the class's epoch, and no other word changes.
-use Rattle.core_locks.proofs.Prelude.{◌≡◌, ◌⊎◌, ℕ, ◌<◌, ◌≤◌, ◌==◌, ◌&&◌, eq-eqb, ne_eqb, eqb-true, Bool, true, false, cond, if◌then◌else◌, [], Option, Some, None, refl, sym, ap, ◌∙◌, subst, arith, inl, inr, MarkForm, Anonymous, Biased, mark_of, read_mark, read_hold, read_mark-mark_of, Name, Mark, Hold, Prototype, Shape, class_of, same_name, with_word, is_biased, is_biased_form, epoch_in, names, IsMark, by_equal}
+use Rattle.plain_monitor.specs.Limits.{most_threads, most_holds}
+use Rattle.core_locks.proofs.Prelude.{◌≡◌, ◌⊎◌, ℕ, ◌<◌, ◌≤◌, ◌==◌, ◌&&◌, eq-eqb, ne_eqb, eqb-true, Bool, true, false, cond, if◌then◌else◌, [], Option, Some, None, refl, sym, ap, ◌∙◌, subst, arith, inl, inr, MarkForm, Anonymous, Biased, mark_of, read_mark, read_hold, read_mark-mark_of, Name, Mark, Hold, Prototype, Shape, same_name, with_word, is_biased, is_biased_form, epoch_in, names, IsMark, by_equal}
 use Rattle.core_world.specs.declared.name.Name.TheVariants as name
 use Rattle.core_world.specs.RevocationRules.{Rule, words_after, each_below, with_epoch, store_where, renew, object_held, on_held, on_records}
 use Rattle.core_world.proofs.Naming.{same_named}
@@ -18,7 +19,7 @@ renewed_form (Some (Biased t e age)) (Some epoch) m = mark_of (Biased t epoch ag
 renewed_form _ _ m = m
 
 -- words and forms of the walk that begins at the words f
-module _ (s : Shape) (c : ℕ) (f : Name → ℕ) (threads : s.threads ≤ 16) (forms : (o : ℕ) → IsMark s (read_mark (f (Mark o)))) where
+module _ (s : Shape) (class : ℕ → ℕ) (c : ℕ) (f : Name → ℕ) (threads : s.threads ≤ most_threads) (forms : (o : ℕ) → IsMark s (read_mark (f (Mark o)))) where
   abbrev pub epoch : Option ℕ
   epoch = epoch_in (f (Prototype c))
 
@@ -58,7 +59,7 @@ module _ (s : Shape) (c : ℕ) (f : Name → ℕ) (threads : s.threads ≤ 16) (
   -- words of the walk
   pub record IsWalked (g : Name → ℕ) : Type 0 where
     pub words : (n : Name) → is_mark n ≡ false → g n ≡ f n
-    pub marks : (o : ℕ) → (g (Mark o) ≡ f (Mark o)) ⊎ ((class_of s o ≡ c) × (is_biased (f (Mark o)) ≡ true) × (g (Mark o) ≡ target o))
+    pub marks : (o : ℕ) → (g (Mark o) ≡ f (Mark o)) ⊎ ((class o ≡ c) × (is_biased (f (Mark o)) ≡ true) × (g (Mark o) ≡ target o))
 
   abbrev Later : (Name → ℕ) → (Name → ℕ) → Type 0
   Later g h = (o : ℕ) → g (Mark o) ≡ target o → h (Mark o) ≡ target o
@@ -90,13 +91,13 @@ module _ (s : Shape) (c : ℕ) (f : Name → ℕ) (threads : s.threads ≤ 16) (
         | inr a ↦ ap (λ m. renewed_form (read_mark m) epoch m) a.2 ∙ (target_form o).2
       ]
 
-  renew_keeps : (o : ℕ) (g : Name → ℕ) → class_of s o ≡ c → is_biased (f (Mark o)) ≡ true → IsWalked g → IsWalked (words_after (renew c o g) g) × Later g (words_after (renew c o g) g)
-  renew_keeps o g class biased v = (
+  renew_keeps : (o : ℕ) (g : Name → ℕ) → class o ≡ c → is_biased (f (Mark o)) ≡ true → IsWalked g → IsWalked (words_after (renew c o g) g) × Later g (words_after (renew c o g) g)
+  renew_keeps o g its biased v = (
     record {
       words = λ n e. renew_else o g n (unmarked n e) ∙ v.words n e;
       marks = λ i. by_equal i o
-          (λ e. subst (λ j. (words_after (renew c o g) g (Mark j) ≡ f (Mark j)) ⊎ ((class_of s j ≡ c) × (is_biased (f (Mark j)) ≡ true) × (words_after (renew c o g) g (Mark j) ≡ target j))) (sym e)
-          (inr (class, biased, renewed o g v)))
+          (λ e. subst (λ j. (words_after (renew c o g) g (Mark j) ≡ f (Mark j)) ⊎ ((class j ≡ c) × (is_biased (f (Mark j)) ≡ true) × (words_after (renew c o g) g (Mark j) ≡ target j))) (sym e)
+          (inr (its, biased, renewed o g v)))
           (λ d. let same = renew_else o g (Mark i) (ne_eqb i o d) in elim (v.marks i) [ inl a ↦ inl (same ∙ a) | inr a ↦ inr (a.0, a.1, same ∙ a.2) ]);
     },
     λ i h. by_equal i o
@@ -116,46 +117,46 @@ module _ (s : Shape) (c : ℕ) (f : Name → ℕ) (threads : s.threads ≤ 16) (
   still_biased o g v = elim (v.marks o) [ inl a ↦ ap is_biased a | inr a ↦ ap is_biased a.2 ∙ (target_form o).1 ]
 
   -- THE WALK
-  held_keeps : (a : Option ℕ) (g : Name → ℕ) → IsWalked g → IsWalked (words_after (on_held s c (renew c) a g) g) × Later g (words_after (on_held s c (renew c) a g) g)
+  held_keeps : (a : Option ℕ) (g : Name → ℕ) → IsWalked g → IsWalked (words_after (on_held class c (renew c) a g) g) × Later g (words_after (on_held class c (renew c) a g) g)
   held_keeps None g v = (v, λ o h. h)
-  held_keeps (Some o) g v = cases (class_of s o == c) (is_biased (g (Mark o))) refl refl
+  held_keeps (Some o) g v = cases (class o == c) (is_biased (g (Mark o))) refl refl
     where
-      cases : (a b : Bool) → (class_of s o == c) ≡ a → is_biased (g (Mark o)) ≡ b
-          → IsWalked (words_after (if (class_of s o == c) && is_biased (g (Mark o)) then renew c o g else []) g) × Later g (words_after (if (class_of s o == c) && is_biased (g (Mark o)) then renew c o g else []) g)
+      cases : (a b : Bool) → (class o == c) ≡ a → is_biased (g (Mark o)) ≡ b
+          → IsWalked (words_after (if (class o == c) && is_biased (g (Mark o)) then renew c o g else []) g) × Later g (words_after (if (class o == c) && is_biased (g (Mark o)) then renew c o g else []) g)
       cases true true p q = subst (λ b. IsWalked (words_after (if b then renew c o g else []) g) × Later g (words_after (if b then renew c o g else []) g)) (λ i. sym p i && sym q i)
-          (renew_keeps o g (eqb-true (class_of s o) c p) (sym (still_biased o g v) ∙ q) v)
+          (renew_keeps o g (eqb-true (class o) c p) (sym (still_biased o g v) ∙ q) v)
       cases true false p q = subst (λ b. IsWalked (words_after (if b then renew c o g else []) g) × Later g (words_after (if b then renew c o g else []) g)) (λ i. sym p i && sym q i) (v, λ o h. h)
       cases false b p q = subst (λ a. IsWalked (words_after (if a && is_biased (g (Mark o)) then renew c o g else []) g) × Later g (words_after (if a && is_biased (g (Mark o)) then renew c o g else []) g)) (sym p) (v, λ o h. h)
 
   abbrev visit : ℕ → ℕ → Rule
-  visit t p g = on_held s c (renew c) (object_held (read_hold (g (Hold t p)))) g
+  visit t p g = on_held class c (renew c) (object_held (read_hold (g (Hold t p)))) g
 
   abbrev Done : ℕ → ℕ → (Name → ℕ) → Type 0
-  Done t p g = (o : ℕ) → names o (f (Hold t p)) ≡ true → class_of s o ≡ c → is_biased (f (Mark o)) ≡ true → g (Mark o) ≡ target o
+  Done t p g = (o : ℕ) → names o (f (Hold t p)) ≡ true → class o ≡ c → is_biased (f (Mark o)) ≡ true → g (Mark o) ≡ target o
 
   visit_done : (t p : ℕ) (g : Name → ℕ) → IsWalked g → Done t p (words_after (visit t p g) g)
-  visit_done t p g v o e class biased =
+  visit_done t p g v o e its biased =
       let object : object_held (read_hold (g (Hold t p))) ≡ Some o = ap (λ h. object_held (read_hold h)) (v.words (Hold t p) refl) ∙ held_object (f (Hold t p)) o e in
-      let here : (class_of s o == c) ≡ true = eq-eqb (class_of s o) c class in
+      let here : (class o == c) ≡ true = eq-eqb (class o) c its in
       let bias : is_biased (g (Mark o)) ≡ true = still_biased o g v ∙ biased in
-      subst (λ a. words_after (on_held s c (renew c) a g) g (Mark o) ≡ target o) (sym object)
+      subst (λ a. words_after (on_held class c (renew c) a g) g (Mark o) ≡ target o) (sym object)
       (subst (λ b. words_after (if b then renew c o g else []) g (Mark o) ≡ target o) (λ i. sym here i && sym bias i) (renewed o g v))
 
   start : IsWalked f
   start = record { words = λ n e. refl; marks = λ o. inl refl }
 
   abbrev row : ℕ → Rule
-  row t = each_below 64 (visit t)
+  row t = each_below most_holds (visit t)
 
   row_keeps : (t : ℕ) (g : Name → ℕ) → IsWalked g → Keeps IsWalked Later (λ f o h. h) (λ f g h a b o z. b o (a o z)) (row t) g
-  row_keeps t = keeps_below IsWalked Later (λ f o h. h) (λ f g h a b o z. b o (a o z)) 64 (visit t) (λ p g v. held_keeps (object_held (read_hold (g (Hold t p)))) g v)
+  row_keeps t = keeps_below IsWalked Later (λ f o h. h) (λ f g h a b o z. b o (a o z)) most_holds (visit t) (λ p g v. held_keeps (object_held (read_hold (g (Hold t p)))) g v)
 
-  pub walk_is : IsWalked (words_after (on_records s c (renew c) f) f)
+  pub walk_is : IsWalked (words_after (on_records s class c (renew c) f) f)
   unfolding on_records
   walk_is = (keeps_below IsWalked Later (λ f o h. h) (λ f g h a b o z. b o (a o z)) s.threads row row_keeps f start).0
 
-  pub walk_done : (t : ℕ) → t < s.threads → (p : ℕ) → p < 64 → Done t p (words_after (on_records s c (renew c) f) f)
+  pub walk_done : (t : ℕ) → t < s.threads → (p : ℕ) → p < most_holds → Done t p (words_after (on_records s class c (renew c) f) f)
   unfolding on_records
   walk_done =
-      does_below IsWalked Later (λ f o h. h) (λ f g h a b o z. b o (a o z)) s.threads row (λ t g. (p : ℕ) → p < 64 → Done t p g) row_keeps (λ t g h mono d p small o e k z. mono o (d p small o e k z))
-      (λ t g v. does_below IsWalked Later (λ f o h. h) (λ f g h a b o z. b o (a o z)) 64 (visit t) (Done t) (λ p g v. held_keeps (object_held (read_hold (g (Hold t p)))) g v) (λ p g h mono d o e k z. mono o (d o e k z)) (visit_done t) g v) f start
+      does_below IsWalked Later (λ f o h. h) (λ f g h a b o z. b o (a o z)) s.threads row (λ t g. (p : ℕ) → p < most_holds → Done t p g) row_keeps (λ t g h mono d p small o e k z. mono o (d p small o e k z))
+      (λ t g v. does_below IsWalked Later (λ f o h. h) (λ f g h a b o z. b o (a o z)) most_holds (visit t) (Done t) (λ p g v. held_keeps (object_held (read_hold (g (Hold t p)))) g v) (λ p g h mono d o e k z. mono o (d o e k z)) (visit_done t) g v) f start

@@ -1,13 +1,16 @@
 -- The steps of a revocation make the stores that its rules list, by the words that they find.
-use Rattle.core_locks.proofs.Prelude.{◌≡◌, ℕ, zero, suc, ◌+◌, ◌<◌, ◌==◌, ◌&&◌, ◌++◌, append-nil, add-zero, zero-add, eq-eqb, not, is_none, Bool, true, false, cond, if◌then◌else◌, List, [], ◌∷◌, Option, Some, None, refl, sym, ap, ◌∙◌, subst, arith, MarkForm, Neutral, Anonymous, Biased, mark_of, read_mark, read_hold, read_mark-mark_of, Store, Name, Mark, Hold, Prototype, Revocations, LastBulk, StepPlan, Shape, class_of, with_word, is_biased, epoch_in, StepMade, Purpose}
+use Rattle.core_locks.proofs.Prelude.{◌≡◌, ℕ, zero, suc, ◌+◌, ◌<◌, ◌==◌, ◌&&◌, ◌++◌, append-nil, add-zero, zero-add, eq-eqb, not, is_none, Bool, true, false, cond, if◌then◌else◌, List, [], ◌∷◌, Option, Some, None, refl, sym, ap, ◌∙◌, subst, arith, MarkForm, Neutral, Anonymous, Biased, mark_of, read_mark, read_hold, read_mark-mark_of, Store, Name, Mark, Hold, Prototype, Revocations, LastBulk, StepPlan, Shape, class_by, with_word, is_biased, epoch_in, StepMade, Purpose}
 use Rattle.std.proofs.Common.{◌%◌, append_assoc}
+use Rattle.plain_monitor.specs.Limits.{most_holds}
 use Rattle.lock_policy.specs.declared.policy.Verdict.{Verdict}
 use Rattle.lock_policy.specs.declared.policy.Verdict.TheVariants.{Single, BulkRebias, BulkRevoke}
 use Rattle.lock_policy.specs.Policy.{decided}
 use Rattle.core_world.specs.Words.Forms.{epoch_form}
 use Rattle.core_world.specs.Threads.Stages.{Revocation}
+use Rattle.core_world.specs.declared.stage.Stage.{Stage}
 use Rattle.core_world.specs.RevocationRules.{Write, write, words_after, write_by, writes_in, FoundAfter, Rule, in_turn, each_below, words_from, holds_in, revoke_biased, revoke_form, revoke, raised_form, raise_epoch, with_epoch, store_where, renew, object_held, on_held, on_records, biased_word, take_bias, verdict_rules, revocation_writes}
-use Rattle.core_world.specs.Trees.RevocationSteps.{look, store_steps, revoke_at, revoke_steps, visit_held, walk_steps, take_bias_steps, next_epoch, bulk_revoke_steps, verdict_steps, decided_steps, RevocationOutcome, revoke_at_safepoint_steps}
+use Rattle.core_world.specs.Trees.RevocationSteps.{revocation_stage, look, store_steps, revoke_at, revoke_steps, visit_held, walk_steps, take_bias_steps, next_epoch, bulk_revoke_steps, verdict_steps, decided_steps, RevocationOutcome, revoke_at_safepoint_steps}
+use Rattle.core_world.specs.Trees.Plans.{class_steps}
 use Rattle.core_world.specs.Trees.Todo.{Todo, done, never, step, ◌>>=◌, each_from, all_from}
 use Rattle.core_bias.specs.Revoking.{AreAllStores, IsBiasedToOne, IsNextStore, Leads}
 use Rattle.core_bias.proofs.BlindRules.{blind_revoke, classless_stays}
@@ -38,13 +41,13 @@ led T U (m ∷ ms) f ws a path found run =
 abbrev pub takes_by : Revocation → ℕ → Option ℕ → (Name → ℕ) → Bool
 takes_by b t epoch f = not (is_none (biased_word (is_biased (f (Mark b.object))) epoch t))
 
-abbrev pub took_by : Shape → ℕ → ℕ → Revocation → Option ℕ → Verdict → (Name → ℕ) → Bool
-took_by s t c b epoch BulkRebias f =
+abbrev pub took_by : Shape → (ℕ → ℕ) → ℕ → ℕ → Revocation → Option ℕ → Verdict → (Name → ℕ) → Bool
+took_by s class t c b epoch BulkRebias f =
     let f1 = with_word (LastBulk c) b.now f in
     let f2 = words_after (raise_epoch c f1) f1 in
-    let f3 = words_after (on_records s c (renew c) f2) f2 in
+    let f3 = words_after (on_records s class c (renew c) f2) f2 in
     cond b.rebias (takes_by b t epoch (words_after (revoke b.object b.rebias f3) f3)) false
-took_by s t c b epoch _ f = false
+took_by s class t c b epoch _ f = false
 
 -- THE PARTS
 pub run_bind : {A B : Type 0} (T : Todo A) (k : A → Todo B) (f : Name → ℕ) (ws vs : List Write) (a : A) (b : B) → Runs T f ws a → Runs (k a) (words_after ws f) vs b → Runs (T >>= k) f (ws ++ vs) b
@@ -60,6 +63,10 @@ run_bind {B = B} (step p t) k f ws vs a b h g =
 module _ (e : Purpose) (b : Revocation) where
   run_look : (at : Name) (f : Name → ℕ) → Runs (look e b at) f [] (f at)
   run_look at f = ([], refl, (refl, refl))
+
+  -- the class that is found is that by the words
+  run_class : (stage : Stage) (s : Shape) (o : ℕ) (f : Name → ℕ) → Runs (class_steps e stage s o) f [] (class_by s f o)
+  run_class stage s o f = (refl, refl)
 
   run_stores : (xs : List Write) (f : Name → ℕ) → Runs (store_steps e b xs) f xs tt
   run_stores [] f = (refl, refl)
@@ -78,8 +85,8 @@ module _ (e : Purpose) (b : Revocation) where
   unfolding holds_in
   run_revoke_at o allowed (Some (Anonymous epoch age)) f = run_stores (cond allowed [] (write (Mark o) (mark_of (Neutral 0 0)) ∷ [])) f
   run_revoke_at o allowed (Some (Biased t epoch age)) f =
-      run_bind (each_from 0 64 (λ p. look e b (Hold t p))) (λ holds. store_steps e b (revoke_biased o t allowed holds)) f [] _ (words_from 0 64 (λ p. f (Hold t p))) tt (run_holds t 0 64 f)
-      (run_stores (revoke_biased o t allowed (words_from 0 64 (λ p. f (Hold t p)))) f)
+      run_bind (each_from 0 most_holds (λ p. look e b (Hold t p))) (λ holds. store_steps e b (revoke_biased o t allowed holds)) f [] _ (words_from 0 most_holds (λ p. f (Hold t p))) tt (run_holds t 0 most_holds f)
+      (run_stores (revoke_biased o t allowed (words_from 0 most_holds (λ p. f (Hold t p)))) f)
   run_revoke_at o allowed _ f = (refl, refl)
 
   run_revoke : (o : ℕ) (allowed : Bool) (f : Name → ℕ) → Runs (revoke_steps e b o allowed) f (revoke o allowed f) tt
@@ -125,22 +132,28 @@ module _ (e : Purpose) (b : Revocation) where
     abbrev spot : Shape → ℕ → (ℕ → ℕ → Todo (Unit {0})) → ℕ → ℕ → Todo (Unit {0})
     spot s c visit t p = look e b (Hold t p) >>= λ hold. visit_held s c e b visit (object_held (read_hold hold))
 
-    abbrev spot_rule : Shape → ℕ → (ℕ → Rule) → ℕ → ℕ → Rule
-    spot_rule s c r t p f = on_held s c r (object_held (read_hold (f (Hold t p)))) f
+    abbrev spot_rule : (ℕ → ℕ) → ℕ → (ℕ → Rule) → ℕ → ℕ → Rule
+    spot_rule class c r t p f = on_held class c r (object_held (read_hold (f (Hold t p)))) f
 
-    run_walk : (s : Shape) (c : ℕ) (visit : ℕ → ℕ → Todo (Unit {0})) (r : ℕ → Rule) → ((o : ℕ) (f : Name → ℕ) → I f → Runs (visit o (f (Mark o))) f (r o f) tt × I (words_after (r o f) f))
-        → RunsRule (walk_steps s c e b visit) (on_records s c r)
+    run_walk : (s : Shape) (class : ℕ → ℕ) (c : ℕ) (visit : ℕ → ℕ → Todo (Unit {0})) (r : ℕ → Rule)
+        → ((f : Name → ℕ) → I f → (o : ℕ) → class_by s f o ≡ class o) → ((o : ℕ) (f : Name → ℕ) → I f → Runs (visit o (f (Mark o))) f (r o f) tt × I (words_after (r o f) f))
+        → RunsRule (walk_steps s c e b visit) (on_records s class c r)
     unfolding on_records
-    run_walk s c visit r h =
-        run_below s.threads (λ t. all_from 0 64 (spot s c visit t)) (λ t. each_below 64 (spot_rule s c r t)) (λ t. run_below 64 (spot s c visit t) (spot_rule s c r t) (λ p f v.
+    run_walk s class c visit r its h =
+        run_below s.threads (λ t. all_from 0 most_holds (spot s c visit t)) (λ t. each_below most_holds (spot_rule class c r t)) (λ t. run_below most_holds (spot s c visit t) (spot_rule class c r t) (λ p f v.
         let done_so = held (object_held (read_hold (f (Hold t p)))) f v in (
-          run_bind (look e b (Hold t p)) (λ hold. visit_held s c e b visit (object_held (read_hold hold))) f [] (spot_rule s c r t p f) (f (Hold t p)) tt (run_look (Hold t p) f) done_so.0,
+          run_bind (look e b (Hold t p)) (λ hold. visit_held s c e b visit (object_held (read_hold hold))) f [] (spot_rule class c r t p f) (f (Hold t p)) tt (run_look (Hold t p) f) done_so.0,
           done_so.1,
         )))
       where
-        held : (a : Option ℕ) (f : Name → ℕ) → I f → Runs (visit_held s c e b visit a) f (on_held s c r a f) tt × I (words_after (on_held s c r a f) f)
+        held : (a : Option ℕ) (f : Name → ℕ) → I f → Runs (visit_held s c e b visit a) f (on_held class c r a f) tt × I (words_after (on_held class c r a f) f)
         held None f v = ((refl, refl), v)
-        held (Some o) f v = by_class (class_of s o == c)
+        held (Some o) f v =
+            let found = by_class (class o == c) in (
+              run_bind (class_steps e (revocation_stage b) s o) (λ k. cond (k == c) (look e b (Mark o) >>= λ mark. cond (is_biased mark) (visit o mark) (done tt)) (done tt)) f [] _ (class o) tt
+                  (subst (Runs (class_steps e (revocation_stage b) s o) f []) (its f v o) (run_class (revocation_stage b) s o f)) found.0,
+              found.1,
+            )
           where
             biased : (a : Bool) → Runs (cond a (visit o (f (Mark o))) (done tt)) f (if a then r o f else []) tt × I (words_after (if a then r o f else []) f)
             biased true = h o f v
@@ -155,8 +168,11 @@ module _ (e : Purpose) (b : Revocation) where
   run_last : {A : Type 0} (T : Todo A) (f : Name → ℕ) (ws : List Write) (a : A) → Runs T f ws a → Runs T f (ws ++ []) a
   run_last T f ws a h = subst (λ zs. Runs T f zs a) (sym (append-nil ws)) h
 
-  -- THE VERDICTS, where the epoch that was loaded is the class's
-  module _ (s : Shape) (t c : ℕ) (epoch : Option ℕ) where
+  -- THE VERDICTS, where the epoch that was loaded is the class's, and each object has the class that it has by the words at the start
+  module _ (s : Shape) (start : Name → ℕ) (t c : ℕ) (epoch : Option ℕ) where
+    abbrev class : ℕ → ℕ
+    class = class_by s start
+
     abbrev Epoch : Option ℕ → (Name → ℕ) → Type 0
     Epoch a f = epoch_in (f (Prototype c)) ≡ a
 
@@ -207,29 +223,29 @@ module _ (e : Purpose) (b : Revocation) where
         taking true g h = run_last (take_bias_steps e b (next_epoch epoch) t) g (take_bias c b.object t g) (takes_by b t (next_epoch epoch) g) (run_take g h)
         taking false g h = (refl, refl)
 
-    run_verdict : (d : Verdict) (f : Name → ℕ) → Epoch epoch f → Runs (verdict_steps s t c e b epoch d) f (in_turn (verdict_rules s t c b d) f) (took_by s t c b (next_epoch epoch) d f)
+    run_verdict : (d : Verdict) (f : Name → ℕ) → Epoch epoch f → Runs (verdict_steps s t c e b epoch d) f (in_turn (verdict_rules s class t c b d) f) (took_by s class t c b (next_epoch epoch) d f)
     run_verdict Single f h = run_bind (revoke_steps e b b.object false) (λ _. done false) f (revoke b.object false f) [] tt false (run_revoke b.object false f) (refl, refl)
     run_verdict BulkRebias f h =
         let f1 = with_word (LastBulk c) b.now f in
         let raised = run_raise f1 h in
         let f2 = words_after (raise_epoch c f1) f1 in
-        let walked = run_walk (Epoch (next_epoch epoch)) s c renewing (renew c) run_renew f2 raised.1 in
-        let f3 = words_after (on_records s c (renew c) f2) f2 in
+        let walked = run_walk (Epoch (next_epoch epoch)) s class c renewing (renew c) (λ f v o. refl) run_renew f2 raised.1 in
+        let f3 = words_after (on_records s class c (renew c) f2) f2 in
         let rest = in_turn (revoke b.object b.rebias ∷ (if b.rebias then take_bias c b.object t ∷ [] else [])) in
         let ending : Todo Bool = revoke_steps e b b.object b.rebias >>= λ _. cond b.rebias (take_bias_steps e b (next_epoch epoch) t) (done false) in
         let walking : Todo Bool = walk_steps s c e b renewing >>= λ _. ending in
         let raising : Todo Bool = store_steps e b (raised_form epoch c) >>= λ _. walking in
         let took = cond b.rebias (takes_by b t (next_epoch epoch) (words_after (revoke b.object b.rebias f3) f3)) false in
-        let three : Runs walking f2 (on_records s c (renew c) f2 ++ rest f3) took = run_bind (walk_steps s c e b renewing) (λ _. ending) f2 (on_records s c (renew c) f2) (rest f3) tt took walked.0 (run_end b.rebias f3 walked.1) in
-        let two : Runs raising f1 (raise_epoch c f1 ++ (on_records s c (renew c) f2 ++ rest f3)) took =
-        run_bind (store_steps e b (raised_form epoch c)) (λ _. walking) f1 (raise_epoch c f1) (on_records s c (renew c) f2 ++ rest f3) tt took raised.0 three in
-        run_bind (store_steps e b (write (LastBulk c) b.now ∷ [])) (λ _. raising) f (write (LastBulk c) b.now ∷ []) (raise_epoch c f1 ++ (on_records s c (renew c) f2 ++ rest f3)) tt took (run_stores (write (LastBulk c) b.now ∷ []) f) two
+        let three : Runs walking f2 (on_records s class c (renew c) f2 ++ rest f3) took = run_bind (walk_steps s c e b renewing) (λ _. ending) f2 (on_records s class c (renew c) f2) (rest f3) tt took walked.0 (run_end b.rebias f3 walked.1) in
+        let two : Runs raising f1 (raise_epoch c f1 ++ (on_records s class c (renew c) f2 ++ rest f3)) took =
+        run_bind (store_steps e b (raised_form epoch c)) (λ _. walking) f1 (raise_epoch c f1) (on_records s class c (renew c) f2 ++ rest f3) tt took raised.0 three in
+        run_bind (store_steps e b (write (LastBulk c) b.now ∷ [])) (λ _. raising) f (write (LastBulk c) b.now ∷ []) (raise_epoch c f1 ++ (on_records s class c (renew c) f2 ++ rest f3)) tt took (run_stores (write (LastBulk c) b.now ∷ []) f) two
     run_verdict BulkRevoke f h =
         let f1 = with_word (LastBulk c) b.now f in
         let f2 = with_word (Prototype c) (mark_of (Neutral 0 0)) f1 in
-        let walk = on_records s c (λ o. revoke o false) in
+        let walk = on_records s class c (λ o. revoke o false) in
         let visit : ℕ → ℕ → Todo (Unit {0}) = λ o mark. revoke_at (read_mark mark) e b o false in
-        let walked = run_walk (λ f. Unit {0}) s c visit (λ o. revoke o false) (λ o f u. (run_revoke_at o false (read_mark (f (Mark o))) f, tt)) f2 tt in
+        let walked = run_walk (λ f. Unit {0}) s class c visit (λ o. revoke o false) (λ f v o. refl) (λ o f u. (run_revoke_at o false (read_mark (f (Mark o))) f, tt)) f2 tt in
         let f3 = words_after (walk f2) f2 in
         let ending : Todo Bool = revoke_steps e b b.object false >>= λ _. done false in
         let revoking : Todo (Unit {0}) = revoke_steps e b b.object false in
@@ -249,24 +265,26 @@ module _ (e : Purpose) (b : Revocation) where
 -- the answer of a revocation by the words that it finds
 abbrev pub answer_of : Shape → ℕ → Revocation → (Name → ℕ) → RevocationOutcome
 answer_of s t b f =
-    let c = class_of s b.object in
+    let class = class_by s f in
+    let c = class b.object in
     let d = decided (f (Revocations c)) (f (LastBulk c)) b.now in
-    record { verdict = d.0; took = took_by s t c b (next_epoch (epoch_in (f (Prototype c)))) d.0 (with_word (Revocations c) d.1 f) }
+    record { verdict = d.0; took = took_by s class t c b (next_epoch (epoch_in (f (Prototype c)))) d.0 (with_word (Revocations c) d.1 f) }
 
 -- ALL STEPS of a revocation by thread t make the stores that the rules list, by words in which the object is validly biased.
 pub revocation_runs : (s : Shape) (t : ℕ) (e : Purpose) (b : Revocation) (f : Name → ℕ) → IsBiasedToOne s f b.object → Runs (revoke_at_safepoint_steps s t e b) f (revocation_writes s t b f) (answer_of s t b f)
 unfolding revocation_writes
 revocation_runs s t e b f valid =
-    let c = class_of s b.object in
+    let class = class_by s f in
+    let c = class b.object in
     let d = decided (f (Revocations c)) (f (LastBulk c)) b.now in
     let all = revocation_writes s t b f in
     let f1 = with_word (Revocations c) d.1 f in
-    let others = in_turn (verdict_rules s t c b d.0) f1 in
+    let others = in_turn (verdict_rules s class t c b d.0) f1 in
     let answer : RevocationOutcome = answer_of s t b f in
     let end : Runs (done answer) (words_after others f1) [] answer = (refl, refl) in
     let verdict : Runs (verdict_steps s t c e b (epoch_in (f (Prototype c))) d.0 >>= λ took. done (record { verdict = d.0; took = took })) f1 (others ++ []) answer =
     run_bind (verdict_steps s t c e b (epoch_in (f (Prototype c))) d.0) (λ took. done (record { verdict = d.0; took = took })) f1 others [] answer.took answer
-    (run_verdict e b s t c (epoch_in (f (Prototype c))) d.0 f1 refl) end in
+    (run_verdict e b s f t c (epoch_in (f (Prototype c))) d.0 f1 refl) end in
     let steps : Todo RevocationOutcome = decided_steps s t c e b (epoch_in (f (Prototype c))) (f (Revocations c)) (f (LastBulk c)) in
     let counted : Runs steps f all answer =
     (others, refl, subst (λ zs. Runs (verdict_steps s t c e b (epoch_in (f (Prototype c))) d.0 >>= λ took. done (record { verdict = d.0; took = took })) f1 zs answer) (append-nil others) verdict) in

@@ -1,8 +1,8 @@
 -- A single revocation as a whole: the count, the stores, and what the requester knows then.
-use Rattle.core_locks.proofs.Prelude.{◌≡◌, ℕ, ◌<◌, ◌≤◌, ◌==◌, nat_lt, Bool, true, false, cond, if◌then◌else◌, List, [], refl, sym, ap, ◌∙◌, subst, arith, nat_tests, PlainObject, Name, Revocations, LastBulk, class_of, with_word, Known, World, with_knowledge, with_known_here, is_biased, Mark, Calm, inl, inr}
+use Rattle.core_locks.proofs.Prelude.{◌≡◌, ℕ, ◌<◌, ◌≤◌, ◌==◌, nat_lt, Bool, true, false, cond, if◌then◌else◌, List, [], refl, sym, ap, ◌∙◌, subst, arith, nat_tests, PlainObject, Name, Revocations, LastBulk, class_by, with_word, Known, World, with_knowledge, with_known_here, is_biased, Mark, Calm, inl, inr}
 use Rattle.lock_policy.specs.declared.policy.Verdict.{Verdict}
 use Rattle.lock_policy.specs.declared.policy.Verdict.TheVariants.{Single}
-use Rattle.lock_policy.specs.Policy.{decided, is_reset, after_reset, raised}
+use Rattle.lock_policy.specs.Policy.{decided, is_reset, after_reset, raised, most_revocations}
 use Rattle.core_world.specs.Threads.Counts.{CountedVerdict, counts_of, with_verdict_counted, with_verdict, with_reset}
 use Rattle.core_world.specs.Threads.Stages.{Revocation}
 use Rattle.core_world.specs.RevocationRules.{words_after, in_turn, verdict_rules, revocation_writes, revoke}
@@ -23,23 +23,23 @@ all_calm w P r reached calm v u =
       | inr a ↦ (let same : u ≡ r = one_requester w P safe u r (safe.safepoint u a.0).0 (safe.safepoint r reached).0 in ap (λ y. (w.known y).stage) same ∙ calm)
     ]
 
--- the new count is at most 41
-pub raised_few : (count last now : ℕ) → count ≤ 41 → (decided count last now).1 ≤ 41
+-- the new count is at most the greatest
+pub raised_few : (count last now : ℕ) → count ≤ most_revocations → (decided count last now).1 ≤ most_revocations
 raised_few count last now few = up (after_reset count last now) (reset (is_reset count last now))
   where
-    reset : (b : Bool) → (if b then 0 else count) ≤ 41
+    reset : (b : Bool) → (if b then 0 else count) ≤ most_revocations
     reset true = omega arith
     reset false = few
 
-    up : (n : ℕ) → n ≤ 41 → raised n ≤ 41
+    up : (n : ℕ) → n ≤ most_revocations → raised n ≤ most_revocations
     up n h = grind (arith, nat_tests, h)
 
-few_or : {n k : ℕ} (b : Bool) → n ≤ 41 → k ≤ 41 → cond b n k ≤ 41
+few_or : {n k : ℕ} (b : Bool) → n ≤ most_revocations → k ≤ most_revocations → cond b n k ≤ most_revocations
 few_or true g h = g
 few_or false g h = h
 
 -- the count is stored
-pub count_fits : (w : World) (P : List PlainObject) (c n : ℕ) → w.biasing ≡ true → n ≤ 41 → FitsUnseen w P → FitsUnseen (with_words (with_word (Revocations c) n w.words) w) P
+pub count_fits : (w : World) (P : List PlainObject) (c n : ℕ) → w.biasing ≡ true → n ≤ most_revocations → FitsUnseen w P → FitsUnseen (with_words (with_word (Revocations c) n w.words) w) P
 count_fits w P c n on few v clause.forms = record { marks = (v clause.forms).marks; owners = (v clause.forms).owners; waits = (v clause.forms).waits; objects = (v clause.forms).objects; holds = (v clause.forms).holds; safepoint = (v clause.forms).safepoint }
 count_fits w P c n on few v clause.classes = record {
   plain = λ off i. absurd (cc (on, off));
@@ -70,7 +70,7 @@ reached_within w P r reached v = cases (nat_lt r w.shape.threads) refl
 
 module _ (w : World) (P : List PlainObject) (r : ℕ) (b : Revocation) (l : Known) (reached : (w.known r).reached ≡ true) (on : w.biasing ≡ true) (k : HasCounted w r b l) (v : FitsUnseen w P) where
   abbrev c : ℕ
-  c = class_of w.shape b.object
+  c = class_by w.shape w.words b.object
 
   abbrev d : Verdict × ℕ
   d = decided (w.words (Revocations c)) (w.words (LastBulk c)) b.now
@@ -97,7 +97,7 @@ module _ (w : World) (P : List PlainObject) (r : ℕ) (b : Revocation) (l : Know
 
   words : d.0 ≡ Single → words_after (revocation_writes w.shape r b w.words) w.words ≡ words_after (revoke b.object false f) f
   unfolding revocation_writes
-  words single = ap (λ z. words_after (in_turn (verdict_rules w.shape r c b z) f) f) single ∙ stored_append (revoke b.object false f) [] f
+  words single = ap (λ z. words_after (in_turn (verdict_rules w.shape (class_by w.shape w.words) r c b z) f) f) single ∙ stored_append (revoke b.object false f) [] f
 
   pub single_fits : d.0 ≡ Single → FitsUnseen (revoked_world w r b l) P
   single_fits single = subst (λ g. FitsUnseen (with_words g x) P) (sym (words single)) (revoke_fits x P b.object (calm single) (counted_fits single))

@@ -1,6 +1,7 @@
 -- A store of a revocation: the first one leads from a world in which every clause holds into the revocation, and each other one goes on there.
-use Rattle.core_locks.proofs.Prelude.{◌≡◌, ◌≢◌, ◌⊎◌, ℕ, ◌<◌, ◌≤◌, ◌++◌, nat_lt, Bool, true, false, cond, List, [], ◌∷◌, length, Some, None, refl, sym, ap, ◌∙◌, subst, arith, inl, inr, same_Some, nat_tests, read_mark, PlainObject, Store, Name, Safepoint, Mark, Prototype, Revocations, LastBulk, Waiting, StepPlan, Shape, class_of, same_name, with_word, is_biased, hold_word, revocation_in, one_if, Known, StepMade, last_seen, World, with_word_and_known, with_known, marks, owner_at, hold_count, depth_count, Purpose, SafepointIsKnown, ends, Stays, IsKeptOrNamed, world_after, known_hit, seen_before, runs_after, asks_after, reached_after, halted_after, kept_by_act, seen_at_safepoint_before, Fits, SeenFit, FormsFit, SafepointFits, IsRevoking, WordsHaveForms, IsMark, seen_is_part, frame5, frame8, each_with_known, with_known_here, with_known_else, part_moves, IsPart, Calm}
+use Rattle.core_locks.proofs.Prelude.{◌≡◌, ◌≢◌, ◌⊎◌, ℕ, ◌<◌, ◌≤◌, ◌++◌, nat_lt, Bool, true, false, cond, List, [], ◌∷◌, length, Some, None, refl, sym, ap, ◌∙◌, subst, arith, inl, inr, same_Some, nat_tests, read_mark, PlainObject, Store, Name, Safepoint, Mark, Prototype, Revocations, LastBulk, Waiting, StepPlan, Shape, class_by, same_name, with_word, is_biased, hold_word, revocation_in, one_if, Known, StepMade, last_seen, World, with_word_and_known, with_known, marks, owner_at, hold_count, depth_count, Purpose, SafepointIsKnown, ends, Stays, IsKeptOrNamed, world_after, known_hit, seen_before, runs_after, asks_after, reached_after, halted_after, kept_by_act, seen_at_safepoint_before, Fits, SeenFit, FormsFit, SafepointFits, IsRevoking, WordsHaveForms, IsMark, seen_is_part, frame5, frame8, each_with_known, with_known_here, with_known_else, part_moves, IsPart, Calm}
 use Rattle.std.proofs.Common.{append_assoc}
+use Rattle.plain_monitor.specs.Limits.{most_threads, most_holds}
 use Rattle.lock_policy.specs.declared.policy.Verdict.{Verdict}
 use Rattle.lock_policy.specs.Policy.{decided, is_reset}
 use Rattle.core_world.specs.declared.name.Name.TheVariants as name
@@ -18,6 +19,7 @@ use Rattle.core_world.specs.Valid.{RevokesSince, RevokesWithin, requester_known}
 use Rattle.core_world.proofs.NoWordChanges.{one_requester}
 use Rattle.core_world.proofs.Naming.{same_named}
 use Rattle.core_locks.proofs.SafeFacts.{one_reached}
+use Rattle.core_world.proofs.There.{class_seen}
 use Rattle.core_bias.specs.Revoking.{IsBiasedToOne, MayBeginRevoking, MayStore}
 use Rattle.core_bias.proofs.GoodWrites.{is_revocation_word, IsGood, AreGood, Follows, one_follows, follow, good_next, good_writes}
 use Rattle.core_bias.proofs.Places.{holds_are, placed}
@@ -210,7 +212,7 @@ module _ (w : World) (P : List PlainObject) (r : ℕ) (b : Revocation) (g : Goin
 
   -- THE LAW of the store: what the thread counted is what the rules decide, and the store is the next one that they list
   pub store_revokes : (rest : List Write) → writes_in (w.known r).seen_at_safepoint ++ write at word ∷ rest ≡ revocation_writes g.before.shape r b g.before.words
-      → (let c = class_of g.before.shape b.object in
+      → (let c = class_by g.before.shape g.before.words b.object in
       l.counts ≡ with_verdict_counted (g.before.known r).counts c (decided (g.before.words (Revocations c)) (g.before.words (LastBulk c)) b.now).0 (is_reset (g.before.words (Revocations c)) (g.before.words (LastBulk c)) b.now))
       → RevokesSince x P g.before
   store_revokes rest writes counts = (
@@ -284,10 +286,10 @@ pub unwritten_found : (f : Name → ℕ) (ms : List StepMade) → AreTheSteps f 
 unwritten_found f ms h none = subst (λ z. FoundAfter z ms) (sym (h.same ∙ ap (λ xs. words_after xs h.before) none)) h.found
 
 -- a hold of an object has a record with depth 1
-pub first_below : (w : World) (P : List PlainObject) → Fits w P → (t o : ℕ) → hold_count o (holds_in w.words t) ≢ 0 → first_place o (holds_in w.words t) < 64
-first_below w P v t o = subst (λ hs. hold_count o hs ≢ 0 → first_place o hs < 64) (sym (holds_are w.words t (w.known t).holds (v.holds.places t) (v.holds.stored t))) by_holds
+pub first_below : (w : World) (P : List PlainObject) → Fits w P → (t o : ℕ) → hold_count o (holds_in w.words t) ≢ 0 → first_place o (holds_in w.words t) < most_holds
+first_below w P v t o = subst (λ hs. hold_count o hs ≢ 0 → first_place o hs < most_holds) (sym (holds_are w.words t (w.known t).holds (v.holds.places t) (v.holds.stored t))) by_holds
   where
-    by_holds : hold_count o (w.known t).holds ≢ 0 → first_place o (w.known t).holds < 64
+    by_holds : hold_count o (w.known t).holds ≢ 0 → first_place o (w.known t).holds < most_holds
     by_holds some =
         let held : 1 ≤ hold_count o (w.known t).holds = omega (arith, some) in
         let test : nat_lt 0 (hold_count o (w.known t).holds) ≡ true = grind (arith, nat_tests, held) in
@@ -300,7 +302,7 @@ module _ (w : World) (P : List PlainObject) (e : Purpose) (b : Revocation) (at :
       → IsGood w.shape g.before.words (write at word) × Follows w.shape g.before.words w.words
   goods r g within rest writes =
       let forms : (o : ℕ) → IsMark w.shape (read_mark (g.before.words (Mark o))) = λ o. subst (λ s. IsMark s (read_mark (g.before.words (Mark o)))) (sym g.shape) (g.fits.forms.marks o) in
-      let threads : w.shape.threads ≤ 16 = subst (λ (s : Shape). s.threads ≤ 16) (sym g.shape) g.fits.limits.threads in
+      let threads : w.shape.threads ≤ most_threads = subst (λ (s : Shape). s.threads ≤ most_threads) (sym g.shape) g.fits.limits.threads in
       let all = good_writes w.shape g.before.words threads (first_below g.before P g.fits) r b within forms in
       let parts = good_next w.shape g.before.words (writes_in (w.known r).seen_at_safepoint) rest (write at word) (subst (AreGood w.shape g.before.words) (sym writes) all) in
       let first : Follows w.shape g.before.words g.before.words = record { forms = forms; names = λ o. refl; holds = λ t p. refl } in
@@ -312,7 +314,7 @@ module _ (w : World) (P : List PlainObject) (e : Purpose) (b : Revocation) (at :
   -- the law of a store, by what was going on
   next_store : (r : ℕ) (g : Going w P r b) (o : Own) → r < w.shape.threads → MayStore w.shape (w.known r) e r b at word
       → kept_after o (w.words at) (w.known r).kept ≡ (w.known r).kept → moving_after o (w.words at) (w.known r).moving ≡ (w.known r).moving → saved_after o (w.words at) (w.known r).saved ≡ (w.known r).saved → shots_after o w.shape (w.known r) ≡ (w.known r).shots
-      → (let c = class_of w.shape b.object in
+      → (let c = class_by w.shape g.before.words b.object in
       counts_after o (w.known r).counts ≡ with_verdict_counted (g.before.known r).counts c (decided (g.before.words (Revocations c)) (g.before.words (LastBulk c)) b.now).0 (is_reset (g.before.words (Revocations c)) (g.before.words (LastBulk c)) b.now))
       → RevokesSince (world_after (plan o) r w) P g.before
   next_store r g o within may kept moving saved shots counts =
@@ -323,16 +325,18 @@ module _ (w : World) (P : List PlainObject) (e : Purpose) (b : Revocation) (at :
       let leaves = store_leaves w.shape w.start e b o at word (w.words at) (w.known r) good.0.0 kept moving saved shots may.goes_on may.check in
       store_revokes w P r b g e o at word l leaves good.0 good.1
       front.0 (front.1 ∙ ap (λ s. revocation_writes s r b g.before.words) g.shape)
-      (subst (λ s. let c = class_of s b.object in
+      (subst (λ s. let c = class_by s g.before.words b.object in
       counts_after o (w.known r).counts ≡ with_verdict_counted (g.before.known r).counts c (decided (g.before.words (Revocations c)) (g.before.words (LastBulk c)) b.now).0 (is_reset (g.before.words (Revocations c)) (g.before.words (LastBulk c)) b.now)) g.shape counts)
 
   -- THE FIRST STORE: every clause holds, and the thread counts the verdict.
-  pub first_store : (r : ℕ) (verdict : Verdict) (reset : Bool) → r < w.shape.threads → MayBeginRevoking w.shape (w.known r) e r b verdict reset at word → Fits w P
-      → RevokesSince (world_after (plan (own.CountVerdict (class_of w.shape b.object) verdict reset)) r w) P w
-  first_store r verdict reset within may v =
-      let c = class_of w.shape b.object in
+  pub first_store : (r class : ℕ) (verdict : Verdict) (reset : Bool) → r < w.shape.threads → MayBeginRevoking w.shape (w.known r) e r b class verdict reset at word → Fits w P
+      → RevokesSince (world_after (plan (own.CountVerdict class verdict reset)) r w) P w
+  first_store r class verdict reset within may v =
+      let c = class_by w.shape w.words b.object in
+      let is : c ≡ class = class_seen w.shape w.words (w.known r).seen_at_safepoint b.object class may.saw_class in
       let stands = λ (n : Name) (m : ℕ). v.seen.stands r n m may.reached in
       let saw = may.biased in
+      let prototype : w.words (Prototype c) ≡ saw.1 = ap (λ z. w.words (Prototype z)) is ∙ stands (Prototype class) saw.1 saw.3 in
       let policy = may.decides in
       let g : Going w P r b = record {
         before = w;
@@ -346,7 +350,7 @@ module _ (w : World) (P : List PlainObject) (e : Purpose) (b : Revocation) (at :
         unfinished = may.unfinished;
         allowed = may.allowed;
         object = may.object;
-        biased = (λ i. is_valid_bias (read_mark (stands (Mark b.object) saw.0 saw.2 i)) (stands (Prototype c) saw.1 saw.3 i)) ∙ saw.4;
+        biased = (λ i. is_valid_bias (read_mark (stands (Mark b.object) saw.0 saw.2 i)) (prototype i)) ∙ saw.4;
         words = sym (ap (λ xs. words_after xs w.words) may.unwritten);
         found = unwritten_found w.words (w.known r).seen_at_safepoint (v.seen.alone r may.reached (ap revocation_in may.calm)) may.unwritten;
         untouched = refl;
@@ -356,11 +360,11 @@ module _ (w : World) (P : List PlainObject) (e : Purpose) (b : Revocation) (at :
         forms = v.forms;
         safe = v.safe;
       } in
-      let count = stands (Revocations c) policy.0 policy.2 in
-      let last = stands (LastBulk c) policy.1 policy.3 in
+      let count : w.words (Revocations c) ≡ policy.0 = ap (λ z. w.words (Revocations z)) is ∙ stands (Revocations class) policy.0 policy.2 in
+      let last : w.words (LastBulk c) ≡ policy.1 = ap (λ z. w.words (LastBulk z)) is ∙ stands (LastBulk class) policy.1 policy.3 in
       let d : (verdict ≡ (decided (w.words (Revocations c)) (w.words (LastBulk c)) b.now).0) × (reset ≡ is_reset (w.words (Revocations c)) (w.words (LastBulk c)) b.now) =
       (policy.4 ∙ (λ i. (decided (sym count i) (sym last i) b.now).0), policy.5 ∙ (λ i. is_reset (sym count i) (sym last i) b.now)) in
-      next_store r g (own.CountVerdict c verdict reset) within may.store refl refl refl refl (λ i. with_verdict_counted (w.known r).counts c (d.0 i) (d.1 i))
+      next_store r g (own.CountVerdict class verdict reset) within may.store refl refl refl refl (λ i. with_verdict_counted (w.known r).counts (sym is i) (d.0 i) (d.1 i))
 
 -- A STORE IN THE MIDDLE: the thread whose revocation is under way makes the next store, and keeps nothing of it.
 pub middle_store : (w : World) (P : List PlainObject) (e : Purpose) (at : Name) (word : ℕ) (s : IsRevoking w P)
@@ -391,5 +395,5 @@ middle_store w P e at word s within may =
       safe = s.safe;
     } in
     next_store w P e s.revocation at word r g own.Same within may refl refl refl refl
-    (sym counts ∙ ap (λ (z : Shape). with_verdict_counted (s.before.known r).counts (class_of z s.revocation.object) (decided (s.before.words (Revocations (class_of z s.revocation.object))) (s.before.words (LastBulk (class_of z s.revocation.object))) s.revocation.now).0
-    (is_reset (s.before.words (Revocations (class_of z s.revocation.object))) (s.before.words (LastBulk (class_of z s.revocation.object))) s.revocation.now)) (sym s.shape))
+    (sym counts ∙ ap (λ (z : Shape). with_verdict_counted (s.before.known r).counts (class_by z s.before.words s.revocation.object) (decided (s.before.words (Revocations (class_by z s.before.words s.revocation.object))) (s.before.words (LastBulk (class_by z s.before.words s.revocation.object))) s.revocation.now).0
+    (is_reset (s.before.words (Revocations (class_by z s.before.words s.revocation.object))) (s.before.words (LastBulk (class_by z s.before.words s.revocation.object))) s.revocation.now)) (sym s.shape))

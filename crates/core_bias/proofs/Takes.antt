@@ -1,5 +1,5 @@
 -- At a safepoint an object that nobody holds loses the thread of its bias, or gets another one.
-use Rattle.core_locks.proofs.Prelude.{◌≡◌, ◌≢◌, ◌⊎◌, ℕ, ◌<◌, ◌≤◌, ◌==◌, ◌++◌, eq-eqb, eqb-true, Bool, true, false, cond, if◌then◌else◌, List, [], ◌∷◌, Option, Some, None, refl, sym, ap, ◌∙◌, subst, arith, inl, inr, MarkForm, Anonymous, Biased, Locked, mark_of, read_mark, read_mark-mark_of, PlainObject, Name, Mark, Prototype, Owner, class_of, with_word, is_biased, is_biased_form, monitor_form, epoch_in, World, Lock, Open, BiasedTo, has_epoch, lock, lock_form, header_form, holder, who, marks, displaced_words, headers, owner_words, prototype_of, inflations, hold_count, IsMark, by_equal}
+use Rattle.core_locks.proofs.Prelude.{◌≡◌, ◌≢◌, ◌⊎◌, ℕ, ◌<◌, ◌≤◌, ◌==◌, ◌++◌, eq-eqb, eqb-true, Bool, true, false, cond, if◌then◌else◌, List, [], ◌∷◌, Option, Some, None, refl, sym, ap, ◌∙◌, subst, arith, inl, inr, MarkForm, Anonymous, Biased, Locked, mark_of, read_mark, read_mark-mark_of, PlainObject, Name, Mark, Prototype, Owner, class_by, with_word, is_biased, is_biased_form, monitor_form, epoch_in, World, Lock, Open, BiasedTo, has_epoch, lock, lock_form, header_form, holder, who, marks, displaced_words, headers, owner_words, prototype_of, inflations, hold_count, IsMark, by_equal}
 use Rattle.core_world.specs.RevocationRules.{write, words_after, store_where, record_writes, first_place, revoke_biased, revoke_form, revoke, biased_word, take_bias}
 use Rattle.core_world.proofs.Readings.{mark_five}
 use Rattle.core_locks.proofs.Clauses as clause
@@ -62,7 +62,7 @@ module _ (w : World) (P : List PlainObject) (o : ℕ) (calm : AllCalm w) (v : Fi
   revoke_allowed = by_form (read_mark (marks w o)) refl
     where
       five_open : (f : Name → ℕ) → lock (with_words (with_word (Mark o) 5 f) w) o ≡ Open
-      five_open f = ap (λ m. lock_form (read_mark m) (f (Prototype (class_of w.shape o))) (λ i. f (Owner i)) (inflations w o)) (here 5 f) ∙ ap (λ a. lock_form a (f (Prototype (class_of w.shape o))) (λ i. f (Owner i)) (inflations w o)) mark_five
+      five_open f = ap (λ m. lock_form (read_mark m) (f (Prototype (class_by w.shape f o))) (λ i. f (Owner i)) (inflations w o)) (here 5 f) ∙ ap (λ a. lock_form a (f (Prototype (class_by w.shape f o))) (λ i. f (Owner i)) (inflations w o)) mark_five
 
       leaner : (t u : ℕ) (b : Bool) → lock w o ≡ (if b then BiasedTo t else Open) → lock w o ≡ BiasedTo u → u ≡ t
       leaner t u true e z = let same : t ≡ u = cc (e, z) in sym same
@@ -94,7 +94,7 @@ module _ (w : World) (P : List PlainObject) (o : ℕ) (calm : AllCalm w) (v : Fi
       by_form _ e = (v, λ b. let no = ap is_biased_form e in absurd (cc (no, b)))
 
   -- THE REQUESTER TAKES THE BIAS, where the object has no lock
-  pub take_fits : (t : ℕ) → t < w.shape.threads → (is_biased (marks w o) ≡ true → lock w o ≡ Open) → FitsUnseen (with_words (words_after (take_bias (class_of w.shape o) o t w.words) w.words) w) P
+  pub take_fits : (t : ℕ) → t < w.shape.threads → (is_biased (marks w o) ≡ true → lock w o ≡ Open) → FitsUnseen (with_words (words_after (take_bias (class_by w.shape w.words o) o t w.words) w.words) w) P
   take_fits t within opens = cases (is_biased (marks w o)) refl (epoch_in (prototype_of w o)) refl
     where
       cases : (a : Bool) → is_biased (marks w o) ≡ a → (b : Option ℕ) → epoch_in (prototype_of w o) ≡ b → FitsUnseen (with_words (words_after (store_where (Mark o) (biased_word a b t)) w.words) w) P

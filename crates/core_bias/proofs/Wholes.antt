@@ -1,5 +1,5 @@
 -- A revocation as a whole, whatever its verdict, and the release after it.
-use Rattle.core_locks.proofs.Prelude.{◌≡◌, ℕ, ◌<◌, ◌++◌, Bool, true, false, List, [], ◌∷◌, Option, Some, refl, sym, ap, ◌∙◌, subst, inl, inr, MarkForm, Biased, read_mark, PlainObject, Name, Revocations, LastBulk, class_of, is_biased, is_biased_form, revocation_in, Known, World, marks, prototype_of, Purpose, world_after, Fits, IsRevoking, IsValid, each_with_known, KeepsValid}
+use Rattle.core_locks.proofs.Prelude.{◌≡◌, ℕ, ◌<◌, ◌++◌, Bool, true, false, List, [], ◌∷◌, Option, Some, refl, sym, ap, ◌∙◌, subst, inl, inr, MarkForm, Biased, read_mark, PlainObject, Name, Revocations, LastBulk, class_by, is_biased, is_biased_form, revocation_in, Known, World, marks, prototype_of, Purpose, world_after, Fits, IsRevoking, IsValid, each_with_known, KeepsValid}
 use Rattle.lock_policy.specs.declared.policy.Verdict.{Verdict}
 use Rattle.lock_policy.specs.declared.policy.Verdict.TheVariants.{Single, BulkRebias, BulkRevoke}
 use Rattle.lock_policy.specs.Policy.{decided}
@@ -34,9 +34,9 @@ biasing_on w P o biased v = cases w.biasing refl
 -- THE WHOLE: where every clause but that of what was seen holds, it holds again after all stores, whatever the verdict.
 pub whole_fits : (w : World) (P : List PlainObject) (r : ℕ) (b : Revocation) (l : Known) → (w.known r).reached ≡ true → is_biased (marks w b.object) ≡ true → HasCounted w r b l → FitsUnseen w P
     → FitsUnseen (revoked_world w r b l) P
-whole_fits w P r b l reached biased k v = cases (decided (w.words (Revocations (class_of w.shape b.object))) (w.words (LastBulk (class_of w.shape b.object))) b.now).0 refl
+whole_fits w P r b l reached biased k v = cases (decided (w.words (Revocations (class_by w.shape w.words b.object))) (w.words (LastBulk (class_by w.shape w.words b.object))) b.now).0 refl
   where
-    cases : (d : Verdict) → (decided (w.words (Revocations (class_of w.shape b.object))) (w.words (LastBulk (class_of w.shape b.object))) b.now).0 ≡ d → FitsUnseen (revoked_world w r b l) P
+    cases : (d : Verdict) → (decided (w.words (Revocations (class_by w.shape w.words b.object))) (w.words (LastBulk (class_by w.shape w.words b.object))) b.now).0 ≡ d → FitsUnseen (revoked_world w r b l) P
     cases Single e = single_fits w P r b l reached (biasing_on w P b.object biased v) k v e
     cases BulkRebias e = rebiased_fits w P r b l reached (biasing_on w P b.object biased v) k v e
     cases BulkRevoke e = revoked_fits w P r b l reached (biasing_on w P b.object biased v) k v e
@@ -93,9 +93,9 @@ release_fits w P t e b took may =
     release_ends w P s e (all_made w P e b s own) (made w P e b s own) own.still own.goes_on b.object took)
 
 -- THE STORES, by what the thread knows: the first one, from the world in which it is made
-pub begin_revokes : (w : World) (P : List PlainObject) (r : ℕ) (e : Purpose) (b : Revocation) (verdict : Verdict) (reset : Bool) (at : Name) (word : ℕ) → MayBeginRevoking w.shape (w.known r) e r b verdict reset at word
-    → Fits w P → RevokesSince (world_after (revoke_plan e b (own.CountVerdict (class_of w.shape b.object) verdict reset) at word) r w) P w
-begin_revokes w P r e b verdict reset at word may v = first_store w P e b at word r verdict reset (reached_within w P r may.reached (unseen w P v)) may v
+pub begin_revokes : (w : World) (P : List PlainObject) (r : ℕ) (e : Purpose) (b : Revocation) (class : ℕ) (verdict : Verdict) (reset : Bool) (at : Name) (word : ℕ) → MayBeginRevoking w.shape (w.known r) e r b class verdict reset at word
+    → Fits w P → RevokesSince (world_after (revoke_plan e b (own.CountVerdict class verdict reset) at word) r w) P w
+begin_revokes w P r e b class verdict reset at word may v = first_store w P e b at word r class verdict reset (reached_within w P r may.reached (unseen w P v)) may v
 
 -- and each other one
 pub goes_on_revokes : (e : Purpose) (b : Revocation) (at : Name) (word : ℕ) (w : World) (P : List PlainObject) (s : IsRevoking w P) → s.requester < w.shape.threads
@@ -106,10 +106,10 @@ goes_on_revokes e b at word w P s within mine =
     (middle_store w P e at word s within (subst (λ c. MayStore w.shape (w.known s.requester) e s.requester c at word) (sym same) mine.store))
 
 -- so both keep the world valid
-pub begin_valid : (w : World) (P : List PlainObject) (r : ℕ) (e : Purpose) (b : Revocation) (verdict : Verdict) (reset : Bool) (at : Name) (word : ℕ) → MayBeginRevoking w.shape (w.known r) e r b verdict reset at word
-    → IsValid w P → IsValid (world_after (revoke_plan e b (own.CountVerdict (class_of w.shape b.object) verdict reset) at word) r w) P
-begin_valid w P r e b verdict reset at word may valid =
-    inr (begin_revokes w P r e b verdict reset at word may (fits_calm w P r may.reached may.calm valid)).0
+pub begin_valid : (w : World) (P : List PlainObject) (r : ℕ) (e : Purpose) (b : Revocation) (class : ℕ) (verdict : Verdict) (reset : Bool) (at : Name) (word : ℕ) → MayBeginRevoking w.shape (w.known r) e r b class verdict reset at word
+    → IsValid w P → IsValid (world_after (revoke_plan e b (own.CountVerdict class verdict reset) at word) r w) P
+begin_valid w P r e b class verdict reset at word may valid =
+    inr (begin_revokes w P r e b class verdict reset at word may (fits_calm w P r may.reached may.calm valid)).0
 
 pub goes_on_valid : (e : Purpose) (b : Revocation) (at : Name) (word : ℕ) → KeepsValid (λ w r. MayGoOnRevoking w.shape (w.known r) e r b at word) (λ w r. revoke_plan e b own.Same at word)
 goes_on_valid e b at word w P t within may =

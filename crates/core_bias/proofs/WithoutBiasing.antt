@@ -1,5 +1,5 @@
 -- Without biasing a revocation as a whole breaks the clause of classes: it counts. So it is to be of a mark with the bias pattern.
-use Rattle.core_locks.proofs.Prelude.{◌≡◌, ℕ, eq-eqb, Bool, false, cond, List, [], ◌∷◌, refl, ap, ◌∙◌, arith, PlainObject, Name, Revocations, LastBulk, class_of, with_word, Known, World, Fits}
+use Rattle.core_locks.proofs.Prelude.{◌≡◌, ℕ, eq-eqb, Bool, false, cond, List, [], ◌∷◌, refl, ap, ◌∙◌, arith, PlainObject, Name, Revocations, LastBulk, class_by, with_word, Known, World, Fits}
 use Rattle.lock_policy.specs.declared.policy.Verdict.TheVariants.{Single}
 use Rattle.lock_policy.specs.Policy.{decided}
 use Rattle.core_world.specs.Threads.Stages.{Revocation}
@@ -10,11 +10,12 @@ use Rattle.core_bias.proofs.BlindRules.{blind_turn, blind_revoke, classless_stay
 pub unbiased_breaks : (w : World) (P : List PlainObject) (r : ℕ) (b : Revocation) (l : Known) → w.biasing ≡ false → Fits w P → Fits (revoked_world w r b l) P → ⊥
 unfolding revocation_writes
 unbiased_breaks w P r b l off v x =
-    let c = class_of w.shape b.object in
+    let class = class_by w.shape w.words in
+    let c = class b.object in
     let f = w.words in
     let none = v.classes.plain off c in
     let verdict : decided (f (Revocations c)) (f (LastBulk c)) b.now ≡ (Single, 1) = λ i. decided (none.1 i) (none.2 i) b.now in
-    let words : words_after (revocation_writes w.shape r b f) f ≡ words_after (in_turn (revocation_rules w.shape r c b (Single, 1)) f) f = ap (λ d. words_after (in_turn (revocation_rules w.shape r c b d) f) f) verdict in
+    let words : words_after (revocation_writes w.shape r b f) f ≡ words_after (in_turn (revocation_rules w.shape class r c b (Single, 1)) f) f = ap (λ d. words_after (in_turn (revocation_rules w.shape class r c b d) f) f) verdict in
     let g : Name → ℕ = with_word (Revocations c) 1 f in
     let turning = blind_turn (revoke b.object false ∷ []) (blind_revoke b.object false, tt) in
     let one : words_after (revocation_writes w.shape r b f) f (Revocations c) ≡ 1 =

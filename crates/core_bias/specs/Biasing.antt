@@ -5,8 +5,9 @@ use Rattle.mark_word.specs.declared.mark.MarkForm.TheVariants.{Neutral, Anonymou
 use Rattle.mark_word.specs.Mark.{mark_of, read_mark}
 use Rattle.core_world.specs.declared.name.Name.TheVariants.{Prototype}
 use Rattle.core_world.specs.declared.stage.Stage.TheVariants.{Calm}
-use Rattle.core_world.specs.Words.Shape.{Shape, class_of}
+use Rattle.core_world.specs.Words.Shape.{Shape}
 use Rattle.core_world.specs.Words.Forms.{epoch_in}
+use Rattle.core_world.specs.Threads.AtRest.{SawClass}
 use Rattle.core_world.specs.Threads.Known.{Known, last_seen}
 use Rattle.core_world.specs.Locks.{has_epoch}
 use Rattle.core_world.specs.Trees.Plans.{Purpose}
@@ -22,7 +23,9 @@ IsLoose _ e = ⊥
 pub record MayExchange (s : Shape) (k : Known) (e : Purpose) (o mark prototype : ℕ) : Type 0 where
   pub runs : k.running ≡ true
   pub calm : k.stage ≡ Calm
-  pub saw : last_seen (Prototype (class_of s o)) k.seen ≡ Some prototype
+  pub class : ℕ
+  pub saw_class : SawClass s k.seen o class
+  pub saw : last_seen (Prototype class) k.seen ≡ Some prototype
   pub loose : IsLoose (read_mark mark) (epoch_in prototype)
   pub goes_on : e.unfinished ≡ k.unfinished
 

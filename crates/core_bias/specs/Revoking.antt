@@ -1,5 +1,5 @@
 -- A revocation as a whole, and what a thread knows when it makes its stores and the step that ends it.
-use Rattle.std.specs.Prelude.{◌≡◌, ℕ, ◌<◌, ◌++◌, Bool, true, false, List, [], ◌∷◌, length, Some}
+use Rattle.std.specs.Prelude.{◌≡◌, ℕ, ◌<◌, ◌++◌, Bool, true, false, List, [], ◌∷◌, Some}
 use Rattle.mark_word.specs.Mark.{read_mark}
 use Rattle.lock_policy.specs.declared.policy.Verdict.{Verdict}
 use Rattle.lock_policy.specs.Policy.{decided, is_reset}
@@ -10,11 +10,14 @@ use Rattle.core_world.specs.declared.task.Op.{Op}
 use Rattle.core_world.specs.Threads.Counts.{with_verdict_counted}
 use Rattle.core_world.specs.Words.Forms.{epoch_in, is_biased}
 use Rattle.core_world.specs.Threads.Known.{Still, Known, StepMade, last_seen}
+use Rattle.core_world.specs.Threads.References.{HasReference}
 use Rattle.core_world.specs.Locks.{is_valid_bias}
 use Rattle.core_world.specs.Trees.Plans.{Purpose}
 use Rattle.core_world.specs.Trees.SafepointSteps.{reached_word}
 use Rattle.core_world.specs.RevocationRules.{Write, write, words_after, revocation_writes, writes_in, FoundAfter}
-use Rattle.core_world.specs.Words.Shape.{Shape, class_of}
+use Rattle.core_world.specs.Words.Shape.{Shape}
+use Rattle.core_world.specs.Words.Names.{class_by}
+use Rattle.core_world.specs.Threads.AtRest.{SawClass}
 use Rattle.core_world.specs.Threads.Stages.{Revocation, revocation_in}
 use Rattle.core_world.specs.Valid.{RevokesWithin}
 use Rattle.core_world.specs.Trees.Todo.{Todo, step}
@@ -55,14 +58,14 @@ revoked_world w r b l =
 pub record HasCounted (w : World) (r : ℕ) (b : Revocation) (l : Known) : Type 0 where
   pub calm : (w.known r).stage ≡ Calm
   pub same : Alike (w.known r) l
-  pub counts : let c = class_of w.shape b.object in
+  pub counts : let c = class_by w.shape w.words b.object in
       l.counts ≡ with_verdict_counted (w.known r).counts c
       (decided (w.words (Revocations c)) (w.words (LastBulk c)) b.now).0
       (is_reset (w.words (Revocations c)) (w.words (LastBulk c)) b.now)
 
 -- by these words the mark of o is validly biased to a thread
 abbrev pub IsBiasedToOne : Shape → (Name → ℕ) → ℕ → Type 0
-IsBiasedToOne s f o = is_valid_bias (read_mark (f (Mark o))) (f (Prototype (class_of s o))) ≡ true
+IsBiasedToOne s f o = is_valid_bias (read_mark (f (Mark o))) (f (Prototype (class_by s f o))) ≡ true
 
 -- THE STORES. By whatever words the thread can have found since its safepoint was reached, in which the object was validly biased to a thread: its stores
 -- since then and this one are the first that the rules list; and its stores are all of them.
@@ -82,23 +85,24 @@ pub record MayStore (s : Shape) (k : Known) (e : Purpose) (r : ℕ) (b : Revocat
   pub goes_on : e.unfinished ≡ k.unfinished
   pub check : e.check ≡ k.checking
 
--- The first store. The thread has stored nothing at its safepoint, and has seen there that the object's mark is validly biased to a thread; it
--- counts the verdict that the policy gives by the class's words as it saw them there.
-pub record MayBeginRevoking (s : Shape) (k : Known) (e : Purpose) (r : ℕ) (b : Revocation) (verdict : Verdict)
-    (reset : Bool) (at : Name) (word : ℕ) : Type 0 where
+-- The first store. The thread has stored nothing at its safepoint, and has seen there the object's class, and that its mark is validly biased to a
+-- thread; it counts the verdict that the policy gives by the class's words as it saw them there.
+pub record MayBeginRevoking (s : Shape) (k : Known) (e : Purpose) (r : ℕ) (b : Revocation) (class : ℕ)
+    (verdict : Verdict) (reset : Bool) (at : Name) (word : ℕ) : Type 0 where
   pub reached : k.reached ≡ true
   pub calm : k.stage ≡ Calm
   pub operation : Op
   pub unfinished : k.unfinished ≡ Some (record { op = operation; object = b.object })
   pub allowed : RevokesWithin operation b.rebias
-  pub object : b.object < length s.objects
+  pub object : HasReference s k b.object
   pub unwritten : writes_in k.seen_at_safepoint ≡ []
+  pub saw_class : SawClass s k.seen_at_safepoint b.object class
   pub biased : (mark prototype : ℕ) × (last_seen (Mark b.object) k.seen_at_safepoint ≡ Some mark)
-      × (last_seen (Prototype (class_of s b.object)) k.seen_at_safepoint ≡ Some prototype)
+      × (last_seen (Prototype class) k.seen_at_safepoint ≡ Some prototype)
       × (is_valid_bias (read_mark mark) prototype ≡ true)
   pub decides : (count last : ℕ)
-      × (last_seen (Revocations (class_of s b.object)) k.seen_at_safepoint ≡ Some count)
-      × (last_seen (LastBulk (class_of s b.object)) k.seen_at_safepoint ≡ Some last)
+      × (last_seen (Revocations class) k.seen_at_safepoint ≡ Some count)
+      × (last_seen (LastBulk class) k.seen_at_safepoint ≡ Some last)
       × (verdict ≡ (decided count last b.now).0) × (reset ≡ is_reset count last b.now)
   pub store : MayStore s k e r b at word
 

@@ -6,15 +6,14 @@ ghost use Rattle.mark_word.specs.declared.mark.MarkForm.TheVariants.{Biased, Loc
 ghost use Rattle.mark_word.specs.Mark.{mark_of, read_mark};
 ghost use Rattle.plain_monitor.specs.Objects.{PlainObject};
 ghost use Rattle.core_world.specs.declared.name.Name.{Name};
-ghost use Rattle.core_world.specs.declared.name.Name.TheVariants.{Revocations, Displaced, Mark, Prototype};
+ghost use Rattle.core_world.specs.declared.name.Name.TheVariants.{Revocations, Displaced, Mark};
 ghost use Rattle.core_world.specs.declared.plan.Own.{Own};
 ghost use Rattle.core_world.specs.declared.stage.Stage.TheVariants.{Takes};
 ghost use Rattle.core_world.specs.Words.Forms.{epoch_in, hold_word, is_neutral};
 ghost use Rattle.core_world.specs.Threads.Known.{Known};
-ghost use Rattle.core_world.specs.Locks.{hold_count, owner_at};
+ghost use Rattle.core_world.specs.Locks.{hold_count, owner_at, prototype_of};
 ghost use Rattle.core_world.specs.Trees.Plans.{Purpose, with_stage, store};
 ghost use Rattle.core_world.specs.RevocationRules.{writes_in};
-ghost use Rattle.core_world.specs.Words.Shape.{class_of};
 ghost use Rattle.core_world.specs.Threads.Stages.{Revocation};
 ghost use Rattle.core_world.specs.Steps.{world_after};
 ghost use Rattle.core_world.specs.Valid.{Fits, Valid};
@@ -47,7 +46,7 @@ pub fn no_release_with_a_header_above_depth_one()
 pub fn no_release_with_a_held_object_of_an_old_epoch()
     ensures { (w : World) (r t o epoch age now : ℕ) (e : Purpose) (b : Revocation) (took : Bool) → IsReleasing w r
         → read_mark (w.words (Mark o)) ≡ Some (Biased t epoch age)
-        → epoch_in (w.words (Prototype (class_of w.shape o))) ≡ Some now
+        → epoch_in (prototype_of w o) ≡ Some now
         → now ≢ epoch → 1 ≤ hold_count o (w.known t).holds
         → Valid (world_after (release_plan e (stage_after took b.object) r) r w) → ⊥ }
 {}
@@ -57,7 +56,7 @@ pub fn no_release_with_a_held_object_of_an_old_epoch()
 pub fn no_release_with_a_held_object_of_a_revoked_class()
     ensures { (w : World) (r t o epoch age : ℕ) (e : Purpose) (b : Revocation) (took : Bool) → IsReleasing w r
         → read_mark (w.words (Mark o)) ≡ Some (Biased t epoch age)
-        → epoch_in (w.words (Prototype (class_of w.shape o))) ≡ None
+        → epoch_in (prototype_of w o) ≡ None
         → 1 ≤ hold_count o (w.known t).holds
         → Valid (world_after (release_plan e (stage_after took b.object) r) r w) → ⊥ }
 {}

@@ -14,7 +14,8 @@ ghost use Rattle.core_world.specs.Locks.{marks};
 ghost use Rattle.core_world.specs.Trees.Plans.{Purpose, load, load_plan};
 ghost use Rattle.core_world.specs.RevocationRules.{writes_in};
 ghost use Rattle.core_world.specs.Trees.RevocationSteps.{RevocationOutcome, revoke_at_safepoint_steps, revoke_plan};
-ghost use Rattle.core_world.specs.Words.Shape.{Shape, class_of};
+ghost use Rattle.core_world.specs.Words.Shape.{Shape};
+ghost use Rattle.core_world.specs.Words.Names.{class_by};
 ghost use Rattle.core_world.specs.Threads.Stages.{Revocation, revocation_in};
 ghost use Rattle.core_world.specs.Steps.{world_after};
 ghost use Rattle.core_world.specs.Trees.Todo.{Todo, done, step};
@@ -43,16 +44,16 @@ pub fn the_first_store_keeps_the_world_valid()
     // store, follow from what it saw (`the_steps_make_the_stores_of_the_rules`). That the object was validly biased before the first store
     // follows from the clause that a word at a reached safepoint is as it was seen there
     ensures keeps { (w : World) (objects : List PlainObject) (r : ℕ) (e : Purpose) (b : Revocation)
-        (verdict : Verdict) (reset : Bool) (at : Name) (word : ℕ)
-        → MayBeginRevoking w.shape (w.known r) e r b verdict reset at word → IsValid w objects
+        (class : ℕ) (verdict : Verdict) (reset : Bool) (at : Name) (word : ℕ)
+        → MayBeginRevoking w.shape (w.known r) e r b class verdict reset at word → IsValid w objects
         → IsValid (world_after
-        (revoke_plan e b (own.CountVerdict (class_of w.shape b.object) verdict reset) at word) r w) objects }
+        (revoke_plan e b (own.CountVerdict class verdict reset) at word) r w) objects }
     ensures begins { (w : World) (objects : List PlainObject) (r : ℕ) (e : Purpose) (b : Revocation)
-        (verdict : Verdict) (reset : Bool) (at : Name) (word : ℕ)
-        → MayBeginRevoking w.shape (w.known r) e r b verdict reset at word → Fits w objects
+        (class : ℕ) (verdict : Verdict) (reset : Bool) (at : Name) (word : ℕ)
+        → MayBeginRevoking w.shape (w.known r) e r b class verdict reset at word → Fits w objects
         → RevokesSince
         (world_after
-        (revoke_plan e b (own.CountVerdict (class_of w.shape b.object) verdict reset) at word) r w) objects w }
+        (revoke_plan e b (own.CountVerdict class verdict reset) at word) r w) objects w }
 {}
 
 /// So does each other store. The revocation that is under way goes on.
@@ -88,12 +89,13 @@ pub fn the_answer_tells_the_new_bias()
         → (w.known t).reached ≡ true → revocation_in (w.known t).stage ≡ Some b
         → (w.known t).seen_at_safepoint ≡ ms ++ earlier → writes_in earlier ≡ []
         → Leads (revoke_at_safepoint_steps w.shape t e b) ms (done a) → IsValid w objects
-        → TellsBias t b.object (class_of w.shape b.object) a.took w.words }
+        → TellsBias t b.object (class_by w.shape w.words b.object) a.took w.words }
 {}
 
 /// The release after all stores leads to a world in which every clause holds, with the same plain objects: the thread stands in the
 /// middle of nothing, or, where it gave itself a new bias, in that of taking the object. No tree makes this step: between a revocation and its
-/// release idle monitors are given back, and the first load of that ends the revocation. The law says that the revocation is whole without them.
+/// release idle monitors are given back, and the first load of that ends the revocation. The law says that the revocation's own stores are all that
+/// a valid world asks for: the safepoint could be released at once, with no monitor given back.
 pub fn the_release_ends_the_revocation()
     // `MayEndRevoking`: where the thread stands, and its steps since its safepoint was reached, which are all that the tree of a revocation has;
     // so is whether it gave itself a new bias (`the_answer_tells_the_new_bias`)

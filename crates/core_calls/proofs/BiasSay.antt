@@ -10,6 +10,7 @@ use Rattle.core_world.specs.declared.answer.BiasTry.{BiasTry}
 use Rattle.core_world.specs.declared.answer.BiasTry.TheVariants.{Took, Unbiased, Valid, Raced}
 use Rattle.core_world.specs.Words.Forms.{epoch_in, is_biased}
 use Rattle.core_world.specs.Threads.Known.{Local, StepMade}
+use Rattle.core_world.specs.Words.Shape.{Shape}
 use Rattle.core_world.specs.Trees.Plans.{Purpose, with_stage, load, swap}
 use Rattle.core_world.specs.Trees.Todo.{Todo, done, ◌>>=◌, ask}
 use Rattle.core_world.specs.Trees.LockSteps.{hold_steps, raise_steps, leave_steps}
@@ -44,8 +45,8 @@ module _ (e : Purpose) (o : ℕ) where
   drop_by_says None mark prototype ms loaded h = unbias_says mark prototype ms loaded h
   drop_by_says (Some epoch) mark prototype ms loaded h = drop_at_says (read_mark mark) epoch mark ms loaded h
 
-  pub bias_drop_says : (c : ℕ) (ms : List StepMade) → Still ms → Always (DropSays e) ms (bias_drop_steps e c o)
-  bias_drop_says c ms h = λ mark.
+  pub bias_drop_says : (s : Shape) (ms : List StepMade) → Still ms → Always (DropSays e) ms (bias_drop_steps s e o)
+  bias_drop_says s ms h = λ mark.
       let silent = now_silent e _ mark ms refl refl refl refl h in
       either_way (DropSays e) _ (is_biased mark) _ _
       (λ _ prototype. drop_by_says (epoch_in prototype) mark prototype _ (inr (inl (refl, refl, refl))) (still_leaves _ prototype _ refl refl refl silent))
@@ -97,8 +98,8 @@ module _ (e : Purpose) (k : Local) (o : ℕ) where
   enter_by_says (Some Marked) mark prototype ms is loaded h = tt
   enter_by_says None mark prototype ms is loaded h = tt
 
-  pub bias_enter_says : (c : ℕ) (ms : List StepMade) → Still ms → Always TrySays ms (bias_enter_steps e k c o)
-  bias_enter_says c ms h = λ mark.
+  pub bias_enter_says : (s : Shape) (ms : List StepMade) → Still ms → Always TrySays ms (bias_enter_steps s e k o)
+  bias_enter_says s ms h = λ mark.
       let silent = now_silent e _ mark ms refl refl refl refl h in
       either_way TrySays _ (is_biased mark) _ _
       (λ _ prototype. enter_by_says (read_mark prototype) mark prototype _ refl (inr (inl (refl, refl, refl))) (still_leaves _ prototype _ refl refl refl silent))

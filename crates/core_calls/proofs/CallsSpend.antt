@@ -3,6 +3,7 @@ use Rattle.std.proofs.Common.{ℕ, zero, suc, ◌+◌, ◌*◌, ◌==◌, cond, 
 use Rattle.mark_word.specs.declared.mark.MarkForm.{MarkForm}
 use Rattle.mark_word.specs.declared.mark.MarkForm.TheVariants.{Inflating, Neutral, Anonymous, Biased, Locked, Inflated, Marked}
 use Rattle.mark_word.specs.Mark.{read_mark}
+use Rattle.plain_monitor.specs.Limits.{most_holds}
 use Rattle.plain_monitor.specs.declared.entry.Entry.TheVariants as entry
 use Rattle.plain_monitor.specs.declared.entry.Ending.{Ending}
 use Rattle.plain_monitor.specs.declared.entry.Value.{Value}
@@ -22,7 +23,7 @@ use Rattle.core_world.specs.Words.Forms.{waits_on}
 use Rattle.core_world.specs.Threads.Known.{Start}
 use Rattle.core_world.specs.Locks.{hold_count}
 use Rattle.core_world.specs.Trees.Plans.{Purpose, purpose, done_with, free_place}
-use Rattle.core_world.specs.Words.Shape.{Shape, class_of}
+use Rattle.core_world.specs.Words.Shape.{Shape}
 use Rattle.core_world.specs.Threads.Stages.{Revocation}
 use Rattle.core_world.specs.Trees.Todo.{Todo, done, never, step, ◌>>=◌}
 use Rattle.core_world.specs.Trees.LockSteps.{stack_exit_steps}
@@ -54,7 +55,7 @@ module _ (s : Shape) (e : Purpose) where
   unbias_spends : (k : Start) (b : Revocation) → Spend Any Nothing (a_revocation s + 2) (unbias_steps s e k b)
   unbias_spends k b =
       spend_either k.requesting (spend_more (omega arith) (revoked true))
-      (spend_then (bias_drop_spends e b.object (a_revocation s) (omega arith) (class_of s b.object)) tried)
+      (spend_then (bias_drop_spends e b.object (a_revocation s) (omega arith) s) tried)
     where
       revoked : (requesting : Bool) → Spend Any Nothing (a_revocation s) (revoked_steps s k.local.thread requesting e b)
       revoked requesting = spend_both {k = 0} (revocation_spends k.local.thread requesting b) (λ turn. then_spends (λ _. done_with tt) turn (λ _. spend_done {a = Done tt} (omega arith))) (omega arith)
@@ -100,7 +101,7 @@ module _ (s : Shape) (e : Purpose) (k : Start) where
   pub enter_going_spends : (b : Revocation) → Spend Any Nothing (a_revocation s + 20) (enter_going s e k b)
   enter_going_spends b =
       spend_either k.requesting (spend_more (omega arith) (enter_revoked_spends true b))
-      (spend_more (omega arith) (spend_then (bias_enter_spends e k.local b.object (a_revocation s + 18) 17 (a_revocation s + 18) (omega arith) (omega arith) (omega arith) (class_of s b.object)) (tried_spends b)))
+      (spend_more (omega arith) (spend_then (bias_enter_spends e k.local b.object (a_revocation s + 18) 17 (a_revocation s + 18) (omega arith) (omega arith) (omega arith) s) (tried_spends b)))
 
 -- the answer takes no step
 pub answers : {A E : Type 0} {n : ℕ} {d : Todo A} → Spend Any Nothing n d → Spend Any Nothing n (d >>= λ a. answer {E = E} a)
@@ -127,7 +128,7 @@ module _ (s : Shape) (k : Start) (o now : ℕ) where
 
   pub enter_spends : Spend Any Nothing (a_revocation s + 20) (enter_steps s k o now)
   enter_spends =
-      spend_either (free_place k.local.holds == 64) (spend_either (goes_on_with op.Enter o k.unfinished) spend_never (spend_done {a = Err record {}} (omega arith)))
+      spend_either (free_place k.local.holds == most_holds) (spend_either (goes_on_with op.Enter o k.unfinished) spend_never (spend_done {a = Err record {}} (omega arith)))
       (answers (enter_going_spends s (purpose (task.Enter o now) op.Enter o) k (record { object = o; rebias = true; now = now })))
 
   -- EXIT

@@ -3,6 +3,7 @@ use Rattle.std.proofs.Common.{◌≡◌, ◌⊎◌, ℕ, ◌==◌, ◌&&◌, not
 use Rattle.mark_word.specs.declared.mark.MarkForm.{MarkForm}
 use Rattle.mark_word.specs.declared.mark.MarkForm.TheVariants.{Inflating, Neutral, Anonymous, Biased, Locked, Inflated, Marked}
 use Rattle.mark_word.specs.Mark.{read_mark}
+use Rattle.plain_monitor.specs.Limits.{most_holds}
 use Rattle.plain_monitor.specs.declared.entry.Entry.TheVariants as entry
 use Rattle.plain_monitor.specs.declared.entry.Path.{Path}
 use Rattle.core_world.specs.declared.name.Name.TheVariants.{Mark}
@@ -17,7 +18,7 @@ use Rattle.core_world.specs.declared.answer.Why.TheVariants as why
 use Rattle.core_world.specs.Threads.Known.{Start, StepMade}
 use Rattle.core_world.specs.Locks.{hold_count}
 use Rattle.core_world.specs.Trees.Plans.{Purpose, done_with, free_place}
-use Rattle.core_world.specs.Words.Shape.{Shape, class_of}
+use Rattle.core_world.specs.Words.Shape.{Shape}
 use Rattle.core_world.specs.Threads.Stages.{Revocation}
 use Rattle.core_world.specs.Trees.Todo.{Todo, ◌>>=◌}
 use Rattle.core_world.specs.Trees.LockSteps.{stack_enter_steps, stack_exit_steps}
@@ -113,13 +114,13 @@ module _ (s : Shape) (k : Start) (o now : ℕ) where
   going_says : (ms : List StepMade) → Still ms → Always Entering ms (enter_going s entering k revoking)
   going_says ms h =
       either_way Entering ms k.requesting _ _ (λ stands. revoked_says true stands ms h)
-      (λ none. always_then (TrySays entering k.local o) Entering (bias_enter_steps entering k.local (class_of s o) o) (λ tried. enter_tried tried s entering k revoking) ms
-      (bias_enter_says entering k.local o (class_of s o) ms h) (λ ms tried so. tried_says none tried ms so))
+      (λ none. always_then (TrySays entering k.local o) Entering (bias_enter_steps s entering k.local o) (λ tried. enter_tried tried s entering k revoking) ms
+      (bias_enter_says entering k.local o s ms h) (λ ms tried so. tried_says none tried ms so))
 
   pub enter_says : Says (enter_steps s k o now) (EnterSays k o)
-  enter_says = record { by = by_place (free_place k.local.holds == 64) refl }
+  enter_says = record { by = by_place (free_place k.local.holds == most_holds) refl }
     where
-      by_place : (full : Bool) → (free_place k.local.holds == 64) ≡ full → Always (EnterSays k o) [] (cond full (full_steps k o) (enter_going s entering k revoking >>= answer))
+      by_place : (full : Bool) → (free_place k.local.holds == most_holds) ≡ full → Always (EnterSays k o) [] (cond full (full_steps k o) (enter_going s entering k revoking >>= answer))
       by_place true full =
           either_way (EnterSays k o) [] (goes_on_with op.Enter o k.unfinished) _ _ (λ _. tt)
           (λ new. (ap (λ b. b && not (goes_on_with op.Enter o k.unfinished)) full ∙ ap not new, refl))

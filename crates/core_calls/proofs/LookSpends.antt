@@ -1,5 +1,6 @@
 -- The steps that look at all threads and objects at a reached safepoint are quiet, and at most so many.
 use Rattle.std.proofs.Common.{ℕ, ◌+◌, ◌*◌, length, Option, Some, None, refl, arith}
+use Rattle.plain_monitor.specs.Limits.{most_holds}
 use Rattle.mark_word.specs.declared.mark.MarkForm.{MarkForm}
 use Rattle.mark_word.specs.declared.mark.MarkForm.TheVariants.{Inflating, Neutral, Anonymous, Biased, Locked, Inflated, Marked}
 use Rattle.mark_word.specs.declared.owner.OwnerForm.{OwnerForm}
@@ -24,7 +25,7 @@ module _ (e : Purpose) where
   hold_spends t p = quiet_step {n = 0} refl refl refl (λ _. spend_done (omega arith))
 
   holds_spend : (t : ℕ) → Spend (IsQuiet e) (λ _. 0) 64 (look_at_holds e t)
-  holds_spend t = spend_all {n = 1} 0 64 (hold_spends t)
+  holds_spend t = spend_all {n = 1} 0 most_holds (hold_spends t)
 
   owner_spends : (form : Option OwnerForm) → Spend (IsQuiet e) (λ _. 0) 64 (look_at_owner form e)
   owner_spends (Some (ByThread thread)) = holds_spend thread

@@ -3,6 +3,7 @@ use Rattle.std.proofs.Common.{◌≡◌, ℕ, ◌+◌, ◌==◌, if◌then◌els
 use Rattle.mark_word.specs.declared.mark.MarkForm.{MarkForm}
 use Rattle.mark_word.specs.declared.mark.MarkForm.TheVariants.{Inflating, Neutral, Locked, Inflated}
 use Rattle.mark_word.specs.Mark.{read_mark}
+use Rattle.plain_monitor.specs.Limits.{most_holds}
 use Rattle.plain_monitor.specs.declared.entry.Ending.{Ending}
 use Rattle.plain_monitor.specs.declared.entry.Entry.TheVariants as entry
 use Rattle.plain_monitor.specs.declared.entry.Value.{Value}
@@ -20,7 +21,7 @@ use Rattle.core_world.specs.Locks.{hold_count}
 use Rattle.core_world.specs.Threads.Known.{Start}
 use Rattle.core_world.specs.Threads.Stages.{Revocation}
 use Rattle.core_world.specs.Words.Forms.{waits_on}
-use Rattle.core_world.specs.Words.Shape.{Shape, class_of}
+use Rattle.core_world.specs.Words.Shape.{Shape}
 use Rattle.core_world.specs.Trees.BiasSteps.{stage_after}
 use Rattle.core_world.specs.Trees.Calls.{end, side_purpose, steps_of}
 use Rattle.core_world.specs.Trees.Operations.{and_then, answer, goes_on_with, lone_purpose, revocation_steps, enter_monitor_steps, enter_at, enter_unbiased, enter_revoked, enter_tried, enter_going, enter_steps, exit_at, exit_going, exit_steps, revoked_steps, unbias_tried, unbias_steps, no_bias, wait_steps, notify_at, notify_steps, notify_all_at, notify_all_steps, hash_steps, get_steps, put_steps, print_steps, finish_steps, dump_steps, check_ending, check_steps}
@@ -106,7 +107,7 @@ module _ (s : Shape) (k : Start) (e : Purpose) (b : Revocation) (given : moment_
   enter_going_named : Named e.task (enter_going s e k b)
   enter_going_named =
       named_either k.requesting (enter_revoked_named true)
-      (named_then (bias_enter_named e k.local b.object (class_of s b.object)) enter_tried_named)
+      (named_then (bias_enter_named e k.local b.object s) enter_tried_named)
 
   revoked_named : (requesting : Bool) → Named e.task (revoked_steps s k.local.thread requesting e b)
   revoked_named requesting = named_then (revokes_named requesting) (λ turn. named_turn turn (λ _. named_done))
@@ -120,13 +121,13 @@ module _ (s : Shape) (k : Start) (e : Purpose) (b : Revocation) (given : moment_
   unbias_named : Named e.task (unbias_steps s e k b)
   unbias_named =
       named_either k.requesting (revoked_named true)
-      (named_then (bias_drop_named e k.local b.object (class_of s b.object)) unbias_tried_named)
+      (named_then (bias_drop_named e k.local b.object s) unbias_tried_named)
 
 -- THE CALLS
 module _ (s : Shape) (k : Start) where
   pub enter_named : (o now : ℕ) → Named (task.Enter o now) (enter_steps s k o now)
   enter_named o now =
-      named_either (free_place k.local.holds == 64)
+      named_either (free_place k.local.holds == most_holds)
       (named_either (goes_on_with op.Enter o k.unfinished) named_never named_done)
       (named_then (enter_going_named s k (purpose (task.Enter o now) op.Enter o) (record { object = o; rebias = true; now = now }) refl)
       (λ turn. named_done))

@@ -96,8 +96,8 @@ module _ (e : Purpose) (k : Local) (o : ℕ) where
   bias_by_named (Some (Anonymous epoch age)) mark prototype = bias_at_named (read_mark mark) epoch mark
   bias_by_named _ mark prototype = named_never
 
-  pub bias_enter_named : (c : ℕ) → Named e.task (bias_enter_steps e k c o)
-  bias_enter_named c =
+  pub bias_enter_named : (s : Shape) → Named e.task (bias_enter_steps s e k o)
+  bias_enter_named s =
       named_step refl tt (λ mark. named_either (is_biased mark) (named_step refl tt (λ prototype. bias_by_named (read_mark prototype) mark prototype))
       named_done)
 
@@ -113,8 +113,8 @@ module _ (e : Purpose) (k : Local) (o : ℕ) where
   drop_by_named None mark prototype = unbias_swap_named mark prototype
   drop_by_named (Some epoch) mark prototype = drop_at_named (read_mark mark) epoch mark
 
-  pub bias_drop_named : (c : ℕ) → Named e.task (bias_drop_steps e c o)
-  bias_drop_named c =
+  pub bias_drop_named : (s : Shape) → Named e.task (bias_drop_steps s e o)
+  bias_drop_named s =
       named_step refl tt (λ mark. named_either (is_biased mark) (named_step refl tt (λ prototype. drop_by_named (epoch_in prototype) mark prototype))
       named_done)
 

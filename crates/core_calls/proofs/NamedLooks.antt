@@ -12,6 +12,7 @@ use Rattle.mark_word.specs.declared.wait.WaitForm.TheVariants as wait
 use Rattle.mark_word.specs.Mark.{mark_of, read_mark}
 use Rattle.mark_word.specs.Owner.{owner_of, read_owner}
 use Rattle.std.specs.List.{list_all}
+use Rattle.plain_monitor.specs.Limits.{most_holds}
 use Rattle.mark_word.specs.Wait.{read_wait}
 use Rattle.mark_word.specs.Hold.{read_hold}
 use Rattle.core_world.specs.declared.name.Name.{Name}
@@ -36,7 +37,7 @@ module _ (e : Purpose) (s : Shape) where
   load_named at = named_step refl tt (λ _. named_done)
 
   holds_named : (t : ℕ) → Named e.task (look_at_holds e t)
-  holds_named t = named_all 0 64 (λ p. load_named (name.Hold t p))
+  holds_named t = named_all 0 most_holds (λ p. load_named (name.Hold t p))
 
   owner_named : (form : Option OwnerForm) → Named e.task (look_at_owner form e)
   owner_named (Some (ByThread thread)) = holds_named thread
@@ -117,7 +118,7 @@ module _ (e : Purpose) (b : Revocation) (given : moment_of e.task ≡ Some b.now
   revoke_at_named : (form : Option MarkForm) (o : ℕ) (allowed : Bool) → Named e.task (revoke_at form e b o allowed)
   revoke_at_named (Some (Anonymous epoch age)) o allowed = unless_named allowed o
   revoke_at_named (Some (Biased thread epoch age)) o allowed =
-      named_then {d = each_from 0 64 (λ p. look e b (name.Hold thread p))} (named_each 0 64 (λ p. look_named (name.Hold thread p)))
+      named_then {d = each_from 0 most_holds (λ p. look e b (name.Hold thread p))} (named_each 0 most_holds (λ p. look_named (name.Hold thread p)))
       (λ holds. store_named (revoke_biased o thread allowed holds))
   revoke_at_named _ o allowed = named_done
 
@@ -133,7 +134,7 @@ module _ (e : Purpose) (b : Revocation) (given : moment_of e.task ≡ Some b.now
     place_named t p = named_step refl tt (λ hold. visit_named (object_held (read_hold hold)))
 
     walk_named : Named e.task (walk_steps s c e b visit)
-    walk_named = named_all 0 s.threads (λ t. named_all 0 64 (λ p. place_named t p))
+    walk_named = named_all 0 s.threads (λ t. named_all 0 most_holds (λ p. place_named t p))
 
   where_named : (o : ℕ) (word : Option ℕ) → Named e.task (store_steps e b (store_where (name.Mark o) word))
   where_named o None = named_done

@@ -9,7 +9,7 @@ use Rattle.core_world.specs.declared.answer.Turn.TheVariants.{Done, Pending}
 use Rattle.core_world.specs.declared.answer.Why.{Why}
 use Rattle.core_world.specs.Threads.Known.{Start, StepMade}
 use Rattle.core_world.specs.Trees.Plans.{Purpose, done_with}
-use Rattle.core_world.specs.Words.Shape.{Shape, class_of}
+use Rattle.core_world.specs.Words.Shape.{Shape}
 use Rattle.core_world.specs.Threads.Stages.{Revocation}
 use Rattle.core_world.specs.Trees.Todo.{Todo, ◌>>=◌}
 use Rattle.core_world.specs.Trees.DeflateSteps.{deflate_steps}
@@ -91,5 +91,5 @@ module _ (s : Shape) (k : Start) (task : Task) (u : Option Unfinished) (o : ℕ)
   pub unbias_says : (b : Revocation) (ms : List StepMade) → Still ms → Always (PartTurn (Unit {0})) ms (unbias_steps s (working task u) k b)
   unbias_says b ms h =
       either_way (PartTurn (Unit {0})) ms k.requesting _ _ (λ stands. revoked_says true stands b ms h)
-      (λ none. always_then (DropSays (working task u)) (PartTurn (Unit {0})) (bias_drop_steps (working task u) (class_of s b.object) b.object) (λ tried. unbias_tried tried s (working task u) k b) ms
-      (bias_drop_says (working task u) b.object (class_of s b.object) ms h) (λ ms tried so. tried_says none tried b ms so))
+      (λ none. always_then (DropSays (working task u)) (PartTurn (Unit {0})) (bias_drop_steps s (working task u) b.object) (λ tried. unbias_tried tried s (working task u) k b) ms
+      (bias_drop_says (working task u) b.object s ms h) (λ ms tried so. tried_says none tried b ms so))

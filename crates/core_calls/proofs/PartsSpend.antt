@@ -145,8 +145,8 @@ module _ (e : Purpose) (o n : ℕ) (one : 1 ≤ n) where
   drop_by_spends None mark prototype = unbias_spends mark prototype
   drop_by_spends (Some epoch) mark prototype = drop_at_spends (read_mark mark) epoch mark
 
-  pub bias_drop_spends : (c : ℕ) → Spend Any (to_revoke n) (n + 2) (bias_drop_steps e c o)
-  bias_drop_spends c =
+  pub bias_drop_spends : (s : Shape) → Spend Any (to_revoke n) (n + 2) (bias_drop_steps s e o)
+  bias_drop_spends s =
       spend_more (omega arith) (any_step {n = n + 1} (λ mark. spend_either (is_biased mark)
       (spend_more (omega arith) (any_step {n = n} (λ prototype. drop_by_spends (epoch_in prototype) mark prototype)))
       (spend_done {a = Unbiased mark} (omega arith))))
@@ -181,8 +181,8 @@ module _ (e : Purpose) (k : Local) (o n u m : ℕ) (four : 4 ≤ m) (more : u + 
   enter_by_spends (Some Marked) mark prototype = spend_never
   enter_by_spends None mark prototype = spend_never
 
-  pub bias_enter_spends : (c : ℕ) → Spend Any (to_enter n u) (m + 2) (bias_enter_steps e k c o)
-  bias_enter_spends c =
+  pub bias_enter_spends : (s : Shape) → Spend Any (to_enter n u) (m + 2) (bias_enter_steps s e k o)
+  bias_enter_spends s =
       spend_more (omega arith) (any_step {n = m + 1} (λ mark. spend_either (is_biased mark)
       (spend_more (omega arith) (any_step {n = m} (λ prototype. enter_by_spends (read_mark prototype) mark prototype)))
       (spend_done {a = Unbiased mark} (omega (arith, more)))))

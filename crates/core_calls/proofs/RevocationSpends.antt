@@ -1,5 +1,6 @@
 -- The steps of a revocation at a safepoint are quiet, and at most so many.
 use Rattle.std.proofs.Common.{ℕ, ◌+◌, ◌*◌, ◌≤◌, ◌==◌, cond, if◌then◌else◌, Bool, true, false, List, [], ◌∷◌, ◌++◌, length, Option, Some, None, refl, arith, length-append}
+use Rattle.plain_monitor.specs.Limits.{most_holds}
 use Rattle.mark_word.specs.declared.mark.MarkForm.{MarkForm}
 use Rattle.mark_word.specs.declared.mark.MarkForm.TheVariants.{Inflating, Neutral, Anonymous, Biased, Locked, Inflated, Marked}
 use Rattle.mark_word.specs.Mark.{mark_of, read_mark}
@@ -53,7 +54,7 @@ module _ (e : Purpose) (b : Revocation) where
       stores true = spend_done (omega arith)
       stores false = spend_more (omega arith) (store_spends e b (write (Mark o) (mark_of (Neutral 0 0)) ∷ []))
   revoke_at_spends (Some (Biased thread epoch age)) o allowed =
-      spend_then {d = each_from 0 64 (λ p. look e b (Hold thread p))} (spend_each {n = 1} 0 64 1 (λ p. look_spends e b (Hold thread p)))
+      spend_then {d = each_from 0 most_holds (λ p. look e b (Hold thread p))} (spend_each {n = 1} 0 most_holds 1 (λ p. look_spends e b (Hold thread p)))
       (λ holds. spend_more (revoked_short o thread allowed holds) (store_spends e b (revoke_biased o thread allowed holds)))
   revoke_at_spends (Some Inflating) o allowed = spend_done (omega arith)
   revoke_at_spends (Some (Neutral hash age)) o allowed = spend_done (omega arith)
@@ -75,7 +76,7 @@ module _ (e : Purpose) (b : Revocation) where
 
     walk_spends : Spend (IsQuiet e) (λ _. 0) (s.threads * (64 * (n + 2))) (walk_steps s c e b visit)
     walk_spends =
-        spend_all {n = 64 * (n + 2)} 0 s.threads (λ t. spend_all {n = n + 2} 0 64 (λ p. spend_both (look_spends e b (Hold t p)) (λ hold. visit_spends (object_held (read_hold hold))) (omega arith)))
+        spend_all {n = 64 * (n + 2)} 0 s.threads (λ t. spend_all {n = n + 2} 0 most_holds (λ p. spend_both (look_spends e b (Hold t p)) (λ hold. visit_spends (object_held (read_hold hold))) (omega arith)))
 
   where_spends : (at : Name) (word : Option ℕ) → Spend (IsQuiet e) (λ _. 0) 1 (store_steps e b (store_where at word))
   where_spends at None = spend_done (omega arith)

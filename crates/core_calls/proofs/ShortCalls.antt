@@ -3,6 +3,7 @@ use Rattle.std.proofs.Common.{◌≡◌, ℕ, ◌+◌, ◌==◌, cond, Bool, tru
 use Rattle.mark_word.specs.declared.mark.MarkForm.{MarkForm}
 use Rattle.mark_word.specs.declared.mark.MarkForm.TheVariants.{Neutral, Anonymous, Biased}
 use Rattle.mark_word.specs.Mark.{read_mark}
+use Rattle.plain_monitor.specs.Limits.{most_holds}
 use Rattle.plain_monitor.specs.declared.entry.Path.{Path}
 use Rattle.plain_monitor.specs.declared.entry.Path.TheVariants.{BiasOwn}
 use Rattle.core_world.specs.declared.name.Name.TheVariants.{Prototype}
@@ -35,7 +36,7 @@ module _ (s : Shape) (k : Start) (o now : ℕ) where
 
   -- what is to do once the mark is loaded, and once the prototype is
   abbrev by_mark : ℕ → Todo BiasTry
-  by_mark mark = after_answer (bias_enter_steps entering k.local (class_of s o) o) mark
+  by_mark mark = after_answer (bias_enter_steps s entering k.local o) mark
 
   abbrev goes_on : Todo BiasTry → Todo (Result (Turn Path) TooDeep)
   goes_on tried = (tried >>= λ tried. enter_tried tried s entering k revoking) >>= answer
@@ -44,7 +45,7 @@ module _ (s : Shape) (k : Start) (o now : ℕ) where
   too_deep = done (Err record {})
 
   -- the enter at its first answer, of a thread that requests no safepoint
-  at_mark : (full requesting : Bool) (mark n : ℕ) → requesting ≡ false → Spend Any Nothing n (goes_on (by_mark mark)) → Spend Any Nothing n (after_answer (cond full (full_steps k o) (cond requesting (enter_revoked s true entering k revoking) (bias_enter_steps entering k.local (class_of s o) o >>= λ tried. enter_tried tried s entering k revoking) >>= answer)) mark)
+  at_mark : (full requesting : Bool) (mark n : ℕ) → requesting ≡ false → Spend Any Nothing n (goes_on (by_mark mark)) → Spend Any Nothing n (after_answer (cond full (full_steps k o) (cond requesting (enter_revoked s true entering k revoking) (bias_enter_steps s entering k.local o >>= λ tried. enter_tried tried s entering k revoking) >>= answer)) mark)
   at_mark true requesting mark n none h = full (goes_on_with op.Enter o k.unfinished)
     where
       full : (b : Bool) → Spend Any Nothing n (after_answer (cond b never too_deep) mark)
@@ -63,15 +64,15 @@ module _ (s : Shape) (k : Start) (o now : ℕ) where
 
   pub unbiased_enter : (mark : ℕ) → k.requesting ≡ false → is_biased mark ≡ false → IsWithin 17 (after_answer (enter_steps s k o now) mark)
   unbiased_enter mark none plain =
-      spend_within _ 17 (at_mark (free_place k.local.holds == 64) k.requesting mark 17 none (unbiased mark 17 plain (enter_at_spends s entering k (read_mark mark) o mark)))
+      spend_within _ 17 (at_mark (free_place k.local.holds == most_holds) k.requesting mark 17 none (unbiased mark 17 plain (enter_at_spends s entering k (read_mark mark) o mark)))
 
   pub free_enter : (mark hash age : ℕ) → k.requesting ≡ false → read_mark mark ≡ Some (Neutral hash age) → IsWithin 5 (after_answer (enter_steps s k o now) mark)
   free_enter mark hash age none is =
-      spend_within _ 5 (at_mark (free_place k.local.holds == 64) k.requesting mark 5 none (unbiased mark 5 (ap is_biased_form is)
+      spend_within _ 5 (at_mark (free_place k.local.holds == most_holds) k.requesting mark 5 none (unbiased mark 5 (ap is_biased_form is)
       (subst (λ (form : Option MarkForm). Spend Any Nothing 5 (enter_at form s entering k o mark)) (sym is) (stack_enter_spends entering k.local o (read_mark mark) mark))))
 
   -- and at its second
-  at_prototype : (full requesting : Bool) (mark prototype n : ℕ) → requesting ≡ false → Spend Any Nothing n (after_answer (goes_on (by_mark mark)) prototype) → Spend Any Nothing n (after_answer (after_answer (cond full (full_steps k o) (cond requesting (enter_revoked s true entering k revoking) (bias_enter_steps entering k.local (class_of s o) o >>= λ tried. enter_tried tried s entering k revoking) >>= answer)) mark) prototype)
+  at_prototype : (full requesting : Bool) (mark prototype n : ℕ) → requesting ≡ false → Spend Any Nothing n (after_answer (goes_on (by_mark mark)) prototype) → Spend Any Nothing n (after_answer (after_answer (cond full (full_steps k o) (cond requesting (enter_revoked s true entering k revoking) (bias_enter_steps s entering k.local o >>= λ tried. enter_tried tried s entering k revoking) >>= answer)) mark) prototype)
   at_prototype true requesting mark prototype n none h = full (goes_on_with op.Enter o k.unfinished)
     where
       full : (b : Bool) → Spend Any Nothing n (after_answer (after_answer (cond b never too_deep) mark) prototype)
@@ -99,6 +100,6 @@ module _ (s : Shape) (k : Start) (o now : ℕ) where
 
   pub own_enter : (mark prototype epoch age other : ℕ) → k.requesting ≡ false → read_mark mark ≡ Some (Biased k.local.thread epoch age) → read_mark prototype ≡ Some (Anonymous epoch other) → IsWithin 3 (after_answer (after_answer (enter_steps s k o now) mark) prototype)
   own_enter mark prototype epoch age other none is valid =
-      spend_within _ 3 (at_prototype (free_place k.local.holds == 64) k.requesting mark prototype 3 none (biased mark prototype 3 (ap is_biased_form is)
+      spend_within _ 3 (at_prototype (free_place k.local.holds == most_holds) k.requesting mark prototype 3 none (biased mark prototype 3 (ap is_biased_form is)
       (subst (λ (form : Option MarkForm). Spend Any Nothing 3 (goes_on (bias_enter_by form entering k.local o mark prototype))) (sym valid)
       (subst (λ (form : Option MarkForm). Spend Any Nothing 3 (goes_on (bias_enter_at form epoch entering k.local o mark))) (sym is) (own epoch age mark)))))

@@ -6,6 +6,7 @@ use Rattle.mark_word.specs.declared.owner.OwnerForm.{OwnerForm}
 use Rattle.mark_word.specs.declared.owner.OwnerForm.TheVariants.{Free, ByThread, ByRecord}
 use Rattle.mark_word.specs.Mark.{read_mark}
 use Rattle.mark_word.specs.Owner.{read_owner}
+use Rattle.plain_monitor.specs.Limits.{most_holds}
 use Rattle.plain_monitor.specs.declared.entry.Entry.TheVariants as entry
 use Rattle.core_world.specs.declared.plan.Own.{Own}
 use Rattle.core_world.specs.declared.plan.Own.TheVariants as own
@@ -81,7 +82,7 @@ module _ (e : Purpose) where
   hold_plain t p = plain {n = 0} refl (λ _. spend_done (omega arith))
 
   holds_plain : (t : ℕ) → Spend IsPlain (λ _. 0) 64 (look_at_holds e t)
-  holds_plain t = spend_all {n = 1} 0 64 (hold_plain t)
+  holds_plain t = spend_all {n = 1} 0 most_holds (hold_plain t)
 
   owner_plain : (form : Option OwnerForm) → Spend IsPlain (λ _. 0) 64 (look_at_owner form e)
   owner_plain (Some (ByThread thread)) = holds_plain thread

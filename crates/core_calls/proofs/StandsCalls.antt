@@ -3,6 +3,7 @@ use Rattle.std.proofs.Common.{◌≡◌, ℕ, ◌+◌, ◌<◌, ◌==◌, cond, 
 use Rattle.mark_word.specs.declared.mark.MarkForm.{MarkForm}
 use Rattle.mark_word.specs.declared.mark.MarkForm.TheVariants.{Inflating, Neutral, Locked, Inflated}
 use Rattle.mark_word.specs.Mark.{read_mark}
+use Rattle.plain_monitor.specs.Limits.{most_holds}
 use Rattle.plain_monitor.specs.declared.entry.Ending.{Ending}
 use Rattle.plain_monitor.specs.declared.entry.Entry.TheVariants as entry
 use Rattle.plain_monitor.specs.declared.entry.Path.{Path}
@@ -22,7 +23,7 @@ use Rattle.core_world.specs.Locks.{hold_count}
 use Rattle.core_world.specs.Threads.Known.{Start, StepMade}
 use Rattle.core_world.specs.Threads.Stages.{Revocation}
 use Rattle.core_world.specs.Words.Forms.{waits_on}
-use Rattle.core_world.specs.Words.Shape.{Shape, class_of}
+use Rattle.core_world.specs.Words.Shape.{Shape}
 use Rattle.core_world.specs.Trees.BiasSteps.{bias_enter_steps, bias_drop_steps, stage_after, bias_after_steps}
 use Rattle.core_world.specs.Trees.Calls.{side_purpose}
 use Rattle.core_world.specs.Trees.DeflateSteps.{deflate_steps}
@@ -218,8 +219,8 @@ module _ (k : Start) (low : k.local.thread < 32) where
       enter_going_stands =
           either_way Turns [] k.requesting _ _
           (λ asks. enter_revoked_stands true [] (λ _. held_first asks) (λ no. absurd (cc no)))
-          (λ none. after_stay Turns (bias_enter_steps e k.local (class_of s b.object) b.object) (λ tried. enter_tried tried s e k b) []
-          (bias_enter_stays e k.local b.object (class_of s b.object)) (going_first none)
+          (λ none. after_stay Turns (bias_enter_steps s e k.local b.object) (λ tried. enter_tried tried s e k b) []
+          (bias_enter_stays e k.local b.object s) (going_first none)
           (λ ms tried going. enter_tried_stands tried ms going))
 
       -- UNBIAS
@@ -240,8 +241,8 @@ module _ (k : Start) (low : k.local.thread < 32) where
       unbias_stands =
           either_way Turns [] k.requesting _ _
           (λ asks. revoked_stands true [] (λ _. held_first asks) (λ no. absurd (cc no)))
-          (λ none. after_stay Turns (bias_drop_steps e (class_of s b.object) b.object) (λ tried. unbias_tried tried s e k b) []
-          (bias_drop_stays e k.local b.object (class_of s b.object)) (going_first none)
+          (λ none. after_stay Turns (bias_drop_steps s e b.object) (λ tried. unbias_tried tried s e k b) []
+          (bias_drop_stays e k.local b.object s) (going_first none)
           (λ ms tried going. unbias_tried_stands tried ms going))
 
       -- and what follows where it is done
@@ -253,7 +254,7 @@ module _ (k : Start) (low : k.local.thread < 32) where
     pub enter_stands : (o now : ℕ) → StandsSo k.local.thread (begun k) (enter_steps s k o now) (ResultStands k.local.thread)
     enter_stands o now =
         record {
-          by = either_way Results [] (free_place k.local.holds == 64) _ _ (λ _. either_way Results []
+          by = either_way Results [] (free_place k.local.holds == most_holds) _ _ (λ _. either_way Results []
               (goes_on_with op.Enter o k.unfinished) _ _ (λ _. tt) (λ _ _. tt)) (λ _. always_then Turns Results (enter_going s e k b) answer []
               (enter_going_stands e b) (λ ms turn so. so));
         }

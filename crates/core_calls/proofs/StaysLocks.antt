@@ -96,8 +96,8 @@ module _ (e : Purpose) (k : Local) (o : ℕ) where
   bias_by_stays (Some (Anonymous epoch age)) mark prototype = bias_at_stays (read_mark mark) epoch mark
   bias_by_stays _ mark prototype = stay_never
 
-  pub bias_enter_stays : (c : ℕ) → Stay Whatever (bias_enter_steps e k c o)
-  bias_enter_stays c =
+  pub bias_enter_stays : (s : Shape) → Stay Whatever (bias_enter_steps s e k o)
+  bias_enter_stays s =
       stay_step tt (λ mark. stay_either (is_biased mark) (stay_step tt (λ prototype. bias_by_stays (read_mark prototype) mark prototype))
       (stay_done tt))
 
@@ -113,8 +113,8 @@ module _ (e : Purpose) (k : Local) (o : ℕ) where
   drop_by_stays None mark prototype = unbias_swap_stays mark prototype
   drop_by_stays (Some epoch) mark prototype = drop_at_stays (read_mark mark) epoch mark
 
-  pub bias_drop_stays : (c : ℕ) → Stay Whatever (bias_drop_steps e c o)
-  bias_drop_stays c =
+  pub bias_drop_stays : (s : Shape) → Stay Whatever (bias_drop_steps s e o)
+  bias_drop_stays s =
       stay_step tt (λ mark. stay_either (is_biased mark) (stay_step tt (λ prototype. drop_by_stays (epoch_in prototype) mark prototype))
       (stay_done tt))
 

@@ -13,6 +13,7 @@ use Rattle.mark_word.specs.declared.wait.WaitForm.TheVariants as wait
 use Rattle.mark_word.specs.Mark.{mark_of, read_mark}
 use Rattle.mark_word.specs.Owner.{owner_of, read_owner}
 use Rattle.std.specs.List.{list_all}
+use Rattle.plain_monitor.specs.Limits.{most_holds}
 use Rattle.mark_word.specs.Wait.{read_wait}
 use Rattle.mark_word.specs.Hold.{read_hold}
 use Rattle.core_world.specs.declared.name.Name.{Name}
@@ -40,7 +41,7 @@ module _ (e : Purpose) (s : Shape) where
   load_spares at h = stay_step h (λ _. stay_done tt)
 
   holds_spare : (t : ℕ) → Spares (look_at_holds e t)
-  holds_spare t = stay_all 0 64 (λ p. load_spares (name.Hold t p) tt)
+  holds_spare t = stay_all 0 most_holds (λ p. load_spares (name.Hold t p) tt)
 
   owner_spares : (form : Option OwnerForm) → Spares (look_at_owner form e)
   owner_spares (Some (ByThread thread)) = holds_spare thread
@@ -131,7 +132,7 @@ module _ (e : Purpose) (b : Revocation) where
   revoke_at_spares : (form : Option MarkForm) (o : ℕ) (allowed : Bool) → Spares (revoke_at form e b o allowed)
   revoke_at_spares (Some (Anonymous epoch age)) o allowed = unless_spares allowed o
   revoke_at_spares (Some (Biased thread epoch age)) o allowed =
-      stay_then {d = each_from 0 64 (λ p. look e b (name.Hold thread p))} (stay_each 0 64 (λ p. look_spares (name.Hold thread p) tt))
+      stay_then {d = each_from 0 most_holds (λ p. look e b (name.Hold thread p))} (stay_each 0 most_holds (λ p. look_spares (name.Hold thread p) tt))
       (λ holds _. store_spares (revoke_biased o thread allowed holds) (revoked_sparing o thread allowed holds))
   revoke_at_spares _ o allowed = stay_done tt
 
@@ -147,7 +148,7 @@ module _ (e : Purpose) (b : Revocation) where
     place_spares t p = stay_step tt (λ hold. visit_spares (object_held (read_hold hold)))
 
     walk_spares : Spares (walk_steps s c e b visit)
-    walk_spares = stay_all 0 s.threads (λ t. stay_all 0 64 (λ p. place_spares t p))
+    walk_spares = stay_all 0 s.threads (λ t. stay_all 0 most_holds (λ p. place_spares t p))
 
   abbrev SomeIsPlain : Option ℕ → Type 0
   SomeIsPlain None = Unit {0}

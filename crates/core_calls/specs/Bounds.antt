@@ -1,5 +1,6 @@
 -- How many atomic steps a call makes at most, whatever words its steps find: no call waits or tries again.
 use Rattle.std.specs.Prelude.{ℕ, zero, suc, ◌+◌, ◌*◌, length}
+use Rattle.plain_monitor.specs.Limits.{most_holds}
 use Rattle.core_world.specs.declared.task.Task.{Task}
 use Rattle.core_world.specs.declared.task.Task.TheVariants.{Enter, Exit, Wait, Notify, NotifyAll, Hash, Get, Put, Print, Dump, Finish, Poll, Stop, Resume, Check, StackEnter, StackExit, Request, Reached, Release}
 use Rattle.core_world.specs.Words.Shape.{Shape, monitor_count}
@@ -12,20 +13,20 @@ IsWithin n never = Unit {0}
 IsWithin zero (step p f) = ⊥
 IsWithin (suc n) (step p f) = (word : ℕ) → IsWithin n (f word)
 
--- the visit of a lock record at a bulk operation: its hold word, the mark of its object, the 64 hold words of the thread that has the bias,
+-- the visit of a lock record at a bulk operation: its hold word, the mark of its object, the hold words of the thread that has the bias,
 -- and at most a store for each of these and for the mark
 abbrev pub a_visit : ℕ
-a_visit = 1 + 1 + 64 + 64 + 1
+a_visit = 1 + 1 + most_holds + most_holds + 1
 
 -- the deflation at a safepoint: for each monitor its object word, the mark of that object, its owner and the waiting word of each thread; and where it
 -- is idle two loads and seven stores
 abbrev pub a_deflation : Shape → ℕ
 a_deflation s = (s.threads + 12) * monitor_count s
 
--- the revocation of a bias: a safepoint is requested, and released at the end; the 64 lock records of each thread are visited at most
+-- the revocation of a bias: a safepoint is requested, and released at the end; the lock records of each thread are visited at most
 -- once; idle monitors are given back; and there are at most 143 steps besides
 abbrev pub a_revocation : Shape → ℕ
-a_revocation s = 64 * a_visit * s.threads + 143 + a_deflation s
+a_revocation s = most_holds * a_visit * s.threads + 143 + a_deflation s
 
 -- at most so many steps has a call; a dump and a check give idle monitors back too
 abbrev pub most_steps : Shape → Task → ℕ
@@ -38,7 +39,7 @@ most_steps s (Hash o now) = a_revocation s + 16
 most_steps s (Get o slot) = 1
 most_steps s (Put o slot value) = 1
 most_steps s (Print value) = 1
-most_steps s Dump = 66 * length s.objects + s.threads + 6 + a_deflation s
+most_steps s Dump = (most_holds + 2) * length s.objects + s.threads + 6 + a_deflation s
 most_steps s (Finish ending) = 2
 most_steps s Poll = 1
 most_steps s Stop = 2

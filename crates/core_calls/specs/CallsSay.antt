@@ -1,5 +1,6 @@
 -- What each call logs and leaves, by its answer, and why it is pending.
 use Rattle.std.specs.Prelude.{◌≡◌, ◌≢◌, ◌⊎◌, ℕ, ◌+◌, ◌==◌, ◌&&◌, ◌||◌, not, cond, Bool, true, false, List, [], ◌∷◌, length, Option, Some, None, Result, Ok, Err}
+use Rattle.plain_monitor.specs.Limits.{most_holds}
 use Rattle.plain_monitor.specs.declared.entry.Entry.{Entry}
 use Rattle.plain_monitor.specs.declared.entry.Entry.TheVariants as entry
 use Rattle.plain_monitor.specs.declared.entry.Ending.{Ending}
@@ -59,9 +60,9 @@ unfinished_on op o = Some (record { op = op; object = o })
 abbrev pub has_none : Start → ℕ → Bool
 has_none k o = hold_count o k.local.holds == 0
 
--- the thread has 64 holds, and no unfinished enter of o
+-- the thread has the most holds, and no unfinished enter of o
 abbrev pub is_full : Start → ℕ → Bool
-is_full k o = (free_place k.local.holds == 64) && not (goes_on_with op.Enter o k.unfinished)
+is_full k o = (free_place k.local.holds == most_holds) && not (goes_on_with op.Enter o k.unfinished)
 
 abbrev pub of_notifies : Bool → Why → Bool
 of_notifies requesting why = of_exchanges why || of_safepoints requesting why

@@ -7,7 +7,7 @@ use Rattle.plain_monitor.specs.declared.entry.Path.TheVariants.{BiasTaken}
 use Rattle.plain_monitor.specs.Order.{order}
 use Rattle.core_world.specs.declared.name.Name.{Name}
 use Rattle.core_world.specs.declared.name.Name.TheVariants.{Revocations}
-use Rattle.core_world.specs.Words.Shape.{class_of}
+use Rattle.core_world.specs.Words.Names.{class_by}
 use Rattle.core_world.specs.Threads.Counts.{ClassCounts, counts_of}
 use Rattle.core_world.specs.Words.Forms.{is_biased}
 use Rattle.core_world.specs.Threads.Known.{Known}
@@ -55,30 +55,30 @@ module _ (w : World) (at : Name) (v t : ℕ) (l : Known) (law : BiasLawHolds w) 
   mine_goes = elim goes [ inl g ↦ inl (ap (λ (k : Known). k.unfinished) (with_known_here t l w.known) ∙ g) | inr g ↦ inr g ]
 
   -- any step that logs nothing
-  pub quiet_world : LogsNothing w.biasing t (class_of w.shape) (marks w) (lock w) (λ i. entries_on i (order (logs w))) (λ u. (w.known u).stage) (λ u. (w.known u).unfinished) revoked
+  pub quiet_world : LogsNothing w.biasing t (class_by w.shape w.words) (marks w) (lock w) (λ i. entries_on i (order (logs w))) (λ u. (w.known u).stage) (λ u. (w.known u).unfinished) revoked
       (marks x) (lock x) (λ u. (x.known u).stage) (λ u. (x.known u).unfinished) revoked
-      → TakesFreeBiases t (class_of w.shape) (marks w) (lock w) (λ u. (w.known u).stage) rebiased revoked (marks x) (lock x) (λ u. (x.known u).stage) rebiased revoked
+      → TakesFreeBiases t (class_by w.shape w.words) (marks w) (lock w) (λ u. (w.known u).stage) rebiased revoked (marks x) (lock x) (λ u. (x.known u).stage) rebiased revoked
       → ((i : ℕ) (path : Path) → path_into l.stage i ≡ Some path → PathFits (held_by nothing_held (w.known t).log) (entry.Enter i path)) → BiasLawHolds x
   quiet_world a free fits =
-      subst (λ (f : ℕ → ℕ). BiasLaw w.biasing w.shape.threads w.shape.classes (class_of w.shape) (marks x) (lock x) (λ i. entries_on i (order (logs x)))
+      subst (λ (f : ℕ → ℕ). BiasLaw w.biasing w.shape.threads w.shape.classes (class_by w.shape w.words) (marks x) (lock x) (λ i. entries_on i (order (logs x)))
       (λ u. (x.known u).log) (λ u. (x.known u).stage) (λ u. (x.known u).unfinished) f (λ u. counts_of (x.known u).counts))
       (λ i. λ c. sym (same_count c) i)
-      (subst (λ (f : ℕ → ℕ → ClassCounts). BiasLaw w.biasing w.shape.threads w.shape.classes (class_of w.shape) (marks x) (lock x) (λ i. entries_on i (order (logs x)))
+      (subst (λ (f : ℕ → ℕ → ClassCounts). BiasLaw w.biasing w.shape.threads w.shape.classes (class_by w.shape w.words) (marks x) (lock x) (λ i. entries_on i (order (logs x)))
       (λ u. (x.known u).log) (λ u. (x.known u).stage) (λ u. (x.known u).unfinished) (λ c. w.words (Revocations c)) f)
       (part_moves (λ k. counts_of k.counts) t l w.known (ap counts_of (sym same_counts)))
-      (subst (λ (f : ℕ → List Logged). BiasLaw w.biasing w.shape.threads w.shape.classes (class_of w.shape) (marks x) (lock x) (λ i. entries_on i (order (logs x)))
+      (subst (λ (f : ℕ → List Logged). BiasLaw w.biasing w.shape.threads w.shape.classes (class_by w.shape w.words) (marks x) (lock x) (λ i. entries_on i (order (logs x)))
       f (λ u. (x.known u).stage) (λ u. (x.known u).unfinished) (λ c. w.words (Revocations c)) (λ u. counts_of (w.known u).counts))
       (part_moves (λ k. k.log) t l w.known (sym same_log))
-      (subst (λ (ls : List (List Logged)). BiasLaw w.biasing w.shape.threads w.shape.classes (class_of w.shape) (marks x) (lock x) (λ i. entries_on i (order ls))
+      (subst (λ (ls : List (List Logged)). BiasLaw w.biasing w.shape.threads w.shape.classes (class_by w.shape w.words) (marks x) (lock x) (λ i. entries_on i (order ls))
       (λ u. (w.known u).log) (λ u. (x.known u).stage) (λ u. (x.known u).unfinished) (λ c. w.words (Revocations c)) (λ u. counts_of (w.known u).counts))
       (sym (logs_stay 0 w.shape.threads t l w.known same_log))
-      (quiet_law w.biasing w.shape.threads w.shape.classes (class_of w.shape) (marks w) (lock w) (λ i. entries_on i (order (logs w))) (λ u. (w.known u).log) (λ u. (w.known u).stage)
+      (quiet_law w.biasing w.shape.threads w.shape.classes (class_by w.shape w.words) (marks w) (lock w) (λ i. entries_on i (order (logs w))) (λ u. (w.known u).log) (λ u. (w.known u).stage)
       (λ u. (w.known u).unfinished) (λ c. w.words (Revocations c)) (λ u. counts_of (w.known u).counts) (marks x) (lock x) (λ u. (x.known u).stage) (λ u. (x.known u).unfinished) t law
       rest_stays a free (λ i path h. fits i path (ap (λ s. path_into s i) (sym stage_is) ∙ h)) mine_goes))))
 
   -- a step that leaves the biases frees none
   takes_none : BiasesKept (marks w) (lock w) (marks x) (lock x) → ((i : ℕ) → path_into (x.known t).stage i ≡ Some BiasTaken → path_into (w.known t).stage i ≡ Some BiasTaken)
-      → TakesFreeBiases t (class_of w.shape) (marks w) (lock w) (λ u. (w.known u).stage) rebiased revoked (marks x) (lock x) (λ u. (x.known u).stage) rebiased revoked
+      → TakesFreeBiases t (class_by w.shape w.words) (marks w) (lock w) (λ u. (w.known u).stage) rebiased revoked (marks x) (lock x) (λ u. (x.known u).stage) rebiased revoked
   takes_none kept back = record {
     more = λ c. omega arith;
     comes = λ i h. inl (back i h);

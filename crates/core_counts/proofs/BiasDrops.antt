@@ -13,7 +13,8 @@ use Rattle.core_world.specs.Threads.Known.{Known}
 use Rattle.core_world.specs.Locks.{lock, is_valid_bias, marks, prototype_of}
 use Rattle.core_world.specs.Trees.Plans.{Purpose}
 use Rattle.core_world.specs.Clauses.Safepoints.{IsUnfinished}
-use Rattle.core_world.specs.Words.Shape.{class_of}
+use Rattle.core_world.specs.Words.Names.{class_by}
+use Rattle.core_world.proofs.There.{class_seen}
 use Rattle.core_world.specs.Threads.Stages.{path_into}
 use Rattle.core_world.specs.Steps.{world_after, known_hit}
 use Rattle.core_world.specs.Valid.{Fits}
@@ -33,7 +34,7 @@ use Rattle.core_counts.proofs.Beside.{quiet_world, hit_keeps}
 module _ (w : World) (t o new : ℕ) (l : Known) (law : BiasLawHolds w) (same_log : l.log ≡ (w.known t).log) (same_counts : l.counts ≡ (w.known t).counts)
     (goes : (l.unfinished ≡ (w.known t).unfinished) ⊎ ((w.known t).unfinished ≡ None)) (calm : (w.known t).stage ≡ Calm) (still : l.stage ≡ Calm) (biased : is_biased (marks w o) ≡ true) (neutral : is_biased new ≡ false)
     (free : is_valid_bias (read_mark (marks w o)) (prototype_of w o) ≡ false)
-    (hash : w.biasing ≡ true → sum_below w.shape.threads (λ u. (counts_of (w.known u).counts (class_of w.shape o)).revoke) ≡ 0 → IsUnfinished l.unfinished op.Hash o) where
+    (hash : w.biasing ≡ true → sum_below w.shape.threads (λ u. (counts_of (w.known u).counts (class_by w.shape w.words o)).revoke) ≡ 0 → IsUnfinished l.unfinished op.Hash o) where
   abbrev x : World
   x = with_word_and_known (Mark o) new t l w
 
@@ -50,7 +51,7 @@ module _ (w : World) (t o new : ℕ) (l : Known) (law : BiasLawHolds w) (same_lo
   open_is = ap (λ (k : Known). k.unfinished) (with_known_here t l w.known)
 
   abbrev revoked : ℕ → ℕ
-  revoked i = sum_below w.shape.threads (λ u. (counts_of (w.known u).counts (class_of w.shape i)).revoke)
+  revoked i = sum_below w.shape.threads (λ u. (counts_of (w.known u).counts (class_by w.shape w.words i)).revoke)
 
   dropped_hit : BiasLawHolds x
   dropped_hit = quiet_world w (Mark o) new t l law same_log same_counts goes (λ c. refl)
@@ -97,7 +98,8 @@ pub bias_dropped : (w : World) (P : List PlainObject) (t : ℕ) (e : Purpose) (o
 bias_dropped w P t e o mark prototype neutral within may v law =
     hit_keeps w t (unbias_plan e o mark neutral) law (λ h.
     let is : marks w o ≡ mark = eqb-true (marks w o) mark h in
-    let proto : prototype_of w o ≡ prototype = v.seen.stays t (Prototype (class_of w.shape o)) prototype may.saw.seen (inl (may.runs, tt)) in
+    let class : class_by w.shape w.words o ≡ may.saw.class = class_seen w.shape w.words (w.known t).seen o may.saw.class may.saw.saw_class in
+    let proto : prototype_of w o ≡ prototype = ap (λ c. w.words (Prototype c)) class ∙ v.seen.stays t (Prototype may.saw.class) prototype may.saw.seen (inl (may.runs, tt)) in
     let biased : is_biased (marks w o) ≡ true = ap is_biased is ∙ may.saw.biased in
     let free : is_valid_bias (read_mark (marks w o)) (prototype_of w o) ≡ false = ap (λ m. is_valid_bias (read_mark m) (prototype_of w o)) is ∙ ap (is_valid_bias (read_mark mark)) proto ∙ may.saw.free in
     let k : Known = known_hit w.shape w.start (unbias_plan e o mark neutral) (marks w o) (w.known t) in
@@ -111,9 +113,9 @@ bias_dropped w P t e o mark prototype neutral within may v law =
       ]
     ])))
   where
-    unrevoked : prototype_of w o ≡ prototype → epoch_in prototype ≡ None → w.biasing ≡ true → sum_below w.shape.threads (λ u. (counts_of (w.known u).counts (class_of w.shape o)).revoke) ≡ 0 → ⊥
+    unrevoked : prototype_of w o ≡ prototype → epoch_in prototype ≡ None → w.biasing ≡ true → sum_below w.shape.threads (λ u. (counts_of (w.known u).counts (class_by w.shape w.words o)).revoke) ≡ 0 → ⊥
     unrevoked proto plain b none =
-        let c = class_of w.shape o in
+        let c = class_by w.shape w.words o in
         let r : ℕ = bulk_rebiases w.shape.threads (λ u. (w.known u).counts) c in
         let zeroed : bulk_revokes w.shape.threads (λ u. (w.known u).counts) c ≡ 0 = revokes_sum w.shape.threads (λ u. (w.known u).counts) c ∙ none in
         let is : prototype_of w o ≡ r % 4 * 256 + 5 = v.classes.prototypes b c ∙ ap (λ n. cond (n == 0) (r % 4 * 256 + 5) 1) zeroed in

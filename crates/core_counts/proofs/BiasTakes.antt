@@ -4,6 +4,7 @@ use Rattle.std.proofs.lemmas.Option.{same_Some}
 use Rattle.mark_word.specs.declared.mark.MarkForm.TheVariants.{Biased}
 use Rattle.mark_word.specs.Mark.{mark_of, read_mark}
 use Rattle.mark_word.proofs.ReadingMarks.{read_mark-mark_of}
+use Rattle.plain_monitor.specs.Limits.{most_threads}
 use Rattle.plain_monitor.specs.declared.entry.Entry.TheVariants as entry
 use Rattle.plain_monitor.specs.declared.entry.Path.{Path}
 use Rattle.plain_monitor.specs.declared.entry.Path.TheVariants.{BiasTaken}
@@ -19,7 +20,8 @@ use Rattle.core_world.specs.Words.Forms.{is_biased, epoch_form, epoch_in}
 use Rattle.core_world.specs.Threads.Known.{Known}
 use Rattle.core_world.specs.Locks.{BiasedTo, lock, has_epoch, is_valid_bias, marks, prototype_of}
 use Rattle.core_world.specs.Trees.Plans.{Purpose, with_stage, swap}
-use Rattle.core_world.specs.Words.Shape.{class_of}
+use Rattle.core_world.specs.Words.Names.{class_by}
+use Rattle.core_world.proofs.There.{class_seen}
 use Rattle.core_world.specs.Threads.Stages.{path_into}
 use Rattle.core_world.specs.Steps.{world_after, known_hit}
 use Rattle.core_world.specs.Valid.{Fits}
@@ -42,9 +44,9 @@ use Rattle.core_counts.proofs.Beside.{quiet_world, hit_keeps}
 use Rattle.core_counts.proofs.Walks.{epoch_small}
 
 -- An exchange that hits, of a mark that is validly biased to nobody for the bias to the thread.
-module _ (w : World) (t o mark found epoch : ℕ) (e : Purpose) (within : t < w.shape.threads) (few : w.shape.threads ≤ 16) (small : epoch < 4) (law : BiasLawHolds w) (calm : (w.known t).stage ≡ Calm) (goes : GoesOn (w.known t) e)
+module _ (w : World) (t o mark found epoch : ℕ) (e : Purpose) (within : t < w.shape.threads) (few : w.shape.threads ≤ most_threads) (small : epoch < 4) (law : BiasLawHolds w) (calm : (w.known t).stage ≡ Calm) (goes : GoesOn (w.known t) e)
     (biased : is_biased (marks w o) ≡ true) (unleaning : (u : ℕ) → lock w o ≡ BiasedTo u → ⊥) (valid : epoch_in (prototype_of w o) ≡ Some epoch) (unheld : held_by nothing_held (w.known t).log o ≡ 0)
-    (unrevoked : sum_below w.shape.threads (λ u. (counts_of (w.known u).counts (class_of w.shape o)).revoke) ≡ 0) where
+    (unrevoked : sum_below w.shape.threads (λ u. (counts_of (w.known u).counts (class_by w.shape w.words o)).revoke) ≡ 0) where
   abbrev bias : ℕ
   bias = mark_of (Biased t epoch 0)
 
@@ -91,7 +93,7 @@ module _ (w : World) (t o mark found epoch : ℕ) (e : Purpose) (within : t < w.
   mine_goes : ((z.known t).unfinished ≡ (w.known t).unfinished) ⊎ ((w.known t).unfinished ≡ None)
   mine_goes = elim goes [ inl g ↦ inl (unfinished_is ∙ g) | inr g ↦ inr g ]
 
-  quietly : LogsNothing w.biasing t (class_of w.shape) (marks w) (lock w) (λ i. entries_on i (order (logs w))) (λ u. (w.known u).stage) (λ u. (w.known u).unfinished) (λ c. sum_below w.shape.threads (λ u. (counts_of (w.known u).counts c).revoke))
+  quietly : LogsNothing w.biasing t (class_by w.shape w.words) (marks w) (lock w) (λ i. entries_on i (order (logs w))) (λ u. (w.known u).stage) (λ u. (w.known u).unfinished) (λ c. sum_below w.shape.threads (λ u. (counts_of (w.known u).counts c).revoke))
       (marks z) (lock z) (λ u. (z.known u).stage) (λ u. (z.known u).unfinished) (λ c. sum_below w.shape.threads (λ u. (counts_of (w.known u).counts c).revoke))
   quietly = record {
     pattern = λ i h. by_equal i o (λ s. ap (λ j. is_biased (marks w j)) s ∙ biased) (λ d. ap is_biased (sym (away i d)) ∙ h);
@@ -108,11 +110,11 @@ module _ (w : World) (t o mark found epoch : ℕ) (e : Purpose) (within : t < w.
   }
 
   -- the bias was free
-  takes_free : TakesFreeBiases t (class_of w.shape) (marks w) (lock w) (λ u. (w.known u).stage) (λ c. sum_below w.shape.threads (λ u. (counts_of (w.known u).counts c).rebias)) (λ c. sum_below w.shape.threads (λ u. (counts_of (w.known u).counts c).revoke))
+  takes_free : TakesFreeBiases t (class_by w.shape w.words) (marks w) (lock w) (λ u. (w.known u).stage) (λ c. sum_below w.shape.threads (λ u. (counts_of (w.known u).counts c).rebias)) (λ c. sum_below w.shape.threads (λ u. (counts_of (w.known u).counts c).revoke))
       (marks z) (lock z) (λ u. (z.known u).stage) (λ c. sum_below w.shape.threads (λ u. (counts_of (w.known u).counts c).rebias)) (λ c. sum_below w.shape.threads (λ u. (counts_of (w.known u).counts c).revoke))
   takes_free = record {
     more = λ c. omega arith;
-    comes = λ i h. inr (inl (subst (IsFree (class_of w.shape) (marks w) (lock w) (λ c. sum_below w.shape.threads (λ u. (counts_of (w.known u).counts c).revoke))) (into_only i BiasTaken h).0 (unrevoked, biased, unleaning)));
+    comes = λ i h. inr (inl (subst (IsFree (class_by w.shape w.words) (marks w) (lock w) (λ c. sum_below w.shape.threads (λ u. (counts_of (w.known u).counts c).revoke))) (into_only i BiasTaken h).0 (unrevoked, biased, unleaning)));
     free = λ i f. by_equal i o (λ s. absurd (f.2 t (ap (lock z) s ∙ lock_here))) (λ d. inl (f.0, ap is_biased (sym (away i d)) ∙ f.1, λ u h. f.2 u (lock_away i u d h)));
   }
 
@@ -128,16 +130,16 @@ module _ (w : World) (t o mark found epoch : ℕ) (e : Purpose) (within : t < w.
 
 -- a class with such a prototype wasn't revoked in bulk
 unrevoked_of : (w : World) (P : List PlainObject) (o epoch : ℕ) → Fits w P → is_biased (marks w o) ≡ true → epoch_in (prototype_of w o) ≡ Some epoch
-    → sum_below w.shape.threads (λ u. (counts_of (w.known u).counts (class_of w.shape o)).revoke) ≡ 0
+    → sum_below w.shape.threads (λ u. (counts_of (w.known u).counts (class_by w.shape w.words o)).revoke) ≡ 0
 unrevoked_of w P o epoch v biased valid = by_biasing w.biasing refl
   where
     none_revoked : (r : ℕ) (b : Bool) → (r == 0) ≡ b → (m : ℕ) → epoch_in (cond b m 1) ≡ Some epoch → r ≡ 0
     none_revoked r true e m h = eqb-true r 0 e
     none_revoked r false e m h = absurd (let none = ap epoch_form mark_one in cc (none, h))
 
-    by_biasing : (b : Bool) → w.biasing ≡ b → sum_below w.shape.threads (λ u. (counts_of (w.known u).counts (class_of w.shape o)).revoke) ≡ 0
+    by_biasing : (b : Bool) → w.biasing ≡ b → sum_below w.shape.threads (λ u. (counts_of (w.known u).counts (class_by w.shape w.words o)).revoke) ≡ 0
     by_biasing true e =
-        let c = class_of w.shape o in
+        let c = class_by w.shape w.words o in
         let is = v.classes.prototypes e c in
         sym (revokes_sum w.shape.threads (λ u. (w.known u).counts) c)
         ∙ none_revoked (bulk_revokes w.shape.threads (λ u. (w.known u).counts) c) _ refl _ (ap epoch_in (sym is) ∙ valid)
@@ -148,7 +150,8 @@ pub bias_taken : (w : World) (P : List PlainObject) (t : ℕ) (e : Purpose) (o m
 bias_taken w P t e o mark prototype epoch within may v law =
     hit_keeps w t (rebias_plan e t o mark epoch) law (λ h.
     let is : marks w o ≡ mark = eqb-true (marks w o) mark h in
-    let proto : prototype_of w o ≡ prototype = v.seen.stays t (Prototype (class_of w.shape o)) prototype may.saw.seen (inl (may.runs, tt)) in
+    let class : class_by w.shape w.words o ≡ may.saw.class = class_seen w.shape w.words (w.known t).seen o may.saw.class may.saw.saw_class in
+    let proto : prototype_of w o ≡ prototype = ap (λ c. w.words (Prototype c)) class ∙ v.seen.stays t (Prototype may.saw.class) prototype may.saw.seen (inl (may.runs, tt)) in
     let valid : epoch_in (prototype_of w o) ≡ Some epoch = ap epoch_in proto ∙ may.valid in
     let biased : is_biased (marks w o) ≡ true = ap is_biased is ∙ may.saw.biased in
     let free : is_valid_bias (read_mark (marks w o)) (prototype_of w o) ≡ false = ap (λ m. is_valid_bias (read_mark m) (prototype_of w o)) is ∙ ap (is_valid_bias (read_mark mark)) proto ∙ may.saw.free in

@@ -1,6 +1,7 @@
 -- What a revocation leaves alone: marks and prototypes of other classes, and where its verdict is single all but the mark of its object.
 use Rattle.std.proofs.Common.{◌≡◌, ◌≢◌, ℕ, zero, suc, ◌+◌, ◌==◌, ◌&&◌, eqb-true, cond, Bool, true, false, List, [], ◌∷◌, ◌++◌, Option, Some, None, refl, sym, ap, ◌∙◌, subst}
 use Rattle.std.specs.List.{AllByRecursion}
+use Rattle.plain_monitor.specs.Limits.{most_holds}
 use Rattle.mark_word.specs.declared.mark.MarkForm.{MarkForm}
 use Rattle.mark_word.specs.declared.mark.MarkForm.TheVariants.{Inflating, Neutral, Anonymous, Biased, Locked, Inflated, Marked}
 use Rattle.mark_word.specs.Mark.{mark_of, read_mark}
@@ -9,7 +10,8 @@ use Rattle.lock_policy.specs.declared.policy.Verdict.{Verdict}
 use Rattle.lock_policy.specs.declared.policy.Verdict.TheVariants.{Single, BulkRebias, BulkRevoke}
 use Rattle.core_world.specs.declared.name.Name.{Name}
 use Rattle.core_world.specs.declared.name.Name.TheVariants.{Prototype, Revocations, Mark, Hold, Displaced}
-use Rattle.core_world.specs.Words.Shape.{Shape, class_of}
+use Rattle.core_world.specs.Words.Shape.{Shape}
+use Rattle.core_world.specs.Words.Names.{class_by}
 use Rattle.core_world.specs.Words.Names.{same_name, with_word}
 use Rattle.core_world.specs.Words.Forms.{names, hold_word, is_biased, epoch_in}
 use Rattle.core_world.specs.Threads.Stages.{Revocation}
@@ -80,28 +82,28 @@ module _ (E : Name → Type 0) where
   below zero r h g = tt
   below (suc n) r h g = both (each_below n r g) (r n (words_after (each_below n r g) g)) (below n r h g) (h n (words_after (each_below n r g) g))
 
-  visits : (s : Shape) (c : ℕ) (r : ℕ → Rule) → ((j : ℕ) → class_of s j ≡ c → IsElsewhere (r j)) → IsElsewhere (on_records s c r)
+  visits : (s : Shape) (class : ℕ → ℕ) (c : ℕ) (r : ℕ → Rule) → ((j : ℕ) → class j ≡ c → IsElsewhere (r j)) → IsElsewhere (on_records s class c r)
   unfolding on_records
-  visits s c r h = below s.threads (λ t. each_below 64 (λ p f. on_held s c r (object_held (read_hold (f (Hold t p)))) f)) (λ t. below 64 (λ p f. on_held s c r (object_held (read_hold (f (Hold t p)))) f) (λ p g. held (object_held (read_hold (g (Hold t p)))) g))
+  visits s class c r h = below s.threads (λ t. each_below most_holds (λ p f. on_held class c r (object_held (read_hold (f (Hold t p)))) f)) (λ t. below most_holds (λ p f. on_held class c r (object_held (read_hold (f (Hold t p)))) f) (λ p g. held (object_held (read_hold (g (Hold t p)))) g))
     where
-      by_test : (j : ℕ) (a b : Bool) (g : Name → ℕ) → (class_of s j == c) ≡ a → AllElsewhere (cond (a && b) (r j g) [])
-      by_test j true true g e = h j (eqb-true (class_of s j) c e) g
+      by_test : (j : ℕ) (a b : Bool) (g : Name → ℕ) → (class j == c) ≡ a → AllElsewhere (cond (a && b) (r j g) [])
+      by_test j true true g e = h j (eqb-true (class j) c e) g
       by_test j true false g e = tt
       by_test j false b g e = tt
 
-      held : (m : Option ℕ) (g : Name → ℕ) → AllElsewhere (on_held s c r m g)
+      held : (m : Option ℕ) (g : Name → ℕ) → AllElsewhere (on_held class c r m g)
       held None g = tt
-      held (Some j) g = by_test j (class_of s j == c) (is_biased (g (Mark j))) g refl
+      held (Some j) g = by_test j (class j == c) (is_biased (g (Mark j))) g refl
 
 -- WHICH OBJECTS a revocation of o leaves alone, by its verdict
-abbrev pub IsFar : Shape → ℕ → Verdict → ℕ → Type 0
-IsFar s o Single i = i ≢ o
-IsFar s o _ i = class_of s i ≢ class_of s o
+abbrev pub IsFar : (ℕ → ℕ) → ℕ → Verdict → ℕ → Type 0
+IsFar class o Single i = i ≢ o
+IsFar class o _ i = class i ≢ class o
 
-module _ (s : Shape) (t : ℕ) (b : Revocation) (i : ℕ) where
+module _ (s : Shape) (class : ℕ → ℕ) (t : ℕ) (b : Revocation) (i : ℕ) where
   -- the words but the mark and the prototype of i
   abbrev Elsewhere : Name → Type 0
-  Elsewhere (Prototype d) = d ≢ class_of s i
+  Elsewhere (Prototype d) = d ≢ class i
   Elsewhere (Mark j) = j ≢ i
   Elsewhere _ = Unit {0}
 
@@ -109,23 +111,23 @@ module _ (s : Shape) (t : ℕ) (b : Revocation) (i : ℕ) where
   o = b.object
 
   abbrev c : ℕ
-  c = class_of s b.object
+  c = class b.object
 
-  raised_away : (m : Option ℕ) → c ≢ class_of s i → AllElsewhere Elsewhere (raised_form m c)
+  raised_away : (m : Option ℕ) → c ≢ class i → AllElsewhere Elsewhere (raised_form m c)
   raised_away None d = tt
   raised_away (Some e) d = (d, tt)
 
-  other : (j : ℕ) → class_of s i ≢ c → class_of s j ≡ c → j ≢ i
-  other j d e same = d (ap (class_of s) (sym same) ∙ e)
+  other : (j : ℕ) → class i ≢ c → class j ≡ c → j ≢ i
+  other j d e same = d (ap class (sym same) ∙ e)
 
-  rules_far : (v : Verdict) → IsFar s b.object v i → AllByRecursion (IsElsewhere Elsewhere) (verdict_rules s t c b v)
+  rules_far : (v : Verdict) → IsFar class b.object v i → AllByRecursion (IsElsewhere Elsewhere) (verdict_rules s class t c b v)
   rules_far Single d = (λ g. revoked_away Elsewhere (λ u p. tt) o false (read_mark (g (Mark o))) g (λ e. d (sym e)), tt)
   rules_far BulkRebias d = (
     λ g. (tt, tt),
     (
       λ g. raised_away (epoch_in (g (Prototype c))) (λ e. d (sym e)),
       (
-        visits Elsewhere s c (renew c) (λ j e g. stored_away Elsewhere (Mark j) (with_epoch (read_mark (g (Mark j))) (epoch_in (g (Prototype c)))) (other j d e)),
+        visits Elsewhere s class c (renew c) (λ j e g. stored_away Elsewhere (Mark j) (with_epoch (read_mark (g (Mark j))) (epoch_in (g (Prototype c)))) (other j d e)),
         (λ g. revoked_away Elsewhere (λ u p. tt) o b.rebias (read_mark (g (Mark o))) g (other o d refl), by_rebias b.rebias),
       ),
     ),
@@ -139,19 +141,21 @@ module _ (s : Shape) (t : ℕ) (b : Revocation) (i : ℕ) where
     (
       λ g. (λ e. d (sym e), tt),
       (
-        visits Elsewhere s c (λ j. revoke j false) (λ j e g. revoked_away Elsewhere (λ u p. tt) j false (read_mark (g (Mark j))) g (other j d e)),
+        visits Elsewhere s class c (λ j. revoke j false) (λ j e g. revoked_away Elsewhere (λ u p. tt) j false (read_mark (g (Mark j))) g (other j d e)),
         (λ g. revoked_away Elsewhere (λ u p. tt) o false (read_mark (g (Mark o))) g (other o d refl), tt),
       ),
     ),
   )
 
-  -- so all stores together leave its mark and its prototype
-  pub left_alone : (f : Name → ℕ) → IsFar s b.object (verdict_of s b f).0 i
-      → (words_after (revocation_writes s t b f) f (Mark i) ≡ f (Mark i)) × (words_after (revocation_writes s t b f) f (Prototype (class_of s i)) ≡ f (Prototype (class_of s i)))
-  unfolding revocation_writes
-  left_alone f far =
-      let d = verdict_of s b f in
-      let g = with_word (Revocations c) d.1 f in
-      let a = turns Elsewhere (verdict_rules s t c b d.0) (rules_far d.0 far) g in
-      let ws = in_turn (verdict_rules s t c b d.0) g in
-      (all_away Elsewhere ws g (Mark i) a (λ e. e refl), all_away Elsewhere ws g (Prototype (class_of s i)) a (λ e. e refl))
+-- so all stores together leave its mark and its prototype
+pub left_alone : (s : Shape) (t : ℕ) (b : Revocation) (i : ℕ) (f : Name → ℕ) → IsFar (class_by s f) b.object (verdict_of s b f).0 i
+    → (words_after (revocation_writes s t b f) f (Mark i) ≡ f (Mark i)) × (words_after (revocation_writes s t b f) f (Prototype (class_by s f i)) ≡ f (Prototype (class_by s f i)))
+unfolding revocation_writes
+left_alone s t b i f far =
+    let class = class_by s f in
+    let c = class b.object in
+    let d = verdict_of s b f in
+    let g = with_word (Revocations c) d.1 f in
+    let a = turns (Elsewhere s class t b i) (verdict_rules s class t c b d.0) (rules_far s class t b i d.0 far) g in
+    let ws = in_turn (verdict_rules s class t c b d.0) g in
+    (all_away (Elsewhere s class t b i) ws g (Mark i) a (λ e. e refl), all_away (Elsewhere s class t b i) ws g (Prototype (class i)) a (λ e. e refl))

@@ -3,6 +3,7 @@
 use Rattle.std.proofs.Common.{◌≡◌, ◌≢◌, ◌⊎◌, ℕ, zero, suc, ◌+◌, ◌%◌, ◌<◌, ◌==◌, ◌&&◌, eq-eqb, eqb-true, cond, Bool, true, false, List, [], ◌∷◌, ◌++◌, Option, Some, None, refl, sym, ap, ◌∙◌, subst, arith, inl, inr}
 use Rattle.std.proofs.Math.Nat.{mod-lt}
 use Rattle.std.specs.List.{AllByRecursion}
+use Rattle.plain_monitor.specs.Limits.{most_holds}
 use Rattle.mark_word.specs.declared.mark.MarkForm.{MarkForm}
 use Rattle.mark_word.specs.declared.mark.MarkForm.TheVariants.{Inflating, Neutral, Anonymous, Biased, Locked, Inflated, Marked}
 use Rattle.mark_word.specs.Mark.{mark_of, read_mark}
@@ -13,7 +14,8 @@ use Rattle.lock_policy.specs.declared.policy.Verdict.TheVariants.{Single, BulkRe
 use Rattle.lock_policy.specs.Policy.{decided}
 use Rattle.core_world.specs.declared.name.Name.{Name}
 use Rattle.core_world.specs.declared.name.Name.TheVariants.{Prototype, Revocations, LastBulk, Mark, Hold}
-use Rattle.core_world.specs.Words.Shape.{Shape, class_of}
+use Rattle.core_world.specs.Words.Shape.{Shape}
+use Rattle.core_world.specs.Words.Names.{class_by}
 use Rattle.core_world.specs.Words.Names.{with_word}
 use Rattle.core_world.specs.Words.Forms.{is_biased, is_biased_form, epoch_in, epoch_form}
 use Rattle.core_world.specs.Threads.Stages.{Revocation}
@@ -36,17 +38,17 @@ module _ (S : (Name → ℕ) → Type 0) where
   below (suc n) r h g k =
       subst S (sym (stored_append (each_below n r g) (r n (words_after (each_below n r g) g)) g)) (h n (words_after (each_below n r g) g) (below n r h g k))
 
-  visits : (s : Shape) (c : ℕ) (r : ℕ → Rule) → ((j : ℕ) → KeepsIt (r j)) → KeepsIt (on_records s c r)
+  visits : (s : Shape) (class : ℕ → ℕ) (c : ℕ) (r : ℕ → Rule) → ((j : ℕ) → KeepsIt (r j)) → KeepsIt (on_records s class c r)
   unfolding on_records
-  visits s c r h = below s.threads (λ t. each_below 64 (λ p f. on_held s c r (object_held (read_hold (f (Hold t p)))) f)) (λ t. below 64 (λ p f. on_held s c r (object_held (read_hold (f (Hold t p)))) f) (λ p g. held (object_held (read_hold (g (Hold t p)))) g))
+  visits s class c r h = below s.threads (λ t. each_below most_holds (λ p f. on_held class c r (object_held (read_hold (f (Hold t p)))) f)) (λ t. below most_holds (λ p f. on_held class c r (object_held (read_hold (f (Hold t p)))) f) (λ p g. held (object_held (read_hold (g (Hold t p)))) g))
     where
       by_test : (j : ℕ) (b : Bool) (g : Name → ℕ) → S g → S (words_after (cond b (r j g) []) g)
       by_test j true g k = h j g k
       by_test j false g k = k
 
-      held : (m : Option ℕ) (g : Name → ℕ) → S g → S (words_after (on_held s c r m g) g)
+      held : (m : Option ℕ) (g : Name → ℕ) → S g → S (words_after (on_held class c r m g) g)
       held None g k = k
-      held (Some j) g k = by_test j ((class_of s j == c) && is_biased (g (Mark j))) g k
+      held (Some j) g k = by_test j ((class j == c) && is_biased (g (Mark j))) g k
 
 -- the rules in turn are the first, and the others on what it left
 turned : (r : Rule) (rs : List Rule) (g : Name → ℕ) → words_after (in_turn (r ∷ rs) g) g ≡ words_after (in_turn rs (words_after (r g) g)) (words_after (r g) g)
@@ -81,7 +83,7 @@ module _ (f : Name → ℕ) (o c u q : ℕ) where
 
   holds_same : (g : Name → ℕ) → Stands g → holds_in g u ≡ holds_in f u
   unfolding holds_in
-  holds_same g k = let fs : ◌≡◌ {A = ℕ → ℕ} (λ p. g (Hold u p)) (λ p. f (Hold u p)) = λ i. λ p. k.holds u p i in ap (words_from 0 64) fs
+  holds_same g k = let fs : ◌≡◌ {A = ℕ → ℕ} (λ p. g (Hold u p)) (λ p. f (Hold u p)) = λ i. λ p. k.holds u p i in ap (words_from 0 most_holds) fs
 
   none_revoked : (m : Option MarkForm) (allowed : Bool) (g : Name → ℕ) → is_biased_form m ≡ false → revoke_form m o allowed g ≡ []
   none_revoked None allowed g e = refl
@@ -178,15 +180,18 @@ Final f o c u t v g =
     (is_biased (g (Mark o)) ≡ false)
     ⊎ ((e : ℕ) × (read_mark (g (Mark o)) ≡ Some (Biased t e 0)) × (epoch_in (g (Prototype c)) ≡ Some e) × (hold_count o (holds_in f u) ≡ 0) × (v ≡ BulkRebias))
 
-module _ (s : Shape) (t : ℕ) (b : Revocation) (f : Name → ℕ) (u e a epoch : ℕ) (was : read_mark (f (Mark b.object)) ≡ Some (Biased u e a)) (proto : epoch_in (f (Prototype (class_of s b.object))) ≡ Some epoch) (small : t < 32) where
+module _ (s : Shape) (t : ℕ) (b : Revocation) (f : Name → ℕ) (u e a epoch : ℕ) (was : read_mark (f (Mark b.object)) ≡ Some (Biased u e a)) (proto : epoch_in (f (Prototype (class_by s f b.object))) ≡ Some epoch) (small : t < 32) where
   abbrev o : ℕ
   o = b.object
 
+  abbrev class : ℕ → ℕ
+  class = class_by s f
+
   abbrev c : ℕ
-  c = class_of s b.object
+  c = class b.object
 
   abbrev F : Verdict → (Name → ℕ) → Type 0
-  F = Final f b.object (class_of s b.object) u t
+  F = Final f b.object (class_by s f b.object) u t
 
   -- a revocation without a new bias
   revoked_last : (v : Verdict) (q : ℕ) (g : Name → ℕ) → Stands f o c u q g → F v (words_after (in_turn (revoke o false ∷ []) g) g)
@@ -223,7 +228,7 @@ module _ (s : Shape) (t : ℕ) (b : Revocation) (f : Name → ℕ) (u e a epoch 
   stands_at : (word : ℕ) (g : Name → ℕ) → ((v p : ℕ) → g (Hold v p) ≡ f (Hold v p)) → read_mark (g (Mark o)) ≡ Some (Biased u e a) → Stands f o c u word (with_word (Prototype c) word g)
   stands_at word g holds mark = record { holds = holds; prototype = ap (λ (d : Bool). cond d word (g (Prototype c))) (eq-eqb c c refl); mark = inl (e, a, mark) }
 
-  by_verdict : (v : Verdict) (count : ℕ) → F v (words_after (in_turn (store_one (Revocations c) count ∷ verdict_rules s t c b v) f) f)
+  by_verdict : (v : Verdict) (count : ℕ) → F v (words_after (in_turn (store_one (Revocations c) count ∷ verdict_rules s class t c b v) f) f)
   by_verdict Single count =
       let g = with_word (Revocations c) count f in
       subst (F Single) (sym (turned (store_one (Revocations c) count) (revoke o false ∷ []) f))
@@ -233,28 +238,28 @@ module _ (s : Shape) (t : ℕ) (b : Revocation) (f : Name → ℕ) (u e a epoch 
       let word = mark_of (Neutral 0 0) in
       let h = with_word (Prototype c) word g in
       let k = stands_at word g (λ v p. refl) was in
-      let rest = on_records s c (λ i. revoke i false) ∷ revoke o false ∷ [] in
+      let rest = on_records s class c (λ i. revoke i false) ∷ revoke o false ∷ [] in
       subst (F BulkRevoke) (sym (turned (store_one (Revocations c) count) (store_one (LastBulk c) b.now ∷ store_one (Prototype c) word ∷ rest) f))
       (subst (F BulkRevoke) (sym (turned (store_one (LastBulk c) b.now) (store_one (Prototype c) word ∷ rest) (with_word (Revocations c) count f)))
       (subst (F BulkRevoke) (sym (turned (store_one (Prototype c) word) rest g))
-      (subst (F BulkRevoke) (sym (turned (on_records s c (λ i. revoke i false)) (revoke o false ∷ []) h))
-      (revoked_last BulkRevoke word (words_after (on_records s c (λ i. revoke i false) h) h)
-      (visits (Stands f o c u word) s c (λ i. revoke i false) (kept_revoke f o c u word) h k)))))
+      (subst (F BulkRevoke) (sym (turned (on_records s class c (λ i. revoke i false)) (revoke o false ∷ []) h))
+      (revoked_last BulkRevoke word (words_after (on_records s class c (λ i. revoke i false) h) h)
+      (visits (Stands f o c u word) s class c (λ i. revoke i false) (kept_revoke f o c u word) h k)))))
   by_verdict BulkRebias count =
       let g = with_word (LastBulk c) b.now (with_word (Revocations c) count f) in
       let word = mark_of (Anonymous ((epoch + 1) % 4) 0) in
       let h = with_word (Prototype c) word g in
       let k = stands_at word g (λ v p. refl) was in
       let last = revoke o b.rebias ∷ cond b.rebias (take_bias c o t ∷ []) [] in
-      let rest = on_records s c (renew c) ∷ last in
+      let rest = on_records s class c (renew c) ∷ last in
       let raised : raise_epoch c g ≡ write (Prototype c) word ∷ [] = ap (λ m. raised_form m c) proto in
       subst (F BulkRebias) (sym (turned (store_one (Revocations c) count) (store_one (LastBulk c) b.now ∷ raise_epoch c ∷ rest) f))
       (subst (F BulkRebias) (sym (turned (store_one (LastBulk c) b.now) (raise_epoch c ∷ rest) (with_word (Revocations c) count f)))
       (subst (F BulkRebias) (sym (turned (raise_epoch c) rest g))
       (subst (λ ws. F BulkRebias (words_after (in_turn rest (words_after ws g)) (words_after ws g))) (sym raised)
-      (subst (F BulkRebias) (sym (turned (on_records s c (renew c)) last h))
-      (rebiased_last b.rebias (words_after (on_records s c (renew c) h) h)
-      (visits (Stands f o c u word) s c (renew c) (kept_renew f o c u word c) h k))))))
+      (subst (F BulkRebias) (sym (turned (on_records s class c (renew c)) last h))
+      (rebiased_last b.rebias (words_after (on_records s class c (renew c) h) h)
+      (visits (Stands f o c u word) s class c (renew c) (kept_renew f o c u word c) h k))))))
 
   pub mark_at_the_end : F (decided (f (Revocations c)) (f (LastBulk c)) b.now).0 (words_after (revocation_writes s t b f) f)
   unfolding revocation_writes

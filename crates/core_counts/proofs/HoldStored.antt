@@ -16,7 +16,8 @@ use Rattle.core_world.specs.Threads.Known.{Known}
 use Rattle.core_world.specs.Locks.{BiasedTo, lock, is_valid_bias, marks, hold_count, prototype_of}
 use Rattle.core_world.specs.Trees.Plans.{Purpose}
 use Rattle.core_world.specs.Clauses.SeenWords.{IsValidBias}
-use Rattle.core_world.specs.Words.Shape.{class_of}
+use Rattle.core_world.specs.Words.Names.{class_by}
+use Rattle.core_world.proofs.There.{class_seen}
 use Rattle.core_world.specs.Threads.Stages.{hold_words_ahead, path_into}
 use Rattle.core_world.specs.Steps.{world_after, known_hit}
 use Rattle.core_world.specs.Valid.{Fits}
@@ -38,11 +39,12 @@ biased_form t _ p h = absurd h
 -- a thread that saw its own bias has it still
 own_still : (w : World) (P : List PlainObject) (t o : ℕ) → Fits w P → (w.known t).running ≡ true → SawOwnBias w.shape (w.known t) o → lock w o ≡ BiasedTo t
 own_still w P t o v runs saw =
-    let proto : prototype_of w o ≡ saw.1 = v.seen.stays t (Prototype (class_of w.shape o)) saw.1 saw.3 (inl (runs, tt)) in
+    let class : class_by w.shape w.words o ≡ saw.2 = class_seen w.shape w.words (w.known t).seen o saw.2 saw.4 in
+    let proto : prototype_of w o ≡ saw.1 = ap (λ c. w.words (Prototype c)) class ∙ v.seen.stays t (Prototype saw.2) saw.1 saw.5 (inl (runs, tt)) in
     let its : IsBiasTo (w.known t).thread (read_mark saw.0) (epoch_in (prototype_of w o)) =
-    subst (λ z. IsBiasTo (w.known t).thread (read_mark saw.0) (epoch_in z)) (sym proto) saw.4 in
+    subst (λ z. IsBiasTo (w.known t).thread (read_mark saw.0) (epoch_in z)) (sym proto) saw.6 in
     let form = biased_form (w.known t).thread (read_mark saw.0) (prototype_of w o) its in
-    let is : marks w o ≡ saw.0 = v.seen.stays t (Mark o) saw.0 saw.2 (inl (runs, inl form.4)) in
+    let is : marks w o ≡ saw.0 = v.seen.stays t (Mark o) saw.0 saw.3 (inl (runs, inl form.4)) in
     leans w o t
     (form.0, form.1, ap read_mark is ∙ form.2 ∙ ap (λ u. Some (Biased u form.0 form.1)) (v.numbered t), ap (λ m. is_valid_bias (read_mark m) (prototype_of w o)) is ∙ form.3)
 

@@ -14,7 +14,7 @@ use Rattle.core_world.specs.Words.Forms.{is_biased, is_biased_form, epoch_in, mo
 use Rattle.core_world.specs.Threads.Known.{Known}
 use Rattle.core_world.specs.Locks.{Open, BiasedTo, OnRecord, OwnedBy, lock, lock_form, owner_lock, has_epoch, inflations, is_valid_bias, marks, prototype_of}
 use Rattle.core_world.specs.Words.Names.{same_name, with_word}
-use Rattle.core_world.specs.Words.Shape.{class_of}
+use Rattle.core_world.specs.Words.Names.{class_by}
 use Rattle.core_world.proofs.Naming.{same_named, with_word_same}
 use Rattle.core_world.specs.Threads.Stages.{Inflation}
 use Rattle.core_world.specs.World.{World, with_word_and_known}
@@ -136,7 +136,7 @@ module _ (w : World) (at : Name) (v t : ℕ) (l : Known) where
     pattern = λ i. ap is_biased (h (Mark i) refl);
     nobody = λ i. ap is_anonymous (h (Mark i) refl);
     owners = λ i. ap bias_owner (h (Mark i) refl);
-    leans = λ i u e. still_leans w x i (h (Mark i) refl) (h (Prototype (class_of w.shape i)) refl) u e;
+    leans = λ i u e. still_leans w x i (h (Mark i) refl) (h (Prototype (class_by w.shape w.words i)) refl) u e;
   }
 
   -- a mark without the bias pattern becomes one without it
@@ -145,7 +145,7 @@ module _ (w : World) (at : Name) (v t : ℕ) (l : Known) where
     pattern = λ i. by_equal i o (λ s. ap is_biased (here i s) ∙ now ∙ sym (old i s)) (λ d. ap is_biased (away i d));
     nobody = λ i. by_equal i o (λ s. ap is_anonymous (here i s) ∙ not_anonymous v now ∙ sym (not_anonymous (marks w i) (old i s))) (λ d. ap is_anonymous (away i d));
     owners = λ i. by_equal i o (λ s. ap bias_owner (here i s) ∙ unbiased_unowned v now ∙ sym (unbiased_unowned (marks w i) (old i s))) (λ d. ap bias_owner (away i d));
-    leans = λ i u e. by_equal i o (λ s. absurd (let b = (leans_by_mark w i u e).0 in cc (b, old i s))) (λ d. still_leans w x i (away i d) (prototypes (class_of w.shape i)) u e);
+    leans = λ i u e. by_equal i o (λ s. absurd (let b = (leans_by_mark w i u e).0 in cc (b, old i s))) (λ d. still_leans w x i (away i d) (prototypes (class_by w.shape w.words i)) u e);
   }
     where
       here : (i : ℕ) → i ≡ o → marks x i ≡ v

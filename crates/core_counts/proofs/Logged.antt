@@ -20,7 +20,7 @@ use Rattle.core_world.specs.Words.Forms.{is_biased}
 use Rattle.core_world.specs.Threads.Known.{Known}
 use Rattle.core_world.specs.Locks.{lock, marks}
 use Rattle.core_world.specs.Clauses.Safepoints.{IsUnfinished}
-use Rattle.core_world.specs.Words.Shape.{class_of}
+use Rattle.core_world.specs.Words.Names.{class_by}
 use Rattle.core_world.specs.Threads.Stages.{path_into}
 use Rattle.core_world.specs.Valid.{Fits}
 use Rattle.core_world.specs.World.{World, with_word_and_known, logs}
@@ -57,6 +57,7 @@ is_its_hash (entry.Resume o) i h = absurd (cc (ap op_of h))
 is_its_hash (entry.Notify o u) i h = absurd (cc (ap op_of h))
 is_its_hash (entry.NotifyAll o u) i h = absurd (cc (ap op_of h))
 is_its_hash (entry.Hash o u d) i h = let same = ap hash_of h in eq-eqb o i same
+is_its_hash (entry.New o c) i h = absurd (cc h)
 is_its_hash (entry.Print u) i h = absurd (cc h)
 is_its_hash (entry.Dump u) i h = absurd (cc (ap op_of h))
 is_its_hash (entry.Trap f j) i h = absurd (cc h)
@@ -82,6 +83,7 @@ none_by_sight w P t (entry.Resume o) v runs saw = tt
 none_by_sight w P t (entry.Notify o u) v runs saw = unbiased_still w P t o v runs saw
 none_by_sight w P t (entry.NotifyAll o u) v runs saw = unbiased_still w P t o v runs saw
 none_by_sight w P t (entry.Hash o u d) v runs saw = tt
+none_by_sight w P t (entry.New o c) v runs saw = tt
 none_by_sight w P t (entry.Print u) v runs saw = tt
 none_by_sight w P t (entry.Dump u) v runs saw = tt
 none_by_sight w P t (entry.Trap f j) v runs saw = tt
@@ -121,6 +123,7 @@ module _ (w : World) (P : List PlainObject) (at : Name) (n t : ℕ) (y : Logged)
   ends (entry.Notify o u) saw enters i same over = subst (λ j. is_biased (marks w j) ≡ false) (eqb-true o i same) saw
   ends (entry.NotifyAll o u) saw enters i same over = subst (λ j. is_biased (marks w j) ≡ false) (eqb-true o i same) saw
   ends (entry.Hash o u d) saw enters i same over = absurd (cc over)
+  ends (entry.New o c) saw enters i same over = absurd (cc over)
   ends (entry.Print u) saw enters i same over = absurd (cc over)
   ends (entry.Dump u) saw enters i same over = absurd (cc over)
   ends (entry.Trap f j) saw enters i same over = absurd (cc over)
@@ -143,12 +146,12 @@ module _ (w : World) (P : List PlainObject) (at : Name) (n t : ℕ) (y : Logged)
   pub entry_logged : BiasLawHolds x
   entry_logged =
       let none : w.biasing ≡ false → (i : ℕ) → is_biased (marks w i) ≡ false = v.classes.unbiased in
-      subst (λ (f : ℕ → ℕ). BiasLaw w.biasing w.shape.threads w.shape.classes (class_of w.shape) (marks x) (lock x) (λ i. entries_on i (order (logs x)))
+      subst (λ (f : ℕ → ℕ). BiasLaw w.biasing w.shape.threads w.shape.classes (class_by w.shape w.words) (marks x) (lock x) (λ i. entries_on i (order (logs x)))
       (λ u. (x.known u).log) (λ u. (x.known u).stage) (λ u. (x.known u).unfinished) f (λ u. counts_of (x.known u).counts))
       (same (λ c. sym (left_counts w at n t l a.leaves c)))
-      (subst (λ (f : ℕ → ℕ → ClassCounts). BiasLaw w.biasing w.shape.threads w.shape.classes (class_of w.shape) (marks x) (lock x) (λ i. entries_on i (order (logs x)))
+      (subst (λ (f : ℕ → ℕ → ClassCounts). BiasLaw w.biasing w.shape.threads w.shape.classes (class_by w.shape w.words) (marks x) (lock x) (λ i. entries_on i (order (logs x)))
       (λ u. (x.known u).log) (λ u. (x.known u).stage) (λ u. (x.known u).unfinished) (λ c. w.words (Revocations c)) f)
       (part_moves (λ k. counts_of k.counts) t l w.known (ap counts_of (sym a.counts)))
-      (entry_law w.biasing w.shape.threads w.shape.classes (class_of w.shape) (marks w) (lock w) (λ i. entries_on i (order (logs w))) (λ u. (w.known u).log) (λ u. (w.known u).stage)
+      (entry_law w.biasing w.shape.threads w.shape.classes (class_by w.shape w.words) (marks w) (lock w) (λ i. entries_on i (order (logs w))) (λ u. (w.known u).log) (λ u. (w.known u).stage)
       (λ u. (w.known u).unfinished) (λ c. w.words (Revocations c)) (λ u. counts_of (w.known u).counts) (marks x) (lock x) (λ u. (x.known u).stage) (λ u. (x.known u).unfinished) t law y
       (λ i. entries_on i (order (logs x))) (λ u. (x.known u).log) none (leans_by_mark w) (left_biases w at n t l a.leaves) others entry_is))

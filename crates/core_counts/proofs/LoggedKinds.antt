@@ -238,6 +238,7 @@ told_other s k (entry.Notify o None) h = refl
 told_other s k (entry.Notify o (Some u)) h = refl
 told_other s k (entry.NotifyAll o u) h = refl
 told_other s k (entry.Hash o u d) h = refl
+told_other s k (entry.New o c) h = absurd h
 told_other s k (entry.Print u) h = refl
 told_other s k (entry.Dump u) h = refl
 told_other s k (entry.Trap f j) h = refl

@@ -5,10 +5,12 @@ use Rattle.std.proofs.lemmas.Bool.{cases_lt}
 use Rattle.mark_word.specs.declared.mark.MarkForm.{MarkForm}
 use Rattle.mark_word.specs.declared.mark.MarkForm.TheVariants.{Inflating, Neutral, Anonymous, Biased, Locked, Inflated, Marked}
 use Rattle.mark_word.specs.Mark.{read_mark}
+use Rattle.plain_monitor.specs.Limits.{most_holds}
 use Rattle.plain_monitor.specs.Objects.{PlainObject}
 use Rattle.core_world.specs.Threads.Known.{Known}
 use Rattle.core_world.specs.Locks.{BiasedTo, is_valid_bias, lock, marks, hold_count, prototype_of}
-use Rattle.core_world.specs.Words.Shape.{Shape, class_of}
+use Rattle.core_world.specs.Words.Shape.{Shape}
+use Rattle.core_world.specs.Words.Names.{class_by}
 use Rattle.core_world.specs.Valid.{IsRevoking}
 use Rattle.core_world.specs.World.{World}
 use Rattle.core_counts.proofs.Leaning.{LeansTo, leans}
@@ -76,7 +78,7 @@ module _ (w : World) (P : List PlainObject) (s : IsRevoking w P) (over : s.rest 
 
   holds_are : holds_in b.words u ≡ (b.known u).holds
   unfolding holds_in
-  holds_are = words_are 0 64 (λ p. b.words (Hold u p)) (b.known u).holds (s.fits.holds.places u)
+  holds_are = words_are 0 most_holds (λ p. b.words (Hold u p)) (b.known u).holds (s.fits.holds.places u)
       (λ i j at below. let same : j ≡ i = omega (arith, at) in ap (λ p. b.words (Hold u p)) same ∙ s.fits.holds.stored u i)
 
   unheld : hold_count o (holds_in b.words u) ≡ 0 → hold_count o (w.known t).holds ≡ 0
@@ -89,13 +91,13 @@ module _ (w : World) (P : List PlainObject) (s : IsRevoking w P) (over : s.rest 
   abbrev verdict : Verdict
   verdict = (verdict_of s.before.shape s.revocation s.before.words).0
 
-  final : Final b.words o (class_of b.shape o) u t verdict w.words
+  final : Final b.words o (class_by b.shape b.words o) u t verdict w.words
   final =
       let h = leaner.1 in
       let valid : has_epoch (epoch_in (prototype_of b o)) h.0 ≡ true = sym (ap (λ m. is_valid_bias m (prototype_of b o)) h.2) ∙ h.3 in
       let proto = has_some (epoch_in (prototype_of b o)) h.0 valid in
       let small : t < 32 = let few = s.fits.limits.threads in omega (arith, few, requester_within) in
-      subst (Final b.words o (class_of b.shape o) u t verdict) (sym all_made) (mark_at_the_end b.shape t s.revocation b.words u h.0 h.1 proto.0 h.2 proto.1 small)
+      subst (Final b.words o (class_by b.shape b.words o) u t verdict) (sym all_made) (mark_at_the_end b.shape t s.revocation b.words u h.0 h.1 proto.0 h.2 proto.1 small)
 
   -- the new bias is that of a bulk rebias
   pub took_by_rebias : is_biased (marks w o) ≡ true → verdict ≡ BulkRebias
@@ -106,7 +108,7 @@ module _ (w : World) (P : List PlainObject) (s : IsRevoking w P) (over : s.rest 
     taken = λ biased. elim final [
       | inl free ↦ absurd (cc (free, biased))
       | inr h ↦
-          let stands : epoch_in (prototype_of w o) ≡ Some h.0 = ap (λ (z : Shape). epoch_in (w.words (Prototype (class_of z o)))) s.shape ∙ h.2 in
+          let stands : epoch_in (prototype_of w o) ≡ Some h.0 = ap (λ (z : Shape). epoch_in (w.words (Prototype (class_by z w.words o)))) s.shape ∙ h.2 in
           let valid : is_valid_bias (read_mark (marks w o)) (prototype_of w o) ≡ true = ap (λ m. is_valid_bias m (prototype_of w o)) h.1 ∙ ap (λ m. has_epoch m h.0) stands ∙ eq-eqb h.0 h.0 refl in
           (leans w o t (h.0, 0, h.1, valid), unheld h.3)
     ];

@@ -4,7 +4,8 @@ use Rattle.plain_monitor.specs.declared.entry.Entry.{Entry}
 use Rattle.plain_monitor.specs.Order.{order, ordered, with_threads}
 use Rattle.core_world.specs.declared.stage.Stage.TheVariants.{Calm}
 use Rattle.core_world.specs.Threads.Counts.{no_counts}
-use Rattle.core_world.specs.Words.Shape.{Shape, class_of}
+use Rattle.core_world.specs.Words.Shape.{Shape}
+use Rattle.core_world.specs.Words.Names.{class_by}
 use Rattle.core_world.specs.World.{logs_from}
 use Rattle.core_world.specs.Locks.{lock}
 use Rattle.core_world.specs.Opening.{opening, first_known, first_mark}
@@ -49,7 +50,7 @@ counts_none n e = subst (λ (m : ℕ). CountFits 0 m m m m) (sym e) (record {
 
 pub opening_meets : (s : Shape) (start : ℕ) (biasing : Bool) → BiasLawHolds (opening s start biasing)
 opening_meets s start biasing =
-    subst (λ (entries : ℕ → List Entry). BiasLaw biasing s.threads s.classes (class_of s) (λ o. first_mark biasing) (lock (opening s start biasing)) entries (λ t. []) (λ t. Calm) (λ t. None) (λ c. 0) (λ t c. no_counts))
+    subst (λ (entries : ℕ → List Entry). BiasLaw biasing s.threads s.classes (class_by s (opening s start biasing).words) (λ o. first_mark biasing) (lock (opening s start biasing)) entries (λ t. []) (λ t. Calm) (λ t. None) (λ c. 0) (λ t c. no_counts))
     (sym (none_on s.threads))
     (record {
       marks = record {

@@ -35,6 +35,7 @@ fits_if_enter held (entry.Resume o) h = tt
 fits_if_enter held (entry.Notify o w) h = tt
 fits_if_enter held (entry.NotifyAll o w) h = tt
 fits_if_enter held (entry.Hash o v d) h = tt
+fits_if_enter held (entry.New o c) h = tt
 fits_if_enter held (entry.Print v) h = tt
 fits_if_enter held (entry.Dump n) h = tt
 fits_if_enter held (entry.Trap f i) h = tt

@@ -7,6 +7,7 @@ use Rattle.mark_word.specs.Mark.{mark_of, read_mark}
 use Rattle.mark_word.specs.Owner.{owner_of}
 use Rattle.mark_word.specs.Safe.{read_safe}
 use Rattle.mark_word.specs.Wait.{wait_of}
+use Rattle.plain_monitor.specs.Limits.{most_holds}
 use Rattle.plain_monitor.specs.Objects.{PlainObject}
 use Rattle.core_world.specs.declared.act.Act.{Act}
 use Rattle.core_world.specs.declared.act.Act.TheVariants as act
@@ -77,7 +78,7 @@ from : (k : Known) (s : Stage) → k.stage ≡ s → (i : ℕ) → path_into s i
 from k s h i = ap (λ z. path_into z i) (sym h)
 
 -- what a mark that names a record is
-locked_none : (w : World) (P : List PlainObject) (t p : ℕ) → Fits w P → t < w.shape.threads → p < 64 → is_biased (mark_of (Locked t p)) ≡ false
+locked_none : (w : World) (P : List PlainObject) (t p : ℕ) → Fits w P → t < w.shape.threads → p < most_holds → is_biased (mark_of (Locked t p)) ≡ false
 locked_none w P t p v within place = ap is_biased_form (locked_read t p (let few = v.limits.threads in omega (arith, within, few)) place)
 
 inflated_none : (w : World) (P : List PlainObject) (t m : ℕ) → Fits w P → (w.known t).kept ≡ Some m → is_biased (mark_of (Inflated m)) ≡ false

@@ -3,7 +3,7 @@ use Rattle.std.proofs.Common.{◌≡◌, ◌≢◌, ℕ, zero, suc, ◌+◌, ◌
 use Rattle.std.proofs.lemmas.Bool.Decides.{nat_tests}
 use Rattle.lock_policy.specs.declared.policy.Verdict.{Verdict}
 use Rattle.lock_policy.specs.declared.policy.Verdict.TheVariants.{Single, BulkRebias, BulkRevoke}
-use Rattle.lock_policy.specs.Policy.{decided, is_reset, raised}
+use Rattle.lock_policy.specs.Policy.{decided, is_reset, raised, rebias_threshold, revoke_threshold, most_revocations}
 use Rattle.core_world.specs.declared.name.Name.TheVariants.{Revocations, LastBulk}
 use Rattle.core_world.specs.Threads.Counts.{ClassCounts, CountedVerdict, counts_of, with_verdict, with_reset, with_verdict_counted}
 use Rattle.core_world.specs.Threads.Known.{Known}
@@ -62,11 +62,11 @@ resets_same n c t v f g m = sum_same n (λ u. (f u c).reset) (λ u. (g u c).rese
     (λ e. subst (λ i. (g i c).reset ≡ (f i c).reset) (sym e) (ap (λ (k : ClassCounts). k.reset) m.mine ∙ no_reset_more (f t c) v))
     (λ d. ap (λ (k : ClassCounts). k.reset) (m.theirs u d)))
 
--- a count that was never reset is that of the verdicts, below 41
-as_many : (count : ℕ) (k : ClassCounts) → ClassFits count k → k.reset ≡ 0 → count < 41 → count ≡ verdicts_on k
+-- a count that was never reset is that of the verdicts, below the greatest
+as_many : (count : ℕ) (k : ClassCounts) → ClassFits count k → k.reset ≡ 0 → count < most_revocations → count ≡ verdicts_on k
 as_many count k h none low = let even = h.even none in grind (arith, nat_tests)
 
-not_both : (n c t count : ℕ) (v : Verdict) (f g : ℕ → ℕ → ClassCounts) → IsOneMore n c t v f g → (summed n f c).reset ≡ 0 → count < 41
+not_both : (n c t count : ℕ) (v : Verdict) (f g : ℕ → ℕ → ClassCounts) → IsOneMore n c t v f g → (summed n f c).reset ≡ 0 → count < most_revocations
     → ClassFits count (summed n f c) → ClassFits count (summed n g c) → ⊥
 not_both n c t count v f g m none low a b =
     let x = as_many count (summed n f c) a none low in
@@ -75,7 +75,7 @@ not_both n c t count v f g m none low a b =
     absurd (omega (arith, x, y, more))
 
 -- a count that fell to 1 was reset
-fell : (n c t count : ℕ) (v : Verdict) (f g : ℕ → ℕ → ClassCounts) → IsOneMore n c t v f g → (summed n f c).reset ≡ 0 → 20 ≤ count
+fell : (n c t count : ℕ) (v : Verdict) (f g : ℕ → ℕ → ClassCounts) → IsOneMore n c t v f g → (summed n f c).reset ≡ 0 → rebias_threshold ≤ count
     → ClassFits count (summed n f c) → ClassFits 1 (summed n g c) → ⊥
 fell n c t count v f g m none high a b =
     let few = a.few in
@@ -84,38 +84,38 @@ fell n c t count v f g m none high a b =
     absurd (omega (arith, few, high, y, more))
 
 -- BULK OPERATIONS
-rebias_due : (count : ℕ) (k : ClassCounts) → ClassFits count k → k.reset ≡ 0 → count < 20 → k.rebias ≡ 0
+rebias_due : (count : ℕ) (k : ClassCounts) → ClassFits count k → k.reset ≡ 0 → count < rebias_threshold → k.rebias ≡ 0
 rebias_due count k h none low = let even = h.even none in let once = h.rebias_once none in grind (arith, nat_tests)
 
-revoke_due : (count : ℕ) (k : ClassCounts) → ClassFits count k → count < 40 → k.revoke ≡ 0
+revoke_due : (count : ℕ) (k : ClassCounts) → ClassFits count k → count < revoke_threshold → k.revoke ≡ 0
 revoke_due count k h low = let revoked = h.revoked in grind (arith, nat_tests)
 
-revoke_done : (count : ℕ) (k : ClassCounts) → ClassFits count k → 40 ≤ count → k.revoke ≡ 1
+revoke_done : (count : ℕ) (k : ClassCounts) → ClassFits count k → revoke_threshold ≤ count → k.revoke ≡ 1
 revoke_done count k h high = let revoked = h.revoked in grind (arith, nat_tests)
 
 module _ (w : World) (c : ℕ) where
   abbrev counts : ℕ → ℕ → ClassCounts
   counts t = counts_of (w.known t).counts
 
-  pub no_early_rebias : (t : ℕ) → t < w.shape.threads → NothingReset w c → w.words (Revocations c) < 20 → 1 ≤ (counts t c).rebias → BiasLawHolds w → ⊥
+  pub no_early_rebias : (t : ℕ) → t < w.shape.threads → NothingReset w c → w.words (Revocations c) < rebias_threshold → 1 ≤ (counts t c).rebias → BiasLawHolds w → ⊥
   no_early_rebias t within none low some law =
       let a = rebias_due (w.words (Revocations c)) (summed w.shape.threads counts c) (law.count_fits c) none low in
       let b = at_least w.shape.threads t (λ u. (counts u c).rebias) within in
       absurd (omega (arith, a, b, some))
 
-  pub no_missing_rebias : 20 ≤ w.words (Revocations c) → ((t : ℕ) → t < w.shape.threads → (counts t c).rebias ≡ 0) → BiasLawHolds w → ⊥
+  pub no_missing_rebias : rebias_threshold ≤ w.words (Revocations c) → ((t : ℕ) → t < w.shape.threads → (counts t c).rebias ≡ 0) → BiasLawHolds w → ⊥
   no_missing_rebias high nobody law =
       let a = (law.count_fits c).rebiased high in
       let b = none_below w.shape.threads (λ u. (counts u c).rebias) nobody in
       absurd (omega (arith, a, b))
 
-  pub no_early_revoke : (t : ℕ) → t < w.shape.threads → w.words (Revocations c) < 40 → 1 ≤ (counts t c).revoke → BiasLawHolds w → ⊥
+  pub no_early_revoke : (t : ℕ) → t < w.shape.threads → w.words (Revocations c) < revoke_threshold → 1 ≤ (counts t c).revoke → BiasLawHolds w → ⊥
   no_early_revoke t within low some law =
       let a = revoke_due (w.words (Revocations c)) (summed w.shape.threads counts c) (law.count_fits c) low in
       let b = at_least w.shape.threads t (λ u. (counts u c).revoke) within in
       absurd (omega (arith, a, b, some))
 
-  pub no_missing_revoke : 40 ≤ w.words (Revocations c) → ((t : ℕ) → t < w.shape.threads → (counts t c).revoke ≡ 0) → BiasLawHolds w → ⊥
+  pub no_missing_revoke : revoke_threshold ≤ w.words (Revocations c) → ((t : ℕ) → t < w.shape.threads → (counts t c).revoke ≡ 0) → BiasLawHolds w → ⊥
   no_missing_revoke high nobody law =
       let a = revoke_done (w.words (Revocations c)) (summed w.shape.threads counts c) (law.count_fits c) high in
       let b = none_below w.shape.threads (λ u. (counts u c).revoke) nobody in
@@ -158,14 +158,14 @@ module _ (w : World) (t c : ℕ) (within : t < w.shape.threads) (cs : List Count
     theirs = λ u d. sym (new_else u d);
   }
 
-  pub never_counted : (v : Verdict) → NothingReset w c → w.words (Revocations c) < 41 → (w.known t).counts ≡ with_verdict_counted cs c v false
+  pub never_counted : (v : Verdict) → NothingReset w c → w.words (Revocations c) < most_revocations → (w.known t).counts ≡ with_verdict_counted cs c v false
       → BiasLawHolds w → BiasLawHolds (with_counts_of t cs w) → ⊥
   never_counted v none low e a b =
       let m = less v e in
       let none_else = sym (resets_same w.shape.threads c t v new old m) ∙ none in
       not_both w.shape.threads c t (w.words (Revocations c)) v new old m none_else low (b.count_fits c) (a.count_fits c)
 
-pub not_twice : (w : World) (t c : ℕ) (v : Verdict) → t < w.shape.threads → NothingReset w c → w.words (Revocations c) < 41
+pub not_twice : (w : World) (t c : ℕ) (v : Verdict) → t < w.shape.threads → NothingReset w c → w.words (Revocations c) < most_revocations
     → BiasLawHolds w → BiasLawHolds (with_counts_of t (with_verdict_counted (w.known t).counts c v false) w) → ⊥
 not_twice w t c v within none low a b =
     let cs = with_verdict_counted (w.known t).counts c v false in
@@ -175,7 +175,7 @@ not_twice w t c v within none low a b =
 reset_to_1 : (count last now : ℕ) → is_reset count last now ≡ true → (decided count last now).1 ≡ 1
 reset_to_1 count last now e = ap (λ (b : Bool). raised (cond b 0 count)) e
 
-reset_above : (count last now : ℕ) → is_reset count last now ≡ true → 20 ≤ count
+reset_above : (count last now : ℕ) → is_reset count last now ≡ true → rebias_threshold ≤ count
 reset_above count last now e = grind (arith, nat_tests)
 
 pub no_uncounted_reset : (w : World) (t c now : ℕ) → t < w.shape.threads → NothingReset w c

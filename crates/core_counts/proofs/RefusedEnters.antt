@@ -18,7 +18,7 @@ use Rattle.core_world.specs.declared.name.Name.TheVariants.{Stamp}
 use Rattle.core_world.specs.Threads.Counts.{ClassCounts, counts_of}
 use Rattle.core_world.specs.Threads.Known.{Known}
 use Rattle.core_world.specs.Threads.Stages.{one_if}
-use Rattle.core_world.specs.Words.Shape.{class_of}
+use Rattle.core_world.specs.Words.Names.{class_by}
 use Rattle.core_world.specs.Locks.{monitor_of, object_of}
 use Rattle.core_world.specs.Trees.Plans.{Purpose, logging_plan}
 use Rattle.core_world.specs.Steps.{world_after, known_after, stamp_by}
@@ -94,7 +94,7 @@ module _ (w : World) (P : List PlainObject) (t o p : ℕ) (r : Purpose) (within 
 -- it takes the bias once more
 module _ (w : World) (P : List PlainObject) (t o p : ℕ) (r : Purpose) (within : t < w.shape.threads) (may : MayLogEnter w.shape (w.known t) o p BiasTaken) (v : Fits w P) where
   abbrev rebiases : (ℕ → ℕ → ClassCounts) → ℕ
-  rebiases counts = (summed w.shape.threads counts (class_of w.shape o)).rebias
+  rebiases counts = (summed w.shape.threads counts (class_by w.shape w.words o)).rebias
 
   pub no_bias_too_often : rebiases (λ u. counts_of (w.known u).counts) < times_taken o (entries_on o (order (logs w))) → BiasLawHolds (x w P t o p BiasTaken r within may v) → ⊥
   no_bias_too_often often law =

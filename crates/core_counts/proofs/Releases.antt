@@ -14,7 +14,8 @@ use Rattle.core_world.specs.declared.name.Name.TheVariants.{Safepoint, Mark, Pro
 use Rattle.core_world.specs.declared.stage.Stage.{Stage}
 use Rattle.core_world.specs.declared.stage.Stage.TheVariants.{Calm}
 use Rattle.core_world.specs.declared.task.Unfinished.{Unfinished}
-use Rattle.core_world.specs.Words.Shape.{Shape, class_of}
+use Rattle.core_world.specs.Words.Shape.{Shape}
+use Rattle.core_world.specs.Words.Names.{class_by}
 use Rattle.core_world.specs.Words.Names.{with_word}
 use Rattle.core_world.specs.Threads.Counts.{CountedVerdict, with_verdict_counted, counts_of}
 use Rattle.core_world.specs.Words.Forms.{is_biased}
@@ -45,7 +46,7 @@ use Rattle.core_world.proofs.NoWordChanges.{one_requester}
 
 module _ (w : World) (P : List PlainObject) (s : IsRevoking w P) (leaner : ℕ) (leant : lock s.before s.revocation.object ≡ BiasedTo leaner) (law : BiasLawHolds s.before) (over : s.rest ≡ [])
     (l : Known) (word : ℕ) (took : Bool) (same_log : l.log ≡ (s.before.known s.requester).log) (same_counts : l.counts ≡ (w.known s.requester).counts) (same_unfinished : l.unfinished ≡ (w.known s.requester).unfinished)
-    (stage_now : l.stage ≡ stage_after took s.revocation.object) (within : s.requester < s.before.shape.threads) (class_within : class_of s.before.shape s.revocation.object < s.before.shape.classes)
+    (stage_now : l.stage ≡ stage_after took s.revocation.object) (within : s.requester < s.before.shape.threads) (class_within : class_by s.before.shape s.before.words s.revocation.object < s.before.shape.classes)
     (taken : took ≡ true → lock (with_word_and_known Safepoint word s.requester l w) s.revocation.object ≡ BiasedTo s.requester) (dropped : took ≡ false → is_biased (marks w s.revocation.object) ≡ false)
     (unheld : took ≡ true → held_by nothing_held (s.before.known s.requester).log s.revocation.object ≡ 0) (by_rebias : took ≡ true → (verdict_of s.before.shape s.revocation s.before.words).0 ≡ BulkRebias) where
   abbrev b : World
@@ -58,7 +59,7 @@ module _ (w : World) (P : List PlainObject) (s : IsRevoking w P) (leaner : ℕ) 
   o = s.revocation.object
 
   abbrev c : ℕ
-  c = class_of s.before.shape s.revocation.object
+  c = class_by s.before.shape s.before.words s.revocation.object
 
   abbrev x : World
   x = with_word_and_known Safepoint word s.requester l w
@@ -74,8 +75,8 @@ module _ (w : World) (P : List PlainObject) (s : IsRevoking w P) (leaner : ℕ) 
       append_none [] = refl
       append_none (z ∷ ws) = ap (λ r. z ∷ r) (append_none ws)
 
-  gentle : IsGentle o (Touched b.shape o d.0) (with_word (Revocations c) d.1 b.words) w.words
-  gentle = subst (IsGentle o (Touched b.shape o d.0) (with_word (Revocations c) d.1 b.words)) (sym all_made) (revokes_gently b.shape t s.revocation b.words)
+  gentle : IsGentle o (Touched (class_by b.shape b.words) o d.0) (with_word (Revocations c) d.1 b.words) w.words
+  gentle = subst (IsGentle o (Touched (class_by b.shape b.words) o d.0) (with_word (Revocations c) d.1 b.words)) (sym all_made) (revokes_gently b.shape t s.revocation b.words)
 
   -- nobody runs before, so all threads are in the middle of nothing
   calm : (u : ℕ) → (b.known u).stage ≡ Calm
@@ -150,22 +151,22 @@ module _ (w : World) (P : List PlainObject) (s : IsRevoking w P) (leaner : ℕ) 
 
   -- its verdict was counted on the class
   more : sum_below b.shape.threads (λ v. (counts_of (x.known v).counts c).revoke) ≡ sum_below b.shape.threads (λ v. (counts_of (b.known v).counts c).revoke) + bulk_revokes d.0
-  more = revoked_here b.biasing b.shape.threads b.shape.classes (class_of b.shape) (marks b) (lock b) (λ i. entries_on i (order (logs b))) (λ u. (b.known u).log) (λ u. (b.known u).stage) (λ u. (b.known u).unfinished)
+  more = revoked_here b.biasing b.shape.threads b.shape.classes (class_by b.shape b.words) (marks b) (lock b) (λ i. entries_on i (order (logs b))) (λ u. (b.known u).log) (λ u. (b.known u).stage) (λ u. (b.known u).unfinished)
       (λ e. b.words (Revocations e)) (λ u. counts_of (b.known u).counts) (marks x) (lock x) (λ u. (x.known u).stage) (λ u. (x.known u).unfinished) t law
       c (b.words (LastBulk c)) s.revocation.now (record { op = s.operation; object = o }) (λ u. counts_of (x.known u).counts) (λ e. x.words (Revocations e)) within class_within (ap counts_of counts_now) (λ u n. ap counts_of (counts_else u n)) count_here count_else
 
   more_rebiased : sum_below b.shape.threads (λ v. (counts_of (x.known v).counts c).rebias) ≡ sum_below b.shape.threads (λ v. (counts_of (b.known v).counts c).rebias) + bulk_rebiases d.0
-  more_rebiased = rebiased_here b.biasing b.shape.threads b.shape.classes (class_of b.shape) (marks b) (lock b) (λ i. entries_on i (order (logs b))) (λ u. (b.known u).log) (λ u. (b.known u).stage) (λ u. (b.known u).unfinished)
+  more_rebiased = rebiased_here b.biasing b.shape.threads b.shape.classes (class_by b.shape b.words) (marks b) (lock b) (λ i. entries_on i (order (logs b))) (λ u. (b.known u).log) (λ u. (b.known u).stage) (λ u. (b.known u).unfinished)
       (λ e. b.words (Revocations e)) (λ u. counts_of (b.known u).counts) (marks x) (lock x) (λ u. (x.known u).stage) (λ u. (x.known u).unfinished) t law
       c (b.words (LastBulk c)) s.revocation.now (record { op = s.operation; object = o }) (λ u. counts_of (x.known u).counts) (λ e. x.words (Revocations e)) within class_within (ap counts_of counts_now) (λ u n. ap counts_of (counts_else u n)) count_here count_else
 
   still_unrevoked : (e : ℕ) → sum_below b.shape.threads (λ u. (counts_of (x.known u).counts e).revoke) ≡ 0 → sum_below b.shape.threads (λ u. (counts_of (b.known u).counts e).revoke) ≡ 0
-  still_unrevoked = fewer_revoked b.biasing b.shape.threads b.shape.classes (class_of b.shape) (marks b) (lock b) (λ i. entries_on i (order (logs b))) (λ u. (b.known u).log) (λ u. (b.known u).stage) (λ u. (b.known u).unfinished)
+  still_unrevoked = fewer_revoked b.biasing b.shape.threads b.shape.classes (class_by b.shape b.words) (marks b) (lock b) (λ i. entries_on i (order (logs b))) (λ u. (b.known u).log) (λ u. (b.known u).stage) (λ u. (b.known u).unfinished)
       (λ e. b.words (Revocations e)) (λ u. counts_of (b.known u).counts) (marks x) (lock x) (λ u. (x.known u).stage) (λ u. (x.known u).unfinished) t law
       c (b.words (LastBulk c)) s.revocation.now (record { op = s.operation; object = o }) (λ u. counts_of (x.known u).counts) (λ e. x.words (Revocations e)) within class_within (ap counts_of counts_now) (λ u n. ap counts_of (counts_else u n)) count_here count_else
 
   -- a class that is revoked in bulk now is counted so
-  revoked_now : d.0 ≡ BulkRevoke → (i : ℕ) → class_of b.shape i ≡ c → sum_below b.shape.threads (λ u. (counts_of (x.known u).counts (class_of b.shape i)).revoke) ≡ 0 → ⊥
+  revoked_now : d.0 ≡ BulkRevoke → (i : ℕ) → class_by b.shape b.words i ≡ c → sum_below b.shape.threads (λ u. (counts_of (x.known u).counts (class_by b.shape b.words i)).revoke) ≡ 0 → ⊥
   revoked_now e i q r =
       let k = ap bulk_revokes e in
       let n : sum_below b.shape.threads (λ u. (counts_of (x.known u).counts c).revoke) ≡ 0 = subst (λ j. sum_below b.shape.threads (λ u. (counts_of (x.known u).counts j).revoke) ≡ 0) q r in
@@ -175,11 +176,11 @@ module _ (w : World) (P : List PlainObject) (s : IsRevoking w P) (leaner : ℕ) 
   abbrev IsRebiased : ℕ → Type 0
   IsRebiased e = sum_below s.before.shape.threads (λ u. (counts_of (s.before.known u).counts e).rebias) < sum_below s.before.shape.threads (λ u. (counts_of ((with_word_and_known Safepoint word s.requester l w).known u).counts e).rebias)
 
-  rebiased_now : d.0 ≡ BulkRebias → (i : ℕ) → class_of b.shape i ≡ c → IsRebiased (class_of b.shape i)
+  rebiased_now : d.0 ≡ BulkRebias → (i : ℕ) → class_by b.shape b.words i ≡ c → IsRebiased (class_by b.shape b.words i)
   rebiased_now e i q = let k = ap bulk_rebiases e in subst IsRebiased (sym q) (omega (arith, k, more_rebiased))
 
   -- an object of a class that isn't revoked in bulk stays biased to nobody
-  untouched : (v : Verdict) → d.0 ≡ v → (i : ℕ) → sum_below b.shape.threads (λ u. (counts_of (x.known u).counts (class_of b.shape i)).revoke) ≡ 0 → is_anonymous (marks b i) ≡ true → Touched b.shape o v i → ⊥
+  untouched : (v : Verdict) → d.0 ≡ v → (i : ℕ) → sum_below b.shape.threads (λ u. (counts_of (x.known u).counts (class_by b.shape b.words i)).revoke) ≡ 0 → is_anonymous (marks b i) ≡ true → Touched (class_by b.shape b.words) o v i → ⊥
   untouched Single e i r h q = absurd (let k = ap (λ j. is_anonymous (marks b j)) q in cc (k, h, not_anonymous))
   untouched BulkRebias e i r h q = absurd (let k = ap (λ j. is_anonymous (marks b j)) q in cc (k, h, not_anonymous))
   untouched BulkRevoke e i r h q = absurd (revoked_now e i q r)
@@ -191,7 +192,7 @@ module _ (w : World) (P : List PlainObject) (s : IsRevoking w P) (leaner : ℕ) 
     operations = λ u n. ap (λ (k : Known). k.unfinished) (away u n);
   }
 
-  quietly : LogsNothing b.biasing t (class_of b.shape) (marks b) (lock b) (λ i. entries_on i (order (logs b))) (λ u. (b.known u).stage) (λ u. (b.known u).unfinished)
+  quietly : LogsNothing b.biasing t (class_by b.shape b.words) (marks b) (lock b) (λ i. entries_on i (order (logs b))) (λ u. (b.known u).stage) (λ u. (b.known u).unfinished)
       (λ e. sum_below b.shape.threads (λ u. (counts_of (b.known u).counts e).revoke)) (marks x) (lock x) (λ u. (x.known u).stage) (λ u. (x.known u).unfinished) (λ e. sum_below b.shape.threads (λ u. (counts_of (x.known u).counts e).revoke))
   quietly = record {
     pattern = λ i h. gentle.pattern i h;
@@ -207,19 +208,19 @@ module _ (w : World) (P : List PlainObject) (s : IsRevoking w P) (leaner : ℕ) 
 
   -- a bias that is free afterwards was free before, or its class is rebiased in bulk
   abbrev WasFree : ℕ → Type 0
-  WasFree = IsFree (class_of s.before.shape) (marks s.before) (lock s.before) (λ e. sum_below s.before.shape.threads (λ u. (counts_of (s.before.known u).counts e).revoke))
+  WasFree = IsFree (class_by s.before.shape s.before.words) (marks s.before) (lock s.before) (λ e. sum_below s.before.shape.threads (λ u. (counts_of (s.before.known u).counts e).revoke))
 
   abbrev NowFree : ℕ → Type 0
-  NowFree = IsFree (class_of s.before.shape) (marks (with_word_and_known Safepoint word s.requester l w)) (lock (with_word_and_known Safepoint word s.requester l w))
+  NowFree = IsFree (class_by s.before.shape s.before.words) (marks (with_word_and_known Safepoint word s.requester l w)) (lock (with_word_and_known Safepoint word s.requester l w))
       (λ e. sum_below s.before.shape.threads (λ u. (counts_of ((with_word_and_known Safepoint word s.requester l w).known u).counts e).revoke))
 
-  far_free : (i : ℕ) → IsFar b.shape o d.0 i → NowFree i → WasFree i
+  far_free : (i : ℕ) → IsFar (class_by b.shape b.words) o d.0 i → NowFree i → WasFree i
   far_free i far f =
       let alone = left_alone b.shape t s.revocation i b.words far in
       let mark : marks x i ≡ marks b i = ap (λ (g : Name → ℕ). g (Mark i)) all_made ∙ alone.0 in
       let prototype : prototype_of x i ≡ prototype_of b i =
-      ap (λ (z : Shape). w.words (Prototype (class_of z i))) s.shape ∙ ap (λ (g : Name → ℕ). g (Prototype (class_of b.shape i))) all_made ∙ alone.1 in
-      (still_unrevoked (class_of b.shape i) f.0, ap is_biased (sym mark) ∙ f.1, λ u h. f.2 u (still_leans b x i mark prototype u h))
+      ap (λ (z : Shape). w.words (Prototype (class_by z w.words i))) s.shape ∙ ap (λ (g : Name → ℕ). g (Prototype (class_by b.shape b.words i))) all_made ∙ alone.1 in
+      (still_unrevoked (class_by b.shape b.words i) f.0, ap is_biased (sym mark) ∙ f.1, λ u h. f.2 u (still_leans b x i mark prototype u h))
 
   own_unfree : (i : ℕ) → i ≡ o → NowFree i → ⊥
   own_unfree i same f = by_took took refl
@@ -228,18 +229,18 @@ module _ (w : World) (P : List PlainObject) (s : IsRevoking w P) (leaner : ℕ) 
       by_took true e = f.2 t (ap (lock x) same ∙ taken e)
       by_took false e = let none = dropped e in let biased = ap (λ j. is_biased (marks x j)) (sym same) ∙ f.1 in cc (none, biased)
 
-  freed : (v : Verdict) → d.0 ≡ v → (i : ℕ) → NowFree i → WasFree i ⊎ IsRebiased (class_of b.shape i)
-  freed Single e i f = by_equal i o (λ q. absurd (own_unfree i q f)) (λ n. inl (far_free i (subst (λ v. IsFar b.shape o v i) (sym e) n) f))
-  freed BulkRebias e i f = by_equal (class_of b.shape i) c (λ q. inr (rebiased_now e i q)) (λ n. inl (far_free i (subst (λ v. IsFar b.shape o v i) (sym e) n) f))
-  freed BulkRevoke e i f = by_equal (class_of b.shape i) c (λ q. absurd (revoked_now e i q f.0)) (λ n. inl (far_free i (subst (λ v. IsFar b.shape o v i) (sym e) n) f))
+  freed : (v : Verdict) → d.0 ≡ v → (i : ℕ) → NowFree i → WasFree i ⊎ IsRebiased (class_by b.shape b.words i)
+  freed Single e i f = by_equal i o (λ q. absurd (own_unfree i q f)) (λ n. inl (far_free i (subst (λ v. IsFar (class_by b.shape b.words) o v i) (sym e) n) f))
+  freed BulkRebias e i f = by_equal (class_by b.shape b.words i) c (λ q. inr (rebiased_now e i q)) (λ n. inl (far_free i (subst (λ v. IsFar (class_by b.shape b.words) o v i) (sym e) n) f))
+  freed BulkRevoke e i f = by_equal (class_by b.shape b.words i) c (λ q. absurd (revoked_now e i q f.0)) (λ n. inl (far_free i (subst (λ v. IsFar (class_by b.shape b.words) o v i) (sym e) n) f))
 
-  takes_free : TakesFreeBiases t (class_of b.shape) (marks b) (lock b) (λ u. (b.known u).stage) (λ e. sum_below b.shape.threads (λ u. (counts_of (b.known u).counts e).rebias)) (λ e. sum_below b.shape.threads (λ u. (counts_of (b.known u).counts e).revoke))
+  takes_free : TakesFreeBiases t (class_by b.shape b.words) (marks b) (lock b) (λ u. (b.known u).stage) (λ e. sum_below b.shape.threads (λ u. (counts_of (b.known u).counts e).rebias)) (λ e. sum_below b.shape.threads (λ u. (counts_of (b.known u).counts e).revoke))
       (marks x) (lock x) (λ u. (x.known u).stage) (λ e. sum_below b.shape.threads (λ u. (counts_of (x.known u).counts e).rebias)) (λ e. sum_below b.shape.threads (λ u. (counts_of (x.known u).counts e).revoke))
   takes_free = record {
-    more = rebiased_more b.biasing b.shape.threads b.shape.classes (class_of b.shape) (marks b) (lock b) (λ i. entries_on i (order (logs b))) (λ u. (b.known u).log) (λ u. (b.known u).stage) (λ u. (b.known u).unfinished)
+    more = rebiased_more b.biasing b.shape.threads b.shape.classes (class_by b.shape b.words) (marks b) (lock b) (λ i. entries_on i (order (logs b))) (λ u. (b.known u).log) (λ u. (b.known u).stage) (λ u. (b.known u).unfinished)
         (λ e. b.words (Revocations e)) (λ u. counts_of (b.known u).counts) (marks x) (lock x) (λ u. (x.known u).stage) (λ u. (x.known u).unfinished) t law
         c (b.words (LastBulk c)) s.revocation.now (record { op = s.operation; object = o }) (λ u. counts_of (x.known u).counts) (λ e. x.words (Revocations e)) within class_within (ap counts_of counts_now) (λ u n. ap counts_of (counts_else u n)) count_here count_else;
-    comes = λ i h. let k = into_took i BiasTaken h in inr (inr (rebiased_now (by_rebias k.0) i (ap (class_of b.shape) (sym k.1))));
+    comes = λ i h. let k = into_took i BiasTaken h in inr (inr (rebiased_now (by_rebias k.0) i (ap (class_by b.shape b.words) (sym k.1))));
     free = freed d.0 refl;
   }
 
@@ -255,9 +256,9 @@ module _ (w : World) (P : List PlainObject) (s : IsRevoking w P) (leaner : ℕ) 
   biased_heap false e = absurd (let k = s.fits.classes.unbiased e o in cc (k, was))
 
   -- the law, of the words after the release
-  pub released : BiasLaw b.biasing b.shape.threads b.shape.classes (class_of b.shape) (marks x) (lock x) (λ i. entries_on i (order (logs b))) (λ u. (b.known u).log) (λ u. (x.known u).stage)
+  pub released : BiasLaw b.biasing b.shape.threads b.shape.classes (class_by b.shape b.words) (marks x) (lock x) (λ i. entries_on i (order (logs b))) (λ u. (b.known u).log) (λ u. (x.known u).stage)
       (λ u. (x.known u).unfinished) (λ e. x.words (Revocations e)) (λ u. counts_of (x.known u).counts)
-  released = revocation_law b.biasing b.shape.threads b.shape.classes (class_of b.shape) (marks b) (lock b) (λ i. entries_on i (order (logs b))) (λ u. (b.known u).log) (λ u. (b.known u).stage) (λ u. (b.known u).unfinished)
+  released = revocation_law b.biasing b.shape.threads b.shape.classes (class_by b.shape b.words) (marks b) (lock b) (λ i. entries_on i (order (logs b))) (λ u. (b.known u).log) (λ u. (b.known u).stage) (λ u. (b.known u).unfinished)
       (λ e. b.words (Revocations e)) (λ u. counts_of (b.known u).counts) (marks x) (lock x) (λ u. (x.known u).stage) (λ u. (x.known u).unfinished) t law
       c (b.words (LastBulk c)) s.revocation.now (record { op = s.operation; object = o }) (λ u. counts_of (x.known u).counts) (λ e. x.words (Revocations e)) within class_within (ap counts_of counts_now) (λ u n. ap counts_of (counts_else u n)) count_here count_else
       (biased_heap b.biasing refl) open_before (open_now ∙ open_before) was (into_none t o) was_decided rest_stays quietly takes_free path_fits

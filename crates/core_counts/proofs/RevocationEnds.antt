@@ -3,6 +3,7 @@ use Rattle.std.proofs.Common.{◌≡◌, ℕ, zero, suc, ◌+◌, ◌<◌, ◌�
 use Rattle.std.specs.Prelude.{slice_index_or}
 use Rattle.std.specs.List.{AllByRecursion}
 use Rattle.mark_word.specs.Mark.{read_mark}
+use Rattle.plain_monitor.specs.Limits.{most_slots}
 use Rattle.plain_monitor.specs.Objects.{PlainObject}
 use Rattle.plain_monitor.specs.Order.{order}
 use Rattle.plain_history.specs.EnterPaths.{entries_on}
@@ -16,7 +17,8 @@ use Rattle.core_world.specs.declared.act.Act.TheVariants.{Swap}
 use Rattle.core_world.specs.Words.Acts.{word_after}
 use Rattle.core_locks.proofs.SafeEnds.{reached_finds}
 use Rattle.plain_history.specs.HeldByLog.{held_by, nothing_held}
-use Rattle.core_world.specs.Words.Shape.{Shape, class_of}
+use Rattle.core_world.specs.Words.Shape.{Shape}
+use Rattle.core_world.specs.Words.Names.{class_by}
 use Rattle.core_world.specs.Steps.{world_after, known_hit, known_miss, known_after}
 use Rattle.core_world.specs.Valid.{IsRevoking}
 use Rattle.core_world.specs.World.{World, with_word_and_known, logs, logs_from}
@@ -33,7 +35,7 @@ use Rattle.core_counts.proofs.Leaning.{LeansTo, leans, still_leans}
 use Rattle.core_counts.proofs.Releases.{released}
 
 -- each object is of one of the classes
-pub class_within : (xs : List (ℕ × ℕ)) (n o : ℕ) → AllByRecursion (λ x. (x.0 < n) × (x.1 ≤ 16)) xs → o < length xs → (slice_index_or xs o (0, 0)).0 < n
+pub class_within : (xs : List (ℕ × ℕ)) (n o : ℕ) → AllByRecursion (λ x. (x.0 < n) × (x.1 ≤ most_slots)) xs → o < length xs → (slice_index_or xs o (0, 0)).0 < n
 class_within [] n o h l = absurd (omega (arith, l))
 class_within (x ∷ xs) n zero h l = h.0.0
 class_within (x ∷ xs) n (suc o) h l = class_within xs n o h.1 (omega (arith, l))
@@ -87,7 +89,7 @@ module _ (w : World) (P : List PlainObject) (s : IsRevoking w P) (e : Purpose) (
       let d = held_named b P t o within s.fits in
       omega (arith, a, c, d)
 
-  after_release : BiasLaw b.biasing b.shape.threads b.shape.classes (class_of b.shape) (marks x) (lock x) (λ i. entries_on i (order (logs b))) (λ u. (b.known u).log) (λ u. (x.known u).stage)
+  after_release : BiasLaw b.biasing b.shape.threads b.shape.classes (class_by b.shape b.words) (marks x) (lock x) (λ i. entries_on i (order (logs b))) (λ u. (b.known u).log) (λ u. (x.known u).stage)
       (λ u. (x.known u).unfinished) (λ c. x.words (Revocations c)) (λ u. counts_of (x.known u).counts)
   after_release = released w P s leaner.0 (leans b o leaner.0 leaner.1) law may.over l (released_word t) took log_is refl may.goes_on refl within
       (class_within b.shape.objects b.shape.classes o s.fits.limits.each s.object) taken left.dropped unheld (λ h. took_by_rebias w P s may.over (sym may.says ∙ h))
@@ -101,13 +103,13 @@ module _ (w : World) (P : List PlainObject) (s : IsRevoking w P) (e : Purpose) (
 
   ends : BiasLawHolds x
   ends =
-      subst (λ h. BiasLaw w.biasing h.threads h.classes (class_of h) (marks x) (lock x) (λ i. entries_on i (order (logs x))) (λ u. (x.known u).log) (λ u. (x.known u).stage)
+      subst (λ h. BiasLaw w.biasing h.threads h.classes (class_by h w.words) (marks x) (lock x) (λ i. entries_on i (order (logs x))) (λ u. (x.known u).log) (λ u. (x.known u).stage)
       (λ u. (x.known u).unfinished) (λ c. x.words (Revocations c)) (λ u. counts_of (x.known u).counts)) (sym s.shape)
-      (subst (λ h. BiasLaw h b.shape.threads b.shape.classes (class_of b.shape) (marks x) (lock x) (λ i. entries_on i (order (logs x))) (λ u. (x.known u).log) (λ u. (x.known u).stage)
+      (subst (λ h. BiasLaw h b.shape.threads b.shape.classes (class_by b.shape b.words) (marks x) (lock x) (λ i. entries_on i (order (logs x))) (λ u. (x.known u).log) (λ u. (x.known u).stage)
       (λ u. (x.known u).unfinished) (λ c. x.words (Revocations c)) (λ u. counts_of (x.known u).counts)) (sym s.biasing)
-      (subst (λ f. BiasLaw b.biasing b.shape.threads b.shape.classes (class_of b.shape) (marks x) (lock x) (λ i. entries_on i (order (logs x))) f (λ u. (x.known u).stage)
+      (subst (λ f. BiasLaw b.biasing b.shape.threads b.shape.classes (class_by b.shape b.words) (marks x) (lock x) (λ i. entries_on i (order (logs x))) f (λ u. (x.known u).stage)
       (λ u. (x.known u).unfinished) (λ c. x.words (Revocations c)) (λ u. counts_of (x.known u).counts)) (same (λ u. sym (log_now u)))
-      (subst (λ ls. BiasLaw b.biasing b.shape.threads b.shape.classes (class_of b.shape) (marks x) (lock x) (λ i. entries_on i (order ls)) (λ u. (b.known u).log) (λ u. (x.known u).stage)
+      (subst (λ ls. BiasLaw b.biasing b.shape.threads b.shape.classes (class_by b.shape b.words) (marks x) (lock x) (λ i. entries_on i (order ls)) (λ u. (b.known u).log) (λ u. (x.known u).stage)
       (λ u. (x.known u).unfinished) (λ c. x.words (Revocations c)) (λ u. counts_of (x.known u).counts)) (sym logs_now) after_release)))
 
   finds : w.words Safepoint ≡ reached_word t

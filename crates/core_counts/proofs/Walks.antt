@@ -2,6 +2,7 @@
 use Rattle.std.proofs.Common.{◌≡◌, ◌≢◌, ℕ, zero, suc, ◌+◌, ◌*◌, ◌<◌, ◌==◌, ◌&&◌, eq-eqb, ne_eqb, eqb-true, cond, Bool, true, false, List, [], ◌∷◌, ◌++◌, Option, Some, None, refl, sym, ap, ◌∙◌, subst, arith}
 use Rattle.std.specs.List.{AllByRecursion}
 use Rattle.std.proofs.lemmas.Option.{same_Some}
+use Rattle.plain_monitor.specs.Limits.{most_holds}
 use Rattle.mark_word.specs.declared.mark.MarkForm.{MarkForm}
 use Rattle.mark_word.specs.declared.mark.MarkForm.TheVariants.{Inflating, Neutral, Anonymous, Biased, Locked, Inflated, Marked}
 use Rattle.mark_word.specs.Mark.{mark_of, read_mark}
@@ -12,7 +13,8 @@ use Rattle.lock_policy.specs.declared.policy.Verdict.TheVariants.{Single, BulkRe
 use Rattle.lock_policy.specs.Policy.{decided}
 use Rattle.core_world.specs.declared.name.Name.{Name}
 use Rattle.core_world.specs.declared.name.Name.TheVariants.{Prototype, Revocations, LastBulk, Mark, Hold, Displaced}
-use Rattle.core_world.specs.Words.Shape.{Shape, class_of}
+use Rattle.core_world.specs.Words.Shape.{Shape}
+use Rattle.core_world.specs.Words.Names.{class_by}
 use Rattle.core_world.specs.Words.Names.{with_word}
 use Rattle.core_world.specs.Words.Forms.{names, hold_word, is_biased, is_biased_form, epoch_in, epoch_form}
 use Rattle.core_world.specs.Threads.Stages.{Revocation}
@@ -188,57 +190,59 @@ module _ (own : ℕ) (Q : ℕ → Type 0) where
       by_word false e h = same f
 
   -- the walk over the records
-  visits : (s : Shape) (c : ℕ) (r : ℕ → Rule) → ((j : ℕ) → class_of s j ≡ c → Gentle (r j)) → Gentle (on_records s c r)
+  visits : (s : Shape) (class : ℕ → ℕ) (c : ℕ) (r : ℕ → Rule) → ((j : ℕ) → class j ≡ c → Gentle (r j)) → Gentle (on_records s class c r)
   unfolding on_records
-  visits s c r h = below s.threads (λ t. each_below 64 (λ p f. on_held s c r (object_held (read_hold (f (Hold t p)))) f)) (λ t. below 64 (λ p f. on_held s c r (object_held (read_hold (f (Hold t p)))) f) (λ p f. held (object_held (read_hold (f (Hold t p)))) f))
+  visits s class c r h = below s.threads (λ t. each_below most_holds (λ p f. on_held class c r (object_held (read_hold (f (Hold t p)))) f)) (λ t. below most_holds (λ p f. on_held class c r (object_held (read_hold (f (Hold t p)))) f) (λ p f. held (object_held (read_hold (f (Hold t p)))) f))
     where
-      by_test : (j : ℕ) (a b : Bool) (f : Name → ℕ) → (class_of s j == c) ≡ a → IsGentle own Q f (words_after (cond (a && b) (r j f) []) f)
-      by_test j true true f e = h j (eqb-true (class_of s j) c e) f
+      by_test : (j : ℕ) (a b : Bool) (f : Name → ℕ) → (class j == c) ≡ a → IsGentle own Q f (words_after (cond (a && b) (r j f) []) f)
+      by_test j true true f e = h j (eqb-true (class j) c e) f
       by_test j true false f e = same f
       by_test j false b f e = same f
 
-      held : (m : Option ℕ) (f : Name → ℕ) → IsGentle own Q f (words_after (on_held s c r m f) f)
+      held : (m : Option ℕ) (f : Name → ℕ) → IsGentle own Q f (words_after (on_held class c r m f) f)
       held None f = same f
-      held (Some j) f = by_test j (class_of s j == c) (is_biased (f (Mark j))) f refl
+      held (Some j) f = by_test j (class j == c) (is_biased (f (Mark j))) f refl
 
   ones : (at : Name) (v : ℕ) → ((f : Name → ℕ) (i : ℕ) → (with_word at v f (Mark i) ≡ f (Mark i)) × (with_word at v f (Revocations i) ≡ f (Revocations i))) → Gentle (store_one at v)
   ones at v h f = record { pattern = λ i e. sym (ap is_biased (h f i).0) ∙ e; owners = λ i u d e. sym (ap bias_owner (h f i).0) ∙ e; nobody = λ i n e. ap is_anonymous (h f i).0 ∙ e; counts = λ c. (h f c).1 }
 
 -- each verdict's rules
-rules_gentle : (s : Shape) (t : ℕ) (b : Revocation) (v : Verdict) → AllByRecursion (Gentle b.object (Touched s b.object v)) (verdict_rules s t (class_of s b.object) b v)
-rules_gentle s t b Single = (revokes b.object (Touched s b.object Single) b.object false refl, tt)
-rules_gentle s t b BulkRebias = (
+rules_gentle : (s : Shape) (class : ℕ → ℕ) (t : ℕ) (b : Revocation) (v : Verdict) → AllByRecursion (Gentle b.object (Touched class b.object v)) (verdict_rules s class t (class b.object) b v)
+rules_gentle s class t b Single = (revokes b.object (Touched class b.object Single) b.object false refl, tt)
+rules_gentle s class t b BulkRebias = (
   ones _ _ (LastBulk _) _ (λ f i. (refl, refl)),
   (
     raises _ _ _,
     (
-      visits b.object (Touched s b.object BulkRebias) s (class_of s b.object) (renew (class_of s b.object)) (λ j e. renews _ _ _ j),
-      (revokes b.object (Touched s b.object BulkRebias) b.object b.rebias refl, by_rebias b.rebias),
+      visits b.object (Touched class b.object BulkRebias) s class (class b.object) (renew (class b.object)) (λ j e. renews _ _ _ j),
+      (revokes b.object (Touched class b.object BulkRebias) b.object b.rebias refl, by_rebias b.rebias),
     ),
   ),
 )
   where
-    by_rebias : (a : Bool) → AllByRecursion (Gentle b.object (Touched s b.object BulkRebias)) (cond a (take_bias (class_of s b.object) b.object t ∷ []) [])
-    by_rebias true = (takes b.object (Touched s b.object BulkRebias) _ b.object t refl refl, tt)
+    by_rebias : (a : Bool) → AllByRecursion (Gentle b.object (Touched class b.object BulkRebias)) (cond a (take_bias (class b.object) b.object t ∷ []) [])
+    by_rebias true = (takes b.object (Touched class b.object BulkRebias) _ b.object t refl refl, tt)
     by_rebias false = tt
-rules_gentle s t b BulkRevoke = (
+rules_gentle s class t b BulkRevoke = (
   ones _ _ (LastBulk _) _ (λ f i. (refl, refl)),
   (
     ones _ _ (Prototype _) _ (λ f i. (refl, refl)),
     (
-      visits b.object (Touched s b.object BulkRevoke) s (class_of s b.object) (λ j. revoke j false) (λ j e. revokes b.object (Touched s b.object BulkRevoke) j false e),
-      (revokes b.object (Touched s b.object BulkRevoke) b.object false refl, tt),
+      visits b.object (Touched class b.object BulkRevoke) s class (class b.object) (λ j. revoke j false) (λ j e. revokes b.object (Touched class b.object BulkRevoke) j false e),
+      (revokes b.object (Touched class b.object BulkRevoke) b.object false refl, tt),
     ),
   ),
 )
 
 -- from the words after the first store, which is that of the count
 abbrev pub verdict_of : Shape → Revocation → (Name → ℕ) → Verdict × ℕ
-verdict_of s b f = decided (f (Revocations (class_of s b.object))) (f (LastBulk (class_of s b.object))) b.now
+verdict_of s b f = let c = class_by s f b.object in decided (f (Revocations c)) (f (LastBulk c)) b.now
 
 pub revokes_gently : (s : Shape) (t : ℕ) (b : Revocation) (f : Name → ℕ)
-    → IsGentle b.object (Touched s b.object (verdict_of s b f).0) (with_word (Revocations (class_of s b.object)) (verdict_of s b f).1 f) (words_after (revocation_writes s t b f) f)
+    → IsGentle b.object (Touched (class_by s f) b.object (verdict_of s b f).0) (with_word (Revocations (class_by s f b.object)) (verdict_of s b f).1 f) (words_after (revocation_writes s t b f) f)
 unfolding revocation_writes
 revokes_gently s t b f =
+    let class = class_by s f in
+    let c = class b.object in
     let d = verdict_of s b f in
-    turns b.object (Touched s b.object d.0) (verdict_rules s t (class_of s b.object) b d.0) (rules_gentle s t b d.0) (with_word (Revocations (class_of s b.object)) d.1 f)
+    turns b.object (Touched class b.object d.0) (verdict_rules s class t c b d.0) (rules_gentle s class t b d.0) (with_word (Revocations c) d.1 f)

@@ -1,5 +1,5 @@
 -- What a step changes of that which the bias law reads, and what it has to respect.
-use Rattle.std.specs.Prelude.{◌≡◌, ◌≢◌, ◌⊎◌, ℕ, ◌<◌, ◌≤◌, Bool, true, false, List, [], ◌∷◌, ◌++◌, Option, Some, None}
+use Rattle.std.specs.Prelude.{◌≡◌, ◌≢◌, ◌⊎◌, ℕ, Bool, true, false, List, [], ◌∷◌, ◌++◌, Option, Some, None}
 use Rattle.plain_monitor.specs.declared.entry.Entry.{Entry}
 use Rattle.plain_monitor.specs.declared.entry.Entry.TheVariants as entry
 use Rattle.plain_monitor.specs.declared.entry.Logged.{Logged}
@@ -10,7 +10,6 @@ use Rattle.lock_policy.specs.declared.policy.Verdict.{Verdict}
 use Rattle.lock_policy.specs.declared.policy.Verdict.TheVariants.{BulkRevoke}
 use Rattle.core_world.specs.declared.name.Name.{Name}
 use Rattle.core_world.specs.declared.name.Name.TheVariants.{Mark, Revocations}
-use Rattle.core_world.specs.Words.Shape.{Shape, class_of}
 use Rattle.core_world.specs.declared.stage.Stage.{Stage}
 use Rattle.core_world.specs.declared.task.Op.TheVariants as op
 use Rattle.core_world.specs.declared.task.Unfinished.{Unfinished}
@@ -98,6 +97,6 @@ pub record IsGentle (o : ℕ) (Q : ℕ → Type 0) (f g : Name → ℕ) : Type 0
   pub counts : (c : ℕ) → g (Revocations c) ≡ f (Revocations c)
 
 -- which objects a revocation may leave without an anonymous mark: its own, and in a bulk revoke those of its class
-abbrev pub Touched : Shape → ℕ → Verdict → ℕ → Type 0
-Touched s o BulkRevoke i = class_of s i ≡ class_of s o
-Touched s o _ i = i ≡ o
+abbrev pub Touched : (ℕ → ℕ) → ℕ → Verdict → ℕ → Type 0
+Touched class o BulkRevoke i = class i ≡ class o
+Touched class o _ i = i ≡ o

@@ -20,7 +20,8 @@ use Rattle.core_world.specs.Threads.Known.{Known, last_seen}
 use Rattle.core_world.specs.Locks.{BiasedTo, is_valid_bias, lock, marks, hold_count}
 use Rattle.core_world.specs.Trees.Plans.{Purpose}
 use Rattle.core_world.specs.Clauses.Safepoints.{IsUnfinished}
-use Rattle.core_world.specs.Words.Shape.{Shape, class_of}
+use Rattle.core_world.specs.Words.Shape.{Shape}
+use Rattle.core_world.specs.Threads.AtRest.{SawClass}
 use Rattle.core_world.specs.Threads.Stages.{path_into}
 use Rattle.core_world.specs.Steps.{counts_after, log_after, unfinished_after, world_after}
 use Rattle.core_world.specs.Valid.{Fits, IsRevoking}
@@ -76,7 +77,9 @@ pub record MayComeBy (biasing : Bool) (s : Shape) (k : Known) (e : Purpose) (o p
 -- TAKING A BIAS. A mark with the bias pattern that is validly biased to nobody, by the prototype that the thread saw in this call: anonymous, or
 -- stale.
 pub record SawFreeBias (s : Shape) (k : Known) (o mark prototype : ℕ) : Type 0 where
-  pub seen : last_seen (Prototype (class_of s o)) k.seen ≡ Some prototype
+  pub class : ℕ
+  pub saw_class : SawClass s k.seen o class
+  pub seen : last_seen (Prototype class) k.seen ≡ Some prototype
   pub biased : is_biased mark ≡ true
   pub free : is_valid_bias (read_mark mark) prototype ≡ false
 

@@ -13,7 +13,8 @@ ghost use Rattle.core_world.specs.Locks.{Lock};
 ghost use Rattle.core_world.specs.Words.Names.{with_word};
 ghost use Rattle.core_world.specs.Opening.{opening};
 ghost use Rattle.core_world.specs.RevocationRules.{revocation_writes, words_after};
-ghost use Rattle.core_world.specs.Words.Shape.{Shape, class_of};
+ghost use Rattle.core_world.specs.Words.Shape.{Shape};
+ghost use Rattle.core_world.specs.Words.Names.{class_by};
 ghost use Rattle.core_world.specs.Threads.Stages.{Revocation};
 ghost use Rattle.core_law.specs.BiasLaw.{BiasLawHolds};
 ghost use Rattle.core_law.specs.CountsAndVerdicts.{ClassFits, once_more};
@@ -62,9 +63,9 @@ pub fn a_quiet_step_keeps_enters_and_marks()
 /// first store, the counts of classes stay.
 pub fn a_revocation_is_gentle()
     ensures { (s : Shape) (t : ℕ) (b : Revocation) (f : Name → ℕ)
-        → IsGentle b.object (Touched s b.object
-        (decided (f (Revocations (class_of s b.object))) (f (LastBulk (class_of s b.object))) b.now).0)
-        (with_word (Revocations (class_of s b.object))
-        (decided (f (Revocations (class_of s b.object))) (f (LastBulk (class_of s b.object))) b.now).1 f)
+        → IsGentle b.object (Touched (class_by s f) b.object
+        (decided (f (Revocations (class_by s f b.object))) (f (LastBulk (class_by s f b.object))) b.now).0)
+        (with_word (Revocations (class_by s f b.object))
+        (decided (f (Revocations (class_by s f b.object))) (f (LastBulk (class_by s f b.object))) b.now).1 f)
         (words_after (revocation_writes s t b f) f) }
 {}

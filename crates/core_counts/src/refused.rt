@@ -5,7 +5,7 @@
 ghost use Rattle.std.specs.Prelude.{◌≡◌, ℕ, ◌<◌, ◌≤◌, true, false, List};
 ghost use Rattle.std.specs.List.{list_any};
 ghost use Rattle.lock_policy.specs.declared.policy.Verdict.{Verdict};
-ghost use Rattle.lock_policy.specs.Policy.{decided, is_reset};
+ghost use Rattle.lock_policy.specs.Policy.{decided, is_reset, rebias_threshold, revoke_threshold, most_revocations};
 ghost use Rattle.plain_monitor.specs.declared.entry.Entry.TheVariants.{Enter};
 ghost use Rattle.plain_monitor.specs.declared.entry.Path.{Path};
 ghost use Rattle.plain_monitor.specs.declared.entry.Path.TheVariants.{BiasOwn, BiasTaken};
@@ -18,7 +18,7 @@ ghost use Rattle.core_world.specs.Threads.Counts.{CountedVerdict, counts_of, wit
 ghost use Rattle.core_world.specs.Trees.Plans.{Purpose, logging_plan};
 ghost use Rattle.core_world.specs.Steps.{world_after};
 ghost use Rattle.core_world.specs.Valid.{Fits};
-ghost use Rattle.core_world.specs.Words.Shape.{class_of};
+ghost use Rattle.core_world.specs.Words.Names.{class_by};
 ghost use Rattle.core_world.specs.World.{World, with_word_and_known, logs};
 ghost use Rattle.core_locks.specs.JournalLaws.{MayLogEnter};
 ghost use Rattle.core_law.specs.BiasLaw.{BiasLawHolds, summed};
@@ -30,36 +30,37 @@ ghost use Rattle.core_counts.specs.Miscounts.{NothingReset, with_counts, with_co
 /// the one without it does, and not the one without it, where the one with it does.
 pub fn no_verdict_counted_twice_or_never()
     ensures twice { (w : World) (t c : ℕ) (verdict : Verdict) → t < w.shape.threads → NothingReset w c
-        → w.words (Revocations c) < 41
+        → w.words (Revocations c) < most_revocations
         → BiasLawHolds w → BiasLawHolds
         (with_counts_of t (with_verdict_counted (w.known t).counts c verdict false) w) → ⊥ }
     ensures never { (w : World) (t c : ℕ) (verdict : Verdict) (counts : List CountedVerdict)
         → t < w.shape.threads → NothingReset w c
-        → w.words (Revocations c) < 41 → (w.known t).counts ≡ with_verdict_counted counts c verdict false
+        → w.words (Revocations c) < most_revocations → (w.known t).counts ≡ with_verdict_counted counts c verdict false
         → BiasLawHolds w → BiasLawHolds (with_counts_of t counts w) → ⊥ }
 {}
 
 /// A bulk rebias that a thread has counted on a class of which nothing was reset, while the class's count is below 20.
 pub fn no_bulk_rebias_at_a_count_below_20()
-    ensures { (w : World) (t c : ℕ) → t < w.shape.threads → NothingReset w c → w.words (Revocations c) < 20
+    ensures { (w : World) (t c : ℕ) → t < w.shape.threads → NothingReset w c
+        → w.words (Revocations c) < rebias_threshold
         → 1 ≤ (counts_of (w.known t).counts c).rebias → BiasLawHolds w → ⊥ }
 {}
 
 /// A count of 20 or more, of a class on which no thread has counted a bulk rebias, whatever was reset.
 pub fn no_count_of_20_without_a_bulk_rebias()
-    ensures { (w : World) (c : ℕ) → 20 ≤ w.words (Revocations c)
+    ensures { (w : World) (c : ℕ) → rebias_threshold ≤ w.words (Revocations c)
         → ((t : ℕ) → t < w.shape.threads → (counts_of (w.known t).counts c).rebias ≡ 0) → BiasLawHolds w → ⊥ }
 {}
 
 /// A bulk revoke that a thread has counted on a class whose count is below 40, whatever was reset: a count of 40 never falls.
 pub fn no_bulk_revoke_at_a_count_below_40()
-    ensures { (w : World) (t c : ℕ) → t < w.shape.threads → w.words (Revocations c) < 40
+    ensures { (w : World) (t c : ℕ) → t < w.shape.threads → w.words (Revocations c) < revoke_threshold
         → 1 ≤ (counts_of (w.known t).counts c).revoke → BiasLawHolds w → ⊥ }
 {}
 
 /// A count of 40 or more, of a class on which no thread has counted a bulk revoke, whatever was reset.
 pub fn no_count_of_40_without_a_bulk_revoke()
-    ensures { (w : World) (c : ℕ) → 40 ≤ w.words (Revocations c)
+    ensures { (w : World) (c : ℕ) → revoke_threshold ≤ w.words (Revocations c)
         → ((t : ℕ) → t < w.shape.threads → (counts_of (w.known t).counts c).revoke ≡ 0) → BiasLawHolds w → ⊥ }
 {}
 
@@ -102,7 +103,7 @@ pub fn no_bias_taken_more_often_than_rebiases_allow()
     ensures { (w : World) (objects : List PlainObject) (t : ℕ) (e : Purpose) (o p : ℕ)
         → t < w.shape.threads
         → MayLogEnter w.shape (w.known t) o p BiasTaken → Fits w objects
-        → (summed w.shape.threads (λ u. counts_of (w.known u).counts) (class_of w.shape o)).rebias
+        → (summed w.shape.threads (λ u. counts_of (w.known u).counts) (class_by w.shape w.words o)).rebias
         < times_taken o (entries_on o (order (logs w)))
         → BiasLawHolds (world_after (logging_plan (Enter o BiasTaken) e (Stamp o) Load) t w) → ⊥ }
 {}

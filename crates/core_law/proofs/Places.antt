@@ -3,6 +3,7 @@ use Rattle.std.proofs.Common.{◌≡◌, ℕ, zero, suc, ◌+◌, ◌-◌, ◌<�
 use Rattle.std.proofs.lemmas.Bool.Decides.{nat_tests}
 use Rattle.std.proofs.lemmas.List.Sums.{passes_at_first}
 use Rattle.std.specs.List.{position_or_len}
+use Rattle.plain_monitor.specs.Limits.{most_holds}
 use Rattle.core_world.specs.Words.Forms.{names, hold_word}
 use Rattle.core_world.specs.Threads.Stages.{one_if}
 use Rattle.core_world.specs.Threads.Known.{Known}
@@ -57,28 +58,28 @@ number_room test i (y ∷ hs) (suc p) none h e = let a = number_room test (i + 1
 
 module _ (heap : Heap) (k : Known) (v : Stands heap k) (runs : k.running ≡ true) where
   -- the lowest free place is empty
-  pub empty_here : free_place k.holds < 64 → slice_index k.holds (free_place k.holds) ≡ 0
+  pub empty_here : free_place k.holds < most_holds → slice_index k.holds (free_place k.holds) ≡ 0
   empty_here h = let n = places_here heap k v runs in eqb-true _ _ (first_passes (λ h. h == 0) k.holds (omega (arith, h, n)))
 
-  -- there is one, unless all 64 places are taken
-  pub place_left : (free_place k.holds == 64) ≡ false → free_place k.holds < 64
+  -- there is one, unless all places are taken
+  pub place_left : (free_place k.holds == most_holds) ≡ false → free_place k.holds < most_holds
   place_left h = let n = places_here heap k v runs in let a = first_within (λ h. h == 0) k.holds in grind (arith, nat_tests, h, n, a)
 
-  pub room_here : (o : ℕ) → free_place k.holds < 64 → hold_count o k.holds + 1 ≤ 64
+  pub room_here : (o : ℕ) → free_place k.holds < most_holds → hold_count o k.holds + 1 ≤ most_holds
   room_here o h =
       let n = places_here heap k v runs in
       let a = number_room (λ p h. names o h) 0 k.holds (free_place k.holds) (λ q. names_none o) (omega (arith, h, n)) (empty_here h) in
       omega (arith, a, n)
 
-  pub few_here : (o : ℕ) → hold_count o k.holds ≤ 64
+  pub few_here : (o : ℕ) → hold_count o k.holds ≤ most_holds
   few_here o = let n = places_here heap k v runs in let a = number_few (λ p h. names o h) 0 k.holds in omega (arith, a, n)
 
-  each_here : (o d : ℕ) → d < 64 → depth_count o (d + 1) k.holds ≡ one_if (nat_lt d (hold_count o k.holds))
+  each_here : (o d : ℕ) → d < most_holds → depth_count o (d + 1) k.holds ≡ one_if (nat_lt d (hold_count o k.holds))
   each_here o d h = home heap k v (λ s y. depth_count o (d + 1) y.holds ≡ one_if (nat_lt d (hold_count o y.holds))) ((fits_here heap k v runs).holds.each k.thread o d h)
 
   -- the place of the record of o at depth d + 1
   place_here : (o d : ℕ) → d < hold_count o k.holds
-      → (slice_index k.holds (position_or_len (λ h. h == hold_word o (d + 1)) k.holds) ≡ hold_word o (d + 1)) × (position_or_len (λ h. h == hold_word o (d + 1)) k.holds < 64)
+      → (slice_index k.holds (position_or_len (λ h. h == hold_word o (d + 1)) k.holds) ≡ hold_word o (d + 1)) × (position_or_len (λ h. h == hold_word o (d + 1)) k.holds < most_holds)
   place_here o d h =
       let few = few_here o in
       let n = places_here heap k v runs in
@@ -87,11 +88,11 @@ module _ (heap : Heap) (k : Known) (v : Stands heap k) (runs : k.running ≡ tru
       let some = some_passes (λ h. h == hold_word o (d + 1)) 0 k.holds (omega (arith, once)) in
       (eqb-true _ _ (first_passes (λ h. h == hold_word o (d + 1)) k.holds some), omega (arith, some, n))
 
-  pub top_here : (o : ℕ) → 1 ≤ hold_count o k.holds → (slice_index k.holds (top_place o k.holds) ≡ hold_word o (hold_count o k.holds)) × (top_place o k.holds < 64)
+  pub top_here : (o : ℕ) → 1 ≤ hold_count o k.holds → (slice_index k.holds (top_place o k.holds) ≡ hold_word o (hold_count o k.holds)) × (top_place o k.holds < most_holds)
   top_here o h =
       let e : (hold_count o k.holds - 1) + 1 ≡ hold_count o k.holds = omega (arith, h) in
-      subst (λ d. (slice_index k.holds (position_or_len (λ h. h == hold_word o d) k.holds) ≡ hold_word o d) × (position_or_len (λ h. h == hold_word o d) k.holds < 64)) e
+      subst (λ d. (slice_index k.holds (position_or_len (λ h. h == hold_word o d) k.holds) ≡ hold_word o d) × (position_or_len (λ h. h == hold_word o d) k.holds < most_holds)) e
       (place_here o (hold_count o k.holds - 1) (omega (arith, h)))
 
-  pub bottom_here : (o : ℕ) → 1 ≤ hold_count o k.holds → (slice_index k.holds (first_place o k.holds) ≡ hold_word o 1) × (first_place o k.holds < 64)
+  pub bottom_here : (o : ℕ) → 1 ≤ hold_count o k.holds → (slice_index k.holds (first_place o k.holds) ≡ hold_word o 1) × (first_place o k.holds < most_holds)
   bottom_here o h = place_here o 0 (omega (arith, h))

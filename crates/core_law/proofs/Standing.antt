@@ -1,5 +1,6 @@
 -- What a thread may count on by the clauses of the world that it stands in.
 use Rattle.std.proofs.Common.{◌≡◌, ℕ, ◌<◌, true, length, sym, ap, ◌∙◌, subst, arith, inl, inr}
+use Rattle.plain_monitor.specs.Limits.{most_holds}
 use Rattle.core_world.specs.declared.name.Name.TheVariants as name
 use Rattle.core_world.specs.Threads.Known.{Known}
 use Rattle.core_world.specs.Valid.{Fits, IsValid, SafepointFits}
@@ -28,8 +29,8 @@ module _ (heap : Heap) (k : Known) where
   pub fits_here : (v : Stands heap k) → k.running ≡ true → Fits v.world v.objects
   fits_here v runs = fits_running v.world v.objects k.thread (away v (λ z y. y.running ≡ true) runs) (valid_here v)
 
-  pub places_here : (v : Stands heap k) → k.running ≡ true → length k.holds ≡ 64
-  places_here v runs = home v (λ z y. length y.holds ≡ 64) ((fits_here v runs).holds.places k.thread)
+  pub places_here : (v : Stands heap k) → k.running ≡ true → length k.holds ≡ most_holds
+  places_here v runs = home v (λ z y. length y.holds ≡ most_holds) ((fits_here v runs).holds.places k.thread)
 
 module _ (heap : Heap) (k : Known) (n : ℕ) (v : Stands heap k) (found : v.world.words name.Safepoint ≡ n) where
   -- the safepoint word says of the thread what the thread knows

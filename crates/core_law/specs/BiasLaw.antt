@@ -11,7 +11,7 @@ use Rattle.core_world.specs.declared.stage.Stage.{Stage}
 use Rattle.core_world.specs.declared.task.Unfinished.{Unfinished}
 use Rattle.core_world.specs.Threads.Counts.{ClassCounts, counts_of}
 use Rattle.core_world.specs.Locks.{Lock, lock, marks}
-use Rattle.core_world.specs.Words.Shape.{class_of}
+use Rattle.core_world.specs.Words.Names.{class_by}
 use Rattle.core_world.specs.Valid.{IsValidWith, ValidWith}
 use Rattle.core_world.specs.World.{World, logs}
 use Rattle.core_law.specs.BiasOwners.{BiasesTakenAtMost, OwnersHaveTaken}
@@ -47,7 +47,7 @@ pub record BiasLaw (biasing : Bool) (threads classes : ℕ) (class mark : ℕ �
 
 abbrev pub BiasLawHolds : World → Type 0
 BiasLawHolds w =
-    BiasLaw w.biasing w.shape.threads w.shape.classes (class_of w.shape) (marks w) (lock w)
+    BiasLaw w.biasing w.shape.threads w.shape.classes (class_by w.shape w.words) (marks w) (lock w)
     (λ o. entries_on o (order (logs w)))
     (λ t. (w.known t).log) (λ t. (w.known t).stage) (λ t. (w.known t).unfinished)
     (λ c. w.words (Revocations c)) (λ t. counts_of (w.known t).counts)

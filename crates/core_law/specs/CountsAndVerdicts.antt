@@ -2,7 +2,7 @@
 use Rattle.std.specs.Prelude.{◌≡◌, ◌⊎◌, ℕ, zero, suc, ◌+◌, ◌*◌, ◌-◌, ◌≤◌, nat_lt, nat_le, min, if◌then◌else◌, false, List, length, Option, Some, None}
 use Rattle.plain_monitor.specs.declared.entry.Logged.{Logged}
 use Rattle.plain_monitor.specs.declared.entry.Path.TheVariants.{BiasTaken}
-use Rattle.lock_policy.specs.Policy.{decided, is_reset}
+use Rattle.lock_policy.specs.Policy.{decided, is_reset, rebias_threshold, revoke_threshold, most_revocations}
 use Rattle.core_world.specs.declared.stage.Stage.{Stage}
 use Rattle.core_world.specs.declared.task.Unfinished.{Unfinished}
 use Rattle.core_world.specs.Threads.Counts.{ClassCounts, with_verdict, with_reset}
@@ -16,19 +16,19 @@ sum_below (suc n) f = sum_below n f + f n
 
 -- the count of a class beyond its last bulk operation
 abbrev pub beyond : ℕ → ℕ
-beyond count = if nat_lt count 20 then count else if nat_lt count 40 then count - 20 else count - 40
+beyond count = if nat_lt count rebias_threshold then count else if nat_lt count revoke_threshold then count - rebias_threshold else count - revoke_threshold
 
 -- The count of a class, and how many single revocations, bulk rebiases and bulk revokes of it were counted, and resets of the count.
 pub record CountFits (count single rebias revoke reset : ℕ) : Type 0 where
-  pub revoked : revoke ≡ one_if (nat_le 40 count)
-  pub rebiased : 20 ≤ count → 1 ≤ rebias
-  pub spent : 20 * (rebias + revoke) + beyond count ≤ single + rebias + revoke
+  pub revoked : revoke ≡ one_if (nat_le revoke_threshold count)
+  pub rebiased : rebias_threshold ≤ count → 1 ≤ rebias
+  pub spent : rebias_threshold * (rebias + revoke) + beyond count ≤ single + rebias + revoke
   pub few : count ≤ single + rebias + revoke
-  pub capped : count ≤ 41
+  pub capped : count ≤ most_revocations
   -- where it was never set to 0
-  pub even : reset ≡ 0 → count ≡ min (single + rebias + revoke) 41
-  pub rebias_once : reset ≡ 0 → rebias ≡ one_if (nat_le 20 (single + rebias + revoke))
-  pub revoke_once : reset ≡ 0 → revoke ≡ one_if (nat_le 40 (single + rebias + revoke))
+  pub even : reset ≡ 0 → count ≡ min (single + rebias + revoke) most_revocations
+  pub rebias_once : reset ≡ 0 → rebias ≡ one_if (nat_le rebias_threshold (single + rebias + revoke))
+  pub revoke_once : reset ≡ 0 → revoke ≡ one_if (nat_le revoke_threshold (single + rebias + revoke))
 
 -- the same of a class's counts in one
 abbrev pub ClassFits : ℕ → ClassCounts → Type 0

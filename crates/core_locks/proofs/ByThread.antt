@@ -1,17 +1,18 @@
 -- The clauses that speak of each thread by itself: what the thread that moved shows of itself, and the others keep, holds of all.
+use Rattle.plain_monitor.specs.Limits.{most_holds}
 use Rattle.core_locks.proofs.Prelude.{◌≡◌, ◌≢◌, ◌⊎◌, ℕ, ◌+◌, ◌<◌, ◌≤◌, nat_lt, true, List, length, slice_index, Some, sym, ap, ◌∙◌, is_listed, Stage, Seizes, Grabs, Resumes, Waits, TakesOver, hold_word, is_neutral, monitor_in, recursions_ahead, recursions_behind, one_if, Known, with_known, Lock, OnRecord, OwnedBy, hold_count, depth_count, recursion_count, HoldsFitLogs, RecordsRest, RecursionsFit, GoesByMonitor, each_with_known, is_biased, Option, BiasedTo, false, BiasedAreFree, hash_in, HashesFit}
 
 pub record HoldsOf (hold : ℕ → ℕ) (holds : List ℕ) (more stands : ℕ → ℕ) : Type 0 where
   pub stored : (p : ℕ) → hold p ≡ slice_index holds p
-  pub places : length holds ≡ 64
+  pub places : length holds ≡ most_holds
   pub number : (o : ℕ) → hold_count o holds ≡ stands o + more o
-  pub each : (o d : ℕ) → d < 64 → depth_count o (d + 1) holds ≡ one_if (nat_lt d (hold_count o holds))
+  pub each : (o d : ℕ) → d < most_holds → depth_count o (d + 1) holds ≡ one_if (nat_lt d (hold_count o holds))
 
 pub record RecordsOf (lock : ℕ → Lock) (t : ℕ) (holds : List ℕ) (stage : Stage) (displaced : ℕ → ℕ) : Type 0 where
   pub first : (o p : ℕ) → lock o ≡ OnRecord t p → (slice_index holds p ≡ hold_word o 1) ⊎ (stage ≡ Seizes o p)
   pub header : (o p : ℕ) → lock o ≡ OnRecord t p → is_neutral (displaced p) ≡ true
-  pub others : (o p q d : ℕ) → lock o ≡ OnRecord t p → slice_index holds q ≡ hold_word o d → d ≤ 64 → q ≢ p → displaced q ≡ 0
-  pub seized : (o p : ℕ) → stage ≡ Seizes o p → (lock o ≡ OnRecord t p) × (slice_index holds p ≡ 0) × (p < 64) × (hold_count o holds ≡ 0)
+  pub others : (o p q d : ℕ) → lock o ≡ OnRecord t p → slice_index holds q ≡ hold_word o d → d ≤ most_holds → q ≢ p → displaced q ≡ 0
+  pub seized : (o p : ℕ) → stage ≡ Seizes o p → (lock o ≡ OnRecord t p) × (slice_index holds p ≡ 0) × (p < most_holds) × (hold_count o holds ≡ 0)
   pub grabbed : (o : ℕ) → stage ≡ Grabs o → (lock o ≡ OwnedBy t) × (hold_count o holds ≡ 0)
 
 pub record RecursionsOf (mark recursions : ℕ → ℕ) (lock : ℕ → Lock) (t : ℕ) (holds : List ℕ) (stage : Stage) (saved : ℕ) (displaced : ℕ → ℕ) (waits called : ℕ → List (ℕ × ℕ)) : Type 0 where

@@ -1,5 +1,5 @@
 -- A running thread that keeps no monitor claims a ring position.
-use Rattle.core_locks.proofs.Prelude.{◌≡◌, ◌≢◌, ℕ, ◌+◌, ◌-◌, ◌*◌, ◌%◌, ◌<◌, ◌^◌, ◌==◌, ◌||◌, eq-eqb, ne_eqb, true, cond, List, length, None, refl, sym, ap, ◌∙◌, subst, arith, inl, inr, is_some, PlainObject, Claim, End, Ring, StepPlan, inflation_in, bears, Known, Moving, Still, Fetches, Returns, World, with_known, owner_at, inflated_to, Stays, Purpose, Fits, MonitorsAreClaimed, claimed_or_kept, given_back, count_with_monitor, by_equal, each_with_known, with_known_here, with_known_else, header_stays, fits_running, KeepsValid, MayClaim, claim_plan, monitor_count, ring_bits}
+use Rattle.core_locks.proofs.Prelude.{◌≡◌, ◌≢◌, ℕ, ◌+◌, ◌-◌, ◌*◌, ◌%◌, ◌<◌, ◌≤◌, ◌^◌, ◌==◌, ◌||◌, eq-eqb, ne_eqb, true, cond, List, length, None, refl, sym, ap, ◌∙◌, subst, arith, inl, inr, is_some, PlainObject, Claim, End, Ring, StepPlan, inflation_in, bears, Known, Moving, Still, Fetches, Returns, World, with_known, owner_at, inflated_to, Stays, Purpose, Fits, MonitorsAreClaimed, claimed_or_kept, given_back, count_with_monitor, by_equal, each_with_known, with_known_here, with_known_else, header_stays, fits_running, KeepsValid, MayClaim, claim_plan, monitor_count, ring_bits}
 use Rattle.core_world.specs.Clauses.Claims.{Place, With, At, Leaves, InRing}
 use Rattle.core_world.proofs.Rings.{ring_few, place_of_word}
 use Rattle.core_locks.proofs.Places.{with_most, with_more, with_none}
@@ -16,6 +16,12 @@ next_word n m k =
     let whole = div-add-mod' n m in
     let same : n + k ≡ n % m + k + n / m * m = omega (arith, whole) in
     sym (add-mul-mod_self_right (n % m + k) (n / m) m) ∙ ap (λ z. z % m) (sym same)
+
+-- positions with one word have one place, and so have those d behind them
+pub one_place : (p q d b : ℕ) → b ≤ 64 → p % 2 ^ 64 ≡ q % 2 ^ 64 → (p + d) % 2 ^ b ≡ (q + d) % 2 ^ b
+one_place p q d b few same =
+    let words : (p + d) % 2 ^ 64 ≡ (q + d) % 2 ^ 64 = sym (next_word p (2 ^ 64) d) ∙ ap (λ z. (z + d) % 2 ^ 64) same ∙ next_word q (2 ^ 64) d in
+    sym (place_of_word (p + d) b few) ∙ ap (λ z. z % 2 ^ b) words ∙ place_of_word (q + d) b few
 
 one_position : (p q : ℕ) → InRing p ≡ InRing q → p ≡ q
 one_position p q e = cc e

@@ -128,7 +128,7 @@ module _ (w : World) (P : List PlainObject) (t o : ℕ) (e : Entry) (r : Purpose
         before = λ u n s d h g. other_back w x (w.known u) (owner_at P) (owner_at Q) u refl refl (λ i h. sym (owner_other i u d) ∙ h) n s g;
         owned = λ u i d h. sym (owner_other i u d) ∙ h;
         word = λ u s d h g. g;
-        bias = λ i h. h;
+        bias = λ u i s e r h. h;
         waits = λ u q i d c h. h;
         unwaited = λ u i d c h. sym (waits_same i) ∙ h;
         unreached = none_reached w P t l v a.runs refl;

@@ -1,7 +1,9 @@
 -- A running thread loads the place of the position that it claimed, and keeps the monitor that stands there.
-use Rattle.core_locks.proofs.Prelude.{◌≡◌, ◌≢◌, ℕ, ◌%◌, ◌<◌, ◌^◌, ◌||◌, true, List, length, Some, None, refl, sym, ap, ◌∙◌, subst, arith, inl, inr, same_Some, is_some, PlainObject, Name, Claim, End, Ring, StepPlan, inflation_in, bears, its_monitor, Known, Fetches, Returns, last_seen, World, with_known, owner_at, inflated_to, Stays, Purpose, Fits, MonitorsAreClaimed, claimed_or_kept, given_back, by_equal, each_with_known, with_known_here, with_known_else, with_word_same, header_stays, fits_running, stays_back, KeepsValid, MayFetch, fetch_plan, monitor_count, ring_bits, ring_places, IsValid}
-use Rattle.core_world.specs.Clauses.Claims.{With, Leaves}
-use Rattle.core_locks.specs.DeflationLaws.{IsOnlyFor}
+use Rattle.core_locks.proofs.Prelude.{◌≡◌, ◌≢◌, ℕ, ◌+◌, ◌%◌, ◌<◌, ◌≤◌, ◌^◌, ◌||◌, true, List, length, Some, None, refl, sym, ap, ◌∙◌, subst, arith, inl, inr, same_Some, is_some, PlainObject, Name, Claim, End, Ring, StepPlan, inflation_in, bears, its_monitor, Known, Fetches, Returns, last_seen, World, with_known, owner_at, inflated_to, Stays, Purpose, Fits, MonitorsAreClaimed, claimed_or_kept, given_back, by_equal, each_with_known, with_known_here, with_known_else, with_word_same, header_stays, fits_running, stays_back, KeepsValid, MayFetch, fetch_plan, monitor_count, ring_bits, ring_places, IsValid}
+use Rattle.core_world.specs.Clauses.Claims.{With, Leaves, InRing}
+use Rattle.core_world.proofs.Rings.{ring_few}
+use Rattle.core_locks.specs.DeflationLaws.{IsFilled, IsOnlyFor}
+use Rattle.core_locks.proofs.Claims.{one_place}
 use Rattle.core_locks.proofs.Places.{with_same}
 use Rattle.core_locks.proofs.Clauses.{kept_parts, parts_stand, seen, claims, moves, AllHold}
 use Rattle.core_locks.proofs.Steps.{keeping, IsStep, next, step_fits, seen_next, quiet_step}
@@ -129,7 +131,26 @@ module _ (w : World) (P : List PlainObject) (t : ℕ) (e : Purpose) (p : ℕ) (w
 pub fetches_one : (e : Purpose) (p : ℕ) → KeepsValid (λ w t. MayFetch (w.known t) e p) (λ w t. fetch_plan e w.shape p)
 fetches_one e p w P t within may valid = inl (fetched_fits w P t e p within may (fits_running w P t may.runs valid))
 
--- the monitor that it finds is nobody else's: no mark names it, no thread keeps it or gives it back, and no other has claimed its place
+-- at each filled position a monitor stands in the ring
+in_ring : (w : World) (P : List PlainObject) (v : Fits w P) (d : ℕ) → IsFilled w d → v.claims.place (w.words (Ring ((w.words Claim + d) % ring_places w.shape))) ≡ InRing (v.claims.first + d)
+in_ring w P v d filled = ap (λ z. v.claims.place (w.words (Ring z))) (sym place) ∙ (v.claims.stands (v.claims.first + d) (omega arith) (omega (arith, d_below))).1
+  where
+    d_below : d < v.claims.ringed
+    d_below =
+        let few = v.limits in
+        let most = filled.1 in
+        let word = filled.2 in
+        let low = filled.3 in
+        omega (arith, v.claims.claim_word, v.claims.end_word, v.claims.counted, most, word, low, few.threads, few.objects)
+
+    place : (v.claims.first + d) % 2 ^ ring_bits w.shape ≡ (w.words Claim + d) % 2 ^ ring_bits w.shape
+    place =
+        let few : ring_bits w.shape ≤ 64 = let most = ring_few w.shape in omega (arith, most) in
+        let twice : v.claims.first % 2 ^ 64 ≡ w.words Claim % 2 ^ 64 = (let word = v.claims.claim_word in omega (arith, word)) in
+        one_place v.claims.first (w.words Claim) d (ring_bits w.shape) few twice
+
+-- the monitor that it finds is nobody else's: no mark names it, no thread keeps it or gives it back, no other has claimed its place, and it stands at no
+-- filled position
 pub of_nobody : (w : World) (P : List PlainObject) (t : ℕ) (e : Purpose) (p : ℕ) → MayFetch (w.known t) e p → IsValid w P → IsOnlyFor w t (w.words (Ring (p % ring_places w.shape)))
 of_nobody w P t e p may valid =
     let v = fits_running w P t may.runs valid in
@@ -145,6 +166,7 @@ of_nobody w P t e p may valid =
           absurd (cc (none, some));
       unclaimed = λ u q other h is. let there = (v.claims.fetches u q h).2 in other (one_keeper u t (sym there ∙ ap v.claims.place is ∙ mine.2));
       unreturned = λ u h. let here = mine.2 in let there = (v.claims.returns u (w.words (Ring (p % ring_places w.shape))) h).1 in absurd (cc (here, there));
+      unringed = λ d filled h. let here = mine.2 in let there = sym (ap v.claims.place h) ∙ in_ring w P v d filled in absurd (cc (here, there));
     }
   where
     one_keeper : (u y : ℕ) → With u ≡ With y → u ≡ y

@@ -1,6 +1,7 @@
 -- The hold words of a thread once it has cleared that of o at depth d, at its place p, and what its clauses say then.
 use Rattle.core_locks.proofs.Prelude.{◌≡◌, ◌≢◌, ◌⊎◌, ℕ, ◌+◌, ◌<◌, ◌≤◌, ◌^◌, ◌==◌, ◌&&◌, nat_lt, ne_eqb, eqb-true, Bool, true, false, cond, List, length, slice_index, slice_set, Some, None, refl, sym, ap, ◌∙◌, arith, inl, inr, is_listed, Stage, Calm, Seizes, hold_word, recursions_ahead, recursions_behind, one_if, Lock, BiasedTo, OnRecord, OwnedBy, holder, hold_count, depth_count, recursion_count, by_equal, hold_some}
 use Rattle.std.proofs.lemmas.List.{get_or-set_same, get_or-set_other}
+use Rattle.plain_monitor.specs.Limits.{most_holds}
 use Rattle.core_locks.proofs.ByThread.{RecordsOf, RecursionsOf}
 use Rattle.core_locks.proofs.HoldCounts.{index_past, named_clear, times_clear, again_clear, hold_tells}
 use Rattle.core_locks.proofs.HoldSets.{next_one}
@@ -49,8 +50,8 @@ module _ (old : List ℕ) (o d p : ℕ) (is : IsFull old o d p) where
   again_less = again_clear old p o d is.few is.some is.small is.full
 
   -- where the deepest is cleared, each depth up to the number of those that are left still stands once
-  pub times_less : hold_count o old ≡ d → ((i e : ℕ) → e < 64 → depth_count i (e + 1) old ≡ one_if (nat_lt e (hold_count i old)))
-      → (i e : ℕ) → e < 64 → depth_count i (e + 1) new ≡ one_if (nat_lt e (hold_count i new))
+  pub times_less : hold_count o old ≡ d → ((i e : ℕ) → e < most_holds → depth_count i (e + 1) old ≡ one_if (nat_lt e (hold_count i old)))
+      → (i e : ℕ) → e < most_holds → depth_count i (e + 1) new ≡ one_if (nat_lt e (hold_count i new))
   times_less deep was i e h = go (o == i) refl (times_clear old p o d is.few is.some is.small is.full i e h) (named_less i)
     where
       go : (b : Bool) → (o == i) ≡ b → depth_count i (e + 1) new + one_if (b && (d == e + 1)) ≡ depth_count i (e + 1) old

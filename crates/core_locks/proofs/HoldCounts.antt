@@ -1,4 +1,5 @@
 -- How many hold words pass a test where one is stored in an empty place, and where one is cleared.
+use Rattle.plain_monitor.specs.Limits.{most_holds}
 use Rattle.core_locks.proofs.Prelude.{◌≡◌, ◌≢◌, ℕ, zero, suc, ◌+◌, ◌<◌, ◌≤◌, ◌^◌, ◌==◌, ◌&&◌, nat_lt, eq-eqb, ne_eqb, Bool, true, false, List, [], ◌∷◌, length, slice_index, slice_set, Option, Some, None, refl, sym, ap, ◌∙◌, subst, arith, add-zero, zero-add, nat_tests, read_hold, Holds, Empty, HoldForm, read_hold-spells, read_hold-hold_of, hold_word, is_deeper, names, deeper_form, names_form, one_if, hold_count, depth_count, recursion_count, count_where, Shape, IsHold, hold_some, deeper_none, names_none}
 
 -- LISTS OF WORDS. Where a word stands, and how the number of those that pass a test changes.
@@ -73,7 +74,7 @@ module _ (hs : List ℕ) (p o d : ℕ) (within : p < length hs) (few : o < 2 ^ 1
   pub named_put : (i : ℕ) → hold_count i (slice_set hs p (hold_word o d)) ≡ hold_count i hs + one_if (o == i)
   named_put i = raised (λ q h. names i h) hs p (hold_word o d) (o == i) within (ap (names i) empty ∙ names_none i) (names_is i o d few some small)
 
-  pub times_put : (i e : ℕ) → e < 64 → depth_count i (e + 1) (slice_set hs p (hold_word o d)) ≡ depth_count i (e + 1) hs + one_if ((o == i) && (d == e + 1))
+  pub times_put : (i e : ℕ) → e < most_holds → depth_count i (e + 1) (slice_set hs p (hold_word o d)) ≡ depth_count i (e + 1) hs + one_if ((o == i) && (d == e + 1))
   times_put i e g = raised (λ q h. h == hold_word i (e + 1)) hs p (hold_word o d) ((o == i) && (d == e + 1)) within
       (ne_eqb _ _ (λ z. hold_some i (e + 1) (sym z ∙ empty))) (same_hold i e o d small g)
 
@@ -90,7 +91,7 @@ module _ (hs : List ℕ) (p o d : ℕ) (few : o < 2 ^ 15) (some : 1 ≤ d) (smal
   pub named_clear : (i : ℕ) → hold_count i (slice_set hs p 0) + one_if (o == i) ≡ hold_count i hs
   named_clear i = lowered (λ q h. names i h) hs p 0 (o == i) inside (ap (names i) full ∙ names_is i o d few some small) (names_none i)
 
-  pub times_clear : (i e : ℕ) → e < 64 → depth_count i (e + 1) (slice_set hs p 0) + one_if ((o == i) && (d == e + 1)) ≡ depth_count i (e + 1) hs
+  pub times_clear : (i e : ℕ) → e < most_holds → depth_count i (e + 1) (slice_set hs p 0) + one_if ((o == i) && (d == e + 1)) ≡ depth_count i (e + 1) hs
   times_clear i e g = lowered (λ q h. h == hold_word i (e + 1)) hs p 0 ((o == i) && (d == e + 1)) inside
       (ap (λ n. n == hold_word i (e + 1)) full ∙ same_hold i e o d small g) (ne_eqb _ _ (λ z. hold_some i (e + 1) (sym z)))
 

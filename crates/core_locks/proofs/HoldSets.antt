@@ -2,6 +2,7 @@
 use Rattle.core_locks.proofs.Prelude.{◌≡◌, ◌≢◌, ◌⊎◌, ℕ, ◌+◌, ◌<◌, ◌≤◌, ◌^◌, ◌==◌, ◌&&◌, nat_lt, eq-eqb, ne_eqb, Bool, true, false, cond, List, length, slice_index, slice_set, Some, refl, sym, ap, ◌∙◌, arith, inl, inr, nat_tests, read_hold, Name, Hold, hold_word, one_if, with_word, Known, with_known, Lock, holder, hold_count, depth_count, Shape, IsHold, by_equal, each_with_known, with_known_here, hold_some, Option, None, same_Some, MarkForm, Biased, Anonymous, is_biased_form, epoch_in, Inflation, Open, BiasedTo, lock_form, has_epoch}
 use Rattle.std.proofs.lemmas.List.{get_or-set_same, get_or-set_other}
 use Rattle.std.proofs.Math.Bool.{and-false}
+use Rattle.plain_monitor.specs.Limits.{most_holds}
 use Rattle.core_locks.proofs.HoldCounts.{named_put, times_put, hold_tells}
 
 -- who has the lock still has it with one hold word more
@@ -60,7 +61,7 @@ module _ (old : List ℕ) (o d p : ℕ) (is : IsPut old o d p) where
   named_new = named_put old p o d is.within is.few is.some is.small is.empty
 
   -- where the depth is the next one, each depth up to the new number stands once
-  pub times_new : d ≡ hold_count o old + 1 → ((i e : ℕ) → e < 64 → depth_count i (e + 1) old ≡ one_if (nat_lt e (hold_count i old))) → (i e : ℕ) → e < 64 → depth_count i (e + 1) new ≡ one_if (nat_lt e (hold_count i new))
+  pub times_new : d ≡ hold_count o old + 1 → ((i e : ℕ) → e < most_holds → depth_count i (e + 1) old ≡ one_if (nat_lt e (hold_count i old))) → (i e : ℕ) → e < most_holds → depth_count i (e + 1) new ≡ one_if (nat_lt e (hold_count i new))
   times_new depth was i e h =
       times_put old p o d is.within is.few is.some is.small is.empty i e h ∙ ap (λ n. n + one_if ((o == i) && (d == e + 1))) (was i e h)
       ∙ next (o == i) refl ∙ sym (ap (λ n. one_if (nat_lt e n)) (named_new i))

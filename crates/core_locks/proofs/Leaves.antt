@@ -103,7 +103,7 @@ module _ (w : World) (P : List PlainObject) (t o m : ℕ) (e : Purpose) (goes_on
         before = λ u n y d e g. other_back w x (w.known u) (owner_at P) (owner_at Q) u refl refl (λ i h. (owner_back v s i u h).1) n y g;
         owned = λ u i d e. (owner_back v s i u e).1;
         word = word_spared;
-        bias = λ i e. e;
+        bias = λ u i s e r h. h;
         waits = λ u y i d e g. unwaiting_else y i (owns_else u i d e) g;
         unwaited = λ u i d e g. waiters_else i (owns_else u i d e) g;
         unreached = none_reached w P t l v s.runs refl;

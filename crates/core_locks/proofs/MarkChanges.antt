@@ -138,7 +138,7 @@ module _ (w : World) (o m t : ℕ) (l : Known) where
           ]
           | inr a ↦ bare_unbiased (marks w o) (prototype_of w o) old (subst (λ y. IsValidBias (read_mark y) (prototype_of w o)) (sym is) a.2)
         ]);
-        bias = bias_forth new.unbiased;
+        bias = λ u i s e r. bias_forth new.unbiased i;
         waits = λ u i j d e h. h;
         unwaited = unwaited;
         unreached = unreached;

@@ -32,7 +32,7 @@ module _ (w : World) (P : List PlainObject) (t : ℕ) (p : StepPlan) (a : Seeing
     before = a.others;
     owned = λ u o d h. h;
     word = λ u s d h g. absurd (a.uncounted u s d h g);
-    bias = a.unbiased;
+    bias = λ u o s e r. a.unbiased o;
     waits = λ u y o d e h. a.waits y o h;
     unwaited = λ u o d e h. h;
     unreached = none_reached w P t l v a.runs a.reached;

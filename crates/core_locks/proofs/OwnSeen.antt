@@ -86,7 +86,7 @@ module _ (w : World) (P : List PlainObject) (t : ℕ) (p : StepPlan) (a : OnOwn 
     before = λ u m s d g. other_back w x (w.known u) (owner_at P) next u a.marks a.prototypes (λ o. fewer o u) m s;
     owned = λ u o d. fewer o u;
     word = λ u s d h g. absurd (a.uncounted u s d h g);
-    bias = λ o h. (λ i. is_biased (a.marks i o)) ∙ h;
+    bias = λ u o s e r h. (λ i. is_biased (a.marks i o)) ∙ h;
     waits = λ u y o d e h. a.waits y o h;
     unwaited = λ u o d e h. no_more o h;
     unreached = none_reached w P t l v a.runs a.reached;

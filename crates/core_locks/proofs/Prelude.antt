@@ -32,7 +32,7 @@ pub use Rattle.plain_monitor.specs.Objects.{PlainObject, take_entry, take_at, wi
 pub use Rattle.plain_monitor.specs.declared.entry.Logged.{Logged}
 pub use Rattle.plain_monitor.specs.History.{last_stamp, objects_after, LegalObjects, log_of, take_all, appended, RisesAbove}
 pub use Rattle.plain_monitor.specs.declared.entry.Entry.{Entry}
-pub use Rattle.plain_monitor.specs.declared.entry.Entry.TheVariants.{Exit, Get, Notify, NotifyAll, Hash, Enter, Put, Wait, Resume, Print, Dump, Trap, Spent, Done}
+pub use Rattle.plain_monitor.specs.declared.entry.Entry.TheVariants.{Exit, Get, Notify, NotifyAll, Hash, Enter, Put, Wait, Resume, New, Print, Dump, Trap, Spent, Done}
 pub use Rattle.plain_monitor.specs.declared.entry.Value.{Value}
 pub use Rattle.plain_monitor.specs.Order.{order, of_thread}
 pub use Rattle.plain_monitor.specs.declared.entry.Path.{Path}
@@ -54,7 +54,7 @@ pub use Rattle.core_world.specs.declared.stage.Stage.TheVariants.{Calm, Seizes, 
 pub use Rattle.core_world.specs.Words.Forms.{hold_word, is_biased, is_neutral, is_deeper, hash_in, monitor_in, names, waits_on, says_notified, stamp_in, enters_on, says_ended, is_halted, is_biased_form, asks_in, monitor_form, runs_form, waits_form, ended_form, runs_in, requester_form, notified_form, enters_form, hash_form, is_neutral_form, requester_in, halted_form, deeper_form, names_form, is_still, epoch_in, stamp_form}
 pub use Rattle.core_world.specs.Threads.Stages.{Inflation, inflation_in, bears, hold_words_ahead, recursions_ahead, recursions_behind, notification_in, revocation_in, one_if}
 pub use Rattle.core_world.specs.Words.Acts.{word_after, hits}
-pub use Rattle.core_world.specs.Words.Names.{with_word, same_name, its_monitor, kind_of, first_index, second_index}
+pub use Rattle.core_world.specs.Words.Names.{class_by, with_word, same_name, its_monitor, kind_of, first_index, second_index}
 pub use Rattle.core_world.specs.Threads.Known.{Known, Moving, Still, Fetches, Returns, StepMade, last_seen, local_of, draw_of}
 pub use Rattle.core_world.specs.World.{World, with_word_and_known, with_known, logs, logs_from}
 pub use Rattle.core_world.specs.Locks.{Lock, Open, BiasedTo, OnRecord, OwnedBy, record_lock, lock, lock_form, header, header_form, marks, displaced_words, headers, owner_words, prototype_of, inflations, who, holder, hold_count, depth_count, recursion_count, holds_by_monitor, object_of, monitor_of, owner_at, hash_at, waits_at, notified_at, owner_lock, or_zero, inflated_to, count_where, is_for, inflation_of, record_header, has_epoch}
@@ -78,9 +78,10 @@ pub use Rattle.core_world.specs.Clauses.Claims.{MonitorsAreClaimed, MovesFit, Pl
 pub use Rattle.core_world.specs.Opening.{first_known}
 pub use Rattle.core_world.specs.Clauses.Hashes.{HashesFit}
 pub use Rattle.core_world.specs.Clauses.Slots.{SlotsFit, IsHere}
+pub use Rattle.core_world.specs.Threads.References.{HasValue}
 pub use Rattle.core_world.specs.Shots.{ShotsFit}
 pub use Rattle.core_world.specs.Clauses.Classes.{ClassesFit, bulk_rebiases, bulk_revokes}
-pub use Rattle.core_world.specs.Words.Shape.{Shape, class_of, monitor_count, ring_bits, ring_places, slots_of, IsInLimits}
+pub use Rattle.core_world.specs.Words.Shape.{Shape, monitor_count, ring_bits, ring_places, slots_of, IsInLimits}
 pub use Rattle.core_world.specs.declared.task.Unfinished.{Unfinished}
 pub use Rattle.core_world.specs.Clauses.WordForms.{IsOwner, IsMark, IsSafepoint, IsWait, IsHold, WordsHaveForms}
 pub use Rattle.core_world.specs.Looking.{IsOfMonitor, HasFound, MayLook}

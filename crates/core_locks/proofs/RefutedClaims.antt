@@ -4,17 +4,11 @@ use Rattle.core_world.specs.Clauses.Claims.{Place, With, At, Leaves, InRing}
 use Rattle.core_world.specs.Trees.DeflateSteps.{enqueue_plan, advance_plan}
 use Rattle.core_world.proofs.Rings.{ring_few, place_of_word}
 use Rattle.core_locks.specs.DeflationLaws.{IsFilled}
-use Rattle.core_locks.proofs.Claims.{next_word}
+use Rattle.core_locks.proofs.Claims.{one_place}
 use Rattle.core_locks.proofs.Enqueues.{one_leaver}
 use Rattle.core_locks.proofs.Places.{with_same, with_more}
 use Rattle.core_locks.proofs.RefutedSteps.{knows, hit_fits, standing_fits}
 use Rattle.core_locks.proofs.Standing.{fits_standing}
-
--- positions with one word have one place, and so have those d behind them
-same_place : (p q d b : ℕ) → b ≤ 64 → p % 2 ^ 64 ≡ q % 2 ^ 64 → (p + d) % 2 ^ b ≡ (q + d) % 2 ^ b
-same_place p q d b few same =
-    let words : (p + d) % 2 ^ 64 ≡ (q + d) % 2 ^ 64 = sym (next_word p (2 ^ 64) d) ∙ ap (λ z. (z + d) % 2 ^ 64) same ∙ next_word q (2 ^ 64) d in
-    sym (place_of_word (p + d) b few) ∙ ap (λ z. z % 2 ^ b) words ∙ place_of_word (q + d) b few
 
 -- THE END IS MOVED ON, and the thread has nothing in hand any more.
 module _ (w : World) (P Q : List PlainObject) (m t : ℕ) (e : Purpose) (end : ℕ) (reached : (w.known t).reached ≡ true) (returns : (w.known t).moving ≡ Returns m) (at_end : w.words End ≡ end) (before : Fits w P)
@@ -75,7 +69,7 @@ module _ (w : World) (P Q : List PlainObject) (m t : ℕ) (e : Purpose) (end : �
       back = omega (arith, low)
 
       here : w.words (Ring ((before.claims.first + d) % 2 ^ bits)) ≡ m
-      here = ap (λ z. w.words (Ring z)) (same_place before.claims.first afterwards.claims.first d bits few firsts ∙ ap (λ z. z % 2 ^ bits) back) ∙ is
+      here = ap (λ z. w.words (Ring z)) (one_place before.claims.first afterwards.claims.first d bits few firsts ∙ ap (λ z. z % 2 ^ bits) back) ∙ is
 
   no_place : (a : Place) → afterwards.claims.place m ≡ a → ⊥
   no_place (With u) h = elim (afterwards.claims.kept_there u m was.0 h) [
@@ -128,7 +122,7 @@ module _ (w : World) (Q : List PlainObject) (m t d : ℕ) (e : Purpose) (returns
   place_is =
       let few : ring_bits w.shape ≤ 64 = let most = ring_few w.shape in omega (arith, most) in
       let twice : afterwards.claims.first % 2 ^ 64 ≡ w.words Claim % 2 ^ 64 = (let word = afterwards.claims.claim_word in omega (arith, word)) in
-      same_place afterwards.claims.first (w.words Claim) d (ring_bits w.shape) few twice
+      one_place afterwards.claims.first (w.words Claim) d (ring_bits w.shape) few twice
 
   stands_there : afterwards.claims.place m ≡ InRing p
   stands_there =

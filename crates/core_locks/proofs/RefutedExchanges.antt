@@ -1,4 +1,5 @@
 -- No running thread exchanges a neutral mark for a place where it hasn't stored that mark as the displaced word.
+use Rattle.plain_monitor.specs.Limits.{most_holds}
 use Rattle.core_locks.proofs.Prelude.{◌≡◌, ◌≢◌, ◌<◌, ℕ, true, List, refl, sym, ap, ◌∙◌, arith, same_Some, Neutral, Locked, mark_of, read_mark, read_mark-spells, PlainObject, objects_after, Mark, Displaced, StepPlan, Seizes, is_neutral, hash_in, hash_form, World, OnRecord, lock, marks, displaced_words, headers, inflations, hash_at, Purpose, with_stage, swap, world_after, Fits, Valid, with_known_here, logs_stay, running_fits, with_word_there, lock_by_form}
 use Rattle.core_locks.proofs.MarkMeanings.{neutral_is, neutral_header, locked_read, locked_header}
 use Rattle.core_locks.proofs.RefutedSteps.{knows, hit, swap_hits, hit_fits}
@@ -13,7 +14,7 @@ neutral_word n e =
     (read_mark-spells n (Neutral f.0 0) f.1).1 ∙ ap (λ h. mark_of (Neutral h 0)) (sym (ap hash_form f.1))
 
 -- the lock rests on a record whose displaced word is the header, so that it is neutral and has the plain hash, as the mark had
-no_exchange : (w : World) (P Q : List PlainObject) (o t mark p : ℕ) (e : Purpose) → (w.known t).running ≡ true → p < 64 → is_neutral mark ≡ true → w.words (Mark o) ≡ mark
+no_exchange : (w : World) (P Q : List PlainObject) (o t mark p : ℕ) (e : Purpose) → (w.known t).running ≡ true → p < most_holds → is_neutral mark ≡ true → w.words (Mark o) ≡ mark
     → Fits w P → Fits (hit (exchange o t mark p e) t w) Q → w.words (Displaced t p) ≡ mark
 no_exchange w P Q o t mark p e runs place neutral found before fits =
     let x = hit (exchange o t mark p e) t w in
@@ -33,7 +34,7 @@ no_exchange w P Q o t mark p e runs place neutral found before fits =
     let hash : hash_in (w.words (Displaced t p)) ≡ hash_in mark = hash_now ∙ ap (λ z. hash_at z o) objects ∙ sym hash_before ∙ ap hash_in found in
     neutral_word (w.words (Displaced t p)) header ∙ ap (λ h. mark_of (Neutral h 0)) hash ∙ sym (neutral_word mark neutral)
 
-pub exchange_refused : (w : World) (o t mark p : ℕ) (e : Purpose) → Valid w → (w.known t).running ≡ true → p < 64 → is_neutral mark ≡ true → w.words (Mark o) ≡ mark → w.words (Displaced t p) ≢ mark
+pub exchange_refused : (w : World) (o t mark p : ℕ) (e : Purpose) → Valid w → (w.known t).running ≡ true → p < most_holds → is_neutral mark ≡ true → w.words (Mark o) ≡ mark → w.words (Displaced t p) ≢ mark
     → Valid (world_after (exchange o t mark p e) t w) → ⊥
 exchange_refused w o t mark p e v runs place neutral found other valid =
     let test = swap_hits (w.words (Mark o)) mark (mark_of (Locked t p)) found in

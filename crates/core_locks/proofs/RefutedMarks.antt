@@ -1,5 +1,5 @@
 -- Stores and exchanges of an object's mark that lead to no valid world: where it would name a monitor, where it names one, and where it is 0.
-use Rattle.core_locks.proofs.Prelude.{with_known, ◌≡◌, ◌≢◌, ℕ, ◌||◌, Bool, true, false, List, Option, Some, None, refl, sym, ap, ◌∙◌, subst, inl, inr, read_mark, is_thread, PlainObject, Name, Mark, Owner, Header, StepPlan, Stage, Calm, Seizes, Inflates, is_neutral, is_biased, hash_in, monitor_in, Inflation, inflation_in, bears, Known, World, with_word_and_known, Open, OnRecord, lock, header, header_form, marks, displaced_words, headers, owner_words, prototype_of, inflations, who, holder, hold_count, owner_at, hash_at, Purpose, with_stage, store, swap, world_after, Fits, by_equal, with_known_here, with_known_else, each_with_known, same_Some, mark_zero, thread_is, arith, MarkForm, Inflating, Neutral, Anonymous, Biased, Locked, Inflated, Marked, OwnerForm, Free, ByThread, ByRecord, mark_of, read_owner, owner_of, read_mark-spells, monitor_form, is_biased_form, owner_lock, Fetches, Returns, lock_form, with_own, Valid, IsMark, IsOwner, running_fits, lock_by_form, with_word_there, same_number, ◌+◌, ◌-◌, ◌%◌, ◌^◌, ◌<◌, ◌≤◌, Ring, ring_bits, monitor_count}
+use Rattle.core_locks.proofs.Prelude.{◌≡◌, ◌≢◌, ℕ, ◌||◌, Bool, true, false, List, Option, Some, None, refl, sym, ap, ◌∙◌, subst, inl, inr, read_mark, is_thread, PlainObject, Name, Mark, Owner, Header, StepPlan, Stage, Calm, Seizes, Inflates, is_neutral, is_biased, hash_in, monitor_in, Inflation, inflation_in, bears, Known, World, with_word_and_known, Open, OnRecord, lock, header, header_form, marks, displaced_words, headers, owner_words, prototype_of, inflations, who, holder, hold_count, owner_at, hash_at, Purpose, with_stage, store, swap, world_after, Fits, by_equal, with_known_here, with_known_else, each_with_known, same_Some, mark_zero, thread_is, arith, MarkForm, Inflating, Neutral, Anonymous, Biased, Locked, Inflated, Marked, OwnerForm, Free, ByThread, ByRecord, mark_of, read_owner, owner_of, read_mark-spells, monitor_form, is_biased_form, owner_lock, Fetches, Returns, lock_form, with_own, Valid, IsMark, IsOwner, running_fits, lock_by_form, with_word_there, same_number, ◌+◌, ◌-◌, ◌%◌, ◌^◌, ◌<◌, ◌≤◌, Ring, ring_bits, monitor_count}
 use Rattle.core_world.specs.Clauses.Claims.{Place, With, At, Leaves, InRing}
 use Rattle.core_world.proofs.Rings.{ring_few, place_of_word}
 use Rattle.core_locks.proofs.Claims.{next_word}

@@ -107,7 +107,7 @@ module _ (w : World) (P : List PlainObject) (t : ℕ) (e : Purpose) (act : Act) 
     before = λ u n s d seen. other_back w x (w.known u) (owner_at P) (owner_at P) u refl refl (λ i h. h) n s;
     owned = λ u o d h. h;
     word = λ u s d st was. elim st [ inl a ↦ absurd a.1 | inr a ↦ absurd a.2 ];
-    bias = λ o h. h;
+    bias = λ u o s e r h. h;
     waits = λ u y o d a h. h;
     unwaited = λ u o d a h. h;
     unreached = unreached;

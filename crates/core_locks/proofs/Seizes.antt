@@ -1,4 +1,5 @@
 -- A thread exchanges a neutral mark for its place, where it has stored that mark as the displaced word.
+use Rattle.plain_monitor.specs.Limits.{most_holds}
 use Rattle.core_locks.proofs.Prelude.{◌≡◌, ◌≢◌, ◌⊎◌, ℕ, ◌<◌, ◌≤◌, ◌==◌, ◌||◌, ne_eqb, Bool, true, false, cond, List, slice_index, Option, Some, refl, sym, ap, ◌∙◌, subst, arith, inl, inr, eqb-true, read_mark, mark_of, Locked, is_thread, is_listed, PlainObject, Mark, Displaced, StepPlan, Calm, Seizes, Grabs, hold_word, is_neutral, hash_in, monitor_in, Inflation, inflation_in, bears, hold_words_ahead, word_after, Known, last_seen, World, with_word_and_known, with_known, Lock, Open, BiasedTo, OnRecord, OwnedBy, lock, header, marks, displaced_words, headers, owner_words, prototype_of, inflations, holder, hold_count, monitor_of, owner_at, hash_at, waits_at, notified_at, Purpose, world_after, known_hit, seen_before, Fits, IsValid, SeenFit, Swap, IsMark, each_with_known, with_known_here, part_moves, inflations_stay, fits_running, seen_is_part, Spares, seen_moves, counts_more, miss_valid, unwaited_fits, MaySeize, KeepsValid, seize_plan, unlisted_count}
 use Rattle.core_locks.proofs.MarkMeanings.{forms_marked, IsBare, bare_unnamed, neutral_bare, neutral_some, neutral_lock, neutral_header, locked_read, locked_bare, locked_some, locked_lock, locked_header}
 use Rattle.core_locks.proofs.MarkChanges.{names_same, bias_back, bias_forth, bias_before, zero_back, zero_forth, lock_at, header_same, mark_back, mark_spares, recursions_by_marks, biases_by_marks, classes_by_marks, inflating_by_marks}
@@ -154,13 +155,13 @@ module _ (w : World) (P : List PlainObject) (t : ℕ) (e : Purpose) (o mark p : 
       | inl a ↦ let s = same_place t p u q (sym a.1 ∙ r) in absurd (no_record z d small (ap (λ y. slice_index (w.known y).holds z) s.0 ∙ h ∙ ap (λ y. hold_word y d) a.0))
       | inr a ↦ v.records.others i u q z d (sym a.1 ∙ r) h small other
     ];
-    seized = λ i u q. each_with_known (λ u y. y.stage ≡ Seizes i q → (lock x i ≡ OnRecord u q) × (slice_index (w.known u).holds q ≡ 0) × (q < 64) × (hold_count i (w.known u).holds ≡ 0)) t l w.known u
+    seized = λ i u q. each_with_known (λ u y. y.stage ≡ Seizes i q → (lock x i ≡ OnRecord u q) × (slice_index (w.known u).holds q ≡ 0) × (q < most_holds) × (hold_count i (w.known u).holds ≡ 0)) t l w.known u
         (λ s.
         let object : o ≡ i = cc s in
         let place : p ≡ q = cc s in
         let lock_is : lock x o ≡ OnRecord t p = elim (lock_now o) [ inl a ↦ a.1 | inr a ↦ absurd (a.0 refl) ] in
-        let at : (lock x o ≡ OnRecord t p) × (slice_index (w.known t).holds p ≡ 0) × (p < 64) × (hold_count o (w.known t).holds ≡ 0) = (lock_is, may.free.empty, may.free.place, unheld) in
-        subst (λ (z : ℕ × ℕ). (lock x z.0 ≡ OnRecord t z.1) × (slice_index (w.known t).holds z.1 ≡ 0) × (z.1 < 64) × (hold_count z.0 (w.known t).holds ≡ 0))
+        let at : (lock x o ≡ OnRecord t p) × (slice_index (w.known t).holds p ≡ 0) × (p < most_holds) × (hold_count o (w.known t).holds ≡ 0) = (lock_is, may.free.empty, may.free.place, unheld) in
+        subst (λ (z : ℕ × ℕ). (lock x z.0 ≡ OnRecord t z.1) × (slice_index (w.known t).holds z.1 ≡ 0) × (z.1 < most_holds) × (hold_count z.0 (w.known t).holds ≡ 0))
         (λ j. (object j, place j)) at)
         (λ d s. let b = v.records.seized i u q s in (lock_forth i (OnRecord u q) b.0 (λ c. cc c), b.1, b.2, b.3));
     grabbed = λ i u s. let b = v.records.grabbed i u (stage_back step (Grabs i) u (λ c. cc c) s).1 in (lock_forth i (OwnedBy u) b.0 (λ c. cc c), b.1);

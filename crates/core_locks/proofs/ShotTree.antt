@@ -1,4 +1,5 @@
 -- The looks of a dump see all that its shot is made of.
+use Rattle.plain_monitor.specs.Limits.{most_holds}
 use Rattle.core_locks.proofs.Prelude.{◌≡◌, ℕ, zero, suc, ◌+◌, ◌<◌, ◌≤◌, Bool, cond, length, Option, Some, refl, sym, subst, arith, MarkForm, read_mark, Safepoint, Mark, Hold, Length, Known, Purpose, load, by_equal, Biased, Locked, Inflated, OwnerForm, ByThread, ByRecord, read_owner, with_own, Shape}
 use Rattle.core_world.specs.declared.plan.Own.TheVariants as own
 use Rattle.core_world.specs.Trees.LookSteps.{look_at_holds, look_at_owner, look_behind, look_at_objects, take_shot_steps}
@@ -62,7 +63,7 @@ module _ (k : Known) where
       (λ d. saw_each (i + 1) n f P (saw_answer (f i) (SawSteps (all_from (i + 1) n f) k P) a) j (omega (arith, low, d)) (omega (arith, high)))
 
   saw_holds : (e : Purpose) (t : ℕ) (P : Unit {0} → Type 0) → SawSteps (look_at_holds e t) k P → SawHolds k t
-  saw_holds e t P h p below = let a = saw_each 0 64 (look_at_hold e t) P h p (omega arith) (omega (arith, below)) in (a.0, a.1)
+  saw_holds e t P h p below = let a = saw_each 0 most_holds (look_at_hold e t) P h p (omega arith) (omega (arith, below)) in (a.0, a.1)
 
   saw_owner : (a : Option OwnerForm) (e : Purpose) (P : Unit {0} → Type 0) → SawSteps (look_at_owner a e) k P → SawByOwner a k
   saw_owner (Some (ByThread thread)) e P h = saw_holds e thread P h
@@ -71,7 +72,7 @@ module _ (k : Known) where
 
   saw_behind : (g : Option MarkForm) (e : Purpose) (s : Shape) (o : ℕ) (P : Unit {0} → Type 0) → SawSteps (look_behind g e s o) k P → SawBehind g s k o
   saw_behind (Some (Biased thread epoch age)) e s o P h =
-      (h.0, h.1, λ b. saw_holds e thread P (subst (λ (c : Bool). SawSteps (cond c (look_at_holds e thread) (done tt)) k P) b h.2))
+      (h.0, _, refl, h.1, λ b. saw_holds e thread P (subst (λ (c : Bool). SawSteps (cond c (look_at_holds e thread) (done tt)) k P) b h.2))
   saw_behind (Some (Locked thread place)) e s o P h = saw_holds e thread P h
   saw_behind (Some (Inflated monitor)) e s o P h = (h.0, h.1, saw_owner (read_owner h.0) e P h.2)
   saw_behind _ e s o P h = tt

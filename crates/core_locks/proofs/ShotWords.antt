@@ -1,9 +1,12 @@
 -- What a thread has seen at its reached safepoint is what is there, and so the cells that it makes of that are the plain owners and counts.
-use Rattle.core_locks.proofs.Prelude.{◌≡◌, ℕ, zero, suc, ◌+◌, ◌<◌, ◌==◌, Bool, true, false, cond, List, [], ◌∷◌, length, slice_index, Option, Some, None, refl, sym, ap, ◌∙◌, subst, arith, MarkForm, read_mark, PlainObject, Name, Prototype, Mark, Hold, Owner, Inflation, inflation_in, last_seen, World, Lock, Open, BiasedTo, OnRecord, OwnedBy, lock_form, marks, owner_words, prototype_of, inflations, holder, hold_count, monitor_of, Fits, Biased, Locked, Inflated, OwnerForm, ByThread, ByRecord, read_owner, epoch_in, class_of}
+use Rattle.plain_monitor.specs.Limits.{most_holds}
+use Rattle.core_locks.proofs.Prelude.{◌≡◌, ℕ, zero, suc, ◌+◌, ◌<◌, ◌==◌, Bool, true, false, cond, List, [], ◌∷◌, length, slice_index, Option, Some, None, refl, sym, ap, ◌∙◌, subst, arith, MarkForm, read_mark, PlainObject, Name, Prototype, Mark, Hold, Owner, Inflation, inflation_in, last_seen, World, Lock, Open, BiasedTo, OnRecord, OwnedBy, lock_form, marks, owner_words, prototype_of, inflations, holder, hold_count, monitor_of, Fits, Biased, Locked, Inflated, OwnerForm, ByThread, ByRecord, read_owner, epoch_in, class_by}
 use Rattle.core_world.specs.Locks.{is_for, inflation_of, owner_lock, has_epoch, owner_and_count_by, or_zero}
 use Rattle.core_world.specs.RevocationRules.{holds_in, words_from}
 use Rattle.core_world.specs.Shots.{cell_in, cells_of}
 use Rattle.core_world.specs.Steps.{seen_words, owner_and_count_in, cells_from}
+use Rattle.core_world.specs.Threads.AtRest.{SawClass}
+use Rattle.core_world.proofs.There.{class_seen}
 use Rattle.core_world.proofs.OwnersShown.{safepoint_part, at_safepoint_shown}
 use Rattle.core_locks.specs.ShotLaws.{Saw, SawHolds, SawByOwner, SawBehind, SawAll}
 
@@ -51,7 +54,7 @@ module _ (w : World) (P : List PlainObject) (t : ℕ) (reached : (w.known t).rea
   holds_are : (u : ℕ) → SawHolds (w.known t) u → holds_in f u ≡ (w.known u).holds
   unfolding holds_in
   holds_are u saw =
-      words_are 0 64 (λ p. f (Hold u p)) (w.known u).holds (v.holds.places u)
+      words_are 0 most_holds (λ p. f (Hold u p)) (w.known u).holds (v.holds.places u)
       (λ i j s below. let same : j ≡ i = omega (arith, s) in ap (λ p. f (Hold u p)) same ∙ word_is (Hold u i) (saw i below) ∙ v.holds.stored u i)
 
   counts_are : (o u : ℕ) → SawHolds (w.known t) u → hold_count o (holds_in f u) ≡ hold_count o (w.known u).holds
@@ -60,7 +63,7 @@ module _ (w : World) (P : List PlainObject) (t : ℕ) (reached : (w.known t).rea
   -- the lock by the words that were seen is that by the words that are there, and so is the count of its thread
   module _ (o : ℕ) where
     abbrev seen_lock : Option MarkForm → Lock
-    seen_lock g = lock_form g (f (Prototype (class_of w.shape o))) (λ m. f (Owner m)) None
+    seen_lock g = lock_form g (f (Prototype (class_by w.shape f o))) (λ m. f (Owner m)) None
 
     abbrev true_lock : Option MarkForm → Lock
     true_lock g = lock_form g (prototype_of w o) (owner_words w) None
@@ -77,13 +80,19 @@ module _ (w : World) (P : List PlainObject) (t : ℕ) (reached : (w.known t).rea
     owner_counted (Some (ByRecord thread place)) saw = counts_are o thread saw
     owner_counted _ saw = tt
 
+    -- the class that was seen is that by these words, and by those that are there
+    abbrev class_is : (g : Name → ℕ) (c : ℕ) → SawClass w.shape (w.known t).seen_at_safepoint o c → class_by w.shape g o ≡ c
+    class_is g = class_seen w.shape g (w.known t).seen_at_safepoint o
+
     sees_lock : (g : Option MarkForm) → SawBehind g w.shape (w.known t) o → SeesLock g
     sees_lock (Some (Biased thread epoch age)) saw =
-        let is : saw.0 ≡ prototype_of w o = word_seen (Prototype (class_of w.shape o)) saw.0 saw.1 in
-        let same : f (Prototype (class_of w.shape o)) ≡ prototype_of w o = word_is (Prototype (class_of w.shape o)) (saw.0, saw.1) in
+        let of_class : w.words (Prototype saw.1) ≡ prototype_of w o = ap (λ c. w.words (Prototype c)) (sym (class_is w.words saw.1 saw.2)) in
+        let is : saw.0 ≡ prototype_of w o = word_seen (Prototype saw.1) saw.0 saw.3 ∙ of_class in
+        let same : f (Prototype (class_by w.shape f o)) ≡ prototype_of w o =
+        ap (λ c. f (Prototype c)) (class_is f saw.1 saw.2) ∙ word_is (Prototype saw.1) (saw.0, saw.3) ∙ of_class in
         record {
           same = ap (λ y. lock_form (Some (Biased thread epoch age)) y (λ m. f (Owner m)) None) same;
-          counted = by_epoch (has_epoch (epoch_in (prototype_of w o)) epoch) (λ e. saw.2 (ap (λ y. has_epoch (epoch_in y) epoch) is ∙ e));
+          counted = by_epoch (has_epoch (epoch_in (prototype_of w o)) epoch) (λ e. saw.4 (ap (λ y. has_epoch (epoch_in y) epoch) is ∙ e));
         }
       where
         by_epoch : (b : Bool) → (b ≡ true → SawHolds (w.known t) thread) → Counted (cond b (BiasedTo thread) Open)

@@ -1,4 +1,5 @@
 -- Nobody waits on an object where its owner saw that nobody does.
+use Rattle.plain_monitor.specs.Limits.{most_holds}
 use Rattle.core_locks.proofs.Prelude.{◌≡◌, ℕ, ◌<◌, ◌||◌, eq-eqb, true, List, [], ◌∷◌, Some, None, refl, ap, ◌∙◌, arith, inl, inr, is_listed, PlainObject, Calm, notification_in, Known, World, hold_count, monitor_of, owner_at, waits_at, Fits, sound, waiter_stands, SawNobody, cases_lt}
 use Rattle.core_world.proofs.Counting.{named_none}
 use Rattle.core_locks.proofs.TellTaken.{one_owner}
@@ -13,7 +14,7 @@ pub waiter_below : (w : World) (P : List PlainObject) (o u : ℕ) → Fits w P �
 waiter_below w P o u v listed = elim (cases_lt u w.shape.threads) [
   | inl below ↦ below
   | inr past ↦
-      let none : hold_count o (w.known u).holds ≡ 0 = ap (λ (k : Known). hold_count o k.holds) (v.absent u past) ∙ named_none o 64 in
+      let none : hold_count o (w.known u).holds ≡ 0 = ap (λ (k : Known). hold_count o k.holds) (v.absent u past) ∙ named_none o most_holds in
       absurd (omega (arith, none, v.holds.number u o, waiter_stands (monitor_of P o) u (sound w P v o) listed))
 ]
 

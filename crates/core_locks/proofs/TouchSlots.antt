@@ -1,5 +1,5 @@
 -- A thread that holds an object loads or stores one of its slots, and so logs a Get or a Put.
-use Rattle.core_locks.proofs.Prelude.{◌≡◌, ◌≢◌, ◌⊎◌, ℕ, ◌+◌, ◌<◌, ◌&&◌, nat_lt, eq-eqb, true, false, cond, List, [], ◌∷◌, ◌++◌, length, slice_set, Option, Some, None, refl, sym, ap, ◌∙◌, subst, arith, inl, inr, slice_get, nat_tests, Decides-int_eq, only_if, PlainObject, take_at, same_value, has_value, Logged, last_stamp, Get, Put, Value, read_value, word_of, Slot, StepPlan, Stage, Calm, word_after, with_word, same_name, Known, StepMade, World, with_word_and_known, object_of, owner_at, Stays, Purpose, known_hit, seen_before, draws_after, log_after, kept_by_note, Fits, Store, Load, drawn_by, SlotsFit, IsHere, Unfinished, Act, Log, LogGet, value_found, by_equal, fits_running, with_word_there, frame2, with_word_same, Logs, MayTouch, MayPut, IsOwnEntry, LogsFound, LogsValid, get_plan, put_plan, MayGet, get_entry, slice_index_or}
+use Rattle.core_locks.proofs.Prelude.{◌≡◌, ◌≢◌, ◌⊎◌, ℕ, ◌+◌, ◌<◌, ◌&&◌, nat_lt, eq-eqb, true, false, cond, List, [], ◌∷◌, ◌++◌, length, slice_set, Option, Some, None, refl, sym, ap, ◌∙◌, subst, arith, inl, inr, slice_get, nat_tests, Decides-int_eq, only_if, PlainObject, take_at, same_value, has_value, Logged, last_stamp, Get, Put, Value, read_value, word_of, Slot, StepPlan, Stage, Calm, word_after, with_word, same_name, Known, StepMade, World, with_word_and_known, object_of, owner_at, Stays, Purpose, known_hit, seen_before, draws_after, log_after, kept_by_note, Fits, Store, Load, drawn_by, SlotsFit, IsHere, Unfinished, Act, Log, LogGet, value_found, by_equal, fits_running, with_word_there, frame2, with_word_same, Logs, MayTouch, MayPut, IsOwnEntry, LogsFound, LogsValid, get_plan, put_plan, MayGet, get_entry, slice_index_or, HasValue, Shape}
 use Rattle.plain_monitor.specs.declared.entry.Value.TheVariants.{Nil, Int, Ref}
 use Rattle.std.proofs.lemmas.List.{length-set, get_or-set_same}
 use Rattle.std.proofs.lemmas.Option.{slice_get-get_or, slice_get_within, get_or_from_slice_get}
@@ -15,6 +15,12 @@ use Rattle.core_locks.proofs.Drawing.{draws_still}
 use Rattle.core_locks.proofs.OwnSeen.{own_seen}
 use Rattle.core_locks.proofs.Steps.{telling, IsStep, step_fits, seen_next}
 use Rattle.core_world.proofs.Updates.{object_here, object_else, slots_stay}
+
+-- a value to whose object the thread has a reference names one that is there
+value_here : (s : Shape) (k : Known) (v : Value) → HasValue s k v → IsHere s v
+value_here s k Nil h = tt
+value_here s k (Int i) h = tt
+value_here s k (Ref o) h = h
 
 -- the slots after one has got another value
 slot_here : (xs : List Value) (i : ℕ) (v u : Value) → slice_get (slice_set xs i v) i ≡ Some u → v ≡ u
@@ -148,7 +154,7 @@ module _ (w : World) (P : List PlainObject) (t : ℕ) (e : Purpose) (o slot : �
           ∙ read_value-word_of value put.spellable ∙ ap Some c.1
       | inr c ↦ ap (λ b. read_value (cond b (word_of value) (w.words (Slot i j)))) c.0 ∙ v.slots.value i j x c.1
     ];
-    here = λ i j x h. elim (slots_after value i j x h) [ inl c ↦ subst (IsHere w.shape) c.1 put.here | inr c ↦ v.slots.here i j x c.1 ];
+    here = λ i j x h. elim (slots_after value i j x h) [ inl c ↦ subst (IsHere w.shape) c.1 (value_here w.shape (w.known t) value put.here) | inr c ↦ v.slots.here i j x c.1 ];
   }
 
   puts : (value : Value) → MayPut w.shape (w.known t) o slot value → Logs w P t (put_plan e o slot value) (Put o slot value)

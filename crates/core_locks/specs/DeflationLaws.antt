@@ -1,4 +1,5 @@
--- When a thread at its reached safepoint may make the steps that give an idle monitor back.
+-- When a thread at its reached safepoint may make the steps that give an idle monitor back; which positions of the ring are filled, and what a claim may
+-- rely on of the monitor that it gets there.
 use Rattle.std.specs.Prelude.{◌≡◌, ◌≢◌, ℕ, ◌+◌, ◌%◌, ◌^◌, ◌<◌, ◌≤◌, true, false, length, Some, None}
 use Rattle.mark_word.specs.declared.owner.OwnerForm.TheVariants.{Free}
 use Rattle.mark_word.specs.Owner.{owner_of}
@@ -39,6 +40,8 @@ pub record IsOnlyFor (w : World) (t m : ℕ) : Type 0 where
   -- no other thread has claimed a position of its place, and none gives it back
   pub unclaimed : (u q : ℕ) → u ≢ t → (w.known u).moving ≡ Fetches q → w.words (Ring (q % ring_places w.shape)) ≢ m
   pub unreturned : (u : ℕ) → (w.known u).moving ≢ Returns m
+  -- and it stands at no filled position, so that no later claim gives it too: the one that t has claimed is filled no more
+  pub unringed : (d : ℕ) → IsFilled w d → w.words (Ring ((w.words Claim + d) % ring_places w.shape)) ≢ m
 
 -- Storing its header as the mark of o: the monitor m is idle by what the thread saw at its safepoint, and it gives back no other.
 pub record MayDetach (s : Shape) (k : Known) (e : Purpose) (o m header : ℕ) : Type 0 where

@@ -10,6 +10,7 @@ use Rattle.core_world.specs.declared.stage.Stage.TheVariants.{Calm}
 use Rattle.core_world.specs.Words.Shape.{Shape}
 use Rattle.core_world.specs.Words.Forms.{is_biased, hash_in, hold_word}
 use Rattle.core_world.specs.Threads.Known.{Known, last_seen, draw_of}
+use Rattle.core_world.specs.Threads.References.{HasReference}
 use Rattle.core_world.specs.Trees.HashSteps.{NextDraw}
 use Rattle.core_world.specs.Trees.Plans.{Purpose}
 use Rattle.core_world.specs.World.{World}
@@ -21,7 +22,7 @@ pub record MayHash (s : Shape) (k : Known) (o : ℕ) : Type 0 where
   pub runs : k.running ≡ true
   pub calm : k.stage ≡ Calm
   pub ready : k.wait ≡ 0
-  pub object : o < length s.objects
+  pub object : HasReference s k o
   pub room : length k.log < log_limit
   pub own_entry : (value : ℕ) (drawn : Option ℕ) → IsOwnEntry k (Hash o value drawn)
 

@@ -11,12 +11,12 @@ use Rattle.core_world.specs.declared.task.Op.TheVariants as op
 use Rattle.core_world.specs.Words.Shape.{Shape, slots_of}
 use Rattle.core_world.specs.Words.Forms.{waits_on, monitor_in}
 use Rattle.core_world.specs.Threads.Known.{Known, last_seen, local_of}
+use Rattle.core_world.specs.Threads.References.{HasReference, HasValue}
 use Rattle.core_world.specs.Clauses.Lengths.{log_limit}
 use Rattle.core_world.specs.Locks.{hold_count}
 use Rattle.core_world.specs.Trees.Operations.{value_found}
 use Rattle.core_world.specs.Trees.Plans.{Purpose, next_stamp}
 use Rattle.core_world.specs.Clauses.Safepoints.{IsUnfinished, ends}
-use Rattle.core_world.specs.Clauses.Slots.{IsHere}
 use Rattle.core_locks.specs.Knowing.{GoesOn, IsOut, HasHold, SawInflated, SawOwn, IsOwnEntry}
 
 -- Loading the stamp, which logs Enter: the hold word stands at place p, the waiting word is Ready, and no other operation is unfinished, such as
@@ -25,7 +25,7 @@ pub record MayLogEnter (s : Shape) (k : Known) (o p : ℕ) (path : Path) : Type 
   pub runs : k.running ≡ true
   pub stage : k.stage ≡ Enters o p path
   pub ready : k.wait ≡ 0
-  pub object : o < length s.objects
+  pub object : HasReference s k o
   pub room : length k.log < log_limit
   pub own_entry : IsOwnEntry k (Enter o path)
 
@@ -35,7 +35,7 @@ pub record MayLogResume (s : Shape) (k : Known) (o m : ℕ) : Type 0 where
   pub runs : k.running ≡ true
   pub stage : k.stage ≡ Resumes o
   pub ready : k.wait ≡ 0
-  pub object : o < length s.objects
+  pub object : HasReference s k o
   pub inflated : SawInflated k o m
   pub owner : SawOwn k k.thread m
   pub recursions : last_seen (Recursions m) k.seen ≡ Some k.saved
@@ -56,7 +56,7 @@ pub record MayTouch (s : Shape) (k : Known) (o slot : ℕ) : Type 0 where
   pub calm : k.stage ≡ Calm
   pub ready : k.wait ≡ 0
   pub holds : HasHold k o
-  pub object : o < length s.objects
+  pub object : HasReference s k o
   pub within : slot < slots_of s o
   pub nothing : k.unfinished ≡ None
   pub room : length k.log < log_limit
@@ -70,7 +70,7 @@ pub record MayGet (s : Shape) (k : Known) (e : Purpose) (o slot : ℕ) : Type 0 
 pub record MayPut (s : Shape) (k : Known) (o slot : ℕ) (v : Value) : Type 0 where
   pub touches : MayTouch s k o slot
   pub spellable : IsSpellable v
-  pub here : IsHere s v
+  pub here : HasValue s k v
 
 -- Storing Ready in its own waiting word: in an enter whose hold word is stored, or in a wait whose monitor it has again.
 pub record MayBeReady (k : Known) (e : Purpose) : Type 0 where
@@ -84,7 +84,7 @@ pub record MayStand (s : Shape) (k : Known) (e : Purpose) (o m : ℕ) : Type 0 w
   pub runs : k.running ≡ true
   pub calm : k.stage ≡ Calm
   pub out : IsOut k
-  pub object : o < length s.objects
+  pub object : HasReference s k o
   pub enters : IsUnfinished e.unfinished op.Enter o
   pub goes_on : e.unfinished ≡ k.unfinished
   pub inflated : SawInflated k o m
@@ -105,7 +105,7 @@ pub record MayWait (s : Shape) (k : Known) (e : Purpose) (o m stamp : ℕ) : Typ
   pub calm : k.stage ≡ Calm
   pub ready : k.wait ≡ 0
   pub holds : HasHold k o
-  pub object : o < length s.objects
+  pub object : HasReference s k o
   pub waits : IsUnfinished e.unfinished op.Wait o
   pub goes_on : e.unfinished ≡ k.unfinished
   pub inflated : SawInflated k o m
@@ -129,8 +129,8 @@ MayTell s k (Dump number) = Unit {0}
 MayTell s k (Trap fault index) = Unit {0}
 MayTell s k Spent = Unit {0}
 MayTell s k Done = Unit {0}
-MayTell s k (Notify o None) = HasHold k o × (o < length s.objects) × SawNobody s.threads k o
-MayTell s k (NotifyAll o n) = HasHold k o × (o < length s.objects) × SawNobody s.threads k o × (n ≡ 0)
+MayTell s k (Notify o None) = HasHold k o × HasReference s k o × SawNobody s.threads k o
+MayTell s k (NotifyAll o n) = HasHold k o × HasReference s k o × SawNobody s.threads k o × (n ≡ 0)
 MayTell s k _ = ⊥
 
 -- Publishing the length of the whole log, which logs nothing.

@@ -13,7 +13,8 @@ use Rattle.mark_word.specs.Owner.{owner_of}
 use Rattle.mark_word.specs.declared.owner.OwnerForm.TheVariants.{ByThread}
 use Rattle.core_world.specs.declared.task.Op.TheVariants as op
 use Rattle.core_world.specs.declared.task.Unfinished.{Unfinished}
-use Rattle.core_world.specs.Words.Shape.{Shape, class_of}
+use Rattle.core_world.specs.Words.Shape.{Shape}
+use Rattle.core_world.specs.Threads.AtRest.{SawClass}
 use Rattle.core_world.specs.Shots.{dumps_from}
 use Rattle.core_world.specs.Words.Forms.{epoch_in, is_biased, waits_on, says_notified, monitor_in}
 use Rattle.core_world.specs.Threads.Known.{Known, last_seen}
@@ -68,7 +69,7 @@ IsBiasTo t _ e = ⊥
 -- in this call it has seen, or stored, a mark of o that is validly biased to itself, by the prototype of its class that it saw
 abbrev pub SawOwnBias : Shape → Known → ℕ → Type 0
 SawOwnBias s k o =
-    (v p : ℕ) × (last_seen (Mark o) k.seen ≡ Some v) × (last_seen (Prototype (class_of s o)) k.seen ≡ Some p)
+    (v p c : ℕ) × (last_seen (Mark o) k.seen ≡ Some v) × SawClass s k.seen o c × (last_seen (Prototype c) k.seen ≡ Some p)
     × IsBiasTo k.thread (read_mark v) (epoch_in p)
 
 -- in this call it has seen, or stored, a mark of o with the bias pattern. Where it has the lock of o, that bias is valid and its own

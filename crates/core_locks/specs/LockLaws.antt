@@ -1,19 +1,21 @@
 -- When a thread may make the steps that take and leave a hold by a lock record.
 use Rattle.std.specs.Prelude.{◌≡◌, ◌≢◌, ◌⊎◌, ℕ, ◌+◌, ◌<◌, ◌≤◌, true, length, slice_index, Some}
+use Rattle.plain_monitor.specs.Limits.{most_holds}
 use Rattle.plain_monitor.specs.declared.entry.Entry.TheVariants.{Exit}
 use Rattle.core_world.specs.declared.name.Name.TheVariants.{Stamp, Displaced}
 use Rattle.core_world.specs.declared.stage.Stage.TheVariants.{Calm, Seizes, Grabs, Takes, Exits, Ahead, Behind}
 use Rattle.core_world.specs.Words.Shape.{Shape}
 use Rattle.core_world.specs.Words.Forms.{is_neutral, hold_word}
 use Rattle.core_world.specs.Threads.Known.{Known, last_seen, local_of}
+use Rattle.core_world.specs.Threads.References.{HasReference}
 use Rattle.core_world.specs.Clauses.Lengths.{log_limit}
 use Rattle.core_world.specs.Locks.{hold_count}
 use Rattle.core_world.specs.Trees.Plans.{Purpose, next_stamp}
 use Rattle.core_locks.specs.Knowing.{GoesOn, IsOut, SawInflated, SawOwn, SawBiased, SawOwnBias, IsOwnEntry}
 
--- the place is one of the thread's 64, and no hold word stands there
+-- the place is one of the thread's, and no hold word stands there
 pub record IsFree (k : Known) (p : ℕ) : Type 0 where
-  pub place : p < 64
+  pub place : p < most_holds
   pub empty : slice_index k.holds p ≡ 0
 
 -- Storing a displaced word of its own: at a free place, for which it has exchanged no mark.
@@ -51,8 +53,8 @@ pub record MayHold (s : Shape) (k : Known) (e : Purpose) (o d p : ℕ) : Type 0 
   pub out : IsOut k
   pub free : IsFree k p
   pub depth : d ≡ hold_count o k.holds + 1
-  pub small : d ≤ 64
-  pub object : o < length s.objects
+  pub small : d ≤ most_holds
+  pub object : HasReference s k o
   pub before : Precedes s k o p
   pub goes_on : GoesOn k e
 
@@ -66,10 +68,10 @@ HasRaised k o = (stamp : ℕ) × (last_seen (Stamp o) k.seen ≡ Some stamp) × 
 pub record MayLeave (s : Shape) (k : Known) (o d p : ℕ) : Type 0 where
   pub runs : k.running ≡ true
   pub ready : k.wait ≡ 0
-  pub object : o < length s.objects
+  pub object : HasReference s k o
   pub hold : slice_index k.holds p ≡ hold_word o d
   pub deepest : hold_count o k.holds ≡ d
-  pub small : d ≤ 64
+  pub small : d ≤ most_holds
   pub before : ((k.stage ≡ Calm) × (2 ≤ d) × (last_seen (Displaced k.thread p) k.seen ≡ Some 0))
       ⊎ ((k.stage ≡ Behind o)
       × ((m h : ℕ) × SawInflated k o m × SawOwn k k.thread m
@@ -91,8 +93,8 @@ pub record MayLetGo (s : Shape) (k : Known) (o header stamp p : ℕ) : Type 0 wh
   pub runs : k.running ≡ true
   pub calm : k.stage ≡ Calm
   pub ready : k.wait ≡ 0
-  pub object : o < length s.objects
-  pub place : p < 64
+  pub object : HasReference s k o
+  pub place : p < most_holds
   pub hold : slice_index k.holds p ≡ hold_word o 1
   pub last : hold_count o k.holds ≡ 1
   pub displaced : last_seen (Displaced k.thread p) k.seen ≡ Some header

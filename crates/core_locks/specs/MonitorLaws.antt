@@ -3,6 +3,7 @@ use Rattle.std.specs.Prelude.{◌≡◌, ◌≢◌, ◌⊎◌, ℕ, ◌<◌, ◌
 use Rattle.core_world.specs.declared.name.Name.TheVariants.{Stamp, Waiting, Displaced, Owner, Recursions, Header, Object}
 use Rattle.core_world.specs.declared.stage.Stage.TheVariants.{Calm, Resumes, Waits, TakesOver, Inflates}
 use Rattle.core_world.specs.Threads.Known.{Known, Still, Fetches, last_seen, local_of}
+use Rattle.core_world.specs.Threads.References.{HasReference}
 use Rattle.core_world.specs.Trees.Plans.{Purpose, next_stamp}
 use Rattle.core_world.specs.Words.Shape.{Shape}
 use Rattle.core_world.specs.Clauses.WordForms.{IsOwner}
@@ -45,7 +46,7 @@ pub record MayPrepareOwner (s : Shape) (k : Known) (e : Purpose) (m word : ℕ) 
 -- an object word names one
 pub record MayPrepareObject (s : Shape) (k : Known) (e : Purpose) (m o : ℕ) : Type 0 where
   pub prepares : MayPrepare k e m
-  pub object : o < length s.objects
+  pub object : HasReference s k o
 
 -- Storing the recursions of o's monitor m, of which the thread found itself the owner in this call, and which it has a hold of.
 pub record MayCount (k : Known) (e : Purpose) (o m : ℕ) : Type 0 where
@@ -103,7 +104,7 @@ pub record MayInflate (k : Known) (e : Purpose) (o mark u p : ℕ) : Type 0 wher
 -- The kept monitor m is ready for o: in this call the thread saw or stored these words of it.
 pub record IsReady (s : Shape) (k : Known) (o m : ℕ) : Type 0 where
   pub kept : k.kept ≡ Some m
-  pub object : o < length s.objects
+  pub object : HasReference s k o
   pub recursions : last_seen (Recursions m) k.seen ≡ Some 0
   pub its_object : last_seen (Object m) k.seen ≡ Some o
 
@@ -133,7 +134,7 @@ pub record MayFree (s : Shape) (k : Known) (o m stamp : ℕ) : Type 0 where
   pub runs : k.running ≡ true
   pub calm : k.stage ≡ Calm
   pub ready : k.wait ≡ 0
-  pub object : o < length s.objects
+  pub object : HasReference s k o
   pub last : hold_count o k.holds ≡ 1
   pub inflated : SawInflated k o m
   pub owner : SawOwn k k.thread m

@@ -6,6 +6,7 @@ use Rattle.mark_word.specs.declared.owner.OwnerForm.{OwnerForm}
 use Rattle.mark_word.specs.declared.owner.OwnerForm.TheVariants.{ByThread, ByRecord}
 use Rattle.mark_word.specs.Mark.{read_mark}
 use Rattle.mark_word.specs.Owner.{read_owner}
+use Rattle.plain_monitor.specs.Limits.{most_holds}
 use Rattle.plain_monitor.specs.declared.entry.Entry.{Entry}
 use Rattle.plain_monitor.specs.declared.entry.Entry.TheVariants.{Enter}
 use Rattle.plain_monitor.specs.Objects.{PlainObject}
@@ -19,7 +20,8 @@ use Rattle.core_world.specs.Locks.{has_epoch}
 use Rattle.core_world.specs.Trees.LookSteps.{keep_shot_plan, look_at_objects}
 use Rattle.core_world.specs.Trees.Plans.{Purpose, load}
 use Rattle.core_world.specs.Clauses.Safepoints.{IsUnfinished}
-use Rattle.core_world.specs.Words.Shape.{Shape, class_of}
+use Rattle.core_world.specs.Words.Shape.{Shape}
+use Rattle.core_world.specs.Threads.AtRest.{SawClass}
 use Rattle.core_world.specs.Shots.{IsRightShot, cells_of, dumps_from}
 use Rattle.core_world.specs.Trees.Todo.{Todo, done, never, step, ◌>>=◌, ask, all_from}
 use Rattle.core_world.specs.World.{World, logs}
@@ -30,7 +32,7 @@ Saw k n = (v : ℕ) × (last_seen n k.seen_at_safepoint ≡ Some v)
 
 -- the hold words of thread t
 abbrev pub SawHolds : Known → ℕ → Type 0
-SawHolds k t = (p : ℕ) → p < 64 → Saw k (Hold t p)
+SawHolds k t = (p : ℕ) → p < most_holds → Saw k (Hold t p)
 
 -- those of the thread that this owner word names
 abbrev pub SawByOwner : Option OwnerForm → Known → Type 0
@@ -42,7 +44,7 @@ SawByOwner _ k = Unit {0}
 -- record it is; the owner word of the monitor, and the hold words of the owner
 abbrev pub SawBehind : Option MarkForm → Shape → Known → ℕ → Type 0
 SawBehind (Some (Biased thread epoch age)) s k o =
-    (v : ℕ) × (last_seen (Prototype (class_of s o)) k.seen_at_safepoint ≡ Some v)
+    (v c : ℕ) × SawClass s k.seen_at_safepoint o c × (last_seen (Prototype c) k.seen_at_safepoint ≡ Some v)
     × (has_epoch (epoch_in v) epoch ≡ true → SawHolds k thread)
 SawBehind (Some (Locked thread place)) s k o = SawHolds k thread
 SawBehind (Some (Inflated monitor)) s k o =

@@ -6,6 +6,7 @@ use Rattle.core_world.specs.declared.stage.Stage.TheVariants.{Calm, Notifies}
 use Rattle.core_world.specs.Words.Shape.{Shape}
 use Rattle.core_world.specs.Words.Forms.{waits_on, stamp_in}
 use Rattle.core_world.specs.Threads.Known.{Known, last_seen}
+use Rattle.core_world.specs.Threads.References.{HasReference}
 use Rattle.core_world.specs.Clauses.Lengths.{log_limit}
 use Rattle.core_world.specs.Trees.Plans.{Purpose}
 use Rattle.core_world.specs.Trees.WaitSteps.{is_older}
@@ -33,7 +34,7 @@ pub record MayWake (s : Shape) (k : Known) (o u n : ℕ) : Type 0 where
   pub runs : k.running ≡ true
   pub ready : k.wait ≡ 0
   pub holds : HasHold k o
-  pub object : o < length s.objects
+  pub object : HasReference s k o
   pub told : HasNotified k o n
   pub oldest : SawOldest s.threads k o u
 

@@ -4,6 +4,7 @@
 ghost use Rattle.std.specs.Prelude.{◌≡◌, ◌≢◌, ℕ, ◌+◌, ◌<◌, length, true, false};
 ghost use Rattle.mark_word.specs.declared.mark.MarkForm.TheVariants.{Locked};
 ghost use Rattle.mark_word.specs.Mark.{mark_of};
+ghost use Rattle.plain_monitor.specs.Limits.{most_holds};
 ghost use Rattle.plain_monitor.specs.declared.entry.Entry.TheVariants.{Print};
 ghost use Rattle.plain_monitor.specs.declared.entry.Value.{Value};
 ghost use Rattle.plain_history.specs.HeldByLog.{HasLetGo};
@@ -48,14 +49,14 @@ pub use waiting::{
 /// A running thread that exchanges a mark which isn't neutral, but names another thread's record, for its place.
 pub fn no_exchange_of_another_mark()
     ensures { (w : World) (o t u p q : ℕ) (e : Purpose) → Valid w → (w.known t).running ≡ true → t ≢ u
-        → u < 32 → p < 64 → q < 64
+        → u < 32 → p < 64 → q < most_holds
         → w.words (Mark o) ≡ mark_of (Locked u q)
         → Valid (world_after (seize_plan e t o (mark_of (Locked u q)) p) t w) → ⊥ }
 {}
 
 /// A running thread that exchanges a neutral mark for a place where it hasn't stored that mark as the displaced word.
 pub fn no_exchange_without_the_displaced_word()
-    ensures { (w : World) (o t mark p : ℕ) (e : Purpose) → Valid w → (w.known t).running ≡ true → p < 64
+    ensures { (w : World) (o t mark p : ℕ) (e : Purpose) → Valid w → (w.known t).running ≡ true → p < most_holds
         → is_neutral mark ≡ true
         → w.words (Mark o) ≡ mark → w.words (Displaced t p) ≢ mark
         → Valid (world_after (seize_plan e t o mark p) t w) → ⊥ }

@@ -7,7 +7,7 @@ use Rattle.core_world.specs.declared.name.Name.{Name}
 use Rattle.core_world.specs.declared.name.Name.TheVariants as name
 use Rattle.core_world.specs.declared.task.Op.{Op}
 use Rattle.core_world.specs.declared.task.Op.TheVariants as op
-use Rattle.core_world.specs.Threads.AtRest.{AtRest, MayAsk, MayRevoke, SawNoOther}
+use Rattle.core_world.specs.Threads.AtRest.{AtRest, IsItsPrototype, MayAsk, MayRevoke, SawClass, SawNoOther}
 use Rattle.core_world.specs.Words.Forms.{waits_on}
 use Rattle.core_world.specs.Threads.Known.{Known, StepMade, last_seen}
 use Rattle.core_world.specs.Locks.{is_valid_bias}
@@ -15,7 +15,6 @@ use Rattle.core_world.specs.Trees.Operations.{and_then, revocation_steps}
 use Rattle.core_world.specs.Trees.Plans.{Purpose}
 use Rattle.core_world.specs.Trees.SafepointSteps.{safepoint_steps}
 use Rattle.core_world.specs.Trees.RevocationSteps.{revoke_at_safepoint_steps}
-use Rattle.core_world.specs.Words.Shape.{class_of}
 use Rattle.core_world.specs.Threads.Stages.{Revocation}
 use Rattle.core_world.specs.Steps.{seen_before}
 use Rattle.core_world.specs.Trees.Todo.{Todo, ◌>>=◌}
@@ -31,11 +30,11 @@ module _ (heap : Heap) (e : Purpose) (b : Revocation) where
   -- a valid bias of the object was seen by these steps
   abbrev pub ValidBiasIn : List StepMade → Type 0
   ValidBiasIn seen =
-      (v p : ℕ) × (last_seen (name.Mark b.object) seen ≡ Some v) × (last_seen (name.Prototype (class_of heap.shape b.object)) seen ≡ Some p) × (is_valid_bias (read_mark v) p ≡ true)
+      (v p c : ℕ) × (last_seen (name.Mark b.object) seen ≡ Some v) × SawClass heap.shape seen b.object c × (last_seen (name.Prototype c) seen ≡ Some p) × (is_valid_bias (read_mark v) p ≡ true)
 
   -- and no words but those and the safepoint word
   abbrev pub NoOtherIn : List StepMade → Type 0
-  NoOtherIn seen = (n : Name) (v : ℕ) → last_seen n seen ≡ Some v → (n ≡ name.Safepoint) ⊎ (n ≡ name.Mark b.object) ⊎ (n ≡ name.Prototype (class_of heap.shape b.object))
+  NoOtherIn seen = (n : Name) (v : ℕ) → last_seen n seen ≡ Some v → (n ≡ name.Safepoint) ⊎ (n ≡ name.Mark b.object) ⊎ IsItsPrototype heap.shape seen b.object n
 
   -- what a thread has to know that asks for a revocation, or whose request for it stands
   pub record BeginsRevocation (operation : Op) (k : Known) : Type 0 where
@@ -69,7 +68,7 @@ module _ (heap : Heap) (e : Purpose) (b : Revocation) where
     asked k may l a since unreached =
         let carries : Carries l.moving l.log l.wait l.holds l.shots l.unfinished = subst (Carries l.moving l.log l.wait l.holds l.shots) a.mine a.carries in
         let saw = may.saw in
-        let revokes : MayRevoke heap.shape l b.object = ((saw.0, saw.1, since.mark b.object ∙ saw.2, since.prototype (class_of heap.shape b.object) ∙ saw.3, saw.4), unreached may.unreached, alone_since k l may.alone since) in
+        let revokes : MayRevoke heap.shape l b.object = ((saw.0, saw.1, saw.2, since.mark b.object ∙ saw.3, saw.4, since.prototype saw.2 ∙ saw.5, saw.6), unreached may.unreached, alone_since k l may.alone since) in
         record {
           calm = a.calm;
           still = carries.still;
@@ -119,7 +118,7 @@ module _ (heap : Heap) (e : Purpose) (b : Revocation) where
         subst (λ z. Does heap z (revoking k.thread (Done tt)) l (λ f turn m. (f ≡ false) × Revoked heap e b k.thread k turn m)) (sym s.0)
         (going heap (revoke_at_safepoint_steps heap.shape k.thread e b) (λ outcome. ending_steps heap e b k.thread outcome.took) l _ (
         follows heap false (revoke_at_safepoint_steps heap.shape k.thread e b) l _ _ (revoke_does heap e b k.thread operation unfinished allowed object l s.1.0 unwritten
-        (saw.0, saw.1, since.mark b.object ∙ saw.2, since.prototype (class_of heap.shape b.object) ∙ saw.3, saw.4) (alone_since k l may.alone since))
+        (saw.0, saw.1, saw.2, since.mark b.object ∙ saw.3, saw.4, since.prototype saw.2 ∙ saw.5, saw.6) (alone_since k l may.alone since))
         (λ f a m y. follows heap false _ m _ _ (ending_does heap e b k.thread object l s.1.0 unwritten m a y.1) (λ f turn n z. (z.0, revoked_since k l n turn since z.1)))))
     then_revoking k may f (Pending why) l s = answers heap f (Pending why) l _ s
 

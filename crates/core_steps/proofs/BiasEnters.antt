@@ -3,6 +3,7 @@ use Rattle.std.proofs.Common.{◌≡◌, ◌⊎◌, ℕ, ◌<◌, ◌≤◌, ◌
 use Rattle.mark_word.specs.declared.mark.MarkForm.{MarkForm}
 use Rattle.mark_word.specs.declared.mark.MarkForm.TheVariants.{Inflating, Neutral, Anonymous, Biased, Locked, Inflated, Marked}
 use Rattle.mark_word.specs.Mark.{mark_of, read_mark}
+use Rattle.plain_monitor.specs.Limits.{most_holds}
 use Rattle.plain_monitor.specs.declared.entry.Path.{Path}
 use Rattle.plain_monitor.specs.declared.entry.Path.TheVariants.{BiasOwn, BiasTaken}
 use Rattle.core_world.specs.declared.answer.BiasTry.{BiasTry}
@@ -11,7 +12,7 @@ use Rattle.core_world.specs.declared.name.Name.TheVariants as name
 use Rattle.core_world.specs.declared.plan.StepPlan.{StepPlan}
 use Rattle.core_world.specs.declared.stage.Stage.TheVariants.{Calm, Takes}
 use Rattle.core_world.specs.declared.task.Op.TheVariants as op
-use Rattle.core_world.specs.Threads.AtRest.{AtRest, SawNoOther}
+use Rattle.core_world.specs.Threads.AtRest.{AtRest, SawClass, SawNoOther}
 use Rattle.core_world.specs.Trees.BiasSteps.{unbias_plan, rebias_plan, took_steps, rebias_steps, bias_enter_at, bias_enter_by, bias_enter_steps, bias_after_at, bias_after_steps, stage_after}
 use Rattle.core_world.specs.Words.Forms.{is_biased, is_biased_form, epoch_in, epoch_form, says_notified}
 use Rattle.core_world.specs.Threads.Known.{Known, Local, Still, local_of, last_seen}
@@ -56,7 +57,7 @@ module _ (heap : Heap) (o : ℕ) (e : Purpose) (enters : IsUnfinished e.unfinish
     pub check : e.check ≡ k.checking
     pub calm : k.stage ≡ Calm
     pub untold : Untold k
-    pub place : free_place k.holds < 64
+    pub place : free_place k.holds < most_holds
 
   pub enters_rests : (k : Known) → Enters k → AtRest heap.shape k
   enters_rests k x = rests heap.shape k x.calm x.takes.unasks (sym x.check ∙ x.takes.unchecks) (live_carries k.log k.wait k.holds k.unfinished x.takes.still x.takes.live (λ i h. x.place) (λ dumps. undumped_enter e o (inr enters) (sym x.mine ∙ dumps)) x.untold)
@@ -79,7 +80,7 @@ module _ (heap : Heap) (o : ℕ) (e : Purpose) (enters : IsUnfinished e.unfinish
     pub kept_is : l.kept ≡ kept
     pub unreached : l.reached ≡ false
     pub saw : last_seen (name.Mark o) l.seen ≡ Some mark
-    pub prototype : (p : ℕ) × (last_seen (name.Prototype (class_of heap.shape o)) l.seen ≡ Some p) × (is_valid_bias (read_mark mark) p ≡ true)
+    pub prototype : (p c : ℕ) × SawClass heap.shape l.seen o c × (last_seen (name.Prototype c) l.seen ≡ Some p) × (is_valid_bias (read_mark mark) p ≡ true)
     pub alone : SawNoOther heap.shape l o
 
   -- what follows the answers with which no bias is left to revoke, and each answer
@@ -102,15 +103,15 @@ module _ (heap : Heap) (o : ℕ) (e : Purpose) (enters : IsUnfinished e.unfinish
 
   module _ (here : Local) (kept : Option ℕ) (Q : Bool → BiasTry → Known → Type 0) where
     -- THE HOLD under a bias to the thread
-    took_does : EnterOutcomes here kept Q → (k : Known) (path : Path) → Taking heap k.running k.requesting k.moving k.log e o → k.unfinished ≡ e.unfinished → Untold k → free_place k.holds < 64 → (k.stage ≡ Takes o) ⊎ (k.stage ≡ Calm)
+    took_does : EnterOutcomes here kept Q → (k : Known) (path : Path) → Taking heap k.running k.requesting k.moving k.log e o → k.unfinished ≡ e.unfinished → Untold k → free_place k.holds < most_holds → (k.stage ≡ Takes o) ⊎ (k.stage ≡ Calm)
         → SawOwnBias heap.shape k o → WentBefore heap.biasing heap.shape k o (free_place k.holds) path → Does heap false (took_steps e (local_of k) o path) k Q
     took_does outs k path a mine untold place stage saw went =
         binds heap false (hold_steps e (local_of k) o path) (λ p. done (Took p)) k Q (
         follows heap false _ k _ _ (hold_does heap k e o path a mine untold place (inr (inr (inr (inr (stage, saw)))), went)) (λ f p l x. answers heap f (Took p) l Q (outs.took f l p x)))
 
     -- behind the loads of the mark and the prototype
-    module _ (outs : Tries here kept Q) (k : Known) (mark prototype : ℕ) (x : Enters k) (local : local_of k ≡ here) (same : k.kept ≡ kept) (headers : SawHeaders k) (unreached : k.reached ≡ false)
-        (saw_mark : last_seen (name.Mark o) k.seen ≡ Some mark) (saw_prototype : last_seen (name.Prototype (class_of heap.shape o)) k.seen ≡ Some prototype) (alone : SawNoOther heap.shape k o) where
+    module _ (outs : Tries here kept Q) (k : Known) (mark prototype class : ℕ) (x : Enters k) (local : local_of k ≡ here) (same : k.kept ≡ kept) (headers : SawHeaders k) (unreached : k.reached ≡ false)
+        (saw_mark : last_seen (name.Mark o) k.seen ≡ Some mark) (saw_class : SawClass heap.shape k.seen o class) (saw_prototype : last_seen (name.Prototype class) k.seen ≡ Some prototype) (alone : SawNoOther heap.shape k o) where
       -- an exchange that misses
       races : (n : ℕ) (l : Known) → Enters l → Q false (Raced mark n) l
       races n l y = outs.raced l mark n (enters_rests l y)
@@ -124,18 +125,20 @@ module _ (heap : Heap) (o : ℕ) (e : Purpose) (enters : IsUnfinished e.unfinish
           (λ i. rebiases_rule heap k e o mark prototype epoch x.takes.object (λ v. (
             record {
               prototype = prototype;
-              exchange = record { runs = x.takes.runs; calm = x.calm; saw = saw_prototype; loose = loose; goes_on = sym x.mine };
+              exchange = record { runs = x.takes.runs; calm = x.calm; class = class; saw_class = saw_class; saw = saw_prototype; loose = loose; goes_on = sym x.mine };
               valid = is;
             },
-            record { runs = x.takes.runs; calm = x.calm; goes_on = inl (sym x.mine); saw = free_bias heap.shape k o mark prototype saw_prototype loose; valid = is },
+            record { runs = x.takes.runs; calm = x.calm; goes_on = inl (sym x.mine); saw = free_bias heap.shape k o class mark prototype saw_class saw_prototype loose; valid = is },
           )))
           (λ n i was h.
           let l = known_hit heap.shape heap.start exchange n k in
           took_does outs.outcomes l BiasTaken x.takes refl x.untold x.place (inl refl) (
             own,
             prototype,
+            class,
             saw_newest heap exchange n k ∙ ap (λ (z : Bool). Some (cond z own n)) (eq-eqb n mark h),
-            saw_older heap exchange n k (name.Prototype (class_of heap.shape o)) i refl refl ∙ saw_prototype,
+            saw_class,
+            saw_older heap exchange n k (name.Prototype class) i refl refl ∙ saw_prototype,
             own_bias heap k was.stands prototype epoch is,
           ) refl)
           (λ n i was h. answers heap false (Raced mark n) _ Q (races n (known_miss heap.shape heap.start exchange n k)
@@ -154,7 +157,7 @@ module _ (heap : Heap) (o : ℕ) (e : Purpose) (enters : IsUnfinished e.unfinish
           chooses heap false (u == k.thread) _ _ k Q
           (λ mine.
           let saw : SawOwnBias heap.shape k o =
-          (mark, prototype, saw_mark, saw_prototype, subst (λ f. IsBiasTo k.thread f (epoch_in prototype)) (sym reads) (eqb-true u k.thread mine, valid)) in
+          (mark, prototype, class, saw_mark, saw_class, saw_prototype, subst (λ f. IsBiasTo k.thread f (epoch_in prototype)) (sym reads) (eqb-true u k.thread mine, valid)) in
           took_does outs.outcomes k BiasOwn x.takes x.mine x.untold x.place (inr x.calm) saw (x.calm, saw))
           (λ other. answers heap false (Valid mark) k Q (outs.valid k mark (record {
             going = x;
@@ -162,7 +165,7 @@ module _ (heap : Heap) (o : ℕ) (e : Purpose) (enters : IsUnfinished e.unfinish
             kept_is = same;
             unreached = unreached;
             saw = saw_mark;
-            prototype = (prototype, saw_prototype, ap (λ f. is_valid_bias f prototype) reads ∙ valid);
+            prototype = (prototype, class, saw_class, saw_prototype, ap (λ f. is_valid_bias f prototype) reads ∙ valid);
             alone = alone;
           }))))
           (λ stale. rebias_does epoch is (subst (λ f. IsLoose f (epoch_in prototype)) (sym reads) (stale_epoch old epoch (epoch_in prototype) is stale)))
@@ -188,14 +191,14 @@ module _ (heap : Heap) (o : ℕ) (e : Purpose) (enters : IsUnfinished e.unfinish
           (λ i. unbiases_rule heap k e o mark prototype prototype x.takes.object (λ v. (
             record {
               prototype = prototype;
-              exchange = record { runs = x.takes.runs; calm = x.calm; saw = saw_prototype; loose = loose; goes_on = sym x.mine };
+              exchange = record { runs = x.takes.runs; calm = x.calm; class = class; saw_class = saw_class; saw = saw_prototype; loose = loose; goes_on = sym x.mine };
               to = inr (refl, none);
             },
             record {
               runs = x.takes.runs;
               calm = x.calm;
               goes_on = inl (sym x.mine);
-              saw = free_bias heap.shape k o mark prototype saw_prototype loose;
+              saw = free_bias heap.shape k o class mark prototype saw_class saw_prototype loose;
               unbiased = ap is_biased_form reads;
               why = inl none;
             },
@@ -216,8 +219,8 @@ module _ (heap : Heap) (o : ℕ) (e : Purpose) (enters : IsUnfinished e.unfinish
           (record { takes = x.takes; mine = x.mine; check = x.check; calm = x.calm; untold = x.untold; place = x.place })))
 
     -- THE WHOLE, which a call begins with
-    pub bias_enter_does : Tries here kept Q → (k : Known) → Taking heap k.running k.requesting k.moving k.log e o → k.stage ≡ Calm → GoesOn k e → e.check ≡ k.checking → Untold k → free_place k.holds < 64 → local_of k ≡ here → k.kept ≡ kept
-        → Does heap true (bias_enter_steps e (local_of k) (class_of heap.shape o) o) k Q
+    pub bias_enter_does : Tries here kept Q → (k : Known) → Taking heap k.running k.requesting k.moving k.log e o → k.stage ≡ Calm → GoesOn k e → e.check ≡ k.checking → Untold k → free_place k.holds < most_holds → local_of k ≡ here → k.kept ≡ kept
+        → Does heap true (bias_enter_steps heap.shape e (local_of k) o) k Q
     bias_enter_does outs k a calm goes check untold place local same =
         let look = load e (name.Mark o) in
         let c = class_of heap.shape o in
@@ -231,9 +234,9 @@ module _ (heap : Heap) (o : ℕ) (e : Purpose) (enters : IsUnfinished e.unfinish
         hitting heap false ask_prototype _ l Q (λ n. refl) (λ j. looks heap l ask_prototype (look_prototype l e a.runs refl refl (inl refl) c) (class_in heap l o a.object)) (λ prototype j was1.
         let m = known_hit heap.shape heap.start ask_prototype prototype l in
         let is : IsPrototype prototype = prototype_here heap l was1.stands a.runs c prototype biasing was1.found in
-        by_does outs m mark prototype (record { takes = a; mine = refl; check = refl; calm = refl; untold = untold; place = place }) local same (headers_more heap ask_prototype prototype l refl j refl headers)
+        by_does outs m mark prototype c (record { takes = a; mine = refl; check = refl; calm = refl; untold = untold; place = place }) local same (headers_more heap ask_prototype prototype l refl j refl headers)
         (unreached_here heap k was.stands a.runs)
-        (saw_older heap ask_prototype prototype l (name.Mark o) j refl refl ∙ saw_newest heap look mark k) (saw_newest heap ask_prototype prototype l) (saw_two heap e o mark prototype k i a.unasks j)
+        (saw_older heap ask_prototype prototype l (name.Mark o) j refl refl ∙ saw_newest heap look mark k) refl (saw_newest heap ask_prototype prototype l) (saw_two heap e o c mark prototype k refl i a.unasks j)
         (read_mark prototype) refl (prototype_form prototype is) yes is))
         (λ no. answers heap false (Unbiased mark) l Q (outs.outcomes.unbiased l mark (record {
           going = record { takes = a; mine = refl; check = refl; calm = refl; untold = untold; place = place };
@@ -253,7 +256,7 @@ pub record Wants (heap : Heap) (o : ℕ) (e : Purpose) (here : Local) : Type 0 w
   pub room : length here.log < log_limit
   pub object : o < length heap.shape.objects
   pub untold : (i : ℕ) → says_notified here.wait i ≡ false
-  pub place : free_place here.holds < 64
+  pub place : free_place here.holds < most_holds
 
 unwaiting_enter : (e : Purpose) (o : ℕ) → IsUnfinished e.unfinished op.Enter o → (i : ℕ) → IsUnfinished e.unfinished op.Wait i → ⊥
 unwaiting_enter e o enters i h = let a = ap (is_of_kind op.Enter) (sym enters ∙ h) in cc a
@@ -287,8 +290,8 @@ module _ (heap : Heap) (e : Purpose) (b : Revocation) (enters : IsUnfinished e.u
   untold_here : (i : ℕ) → says_notified k.wait i ≡ false
   untold_here i = ap (λ z. says_notified z.wait i) local ∙ wants.untold i
 
-  place_here : free_place k.holds < 64
-  place_here = subst (λ z. free_place z.holds < 64) (sym local) wants.place
+  place_here : free_place k.holds < most_holds
+  place_here = subst (λ z. free_place z.holds < most_holds) (sym local) wants.place
 
   looks_again : (took : Bool) → Released heap e b me k0 took k → IsLook k (look took)
   looks_again took x = record {
@@ -321,15 +324,16 @@ module _ (heap : Heap) (e : Purpose) (b : Revocation) (enters : IsUnfinished e.u
       hitting heap false (look true) _ k Q (λ n. refl) (λ i. looks heap k (look true) (looks_again true x) (λ v. wants.object)) (λ mark i was.
       let v = x.mark.0 in
       let p = x.mark.1 in
-      let bias : IsBiasTo k.thread (read_mark v) (epoch_in p) = x.mark.4 in
-      let mark_is : mark ≡ v = sym was.found ∙ bias_stays heap k was.stands x.runs o v p x.mark.2 x.mark.3 bias in
+      let class = x.mark.2 in
+      let bias : IsBiasTo k.thread (read_mark v) (epoch_in p) = x.mark.6 in
+      let mark_is : mark ≡ v = sym was.found ∙ bias_stays heap k was.stands x.runs o class v p x.mark.3 x.mark.4 x.mark.5 bias in
       let bias_now : IsBiasTo k.thread (read_mark mark) (epoch_in p) = subst (λ z. IsBiasTo k.thread (read_mark z) (epoch_in p)) (sym mark_is) bias in
       own_does (read_mark mark) mark p x bias_now
-      (mark, p, saw_newest heap (look true) mark k, saw_older heap (look true) mark k (name.Prototype (class_of heap.shape o)) i refl refl ∙ x.mark.3, bias_now))
+      (mark, p, class, saw_newest heap (look true) mark k, x.mark.4, saw_older heap (look true) mark k (name.Prototype class) i refl refl ∙ x.mark.5, bias_now))
   bias_after_does false x =
       hitting heap false (look false) _ k Q (λ n. refl) (λ i. looks heap k (look false) (looks_again false x) (λ v. wants.object)) (λ mark i was.
       let l = then_known false mark in
-      let unbiased : is_biased mark ≡ false = ap is_biased (sym was.found) ∙ unbiased_here heap false k o was.stands x.runs (inr (refl, (x.mark.0, x.mark.2, x.mark.4))) in
+      let unbiased : is_biased mark ≡ false = ap is_biased (sym was.found) ∙ unbiased_here heap false k o was.stands x.runs (inr (refl, (x.mark.0, x.mark.3, x.mark.6))) in
       chooses heap false (is_biased mark) _ _ l Q (λ yes. absurd (cc (yes, unbiased))) (λ no.
       answers heap false (Unbiased mark) l Q (outs.unbiased l mark (record {
         going = record { takes = taking heap o e here k enters wants local x.runs x.unasks x.still; mine = refl; check = refl; calm = refl; untold = untold_here; place = place_here };

@@ -9,7 +9,7 @@ use Rattle.core_world.specs.declared.name.Name.{Name}
 use Rattle.core_world.specs.declared.name.Name.TheVariants as name
 use Rattle.core_world.specs.declared.plan.StepPlan.{StepPlan}
 use Rattle.core_world.specs.declared.stage.Stage.TheVariants.{Calm}
-use Rattle.core_world.specs.Threads.AtRest.{SawNoOther}
+use Rattle.core_world.specs.Threads.AtRest.{SawClass, SawNoOther}
 use Rattle.core_world.specs.Words.Forms.{is_biased, is_biased_form, epoch_in, epoch_form}
 use Rattle.core_world.specs.Threads.Known.{Known, last_seen}
 use Rattle.core_world.specs.Locks.{has_epoch, is_valid_bias, marks}
@@ -17,7 +17,9 @@ use Rattle.core_world.specs.Looking.{IsLook}
 use Rattle.core_world.specs.Words.Names.{same_name}
 use Rattle.core_world.specs.Trees.Plans.{Purpose, load}
 use Rattle.core_world.specs.Clauses.SeenWords.{IsValidBias}
-use Rattle.core_world.specs.Words.Shape.{Shape, class_of}
+use Rattle.core_world.specs.Words.Shape.{Shape}
+use Rattle.core_world.specs.Words.Names.{class_by}
+use Rattle.core_world.proofs.There.{class_seen}
 use Rattle.core_world.specs.Steps.{is_idle, known_hit, seen_before, is_header, kept_by_note, kept_by_act}
 use Rattle.core_world.specs.Words.Acts.{word_after}
 use Rattle.core_world.proofs.Naming.{same_named}
@@ -55,12 +57,12 @@ module _ (heap : Heap) (p : StepPlan) (n : ℕ) (k : Known) (on_header : is_head
       saw_any heap p n k m going kept ∙ ap (λ (z : Bool). cond z (Some (word_after p.act n)) (last_seen m k.seen)) (hidden_apart m p.at h on_header) ∙ bare m h other
 
 -- by the loads of an object's mark and then of its class's prototype, with which a call begins, it has seen no other words
-pub saw_two : (heap : Heap) (e : Purpose) (o mark prototype : ℕ) (k : Known) → is_idle heap.shape k ≡ true → k.requesting ≡ false → is_idle heap.shape (known_hit heap.shape heap.start (load e (name.Mark o)) mark k) ≡ false
-    → SawNoOther heap.shape (known_hit heap.shape heap.start (load e (name.Prototype (class_of heap.shape o))) prototype (known_hit heap.shape heap.start (load e (name.Mark o)) mark k)) o
-saw_two heap e o mark prototype k over unasks going n v saw =
+pub saw_two : (heap : Heap) (e : Purpose) (o class mark prototype : ℕ) (k : Known) → SawClass heap.shape (seen_before heap.shape k) o class → is_idle heap.shape k ≡ true → k.requesting ≡ false → is_idle heap.shape (known_hit heap.shape heap.start (load e (name.Mark o)) mark k) ≡ false
+    → SawNoOther heap.shape (known_hit heap.shape heap.start (load e (name.Prototype class)) prototype (known_hit heap.shape heap.start (load e (name.Mark o)) mark k)) o
+saw_two heap e o class mark prototype k saw_class over unasks going n v saw =
     let l = known_hit heap.shape heap.start (load e (name.Mark o)) mark k in
-    elim (alone_more heap (load e (name.Prototype (class_of heap.shape o))) prototype l n v going refl saw) [
-      | inl is ↦ inr (inr is)
+    elim (alone_more heap (load e (name.Prototype class)) prototype l n v going refl saw) [
+      | inl is ↦ inr (inr (class, saw_class, is))
       | inr g ↦ inr (inl (first_alone heap (load e (name.Mark o)) mark k n v over unasks refl g))
     ]
 
@@ -125,12 +127,13 @@ module _ (heap : Heap) (k : Known) (v : Stands heap k) (runs : k.running ≡ tru
       cases false e = refl
 
   -- a bias to the thread that it has seen is still there, and so is the lack of one
-  pub bias_stays : (o mark prototype : ℕ) → last_seen (name.Mark o) k.seen ≡ Some mark → last_seen (name.Prototype (class_of heap.shape o)) k.seen ≡ Some prototype → IsBiasTo k.thread (read_mark mark) (epoch_in prototype)
+  pub bias_stays : (o class mark prototype : ℕ) → last_seen (name.Mark o) k.seen ≡ Some mark → SawClass heap.shape k.seen o class → last_seen (name.Prototype class) k.seen ≡ Some prototype → IsBiasTo k.thread (read_mark mark) (epoch_in prototype)
       → v.world.words (name.Mark o) ≡ mark
-  bias_stays o mark prototype saw_mark saw_prototype bias =
+  bias_stays o class mark prototype saw_mark saw_class saw_prototype bias =
       let fits = fits_here heap k v runs in
       let runs_there = away heap k v (λ s y. y.running ≡ true) runs in
-      let now = fits.seen.stays k.thread (name.Prototype (class_of v.world.shape o)) prototype (away heap k v (λ s y. last_seen (name.Prototype (class_of s o)) y.seen ≡ Some prototype) saw_prototype) (inl (runs_there, tt)) in
+      let its : class_by v.world.shape v.world.words o ≡ class = class_seen v.world.shape v.world.words k.seen o class (away heap k v (λ s y. SawClass s k.seen o class) saw_class) in
+      let now = ap (λ c. v.world.words (name.Prototype c)) its ∙ fits.seen.stays k.thread (name.Prototype class) prototype (away heap k v (λ s y. last_seen (name.Prototype class) y.seen ≡ Some prototype) saw_prototype) (inl (runs_there, tt)) in
       let valid : IsValidBias (read_mark mark) prototype = bias_valid k.thread (read_mark mark) prototype bias in
       fits.seen.stays k.thread (name.Mark o) mark (away heap k v (λ s y. last_seen (name.Mark o) y.seen ≡ Some mark) saw_mark) (inl (runs_there, inl (subst (IsValidBias (read_mark mark)) (sym now) valid)))
 
@@ -158,9 +161,9 @@ own_bias heap k v p epoch e =
     (refl, ap (λ z. has_epoch z epoch) e ∙ eq-eqb epoch epoch refl)
 
 -- a mark that is anonymous or stale by its class's prototype, which was seen, is free
-pub free_bias : (s : Shape) (k : Known) (o mark prototype : ℕ) → last_seen (name.Prototype (class_of s o)) k.seen ≡ Some prototype → IsLoose (read_mark mark) (epoch_in prototype)
+pub free_bias : (s : Shape) (k : Known) (o class mark prototype : ℕ) → SawClass s k.seen o class → last_seen (name.Prototype class) k.seen ≡ Some prototype → IsLoose (read_mark mark) (epoch_in prototype)
     → SawFreeBias s k o mark prototype
-free_bias s k o mark prototype seen loose = record { seen = seen; biased = pattern (read_mark mark) loose; free = free (read_mark mark) loose }
+free_bias s k o class mark prototype saw_class seen loose = record { class = class; saw_class = saw_class; seen = seen; biased = pattern (read_mark mark) loose; free = free (read_mark mark) loose }
   where
     pattern : (f : Option MarkForm) → IsLoose f (epoch_in prototype) → is_biased_form f ≡ true
     pattern (Some (Anonymous epoch age)) h = refl

@@ -15,7 +15,7 @@ use Rattle.core_world.specs.World.{World}
 use Rattle.plain_monitor.specs.Objects.{PlainObject}
 use Rattle.core_world.specs.Trees.RevocationSteps.{revoke_plan}
 use Rattle.core_world.specs.There.{IsIn}
-use Rattle.core_world.specs.Words.Shape.{class_of}
+use Rattle.core_world.specs.Words.Names.{class_by}
 use Rattle.core_world.specs.Threads.Stages.{Revocation, revocation_in}
 use Rattle.core_world.specs.Steps.{world_after}
 use Rattle.core_world.specs.Valid.{Fits, IsRevoking, IsValid}
@@ -72,18 +72,18 @@ module _ (heap : Heap) (k : Known) where
       (λ w P t within m v law. bias_dropped w P t e o mark prototype neutral within m.1 v law) (λ t y h. refl) (λ v. tt) (λ s y a. a.1.runs) (λ v. (object, tt)) may
 
   -- A REVOCATION: its first store, with which the law holds of the world before
-  pub begins_revoking_rule : (e : Purpose) (b : Revocation) (verdict : Verdict) (reset : Bool) (at : Name) (word : ℕ)
-      → (Stands heap k → IsIn heap.shape at) → (Stands heap k → MayBeginRevoking heap.shape k e k.thread b verdict reset at word)
-      → Keeps heap (revoke_plan e b (own.CountVerdict (class_of heap.shape b.object) verdict reset) at word) k
-  begins_revoking_rule e b verdict reset at word there may = record {
+  pub begins_revoking_rule : (e : Purpose) (b : Revocation) (class : ℕ) (verdict : Verdict) (reset : Bool) (at : Name) (word : ℕ)
+      → (Stands heap k → IsIn heap.shape at) → (Stands heap k → MayBeginRevoking heap.shape k e k.thread b class verdict reset at word)
+      → Keeps heap (revoke_plan e b (own.CountVerdict class verdict reset) at word) k
+  begins_revoking_rule e b class verdict reset at word there may = record {
     there = λ v. (there v, tt);
     exact = λ v. tt;
     by = λ v.
         let a = calm_in_all heap k v (may v).reached (may v).calm in
-        home heap k v (λ s y. MayBeginRevoking s y e k.thread b verdict reset at word
-        → WhollyValid (world_after (revoke_plan e b (own.CountVerdict (class_of s b.object) verdict reset) at word) k.thread v.world))
+        home heap k v (λ s y. MayBeginRevoking s y e k.thread b class verdict reset at word
+        → WhollyValid (world_after (revoke_plan e b (own.CountVerdict class verdict reset) at word) k.thread v.world))
         (λ m.
-        let r = begin_revokes v.world v.objects k.thread e b verdict reset at word m a.fits in
+        let r = begin_revokes v.world v.objects k.thread e b class verdict reset at word m a.fits in
         record { objects = v.objects; is = inr (r.0, subst BiasLawHolds (sym r.1) a.biases) }) (may v);
   }
 
@@ -117,7 +117,7 @@ module _ (heap : Heap) (k : Known) where
   -- and the load behind them, which counts as a whole: whether a bias was taken, the object's words tell then
   pub looks_behind_rule : (e : Purpose) (b : Revocation) (took : Bool) (at : Name) → (Stands heap k → IsIn heap.shape at)
       → (Stands heap k → MayLookAfterRevoking heap.shape k e k.thread b)
-      → ((v : Stands heap k) → TellsBias k.thread b.object (class_of heap.shape b.object) took v.world.words)
+      → ((v : Stands heap k) → TellsBias k.thread b.object (class_by heap.shape v.world.words b.object) took v.world.words)
       → Keeps heap (load_plan e (stage_after took b.object) at) k
   looks_behind_rule e b took at there may tells = record {
     there = λ v. (there v, tt);
@@ -127,13 +127,13 @@ module _ (heap : Heap) (k : Known) where
         let within = subst (λ u. u < v.world.shape.threads) (sym same) (inside heap k v) in
         let mine = subst (λ u. MayLookAfterRevoking v.world.shape (v.world.known u) e u b) (sym same) (away heap k v (λ z y. MayLookAfterRevoking z y e k.thread b) (may v)) in
         let its : s.revocation ≡ b = let both : Some s.revocation ≡ Some b = sym s.its_revocation ∙ mine.ends.its_revocation in cc both in
-        let told : TellsBias k.thread s.revocation.object (class_of v.world.shape s.revocation.object) took v.world.words =
-        subst (λ (c : Revocation). TellsBias k.thread c.object (class_of v.world.shape c.object) took v.world.words) (sym its)
-        (away heap k v (λ z y. TellsBias k.thread b.object (class_of z b.object) took v.world.words) (tells v)) in
+        let told : TellsBias k.thread s.revocation.object (class_by v.world.shape v.world.words s.revocation.object) took v.world.words =
+        subst (λ (c : Revocation). TellsBias k.thread c.object (class_by v.world.shape v.world.words c.object) took v.world.words) (sym its)
+        (away heap k v (λ z y. TellsBias k.thread b.object (class_by z v.world.words b.object) took v.world.words) (tells v)) in
         let fits = look_fits v.world v.objects s.requester e b at took within mine (inr s) in
         let counted : BiasLawHolds (world_after (load_plan e (stage_after took s.revocation.object) at) s.requester v.world) =
         revocation_looked v.world v.objects s e took at
-        (record { over = all_made v.world v.objects e b s mine.ends; says = took_biased k.thread s.revocation.object (class_of v.world.shape s.revocation.object) took v.world.words told; goes_on = mine.ends.goes_on }) law in
+        (record { over = all_made v.world v.objects e b s mine.ends; says = took_biased k.thread s.revocation.object (class_by v.world.shape v.world.words s.revocation.object) took v.world.words told; goes_on = mine.ends.goes_on }) law in
         record {
           objects = v.objects;
           is = inl (fits, subst (λ (c : Revocation). BiasLawHolds (world_after (load_plan e (stage_after took c.object) at) s.requester v.world)) its counted);

@@ -42,7 +42,7 @@ use Rattle.core_law.specs.Logic.{Heap, Stands, Keeps, Was, Does}
 use Rattle.core_law.proofs.Standing.{away, home}
 use Rattle.core_law.proofs.Wholes.{All}
 use Rattle.core_law.proofs.SafepointSights.{Seeing, seeing_all, seeing_itself, is_as_seen, forms_fit}
-use Rattle.core_steps.specs.Deflated.{GaveBack, SawInUse, IsSettled, NamedAreInUse, GivenBackAreClean, is_taken_by}
+use Rattle.core_steps.specs.Deflated.{GaveBack, SawInUse, IsBack, IsSettled, NamedAreInUse, GivenBackAreClean, is_taken_by}
 use Rattle.core_steps.proofs.Ringed.{IsOut, out_on, within_ring, unnamed, stands_in_ring, none_returns, comes_out, stays_out}
 use Rattle.core_steps.proofs.LawRules.{keeps_in_all, standing_in_all, looks}
 use Rattle.core_steps.proofs.SafepointLooks.{stays_reached, stood_kept, Facts, each_does, going}
@@ -173,15 +173,6 @@ module _ (heap : Heap) (e : Purpose) (k0 : Known) (st : Stage) (plain : revocati
   abbrev pub Held : Known → ℕ → Type 0
   Held k u = SeesEnded k u ⊎ SeesHeldUp k u
 
-  -- The monitor m was given back, and stands in the ring; or the mark of the object in its object word doesn't name it, or it is in use.
-  abbrev pub Settles : Known → ℕ → Type 0
-  Settles k m =
-      (GaveBack k m × IsOut heap.shape k m)
-      ⊎ ((o v : ℕ) × Saw k (name.Object m) o × Saw k (name.Mark o) v × (monitor_in v ≡ Some m → SawInUse heap.shape k o m))
-
-  pub settled_of : (k : Known) (m : ℕ) → Settles k m → IsSettled heap.shape k m
-  settled_of k m h = elim h [ inl a ↦ inl a.0 | inr a ↦ inr a ]
-
   -- it stands in the ring, and its words are 0
   pub record Clears (k : Known) (m : ℕ) : Type 0 where
     pub out : IsOut heap.shape k m
@@ -198,6 +189,16 @@ module _ (heap : Heap) (e : Purpose) (k0 : Known) (st : Stage) (plain : revocati
     header = s.saw (name.Header m) 0 x.header;
     object = s.saw (name.Object m) 0 x.object;
   }
+
+  -- The monitor m was given back, and stands in the ring; or the mark of the object in its object word doesn't name it, or it is in use.
+  abbrev pub Settles : Known → ℕ → Type 0
+  Settles k m =
+      (GaveBack k m × Clears k m)
+      ⊎ ((o v : ℕ) × Saw k (name.Object m) o × Saw k (name.Mark o) v × (monitor_in v ≡ Some m → SawInUse heap.shape k o m))
+
+  -- of the monitors that a heap has, where anything was looked at
+  abbrev pub AllSettled : Known → Type 0
+  AllSettled l = 0 < length heap.shape.objects → (m : ℕ) → m < monitor_count heap.shape → Settles l m
 
   -- WHAT STAYS of what was seen: whoever had ended or was held up is so still, each prototype is what it was, and so is each mark, but for such as had
   -- no bias pattern and have none; and no monitor that wasn't idle is so now
@@ -267,7 +268,7 @@ module _ (heap : Heap) (e : Purpose) (k0 : Known) (st : Stage) (plain : revocati
     marks = λ i v h. (v, s.saw (name.Mark i) v h, inl refl);
     prototypes = λ i v h. s.saw (name.Prototype i) v h;
     settled = λ m h. elim h [
-      | inl a ↦ inl (x.back m ∙ a.0, out_on heap.shape k l m s.saw a.1)
+      | inl a ↦ inl (x.back m ∙ a.0, clears_on k l m s a.1)
       | inr a ↦ inr (a.0, a.1, s.saw (name.Object m) a.0 a.2, s.saw (name.Mark a.0) a.1 a.3, λ q. in_use_on k l a.0 m s (a.4 q))
     ];
     fresh = λ m h. inl (sym (x.back m) ∙ h);
@@ -411,6 +412,30 @@ module _ (heap : Heap) (e : Purpose) (k0 : Known) (st : Stage) (plain : revocati
           let small = home heap k2 v (λ z y. (q : IsOut z k2 j) → 0 < z.threads → q.more + 1 < 2 ^ ring_bits z) (λ q t. within_ring v.world v.objects fits k2 j (is_as_seen heap k2 v reached) q t) x2 threads in
           stays_out heap.shape k2 k10 o m mark header end saw_end object saw_mark_still named names_none at_end_now in_ring_now headed_now rings_now marks_now j x2 small
 
+    -- a word of a monitor that was 0 is so still
+    zero_still : (at : ℕ → Name) (j : ℕ) (b : Bool) → Saw k (at j) 0 → cond b (Some 0) (last_seen (at j) k2.seen_at_safepoint) ≡ Some 0
+    zero_still at j true saw = refl
+    zero_still at j false saw = s.saw (at j) 0 saw
+
+    clear_still : (v : Stands heap k2) (a b c d f g n : ℕ) (j : ℕ) → Clears k j → Clears (k9 a b c d f g n) j
+    clear_still v a b c d f g n j h = record {
+      out = out_still v a b c d f g n j h.out;
+      owner = zero_still name.Owner j (j == m) h.owner;
+      recursions = zero_still name.Recursions j (j == m) h.recursions;
+      header = zero_still name.Header j (j == m) h.header;
+      object = zero_still name.Object j (j == m) h.object;
+    }
+
+    -- the monitor is clear now
+    clear_now : (v : Stands heap k2) (a b c d f g n : ℕ) → Clears (k9 a b c d f g n) m
+    clear_now v a b c d f g n = record {
+      out = out_now v a b c d f g n;
+      owner = ap (λ t. cond t (Some 0) (last_seen (name.Owner m) k2.seen_at_safepoint)) (eq-eqb m m refl);
+      recursions = ap (λ t. cond t (Some 0) (last_seen (name.Recursions m) k2.seen_at_safepoint)) (eq-eqb m m refl);
+      header = ap (λ t. cond t (Some 0) (last_seen (name.Header m) k2.seen_at_safepoint)) (eq-eqb m m refl);
+      object = ap (λ t. cond t (Some 0) (last_seen (name.Object m) k2.seen_at_safepoint)) (eq-eqb m m refl);
+    }
+
     -- another monitor that is in use is so still, and the header names none
     settled_on : (v : Stands heap k2) (a b c d f g n : ℕ) (j : ℕ) → Settles k j → Settles (k9 a b c d f g n) j
     settled_on v a b c d f g n j h = by_number (m == j) refl
@@ -440,37 +465,13 @@ module _ (heap : Heap) (e : Purpose) (k0 : Known) (st : Stage) (plain : revocati
         by_number : (same : Bool) → (m == j) ≡ same → Settles (k9 a b c d f g n) j
         by_number true same =
             let is : m ≡ j = eqb-true m j same in
-            inl (ap (λ z. z || is_taken_by k2.seen_at_safepoint j) same, subst (IsOut heap.shape (k9 a b c d f g n)) is (out_now v a b c d f g n))
+            inl (ap (λ z. z || is_taken_by k2.seen_at_safepoint j) same, subst (Clears (k9 a b c d f g n)) is (clear_now v a b c d f g n))
         by_number false apart = elim h [
-          | inl y ↦ inl (ap (λ z. z || is_taken_by k2.seen_at_safepoint j) apart ∙ looked.back j ∙ y.0, out_still v a b c d f g n j y.1)
+          | inl y ↦ inl (ap (λ z. z || is_taken_by k2.seen_at_safepoint j) apart ∙ looked.back j ∙ y.0, clear_still v a b c d f g n j y.1)
           | inr y ↦
               let other : (j == m) ≡ false = ne_eqb j m (λ q. let yes = eq-eqb m j (sym q) in absurd (cc (apart, yes))) in
               by_mark y.0 y.1 other y.2 y.3 y.4 (y.0 == o) refl
         ]
-
-    -- a word of a monitor that was 0 is so still
-    zero_still : (at : ℕ → Name) (j : ℕ) (b : Bool) → Saw k (at j) 0 → cond b (Some 0) (last_seen (at j) k2.seen_at_safepoint) ≡ Some 0
-    zero_still at j true saw = refl
-    zero_still at j false saw = s.saw (at j) 0 saw
-
-    clear_still : (v : Stands heap k2) (a b c d f g n : ℕ) (j : ℕ) → Clears k j → Clears (k9 a b c d f g n) j
-    clear_still v a b c d f g n j h = record {
-      out = out_still v a b c d f g n j h.out;
-      owner = zero_still name.Owner j (j == m) h.owner;
-      recursions = zero_still name.Recursions j (j == m) h.recursions;
-      header = zero_still name.Header j (j == m) h.header;
-      object = zero_still name.Object j (j == m) h.object;
-    }
-
-    -- the monitor is clear now
-    clear_now : (v : Stands heap k2) (a b c d f g n : ℕ) → Clears (k9 a b c d f g n) m
-    clear_now v a b c d f g n = record {
-      out = out_now v a b c d f g n;
-      owner = ap (λ t. cond t (Some 0) (last_seen (name.Owner m) k2.seen_at_safepoint)) (eq-eqb m m refl);
-      recursions = ap (λ t. cond t (Some 0) (last_seen (name.Recursions m) k2.seen_at_safepoint)) (eq-eqb m m refl);
-      header = ap (λ t. cond t (Some 0) (last_seen (name.Header m) k2.seen_at_safepoint)) (eq-eqb m m refl);
-      object = ap (λ t. cond t (Some 0) (last_seen (name.Object m) k2.seen_at_safepoint)) (eq-eqb m m refl);
-    }
 
     fresh_on : (v : Stands heap k2) (a b c d f g n : ℕ) (j : ℕ) → GaveBack (k9 a b c d f g n) j → GaveBack k j ⊎ Clears (k9 a b c d f g n) j
     fresh_on v a b c d f g n j h = by_number (m == j) refl
@@ -522,7 +523,7 @@ module _ (heap : Heap) (e : Purpose) (k0 : Known) (st : Stage) (plain : revocati
           at_end = saw_end;
           stored = ap (λ t. cond t (Some m) (last_seen (name.Ring (end % ring_places heap.shape)) (k7 a b c d f).seen_at_safepoint)) (same_as_itself (name.Ring (end % ring_places heap.shape)));
         })) (λ n j wn.
-        answers heap false _ _ _ (record { reached = x.reached; stopped = x.stopped; stands = refl; check = refl; mine = refl; still = refl; local = x.local; kept = x.kept; saved = x.saved; draws = x.draws; shots = x.shots }, holds_on wa.stands a b c d f g n, inl (ap (λ z. z || is_taken_by k2.seen_at_safepoint m) (eq-eqb m m refl), out_now wa.stands a b c d f g n)))))))))
+        answers heap false _ _ _ (record { reached = x.reached; stopped = x.stopped; stands = refl; check = refl; mine = refl; still = refl; local = x.local; kept = x.kept; saved = x.saved; draws = x.draws; shots = x.shots }, holds_on wa.stands a b c d f g n, inl (ap (λ z. z || is_taken_by k2.seen_at_safepoint m) (eq-eqb m m refl), clear_now wa.stands a b c d f g n)))))))))
 
   -- LOOKING AT ALL WAITING WORDS
   abbrev WasSeen : ℕ → ℕ → Known → Type 0
@@ -659,7 +660,7 @@ module _ (heap : Heap) (e : Purpose) (k0 : Known) (st : Stage) (plain : revocati
   some_objects some = by_equal (length heap.shape.objects) 0 (λ z. let yes = eq-eqb (length heap.shape.objects) 0 z in absurd (cc (yes, some))) (λ d. omega (arith, d))
 
   pub deflate_settles : (k : Known) → Idles k → Does heap false (deflate_steps heap.shape e st) k
-      (λ b a l. Idles l × Holding k l × (0 < length heap.shape.objects → (m : ℕ) → m < monitor_count heap.shape → Settles l m))
+      (λ b a l. Idles l × Holding k l × AllSettled l)
   deflate_settles k x =
       chooses heap false (length heap.shape.objects == 0) _ _ k _ (λ none. answers heap false _ k _ (x, looked_holds k k (looked_itself k), λ h. absurd (let z = eqb-true (length heap.shape.objects) 0 none in omega (arith, z, h))))
       (λ some. follows heap false _ k _ _ (all_do 0 (monitor_count heap.shape) k (omega arith) (some_objects some) x) (λ b a l y. (y.0, y.1, λ h m g. y.2 m (omega arith) (omega (arith, g)))))
@@ -668,11 +669,11 @@ module _ (heap : Heap) (e : Purpose) (k0 : Known) (st : Stage) (plain : revocati
   deflate_does k x = follows heap false _ k _ _ (deflate_settles k x) (λ b a l y. (y.0, y.1))
 
   -- so in the world there, each monitor that a mark names is in use: its object word is that of this object, and it isn't one that was given back
-  pub deflate_leaves : (l : Known) → Idles l → (0 < length heap.shape.objects → (m : ℕ) → m < monitor_count heap.shape → Settles l m) → NamedAreInUse heap l
+  pub deflate_leaves : (l : Known) → Idles l → AllSettled l → NamedAreInUse heap l
   deflate_leaves l x settled v o m object named =
       elim (settled (omega (arith, object)) m within) [
         | inl a ↦
-            let out : IsOut v.world.shape l m = away heap l v (λ s y. IsOut s l m) a.1 in
+            let out : IsOut v.world.shape l m = away heap l v (λ s y. IsOut s l m) a.1.out in
             let none = none_returns v.world v.objects l.thread fits (away heap l v (λ s y. y.reached ≡ true) x.reached) (away heap l v (λ s y. y.moving ≡ Still) x.still) in
             absurd (unnamed v.world v.objects fits l m (is_as_seen heap l v x.reached) out none o named)
         | inr a ↦
@@ -696,26 +697,29 @@ module _ (heap : Heap) (e : Purpose) (k0 : Known) (st : Stage) (plain : revocati
       there : (u : ℕ) → u < heap.shape.threads → u < v.world.shape.threads
       there u h = away heap l v (λ s y. u < s.threads) h
 
-  -- and each that was given back is clean there, and stands in the ring
+  -- each that is clear is clean there, and stands in the ring
+  back_of : (l : Known) (m : ℕ) → Idles l → Clears l m → IsBack heap l m
+  back_of l m x a v =
+      let fits : Fits v.world v.objects = (all_at l v x.reached x.stands).fits in
+      let sees = is_as_seen heap l v x.reached in
+      let out : IsOut v.world.shape l m = away heap l v (λ s y. IsOut s l m) a.out in
+      let none = none_returns v.world v.objects l.thread fits (away heap l v (λ s y. y.reached ≡ true) x.reached) (away heap l v (λ s y. y.moving ≡ Still) x.still) in (
+        record {
+          owner = sees (name.Owner m) 0 a.owner;
+          recursions = sees (name.Recursions m) 0 a.recursions;
+          header = sees (name.Header m) 0 a.header;
+          object = sees (name.Object m) 0 a.object;
+        },
+        stands_in_ring v.world v.objects fits l m sees out none,
+        unnamed v.world v.objects fits l m sees out none,
+      )
+
+  pub settled_of : (l : Known) (m : ℕ) → Idles l → Settles l m → IsSettled heap l m
+  settled_of l m x h = elim h [ inl a ↦ inl (a.0, back_of l m x a.1) | inr a ↦ inr a ]
+
+  -- and so is each that was given back
   pub deflate_cleans : (k l : Known) → Idles l → Holding k l → GivenBackAreClean heap k l
-  deflate_cleans k l x y v m back unless =
-      elim (y.fresh m back) [
-        | inl a ↦ absurd (unless a)
-        | inr a ↦
-            let fits : Fits v.world v.objects = (all_at l v x.reached x.stands).fits in
-            let sees = is_as_seen heap l v x.reached in
-            let out : IsOut v.world.shape l m = away heap l v (λ s y. IsOut s l m) a.out in
-            let none = none_returns v.world v.objects l.thread fits (away heap l v (λ s y. y.reached ≡ true) x.reached) (away heap l v (λ s y. y.moving ≡ Still) x.still) in (
-              record {
-                owner = sees (name.Owner m) 0 a.owner;
-                recursions = sees (name.Recursions m) 0 a.recursions;
-                header = sees (name.Header m) 0 a.header;
-                object = sees (name.Object m) 0 a.object;
-              },
-              stands_in_ring v.world v.objects fits l m sees out none,
-              unnamed v.world v.objects fits l m sees out none,
-            )
-      ]
+  deflate_cleans k l x y m back unless = elim (y.fresh m back) [ inl a ↦ absurd (unless a) | inr a ↦ back_of l m x a ]
 
   -- FROM THE MIDDLE of something else that the first step ends, which is the look at the object word of the first monitor
   pub record Ends (k : Known) : Type 0 where
@@ -723,21 +727,25 @@ module _ (heap : Heap) (e : Purpose) (k0 : Known) (st : Stage) (plain : revocati
     pub reached : k.reached ≡ true
     pub idles : (n : ℕ) → Idles (known_hit heap.shape heap.start (load_plan e st (name.Object 0)) n k)
 
-  first_does : (k : Known) → 0 < monitor_count heap.shape → 0 < length heap.shape.objects → Ends k → Does heap false (deflate_monitor heap.shape e st 0) k (λ b a l. Idles l × Holding k l × Stands heap k)
+  first_does : (k : Known) → 0 < monitor_count heap.shape → 0 < length heap.shape.objects → Ends k → Does heap false (deflate_monitor heap.shape e st 0) k
+      (λ b a l. Idles l × Holding k l × Settles l 0 × Stands heap k)
   first_does k there some x =
       hitting heap false (load_plan e st (name.Object 0)) (behind_object 0) k _ (λ n. refl) (λ i. x.keeps) (λ o i was.
       let l = known_hit heap.shape heap.start (load_plan e st (name.Object 0)) o k in
       let looked : Looked k l = still_looked_at (name.Object 0) k o x.reached refl was in
       let object : o < length heap.shape.objects = subst (λ z. z < length heap.shape.objects) was.found (object_there k 0 some was.stands) in
-      follows heap false _ l _ _ (behind_does 0 o l there object (x.idles o) (saw_at (name.Object 0) k o refl)) (λ b a z h. (h.0, holding_all k l z (looked_holds k l looked) h.1, was.stands)))
+      follows heap false _ l _ _ (behind_does 0 o l there object (x.idles o) (saw_at (name.Object 0) k o refl)) (λ b a z h. (h.0, holding_all k l z (looked_holds k l looked) h.1, h.2, was.stands)))
 
-  all_first : (n : ℕ) (k : Known) → n ≤ monitor_count heap.shape → 0 < n → 0 < length heap.shape.objects → Ends k → Does heap false (all_from 0 n (λ m. deflate_monitor heap.shape e st m)) k (λ b a l. Idles l × Holding k l × Stands heap k)
+  all_first : (n : ℕ) (k : Known) → n ≤ monitor_count heap.shape → 0 < n → 0 < length heap.shape.objects → Ends k → Does heap false (all_from 0 n (λ m. deflate_monitor heap.shape e st m)) k
+      (λ b a l. Idles l × Holding k l × AreSettled 0 n l × Stands heap k)
   all_first zero k few many some x = absurd (omega (arith, many))
   all_first (suc n) k few many some x =
       going heap (deflate_monitor heap.shape e st 0) _ k _ (follows heap false _ k _ _ (first_does k (omega (arith, few)) some x) (λ b a l y.
-      follows heap false _ l _ _ (all_do (0 + 1) n l (omega (arith, few)) some y.0) (λ c d m z. (z.0, holding_all k l m y.1 z.1, y.2))))
+      follows heap false _ l _ _ (all_do (0 + 1) n l (omega (arith, few)) some y.0) (λ c d m z.
+      (z.0, holding_all k l m y.1 z.1, λ i h g. settled_first 0 n i m (z.1.settled 0 y.2) z.2 h g, y.3))))
 
-  pub deflate_ends : (k : Known) → 0 < length heap.shape.objects → Ends k → Does heap false (deflate_steps heap.shape e st) k (λ b a l. Idles l × Holding k l × Stands heap k)
+  pub deflate_ends : (k : Known) → 0 < length heap.shape.objects → Ends k → Does heap false (deflate_steps heap.shape e st) k (λ b a l. Idles l × Holding k l × AllSettled l × Stands heap k)
   deflate_ends k object x =
       chooses heap false (length heap.shape.objects == 0) _ _ k _ (λ none. absurd (let z = eqb-true (length heap.shape.objects) 0 none in omega (arith, z, object)))
-      (λ some. all_first (monitor_count heap.shape) k (omega arith) (omega (arith, object)) object x)
+      (λ some. follows heap false _ k _ _ (all_first (monitor_count heap.shape) k (omega arith) (omega (arith, object)) object x)
+      (λ b a l y. (y.0, y.1, λ h m g. y.2 m (omega arith) (omega (arith, g)), y.3)))

@@ -8,6 +8,7 @@ use Rattle.mark_word.specs.declared.owner.OwnerForm.{OwnerForm}
 use Rattle.mark_word.specs.declared.owner.OwnerForm.TheVariants.{ByThread, ByRecord}
 use Rattle.mark_word.specs.Mark.{read_mark}
 use Rattle.mark_word.specs.Owner.{read_owner}
+use Rattle.plain_monitor.specs.Limits.{most_holds}
 use Rattle.plain_monitor.specs.declared.entry.Entry.TheVariants as entry
 use Rattle.core_world.specs.declared.answer.Turn.{Turn}
 use Rattle.core_world.specs.declared.answer.Turn.TheVariants.{Done, Pending}
@@ -80,7 +81,7 @@ module _ (s : Shape) (e : Purpose) where
   look_one at there = ((at, there, refl), λ n formed. tt)
 
   look_holds : (t : ℕ) → t < s.threads → Looks s e (look_at_holds e t)
-  look_holds t thread = looks_each 0 64 (λ p. ask (load e (name.Hold t p)) >>= (λ n. done tt)) (λ p place. look_one (name.Hold t p) (thread, place))
+  look_holds t thread = looks_each 0 most_holds (λ p. ask (load e (name.Hold t p)) >>= (λ n. done tt)) (λ p place. look_one (name.Hold t p) (thread, place))
 
   look_owner : (f : Option OwnerForm) → IsOwner s f → Looks s e (look_at_owner f e)
   look_owner (Some (ByThread thread)) form = look_holds thread form

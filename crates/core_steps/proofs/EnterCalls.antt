@@ -3,6 +3,7 @@ use Rattle.std.proofs.Common.{◌≡◌, ℕ, ◌<◌, ◌≤◌, ◌==◌, ◌&
 use Rattle.mark_word.specs.declared.mark.MarkForm.{MarkForm}
 use Rattle.mark_word.specs.declared.mark.MarkForm.TheVariants.{Inflating, Neutral, Anonymous, Biased, Locked, Inflated, Marked}
 use Rattle.mark_word.specs.Mark.{read_mark}
+use Rattle.plain_monitor.specs.Limits.{most_holds}
 use Rattle.plain_monitor.specs.declared.entry.Path.{Path}
 use Rattle.core_world.specs.declared.answer.Turn.{Turn}
 use Rattle.core_world.specs.declared.answer.Turn.TheVariants.{Done, Pending}
@@ -12,7 +13,8 @@ use Rattle.core_world.specs.declared.task.Op.TheVariants as op
 use Rattle.core_world.specs.declared.task.Task.TheVariants.{Enter}
 use Rattle.core_world.specs.Threads.AtRest.{AtRest, MayAsk}
 use Rattle.core_world.specs.Trees.BiasSteps.{bias_enter_steps, bias_after_steps}
-use Rattle.core_world.specs.Trees.Calls.{steps_of, may_begin, may_operate, is_object}
+use Rattle.core_world.specs.Trees.Calls.{steps_of, may_begin, may_operate}
+use Rattle.core_world.specs.Threads.References.{has_reference}
 use Rattle.core_world.specs.Words.Forms.{is_biased_form, is_neutral_form, monitor_form, says_notified}
 use Rattle.core_world.specs.Threads.Known.{Known, Start, local_of, start_of, last_seen}
 use Rattle.core_world.specs.Clauses.Lengths.{log_limit}
@@ -22,7 +24,6 @@ use Rattle.core_world.specs.Trees.MonitorSteps.{inflate_steps, monitor_enter_ste
 use Rattle.core_world.specs.Trees.Operations.{answer, and_then, goes_on_with, revocation_steps, enter_at, enter_unbiased, enter_revoked, enter_going, enter_tried}
 use Rattle.core_world.specs.Trees.Plans.{Purpose, purpose, free_place}
 use Rattle.core_world.specs.Clauses.Safepoints.{IsUnfinished, ends}
-use Rattle.core_world.specs.Words.Shape.{class_of}
 use Rattle.core_world.specs.Threads.Stages.{Revocation}
 use Rattle.core_world.specs.Steps.{seen_before}
 use Rattle.core_world.specs.Trees.Todo.{Todo, ◌>>=◌}
@@ -64,7 +65,7 @@ module _ (heap : Heap) (o : ℕ) (e : Purpose) (enters : IsUnfinished e.unfinish
     check = a.check;
     calm = calm;
     untold = λ i. ap (λ z. says_notified z.wait i) a.local ∙ x.untold i;
-    place = subst (λ z. free_place z.holds < 64) (sym a.local) x.place;
+    place = subst (λ z. free_place z.holds < most_holds) (sym a.local) x.place;
   }
 
   -- by the monitor of an object that another has locked
@@ -171,7 +172,7 @@ module _ (heap : Heap) (e : Purpose) (s : Start) (b : Revocation) (enters : e.un
             running = λ free. (x.going.takes.runs, inl (sym x.going.mine));
           };
           saw = let before : seen_before heap.shape l ≡ l.seen = ap (λ (z : Bool). cond (z && not l.requesting) [] l.seen) i in
-              (mark, x.prototype.0, ap (last_seen (name.Mark b.object)) before ∙ x.saw, ap (last_seen (name.Prototype (class_of heap.shape b.object))) before ∙ x.prototype.1, x.prototype.2);
+              (mark, x.prototype.0, x.prototype.1, ap (last_seen (name.Mark b.object)) before ∙ x.saw, x.prototype.2, ap (last_seen (name.Prototype x.prototype.1)) before ∙ x.prototype.3, x.prototype.4);
           alone = λ n v h. x.alone n v (ap (λ (z : Bool). last_seen n (cond (z && not l.requesting) [] l.seen)) (sym i) ∙ h);
           unreached = x.unreached;
           unwaiting = λ waits. absurd (cc waits);
@@ -181,12 +182,12 @@ module _ (heap : Heap) (e : Purpose) (s : Start) (b : Revocation) (enters : e.un
 
   -- a call by a thread that runs
   first_does : (k : Known) → Taking heap k.running k.requesting k.moving k.log e b.object → k.stage ≡ Calm → GoesOn k e → e.check ≡ k.checking → local_of k ≡ s.local → k.kept ≡ s.kept
-      → Does heap true (bias_enter_steps e s.local (class_of heap.shape b.object) b.object >>= (λ tried. enter_tried tried heap.shape e s b)) k Q
+      → Does heap true (bias_enter_steps heap.shape e s.local b.object >>= (λ tried. enter_tried tried heap.shape e s b)) k Q
   first_does k a calm goes check local kept =
-      binds heap true (bias_enter_steps e s.local (class_of heap.shape b.object) b.object) (λ tried. enter_tried tried heap.shape e s b) k Q
-      (subst (λ z. Does heap true (bias_enter_steps e z (class_of heap.shape b.object) b.object) k (λ f tried l. Does heap f (enter_tried tried heap.shape e s b) l Q)) local
+      binds heap true (bias_enter_steps heap.shape e s.local b.object) (λ tried. enter_tried tried heap.shape e s b) k Q
+      (subst (λ z. Does heap true (bias_enter_steps heap.shape e z b.object) k (λ f tried l. Does heap f (enter_tried tried heap.shape e s b) l Q)) local
       (bias_enter_does heap b.object e enters s.local s.kept _ tried_first k a calm goes check (λ i. ap (λ z. says_notified z.wait i) local ∙ wants.untold i)
-      (subst (λ z. free_place z.holds < 64) (sym local) wants.place) local kept))
+      (subst (λ z. free_place z.holds < most_holds) (sym local) wants.place) local kept))
 
 -- THE CALL
 module _ (heap : Heap) where
@@ -196,7 +197,7 @@ module _ (heap : Heap) where
   unfolding steps_of
   enter_finishes k o now v rest may =
       let going = goes_on_with op.Enter o k.unfinished in
-      let m = both (is_object heap.shape o) (may_operate k going) may in
+      let m = both (has_reference heap.shape k o) (may_operate k going) may in
       let a = operates k going m.1 in
       let s = start_of heap.start k in
       let e = purpose (Enter o now) op.Enter o in
@@ -205,9 +206,9 @@ module _ (heap : Heap) where
       let object = below o (length heap.shape.objects) m.0 in
       let room : length k.log < log_limit = let r = a.room in omega arith in
       closes heap true _ k (
-      chooses heap true (free_place k.holds == 64) _ _ k _
+      chooses heap true (free_place k.holds == most_holds) _ _ k _
       (λ full. chooses heap true going _ _ k _
-      (λ goes. let place = rest.place o (going_is op.Enter o k.unfinished goes) in absurd (let all = eqb-true (free_place k.holds) 64 full in omega (arith, place, all)))
+      (λ goes. let place = rest.place o (going_is op.Enter o k.unfinished goes) in absurd (let all = eqb-true (free_place k.holds) most_holds full in omega (arith, place, all)))
       (λ no. answers heap true _ k _ rest))
       (λ left.
       binds heap true (enter_going heap.shape e s b) answer k _ (
@@ -229,7 +230,7 @@ module _ (heap : Heap) where
           asking = λ asks. (sym a.unchecking, sym goes_on);
           running = λ free. absurd (cc (asks, free));
         };
-        saw = (saw.0, saw.1, ap (last_seen (name.Mark o)) before ∙ saw.2, ap (last_seen (name.Prototype (class_of heap.shape o))) before ∙ saw.3, saw.4);
+        saw = (saw.0, saw.1, saw.2, ap (last_seen (name.Mark o)) before ∙ saw.3, saw.4, ap (last_seen (name.Prototype saw.2)) before ∙ saw.5, saw.6);
         alone = λ n v h. asked.2 n v (ap (last_seen n) (sym before) ∙ h);
         unreached = asked.1;
         unwaiting = λ waits. absurd (cc waits);

@@ -8,7 +8,8 @@ use Rattle.core_world.specs.declared.task.Op.TheVariants as op
 use Rattle.core_world.specs.declared.task.Task.TheVariants.{Exit}
 use Rattle.core_world.specs.Threads.AtRest.{AtRest, MayAsk}
 use Rattle.core_world.specs.Trees.BiasSteps.{bias_exit_steps}
-use Rattle.core_world.specs.Trees.Calls.{steps_of, may_begin, may_operate, is_object}
+use Rattle.core_world.specs.Trees.Calls.{steps_of, may_begin, may_operate}
+use Rattle.core_world.specs.Threads.References.{has_reference}
 use Rattle.core_world.specs.Words.Forms.{is_biased}
 use Rattle.core_world.specs.Threads.Known.{Known, local_of, start_of, last_seen}
 use Rattle.core_world.specs.Locks.{hold_count}
@@ -123,7 +124,7 @@ module _ (heap : Heap) where
   unfolding steps_of
   exit_finishes k o rest may =
       let going = goes_on_with op.Exit o k.unfinished in
-      let m = both (is_object heap.shape o) (may_operate k going) may in
+      let m = both (has_reference heap.shape k o) (may_operate k going) may in
       let a = operates k going m.1 in
       let runs = runs_to_exit k o rest a in
       let goes = goes_on_or_begins op.Exit o k.unfinished a.free in

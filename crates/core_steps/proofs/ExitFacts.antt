@@ -7,6 +7,7 @@ use Rattle.mark_word.specs.declared.owner.OwnerForm.{OwnerForm}
 use Rattle.mark_word.specs.declared.owner.OwnerForm.TheVariants.{Free, ByThread, ByRecord}
 use Rattle.mark_word.specs.Mark.{read_mark}
 use Rattle.mark_word.specs.Owner.{read_owner}
+use Rattle.plain_monitor.specs.Limits.{most_holds}
 use Rattle.plain_monitor.specs.Objects.{PlainObject}
 use Rattle.core_world.specs.declared.stage.Stage.TheVariants.{Calm}
 use Rattle.core_world.specs.Words.Forms.{is_neutral, is_neutral_form, is_biased, is_biased_form, hold_word}
@@ -90,7 +91,7 @@ module _ (w : World) (P : List PlainObject) (t o : ℕ) (v : Fits w P) (calm : (
   ]
 
   -- a mark that names a record names this one, and it is the only hold
-  pub names_mine : (u p q : ℕ) → read_mark (marks w o) ≡ Some (Locked u p) → slice_index (w.known t).holds q ≡ hold_word o (hold_count o (w.known t).holds) → hold_count o (w.known t).holds ≤ 64
+  pub names_mine : (u p q : ℕ) → read_mark (marks w o) ≡ Some (Locked u p) → slice_index (w.known t).holds q ≡ hold_word o (hold_count o (w.known t).holds) → hold_count o (w.known t).holds ≤ most_holds
       → displaced_words w t q ≢ 0 → (u ≡ t) × (p ≡ q) × (hold_count o (w.known t).holds ≡ 1)
   names_mine u p q reads e few some =
       let rests : lock w o ≡ OnRecord u p = lock_by_form w o (Locked u p) reads in
@@ -102,7 +103,7 @@ module _ (w : World) (P : List PlainObject) (t o : ℕ) (v : Fits w P) (calm : (
       let words : hold_word o (hold_count o (w.known t).holds) ≡ hold_word o 1 = sym e ∙ ap (slice_index (w.known t).holds) (sym same) ∙ first in
       (mine, same, (hold_tells o (hold_count o (w.known t).holds) o 1 few (omega arith) words).1)
 
-  pub on_exit : (q : ℕ) → is_biased (marks w o) ≡ false → slice_index (w.known t).holds q ≡ hold_word o (hold_count o (w.known t).holds) → hold_count o (w.known t).holds ≤ 64
+  pub on_exit : (q : ℕ) → is_biased (marks w o) ≡ false → slice_index (w.known t).holds q ≡ hold_word o (hold_count o (w.known t).holds) → hold_count o (w.known t).holds ≤ most_holds
       → displaced_words w t q ≢ 0 → OnExit t q (hold_count o (w.known t).holds) (read_mark (marks w o))
   on_exit q unbiased e few some = cases (read_mark (marks w o)) refl (v.forms.marks o) unbiased
     where

@@ -5,6 +5,7 @@ use Rattle.mark_word.specs.declared.wait.WaitForm.{WaitForm}
 use Rattle.mark_word.specs.declared.wait.WaitForm.TheVariants as wait
 use Rattle.mark_word.specs.Wait.{read_wait}
 use Rattle.mark_word.proofs.ReadingWaits.{read_wait-wait_of, read_wait-spells}
+use Rattle.plain_monitor.specs.Limits.{most_holds}
 use Rattle.plain_monitor.specs.Objects.{PlainObject}
 use Rattle.core_world.specs.declared.name.Name.TheVariants.{Waiting}
 use Rattle.core_world.specs.declared.stage.Stage.TheVariants.{Calm}
@@ -139,7 +140,7 @@ module _ (heap : Heap) (k : Known) (v : Stands heap k) (runs : k.running ≡ tru
   ready_entered = home heap k v (λ z y. Unwaiting y → is_entering y.wait ≡ false → Untold y → ends y.log ≡ false → y.wait ≡ 0) (ready_quiet v.world v.objects k.thread (fits_here heap k v runs))
 
   -- the lowest free place is free
-  pub free_here : free_place k.holds < 64 → IsFree k (free_place k.holds)
+  pub free_here : free_place k.holds < most_holds → IsFree k (free_place k.holds)
   free_here h = record { place = h; empty = empty_here heap k v runs h }
 
   pub limits_here : IsInLimits heap.shape

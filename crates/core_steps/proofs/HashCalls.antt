@@ -3,6 +3,7 @@ use Rattle.std.proofs.Common.{◌≡◌, ◌⊎◌, ℕ, ◌+◌, ◌<◌, ◌==
 use Rattle.mark_word.specs.declared.mark.MarkForm.{MarkForm}
 use Rattle.mark_word.specs.declared.mark.MarkForm.TheVariants.{Inflating, Neutral, Anonymous, Biased, Locked, Inflated, Marked}
 use Rattle.mark_word.specs.Mark.{mark_of, read_mark}
+use Rattle.plain_monitor.specs.Limits.{most_holds}
 use Rattle.plain_monitor.specs.declared.entry.Entry.TheVariants as entry
 use Rattle.core_world.specs.declared.act.Act.TheVariants.{Load}
 use Rattle.core_world.specs.declared.answer.Turn.TheVariants.{Done, Pending}
@@ -14,7 +15,8 @@ use Rattle.core_world.specs.declared.task.Op.TheVariants as op
 use Rattle.core_world.specs.declared.task.Task.TheVariants.{Hash}
 use Rattle.core_world.specs.declared.task.Unfinished.{Unfinished}
 use Rattle.core_world.specs.Threads.AtRest.{AtRest}
-use Rattle.core_world.specs.Trees.Calls.{steps_of, may_begin, may_operate, is_object}
+use Rattle.core_world.specs.Trees.Calls.{steps_of, may_begin, may_operate}
+use Rattle.core_world.specs.Threads.References.{has_reference}
 use Rattle.core_world.specs.Words.Forms.{is_biased, is_biased_form, monitor_form, hash_form, hash_in, hold_word, says_notified}
 use Rattle.core_world.specs.Trees.HashSteps.{NextDraw, find_hash_plan, draw_plan, draw_steps, hash_monitor_steps, hash_displaced_steps, hash_inflated, hash_inflate_steps, hash_unless, hash_mark_steps, hash_header_steps}
 use Rattle.core_world.specs.Threads.Known.{Known, Local, Still, local_of, start_of, last_seen, draw_of}
@@ -184,7 +186,7 @@ module _ (heap : Heap) (e : Purpose) (o : ℕ) (here : Local) (draws : ℕ) (sta
 
   -- its record of the object, with depth 1
   abbrev OwnRecord : Known → Type 0
-  OwnRecord l = HasRecord l o (first_place o l.holds) × (first_place o l.holds < 64)
+  OwnRecord l = HasRecord l o (first_place o l.holds) × (first_place o l.holds < most_holds)
 
   -- BY THE RECORD of the thread, whose header may have the hash; else the object is inflated
   module _ (kept : Option ℕ) (k : Known) (x : Hashes k) (same : k.kept ≡ kept) (none : SawNone heap e o k) (unseen : Unseen heap e o k) (unbiased : SawUnbiased k o) where
@@ -239,7 +241,7 @@ module _ (heap : Heap) (e : Purpose) (o : ℕ) (here : Local) (draws : ℕ) (sta
 
   -- a mark that names a record of the thread names the first that has the object at depth 1
   first_here : (k : Known) (mark p : ℕ) (v : Stands heap k) → k.running ≡ true → k.stage ≡ Calm → v.world.words (name.Mark o) ≡ mark → read_mark mark ≡ Some (Locked k.thread p)
-      → (slice_index k.holds (first_place o k.holds) ≡ hold_word o 1) × (first_place o k.holds < 64)
+      → (slice_index k.holds (first_place o k.holds) ≡ hold_word o 1) × (first_place o k.holds < most_holds)
   first_here k mark p v runs calm found reads =
       let fits = fits_here heap k v runs in
       let first = record_is_first v.world v.objects k.thread o p fits (away heap k v (λ s y. y.stage ≡ Calm) calm) (ap read_mark found ∙ reads) in
@@ -266,7 +268,7 @@ module _ (heap : Heap) where
       → Finishes heap true (steps_of heap.shape (Hash o now) (start_of heap.start k)) k
   unfolding steps_of
   hash_finishes k o now rest may =
-      let m = both (is_object heap.shape o) (may_operate k (goes_on_with op.Hash o k.unfinished)) may in
+      let m = both (has_reference heap.shape k o) (may_operate k (goes_on_with op.Hash o k.unfinished)) may in
       let a = operates k (goes_on_with op.Hash o k.unfinished) m.1 in
       let s = start_of heap.start k in
       let e = purpose (Hash o now) op.Hash o in

@@ -1,5 +1,6 @@
 -- The laws of core_locks on hashes, as rules of the logic. A load logs the hash that it finds, if it finds one.
 use Rattle.std.proofs.Common.{◌≡◌, ◌≢◌, ℕ, ◌<◌, true, Some, refl, sym, subst, inl}
+use Rattle.plain_monitor.specs.Limits.{most_holds}
 use Rattle.plain_monitor.specs.declared.entry.Entry.TheVariants.{Hash}
 use Rattle.core_world.specs.declared.name.Name.{Name}
 use Rattle.core_world.specs.declared.name.Name.TheVariants as name
@@ -75,7 +76,7 @@ module _ (heap : Heap) (k : Known) where
       finding_rule (λ s y. MayFind s y e o) e (λ t. name.Mark o) o (finds_in_mark e o) (looks_in_mark e o) (logged.finds_mark e o) (λ v. (may v).runs)
       (λ v. (may v).object) (λ v. record { hashes = may v; goes_on = goes })
 
-  pub finds_record_rule : (e : Purpose) (o p : ℕ) → (Stands heap k → MayHash heap.shape k o) → HasRecord k o p → (Stands heap k → p < 64) → GoesOn k e
+  pub finds_record_rule : (e : Purpose) (o p : ℕ) → (Stands heap k → MayHash heap.shape k o) → HasRecord k o p → (Stands heap k → p < most_holds) → GoesOn k e
       → Keeps heap (find_hash_plan e (name.Displaced k.thread p) o) k
   finds_record_rule e o p may has place goes =
       finding_rule (λ s y. MayFindInRecord s y e o p) e (λ t. name.Displaced t p) o (finds_in_record e o p) (looks_in_record e o p)

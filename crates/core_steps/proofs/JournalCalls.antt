@@ -14,7 +14,8 @@ use Rattle.plain_monitor.specs.declared.entry.Value.{Value}
 use Rattle.plain_monitor.specs.declared.entry.Value.TheVariants.{Nil, Int, Ref}
 use Rattle.core_world.specs.declared.task.Task.TheVariants.{Get, Put, Print, Finish}
 use Rattle.core_world.specs.Threads.AtRest.{AtRest}
-use Rattle.core_world.specs.Trees.Calls.{steps_of, may_begin, may_act, is_object, is_value}
+use Rattle.core_world.specs.Trees.Calls.{steps_of, may_begin, may_act}
+use Rattle.core_world.specs.Threads.References.{has_reference, has_value}
 use Rattle.core_world.specs.Words.Forms.{says_notified, notified_form, says_ended, ended_form}
 use Rattle.core_world.specs.Threads.Known.{Known, start_of}
 use Rattle.core_world.specs.Locks.{hold_count}
@@ -40,7 +41,7 @@ module _ (heap : Heap) where
   ready_acts : (k : Known) → AtRest heap.shape k → Acts k → Stands heap k → k.wait ≡ 0
   ready_acts k rest a v = ready_here heap k v a.runs (nothing_goes k a.nothing) (nothing_enters k a.nothing) rest.untold a.live
 
-  touches : (k : Known) (o slot : ℕ) → AtRest heap.shape k → Acts k → is_object heap.shape o ≡ true → nat_lt slot (slots_of heap.shape o) ≡ true → (hold_count o k.holds == 0) ≡ false
+  touches : (k : Known) (o slot : ℕ) → AtRest heap.shape k → Acts k → has_reference heap.shape k o ≡ true → nat_lt slot (slots_of heap.shape o) ≡ true → (hold_count o k.holds == 0) ≡ false
       → Stands heap k → MayTouch heap.shape k o slot
   touches k o slot rest a here within holds v = record {
     runs = a.runs;
@@ -58,8 +59,8 @@ module _ (heap : Heap) where
       → Finishes heap true (steps_of heap.shape (Get o slot) (start_of heap.start k)) k
   unfolding steps_of
   get_finishes k o slot rest may =
-      let m = both (is_object heap.shape o && nat_lt slot (slots_of heap.shape o)) (may_act k) may in
-      let n = both (is_object heap.shape o) (nat_lt slot (slots_of heap.shape o)) m.0 in
+      let m = both (has_reference heap.shape k o && nat_lt slot (slots_of heap.shape o)) (may_act k) may in
+      let n = both (has_reference heap.shape k o) (nat_lt slot (slots_of heap.shape o)) m.0 in
       let a = acts k m.1 in
       closes heap true _ k (
       chooses heap true (hold_count o k.holds == 0) _ _ _ _ (λ h. answers heap true _ _ _ rest) (λ h.
@@ -71,7 +72,7 @@ module _ (heap : Heap) where
   get_begins o slot = record { does = λ k v rest may. get_finishes k o slot rest may }
 
   -- PUT
-  may_put : (k : Known) (o slot : ℕ) (value : Value) → is_value heap.shape value ≡ true → (v : Stands heap k) → MayTouch heap.shape k o slot → MayPut heap.shape k o slot value
+  may_put : (k : Known) (o slot : ℕ) (value : Value) → has_value heap.shape k value ≡ true → (v : Stands heap k) → MayTouch heap.shape k o slot → MayPut heap.shape k o slot value
   may_put k o slot Nil e v may = record { touches = may; spellable = tt; here = tt }
   may_put k o slot (Int i) e v may =
       let a = both _ _ e in record { touches = may; spellable = (le_z_yes (T_from_true _ a.0), le_z_yes (T_from_true _ a.1)); here = tt }
@@ -83,9 +84,9 @@ module _ (heap : Heap) where
       → Finishes heap true (steps_of heap.shape (Put o slot value) (start_of heap.start k)) k
   unfolding steps_of
   put_finishes k o slot value rest may =
-      let l = both (is_object heap.shape o && nat_lt slot (slots_of heap.shape o) && is_value heap.shape value) (may_act k) may in
-      let m = both (is_object heap.shape o && nat_lt slot (slots_of heap.shape o)) (is_value heap.shape value) l.0 in
-      let n = both (is_object heap.shape o) (nat_lt slot (slots_of heap.shape o)) m.0 in
+      let l = both (has_reference heap.shape k o && nat_lt slot (slots_of heap.shape o) && has_value heap.shape k value) (may_act k) may in
+      let m = both (has_reference heap.shape k o && nat_lt slot (slots_of heap.shape o)) (has_value heap.shape k value) l.0 in
+      let n = both (has_reference heap.shape k o) (nat_lt slot (slots_of heap.shape o)) m.0 in
       let a = acts k l.1 in
       closes heap true _ k (
       chooses heap true (hold_count o k.holds == 0) _ _ _ _ (λ h. answers heap true _ _ _ rest) (λ h.
@@ -104,7 +105,7 @@ module _ (heap : Heap) where
       → Finishes heap true (steps_of heap.shape (Print value) (start_of heap.start k)) k
   unfolding steps_of
   print_finishes k value rest may =
-      let m = both (is_value heap.shape value) (may_act k) may in
+      let m = both (has_value heap.shape k value) (may_act k) may in
       let a = acts k m.1 in
       hitting heap true _ _ k _ (λ n. refl) (λ i. publishes heap k (lone_purpose (Print value)) (entry.Print value) (λ v. (prints k value rest a v, tt))) (λ n i was.
       answers heap false _ _ _ (rests heap.shape _ refl (unasking heap.shape k rest a.runs) refl

@@ -3,6 +3,7 @@
 use Rattle.std.proofs.Common.{◌≡◌, ℕ, ◌+◌, ◌<◌, ne_eqb, true, List, length, Some, None, refl, sym, ap, ◌∙◌, subst, inl, inr}
 use Rattle.mark_word.specs.Mark.{mark_of, read_mark}
 use Rattle.mark_word.specs.declared.mark.MarkForm.TheVariants.{Locked}
+use Rattle.plain_monitor.specs.Limits.{most_holds}
 use Rattle.plain_monitor.specs.declared.entry.Entry.{Entry}
 use Rattle.plain_monitor.specs.declared.entry.Entry.TheVariants.{Put, Enter, Exit, Resume}
 use Rattle.plain_monitor.specs.declared.entry.Logged.{Logged}
@@ -320,13 +321,13 @@ module _ (heap : Heap) (k : Known) where
         (hold_stored v.world v.objects k.thread e o d p path (inside heap k v) (record { runs = m.0.runs; goes_on = m.0.goes_on; before = before }) a.fits a.biases)) (may v);
   }
 
-  pub leaves_rule : (e : Purpose) (o d p : ℕ) → (Stands heap k → p < 64) → (Stands heap k → MayLeave heap.shape k o d p)
+  pub leaves_rule : (e : Purpose) (o d p : ℕ) → (Stands heap k → p < most_holds) → (Stands heap k → MayLeave heap.shape k o d p)
       → Keeps heap (leave_plan e k.thread o p) k
   leaves_rule e o d p place may =
       enters_in_log (λ s y. MayLeave s y o d p) (λ t y. leave_plan e t o p) (λ n. Exit o) (exits_by_a_hold_word e o d p)
       (logged.exits_by_hold e o d p) (λ t y h. refl) (λ v. tt) (λ s y a. a.runs) (λ v. ((v.within, place v), tt)) may
 
-  pub clears_rule : (e : Purpose) (o p : ℕ) → (Stands heap k → p < 64) → (Stands heap k → MayClear k e o p) → Keeps heap (clear_plan e k.thread p) k
+  pub clears_rule : (e : Purpose) (o p : ℕ) → (Stands heap k → p < most_holds) → (Stands heap k → MayClear k e o p) → Keeps heap (clear_plan e k.thread p) k
   clears_rule e o p place may =
       keeps (λ s y. MayClear y e o p) (λ t y. clear_plan e t p) (cleared_valid e o p) (quiet.clears e o p) (λ t y h. refl) (λ v. tt) (λ s y a. a.runs)
       (λ v. ((v.within, place v), tt)) may

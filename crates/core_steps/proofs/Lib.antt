@@ -22,7 +22,9 @@ pub mod HashRules
 pub mod HashCalls
 pub mod SafepointLooks
 pub mod Ringed
+pub mod BehindRevocations
 pub mod Deflations
+pub mod AllDeflations
 pub mod Requests
 pub mod AskedRevocations
 pub mod BiasFacts

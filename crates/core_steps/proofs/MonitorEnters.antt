@@ -7,6 +7,7 @@ use Rattle.mark_word.specs.Owner.{owner_of, read_owner}
 use Rattle.mark_word.specs.Wait.{wait_of}
 use Rattle.mark_word.proofs.ReadingOwners.{read_owner-spells, read_owner-owner_of}
 use Rattle.mark_word.proofs.ReadingWaits.{read_wait-wait_of}
+use Rattle.plain_monitor.specs.Limits.{most_holds}
 use Rattle.plain_monitor.specs.declared.entry.Path.{Path}
 use Rattle.plain_monitor.specs.declared.entry.Path.TheVariants.{MonitorFirst, MonitorAgain}
 use Rattle.core_world.specs.declared.name.Name.TheVariants as name
@@ -45,7 +46,7 @@ module _ (heap : Heap) (e : Purpose) (o m : ℕ) where
     pub mine : k.unfinished ≡ e.unfinished
     pub check : e.check ≡ k.checking
     pub untold : Untold k
-    pub place : free_place k.holds < 64
+    pub place : free_place k.holds < most_holds
     pub inflated : SawInflated k o m
 
   module _ (k : Known) (x : Entering k) where
@@ -53,7 +54,7 @@ module _ (heap : Heap) (e : Purpose) (o m : ℕ) where
     out v = out_here heap k v x.takes.runs (λ i h. x.takes.unwaiting i (sym x.mine ∙ h)) x.untold
 
   -- the displaced word 3, and the hold word, where one of the ways is gone that lead there
-  record_does : (k : Known) (stage : Stage) (path : Path) → Taking heap k.running k.requesting k.moving k.log e o → k.unfinished ≡ e.unfinished → Untold k → free_place k.holds < 64 → k.stage ≡ stage
+  record_does : (k : Known) (stage : Stage) (path : Path) → Taking heap k.running k.requesting k.moving k.log e o → k.unfinished ≡ e.unfinished → Untold k → free_place k.holds < most_holds → k.stage ≡ stage
       → ((i p : ℕ) → stage ≡ Seizes i p → ⊥)
       → ((n : ℕ) → is_idle heap.shape k ≡ false → Comes heap (known_hit heap.shape heap.start (displace_plan e stage k.thread (free_place k.holds) 3) n k) o (free_place k.holds) path)
       → Does heap false (record_steps e stage (local_of k) o path) k (λ b r l. AtRest heap.shape l)

@@ -6,6 +6,7 @@ use Rattle.mark_word.specs.declared.owner.OwnerForm.TheVariants.{Free, ByThread,
 use Rattle.mark_word.specs.Mark.{read_mark}
 use Rattle.mark_word.specs.Owner.{owner_of, read_owner}
 use Rattle.mark_word.proofs.ReadingOwners.{read_owner-owner_of}
+use Rattle.plain_monitor.specs.Limits.{most_holds}
 use Rattle.plain_monitor.specs.Objects.{PlainObject}
 use Rattle.core_world.specs.declared.name.Name.TheVariants as name
 use Rattle.core_world.specs.declared.stage.Stage.TheVariants.{Calm}
@@ -85,4 +86,4 @@ module _ (heap : Heap) (k : Known) (v : Stands heap k) (runs : k.running ≡ tru
       home heap k v (λ s y. hold_count o y.holds ≡ 1)
       (last_hold w v.objects t o m fits calm_there (names_still w v.objects t o m fits runs_there saw_there) p (hold_count o (w.known t).holds) (omega (arith, objects, object)) owner none
       (away heap k v (λ s y. slice_index y.holds p ≡ hold_word o (hold_count o y.holds)) (top_here heap k v runs o some).0)
-      (away heap k v (λ s y. 1 ≤ hold_count o y.holds) some) (away heap k v (λ s y. hold_count o y.holds ≤ 64) (few_here heap k v runs o)) (λ e. nonzero (sym word ∙ e)))
+      (away heap k v (λ s y. 1 ≤ hold_count o y.holds) some) (away heap k v (λ s y. hold_count o y.holds ≤ most_holds) (few_here heap k v runs o)) (λ e. nonzero (sym word ∙ e)))

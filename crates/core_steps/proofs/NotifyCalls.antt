@@ -11,7 +11,8 @@ use Rattle.core_world.specs.declared.task.Op.{Op}
 use Rattle.core_world.specs.declared.task.Op.TheVariants as op
 use Rattle.core_world.specs.declared.task.Task.TheVariants.{Notify, NotifyAll}
 use Rattle.core_world.specs.Threads.AtRest.{AtRest, MayAsk, MayRevoke}
-use Rattle.core_world.specs.Trees.Calls.{steps_of, may_begin, may_operate, is_object}
+use Rattle.core_world.specs.Trees.Calls.{steps_of, may_begin, may_operate}
+use Rattle.core_world.specs.Threads.References.{has_reference}
 use Rattle.core_world.specs.Words.Forms.{is_biased, is_biased_form, monitor_form, says_notified}
 use Rattle.core_world.specs.Threads.Known.{Known, local_of, start_of, last_seen}
 use Rattle.core_world.specs.Clauses.Lengths.{log_limit}
@@ -120,11 +121,11 @@ module _ (heap : Heap) (e : Purpose) (o : ℕ) where
 -- THE CALLS. An operation of this kind, by what it does where it has found the mark
 module _ (heap : Heap) (k : Known) (o now : ℕ) (rest : AtRest heap.shape k) where
   tells_does : {A : Type 0} (a : Op) (e : Purpose) (steps : Option MarkForm → Todo (Turn A)) → IsUnfinished e.unfinished a o → e.check ≡ false → IsTelling e.unfinished
-      → (MayAsk heap.shape k (Some (record { op = a; object = o })) → MayRevoke heap.shape k o) → RevokesWithin a false → (a ≡ op.Wait → ⊥) → (is_object heap.shape o && may_operate k (goes_on_with a o k.unfinished)) ≡ true → (hold_count o k.holds == 0) ≡ false
+      → (MayAsk heap.shape k (Some (record { op = a; object = o })) → MayRevoke heap.shape k o) → RevokesWithin a false → (a ≡ op.Wait → ⊥) → (has_reference heap.shape k o && may_operate k (goes_on_with a o k.unfinished)) ≡ true → (hold_count o k.holds == 0) ≡ false
       → ((l : Known) (mark : ℕ) → local_of l ≡ local_of k → Finds heap e o l mark → Does heap false (steps (read_mark mark)) l (λ b r y. AtRest heap.shape y))
       → Does heap true (unbias_steps heap.shape e (start_of heap.start k) (no_bias o now) >>= (λ turn. and_then turn (λ u. ask (load e (name.Mark o)) >>= (λ mark. steps (read_mark mark))))) k (λ b r l. AtRest heap.shape l)
   tells_does a e steps is unchecks telling saw allowed no_wait may some then_so =
-      let m = both (is_object heap.shape o) (may_operate k (goes_on_with a o k.unfinished)) may in
+      let m = both (has_reference heap.shape k o) (may_operate k (goes_on_with a o k.unfinished)) may in
       let operates_here = operates k (goes_on_with a o k.unfinished) m.1 in
       let object = below o (length heap.shape.objects) m.0 in
       let look = load e (name.Mark o) in

@@ -2,6 +2,7 @@
 use Rattle.std.proofs.Common.{◌≡◌, ◌≢◌, ℕ, ◌+◌, ◌^◌, ◌<◌, ◌≤◌, ◌&&◌, Bool, true, false, List, length, slice_index, slice_set, eq-eqb, refl, sym, ap, ◌∙◌, arith, inl, inr}
 use Rattle.std.proofs.lemmas.Option.{same_Some}
 use Rattle.std.specs.Prelude.{Some, None}
+use Rattle.plain_monitor.specs.Limits.{most_holds}
 use Rattle.plain_monitor.specs.History.{objects_after}
 use Rattle.plain_monitor.specs.Objects.{PlainObject}
 use Rattle.core_world.specs.declared.act.Act.TheVariants.{Mask}
@@ -50,14 +51,14 @@ module _ (heap : Heap) (k : Known) (fresh : Bool) (v : Stands heap k) (at_first 
   first_valid p f does = without_clause BiasLawHolds (world_after p k.thread v.world) ((does.by.0 at_first).by v)
 
   -- THE DISPLACED WORD AFTER THE EXCHANGE
-  pub late_displaced_fails : (e : Purpose) (o mark : ℕ) → k.running ≡ true → free_place k.holds < 64 → is_neutral mark ≡ true → v.world.words (name.Mark o) ≡ mark
+  pub late_displaced_fails : (e : Purpose) (o mark : ℕ) → k.running ≡ true → free_place k.holds < most_holds → is_neutral mark ≡ true → v.world.words (name.Mark o) ≡ mark
       → v.world.words (name.Displaced k.thread (free_place k.holds)) ≢ mark → DoesSteps heap fresh (late_displaced_steps e (local_of k) o mark) k → ⊥
   late_displaced_fails e o mark runs place neutral found other does =
       exchange_refused v.world o k.thread mark (free_place k.holds) e (record { objects = v.objects; is = valid_here heap k v }) (runs_there runs) place neutral found other (first_valid _ _ does)
 
   -- A HOLD WORD CLEARED BEFORE THE EXIT IS LOGGED: the plain monitor counts a hold that has no word
   cleared_counts : (w : World) (P Q : List PlainObject) (t o p : ℕ) (e : Purpose) → Fits w P → Fits (hit (store e (name.Hold t p) 0) t w) Q → (w.known t).stage ≡ Calm → o < 2 ^ 15
-      → slice_index (w.known t).holds p ≡ hold_word o (hold_count o (w.known t).holds) → 1 ≤ hold_count o (w.known t).holds → hold_count o (w.known t).holds ≤ 64 → ⊥
+      → slice_index (w.known t).holds p ≡ hold_word o (hold_count o (w.known t).holds) → 1 ≤ hold_count o (w.known t).holds → hold_count o (w.known t).holds ≤ most_holds → ⊥
   cleared_counts w P Q t o p e before afterwards calm few top some small =
       let plan = clear_plan e t p in
       let l = knows plan t w in
@@ -81,7 +82,7 @@ module _ (heap : Heap) (k : Known) (fresh : Bool) (v : Stands heap k) (at_first 
       let afterwards = hit_fits (store e (name.Hold k.thread p) 0) k.thread v.world refl (runs_there runs) (first_valid _ _ does) in
       cleared_counts v.world v.objects afterwards.0 k.thread o p e fits afterwards.1 (away heap k v (λ s y. y.stage ≡ Calm) calm) (omega (arith, few, object))
       (away heap k v (λ s y. slice_index y.holds p ≡ hold_word o (hold_count o y.holds)) (top_here heap k v runs o some).0)
-      (away heap k v (λ s y. 1 ≤ hold_count o y.holds) some) (away heap k v (λ s y. hold_count o y.holds ≤ 64) (few_here heap k v runs o))
+      (away heap k v (λ s y. 1 ≤ hold_count o y.holds) some) (away heap k v (λ s y. hold_count o y.holds ≤ most_holds) (few_here heap k v runs o))
 
   -- A STOP AT ANOTHER STAGE: a thread that doesn't run stands in the middle of nothing, where its safepoint is not reached
   quiet_calm : (reached : Bool) (stage : Stage) → IsQuiet reached stage → reached ≡ false → stage ≡ Calm

@@ -1,6 +1,7 @@
 -- What a thread at rest carries from call to call, over the parts of its knowledge that say it, so that it passes by computation the steps
 -- that leave these parts.
 use Rattle.std.proofs.Common.{◌≡◌, ℕ, ◌<◌, ◌||◌, Bool, true, false, List, [], ◌∷◌, ◌++◌, length, Option, None, ap, sym, refl, subst}
+use Rattle.plain_monitor.specs.Limits.{most_holds}
 use Rattle.plain_monitor.specs.declared.entry.Logged.{Logged}
 use Rattle.core_world.specs.declared.stage.Stage.TheVariants.{Calm}
 use Rattle.core_world.specs.declared.task.Op.TheVariants as op
@@ -16,7 +17,7 @@ use Rattle.core_world.specs.Shots.{dumps_from}
 pub record Carries (moving : Moving) (log : List Logged) (wait : ℕ) (holds : List ℕ) (shots : List DumpShot) (unfinished : Option Unfinished) : Type 0 where
   pub still : moving ≡ Still
   pub ended : ends log ≡ true → (says_ended wait ≡ true) × (unfinished ≡ None)
-  pub place : (o : ℕ) → IsUnfinished unfinished op.Enter o → free_place holds < 64
+  pub place : (o : ℕ) → IsUnfinished unfinished op.Enter o → free_place holds < most_holds
   pub untold : (o : ℕ) → says_notified wait o ≡ false
   pub shots_logged : IsUnfinished unfinished op.Dump 0 → length shots ≡ length (dumps_from 0 log)
 
@@ -103,7 +104,7 @@ ends_behind (m ∷ log) l e = let a = ends_behind log l e in cases (is_ending m.
 -- A thread whose log is live and whose unfinished operation is no dump carries that it has nothing in hand of the ring, that its log is live, a free place
 -- where an enter is unfinished, and that it was not told.
 pub live_carries : {moving : Moving} {shots : List DumpShot} (log : List Logged) (wait : ℕ) (holds : List ℕ) (unfinished : Option Unfinished) → moving ≡ Still → ends log ≡ false
-    → ((o : ℕ) → IsUnfinished unfinished op.Enter o → free_place holds < 64) → (IsUnfinished unfinished op.Dump 0 → ⊥) → ((o : ℕ) → says_notified wait o ≡ false) → Carries moving log wait holds shots unfinished
+    → ((o : ℕ) → IsUnfinished unfinished op.Enter o → free_place holds < most_holds) → (IsUnfinished unfinished op.Dump 0 → ⊥) → ((o : ℕ) → says_notified wait o ≡ false) → Carries moving log wait holds shots unfinished
 live_carries log wait holds unfinished still live place undumped untold =
     record { still = still; ended = λ ended. absurd (cc (ended, live)); place = place; untold = untold; shots_logged = λ dumps. absurd (undumped dumps) }
 

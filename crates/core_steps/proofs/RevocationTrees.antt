@@ -1,5 +1,6 @@
 -- The steps of a revocation behind its first store: each loads a word in its middle, or stores one of those that revocations store.
 use Rattle.std.proofs.Common.{◌≡◌, ◌⊎◌, ℕ, zero, suc, ◌+◌, ◌==◌, ◌++◌, Bool, true, false, cond, if◌then◌else◌, List, [], ◌∷◌, Option, Some, None, refl, sym, subst, inl, inr, ◌<◌, ◌≤◌, length, ap, arith}
+use Rattle.plain_monitor.specs.Limits.{most_holds}
 use Rattle.mark_word.specs.declared.mark.MarkForm.{MarkForm}
 use Rattle.mark_word.specs.declared.mark.MarkForm.TheVariants.{Neutral, Anonymous, Biased, Locked}
 use Rattle.mark_word.specs.Mark.{mark_of, read_mark}
@@ -69,7 +70,7 @@ module _ (s : Shape) (o t : ℕ) (object : o < length s.objects) (thread : t < s
       cases true k = (tt, (thread, omega (arith, few)), k)
       cases false k = k
 
-  biased_stored : (allowed : Bool) (hs : List ℕ) → length hs ≡ 64 → AreStored s (revoke_biased o t allowed hs)
+  biased_stored : (allowed : Bool) (hs : List ℕ) → length hs ≡ most_holds → AreStored s (revoke_biased o t allowed hs)
   biased_stored allowed hs many = cases (hold_count o hs == 0)
     where
       cases : (b : Bool)
@@ -162,9 +163,9 @@ module _ (s : Shape) (e : Purpose) (b : Revocation) where
   middle_revoke_at (Some (Anonymous epoch age)) o true object form = tt
   middle_revoke_at (Some (Anonymous epoch age)) o false object form = middle_stores (write (Mark o) (mark_of (Neutral 0 0)) ∷ []) (tt, object, tt)
   middle_revoke_at (Some (Biased t epoch age)) o allowed object form =
-      middle_answers (λ hs. length hs ≡ 64) (each_from 0 64 (λ p. look e b (Hold t p))) (λ holds. store_steps e b (revoke_biased o t allowed holds))
-      (middle_each 0 64 (λ p. look e b (Hold t p)) (λ p less. (inl (Hold t p, tt, (form.0, less), refl), λ n formed. tt)))
-      (each_many 0 64 (λ p. look e b (Hold t p)))
+      middle_answers (λ hs. length hs ≡ most_holds) (each_from 0 most_holds (λ p. look e b (Hold t p))) (λ holds. store_steps e b (revoke_biased o t allowed holds))
+      (middle_each 0 most_holds (λ p. look e b (Hold t p)) (λ p less. (inl (Hold t p, tt, (form.0, less), refl), λ n formed. tt)))
+      (each_many 0 most_holds (λ p. look e b (Hold t p)))
       (λ holds many. middle_stores (revoke_biased o t allowed holds) (biased_stored s o t object form.0 allowed holds many))
   middle_revoke_at _ o allowed object form = tt
 
@@ -189,8 +190,8 @@ module _ (s : Shape) (e : Purpose) (b : Revocation) where
 
   middle_walk : (c : ℕ) (visit : ℕ → ℕ → Todo (Unit {0})) → Visits visit → InMiddle (walk_steps s c e b visit)
   middle_walk c visit h =
-      middle_all 0 s.threads (λ t. all_from 0 64 (λ p. look e b (Hold t p) >>= (λ hold. visit_held s c e b visit (object_held (read_hold hold)))))
-      (λ t thread. middle_all 0 64 (λ p. look e b (Hold t p) >>= (λ hold. visit_held s c e b visit (object_held (read_hold hold))))
+      middle_all 0 s.threads (λ t. all_from 0 most_holds (λ p. look e b (Hold t p) >>= (λ hold. visit_held s c e b visit (object_held (read_hold hold)))))
+      (λ t thread. middle_all 0 most_holds (λ p. look e b (Hold t p) >>= (λ hold. visit_held s c e b visit (object_held (read_hold hold))))
       (λ p place. middle_look (Hold t p) (λ hold. visit_held s c e b visit (object_held (read_hold hold))) tt (omega (arith, thread), place)
       (λ hold formed. middle_visit c visit (read_hold hold) formed h)))
 

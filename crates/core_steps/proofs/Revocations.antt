@@ -12,11 +12,11 @@ use Rattle.core_world.specs.declared.plan.Own.TheVariants as own
 use Rattle.core_world.specs.declared.plan.StepPlan.{StepPlan}
 use Rattle.core_world.specs.declared.stage.Stage.TheVariants.{Calm}
 use Rattle.core_world.specs.declared.task.Op.{Op}
-use Rattle.core_world.specs.Threads.AtRest.{AtRest, SawValidBias, SawNoOther}
+use Rattle.core_world.specs.Threads.AtRest.{AtRest, SawClass, SawValidBias, SawNoOther}
 use Rattle.core_world.specs.Trees.BiasSteps.{stage_after}
 use Rattle.core_world.specs.Words.Forms.{asks_in, runs_in, epoch_in, is_biased}
 use Rattle.core_world.specs.Threads.Known.{Known, Still, StepMade, local_of, last_seen, left_by}
-use Rattle.core_world.specs.Locks.{is_valid_bias}
+use Rattle.core_world.specs.Locks.{is_valid_bias, prototype_of}
 use Rattle.core_world.specs.Words.Names.{same_name, its_monitor}
 use Rattle.core_world.specs.Trees.Plans.{Purpose, with_stage, load, store, done_with}
 use Rattle.core_world.specs.Trees.SafepointSteps.{reached_word, released_word, release_plan, release_to}
@@ -25,6 +25,8 @@ use Rattle.core_world.specs.RevocationRules.{writes_in}
 use Rattle.core_world.specs.Trees.RevocationSteps.{revocation_stage, revoke_plan, verdict_steps, decided_steps, RevocationOutcome, revoke_at_safepoint_steps}
 use Rattle.core_world.specs.There.{IsIn}
 use Rattle.core_world.specs.Words.Shape.{Shape, class_of}
+use Rattle.core_world.specs.Words.Names.{class_by}
+use Rattle.core_world.proofs.There.{class_seen}
 use Rattle.core_world.specs.Trees.DeflateSteps.{deflate_steps}
 use Rattle.core_world.specs.Threads.Stages.{Revocation, revocation_in}
 use Rattle.core_world.specs.Steps.{is_idle, known_hit, seen_before, only_headers, is_header}
@@ -32,17 +34,18 @@ use Rattle.core_world.specs.Trees.Todo.{Todo, done, never, step, ◌>>=◌}
 use Rattle.core_world.specs.Valid.{RevokesWithin}
 use Rattle.core_world.proofs.ActsLook.{headers_are_part}
 use Rattle.core_world.proofs.Naming.{same_named, same_as_itself}
-use Rattle.core_bias.specs.Revoking.{IsNextStore, AreAllStores, Leads, TellsBias, is_kept_on_request}
-use Rattle.core_bias.proofs.NewBias.{answer_tells}
-use Rattle.core_bias.proofs.RevocationRuns.{steps_next, steps_all}
+use Rattle.core_bias.specs.Revoking.{IsNextStore, Leads, TellsBias, is_kept_on_request}
+use Rattle.core_bias.proofs.RevocationRuns.{steps_next}
 use Rattle.core_locks.proofs.LookOn.{may_look}
 use Rattle.core_locks.specs.Knowing.{IsBiasTo}
 use Rattle.core_law.specs.Logic.{Heap, Stands, Keeps, Was, Does}
+use Rattle.core_steps.specs.Deflated.{HasRevoked}
 use Rattle.core_steps.proofs.BiasFacts.{valid_is}
-use Rattle.core_steps.proofs.BiasRules.{bias_biased, begins_revoking_rule, goes_on_revoking_rule, looks_behind_rule}
+use Rattle.core_steps.proofs.BiasRules.{bias_biased, begins_revoking_rule, goes_on_revoking_rule}
+use Rattle.core_steps.proofs.BehindRevocations.{unrevoking_after, behind_tells, behind_keeps}
 use Rattle.core_steps.proofs.Deflations.{Idles, deflate_ends}
 use Rattle.core_steps.proofs.LawRules.{looks, class_in, releases, releases_taking}
-use Rattle.core_law.proofs.Standing.{home, away, valid_here, few_threads}
+use Rattle.core_law.proofs.Standing.{home, away, few_threads}
 use Rattle.core_steps.proofs.RevocationTrees.{IsLooked, IsStored, InMiddle, middle_binds, middle_verdict, answers_left, revocation_untaken}
 use Rattle.core_steps.proofs.SafepointLooks.{Reaches, keeps_look, going}
 use Rattle.core_law.proofs.SafepointSights.{found_formed, is_as_seen, fits_reached}
@@ -289,13 +292,15 @@ module _ (heap : Heap) (e : Purpose) (b : Revocation) (me : ℕ) where
         let fits = fits_reached heap k0 v r.reached r.calm in
         let asks = (fits.safe.safepoint k0.thread (away heap k0 v (λ s y. y.reached ≡ true) r.reached)).0 in
         let none_revokes = away heap k0 v (λ s y. revocation_in y.stage ≡ None) (ap revocation_in r.calm) in
-        let prototype = fits.seen.stays k0.thread (name.Prototype (class_of v.world.shape b.object)) saw.1
-        (away heap k0 v (λ s y. last_seen (name.Prototype (class_of s b.object)) y.seen ≡ Some saw.1) saw.3) (inr (asks, none_revokes, tt)) in
-        let valid : IsValidBias (read_mark saw.0) (v.world.words (name.Prototype (class_of v.world.shape b.object))) =
-        subst (IsValidBias (read_mark saw.0)) (sym prototype) (valid_is (read_mark saw.0) saw.1 saw.4) in (
-          fits.seen.stays k0.thread (name.Mark b.object) saw.0 (away heap k0 v (λ s y. last_seen (name.Mark b.object) y.seen ≡ Some saw.0) saw.2)
+        let its : class_by v.world.shape v.world.words b.object ≡ saw.2 =
+        class_seen v.world.shape v.world.words k0.seen b.object saw.2 (away heap k0 v (λ s y. SawClass s k0.seen b.object saw.2) saw.4) in
+        let prototype : prototype_of v.world b.object ≡ saw.1 =
+        ap (λ z. v.world.words (name.Prototype z)) its
+        ∙ fits.seen.stays k0.thread (name.Prototype saw.2) saw.1 (away heap k0 v (λ s y. last_seen (name.Prototype saw.2) y.seen ≡ Some saw.1) saw.5) (inr (asks, none_revokes, tt)) in
+        let valid : IsValidBias (read_mark saw.0) (prototype_of v.world b.object) = subst (IsValidBias (read_mark saw.0)) (sym prototype) (valid_is (read_mark saw.0) saw.1 saw.6) in (
+          fits.seen.stays k0.thread (name.Mark b.object) saw.0 (away heap k0 v (λ s y. last_seen (name.Mark b.object) y.seen ≡ Some saw.0) saw.3)
               (inr (asks, none_revokes, valid)),
-          home heap k0 v (λ s y. v.world.words (name.Prototype (class_of s b.object)) ≡ saw.1) prototype,
+          home heap k0 v (λ s y. v.world.words (name.Prototype (class_by s v.world.words b.object)) ≡ saw.1) prototype,
         )
 
   -- a prototype that was seen in the calls of the request
@@ -305,8 +310,7 @@ module _ (heap : Heap) (e : Purpose) (b : Revocation) (me : ℕ) where
       let fits = fits_reached heap k v reached calm in
       let asks = (fits.safe.safepoint k.thread (away heap k v (λ s y. y.reached ≡ true) reached)).0 in
       let none_revokes = away heap k v (λ s y. revocation_in y.stage ≡ None) (ap revocation_in calm) in
-      home heap k v (λ s y. v.world.words (name.Prototype (class_of s b.object)) ≡ p)
-      (fits.seen.stays k.thread (name.Prototype (class_of v.world.shape b.object)) p (away heap k v (λ s y. last_seen (name.Prototype (class_of s b.object)) y.seen ≡ Some p) saw) (inr (asks, none_revokes, tt)))
+      fits.seen.stays k.thread (name.Prototype c) p (away heap k v (λ s y. last_seen (name.Prototype c) y.seen ≡ Some p) saw) (inr (asks, none_revokes, tt))
 
   -- THE STEPS of a revocation for this operation, by a thread that saw a valid bias when it asked
   module _ (operation : Op) (unfinished : e.unfinished ≡ Some (record { op = operation; object = b.object }))
@@ -366,7 +370,7 @@ module _ (heap : Heap) (e : Purpose) (b : Revocation) (me : ℕ) where
       decides : SeenSince k4.seen k4.seen_at_safepoint → Does heap false (decided_steps heap.shape me c e b (epoch_in prototype) count last) k4 (λ f a l. (f ≡ false) × Made_all k0 r unwritten a l)
       decides since =
           hitting heap false first_store rest_of k4 _ (λ n. refl)
-          (λ i. begins_revoking_rule heap k4 e b verdict (is_reset count last b.now) (name.Revocations c) word (class_in heap k4 b.object object) (λ v. record {
+          (λ i. begins_revoking_rule heap k4 e b c verdict (is_reset count last b.now) (name.Revocations c) word (class_in heap k4 b.object object) (λ v. record {
             reached = r.reached;
             calm = refl;
             operation = operation;
@@ -374,6 +378,7 @@ module _ (heap : Heap) (e : Purpose) (b : Revocation) (me : ℕ) where
             allowed = allowed;
             object = object;
             unwritten = ap (λ z. (((z ++ []) ++ []) ++ []) ++ []) unwritten;
+            saw_class = refl;
             biased = (mark, prototype, saw_mark, saw_prototype, valid);
             decides = (count, last, saw_count, saw_last, refl, refl);
             store = record {
@@ -402,7 +407,8 @@ module _ (heap : Heap) (e : Purpose) (b : Revocation) (me : ℕ) where
     saw_two_before : (k0 : Known) → SawNoOther heap.shape k0 b.object → SeenBut (λ n. (n ≡ name.Mark b.object) ⊎ (n ≡ name.Prototype c)) k0.seen k0.seen_at_safepoint
     saw_two_before k0 alone n v kept saw = elim (alone n v saw) [
       | inl is ↦ let no = ap is_kept_on_request is in absurd (cc (no, kept))
-      | inr a ↦ inr a
+      | inr (inl is) ↦ inr (inl is)
+      | inr (inr is) ↦ inr (inr (is.2 ∙ ap name.Prototype is.1))
     ]
 
     -- which are loaded again at the safepoint
@@ -430,8 +436,8 @@ module _ (heap : Heap) (e : Purpose) (b : Revocation) (me : ℕ) where
         let mark_is : mark ≡ saw.0 = sym was0.found ∙ there.0 in
         let prototype_is : prototype ≡ saw.1 =
         sym was1.found ∙ still_prototype k1 was1.stands saw.1 r.reached refl
-        (ap (λ (z : Bool). last_seen (name.Prototype c) (cond (z && not k0.requesting) [] k0.seen)) i0 ∙ saw.3) in
-        let valid : is_valid_bias (read_mark mark) prototype ≡ true = (λ j. is_valid_bias (read_mark (mark_is j)) (prototype_is j)) ∙ saw.4 in
+        (ap (λ (z : Bool). last_seen (name.Prototype c) (cond (z && not k0.requesting) [] k0.seen)) i0 ∙ ap (λ z. last_seen (name.Prototype z) k0.seen) (sym saw.4) ∙ saw.5) in
+        let valid : is_valid_bias (read_mark mark) prototype ≡ true = (λ j. is_valid_bias (read_mark (mark_is j)) (prototype_is j)) ∙ saw.6 in
         subst (λ (z : Bool). Does heap false (cond z (decided_steps heap.shape me c e b (epoch_in prototype) count last) never) (then_known (load e (name.LastBulk c)) last k3) R) (sym valid)
         (decides k0 r unwritten mark prototype count last valid
         (all_looked (then_known (load e (name.LastBulk c)) last k3)
@@ -474,7 +480,7 @@ module _ (heap : Heap) (e : Purpose) (b : Revocation) (me : ℕ) where
     pub unchecks : l.checking ≡ false
     pub mine : e.unfinished ≡ l.unfinished
     pub stage : l.stage ≡ stage_after took b.object
-    pub mark : (v p : ℕ) × (last_seen (name.Mark b.object) l.seen ≡ Some v) × (last_seen (name.Prototype c) l.seen ≡ Some p) × Tells l.thread took v p
+    pub mark : (v p a : ℕ) × (last_seen (name.Mark b.object) l.seen ≡ Some v) × SawClass heap.shape l.seen b.object a × (last_seen (name.Prototype a) l.seen ≡ Some p) × Tells l.thread took v p
     pub unseen : (n : Name) → is_header n ≡ false → same_name n name.Safepoint ≡ false → last_seen n l.seen ≡ None
     pub untaken : b.rebias ≡ false → took ≡ false
 
@@ -483,18 +489,15 @@ module _ (heap : Heap) (e : Purpose) (b : Revocation) (me : ℕ) where
   Revoked k (Done took) l = Released k took l
   Revoked k (Pending why) l = AtRest heap.shape l
 
-  -- before it, what the steps answer is whether the object's words have the bias pattern
-  told_there : (k0 : Known) (r : Reaches me k0 e) (unwritten : writes_in k0.seen_at_safepoint ≡ []) (k : Known) (a : RevocationOutcome)
-      → Made_all k0 r unwritten a k → (v : Stands heap k)
-      → TellsBias k.thread b.object c a.took v.world.words
-  told_there k0 r unwritten k a all v =
+  -- before it, all is known that a deflation asks for
+  has_revoked : (k0 : Known) (r : Reaches me k0 e) (unwritten : writes_in k0.seen_at_safepoint ≡ []) (k : Known) (a : RevocationOutcome) → Made_all k0 r unwritten a k → HasRevoked heap.shape k e b a
+  has_revoked k0 r unwritten k a all =
       let x = all.1 in
-      let reached : k.reached ≡ true = x.leaves.reached ∙ r.reached in
-      let number : k.thread ≡ me = number_of k0 r unwritten k x.leaves in
-      home heap k v (λ s y. TellsBias k.thread b.object (class_of s b.object) a.took v.world.words)
-      (answer_tells v.world v.objects k.thread e b all.0 k0.seen_at_safepoint a (away heap k v (λ s y. y.reached ≡ true) reached) (away heap k v (λ s y. revocation_in y.stage ≡ Some b) (ap revocation_in x.stage))
-      (away heap k v (λ s y. y.seen_at_safepoint ≡ all.0 ++ k0.seen_at_safepoint) x.seen_at_safepoint) unwritten
-      (away heap k v (λ s y. Leads (revoke_at_safepoint_steps s k.thread e b) all.0 (done a)) (subst (λ t. Leads (revoke_at_safepoint_steps heap.shape t e b) all.0 (done a)) (sym number) x.path)) (valid_here heap k v))
+      record {
+        its_revocation = ap revocation_in x.stage;
+        steps = (all.0, k0.seen_at_safepoint, x.seen_at_safepoint, unwritten, subst (λ t. Leads (revoke_at_safepoint_steps heap.shape t e b) all.0 (done a)) (sym (number_of k0 r unwritten k x.leaves)) x.path);
+        since = x.since;
+      }
 
   -- BEHIND THE STORES idle monitors are given back, and the first look of that ends the revocation. Then the safepoint is released.
   abbrev pub release_steps : Bool → Todo (Turn Bool)
@@ -503,13 +506,9 @@ module _ (heap : Heap) (e : Purpose) (b : Revocation) (me : ℕ) where
   abbrev pub ending_steps : Bool → Todo (Turn Bool)
   ending_steps took = deflate_steps heap.shape e (stage_after took b.object) >>= (λ u. release_steps took)
 
-  plain_after : (took : Bool) → revocation_in (stage_after took b.object) ≡ None
-  plain_after true = refl
-  plain_after false = refl
-
   -- what is known between the two: the thread saw its object's mark and prototype, and what they tell
   record Deflated (k0 : Known) (took : Bool) (k : Known) : Type 0 where
-    idles : Idles heap e k0 (stage_after took b.object) (plain_after took) k
+    idles : Idles heap e k0 (stage_after took b.object) (unrevoking_after took b.object) k
     mark : (v p : ℕ) × (last_seen (name.Mark b.object) k.seen_at_safepoint ≡ Some v) × (last_seen (name.Prototype c) k.seen_at_safepoint ≡ Some p) × Tells k.thread took v p
 
   -- a mark that stays, or had no bias pattern and has none, tells the same
@@ -567,7 +566,9 @@ module _ (heap : Heap) (e : Purpose) (b : Revocation) (me : ℕ) where
             mark = (
               d.mark.0,
               d.mark.1,
+              c,
               ap (last_seen (name.Mark b.object)) kept ∙ headers_stay (name.Mark b.object) refl k.seen_at_safepoint ∙ d.mark.2,
+              refl,
               ap (last_seen (name.Prototype c)) kept ∙ headers_stay (name.Prototype c) refl k.seen_at_safepoint ∙ d.mark.3,
               d.mark.4,
             );
@@ -585,18 +586,8 @@ module _ (heap : Heap) (e : Purpose) (b : Revocation) (me : ℕ) where
       let number : k.thread ≡ me = number_of k0 r unwritten k x.leaves in
       let stage = stage_after a.took b.object in
       going heap (deflate_steps heap.shape e stage) (λ u. release_steps a.took) k _ (
-      follows heap false _ k _ _ (deflate_ends heap e k0 stage (plain_after a.took) k (omega (arith, object)) (record {
-        keeps = looks_behind_rule heap k e b a.took (name.Object 0) (λ v. omega (arith, object)) (λ v. record {
-          ends = record {
-            reached = reached;
-            its_revocation = ap revocation_in x.stage;
-            still = x.leaves.moving ∙ r.carries.still;
-            all = subst (λ t. AreAllStores heap.shape t b k.seen_at_safepoint) (sym number) (subst (λ z. AreAllStores heap.shape me b z) (sym x.seen_at_safepoint) (steps_all heap.shape me e b all.0 k0.seen_at_safepoint unwritten a x.path));
-            goes_on = x.leaves.mine;
-          };
-          check = x.leaves.check;
-          since = x.since;
-        }) (λ v. told_there k0 r unwritten k a all v);
+      follows heap false _ k _ _ (deflate_ends heap e k0 stage (unrevoking_after a.took b.object) k (omega (arith, object)) (record {
+        keeps = behind_keeps heap k e b a (has_revoked k0 r unwritten k a all) reached (x.leaves.moving ∙ r.carries.still) x.leaves.check x.leaves.mine (name.Object 0) (λ v. omega (arith, object));
         reached = reached;
         idles = λ n. record {
           reached = reached;
@@ -612,10 +603,10 @@ module _ (heap : Heap) (e : Purpose) (b : Revocation) (me : ℕ) where
           shots = x.leaves.shots;
         };
       })) (λ f u l y.
-      let v = y.2 in
+      let v = y.3 in
       let now = y.1.marks b.object x.mark.0 x.mark.1 in
       let told = tells_of k.thread a.took v.world.words x.mark.0 x.prototype.0 (is_as_seen heap k v reached (name.Mark b.object) x.mark.0 x.mark.1)
-      (is_as_seen heap k v reached (name.Prototype c) x.prototype.0 x.prototype.1) (told_there k0 r unwritten k a all v) in
+      (is_as_seen heap k v reached (name.Prototype c) x.prototype.0 x.prototype.1) (behind_tells heap k e b a (has_revoked k0 r unwritten k a all) reached v) in
       let same : k.thread ≡ l.thread = ap (λ z. z.thread) x.leaves.local ∙ ap (λ z. z.thread) (sym y.0.local) in
       release_does k0 l a.took r.number (λ none. answers_left (λ (a : RevocationOutcome). a.took ≡ false) T (done a) all.0 x.path (revocation_untaken e b none heap.shape me)) (record {
         idles = y.0;

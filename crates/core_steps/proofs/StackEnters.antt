@@ -4,6 +4,7 @@ use Rattle.mark_word.specs.declared.mark.MarkForm.{MarkForm}
 use Rattle.mark_word.specs.declared.mark.MarkForm.TheVariants.{Inflating, Neutral, Anonymous, Biased, Locked, Inflated, Marked}
 use Rattle.mark_word.specs.Mark.{mark_of, read_mark}
 use Rattle.mark_word.proofs.ReadingMarks.{read_mark-mark_of}
+use Rattle.plain_monitor.specs.Limits.{most_holds}
 use Rattle.plain_monitor.specs.declared.entry.Logged.{Logged}
 use Rattle.plain_monitor.specs.declared.entry.Path.{Path}
 use Rattle.plain_monitor.specs.declared.entry.Path.TheVariants.{StackFirst, StackAgain}
@@ -15,7 +16,8 @@ use Rattle.core_world.specs.declared.task.Task.TheVariants.{StackEnter}
 use Rattle.core_world.specs.Words.Forms.{is_neutral, is_neutral_form, is_entering, says_notified}
 use Rattle.core_world.specs.Threads.Known.{Known, Local, Moving, Still, local_of, start_of}
 use Rattle.core_world.specs.Threads.AtRest.{AtRest}
-use Rattle.core_world.specs.Trees.Calls.{steps_of, may_begin, may_log_once, is_object, is_own_first}
+use Rattle.core_world.specs.Trees.Calls.{steps_of, may_begin, may_log_once, is_own_first}
+use Rattle.core_world.specs.Threads.References.{has_reference}
 use Rattle.core_world.specs.Clauses.Lengths.{log_limit}
 use Rattle.core_world.specs.Locks.{hold_count}
 use Rattle.core_world.specs.Trees.LockSteps.{log_enter_steps, entered_steps, hold_steps, stack_again_steps, stack_first_steps, stack_enter_at, stack_enter_steps, store_ready_plan, displace_plan}
@@ -87,7 +89,7 @@ module _ (heap : Heap) where
   Comes k o p path = Precedes heap.shape k o p × WentBefore heap.biasing heap.shape k o p path
 
   pub hold_does : (k : Known) (e : Purpose) (o : ℕ) (path : Path) → Taking heap k.running k.requesting k.moving k.log e o → k.unfinished ≡ e.unfinished → Untold k
-      → free_place k.holds < 64 → Comes k o (free_place k.holds) path → Does heap false (hold_steps e (local_of k) o path) k (λ b r l. AtRest heap.shape l)
+      → free_place k.holds < most_holds → Comes k o (free_place k.holds) path → Does heap false (hold_steps e (local_of k) o path) k (λ b r l. AtRest heap.shape l)
   hold_does k e o path a mine untold place before =
       let none : Unwaiting k = λ i h. a.unwaiting i (sym mine ∙ h) in
       hitting heap false _ _ k _ (λ n. refl)
@@ -108,14 +110,14 @@ module _ (heap : Heap) where
       refl refl untold refl refl)
 
   -- a displaced word at the free place, by a thread in the middle of nothing
-  displaces_free : (k : Known) (e : Purpose) (d : ℕ) → k.running ≡ true → k.stage ≡ Calm → GoesOn k e → free_place k.holds < 64
+  displaces_free : (k : Known) (e : Purpose) (d : ℕ) → k.running ≡ true → k.stage ≡ Calm → GoesOn k e → free_place k.holds < most_holds
       → Keeps heap (displace_plan e Calm k.thread (free_place k.holds) d) k
   displaces_free k e d runs calm goes place =
       subst (λ z. Keeps heap (displace_plan e z k.thread (free_place k.holds) d) k) calm
       (displaces_rule heap k e (free_place k.holds) d (λ v. record { runs = runs; free = free_here heap k v runs place; unseized = λ o h. absurd (cc (calm, h)); goes_on = goes }))
 
   pub stack_first_does : (fresh : Bool) (k : Known) (e : Purpose) (o mark : ℕ) → Taking heap k.running k.requesting k.moving k.log e o → k.stage ≡ Calm → GoesOn k e → Untold k
-      → free_place k.holds < 64 → is_neutral mark ≡ true → Does heap fresh (stack_first_steps e (local_of k) o mark) k (λ b r l. AtRest heap.shape l)
+      → free_place k.holds < most_holds → is_neutral mark ≡ true → Does heap fresh (stack_first_steps e (local_of k) o mark) k (λ b r l. AtRest heap.shape l)
   stack_first_does fresh k e o mark a calm goes untold place neutral =
       let p = free_place k.holds in
       hitting heap fresh _ _ k _ (λ n. refl) (λ i. displaces_free k e mark a.runs calm goes place) (λ n i was.
@@ -134,7 +136,7 @@ module _ (heap : Heap) where
       (λ n i was h. answers heap false _ _ _ (rests heap.shape _ refl a.unasks a.unchecks (live_carries k.log k.wait k.holds e.unfinished a.still a.live (λ i h. place) (undumped_enter e o a.enters) untold))))
 
   pub stack_again_does : (fresh : Bool) (k : Known) (e : Purpose) (o : ℕ) → Taking heap k.running k.requesting k.moving k.log e o → k.stage ≡ Calm → GoesOn k e → Untold k
-      → free_place k.holds < 64 → 1 ≤ hold_count o k.holds → Unbiased heap fresh k o → Does heap fresh (stack_again_steps e (local_of k) o) k (λ b r l. AtRest heap.shape l)
+      → free_place k.holds < most_holds → 1 ≤ hold_count o k.holds → Unbiased heap fresh k o → Does heap fresh (stack_again_steps e (local_of k) o) k (λ b r l. AtRest heap.shape l)
   stack_again_does fresh k e o a calm goes untold place holds unbiased =
       let p = free_place k.holds in
       hitting heap fresh _ _ k _ (λ n. refl) (λ i. displaces_free k e 0 a.runs calm goes place) (λ n i was.
@@ -164,7 +166,7 @@ module _ (heap : Heap) where
 
   -- an enter by a neutral mark, or by one that names the thread's first record of o
   pub stack_enter_does : (fresh : Bool) (k : Known) (e : Purpose) (o mark : ℕ) → Stands heap k → Taking heap k.running k.requesting k.moving k.log e o → k.stage ≡ Calm → GoesOn k e → Untold k
-      → free_place k.holds < 64 → (is_neutral mark || is_own_first k o mark) ≡ true → Unbiased heap fresh k o → Does heap fresh (stack_enter_steps e (local_of k) o mark) k (λ b r l. AtRest heap.shape l)
+      → free_place k.holds < most_holds → (is_neutral mark || is_own_first k o mark) ≡ true → Unbiased heap fresh k o → Does heap fresh (stack_enter_steps e (local_of k) o mark) k (λ b r l. AtRest heap.shape l)
   stack_enter_does fresh k e o mark v a calm goes untold place by unbiased = cases (is_neutral mark) refl by
     where
       cases : (b : Bool) → is_neutral mark ≡ b → (b || is_own_first k o mark) ≡ true → Does heap fresh (stack_enter_at (read_mark mark) e (local_of k) o mark) k (λ b r l. AtRest heap.shape l)
@@ -187,14 +189,14 @@ module _ (heap : Heap) where
       → Finishes heap true (steps_of heap.shape (StackEnter o mark) (start_of heap.start k)) k
   unfolding steps_of
   stack_enter_finishes k o mark v rest may =
-      let m = both (not heap.biasing && is_object heap.shape o && may_log_once k false && nat_lt (free_place k.holds) 64) (is_neutral mark || is_own_first k o mark) may in
-      let m1 = both (not heap.biasing && is_object heap.shape o && may_log_once k false) (nat_lt (free_place k.holds) 64) m.0 in
-      let m2 = both (not heap.biasing && is_object heap.shape o) (may_log_once k false) m1.0 in
-      let m3 = both (not heap.biasing) (is_object heap.shape o) m2.0 in
+      let m = both (not heap.biasing && has_reference heap.shape k o && may_log_once k false && nat_lt (free_place k.holds) most_holds) (is_neutral mark || is_own_first k o mark) may in
+      let m1 = both (not heap.biasing && has_reference heap.shape k o && may_log_once k false) (nat_lt (free_place k.holds) most_holds) m.0 in
+      let m2 = both (not heap.biasing && has_reference heap.shape k o) (may_log_once k false) m1.0 in
+      let m3 = both (not heap.biasing) (has_reference heap.shape k o) m2.0 in
       let a = logs_once k false m2.1 in
       closes heap true _ k (stack_enter_does true k (lone_purpose (StackEnter o mark)) o mark v
       (record { runs = a.runs; unasks = unasking heap.shape k rest a.runs; still = rest.still; unchecks = refl; live = a.live; room = a.room; object = below o (length heap.shape.objects) m3.1; unwaiting = λ i h. absurd (cc h); enters = inl refl })
-      rest.calm (inr (none_is _ (or_false _ a.free))) rest.untold (below (free_place k.holds) 64 m1.1) m.1 (inl (not_true heap.biasing m3.0)))
+      rest.calm (inr (none_is _ (or_false _ a.free))) rest.untold (below (free_place k.holds) most_holds m1.1) m.1 (inl (not_true heap.biasing m3.0)))
 
   pub stack_enter_begins : (o mark : ℕ) → BeginsWell heap (StackEnter o mark)
   stack_enter_begins o mark = record { does = λ k v rest may. stack_enter_finishes k o mark v rest may }

@@ -16,9 +16,11 @@ use Rattle.core_world.specs.Words.Forms.{monitor_form, is_biased, hold_word}
 use Rattle.core_world.specs.Threads.Known.{Known, Local, Moving, Still, local_of, start_of, last_seen}
 use Rattle.core_world.specs.Looking.{IsLook}
 use Rattle.core_world.specs.Threads.AtRest.{AtRest}
-use Rattle.core_world.specs.Trees.Calls.{steps_of, may_begin, may_log_once, is_object}
+use Rattle.core_world.specs.Trees.Calls.{steps_of, may_begin, may_log_once}
+use Rattle.core_world.specs.Threads.References.{has_reference}
 use Rattle.core_world.specs.Clauses.Lengths.{log_limit}
 use Rattle.core_world.specs.Locks.{hold_count, marks}
+use Rattle.plain_monitor.specs.Limits.{most_holds}
 use Rattle.plain_monitor.specs.declared.entry.Logged.{Logged}
 use Rattle.core_world.specs.Clauses.Safepoints.{ends, IsUnfinished}
 use Rattle.core_world.specs.Trees.LockSteps.{stack_exit_by, stack_exit_at, stack_exit_record, stack_exit_steps, raise_stamp_plan}
@@ -193,7 +195,7 @@ module _ (heap : Heap) where
       let word = saw_displaced v.world v.objects k.thread o (away heap k v (λ s y. y.running ≡ true) runs) (fits_here heap k v runs) (top_place o k.holds) header there in
       home heap k v (λ s y. OnExit k.thread (top_place o k.holds) (hold_count o y.holds) (read_mark (marks v.world o)))
       (on_exit v.world v.objects k.thread o (fits_here heap k v runs) (away heap k v (λ s y. y.stage ≡ Calm) calm) out (away heap k v (λ s y. 1 ≤ hold_count o y.holds) some) (top_place o k.holds) unbiased
-      (away heap k v (λ s y. slice_index y.holds (top_place o k.holds) ≡ hold_word o (hold_count o y.holds)) top.0) (away heap k v (λ s y. hold_count o y.holds ≤ 64) (few_here heap k v runs o)) (λ e. nonzero (sym word ∙ e)))
+      (away heap k v (λ s y. slice_index y.holds (top_place o k.holds) ≡ hold_word o (hold_count o y.holds)) top.0) (away heap k v (λ s y. hold_count o y.holds ≤ most_holds) (few_here heap k v runs o)) (λ e. nonzero (sym word ∙ e)))
 
   record_does : (Q : Bool → StackOut → Known → Type 0) (fresh : Bool) (k : Known) (e : Purpose) (o : ℕ) → Outs heap e o (local_of k) Q → Leaving heap k.running k.requesting k.moving k.log k.holds e o → k.stage ≡ Calm → GoesOn k e → e.check ≡ k.checking → Untold k
       → Unbiased heap fresh k o → (hold_count o k.holds ≡ 1 → RaisedStamp fresh k o) → Does heap fresh (stack_exit_record e (local_of k) o) k Q
@@ -262,9 +264,9 @@ module _ (heap : Heap) where
   unfolding steps_of
   stack_exit_finishes k o rest may =
       let going = goes_on_with op.Exit o k.unfinished in
-      let m = both (not heap.biasing && is_object heap.shape o && nat_lt 0 (hold_count o k.holds)) (may_log_once k going) may in
-      let n = both (not heap.biasing && is_object heap.shape o) (nat_lt 0 (hold_count o k.holds)) m.0 in
-      let l = both (not heap.biasing) (is_object heap.shape o) n.0 in
+      let m = both (not heap.biasing && has_reference heap.shape k o && nat_lt 0 (hold_count o k.holds)) (may_log_once k going) may in
+      let n = both (not heap.biasing && has_reference heap.shape k o) (nat_lt 0 (hold_count o k.holds)) m.0 in
+      let l = both (not heap.biasing) (has_reference heap.shape k o) n.0 in
       let a = logs_once k going m.1 in
       let goes = goes_on_or_begins op.Exit o k.unfinished a.free in
       let e = purpose (StackExit o) op.Exit o in

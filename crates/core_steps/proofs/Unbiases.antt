@@ -13,7 +13,7 @@ use Rattle.core_world.specs.declared.name.Name.TheVariants as name
 use Rattle.core_world.specs.declared.stage.Stage.TheVariants.{Calm}
 use Rattle.core_world.specs.declared.task.Op.{Op}
 use Rattle.core_world.specs.declared.task.Op.TheVariants as op
-use Rattle.core_world.specs.Threads.AtRest.{AtRest, MayAsk, MayRevoke, SawNoOther}
+use Rattle.core_world.specs.Threads.AtRest.{AtRest, MayAsk, MayRevoke, SawClass, SawNoOther}
 use Rattle.core_world.specs.Trees.BiasSteps.{unbias_plan, bias_drop_at, bias_drop_by, bias_drop_steps}
 use Rattle.core_world.specs.Trees.BiasSteps as bias_steps
 use Rattle.core_world.specs.Words.Forms.{is_biased, is_biased_form, epoch_in, waits_on}
@@ -111,7 +111,7 @@ module _ (heap : Heap) (e : Purpose) (b : Revocation) where
           check = unchecks ∙ sym released.unchecks;
           mine = sym released.mine;
           headers = released.unseen;
-        }) (released.mark.0, released.mark.2, released.mark.4)))
+        }) (released.mark.0, released.mark.3, released.mark.6)))
     after_does k0 local kept saved draws shots f (Pending w) l x = answers heap f (Pending w) l Q (outs.pends f l w x.1)
 
     revoked_does : (fresh : Bool) (k0 : Known) → BeginsRevocation heap e b operation k0 → local_of k0 ≡ local_of k → k0.kept ≡ k.kept → k0.saved ≡ k.saved → k0.draws ≡ k.draws → k0.shots ≡ k.shots
@@ -128,7 +128,7 @@ module _ (heap : Heap) (e : Purpose) (b : Revocation) where
     abbrev dropping : ℕ → ℕ → Todo BiasTry
     dropping mark neutral = bias_steps.unbias_swap_steps e o mark neutral
 
-    module _ (l : Known) (mark prototype : ℕ) (x : HasLooked k l) (unreached : l.reached ≡ false) (saw_mark : last_seen (name.Mark o) l.seen ≡ Some mark) (saw_prototype : last_seen (name.Prototype c) l.seen ≡ Some prototype) (alone : SawNoOther heap.shape l o) where
+    module _ (l : Known) (mark prototype : ℕ) (x : HasLooked k l) (unreached : l.reached ≡ false) (saw_mark : last_seen (name.Mark o) l.seen ≡ Some mark) (saw_class : SawClass heap.shape l.seen o c) (saw_prototype : last_seen (name.Prototype c) l.seen ≡ Some prototype) (alone : SawNoOther heap.shape l o) where
       -- an anonymous or stale mark becomes neutral
       drop_does : (neutral : ℕ) → IsLoose (read_mark mark) (epoch_in prototype) → (neutral ≡ mark_of (Neutral 0 0)) ⊎ ((neutral ≡ prototype) × (epoch_in prototype ≡ None)) → is_biased neutral ≡ false
           → Does heap false (dropping mark neutral) l R
@@ -138,14 +138,14 @@ module _ (heap : Heap) (e : Purpose) (b : Revocation) where
           (λ i. unbiases_rule heap l e o mark prototype neutral object (λ v. (
             record {
               prototype = prototype;
-              exchange = record { runs = x.runs; calm = x.calm; saw = saw_prototype; loose = loose; goes_on = sym x.mine };
+              exchange = record { runs = x.runs; calm = x.calm; class = c; saw_class = saw_class; saw = saw_prototype; loose = loose; goes_on = sym x.mine };
               to = to;
             },
             record {
               runs = x.runs;
               calm = x.calm;
               goes_on = inl (sym x.mine);
-              saw = free_bias heap.shape l o mark prototype saw_prototype loose;
+              saw = free_bias heap.shape l o c mark prototype saw_class saw_prototype loose;
               unbiased = plain;
               why = inr (elim may.why [ inl hash ↦ inl hash | inr held ↦ inr (subst (λ z. 1 ≤ hold_count o z.holds) (sym x.local) held) ]);
             },
@@ -186,7 +186,7 @@ module _ (heap : Heap) (e : Purpose) (b : Revocation) where
               asking = λ asks. let unasks = x.unasks in absurd (cc (asks, unasks));
               running = λ free. (x.runs, inl (sym x.mine));
             };
-            saw = (mark, prototype, ap (last_seen (name.Mark o)) before ∙ saw_mark, ap (last_seen (name.Prototype c)) before ∙ saw_prototype, valid);
+            saw = (mark, prototype, c, ap (last_seen (name.Mark o)) before ∙ saw_mark, saw_class, ap (last_seen (name.Prototype c)) before ∙ saw_prototype, valid);
             alone = λ n v h. alone n v (ap (last_seen n) (sym before) ∙ h);
             unreached = unreached;
             unwaiting = λ waits. ap (λ z. waits_on z.wait o) x.local ∙ may.unwaiting waits;
@@ -213,7 +213,7 @@ module _ (heap : Heap) (e : Purpose) (b : Revocation) where
       by_does None is biased form =
           drop_does prototype (loose_unepoched (read_mark mark) (epoch_in prototype) biased is) (inr (refl, is)) (ap is_biased (prototype_neutral prototype form is) ∙ neutral_plain)
 
-    dropped_does : k.requesting ≡ false → Does heap true (bias_drop_steps e c o) k R
+    dropped_does : k.requesting ≡ false → Does heap true (bias_drop_steps heap.shape e o) k R
     dropped_does free =
         let begins = may.begins.running free in
         let runs = begins.0 in
@@ -241,7 +241,7 @@ module _ (heap : Heap) (e : Purpose) (b : Revocation) where
           mine = refl;
           headers = headers_more heap ask_prototype prototype l refl j refl headers;
         }) (unreached_here heap k was.stands runs)
-        (saw_older heap ask_prototype prototype l (name.Mark o) j refl refl ∙ saw_newest heap look mark k) (saw_newest heap ask_prototype prototype l) (saw_two heap e o mark prototype k i free j)
+        (saw_older heap ask_prototype prototype l (name.Mark o) j refl refl ∙ saw_newest heap look mark k) refl (saw_newest heap ask_prototype prototype l) (saw_two heap e o c mark prototype k refl i free j)
         (epoch_in prototype) refl yes (prototype_here heap l was1.stands runs c prototype biasing was1.found)))
         (λ no. answers heap false (Unbiased mark) l R (answers heap false (Done tt) l Q (outs.unbiased l (record {
           local = refl;
@@ -268,12 +268,12 @@ module _ (heap : Heap) (e : Purpose) (b : Revocation) where
         subst (λ (z : Bool). Does heap true (revoked_steps heap.shape k.thread z e b) k Q) asks
         (revoked_does true k (record {
           begins = may.begins;
-          saw = (saw.0, saw.1, ap (last_seen (name.Mark o)) before ∙ saw.2, ap (last_seen (name.Prototype c)) before ∙ saw.3, saw.4);
+          saw = (saw.0, saw.1, saw.2, ap (last_seen (name.Mark o)) before ∙ saw.3, saw.4, ap (last_seen (name.Prototype saw.2)) before ∙ saw.5, saw.6);
           alone = λ n v h. asked.2 n v (ap (last_seen n) (sym before) ∙ h);
           unreached = asked.1;
           unwaiting = may.unwaiting;
         }) refl refl refl refl refl))
-        (λ free. binds heap true (bias_drop_steps e c o) (λ tried. unbias_tried tried heap.shape e (start_of heap.start k) b) k Q (dropped_does free))
+        (λ free. binds heap true (bias_drop_steps heap.shape e o) (λ tried. unbias_tried tried heap.shape e (start_of heap.start k) b) k Q (dropped_does free))
 
 -- a call of such an operation, by its own conditions
 pub starts_unbias : (heap : Heap) (e : Purpose) (b : Revocation) (a : Op) (k : Known) → e.unfinished ≡ Some (record { op = a; object = b.object }) → e.check ≡ false → AtRest heap.shape k

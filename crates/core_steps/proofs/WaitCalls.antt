@@ -6,7 +6,8 @@ use Rattle.core_world.specs.declared.task.Op.TheVariants as op
 use Rattle.core_world.specs.declared.task.Task.TheVariants.{Wait}
 use Rattle.core_world.specs.declared.task.Unfinished.{Unfinished}
 use Rattle.core_world.specs.Threads.AtRest.{AtRest, MayAsk}
-use Rattle.core_world.specs.Trees.Calls.{steps_of, may_begin, may_operate, is_object, most_logged}
+use Rattle.core_world.specs.Trees.Calls.{steps_of, may_begin, may_operate, most_logged}
+use Rattle.core_world.specs.Threads.References.{has_reference}
 use Rattle.core_world.specs.Words.Forms.{waits_on, says_notified}
 use Rattle.core_world.specs.Threads.Known.{Known, Local, Still, local_of, start_of}
 use Rattle.core_world.specs.Clauses.Lengths.{log_limit}
@@ -129,7 +130,7 @@ module _ (heap : Heap) (k : Known) (o now : ℕ) (v : Stands heap k) (rest : AtR
   abbrev e : Purpose
   e = purpose (Wait o now) op.Wait o
 
-  module _ (here : is_object heap.shape o ≡ true) (a : Operates k (goes_on_with op.Wait o k.unfinished)) (some : (hold_count o k.holds == 0) ≡ false) where
+  module _ (here : has_reference heap.shape k o ≡ true) (a : Operates k (goes_on_with op.Wait o k.unfinished)) (some : (hold_count o k.holds == 0) ≡ false) where
     -- where its request stands it has not let go
     asked : k.requesting ≡ true → MayAsk heap.shape k (Some (record { op = op.Wait; object = o }))
     asked asks = subst (MayAsk heap.shape k) (going_is op.Wait o k.unfinished (asking_goes k.running k.requesting (goes_on_with op.Wait o k.unfinished) a.runs (rest.stopped asks))) (rest.asks asks a.unchecking)
@@ -212,8 +213,8 @@ module _ (heap : Heap) (k : Known) (o now : ℕ) (v : Stands heap k) (rest : AtR
   unfolding steps_of
   wait_finishes may =
       let going = goes_on_with op.Wait o k.unfinished in
-      let all = both (is_object heap.shape o && may_operate k going) (nat_le (length k.log + most_logged k (Wait o now)) log_limit) may in
-      let m = both (is_object heap.shape o) (may_operate k going) all.0 in
+      let all = both (has_reference heap.shape k o && may_operate k going) (nat_le (length k.log + most_logged k (Wait o now)) log_limit) may in
+      let m = both (has_reference heap.shape k o) (may_operate k going) all.0 in
       let a = operates k going m.1 in
       let room = at_most (length k.log + most_logged k (Wait o now)) log_limit all.1 in
       closes heap true _ k (

@@ -1,18 +1,47 @@
--- What a deflation leaves of each monitor, by what its thread saw at its safepoint, which is what stands there; and what stands in each valid world.
-use Rattle.std.specs.Prelude.{◌≡◌, ◌≢◌, ◌⊎◌, ℕ, ◌+◌, ◌%◌, ◌==◌, ◌||◌, ◌<◌, Bool, true, false, List, [], ◌∷◌, length, Some}
+-- When a deflation may begin; what it leaves of each monitor, by what its thread saw at its safepoint, which is what stands there; and what stands in
+-- each valid world.
+use Rattle.std.specs.Prelude.{◌≡◌, ◌≢◌, ◌⊎◌, ℕ, ◌+◌, ◌%◌, ◌==◌, ◌||◌, ◌++◌, ◌<◌, Bool, true, false, List, [], ◌∷◌, length, Some, None}
 use Rattle.mark_word.specs.declared.owner.OwnerForm.TheVariants.{Free}
 use Rattle.mark_word.specs.Owner.{owner_of}
+use Rattle.core_world.specs.declared.name.Name.{Name}
 use Rattle.core_world.specs.declared.name.Name.TheVariants.{Mark, Waiting, Owner, Recursions, Header, Object, Claim, Ring}
 use Rattle.core_world.specs.declared.plan.Own.{Own}
 use Rattle.core_world.specs.declared.plan.Own.TheVariants.{Detach}
+use Rattle.core_world.specs.declared.stage.Stage.{Stage}
+use Rattle.core_world.specs.RevocationRules.{writes_in}
 use Rattle.core_world.specs.Words.Forms.{monitor_in}
 use Rattle.core_world.specs.Words.Shape.{Shape, ring_places}
-use Rattle.core_world.specs.Threads.Known.{Known, StepMade}
+use Rattle.core_world.specs.Threads.Known.{Known, Still, StepMade, last_seen}
+use Rattle.core_world.specs.Threads.Stages.{Revocation, revocation_in}
+use Rattle.core_world.specs.Trees.BiasSteps.{stage_after}
 use Rattle.core_world.specs.Trees.DeflateSteps.{is_untouched}
+use Rattle.core_world.specs.Trees.Plans.{Purpose}
+use Rattle.core_world.specs.Trees.RevocationSteps.{RevocationOutcome, revoke_at_safepoint_steps}
+use Rattle.core_world.specs.Trees.Todo.{done}
 use Rattle.core_world.specs.Locks.{marks}
 use Rattle.core_world.specs.World.{World}
 use Rattle.core_locks.specs.DeflationLaws.{Saw, IsFilled}
+use Rattle.core_bias.specs.Revoking.{Leads, is_kept_on_request}
 use Rattle.core_law.specs.Logic.{Heap, Stands}
+
+-- WHERE IT BEGINS. All stores of the revocation b are made: the thread's steps since its safepoint was reached, behind some that stored nothing, have led
+-- to its answer. What the thread saw of marks and words of classes in the calls of the request, it has seen or stored since.
+pub record HasRevoked (s : Shape) (k : Known) (e : Purpose) (b : Revocation) (answer : RevocationOutcome) : Type 0 where
+  pub its_revocation : revocation_in k.stage ≡ Some b
+  pub steps : (ms earlier : List StepMade) × (k.seen_at_safepoint ≡ ms ++ earlier) × (writes_in earlier ≡ [])
+      × Leads (revoke_at_safepoint_steps s k.thread e b) ms (done answer)
+  pub since : (n : Name) (v : ℕ) → is_kept_on_request n ≡ true → last_seen n k.seen ≡ Some v → last_seen n k.seen_at_safepoint ≡ Some v
+
+-- A thread whose safepoint is reached, and that has nothing in hand of the ring, may go through the monitors at this stage: it is its own, in which it
+-- revokes nothing; or all stores of a revocation are made, and it is where the answer of that leaves it.
+pub record MayDeflate (s : Shape) (k : Known) (e : Purpose) (stage : Stage) : Type 0 where
+  pub reached : k.reached ≡ true
+  pub stopped : k.running ≡ false
+  pub still : k.moving ≡ Still
+  pub check : e.check ≡ k.checking
+  pub goes_on : e.unfinished ≡ k.unfinished
+  pub begins : ((revocation_in k.stage ≡ None) × (k.stage ≡ stage))
+      ⊎ ((b : Revocation) × (answer : RevocationOutcome) × HasRevoked s k e b answer × (stage_after answer.took b.object ≡ stage))
 
 -- BY WHAT THE THREAD SAW. A step took the monitor m from its object; and one of these steps did.
 abbrev pub takes : Own → ℕ → Bool
@@ -32,13 +61,6 @@ abbrev pub SawInUse : Shape → Known → ℕ → ℕ → Type 0
 SawInUse s k o m =
     ((v : ℕ) × Saw k (Owner m) v × (v ≢ owner_of Free))
     ⊎ ((u v : ℕ) × (u < s.threads) × Saw k (Waiting u) v × (is_untouched o v ≡ false))
-
--- The monitor m was given back, or isn't idle: where the mark of the object in its object word names it, it is in use. In no valid world does
--- another mark name it.
-abbrev pub IsSettled : Shape → Known → ℕ → Type 0
-IsSettled s k m =
-    GaveBack k m
-    ⊎ ((o v : ℕ) × Saw k (Object m) o × Saw k (Mark o) v × (monitor_in v ≡ Some m → SawInUse s k o m))
 
 -- BY THE WORDS of a world
 abbrev pub IsInUse : World → ℕ → ℕ → Type 0
@@ -63,9 +85,18 @@ pub record IsClean (w : World) (m : ℕ) : Type 0 where
 abbrev pub StandsInRing : World → ℕ → Type 0
 StandsInRing w m = (d : ℕ) × IsFilled w d × (w.words (Ring ((w.words Claim + d) % ring_places w.shape)) ≡ m)
 
--- In each valid world in which the thread knows l, every monitor that it gave back since it knew k is clean and stands in the ring, and no mark
--- names it.
+-- in each valid world in which the thread knows this, the monitor m is clean and stands in the ring, and no mark names it
+abbrev pub IsBack : Heap → Known → ℕ → Type 0
+IsBack heap k m =
+    (v : Stands heap k) → IsClean v.world m × StandsInRing v.world m × ((o : ℕ) → monitor_in (marks v.world o) ≢ Some m)
+
+-- BOTH. The monitor m was given back at this safepoint, and is so still; or it isn't idle: where the mark of the object in its object word names it, it
+-- is in use. In no valid world does another mark name it.
+abbrev pub IsSettled : Heap → Known → ℕ → Type 0
+IsSettled heap k m =
+    (GaveBack k m × IsBack heap k m)
+    ⊎ ((o v : ℕ) × Saw k (Object m) o × Saw k (Mark o) v × (monitor_in v ≡ Some m → SawInUse heap.shape k o m))
+
+-- so is every monitor that it gave back between k and l
 abbrev pub GivenBackAreClean : Heap → Known → Known → Type 0
-GivenBackAreClean heap k l =
-    (v : Stands heap l) (m : ℕ) → GaveBack l m → (GaveBack k m → ⊥)
-    → IsClean v.world m × StandsInRing v.world m × ((o : ℕ) → monitor_in (marks v.world o) ≢ Some m)
+GivenBackAreClean heap k l = (m : ℕ) → GaveBack l m → (GaveBack k m → ⊥) → IsBack heap l m

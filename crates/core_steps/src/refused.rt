@@ -6,6 +6,7 @@
 //! so that there is such a world.
 
 ghost use Rattle.std.specs.Prelude.{◌≡◌, ◌≢◌, ◌⊎◌, ℕ, ◌<◌, ◌≤◌, Bool, true, false, length, Some, None};
+ghost use Rattle.plain_monitor.specs.Limits.{most_holds};
 ghost use Rattle.core_world.specs.declared.name.Name.TheVariants.{Mark, Displaced};
 ghost use Rattle.core_world.specs.declared.stage.Stage.{Stage};
 ghost use Rattle.core_world.specs.declared.stage.Stage.TheVariants.{Calm, Seizes, Ahead, Behind};
@@ -25,7 +26,7 @@ ghost use Rattle.core_steps.specs.Weakened.{late_displaced_steps, early_clearing
 /// a mark names a record that has no header.
 pub fn no_displaced_word_after_the_exchange()
     ensures refused { (heap : Heap) (k : Known) (fresh : Bool) (v : Stands heap k) (e : Purpose) (o mark : ℕ)
-        → is_idle heap.shape k ≡ fresh → k.running ≡ true → free_place k.holds < 64 → is_neutral mark ≡ true
+        → is_idle heap.shape k ≡ fresh → k.running ≡ true → free_place k.holds < most_holds → is_neutral mark ≡ true
         → v.world.words (Mark o) ≡ mark
         → v.world.words (Displaced k.thread (free_place k.holds)) ≢ mark
         → DoesSteps heap fresh (late_displaced_steps e (local_of k) o mark) k → ⊥ }

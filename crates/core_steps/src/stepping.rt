@@ -1,12 +1,12 @@
 //! The law of all steps. The functions do nothing.
 
-ghost use Rattle.std.specs.Prelude.{◌≡◌, ℕ, ◌<◌, true, false, length, None};
+ghost use Rattle.std.specs.Prelude.{◌≡◌, ℕ, ◌<◌, true, false, length};
 ghost use Rattle.core_world.specs.declared.plan.StepPlan.{StepPlan};
+ghost use Rattle.core_world.specs.declared.stage.Stage.{Stage};
 ghost use Rattle.core_world.specs.declared.task.Task.{Task};
 ghost use Rattle.core_world.specs.Threads.AtRest.{AtRest};
 ghost use Rattle.core_world.specs.Due.{IsNext};
-ghost use Rattle.core_world.specs.Threads.Known.{Known, Still};
-ghost use Rattle.core_world.specs.Threads.Stages.{revocation_in};
+ghost use Rattle.core_world.specs.Threads.Known.{Known};
 ghost use Rattle.core_world.specs.Trees.DeflateSteps.{deflate_steps};
 ghost use Rattle.core_world.specs.Trees.Plans.{Purpose};
 ghost use Rattle.core_world.specs.Opening.{opening};
@@ -24,7 +24,7 @@ ghost use Rattle.core_law.specs.HeapLaw.{HeapLaw};
 ghost use Rattle.core_law.specs.Logic.{Heap, Does, DoesSteps, heap_of};
 ghost use Rattle.core_law.specs.Reached.{Comes, comes};
 ghost use Rattle.core_law.specs.Sound.{Sound};
-ghost use Rattle.core_steps.specs.Deflated.{IsSettled, NamedAreInUse, GivenBackAreClean};
+ghost use Rattle.core_steps.specs.Deflated.{MayDeflate, IsSettled, NamedAreInUse, GivenBackAreClean};
 
 /// In a sound world the next step of any thread leads to a sound world: in whatever call, whether it begins the call or goes on with it, and
 /// whatever the other threads are in the middle of. The step is a function of what its thread knows alone. The heap has the word that it is
@@ -94,30 +94,29 @@ pub fn every_call_begins_well()
     ensures { (heap : Heap) (task : Task) → BeginsWell heap task }
 {}
 
-/// The steps that give idle monitors back keep every valid world valid, of a thread whose safepoint is reached, which revokes no bias and has nothing in hand
-/// of the ring: each has its conditions from what the thread has seen there.
+/// The steps that give idle monitors back keep every valid world valid, of a thread whose safepoint is reached and that has nothing in hand of the
+/// ring: each has its conditions from what the thread has seen there. They may begin where it revokes no bias, and behind the last store of a
+/// revocation, which their first look ends: so in each dump, check and revocation.
 pub fn a_deflation_does_its_steps()
-    ensures { (heap : Heap) (e : Purpose) (k : Known) → revocation_in k.stage ≡ None → k.reached ≡ true
-        → k.running ≡ false → k.moving ≡ Still → e.check ≡ k.checking → e.unfinished ≡ k.unfinished
-        → DoesSteps heap false (deflate_steps heap.shape e k.stage) k }
+    // `MayDeflate`: where the thread stands; of a revocation, that its steps since its safepoint was reached have led to this answer
+    ensures { (heap : Heap) (e : Purpose) (k : Known) (stage : Stage) → MayDeflate heap.shape k e stage
+        → DoesSteps heap false (deflate_steps heap.shape e stage) k }
 {}
 
-/// Behind such a deflation no monitor is idle. In each valid world in which the thread stands there, every monitor that a mark names has an
-/// owner, or somebody who waits on its object, was notified from it or enters it. And by what the thread saw at its safepoint, each monitor of
-/// the heap was given back, or the mark of the object in its object word doesn't name it, or it is so in use. Those that were given back have
-/// their four words 0 in each such world and stand in the ring, and no mark names them.
+/// Behind such a deflation no monitor is idle, be it that of a dump, a check or a revocation. In each valid world in which the thread stands there,
+/// every monitor that a mark names has an owner, or somebody who waits on its object, was notified from it or enters it. And by what the thread saw
+/// at its safepoint, each monitor of a heap that has objects was given back there and is so still, or the mark of the object in its object word
+/// doesn't name it, or it is so in use. One that is given back has its four words 0 in each such world and stands in the ring, and no mark names it.
+/// So is each that was given back in this deflation, and not at this safepoint before.
 pub fn a_deflation_leaves_no_monitor_idle()
-    ensures in_use { (heap : Heap) (e : Purpose) (k : Known) → revocation_in k.stage ≡ None → k.reached ≡ true
-        → k.running ≡ false → k.moving ≡ Still → e.check ≡ k.checking → e.unfinished ≡ k.unfinished
-        → Does heap false (deflate_steps heap.shape e k.stage) k (λ b a l. NamedAreInUse heap l) }
-    ensures settled { (heap : Heap) (e : Purpose) (k : Known) → revocation_in k.stage ≡ None → k.reached ≡ true
-        → k.running ≡ false → k.moving ≡ Still → e.check ≡ k.checking → e.unfinished ≡ k.unfinished
+    ensures in_use { (heap : Heap) (e : Purpose) (k : Known) (stage : Stage) → MayDeflate heap.shape k e stage
+        → Does heap false (deflate_steps heap.shape e stage) k (λ b a l. NamedAreInUse heap l) }
+    ensures settled { (heap : Heap) (e : Purpose) (k : Known) (stage : Stage) → MayDeflate heap.shape k e stage
         → 0 < length heap.shape.objects
-        → Does heap false (deflate_steps heap.shape e k.stage) k
-        (λ b a l. (m : ℕ) → m < monitor_count heap.shape → IsSettled heap.shape l m) }
-    ensures clean { (heap : Heap) (e : Purpose) (k : Known) → revocation_in k.stage ≡ None → k.reached ≡ true
-        → k.running ≡ false → k.moving ≡ Still → e.check ≡ k.checking → e.unfinished ≡ k.unfinished
-        → Does heap false (deflate_steps heap.shape e k.stage) k (λ b a l. GivenBackAreClean heap k l) }
+        → Does heap false (deflate_steps heap.shape e stage) k
+        (λ b a l. (m : ℕ) → m < monitor_count heap.shape → IsSettled heap l m) }
+    ensures clean { (heap : Heap) (e : Purpose) (k : Known) (stage : Stage) → MayDeflate heap.shape k e stage
+        → Does heap false (deflate_steps heap.shape e stage) k (λ b a l. GivenBackAreClean heap k l) }
 {}
 
 /// Every heap in the limits has its law, which whoever makes a heap hands in. It has four parts, each a law by itself.

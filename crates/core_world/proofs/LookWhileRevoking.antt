@@ -11,7 +11,8 @@ use Rattle.core_world.specs.declared.plan.Note.TheVariants.{Quiet}
 use Rattle.core_world.specs.declared.plan.Own.TheVariants.{Same}
 use Rattle.core_world.specs.declared.plan.StepPlan.{StepPlan}
 use Rattle.lock_policy.specs.Policy.{decided, is_reset}
-use Rattle.core_world.specs.Words.Shape.{Shape, class_of}
+use Rattle.core_world.specs.Words.Shape.{Shape}
+use Rattle.core_world.specs.Words.Names.{class_by}
 use Rattle.core_world.specs.Threads.Counts.{with_verdict_counted}
 use Rattle.core_world.specs.Words.Acts.{word_after, hits}
 use Rattle.core_world.specs.Words.Forms.{is_halted, is_still, monitor_in}
@@ -32,7 +33,7 @@ use Rattle.core_world.proofs.LookLaws.{look_glance, miss_glance, look_shots, mis
 -- what the requester knows, by the words before its first store and what it knew then
 abbrev requester_known_with : Shape → (Name → ℕ) → Revocation → Known → Known → Known
 requester_known_with s f b known k =
-    let c = class_of s b.object in
+    let c = class_by s f b.object in
     record known {
       counts = with_verdict_counted known.counts c (decided (f (name.Revocations c)) (f (name.LastBulk c)) b.now).0 (is_reset (f (name.Revocations c)) (f (name.LastBulk c)) b.now);
       stage = k.stage;

@@ -6,7 +6,7 @@ use Rattle.plain_monitor.specs.Objects.{PlainObject, take_entry, take_at, take_n
 use Rattle.plain_monitor.specs.declared.entry.Logged.{Logged}
 use Rattle.plain_monitor.specs.History.{take_all}
 use Rattle.plain_monitor.specs.declared.entry.Entry.{Entry}
-use Rattle.plain_monitor.specs.declared.entry.Entry.TheVariants.{Get, Put, Print, Dump, Trap, Spent, Done}
+use Rattle.plain_monitor.specs.declared.entry.Entry.TheVariants.{Get, Put, New, Print, Dump, Trap, Spent, Done}
 use Rattle.plain_monitor.specs.Order.{order}
 use Rattle.plain_history.proofs.Swaps.{taken_at}
 use Rattle.core_world.specs.World.{World, logs}
@@ -35,6 +35,7 @@ same_slots x y h = ap (λ (z : PlainObject). length z.slots) (sym (same_Some x y
 at_slots : (x y : PlainObject) (t : ℕ) (e : Entry) → take_at x t e ≡ Some y → length y.slots ≡ length x.slots
 at_slots x y t (Get o slot value) h = ap (λ (z : PlainObject). length z.slots) (sym (made_by _ x y h))
 at_slots x y t (Put o slot value) h = ap (λ (z : PlainObject). length z.slots) (sym (made_by _ _ y h)) ∙ length-set x.slots slot value
+at_slots x y t (New object class) h = same_slots x y h
 at_slots x y t (Print value) h = same_slots x y h
 at_slots x y t (Dump number) h = same_slots x y h
 at_slots x y t (Trap fault index) h = same_slots x y h

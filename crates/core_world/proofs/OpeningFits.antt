@@ -3,6 +3,7 @@ use Rattle.std.proofs.Common.{◌≡◌, ℕ, zero, suc, ◌+◌, ◌*◌, ◌%�
 use Rattle.std.specs.List.{AllByRecursion}
 use Rattle.std.proofs.lemmas.List.{length-map}
 use Rattle.std.proofs.lemmas.Option.{same_Some}
+use Rattle.plain_monitor.specs.Limits.{most_holds}
 use Rattle.plain_monitor.specs.declared.entry.Value.{Value}
 use Rattle.plain_monitor.specs.declared.entry.Value.TheVariants.{Int}
 use Rattle.plain_monitor.specs.Monitor.{PlainMonitor, free_monitor, owns}
@@ -104,7 +105,7 @@ module _ (s : Shape) (start : ℕ) (biasing : Bool) where
   objects = new_objects s.objects
 
   abbrev holds : ℕ → List ℕ
-  holds t = replicate 64 0
+  holds t = replicate most_holds 0
 
   abbrev calm : ℕ → Stage
   calm t = Calm
@@ -168,23 +169,23 @@ module _ (s : Shape) (start : ℕ) (biasing : Bool) where
   held =
       subst (λ (ms : ℕ → PlainMonitor). HoldsFitLogs (λ t p. 0) holds (λ t o. 0) (λ o t. holds_by_monitor (ms o) t)) (sym (free_at s.objects))
       (record {
-        stored = λ t p. sym (index_none 64 p);
+        stored = λ t p. sym (index_none most_holds p);
         places = λ t. refl;
-        number = λ t o. named_none o 64;
-        each = λ t o d h. each_none o d 64;
+        number = λ t o. named_none o most_holds;
+        each = λ t o d h. each_none o d most_holds;
       })
 
   owners : LocksArePlain (who world) calm (owner_at objects)
   owners =
       subst (λ (ms : ℕ → PlainMonitor). LocksArePlain (who world) calm (λ o t. owns (ms o) t)) (sym (free_at s.objects))
-      (subst (λ (locks : ℕ → Lock). LocksArePlain (λ o. holder (locks o) (λ t. hold_count o (replicate 64 0))) calm (λ o t. false)) (sym all_open)
+      (subst (λ (locks : ℕ → Lock). LocksArePlain (λ o. holder (locks o) (λ t. hold_count o (replicate most_holds 0))) calm (λ o t. false)) (sym all_open)
       (record { same = λ o t. refl; let_go = λ o t e. refl; left = λ o t p e. refl; calls = λ o t e. absurd (cc e) }))
 
   biases : BiasedAreFree (marks world) (lock world) holds (hash_at objects) (waits_at objects) (notified_at objects)
   biases =
       subst (λ (ms : ℕ → PlainMonitor). BiasedAreFree (marks world) (lock world) holds (hash_at objects) (λ o. (ms o).waits) (λ o. (ms o).called)) (sym (free_at s.objects))
       (subst (λ (hash : ℕ → ℕ). BiasedAreFree (marks world) (lock world) holds hash (λ o. []) (λ o. [])) (sym (hash_none s.objects))
-      (record { hashless = λ o e. refl; nobody = λ o e. (refl, refl); unheld = λ o t e h. named_none o 64 }))
+      (record { hashless = λ o e. refl; nobody = λ o e. (refl, refl); unheld = λ o t e h. named_none o most_holds }))
 
   records : RecordsRest (lock world) holds calm (displaced_words world)
   records =
@@ -211,13 +212,13 @@ module _ (s : Shape) (start : ℕ) (biasing : Bool) where
   recursions : RecursionsFit (marks world) (λ m. 0) (lock world) holds calm (λ t. 0) (displaced_words world) (waits_at objects) (notified_at objects)
   recursions =
       record {
-        first = λ o t p g e. absurd (no_hold 64 o 1 p e);
-        others = λ o t p d g e. absurd (no_hold 64 o (d + 2) p e);
+        first = λ o t p g e. absurd (no_hold most_holds o 1 p e);
+        others = λ o t p d g e. absurd (no_hold most_holds o (d + 2) p e);
         owned = λ o m t e. absurd (no_monitor biasing m e);
-        waiting = λ o t e. sym (again_none o (λ p. 0) 64);
+        waiting = λ o t e. sym (again_none o (λ p. 0) most_holds);
         on_record = λ o m t p e. absurd (no_monitor biasing m e);
         free = λ o m e. absurd (no_monitor biasing m e);
-        thread_owns = λ o t e. again_none o (λ p. 0) 64;
+        thread_owns = λ o t e. again_none o (λ p. 0) most_holds;
       }
 
   hashes : HashesFit (marks world) (lock world) (header world) holds (displaced_words world) (hash_at objects)
@@ -225,7 +226,7 @@ module _ (s : Shape) (start : ℕ) (biasing : Bool) where
       subst (λ (hash : ℕ → ℕ). HashesFit (marks world) (lock world) (header world) holds (displaced_words world) hash) (sym (hash_none s.objects))
       (record {
         stands = λ o h e. ap hash_in (sym (header_is_mark biasing o h e)) ∙ first_hash biasing;
-        records = λ o t p e. absurd (no_hold 64 o 1 p e);
+        records = λ o t p e. absurd (no_hold most_holds o 1 p e);
         on_record = λ o t p e. absurd (cc (e, open_at biasing o));
       })
 

@@ -25,7 +25,9 @@ pub record Spares (at : Name) (v t : ℕ) (l : Known) (w : World) (owner next : 
   pub before : (u : ℕ) (n : Name) (s : ℕ) → u ≢ t → last_seen n (w.known u).seen ≡ Some s → Stays (with_word_and_known at v t l w) (w.known u) next u n s → Stays w (w.known u) owner u n s
   pub owned : (u o : ℕ) → u ≢ t → next o u ≡ true → owner o u ≡ true
   pub word : (u s : ℕ) → u ≢ t → Stays w (w.known u) owner u at s → w.words at ≡ s → v ≡ s
-  pub bias : (o : ℕ) → is_biased (marks w o) ≡ false → is_biased (marks (with_word_and_known at v t l w) o) ≡ false
+  -- asked only of marks that a thread has seen: another may come to have the bias pattern
+  pub bias : (u o s : ℕ) → last_seen (Mark o) (w.known u).seen ≡ Some s → ((w.known u).running ≡ true) ⊎ ((w.known u).requesting ≡ true) → is_biased (marks w o) ≡ false
+      → is_biased (marks (with_word_and_known at v t l w) o) ≡ false
   pub waits : (u x o : ℕ) → u ≢ t → owner o u ≡ true → waits_on (w.words (Waiting x)) o ≡ false → waits_on (with_word at v w.words (Waiting x)) o ≡ false
   pub unwaited : (u o : ℕ) → u ≢ t → owner o u ≡ true → waiters o ≡ [] → next_waiters o ≡ []
   -- no safepoint is reached, since the thread runs
@@ -58,7 +60,7 @@ module _ (p : StepPlan) (found t : ℕ) (l : Known) (w : World) (owner next : �
             (λ d e g. other u n s d (same_name n p.at) refl e g);
         unbiased = λ u o s. each_with_known (λ u y. last_seen (Mark o) y.seen ≡ Some s → (y.running ≡ true) ⊎ (y.requesting ≡ true) → is_biased s ≡ false → is_biased (marks x o) ≡ false) t l w.known u
             (λ e r g. mark o s (same_name (Mark o) p.at) refl (ap (last_seen (Mark o)) (sym seen) ∙ e) r g)
-            (λ d e r g. spares.bias o (h.unbiased u o s e r g));
+            (λ d e r g. spares.bias u o s e r (h.unbiased u o s e r g));
         unwaiting = λ u y o s. each_with_known (λ u k. last_seen (Waiting y) k.seen ≡ Some s → k.running ≡ true → next o u ≡ true → waits_on s o ≡ false → waits_on (with_word p.at v w.words (Waiting y)) o ≡ false) t l w.known u
             (λ e r a g. wait y o s (same_name (Waiting y) p.at) refl (ap (last_seen (Waiting y)) (sym seen) ∙ e) r a g)
             (λ d e r a g. spares.waits u y o d (spares.owned u o d a) (h.unwaiting u y o s e r (spares.owned u o d a) g));
@@ -118,7 +120,9 @@ pub counts_more : (at : Name) (v t : ℕ) (l : Known) (w : World) (owner next : 
 counts_more at v t l w owner next waiters next_waiters old part back kept fresh idle unwaited spares waits h =
     record {
       others = λ n s e a g. h.stays t n s (part n s e) (stays_back w (with_word_and_known at v t l w) (w.known t) l owner next t back n s g);
-      unbiased = λ o s e g r. spares.bias o (h.unbiased t o s (part (Mark o) s e) (elim r [ inl a ↦ inl (back.run a) | inr a ↦ inr (back.ask a) ]) g);
+      unbiased = λ o s e g r.
+          let asks : ((w.known t).running ≡ true) ⊎ ((w.known t).requesting ≡ true) = elim r [ inl a ↦ inl (back.run a) | inr a ↦ inr (back.ask a) ] in
+          spares.bias t o s (part (Mark o) s e) asks (h.unbiased t o s (part (Mark o) s e) asks g);
       unwaiting = λ u o s e a g r. waits u o (back.owned o a) (h.unwaiting t u o s (part (Waiting u) s e) (back.run r) (back.owned o a) g);
       unwaited = λ o s e r a g. unwaited o a (h.unwaited t o s (part (Mark o) s e) (back.run r) (back.owned o a) g);
       idle = idle;

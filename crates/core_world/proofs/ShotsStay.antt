@@ -3,7 +3,7 @@ use Rattle.std.proofs.Common.{◌≡◌, ◌⊎◌, ℕ, zero, suc, ◌+◌, ◌
 use Rattle.std.proofs.lemmas.List.{length-set, length-map, map-append, take-append-le}
 use Rattle.std.proofs.lemmas.Option.{same_Some}
 use Rattle.plain_monitor.specs.declared.entry.Entry.{Entry}
-use Rattle.plain_monitor.specs.declared.entry.Entry.TheVariants.{Enter, Exit, Get, Put, Wait, Resume, Notify, NotifyAll, Hash, Print, Dump, Trap, Spent, Done}
+use Rattle.plain_monitor.specs.declared.entry.Entry.TheVariants.{Enter, Exit, Get, Put, Wait, Resume, Notify, NotifyAll, Hash, New, Print, Dump, Trap, Spent, Done}
 use Rattle.plain_monitor.specs.declared.entry.Logged.{Logged}
 use Rattle.plain_monitor.specs.History.{LegalObjects, objects_after, log_of, appended}
 use Rattle.plain_history.specs.Appending.{MayAppend}
@@ -80,6 +80,7 @@ dump_or_not (Resume o) = inr (λ n rest. refl)
 dump_or_not (Notify o woken) = inr (λ n rest. refl)
 dump_or_not (NotifyAll o woken) = inr (λ n rest. refl)
 dump_or_not (Hash o v drawn) = inr (λ n rest. refl)
+dump_or_not (New o c) = inr (λ n rest. refl)
 dump_or_not (Print v) = inr (λ n rest. refl)
 dump_or_not (Dump number) = inl (record { number = number; is = refl })
 dump_or_not (Trap fault index) = inr (λ n rest. refl)

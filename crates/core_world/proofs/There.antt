@@ -9,13 +9,16 @@ use Rattle.mark_word.specs.Owner.{read_owner}
 use Rattle.mark_word.specs.Wait.{read_wait}
 use Rattle.mark_word.specs.declared.wait.WaitForm.TheVariants.{Ready}
 use Rattle.mark_word.proofs.ReadingWaits.{read_wait-wait_of}
+use Rattle.plain_monitor.specs.Limits.{most_slots}
 use Rattle.plain_monitor.specs.Objects.{PlainObject}
 use Rattle.core_world.specs.declared.name.Name.{Name}
 use Rattle.core_world.specs.declared.name.Name.TheVariants.{Mark, Hold, Waiting, Owner}
 use Rattle.core_world.specs.Clauses.WordForms.{IsMark, IsHold, IsWait, IsOwner}
 use Rattle.core_world.specs.Words.Forms.{waits_on, waits_form}
 use Rattle.core_world.specs.Words.Shape.{Shape, IsInLimits, class_of, slots_of, monitor_count}
-use Rattle.core_world.specs.Threads.Known.{Known}
+use Rattle.core_world.specs.Words.Names.{class_by}
+use Rattle.core_world.specs.Threads.AtRest.{SawClass}
+use Rattle.core_world.specs.Threads.Known.{Known, StepMade}
 use Rattle.core_world.specs.Valid.{Fits, FormsFit, IsValid}
 use Rattle.core_world.specs.World.{World}
 
@@ -37,8 +40,8 @@ is_formed w _ f = tt
 no_wait : (o : ℕ) → waits_on 0 o ≡ false
 no_wait o = ap (λ f. waits_form f o) (read_wait-wait_of Ready tt)
 
-of_each : (xs : List (ℕ × ℕ)) (n o : ℕ) → AllByRecursion (λ x. (x.0 < n) × (x.1 ≤ 16)) xs → o < length xs
-    → ((slice_index_or xs o (0, 0)).0 < n) × ((slice_index_or xs o (0, 0)).1 ≤ 16)
+of_each : (xs : List (ℕ × ℕ)) (n o : ℕ) → AllByRecursion (λ x. (x.0 < n) × (x.1 ≤ most_slots)) xs → o < length xs
+    → ((slice_index_or xs o (0, 0)).0 < n) × ((slice_index_or xs o (0, 0)).1 ≤ most_slots)
 of_each [] n o h l = absurd (omega (arith, l))
 of_each (x ∷ xs) n zero h l = h.0
 of_each (x ∷ xs) n (suc o) h l = of_each xs n o h.1 (omega (arith, l))
@@ -46,7 +49,11 @@ of_each (x ∷ xs) n (suc o) h l = of_each xs n o h.1 (omega (arith, l))
 pub class_there : (s : Shape) (o : ℕ) → IsInLimits s → o < length s.objects → class_of s o < s.classes
 class_there s o limits object = (of_each s.objects s.classes o limits.each object).0
 
-pub slot_there : (s : Shape) (o slot : ℕ) → IsInLimits s → o < length s.objects → slot < slots_of s o → slot < 16
+-- the class that a thread has seen an object have is the one that it has, by whatever words the heap holds
+pub class_seen : (s : Shape) (f : Name → ℕ) (seen : List StepMade) (o c : ℕ) → SawClass s seen o c → class_by s f o ≡ c
+class_seen s f seen o c saw = sym saw
+
+pub slot_there : (s : Shape) (o slot : ℕ) → IsInLimits s → o < length s.objects → slot < slots_of s o → slot < most_slots
 slot_there s o slot limits object within = let most = (of_each s.objects s.classes o limits.each object).1 in omega (arith, within, most)
 
 pub limits_there : (w : World) (P : List PlainObject) → IsValid w P → IsInLimits w.shape

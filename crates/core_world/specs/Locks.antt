@@ -10,7 +10,7 @@ use Rattle.plain_monitor.specs.Monitor.{PlainMonitor, owns}
 use Rattle.plain_monitor.specs.Objects.{PlainObject, new_object}
 pub use Rattle.plain_history.specs.HeldByLog.{or_zero, holds_by_monitor}
 use Rattle.core_world.specs.declared.name.Name.TheVariants.{Prototype, Mark, Displaced, Owner, Header}
-use Rattle.core_world.specs.Words.Shape.{class_of}
+use Rattle.core_world.specs.Words.Names.{class_by}
 use Rattle.core_world.specs.Words.Forms.{epoch_in, monitor_in, names, is_deeper, hold_word}
 use Rattle.core_world.specs.Threads.Stages.{Inflation, inflation_in, one_if}
 use Rattle.core_world.specs.World.{World}
@@ -76,7 +76,7 @@ abbrev pub inflated_to : World → ℕ → Option ℕ
 inflated_to w o = monitor_in (w.words (Mark o))
 
 abbrev pub prototype_of : World → ℕ → ℕ
-prototype_of w o = w.words (Prototype (class_of w.shape o))
+prototype_of w o = w.words (Prototype (class_by w.shape w.words o))
 
 abbrev pub owner_words : World → ℕ → ℕ
 owner_words w m = w.words (Owner m)

@@ -2,6 +2,7 @@
 use Rattle.std.specs.Prelude.{ℕ, Bool, false, if◌then◌else◌, [], replicate, None, pos}
 use Rattle.mark_word.specs.Mark.{mark_of}
 use Rattle.mark_word.specs.declared.mark.MarkForm.TheVariants.{Neutral, Anonymous}
+use Rattle.plain_monitor.specs.Limits.{most_holds}
 use Rattle.plain_monitor.specs.ValueWords.{word_of}
 use Rattle.plain_monitor.specs.declared.entry.Value.TheVariants.{Int}
 use Rattle.core_world.specs.declared.name.Name.{Name}
@@ -38,7 +39,7 @@ first_known t =
       kept = None;
       moving = Still;
       saved = 0;
-      holds = replicate 64 0;
+      holds = replicate most_holds 0;
       wait = 0;
       published = 0;
       stage = Calm;

@@ -2,6 +2,7 @@
 -- OpenJDK 8's biasedLocking.cpp (revoke_bias, bulk_revoke_or_rebias_at_safepoint).
 use Rattle.std.specs.Prelude.{◌≡◌, ℕ, zero, suc, ◌+◌, ◌%◌, ◌==◌, ◌&&◌, if◌then◌else◌, Bool, true, false, List, [], ◌∷◌, ◌++◌, Option, Some, None}
 use Rattle.std.specs.List.{position_or_len}
+use Rattle.plain_monitor.specs.Limits.{most_holds}
 use Rattle.mark_word.specs.declared.mark.MarkForm.{MarkForm}
 use Rattle.mark_word.specs.declared.mark.MarkForm.TheVariants.{Neutral, Anonymous, Biased, Locked}
 use Rattle.mark_word.specs.declared.hold.HoldForm.{HoldForm}
@@ -15,8 +16,8 @@ use Rattle.core_world.specs.declared.name.Name.{Name}
 use Rattle.core_world.specs.declared.name.Name.TheVariants.{Prototype, Revocations, LastBulk, Mark, Hold, Displaced}
 use Rattle.core_world.specs.declared.act.Act.{Act}
 use Rattle.core_world.specs.declared.act.Act.TheVariants as act
-use Rattle.core_world.specs.Words.Shape.{Shape, class_of}
-use Rattle.core_world.specs.Words.Names.{with_word}
+use Rattle.core_world.specs.Words.Shape.{Shape}
+use Rattle.core_world.specs.Words.Names.{class_by, with_word}
 use Rattle.core_world.specs.Words.Forms.{names, hold_word, is_biased, epoch_in}
 use Rattle.core_world.specs.Threads.Stages.{Revocation}
 use Rattle.core_world.specs.Threads.Known.{StepMade}
@@ -73,7 +74,7 @@ words_from p (suc n) f = f p ∷ words_from (p + 1) n f
 
 -- the hold words of thread t
 unfoldable pub holds_in : (Name → ℕ) → ℕ → List ℕ
-holds_in f t = words_from 0 64 (λ p. f (Hold t p))
+holds_in f t = words_from 0 most_holds (λ p. f (Hold t p))
 
 -- the displaced words of t's records of o, of which the first stands at place p: the record with depth 1 gets the neutral header, and
 -- each other one 0
@@ -129,16 +130,16 @@ abbrev pub object_held : Option HoldForm → Option ℕ
 object_held (Some (Holds object depth)) = Some object
 object_held _ = None
 
--- the rule for the object that a hold word names, if it is of class c and biased
-abbrev pub on_held : Shape → ℕ → (ℕ → Rule) → Option ℕ → Rule
-on_held s c r None f = []
-on_held s c r (Some o) f = if (class_of s o == c) && is_biased (f (Mark o)) then r o f else []
+-- the rule for the object that a hold word names, if it is biased and its class, which `class` gives for each object, is c
+abbrev pub on_held : (ℕ → ℕ) → ℕ → (ℕ → Rule) → Option ℕ → Rule
+on_held class c r None f = []
+on_held class c r (Some o) f = if (class o == c) && is_biased (f (Mark o)) then r o f else []
 
 -- the rule for the object of each record, by rising thread and place
-unfoldable pub on_records : Shape → ℕ → (ℕ → Rule) → Rule
-on_records s c r =
+unfoldable pub on_records : Shape → (ℕ → ℕ) → ℕ → (ℕ → Rule) → Rule
+on_records s class c r =
     each_below s.threads
-    (λ t. each_below 64 (λ p f. on_held s c r (object_held (read_hold (f (Hold t p)))) f))
+    (λ t. each_below most_holds (λ p f. on_held class c r (object_held (read_hold (f (Hold t p)))) f))
 
 -- o becomes biased to thread t, where its mark and its class's prototype have the bias pattern
 abbrev pub biased_word : Bool → Option ℕ → ℕ → Option ℕ
@@ -148,21 +149,22 @@ biased_word _ _ t = None
 abbrev pub take_bias : ℕ → ℕ → ℕ → Rule
 take_bias c o t f = store_where (Mark o) (biased_word (is_biased (f (Mark o))) (epoch_in (f (Prototype c))) t)
 
--- what a verdict on the class of o asks for at the safepoint of thread t; a new bias is allowed in an enter alone
-abbrev pub verdict_rules : Shape → ℕ → ℕ → Revocation → Verdict → List Rule
-verdict_rules s t c b Single = revoke b.object false ∷ []
-verdict_rules s t c b BulkRebias =
-    store_one (LastBulk c) b.now ∷ raise_epoch c ∷ on_records s c (renew c) ∷ revoke b.object b.rebias
+-- what a verdict on the class c of its object asks for at the safepoint of thread t; a new bias is allowed in an enter alone
+abbrev pub verdict_rules : Shape → (ℕ → ℕ) → ℕ → ℕ → Revocation → Verdict → List Rule
+verdict_rules s class t c b Single = revoke b.object false ∷ []
+verdict_rules s class t c b BulkRebias =
+    store_one (LastBulk c) b.now ∷ raise_epoch c ∷ on_records s class c (renew c) ∷ revoke b.object b.rebias
     ∷ (if b.rebias then take_bias c b.object t ∷ [] else [])
-verdict_rules s t c b BulkRevoke =
+verdict_rules s class t c b BulkRevoke =
     store_one (LastBulk c) b.now ∷ store_one (Prototype c) (mark_of (Neutral 0 0))
-    ∷ on_records s c (λ o. revoke o false) ∷ revoke b.object false ∷ []
+    ∷ on_records s class c (λ o. revoke o false) ∷ revoke b.object false ∷ []
 
-abbrev pub revocation_rules : Shape → ℕ → ℕ → Revocation → Verdict × ℕ → List Rule
-revocation_rules s t c b d = store_one (Revocations c) d.1 ∷ verdict_rules s t c b d.0
+abbrev pub revocation_rules : Shape → (ℕ → ℕ) → ℕ → ℕ → Revocation → Verdict × ℕ → List Rule
+revocation_rules s class t c b d = store_one (Revocations c) d.1 ∷ verdict_rules s class t c b d.0
 
--- all stores of a revocation by thread t, the new count first
+-- all stores of a revocation by thread t, the new count first, where each object has the class that it has by the words before them
 unfoldable pub revocation_writes : Shape → ℕ → Revocation → Rule
 revocation_writes s t b f =
-    let c = class_of s b.object in in_turn
-    (revocation_rules s t c b (decided (f (Revocations c)) (f (LastBulk c)) b.now)) f
+    let class = class_by s f in
+    let c = class b.object in in_turn
+    (revocation_rules s class t c b (decided (f (Revocations c)) (f (LastBulk c)) b.now)) f

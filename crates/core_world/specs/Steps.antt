@@ -15,7 +15,8 @@ use Rattle.core_world.specs.declared.plan.Own.{Own}
 use Rattle.core_world.specs.declared.plan.Own.TheVariants.{Position, Claim, Detach, Enqueue, Spend, Save, CountVerdict, TakeShot}
 use Rattle.core_world.specs.declared.plan.StepPlan.{StepPlan}
 use Rattle.core_world.specs.declared.task.Unfinished.{Unfinished}
-use Rattle.core_world.specs.Words.Shape.{Shape, class_of}
+use Rattle.core_world.specs.Words.Shape.{Shape}
+use Rattle.core_world.specs.Words.Names.{class_by}
 use Rattle.core_world.specs.Words.Acts.{word_after, hits}
 use Rattle.core_world.specs.Words.Forms.{runs_in, asks_in, is_halted, is_still, hash_in}
 use Rattle.core_world.specs.Threads.Counts.{CountedVerdict, with_verdict_counted}
@@ -143,7 +144,7 @@ seen_words k n = or_zero (last_seen n k.seen_at_safepoint)
 abbrev pub owner_and_count_in : Shape → (Name → ℕ) → ℕ → Option ℕ × ℕ
 owner_and_count_in s f o =
     owner_and_count_by
-    (holder (lock_form (read_mark (f (name.Mark o))) (f (name.Prototype (class_of s o)))
+    (holder (lock_form (read_mark (f (name.Mark o))) (f (name.Prototype (class_by s f o)))
     (λ m. f (name.Owner m)) None) (λ t. hold_count o (holds_in f t)))
     (λ t. hold_count o (holds_in f t))
 

@@ -2,4 +2,5 @@
 pub mod Stages
 pub mod Counts
 pub mod Known
+pub mod References
 pub mod AtRest

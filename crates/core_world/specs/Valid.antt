@@ -8,7 +8,8 @@ use Rattle.core_world.specs.declared.name.Name.TheVariants.{Safepoint, Prototype
 use Rattle.core_world.specs.declared.stage.Stage.TheVariants.{Calm}
 use Rattle.core_world.specs.declared.task.Op.{Op}
 use Rattle.core_world.specs.declared.task.Op.TheVariants as op
-use Rattle.core_world.specs.Words.Shape.{IsInLimits, class_of, monitor_count, ring_bits}
+use Rattle.core_world.specs.Words.Shape.{IsInLimits, monitor_count, ring_bits}
+use Rattle.core_world.specs.Words.Names.{class_by}
 use Rattle.core_world.specs.Words.Forms.{is_halted}
 use Rattle.core_world.specs.Threads.Stages.{Revocation, hold_words_ahead, inflation_in, revocation_in}
 use Rattle.core_world.specs.Threads.Counts.{with_verdict_counted}
@@ -106,7 +107,7 @@ RevokesWithin _ rebias = rebias ≡ false
 -- the requester knows what it knew before its first store, but for its stage, its call and its steps, and the verdict that it has counted
 abbrev pub requester_known : World → ℕ → Revocation → Known → Known
 requester_known before t b k =
-    let c = class_of before.shape b.object in
+    let c = class_by before.shape before.words b.object in
     let count = before.words (Revocations c) in
     let last = before.words (LastBulk c) in
     record (before.known t) {
@@ -139,7 +140,7 @@ pub record IsRevoking (w : World) (objects : List PlainObject) : Type 0 where
   -- its object, which was validly biased to a thread before the first store
   pub object : revocation.object < length before.shape.objects
   pub biased : is_valid_bias (read_mark (before.words (Mark revocation.object)))
-      (before.words (Prototype (class_of before.shape revocation.object))) ≡ true
+      (before.words (Prototype (class_by before.shape before.words revocation.object))) ≡ true
   -- its stores so far are the first of those that the rules list, and the words are those after them
   pub rest : List Write
   pub writes : writes_in (w.known requester).seen_at_safepoint ++ rest

@@ -11,7 +11,8 @@ use Rattle.core_world.specs.Opening.{first_known}
 use Rattle.core_world.specs.Threads.Counts.{CountedVerdict}
 use Rattle.core_world.specs.Threads.Known.{Known}
 use Rattle.core_world.specs.Valid.{IsRevoking}
-use Rattle.core_world.specs.Words.Shape.{Shape, class_of}
+use Rattle.core_world.specs.Words.Shape.{Shape}
+use Rattle.core_world.specs.Words.Names.{class_by}
 use Rattle.core_world.specs.World.{World, logs}
 use Rattle.core_law.specs.Logic.{Heap}
 use Rattle.core_law.proofs.Wholes.{All as Whole, all_unless}
@@ -73,14 +74,14 @@ module _ (b : Heap) (words : List ℕ) (ps : List PassSeen) (last : LastWorld b 
           (counted_here w.known 0 (knowns ps) order last.knows (λ u far. ap (λ (k : Known). k.counts)
           (whole.fits.absent u (let many = knowns_long ps in omega (arith, far, many, all, threads_are)))) t)
 
-  at_end : (more : ℕ) → BiasesOfRun w.biasing w.shape.threads (class_of w.shape) (logs w) (λ c. w.words (Revocations c)) (λ t. (w.known t).counts)
+  at_end : (more : ℕ) → BiasesOfRun w.biasing w.shape.threads (class_by w.shape w.words) (logs w) (λ c. w.words (Revocations c)) (λ t. (w.known t).counts)
       → VerdictsAtMost more w.shape.threads w.shape.classes (logs w) (λ t. (w.known t).counts) → BiasesAtEnd more b words (logs_of ps) (knowns ps)
   at_end more biases verdicts =
       let logs_are : logs w ≡ logs_of ps = logs_of_last b words ps last order all in
       record {
         count = λ c. w.words (Revocations c);
         words_are = λ c h. last.words_are (Revocations c) h;
-        biases = subst (λ (x : Heap × List (List Logged) × (ℕ → List CountedVerdict)). BiasesOfRun x.0.biasing x.0.shape.threads (class_of x.0.shape) x.1 (λ c. w.words (Revocations c)) x.2)
+        biases = subst (λ (x : Heap × List (List Logged) × (ℕ → List CountedVerdict)). BiasesOfRun x.0.biasing x.0.shape.threads (class_by x.0.shape w.words) x.1 (λ c. w.words (Revocations c)) x.2)
             (λ i. (last.is_of i, logs_are i, counted i)) biases;
         verdicts = subst (λ (x : Heap × List (List Logged) × (ℕ → List CountedVerdict)). VerdictsAtMost more x.0.shape.threads x.0.shape.classes x.1 x.2)
             (λ i. (last.is_of i, logs_are i, counted i)) verdicts;

@@ -5,6 +5,7 @@ use Rattle.std.specs.Prelude.{All, map, slice_index, replicate}
 use Rattle.std.specs.List.{AllByRecursion}
 use Rattle.std.proofs.lemmas.Bool.{cases_lt}
 use Rattle.std.proofs.lemmas.List.{get_or-replicate}
+use Rattle.plain_monitor.specs.Limits.{most_threads, most_classes, most_slots, most_objects}
 use mathlib.Core.Option.{some, some-injective, some-ne-none}
 use lib.ListN.{get_elem?}
 use Rattle.atomic_table.specs.Table.{Me, opening as opening_state}
@@ -122,7 +123,7 @@ words_at s biasing (Revocations c) h = found s biasing 1 c 1 (place_of s (Revoca
 words_at s biasing (LastBulk c) h = found s biasing 1 c 2 (place_of s (LastBulk c)) (omega arith) h (omega arith)
 words_at s biasing (Mark o) h = found s biasing 2 o 0 (place_of s (Mark o)) (omega arith) h (omega arith)
 words_at s biasing (Stamp o) h = found s biasing 2 o 1 (place_of s (Stamp o)) (omega arith) h (omega arith)
-words_at s biasing (Slot o i) h = found s biasing 2 o (2 + i) (place_of s (Slot o i)) (omega arith) h.0 (omega (arith, h.1)) ∙ slot_word (first_mark biasing) i h.1
+words_at s biasing (Slot o i) h = found s biasing 2 o (2 + i) (place_of s (Slot o i)) (omega arith) h.0 (omega (arith, h.1)) ∙ slot_word (first_mark biasing) i (omega (arith, h.1))
 words_at s biasing (Hold t p) h = found s biasing 3 (144 * t + p) 0 (place_of s (Hold t p)) (omega arith) (omega (arith, h.0, h.1)) (omega arith)
 words_at s biasing (Displaced t p) h = found s biasing 3 (144 * t + 64 + p) 0 (place_of s (Displaced t p)) (omega arith) (omega (arith, h.0, h.1)) (omega arith)
 words_at s biasing (Length t) h = found s biasing 3 (144 * t + 128) 0 (place_of s (Length t)) (omega arith) (omega (arith, h)) (omega arith)
@@ -152,8 +153,8 @@ chained w x y z v u a b c d r e f g h i j =
     ∙ ap (λ (l : List ℕ). a ++ (b ++ l)) (append_append c d r)
 
 -- the objects of a shape that is made are in its limits
-pub each_fits : (slots classes : List ℕ) → All (λ n. n ≤ 16) slots → All (λ c. c < length slots) classes
-    → AllByRecursion {X = ℕ × ℕ} (λ x. (x.0 < length slots) × (x.1 ≤ 16)) (map (λ c. (c, slice_index slots c)) classes)
+pub each_fits : (slots classes : List ℕ) → All (λ n. n ≤ most_slots) slots → All (λ c. c < length slots) classes
+    → AllByRecursion {X = ℕ × ℕ} (λ x. (x.0 < length slots) × (x.1 ≤ most_slots)) (map (λ c. (c, slice_index slots c)) classes)
 each_fits slots [] h g = tt
 each_fits slots (c ∷ cs) h g = let low = g 0 0 (omega arith) in ((low, h c 0 low), each_fits slots cs h (λ k d lt. g (suc k) d (omega (arith, lt))))
 
@@ -161,8 +162,8 @@ objects_few : (slots classes : List ℕ) → length {A = ℕ × ℕ} (map (λ c.
 objects_few slots [] = refl
 objects_few slots (c ∷ cs) = let h = objects_few slots cs in omega (arith, h)
 
-pub shape_fits : (threads : ℕ) (slots classes : List ℕ) (objects : List (ℕ × ℕ)) → (threads ≤ 16) × (length slots ≤ 64) × (length classes ≤ 4096)
-    → All (λ n. n ≤ 16) slots → All (λ c. c < length slots) classes → objects ≡ map (λ c. (c, slice_index slots c)) classes
+pub shape_fits : (threads : ℕ) (slots classes : List ℕ) (objects : List (ℕ × ℕ)) → (threads ≤ most_threads) × (length slots ≤ most_classes) × (length classes ≤ most_objects)
+    → All (λ n. n ≤ most_slots) slots → All (λ c. c < length slots) classes → objects ≡ map (λ c. (c, slice_index slots c)) classes
     → IsInLimits (record { threads = threads; classes = length slots; objects = objects })
 shape_fits threads slots classes objects few h g e =
     subst (λ (z : List (ℕ × ℕ)). IsInLimits (record { threads = threads; classes = length slots; objects = z })) (sym e)

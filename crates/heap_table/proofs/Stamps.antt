@@ -23,7 +23,7 @@ use Rattle.heap_table.specs.Seen.{HeapSeen, PassSeen, IsOf}
 use Rattle.heap_table.proofs.Follow.{last_end}
 use Rattle.heap_table.proofs.Knows.{told_here}
 
-entries_few : (u n : ℕ) (f : ℕ → Known) → ((z : ℕ) → length (f z).log ≤ log_limit) → entries (logs_from u n f) ≤ n * 400066
+entries_few : (u n : ℕ) (f : ℕ → Known) → ((z : ℕ) → length (f z).log ≤ log_limit) → entries (logs_from u n f) ≤ n * log_limit
 entries_few u zero f few = omega arith
 entries_few u (suc n) f few = let h = entries_few (u + 1) n f few in let g = few u in omega (arith, h, g)
 

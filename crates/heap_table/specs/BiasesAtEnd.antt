@@ -4,7 +4,7 @@ use Rattle.plain_monitor.specs.declared.entry.Logged.{Logged}
 use Rattle.core_world.specs.declared.name.Name.TheVariants.{Revocations}
 use Rattle.core_world.specs.Threads.Counts.{CountedVerdict}
 use Rattle.core_world.specs.Threads.Known.{Known}
-use Rattle.core_world.specs.Words.Shape.{class_of}
+use Rattle.core_world.specs.Words.Names.{class_by}
 use Rattle.core_law.specs.Logic.{Heap}
 use Rattle.core_law.specs.OfARun.{BiasesOfRun, VerdictsAtMost}
 use Rattle.heap_table.specs.Layout.{place_of}
@@ -20,5 +20,5 @@ pub record BiasesAtEnd (more : ℕ) (heap : Heap) (words : List ℕ) (logs : Lis
     (ks : List Known) : Type 0 where
   pub count : ℕ → ℕ
   pub words_are : (c : ℕ) → c < heap.shape.classes → slice_index words (place_of heap.shape (Revocations c)) ≡ count c
-  pub biases : BiasesOfRun heap.biasing heap.shape.threads (class_of heap.shape) logs count (counted_by ks)
+  pub biases : BiasesOfRun heap.biasing heap.shape.threads (class_by heap.shape (λ n. slice_index words (place_of heap.shape n))) logs count (counted_by ks)
   pub verdicts : VerdictsAtMost more heap.shape.threads heap.shape.classes logs (counted_by ks)

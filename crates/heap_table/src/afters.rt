@@ -2,6 +2,7 @@
 ghost use Rattle.std.specs.Prelude.{◌≡◌, ◌<◌, ◌≤◌, ℕ, vec_capacity, vec_len};
 ghost use Rattle.core_world.specs.Threads.Known.{Known};
 ghost use Rattle.core_world.specs.Steps.{kept_after, saved_after, unfinished_after, runs_after, asks_after, reached_after, halted_after, is_taking, stamp_by, holds_after, wait_after, published_after, log_after};
+ghost use Rattle.plain_monitor.specs.Limits.{most_threads};
 ghost use Rattle.plain_monitor.specs.Monitor.{is_thread};
 ghost use Rattle.plain_monitor.specs.History.{last_stamp};
 ghost use Rattle.heap_table.specs.Kept.{HasRoom};
@@ -128,7 +129,7 @@ fn asks(form: &SafeForm, thread: u32) -> bool
 /// What the thread knows of the safepoint word after it left this there.
 #[inline(always)]
 fn left_next(form: Option<SafeForm>, thread: u32, stand: Stand) -> Stand
-    requires { thread < 16 }
+    requires { thread < most_threads }
     ensures { result ≡ left form thread stand }
 {
     match form {
@@ -153,7 +154,7 @@ fn left_next(form: Option<SafeForm>, thread: u32, stand: Stand) -> Stand
 /// What the thread knows of the safepoint word after an act that hit left this word.
 #[inline(always)]
 pub fn stand_next(at: Name, act: &Act, word: u64, thread: u32, stand: Stand) -> Stand
-    requires { thread < 16 }
+    requires { thread < most_threads }
     ensures { result ≡ stand_after at act.now word thread stand }
 {
     match at {

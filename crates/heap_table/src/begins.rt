@@ -1,5 +1,6 @@
 //! How a heap begins.
 ghost use Rattle.std.specs.Prelude.{◌≡◌, ℕ, ◌+◌, ◌*◌, ◌-◌, ◌<◌, ◌≤◌, [], IfOk};
+ghost use Rattle.plain_monitor.specs.Limits.{most_fuel, entries_for};
 ghost use Rattle.core_world.specs.Words.Shape.{IsInLimits};
 ghost use Rattle.core_law.specs.HeapLaw.{HeapLaw};
 ghost use Rattle.heap_table.specs.Fresh.{IsFresh};
@@ -17,6 +18,7 @@ use crate::rule::{Place, Words};
 use crate::setting::Setting;
 use crate::shape::HeapShape;
 use crate::shots::Shots;
+use plain_monitor::limits::LAST_ENTRIES;
 use plain_monitor::{List, NoMemory};
 use std::alloc::{AllocError, Global};
 
@@ -102,19 +104,20 @@ impl Heap {
         start: u32,
         biasing: bool,
     ) -> Result<(Heap, List<Pass>), NoMemory>
-        requires fuel { fuel ≤ 200000 }
+        requires fuel { fuel ≤ most_fuel }
         requires law { IsInLimits shape → HeapLaw (record { shape = shape; start = start; biasing = biasing }) }
         ensures heap { IfOk result (λ r. r.0.heap ≡ record { shape = shape; start = start; biasing = biasing }) }
-        ensures passes { IfOk result (λ r. r.1 ≡ first_passes r.0 (2 * fuel + 66) 0 shape.threads) }
+        ensures passes { IfOk result (λ r. r.1 ≡ first_passes r.0 (entries_for fuel) 0 shape.threads) }
         ensures law { IfOk result (λ r. HeapLaw r.0.heap) }
-        ensures fresh { IfOk result (λ r. (t : ℕ) → t < shape.threads → IsFresh r.0 t (first_pass r.0 (2 * fuel + 66) t)) }
+        ensures fresh { IfOk result (λ r. (t : ℕ) → t < shape.threads
+            → IsFresh r.0 t (first_pass r.0 (entries_for fuel) t)) }
     {
         let setting = Setting {
             shape,
             start,
             biasing,
         };
-        match begin(alloc, setting, 2 * fuel + 66) {
+        match begin(alloc, setting, 2 * fuel + LAST_ENTRIES) {
             Ok((heap, passes)) => Ok((heap, List::of(passes))),
             Err(_) => Err(NoMemory),
         }

@@ -1,22 +1,27 @@
 //! A thread's hold words, as it last stored them.
 ghost use Rattle.std.specs.Prelude.{◌≡◌, ◌≢◌, ◌-◌, ◌<◌, ◌≤◌, ◌==◌, length, slice_index, slice_set, replicate};
+ghost use Rattle.plain_monitor.specs.Limits.{most_holds};
 ghost use Rattle.core_world.specs.Threads.Stages.{one_if};
 ghost use Rattle.core_world.specs.Words.Forms.{names};
 ghost use Rattle.heap_table.specs.Held.{IsEmptyFrom};
+
+use plain_monitor::limits::HOLDS;
 
 /// Step from one object to the next in a hold word: from bit 7.
 const OBJECT: u64 = 1 << 7;
 /// The number of objects.
 const OBJECTS: u32 = 1 << 15;
+/// The places of a thread's hold words.
+pub const PLACES: usize = HOLDS as usize;
 /// The most holds on one object.
 const DEEPEST: u64 = 64;
 
 /// The hold words, and one past the last place that is not empty, so that a question looks at the places in use alone.
 #[derive(Drop)]
 pub struct Holds {
-    pub words: [u64; 64],
+    pub words: [u64; PLACES],
     pub used: u32,
-    pub ghost within: { used ≤ 64 },
+    pub ghost within: { used ≤ most_holds },
     pub ghost rest: { IsEmptyFrom used words },
     pub ghost tight: { 0 < used → slice_index words (used - 1) ≢ 0 },
 }
@@ -42,10 +47,10 @@ fn one_if(test: bool) -> u32
 
 // One past the last place below `reach` that is not empty, where all from there on are empty.
 #[inline(always)]
-fn last_used(words: &[u64; 64], reach: u32) -> u32
-    requires within { reach ≤ 64 }
+fn last_used(words: &[u64; PLACES], reach: u32) -> u32
+    requires within { reach ≤ most_holds }
     requires rest { IsEmptyFrom reach words.now }
-    ensures within { result ≤ 64 }
+    ensures within { result ≤ most_holds }
     ensures rest { IsEmptyFrom result words.now }
     ensures tight { 0 < result → slice_index words.now (result - 1) ≢ 0 }
 {
@@ -63,10 +68,10 @@ impl Holds {
 
     /// No hold.
     pub fn new() -> Holds
-        ensures { result.words ≡ replicate 64 0 }
+        ensures { result.words ≡ replicate most_holds 0 }
     {
         Holds {
-            words: [0; 64],
+            words: [0; PLACES],
             used: 0,
         }
     }
@@ -74,7 +79,7 @@ impl Holds {
     /// The place has this word.
     #[inline(always)]
     pub fn store(&mut self, place: u32, word: u64)
-        requires { place < 64 }
+        requires { place < most_holds }
         ensures { self.new.words ≡ slice_set self.old.words place word }
     {
         self.words[place as usize] = word;
@@ -84,7 +89,7 @@ impl Holds {
     /// How many of the words name the object.
     pub fn held(&self, object: u32) -> u32
         ensures held { result ≡ hold_count object self.now.words }
-        ensures few { result ≤ 64 }
+        ensures few { result ≤ most_holds }
     {
         let mut held = 0;
         for i in 0..self.used as usize {
@@ -93,24 +98,24 @@ impl Holds {
         held
     }
 
-    /// The first place with this word, or 64.
+    /// The first place with this word, or one past the last.
     pub fn place_of(&self, word: u64) -> u32
         ensures place { result ≡ position_or_len (λ h. h == word) self.now.words }
-        ensures few { result ≤ 64 }
-        ensures all { length self.now.words ≡ 64 }
+        ensures few { result ≤ most_holds }
+        ensures all { length self.now.words ≡ most_holds }
     {
         for i in 0..self.used as usize {
             if self.words[i] == word {
                 return i as u32;
             }
         }
-        if word == 0 { self.used } else { 64 }
+        if word == 0 { self.used } else { HOLDS }
     }
 
     /// How many of the words are not empty.
     pub fn count(&self) -> u32
         ensures holds { result ≡ all_holds self.now.words }
-        ensures few { result ≤ 64 }
+        ensures few { result ≤ most_holds }
     {
         let mut count = 0;
         for i in 0..self.used as usize {

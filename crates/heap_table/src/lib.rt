@@ -32,7 +32,7 @@ mod steps;
 pub use counts::ClassCounts;
 pub use ends::{Closed, close};
 pub use heap::Heap;
-pub use holds::names;
+pub use holds::{PLACES, names};
 pub use pass::Pass;
 pub use purpose::Purpose;
 pub use reads::{

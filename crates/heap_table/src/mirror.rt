@@ -1,5 +1,6 @@
 //! What a pass keeps of its steps: at run time what its thread knows.
 ghost use Rattle.std.specs.Prelude.{◌≡◌, ◌+◌, ◌^◌, ◌<◌, ◌≤◌, ℕ, IfOk, [], length, true, vec_capacity, vec_len};
+ghost use Rattle.plain_monitor.specs.Limits.{most_threads};
 ghost use Rattle.heap_table.specs.Cells.{cells_shown};
 ghost use Rattle.core_world.specs.There.{HasPlace};
 ghost use Rattle.heap_table.specs.Drafts.{IsDrafted, IsLeft};
@@ -42,7 +43,7 @@ pub struct Mirror {
     pub shots: Shots,
     pub ghost has_room: { limit ≤ vec_capacity log },
     pub ghost within: { vec_len log ≤ limit },
-    pub ghost low: { thread < 16 },
+    pub ghost low: { thread < most_threads },
 }
 
 // The shots behind a step that hit.
@@ -92,7 +93,7 @@ impl Mirror {
         first: u32,
         shots: Shots,
     ) -> Result<Mirror, AllocError>
-        requires thread { thread < 16 }
+        requires thread { thread < most_threads }
         requires shots { shots.taken.items ≡ [] }
         ensures follows { IfOk result (λ m. Follows m (first_known thread)) }
         ensures fixed { IfOk result (λ m. (m.limit ≡ limit) × (m.classes ≡ classes) × (m.first ≡ first)

@@ -2,6 +2,7 @@
 ghost use Rattle.std.specs.Prelude.{◌≡◌, ◌+◌, ◌-◌, ◌<◌, ◌≤◌, ◌==◌, [], ◌∷◌, ◌++◌, length};
 ghost use Rattle.std.specs.List.{position_or_len};
 ghost use Rattle.lock_policy.specs.Draws.{nth_value};
+ghost use Rattle.plain_monitor.specs.Limits.{most_threads, most_holds};
 ghost use Rattle.plain_monitor.specs.History.{last_stamp};
 ghost use Rattle.core_world.specs.Locks.{hold_count};
 ghost use Rattle.heap_table.specs.Kept.{all_holds};
@@ -9,6 +10,7 @@ ghost use Rattle.heap_table.specs.Seen.{PassSeen};
 ghost use Rattle.heap_table.specs.Tallies.{counts_shown};
 
 use crate::counts::ClassCounts;
+use crate::holds::PLACES;
 use crate::mirror::Mirror;
 use crate::rule::Place;
 use crate::shots::{Cell, Shot};
@@ -51,7 +53,7 @@ impl Pass {
     /// The thread's number, from 0.
     pub fn thread(&self) -> u32
         ensures same { result ≡ self.now.known.thread }
-        ensures low { result < 16 }
+        ensures low { result < most_threads }
     {
         self.mirror.thread
     }
@@ -80,7 +82,7 @@ impl Pass {
     /// How many holds the thread has on the object, by its hold words.
     pub fn held(&self, object: u32) -> u32
         ensures held { result ≡ hold_count object self.now.known.holds }
-        ensures few { result ≤ 64 }
+        ensures few { result ≤ most_holds }
     {
         self.mirror.holds.held(object)
     }
@@ -88,23 +90,23 @@ impl Pass {
     /// How many holds the thread has, by its hold words.
     pub fn holds(&self) -> u32
         ensures holds { result ≡ all_holds self.now.known.holds }
-        ensures few { result ≤ 64 }
+        ensures few { result ≤ most_holds }
     {
         self.mirror.holds.count()
     }
 
-    /// The thread's 64 hold words, as it last stored them.
-    pub fn hold_words(&self) -> &[u64; 64]
+    /// The thread's hold words, as it last stored them.
+    pub fn hold_words(&self) -> &[u64; PLACES]
         ensures { result.now ≡ self.now.known.holds }
     {
         &self.mirror.holds.words
     }
 
-    /// The first place with this hold word, or 64 where none has it.
+    /// The first place with this hold word, or one past the last where none has it.
     pub fn place_of(&self, word: u64) -> u32
         ensures place { result ≡ position_or_len (λ h. h == word) self.now.known.holds }
-        ensures few { result ≤ 64 }
-        ensures all { length self.now.known.holds ≡ 64 }
+        ensures few { result ≤ most_holds }
+        ensures all { length self.now.known.holds ≡ most_holds }
     {
         self.mirror.holds.place_of(word)
     }

@@ -1,5 +1,6 @@
 //! How many there are of everything, and where each word lies.
 ghost use Rattle.std.specs.Prelude.{◌≡◌, ◌≢◌, ◌⊎◌, ◌<◌, ◌≤◌, ◌+◌, ◌*◌, All, IfOk, length, map, slice_index};
+ghost use Rattle.plain_monitor.specs.Limits.{most_threads, most_classes, most_slots, most_objects, most_holds};
 ghost use Rattle.core_world.specs.Words.Shape.{Shape, IsInLimits, class_of, slots_of, ring_places};
 ghost use Rattle.core_world.specs.There.{IsIn};
 ghost use Rattle.heap_table.specs.Layout.{group, number, place_of, word_count, many, shape_of, classes_from, objects_from, threads_from, monitors_from, ring_from};
@@ -116,7 +117,7 @@ impl HeapShape {
     /// This slot of the object.
     #[inline(always)]
     pub fn slot_at(&self, object: u32, slot: u32) -> usize
-        requires { (object < many self.now) × (slot < 16) }
+        requires { (object < many self.now) × (slot < most_slots) }
         ensures { result ≡ place_of self.now (Name.Slot object slot) }
     {
         self.group_at(object) + 2 + slot as usize
@@ -125,7 +126,7 @@ impl HeapShape {
     /// The thread's hold word of this place.
     #[inline(always)]
     pub fn hold_at(&self, thread: u32, place: u32) -> usize
-        requires { (thread < self.now.threads) × (place < 64) }
+        requires { (thread < self.now.threads) × (place < most_holds) }
         ensures { result ≡ place_of self.now (Name.Hold thread place) }
     {
         self.thread_at(thread) + place as usize
@@ -134,7 +135,7 @@ impl HeapShape {
     /// The displaced header of the thread's lock record of this place.
     #[inline(always)]
     pub fn displaced_at(&self, thread: u32, place: u32) -> usize
-        requires { (thread < self.now.threads) × (place < 64) }
+        requires { (thread < self.now.threads) × (place < most_holds) }
         ensures { result ≡ place_of self.now (Name.Displaced thread place) }
     {
         self.thread_at(thread) + 64 + place as usize
@@ -297,8 +298,9 @@ impl HeapShape {
         slots: &[u32],
         classes: &[u32],
     ) -> Result<HeapShape, NoMemory>
-        requires counts { (threads ≤ 16) × (length slots.now ≤ 64) × (length classes.now ≤ 4096) }
-        requires slots { All (λ n. n ≤ 16) slots.now }
+        requires counts { (threads ≤ most_threads) × (length slots.now ≤ most_classes)
+            × (length classes.now ≤ most_objects) }
+        requires slots { All (λ n. n ≤ most_slots) slots.now }
         requires classes { All (λ c. c < length slots.now) classes.now }
         ensures { IfOk result (λ s. s ≡ shape_of threads slots.now classes.now) }
     {
@@ -356,7 +358,7 @@ impl HeapShape {
     pub fn slots_of(&self, object: u32) -> u32
         requires { object < many self.now }
         ensures slots { result ≡ slots_of self.now object }
-        ensures few { result ≤ 16 }
+        ensures few { result ≤ most_slots }
     {
         self.objects[object as usize].1
     }

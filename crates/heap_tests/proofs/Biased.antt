@@ -62,7 +62,7 @@ can h k p plan a next room own =
 
 -- ENTERS
 abbrev Due : Known → Type 0
-Due k = IsDue two 7 true k (task.Enter 0 0) (bias_enter_steps entering (local_of k) 0 0)
+Due k = IsDue two 7 true k (task.Enter 0 0) (bias_enter_steps two entering (local_of k) 0)
 
 abbrev of_first : Revocation
 of_first = record { object = 0; rebias = true; now = 0 }
@@ -71,7 +71,7 @@ first_due : Due (resumed 0 0 1)
 unfolding is_idle steps_of read_safe read_mark read_hold read_wait
 first_due =
     let k = resumed 0 0 1 in
-    part_due two 7 true k (task.Enter 0 0) (bias_enter_steps entering (local_of k) 0 0) (λ tried. enter_tried tried two entering (start_of 7 k) of_first)
+    part_due two 7 true k (task.Enter 0 0) (bias_enter_steps two entering (local_of k) 0) (λ tried. enter_tried tried two entering (start_of 7 k) of_first)
     (part_due two 7 true k (task.Enter 0 0) (enter_going two entering (start_of 7 k) of_first) answer
     (record { after = end; is = inr (record { over = refl; may = refl; is = refl }) }))
 
@@ -79,7 +79,7 @@ second_due : Due (resumed 1 1 3)
 unfolding is_idle steps_of read_safe read_mark read_hold read_wait
 second_due =
     let k = resumed 1 1 3 in
-    part_due two 7 true k (task.Enter 0 0) (bias_enter_steps entering (local_of k) 0 0) (λ tried. enter_tried tried two entering (start_of 7 k) of_first)
+    part_due two 7 true k (task.Enter 0 0) (bias_enter_steps two entering (local_of k) 0) (λ tried. enter_tried tried two entering (start_of 7 k) of_first)
     (part_due two 7 true k (task.Enter 0 0) (enter_going two entering (start_of 7 k) of_first) answer
     (record { after = end; is = inr (record { over = refl; may = refl; is = refl }) }))
 
@@ -89,7 +89,7 @@ may_enter h k p a due room =
       is_of = a.is_of;
       object = subst (λ (x : Heap). 0 < length x.shape.objects) (sym a.heap) (omega arith);
       due =
-          subst (λ (x : Heap × Known). IsDue x.0.shape x.0.start x.0.biasing x.1 (task.Enter 0 0) (bias_enter_steps entering (local_of x.1) 0 0))
+          subst (λ (x : Heap × Known). IsDue x.0.shape x.0.start x.0.biasing x.1 (task.Enter 0 0) (bias_enter_steps x.0.shape entering (local_of x.1) 0))
           (λ i. (sym a.heap i, sym a.known i)) due;
       room = subst (λ (x : Known × ℕ). length x.0.log < x.1) (λ i. (sym a.known i, sym a.limit i)) room;
     }

@@ -19,9 +19,9 @@ pub record Knows (h : HeapSeen) (k : Known) (p : PassSeen) : Type 0 where
 abbrev pub entering : Purpose
 entering = purpose (task.Enter 0 0) op.Enter 0
 
--- its thread may enter the first object, which is of the first class
+-- its thread may enter the first object
 pub record MayEnter (h : HeapSeen) (p : PassSeen) : Type 0 where
   pub is_of : IsOf h p
   pub object : 0 < length h.heap.shape.objects
-  pub due : IsDueOn h p (task.Enter 0 0) (bias_enter_steps entering (local_of p.known) 0 0)
+  pub due : IsDueOn h p (task.Enter 0 0) (bias_enter_steps h.heap.shape entering (local_of p.known) 0)
   pub room : length p.known.log < p.limit

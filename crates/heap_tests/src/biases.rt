@@ -66,7 +66,7 @@ fn enter(heap: &Heap, pass: &mut Pass) -> BiasTry
         }),
         check: false,
     };
-    bias_enter(heap, pass, &why, 0, 0)
+    bias_enter(heap, pass, &why, 0)
 }
 
 // The first thread enters it.

@@ -1,14 +1,15 @@
 -- Each entry of a run can be told by a line.
-use Rattle.std.proofs.Common.{◌≡◌, ℕ, zero, suc, ◌<◌, ◌≤◌, ◌^◌, ◌==◌, ◌&&◌, true, false, List, [], ◌∷◌, length, slice_get, Option, Some, None, refl, sym, ap, ◌∙◌, subst, arith, eqb-true}
+use Rattle.std.proofs.Common.{◌≡◌, ℕ, zero, suc, ◌+◌, ◌*◌, ◌<◌, ◌≤◌, ◌^◌, ◌==◌, ◌&&◌, true, false, List, [], ◌∷◌, length, slice_get, Option, Some, None, refl, sym, ap, ◌∙◌, subst, arith, eqb-true}
 use Rattle.std.specs.List.{AllByRecursion}
 use Rattle.std.proofs.lemmas.Bool.{and_parts, false≢true}
 use Rattle.std.proofs.lemmas.List.{length-append}
 use Rattle.std.proofs.lemmas.Option.{cond_some, none-some, slice_get_within}
+use Rattle.plain_monitor.specs.Limits.{most_slots, most_fuel, most_threads}
 use Rattle.plain_monitor.specs.declared.entry.Value.{Value}
 use Rattle.plain_monitor.specs.declared.entry.Fault.{Fault}
 use Rattle.plain_monitor.specs.declared.entry.Ending.TheVariants as ending
 use Rattle.plain_monitor.specs.declared.entry.Entry.{Entry}
-use Rattle.plain_monitor.specs.declared.entry.Entry.TheVariants.{Enter, Exit, Get, Put, Wait, Resume, Notify, NotifyAll, Hash, Print, Dump, Trap, Spent, Done}
+use Rattle.plain_monitor.specs.declared.entry.Entry.TheVariants.{Enter, Exit, Get, Put, Wait, Resume, Notify, NotifyAll, Hash, New, Print, Dump, Trap, Spent, Done}
 use Rattle.plain_monitor.specs.declared.entry.Logged.{Logged}
 use Rattle.plain_monitor.specs.Monitor.{PlainMonitor, notify_all, owns}
 use Rattle.plain_monitor.specs.Objects.{PlainObject, same_value, take_entry, with_monitor}
@@ -16,6 +17,7 @@ use Rattle.plain_monitor.specs.Order.{order}
 use Rattle.plain_monitor.proofs.Lists.{all_at, all_weaker}
 use Rattle.plain_history.specs.ExactStamps.{StampsAreExact}
 use Rattle.plain_history.proofs.Joined.{first_some}
+use Rattle.object_program.specs.Limits.{most_code}
 use Rattle.object_program.specs.declared.program.ClassDef.{ClassDef}
 use Rattle.object_program.specs.Program.{ProgramText, objects_total, slots_in, slots_of, class_of}
 use Rattle.object_program.specs.Valid.{IsProgram}
@@ -34,7 +36,7 @@ use Rattle.machine_laws.proofs.ReachedAsked.{IsAskedOf, asked_of, taken, taken_a
 use Rattle.machine_laws.proofs.ReachedEntries.{progress}
 use Rattle.machine_laws.proofs.ReachedFirst.{first_is_reached}
 use Rattle.machine_laws.proofs.ReachedKinds.{thread_of}
-use Rattle.machine_laws.proofs.ReachedRange.{taken_in_range}
+use Rattle.machine_laws.proofs.ReachedRange.{taken_in_range, new_unasked}
 use Rattle.core_world.specs.Clauses.Draws.{AreDraws, first_draw}
 use Rattle.lock_journal.specs.Hashes.{hash_fits}
 use Rattle.hash_laws.proofs.DrawsAgain.{are_drawn}
@@ -49,7 +51,7 @@ use Rattle.journal_laws.proofs.FewEntries.{entries_few}
 use Rattle.journal_laws.proofs.DrawNumbers.{HasShortDraw, draw_is_short}
 
 -- NUMBERS
-slots_few : (classes : List ClassDef) (c : ℕ) → AllByRecursion (λ c. c.slots ≤ 16) classes → slots_in (slice_get classes c) ≤ 16
+slots_few : (classes : List ClassDef) (c : ℕ) → AllByRecursion (λ c. c.slots ≤ most_slots) classes → slots_in (slice_get classes c) ≤ most_slots
 slots_few [] c few = omega arith
 slots_few (d ∷ ds) zero few = few.0
 slots_few (d ∷ ds) (suc c) few = slots_few ds c few.1
@@ -64,7 +66,7 @@ module _ (p : ProgramText) (is : IsProgram p) (s : ThreadState) where
   slot_few : (o k j : ℕ) → j < slots_of p o → (j == k) ≡ true → k < 2 ^ 32
   slot_few o k j within e =
       let same = eqb-true j k e in
-      let few : slots_of p o ≤ 16 = slots_few p.classes (class_of p o) is.class_slots in
+      let few : slots_of p o ≤ most_slots = slots_few p.classes (class_of p o) is.class_slots in
       omega (arith, same, few, within)
 
   got_slot : (a : Asked) (o k : ℕ) (v : Value) → IsAskedOf p s a → fits a (Get o k v) ≡ true → k < 2 ^ 32
@@ -85,9 +87,9 @@ module _ (p : ProgramText) (is : IsProgram p) (s : ThreadState) where
   put_slot (Ends g) o k v asked fit = absurd (false≢true fit)
 
   -- the number of a trap is that of an instruction
-  trap_number : (a : Asked) (f : Fault) (i : ℕ) → UnwindsWithin 4096 s.mode → IsAskedOf p s a → fits a (Trap f i) ≡ true → i < 2 ^ 32
+  trap_number : (a : Asked) (f : Fault) (i : ℕ) → UnwindsWithin most_code s.mode → IsAskedOf p s a → fits a (Trap f i) ≡ true → i < 2 ^ 32
   trap_number (Ends (ending.Trap g j)) f i near asked fit =
-      let there : j ≤ 4096 = subst (UnwindsWithin 4096) asked.mode near in
+      let there : j ≤ most_code = subst (UnwindsWithin most_code) asked.mode near in
       let same = eqb-true j i (and_parts (fault_number g == fault_number f) (j == i) fit).1 in
       omega (arith, there, same)
   trap_number (Ends g) f i near asked fit = absurd (false≢true fit)
@@ -114,7 +116,7 @@ many_few m t o many after h takes =
 
 -- ENTRIES
 -- an entry that was asked for and that the objects took
-told : (m : PlainMachine) (t : ℕ) (s : ThreadState) (a : Asked) (e : Entry) (after : List PlainObject) → IsReached m → UnwindsWithin 4096 s.mode → IsAskedOf m.program s a
+told : (m : PlainMachine) (t : ℕ) (s : ThreadState) (a : Asked) (e : Entry) (after : List PlainObject) → IsReached m → UnwindsWithin most_code s.mode → IsAskedOf m.program s a
     → fits a e ≡ true → take_entry m.objects t e ≡ Some after → IsEntryOf (objects_total m.program) (length m.program.threads) e → HasShortDraw e → IsEntryIn m.program e
 told m t s a (Enter o path) after h near asked fit takes is draw = is
 told m t s a (Exit o) after h near asked fit takes is draw = is
@@ -125,6 +127,7 @@ told m t s a (Put o k v) after h near asked fit takes is draw = (is.0, put_slot 
 told m t s a (Notify o woken) after h near asked fit takes is draw = is
 told m t s a (NotifyAll o many) after h near asked fit takes is draw = (is, many_few m t o many after h takes)
 told m t s a (Hash o v drawn) after h near asked fit takes is draw = let below = is.1.1 in (is.0, omega (arith, below), draw)
+told m t s a (New o c) after h near asked fit takes is draw = absurd (new_unasked a o c fit)
 told m t s a (Print v) after h near asked fit takes is draw = is
 told m t s a (Dump n) after h near asked fit takes is draw = omega (arith, is)
 told m t s a (Trap f i) after h near asked fit takes is draw = trap_number m.program h.program s a f i near asked fit
@@ -139,7 +142,7 @@ module _ (m next : PlainMachine) (t : ℕ) (e : Entry) (h : IsReached m) (near :
       let range : IsEntryOf (objects_total m.program) (length m.program.threads) e =
       subst (λ n. IsEntryOf n (length m.program.threads) e) h.object_count
       (subst (λ n. IsEntryOf (length m.objects) n e) h.thread_count (taken_in_range m next t e h takes)) in
-      told m t k.s k.asked e k.objects h (all_at (λ (s : ThreadState). UnwindsWithin 4096 s.mode) m.threads t k.s near k.at) asked k.fit k.takes range draw
+      told m t k.s k.asked e k.objects h (all_at (λ (s : ThreadState). UnwindsWithin most_code s.mode) m.threads t k.s near k.at) asked k.fit k.takes range draw
 
   thread_is_there : t < length m.program.threads
   thread_is_there =
@@ -174,9 +177,9 @@ all_both : {X : Type 0} (P Q : X → Type 0) (xs : List X) → AllByRecursion P 
 all_both P Q [] h k = tt
 all_both P Q (x ∷ xs) h k = ((h.0, k.0), all_both P Q xs h.1 k.1)
 
-module _ (p : ProgramText) (fuel start : ℕ) (logs : List (List Logged)) (is : IsProgram p) (few : fuel ≤ 200000)
+module _ (p : ProgramText) (fuel start : ℕ) (logs : List (List Logged)) (is : IsProgram p) (few : fuel ≤ most_fuel)
     (legal : IsLegal p fuel logs) (exact : StampsAreExact logs) (fits : (o : ℕ) → hash_fits start (order logs) o ≡ true) where
-  short_here : (x : ℕ × Logged) → length (order logs) ≤ 6400016 → IsPlaced logs x → x.1.stamp ≤ length (order logs) → IsShort x
+  short_here : (x : ℕ × Logged) → length (order logs) ≤ most_threads * (2 * most_fuel + 1) → IsPlaced logs x → x.1.stamp ≤ length (order logs) → IsShort x
   short_here x many placed stamp =
       let next = next_of logs legal.rises exact x.0 placed.before x.1 placed.later placed.log_is in
       let after = next.is in

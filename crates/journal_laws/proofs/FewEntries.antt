@@ -3,6 +3,7 @@ use Rattle.std.proofs.Common.{◌≡◌, ℕ, ◌+◌, ◌*◌, ◌≤◌, List,
 use Rattle.std.specs.List.{AllByRecursion}
 use Rattle.std.proofs.lemmas.List.Folds.{sum_by-replicate}
 use Rattle.std.proofs.lemmas.Option.{same_Some}
+use Rattle.plain_monitor.specs.Limits.{most_fuel, most_threads}
 use Rattle.plain_monitor.specs.declared.entry.Logged.{Logged}
 use Rattle.plain_monitor.specs.Order.{order}
 use Rattle.plain_history.proofs.Joined.{first_some}
@@ -30,8 +31,8 @@ as_many m (x ∷ xs) last r e =
 none_held : (n : ℕ) → sum (replicate n 0) ≡ 0
 none_held n = let nothing = sum_by-replicate (λ (x : ℕ). x) n 0 in omega (arith, nothing)
 
-module _ (p : ProgramText) (fuel : ℕ) (is : IsProgram p) (few : fuel ≤ 200000) where
-  first_work : (d : ThreadDef) → RunsAll (length p.objects) d → work_of (first_state p d fuel) ≤ 400001
+module _ (p : ProgramText) (fuel : ℕ) (is : IsProgram p) (few : fuel ≤ most_fuel) where
+  first_work : (d : ThreadDef) → RunsAll (length p.objects) d → work_of (first_state p d fuel) ≤ 2 * most_fuel + 1
   first_work d runs =
       let r = first_run p d fuel is runs in
       let holds : sum (first_state p d fuel).holds ≡ 0 = ap (λ (ns : List ℕ). sum ns) r.holds_stay ∙ none_held (objects_total p) in
@@ -39,14 +40,14 @@ module _ (p : ProgramText) (fuel : ℕ) (is : IsProgram p) (few : fuel ≤ 20000
       let one = r.one_entry in
       omega (arith, holds, fuels, one, few)
 
-  first_works : (ds : List ThreadDef) → AllByRecursion (RunsAll (length p.objects)) ds → work_in (map (λ d. first_state p d fuel) ds) ≤ length ds * 400001
+  first_works : (ds : List ThreadDef) → AllByRecursion (RunsAll (length p.objects)) ds → work_in (map (λ d. first_state p d fuel) ds) ≤ length ds * (2 * most_fuel + 1)
   first_works [] runs = omega arith
   first_works (d ∷ ds) runs =
       let here = first_work d runs.0 in
       let others = first_works ds runs.1 in
       omega (arith, here, others)
 
-  pub entries_few : (logs : List (List Logged)) (m : PlainMachine) → machine_after p fuel logs ≡ Some m → length (order logs) ≤ 6400016
+  pub entries_few : (logs : List (List Logged)) (m : PlainMachine) → machine_after p fuel logs ≡ Some m → length (order logs) ≤ most_threads * (2 * most_fuel + 1)
   entries_few logs m under =
       let all = as_many (new_machine p fuel) (order logs) m (first_is_reached p fuel is) under in
       let works = first_works p.threads (program_runs p is) in

@@ -1,6 +1,7 @@
 -- The journal of a run is legal.
 use Rattle.std.proofs.Common.{◌≡◌, ℕ, ◌≤◌, not, cond, Bool, true, false, List, length, Some, refl, sym, ◌∙◌, Ok}
 use Rattle.std.specs.List.{list_all}
+use Rattle.plain_monitor.specs.Limits.{most_fuel}
 use Rattle.plain_monitor.specs.declared.entry.Logged.{Logged}
 use Rattle.plain_monitor.specs.Order.{order}
 use Rattle.plain_history.specs.ExactStamps.{StampsAreExact}
@@ -18,7 +19,7 @@ use Rattle.bias_check.proofs.JournalsRun.{journal_run}
 use Rattle.std.proofs.lemmas.Bool.{false≢true}
 use Rattle.journal_laws.proofs.EntriesTold.{all_tellable}
 
-pub legal_journal : (p : ProgramText) (fuel start : ℕ) (logs : List (List Logged)) (m : PlainMachine) → IsProgram p → fuel ≤ 200000
+pub legal_journal : (p : ProgramText) (fuel start : ℕ) (logs : List (List Logged)) (m : PlainMachine) → IsProgram p → fuel ≤ most_fuel
     → IsLegal p fuel logs → StampsAreExact logs → ((o : ℕ) → hash_fits start (order logs) o ≡ true) → machine_after p fuel logs ≡ Some m
     → IsTrueOf p fuel start (journal_of p logs) (Ok (Legal (length (order logs)) (state_of m)))
 legal_journal p fuel start logs m is few legal exact fits under =

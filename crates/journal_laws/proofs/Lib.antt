@@ -5,3 +5,4 @@ pub mod FewEntries
 pub mod DrawNumbers
 pub mod EntriesTold
 pub mod LegalJournals
+pub mod ShortJournals

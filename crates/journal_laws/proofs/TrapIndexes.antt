@@ -3,6 +3,7 @@ use Rattle.std.proofs.Common.{◌≡◌, inl, inr, ℤ, ◌+ℤ◌, ◌-ℤ◌, 
 use Rattle.std.specs.List.{AllByRecursion}
 use Rattle.std.proofs.lemmas.Bool.{cases_lt}
 use Rattle.std.proofs.lemmas.List.{get_or_past}
+use Rattle.plain_monitor.specs.Limits.{most_holds}
 use Rattle.plain_monitor.specs.declared.entry.Value.{Value}
 use Rattle.plain_monitor.specs.declared.entry.Value.TheVariants.{Int, Ref}
 use Rattle.plain_monitor.specs.declared.entry.Fault.{Fault}
@@ -12,6 +13,7 @@ use Rattle.plain_monitor.specs.declared.entry.Ending.TheVariants as ending
 use Rattle.plain_monitor.specs.declared.entry.Entry.{Entry}
 use Rattle.plain_monitor.specs.Numbers.{is_in_range}
 use Rattle.plain_monitor.proofs.Lists.{all_at, all_map, all_or, all_set, all_weaker}
+use Rattle.object_program.specs.Limits.{most_code}
 use Rattle.object_program.specs.declared.program.Code.{Code}
 use Rattle.object_program.specs.declared.program.Code.TheVariants as code
 use Rattle.object_program.specs.declared.program.ObjectDef.{ObjectDef}
@@ -66,7 +68,7 @@ module _ (s : ThreadState) (n : ℕ) (h : s.place < n) where
   objecting v f k = faulting NotRef
 
   entering : (o : ℕ) → StopsWithin n (enters s o)
-  entering o = by_test (nat_lt (sum s.holds) 64) TooDeep (Calls (call.Enter o)) tt
+  entering o = by_test (nat_lt (sum s.holds) most_holds) TooDeep (Calls (call.Enter o)) tt
 
   owning : (o : ℕ) (f : Fault) (c : Call) → StopsWithin n (owner_only s o f (Calls c))
   owning o f c = by_test (nat_le 1 (holds_of s o)) f (Calls c) tt
@@ -134,31 +136,31 @@ unwinds_within n m mode le h = tt
 -- MACHINES
 -- no thread of the machine unwinds by a trap at an instruction behind the 4096th
 abbrev pub TrapsAreNear : PlainMachine → Type 0
-TrapsAreNear m = AllByRecursion (λ (s : ThreadState). UnwindsWithin 4096 s.mode) m.threads
+TrapsAreNear m = AllByRecursion (λ (s : ThreadState). UnwindsWithin most_code s.mode) m.threads
 
-code_near : (p : ProgramText) (t : ℕ) → IsProgram p → length (code_of p t) ≤ 4096
+code_near : (p : ProgramText) (t : ℕ) → IsProgram p → length (code_of p t) ≤ most_code
 code_near p t is =
-    all_or (λ (cs : List Code). length cs ≤ 4096) (map (λ (d : ThreadDef). d.code) p.threads) t [] (omega arith)
-    (all_map (λ (cs : List Code). length cs ≤ 4096) (λ (d : ThreadDef). d.code) p.threads
-    (all_weaker (IsThread (length p.objects)) (λ (d : ThreadDef). length d.code ≤ 4096) (λ d h. h.code_few) p.threads is.threads))
+    all_or (λ (cs : List Code). length cs ≤ most_code) (map (λ (d : ThreadDef). d.code) p.threads) t [] (omega arith)
+    (all_map (λ (cs : List Code). length cs ≤ most_code) (λ (d : ThreadDef). d.code) p.threads
+    (all_weaker (IsThread (length p.objects)) (λ (d : ThreadDef). length d.code ≤ most_code) (λ d h. h.code_few) p.threads is.threads))
 
-first_near : (p : ProgramText) (fuel : ℕ) (d : ThreadDef) → length d.code ≤ 4096 → UnwindsWithin 4096 (first_state p d fuel).mode
-first_near p fuel d few = unwinds_within (length d.code) 4096 (first_state p d fuel).mode few (running p d.code fuel _)
+first_near : (p : ProgramText) (fuel : ℕ) (d : ThreadDef) → length d.code ≤ most_code → UnwindsWithin most_code (first_state p d fuel).mode
+first_near p fuel d few = unwinds_within (length d.code) most_code (first_state p d fuel).mode few (running p d.code fuel _)
 
 pub new_near : (p : ProgramText) (fuel : ℕ) → IsProgram p → TrapsAreNear (new_machine p fuel)
 new_near p fuel is =
-    all_map (λ (s : ThreadState). UnwindsWithin 4096 s.mode) (λ d. first_state p d fuel) p.threads
-    (all_weaker (IsThread (length p.objects)) (λ d. UnwindsWithin 4096 (first_state p d fuel).mode) (λ d h. first_near p fuel d h.code_few) p.threads is.threads)
+    all_map (λ (s : ThreadState). UnwindsWithin most_code s.mode) (λ d. first_state p d fuel) p.threads
+    (all_weaker (IsThread (length p.objects)) (λ d. UnwindsWithin most_code (first_state p d fuel).mode) (λ d h. first_near p fuel d h.code_few) p.threads is.threads)
 
-module _ (p : ProgramText) (cs : List Code) (few : length cs ≤ 4096) where
-  run_near : (fuel : ℕ) (s : ThreadState) → UnwindsWithin 4096 (run_on p cs fuel s).mode
-  run_near fuel s = unwinds_within (length cs) 4096 (run_on p cs fuel s).mode few (running p cs fuel s)
+module _ (p : ProgramText) (cs : List Code) (few : length cs ≤ most_code) where
+  run_near : (fuel : ℕ) (s : ThreadState) → UnwindsWithin most_code (run_on p cs fuel s).mode
+  run_near fuel s = unwinds_within (length cs) most_code (run_on p cs fuel s).mode few (running p cs fuel s)
 
-  call_near : (s : ThreadState) (c : Call) (e : Entry) → UnwindsWithin 4096 (behind_call p cs s c e).mode
+  call_near : (s : ThreadState) (c : Call) (e : Entry) → UnwindsWithin most_code (behind_call p cs s c e).mode
   call_near s (call.Wait o) e = tt
   call_near s c e = run_near _ _
 
-  entry_near : (s : ThreadState) (a : Asked) (e : Entry) → UnwindsWithin 4096 s.mode → UnwindsWithin 4096 (behind_entry p cs s a e).mode
+  entry_near : (s : ThreadState) (a : Asked) (e : Entry) → UnwindsWithin most_code s.mode → UnwindsWithin most_code (behind_entry p cs s a e).mode
   entry_near s (asked.Calls c) e h = call_near s c e
   entry_near s (asked.Resumes o) e h = run_near _ _
   entry_near s (asked.Leaves o) e h = h
@@ -168,7 +170,7 @@ pub taken_near : (m next : PlainMachine) (t : ℕ) (e : Entry) → IsProgram m.p
 taken_near m next t e is near h =
     let k = taken m t e next h in
     subst TrapsAreNear k.is
-    (all_set (λ (s : ThreadState). UnwindsWithin 4096 s.mode) m.threads t (behind_entry m.program (code_of m.program t) k.s k.asked e)
+    (all_set (λ (s : ThreadState). UnwindsWithin most_code s.mode) m.threads t (behind_entry m.program (code_of m.program t) k.s k.asked e)
     (entry_near m.program (code_of m.program t) (code_near m.program t is) k.s k.asked e
-    (all_at (λ (s : ThreadState). UnwindsWithin 4096 s.mode) m.threads t k.s near k.at))
+    (all_at (λ (s : ThreadState). UnwindsWithin most_code s.mode) m.threads t k.s near k.at))
     near)

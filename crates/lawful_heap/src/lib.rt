@@ -5,6 +5,7 @@
 #![tactic(auto)]
 
 ghost use Rattle.std.specs.Prelude.{◌≡◌, ◌+◌, ◌*◌, ◌<◌, ◌≤◌, ℕ, IfOk};
+ghost use Rattle.plain_monitor.specs.Limits.{most_fuel, entries_for};
 ghost use Rattle.core_world.specs.Opening.{opening};
 ghost use Rattle.core_law.specs.Sound.{Sound};
 ghost use Rattle.heap_table.specs.Fresh.{IsFresh};
@@ -26,11 +27,12 @@ pub fn new_heap(
     start: u32,
     biasing: bool,
 ) -> Result<(Heap, List<Pass>), NoMemory>
-    requires { fuel ≤ 200000 }
+    requires { fuel ≤ most_fuel }
     ensures heap { IfOk result (λ r. r.0.heap ≡ record { shape = shape; start = start; biasing = biasing }) }
-    ensures passes { IfOk result (λ r. r.1 ≡ first_passes r.0 (2 * fuel + 66) 0 shape.threads) }
+    ensures passes { IfOk result (λ r. r.1 ≡ first_passes r.0 (entries_for fuel) 0 shape.threads) }
     ensures opening { IfOk result (λ r. Sound (opening shape start biasing)) }
-    ensures fresh { IfOk result (λ r. (t : ℕ) → t < shape.threads → IsFresh r.0 t (first_pass r.0 (2 * fuel + 66) t)) }
+    ensures fresh { IfOk result (λ r. (t : ℕ) → t < shape.threads
+        → IsFresh r.0 t (first_pass r.0 (entries_for fuel) t)) }
 {
     every_heap_has_its_law();
     Heap::new(alloc, shape, fuel, start, biasing)

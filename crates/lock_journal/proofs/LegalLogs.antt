@@ -3,6 +3,7 @@ use Rattle.std.proofs.Common.{◌≡◌, ℕ, ◌<◌, ◌≤◌, ◌==◌, fals
 use Rattle.std.proofs.lemmas.Bool.Decides.{nat_tests}
 use Rattle.std.proofs.lemmas.List.{length-map, length-set}
 use Rattle.std.proofs.lemmas.Option.{same_Some, slice_get_within}
+use Rattle.plain_monitor.specs.Limits.{most_threads}
 use Rattle.plain_monitor.specs.declared.entry.Logged.{Logged}
 use Rattle.plain_monitor.specs.declared.entry.Entry.{Entry}
 use Rattle.plain_monitor.specs.Objects.{PlainObject, take_entry}
@@ -12,7 +13,7 @@ use Rattle.object_program.specs.Program.{ProgramText}
 use Rattle.object_program.specs.Valid.{IsProgram}
 use Rattle.plain_machine.specs.Thread.{ThreadState}
 use Rattle.plain_machine.specs.Asking.{thread_after}
-use Rattle.plain_machine.specs.Machine.{PlainMachine, code_of, moved, new_machine, take}
+use Rattle.plain_machine.specs.Machine.{PlainMachine, code_of, made_behind, moved, new_machine, take}
 use Rattle.plain_machine.specs.Legal.{IsLegal, behind_all}
 use Rattle.lock_journal.specs.Merging.{AreOfSixteen}
 use Rattle.lock_journal.proofs.Sixteen.{empty_after}
@@ -23,22 +24,24 @@ record IsOfThread (m n : PlainMachine) (t : ℕ) : Type 0 where
   pub threads : length n.threads ≡ length m.threads
 
 -- what moves on keeps the number of threads
-as_many : (m n : PlainMachine) (t : ℕ) (after : Option ThreadState) (objects : Option (List PlainObject)) → moved m t after objects ≡ Some n → length n.threads ≡ length m.threads
-as_many m n t None objects h = absurd (cc h)
-as_many m n t (Some s) None h = absurd (cc h)
-as_many m n t (Some s) (Some objects) h =
-    let same : record m { objects = objects; threads = slice_set m.threads t s } ≡ n = same_Some _ n h in
+as_many : (m n : PlainMachine) (t : ℕ) (after : Option ThreadState) (made : Option (List (List ℕ))) (objects : Option (List PlainObject)) → moved m t after made objects ≡ Some n
+    → length n.threads ≡ length m.threads
+as_many m n t None made objects h = absurd (cc h)
+as_many m n t (Some s) None objects h = absurd (cc h)
+as_many m n t (Some s) (Some made) None h = absurd (cc h)
+as_many m n t (Some s) (Some made) (Some objects) h =
+    let same : record m { objects = objects; made = made; threads = slice_set m.threads t s } ≡ n = same_Some _ n h in
     sym (ap (λ (k : PlainMachine). length k.threads) same) ∙ length-set m.threads t s
 
 -- a machine takes an entry of one of its threads alone
 own_thread : (m n : PlainMachine) (t : ℕ) (e : Entry) → take m t e ≡ Some n → IsOfThread m n t
 own_thread m n t e h = by_thread (slice_get m.threads t) refl h where
   by_thread : (r : Option ThreadState) → slice_get m.threads t ≡ r
-      → option_and_then (λ s. moved m t (thread_after m.program (code_of m.program t) s e) (take_entry m.objects t e)) r ≡ Some n → IsOfThread m n t
+      → option_and_then (λ s. moved m t (thread_after m.program (code_of m.program t) s e) (made_behind m t e) (take_entry m.objects t e)) r ≡ Some n → IsOfThread m n t
   by_thread None at h = absurd (cc h)
   by_thread (Some s) at h = record {
     thread = slice_get_within m.threads t s at;
-    threads = as_many m n t (thread_after m.program (code_of m.program t) s e) (take_entry m.objects t e) h;
+    threads = as_many m n t (thread_after m.program (code_of m.program t) s e) (made_behind m t e) (take_entry m.objects t e) h;
   }
 
 -- among entries that a machine takes there is none of a thread that it doesn't have
@@ -59,5 +62,5 @@ pub legal_of_sixteen : (p : ProgramText) (fuel : ℕ) (logs : List (List Logged)
 legal_of_sixteen p fuel logs valid legal =
     let few = valid.threads_few in
     let threads : length (new_machine p fuel).threads ≡ length p.threads = length-map p.threads _ in
-    empty_after 16 logs (λ t past.
+    empty_after most_threads logs (λ t past.
     sym (thread_kept logs t legal.rises) ∙ none_of_others (new_machine p fuel) t (order logs) (omega (arith, few, threads, past)) legal.taken)

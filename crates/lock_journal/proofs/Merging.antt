@@ -6,6 +6,7 @@ use Rattle.std.proofs.lemmas.Bool.Decides.{nat_tests}
 use Rattle.std.proofs.lemmas.List.{get_or-set_same, get_or-set_other}
 use Rattle.std.proofs.lemmas.Option.{same_Some, none-some}
 use Rattle.std.specs.List.{AllByRecursion}
+use Rattle.plain_monitor.specs.Limits.{most_threads}
 use Rattle.plain_monitor.specs.declared.entry.Logged.{Logged}
 use Rattle.plain_monitor.specs.Order.{order}
 use Rattle.plain_monitor.specs.History.{RisesAbove, log_of}
@@ -166,7 +167,7 @@ stamp_held None s h e = absurd (omega (arith, e))
 stamp_held (Some n) s h e = ap (λ (m : ℕ). Some m) (sym e)
 
 -- the first least of the stamps is the least head, where it isn't the greatest number
-pub first_is_least : (logs : List (List Logged)) (places stamps : List ℕ) (x : ℕ × ℕ) → length logs ≤ 16 → HasStamps logs places stamps → IsFirstLeast stamps 16 x → x.1 < 2 ^ 64 - 1
+pub first_is_least : (logs : List (List Logged)) (places stamps : List ℕ) (x : ℕ × ℕ) → length logs ≤ most_threads → HasStamps logs places stamps → IsFirstLeast stamps most_threads x → x.1 < 2 ^ 64 - 1
     → IsLeastHead logs places (length logs) x
 first_is_least logs places stamps x few held first small =
     let at = first.at small in
@@ -181,7 +182,7 @@ first_is_least logs places stamps x few held first small =
     }
 
 -- the stamps at hand after thread t was given one entry more
-pub stamps_given : (logs : List (List Logged)) (old new stamps : List ℕ) (t p s : ℕ) → length stamps ≡ 16 → t < 16 → new ≡ set old t p → HasStamps logs old stamps → s ≡ or_greatest (stamp_of logs new t) → HasStamps logs new (set stamps t s)
+pub stamps_given : (logs : List (List Logged)) (old new stamps : List ℕ) (t p s : ℕ) → length stamps ≡ most_threads → t < most_threads → new ≡ set old t p → HasStamps logs old stamps → s ≡ or_greatest (stamp_of logs new t) → HasStamps logs new (set stamps t s)
 stamps_given logs old new stamps t p s long within given held at u h = elim (cases_eq u t) [
   | inl same ↦ rw same (get_or-set_same stamps t s 0 (omega (arith, long, within)) ∙ at)
   | inr other ↦ let stays : get_or new u 0 ≡ get_or old u 0 = rw given (get_or-set_other old t u p 0 other) in rw stays (get_or-set_other stamps t u s 0 other ∙ held u h)

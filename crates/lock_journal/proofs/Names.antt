@@ -1,13 +1,13 @@
--- How long a program's names are, and where it has no object.
-use Rattle.std.proofs.Common.{◌≡◌, ℕ, zero, suc, ◌+◌, ◌≤◌, Bool, true, false, List, [], ◌∷◌, length, map, refl, ap, ◌∙◌, add-zero, arith, Some, None, IsTrue}
-use Rattle.std.specs.Prelude.{slice_get}
+-- How long a program's names are, and how objects are written.
+use Rattle.std.proofs.Common.{◌≡◌, ℕ, zero, suc, ◌-◌, ◌/◌, ◌%◌, ◌<◌, ◌≤◌, true, false, List, [], ◌∷◌, ◌++◌, length, map, refl, ap, arith, codes, Some, IsTrue}
+use Rattle.std.specs.Prelude.{nat_lt, slice_get, decimal}
 use Rattle.std.proofs.lemmas.Bool.Decides.{nat_tests}
-use Rattle.std.proofs.lemmas.Option.{slice_get_past}
-use Rattle.object_program.specs.declared.program.ObjectDef.{ObjectDef}
 use Rattle.object_program.specs.Name.{is_name}
-use Rattle.object_program.specs.Program.{ProgramText, objects_total, total_of, has_object, place_of, place_from}
-use Rattle.object_program.specs.Valid.{AreNames, AreObjects, IsProgram}
-use Rattle.lock_journal.specs.Words.{object_text}
+use Rattle.plain_monitor.specs.Limits.{most_made}
+use Rattle.object_program.specs.Program.{ProgramText, declared_total, objects_total}
+use Rattle.object_program.specs.Valid.{AreNames}
+use Rattle.plain_machine.proofs.NeededObjects.{first_is_total}
+use Rattle.lock_journal.specs.Words.{declared_text, thread_text, object_text}
 
 length_name : (name : List ℕ) → IsTrue (is_name name) → length name ≤ 32
 length_name [] h = omega arith
@@ -21,19 +21,11 @@ length_name_at name (y ∷ ys) zero x h e =
     rw (← same) (length_name (name y) h.0)
 length_name_at name (y ∷ ys) (suc n) x h e = length_name_at name ys n x h.2 e
 
--- no declaration stands for an object past the last
-pub place_from_past : (classes n k : ℕ) (ds : List ObjectDef) (o : ℕ) → AreObjects classes n ds → n + total_of ds ≤ o → place_from k ds o ≡ (k + length ds, 0)
-place_from_past classes n k [] o h p = rw add-zero refl
-place_from_past classes n k (d ∷ ds) o h p =
-    by_case (has_object d o) refl (place_from_past classes (n + d.size) (k + 1) ds o h.1 (omega (arith, p)))
-  where
-    by_case : (b : Bool) → has_object d o ≡ b → place_from (k + 1) ds o ≡ (k + 1 + length ds, 0) → place_from k (d ∷ ds) o ≡ (k + length (d ∷ ds), 0)
-    by_case true e rest = absurd (grind (arith, nat_tests))
-    by_case false e rest = rw e (rest ∙ ap (λ (x : ℕ). (x, 0)) (omega arith))
+-- a declared object is written as one, and each other as a thread's
+pub declared_is : (p : ProgramText) (o : ℕ) → o < objects_total p → object_text p o ≡ declared_text p o
+declared_is p o h = let below : nat_lt o (declared_total p) ≡ true = grind (arith, nat_tests, h) in rw below refl
 
--- so its text is empty
-pub object_text-past : (p : ProgramText) (o : ℕ) → IsProgram p → objects_total p ≤ o → object_text p o ≡ []
-object_text-past p o h past =
-    let at : place_of p o ≡ (0 + length p.objects, 0) = place_from_past _ 0 0 p.objects o h.objects (omega (arith, past)) in
-    let none : slice_get p.objects (0 + length p.objects) ≡ None = slice_get_past p.objects _ (omega arith) in
-    rw (at, none) refl
+pub made_is : (p : ProgramText) (o : ℕ) → objects_total p ≤ o → object_text p o ≡ thread_text p ((o - objects_total p) / most_made) ++ codes "." ++ decimal ((o - objects_total p) % most_made)
+made_is p o h =
+    let late : nat_lt o (declared_total p) ≡ false = grind (arith, nat_tests, h) in
+    rw late (ap (λ (n : ℕ). thread_text p ((o - n) / most_made) ++ codes "." ++ decimal ((o - n) % most_made)) (first_is_total p.objects))

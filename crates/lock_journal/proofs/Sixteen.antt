@@ -3,6 +3,7 @@ use Rattle.std.proofs.Common.{◌≡◌, ℕ, zero, suc, ◌+◌, ◌≤◌, Lis
 use Rattle.std.proofs.Math.Seq.{drop-nil, get_or-take}
 use Rattle.std.proofs.lemmas.List.{drop_all}
 use Rattle.std.specs.List.{AllByRecursion}
+use Rattle.plain_monitor.specs.Limits.{most_threads}
 use Rattle.plain_monitor.specs.declared.entry.Logged.{Logged}
 use Rattle.plain_monitor.specs.Order.{order, ordered, with_threads}
 use Rattle.plain_monitor.specs.History.{RisesAbove, log_of}
@@ -36,13 +37,13 @@ none_left (suc n) (log ∷ logs) [] h = h
 none_left (suc n) (log ∷ logs) (p ∷ places) h = none_left n logs places h
 
 -- the order of what is left is that of what the first sixteen have left
-pub left_in_order : (logs : List (List Logged)) (places : List ℕ) → AreOfSixteen logs → order (left_of (take 16 logs) places) ≡ order (left_of logs places)
+pub left_in_order : (logs : List (List Logged)) (places : List ℕ) → AreOfSixteen logs → order (left_of (take most_threads logs) places) ≡ order (left_of logs places)
 left_in_order logs places h =
-    ap order (left_of_first 16 logs places) ∙ ap ordered (first_have_all 16 0 (left_of logs places) (none_left 16 logs places h))
+    ap order (left_of_first most_threads logs places) ∙ ap ordered (first_have_all most_threads 0 (left_of logs places) (none_left most_threads logs places h))
 
 -- the order of all logs is that of the first sixteen
-pub all_in_order : (logs : List (List Logged)) → AreOfSixteen logs → order (take 16 logs) ≡ order logs
-all_in_order logs h = ap ordered (first_have_all 16 0 logs h)
+pub all_in_order : (logs : List (List Logged)) → AreOfSixteen logs → order (take most_threads logs) ≡ order logs
+all_in_order logs h = ap ordered (first_have_all most_threads 0 logs h)
 
 -- the stamps rise in each of the first n logs
 pub first_rise : (n : ℕ) (logs : List (List Logged)) → AllByRecursion (RisesAbove 0) logs → AllByRecursion (RisesAbove 0) (take n logs)
@@ -51,18 +52,18 @@ first_rise (suc n) [] r = tt
 first_rise (suc n) (log ∷ logs) r = (r.0, first_rise n logs r.1)
 
 -- the stamps at hand of the first sixteen logs are those of all
-pub held_by_first : (logs first : List (List Logged)) (places stamps : List ℕ) → first ≡ take 16 logs → HasStamps first places stamps → HasStamps logs places stamps
+pub held_by_first : (logs first : List (List Logged)) (places stamps : List ℕ) → first ≡ take most_threads logs → HasStamps first places stamps → HasStamps logs places stamps
 held_by_first logs first places stamps is held t h =
     held t h ∙ ap (λ ls. or_greatest (stamp_in (slice_get (log_of ls t) (get_or places t 0)))) is
-    ∙ ap (λ log. or_greatest (stamp_in (slice_get log (get_or places t 0)))) (get_or-take 16 logs t [] h)
+    ∙ ap (λ log. or_greatest (stamp_in (slice_get log (get_or places t 0)))) (get_or-take most_threads logs t [] h)
 
-pub held_in_first : (logs first : List (List Logged)) (places stamps : List ℕ) → first ≡ take 16 logs → HasStamps logs places stamps → HasStamps first places stamps
+pub held_in_first : (logs first : List (List Logged)) (places stamps : List ℕ) → first ≡ take most_threads logs → HasStamps logs places stamps → HasStamps first places stamps
 held_in_first logs first places stamps is held t h =
-    held t h ∙ ap (λ log. or_greatest (stamp_in (slice_get log (get_or places t 0)))) (sym (get_or-take 16 logs t [] h))
+    held t h ∙ ap (λ log. or_greatest (stamp_in (slice_get log (get_or places t 0)))) (sym (get_or-take most_threads logs t [] h))
     ∙ ap (λ ls. or_greatest (stamp_in (slice_get (log_of ls t) (get_or places t 0)))) (sym is)
 
 -- what a merge of the first sixteen gives, a merge of all gives
-pub given_by_first : (logs first : List (List Logged)) (old new : List ℕ) (given : Option (ℕ × Logged)) → AreOfSixteen logs → first ≡ take 16 logs
+pub given_by_first : (logs first : List (List Logged)) (old new : List ℕ) (given : Option (ℕ × Logged)) → AreOfSixteen logs → first ≡ take most_threads logs
     → MatchOption given (order (left_of first old) ≡ []) (λ x. order (left_of first old) ≡ x ∷ order (left_of first new))
     → MatchOption given (order (left_of logs old) ≡ []) (λ x. order (left_of logs old) ≡ x ∷ order (left_of logs new))
 given_by_first logs first old new None few is h = sym (left_in_order logs old few) ∙ ap (λ ls. order (left_of ls old)) (sym is) ∙ h
@@ -78,5 +79,5 @@ empty_after (suc n) [] f = tt
 empty_after (suc n) (log ∷ logs) f = empty_after n logs (λ t h. f (suc t) (omega (arith, h)))
 
 -- sixteen logs or fewer
-pub few_of_sixteen : (logs : List (List Logged)) → length logs ≤ 16 → AreOfSixteen logs
-few_of_sixteen logs h = rw (drop_all 16 logs h) tt
+pub few_of_sixteen : (logs : List (List Logged)) → length logs ≤ most_threads → AreOfSixteen logs
+few_of_sixteen logs h = rw (drop_all most_threads logs h) tt

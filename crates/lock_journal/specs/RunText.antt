@@ -7,7 +7,7 @@ use Rattle.plain_monitor.specs.declared.entry.Path.TheVariants.{BiasOwn, BiasTak
 use Rattle.plain_monitor.specs.declared.entry.Ending.{Ending}
 use Rattle.plain_monitor.specs.declared.entry.Ending.TheVariants as ending
 use Rattle.plain_monitor.specs.declared.entry.Entry.{Entry}
-use Rattle.plain_monitor.specs.declared.entry.Entry.TheVariants.{Enter, Exit, Get, Put, Wait, Resume, Notify, NotifyAll, Hash, Print, Dump, Trap, Spent, Done}
+use Rattle.plain_monitor.specs.declared.entry.Entry.TheVariants.{Enter, Exit, Get, Put, Wait, Resume, Notify, NotifyAll, Hash, New, Print, Dump, Trap, Spent, Done}
 use Rattle.plain_monitor.specs.declared.entry.Logged.{Logged}
 use Rattle.plain_monitor.specs.Order.{order}
 use Rattle.object_program.specs.declared.program.ClassDef.{ClassDef}
@@ -135,6 +135,7 @@ entry_text p (Put o k v) = codes "put " ++ object_text p o ++ codes " " ++ decim
 entry_text p (Notify o woken) = codes "notify " ++ object_text p o ++ codes " " ++ woken_text p woken
 entry_text p (NotifyAll o n) = codes "notifyall " ++ object_text p o ++ codes " " ++ decimal n
 entry_text p (Hash o v drawn) = codes "hash " ++ object_text p o ++ codes " " ++ decimal v ++ draw_text drawn
+entry_text p (New o c) = codes "new " ++ object_text p o ++ codes " " ++ class_name (slice_get p.classes c)
 entry_text p (Print v) = codes "print " ++ value_text p v
 entry_text p (Dump n) = codes "dump " ++ decimal n
 entry_text p (Trap fault index) = ending_text (ending.Trap fault index)

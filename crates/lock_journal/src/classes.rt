@@ -62,7 +62,7 @@ fn push_class_line(
 }
 
 /// Writes the name of class `c`, in at most 32 bytes. Nothing where the program has no such class.
-fn push_class_name(out: &mut Line, program: &Program, c: usize)
+pub(crate) fn push_class_name(out: &mut Line, program: &Program, c: usize)
     requires { length out.old + 32 ≤ 512 }
     ensures text { out.new ≡ out.old ++ class_name (slice_get program.now.classes c) }
     ensures short { length out.new ≤ length out.old + 32 }

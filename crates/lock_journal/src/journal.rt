@@ -8,6 +8,7 @@ ghost use Rattle.lock_journal.specs.Words.{object_text, value_text};
 ghost use Rattle.lock_journal.specs.RunText.{woken_text, draw_text, entry_text, journal_line};
 ghost use Rattle.lock_journal.specs.LinesLeft.{journal_left};
 
+use crate::classes::push_class_name;
 use crate::line::Line;
 use crate::order::Merge;
 use crate::record::RunRecord;
@@ -95,6 +96,11 @@ fn push_entry(out: &mut Line, program: &Program, entry: &Entry)
             push_on(out, program, b"hash ", object);
             push_count(out, value);
             push_draw(out, drawn);
+        }
+        Entry::New { object, class } => {
+            push_on(out, program, b"new ", object);
+            out.push(b" ");
+            push_class_name(out, program, class as usize);
         }
         Entry::Print { value } => {
             out.push(b"print ");

@@ -2,6 +2,7 @@
 
 ghost use Rattle.std.specs.Prelude.{◌≡◌, ℕ, ◌+◌, ◌<◌, ◌≤◌, List, [], ◌∷◌, length, take, slice_get, slice_index, slice_set, None, MatchOption, IfSome};
 ghost use Rattle.std.specs.List.{AllByRecursion};
+ghost use Rattle.plain_monitor.specs.Limits.{most_threads};
 ghost use Rattle.plain_monitor.specs.Order.{order};
 ghost use Rattle.plain_monitor.specs.History.{RisesAbove, log_of};
 ghost use Rattle.plain_monitor.specs.declared.entry.Logged.{Logged};
@@ -9,11 +10,12 @@ ghost use Rattle.lock_journal.specs.Merging.{left_of, AreOfSixteen};
 ghost use Rattle.lock_journal.specs.inner.Heads.{stamp_in, or_greatest, earlier, IsLeastOf, IsLeastHead, IsFirstLeast, HasStamps};
 
 use crate::record::RunRecord;
+use plain_monitor::limits::THREADS;
 use plain_monitor::{List, Logged};
 use std::marker::Model;
 
 /// The most threads that a program has.
-const MOST_THREADS: usize = 16;
+const MOST_THREADS: usize = THREADS as usize;
 
 /// All entries of a run's logs by rising stamp, ties by rising thread. It takes no memory of the heap.
 #[derive(Drop)]
@@ -115,8 +117,8 @@ impl Ahead {
 
 /// The logs of as many threads as a program has at most. Behind them a run has none but empty ones.
 pub(crate) fn first_logs(run: &RunRecord) -> &[List<Logged>]
-    ensures first { result.now ≡ take 16 run.now.logs }
-    ensures few { length result.now ≤ 16 }
+    ensures first { result.now ≡ take most_threads run.now.logs }
+    ensures few { length result.now ≤ most_threads }
 {
     let logs = run.logs.items();
     &logs[..logs.len().min(MOST_THREADS)]
@@ -124,7 +126,7 @@ pub(crate) fn first_logs(run: &RunRecord) -> &[List<Logged>]
 
 /// The stamp of each thread's head, as `Ahead` holds them.
 fn head_stamps(logs: &[List<Logged>], places: &[usize; MOST_THREADS]) -> [u64; MOST_THREADS]
-    requires { length logs.now ≤ 16 }
+    requires { length logs.now ≤ most_threads }
     ensures { HasStamps logs.now places.now result }
 {
     let mut stamps = [u64::MAX; MOST_THREADS];
@@ -150,7 +152,7 @@ fn first_head(
     places: &[usize; MOST_THREADS],
     stamps: &[u64; MOST_THREADS],
 ) -> Option<(u32, u64)>
-    requires few { length logs.now ≤ 16 }
+    requires few { length logs.now ≤ most_threads }
     requires stamps { HasStamps logs.now places.now stamps.now }
     ensures { IsLeastOf logs.now places.now (length logs.now) result }
 {
@@ -164,7 +166,7 @@ fn first_head(
 
 /// The least of the stamps, and the first thread that has it. The thread says nothing where the least is the greatest number.
 fn first_least(stamps: &[u64; MOST_THREADS]) -> (u32, u64)
-    ensures { IsFirstLeast stamps.now 16 result }
+    ensures { IsFirstLeast stamps.now most_threads result }
 {
     let mut first = 0;
     let mut least = u64::MAX;
@@ -180,7 +182,7 @@ fn first_least(stamps: &[u64; MOST_THREADS]) -> (u32, u64)
 /// Gives the first entry of those that are left, with its thread. `None` exactly where nothing is left.
 fn take_least(logs: &[List<Logged>], places: &mut [usize; MOST_THREADS]) -> Option<(u32, Logged)>
     requires rising { AllByRecursion (RisesAbove 0) logs.now }
-    requires few { length logs.now ≤ 16 }
+    requires few { length logs.now ≤ most_threads }
     ensures first { MatchOption result (order (left_of logs.now places.old) ≡ [])
         (λ x. order (left_of logs.now places.old) ≡ x ∷ order (left_of logs.now places.new)) }
     ensures thread { IfSome result (λ x. x.0 < length logs.now) }
@@ -194,7 +196,7 @@ fn take_least(logs: &[List<Logged>], places: &mut [usize; MOST_THREADS]) -> Opti
 /// Gives the least head, of which thread and stamp are known.
 fn take_head(logs: &[List<Logged>], places: &mut [usize; MOST_THREADS], least: (u32, u64)) -> Logged
     requires rising { AllByRecursion (RisesAbove 0) logs.now }
-    requires few { length logs.now ≤ 16 }
+    requires few { length logs.now ≤ most_threads }
     requires least { IsLeastHead logs.now places.old (length logs.now) least }
     ensures first { order (left_of logs.now places.old) ≡ (least.0, result) ∷ order (left_of logs.now places.new) }
     ensures places { places.new ≡ slice_set places.old least.0 (slice_index places.old least.0 + 1) }
@@ -208,7 +210,7 @@ fn take_head(logs: &[List<Logged>], places: &mut [usize; MOST_THREADS], least: (
 
 /// Of the first entries that the threads have left, the thread and the stamp of the one that stands before the others.
 fn least_head(logs: &[List<Logged>], places: &[usize; MOST_THREADS]) -> Option<(u32, u64)>
-    requires { length logs.now ≤ 16 }
+    requires { length logs.now ≤ most_threads }
     ensures { IsLeastOf logs.now places.now (length logs.now) result }
 {
     let mut least = None;

@@ -1,15 +1,17 @@
 //! Names, values and faults, written behind what a line holds.
 
-ghost use Rattle.std.specs.Prelude.{◌≡◌, ◌+◌, ◌≤◌, ◌++◌, length, Some, IfSome, slice_get, option_map};
+ghost use Rattle.std.specs.Prelude.{◌≡◌, ◌+◌, ◌/◌, ◌%◌, ◌≤◌, ◌++◌, length, codes, decimal, Some, IfSome, slice_get, option_map};
+ghost use Rattle.plain_monitor.specs.Limits.{most_made};
 ghost use Rattle.lock_journal.specs.Words.{element_text, object_text, thread_text, value_text, path_text, fault_text};
 ghost use Rattle.lock_journal.specs.RunText.{ending_text};
 
 use crate::line::Line;
 use object_program::{Name, ObjectDef, Program};
+use plain_monitor::limits::MADE;
 use plain_monitor::{Ending, Fault, Path, Value};
 
-/// Writes the name of object `o`, for an array's with the element in brackets, in at most 64 bytes. Nothing where the program
-/// has no such object.
+/// Writes the name of object `o`, in at most 64 bytes: of a declared one its own, for an array's with the element in brackets, and of one
+/// that a thread makes the thread's, with the object's number among the thread's behind a dot.
 pub fn push_object(out: &mut Line, program: &Program, o: u32)
     requires { length out.old + 64 ≤ 512 }
     ensures text { out.new ≡ out.old ++ object_text program.now o }
@@ -25,7 +27,9 @@ pub(crate) fn push_object_at(out: &mut Line, program: &Program, place: usize)
     ensures short { length out.new ≤ length out.old + 64 }
 {
     let objects = program.objects.items();
-    if place >= program.objects_total() as usize {
+    let declared = program.objects_total() as usize;
+    if place >= declared {
+        push_made(out, program, place - declared);
         return;
     }
     let (number, element) = program.place_of(place as u32);
@@ -33,6 +37,20 @@ pub(crate) fn push_object_at(out: &mut Line, program: &Program, place: usize)
         None => {}
         Some(object) => push_element(out, &object, element),
     }
+}
+
+/// Writes the name of an object that a thread makes, by its place among all of these, in at most 64 bytes.
+fn push_made(out: &mut Line, program: &Program, place: usize)
+    requires { length out.old + 64 ≤ 512 }
+    ensures text { out.new ≡ out.old ++ (thread_text program.now (place / most_made) ++ codes "." ++ decimal (place % most_made)) }
+    ensures short { length out.new ≤ length out.old + 64 }
+{
+    match name_at(program, place / MADE as usize) {
+        None => {}
+        Some(name) => out.push(name.bytes()),
+    }
+    out.push(b".");
+    out.push_number((place % MADE as usize) as u64);
 }
 
 /// The declaration with this number, whose name has at most 32 bytes.
@@ -66,18 +84,18 @@ pub fn push_thread(out: &mut Line, program: &Program, t: u32)
     ensures text { out.new ≡ out.old ++ thread_text program.now t }
     ensures short { length out.new ≤ length out.old + 32 }
 {
-    match thread_name(program, t) {
+    match name_at(program, t as usize) {
         None => {}
         Some(name) => out.push(name.bytes()),
     }
 }
 
 /// The name of thread `t`, which has at most 32 bytes.
-fn thread_name(program: &Program, t: u32) -> Option<Name>
+fn name_at(program: &Program, t: usize) -> Option<Name>
     ensures at { result ≡ option_map (λ thread. thread.name) (slice_get program.now.threads t) }
     ensures short { IfSome result (λ name. length name ≤ 32) }
 {
-    let thread = program.threads.items().get(t as usize)?;
+    let thread = program.threads.items().get(t)?;
     Some(thread.name)
 }
 
@@ -108,6 +126,7 @@ fn fault_word(fault: Fault) -> &'static [u8]
         Fault::Overflow => b"Overflow",
         Fault::TooDeep => b"TooDeep",
         Fault::TooManyDumps => b"TooManyDumps",
+        Fault::TooMany => b"TooMany",
     }
 }
 

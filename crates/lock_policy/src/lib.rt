@@ -14,4 +14,4 @@ pub use laws::{
     count_is_reset_under_four_conditions, counts_stay_in_range, draws_follow_one_another,
     draws_stay_in_range, verdict_follows_from_count,
 };
-pub use policy::{Verdict, decide, has_decayed};
+pub use policy::{Verdict, code_has_the_thresholds, decide, has_decayed};

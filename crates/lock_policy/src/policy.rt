@@ -1,7 +1,7 @@
 // When the objects of a class are rebiased or revoked in bulk.
 
 ghost use Rattle.std.specs.Prelude.{◌≡◌};
-ghost use Rattle.lock_policy.specs.Policy.{decided, is_reset};
+ghost use Rattle.lock_policy.specs.Policy.{decided, decay_time, is_reset, rebias_threshold, revoke_threshold};
 
 // The count at which a class is rebiased in bulk, and from which a count may be reset.
 const BULK_REBIAS_THRESHOLD: u64 = 20;
@@ -51,6 +51,13 @@ pub fn decide(count: u64, last: u64, now: u64) -> (Verdict, u64)
     };
     (verdict, count)
 }
+
+/// The thresholds of the code, and its time, are those of the definitions.
+pub fn code_has_the_thresholds()
+    ensures rebias { BULK_REBIAS_THRESHOLD ≡ rebias_threshold }
+    ensures revoke { BULK_REVOKE_THRESHOLD ≡ revoke_threshold }
+    ensures decay { DECAY_TIME ≡ decay_time }
+{}
 
 /// Whether that count is reset: it is from 20 to 39, there was a bulk operation, which is not later than `now`, and 25,000 or more passed
 /// since.

@@ -1,5 +1,6 @@
 -- A revocation leaves what its call takes of its thread's knowledge; an attempt on a bias leaves what the thread keeps.
 use Rattle.std.proofs.Common.{◌≡◌, ℕ, ◌+◌, ◌==◌, Bool, true, false, if◌then◌else◌, Option, Some, None, List, [], ◌∷◌, ◌++◌, refl}
+use Rattle.plain_monitor.specs.Limits.{most_holds}
 use Rattle.mark_word.specs.declared.mark.MarkForm.{MarkForm}
 use Rattle.mark_word.specs.declared.mark.MarkForm.TheVariants.{Inflating, Neutral, Anonymous, Biased, Locked, Inflated, Marked}
 use Rattle.mark_word.specs.Mark.{mark_of, read_mark}
@@ -96,8 +97,8 @@ module _ (e : Purpose) (b : Revocation) where
   at_form (Some (Neutral hash age)) o allowed = tt
   at_form (Some (Anonymous epoch age)) o true = tt
   at_form (Some (Anonymous epoch age)) o false = (record { quiet = refl; words = refl; keeps = refl }, λ n. tt)
-  at_form (Some (Biased t epoch age)) o allowed = then_aside (each_from 0 64 (λ p. look e b (Hold t p))) _
-      (each_aside 0 64 (λ p. look e b (Hold t p)) (λ p. (record { quiet = refl; words = refl; keeps = refl }, λ n. tt)))
+  at_form (Some (Biased t epoch age)) o allowed = then_aside (each_from 0 most_holds (λ p. look e b (Hold t p))) _
+      (each_aside 0 most_holds (λ p. look e b (Hold t p)) (λ p. (record { quiet = refl; words = refl; keeps = refl }, λ n. tt)))
       (λ hs. stores e b (revoke_biased o t allowed hs) (biased o t allowed hs))
   at_form (Some (Locked t p)) o allowed = tt
   at_form (Some (Inflated m)) o allowed = tt
@@ -115,8 +116,8 @@ module _ (e : Purpose) (b : Revocation) where
     placed t p = (record { quiet = refl; words = refl; keeps = refl }, λ hold. held (object_held (read_hold hold)))
 
     walk : AreAside (walk_steps s c e b visit)
-    walk = all_aside 0 s.threads (λ t. all_from 0 64 (λ p. look e b (Hold t p) >>= (λ hold. visit_held s c e b visit (object_held (read_hold hold)))))
-        (λ t. all_aside 0 64 (λ p. look e b (Hold t p) >>= (λ hold. visit_held s c e b visit (object_held (read_hold hold)))) (placed t))
+    walk = all_aside 0 s.threads (λ t. all_from 0 most_holds (λ p. look e b (Hold t p) >>= (λ hold. visit_held s c e b visit (object_held (read_hold hold)))))
+        (λ t. all_aside 0 most_holds (λ p. look e b (Hold t p) >>= (λ hold. visit_held s c e b visit (object_held (read_hold hold)))) (placed t))
 
   take : (epoch : Option ℕ) (t : ℕ) → AreAside (take_bias_steps e b epoch t)
   take epoch t = (
@@ -200,8 +201,8 @@ drop_by : (epoch : Option ℕ) (e : Purpose) (o mark prototype : ℕ) → AreAsi
 drop_by None e o mark prototype = drop_swap e o mark prototype
 drop_by (Some epoch) e o mark prototype = drop_at (read_mark mark) epoch e o mark
 
-drop : (e : Purpose) (c o : ℕ) → AreAside (bias_drop_steps e c o)
-drop e c o = (
+drop : (s : Shape) (e : Purpose) (o : ℕ) → AreAside (bias_drop_steps s e o)
+drop s e o = (
   record { quiet = refl; words = refl; keeps = refl },
   λ mark. either_aside (is_biased mark) _ _ (record { quiet = refl; words = refl; keeps = refl }, λ prototype. drop_by (epoch_in prototype) e o mark prototype) tt,
 )
@@ -222,4 +223,4 @@ tried (Raced expected found) s e k b = tt
 pub unbias_aside : (s : Shape) (e : Purpose) (k : Start) (b : Revocation) → AreAside (unbias_steps s e k b)
 unbias_aside s e k b =
     either_aside k.requesting _ _ (revoked s k.local.thread true e b)
-    (then_aside (bias_drop_steps e (class_of s b.object) b.object) _ (drop e (class_of s b.object) b.object) (λ try. tried try s e k b))
+    (then_aside (bias_drop_steps s e b.object) _ (drop s e b.object) (λ try. tried try s e k b))

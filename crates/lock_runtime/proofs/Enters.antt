@@ -1,5 +1,6 @@
 -- Whole enters: refused, and not.
 use Rattle.std.proofs.Common.{◌≡◌, ℕ, ◌==◌, Bool, true, false, if◌then◌else◌, Result, Ok, Err, refl, ap}
+use Rattle.plain_monitor.specs.Limits.{most_holds}
 use Rattle.plain_monitor.specs.declared.entry.Path.{Path}
 use Rattle.core_world.specs.declared.answer.TooDeep.{TooDeep}
 use Rattle.core_world.specs.declared.answer.Turn.{Turn}
@@ -35,31 +36,31 @@ module _ (h : HeapSeen) (p : PassSeen) (o now : ℕ) (call : MayCall h p (Enter 
   if_full b = if b then never else done (Err (record {}))
 
   -- with 64 holds no enter goes on that found a place before
-  pub refused : (free_place p.known.holds == 64) ≡ true → HasRun h (enter_steps h.heap.shape (start_now h p) o now) p p (Err (record {}))
+  pub refused : (free_place p.known.holds == most_holds) ≡ true → HasRun h (enter_steps h.heap.shape (start_now h p) o now) p p (Err (record {}))
   refused full =
-      run_then h p (free_place p.known.holds == 64) (full_steps (start_now h p) o) going p (Err (record {})) full
+      run_then h p (free_place p.known.holds == most_holds) (full_steps (start_now h p) o) going p (Err (record {})) full
       (cases (goes_on_with op.Enter o p.known.unfinished) refl)
     where
       cases : (b : Bool) → goes_on_with op.Enter o p.known.unfinished ≡ b → HasRun h (full_steps (start_now h p) o) p p (Err (record {}))
       cases true goes = absurd (
           not_due h p (Enter o now) (full_steps (start_now h p) o) call.rests.is_of
-          (due_then h p (free_place p.known.holds == 64) (full_steps (start_now h p) o) going (Enter o now) due full)
+          (due_then h p (free_place p.known.holds == most_holds) (full_steps (start_now h p) o) going (Enter o now) due full)
           (ap if_full goes)
           )
       cases false stays = run_else h p (goes_on_with op.Enter o p.known.unfinished) never (done (Err (record {}))) p (Err (record {})) stays (ends h p (Err (record {})) call.rests.is_of)
 
-  module _ (room : (free_place p.known.holds == 64) ≡ false) where
+  module _ (room : (free_place p.known.holds == most_holds) ≡ false) where
     pub placed : IsDueOn h p (Enter o now) (enter_going h.heap.shape (purpose (Enter o now) op.Enter o) (start_now h p) (record { object = o; rebias = true; now = now }))
     placed =
         part_due h.heap.shape h.heap.start h.heap.biasing p.known (Enter o now)
         (enter_going h.heap.shape (purpose (Enter o now) op.Enter o) (start_now h p) (record { object = o; rebias = true; now = now })) (answer {A = Turn Path} {E = TooDeep})
-        (due_else h p (free_place p.known.holds == 64) (full_steps (start_now h p) o) going (Enter o now) due room)
+        (due_else h p (free_place p.known.holds == most_holds) (full_steps (start_now h p) o) going (Enter o now) due room)
 
     pub entered : (q : PassSeen) (turn : Turn Path)
         → HasRun h (enter_going h.heap.shape (purpose (Enter o now) op.Enter o) (start_now h p) (record { object = o; rebias = true; now = now })) p q turn
         → HasRun h (enter_steps h.heap.shape (start_now h p) o now) p q (Ok turn)
     entered q turn run =
-        run_else h p (free_place p.known.holds == 64) (full_steps (start_now h p) o) going q (Ok turn) room
+        run_else h p (free_place p.known.holds == most_holds) (full_steps (start_now h p) o) going q (Ok turn) room
         (in_turn h p q q (enter_going h.heap.shape (purpose (Enter o now) op.Enter o) (start_now h p) (record { object = o; rebias = true; now = now }))
         (answer {A = Turn Path} {E = TooDeep}) turn (Ok turn) run (ends h q (Ok turn) run.heap))
 
@@ -69,7 +70,7 @@ by_request s e k b true = refl
 by_request s e k b false = refl
 
 pub first_to_enter : (s : Shape) (k : Start) (o now : ℕ) → IsCallOf (Enter o now) (enter_steps s k o now)
-first_to_enter s k o now = cases (free_place k.local.holds == 64)
+first_to_enter s k o now = cases (free_place k.local.holds == most_holds)
   where
     full : (b : Bool) → IsCallOf {A = Result (Turn Path) TooDeep} (Enter o now) (if b then never else done (Err (record {})))
     full true = tt

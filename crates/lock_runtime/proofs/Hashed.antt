@@ -2,6 +2,7 @@
 use Rattle.std.proofs.Common.{◌≡◌, ℕ, ◌+◌, ◌≤◌, List, [], ◌∷◌, Option, Some, None, length, refl, sym, subst, arith, inl, inr}
 use Rattle.plain_monitor.specs.Objects.{PlainObject}
 use Rattle.plain_monitor.specs.declared.entry.Logged.{Logged}
+use Rattle.core_world.specs.Clauses.Lengths.{log_limit}
 use Rattle.core_world.specs.declared.answer.Turn.{Turn}
 use Rattle.core_world.specs.declared.answer.Turn.TheVariants.{Done, Pending}
 use Rattle.core_world.specs.Clauses.Draws.{Draw, draw_in, drawn_by, draws_in}
@@ -34,7 +35,7 @@ draws_few (l ∷ log) = omega (arith, one_drawn (draw_in l.entry), draws_few log
 
 record Few (k : Known) : Type 0 where
   draws : k.draws ≤ length k.log
-  log : length k.log ≤ 400066
+  log : length k.log ≤ log_limit
 
 fit_few : (w : World) (P : List PlainObject) (t : ℕ) → Fits w P → Few (w.known t)
 fit_few w P t fits = record { draws = omega (arith, fits.draws.counted t, draws_few (w.known t).log); log = fits.lengths.few t }
@@ -46,7 +47,7 @@ valid_few w P t (inr s) = by_equal t s.requester
     (λ e. subst (λ u. Few (w.known u)) (sym e) (subst Few (sym s.knows) (let few = fit_few s.before P s.requester s.fits in record { draws = few.draws; log = few.log })))
     (λ d. subst Few (sym (s.others t d)) (fit_few s.before P t s.fits))
 
-pub few_draws : (h : HeapSeen) (p : PassSeen) → IsOf h p → p.known.draws ≤ 400066
+pub few_draws : (h : HeapSeen) (p : PassSeen) → IsOf h p → p.known.draws ≤ log_limit
 few_draws h p is_of =
     let r = is_of.real in
     let stands : Stands h.heap p.known = record { world = r.world; objects = r.sound.valid.objects; is_of = r.is_of; knows = r.knew; within = is_of.within; valid = r.sound.valid.is } in

@@ -87,8 +87,8 @@ by_prototype (Some (Locked t p)) e k o mark prototype = tt
 by_prototype (Some (Inflated m)) e k o mark prototype = tt
 by_prototype (Some Marked) e k o mark prototype = tt
 
-pub enter_keeps : (e : Purpose) (k : Local) (c o : ℕ) → AreSame (bias_enter_steps e k c o)
-enter_keeps e k c o = (refl, λ mark. either (is_biased mark) _ _ (refl, λ prototype. by_prototype (read_mark prototype) e k o mark prototype) tt)
+pub enter_keeps : (s : Shape) (e : Purpose) (k : Local) (o : ℕ) → AreSame (bias_enter_steps s e k o)
+enter_keeps s e k o = (refl, λ mark. either (is_biased mark) _ _ (refl, λ prototype. by_prototype (read_mark prototype) e k o mark prototype) tt)
 
 own_bias : (f : Option MarkForm) (e : Purpose) (k : Local) (o : ℕ) → AreSame (bias_after_at f e k o)
 own_bias (Some (Biased t epoch age)) e k o = either (t == k.thread) _ _ (takes e k o BiasTaken) tt

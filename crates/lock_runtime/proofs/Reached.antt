@@ -8,6 +8,7 @@ use Rattle.mark_word.specs.declared.owner.OwnerForm.TheVariants.{Free, ByThread,
 use Rattle.mark_word.specs.Mark.{read_mark}
 use Rattle.mark_word.specs.Owner.{owner_of, read_owner}
 use Rattle.mark_word.proofs.ReadingSafepoints.{read_safe-safe_of}
+use Rattle.plain_monitor.specs.Limits.{most_holds}
 use Rattle.plain_monitor.specs.Monitor.{is_thread}
 use Rattle.core_world.specs.declared.act.Act.{Act}
 use Rattle.core_world.specs.declared.act.Act.TheVariants.{Load}
@@ -79,7 +80,7 @@ either_leave false x y one two = two
 
 module _ (e : Purpose) (s : Shape) where
   holds_leave : (t : ℕ) → LeaveSafepoint (look_at_holds e t)
-  holds_leave t = all_leave 0 64 (λ p. ask (load e (name.Hold t p)) >>= (λ _. done tt)) (λ p. (refl, λ n. tt))
+  holds_leave t = all_leave 0 most_holds (λ p. ask (load e (name.Hold t p)) >>= (λ _. done tt)) (λ p. (refl, λ n. tt))
 
   owner_leaves : (f : Option OwnerForm) → LeaveSafepoint (look_at_owner f e)
   owner_leaves (Some (ByThread thread)) = holds_leave thread

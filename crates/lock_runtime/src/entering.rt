@@ -20,6 +20,7 @@ use heap_table::{Heap, Pass, Purpose, mark_of_word};
 use mark_word::MarkForm;
 use object_monitor::{inflate, monitor_enter};
 use plain_monitor::Path;
+use plain_monitor::limits::HOLDS;
 use revoke_walk::Revocation;
 use stack_lock::{free_place, stack_enter};
 
@@ -144,8 +145,7 @@ fn enter_first(heap: &Heap, pass: &mut Pass, why: &Purpose, bias: &Revocation) -
     ensures { HasRun heap.now (enter_first heap.now.heap.shape why.now (start_now heap.now pass.old) bias.now)
         pass.old pass.new result }
 {
-    let class = heap.shape().class_of(bias.object);
-    match bias_enter(heap, pass, why, class, bias.object) {
+    match bias_enter(heap, pass, why, bias.object) {
         BiasTry::Took(path) => Turn::Done(path),
         BiasTry::Unbiased { mark } => enter_marked(heap, pass, why, bias.object, mark),
         BiasTry::Valid { .. } => enter_revoked(heap, pass, why, bias, false),
@@ -187,7 +187,7 @@ pub fn enter(heap: &Heap, pass: &mut Pass, object: u32, now: u64) -> Result<Turn
     ensures stands { StandsOrSame pass.old.known pass.new.known result }
     ensures others { PendsOrRefused pass.old.known.thread result }
 {
-    if free_place(pass) == 64 {
+    if free_place(pass) == HOLDS {
         return Err(TooDeep);
     }
     let why = unfinished(Task::Enter { object, now }, Op::Enter, object);

@@ -111,8 +111,7 @@ fn unbias_first(heap: &Heap, pass: &mut Pass, why: &Purpose, bias: &Revocation) 
     ensures { HasRun heap.now (unbias_first heap.now.heap.shape why.now (start_now heap.now pass.old) bias.now)
         pass.old pass.new result }
 {
-    let class = heap.shape().class_of(bias.object);
-    match bias_drop(heap, pass, why, class, bias.object) {
+    match bias_drop(heap, pass, why, bias.object) {
         BiasTry::Unbiased { .. } => Turn::Done(()),
         BiasTry::Valid { .. } => revoked(heap, pass, why, bias, false),
         BiasTry::Raced { expected, found } => Turn::Pending(Why::Raced { expected, found }),

@@ -16,7 +16,7 @@ use Rattle.plain_machine.specs.declared.call.Asked.{Asked}
 use Rattle.plain_machine.specs.declared.call.Asked.TheVariants.{Calls, Resumes, Leaves, Ends}
 use Rattle.plain_machine.specs.Thread.{ThreadState}
 use Rattle.plain_machine.specs.Asking.{ask, fits, behind_entry, thread_after}
-use Rattle.plain_machine.specs.Machine.{PlainMachine, code_of, take, moved, monitor_at, object_at, other_owner}
+use Rattle.plain_machine.specs.Machine.{PlainMachine, code_of, made_behind, take, moved, monitor_at, object_at, other_owner}
 use Rattle.plain_machine.specs.Offering.{unless_owned, hash_offer, asked_offer, offered, is_next}
 use Rattle.machine_laws.proofs.ReachedOver.{stuck_offers_nothing, ended_offers_nothing}
 use Rattle.lone_logs.specs.LoneRun.{NoneGoesOn}
@@ -31,17 +31,18 @@ pub record HasTaken (m n : PlainMachine) (t : ℕ) (e : Entry) : Type 0 where
   pub fit : fits asked e ≡ true
   pub takes : take_entry m.objects t e ≡ Some n.objects
 
-both_moved : (m n : PlainMachine) (t : ℕ) (s : Option ThreadState) (objects : Option (List PlainObject)) → moved m t s objects ≡ Some n
+both_moved : (m n : PlainMachine) (t : ℕ) (s : Option ThreadState) (made : Option (List (List ℕ))) (objects : Option (List PlainObject)) → moved m t s made objects ≡ Some n
     → (next : ThreadState) × (s ≡ Some next) × (objects ≡ Some n.objects)
-both_moved m n t None objects h = absurd (cc h)
-both_moved m n t (Some s) None h = absurd (cc h)
-both_moved m n t (Some s) (Some x) h = (s, refl, ap (λ (k : PlainMachine). Some k.objects) (same_Some _ n h))
+both_moved m n t None made objects h = absurd (cc h)
+both_moved m n t (Some s) None objects h = absurd (cc h)
+both_moved m n t (Some s) (Some made) None h = absurd (cc h)
+both_moved m n t (Some s) (Some made) (Some x) h = (s, refl, ap (λ (k : PlainMachine). Some k.objects) (same_Some _ n h))
 
 pub has_taken : (m n : PlainMachine) (t : ℕ) (e : Entry) → take m t e ≡ Some n → HasTaken m n t e
 has_taken m n t e h =
-    let step : ThreadState → Option PlainMachine = λ s. moved m t (thread_after m.program (code_of m.program t) s e) (take_entry m.objects t e) in
+    let step : ThreadState → Option PlainMachine = λ s. moved m t (thread_after m.program (code_of m.program t) s e) (made_behind m t e) (take_entry m.objects t e) in
     let a = first_some step (slice_get m.threads t) n h in
-    let b = both_moved m n t (thread_after m.program (code_of m.program t) a.0 e) (take_entry m.objects t e) a.2 in
+    let b = both_moved m n t (thread_after m.program (code_of m.program t) a.0 e) (made_behind m t e) (take_entry m.objects t e) a.2 in
     let answer : Asked → ThreadState = λ asked. behind_entry m.program (code_of m.program t) a.0 asked e in
     let c = first_some (λ asked. only_if (fits asked e) (answer asked)) (ask a.0) b.0 b.1 in
     record { s = a.0; at = a.1; asked = c.0; asks = c.1; fit = (cond_some (fits c.0 e) (answer c.0) b.0 c.2).0; takes = b.2 }

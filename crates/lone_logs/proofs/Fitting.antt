@@ -4,7 +4,7 @@ use Rattle.std.proofs.lemmas.Bool.{and_parts, false≢true}
 use Rattle.std.proofs.lemmas.Option.{cond_some, same_Some}
 use Rattle.plain_monitor.specs.declared.entry.Value.{Value}
 use Rattle.plain_monitor.specs.declared.entry.Fault.{Fault}
-use Rattle.plain_monitor.specs.declared.entry.Fault.TheVariants.{IllegalMonitorState, Unguarded, NotRef, NotInt, Range, Overflow, TooDeep, TooManyDumps}
+use Rattle.plain_monitor.specs.declared.entry.Fault.TheVariants.{IllegalMonitorState, Unguarded, NotRef, NotInt, Range, Overflow, TooDeep, TooManyDumps, TooMany}
 use Rattle.plain_monitor.specs.declared.entry.Ending.{Ending}
 use Rattle.plain_monitor.specs.declared.entry.Ending.TheVariants as ending
 use Rattle.plain_monitor.specs.declared.entry.Entry.{Entry}
@@ -80,7 +80,7 @@ of_call (call.Dump n) e h = absurd (false≢true h)
 
 -- a fault by its number
 abbrev fault_with : ℕ → Fault
-fault_with n = slice_index_or (IllegalMonitorState ∷ Unguarded ∷ NotRef ∷ NotInt ∷ Range ∷ Overflow ∷ TooDeep ∷ []) n TooManyDumps
+fault_with n = slice_index_or (IllegalMonitorState ∷ Unguarded ∷ NotRef ∷ NotInt ∷ Range ∷ Overflow ∷ TooDeep ∷ TooManyDumps ∷ []) n TooMany
 
 its_fault : (f : Fault) → fault_with (fault_number f) ≡ f
 its_fault IllegalMonitorState = refl
@@ -91,6 +91,7 @@ its_fault Range = refl
 its_fault Overflow = refl
 its_fault TooDeep = refl
 its_fault TooManyDumps = refl
+its_fault TooMany = refl
 
 same_fault : (f g : Fault) → (fault_number f == fault_number g) ≡ true → g ≡ f
 same_fault f g h = sym (its_fault g) ∙ ap fault_with (same_number (fault_number f) (fault_number g) h) ∙ its_fault f

@@ -12,3 +12,6 @@ pub mod ReachedEntries
 pub mod ReachedStanding
 pub mod ReachedPaths
 pub mod ReachedRange
+pub mod ReachedNeeds
+pub mod RefusedEntries
+pub mod MadeInTime

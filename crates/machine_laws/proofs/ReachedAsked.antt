@@ -13,8 +13,9 @@ use Rattle.plain_machine.specs.declared.call.Asked.{Asked}
 use Rattle.plain_machine.specs.declared.call.Asked.TheVariants.{Calls, Resumes, Leaves, Ends}
 use Rattle.plain_machine.specs.Thread.{ThreadState}
 use Rattle.plain_machine.specs.Asking.{ask, ask_in, unwinds, held_from, fits, behind_entry, thread_after}
-use Rattle.plain_machine.specs.Machine.{PlainMachine, code_of, moved, take}
+use Rattle.plain_machine.specs.Machine.{PlainMachine, code_of, made_behind, moved, take}
 use Rattle.plain_machine.specs.Values.{IsObject}
+use Rattle.plain_machine.proofs.NeededObjects.{made_kept}
 use Rattle.machine_laws.specs.ReachedThread.{IsHeld, IsCallOf, IsModeOf, IsStateOf, IsThreadOf}
 use Rattle.machine_laws.proofs.ReachedFrame.{moved_to}
 
@@ -105,32 +106,48 @@ pub record IsTaken (m : PlainMachine) (t : ℕ) (e : Entry) (next : PlainMachine
   pub takes : take_entry m.objects t e ≡ Some objects
   pub is : moved_to m t (behind_entry m.program (code_of m.program t) s asked e) objects ≡ next
 
--- both parts moved
-pub record IsMoved (m : PlainMachine) (t : ℕ) (state : Option ThreadState) (parts : Option (List PlainObject)) (next : PlainMachine) : Type 0 where
+-- all parts moved
+pub record IsMoved (m : PlainMachine) (t : ℕ) (state : Option ThreadState) (made : Option (List (List ℕ))) (parts : Option (List PlainObject)) (next : PlainMachine) : Type 0 where
   pub s : ThreadState
+  pub behind : List (List ℕ)
   pub objects : List PlainObject
   pub thread : state ≡ Some s
+  pub makes : made ≡ Some behind
   pub takes : parts ≡ Some objects
-  pub is : moved_to m t s objects ≡ next
+  pub is : record m { objects = objects; made = behind; threads = slice_set m.threads t s } ≡ next
 
-moved_parts : (m : PlainMachine) (t : ℕ) (state : Option ThreadState) (parts : Option (List PlainObject)) (next : PlainMachine) → moved m t state parts ≡ Some next → IsMoved m t state parts next
-moved_parts m t None parts next e = absurd (none-some next e)
-moved_parts m t (Some s) None next e = absurd (none-some next e)
-moved_parts m t (Some s) (Some objects) next e = record { s = s; objects = objects; thread = refl; takes = refl; is = same_Some _ _ e }
+moved_parts : (m : PlainMachine) (t : ℕ) (state : Option ThreadState) (made : Option (List (List ℕ))) (parts : Option (List PlainObject)) (next : PlainMachine)
+    → moved m t state made parts ≡ Some next → IsMoved m t state made parts next
+moved_parts m t None made parts next e = absurd (none-some next e)
+moved_parts m t (Some s) None parts next e = absurd (none-some next e)
+moved_parts m t (Some s) (Some behind) None next e = absurd (none-some next e)
+moved_parts m t (Some s) (Some behind) (Some objects) next e =
+    record { s = s; behind = behind; objects = objects; thread = refl; makes = refl; takes = refl; is = same_Some _ _ e }
 
 pub taken : (m : PlainMachine) (t : ℕ) (e : Entry) (next : PlainMachine) → take m t e ≡ Some next → IsTaken m t e next
 taken m t e next h = option_and_then_some _ (slice_get m.threads t) next h at_state
   where
-    at_state : (s : ThreadState) → slice_get m.threads t ≡ Some s → moved m t (thread_after m.program (code_of m.program t) s e) (take_entry m.objects t e) ≡ Some next → IsTaken m t e next
+    at_state : (s : ThreadState) → slice_get m.threads t ≡ Some s → moved m t (thread_after m.program (code_of m.program t) s e) (made_behind m t e) (take_entry m.objects t e) ≡ Some next → IsTaken m t e next
     at_state s at both = option_and_then_some _ (ask s) parts.s parts.thread at_asked
       where
-        parts : IsMoved m t (thread_after m.program (code_of m.program t) s e) (take_entry m.objects t e) next
-        parts = moved_parts m t _ _ next both
+        parts : IsMoved m t (thread_after m.program (code_of m.program t) s e) (made_behind m t e) (take_entry m.objects t e) next
+        parts = moved_parts m t _ _ _ next both
 
         at_asked : (a : Asked) → ask s ≡ Some a → (if fits a e then Some (behind_entry m.program (code_of m.program t) s a e) else None) ≡ Some parts.s → IsTaken m t e next
         at_asked a asks only =
             let c = cond_some (fits a e) (behind_entry m.program (code_of m.program t) s a e) parts.s only in
-            record { s = s; asked = a; objects = parts.objects; at = at; asks = asks; fit = c.0; takes = parts.takes; is = ap (λ (x : ThreadState). moved_to m t x parts.objects) c.1 ∙ parts.is }
+            let kept : m.made ≡ parts.behind = made_kept m t a e parts.behind c.0 parts.makes in
+            record {
+              s = s;
+              asked = a;
+              objects = parts.objects;
+              at = at;
+              asks = asks;
+              fit = c.0;
+              takes = parts.takes;
+              is = ap (λ (x : ThreadState). moved_to m t x parts.objects) c.1
+                  ∙ ap (λ (made : List (List ℕ)). record m { objects = parts.objects; made = made; threads = slice_set m.threads t parts.s }) kept ∙ parts.is;
+            }
 
 -- an entry that object o takes
 pub record IsTakenAt (objects : List PlainObject) (o t : ℕ) (e : Entry) (after : List PlainObject) : Type 0 where

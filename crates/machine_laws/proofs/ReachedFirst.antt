@@ -123,6 +123,7 @@ first_is_reached p fuel h =
     let threads = first_threads p fuel p.threads h (program_runs p h) in
     record {
       program = h;
+      made = refl;
       thread_count = length-map p.threads _;
       object_count = length-map (shape_of p) _ ∙ shape_length p.classes p.objects;
       threads = all_weaker (IsFirst p fuel) (IsThreadOf p) (λ s r. r.thread) (new_machine p fuel).threads threads;

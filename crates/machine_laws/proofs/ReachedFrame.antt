@@ -74,6 +74,7 @@ reached_with m t next objects h thread same slots hashes monitors standing =
     let count : length (slice_set m.threads t next) ≡ length m.threads = length-set m.threads t next in
     record {
       program = h.program;
+      made = h.made;
       thread_count = count ∙ h.thread_count;
       object_count = same ∙ h.object_count;
       threads = all_set (IsThreadOf m.program) m.threads t next thread h.threads;

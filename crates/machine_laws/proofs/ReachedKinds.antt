@@ -1,6 +1,7 @@
 -- How a thread of a reached machine moves with each kind of entry.
 use Rattle.std.proofs.Common.{◌≡◌, ◌≢◌, ℕ, ◌+◌, ◌-◌, ◌<◌, ◌≤◌, List, length, sum, slice_set, slice_index, refl, sym, ap, ◌∙◌, subst, arith, length-set, get_or-set_same, get_or-set_other, ne_eqb, eq-eqb}
 use Rattle.std.proofs.lemmas.List.Sums.{sum_by-set}
+use Rattle.plain_monitor.specs.Limits.{most_holds}
 use Rattle.plain_monitor.specs.declared.entry.Ending.{Ending}
 use Rattle.plain_monitor.specs.Objects.{PlainObject}
 use Rattle.object_program.specs.Program.{ProgramText}
@@ -36,7 +37,7 @@ run_of : (m : PlainMachine) (t fuel : ℕ) (s : ThreadState) → IsReached m →
 run_of m t fuel s h st = run_keeps m.program (code_of m.program t) h.program (code_runs m.program t h.program) fuel s st
 
 -- the holds with another number for object o
-holds_set : (p : ProgramText) (s : ThreadState) (o k : ℕ) → IsStateOf p s → sum (slice_set s.holds o k) ≤ 64 → IsStateOf p (record s { holds = slice_set s.holds o k })
+holds_set : (p : ProgramText) (s : ThreadState) (o k : ℕ) → IsStateOf p s → sum (slice_set s.holds o k) ≤ most_holds → IsStateOf p (record s { holds = slice_set s.holds o k })
 holds_set p s o k st few = record { holds = length-set s.holds o k ∙ st.holds; few = few; dumps = st.dumps; locals = st.locals }
 
 held_within : (p : ProgramText) (s : ThreadState) (o : ℕ) → IsStateOf p s → IsObject p o → o < length s.holds

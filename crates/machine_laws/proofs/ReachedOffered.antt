@@ -26,17 +26,20 @@ use Rattle.machine_laws.specs.Reached.{IsReached}
 use Rattle.machine_laws.proofs.ReachedFrame.{IsMaker}
 use Rattle.machine_laws.proofs.ReachedAsked.{IsPaid, IsAwaited, IsLeft, IsAskedOf, asked_of}
 use Rattle.machine_laws.proofs.ReachedKinds.{thread_of}
+use Rattle.machine_laws.proofs.ReachedNeeds.{made_there}
 use Rattle.machine_laws.proofs.ReachedStanding.{IsOwner, beside, holder_owns, same_itself, enter_taken, exit_taken, wait_taken, resume_taken, notify_taken, notify_all_taken, get_taken, put_taken, hash_taken, first_hash_taken}
-
-moved_some : (m : PlainMachine) (t : ℕ) (s : ThreadState) (objects : Option (List PlainObject)) → is_some objects ≡ true → is_some (moved m t (Some s) objects) ≡ true
-moved_some m t s None h = absurd (false≢true h)
-moved_some m t s (Some objects) h = refl
 
 -- an entry is taken that fits what is asked, where the objects take it
 take_some : (m : PlainMachine) (t : ℕ) (s : ThreadState) (a : Asked) (e : Entry) → IsMaker m t s → ask s ≡ Some a → fits a e ≡ true → is_some (take_entry m.objects t e) ≡ true → IsSome (take m t e)
 take_some m t s a e h asks fit takes =
-    let after : thread_after m.program (code_of m.program t) s e ≡ Some (behind_entry m.program (code_of m.program t) s a e) = rw (asks, fit) refl in
-    rw (h.at, after) (moved_some m t (behind_entry m.program (code_of m.program t) s a e) (take_entry m.objects t e) takes)
+    by_objects (take_entry m.objects t e) refl takes
+  where
+    by_objects : (r : Option (List PlainObject)) → take_entry m.objects t e ≡ r → is_some r ≡ true → IsSome (take m t e)
+    by_objects None at some = absurd (false≢true some)
+    by_objects (Some objects) at some =
+        let after : thread_after m.program (code_of m.program t) s e ≡ Some (behind_entry m.program (code_of m.program t) s a e) = rw (asks, fit) refl in
+        let made = made_there m t s a e objects h.reached (asked_of m.program s a (thread_of m t s h) asks) fit at in
+        rw (h.at, after, made, at) refl
 
 -- a thread that stands before a call waits on nothing, and owns what it holds
 runs : (m : PlainMachine) (s : ThreadState) (c : Call) (o : ℕ) → IsPaid m.program s c → waiting_on s.mode o ≡ 0

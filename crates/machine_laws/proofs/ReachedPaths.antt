@@ -12,7 +12,7 @@ use Rattle.plain_machine.specs.declared.call.Asked.TheVariants.{Calls, Resumes, 
 use Rattle.plain_monitor.specs.declared.entry.Ending.TheVariants as ending
 use Rattle.plain_machine.specs.Thread.{ThreadState}
 use Rattle.plain_machine.specs.Asking.{ask, fits, behind_entry, thread_after}
-use Rattle.plain_machine.specs.Machine.{PlainMachine, code_of, moved, take}
+use Rattle.plain_machine.specs.Machine.{PlainMachine, code_of, made_behind, moved, take}
 
 -- what a thread that asks this becomes with the entry, where it fits
 abbrev after_asked : ProgramText → List Code → ThreadState → Entry → Asked → Option ThreadState
@@ -41,16 +41,17 @@ same_after p code s d e None h = refl
 same_after p code s d e (Some a) h = h a
 
 same_moved : (m : PlainMachine) (t : ℕ) (d e : Entry) (r : Option ThreadState) → ((s : ThreadState) (a : Asked) → after_asked m.program (code_of m.program t) s d a ≡ after_asked m.program (code_of m.program t) s e a)
-    → take_entry m.objects t d ≡ take_entry m.objects t e
-    → option_and_then (λ s. moved m t (thread_after m.program (code_of m.program t) s d) (take_entry m.objects t d)) r
-    ≡ option_and_then (λ s. moved m t (thread_after m.program (code_of m.program t) s e) (take_entry m.objects t e)) r
-same_moved m t d e None h same = refl
-same_moved m t d e (Some s) h same =
-    ap (λ x. moved m t x (take_entry m.objects t d)) (same_after m.program (code_of m.program t) s d e (ask s) (h s))
-    ∙ ap (moved m t (thread_after m.program (code_of m.program t) s e)) same
+    → made_behind m t d ≡ made_behind m t e → take_entry m.objects t d ≡ take_entry m.objects t e
+    → option_and_then (λ s. moved m t (thread_after m.program (code_of m.program t) s d) (made_behind m t d) (take_entry m.objects t d)) r
+    ≡ option_and_then (λ s. moved m t (thread_after m.program (code_of m.program t) s e) (made_behind m t e) (take_entry m.objects t e)) r
+same_moved m t d e None h made same = refl
+same_moved m t d e (Some s) h made same =
+    ap (λ x. moved m t x (made_behind m t d) (take_entry m.objects t d)) (same_after m.program (code_of m.program t) s d e (ask s) (h s))
+    ∙ ap (λ x. moved m t (thread_after m.program (code_of m.program t) s e) x (take_entry m.objects t d)) made
+    ∙ ap (moved m t (thread_after m.program (code_of m.program t) s e) (made_behind m t e)) same
 
 pub path_changes_nothing : (m : PlainMachine) (t o : ℕ) (p q : Path) → take m t (Enter o p) ≡ take m t (Enter o q)
-path_changes_nothing m t o p q = same_moved m t (Enter o p) (Enter o q) (slice_get m.threads t) (λ s a. after_path m.program (code_of m.program t) s o p q a) refl
+path_changes_nothing m t o p q = same_moved m t (Enter o p) (Enter o q) (slice_get m.threads t) (λ s a. after_path m.program (code_of m.program t) s o p q a) refl refl
 
 pub draw_changes_nothing : (m : PlainMachine) (t o value : ℕ) (p q : Option ℕ) → take m t (Hash o value p) ≡ take m t (Hash o value q)
-draw_changes_nothing m t o value p q = same_moved m t (Hash o value p) (Hash o value q) (slice_get m.threads t) (λ s a. after_drawn m.program (code_of m.program t) s o value p q a) refl
+draw_changes_nothing m t o value p q = same_moved m t (Hash o value p) (Hash o value q) (slice_get m.threads t) (λ s a. after_drawn m.program (code_of m.program t) s o value p q a) refl refl

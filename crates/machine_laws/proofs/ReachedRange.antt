@@ -1,19 +1,22 @@
 -- Each thread, object and value that a reached machine names is one of its own.
-use Rattle.std.proofs.Common.{◌≡◌, ℕ, ◌+◌, ◌<◌, ◌≤◌, Bool, true, false, ◌&&◌, ◌==◌, if◌then◌else◌, List, [], ◌∷◌, ◌++◌, length, sum, slice_get, Option, Some, None, MatchOption, option_and_then, refl, sym, subst, arith, eqb-true, eq-eqb, inl, inr, ap, ◌∙◌}
+use Rattle.std.proofs.Common.{◌≡◌, ℕ, ◌+◌, ◌<◌, ◌≤◌, Bool, true, false, ◌&&◌, ◌==◌, nat_lt, if◌then◌else◌, List, [], ◌∷◌, ◌++◌, length, sum, slice_get, Option, Some, None, MatchOption, option_and_then, refl, sym, subst, arith, eqb-true, eq-eqb, inl, inr, ap, ◌∙◌}
 use Rattle.std.specs.List.{AllByRecursion}
 use Rattle.std.proofs.lemmas.Bool.{cases_lt, false≢true, and_parts}
+use Rattle.std.proofs.lemmas.Bool.Decides.{nat_tests}
 use Rattle.std.proofs.lemmas.List.{get_or_past}
 use Rattle.std.proofs.lemmas.List.Sums.{get_or-le-sum_by}
 use Rattle.std.proofs.lemmas.Option.{none-some, same_Some, cond_some, slice_get_within}
+use Rattle.plain_monitor.specs.Limits.{most_holds}
 use Rattle.plain_monitor.specs.declared.entry.Value.{Value}
-use Rattle.plain_monitor.specs.declared.entry.Value.TheVariants.{Nil}
+use Rattle.plain_monitor.specs.declared.entry.Value.TheVariants.{Nil, Ref}
 use Rattle.plain_monitor.specs.declared.entry.Path.TheVariants.{StackFirst}
 use Rattle.plain_monitor.specs.declared.entry.Ending.TheVariants as ending
 use Rattle.plain_monitor.specs.declared.entry.Entry.{Entry}
-use Rattle.plain_monitor.specs.declared.entry.Entry.TheVariants.{Enter, Exit, Get, Put, Wait, Resume, Notify, NotifyAll, Hash, Print, Dump, Trap, Spent, Done}
+use Rattle.plain_monitor.specs.declared.entry.Entry.TheVariants.{Enter, Exit, Get, Put, Wait, Resume, Notify, NotifyAll, Hash, New, Print, Dump, Trap, Spent, Done}
 use Rattle.plain_monitor.specs.Monitor.{PlainMonitor, is_thread, is_listed, owns, calls, notify}
 use Rattle.plain_monitor.specs.Objects.{PlainObject, new_object, same_value, hashed, with_monitor, with_hash, take_named, take_entry}
-use Rattle.object_program.specs.Program.{objects_total}
+use Rattle.plain_monitor.specs.Made.{is_there}
+use Rattle.object_program.specs.Program.{objects_total, numbering_of}
 use Rattle.plain_machine.specs.declared.call.Call.TheVariants as call
 use Rattle.plain_machine.specs.declared.call.Asked.{Asked}
 use Rattle.plain_machine.specs.declared.call.Asked.TheVariants.{Calls, Resumes, Leaves, Ends}
@@ -23,6 +26,7 @@ use Rattle.plain_machine.specs.Thread.{ThreadState, local}
 use Rattle.plain_machine.specs.Asking.{ask, fits}
 use Rattle.plain_machine.specs.Machine.{PlainMachine, take, object_at, monitor_at, slot_at, other_owner}
 use Rattle.plain_machine.specs.Offering.{unless_owned, hash_offer, asked_offer, offered}
+use Rattle.plain_machine.proofs.NeededObjects.{declared_is_there}
 use Rattle.machine_laws.specs.ReachedMonitor.{for_owner, standing, IsPlaceOf, IsOwnerOf, IsMonitorOf}
 use Rattle.plain_machine.specs.Values.{IsValueOf, IsObject}
 use Rattle.machine_laws.specs.ReachedThread.{IsThreadOf}
@@ -52,12 +56,12 @@ owner_in_range m o t h e = owner_in (length m.threads) (monitor_at m o).count t 
 places_in : (n : ℕ) (ws : List (ℕ × ℕ)) → AllByRecursion (IsPlaceOf n) ws → AllByRecursion (λ w. w.0 < n) ws
 places_in n ws all = all_weaker (IsPlaceOf n) (λ w. w.0 < n) (λ w is. is.0) ws all
 
--- no thread holds objects more than 64 times
-pub holds_in_range : (m : PlainMachine) (t : ℕ) (s : ThreadState) → IsReached m → slice_get m.threads t ≡ Some s → sum s.holds ≤ 64
+-- no thread holds objects more often than it may
+pub holds_in_range : (m : PlainMachine) (t : ℕ) (s : ThreadState) → IsReached m → slice_get m.threads t ≡ Some s → sum s.holds ≤ most_holds
 holds_in_range m t s h at = (thread_of m t s (record { reached = h; at = at })).state.few
 
 -- nor does a monitor count more for a thread
-standing_there : (m : PlainMachine) (o t : ℕ) → IsReached m → o < length m.objects → t < length m.threads → standing (monitor_at m o) t ≤ 64
+standing_there : (m : PlainMachine) (o t : ℕ) → IsReached m → o < length m.objects → t < length m.threads → standing (monitor_at m o) t ≤ most_holds
 standing_there m o t h lo lt =
     let r = at_within m.threads t lt in
     let maker : IsMaker m t r.element = record { reached = h; at = r.at } in
@@ -66,28 +70,28 @@ standing_there m o t h lo lt =
     let within : o < length r.element.holds = omega (arith, object, (thread_of m t r.element maker).state.holds) in
     omega (arith, stands.holds, holds_in_range m t r.element h r.at, get_or-le-sum_by (λ (x : ℕ). x) r.element.holds o 0 within)
 
-standing_in_range : (m : PlainMachine) (o t : ℕ) → IsReached m → t < length m.threads → standing (monitor_at m o) t ≤ 64
+standing_in_range : (m : PlainMachine) (o t : ℕ) → IsReached m → t < length m.threads → standing (monitor_at m o) t ≤ most_holds
 standing_in_range m o t h lt = elim (cases_lt o (length m.objects)) [
   | inl within ↦ standing_there m o t h within lt
   | inr past ↦ let free : standing (monitor_at m o) t ≡ 0 = ap (λ (x : PlainObject). standing x.monitor t) (get_or_past m.objects o (new_object 0) past) in omega (arith, free)
 ]
 
-owner_count : (n : ℕ) (m : PlainMonitor) (owner : Option ℕ) → m.owner ≡ owner → IsOwnerOf n m.count owner → ((t : ℕ) → t < n → standing m t ≤ 64) → m.count ≤ 64
+owner_count : (n : ℕ) (m : PlainMonitor) (owner : Option ℕ) → m.owner ≡ owner → IsOwnerOf n m.count owner → ((t : ℕ) → t < n → standing m t ≤ most_holds) → m.count ≤ most_holds
 owner_count n m None at is h = omega (arith, is)
 owner_count n m (Some t) at is h =
     let own : for_owner m.owner m.count t ≡ m.count = ap (λ (x : Option ℕ). for_owner x m.count t) at ∙ rw (eq-eqb t t refl) refl in omega (arith, own, h t is.0)
 
-pub count_in_range : (m : PlainMachine) (o : ℕ) → IsReached m → (monitor_at m o).count ≤ 64
+pub count_in_range : (m : PlainMachine) (o : ℕ) → IsReached m → (monitor_at m o).count ≤ most_holds
 count_in_range m o h = owner_count (length m.threads) (monitor_at m o) (monitor_at m o).owner refl (any_monitor m o h).owner (λ t l. standing_in_range m o t h l)
 
-pub waits_in_range : (m : PlainMachine) (o : ℕ) → IsReached m → AllByRecursion (λ w. (w.0 < length m.threads) × (w.1 ≤ 64)) (monitor_at m o).waits
+pub waits_in_range : (m : PlainMachine) (o : ℕ) → IsReached m → AllByRecursion (λ w. (w.0 < length m.threads) × (w.1 ≤ most_holds)) (monitor_at m o).waits
 waits_in_range m o h =
-    all_bounded (length m.threads) 64 (monitor_at m o).waits (places_in (length m.threads) (monitor_at m o).waits (any_monitor m o h).waits)
+    all_bounded (length m.threads) most_holds (monitor_at m o).waits (places_in (length m.threads) (monitor_at m o).waits (any_monitor m o h).waits)
     (λ t l. let k = standing_in_range m o t h l in omega (arith, k))
 
-pub called_in_range : (m : PlainMachine) (o : ℕ) → IsReached m → AllByRecursion (λ w. (w.0 < length m.threads) × (w.1 ≤ 64)) (monitor_at m o).called
+pub called_in_range : (m : PlainMachine) (o : ℕ) → IsReached m → AllByRecursion (λ w. (w.0 < length m.threads) × (w.1 ≤ most_holds)) (monitor_at m o).called
 called_in_range m o h =
-    all_bounded (length m.threads) 64 (monitor_at m o).called (places_in (length m.threads) (monitor_at m o).called (any_monitor m o h).called)
+    all_bounded (length m.threads) most_holds (monitor_at m o).called (places_in (length m.threads) (monitor_at m o).called (any_monitor m o h).called)
     (λ t l. let k = standing_in_range m o t h l in omega (arith, k))
 
 -- the values of a program's objects are those of the machine's
@@ -142,6 +146,15 @@ print_of m s (Leaves o) v asked fit = absurd (false≢true fit)
 print_of m s (Ends (ending.Trap f i)) v asked fit = absurd (false≢true fit)
 print_of m s (Ends g) v asked fit = absurd (false≢true fit)
 
+-- nobody asks for a new object
+pub new_unasked : (a : Asked) (o c : ℕ) → fits a (New o c) ≡ true → ⊥
+new_unasked (Calls (call.Print w)) o c fit = false≢true fit
+new_unasked (Calls d) o c fit = false≢true fit
+new_unasked (Resumes p) o c fit = false≢true fit
+new_unasked (Leaves p) o c fit = false≢true fit
+new_unasked (Ends (ending.Trap f i)) o c fit = false≢true fit
+new_unasked (Ends g) o c fit = false≢true fit
+
 put_of : (m : PlainMachine) (s : ThreadState) (a : Asked) (o k : ℕ) (v : Value) → IsAskedOf m.program s a → fits a (Put o k v) ≡ true → IsValueOf (objects_total m.program) v
 put_of m s (Calls (call.Put p j w)) o k v asked fit =
     subst (IsValueOf (objects_total m.program)) (same_is w v (and_parts ((p == o) && (j == k)) (same_value w v) fit).1) asked.call.2
@@ -180,6 +193,7 @@ entry_of m t s a (Put o k v) after h asked fit takes = (within m.objects o t (Pu
 entry_of m t s a (Hash o v drawn) after h asked fit takes =
     let r = taken_at m.objects o t (Hash o v drawn) after takes in
     (within m.objects o t (Hash o v drawn) after takes, hash_of r.x r.y v (hashed r.x.hash v) refl (h.hashes o r.x r.there) r.takes)
+entry_of m t s a (New o c) after h asked fit takes = absurd (new_unasked a o c fit)
 entry_of m t s a (Print v) after h asked fit takes = of_machine m v h (print_of m s a v asked fit)
 entry_of m t s a (Dump n) after h asked fit takes = (dump_of m s a n asked fit).1
 entry_of m t s a (Trap f i) after h asked fit takes = tt
@@ -269,3 +283,16 @@ dumped_in_range m next t number s h at takes =
     let same : k.s ≡ s = same_Some k.s s (sym k.at ∙ at) in
     let asked = asked_of m.program k.s k.asked (thread_of m t k.s (record { reached = h; at = k.at })) k.asks in
     subst (λ (x : ThreadState). (number ≡ x.dumps + 1) × (number ≤ 4)) same (dump_of m k.s k.asked number asked k.fit)
+
+-- so what they refer to is there
+reference_is_there : (m : PlainMachine) (o : ℕ) → IsReached m → o < length m.objects → is_there (numbering_of m.program) m.made o ≡ true
+reference_is_there m o h within =
+    let count = h.object_count in
+    let declared : nat_lt o (objects_total m.program) ≡ true = grind (arith, nat_tests, within, count) in
+    ap (λ made. is_there (numbering_of m.program) made o) h.made ∙ declared_is_there m.program o ∙ declared
+
+pub local_is_there : (m : PlainMachine) (t x o : ℕ) (s : ThreadState) → IsReached m → slice_get m.threads t ≡ Some s → local s x ≡ Ref o → is_there (numbering_of m.program) m.made o ≡ true
+local_is_there m t x o s h at is = reference_is_there m o h (subst (IsValueOf (length m.objects)) is (local_in_range m t x s h at)).0
+
+pub slot_is_there : (m : PlainMachine) (p k o : ℕ) → IsReached m → slot_at m p k ≡ Ref o → is_there (numbering_of m.program) m.made o ≡ true
+slot_is_there m p k o h is = reference_is_there m o h (subst (IsValueOf (length m.objects)) is (slot_in_range m p k h)).0

@@ -4,6 +4,7 @@ use Rattle.std.specs.List.{AllByRecursion}
 use Rattle.std.proofs.lemmas.List.{length-replicate}
 use Rattle.std.proofs.lemmas.List.Folds.{sum_by-replicate}
 use Rattle.std.proofs.lemmas.Int.{ints}
+use Rattle.plain_monitor.specs.Limits.{most_holds}
 use Rattle.plain_monitor.specs.declared.entry.Value.{Value}
 use Rattle.plain_monitor.specs.declared.entry.Value.TheVariants.{Nil, Int, Ref}
 use Rattle.plain_monitor.specs.declared.entry.Fault.{Fault}
@@ -121,9 +122,9 @@ element_step p s x k (Int i) h st = go (is_element i (size_of (slice_get p.objec
 element_step p s x k v h st = tt
 
 enters_step : (p : ProgramText) (s : ThreadState) (o : ℕ) → IsObject p o → IsStepOf p s (enters s o)
-enters_step p s o l = go (nat_lt (sum s.holds) 64) refl
+enters_step p s o l = go (nat_lt (sum s.holds) most_holds) refl
   where
-    go : (b : Bool) → nat_lt (sum s.holds) 64 ≡ b → IsStepOf p s (if b then Calls (call.Enter o) else faults s TooDeep)
+    go : (b : Bool) → nat_lt (sum s.holds) most_holds ≡ b → IsStepOf p s (if b then Calls (call.Enter o) else faults s TooDeep)
     go true e = (l, ltb-true _ _ e)
     go false e = tt
 

@@ -2,7 +2,8 @@
 use Rattle.std.specs.Prelude.{◌≡◌, ℕ, ◌<◌, ◌≤◌, ◌^◌, List, length, slice_get, Some, MatchOption}
 use Rattle.std.specs.List.{AllByRecursion}
 use Rattle.plain_monitor.specs.Objects.{PlainObject}
-use Rattle.object_program.specs.Program.{ProgramText, objects_total, slots_of}
+use Rattle.plain_monitor.specs.Made.{nothing_made}
+use Rattle.object_program.specs.Program.{ProgramText, objects_total, slots_of, numbering_of}
 use Rattle.object_program.specs.Valid.{IsProgram}
 use Rattle.plain_machine.specs.Thread.{ThreadState}
 use Rattle.plain_machine.specs.Machine.{PlainMachine}
@@ -37,6 +38,8 @@ HasThreads threads o x = AtEach (λ t s. StandsAt o t x.monitor s) threads
 
 pub record IsReached (m : PlainMachine) : Type 0 where
   pub program : IsProgram m.program
+  -- no program makes objects yet: those that are there are declared, so that a value that may stand beside them refers to none but these
+  pub made : m.made ≡ nothing_made (numbering_of m.program)
   pub thread_count : length m.threads ≡ length m.program.threads
   pub object_count : length m.objects ≡ objects_total m.program
   pub threads : AllByRecursion (IsThreadOf m.program) m.threads

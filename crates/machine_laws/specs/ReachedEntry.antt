@@ -1,7 +1,7 @@
 -- What holds of each entry that a reached machine takes, and of each offer that it makes.
 use Rattle.std.specs.Prelude.{ℕ, ◌<◌, ◌≤◌, MatchOption}
 use Rattle.plain_monitor.specs.declared.entry.Entry.{Entry}
-use Rattle.plain_monitor.specs.declared.entry.Entry.TheVariants.{Enter, Exit, Get, Put, Wait, Resume, Notify, NotifyAll, Hash, Print, Dump, Trap, Spent, Done}
+use Rattle.plain_monitor.specs.declared.entry.Entry.TheVariants.{Enter, Exit, Get, Put, Wait, Resume, Notify, NotifyAll, Hash, New, Print, Dump, Trap, Spent, Done}
 use Rattle.plain_machine.specs.declared.offer.Offer.{Offer}
 use Rattle.plain_machine.specs.declared.offer.Offer.TheVariants.{Next, NextHash, Blocked, Waiting, Ended}
 use Rattle.plain_machine.specs.Values.{IsValueOf}
@@ -19,6 +19,7 @@ IsEntryOf objects threads (Resume object) = object < objects
 IsEntryOf objects threads (Notify object woken) = (object < objects) × MatchOption woken (Unit {0}) (λ u. u < threads)
 IsEntryOf objects threads (NotifyAll object woken) = object < objects
 IsEntryOf objects threads (Hash object value drawn) = (object < objects) × IsHash value
+IsEntryOf objects threads (New object class) = object < objects
 IsEntryOf objects threads (Print value) = IsValueOf objects value
 IsEntryOf objects threads (Dump number) = number ≤ 4
 IsEntryOf objects threads (Trap fault index) = Unit {0}

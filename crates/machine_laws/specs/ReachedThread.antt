@@ -1,6 +1,7 @@
 -- What holds of each thread of a reached machine.
 use Rattle.std.specs.Prelude.{◌≡◌, ℕ, ◌+◌, ◌<◌, ◌≤◌, List, length, sum, slice_index}
 use Rattle.std.specs.List.{AllByRecursion}
+use Rattle.plain_monitor.specs.Limits.{most_holds}
 use Rattle.object_program.specs.Program.{ProgramText, objects_total, slots_of}
 use Rattle.plain_machine.specs.declared.call.Call.{Call}
 use Rattle.plain_machine.specs.declared.call.Call.TheVariants as call
@@ -15,7 +16,7 @@ IsHeld p holds o = IsObject p o × (1 ≤ slice_index holds o)
 
 -- a call that a thread with these holds and so many dumps may make
 abbrev pub IsCallOf : ProgramText → List ℕ → ℕ → Call → Type 0
-IsCallOf p holds dumps (call.Enter o) = IsObject p o × (sum holds < 64)
+IsCallOf p holds dumps (call.Enter o) = IsObject p o × (sum holds < most_holds)
 IsCallOf p holds dumps (call.Exit o) = IsHeld p holds o
 IsCallOf p holds dumps (call.Wait o) = IsHeld p holds o
 IsCallOf p holds dumps (call.Notify o) = IsHeld p holds o
@@ -36,7 +37,7 @@ IsModeOf p s (Ended e) = sum s.holds ≡ 0
 -- what holds of a thread of the program, wherever it is: it holds objects at most 64 times, and makes at most 4 dumps
 pub record IsStateOf (p : ProgramText) (s : ThreadState) : Type 0 where
   pub holds : length s.holds ≡ objects_total p
-  pub few : sum s.holds ≤ 64
+  pub few : sum s.holds ≤ most_holds
   pub dumps : s.dumps ≤ 4
   pub locals : AllByRecursion (IsValueOf (objects_total p)) s.locals
 

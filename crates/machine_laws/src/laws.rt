@@ -1,12 +1,16 @@
 //! What holds of every machine that a program's entries lead to.
 
-ghost use Rattle.std.specs.Prelude.{◌≡◌, ◌⊎◌, ℕ, ◌<◌, ◌≤◌, ◌+◌, ◌^◌, Bool, true, false, not, length, sum, slice_get, IsSome, Option, Some};
+ghost use Rattle.std.specs.Prelude.{◌≡◌, ◌⊎◌, ℕ, ◌<◌, ◌≤◌, ◌+◌, ◌^◌, Bool, true, false, not, length, sum, slice_get, IsSome, Option, Some, List};
 ghost use Rattle.std.specs.List.{AllByRecursion, list_all};
+ghost use Rattle.plain_monitor.specs.Limits.{most_holds};
 ghost use Rattle.plain_monitor.specs.declared.entry.Entry.{Entry};
 ghost use Rattle.plain_monitor.specs.declared.entry.Entry.TheVariants.{Enter, Hash};
 ghost use Rattle.plain_monitor.specs.declared.entry.Entry.TheVariants as entry;
 ghost use Rattle.plain_monitor.specs.declared.entry.Path.{Path};
-ghost use Rattle.object_program.specs.Program.{ProgramText};
+ghost use Rattle.plain_monitor.specs.declared.entry.Value.TheVariants.{Ref};
+ghost use Rattle.plain_monitor.specs.declared.entry.Logged.{Logged};
+ghost use Rattle.plain_monitor.specs.Made.{is_there, IsMadeInTime};
+ghost use Rattle.object_program.specs.Program.{ProgramText, numbering_of};
 ghost use Rattle.object_program.specs.Valid.{IsProgram};
 ghost use Rattle.plain_machine.specs.declared.call.Call.TheVariants.{Dump};
 ghost use Rattle.plain_machine.specs.declared.call.Asked.TheVariants.{Calls};
@@ -14,6 +18,7 @@ ghost use Rattle.plain_machine.specs.declared.offer.Offer.TheVariants.{Next, Nex
 ghost use Rattle.plain_machine.specs.Thread.{ThreadState, local};
 ghost use Rattle.plain_machine.specs.Asking.{ask};
 ghost use Rattle.plain_machine.specs.Machine.{PlainMachine, new_machine, take, monitor_at, slot_at, is_live, is_stuck};
+ghost use Rattle.plain_machine.specs.Legal.{IsLegal};
 ghost use Rattle.plain_machine.specs.Offering.{offered, is_next};
 ghost use Rattle.machine_laws.specs.Work.{work_left};
 ghost use Rattle.plain_machine.specs.Values.{IsValueOf};
@@ -43,13 +48,13 @@ pub fn offered_entries_are_taken()
 pub fn reached_machines_are_in_range()
     ensures owner { (m : PlainMachine) (o t : ℕ) → IsReached m → (monitor_at m o).owner ≡ Some t
         → t < length m.threads }
-    ensures count { (m : PlainMachine) (o : ℕ) → IsReached m → (monitor_at m o).count ≤ 64 }
+    ensures count { (m : PlainMachine) (o : ℕ) → IsReached m → (monitor_at m o).count ≤ most_holds }
     ensures waits { (m : PlainMachine) (o : ℕ) → IsReached m
-        → AllByRecursion (λ w. (w.0 < length m.threads) × (w.1 ≤ 64)) (monitor_at m o).waits }
+        → AllByRecursion (λ w. (w.0 < length m.threads) × (w.1 ≤ most_holds)) (monitor_at m o).waits }
     ensures called { (m : PlainMachine) (o : ℕ) → IsReached m
-        → AllByRecursion (λ w. (w.0 < length m.threads) × (w.1 ≤ 64)) (monitor_at m o).called }
+        → AllByRecursion (λ w. (w.0 < length m.threads) × (w.1 ≤ most_holds)) (monitor_at m o).called }
     ensures holds { (m : PlainMachine) (t : ℕ) (s : ThreadState) → IsReached m
-        → slice_get m.threads t ≡ Some s → sum s.holds ≤ 64 }
+        → slice_get m.threads t ≡ Some s → sum s.holds ≤ most_holds }
     ensures local_value { (m : PlainMachine) (t x : ℕ) (s : ThreadState) → IsReached m
         → slice_get m.threads t ≡ Some s → IsValueOf (length m.objects) (local s x) }
     ensures slot_value { (m : PlainMachine) (o k : ℕ) → IsReached m → IsValueOf (length m.objects) (slot_at m o k) }
@@ -63,6 +68,20 @@ pub fn reached_machines_are_in_range()
     ensures dump { (m : PlainMachine) (t number : ℕ) (s : ThreadState) → IsReached m
         → slice_get m.threads t ≡ Some s → ask s ≡ Some (Calls (Dump number)) → (number ≡ s.dumps + 1)
         × (number ≤ 4) }
+{}
+
+/// An object that a local or a slot of a reached machine refers to is there.
+pub fn what_a_reached_machine_refers_to_is_there()
+    ensures local_value { (m : PlainMachine) (t x o : ℕ) (s : ThreadState) → IsReached m
+        → slice_get m.threads t ≡ Some s → local s x ≡ Ref o → is_there (numbering_of m.program) m.made o ≡ true }
+    ensures slot_value { (m : PlainMachine) (p k o : ℕ) → IsReached m
+        → slot_at m p k ≡ Ref o → is_there (numbering_of m.program) m.made o ≡ true }
+{}
+
+/// Legal logs are made in time: each entry of their order finds the objects that it needs.
+pub fn legal_logs_are_made_in_time()
+    ensures { (p : ProgramText) (fuel : ℕ) (logs : List (List Logged)) → IsLegal p fuel logs
+        → IsMadeInTime (numbering_of p) logs }
 {}
 
 /// Neither the path of an enter nor the draw of a hash changes what a machine makes of it.

@@ -8,6 +8,7 @@ use Rattle.mark_word.specs.declared.owner.OwnerForm.{OwnerForm}
 use Rattle.mark_word.specs.declared.owner.OwnerForm.TheVariants.{Free, ByThread, ByRecord}
 use Rattle.mark_word.specs.Mark.{read_mark}
 use Rattle.mark_word.specs.Owner.{read_owner}
+use Rattle.plain_monitor.specs.Limits.{most_holds}
 use Rattle.plain_monitor.specs.Monitor.{is_thread}
 use Rattle.plain_monitor.specs.declared.entry.Path.{Path}
 use Rattle.plain_monitor.specs.declared.entry.Path.TheVariants.{MonitorAgain}
@@ -260,7 +261,7 @@ module _ (w : World) (t : ℕ) (within : t < w.shape.threads) (law : HeapLaw (he
   number : (w.known t).thread ≡ t
   number = fits.numbered t
 
-  place : q < 64
+  place : q < most_holds
   place = (stepping_there raised t displace within (law.begins e.task) raised_sound (next raised t within law raised_sound e.task displace _ raised_due refl)).0.1
 
   room : d ≤ 64

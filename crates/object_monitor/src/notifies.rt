@@ -1,5 +1,6 @@
 //! How a thread that owns a monitor notifies those that wait on it: the one that has waited longest comes first.
 ghost use Rattle.std.specs.Prelude.{◌≡◌, ◌<◌, ◌≤◌, length, take, Some};
+ghost use Rattle.plain_monitor.specs.Limits.{most_threads};
 ghost use Rattle.core_world.specs.Threads.Known.{local_of};
 ghost use Rattle.core_world.specs.Trees.WaitSteps.{look_steps, waiters, by_age};
 ghost use Rattle.core_world.specs.Trees.WaitSteps.{monitor_notify_steps, monitor_notify_all_steps};
@@ -12,15 +13,19 @@ use core_world::{Name, Stage};
 use heap_table::{Heap, Pass, Purpose, wait_of_word};
 use mark_word::{WaitForm, encode_wait};
 use plain_monitor::Entry;
+use plain_monitor::limits::THREADS;
+
+// A place for each thread.
+const ALL: usize = THREADS as usize;
 
 // The waiting words of all threads, by rising number.
-fn look(heap: &Heap, pass: &mut Pass, why: &Purpose) -> [u64; 16]
+fn look(heap: &Heap, pass: &mut Pass, why: &Purpose) -> [u64; ALL]
     requires heap { IsOf heap.now pass.old }
     requires due { IsDueOn heap.now pass.old why.now.task (look_steps why.now heap.now.heap.shape.threads) }
     ensures { HasRun heap.now (look_steps why.now heap.now.heap.shape.threads)
         pass.old pass.new (take heap.now.heap.shape.threads result) }
 {
-    let mut words = [0; 16];
+    let mut words = [0; ALL];
     for thread in 0..heap.shape().threads() {
         let at = Name::Waiting { thread };
         words[thread as usize] = heap.load(pass, why, Stage::Calm, at);
@@ -61,8 +66,8 @@ fn with_word(object: u32, thread: u32, word: u64, others: Option<(u32, u64)>) ->
 }
 
 // Of the first `count` threads with these waiting words, the one that has waited on the object longest, and since when.
-fn oldest(words: &[u64; 16], count: u32, object: u32) -> Option<(u32, u64)>
-    requires { count ≤ 16 }
+fn oldest(words: &[u64; ALL], count: u32, object: u32) -> Option<(u32, u64)>
+    requires { count ≤ most_threads }
     ensures { result ≡ first_of (by_age (waiters object 0 (take count words.now))) }
 {
     let mut oldest = None;
@@ -133,7 +138,7 @@ fn notify_those(
     pass: &mut Pass,
     why: &Purpose,
     object: u32,
-    words: [u64; 16],
+    words: [u64; ALL],
     first: (u32, u64),
 ) -> u32
     requires heap { IsOf heap.now pass.old }

@@ -1,18 +1,6 @@
--- How large a program may be.
+-- How large a program may be: the limits of its heap, and those of its text alone.
 use Rattle.std.specs.Prelude.{ℕ}
-
-abbrev pub most_classes : ℕ
-most_classes = 64
-
--- slots of an object
-abbrev pub most_slots : ℕ
-most_slots = 16
-
-abbrev pub most_objects : ℕ
-most_objects = 4096
-
-abbrev pub most_threads : ℕ
-most_threads = 16
+pub use Rattle.plain_monitor.specs.Limits.{most_classes, most_slots, most_objects, most_threads}
 
 -- locals of a thread
 abbrev pub most_locals : ℕ

@@ -1,6 +1,7 @@
 -- A program as contracts see it, and what its numbers stand for.
-use Rattle.std.specs.Prelude.{ℕ, ◌+◌, ◌-◌, Bool, ◌&&◌, nat_le, nat_lt, if◌then◌else◌, List, [], ◌∷◌, replicate, slice_get, Option, Some, None}
+use Rattle.std.specs.Prelude.{ℕ, ◌+◌, ◌-◌, Bool, ◌&&◌, nat_le, nat_lt, if◌then◌else◌, List, [], ◌∷◌, length, replicate, slice_get, Option, Some, None}
 use Rattle.std.specs.List.{flat_map}
+use Rattle.plain_monitor.specs.Made.{Numbering}
 use Rattle.object_program.specs.declared.program.ClassDef.{ClassDef}
 use Rattle.object_program.specs.declared.program.ObjectDef.{ObjectDef}
 use Rattle.object_program.specs.declared.program.ThreadDef.{ThreadDef}
@@ -16,8 +17,12 @@ abbrev pub total_of : List ObjectDef → ℕ
 total_of [] = 0
 total_of (d ∷ ds) = d.size + total_of ds
 
+abbrev pub declared_total : ProgramText → ℕ
+declared_total p = total_of p.objects
+
+-- as long as no program makes objects, those that are declared are all
 abbrev pub objects_total : ProgramText → ℕ
-objects_total p = total_of p.objects
+objects_total p = declared_total p
 
 -- the slots of class c
 abbrev pub slots_in : Option ClassDef → ℕ
@@ -56,3 +61,11 @@ class_of p o = class_from p.objects o
 
 abbrev pub slots_of : ProgramText → ℕ → ℕ
 slots_of p o = slots_of_class p.classes (class_of p o)
+
+-- which numbers objects have, and which classes there are
+abbrev pub numbering_of : ProgramText → Numbering
+numbering_of p = record {
+  declared = flat_map (λ d. replicate d.size d.class) p.objects;
+  threads = length p.threads;
+  classes = length p.classes;
+}

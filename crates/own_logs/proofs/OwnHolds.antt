@@ -2,6 +2,7 @@
 use Rattle.std.proofs.Common.{◌≡◌, ℕ, ◌+◌, ◌<◌, ◌==◌, ne_eqb, true, false, List, length, slice_index, sym, ap, ◌∙◌, subst, arith}
 use Rattle.std.specs.List.{sum, list_all}
 use Rattle.mark_word.specs.Hold.{read_hold}
+use Rattle.plain_monitor.specs.Limits.{most_holds}
 use Rattle.plain_monitor.specs.declared.entry.Logged.{Logged}
 use Rattle.plain_history.specs.HeldByLog.{held_by, nothing_held}
 use Rattle.plain_history.proofs.HeldByLog.{holds_by_log}
@@ -30,8 +31,8 @@ module _ (s : Shape) (k : Known) (z : Settled s k) where
       let none = ap (λ stage. hold_words_ahead stage o) rest.calm in
       omega (arith, number, none)
 
-  places : length k.holds ≡ 64
-  places = subst (λ (x : Known). length x.holds ≡ 64) z.knew (z.fits.holds.places k.thread)
+  places : length k.holds ≡ most_holds
+  places = subst (λ (x : Known). length x.holds ≡ most_holds) z.knew (z.fits.holds.places k.thread)
 
   -- each word is empty or names an object of the heap
   forms : (p : ℕ) → IsHold s (read_hold (slice_index k.holds p))
@@ -54,8 +55,8 @@ module _ (h : HeapSeen) (p : PassSeen) (holds : List ℕ) (rests : Rests h p) (a
   own_all = all_counted h.heap.shape p.known.holds holds (forms h.heap.shape p.known (settled h p rests)) are.count
       (λ o l. are.each o l ∙ sym (own_number h p o rests))
 
-  pub own_full : sum holds < 64 → (free_place p.known.holds == 64) ≡ false
-  own_full few = ne_eqb (free_place p.known.holds) 64 (λ e.
+  pub own_full : sum holds < most_holds → (free_place p.known.holds == most_holds) ≡ false
+  own_full few = ne_eqb (free_place p.known.holds) most_holds (λ e.
       let long = places h.heap.shape p.known (settled h p rests) in
       let full = none_free 0 p.known.holds (e ∙ sym long) in
       omega (arith, few, long, full, own_all))

@@ -2,6 +2,7 @@
 
 ghost use Rattle.std.specs.Prelude.{◌≡◌, ◌==◌, ◌<◌, ℕ, true, false, List, length, sum};
 ghost use Rattle.std.specs.List.{list_all};
+ghost use Rattle.plain_monitor.specs.Limits.{most_holds};
 ghost use Rattle.core_world.specs.Locks.{hold_count};
 ghost use Rattle.core_world.specs.Shots.{dumps_from};
 ghost use Rattle.core_world.specs.Trees.Plans.{free_place};
@@ -21,8 +22,9 @@ pub fn holds_at_rest_follow_from_the_own_log()
         → hold_count o p.known.holds ≡ held_by nothing_held p.known.log o }
     ensures all { (h : HeapSeen) (p : PassSeen) (holds : List ℕ) → Rests h p → AreHolds h p holds
         → all_holds p.known.holds ≡ sum holds }
-    ensures full { (h : HeapSeen) (p : PassSeen) (holds : List ℕ) → Rests h p → AreHolds h p holds → sum holds < 64
-        → (free_place p.known.holds == 64) ≡ false }
+    ensures full { (h : HeapSeen) (p : PassSeen) (holds : List ℕ) → Rests h p → AreHolds h p holds
+        → sum holds < most_holds
+        → (free_place p.known.holds == most_holds) ≡ false }
     ensures none { (h : HeapSeen) (p : PassSeen) (holds : List ℕ) → Rests h p → AreHolds h p holds → sum holds ≡ 0
         → list_all (λ w. w == 0) p.known.holds ≡ true }
 {}

@@ -14,7 +14,7 @@ use Rattle.plain_monitor.proofs.Orders.{all_insert}
 use Rattle.plain_monitor.proofs.Appending.{last_more, order_appended}
 use Rattle.plain_history.specs.Tied.{bound_to, is_same_object, is_tied}
 use Rattle.plain_history.specs.Appending.{MayAppend}
-use Rattle.plain_history.specs.Stamps.{IsBounded, bound_of, StampsBound, IsAboveBounds}
+use Rattle.plain_history.specs.Stamps.{IsBounded, bound_of, StampsBound, IsAboveBounds, BoundsRise}
 use Rattle.plain_monitor.proofs.Lists.{all_weaker, get_set_same}
 use Rattle.plain_history.proofs.Swaps.{IsPlain, IsHash, plain_or_hash, hash_taken, taken_at, elsewhere, bound_is_named}
 
@@ -75,7 +75,7 @@ pub empty_bounded : (objects : List PlainObject) (logs : List (List Logged)) (ke
 empty_bounded objects logs kept h o x at = rw (empty_order logs h) tt
 
 -- the thread's last stamp is then the new one
-last_of_own : (logs : List (List Logged)) (t : ℕ) (l : Logged) → t < length logs → last_stamp (log_of (appended logs t l) t) ≡ l.stamp
+pub last_of_own : (logs : List (List Logged)) (t : ℕ) (l : Logged) → t < length logs → last_stamp (log_of (appended logs t l) t) ≡ l.stamp
 last_of_own logs t l h = ap last_stamp (get_or-set_same logs t (log_of logs t ++ l ∷ []) [] h) ∙ last_more 0 (log_of logs t) l
 
 -- another thread's log is as it was
@@ -83,7 +83,7 @@ log_of_other : (logs : List (List Logged)) (t u : ℕ) (l : Logged) → u ≢ t 
 log_of_other logs t u l d = get_or-set_other logs t u (log_of logs t ++ l ∷ []) [] d
 
 -- no thread's last stamp falls
-last_grows : (logs : List (List Logged)) (t u : ℕ) (l : Logged) → t < length logs → last_stamp (log_of logs t) < l.stamp → last_stamp (log_of logs u) ≤ last_stamp (log_of (appended logs t l) u)
+pub last_grows : (logs : List (List Logged)) (t u : ℕ) (l : Logged) → t < length logs → last_stamp (log_of logs t) < l.stamp → last_stamp (log_of logs u) ≤ last_stamp (log_of (appended logs t l) u)
 last_grows logs t u l h s =
     elim (cases_eq u t) [
       | inl e ↦ let a = last_of_own logs t l h in rw (e, a) (omega arith)
@@ -91,7 +91,7 @@ last_grows logs t u l h s =
     ]
 
 -- no object's bound falls, where what is kept for it does not
-bound_grows : (logs : List (List Logged)) (kept now : List ℕ) (t : ℕ) (l : Logged) (o : ℕ) (owner : Option ℕ) → t < length logs → last_stamp (log_of logs t) < l.stamp
+pub bound_grows : (logs : List (List Logged)) (kept now : List ℕ) (t : ℕ) (l : Logged) (o : ℕ) (owner : Option ℕ) → t < length logs → last_stamp (log_of logs t) < l.stamp
     → slice_index kept o ≤ slice_index now o → bound_of logs kept o owner ≤ bound_of (appended logs t l) now o owner
 bound_grows logs kept now t l o None h s k = k
 bound_grows logs kept now t l o (Some u) h s k = last_grows logs t u l h s
@@ -105,7 +105,7 @@ bounded_with logs t l o old new r h s bounded le own =
     subst (AllByRecursion P) (sym (order_appended logs t l r h s)) (all_insert P (t, l) (order logs) own all)
 
 -- an entry is bound to the object or not
-bound_or_not : (b : Option ℕ) (o : ℕ) → (b ≡ Some o) ⊎ (b ≢ Some o)
+pub bound_or_not : (b : Option ℕ) (o : ℕ) → (b ≡ Some o) ⊎ (b ≢ Some o)
 bound_or_not None o = inr (λ e. absurd (cc e))
 bound_or_not (Some i) o =
     elim (cases_eq i o) [
@@ -113,11 +113,12 @@ bound_or_not (Some i) o =
       | inr d ↦ inr (λ e. d (same_Some i o e))
     ]
 
--- the object was there before with the same monitor
+-- the object was there before with the same monitor and the same slots
 pub record SameMonitor (before : List PlainObject) (o : ℕ) (z : PlainObject) : Type 0 where
   pub x : PlainObject
   pub was : slice_get before o ≡ Some x
   pub same : x.monitor ≡ z.monitor
+  pub slots : x.slots ≡ z.slots
 
 -- an entry that names an object to which it is not bound leaves its monitor, by whether it is a hash
 hash_keeps_monitor : (before after : List PlainObject) (t : ℕ) (e : Entry) (o : ℕ) (z : PlainObject) → IsPlain e ⊎ IsHash e → named e ≡ Some o → bound_to e ≢ Some o
@@ -127,31 +128,27 @@ hash_keeps_monitor before after t e o z (inr g) n d h at =
     let a = taken_at before after t e o h in
     let k = hash_taken a.x a.y (hashed a.x.hash g.value) (sym (g.acts a.x t) ∙ a.step) in
     let there : slice_get after o ≡ Some a.y = ap (λ xs. slice_get xs o) a.is ∙ get_set_same before o a.x a.y a.was in
-    record { x = a.x; was = a.was; same = ap (λ v. v.monitor) k.2 ∙ ap (λ v. v.monitor) (same_Some a.y z (sym there ∙ at)) }
+    let is = k.2 ∙ same_Some a.y z (sym there ∙ at) in
+    record { x = a.x; was = a.was; same = ap (λ v. v.monitor) is; slots = ap (λ v. v.slots) is }
 
 -- an entry leaves the monitors of objects to which it is not bound, by what it names
 monitor_left_by : (before after : List PlainObject) (t : ℕ) (e : Entry) (o : ℕ) (z : PlainObject) (n : Option ℕ) → named e ≡ n → bound_to e ≢ Some o
     → take_named before t e n ≡ Some after → slice_get after o ≡ Some z → SameMonitor before o z
 monitor_left_by before after t e o z None n d h at =
-    record { x = z; was = ap (λ xs. slice_get xs o) (same_Some before after h) ∙ at; same = refl }
+    record { x = z; was = ap (λ xs. slice_get xs o) (same_Some before after h) ∙ at; same = refl; slots = refl }
 monitor_left_by before after t e o z (Some i) n d h at =
     elim (cases_eq i o) [
       | inl same ↦ hash_keeps_monitor before after t e o z (plain_or_hash e) (n ∙ ap Some same) d (ap (λ k. take_named before t e (Some k)) (sym same) ∙ h) at
-      | inr other ↦ record { x = z; was = sym (elsewhere before after t e i o (ap (take_named before t e) n ∙ h) n other) ∙ at; same = refl }
+      | inr other ↦ record { x = z; was = sym (elsewhere before after t e i o (ap (take_named before t e) n ∙ h) n other) ∙ at; same = refl; slots = refl }
     ]
 
 -- an entry leaves the monitors of objects to which it is not bound
-monitor_left : (before after : List PlainObject) (t : ℕ) (e : Entry) (o : ℕ) (z : PlainObject) → bound_to e ≢ Some o
+pub monitor_left : (before after : List PlainObject) (t : ℕ) (e : Entry) (o : ℕ) (z : PlainObject) → bound_to e ≢ Some o
     → take_entry before t e ≡ Some after → slice_get after o ≡ Some z → SameMonitor before o z
 monitor_left before after t e o z d h at = monitor_left_by before after t e o z (named e) refl d h at
 
--- the bounds rise: what is kept now is no less than before for other objects, and the new bound of an entry's own object is no less than its stamp
-record BoundsRise (after : List PlainObject) (logs : List (List Logged)) (kept now : List ℕ) (t : ℕ) (l : Logged) : Type 0 where
-  others : (o : ℕ) → bound_to l.entry ≢ Some o → slice_index kept o ≤ slice_index now o
-  own : (o : ℕ) (z : PlainObject) → bound_to l.entry ≡ Some o → slice_get after o ≡ Some z → l.stamp ≤ bound_of (appended logs t l) now o z.monitor.owner
-
 -- an entry above the bounds keeps them, where they rise so
-bounds_kept : (before after : List PlainObject) (logs : List (List Logged)) (kept now : List ℕ) (t : ℕ) (l : Logged)
+pub bounds_kept : (before after : List PlainObject) (logs : List (List Logged)) (kept now : List ℕ) (t : ℕ) (l : Logged)
     → AllByRecursion (RisesAbove 0) logs → StampsBound before logs kept → IsAboveBounds before logs kept t l → take_entry before t l.entry ≡ Some after
     → BoundsRise after logs kept now t l → StampsBound after (appended logs t l) now
 bounds_kept before after logs kept now t l r bounds above step rise o z at =
@@ -169,7 +166,7 @@ bounds_kept before after logs kept now t l r bounds above step rise o z at =
     ]
 
 -- the bounds rise where an entry is bound to no object
-rise_unbound : (after : List PlainObject) (logs : List (List Logged)) (kept : List ℕ) (t : ℕ) (l : Logged) → bound_to l.entry ≡ None → BoundsRise after logs kept kept t l
+pub rise_unbound : (after : List PlainObject) (logs : List (List Logged)) (kept : List ℕ) (t : ℕ) (l : Logged) → bound_to l.entry ≡ None → BoundsRise after logs kept kept t l
 rise_unbound after logs kept t l b = record { others = λ o d. omega arith; own = λ o z e at. absurd (cc (b, e)) }
 
 -- an entry that is bound to no object keeps the bounds
@@ -180,7 +177,7 @@ kept_by_unbound before after logs kept t l r bounds above step b =
     bounds_kept before after logs kept kept t l r bounds above step (rise_unbound after logs kept t l b)
 
 -- they rise where its thread owns the object afterwards
-rise_by_owner : (after : List PlainObject) (logs : List (List Logged)) (kept : List ℕ) (t : ℕ) (l : Logged) (o : ℕ) (y : PlainObject) → t < length logs
+pub rise_by_owner : (after : List PlainObject) (logs : List (List Logged)) (kept : List ℕ) (t : ℕ) (l : Logged) (o : ℕ) (y : PlainObject) → t < length logs
     → bound_to l.entry ≡ Some o → slice_get after o ≡ Some y → y.monitor.owner ≡ Some t → BoundsRise after logs kept kept t l
 rise_by_owner after logs kept t l o y h b now owner =
     let last = last_of_own logs t l h in
@@ -201,7 +198,7 @@ kept_by_owner before after logs kept t l o y r bounds above step b now owner =
     bounds_kept before after logs kept kept t l r bounds above step (rise_by_owner after logs kept t l o y above.thread b now owner)
 
 -- they rise where it leaves the object without an owner, and its stamp is then kept for the object
-rise_where_let_go : (after : List PlainObject) (logs : List (List Logged)) (kept : List ℕ) (t : ℕ) (l : Logged) (o : ℕ) (y : PlainObject)
+pub rise_where_let_go : (after : List PlainObject) (logs : List (List Logged)) (kept : List ℕ) (t : ℕ) (l : Logged) (o : ℕ) (y : PlainObject)
     → bound_to l.entry ≡ Some o → slice_get after o ≡ Some y → y.monitor.owner ≡ None → o < length kept → BoundsRise after logs kept (slice_set kept o l.stamp) t l
 rise_where_let_go after logs kept t l o y b now owner room =
     record {

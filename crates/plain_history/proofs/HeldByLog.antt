@@ -57,6 +57,7 @@ at_object x y u t (entry.NotifyAll o w) s h = monitor_kept (λ n. Held u t (entr
 at_object x y u t (entry.Get o i v) s h = same_held (u == t) _ _ (only_kept (λ n. holds_by_monitor n t ≡ holds_by_monitor x.monitor t) x x y _ refl refl h)
 at_object x y u t (entry.Put o i v) s h = same_held (u == t) _ _ (only_kept (λ n. holds_by_monitor n t ≡ holds_by_monitor x.monitor t) x (record x { slots = slice_set x.slots i v }) y _ refl refl h)
 at_object x y u t (entry.Hash o v d) s h = same_held (u == t) _ _ (hash_kept (λ n. holds_by_monitor n t ≡ holds_by_monitor x.monitor t) x y (hashed x.hash v) refl h)
+at_object x y u t (entry.New o c) s h = same_held (u == t) _ _ (ap (λ (z : PlainObject). holds_by_monitor z.monitor t) (sym (same_Some x y h)))
 at_object x y u t (entry.Print v) s h = same_held (u == t) _ _ (ap (λ (z : PlainObject). holds_by_monitor z.monitor t) (sym (same_Some x y h)))
 at_object x y u t (entry.Dump n) s h = same_held (u == t) _ _ (ap (λ (z : PlainObject). holds_by_monitor z.monitor t) (sym (same_Some x y h)))
 at_object x y u t (entry.Trap f i) s h = same_held (u == t) _ _ (ap (λ (z : PlainObject). holds_by_monitor z.monitor t) (sym (same_Some x y h)))
@@ -74,6 +75,7 @@ log_here (entry.NotifyAll i w) held o h = refl
 log_here (entry.Get i j v) held o h = refl
 log_here (entry.Put i j v) held o h = refl
 log_here (entry.Hash i v d) held o h = refl
+log_here (entry.New i c) held o h = refl
 log_here (entry.Print v) held o h = refl
 log_here (entry.Dump n) held o h = refl
 log_here (entry.Trap f i) held o h = refl
@@ -90,6 +92,7 @@ log_else (entry.NotifyAll i w) held o h = refl
 log_else (entry.Get i j v) held o h = refl
 log_else (entry.Put i j v) held o h = refl
 log_else (entry.Hash i v d) held o h = refl
+log_else (entry.New i c) held o h = refl
 log_else (entry.Print v) held o h = refl
 log_else (entry.Dump n) held o h = refl
 log_else (entry.Trap f i) held o h = refl

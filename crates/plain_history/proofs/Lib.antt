@@ -14,3 +14,11 @@ pub mod EntriesOn
 pub mod InOrder
 pub mod Selected
 pub mod ThroughCuts
+pub mod MadeSteps
+pub mod MadeHistories
+pub mod SlotsKnown
+pub mod NotThere
+pub mod ClassesStay
+pub mod StoreParts
+pub mod StoreSteps
+pub mod NotTaken

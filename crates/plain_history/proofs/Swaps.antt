@@ -6,7 +6,7 @@ use Rattle.std.proofs.lemmas.List.{set_comm}
 use Rattle.std.proofs.lemmas.Option.{cond_some}
 use Rattle.plain_monitor.proofs.Lists.{get_set_same, get_set_other}
 use Rattle.plain_monitor.specs.declared.entry.Entry.{Entry}
-use Rattle.plain_monitor.specs.declared.entry.Entry.TheVariants.{Enter, Exit, Get, Put, Wait, Resume, Notify, NotifyAll, Hash, Print, Dump, Trap, Spent, Done}
+use Rattle.plain_monitor.specs.declared.entry.Entry.TheVariants.{Enter, Exit, Get, Put, Wait, Resume, Notify, NotifyAll, Hash, New, Print, Dump, Trap, Spent, Done}
 use Rattle.plain_monitor.specs.Monitor.{PlainMonitor, only_if, owns, enter, exit, wait, resume, notify, notify_all}
 use Rattle.plain_monitor.specs.Objects.{PlainObject, take_at, take_named, take_entry, named, with_monitor, with_hash, hashed, has_value}
 use Rattle.plain_history.specs.Tied.{bound_to, is_same_object, is_tied}
@@ -47,6 +47,7 @@ plain_or_hash (NotifyAll o n) = inl (record { bound = refl; frame = λ x t h. mo
 plain_or_hash (Get o s v) = inl (record { bound = refl; frame = λ x t h. only_frame (owns x.monitor t && has_value (slice_get x.slots s) v) x h })
 plain_or_hash (Put o s v) = inl (record { bound = refl; frame = λ x t h. only_frame (owns x.monitor t && nat_lt s (length x.slots)) (record x { slots = slice_set x.slots s v }) h })
 plain_or_hash (Hash o v d) = inr (record { value = v; bound = refl; acts = λ x t. refl })
+plain_or_hash (New o c) = inl (record { bound = refl; frame = λ x t h. refl })
 plain_or_hash (Print v) = inl (record { bound = refl; frame = λ x t h. refl })
 plain_or_hash (Dump n) = inl (record { bound = refl; frame = λ x t h. refl })
 plain_or_hash (Trap f i) = inl (record { bound = refl; frame = λ x t h. refl })

@@ -8,3 +8,5 @@ pub mod EnterPaths
 pub mod ExactStamps
 pub mod FirstDraws
 pub mod Cuts
+pub mod Known
+pub mod Store

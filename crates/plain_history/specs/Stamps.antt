@@ -1,10 +1,10 @@
 -- Bounds on the stamps of an object's entries, which a caller can keep and compare with.
-use Rattle.std.specs.Prelude.{◌≡◌, ℕ, ◌<◌, ◌≤◌, List, length, slice_index, slice_get, Option, Some, None}
+use Rattle.std.specs.Prelude.{◌≡◌, ◌≢◌, ℕ, ◌<◌, ◌≤◌, List, length, slice_index, slice_get, Option, Some, None}
 use Rattle.std.specs.List.{AllByRecursion}
 use Rattle.plain_monitor.specs.declared.entry.Logged.{Logged}
 use Rattle.plain_monitor.specs.Objects.{PlainObject}
 use Rattle.plain_monitor.specs.Order.{order}
-use Rattle.plain_monitor.specs.History.{last_stamp, log_of}
+use Rattle.plain_monitor.specs.History.{last_stamp, log_of, appended}
 use Rattle.plain_history.specs.Tied.{bound_to}
 
 -- no entry that is bound to object o has a stamp above s
@@ -29,3 +29,8 @@ pub record IsAboveBounds (objects : List PlainObject) (logs : List (List Logged)
   pub stamp : last_stamp (log_of logs t) < l.stamp
   pub bound : (o : ℕ) (x : PlainObject) → bound_to l.entry ≡ Some o → slice_get objects o ≡ Some x
       → bound_of logs kept o x.monitor.owner < l.stamp
+
+-- what is kept now is no less than before for other objects, and the new bound of an entry's own object is no less than its stamp
+pub record BoundsRise (after : List PlainObject) (logs : List (List Logged)) (kept now : List ℕ) (t : ℕ) (l : Logged) : Type 0 where
+  pub others : (o : ℕ) → bound_to l.entry ≢ Some o → slice_index kept o ≤ slice_index now o
+  pub own : (o : ℕ) (z : PlainObject) → bound_to l.entry ≡ Some o → slice_get after o ≡ Some z → l.stamp ≤ bound_of (appended logs t l) now o z.monitor.owner

@@ -6,6 +6,7 @@ use Rattle.std.proofs.lemmas.List.{length-set, set_past, get_or_read, get_or-set
 use Rattle.std.proofs.lemmas.List.Sums.{sum_by-set, sum_by-le}
 use Rattle.std.proofs.lemmas.List.Elements.{All-set}
 use Rattle.std.proofs.lemmas.Option.{same_Some, cond_some, none-some, slice_get_within, get_or_from_slice_get}
+use Rattle.plain_monitor.specs.Limits.{most_holds}
 use Rattle.plain_monitor.specs.declared.entry.Entry.{Entry}
 use Rattle.plain_monitor.specs.declared.entry.Entry.TheVariants as entry
 use Rattle.plain_monitor.specs.declared.entry.Value.{Value}
@@ -306,8 +307,8 @@ holds_length s (Calls (call.Exit o)) = length-set s.holds o (holds_of s o - 1)
 holds_length s (Leaves o) = length-set s.holds o (holds_of s o - 1)
 holds_length s a = refl
 
-holds_sum : (s : ThreadState) (a : Asked) → IsReadyToAsk s a → sum s.holds ≤ 64 → sum (holds_behind s a) ≤ 64
-holds_sum s (Calls (call.Enter o)) r h = let room : sum s.holds < 64 = r.1 in omega (arith, sum_more s.holds o)
+holds_sum : (s : ThreadState) (a : Asked) → IsReadyToAsk s a → sum s.holds ≤ most_holds → sum (holds_behind s a) ≤ most_holds
+holds_sum s (Calls (call.Enter o)) r h = let room : sum s.holds < most_holds = r.1 in omega (arith, sum_more s.holds o)
 holds_sum s (Calls (call.Exit o)) r h = omega (arith, sum_less s.holds o)
 holds_sum s (Leaves o) r h = omega (arith, sum_less s.holds o)
 holds_sum s a r h = h
@@ -365,6 +366,8 @@ sound_at m t e a after next lt f h w k =
       beside = k.monitors;
     } in
     record {
+      program = k.program;
+      total = len ∙ k.total;
       threads = length-set m.threads t next ∙ k.threads;
       few = rw (length-set m.threads t next) k.few;
       kept = rw len (kept_behind (length m.objects) m.threads t next a lt w.ready w.holds w.now k.kept);

@@ -5,6 +5,7 @@ use Rattle.std.proofs.lemmas.List.Sums.{get_or-le-sum_by}
 use Rattle.std.proofs.lemmas.Bool.{cases_eq, cases_lt}
 use Rattle.std.proofs.lemmas.Bool.Decides.{nat_tests}
 use Rattle.std.proofs.lemmas.Option.{same_Some, cond_some, none-some}
+use Rattle.plain_monitor.specs.Limits.{most_holds}
 use Rattle.plain_monitor.specs.Monitor.{PlainMonitor, is_thread, owns, enter, exit, wait, resumed, calls, notify, notify_all}
 use Rattle.plain_machine.specs.Thread.{ThreadState, holds_of}
 use Rattle.plain_machine.specs.inner.Kept.{unrun}
@@ -144,7 +145,7 @@ hold-le-sum xs o =
       | inr ge ↦ omega (arith, get_or_past xs o 0 ge)
     ]
 
-low_holds : (n : ℕ) (threads : List ThreadState) (o : ℕ) (w : Option ℕ) → AreKept n threads → owner_holds threads o w ≤ 64
+low_holds : (n : ℕ) (threads : List ThreadState) (o : ℕ) (w : Option ℕ) → AreKept n threads → owner_holds threads o w ≤ most_holds
 low_holds n threads o None k = omega arith
 low_holds n threads o (Some t) k =
     elim (cases_lt t (length threads)) [
@@ -152,6 +153,6 @@ low_holds n threads o (Some t) k =
       | inr ge ↦ rw (get_or_past threads t (unrun 0 0 0) ge) (omega arith)
     ]
 
--- no monitor counts more than 64
-pub count_low : (n : ℕ) (threads : List ThreadState) (o : ℕ) (m : PlainMonitor) → AreKept n threads → IsCounted threads o m → m.count ≤ 64
+-- no monitor counts more holds than a thread may have
+pub count_low : (n : ℕ) (threads : List ThreadState) (o : ℕ) (m : PlainMonitor) → AreKept n threads → IsCounted threads o m → m.count ≤ most_holds
 count_low n threads o m k h = omega (arith, h, low_holds n threads o m.owner k)

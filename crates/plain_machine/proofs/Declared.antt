@@ -7,6 +7,7 @@ use Rattle.std.proofs.lemmas.Option.{none-some, slice_get-get_or}
 use Rattle.object_program.specs.declared.program.ObjectDef.{ObjectDef}
 use Rattle.object_program.specs.Program.{ProgramText, total_of, has_object, class_from}
 use Rattle.object_program.specs.Valid.{IsProgram, AreObjects}
+use Rattle.plain_monitor.specs.Limits.{most_objects}
 use Rattle.plain_monitor.specs.declared.entry.Value.{Value}
 use Rattle.plain_monitor.specs.declared.entry.Value.TheVariants.{Int, Ref}
 use Rattle.plain_monitor.specs.declared.entry.Fault.TheVariants.{Range}
@@ -18,7 +19,7 @@ declared_within classes n (x ∷ ds) zero d h e = let same : x ≡ d = cc in let
 declared_within classes n (x ∷ ds) (suc k) d h e = omega (arith, declared_within classes (n + x.size) ds k d h.1 e)
 
 -- no declaration stands for an object past the limit
-pub declared_below : (p : ProgramText) (k : ℕ) (d : ObjectDef) → IsProgram p → slice_get p.objects k ≡ Some d → d.first + d.size ≤ 4096
+pub declared_below : (p : ProgramText) (k : ℕ) (d : ObjectDef) → IsProgram p → slice_get p.objects k ≡ Some d → d.first + d.size ≤ most_objects
 declared_below p k d v e = omega (arith, v.objects_few, declared_within (length p.classes) 0 p.objects k d v.objects e)
 
 -- a declaration that was read

@@ -9,3 +9,4 @@ pub mod Taking
 pub mod Codes
 pub mod Declared
 pub mod Starts
+pub mod NeededObjects

@@ -7,8 +7,9 @@ use Rattle.plain_monitor.specs.declared.entry.Ending.{Ending}
 use Rattle.plain_monitor.specs.declared.entry.Entry.{Entry}
 use Rattle.plain_monitor.specs.Monitor.{PlainMonitor, is_listed, is_thread}
 use Rattle.plain_monitor.specs.Objects.{PlainObject, new_object, new_objects, take_entry}
+use Rattle.plain_monitor.specs.Made.{class_of, nothing_made, take_made}
 use Rattle.object_program.specs.declared.program.Code.{Code}
-use Rattle.object_program.specs.Program.{ProgramText, shape_of}
+use Rattle.object_program.specs.Program.{ProgramText, shape_of, numbering_of}
 use Rattle.plain_machine.specs.declared.call.Call.TheVariants as call
 use Rattle.plain_machine.specs.declared.call.Mode.{Mode}
 use Rattle.plain_machine.specs.declared.call.Mode.TheVariants.{Waiting, Ended}
@@ -20,30 +21,47 @@ use Rattle.plain_machine.specs.Asking.{ask, thread_after}
 
 pub record PlainMachine : Type 0 where
   pub program : ProgramText
+  -- by their numbers, whether they are there or not
   pub objects : List PlainObject
+  -- the classes of the objects that each thread has made
+  pub made : List (List ℕ)
   pub threads : List ThreadState
 
 -- before the first entry
 abbrev pub new_machine : ProgramText → ℕ → PlainMachine
-new_machine p fuel =
-    record { program = p; objects = new_objects (shape_of p); threads = map (λ t. first_state p t fuel) p.threads }
+new_machine p fuel = record {
+  program = p;
+  objects = new_objects (shape_of p);
+  made = nothing_made (numbering_of p);
+  threads = map (λ t. first_state p t fuel) p.threads;
+}
 
 -- the instructions of thread t
 abbrev pub code_of : ProgramText → ℕ → List Code
 code_of p t = slice_index_or (map (λ d. d.code) p.threads) t []
 
--- both move on, where both do
-abbrev pub moved : PlainMachine → ℕ → Option ThreadState → Option (List PlainObject) → Option PlainMachine
-moved m t None objects = None
-moved m t (Some s) None = None
-moved m t (Some s) (Some objects) = Some (record m { objects = objects; threads = slice_set m.threads t s })
+-- the thread, what is made, and the objects move on, where all do
+abbrev pub moved : PlainMachine → ℕ → Option ThreadState → Option (List (List ℕ)) → Option (List PlainObject) → Option PlainMachine
+moved m t None made objects = None
+moved m t (Some s) None objects = None
+moved m t (Some s) (Some made) None = None
+moved m t (Some s) (Some made) (Some objects) =
+    Some (record m { objects = objects; made = made; threads = slice_set m.threads t s })
+
+-- what is made behind an entry of thread t, where each object is there that the entry needs
+abbrev pub made_behind : PlainMachine → ℕ → Entry → Option (List (List ℕ))
+made_behind m t e = take_made (numbering_of m.program) m.made t e
 
 -- the machine behind an entry of thread t, where it takes it
 abbrev pub take : PlainMachine → ℕ → Entry → Option PlainMachine
 take m t e =
     option_and_then
-    (λ s. moved m t (thread_after m.program (code_of m.program t) s e) (take_entry m.objects t e))
+    (λ s. moved m t (thread_after m.program (code_of m.program t) s e) (made_behind m t e) (take_entry m.objects t e))
     (slice_get m.threads t)
+
+-- the class of object o, where it is there
+abbrev pub class_at : PlainMachine → ℕ → Option ℕ
+class_at m o = class_of (numbering_of m.program) m.made o
 
 abbrev pub object_at : PlainMachine → ℕ → PlainObject
 object_at m o = slice_index_or m.objects o (new_object 0)

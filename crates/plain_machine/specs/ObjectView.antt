@@ -1,5 +1,6 @@
 -- What contracts see of an `Object`.
 use Rattle.std.specs.Prelude.{◌+◌, ◌≤◌, length}
+use Rattle.plain_monitor.specs.Limits.{most_threads}
 use Rattle.plain_monitor.specs.Objects.{PlainObject}
 use Rattle.plain_machine.specs.declared.object.Object.TheInside.{Inside}
 
@@ -8,4 +9,4 @@ plain_object a = record { monitor = a.monitor.plain; slots = a.slots.items; hash
 
 -- there is room for 16 threads that wait or were called
 abbrev pub HasRoom : Inside → Type 0
-HasRoom a = 16 ≤ a.monitor.spare + length a.monitor.plain.waits + length a.monitor.plain.called
+HasRoom a = most_threads ≤ a.monitor.spare + length a.monitor.plain.waits + length a.monitor.plain.called

@@ -1,5 +1,7 @@
 -- When a thread may stand before a call, and when it waits on an object.
 use Rattle.std.specs.Prelude.{ℕ, ◌<◌, Bool, false, ◌==◌, sum}
+use Rattle.object_program.specs.Limits.{most_code}
+use Rattle.plain_monitor.specs.Limits.{most_holds}
 use Rattle.plain_machine.specs.declared.call.Call.{Call}
 use Rattle.plain_machine.specs.declared.call.Call.TheVariants as call
 use Rattle.plain_machine.specs.declared.call.Mode.{Mode}
@@ -8,12 +10,12 @@ use Rattle.plain_machine.specs.Thread.{ThreadState}
 
 -- a thread that enters has room for one more hold
 abbrev pub HasRoomFor : ThreadState → Call → Type 0
-HasRoomFor s (call.Enter o) = sum s.holds < 64
+HasRoomFor s (call.Enter o) = sum s.holds < most_holds
 HasRoomFor s c = Unit {0}
 
 -- a call that a thread may stand before, which is then at an instruction
 abbrev pub IsReadyToCall : ThreadState → Call → Type 0
-IsReadyToCall s c = (s.place < 4096) × HasRoomFor s c
+IsReadyToCall s c = (s.place < most_code) × HasRoomFor s c
 
 -- a thread in this mode waits on object o, or was notified and hasn't its monitor again
 abbrev pub waits_on : Mode → ℕ → Bool

@@ -2,6 +2,7 @@
 -- IllegalMonitorStateException of the Java Language Specification 8, 17.2, nor exit, by `monitorexit` of the Java Virtual Machine
 -- Specification 8. The rest of the language is this project's own.
 use Rattle.std.specs.Prelude.{ℕ, ℤ, pos, ◌+ℤ◌, ◌-ℤ◌, ◌*ℤ◌, int_lt, int_le, nat_abs, ◌+◌, ◌-◌, Bool, ◌&&◌, nat_le, nat_lt, if◌then◌else◌, List, sum, slice_get, slice_index, slice_index_or, slice_set, Option, Some, None}
+use Rattle.plain_monitor.specs.Limits.{most_holds}
 use Rattle.plain_monitor.specs.declared.entry.Value.{Value}
 use Rattle.plain_monitor.specs.declared.entry.Value.TheVariants.{Nil, Int, Ref}
 use Rattle.plain_monitor.specs.declared.entry.Fault.{Fault}
@@ -82,7 +83,7 @@ owner_only s o fault step = if nat_le 1 (holds_of s o) then step else faults s f
 
 -- an enter, of at most 64 holds
 abbrev pub enters : ThreadState → ℕ → Step
-enters s o = if nat_lt (sum s.holds) 64 then Calls (call.Enter o) else faults s TooDeep
+enters s o = if nat_lt (sum s.holds) most_holds then Calls (call.Enter o) else faults s TooDeep
 
 -- what reads or writes slot k of an object
 abbrev pub on_slot : ProgramText → ThreadState → ℕ → ℕ → Call → Step

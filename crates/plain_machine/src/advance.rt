@@ -1,6 +1,7 @@
 //! The thread behind an entry that it asked for.
 
 ghost use Rattle.std.specs.Prelude.{◌≡◌, ◌≤◌, ℕ, length};
+ghost use Rattle.object_program.specs.Limits.{most_code};
 ghost use Rattle.plain_machine.specs.declared.call.Asked.TheVariants.{Calls};
 ghost use Rattle.plain_machine.specs.Asking.{answered, behind_call, behind_entry};
 ghost use Rattle.plain_machine.specs.Ready.{IsReadyToCall, waits_on};
@@ -15,7 +16,7 @@ use plain_monitor::{Entry, Value};
 /// Moves the thread on behind an entry that is what it asks.
 #[tactic(auto, using(crate::proofs::Unwinding::unwinding))]
 pub fn advance(program: &Program, code: &[Code], thread: &mut Thread, asked: Asked, entry: &Entry)
-    requires few { length code.now ≤ 4096 }
+    requires few { length code.now ≤ most_code }
     requires ready { IsReadyToAsk thread.old asked }
     ensures behind { thread.new ≡ behind_entry program.now code.now thread.old asked entry.now }
     ensures holds { thread.new.holds ≡ holds_behind thread.old asked }
@@ -38,7 +39,7 @@ pub fn advance(program: &Program, code: &[Code], thread: &mut Thread, asked: Ask
 
 /// Moves the thread on behind this call, which is paid for.
 fn advance_call(program: &Program, code: &[Code], thread: &mut Thread, call: Call, entry: &Entry)
-    requires few { length code.now ≤ 4096 }
+    requires few { length code.now ≤ most_code }
     requires ready { IsReadyToCall thread.old call }
     ensures behind { thread.new ≡ behind_call program.now code.now thread.old call entry.now }
     ensures holds { thread.new.holds ≡ holds_behind thread.old (Calls call) }

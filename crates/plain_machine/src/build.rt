@@ -1,7 +1,9 @@
 //! The objects and the threads of a new machine.
 
 ghost use Rattle.std.specs.Prelude.{◌≡◌, ◌≤◌, ◌++◌, IfOk, OnOk, length, map, replicate, vec_len};
+ghost use Rattle.object_program.specs.Limits.{most_code};
 ghost use Rattle.object_program.specs.Program.{shape_of, objects_total};
+ghost use Rattle.plain_monitor.specs.Limits.{most_threads};
 ghost use Rattle.plain_monitor.specs.Objects.{new_object, new_objects};
 ghost use Rattle.plain_machine.specs.Running.{first_state};
 ghost use Rattle.plain_machine.specs.inner.Sound.{IsKept, AreKept};
@@ -18,7 +20,7 @@ use std::alloc::Global;
 pub fn new_objects(alloc: Global, program: &Program) -> Result<Vec<Object>, NoMemory>
     ensures objects { IfOk result (λ v. v.items ≡ new_objects (shape_of program.now)) }
     ensures total { IfOk result (λ v. vec_len v ≡ objects_total program.now) }
-    ensures few { IfOk result (λ v. vec_len v ≤ 4096) }
+    ensures few { IfOk result (λ v. vec_len v ≤ most_code) }
 {
     let mut objects = Vec::new(alloc);
     for definition in program.objects.items() {
@@ -54,7 +56,7 @@ pub fn new_threads(
     requires { objects ≡ objects_total program.now }
     ensures threads { IfOk result (λ v. v.items ≡ map (λ t. first_state program.now t fuel) program.now.threads) }
     ensures kept { IfOk result (λ v. AreKept objects v.items) }
-    ensures few { IfOk result (λ v. length v.items ≤ 16) }
+    ensures few { IfOk result (λ v. length v.items ≤ most_threads) }
 {
     let mut threads = Vec::new(alloc);
     for definition in program.threads.items() {
@@ -74,7 +76,7 @@ fn new_thread(
     fuel: u32,
 ) -> Result<Thread, NoMemory>
     requires locals { length definition.now.locals ≤ 32 }
-    requires few { length definition.now.code ≤ 4096 }
+    requires few { length definition.now.code ≤ most_code }
     requires objects { objects ≡ objects_total program.now }
     ensures first { IfOk result (λ s. s ≡ first_state program.now definition.now fuel) }
     ensures kept { IfOk result (λ s. IsKept objects s) }

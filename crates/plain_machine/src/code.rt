@@ -2,6 +2,7 @@
 
 ghost use Rattle.std.specs.Prelude.{◌≡◌, ◌<◌, ◌≤◌, if◌then◌else◌, length};
 ghost use Rattle.std.specs.List.Sorted.{IsNonDecreasingBy, IsPartitionPoint};
+ghost use Rattle.object_program.specs.Limits.{most_code};
 ghost use Rattle.object_program.specs.Program.{has_object, slots_of_class, slots_of, class_from};
 ghost use Rattle.plain_machine.specs.Machine.{code_of};
 
@@ -12,7 +13,7 @@ use object_program::{Code, ObjectDef, Program};
 pub fn code_of(program: &Program, t: u32) -> &[Code]
     requires { t < length program.now.threads }
     ensures code { result.now ≡ code_of program.now t }
-    ensures few { length result.now ≤ 4096 }
+    ensures few { length result.now ≤ most_code }
 {
     program.threads.items()[t as usize].code.items()
 }

@@ -1,6 +1,7 @@
 //! The instructions that compute the value of a local.
 
 ghost use Rattle.std.specs.Prelude.{◌≡◌, ◌<◌, ◌+ℤ◌, ◌-ℤ◌, ◌*ℤ◌, nat_abs, slice_get, IfSome, is_some};
+ghost use Rattle.object_program.specs.Limits.{most_code};
 ghost use Rattle.plain_machine.specs.Thread.{combines, computes, first_of, element, is_element};
 ghost use Rattle.plain_machine.specs.Next.{meant, IsReadyNext};
 
@@ -11,7 +12,7 @@ use plain_monitor::{Fault, Value};
 
 /// x becomes the sum of two numbers.
 pub fn add<T: Actor>(thread: &T, x: u32, y: Value, z: Value) -> Next
-    requires { (T.state thread.now).place < 4096 }
+    requires { (T.state thread.now).place < most_code }
     ensures next { combines (T.state thread.now) x (λ a b. a +ℤ b) y z ≡ meant (T.state thread.now) result }
     ensures ready { IsReadyNext (T.state thread.now) result }
 {
@@ -23,7 +24,7 @@ pub fn add<T: Actor>(thread: &T, x: u32, y: Value, z: Value) -> Next
 
 /// x becomes the difference of two numbers.
 pub fn sub<T: Actor>(thread: &T, x: u32, y: Value, z: Value) -> Next
-    requires { (T.state thread.now).place < 4096 }
+    requires { (T.state thread.now).place < most_code }
     ensures next { combines (T.state thread.now) x (λ a b. a -ℤ b) y z ≡ meant (T.state thread.now) result }
     ensures ready { IsReadyNext (T.state thread.now) result }
 {
@@ -35,7 +36,7 @@ pub fn sub<T: Actor>(thread: &T, x: u32, y: Value, z: Value) -> Next
 
 /// x becomes the product of two numbers.
 pub fn mul<T: Actor>(thread: &T, x: u32, y: Value, z: Value) -> Next
-    requires { (T.state thread.now).place < 4096 }
+    requires { (T.state thread.now).place < most_code }
     ensures next { combines (T.state thread.now) x (λ a b. a *ℤ b) y z ≡ meant (T.state thread.now) result }
     ensures ready { IsReadyNext (T.state thread.now) result }
 {
@@ -65,7 +66,7 @@ fn product(y: i64, z: i64) -> i128
 
 /// x becomes the number, where a value may be it.
 fn compute<T: Actor>(thread: &T, x: u32, z: i128) -> Next
-    requires { (T.state thread.now).place < 4096 }
+    requires { (T.state thread.now).place < most_code }
     ensures next { computes (T.state thread.now) x z ≡ meant (T.state thread.now) result }
     ensures ready { IsReadyNext (T.state thread.now) result }
 {
@@ -90,7 +91,7 @@ pub fn first_object(program: &Program, n: u32) -> u32
 
 /// x refers to element i of declaration n.
 pub fn element<T: Actor>(program: &Program, thread: &T, x: u32, n: u32, i: Value) -> Next
-    requires { (T.state thread.now).place < 4096 }
+    requires { (T.state thread.now).place < most_code }
     ensures next { element (T.state thread.now) x (slice_get program.now.objects n) i
         ≡ meant (T.state thread.now) result }
     ensures ready { IsReadyNext (T.state thread.now) result }

@@ -224,5 +224,6 @@ fn fault_number(fault: Fault) -> u32
         Fault::Overflow => 5,
         Fault::TooDeep => 6,
         Fault::TooManyDumps => 7,
+        Fault::TooMany => 8,
     }
 }

@@ -1,6 +1,7 @@
 //! The instructions that go on at another place.
 
 ghost use Rattle.std.specs.Prelude.{◌≡◌, ◌<◌};
+ghost use Rattle.object_program.specs.Limits.{most_code};
 ghost use Rattle.plain_monitor.specs.Objects.{same_value};
 ghost use Rattle.plain_machine.specs.Thread.{Goes, at, jumps_where, jumps_below};
 ghost use Rattle.plain_machine.specs.Next.{meant, IsReadyNext};
@@ -22,7 +23,7 @@ pub fn jump<T: Actor>(thread: &T, l: u32) -> Next
 
 /// Goes on there where the test holds, and else behind the instruction.
 fn jump_where<T: Actor>(thread: &T, holds: bool, l: u32) -> Next
-    requires { (T.state thread.now).place < 4096 }
+    requires { (T.state thread.now).place < most_code }
     ensures next { jumps_where holds (T.state thread.now) l ≡ meant (T.state thread.now) result }
     ensures ready { IsReadyNext (T.state thread.now) result }
 {
@@ -36,7 +37,7 @@ fn jump_where<T: Actor>(thread: &T, holds: bool, l: u32) -> Next
 
 /// Goes on there where the first of two numbers is less.
 pub fn jump_below<T: Actor>(thread: &T, x: Value, y: Value, l: u32) -> Next
-    requires { (T.state thread.now).place < 4096 }
+    requires { (T.state thread.now).place < most_code }
     ensures next { jumps_below (T.state thread.now) x y l ≡ meant (T.state thread.now) result }
     ensures ready { IsReadyNext (T.state thread.now) result }
 {
@@ -48,7 +49,7 @@ pub fn jump_below<T: Actor>(thread: &T, x: Value, y: Value, l: u32) -> Next
 
 /// Goes on there where the values are the same.
 pub fn jump_equal<T: Actor>(thread: &T, x: Value, y: Value, l: u32) -> Next
-    requires { (T.state thread.now).place < 4096 }
+    requires { (T.state thread.now).place < most_code }
     ensures next { jumps_where (same_value x y) (T.state thread.now) l ≡ meant (T.state thread.now) result }
     ensures ready { IsReadyNext (T.state thread.now) result }
 {

@@ -13,6 +13,7 @@ mod compute;
 mod fit;
 mod jump;
 mod machine;
+mod needs;
 mod object;
 mod objects;
 mod offer;

@@ -1,7 +1,7 @@
 //! The plain machine.
 
 ghost use Rattle.std.specs.Prelude.{◌≡◌, ◌<◌, if◌then◌else◌, length, OnOk, OnErr, IfOk, Some, None};
-ghost use Rattle.plain_machine.specs.Machine.{new_machine, take, object_at, monitor_at, slot_at, ending_of, ending_in, other_owner, wanted, is_blocked, is_waiting, is_barred, is_live, all_barred, is_stuck};
+ghost use Rattle.plain_machine.specs.Machine.{new_machine, take, class_at, object_at, monitor_at, slot_at, ending_of, ending_in, other_owner, wanted, is_blocked, is_waiting, is_barred, is_live, all_barred, is_stuck};
 ghost use Rattle.plain_machine.specs.declared.call.Call.TheVariants as call;
 ghost use Rattle.plain_machine.specs.Offering.{offered, call_offer, resume_offer, unless_owned, hash_offer, oldest};
 ghost use Rattle.plain_monitor.specs.Monitor.{is_thread, is_listed};
@@ -12,6 +12,7 @@ use crate::build::{new_objects, new_threads};
 use crate::call::{Asked, Call, Mode};
 use crate::code::code_of;
 use crate::fit::asked_for;
+use crate::needs::finds_all;
 use crate::object::Object;
 use crate::objects;
 use crate::offer::Offer;
@@ -136,8 +137,8 @@ impl Machine {
         )
     }
 
-    /// Takes an entry of thread t, where the thread asks for it and the objects take it. Else it is refused, and the machine
-    /// stays as it is.
+    /// Takes an entry of thread t, where the thread asks for it, each object is there that it needs, and the objects take it. Else it
+    /// is refused, and the machine stays as it is.
     pub fn take(&mut self, t: u32, entry: &Entry) -> Result<(), Refused>
         requires { t < length self.old.threads }
         ensures ok { OnOk result (take self.old t entry.now ≡ Some self.new) }
@@ -150,6 +151,9 @@ impl Machine {
         let Some(asked) = asked_for(&self.threads[at], entry) else {
             return Err(Refused);
         };
+        if !finds_all(self.objects.len(), entry) {
+            return Err(Refused);
+        }
         objects::take(&mut self.objects, t, entry)?;
         let code = code_of(&self.program, t);
         advance(&self.program, code, &mut self.threads[at], asked, entry);
@@ -162,6 +166,16 @@ impl Machine {
         ensures { result ≡ ending_of self.now t }
     {
         ending_in(&self.threads[t as usize])
+    }
+
+    /// The class of object o, where it is there.
+    pub fn class_of(&self, o: u32) -> Option<u32>
+        ensures { result ≡ class_at self.now o }
+    {
+        if o as usize >= self.objects.len() {
+            return None;
+        }
+        Some(self.program.class_of(o))
     }
 
     /// The thread that has the monitor of the object.

@@ -1,17 +1,17 @@
 //! An object: its monitor, its slots and its hash.
 
 ghost use Rattle.std.specs.Prelude.{◌≡◌, ℕ, ◌+◌, ◌<◌, ◌≤◌, ◌&&◌, length, slice_get, slice_set, slice_index_or, nat_lt, false, OnOk, OnErr, IfOk, Some, None};
+ghost use Rattle.plain_monitor.specs.Limits.{most_threads, most_holds};
 ghost use Rattle.plain_monitor.specs.Monitor.{enter, exit, wait, resume, notify, notify_all, without, owns, only_if};
 ghost use Rattle.plain_monitor.specs.Objects.{new_object, with_monitor, with_hash, has_value, hashed};
 ghost use Rattle.plain_monitor.specs.declared.entry.Value.TheVariants.{Nil};
 
 use crate::fit::same_value;
+use plain_monitor::limits::THREADS;
 use plain_monitor::{Monitor, NoMemory, Refused, Value};
 use std::alloc::Global;
 use std::marker::Model;
 
-/// The most threads that a program has.
-const THREADS: u32 = 16;
 /// One past the greatest hash.
 const HASHES: u32 = 1 << 31;
 
@@ -77,7 +77,7 @@ impl Object {
 
     /// The thread enters the monitor once more, where it may.
     pub fn enter(&mut self, t: u32) -> Result<(), Refused>
-        requires { self.old.monitor.count ≤ 64 }
+        requires { self.old.monitor.count ≤ most_holds }
         ensures ok { OnOk result (with_monitor self.old (enter self.old.monitor t) ≡ Some self.new) }
         ensures refused { OnErr result (with_monitor self.old (enter self.old.monitor t) ≡ None) }
         ensures unchanged { OnErr result (self.new ≡ self.old) }
@@ -96,7 +96,7 @@ impl Object {
 
     /// The owner lets go of the monitor and waits.
     pub fn wait(&mut self, t: u32) -> Result<(), Refused>
-        requires { length self.old.monitor.waits + length self.old.monitor.called < 16 }
+        requires { length self.old.monitor.waits + length self.old.monitor.called < most_threads }
         ensures ok { OnOk result (with_monitor self.old (wait self.old.monitor t) ≡ Some self.new) }
         ensures refused { OnErr result (with_monitor self.old (wait self.old.monitor t) ≡ None) }
         ensures unchanged { OnErr result (self.new ≡ self.old) }

@@ -34,7 +34,8 @@ pub fn take(objects: &mut [Object], t: u32, entry: &Entry) -> Result<(), Refused
             value,
         } => take_put(objects, t, *object, *slot, *value),
         Entry::Hash { object, value, .. } => take_hash(objects, t, *object, *value),
-        Entry::Print { .. }
+        Entry::New { .. }
+        | Entry::Print { .. }
         | Entry::Dump { .. }
         | Entry::Trap { .. }
         | Entry::Spent

@@ -1,6 +1,7 @@
 //! The instructions that call.
 
 ghost use Rattle.std.specs.Prelude.{◌≡◌, ◌<◌};
+ghost use Rattle.object_program.specs.Limits.{most_code};
 ghost use Rattle.plain_machine.specs.Thread.{ThreadState, on_object, enters, owner_only, on_slot, dumps_next, Calls};
 ghost use Rattle.plain_machine.specs.Next.{meant, IsReadyNext};
 ghost use Rattle.plain_machine.specs.Ready.{HasRoomFor};
@@ -13,11 +14,12 @@ use crate::call::Call;
 use crate::code::slots_of;
 use crate::step::{Next, fault};
 use object_program::Program;
+use plain_monitor::limits::HOLDS;
 use plain_monitor::{Fault, Value};
 
-/// An enter, of at most 64 holds.
+/// An enter, of at most so many holds as a thread may have.
 pub fn enter<T: Actor>(thread: &T, value: Value) -> Next
-    requires { (T.state thread.now).place < 4096 }
+    requires { (T.state thread.now).place < most_code }
     ensures next { on_object (T.state thread.now) value (enters (T.state thread.now))
         ≡ meant (T.state thread.now) result }
     ensures ready { IsReadyNext (T.state thread.now) result }
@@ -25,7 +27,7 @@ pub fn enter<T: Actor>(thread: &T, value: Value) -> Next
     let Value::Ref(object) = value else {
         return fault(thread, Fault::NotRef);
     };
-    if thread.depth() >= 64 {
+    if thread.depth() >= HOLDS {
         return fault(thread, Fault::TooDeep);
     }
     Next::Calls {
@@ -35,7 +37,7 @@ pub fn enter<T: Actor>(thread: &T, value: Value) -> Next
 
 /// What only the owner may do: a thread that has no hold on the object faults.
 fn owner_only<T: Actor>(thread: &T, object: u32, otherwise: Fault, call: Call) -> Next
-    requires place { (T.state thread.now).place < 4096 }
+    requires place { (T.state thread.now).place < most_code }
     requires room { HasRoomFor (T.state thread.now) call }
     ensures next { owner_only (T.state thread.now) object otherwise (Calls call) ≡ meant (T.state thread.now) result }
     ensures ready { IsReadyNext (T.state thread.now) result }
@@ -72,7 +74,7 @@ impl OwnerCall {
 
 /// An exit, a wait, a notify or a notify of all.
 pub fn of_owner<T: Actor>(thread: &T, value: Value, wish: OwnerCall) -> Next
-    requires { (T.state thread.now).place < 4096 }
+    requires { (T.state thread.now).place < most_code }
     ensures next { on_object (T.state thread.now) value
         (λ o. owner_only (T.state thread.now) o fault.IllegalMonitorState (Calls (owner_call wish o)))
         ≡ meant (T.state thread.now) result }
@@ -88,7 +90,7 @@ pub fn of_owner<T: Actor>(thread: &T, value: Value, wish: OwnerCall) -> Next
 
 /// What reads or writes slot k of an object.
 fn on_slot<T: Actor>(program: &Program, thread: &T, object: u32, k: u32, call: Call) -> Next
-    requires place { (T.state thread.now).place < 4096 }
+    requires place { (T.state thread.now).place < most_code }
     requires room { HasRoomFor (T.state thread.now) call }
     ensures next { on_slot program.now (T.state thread.now) object k call ≡ meant (T.state thread.now) result }
     ensures ready { IsReadyNext (T.state thread.now) result }
@@ -101,7 +103,7 @@ fn on_slot<T: Actor>(program: &Program, thread: &T, object: u32, k: u32, call: C
 
 /// A read of slot k into x.
 pub fn get<T: Actor>(program: &Program, thread: &T, x: u32, value: Value, k: u32) -> Next
-    requires { (T.state thread.now).place < 4096 }
+    requires { (T.state thread.now).place < most_code }
     ensures next { on_object (T.state thread.now) value
         (λ o. on_slot program.now (T.state thread.now) o k (call.Get x o k))
         ≡ meant (T.state thread.now) result }
@@ -120,7 +122,7 @@ pub fn get<T: Actor>(program: &Program, thread: &T, x: u32, value: Value, k: u32
 
 /// A write of a value to slot k.
 pub fn put<T: Actor>(program: &Program, thread: &T, value: Value, k: u32, written: Value) -> Next
-    requires { (T.state thread.now).place < 4096 }
+    requires { (T.state thread.now).place < most_code }
     ensures next { on_object (T.state thread.now) value
         (λ o. on_slot program.now (T.state thread.now) o k (call.Put o k written))
         ≡ meant (T.state thread.now) result }
@@ -139,7 +141,7 @@ pub fn put<T: Actor>(program: &Program, thread: &T, value: Value, k: u32, writte
 
 /// A wish for the object's hash.
 pub fn hash<T: Actor>(thread: &T, x: u32, value: Value) -> Next
-    requires { (T.state thread.now).place < 4096 }
+    requires { (T.state thread.now).place < most_code }
     ensures next { on_object (T.state thread.now) value (λ o. Calls (call.Hash x o))
         ≡ meant (T.state thread.now) result }
     ensures ready { IsReadyNext (T.state thread.now) result }
@@ -154,7 +156,7 @@ pub fn hash<T: Actor>(thread: &T, x: u32, value: Value) -> Next
 
 /// A print of the value.
 pub fn print<T: Actor>(thread: &T, value: Value) -> Next
-    requires { (T.state thread.now).place < 4096 }
+    requires { (T.state thread.now).place < most_code }
     ensures next { Calls (call.Print value) ≡ meant (T.state thread.now) result }
     ensures ready { IsReadyNext (T.state thread.now) result }
 {
@@ -165,7 +167,7 @@ pub fn print<T: Actor>(thread: &T, value: Value) -> Next
 
 /// A dump, of at most 4.
 pub fn dump<T: Actor>(thread: &T) -> Next
-    requires { (T.state thread.now).place < 4096 }
+    requires { (T.state thread.now).place < most_code }
     ensures next { dumps_next (T.state thread.now) ≡ meant (T.state thread.now) result }
     ensures ready { IsReadyNext (T.state thread.now) result }
 {

@@ -1,6 +1,7 @@
 //! How a thread runs.
 
 ghost use Rattle.std.specs.Prelude.{◌≡◌, ◌≤◌, ℕ, false, length};
+ghost use Rattle.object_program.specs.Limits.{most_code};
 ghost use Rattle.plain_machine.specs.Running.{run_on};
 ghost use Rattle.plain_machine.specs.Ready.{waits_on};
 ghost use Rattle.plain_machine.specs.inner.Kept.{IsReady};
@@ -14,7 +15,7 @@ use plain_monitor::Ending;
 /// Runs a thread that has this much fuel, up to its next call or its end.
 #[tactic(auto, using(crate::proofs::Runs::run_steps))]
 pub fn run(program: &Program, code: &[Code], thread: &mut Thread, fuel: u32)
-    requires { length code.now ≤ 4096 }
+    requires { length code.now ≤ most_code }
     ensures runs { thread.new ≡ run_on program.now code.now fuel thread.old }
     ensures holds { thread.new.holds ≡ thread.old.holds }
     ensures ready { IsReady thread.new }

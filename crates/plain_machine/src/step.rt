@@ -1,6 +1,7 @@
 //! What an instruction leads to.
 
 ghost use Rattle.std.specs.Prelude.{◌≡◌, ◌<◌, ◌≤◌, length};
+ghost use Rattle.object_program.specs.Limits.{most_code};
 ghost use Rattle.plain_machine.specs.Thread.{step_of, faults};
 ghost use Rattle.plain_machine.specs.Running.{instruction_at};
 ghost use Rattle.plain_machine.specs.Next.{meant, IsReadyNext};
@@ -33,7 +34,7 @@ pub enum Next {
 /// The answer stands for the step that the language gives. Where it sets a local or calls, the thread is at an
 /// instruction, and a thread that enters has fewer than 64 holds.
 pub fn look<T: Actor>(program: &Program, code: &[Code], thread: &T) -> Next
-    requires { length code.now ≤ 4096 }
+    requires { length code.now ≤ most_code }
     ensures next { step_of program.now (T.state thread.now) (instruction_at code.now (T.state thread.now).place)
         ≡ meant (T.state thread.now) result }
     ensures ready { IsReadyNext (T.state thread.now) result }
@@ -48,7 +49,7 @@ pub fn look<T: Actor>(program: &Program, code: &[Code], thread: &T) -> Next
 
 /// What this instruction leads to.
 fn next_at<T: Actor>(program: &Program, thread: &T, instruction: Code) -> Next
-    requires { (T.state thread.now).place < 4096 }
+    requires { (T.state thread.now).place < most_code }
     ensures next { step_of program.now (T.state thread.now) instruction ≡ meant (T.state thread.now) result }
     ensures ready { IsReadyNext (T.state thread.now) result }
 {
@@ -86,7 +87,7 @@ fn next_at<T: Actor>(program: &Program, thread: &T, instruction: Code) -> Next
 
 /// A fault at the instruction that the thread is at.
 pub fn fault<T: Actor>(thread: &T, fault: Fault) -> Next
-    requires { (T.state thread.now).place < 4096 }
+    requires { (T.state thread.now).place < most_code }
     ensures next { faults (T.state thread.now) fault ≡ meant (T.state thread.now) result }
     ensures ready { IsReadyNext (T.state thread.now) result }
 {

@@ -1,6 +1,8 @@
 //! A thread: where it is, its locals and its holds.
 
 ghost use Rattle.std.specs.Prelude.{◌≡◌, ◌<◌, ◌^◌, IfOk, IfSome, sum, length};
+ghost use Rattle.object_program.specs.Limits.{most_code};
+ghost use Rattle.plain_monitor.specs.Limits.{most_holds};
 ghost use Rattle.plain_machine.specs.Thread.{ThreadState, local, with_local, behind, holds_of};
 ghost use Rattle.plain_machine.specs.Asking.{holds_more, holds_less, ask, held_from, unwinds};
 ghost use Rattle.plain_machine.specs.inner.Kept.{unrun, IsReady, IsReadyToAsk, IsUnwinding};
@@ -81,7 +83,7 @@ impl Thread {
 
     /// The thread stands behind the instruction.
     pub fn step(&mut self)
-        requires { self.old.place < 4096 }
+        requires { self.old.place < most_code }
         ensures { self.new ≡ behind self.old }
     {
         self.place += 1;
@@ -111,7 +113,7 @@ impl Thread {
 
     /// One hold more.
     pub fn hold_more(&mut self, object: u32)
-        requires { sum self.old.holds < 64 }
+        requires { sum self.old.holds < most_holds }
         ensures { self.new ≡ holds_more self.old object }
     {
         let object = object as usize;

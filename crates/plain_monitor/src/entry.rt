@@ -54,6 +54,8 @@ pub enum Fault {
     TooDeep,
     /// The thread has made 4 dumps.
     TooManyDumps,
+    /// The thread has made 1,024 objects.
+    TooMany,
 }
 
 /// How a thread ended.
@@ -114,6 +116,11 @@ pub enum Entry {
         object: u32,
         value: u32,
         drawn: Option<u32>,
+    },
+    /// It made the object with this number, of this class.
+    New {
+        object: u32,
+        class: u32,
     },
     /// It printed a value.
     Print {

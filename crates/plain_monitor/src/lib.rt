@@ -7,6 +7,7 @@
 mod endings;
 mod entry;
 mod laws;
+pub mod limits;
 mod list;
 mod monitor;
 mod refusal;

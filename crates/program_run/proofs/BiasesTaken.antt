@@ -3,6 +3,7 @@ use Rattle.std.proofs.Common.{◌≡◌, ℕ, ◌+◌, ◌<◌, ◌≤◌, [], �
 use Rattle.std.proofs.lemmas.Bool.{cases_lt}
 use Rattle.std.proofs.lemmas.List.{get_or_past}
 use Rattle.plain_history.specs.EnterPaths.{entries_on}
+use Rattle.plain_monitor.specs.Limits.{most_threads}
 use Rattle.plain_monitor.specs.History.{log_of}
 use Rattle.plain_monitor.specs.Order.{order}
 use Rattle.core_law.specs.Logic.{Heap}
@@ -10,6 +11,7 @@ use Rattle.core_law.specs.TakenBiases.{times_taken, OwnsAreTaken}
 use Rattle.core_world.specs.Words.Shape.{class_of}
 use Rattle.heap_table.specs.Seen.{ClosedSeen}
 use Rattle.run_rounds.specs.Outcome.{HasBiases as LeftBiases}
+use Rattle.program_run.proofs.Few.{most_in_all}
 use Rattle.program_run.specs.Lines.{line_of}
 use Rattle.program_run.proofs.Biased.{rebias_is}
 
@@ -25,7 +27,7 @@ module _ {tick : ℕ} (heap : Heap) (c : ClosedSeen) (left : LeftBiases heap tic
     | inr past ↦ subst OwnsAreTaken (sym (get_or_past c.logs t [] (omega (arith, past, count)))) none_owned
   ]
 
-  pub taken_few : c.heap ≡ heap → heap.shape.threads ≤ 16 → ((t : ℕ) → length (log_of c.logs t) ≤ 6400016) → (o : ℕ)
+  pub taken_few : c.heap ≡ heap → heap.shape.threads ≤ most_threads → ((t : ℕ) → length (log_of c.logs t) ≤ most_in_all) → (o : ℕ)
       → class_of heap.shape o < heap.shape.classes
       → times_taken o (entries_on o (order c.logs)) ≤ (line_of c (class_of heap.shape o)).rebias + 1
   taken_few same many short o within =

@@ -9,6 +9,7 @@ use Rattle.plain_monitor.specs.Objects.{PlainObject}
 use Rattle.plain_monitor.proofs.Lists.{all_weaker, all_map}
 use Rattle.plain_history.specs.Cuts.{cut_logs}
 use Rattle.object_program.specs.Program.{ProgramText, shape_of}
+use Rattle.object_program.specs.Valid.{IsProgram}
 use Rattle.plain_machine.specs.Legal.{IsLegal, machine_after}
 use Rattle.plain_machine.specs.Machine.{PlainMachine}
 use Rattle.core_world.specs.Shots as core
@@ -47,14 +48,14 @@ abbrev pub Fronts : Type 0
 Fronts = (p : ProgramText) (fuel t n : ℕ) (log : List Logged) → HasFollowed p fuel t log → HasFollowed p fuel t (take n log)
 
 abbrev pub Legals : Type 0
-Legals = (p : ProgramText) (fuel : ℕ) (logs : List (List Logged)) → HaveFollowed p fuel logs → IsLegal p fuel logs
+Legals = (p : ProgramText) (fuel : ℕ) (logs : List (List Logged)) → IsProgram p → HaveFollowed p fuel logs → IsLegal p fuel logs
 
 abbrev pub TheirObjects : Type 0
 TheirObjects = (p : ProgramText) (fuel : ℕ) (logs : List (List Logged)) (m : PlainMachine) → HaveFollowed p fuel logs
     → machine_after p fuel logs ≡ Some m → objects_after (shape_of p) logs ≡ Some m.objects
 
 module _ (fronts : Fronts) (legals : Legals) (theirs : TheirObjects)
-    (p : ProgramText) (fuel : ℕ) (logs : List (List Logged)) (f : HaveFollowed p fuel logs) where
+    (p : ProgramText) (valid : IsProgram p) (fuel : ℕ) (logs : List (List Logged)) (f : HaveFollowed p fuel logs) where
   cut_follow : (s : DumpShot) → core.IsRightShot (shape_of p) logs s → HaveFollowed p fuel (cut_logs s.cut logs)
   cut_follow s h =
       record {
@@ -69,7 +70,7 @@ module _ (fronts : Fronts) (legals : Legals) (theirs : TheirObjects)
   right : (s : DumpShot) → core.IsRightShot (shape_of p) logs s → IsRightShot p fuel logs (shot_left s)
   right s h =
       let follow = cut_follow s h in
-      let m = the_some (machine_after p fuel (cut_logs s.cut logs)) (legals p fuel (cut_logs s.cut logs) follow).taken in
+      let m = the_some (machine_after p fuel (cut_logs s.cut logs)) (legals p fuel (cut_logs s.cut logs) valid follow).taken in
       let taken = sym h.taken ∙ theirs p fuel (cut_logs s.cut logs) m.0 follow m.1 in
       let same : h.objects ≡ m.0.objects = same_Some h.objects m.0.objects taken in
       record {
@@ -98,7 +99,7 @@ left_at (s ∷ shots) zero a e = (s, refl, same_Some (shot_left s) a e)
 left_at (s ∷ shots) (suc i) a e = left_at shots i a e
 
 module _ (fronts : Fronts) (legals : Legals) (theirs : TheirObjects)
-    (p : ProgramText) (fuel : ℕ) (logs : List (List Logged)) (f : HaveFollowed p fuel logs)
+    (p : ProgramText) (valid : IsProgram p) (fuel : ℕ) (logs : List (List Logged)) (f : HaveFollowed p fuel logs)
     (shots : List (List DumpShot)) (h : HasShots (shape_of p) logs shots) where
   shot_at : (t i : ℕ) (a : Shot) → slice_get (shots_of (map shots_left shots) t) i ≡ Some a
       → (s : DumpShot) × (slice_get (shots_at shots t) i ≡ Some s) × (shot_left s ≡ a)
@@ -119,7 +120,7 @@ module _ (fronts : Fronts) (legals : Legals) (theirs : TheirObjects)
   right_at t =
       all_map (IsRightShot p fuel logs) shot_left (shots_at shots t)
       (all_weaker (core.IsRightShot (shape_of p) logs) (λ s. IsRightShot p fuel logs (shot_left s))
-      (right fronts legals theirs p fuel logs f) (shots_at shots t) (h.right t))
+      (right fronts legals theirs p valid fuel logs f) (shots_at shots t) (h.right t))
 
   pub right_shots : AreRightShots p fuel logs (map shots_left shots)
   right_shots =

@@ -5,7 +5,7 @@ use Rattle.std.specs.List.{AllByRecursion}
 use Rattle.std.proofs.lemmas.Bool.{and_parts}
 use Rattle.lock_policy.specs.declared.policy.Verdict.{Verdict}
 use Rattle.lock_policy.specs.declared.policy.Verdict.TheVariants.{Single, BulkRebias, BulkRevoke}
-use Rattle.lock_policy.specs.Policy.{is_reset}
+use Rattle.lock_policy.specs.Policy.{is_reset, rebias_threshold, revoke_threshold, decay_time}
 use Rattle.core_world.specs.Threads.Counts as known
 use Rattle.core_world.specs.Threads.Counts.{CountedVerdict, counts_of}
 use Rattle.core_world.specs.Threads.Known.{Known}
@@ -19,8 +19,8 @@ not_true false refuted = refl
 -- 25 seconds have not gone by at the first moment
 never_reset : (count last now : ℕ) → now ≤ 1 → is_reset count last now ≡ false
 never_reset count last now early = not_true (is_reset count last now) (λ is.
-    let gone = and_parts (nat_le 20 count && nat_lt count 40 && not (last == 0) && nat_le last now) (nat_le 25000 (now - last)) is in
-    let long : 25000 ≤ now - last = leb-true 25000 (now - last) gone.1 in
+    let gone = and_parts (nat_le rebias_threshold count && nat_lt count revoke_threshold && not (last == 0) && nat_le last now) (nat_le decay_time (now - last)) is in
+    let long : decay_time ≤ now - last = leb-true decay_time (now - last) gone.1 in
     omega (arith, long, early))
 
 no_reset : (reset : Bool) → IsCountedOnTime 0 reset → reset ≡ false

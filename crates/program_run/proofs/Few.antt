@@ -2,6 +2,7 @@
 use Rattle.std.proofs.Common.{◌≡◌, ℕ, suc, ◌+◌, ◌*◌, ◌<◌, ◌≤◌, ◌==◌, Bool, true, false, if◌then◌else◌, List, [], ◌∷◌, length, Some, refl, ap, subst, arith}
 use Rattle.std.specs.Prelude.{slice_get}
 use Rattle.std.proofs.lemmas.Option.{same_Some}
+use Rattle.plain_monitor.specs.Limits.{most_threads, most_fuel}
 use Rattle.plain_monitor.specs.declared.entry.Entry.{Entry}
 use Rattle.plain_monitor.specs.declared.entry.Logged.{Logged}
 use Rattle.plain_monitor.specs.History.{log_of}
@@ -46,7 +47,11 @@ module _ (stay : Stay) (use_up : UseUp) where
       let less = use_up m next.0 x.0 x.1.entry r next.1 in
       omega (arith, others, less)
 
-work_few : (ss : List ThreadState) → ((t : ℕ) (s : ThreadState) → slice_get ss t ≡ Some s → work_of s ≤ 400001) → work_in ss ≤ length ss * 400001
+-- entries of all threads together: two for each unit of fuel of a thread, and an end
+abbrev pub most_in_all : ℕ
+most_in_all = most_threads * (2 * most_fuel + 1)
+
+work_few : (ss : List ThreadState) → ((t : ℕ) (s : ThreadState) → slice_get ss t ≡ Some s → work_of s ≤ 2 * most_fuel + 1) → work_in ss ≤ length ss * (2 * most_fuel + 1)
 work_few [] each = omega arith
 work_few (s ∷ ss) each =
     let here = each 0 s refl in
@@ -62,11 +67,11 @@ thread_few t (x ∷ xs) = by_test (x.0 == t) (thread_few t xs)
     by_test false others = omega (arith, others)
 
 module _ (first : First) (stay : Stay) (use_up : UseUp) (begins : Begins) (works : Works)
-    (p : ProgramText) (fuel : ℕ) (is : IsProgram p) (few : fuel ≤ 200000) (logs : List (List Logged)) (legal : IsLegal p fuel logs) where
-  threads_few : length (new_machine p fuel).threads ≤ 16
+    (p : ProgramText) (fuel : ℕ) (is : IsProgram p) (few : fuel ≤ most_fuel) (logs : List (List Logged)) (legal : IsLegal p fuel logs) where
+  threads_few : length (new_machine p fuel).threads ≤ most_threads
   threads_few = let r = (first p fuel is).thread_count in let f = is.threads_few in omega (arith, r, f)
 
-  pub log_few : (t : ℕ) → length (log_of logs t) ≤ 6400016
+  pub log_few : (t : ℕ) → length (log_of logs t) ≤ most_in_all
   log_few t =
       let m = the_some (machine_after p fuel logs) legal.taken in
       let all = as_many stay use_up (new_machine p fuel) (order logs) m.0 (first p fuel is) m.1 in

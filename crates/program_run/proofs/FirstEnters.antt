@@ -13,7 +13,7 @@ use Rattle.plain_history.proofs.SoundHistories.{hash_kept}
 use Rattle.plain_history.proofs.Swaps.{plain_or_hash, taken_at}
 use Rattle.plain_machine.specs.Legal.{behind_all}
 use Rattle.plain_machine.specs.Asking.{thread_after}
-use Rattle.plain_machine.specs.Machine.{PlainMachine, code_of, moved, take}
+use Rattle.plain_machine.specs.Machine.{PlainMachine, code_of, made_behind, moved, take}
 use Rattle.plain_machine.specs.Thread.{ThreadState}
 use Rattle.plain_monitor.specs.declared.entry.Entry.{Entry}
 use Rattle.plain_monitor.specs.declared.entry.Entry.TheVariants as entry
@@ -205,20 +205,21 @@ unbound_enters_not o (entry.Enter k path) s = s
 unbound_enters_not o e s = refl
 
 -- what a machine takes, its objects take
-objects_moved : (m n : PlainMachine) (t : ℕ) (s : Option ThreadState) (objects : Option (List PlainObject)) → moved m t s objects ≡ Some n
+objects_moved : (m n : PlainMachine) (t : ℕ) (s : Option ThreadState) (made : Option (List (List ℕ))) (objects : Option (List PlainObject)) → moved m t s made objects ≡ Some n
     → objects ≡ Some n.objects
-objects_moved m n t None objects h = absurd (cc h)
-objects_moved m n t (Some s) None h = absurd (cc h)
-objects_moved m n t (Some s) (Some x) h = ap (λ (k : PlainMachine). Some k.objects) (same_Some _ n h)
+objects_moved m n t None made objects h = absurd (cc h)
+objects_moved m n t (Some s) None objects h = absurd (cc h)
+objects_moved m n t (Some s) (Some made) None h = absurd (cc h)
+objects_moved m n t (Some s) (Some made) (Some x) h = ap (λ (k : PlainMachine). Some k.objects) (same_Some _ n h)
 
 objects_take : (m n : PlainMachine) (t : ℕ) (e : Entry) → take m t e ≡ Some n → take_entry m.objects t e ≡ Some n.objects
 objects_take m n t e h = by_thread (slice_get m.threads t) h
   where
     by_thread : (r : Option ThreadState)
-        → option_and_then (λ s. moved m t (thread_after m.program (code_of m.program t) s e) (take_entry m.objects t e)) r ≡ Some n
+        → option_and_then (λ s. moved m t (thread_after m.program (code_of m.program t) s e) (made_behind m t e) (take_entry m.objects t e)) r ≡ Some n
         → take_entry m.objects t e ≡ Some n.objects
     by_thread None h = absurd (cc h)
-    by_thread (Some s) h = objects_moved m n t (thread_after m.program (code_of m.program t) s e) (take_entry m.objects t e) h
+    by_thread (Some s) h = objects_moved m n t (thread_after m.program (code_of m.program t) s e) (made_behind m t e) (take_entry m.objects t e) h
 
 -- the next machine, and what of it is free
 pub record IsStep (m n final : PlainMachine) (o : ℕ) (x : ℕ × Logged) (xs : List (ℕ × Logged)) : Type 0 where

@@ -1,19 +1,26 @@
--- Records that are none of a run, by whose biases they have.
-use Rattle.std.proofs.Common.{◌≡◌, ℕ, List, [], ◌∷◌, Some, refl, ap, arith}
-use Rattle.std.specs.Prelude.{slice_get}
+-- Records that are none of a run, by whose biases they have and by what their dumps leave out.
+use Rattle.std.proofs.Common.{◌≡◌, ℕ, zero, suc, ◌<◌, ◌≤◌, List, [], ◌∷◌, Some, length, refl, ap, arith}
+use Rattle.std.specs.Prelude.{slice_get, slice_index, IsTrue}
+use Rattle.std.proofs.lemmas.Option.{none-some}
 use Rattle.heap_table.specs.Seen.{ClosedSeen}
 use Rattle.lock_journal.specs.declared.record.ClassLine.{ClassLine}
 use Rattle.lock_journal.specs.declared.record.RunRecord.{RunRecord}
-use Rattle.object_program.specs.Program.{class_of}
+use Rattle.lock_journal.specs.declared.record.Shot.{Shot}
+use Rattle.object_program.specs.Program.{ProgramText, class_of}
 use Rattle.plain_history.specs.EnterPaths.{entries_on}
+use Rattle.plain_history.specs.Tied.{is_tied}
+use Rattle.plain_history.proofs.InOrder.{in_order_at}
 use Rattle.plain_monitor.specs.declared.entry.Entry.TheVariants.{Enter, Exit}
 use Rattle.plain_monitor.specs.declared.entry.Logged.{Logged}
 use Rattle.plain_monitor.specs.declared.entry.Path.{Path}
 use Rattle.plain_monitor.specs.declared.entry.Path.TheVariants.{BiasOwn, BiasTaken}
 use Rattle.plain_monitor.specs.History.{log_of}
-use Rattle.plain_monitor.specs.Order.{order}
+use Rattle.plain_monitor.specs.Order.{is_before, order}
+use Rattle.plain_monitor.proofs.Lists.{all_at}
+use Rattle.plain_monitor.proofs.Orders.{before_asym}
 use Rattle.core_law.specs.TakenBiases.{times_taken}
 use Rattle.program_run.specs.Biases.{HasBiases}
+use Rattle.program_run.specs.Shots.{IsRightShot, AreRightShots, shots_of}
 
 -- one thread takes the bias and lets go, and another one enters by this path
 abbrev handed : Path → List (List Logged)
@@ -32,3 +39,22 @@ wanders tick r c line logs at none h =
     let few = h.few 0 line at in
     let twice : times_taken 0 (entries_on 0 (order r.logs)) ≡ 2 = ap (λ (x : List (List Logged)). times_taken 0 (entries_on 0 (order x))) logs in
     omega (arith, few, twice, none)
+
+-- a thread that logged something has a log
+has_log : (logs : List (List Logged)) (v j : ℕ) (m : Logged) → slice_get (log_of logs v) j ≡ Some m → v < length logs
+has_log [] v j m e = absurd (none-some m e)
+has_log (log ∷ logs) zero j m e = omega arith
+has_log (log ∷ logs) (suc v) j m e = let below = has_log logs v j m e in omega (arith, below)
+
+pub leaves_out : (p : ProgramText) (fuel : ℕ) (r : RunRecord) (t k u v i j : ℕ) (shot : Shot) (l m : Logged)
+    → slice_get (shots_of r.shots t) k ≡ Some shot
+    → slice_get (log_of r.logs u) i ≡ Some l → i < slice_index shot.cut u
+    → slice_get (log_of r.logs v) j ≡ Some m → slice_index shot.cut v ≤ j
+    → IsTrue (is_tied l.entry m.entry) → IsTrue (is_before (v, m) (u, l)) → AreRightShots p fuel r.logs r.shots → ⊥
+leaves_out p fuel r t k u v i j shot l m at at-l before at-m since tied earlier shots =
+    let right = all_at (IsRightShot p fuel r.logs) (shots_of r.shots t) k shot (shots.right t) at in
+    let many = has_log r.logs v j m at-m in
+    let as_many = right.threads in
+    let first = in_order_at shot.cut r.logs u v i j l m right.in_order at-l before at-m since (omega (arith, many, as_many)) tied in
+    let not_first = before_asym (v, m) (u, l) earlier in
+    absurd (cc (first, not_first))

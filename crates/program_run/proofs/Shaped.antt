@@ -9,6 +9,7 @@ use Rattle.object_program.specs.declared.program.ObjectDef.{ObjectDef}
 use Rattle.object_program.specs.declared.program.ThreadDef.{ThreadDef}
 use Rattle.object_program.specs.Program.{ProgramText, shape_from, slots_of_class, total_of}
 use Rattle.object_program.specs.Valid.{AreObjects, IsProgram}
+use Rattle.plain_monitor.specs.Limits.{most_threads, most_classes, most_slots, most_objects}
 use Rattle.plain_monitor.proofs.Lists.{all_map}
 use Rattle.program_run.specs.HeapFor.{shape_for}
 use Rattle.program_run.specs.inner.HeapFor.{classes_of}
@@ -52,7 +53,7 @@ objects_are classes (d ∷ ds) =
 
 module _ (p : ProgramText) (is : IsProgram p) (threads : List ThreadDef) (slots classes : List ℕ)
     (t : threads ≡ p.threads) (s : slots ≡ slots_by p.classes) (c : classes ≡ classes_of p.objects) where
-  pub in_limits : (length threads ≤ 16) × (length slots ≤ 64) × (length classes ≤ 4096)
+  pub in_limits : (length threads ≤ most_threads) × (length slots ≤ most_classes) × (length classes ≤ most_objects)
   in_limits =
       let threads_few = is.threads_few in
       let classes_few = is.classes_few in
@@ -62,10 +63,10 @@ module _ (p : ProgramText) (is : IsProgram p) (threads : List ThreadDef) (slots 
       let three : length classes ≡ total_of p.objects = ap length c ∙ many_classes p.objects in
       (omega (arith, one, threads_few), omega (arith, two, classes_few), omega (arith, three, objects_few))
 
-  pub slots_few : All (λ n. n ≤ 16) slots
+  pub slots_few : All (λ n. n ≤ most_slots) slots
   slots_few =
-      subst (All (λ n. n ≤ 16)) (sym s)
-      (All-from_recursion (λ n. n ≤ 16) (slots_by p.classes) (all_map (λ n. n ≤ 16) (λ (d : ClassDef). d.slots) p.classes is.class_slots))
+      subst (All (λ n. n ≤ most_slots)) (sym s)
+      (All-from_recursion (λ n. n ≤ most_slots) (slots_by p.classes) (all_map (λ n. n ≤ most_slots) (λ (d : ClassDef). d.slots) p.classes is.class_slots))
 
   pub classes_there : All (λ d. d < length slots) classes
   classes_there =

@@ -7,6 +7,7 @@ use Rattle.std.proofs.lemmas.List.{length-map}
 use Rattle.plain_history.specs.ExactStamps.{StampsAreExact}
 use Rattle.plain_history.specs.FirstDraws.{DrawsComeFirst}
 use Rattle.plain_history.specs.EnterPaths.{entries_on, first_path, needs_bias, EndsStay, PathsFit}
+use Rattle.plain_monitor.specs.Limits.{most_fuel}
 use Rattle.plain_monitor.specs.declared.entry.Logged.{Logged}
 use Rattle.plain_monitor.specs.declared.entry.Path.{Path}
 use Rattle.plain_monitor.specs.declared.entry.Path.TheVariants.{BiasTaken}
@@ -40,7 +41,7 @@ use Rattle.program_run.proofs.Biased.{Biased, Plain, all_idle, all_lines, counte
 use Rattle.program_run.proofs.BiasesTaken.{log_owned, taken_few}
 use Rattle.program_run.proofs.Classes.{class_is}
 use Rattle.program_run.proofs.Cut.{Fronts, Legals, TheirObjects, right_shots}
-use Rattle.program_run.proofs.Few.{First, Stay, UseUp, Begins, Works, log_few}
+use Rattle.program_run.proofs.Few.{First, Stay, UseUp, Begins, Works, log_few, most_in_all}
 use Rattle.program_run.proofs.LinesBelow.{line_at, lines_many}
 
 pub small : (s : Settings) (p : ProgramText) (c : ClosedSeen) → HasRun (heap_for s p) p s.fuel s.tick c → HasSmallCounts c
@@ -48,21 +49,21 @@ small s p c ran = small_here (heap_for s p) c ran.biases ran.heap_is
 
 module _ (fronts : Fronts) (legals : Legals) (theirs : TheirObjects) (first : First) (stay : Stay) (use_up : UseUp) (begins : Begins) (works : Works)
     (biased_law : Biased) (plain_law : Plain)
-    (s : Settings) (p : ProgramText) (r : RunRecord) (c : ClosedSeen) (is : IsProgram p) (few : s.fuel ≤ 200000)
+    (s : Settings) (p : ProgramText) (r : RunRecord) (c : ClosedSeen) (is : IsProgram p) (few : s.fuel ≤ most_fuel)
     (ran : HasRun (heap_for s p) p s.fuel s.tick c) (of : IsRecordOf s p r) (copy : IsOfClosed r c) where
   abbrev heap : Heap
   heap = heap_for s p
 
   legal : IsLegal p s.fuel c.logs
-  legal = legals p s.fuel c.logs ran.followed
+  legal = legals p s.fuel c.logs is ran.followed
 
-  short : (t : ℕ) → length (log_of c.logs t) ≤ 6400016
+  short : (t : ℕ) → length (log_of c.logs t) ≤ most_in_all
   short = log_few first stay use_up begins works p s.fuel is few c.logs legal
 
   shots : AreRightShots p s.fuel r.logs r.shots
   shots =
       subst (λ (x : List (List Logged) × List (List Shot)). AreRightShots p s.fuel x.0 x.1) (λ i. (sym copy.logs i, sym copy.shots i))
-      (right_shots fronts legals theirs p s.fuel c.logs ran.followed c.shots ran.shots)
+      (right_shots fronts legals theirs p is s.fuel c.logs ran.followed c.shots ran.shots)
 
   over : (m : PlainMachine) → machine_after p s.fuel r.logs ≡ Some m → IsOver m r.halted
   over m e =

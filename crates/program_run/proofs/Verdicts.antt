@@ -4,6 +4,7 @@ use Rattle.std.specs.Prelude.{nat_le, slice_get, slice_index_or}
 use Rattle.std.specs.List.{AllByRecursion, sum_by}
 use Rattle.std.proofs.lemmas.Bool.Decides.{nat_tests}
 use Rattle.std.proofs.lemmas.List.Sums.{sum_by-cons}
+use Rattle.lock_policy.specs.Policy.{rebias_threshold, revoke_threshold}
 use Rattle.core_law.specs.CountsAndVerdicts.{sum_below, verdicts_on}
 use Rattle.core_world.specs.Threads.Counts.{CountedVerdict, counts_of}
 use Rattle.core_world.specs.Threads.Known.{Known}
@@ -126,8 +127,8 @@ abbrev operations_on : ClassLine → ℕ
 operations_on line = line.rebias + line.revoke
 
 bulk_few : (lines : List ClassLine)
-    → ((k : ℕ) (line : ClassLine) → slice_get lines k ≡ Some line → 20 * operations_on line ≤ biases.verdicts_on line)
-    → 20 * sum_by operations_on lines ≤ sum_by biases.verdicts_on lines
+    → ((k : ℕ) (line : ClassLine) → slice_get lines k ≡ Some line → rebias_threshold * operations_on line ≤ biases.verdicts_on line)
+    → rebias_threshold * sum_by operations_on lines ≤ sum_by biases.verdicts_on lines
 bulk_few [] each = omega arith
 bulk_few (line ∷ lines) each =
     let verdicts = sum_by-cons biases.verdicts_on line lines in
@@ -139,16 +140,16 @@ bulk_few (line ∷ lines) each =
 -- the count of a class with few verdicts
 record IsLow (line : ClassLine) : Type 0 where
   few : line.count ≤ biases.verdicts_on line
-  revoked : line.revoke ≡ one_if (nat_le 40 line.count)
+  revoked : line.revoke ≡ one_if (nat_le revoke_threshold line.count)
 
 none_revoked : (lines : List ClassLine) → ((k : ℕ) (line : ClassLine) → slice_get lines k ≡ Some line → IsLow line)
-    → sum_by biases.verdicts_on lines < 40 → AllByRecursion (λ (line : ClassLine). line.revoke ≡ 0) lines
+    → sum_by biases.verdicts_on lines < revoke_threshold → AllByRecursion (λ (line : ClassLine). line.revoke ≡ 0) lines
 none_revoked [] each low = tt
 none_revoked (line ∷ lines) each low =
     let verdicts = sum_by-cons biases.verdicts_on line lines in
     let here = each 0 line refl in
     let few = here.few in
-    let below : nat_le 40 line.count ≡ false = grind (arith, nat_tests, few, verdicts, low) in
+    let below : nat_le revoke_threshold line.count ≡ false = grind (arith, nat_tests, few, verdicts, low) in
     (here.revoked ∙ ap one_if below, none_revoked lines (λ k l e. each (suc k) l e) (omega (arith, verdicts, low)))
 
 -- RECORDS
@@ -160,13 +161,13 @@ module _ {tick : ℕ} (r : RunRecord) (c : ClosedSeen) (has : HasBiases tick r c
       let threads = threads_few r.halted c.counts r.logs has.counted has.verdicts in
       omega (arith, lines, threads)
 
-  pub operations_few : 20 * sum_by operations_on r.classes ≤ most_verdicts r
+  pub operations_few : rebias_threshold * sum_by operations_on r.classes ≤ most_verdicts r
   operations_few =
       let all = all_few in
       let bulk = bulk_few r.classes (λ k line e. let spent = (has.counts k line e).spent in omega (arith, spent)) in
       omega (arith, all, bulk)
 
-  pub revoked_late : most_verdicts r < 40 → AllByRecursion (λ (line : ClassLine). line.revoke ≡ 0) r.classes
+  pub revoked_late : most_verdicts r < revoke_threshold → AllByRecursion (λ (line : ClassLine). line.revoke ≡ 0) r.classes
   revoked_late low =
       let all = all_few in
       none_revoked r.classes

@@ -1,6 +1,7 @@
 -- What the law of biases says of a run, by its record.
 use Rattle.std.specs.Prelude.{◌≡◌, ◌⊎◌, ℕ, ◌+◌, ◌*◌, ◌%◌, ◌==◌, ◌&&◌, ◌≤◌, min, nat_le, if◌then◌else◌, Bool, true, false, [], length, slice_get, slice_index_or, Some}
 use Rattle.std.specs.List.{AllByRecursion, list_any}
+use Rattle.lock_policy.specs.Policy.{rebias_threshold, revoke_threshold, most_revocations}
 use Rattle.core_law.specs.CountsAndVerdicts.{CountFits}
 use Rattle.core_law.specs.OfARun.{IsHashLogged}
 use Rattle.core_law.specs.TakenBiases.{times_taken, OwnsAreTaken}
@@ -33,9 +34,9 @@ verdicts_on line = line.single + line.rebias + line.revoke
 -- The count was never set to 0: it is the number of verdicts, up to 41. The class was rebiased in bulk once where there are 20 or more
 -- of them, and revoked in bulk once where there are 40 or more.
 pub record IsEven (line : ClassLine) : Type 0 where
-  pub count : line.count ≡ min (verdicts_on line) 41
-  pub rebias : line.rebias ≡ (if nat_le 20 (verdicts_on line) then 1 else 0)
-  pub revoke : line.revoke ≡ (if nat_le 40 (verdicts_on line) then 1 else 0)
+  pub count : line.count ≡ min (verdicts_on line) most_revocations
+  pub rebias : line.rebias ≡ (if nat_le rebias_threshold (verdicts_on line) then 1 else 0)
+  pub revoke : line.revoke ≡ (if nat_le revoke_threshold (verdicts_on line) then 1 else 0)
 
 -- no verdict was counted
 abbrev pub IsIdle : ClassLine → Type 0

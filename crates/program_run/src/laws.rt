@@ -1,6 +1,7 @@
 //! Laws of a run's record. The functions do nothing.
 
 ghost use Rattle.std.specs.Prelude.{◌≡◌, ℕ, ◌≤◌, slice_get, Some};
+ghost use Rattle.plain_monitor.specs.Limits.{most_fuel};
 ghost use Rattle.heap_table.specs.Seen.{ClosedSeen};
 ghost use Rattle.lock_journal.specs.declared.record.RunRecord.{RunRecord};
 ghost use Rattle.lock_journal.specs.declared.record.Shot.{Shot};
@@ -20,7 +21,8 @@ ghost use Rattle.program_run.specs.Shots.{shots_of};
 
 /// The record that is copied from what a run leaves is a record of the run. The counts of its classes are small.
 pub fn the_record_tells_the_run()
-    ensures record { (s : Settings) (p : ProgramText) (r : RunRecord) (c : ClosedSeen) → IsProgram p → s.fuel ≤ 200000
+    ensures record { (s : Settings) (p : ProgramText) (r : RunRecord) (c : ClosedSeen) → IsProgram p
+        → s.fuel ≤ most_fuel
         → HasRun (heap_for s p) p s.fuel s.tick c → IsRecordOf s p r → IsOfClosed r c → IsRan s p r c }
     ensures small { (s : Settings) (p : ProgramText) (c : ClosedSeen)
         → HasRun (heap_for s p) p s.fuel s.tick c → HasSmallCounts c }

@@ -18,7 +18,10 @@ mod verdict_laws;
 
 pub use laws::a_dump_shows_a_state_that_the_run_passes_through;
 pub use plain_laws::{plain_runs_are_runs_of_all_settings, runs_without_paths_are_plain};
-pub use refused::{no_record_with_a_bias_from_nowhere, no_record_with_a_bias_that_wanders};
+pub use refused::{
+    no_record_with_a_bias_from_nowhere, no_record_with_a_bias_that_wanders,
+    no_record_with_a_dump_that_leaves_out_an_earlier_entry,
+};
 pub use run::run_program;
 pub use settings::{Ran, Settings};
 pub use verdict_laws::verdicts_come_of_entries;

@@ -1,6 +1,7 @@
 //! The heap and the threads of a program before the first turn.
 
 ghost use Rattle.std.specs.Prelude.{◌≡◌, ◌≤◌, IfOk};
+ghost use Rattle.plain_monitor.specs.Limits.{most_fuel};
 ghost use Rattle.run_rounds.specs.Rounds.{AreReady};
 ghost use Rattle.run_rounds.specs.Between.{IsHeapOf};
 ghost use Rattle.program_run.specs.HeapFor.{heap_for};
@@ -19,7 +20,7 @@ pub fn open(
     program: &Program,
     settings: &Settings,
 ) -> Result<(Heap, List<Runner>), NoMemory>
-    requires fuel { settings.now.fuel ≤ 200000 }
+    requires fuel { settings.now.fuel ≤ most_fuel }
     ensures heap { IfOk result (λ r. r.0.heap ≡ heap_for settings.now program.now) }
     ensures program { IfOk result (λ r. IsHeapOf r.0 program.now) }
     ensures runners { IfOk result (λ r. AreReady r.0 program.now settings.now.fuel settings.now.tick r.1) }

@@ -1,6 +1,7 @@
 //! The run of a program.
 
 ghost use Rattle.std.specs.Prelude.{◌≤◌, IfOk};
+ghost use Rattle.plain_monitor.specs.Limits.{most_fuel};
 ghost use Rattle.run_rounds.specs.Outcome.{HasRun};
 ghost use Rattle.program_run.specs.HeapFor.{heap_for};
 ghost use Rattle.program_run.specs.Ran.{IsRan};
@@ -32,7 +33,7 @@ pub fn run_program<R: Threads + Wait + Sync, C: Clock + Sync, G: Gate + Sync>(
     clock: &C,
     gate: &G,
 ) -> Result<Ran, NoMemory>
-    requires fuel { settings.now.fuel ≤ 200000 }
+    requires fuel { settings.now.fuel ≤ most_fuel }
     requires workers { 1 ≤ settings.now.workers }
     requires quantum { 1 ≤ settings.now.quantum }
     ensures { IfOk result (λ ran. IsRan settings.now program ran.record ran.closed) }
@@ -52,7 +53,7 @@ fn run_closed<R: Threads + Wait + Sync, C: Clock + Sync, G: Gate + Sync>(
     clock: &C,
     gate: &G,
 ) -> Result<Closed, NoMemory>
-    requires fuel { settings.now.fuel ≤ 200000 }
+    requires fuel { settings.now.fuel ≤ most_fuel }
     requires workers { 1 ≤ settings.now.workers }
     requires quantum { 1 ≤ settings.now.quantum }
     ensures { IfOk result (HasRun (heap_for settings.now program.now) program.now settings.now.fuel settings.now.tick) }

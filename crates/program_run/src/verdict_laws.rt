@@ -2,6 +2,7 @@
 
 ghost use Rattle.std.specs.Prelude.{◌≡◌, ◌+◌, ◌*◌, ◌<◌, ◌≤◌};
 ghost use Rattle.std.specs.List.{AllByRecursion, sum_by};
+ghost use Rattle.lock_policy.specs.Policy.{rebias_threshold, revoke_threshold};
 ghost use Rattle.heap_table.specs.Seen.{ClosedSeen};
 ghost use Rattle.lock_journal.specs.declared.record.RunRecord.{RunRecord};
 ghost use Rattle.object_program.specs.Program.{ProgramText};
@@ -17,7 +18,7 @@ pub fn verdicts_come_of_entries()
     ensures verdicts { (s : Settings) (p : ProgramText) (r : RunRecord) (c : ClosedSeen) → IsRan s p r c
         → sum_by verdicts_on r.classes ≤ most_verdicts r }
     ensures bulk { (s : Settings) (p : ProgramText) (r : RunRecord) (c : ClosedSeen) → IsRan s p r c
-        → 20 * sum_by (λ line. line.rebias + line.revoke) r.classes ≤ most_verdicts r }
+        → rebias_threshold * sum_by (λ line. line.rebias + line.revoke) r.classes ≤ most_verdicts r }
     ensures late { (s : Settings) (p : ProgramText) (r : RunRecord) (c : ClosedSeen) → IsRan s p r c
-        → most_verdicts r < 40 → AllByRecursion (λ line. line.revoke ≡ 0) r.classes }
+        → most_verdicts r < revoke_threshold → AllByRecursion (λ line. line.revoke ≡ 0) r.classes }
 {}

@@ -3,6 +3,7 @@ use Rattle.std.proofs.Common.{◌≡◌, ℕ, ◌+◌, ◌<◌, ◌≤◌, Bool,
 use Rattle.std.specs.List.{AllByRecursion}
 use Rattle.std.proofs.lemmas.Bool.{not-false}
 use Rattle.std.proofs.lemmas.List.{length-map, length_push}
+use Rattle.object_program.specs.Limits.{most_locals, most_code}
 use Rattle.object_program.specs.Name.{is_name}
 use Rattle.object_program.specs.Program.{ProgramText, total_of}
 use Rattle.object_program.specs.Valid.{is_among, AreObjects, IsInstruction, IsThread}
@@ -18,6 +19,7 @@ use Rattle.object_program.specs.declared.program.Code.{Code}
 use Rattle.object_program.specs.declared.program.Code.TheVariants as code
 use Rattle.program_syntax.specs.declared.keyword.Keyword.{Keyword}
 use Rattle.program_syntax.specs.declared.keyword.Keyword.TheVariants.{Class, Object, Array, Thread, Local, Label, End}
+use Rattle.plain_monitor.specs.Limits.{most_slots, most_objects, most_classes, most_threads}
 use Rattle.plain_monitor.proofs.Lists.{all_push, all_weaker}
 use Rattle.program_syntax.proofs.AllowedNames.{AreNames-push, AreNames-push_map, number_among-lt}
 use Rattle.program_syntax.proofs.AllowedLabels.{AreTargets-more, AreTargets-push}
@@ -27,7 +29,7 @@ use Rattle.program_syntax.proofs.AllowedParts.{IsAllowedText, Ahead, ahead_of, a
 
 -- a class
 IsAllowedText-class : (p : ProgramText) (c : ClassDef) → IsAllowedText p → IsTrue (is_name c.name) → is_among (map (λ d. d.name) p.classes) c.name ≡ false
-    → c.slots ≤ 16 → length p.classes < 64 → IsAllowedText (record p { classes = p.classes ++ c ∷ [] })
+    → c.slots ≤ most_slots → length p.classes < most_classes → IsAllowedText (record p { classes = p.classes ++ c ∷ [] })
 IsAllowedText-class p c h name new slots room =
     let one : length (p.classes ++ c ∷ []) ≡ length p.classes + 1 = length_push p.classes c in
     record {
@@ -44,7 +46,7 @@ IsAllowedText-class p c h name new slots room =
 
 -- a declaration of objects
 IsAllowedText-object : (p : ProgramText) (d : ObjectDef) → IsAllowedText p → IsTrue (is_name d.name) → is_among (map (λ e. e.name) p.objects) d.name ≡ false
-    → AreObjects (length p.classes) (total_of p.objects) (d ∷ []) → total_of p.objects + d.size ≤ 4096 → IsAllowedText (record p { objects = p.objects ++ d ∷ [] })
+    → AreObjects (length p.classes) (total_of p.objects) (d ∷ []) → total_of p.objects + d.size ≤ most_objects → IsAllowedText (record p { objects = p.objects ++ d ∷ [] })
 IsAllowedText-object p d h name new here room =
     let one : length (p.objects ++ d ∷ []) ≡ length p.objects + 1 = length_push p.objects d in
     record {
@@ -64,7 +66,7 @@ abbrev at_end : Ahead
 at_end = record { labels = λ n. []; closed = true }
 
 -- a thread whose section is closed
-IsThread-closed : (objects : ℕ) (names : List (List ℕ)) (t : ThreadDef) → IsOpen objects names at_end t → length t.code < 4096
+IsThread-closed : (objects : ℕ) (names : List (List ℕ)) (t : ThreadDef) → IsOpen objects names at_end t → length t.code < most_code
     → IsThread objects (record t { code = t.code ++ code.End ∷ [] })
 IsThread-closed objects names t o room =
     let l = length t.locals in
@@ -82,7 +84,7 @@ IsThread-closed objects names t o room =
       ends = EndsOnce-push l objects (t.labels ++ []) t.code o.code;
     }
 
-IsAllowedText-thread : (p : ProgramText) (t : ThreadDef) → IsAllowedText p → IsOpenIn p at_end t → length t.code < 4096
+IsAllowedText-thread : (p : ProgramText) (t : ThreadDef) → IsAllowedText p → IsOpenIn p at_end t → length t.code < most_code
     → IsAllowedText (record p { threads = p.threads ++ record t { code = t.code ++ code.End ∷ [] } ∷ [] })
 IsAllowedText-thread p t h o room =
     let closed : ThreadDef = record t { code = t.code ++ code.End ∷ [] } in
@@ -101,7 +103,7 @@ IsAllowedText-thread p t h o room =
 
 -- a local of an open section
 IsOpen-local : (objects : ℕ) (names : List (List ℕ)) (ahead : Ahead) (t : ThreadDef) (name : List ℕ) → IsOpen objects names ahead t
-    → IsTrue (is_name name) → is_among t.locals name ≡ false → length t.locals < 32 → IsOpen objects names ahead (record t { locals = t.locals ++ name ∷ [] })
+    → IsTrue (is_name name) → is_among t.locals name ≡ false → length t.locals < most_locals → IsOpen objects names ahead (record t { locals = t.locals ++ name ∷ [] })
 IsOpen-local objects names ahead t name o here new room =
     let one : length (t.locals ++ name ∷ []) ≡ length t.locals + 1 = length_push t.locals name in
     record {
@@ -174,7 +176,7 @@ class_kept : (p : ProgramText) (later ws : List (List ℕ)) → IsAllowedText p 
 class_kept p later ws h n =
     let name = operand_fine (outside p) later (operands_of Class) ws 0 (New Classes) refl n.operands in
     let number = operand_fine (outside p) later (operands_of Class) ws 1 _ refl n.operands in
-    let slots = count_between 0 16 ws 1 number in
+    let slots = count_between 0 most_slots ws 1 number in
     record {
       text = IsAllowedText-class p (record { name = operand ws 0; slots = count_at ws 1 }) h name.0 name.1 slots.1 (leb-false _ _ n.limit);
       section = tt;
@@ -183,7 +185,7 @@ class_kept p later ws h n =
 -- a declaration of so many objects, of a class that is declared
 objects_kept : (p : ProgramText) (later ws : List (List ℕ)) (k : Keyword) (size : ℕ) (array : Bool) → IsAllowedText p
     → slice_get (operands_of k) 0 ≡ Some (New Objects) → slice_get (operands_of k) 1 ≡ Some (Known Classes) → AreFine (outside p) later (operands_of k) ws
-    → 1 ≤ size → (array ≡ false → size ≡ 1) → total_of p.objects + size ≤ 4096
+    → 1 ≤ size → (array ≡ false → size ≡ 1) → total_of p.objects + size ≤ most_objects
     → IsAllowedText (record p { objects = p.objects ++ declared_objects p ws size array ∷ [] })
 objects_kept p later ws k size array h first second operands some one room =
     let name = operand_fine (outside p) later (operands_of k) ws 0 (New Objects) first operands in
@@ -201,7 +203,7 @@ object_kept p later ws h n = record {
 array_kept : (p : ProgramText) (later ws : List (List ℕ)) → IsAllowedText p → HasNoCause (outside p) later ws Array
     → IsAllowedSoFar (behind_keyword (outside p) later ws Array) (ahead_of later)
 array_kept p later ws h n =
-    let size = count_between 1 4096 ws 2 (operand_fine (outside p) later (operands_of Array) ws 2 _ refl n.operands) in
+    let size = count_between 1 most_objects ws 2 (operand_fine (outside p) later (operands_of Array) ws 2 _ refl n.operands) in
     record {
       text = objects_kept p later ws Array (count_at ws 2) true h refl refl n.operands size.0 (λ e. absurd (cc e)) (ltb-false _ _ n.limit);
       section = tt;
@@ -211,7 +213,7 @@ thread_kept : (p : ProgramText) (later ws : List (List ℕ)) → IsAllowedText p
     → IsAllowedSoFar (behind_keyword (outside p) later ws Thread) (ahead_of later)
 thread_kept p later ws h n =
     let name = operand_fine (outside p) later (operands_of Thread) ws 0 (New Threads) refl n.operands in
-    let room : length (map (λ t. t.name) p.threads) < 16 = rw length-map (leb-false _ _ n.limit) in
+    let room : length (map (λ t. t.name) p.threads) < most_threads = rw length-map (leb-false _ _ n.limit) in
     record {
       text = h;
       section = record {

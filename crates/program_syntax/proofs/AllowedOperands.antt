@@ -1,7 +1,8 @@
 -- The operands of an instruction whose line has no cause are those that a program may have.
-use Rattle.std.proofs.Common.{◌≡◌, ℕ, ◌<◌, ◌≤◌, ℤ, pos, negsuc, nat_abs, ◌≤ℤ◌, true, List, length, map, slice_get, refl, subst, arith, Option, Some, None, unwrap_or}
+use Rattle.std.proofs.Common.{◌≡◌, ℕ, ◌-◌, ◌<◌, ◌≤◌, ℤ, pos, negsuc, nat_abs, ◌≤ℤ◌, true, List, length, map, slice_get, refl, subst, arith, Option, Some, None, unwrap_or}
 use Rattle.std.proofs.lemmas.Int.{ints}
 use Rattle.std.proofs.lemmas.List.{length-map}
+use Rattle.plain_monitor.specs.Limits.{most_slots}
 use Rattle.plain_monitor.specs.Numbers.{least_number, greatest_number, IsInRange}
 use Rattle.program_syntax.specs.Number.{number_of, is_within}
 use Rattle.object_program.specs.Program.{ProgramText}
@@ -51,9 +52,9 @@ module _ (p : ProgramText) (t : ThreadDef) (later ws : List (List ℕ)) where
       let known = operand_fine (in_thread p t) later (operands_of k) ws i (Known Objects) wanted h in
       subst (λ l. object_at p ws i < l) (length-map p.objects (λ d. d.name)) (number_among-lt (map (λ d. d.name) p.objects) (operand ws i) known.1)
 
-  slot_fine : (k : Keyword) (i : ℕ) → slice_get (operands_of k) i ≡ Some a_slot → IsFineLine k → count_at ws i < 16
+  slot_fine : (k : Keyword) (i : ℕ) → slice_get (operands_of k) i ≡ Some a_slot → IsFineLine k → count_at ws i < most_slots
   slot_fine k i wanted h =
-      let between = count_between 0 15 ws i (operand_fine (in_thread p t) later (operands_of k) ws i a_slot wanted h) in
+      let between = count_between 0 (most_slots - 1) ws i (operand_fine (in_thread p t) later (operands_of k) ws i a_slot wanted h) in
       omega arith
 
   target_fine : (k : Keyword) (i : ℕ) → slice_get (operands_of k) i ≡ Some (Known Labels) → IsFineLine k

@@ -12,19 +12,21 @@ use Rattle.object_program.specs.declared.program.ThreadDef.{ThreadDef}
 use Rattle.object_program.specs.declared.program.Code.{Code}
 use Rattle.object_program.specs.declared.program.Code.TheVariants.{Set, Add, Sub, Mul, Ref, Elem, Enter, Exit, Wait, Notify, NotifyAll, Get, Put, Hash, Print, Jump, Jlt, Jeq, Dump, End}
 use Rattle.program_syntax.specs.declared.keyword.Keyword.{Keyword}
+use Rattle.object_program.specs.Limits.{most_locals}
+use Rattle.plain_monitor.specs.Limits.{most_threads, most_slots, most_objects, most_classes}
 use Rattle.plain_monitor.proofs.Lists.{all_weaker}
 
 -- what `IsProgram` says but for the count of threads at the end
 pub record IsAllowedText (p : ProgramText) : Type 0 where
   pub class_names : AreNames (map (λ c. c.name) p.classes)
-  pub class_slots : AllByRecursion (λ c. c.slots ≤ 16) p.classes
-  pub classes_few : length p.classes ≤ 64
+  pub class_slots : AllByRecursion (λ c. c.slots ≤ most_slots) p.classes
+  pub classes_few : length p.classes ≤ most_classes
   pub object_names : AreNames (map (λ d. d.name) p.objects)
   pub objects : AreObjects (length p.classes) 0 p.objects
-  pub objects_few : total_of p.objects ≤ 4096
+  pub objects_few : total_of p.objects ≤ most_objects
   pub thread_names : AreNames (map (λ t. t.name) p.threads)
   pub threads : AllByRecursion (IsThread (length p.objects)) p.threads
-  pub threads_few : length p.threads ≤ 16
+  pub threads_few : length p.threads ≤ most_threads
 
 -- what lines hold for the section that is open before them: its labels on them, where the next instruction has number n, and
 -- whether they close it
@@ -55,9 +57,9 @@ pub record IsOpenCode (locals objects : ℕ) (labels : List LabelDef) (c : Code)
 pub record IsOpen (objects : ℕ) (names : List (List ℕ)) (ahead : Ahead) (t : ThreadDef) : Type 0 where
   pub name : IsTrue (is_name t.name)
   pub new : is_among names t.name ≡ false
-  pub room : length names < 16
+  pub room : length names < most_threads
   pub locals : AreNames t.locals
-  pub locals_few : length t.locals ≤ 32
+  pub locals_few : length t.locals ≤ most_locals
   pub labels : AreNames (map (λ l. l.name) t.labels)
   pub targets : AreTargets (length t.code + 1) 1 t.labels
   pub code : AllByRecursion (IsOpenCode (length t.locals) objects (labels_with ahead t)) t.code

@@ -1,10 +1,12 @@
 -- Each instruction of a canonical text is read as that instruction.
-use Rattle.std.proofs.Common.{◌≡◌, ℕ, ◌<◌, ◌==◌, true, false, List, [], ◌∷◌, ◌++◌, length, map, refl, ap, ap₂, sym, subst, ◌∙◌, arith, drop, Some, ℤ, pos}
+use Rattle.std.proofs.Common.{◌≡◌, ℕ, ◌-◌, ◌<◌, ◌==◌, true, false, List, [], ◌∷◌, ◌++◌, length, map, refl, ap, ap₂, sym, subst, ◌∙◌, arith, drop, Some, ℤ, pos}
 use Rattle.std.specs.Prelude.{decimal, nat_abs, unwrap_or}
 use Rattle.std.specs.Fmt.{signed_decimal}
 use Rattle.std.proofs.lemmas.Bool.{lt-leb}
 use Rattle.std.proofs.lemmas.List.{length-map}
+use Rattle.plain_monitor.specs.Limits.{most_slots}
 use Rattle.plain_monitor.specs.Numbers.{IsInRange, least_number, greatest_number}
+use Rattle.object_program.specs.Limits.{most_code}
 use Rattle.object_program.specs.Name.{is_name}
 use Rattle.program_syntax.specs.Number.{number_of}
 use Rattle.object_program.specs.Program.{ProgramText}
@@ -116,7 +118,7 @@ module _ (ds : List ObjectDef) (t : ThreadDef) (named : AreNamed ds t) where
   target_word : (l : ℕ) → is_target t.labels l ≡ true → is_word (label_name t.labels l) ≡ true
   target_word l h = name_word (label_name t.labels l) (target_is_name l h)
 
-  slot_word : (k : ℕ) → k < 16 → is_word (decimal k) ≡ true
+  slot_word : (k : ℕ) → k < most_slots → is_word (decimal k) ≡ true
   slot_word k h = decimal_word k (omega arith)
 
   pub instruction_is_words : (c : Code) → IsAllowed ds t c → AreWords (instruction_words ds t c)
@@ -147,7 +149,7 @@ so_far t labels done = record { name = t.name; locals = t.locals; labels = label
 
 -- an instruction's line, where the labels before it and behind it are all labels of its thread
 module _ (p : ProgramText) (t : ThreadDef) (named : AreNamed p.objects t) (before : List LabelDef) (done : List Code) (later : List (List ℕ))
-    (all_labels : section_labels (so_far t before done) later ≡ t.labels) (room : length done < 4096) where
+    (all_labels : section_labels (so_far t before done) later ≡ t.labels) (room : length done < most_code) where
   abbrev here : Before
   here = opened p (so_far t before done)
 
@@ -164,8 +166,8 @@ module _ (p : ProgramText) (t : ThreadDef) (named : AreNamed p.objects t) (befor
       let among = subst (λ (ls : List LabelDef). is_among (map (λ (d : LabelDef). d.name) ls) (label_name t.labels l) ≡ true) (sym all_labels) (label_is_among t.labels l h) in
       good_known here later Labels (label_name t.labels l) (target_is_name p.objects t named l h) among
 
-  a_slot_number : (k : ℕ) → k < 16 → IsGood here later a_slot (decimal k)
-  a_slot_number k h = good_decimal here later 0 15 k (omega arith) (omega arith) (omega arith)
+  a_slot_number : (k : ℕ) → k < most_slots → IsGood here later a_slot (decimal k)
+  a_slot_number k h = good_decimal here later 0 (most_slots - 1) k (omega arith) (omega arith) (omega arith)
 
   a_value : (v : ℤ) → IsInRange v → IsGood here later (Number least_number greatest_number) (signed_decimal v)
   a_value v h = good_signed here later v h
@@ -203,7 +205,7 @@ module _ (p : ProgramText) (t : ThreadDef) (named : AreNamed p.objects t) (befor
   label_found l h =
       subst (λ (ls : List LabelDef). target_among ls (label_name t.labels l) ≡ l) (sym all_labels) (target_among-label t.labels l named.label_names h)
 
-  slot_found : (k : ℕ) → k < 16 → nat_abs (unwrap_or (number_of (decimal k)) (pos 0)) ≡ k
+  slot_found : (k : ℕ) → k < most_slots → nat_abs (unwrap_or (number_of (decimal k)) (pos 0)) ≡ k
   slot_found k h = count_of_decimal k (omega arith)
 
   value_found : (v : ℤ) → IsInRange v → unwrap_or (number_of (signed_decimal v)) (pos 0) ≡ v
@@ -239,7 +241,7 @@ module _ (p : ProgramText) (t : ThreadDef) (named : AreNamed p.objects t) (befor
         place = in_place p (so_far t before done) c;
         number = operands_number p.objects t c;
         operands = operands_good c h;
-        limit = limit_of_code here (operand_words p.objects t c) c ∙ lt-leb 4096 (length done) room;
+        limit = limit_of_code here (operand_words p.objects t c) c ∙ lt-leb most_code (length done) room;
         closed = opens_nothing later c;
       } in
       read_line final here (section_behind p (so_far t before (done ++ c ∷ [])) (keyword_for c)) later (instruction_words p.objects t c)

@@ -1,6 +1,7 @@
 -- The canonical text of a program is read as the program.
 use Rattle.std.proofs.Common.{◌≡◌, ℕ, ◌+◌, ◌≤◌, true, List, [], ◌∷◌, ◌++◌, length, map, refl, ap, sym, subst, ◌∙◌, arith, append_assoc, append-nil, Ok, le-ltb, ne_eqb}
 use Rattle.std.specs.List.{AllByRecursion, flat_map}
+use Rattle.plain_monitor.specs.Limits.{most_slots, most_objects}
 use Rattle.object_program.specs.Name.{is_name}
 use Rattle.object_program.specs.Program.{ProgramText, total_of}
 use Rattle.object_program.specs.Valid.{AreNames, AreObjects, IsInstruction, IsThread, IsProgram}
@@ -61,12 +62,12 @@ lines_behind : (xs ys : List (List (List ℕ))) → AreLines xs → AreLines ys 
 lines_behind [] ys h k = k
 lines_behind (x ∷ xs) ys h k = (h.0, lines_behind xs ys h.1 k)
 
-class_lines : (classes : List ClassDef) → AreNames (map (λ c. c.name) classes) → AllByRecursion (λ c. c.slots ≤ 16) classes → AreLines (map class_words classes)
+class_lines : (classes : List ClassDef) → AreNames (map (λ c. c.name) classes) → AllByRecursion (λ c. c.slots ≤ most_slots) classes → AreLines (map class_words classes)
 class_lines [] names slots = tt
 class_lines (c ∷ cs) names slots = (class_is_words c names.0 slots.0, class_lines cs names.2 slots.1)
 
 object_lines : (classes : List ClassDef) (n : ℕ) (objects : List ObjectDef) → AreNames (map (λ c. c.name) classes) → AreNames (map (λ d. d.name) objects)
-    → AreObjects (length classes) n objects → total_of objects ≤ 4096 → AreLines (map (object_words classes) objects)
+    → AreObjects (length classes) n objects → total_of objects ≤ most_objects → AreLines (map (object_words classes) objects)
 object_lines classes n [] class_names names are few = tt
 object_lines classes n (d ∷ ds) class_names names are few =
     let class = class_is classes d class_names are.0.0 in

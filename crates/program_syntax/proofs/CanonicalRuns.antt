@@ -4,6 +4,8 @@ use Rattle.std.specs.Prelude.{decimal, nat_abs, unwrap_or}
 use Rattle.std.specs.List.{AllByRecursion}
 use Rattle.std.proofs.lemmas.Bool.{lt-leb}
 use Rattle.std.proofs.lemmas.List.{map-append, length-map}
+use Rattle.plain_monitor.specs.Limits.{most_slots, most_objects, most_classes}
+use Rattle.object_program.specs.Limits.{most_locals}
 use Rattle.object_program.specs.Name.{is_name}
 use Rattle.program_syntax.specs.Number.{number_of}
 use Rattle.object_program.specs.Program.{ProgramText, total_of}
@@ -59,7 +61,7 @@ outside p = record { text = p; section = None }
 abbrev pub opened : ProgramText → ThreadDef → Before
 opened p t = record { text = p; section = Some t }
 
-class_read : (final : Before) (p : ProgramText) (c : ClassDef) (later : List (List ℕ)) → IsNew (map (λ c. c.name) p.classes) c.name → c.slots ≤ 16 → length p.classes < 64
+class_read : (final : Before) (p : ProgramText) (c : ClassDef) (later : List (List ℕ)) → IsNew (map (λ c. c.name) p.classes) c.name → c.slots ≤ most_slots → length p.classes < most_classes
     → ReadsAs final (outside (record p { classes = p.classes ++ c ∷ [] })) later → ReadsAs final (outside p) (line_of (class_words c) ∷ later)
 class_read final p c later new slots few h =
     let count = count_of_decimal c.slots (omega arith) in
@@ -68,18 +70,18 @@ class_read final p c later new slots few h =
     (no_cause (outside p) later (c.name ∷ decimal c.slots ∷ []) Class (record {
       place = refl;
       number = refl;
-      operands = (good_new (outside p) later Classes c.name new.name_is new.new, (good_decimal (outside p) later 0 16 c.slots (omega arith) slots (omega arith), tt));
-      limit = lt-leb 64 (length p.classes) few;
+      operands = (good_new (outside p) later Classes c.name new.name_is new.new, (good_decimal (outside p) later 0 most_slots c.slots (omega arith) slots (omega arith), tt));
+      limit = lt-leb most_classes (length p.classes) few;
       closed = refl;
     }))
     (ap (λ (n : ℕ). outside (record p { classes = p.classes ++ record { name = c.name; slots = n } ∷ [] })) count)
     h
 
-pub classes_read : (final : Before) (classes : List ClassDef) (later : List (List ℕ)) → AreNames (map (λ c. c.name) classes) → AllByRecursion (λ c. c.slots ≤ 16) classes → length classes ≤ 64
+pub classes_read : (final : Before) (classes : List ClassDef) (later : List (List ℕ)) → AreNames (map (λ c. c.name) classes) → AllByRecursion (λ c. c.slots ≤ most_slots) classes → length classes ≤ most_classes
     → ReadsAs final (outside (record { classes = classes; objects = []; threads = [] })) later
     → ReadsAs final (outside (record { classes = []; objects = []; threads = [] })) (map line_of (map class_words classes) ++ later)
 classes_read final classes later names slots few h =
-    each_adds final (λ done. outside (record { classes = done; objects = []; threads = [] })) class_words (λ c. c.slots ≤ 16) classes
+    each_adds final (λ done. outside (record { classes = done; objects = []; threads = [] })) class_words (λ c. c.slots ≤ most_slots) classes
     (λ done c todo rest e q k. class_read final (record { classes = done; objects = []; threads = [] }) c rest
     (new_in_middle (λ (c : ClassDef). c.name) done c todo classes e names) q (omega (arith, length_front done c todo classes e)) k)
     [] classes later refl slots h
@@ -131,7 +133,7 @@ abbrev count_of : ℕ → ℕ
 count_of n = nat_abs (unwrap_or (number_of (decimal n)) (pos 0))
 
 array_read : (final : Before) (classes : List ClassDef) (done : List ObjectDef) (d : ObjectDef) (later : List (List ℕ)) → d.array ≡ true
-    → IsNew (map (λ d. d.name) done) d.name → IsOfClass classes d → IsDeclared (length classes) (total_of done) d → total_of done + d.size ≤ 4096
+    → IsNew (map (λ d. d.name) done) d.name → IsOfClass classes d → IsDeclared (length classes) (total_of done) d → total_of done + d.size ≤ most_objects
     → ReadsAs final (declared classes (done ++ d ∷ [])) later
     → ReadsAs final (declared classes done) (line_of (codes "array" ∷ d.name ∷ class_name classes d.class ∷ decimal d.size ∷ []) ∷ later)
 array_read final classes done d later e new class is few h =
@@ -143,15 +145,15 @@ array_read final classes done d later e new class is few h =
     (no_cause b later (d.name ∷ class_name classes d.class ∷ decimal d.size ∷ []) Array (record {
       place = refl;
       number = refl;
-      operands = (good_new b later Objects d.name new.name_is new.new, (good_known b later Classes (class_name classes d.class) class.class_name_is class.class_known, (good_decimal b later 1 4096 d.size is.some (omega arith) (omega arith), tt)));
-      limit = let m : total_of done + count_of d.size ≤ 4096 = omega (arith, size) in le-ltb 4096 (total_of done + count_of d.size) m;
+      operands = (good_new b later Objects d.name new.name_is new.new, (good_known b later Classes (class_name classes d.class) class.class_name_is class.class_known, (good_decimal b later 1 most_objects d.size is.some (omega arith) (omega arith), tt)));
+      limit = let m : total_of done + count_of d.size ≤ most_objects = omega (arith, size) in le-ltb most_objects (total_of done + count_of d.size) m;
       closed = refl;
     }))
     (ap (λ x. declared classes (done ++ x ∷ [])) same)
     h
 
 object_read : (final : Before) (classes : List ClassDef) (done : List ObjectDef) (d : ObjectDef) (later : List (List ℕ)) → d.array ≡ false
-    → IsNew (map (λ d. d.name) done) d.name → IsOfClass classes d → IsDeclared (length classes) (total_of done) d → total_of done + d.size ≤ 4096
+    → IsNew (map (λ d. d.name) done) d.name → IsOfClass classes d → IsDeclared (length classes) (total_of done) d → total_of done + d.size ≤ most_objects
     → ReadsAs final (declared classes (done ++ d ∷ [])) later
     → ReadsAs final (declared classes done) (line_of (codes "object" ∷ d.name ∷ class_name classes d.class ∷ []) ∷ later)
 object_read final classes done d later e new class is few h =
@@ -164,14 +166,14 @@ object_read final classes done d later e new class is few h =
       place = refl;
       number = refl;
       operands = (good_new b later Objects d.name new.name_is new.new, (good_known b later Classes (class_name classes d.class) class.class_name_is class.class_known, tt));
-      limit = le-ltb 4096 (total_of done + 1) (omega arith);
+      limit = le-ltb most_objects (total_of done + 1) (omega arith);
       closed = refl;
     }))
     (ap (λ x. declared classes (done ++ x ∷ [])) same)
     h
 
 declaration_read : (final : Before) (classes : List ClassDef) (done : List ObjectDef) (d : ObjectDef) (later : List (List ℕ)) (b : Bool) → d.array ≡ b
-    → IsNew (map (λ d. d.name) done) d.name → IsOfClass classes d → IsDeclared (length classes) (total_of done) d → total_of done + d.size ≤ 4096
+    → IsNew (map (λ d. d.name) done) d.name → IsOfClass classes d → IsDeclared (length classes) (total_of done) d → total_of done + d.size ≤ most_objects
     → ReadsAs final (declared classes (done ++ d ∷ [])) later → ReadsAs final (declared classes done) (line_of (object_words classes d) ∷ later)
 declaration_read final classes done d later true e new class is few h =
     rw e (array_read final classes done d later e new class is few h)
@@ -187,20 +189,20 @@ each_unit [] = tt
 each_unit (x ∷ xs) = (tt, each_unit xs)
 
 pub objects_read : (final : Before) (classes : List ClassDef) (objects : List ObjectDef) (later : List (List ℕ)) → AreNames (map (λ c. c.name) classes) → AreNames (map (λ d. d.name) objects)
-    → AreObjects (length classes) 0 objects → total_of objects ≤ 4096 → ReadsAs final (declared classes objects) later
+    → AreObjects (length classes) 0 objects → total_of objects ≤ most_objects → ReadsAs final (declared classes objects) later
     → ReadsAs final (declared classes []) (map line_of (map (object_words classes) objects) ++ later)
 objects_read final classes objects later class_names names are few h =
     each_adds final (λ done. declared classes done) (object_words classes) (λ d. Unit {0}) objects
     (λ done d todo rest e q k.
     let is = object_in_middle (length classes) 0 done d todo (subst (AreObjects (length classes) 0) (sym e) are) in
-    let total : total_of (done ++ d ∷ todo) ≤ 4096 = rw e few in
+    let total : total_of (done ++ d ∷ todo) ≤ most_objects = rw e few in
     declaration_read final classes done d rest d.array refl
     (new_in_middle (λ (d : ObjectDef). d.name) done d todo objects e names) (class_is classes d class_names is.known) (at_zero (length classes) (total_of done) d is)
     (omega (arith, total_of-middle done d todo)) k)
     [] objects later refl (each_unit objects) h
 
 -- a local, and a label of the next instruction
-pub local_read : (final : Before) (p : ProgramText) (t : ThreadDef) (name : List ℕ) (later : List (List ℕ)) → IsNew t.locals name → length t.locals < 32
+pub local_read : (final : Before) (p : ProgramText) (t : ThreadDef) (name : List ℕ) (later : List (List ℕ)) → IsNew t.locals name → length t.locals < most_locals
     → ReadsAs final (opened p (record t { locals = t.locals ++ name ∷ [] })) later → ReadsAs final (opened p t) (line_of (local_words name) ∷ later)
 local_read final p t name later new few h =
     read_line final (opened p t) (opened p (record t { locals = t.locals ++ name ∷ [] })) later (local_words name)
@@ -209,7 +211,7 @@ local_read final p t name later new few h =
       place = refl;
       number = refl;
       operands = (good_new (opened p t) later Locals name new.name_is new.new, tt);
-      limit = lt-leb 32 (length t.locals) few;
+      limit = lt-leb most_locals (length t.locals) few;
       closed = refl;
     }))
     refl

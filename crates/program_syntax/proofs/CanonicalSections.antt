@@ -3,6 +3,8 @@ use Rattle.std.proofs.Common.{◌≡◌, ℕ, ◌+◌, ◌<◌, true, not, List,
 use Rattle.std.specs.List.{AllByRecursion}
 use Rattle.std.proofs.lemmas.Bool.{lt-leb}
 use Rattle.std.proofs.lemmas.List.{map-append}
+use Rattle.plain_monitor.specs.Limits.{most_threads}
+use Rattle.object_program.specs.Limits.{most_code}
 use Rattle.object_program.specs.Program.{ProgramText}
 use Rattle.object_program.specs.Valid.{AreNames, EndsOnce, IsInstruction, IsThread}
 use Rattle.program_syntax.specs.Reading.{Before, new_thread, labels_ahead, section_labels, section_behind}
@@ -29,13 +31,13 @@ stays_open p s code.End h = absurd (h refl)
 stays_open p s c h = refl
 
 -- an `end` closes it
-end_read : (final : Before) (p : ProgramText) (s : ThreadDef) (later : List (List ℕ)) → length s.code < 4096
+end_read : (final : Before) (p : ProgramText) (s : ThreadDef) (later : List (List ℕ)) → length s.code < most_code
     → ReadsAs final (outside (record p { threads = p.threads ++ record s { code = s.code ++ code.End ∷ [] } ∷ [] })) later
     → ReadsAs final (opened p s) (line_of (codes "end" ∷ []) ∷ later)
 end_read final p s later room h =
     read_line final (opened p s) (outside (record p { threads = p.threads ++ record s { code = s.code ++ code.End ∷ [] } ∷ [] })) later (codes "end" ∷ [])
     (refl, tt)
-    (no_cause (opened p s) later [] End (record { place = refl; number = refl; operands = tt; limit = lt-leb 4096 (length s.code) room; closed = refl }))
+    (no_cause (opened p s) later [] End (record { place = refl; number = refl; operands = tt; limit = lt-leb most_code (length s.code) room; closed = refl }))
     refl
     h
 
@@ -107,7 +109,7 @@ module _ (final : Before) (p : ProgramText) (t : ThreadDef) (named : AreNamed p.
       (new_among done x todo t.locals e is.locals) (omega (arith, length_front done x todo t.locals e)) k)
       [] t.locals later refl (each_unit t.locals) h
 
-  pub section_read : (later : List (List ℕ)) → IsNew (map (λ t. t.name) p.threads) t.name → length p.threads < 16
+  pub section_read : (later : List (List ℕ)) → IsNew (map (λ t. t.name) p.threads) t.name → length p.threads < most_threads
       → ReadsAs final closed later → ReadsAs final (outside p) (map line_of (thread_lines p.objects t) ++ later)
   section_read later new few h =
       let code_behind_locals = map line_of (code_lines p.objects t 1 t.code) ++ later in
@@ -123,7 +125,7 @@ module _ (final : Before) (p : ProgramText) (t : ThreadDef) (named : AreNamed p.
         place = refl;
         number = refl;
         operands = (good_new (outside p) rest Threads t.name new.name_is new.new, tt);
-        limit = lt-leb 16 (length p.threads) few;
+        limit = lt-leb most_threads (length p.threads) few;
         closed = ap not is_closed_behind;
       }))
       refl

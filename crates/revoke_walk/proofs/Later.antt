@@ -1,5 +1,6 @@
 -- What a thread sees at its reached safepoint stays seen.
 use Rattle.std.proofs.Common.{◌≡◌, ℕ, ◌≤◌, ◌||◌, Bool, true, false, cond, [], length, Some, refl, sym, ap, ◌∙◌, subst, arith}
+use Rattle.core_world.specs.Clauses.Lengths.{log_limit}
 use Rattle.core_world.specs.declared.act.Act.TheVariants.{Load}
 use Rattle.core_world.specs.declared.name.Name.{Name}
 use Rattle.core_world.specs.declared.name.Name.TheVariants as name
@@ -85,10 +86,10 @@ module _ (h : HeapSeen) (p : PassSeen) (is_of : IsOf h p) where
       record { world = r.world; objects = r.sound.valid.objects; is_of = r.is_of; knows = r.knew; within = is_of.within; valid = r.sound.valid.is }
 
   module _ (reached : p.known.reached ≡ true) (calm : p.known.stage ≡ Calm) where
-    pub log_few : length p.known.log ≤ 400066
-    log_few = home h.heap p.known stands (λ s y. length y.log ≤ 400066) ((fits_reached h.heap p.known stands reached calm).lengths.few p.known.thread)
+    pub log_few : length p.known.log ≤ log_limit
+    log_few = home h.heap p.known stands (λ s y. length y.log ≤ log_limit) ((fits_reached h.heap p.known stands reached calm).lengths.few p.known.thread)
 
-    pub published_few : (u n : ℕ) → last_seen (Length u) p.known.seen_at_safepoint ≡ Some n → n ≤ 400066
+    pub published_few : (u n : ℕ) → last_seen (Length u) p.known.seen_at_safepoint ≡ Some n → n ≤ log_limit
     published_few u n saw =
         let fits = fits_reached h.heap p.known stands reached calm in
         let word : stands.world.words (Length u) ≡ n = is_as_seen h.heap p.known stands reached (Length u) n saw in

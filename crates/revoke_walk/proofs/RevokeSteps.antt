@@ -1,6 +1,7 @@
 -- The steps of a revocation: lists of stores, and of which call they are.
 use Rattle.std.proofs.Common.{◌≡◌, ℕ, ◌+◌, ◌<◌, ◌≤◌, ◌==◌, ◌++◌, Bool, true, false, cond, if◌then◌else◌, List, [], ◌∷◌, length, drop, get_or, Option, Some, None, refl, ap, ◌∙◌}
 use Rattle.std.proofs.lemmas.List.{drop_more, drop_all}
+use Rattle.plain_monitor.specs.Limits.{most_holds}
 use Rattle.mark_word.specs.declared.mark.MarkForm.{MarkForm}
 use Rattle.mark_word.specs.declared.mark.MarkForm.TheVariants.{Inflating, Neutral, Anonymous, Biased, Locked, Inflated, Marked}
 use Rattle.mark_word.specs.Hold.{read_hold}
@@ -31,13 +32,13 @@ module _ (e : Purpose) (b : Revocation) where
   stores_of [] = tt
   stores_of (x ∷ xs) = (refl, λ n. stores_of xs)
 
-  pub holds_of : (t : ℕ) → AreOf e.task (each_from 0 64 (λ p. look e b (Hold t p)))
-  holds_of t = each_of e.task 0 64 (λ p. look e b (Hold t p)) (λ p. (refl, λ n. tt))
+  pub holds_of : (t : ℕ) → AreOf e.task (each_from 0 most_holds (λ p. look e b (Hold t p)))
+  holds_of t = each_of e.task 0 most_holds (λ p. look e b (Hold t p)) (λ p. (refl, λ n. tt))
 
   pub form_of : (f : Option MarkForm) (o : ℕ) (allowed : Bool) → AreOf e.task (revoke_at f e b o allowed)
   form_of (Some (Anonymous epoch age)) o allowed = stores_of _
   form_of (Some (Biased t epoch age)) o allowed =
-      then_of e.task (each_from 0 64 (λ p. look e b (Hold t p))) (λ holds. store_steps e b (revoke_biased o t allowed holds)) (holds_of t) (λ holds. stores_of _)
+      then_of e.task (each_from 0 most_holds (λ p. look e b (Hold t p))) (λ holds. store_steps e b (revoke_biased o t allowed holds)) (holds_of t) (λ holds. stores_of _)
   form_of None o allowed = tt
   form_of (Some Inflating) o allowed = tt
   form_of (Some (Neutral hash age)) o allowed = tt
@@ -62,7 +63,7 @@ module _ (e : Purpose) (b : Revocation) where
   place_of s c v t p = (refl, λ hold. held_of s c v (object_held (read_hold hold)))
 
   pub thread_of : (s : Shape) (c : ℕ) (v : Visit) (t : ℕ) → AreOf e.task (thread_steps s c e b v t)
-  thread_of s c v t = all_of e.task 0 64 (λ p. place_steps s c e b v t p) (λ p. place_of s c v t p)
+  thread_of s c v t = all_of e.task 0 most_holds (λ p. place_steps s c e b v t p) (λ p. place_of s c v t p)
 
   pub walk_of : (s : Shape) (c : ℕ) (v : Visit) → AreOf e.task (all_from 0 s.threads (λ t. thread_steps s c e b v t))
   walk_of s c v = all_of e.task 0 s.threads (λ t. thread_steps s c e b v t) (λ t. thread_of s c v t)

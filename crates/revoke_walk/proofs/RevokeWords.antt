@@ -1,6 +1,7 @@
 -- The words that a revocation finds and stores have the forms that words of the heap have.
 use Rattle.std.proofs.Common.{◌≡◌, ℕ, ◌<◌, ◌≤◌, ◌==◌, Bool, true, false, cond, length, Option, Some, None, refl, sym, ap, ◌∙◌, subst, inl, inr, arith, eq-eqb}
 use Rattle.std.proofs.lemmas.Bool.Decides.{nat_tests}
+use Rattle.plain_monitor.specs.Limits.{most_holds}
 use Rattle.mark_word.specs.declared.mark.MarkForm.{MarkForm}
 use Rattle.mark_word.specs.declared.mark.MarkForm.TheVariants.{Inflating, Neutral, Anonymous, Biased, Locked, Inflated, Marked}
 use Rattle.mark_word.specs.Mark.{mark_of, read_mark}
@@ -77,7 +78,7 @@ locked_place h p e b o t n f is_of due thread most =
   where
     cases : IsMark is_of.real.world.shape (read_mark (mark_of (Locked t n))) → (c : Bool) → (n == 64) ≡ c → n < 64
     cases stored true e =
-        let is : n ≡ 64 = grind (arith, nat_tests, e) in
+        let is : n ≡ most_holds = grind (arith, nat_tests, e) in
         absurd (no_place is_of.real.world.shape t thread (subst (λ (m : ℕ). IsMark is_of.real.world.shape (read_mark (mark_of (Locked t m)))) is stored))
     cases stored false e = grind (arith, nat_tests, e, most)
 

@@ -12,7 +12,7 @@ use crate::revocation::Revocation;
 use crate::steps::{look, store_one};
 use crate::words::{first_place, free_mark, held_of};
 use core_world::Name;
-use heap_table::{Heap, Pass, Purpose, mark_of_word, names};
+use heap_table::{Heap, PLACES, Pass, Purpose, mark_of_word, names};
 use mark_word::{HoldForm, MarkForm, encode, encode_hold};
 
 // The hold words of the thread.
@@ -22,13 +22,13 @@ fn load_holds(
     why: &Purpose,
     revocation: &Revocation,
     thread: u32,
-) -> [u64; 64]
+) -> [u64; PLACES]
     requires heap { IsOf heap.now pass.old }
     requires due { IsDueOn heap.now pass.old why.now.task (holds_steps why.now revocation.now thread) }
     ensures { HasRun heap.now (holds_steps why.now revocation.now thread) pass.old pass.new result }
 {
-    let mut holds = [0; 64];
-    for i in 0..64 {
+    let mut holds = [0; PLACES];
+    for i in 0..PLACES {
         let place = i as u32;
         holds[i] = look(heap, pass, why, revocation, Name::Hold { thread, place });
     }
@@ -77,7 +77,7 @@ fn lock(
     revocation: &Revocation,
     object: u32,
     thread: u32,
-    holds: &[u64; 64],
+    holds: &[u64; PLACES],
 )
     requires heap { IsOf heap.now pass.old }
     requires object { object < length heap.now.heap.shape.objects }
@@ -87,7 +87,7 @@ fn lock(
     ensures { HasRun heap.now (locked_steps why.now revocation.now object thread holds.now)
         pass.old pass.new result }
 {
-    for i in 0..64 {
+    for i in 0..PLACES {
         let place = i as u32;
         store_record(heap, pass, why, revocation, object, thread, place, holds[i]);
     }

@@ -106,8 +106,8 @@ pub fn revoke_at_safepoint(
         pass.old.known.thread why.now (record { object = object; rebias = rebias; now = now }))
         pass.old pass.new result }
 {
-    let class = heap.shape().class_of(object);
     heap.load(pass, why, Stage::Calm, Name::Mark { object });
+    let class = heap.shape().class_of(object);
     let prototype = heap.load(pass, why, Stage::Calm, Name::Prototype { class });
     let count = heap.load(pass, why, Stage::Calm, Name::Revocations { class });
     let last = heap.load(pass, why, Stage::Calm, Name::LastBulk { class });

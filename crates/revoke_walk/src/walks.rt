@@ -15,6 +15,7 @@ use crate::words::object_of_hold;
 use core_world::Name;
 use heap_table::{Heap, Pass, Purpose, mark_of_word};
 use mark_word::{MarkForm, encode};
+use plain_monitor::limits::HOLDS;
 
 // The mark of this form gets the epoch.
 fn renew(
@@ -140,7 +141,7 @@ fn walk_thread(
     ensures { HasRun heap.now (thread_steps heap.now.heap.shape class why.now revocation.now how thread)
         pass.old pass.new result }
 {
-    for place in 0..64 {
+    for place in 0..HOLDS {
         walk_place(heap, pass, why, revocation, class, how, thread, place);
     }
 }

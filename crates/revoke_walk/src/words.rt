@@ -1,5 +1,6 @@
 //! What words of a revocation say.
 ghost use Rattle.std.specs.Prelude.{◌≡◌, ◌≤◌, ◌<◌, ◌^◌, ◌==◌, if◌then◌else◌, length};
+ghost use Rattle.plain_monitor.specs.Limits.{most_holds};
 ghost use Rattle.mark_word.specs.declared.mark.MarkForm.TheVariants.{Neutral, Anonymous};
 ghost use Rattle.mark_word.specs.Mark.{mark_of};
 ghost use Rattle.mark_word.specs.Hold.{read_hold};
@@ -7,8 +8,9 @@ ghost use Rattle.core_world.specs.Locks.{hold_count};
 ghost use Rattle.core_world.specs.RevocationRules.{object_held, first_place};
 ghost use Rattle.core_world.specs.Threads.Stages.{one_if};
 
-use heap_table::{hold_of_word, names};
+use heap_table::{PLACES, hold_of_word, names};
 use mark_word::{HoldForm, encode_hold};
+use plain_monitor::limits::HOLDS;
 
 /// The object that a hold word names.
 pub fn object_of_hold(word: u64) -> Option<u32>
@@ -29,9 +31,9 @@ pub fn one_if(test: bool) -> u32
 }
 
 /// How many of the hold words name the object.
-pub fn held_of(holds: &[u64; 64], object: u32) -> u32
+pub fn held_of(holds: &[u64; PLACES], object: u32) -> u32
     ensures held { result ≡ hold_count object holds.now }
-    ensures few { result ≤ 64 }
+    ensures few { result ≤ most_holds }
 {
     let mut held = 0;
     for hold in holds {
@@ -40,19 +42,19 @@ pub fn held_of(holds: &[u64; 64], object: u32) -> u32
     held
 }
 
-/// The first place with the hold word of the object's first record, that of depth 1, or 64.
-pub fn first_place(holds: &[u64; 64], object: u32) -> u32
+/// The first place with the hold word of the object's first record, that of depth 1, or one past the last.
+pub fn first_place(holds: &[u64; PLACES], object: u32) -> u32
     requires { object < 2 ^ 15 }
     ensures place { result ≡ first_place object holds.now }
-    ensures few { result ≤ 64 }
+    ensures few { result ≤ most_holds }
 {
     let word = encode_hold(&HoldForm::Holds { object, depth: 1 });
-    for i in 0..64 {
+    for i in 0..PLACES {
         if holds[i] == word {
             return i as u32;
         }
     }
-    64
+    HOLDS
 }
 
 /// The mark of an object that nobody has, behind the revocation of its bias: biased to nobody where a new bias is

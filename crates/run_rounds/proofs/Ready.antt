@@ -2,6 +2,7 @@
 use Rattle.std.proofs.Common.{◌≡◌, ℕ, zero, suc, ◌+◌, ◌*◌, ◌<◌, ◌≤◌, length, map, Some, refl, ap, ◌∙◌, subst, arith}
 use Rattle.std.specs.Prelude.{slice_get}
 use Rattle.std.proofs.lemmas.Option.{none-some, same_Some}
+use Rattle.plain_monitor.specs.Limits.{most_fuel, entries_for}
 use Rattle.core_world.specs.Opening.{first_known}
 use Rattle.heap_table.specs.Fresh.{IsFresh}
 use Rattle.heap_table.specs.Resting.{Rests}
@@ -18,7 +19,7 @@ use Rattle.run_rounds.specs.inner.First.{runner_on}
 -- the law that is asked of unused passes
 abbrev pub Unused : Type 0
 Unused = (h : HeapSeen) (p : ProgramText) (fuel : ℕ) (pass : PassSeen) → IsHeapOf h p → Rests h pass
-    → pass.known ≡ first_known pass.known.thread → fuel ≤ 200000 → pass.limit ≡ 2 * fuel + 66 → IsOn h p fuel pass (first_frame fuel)
+    → pass.known ≡ first_known pass.known.thread → fuel ≤ most_fuel → pass.limit ≡ entries_for fuel → IsOn h p fuel pass (first_frame fuel)
 
 -- which runner has a place
 runner_at : (h : HeapSeen) (limit fuel u n t : ℕ) (r : RunnerSeen) → slice_get (map (runner_on fuel) (first_passes h limit u n)) t ≡ Some r
@@ -37,16 +38,16 @@ passes_many : (h : HeapSeen) (limit fuel u n : ℕ) → length (map (runner_on f
 passes_many h limit fuel u zero = refl
 passes_many h limit fuel u (suc n) = ap suc (passes_many h limit fuel (suc u) n)
 
-module _ (unused : Unused) (h : HeapSeen) (p : ProgramText) (fuel tick : ℕ) (is : IsHeapOf h p) (few : fuel ≤ 200000)
-    (fresh : (t : ℕ) → t < h.heap.shape.threads → IsFresh h t (first_pass h (2 * fuel + 66) t)) where
+module _ (unused : Unused) (h : HeapSeen) (p : ProgramText) (fuel tick : ℕ) (is : IsHeapOf h p) (few : fuel ≤ most_fuel)
+    (fresh : (t : ℕ) → t < h.heap.shape.threads → IsFresh h t (first_pass h (entries_for fuel) t)) where
   abbrev seated : ℕ → RunnerSeen
-  seated t = runner_on fuel (first_pass h (2 * fuel + 66) t)
+  seated t = runner_on fuel (first_pass h (entries_for fuel) t)
 
   new_at : (t : ℕ) → t < h.heap.shape.threads → IsRunnerAt h p fuel t (seated t)
   new_at t within =
-      let rests = fresh_rests h t (first_pass h (2 * fuel + 66) t) (fresh t within) in
+      let rests = fresh_rests h t (first_pass h (entries_for fuel) t) (fresh t within) in
       record {
-        runner = record { on = unused h p fuel (first_pass h (2 * fuel + 66) t) is rests refl few refl; still = refl };
+        runner = record { on = unused h p fuel (first_pass h (entries_for fuel) t) is rests refl few refl; still = refl };
         thread = refl;
         fuel_is = refl;
         unchecked = refl;
@@ -55,15 +56,15 @@ module _ (unused : Unused) (h : HeapSeen) (p : ProgramText) (fuel tick : ℕ) (i
   here : (t : ℕ) (r : RunnerSeen) → (t < h.heap.shape.threads) × (seated t ≡ r) → IsRunnerAt h p fuel t r
   here t r at = subst (IsRunnerAt h p fuel t) at.1 (new_at t at.0)
 
-  pub are_ready : AreReady h p fuel tick (map (runner_on fuel) (first_passes h (2 * fuel + 66) 0 h.heap.shape.threads))
+  pub are_ready : AreReady h p fuel tick (map (runner_on fuel) (first_passes h (entries_for fuel) 0 h.heap.shape.threads))
   are_ready =
       record {
         runners = λ t r e.
-            let at = runner_at h (2 * fuel + 66) fuel 0 h.heap.shape.threads t r e in
+            let at = runner_at h (entries_for fuel) fuel 0 h.heap.shape.threads t r e in
             let same : t ≡ 0 + t = omega arith in
             here t r (at.0, ap seated same ∙ at.1);
         timed = λ t r e.
             subst (λ (x : RunnerSeen). IsTimed tick x.pass.known)
-            (runner_at h (2 * fuel + 66) fuel 0 h.heap.shape.threads t r e).1 (record { calls = tt; counts = tt });
-        count = passes_many h (2 * fuel + 66) fuel 0 h.heap.shape.threads;
+            (runner_at h (entries_for fuel) fuel 0 h.heap.shape.threads t r e).1 (record { calls = tt; counts = tt });
+        count = passes_many h (entries_for fuel) fuel 0 h.heap.shape.threads;
       }

@@ -1,6 +1,7 @@
 //! The runners of a heap before its first round.
 
 ghost use Rattle.std.specs.Prelude.{◌≡◌, ◌≤◌, ℕ, map, IfOk};
+ghost use Rattle.plain_monitor.specs.Limits.{most_fuel};
 ghost use Rattle.heap_table.specs.Seen.{HeapSeen};
 ghost use Rattle.object_program.specs.Program.{ProgramText};
 ghost use Rattle.run_rounds.specs.Rounds.{AreFirst, AreReady};
@@ -16,7 +17,7 @@ use thread_interp::Runner;
 /// The runners of a heap's threads before the first round: where the passes are those of a new heap of a program, made for this fuel, they
 /// are ready for `run`, with ticks of any length. The fuel is at most 200,000. `NoMemory` where memory is wanting.
 pub fn first_runners(alloc: Global, passes: List<Pass>, fuel: u32) -> Result<List<Runner>, NoMemory>
-    requires { fuel ≤ 200000 }
+    requires { fuel ≤ most_fuel }
     ensures { IfOk result (λ rs. (h : HeapSeen) (p : ProgramText) (tick : ℕ) → IsHeapOf h p → AreFirst h fuel passes
         → AreReady h p fuel tick rs) }
 {

@@ -3,6 +3,7 @@ use Rattle.std.specs.Prelude.{ℕ, Bool, true, false, ◌==◌, ◌||◌, List, 
 use Rattle.std.specs.Prelude.{Option, Some, None, is_some, option_map, option_and_then, find}
 use Rattle.std.specs.List.{list_any, before_first, after_first}
 use Rattle.std.specs.Str.{bytes_eq}
+use Rattle.plain_monitor.specs.Limits.{most_threads, most_fuel}
 use Rattle.run_words.specs.Number.{number}
 use Rattle.run_words.specs.declared.words.Kind.{Kind}
 use Rattle.run_words.specs.declared.words.Kind.TheVariants.{Valued, Flag}
@@ -161,14 +162,14 @@ abbrev pub ◌>>=◌ : {A B : Type 0} → Option A → (A → Option B) → Opti
 o >>= f = option_and_then f o
 
 abbrev pub fuel_of : Values → Option ℕ
-fuel_of v = read_or 20000 (number 1 200000) v.fuel
+fuel_of v = read_or 20000 (number 1 most_fuel) v.fuel
 
 abbrev pub start_of : Values → Option ℕ
 start_of v = read_or 1 (number 0 4294967295) v.start
 
 abbrev pub options_of : Values → Option Options
 options_of v = do
-  workers ← read_or 4 (number 1 16) v.workers
+  workers ← read_or 4 (number 1 most_threads) v.workers
   fuel ← fuel_of v
   quantum ← read_or 1000 (number 1 100000) v.quantum
   bias ← read_or true switch v.bias

@@ -7,6 +7,7 @@ ghost use Rattle.run_words.specs.Number as numbers;
 ghost use Rattle.run_words.specs.declared.options.Command.TheVariants.{Make};
 
 use crate::numbers::number;
+use plain_monitor::limits::{FUEL, THREADS};
 
 /// What the words ask for.
 #[derive(Clone, Copy, Debug, PartialEq, Eq)]
@@ -62,7 +63,7 @@ pub(crate) fn options_of(values: Values) -> Option<Options>
     ensures { result ≡ spec.options_of (told.values_held values.entry) }
 {
     Some(Options {
-        workers: number_or(values.workers, 4, 1, 16)?,
+        workers: number_or(values.workers, 4, 1, THREADS)?,
         fuel: fuel_of(&values)?,
         quantum: number_or(values.quantum, 1_000, 1, 100_000)?,
         bias: switch_or(values.bias, true)?,
@@ -99,7 +100,7 @@ pub(crate) fn make_by(items: &str) -> Option<Command>
 fn fuel_of(values: &Values) -> Option<u32>
     ensures { result ≡ spec.fuel_of (told.values_held values.now) }
 {
-    number_or(values.fuel, 20_000, 1, 200_000)
+    number_or(values.fuel, 20_000, 1, FUEL)
 }
 
 /// What the generators of the identity hashes start from.

@@ -1,6 +1,7 @@
 -- What the forms of words say of them.
 use Rattle.std.proofs.Common.{◌≡◌, ℕ, ◌+◌, ◌<◌, ◌^◌, Bool, true, false, cond, is_some, Option, Some, None, IfSome, sym, ap, ◌∙◌, arith}
 use Rattle.std.proofs.lemmas.Nat.{pow_below}
+use Rattle.plain_monitor.specs.Limits.{most_threads}
 use Rattle.mark_word.specs.declared.safe.SafeForm.{SafeForm}
 use Rattle.mark_word.specs.Safe.{IsSafeInRange, read_safe, safe_of, requester_of, halt_of}
 use Rattle.mark_word.proofs.ReadingSafepoints.{read_safe-spells}
@@ -28,11 +29,11 @@ module _ (word : ℕ) (form : Option SafeForm) (read : form ≡ read_safe word) 
       cases (Some f) e = (read_safe-spells word f (sym e)).0
 
   -- a thread's bit is added
-  module _ (f : SafeForm) (is : form ≡ Some f) (t : ℕ) (low : t < 16) where
+  module _ (f : SafeForm) (is : form ≡ Some f) (t : ℕ) (low : t < most_threads) where
     pub fits : word + 2 ^ t < 2 ^ 64
     fits =
         let spells = read_safe-spells word f (sym read ∙ is) in
-        let bit : 2 ^ t < 2 ^ 16 = pow_below t 16 low in
+        let bit : 2 ^ t < 2 ^ 16 = pow_below t 16 (omega (arith, low)) in
         let requester = few f.requester spells.0.1 in
         let halt = one f.halted in
         omega (arith, spells.0.0, spells.1, bit, requester, halt)

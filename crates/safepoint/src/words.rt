@@ -1,5 +1,6 @@
 //! Safepoint words: what they say, and those that the steps leave.
 ghost use Rattle.std.specs.Prelude.{◌≡◌, ◌^◌, ◌<◌, is_some, IfSome};
+ghost use Rattle.plain_monitor.specs.Limits.{most_threads};
 ghost use Rattle.mark_word.specs.Safe.{IsSafeInRange, read_safe};
 ghost use Rattle.core_world.specs.Words.Forms.{requester_form, still_form};
 ghost use Rattle.core_world.specs.Trees.SafepointSteps.{all_but, bar, running_too, requested_by};
@@ -49,7 +50,7 @@ pub fn bar(word: u64, form: Option<SafeForm>) -> Option<Why>
 
 /// The bit of a thread.
 pub fn bit(thread: u32) -> u64
-    requires { thread < 16 }
+    requires { thread < most_threads }
     ensures { result ≡ 2 ^ thread }
 {
     1 << thread
@@ -57,7 +58,7 @@ pub fn bit(thread: u32) -> u64
 
 /// All bits but that of a thread.
 pub fn all_but(thread: u32) -> u64
-    requires { thread < 16 }
+    requires { thread < most_threads }
     ensures { result ≡ all_but thread }
 {
     u64::MAX - bit(thread)
@@ -66,7 +67,7 @@ pub fn all_but(thread: u32) -> u64
 /// The word of this form with the thread running too, which doesn't run in it: its bit is added.
 pub fn running_too(word: u64, form: Option<SafeForm>, thread: u32) -> u64
     requires form { form ≡ read_safe word }
-    requires thread { thread < 16 }
+    requires thread { thread < most_threads }
     ensures { result ≡ running_too form thread }
 {
     match form {
@@ -78,7 +79,7 @@ pub fn running_too(word: u64, form: Option<SafeForm>, thread: u32) -> u64
 /// The word of this form with the request of a thread, which doesn't run in it.
 pub fn requested_by(form: Option<SafeForm>, thread: u32) -> u64
     requires range { IfSome form IsSafeInRange }
-    requires thread { thread < 16 }
+    requires thread { thread < most_threads }
     ensures { result ≡ requested_by form thread }
 {
     match form {
@@ -93,7 +94,7 @@ pub fn requested_by(form: Option<SafeForm>, thread: u32) -> u64
 
 /// The word at a thread's safepoint.
 pub fn reached_word(thread: u32) -> u64
-    requires { thread < 16 }
+    requires { thread < most_threads }
     ensures { result ≡ reached_word thread }
 {
     encode_safe(&SafeForm {
@@ -105,7 +106,7 @@ pub fn reached_word(thread: u32) -> u64
 
 /// The word after it is released: the thread alone runs.
 pub fn released_word(thread: u32) -> u64
-    requires { thread < 16 }
+    requires { thread < most_threads }
     ensures { result ≡ released_word thread }
 {
     bit(thread)

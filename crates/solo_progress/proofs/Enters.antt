@@ -7,6 +7,7 @@ use Rattle.mark_word.specs.declared.owner.OwnerForm.{OwnerForm}
 use Rattle.mark_word.specs.declared.owner.OwnerForm.TheVariants.{Free, ByThread, ByRecord}
 use Rattle.mark_word.specs.Mark.{read_mark}
 use Rattle.mark_word.specs.Owner.{read_owner}
+use Rattle.plain_monitor.specs.Limits.{most_holds}
 use Rattle.plain_monitor.specs.declared.entry.Path.{Path}
 use Rattle.plain_monitor.specs.declared.entry.Path.TheVariants.{BiasOwn, BiasTaken}
 use Rattle.core_world.specs.declared.name.Name.{Name}
@@ -21,6 +22,7 @@ use Rattle.core_world.specs.declared.task.Task.TheVariants as task
 use Rattle.core_world.specs.Words.Names.{same_name}
 use Rattle.core_world.specs.Words.Forms.{epoch_in, epoch_form, is_biased, is_biased_form}
 use Rattle.core_world.specs.Words.Shape.{Shape, class_of}
+use Rattle.core_world.specs.Words.Names.{class_by}
 use Rattle.core_world.specs.Locks.{has_epoch, Open, BiasedTo, lock_form, owner_lock, holder, hold_count}
 use Rattle.core_world.specs.RevocationRules.{holds_in}
 use Rattle.core_world.specs.Threads.Known.{Start}
@@ -181,7 +183,7 @@ module _ (s : Shape) (safe : ℕ) (e : Purpose) (k : Start) (o : ℕ) where
     by_prototype (Some (Anonymous epoch age)) reads biased = by_mark (read_mark (f (Mark o))) epoch age refl reads
     by_prototype _ reads biased = tt
 
-    pub bias_enter_alone : Alone (λ g tried. Tried f g tried) f (bias_enter_steps e k.local c o)
+    pub bias_enter_alone : Alone (λ g tried. Tried f g tried) f (bias_enter_steps s e k.local o)
     bias_enter_alone =
         alone_either (λ g tried. Tried f g tried) _ (is_biased (f (Mark o))) _ _
         (λ biased. by_prototype (read_mark (f (Prototype c))) refl biased)
@@ -266,7 +268,7 @@ module _ (s : Shape) (e : Purpose) (k : Start) (o now : ℕ) (rebias : Bool) (lo
         load_leaves (Mark o) (Mark o) f,
         quiet_load (released_word u) o f q,
         owned_same (read_mark (f (Mark o))) u f _ (λ m. refl) ∙ sym
-            (unbiased_other (f (Prototype (class_of s o))) u f (λ i. hold_count o (holds_in f i)) (read_mark (f (Mark o))) unbiased),
+            (unbiased_other (f (Prototype (class_by s f o))) u f (λ i. hold_count o (holds_in f i)) (read_mark (f (Mark o))) unbiased),
       ))
     where
       by_form : (form : Option MarkForm) → read_mark (f (Mark o)) ≡ form → (g : Name → ℕ)
@@ -274,8 +276,8 @@ module _ (s : Shape) (e : Purpose) (k : Start) (o now : ℕ) (rebias : Bool) (lo
       by_form (Some (Biased thread epoch age)) reads g =
           alone_either (λ h tried. Anew f h tried) g (thread == u) _ _
           (λ own. alone_past (λ h tried. Anew f h tried) (hold_steps e k.local o BiasTaken) _ g
-          (λ h path. ap (others (f (Prototype (class_of s o))) u f (λ i. hold_count o (holds_in f i))) reads ∙ own_other
-          (f (Prototype (class_of s o))) u f (λ i. hold_count o (holds_in f i)) thread epoch age own))
+          (λ h path. ap (others (f (Prototype (class_by s f o))) u f (λ i. hold_count o (holds_in f i))) reads ∙ own_other
+          (f (Prototype (class_by s f o))) u f (λ i. hold_count o (holds_in f i)) thread epoch age own))
           (λ _. tt)
       by_form _ reads g = tt
 
@@ -299,7 +301,7 @@ module _ (s : Shape) (e : Purpose) (k : Start) (o now : ℕ) (rebias : Bool) (lo
   exact_alone f none unrevoked q =
       alone_either (λ g turn. PendsWhere (is_anothers s f o u) turn) f k.requesting _ _ (λ asks. absurd (cc (none, asks)))
       (λ _. alone_then (λ g tried. Tried s (released_word u) e k o f g tried) (λ g turn. PendsWhere (is_anothers s f o u) turn)
-      (bias_enter_steps e k.local (class_of s o) o) _ f
+      (bias_enter_steps s e k.local o) _ f
       (bias_enter_alone s (released_word u) e k o f q) by_tried)
     where
       by_tried : (g : Name → ℕ) (tried : BiasTry) → Tried s (released_word u) e k o f g tried
@@ -315,7 +317,7 @@ module _ (s : Shape) (e : Purpose) (k : Start) (o now : ℕ) (rebias : Bool) (lo
       alone_either (λ g turn. PendsForOwner turn) f k.requesting _ _
       (λ asks. revoked_alone true f (subst (λ (r : Bool). QuietAt o (word_of_one r u) f) asks q))
       (λ none. alone_then (λ g tried. Tried s (released_word u) e k o f g tried) (λ g turn. PendsForOwner turn)
-      (bias_enter_steps e k.local (class_of s o) o) _ f
+      (bias_enter_steps s e k.local o) _ f
       (bias_enter_alone s (released_word u) e k o f (subst (λ (r : Bool). QuietAt o (word_of_one r u) f) none q)) by_tried)
     where
       by_tried : (g : Name → ℕ) (tried : BiasTry) → Tried s (released_word u) e k o f g tried
@@ -329,14 +331,14 @@ module _ (s : Shape) (e : Purpose) (k : Start) (o now : ℕ) (rebias : Bool) (lo
       by_tried g (Raced expected found) h = absurd h
 
 -- THE CALL
-pub few_free : (k : Start) (o : ℕ) → (free_place k.local.holds == 64) ≡ false → is_full k o ≡ false
+pub few_free : (k : Start) (o : ℕ) → (free_place k.local.holds == most_holds) ≡ false → is_full k o ≡ false
 few_free k o few = ap (λ (b : Bool). b && not (goes_on_with op.Enter o k.unfinished)) few
 
-pub new_full : (k : Start) (o : ℕ) → (free_place k.local.holds == 64) ≡ true → goes_on_with op.Enter o k.unfinished ≡ false
+pub new_full : (k : Start) (o : ℕ) → (free_place k.local.holds == most_holds) ≡ true → goes_on_with op.Enter o k.unfinished ≡ false
     → is_full k o ≡ true
 new_full k o full new = ap (λ (b : Bool). b && not (goes_on_with op.Enter o k.unfinished)) full ∙ ap not new
 
-full_alone : (k : Start) (o : ℕ) (P : Turn Path → Type 0) (f : Name → ℕ) → (free_place k.local.holds == 64) ≡ true
+full_alone : (k : Start) (o : ℕ) (P : Turn Path → Type 0) (f : Name → ℕ) → (free_place k.local.holds == most_holds) ≡ true
     → Alone (λ g a. RefusedWhere (is_full k o) P a) f (full_steps k o)
 full_alone k o P f full =
     alone_either (λ g a. RefusedWhere (is_full k o) P a) f (goes_on_with op.Enter o k.unfinished) _ _ (λ _. tt)
@@ -349,7 +351,7 @@ pub enters_where : (s : Shape) (k : Start) (o now : ℕ) (f : Name → ℕ) → 
 enters_where s k o now f low none q unrevoked =
     answers_alone (RefusedWhere (is_full k o) (PendsWhere (is_anothers s f o k.local.thread))) f (enter_steps s k o now)
     (alone_either (λ g a. RefusedWhere (is_full k o) (PendsWhere (is_anothers s f o k.local.thread)) a) f
-    (free_place k.local.holds == 64) _ _ (λ full. full_alone k o _ f full)
+    (free_place k.local.holds == most_holds) _ _ (λ full. full_alone k o _ f full)
     (λ few. alone_then (λ g turn. PendsWhere (is_anothers s f o k.local.thread) turn)
     (λ g a. RefusedWhere (is_full k o) (PendsWhere (is_anothers s f o k.local.thread)) a)
     (enter_going s (purpose (task.Enter o now) op.Enter o) k (record { object = o; rebias = true; now = now })) answer f
@@ -359,7 +361,7 @@ pub enters_through : (s : Shape) (k : Start) (o now : ℕ) (f : Name → ℕ) �
     → Quiet (word_of_one k.requesting k.local.thread) f
     → AnswersAlone f (enter_steps s k o now) (RefusedWhere (is_full k o) PendsForOwner)
 enters_through s k o now f low q = answers_alone (RefusedWhere (is_full k o) PendsForOwner) f (enter_steps s k o now)
-    (alone_either (λ g a. RefusedWhere (is_full k o) PendsForOwner a) f (free_place k.local.holds == 64) _ _
+    (alone_either (λ g a. RefusedWhere (is_full k o) PendsForOwner a) f (free_place k.local.holds == most_holds) _ _
     (λ full. full_alone k o _ f full)
     (λ few. alone_then (λ g turn. PendsForOwner turn) (λ g a. RefusedWhere (is_full k o) PendsForOwner a)
     (enter_going s (purpose (task.Enter o now) op.Enter o) k (record { object = o; rebias = true; now = now })) answer f

@@ -1,5 +1,6 @@
 -- An enter that is left alone is pending exactly where by the logs another thread owns the object, also where it revokes a bias.
 use Rattle.std.proofs.Common.{◌≡◌, ℕ, ◌==◌, Bool, true, false, List, [], ◌∷◌, refl, sym, ap, ◌∙◌, subst}
+use Rattle.plain_monitor.specs.Limits.{most_holds}
 use Rattle.plain_monitor.specs.Objects.{PlainObject}
 use Rattle.plain_monitor.specs.declared.entry.Path.{Path}
 use Rattle.core_world.specs.declared.answer.BiasTry.{BiasTry}
@@ -16,7 +17,6 @@ use Rattle.core_world.specs.Trees.Operations.{and_then, answer, goes_on_with, re
 use Rattle.core_world.specs.Trees.Plans.{Purpose, purpose, free_place}
 use Rattle.core_world.specs.Trees.SafepointSteps.{released_word}
 use Rattle.core_world.specs.Trees.Todo.{Todo, done, never, step, ◌>>=◌}
-use Rattle.core_world.specs.Words.Shape.{class_of}
 use Rattle.core_world.specs.World.{World}
 use Rattle.core_calls.specs.CallsSay.{EnterCause, unfinished_on, is_full}
 use Rattle.core_calls.specs.Paths.{made, Always}
@@ -158,18 +158,18 @@ module _ (heap : Heap) (w : World) (objects : List PlainObject) (t o now : ℕ) 
       (λ asks. revoked_exactly true [] asks (record { are = refl })
       (λ _. quiet_at o (subst (λ (r : Bool). Quiet (word_of_one r u) w.words) asks (quiet_words heap w objects t (task.Enter o now) ready))))
       (λ none. always_then (λ ms tried. TrySays e k.local o ms tried × Attempts ms tried) Turns
-      (bias_enter_steps e k.local (class_of w.shape o) o) (λ tried. enter_tried tried w.shape e k b) []
-      (always_both (TrySays e k.local o) Attempts (bias_enter_steps e k.local (class_of w.shape o) o) []
-      (bias_enter_says e k.local o (class_of w.shape o) [] (record { are = refl }))
+      (bias_enter_steps w.shape e k.local o) (λ tried. enter_tried tried w.shape e k b) []
+      (always_both (TrySays e k.local o) Attempts (bias_enter_steps w.shape e k.local o) []
+      (bias_enter_says e k.local o w.shape [] (record { are = refl }))
       (always_left (λ g tried. Tried w.shape (released_word u) e k o w.words g tried) w.words
-      (bias_enter_steps e k.local (class_of w.shape o) o) []
+      (bias_enter_steps w.shape e k.local o) []
       (λ _. bias_enter_alone w.shape (released_word u) e k o w.words
       (quiet_at o (subst (λ (r : Bool). Quiet (word_of_one r u) w.words) none (quiet_words heap w objects t (task.Enter o now) ready))))))
       (try_after none))
 
   enter_exactly : Always (So (RefusedWhere (is_full k o) (PendsWhere anothers))) [] (enter_steps w.shape k o now)
   enter_exactly =
-      either_way (So (RefusedWhere (is_full k o) (PendsWhere anothers))) [] (free_place k.local.holds == 64) _ _
+      either_way (So (RefusedWhere (is_full k o) (PendsWhere anothers))) [] (free_place k.local.holds == most_holds) _ _
       (λ full. either_way (So (RefusedWhere (is_full k o) (PendsWhere anothers))) [] (goes_on_with op.Enter o k.unfinished) _ _ (λ _. tt)
       (λ new run. new_full k o full new))
       (λ few. always_then Turns (So (RefusedWhere (is_full k o) (PendsWhere anothers))) (enter_going w.shape e k b) answer [] going_exactly

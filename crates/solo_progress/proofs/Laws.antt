@@ -28,7 +28,7 @@ use Rattle.core_world.specs.Trees.LockSteps.{stack_enter_steps, stack_exit_steps
 use Rattle.core_world.specs.Trees.Todo.{Todo, done, never, step, ◌>>=◌}
 use Rattle.core_world.specs.Valid.{Fits}
 use Rattle.core_world.specs.Words.Forms.{waits_on, says_notified, notified_form, is_halted}
-use Rattle.core_world.specs.Words.Shape.{class_of}
+use Rattle.core_world.specs.Words.Names.{class_by}
 use Rattle.core_world.specs.World.{World}
 use Rattle.core_world.proofs.LookWhileRevoking.{forgotten}
 use Rattle.core_law.specs.BiasLaw.{BiasLawHolds}
@@ -126,7 +126,7 @@ module _ (heap : Heap) (w : World) (objects : List PlainObject) (t : ℕ) where
   hashes o now ready =
       let job = task.Hash o now in
       through job ready (hash_steps w.shape k o now) IsDone refl
-      (hashes_through w.shape k o now w.words (low_own job ready) (some_prototype job ready (class_of w.shape o)) (quiet_words job ready))
+      (hashes_through w.shape k o now w.words (low_own job ready) (some_prototype job ready (class_by w.shape w.words o)) (quiet_words job ready))
 
   -- AN ENTER
   pub enters_any : (o now : ℕ) → IsReady heap w objects t (task.Enter o now)
@@ -144,7 +144,7 @@ module _ (heap : Heap) (w : World) (objects : List PlainObject) (t : ℕ) where
   notifies o now ready =
       let job = task.Notify o now in
       through job ready (notify_steps w.shape k o now) (RefusedWhere (has_none k o) IsDone) refl
-      (notifies_through w.shape k o now w.words (low_own job ready) (some_prototype job ready (class_of w.shape o)) (quiet_words job ready))
+      (notifies_through w.shape k o now w.words (low_own job ready) (some_prototype job ready (class_by w.shape w.words o)) (quiet_words job ready))
 
   pub notify_alls : (o now : ℕ) → IsReady heap w objects t (task.NotifyAll o now)
       → GetsThrough heap w t (task.NotifyAll o now) (notify_all_steps w.shape k o now) (RefusedWhere (has_none k o) IsDone)
@@ -152,7 +152,7 @@ module _ (heap : Heap) (w : World) (objects : List PlainObject) (t : ℕ) where
   notify_alls o now ready =
       let job = task.NotifyAll o now in
       through job ready (notify_all_steps w.shape k o now) (RefusedWhere (has_none k o) IsDone) refl
-      (notify_alls_through w.shape k o now w.words (low_own job ready) (some_prototype job ready (class_of w.shape o))
+      (notify_alls_through w.shape k o now w.words (low_own job ready) (some_prototype job ready (class_by w.shape w.words o))
       (quiet_words job ready))
 
   -- A WAIT, that lets go and that goes on
@@ -162,7 +162,7 @@ module _ (heap : Heap) (w : World) (objects : List PlainObject) (t : ℕ) where
   waits_first o now ready new =
       let job = task.Wait o now in
       through job ready (wait_steps w.shape k o now) (RefusedWhere (has_none k o) LetsGo) refl
-      (waits_go w.shape k o now w.words (low_own job ready) (some_prototype job ready (class_of w.shape o)) (quiet_words job ready) new)
+      (waits_go w.shape k o now w.words (low_own job ready) (some_prototype job ready (class_by w.shape w.words o)) (quiet_words job ready) new)
 
   abbrev Ends : ℕ → Bool → Turn (Unit {0}) → Type 0
   Ends u owned = WaitsWhere (is_told (w.words (Waiting u))) owned

@@ -10,7 +10,7 @@ use Rattle.core_world.specs.RevocationRules.{holds_in}
 use Rattle.core_world.specs.Steps.{known_along, known_after, known_hit, known_miss, log_after}
 use Rattle.core_world.specs.Words.Acts.{hits}
 use Rattle.core_world.specs.Words.Forms.{hash_in, requester_in}
-use Rattle.core_world.specs.Words.Shape.{class_of}
+use Rattle.core_world.specs.Words.Names.{class_by}
 use Rattle.core_world.specs.Trees.SafepointSteps.{released_word}
 use Rattle.core_world.proofs.KnowledgeParts.{with_known_here, with_known_else}
 use Rattle.core_world.proofs.LookWhileRevoking.{forgotten}
@@ -141,10 +141,10 @@ module _ (heap : Heap) (limits : IsInLimits heap.shape) (w : World) (P : List Pl
 
   who_then : who_in v.shape v.words o ≡ who v o
   who_then =
-      (λ i. holder (lock_form (read_mark (v.words (Mark o))) (v.words (Prototype (class_of v.shape o))) (owner_words v) None)
+      (λ i. holder (lock_form (read_mark (v.words (Mark o))) (v.words (Prototype (class_by v.shape v.words o))) (owner_words v) None)
       (λ u. held_then u i))
       ∙ ap (λ l. holder l (λ u. hold_count o (v.known u).holds))
-      (unnamed (read_mark (v.words (Mark o))) (v.words (Prototype (class_of v.shape o))) (owner_words v) (inflations v o)
+      (unnamed (read_mark (v.words (Mark o))) (v.words (Prototype (class_by v.shape v.words o))) (owner_words v) (inflations v o)
       (not_inflating (v.words (Mark o)) some))
 
   others_then : (u : ℕ) → u ≢ t → is_thread (who v o) u ≡ is_thread (monitor_of P o).owner u

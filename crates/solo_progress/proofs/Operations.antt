@@ -25,6 +25,7 @@ use Rattle.core_world.specs.declared.task.Task.TheVariants as task
 use Rattle.core_world.specs.Words.Names.{same_name}
 use Rattle.core_world.specs.Words.Forms.{epoch_in, is_biased, is_biased_form, hash_in, waits_on, is_halted}
 use Rattle.core_world.specs.Words.Shape.{Shape, class_of}
+use Rattle.core_world.specs.Words.Names.{class_by}
 use Rattle.core_world.specs.Locks.{hold_count}
 use Rattle.core_world.specs.RevocationRules.{first_place, holds_in}
 use Rattle.core_world.specs.Threads.Known.{Local, Start}
@@ -74,7 +75,7 @@ module _ (s : Shape) (e : Purpose) (k : Start) (o now : ℕ) (low : k.local.thre
       })
       (λ miss. let same = eq-eqb (g (Mark o)) mark is in absurd (cc (miss, same)))
 
-  drop_alone : (f : Name → ℕ) → f (Prototype c) ≢ 0 → QuietAt o (released_word t) f → Alone Dropped f (bias_drop_steps e c o)
+  drop_alone : (f : Name → ℕ) → f (Prototype c) ≢ 0 → QuietAt o (released_word t) f → Alone Dropped f (bias_drop_steps s e o)
   drop_alone f some q =
       alone_either Dropped _ (is_biased (f (Mark o))) _ _ (λ _. by_epoch (epoch_in (f (Prototype c))))
       (λ _. quiet_load (released_word t) o f q)
@@ -115,7 +116,7 @@ module _ (s : Shape) (e : Purpose) (k : Start) (o now : ℕ) (low : k.local.thre
   unbias_alone f some q =
       alone_either Unbiases f k.requesting _ _
       (λ asks. revoked_alone true f (subst (λ (r : Bool). QuietAt o (word_of_one r t) f) asks q))
-      (λ none. alone_then Dropped Unbiases (bias_drop_steps e c o) (λ tried. unbias_tried tried s e k (no_bias o now)) f
+      (λ none. alone_then Dropped Unbiases (bias_drop_steps s e o) (λ tried. unbias_tried tried s e k (no_bias o now)) f
       (drop_alone f some (subst (λ (r : Bool). QuietAt o (word_of_one r t) f) none q)) by_tried)
     where
       by_tried : (g : Name → ℕ) (tried : BiasTry) → Dropped g tried → Alone Unbiases g (unbias_tried tried s e k (no_bias o now))
@@ -281,7 +282,7 @@ module _ (s : Shape) (e : Purpose) (k : Start) (o now : ℕ) (low : k.local.thre
 -- THE CALLS
 module _ (s : Shape) (k : Start) (o now : ℕ) (f : Name → ℕ) (low : k.local.thread < 32) where
   abbrev p : ℕ
-  p = f (Prototype (class_of s o))
+  p = f (Prototype (class_by s f o))
 
   abbrev QuietHere : Type 0
   QuietHere = Quiet (word_of_one k.requesting k.local.thread) f

@@ -1,5 +1,5 @@
 -- What a valid world's words are where all threads but one have stopped.
-use Rattle.core_locks.proofs.Prelude.{◌≡◌, ◌≢◌, ℕ, ◌+◌, ◌^◌, ◌<◌, ◌==◌, ◌||◌, ◌*◌, cond, not, Bool, true, false, List, Some, None, refl, sym, ap, ◌∙◌, arith, inl, inr, nat_tests, eq-eqb, eqb-true, by_equal, or-false, PlainObject, Safepoint, Mark, Prototype, Calm, inflation_in, revocation_in, World, Fits, class_of, who, lock_form, owner_words, owner_at, monitor_of, hold_count, SafeForm, safe_of, read_safe, read_mark, bears, bit_at-pow_same, bit_at-pow_other, bit_at-lt, pow_below, same_from_bits_below, bit_at-zero}
+use Rattle.core_locks.proofs.Prelude.{◌≡◌, ◌≢◌, ℕ, ◌+◌, ◌^◌, ◌<◌, ◌==◌, ◌||◌, ◌*◌, cond, not, Bool, true, false, List, Some, None, refl, sym, ap, ◌∙◌, arith, inl, inr, nat_tests, eq-eqb, eqb-true, by_equal, or-false, PlainObject, Safepoint, Mark, Prototype, Calm, inflation_in, revocation_in, World, Fits, class_by, who, lock_form, owner_words, owner_at, monitor_of, hold_count, SafeForm, safe_of, read_safe, read_mark, bears, bit_at-pow_same, bit_at-pow_other, bit_at-lt, pow_below, same_from_bits_below, bit_at-zero}
 use Rattle.std.specs.Int.{bit_at}
 use Rattle.core_world.specs.Locks.{holder}
 use Rattle.mark_word.proofs.ReadingSafepoints.{read_safe-spells}
@@ -152,6 +152,6 @@ module _ (w : World) (P : List PlainObject) (t : ℕ) (a : IsLeftAlone w t) (fit
       by_words : who_in w.shape w.words o ≡ who w o
       by_words =
           λ i. holder
-          (lock_form (read_mark (w.words (Mark o))) (w.words (Prototype (class_of w.shape o))) (owner_words w)
+          (lock_form (read_mark (w.words (Mark o))) (w.words (Prototype (class_by w.shape w.words o))) (owner_words w)
           (sym (no_inflation w all_calm o) i))
           (λ u. held u i)

@@ -15,7 +15,8 @@ use Rattle.core_world.specs.declared.answer.Why.TheVariants.{Owned, NotNotified}
 use Rattle.core_world.specs.declared.name.Name.{Name}
 use Rattle.core_world.specs.declared.name.Name.TheVariants.{Mark, Prototype, Owner}
 use Rattle.core_world.specs.Words.Forms.{epoch_in}
-use Rattle.core_world.specs.Words.Shape.{Shape, class_of}
+use Rattle.core_world.specs.Words.Shape.{Shape}
+use Rattle.core_world.specs.Words.Names.{class_by}
 use Rattle.core_world.specs.Locks.{has_epoch, lock_form, holder, hold_count}
 use Rattle.core_world.specs.RevocationRules.{holds_in}
 use Rattle.core_world.specs.Threads.Known.{Start}
@@ -29,7 +30,7 @@ is_other (Some u) t = not (u == t)
 -- who has the lock of o by these words, where no object is being inflated
 abbrev pub who_in : Shape → (Name → ℕ) → ℕ → Option ℕ
 who_in s f o =
-    holder (lock_form (read_mark (f (Mark o))) (f (Prototype (class_of s o))) (λ m. f (Owner m)) None)
+    holder (lock_form (read_mark (f (Mark o))) (f (Prototype (class_by s f o))) (λ m. f (Owner m)) None)
     (λ u. hold_count o (holds_in f u))
 
 -- by these words a thread other than t has it
@@ -42,7 +43,7 @@ is_others_form (Some (Biased thread epoch age)) prototype t = has_epoch (epoch_i
 is_others_form _ prototype t = false
 
 abbrev pub is_others_bias : Shape → (Name → ℕ) → ℕ → ℕ → Bool
-is_others_bias s f o t = is_others_form (read_mark (f (Mark o))) (f (Prototype (class_of s o))) t
+is_others_bias s f o t = is_others_form (read_mark (f (Mark o))) (f (Prototype (class_by s f o))) t
 
 -- the waiting word says Notified
 abbrev pub is_told_form : Option WaitForm → Bool

@@ -14,7 +14,8 @@ ghost use Rattle.core_world.specs.Trees.Operations.{notify_steps, notify_all_ste
 ghost use Rattle.core_world.specs.Trees.Plans.{Purpose};
 ghost use Rattle.core_world.specs.Trees.SafepointSteps.{poll_steps, resume_steps, has_requester, released_word};
 ghost use Rattle.core_world.specs.Words.Forms.{waits_on, is_halted};
-ghost use Rattle.core_world.specs.Words.Shape.{Shape, class_of};
+ghost use Rattle.core_world.specs.Words.Shape.{Shape};
+ghost use Rattle.core_world.specs.Words.Names.{class_by};
 ghost use Rattle.core_calls.specs.CallsSay.{has_none, is_full};
 ghost use Rattle.solo_progress.specs.Alone.{AnswersAlone, Quiet, word_of_one};
 ghost use Rattle.solo_progress.specs.Answers.{is_anothers, is_others_bias, is_told, is_pending, guarded};
@@ -47,13 +48,13 @@ pub fn calls_that_revoke_get_through()
         → Quiet (word_of_one k.requesting k.local.thread) f
         → AnswersAlone f (enter_steps s k o now) (RefusedWhere (is_full k o) PendsForOwner) }
     ensures hash { (s : Shape) (k : Start) (o now : ℕ) (f : Name → ℕ) → k.local.thread < 32
-        → f (Prototype (class_of s o)) ≢ 0 → Quiet (word_of_one k.requesting k.local.thread) f
+        → f (Prototype (class_by s f o)) ≢ 0 → Quiet (word_of_one k.requesting k.local.thread) f
         → AnswersAlone f (hash_steps s k o now) IsDone }
     ensures notify { (s : Shape) (k : Start) (o now : ℕ) (f : Name → ℕ) → k.local.thread < 32
-        → f (Prototype (class_of s o)) ≢ 0 → Quiet (word_of_one k.requesting k.local.thread) f
+        → f (Prototype (class_by s f o)) ≢ 0 → Quiet (word_of_one k.requesting k.local.thread) f
         → AnswersAlone f (notify_steps s k o now) (RefusedWhere (has_none k o) IsDone) }
     ensures notify_all { (s : Shape) (k : Start) (o now : ℕ) (f : Name → ℕ) → k.local.thread < 32
-        → f (Prototype (class_of s o)) ≢ 0 → Quiet (word_of_one k.requesting k.local.thread) f
+        → f (Prototype (class_by s f o)) ≢ 0 → Quiet (word_of_one k.requesting k.local.thread) f
         → AnswersAlone f (notify_all_steps s k o now) (RefusedWhere (has_none k o) IsDone) }
 {}
 
@@ -62,7 +63,7 @@ pub fn calls_that_revoke_get_through()
 /// the words, and pending for the one of the two that it lacks.
 pub fn waits_end_where_told()
     ensures begins { (s : Shape) (k : Start) (o now : ℕ) (f : Name → ℕ) → k.local.thread < 32
-        → f (Prototype (class_of s o)) ≢ 0 → Quiet (word_of_one k.requesting k.local.thread) f
+        → f (Prototype (class_by s f o)) ≢ 0 → Quiet (word_of_one k.requesting k.local.thread) f
         → waits_on k.local.wait o ≡ false
         → AnswersAlone f (wait_steps s k o now) (RefusedWhere (has_none k o) LetsGo) }
     ensures goes_on { (s : Shape) (k : Start) (o now : ℕ) (f : Name → ℕ) → k.local.thread < 32

@@ -1,6 +1,7 @@
 -- A thread with a free place has room for one more hold of each object.
 use Rattle.std.proofs.Common.{◌≡◌, ℕ, suc, ◌+◌, ◌<◌, ◌≤◌, ◌==◌, eqb-true, Bool, true, false, cond, not, List, [], ◌∷◌, length, refl, ap, ◌∙◌, subst, sym, arith}
 use Rattle.std.specs.List.{position_or_len}
+use Rattle.plain_monitor.specs.Limits.{most_holds}
 use Rattle.core_world.specs.Words.Forms.{names}
 use Rattle.core_world.specs.Threads.Stages.{one_if}
 use Rattle.core_world.specs.Locks.{count_where, hold_count}
@@ -31,5 +32,5 @@ fewer o i (y ∷ hs) h = free (y == 0) refl (fewer o (i + 1) hs) h
         subst (λ z. one_if z + count_where (λ p h. names o h) (i + 1) hs + 1 ≤ suc (length hs)) (sym b) (omega (arith, a))
     free false e rest h = counted (names o y) (rest (omega (arith, h)))
 
-pub room : (o : ℕ) (hs : List ℕ) → length hs ≡ 64 → free_place hs < 64 → hold_count o hs + 1 ≤ 64
+pub room : (o : ℕ) (hs : List ℕ) → length hs ≡ most_holds → free_place hs < most_holds → hold_count o hs + 1 ≤ most_holds
 room o hs all h = let a = fewer o 0 hs (omega (arith, all, h)) in omega (arith, a, all)

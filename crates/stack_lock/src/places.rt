@@ -1,5 +1,6 @@
 //! The places of a thread's lock records, by its hold words.
 ghost use Rattle.std.specs.Prelude.{◌≡◌, ◌≤◌, ◌<◌, ◌^◌, length};
+ghost use Rattle.plain_monitor.specs.Limits.{most_holds};
 ghost use Rattle.core_world.specs.Locks.{hold_count};
 ghost use Rattle.core_world.specs.Trees.Plans.{free_place, top_place};
 
@@ -9,8 +10,8 @@ use mark_word::{HoldForm, encode_hold};
 /// The lowest free place, or 64 where all are taken.
 pub fn free_place(pass: &Pass) -> u32
     ensures place { result ≡ free_place pass.now.known.holds }
-    ensures few { result ≤ 64 }
-    ensures all { length pass.now.known.holds ≡ 64 }
+    ensures few { result ≤ most_holds }
+    ensures all { length pass.now.known.holds ≡ most_holds }
 {
     pass.place_of(0)
 }
@@ -20,7 +21,7 @@ pub fn top_place(pass: &Pass, object: u32) -> u32
     requires object { object < 2 ^ 15 }
     requires some { 0 < hold_count object pass.now.known.holds }
     ensures place { result ≡ top_place object pass.now.known.holds }
-    ensures few { result ≤ 64 }
+    ensures few { result ≤ most_holds }
 {
     let depth = pass.held(object);
     let word = encode_hold(&HoldForm::Holds { object, depth });

@@ -8,7 +8,8 @@ use Rattle.plain_monitor.specs.declared.entry.Entry.TheVariants.{Trap}
 use Rattle.plain_monitor.specs.declared.entry.Logged.{Logged}
 use Rattle.plain_monitor.specs.Objects.{PlainObject, take_entry}
 use Rattle.object_program.specs.declared.program.ThreadDef.{ThreadDef}
-use Rattle.object_program.specs.Program.{ProgramText}
+use Rattle.plain_monitor.specs.Made.{take_made}
+use Rattle.object_program.specs.Program.{ProgramText, numbering_of}
 use Rattle.plain_machine.specs.Thread.{ThreadState}
 use Rattle.plain_machine.specs.Asking.{thread_after}
 use Rattle.plain_machine.specs.Machine.{PlainMachine, code_of, moved, take}
@@ -36,12 +37,18 @@ index_aside : (objects : List PlainObject) (t i : ℕ) (e : Entry) → take_entr
 index_aside objects t i (Trap f j) = refl
 index_aside objects t i e = refl
 
-module _ (p : ProgramText) (us : List ThreadDef) (objects : List PlainObject) (qs : List SyncState) (ss : List ThreadState) where
+-- nor does what is made, and which threads a program has
+made_aside : (p : ProgramText) (us : List ThreadDef) (made : List (List ℕ)) (t i : ℕ) (e : Entry)
+    → take_made (numbering_of (record p { threads = us })) made t e ≡ take_made (numbering_of p) made t (with_index i e)
+made_aside p us made t i (Trap f j) = refl
+made_aside p us made t i e = refl
+
+module _ (p : ProgramText) (us : List ThreadDef) (objects : List PlainObject) (made : List (List ℕ)) (qs : List SyncState) (ss : List ThreadState) where
   abbrev source_machine : SyncMachine
-  source_machine = record { world = record p { threads = us }; objects = objects; threads = qs }
+  source_machine = record { world = record p { threads = us }; objects = objects; made = made; threads = qs }
 
   abbrev code_machine : PlainMachine
-  code_machine = record { program = p; objects = objects; threads = ss }
+  code_machine = record { program = p; objects = objects; made = made; threads = ss }
 
   abbrev Threads : List SyncState → List ThreadState → Type 0
   Threads bs rs = (u : ℕ) → OptionAlike (code_of p u) (slice_get bs u) (slice_get rs u)
@@ -55,20 +62,23 @@ module _ (p : ProgramText) (us : List ThreadDef) (objects : List PlainObject) (q
       go (inr other) =
           subst (λ (x : Option ThreadState). OptionAlike (code_of p u) (slice_get (slice_set qs t b) u) x) (sym (get_set_other ss t u s other)) (subst (λ (x : Option SyncState). OptionAlike (code_of p u) x (slice_get ss u)) (sym (get_set_other qs t u b other)) (all u))
 
-  moved_alike : Threads qs ss → (t : ℕ) (a : SyncState) (r : ThreadState) → slice_get qs t ≡ Some a → slice_get ss t ≡ Some r → (b : Option SyncState) (s : Option ThreadState) (o : Option (List PlainObject)) → OptionAlike (code_of p t) b s → BothAlike us (sync_moved source_machine t b o) (moved code_machine t s o)
-  moved_alike all t a r e f None None o h = tt
-  moved_alike all t a r e f None (Some s) o h = absurd h
-  moved_alike all t a r e f (Some b) None o h = absurd h
-  moved_alike all t a r e f (Some b) (Some s) None h = tt
-  moved_alike all t a r e f (Some b) (Some s) (Some o) h =
-      record { world = refl; objects = refl; threads = set_alike all t a b r s e f h }
+  moved_alike : Threads qs ss → (t : ℕ) (a : SyncState) (r : ThreadState) → slice_get qs t ≡ Some a → slice_get ss t ≡ Some r → (b : Option SyncState) (s : Option ThreadState) (n : Option (List (List ℕ))) (o : Option (List PlainObject)) → OptionAlike (code_of p t) b s → BothAlike us (sync_moved source_machine t b n o) (moved code_machine t s n o)
+  moved_alike all t a r e f None None n o h = tt
+  moved_alike all t a r e f None (Some s) n o h = absurd h
+  moved_alike all t a r e f (Some b) None n o h = absurd h
+  moved_alike all t a r e f (Some b) (Some s) None o h = tt
+  moved_alike all t a r e f (Some b) (Some s) (Some n) None h = tt
+  moved_alike all t a r e f (Some b) (Some s) (Some n) (Some o) h =
+      record { world = refl; objects = refl; made = refl; threads = set_alike all t a b r s e f h }
 
-  take_at_alike : Threads qs ss → (t : ℕ) (e : Entry) (a : Option SyncState) (s : Option ThreadState) → slice_get qs t ≡ a → slice_get ss t ≡ s → OptionAlike (code_of p t) a s → BothAlike us (option_and_then (λ x. sync_moved source_machine t (sync_thread_after (record p { threads = us }) x e) (take_entry objects t e)) a) (option_and_then (λ x. moved code_machine t (thread_after p (code_of p t) x (with_index (index_of s) e)) (take_entry objects t (with_index (index_of s) e))) s)
+  take_at_alike : Threads qs ss → (t : ℕ) (e : Entry) (a : Option SyncState) (s : Option ThreadState) → slice_get qs t ≡ a → slice_get ss t ≡ s → OptionAlike (code_of p t) a s → BothAlike us (option_and_then (λ x. sync_moved source_machine t (sync_thread_after (record p { threads = us }) x e) (take_made (numbering_of (record p { threads = us })) made t e) (take_entry objects t e)) a) (option_and_then (λ x. moved code_machine t (thread_after p (code_of p t) x (with_index (index_of s) e)) (take_made (numbering_of p) made t (with_index (index_of s) e)) (take_entry objects t (with_index (index_of s) e))) s)
   take_at_alike all t e None None f g h = tt
   take_at_alike all t e None (Some s) f g h = absurd h
   take_at_alike all t e (Some a) None f g h = absurd h
   take_at_alike all t e (Some a) (Some s) f g h =
-      subst (λ (o : Option (List PlainObject)). BothAlike us (sync_moved source_machine t (sync_thread_after (record p { threads = us }) a e) (take_entry objects t e)) (moved code_machine t (thread_after p (code_of p t) s (with_index (index_in s.mode) e)) o)) (index_aside objects t (index_in s.mode) e) (moved_alike all t a s f g _ _ (take_entry objects t e) (thread_alike (code_of p t) p.classes p.objects p.threads us a s e h))
+      let source : Option (List (List ℕ)) = take_made (numbering_of (record p { threads = us })) made t e in
+      subst (λ (n : Option (List (List ℕ))). BothAlike us (sync_moved source_machine t (sync_thread_after (record p { threads = us }) a e) source (take_entry objects t e)) (moved code_machine t (thread_after p (code_of p t) s (with_index (index_in s.mode) e)) n (take_entry objects t (with_index (index_in s.mode) e)))) (made_aside p us made t (index_in s.mode) e)
+      (subst (λ (o : Option (List PlainObject)). BothAlike us (sync_moved source_machine t (sync_thread_after (record p { threads = us }) a e) source (take_entry objects t e)) (moved code_machine t (thread_after p (code_of p t) s (with_index (index_in s.mode) e)) source o)) (index_aside objects t (index_in s.mode) e) (moved_alike all t a s f g _ _ source (take_entry objects t e) (thread_alike (code_of p t) p.classes p.objects p.threads us a s e h)))
 
   pub take_alike_at : Threads qs ss → (t : ℕ) (e : Entry) → BothAlike us (sync_take source_machine t e) (take code_machine t (with_index (index_of (slice_get ss t)) e))
   take_alike_at all t e = take_at_alike all t e (slice_get qs t) (slice_get ss t) refl refl (all t)
@@ -76,8 +86,11 @@ module _ (p : ProgramText) (us : List ThreadDef) (objects : List PlainObject) (q
 -- both machines take an entry, with the index that the code's thread asks for where it is a trap, and are alike after it; or neither does
 pub take_alike : (us : List ThreadDef) (a : SyncMachine) (m : PlainMachine) (t : ℕ) (e : Entry) → MachinesAlike us a m → BothAlike us (sync_take a t e) (take m t (with_index (index_of (slice_get m.threads t)) e))
 take_alike us a m t e h =
-    let same : record { world = record (m.program) { threads = us }; objects = m.objects; threads = a.threads } ≡ a = ap (λ w. record { world = w; objects = m.objects; threads = a.threads }) (sym h.world) ∙ ap (λ o. record { world = a.world; objects = o; threads = a.threads }) (sym h.objects) in
-    subst (λ (x : SyncMachine). BothAlike us (sync_take x t e) (take m t (with_index (index_of (slice_get m.threads t)) e))) same (take_alike_at m.program us m.objects a.threads m.threads h.threads t e)
+    let same : record { world = record (m.program) { threads = us }; objects = m.objects; made = m.made; threads = a.threads } ≡ a =
+    ap (λ w. record { world = w; objects = m.objects; made = m.made; threads = a.threads }) (sym h.world)
+    ∙ ap (λ o. record { world = a.world; objects = o; made = m.made; threads = a.threads }) (sym h.objects)
+    ∙ ap (λ n. record { world = a.world; objects = a.objects; made = n; threads = a.threads }) (sym h.made) in
+    subst (λ (x : SyncMachine). BothAlike us (sync_take x t e) (take m t (with_index (index_of (slice_get m.threads t)) e))) same (take_alike_at m.program us m.objects m.made a.threads m.threads h.threads t e)
 
 -- the machine of the code after these entries, where the index of a trap isn't looked at
 abbrev pub aside_all : PlainMachine → List (ℕ × Logged) → Option PlainMachine

@@ -4,6 +4,7 @@ use Rattle.std.proofs.Common.{◌≡◌, ℕ, ◌+◌, ◌-◌, ◌≤◌, ◌==
 use Rattle.std.specs.Prelude.{int_lt}
 use Rattle.std.specs.List.{AllByRecursion}
 use Rattle.std.proofs.lemmas.Bool.{false≢true}
+use Rattle.plain_monitor.specs.Limits.{most_holds}
 use Rattle.plain_monitor.specs.declared.entry.Value.{Value}
 use Rattle.plain_monitor.specs.declared.entry.Value.TheVariants.{Nil, Int, Ref}
 use Rattle.plain_monitor.specs.declared.entry.Fault.{Fault}
@@ -274,7 +275,7 @@ enter_kept p s x b left plain keeps kept = go (local s x) refl
     go : (v : Value) → local s x ≡ v → StepKept s (then_left (Runs b (Exits x left)) (on_object s (local s x) (enters s)))
     go Nil e = subst (λ (v : Value). StepKept s (then_left (Runs b (Exits x left)) (on_object s v (enters s)))) (sym e) tt
     go (Int z) e = subst (λ (v : Value). StepKept s (then_left (Runs b (Exits x left)) (on_object s v (enters s)))) (sym e) tt
-    go (Ref o) e = subst (λ (v : Value). StepKept s (then_left (Runs b (Exits x left)) (on_object s v (enters s)))) (sym e) (room o e (nat_lt (sum s.holds) 64))
+    go (Ref o) e = subst (λ (v : Value). StepKept s (then_left (Runs b (Exits x left)) (on_object s v (enters s)))) (sym e) (room o e (nat_lt (sum s.holds) most_holds))
 
 -- a test changes nothing
 module _ (s : ThreadState) (held missed : Left) (h : IsKept held s.locals (holds_of s)) (m : IsKept missed s.locals (holds_of s)) where

@@ -1,5 +1,6 @@
 -- The two machines are alike before the first entry.
-use Rattle.std.proofs.Common.{◌≡◌, ℕ, zero, suc, ◌+◌, List, [], ◌∷◌, length, map, slice_get, slice_index_or, refl, subst, arith}
+use Rattle.std.proofs.Common.{◌≡◌, ℕ, zero, suc, ◌+◌, List, [], ◌∷◌, length, map, replicate, slice_get, slice_index_or, refl, ap, sym, ◌∙◌, subst, arith}
+use Rattle.std.proofs.lemmas.List.{length-map}
 use Rattle.std.specs.List.{AllByRecursion}
 use Rattle.object_program.specs.declared.program.Code.TheVariants as instr
 use Rattle.plain_machine.specs.Running.{instruction_at, first_state}
@@ -30,4 +31,9 @@ module _ (decimal : ℕ → List ℕ) (p : SyncText) (fuel : ℕ) where
   starts_in (x ∷ ts) h (suc t) = starts_in ts h.1 t
 
   pub starts_alike : AllByRecursion (λ t. ArePlain t.body) p.threads → MachinesAlike (map without_blocks p.threads) (new_sync_machine p fuel) (new_machine (compiled decimal p) fuel)
-  starts_alike h = record { world = refl; objects = refl; threads = starts_in p.threads h }
+  starts_alike h = record {
+    world = refl;
+    objects = refl;
+    made = ap (λ (n : ℕ). replicate n []) (length-map p.threads without_blocks ∙ sym (length-map p.threads (thread_code decimal)));
+    threads = starts_in p.threads h;
+  }

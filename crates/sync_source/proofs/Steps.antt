@@ -1,6 +1,7 @@
 -- An instruction does the same to a thread without its place.
 use Rattle.std.proofs.Common.{◌≡◌, ℕ, ◌+◌, Bool, true, false, if◌then◌else◌, List, refl}
 use Rattle.std.specs.Prelude.{ℤ, ◌+ℤ◌, ◌-ℤ◌, ◌*ℤ◌, nat_abs, nat_le, nat_lt, slice_get, Option, sum}
+use Rattle.plain_monitor.specs.Limits.{most_holds}
 use Rattle.plain_monitor.specs.declared.entry.Value.{Value}
 use Rattle.plain_monitor.specs.declared.entry.Value.TheVariants.{Int, Ref}
 use Rattle.plain_monitor.specs.declared.entry.Ending.{Ending}
@@ -69,7 +70,7 @@ module _ (s : ThreadState) where
 
   pub enter_alike : (p q : ProgramText) (x : ℕ) → StepsAlike s (step_of p s (instr.Enter x)) (step_of q (erased s) (instr.Enter x))
   enter_alike p q x =
-      on_object_alike (local s x) _ _ (λ o. either (nat_lt (sum s.holds) 64) _ _ _ _ refl (faults_alike TooDeep))
+      on_object_alike (local s x) _ _ (λ o. either (nat_lt (sum s.holds) most_holds) _ _ _ _ refl (faults_alike TooDeep))
 
   pub exit_alike : (p q : ProgramText) (x : ℕ) → StepsAlike s (step_of p s (instr.Exit x)) (step_of q (erased s) (instr.Exit x))
   exit_alike p q x = on_object_alike (local s x) _ _ (λ o. owner_alike o IllegalMonitorState (call.Exit o))

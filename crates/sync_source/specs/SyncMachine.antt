@@ -6,11 +6,12 @@ use Rattle.plain_monitor.specs.declared.entry.Ending.TheVariants.{Done}
 use Rattle.plain_monitor.specs.declared.entry.Entry.{Entry}
 use Rattle.plain_monitor.specs.declared.entry.Logged.{Logged}
 use Rattle.plain_monitor.specs.Objects.{PlainObject, new_objects, take_entry}
+use Rattle.plain_monitor.specs.Made.{nothing_made, take_made}
 use Rattle.plain_monitor.specs.Order.{order}
 use Rattle.plain_monitor.specs.History.{RisesAbove}
 use Rattle.object_program.specs.declared.program.Code.{Code}
 use Rattle.object_program.specs.declared.program.ThreadDef.{ThreadDef}
-use Rattle.object_program.specs.Program.{ProgramText, objects_total, shape_of}
+use Rattle.object_program.specs.Program.{ProgramText, objects_total, shape_of, numbering_of}
 use Rattle.plain_machine.specs.declared.call.Mode.TheVariants.{Unwinding}
 use Rattle.plain_machine.specs.Thread.{ThreadState}
 use Rattle.sync_source.specs.Source.{Statements, Nothing, Plain, Sync, If, While, SyncText, SyncThreadText}
@@ -34,6 +35,8 @@ world_of p = record { classes = p.classes; objects = p.objects; threads = map wi
 pub record SyncMachine : Type 0 where
   pub world : ProgramText
   pub objects : List PlainObject
+  -- the classes of the objects that each thread has made
+  pub made : List (List ℕ)
   pub threads : List SyncState
 
 -- the thread before its first unit: locals are nil, and it holds nothing
@@ -58,20 +61,24 @@ new_sync_machine p fuel =
     record {
       world = world_of p;
       objects = new_objects (shape_of (world_of p));
+      made = nothing_made (numbering_of (world_of p));
       threads = map (λ t. first_sync_state (world_of p) t fuel) p.threads;
     }
 
--- both move on, where both do
-abbrev pub sync_moved : SyncMachine → ℕ → Option SyncState → Option (List PlainObject) → Option SyncMachine
-sync_moved m t None objects = None
-sync_moved m t (Some s) None = None
-sync_moved m t (Some s) (Some objects) = Some (record m { objects = objects; threads = slice_set m.threads t s })
+-- the thread, what is made, and the objects move on, where all do
+abbrev pub sync_moved : SyncMachine → ℕ → Option SyncState → Option (List (List ℕ)) → Option (List PlainObject) → Option SyncMachine
+sync_moved m t None made objects = None
+sync_moved m t (Some s) None objects = None
+sync_moved m t (Some s) (Some made) None = None
+sync_moved m t (Some s) (Some made) (Some objects) =
+    Some (record m { objects = objects; made = made; threads = slice_set m.threads t s })
 
 -- the machine after an entry of thread t, where it takes it
 abbrev pub sync_take : SyncMachine → ℕ → Entry → Option SyncMachine
 sync_take m t e =
     option_and_then
-    (λ s. sync_moved m t (sync_thread_after m.world s e) (take_entry m.objects t e))
+    (λ s. sync_moved m t (sync_thread_after m.world s e) (take_made (numbering_of m.world) m.made t e)
+    (take_entry m.objects t e))
     (slice_get m.threads t)
 
 -- the machine after these entries, each with its thread, where it takes each

@@ -1,6 +1,7 @@
 //! From programs with blocks to programs.
 
 ghost use Rattle.std.specs.Prelude.{◌≡◌, ◌≤◌, ◌∷◌, [], ◌++◌, length, map, decimal, IfOk};
+ghost use Rattle.object_program.specs.Limits.{most_code};
 ghost use Rattle.object_program.specs.Valid.{IsProgram};
 ghost use Rattle.sync_source.specs.SourceView.{thread_text, sync_text};
 ghost use Rattle.sync_source.specs.Compiled.{size, thread_code, compiled};
@@ -58,7 +59,7 @@ fn assemble(
 
 /// The code of the threads, each in its place.
 fn compile_threads(alloc: Global, threads: &[SyncThread]) -> Result<List<ThreadDef>, AllocError>
-    requires fits { AllByRecursion (λ t. size (all_of t.body.statements.items) ≤ 4096) threads.now }
+    requires fits { AllByRecursion (λ t. size (all_of t.body.statements.items) ≤ most_code) threads.now }
     ensures { IfOk result (λ compiled. compiled ≡ map (thread_code decimal) (map thread_text threads.now)) }
 {
     let mut compiled = Vec::new(alloc);
@@ -70,7 +71,7 @@ fn compile_threads(alloc: Global, threads: &[SyncThread]) -> Result<List<ThreadD
 
 /// The code of the thread.
 fn compile_thread(alloc: Global, thread: &SyncThread) -> Result<ThreadDef, AllocError>
-    requires fits { size (all_of thread.now.body.statements.items) ≤ 4096 }
+    requires fits { size (all_of thread.now.body.statements.items) ≤ most_code }
     ensures { IfOk result (λ compiled. compiled ≡ thread_code decimal (thread_text thread.now)) }
 {
     let mut code = Vec::new(alloc);

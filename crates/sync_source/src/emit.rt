@@ -1,6 +1,7 @@
 //! The instructions of blocks.
 
 ghost use Rattle.std.specs.Prelude.{◌≡◌, ◌+◌, ◌<◌, ◌≤◌, ◌^◌, [], ◌∷◌, ◌++◌, length, OnOk};
+ghost use Rattle.object_program.specs.Limits.{most_code};
 ghost use Rattle.object_program.specs.declared.program.Code.TheVariants as instr;
 ghost use Rattle.sync_source.specs.BlockView.{before, all_of};
 ghost use Rattle.sync_source.specs.Source.{Nothing, Sync, If, While};
@@ -40,7 +41,7 @@ fn statement_size(statement: &Statement) -> usize
 /// Writes the instructions of the block after these.
 #[cycle(emit)]
 pub fn emit_block(code: &mut Vec<Code>, block: &Block) -> Result<(), AllocError>
-    requires fits { length code.old.items + size (all_of block.now.statements.items) ≤ 4096 }
+    requires fits { length code.old.items + size (all_of block.now.statements.items) ≤ most_code }
     ensures { OnOk result (code.new.items
         ≡ code.old.items ++ code_at (length code.old.items) (all_of block.now.statements.items)) }
 {
@@ -53,7 +54,7 @@ pub fn emit_block(code: &mut Vec<Code>, block: &Block) -> Result<(), AllocError>
 /// Writes those of the statement.
 #[cycle(emit)]
 fn emit_statement(code: &mut Vec<Code>, statement: &Statement) -> Result<(), AllocError>
-    requires fits { length code.old.items + size (before statement.now Nothing) ≤ 4096 }
+    requires fits { length code.old.items + size (before statement.now Nothing) ≤ most_code }
     ensures { OnOk result (code.new.items
         ≡ code.old.items ++ code_at (length code.old.items) (before statement.now Nothing)) }
 {
@@ -68,7 +69,7 @@ fn emit_statement(code: &mut Vec<Code>, statement: &Statement) -> Result<(), All
 /// An enter, the block, and an exit.
 #[cycle(emit)]
 fn emit_sync(code: &mut Vec<Code>, local: u32, body: &Block) -> Result<(), AllocError>
-    requires fits { length code.old.items + 2 + size (all_of body.now.statements.items) ≤ 4096 }
+    requires fits { length code.old.items + 2 + size (all_of body.now.statements.items) ≤ most_code }
     ensures { OnOk result (code.new.items
         ≡ code.old.items ++ code_at (length code.old.items) (Sync local (all_of body.now.statements.items) Nothing)) }
 {
@@ -81,7 +82,7 @@ fn emit_sync(code: &mut Vec<Code>, local: u32, body: &Block) -> Result<(), Alloc
 #[cycle(emit)]
 fn emit_if(code: &mut Vec<Code>, test: Test, body: &Block, other: &Block) -> Result<(), AllocError>
     requires fits { length code.old.items + 2 + size (all_of other.now.statements.items)
-        + size (all_of body.now.statements.items) ≤ 4096 }
+        + size (all_of body.now.statements.items) ≤ most_code }
     ensures { OnOk result (code.new.items ≡ code.old.items ++ code_at (length code.old.items)
         (If test (all_of body.now.statements.items) (all_of other.now.statements.items) Nothing)) }
 {
@@ -96,7 +97,7 @@ fn emit_if(code: &mut Vec<Code>, test: Test, body: &Block, other: &Block) -> Res
 /// The test, a jump past the loop, the block, and a jump to the test.
 #[cycle(emit)]
 fn emit_while(code: &mut Vec<Code>, test: Test, body: &Block) -> Result<(), AllocError>
-    requires fits { length code.old.items + 3 + size (all_of body.now.statements.items) ≤ 4096 }
+    requires fits { length code.old.items + 3 + size (all_of body.now.statements.items) ≤ most_code }
     ensures { OnOk result (code.new.items
         ≡ code.old.items ++ code_at (length code.old.items) (While test (all_of body.now.statements.items) Nothing)) }
 {
@@ -111,7 +112,7 @@ fn emit_while(code: &mut Vec<Code>, test: Test, body: &Block) -> Result<(), Allo
 
 /// Goes on after this many instructions where the test holds.
 fn jump_where(test: Test, place: usize) -> Code
-    requires { place ≤ 4096 }
+    requires { place ≤ most_code }
     ensures { result ≡ test_code test place }
 {
     let l = place as u32 + 1;
@@ -132,7 +133,7 @@ fn jump_where(test: Test, place: usize) -> Code
 
 /// Goes on after this many instructions.
 fn jump_to(place: usize) -> Code
-    requires { place ≤ 4096 }
+    requires { place ≤ most_code }
     ensures { result ≡ instr.Jump (place + 1) }
 {
     Code::Jump {

@@ -1,6 +1,7 @@
 //! The labels of code.
 
 ghost use Rattle.std.specs.Prelude.{◌≡◌, ◌+◌, ◌<◌, ◌≤◌, ◌||◌, ◌==◌, ◌∷◌, [], ◌++◌, ℕ, false, length, map, if◌then◌else◌, slice_index_or, decimal, IfOk, OnOk};
+ghost use Rattle.object_program.specs.Limits.{most_code};
 ghost use Rattle.sync_source.specs.Compiled.{goes_to, targets, label};
 ghost use Rattle.sync_source.specs.inner.Marks.{HasMarks};
 
@@ -10,7 +11,7 @@ use std::alloc::{AllocError, Global};
 
 /// A label for each number that an instruction goes to, by rising number.
 pub fn labels(alloc: Global, code: &[Code]) -> Result<Vec<LabelDef>, AllocError>
-    requires { length code.now ≤ 4096 }
+    requires { length code.now ≤ most_code }
     ensures { IfOk result (λ all. all.items ≡ map (label decimal) (targets code.now)) }
 {
     let marks = marks(alloc, code)?;
@@ -26,7 +27,7 @@ pub fn labels(alloc: Global, code: &[Code]) -> Result<Vec<LabelDef>, AllocError>
 
 /// With the label for this number, where the number is marked.
 fn put_label(all: &mut Vec<LabelDef>, number: u32, marked: bool) -> Result<(), AllocError>
-    requires { number ≤ 4096 }
+    requires { number ≤ most_code }
     ensures { OnOk result (all.new.items
         ≡ all.old.items ++ map (label decimal) (if marked then number ∷ [] else [])) }
 {
@@ -38,7 +39,7 @@ fn put_label(all: &mut Vec<LabelDef>, number: u32, marked: bool) -> Result<(), A
 
 /// A mark for each number up to that of the last instruction: whether an instruction goes to it.
 fn marks(alloc: Global, code: &[Code]) -> Result<Vec<bool>, AllocError>
-    requires { length code.now ≤ 4096 }
+    requires { length code.now ≤ most_code }
     ensures { IfOk result (λ marks. HasMarks code.now marks.items) }
 {
     let mut marks = vec![in alloc; false; code.len() + 1]?;
@@ -74,7 +75,7 @@ fn mark_number(marks: &mut [bool], number: u32)
 
 /// `L` and the number.
 fn label(number: u32) -> LabelDef
-    requires { number ≤ 4096 }
+    requires { number ≤ most_code }
     ensures { result ≡ label decimal number }
 {
     let mut digits = Buffer::new();

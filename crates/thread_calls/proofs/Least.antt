@@ -1,6 +1,7 @@
 -- The least object that the hold words of a thread at rest name is the least that it holds.
 use Rattle.std.proofs.Common.{◌≡◌, ℕ, zero, suc, ◌+◌, ◌<◌, ◌≤◌, ◌==◌, min, nat_le, nat_lt, le-leb, ltb-true, ltb-false, eq-eqb, ne_eqb, if◌then◌else◌, Bool, true, false, List, [], ◌∷◌, length, slice_index, Option, Some, None, refl, sym, ap, ◌∙◌, subst, arith, inl, inr}
 use Rattle.std.proofs.lemmas.Bool.{cases_eq}
+use Rattle.plain_monitor.specs.Limits.{most_holds}
 use Rattle.mark_word.specs.declared.hold.HoldForm.{HoldForm}
 use Rattle.mark_word.specs.declared.hold.HoldForm.TheVariants.{Empty, Holds}
 use Rattle.mark_word.specs.Hold.{read_hold}
@@ -122,5 +123,5 @@ pub least_is : (h : HeapSeen) (k : PassSeen) → Rests h k
 least_is h k rests =
     sym (held_is (length h.heap.shape.objects) k.known.holds (least_in k.known.holds) (all_words h.heap.shape 0 k.known.holds (forms h k rests)))
 
-pub places : (h : HeapSeen) (k : PassSeen) → Rests h k → length k.known.holds ≡ 64
-places h k rests = let z = settled h k rests in subst (λ (x : Known). length x.holds ≡ 64) z.knew (z.fits.holds.places k.known.thread)
+pub places : (h : HeapSeen) (k : PassSeen) → Rests h k → length k.known.holds ≡ most_holds
+places h k rests = let z = settled h k rests in subst (λ (x : Known). length x.holds ≡ most_holds) z.knew (z.fits.holds.places k.known.thread)

@@ -1,5 +1,6 @@
 -- What holds of a pass, and of the state of its thread, between two calls.
 use Rattle.std.specs.Prelude.{◌≡◌, ℕ, ◌+◌, ◌*◌, ◌≤◌, true, false, length, Option, is_some}
+use Rattle.plain_monitor.specs.Limits.{most_fuel, entries_for}
 use Rattle.core_world.specs.declared.task.Unfinished.{Unfinished}
 use Rattle.heap_table.specs.Resting.{Rests}
 use Rattle.heap_table.specs.Seen.{HeapSeen, PassSeen}
@@ -36,8 +37,8 @@ pub record IsOn (h : HeapSeen) (p : ProgramText) (fuel : ℕ) (pass : PassSeen) 
   pub rests : Rests h pass
   pub follows : Follows p fuel pass.known.thread pass.known.log (state_by h p pass frame)
   pub values : HaveValues p pass.known.log
-  pub few : fuel ≤ 200000
-  pub limit : pass.limit ≡ 2 * fuel + 66
+  pub few : fuel ≤ most_fuel
+  pub limit : pass.limit ≡ entries_for fuel
   pub spent : frame.fuel ≤ fuel
   pub unfinished : IsAtMost pass.known.unfinished (unfinished_of (ask (state_by h p pass frame)))
   -- its request stands for that operation, which its frame stands before, or for a check, which a thread that has ended doesn't make

@@ -1,6 +1,7 @@
 //! Laws of passes and frames between two calls. The functions do nothing.
 
 ghost use Rattle.std.specs.Prelude.{◌≡◌, ◌+◌, ◌*◌, ◌≤◌, ◌⊎◌, ℕ, false};
+ghost use Rattle.plain_monitor.specs.Limits.{most_fuel, entries_for};
 ghost use Rattle.core_world.specs.Opening.{first_known};
 ghost use Rattle.heap_table.specs.Resting.{Rests};
 ghost use Rattle.heap_table.specs.Seen.{HeapSeen, PassSeen};
@@ -11,6 +12,6 @@ ghost use Rattle.thread_frame.specs.Frames.{first_frame};
 /// A pass that rests on a heap of the program, and on which no call was made yet, and a frame before its first instruction belong together.
 pub fn unused_passes_are_on()
     ensures { (h : HeapSeen) (p : ProgramText) (fuel : ℕ) (pass : PassSeen) → IsHeapOf h p → Rests h pass
-        → pass.known ≡ first_known pass.known.thread → fuel ≤ 200000 → pass.limit ≡ 2 * fuel + 66
+        → pass.known ≡ first_known pass.known.thread → fuel ≤ most_fuel → pass.limit ≡ entries_for fuel
         → IsOn h p fuel pass (first_frame fuel) }
 {}

@@ -1,5 +1,6 @@
 -- A run doesn't ask for the fuel and the mode that its thread has, and leaves the thread's holds as they are.
 use Rattle.std.proofs.Common.{◌≡◌, ℕ, zero, suc, ◌+ℤ◌, ◌-ℤ◌, ◌*ℤ◌, ℤ, Bool, true, false, if◌then◌else◌, List, slice_get, sum, nat_le, nat_lt, Option, refl, ap, sym, ◌∙◌}
+use Rattle.plain_monitor.specs.Limits.{most_holds}
 use Rattle.plain_monitor.specs.declared.entry.Fault.{Fault}
 use Rattle.plain_monitor.specs.declared.entry.Fault.TheVariants.{IllegalMonitorState, Unguarded}
 use Rattle.plain_monitor.specs.declared.entry.Value.{Value}
@@ -80,7 +81,7 @@ steps_in p s n m (code.Sub x y z) = combines_in s n m x (λ a b. a -ℤ b) (loca
 steps_in p s n m (code.Mul x y z) = combines_in s n m x (λ a b. a *ℤ b) (local s y) (local s z)
 steps_in p s n m (code.Ref x k) = refl
 steps_in p s n m (code.Elem x k i) = element_in s n m x (slice_get p.objects k) (local s i)
-steps_in p s n m (code.Enter x) = object_in s n m (local s x) _ _ (λ o. either_in (in_mode n m s) (nat_lt (sum s.holds) 64) _ _ _ _ refl refl)
+steps_in p s n m (code.Enter x) = object_in s n m (local s x) _ _ (λ o. either_in (in_mode n m s) (nat_lt (sum s.holds) most_holds) _ _ _ _ refl refl)
 steps_in p s n m (code.Exit x) = object_in s n m (local s x) _ _ (λ o. owner_in s n m o IllegalMonitorState (call.Exit o))
 steps_in p s n m (code.Wait x) = object_in s n m (local s x) _ _ (λ o. owner_in s n m o IllegalMonitorState (call.Wait o))
 steps_in p s n m (code.Notify x) = object_in s n m (local s x) _ _ (λ o. owner_in s n m o IllegalMonitorState (call.Notify o))

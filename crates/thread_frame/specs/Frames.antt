@@ -5,6 +5,7 @@ use Rattle.plain_monitor.specs.declared.entry.Entry.{Entry}
 use Rattle.plain_monitor.specs.declared.entry.Entry.TheVariants as entry
 use Rattle.plain_monitor.specs.declared.entry.Value.{Value}
 use Rattle.plain_monitor.specs.declared.entry.Value.TheVariants.{Nil, Int}
+use Rattle.object_program.specs.Limits.{most_code}
 use Rattle.object_program.specs.declared.program.Code.{Code}
 use Rattle.object_program.specs.Program.{ProgramText}
 use Rattle.plain_machine.specs.declared.call.Call.{Call}
@@ -111,7 +112,7 @@ has_ended f = is_ended_mode f.mode
 
 -- a thread that stands before a call is at an instruction, of which a thread has at most 4,096
 abbrev pub IsAtInstruction : ℕ → Option Mode → Type 0
-IsAtInstruction place (Some (Calling c)) = place < 4096
+IsAtInstruction place (Some (Calling c)) = place < most_code
 IsAtInstruction place mode = Unit {0}
 
 -- a thread that is asked for a call stands before it

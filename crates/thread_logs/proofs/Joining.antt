@@ -1,19 +1,29 @@
 -- Objects and threads together are the machine.
-use Rattle.std.proofs.Common.{◌≡◌, ℕ, zero, suc, ◌+◌, ◌<◌, ◌≤◌, List, [], ◌∷◌, length, map, slice_get, slice_set, Option, Some, None, IsSome, option_map, option_and_then, refl, sym, ap, ◌∙◌, subst, arith}
+use Rattle.std.proofs.Common.{◌≡◌, ℕ, zero, suc, ◌+◌, ◌<◌, ◌≤◌, true, List, [], ◌∷◌, length, map, slice_get, slice_set, Option, Some, None, IsSome, option_map, option_and_then, refl, sym, ap, ◌∙◌, subst, arith}
 use Rattle.std.specs.List.{AllByRecursion}
 use Rattle.std.proofs.lemmas.List.{length-map}
-use Rattle.std.proofs.lemmas.Option.{none-some, same_Some}
+use Rattle.std.proofs.lemmas.Option.{none-some, same_Some, cond_some}
 use Rattle.plain_monitor.specs.declared.entry.Entry.{Entry}
 use Rattle.plain_monitor.specs.declared.entry.Logged.{Logged}
 use Rattle.plain_monitor.specs.Objects.{PlainObject, new_objects, take_entry}
 use Rattle.plain_monitor.specs.Order.{order}
-use Rattle.plain_monitor.specs.History.{RisesAbove, objects_after, log_of}
+use Rattle.plain_monitor.specs.History.{RisesAbove, objects_after, log_of, run_all}
+use Rattle.plain_monitor.specs.Monitor.{only_if}
 use Rattle.plain_history.specs.Joined.{run_log, both, take_joined, take_all_joined, EachTakesItsLog}
 use Rattle.plain_history.proofs.Joined.{first_some}
 use Rattle.object_program.specs.Program.{ProgramText, shape_of}
+use Rattle.object_program.specs.Valid.{IsProgram}
+use Rattle.machine_laws.specs.Reached.{IsReached}
+use Rattle.machine_laws.proofs.ReachedAsked.{asked_of, taken}
+use Rattle.machine_laws.proofs.ReachedEntries.{progress}
+use Rattle.machine_laws.proofs.ReachedFirst.{first_is_reached}
+use Rattle.machine_laws.proofs.ReachedFrame.{moved_to}
+use Rattle.machine_laws.proofs.ReachedKinds.{thread_of}
+use Rattle.machine_laws.proofs.ReachedNeeds.{made_there}
+use Rattle.plain_machine.specs.declared.call.Asked.{Asked}
 use Rattle.plain_machine.specs.Thread.{ThreadState}
-use Rattle.plain_machine.specs.Asking.{thread_after}
-use Rattle.plain_machine.specs.Machine.{PlainMachine, new_machine, code_of, take, moved}
+use Rattle.plain_machine.specs.Asking.{ask, fits, behind_entry, thread_after}
+use Rattle.plain_machine.specs.Machine.{PlainMachine, new_machine, code_of, take}
 use Rattle.plain_machine.specs.Legal.{IsLegal, behind_all, machine_after}
 use Rattle.thread_logs.specs.inner.Coded.{Coded, coded_step}
 use Rattle.thread_logs.specs.Followed.{Follows, HaveFollowed}
@@ -76,8 +86,17 @@ taken_by m t e before = option_and_then (λ c. option_map (set_after m t) (coded
 abbrev parts : PlainMachine → List PlainObject × List Coded
 parts m = (m.objects, coded m.program 0 m.threads)
 
+-- the thread and the objects alone move on
+abbrev together : PlainMachine → ℕ → Option ThreadState → Option (List PlainObject) → Option PlainMachine
+together m t None objects = None
+together m t (Some s) None = None
+together m t (Some s) (Some objects) = Some (record m { objects = objects; threads = slice_set m.threads t s })
+
+abbrev take_together : PlainMachine → ℕ → Entry → Option PlainMachine
+take_together m t e = option_and_then (λ s. together m t (thread_after m.program (code_of m.program t) s e) (take_entry m.objects t e)) (slice_get m.threads t)
+
 moved_parts : (m : PlainMachine) (t : ℕ) (a : Option ThreadState) (o : Option (List PlainObject))
-    → both o (option_map (set_after m t) (option_map (with_code m.program t) a)) ≡ option_map parts (moved m t a o)
+    → both o (option_map (set_after m t) (option_map (with_code m.program t) a)) ≡ option_map parts (together m t a o)
 moved_parts m t None None = refl
 moved_parts m t None (Some x) = refl
 moved_parts m t (Some n) None = refl
@@ -90,12 +109,12 @@ nothing_moved (Some x) = refl
 take_at : (m : PlainMachine) (t : ℕ) (e : Entry) (r : Option ThreadState)
     → both (take_entry m.objects t e) (taken_by m t e (option_map (with_code m.program t) r))
     ≡ option_map parts
-    (option_and_then (λ s. moved m t (thread_after m.program (code_of m.program t) s e) (take_entry m.objects t e)) r)
+    (option_and_then (λ s. together m t (thread_after m.program (code_of m.program t) s e) (take_entry m.objects t e)) r)
 take_at m t e None = nothing_moved (take_entry m.objects t e)
 take_at m t e (Some s) = moved_parts m t (thread_after m.program (code_of m.program t) s e) (take_entry m.objects t e)
 
 take_parts : (m : PlainMachine) (t : ℕ) (e : Entry)
-    → take_joined coded_step m.objects (coded m.program 0 m.threads) t e ≡ option_map parts (take m t e)
+    → take_joined coded_step m.objects (coded m.program 0 m.threads) t e ≡ option_map parts (take_together m t e)
 take_parts m t e =
     ap (λ r. both (take_entry m.objects t e) (taken_by m t e r)) (get_first m.program t m.threads)
     ∙ take_at m t e (slice_get m.threads t)
@@ -105,15 +124,56 @@ abbrev joined_on : List (ℕ × Logged) → List PlainObject × List Coded → O
 joined_on xs p = take_all_joined coded_step p.0 p.1 xs
 
 behind_parts : (m : PlainMachine) (xs : List (ℕ × Logged))
-    → take_all_joined coded_step m.objects (coded m.program 0 m.threads) xs ≡ option_map parts (behind_all m xs)
+    → take_all_joined coded_step m.objects (coded m.program 0 m.threads) xs ≡ option_map parts (run_all take_together m xs)
 behind_parts m [] = refl
 behind_parts m (x ∷ xs) =
-    ap (option_and_then (joined_on xs)) (take_parts m x.0 x.1.entry) ∙ onward (take m x.0 x.1.entry) (λ n. behind_parts n xs)
+    ap (option_and_then (joined_on xs)) (take_parts m x.0 x.1.entry) ∙ onward (take_together m x.0 x.1.entry) (λ n. behind_parts n xs)
   where
-    onward : (r : Option PlainMachine) → ((n : PlainMachine) → joined_on xs (parts n) ≡ option_map parts (behind_all n xs))
-        → option_and_then (joined_on xs) (option_map parts r) ≡ option_map parts (option_and_then (λ n. behind_all n xs) r)
+    onward : (r : Option PlainMachine) → ((n : PlainMachine) → joined_on xs (parts n) ≡ option_map parts (run_all take_together n xs))
+        → option_and_then (joined_on xs) (option_map parts r) ≡ option_map parts (option_and_then (λ n. run_all take_together n xs) r)
     onward None h = refl
     onward (Some n) h = h n
+
+-- an entry that the thread asks for and the objects take
+taken_together : (m n : PlainMachine) (t : ℕ) (e : Entry) → IsReached m → take_together m t e ≡ Some n → take m t e ≡ Some n
+taken_together m n t e h k =
+    let a = first_some (λ s. together m t (thread_after m.program (code_of m.program t) s e) (take_entry m.objects t e)) (slice_get m.threads t) n k in
+    by_parts a.0 a.1 (thread_after m.program (code_of m.program t) a.0 e) (take_entry m.objects t e) refl refl a.2
+  where
+    by_parts : (s : ThreadState) → slice_get m.threads t ≡ Some s → (r : Option ThreadState) (o : Option (List PlainObject)) → thread_after m.program (code_of m.program t) s e ≡ r
+        → take_entry m.objects t e ≡ o → together m t r o ≡ Some n → take m t e ≡ Some n
+    by_parts s at None o f g k = absurd (none-some n k)
+    by_parts s at (Some after) None f g k = absurd (none-some n k)
+    by_parts s at (Some after) (Some objects) f g k =
+        let a = first_some (λ asked. only_if (fits asked e) (behind_entry m.program (code_of m.program t) s asked e)) (ask s) after f in
+        let fit = (cond_some (fits a.0 e) (behind_entry m.program (code_of m.program t) s a.0 e) after a.2).0 in
+        let asked = asked_of m.program s a.0 (thread_of m t s (record { reached = h; at = at })) a.1 in
+        let made = made_there m t s a.0 e objects h asked fit g in
+        rw (at, f, made, g) k
+
+-- what a machine takes, its threads and its objects take together
+together_at : (m n : PlainMachine) (t : ℕ) (e : Entry) (s : ThreadState) (a : Asked) (objects : List PlainObject) → slice_get m.threads t ≡ Some s → ask s ≡ Some a → fits a e ≡ true
+    → take_entry m.objects t e ≡ Some objects → moved_to m t (behind_entry m.program (code_of m.program t) s a e) objects ≡ n → take_together m t e ≡ Some n
+together_at m n t e s a objects at asks fit takes is =
+    let after : thread_after m.program (code_of m.program t) s e ≡ Some (behind_entry m.program (code_of m.program t) s a e) = rw (asks, fit) refl in
+    rw (at, after, takes) (ap Some is)
+
+took_together : (m n : PlainMachine) (t : ℕ) (e : Entry) → take m t e ≡ Some n → take_together m t e ≡ Some n
+took_together m n t e h = let k = taken m t e n h in together_at m n t e k.s k.asked k.objects k.at k.asks k.fit k.takes k.is
+
+all_together : (m last : PlainMachine) (xs : List (ℕ × Logged)) → behind_all m xs ≡ Some last → run_all take_together m xs ≡ Some last
+all_together m last [] h = h
+all_together m last (x ∷ xs) h =
+    let a = first_some (λ n. behind_all n xs) (take m x.0 x.1.entry) last h in
+    rw (took_together m a.0 x.0 x.1.entry a.1) (all_together a.0 last xs a.2)
+
+-- and a reached machine takes it, since all is there that its threads need
+all_taken : (m last : PlainMachine) (xs : List (ℕ × Logged)) → IsReached m → run_all take_together m xs ≡ Some last → behind_all m xs ≡ Some last
+all_taken m last [] h e = e
+all_taken m last (x ∷ xs) h e =
+    let a = first_some (λ n. run_all take_together n xs) (take_together m x.0 x.1.entry) last e in
+    let takes = taken_together m a.0 x.0 x.1.entry h a.1 in
+    rw takes (all_taken a.0 last xs (progress m a.0 x.0 x.1.entry h takes).reached a.2)
 
 -- one thread's log leads to the same state with the code beside it
 run_coded : (p : ProgramText) (t : ℕ) (log : List Logged) (s final : ThreadState)
@@ -202,7 +262,7 @@ module _ (p : ProgramText) (fuel : ℕ) (logs : List (List Logged)) (h : HaveFol
   -- the machine behind the logs
   record IsBehind : Type 0 where
     machine : PlainMachine
-    is : machine_after p fuel logs ≡ Some machine
+    is : run_all take_together (new_machine p fuel) (order logs) ≡ Some machine
     objects : objects_after (shape_of p) logs ≡ Some machine.objects
     threads_are : machine.threads ≡ finals.items
 
@@ -211,7 +271,7 @@ module _ (p : ProgramText) (fuel : ℕ) (logs : List (List Logged)) (h : HaveFol
   unfolding lasts
   behind after o e =
       let both_there = sym (behind_parts (new_machine p fuel) (order logs)) ∙ e in
-      let c = came parts (machine_after p fuel logs) (after, lasts) both_there in
+      let c = came parts (run_all take_together (new_machine p fuel) (order logs)) (after, lasts) both_there in
       let m = c.from in
       let same : coded m.program 0 m.threads ≡ coded p 0 finals.items =
       ap (λ (x : List PlainObject × List Coded). x.1) c.is in
@@ -242,12 +302,14 @@ module _ (law : Law) (p : ProgramText) (fuel : ℕ) (logs : List (List Logged)) 
   now : (h : HaveFollowed p fuel logs) → IsBehind p fuel logs h
   now h = there h (objects_after (shape_of p) logs) refl h.objects.taken
 
-  pub legal : HaveFollowed p fuel logs → IsLegal p fuel logs
-  legal h = record { rises = h.objects.rises; taken = subst IsSome (sym (now h).is) refl }
+  pub legal : IsProgram p → HaveFollowed p fuel logs → IsLegal p fuel logs
+  legal valid h =
+      let takes = all_taken (new_machine p fuel) (now h).machine (order logs) (first_is_reached p fuel valid) (now h).is in
+      record { rises = h.objects.rises; taken = subst IsSome (sym takes) refl }
 
   module _ (m : PlainMachine) (h : HaveFollowed p fuel logs) (at : machine_after p fuel logs ≡ Some m) where
     same : (now h).machine ≡ m
-    same = same_Some _ _ (sym (now h).is ∙ at)
+    same = same_Some _ _ (sym (now h).is ∙ all_together (new_machine p fuel) m (order logs) at)
 
     pub objects_are : objects_after (shape_of p) logs ≡ Some m.objects
     objects_are = (now h).objects ∙ ap (λ (x : PlainMachine). Some x.objects) same

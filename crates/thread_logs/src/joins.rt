@@ -2,6 +2,7 @@
 
 ghost use Rattle.std.specs.Prelude.{◌≡◌, ℕ, List, length, slice_get, Some};
 ghost use Rattle.object_program.specs.Program.{ProgramText, shape_of};
+ghost use Rattle.object_program.specs.Valid.{IsProgram};
 ghost use Rattle.plain_machine.specs.Legal.{IsLegal, machine_after};
 ghost use Rattle.plain_machine.specs.Machine.{PlainMachine};
 ghost use Rattle.plain_machine.specs.Thread.{ThreadState};
@@ -21,10 +22,11 @@ impl ThreadStates for OfProgram {
     ghost step = { coded_step };
 }
 
-/// Logs that the plain objects take, one for each thread and each following its thread's code, are legal for the program.
+/// Logs that the plain objects take, one for each thread and each following its thread's code, are legal for the program: whatever
+/// its threads name or hand on is there.
 pub fn logs_that_follow_the_code_are_legal()
-    ensures { (p : ProgramText) (fuel : ℕ) (logs : List (List Logged)) → HaveFollowed p fuel logs
-        → IsLegal p fuel logs }
+    ensures { (p : ProgramText) (fuel : ℕ) (logs : List (List Logged)) → IsProgram p
+        → HaveFollowed p fuel logs → IsLegal p fuel logs }
 {
     objects_and_threads_join::<OfProgram>();
 }

@@ -75,6 +75,7 @@ module _ (x y : PlainObject) (u t : ℕ) where
   at_object (entry.Get o i v) s h = same_waits (u == t) _ _ (only_kept Unchanged x x y _ refl refl h)
   at_object (entry.Put o i v) s h = same_waits (u == t) _ _ (only_kept Unchanged x (record x { slots = slice_set x.slots i v }) y _ refl refl h)
   at_object (entry.Hash o v d) s h = same_waits (u == t) _ _ (hash_kept Unchanged x y (hashed x.hash v) refl h)
+  at_object (entry.New i c) s h = same_waits (u == t) _ _ (subst (λ z. Unchanged z.monitor) (same_Some x y h) refl)
   at_object (entry.Print v) s h = same_waits (u == t) _ _ (subst (λ z. Unchanged z.monitor) (same_Some x y h) refl)
   at_object (entry.Dump n) s h = same_waits (u == t) _ _ (subst (λ z. Unchanged z.monitor) (same_Some x y h) refl)
   at_object (entry.Trap f i) s h = same_waits (u == t) _ _ (subst (λ z. Unchanged z.monitor) (same_Some x y h) refl)
@@ -92,6 +93,7 @@ log_here (entry.NotifyAll i w) a o h = refl
 log_here (entry.Get i j v) a o h = refl
 log_here (entry.Put i j v) a o h = refl
 log_here (entry.Hash i v d) a o h = refl
+log_here (entry.New i c) a o h = refl
 log_here (entry.Print v) a o h = refl
 log_here (entry.Dump n) a o h = refl
 log_here (entry.Trap f i) a o h = refl
@@ -108,6 +110,7 @@ log_else (entry.NotifyAll i w) a o h = refl
 log_else (entry.Get i j v) a o h = refl
 log_else (entry.Put i j v) a o h = refl
 log_else (entry.Hash i v d) a o h = refl
+log_else (entry.New i c) a o h = refl
 log_else (entry.Print v) a o h = refl
 log_else (entry.Dump n) a o h = refl
 log_else (entry.Trap f i) a o h = refl

@@ -3,6 +3,7 @@ use Rattle.std.proofs.Common.{◌≡◌, ℕ, ◌+◌, ◌*◌, ◌<◌, ◌≤�
 use Rattle.std.specs.List.{AllByRecursion}
 use Rattle.std.proofs.Math.Nat.{mul-le-mul_right}
 use Rattle.std.proofs.lemmas.List.Folds.{sum_by-replicate}
+use Rattle.plain_monitor.specs.Limits.{most_threads}
 use Rattle.plain_monitor.specs.declared.entry.Entry.{Entry}
 use Rattle.plain_monitor.specs.declared.entry.Logged.{Logged}
 use Rattle.plain_monitor.specs.Objects.{PlainObject}
@@ -32,7 +33,7 @@ works p fuel (d ∷ ds) h all = omega (arith, first_work p d fuel h all.0, works
 few_works : (p : ProgramText) (fuel : ℕ) → IsProgram p → fuel < 2 ^ 32 → work_left (new_machine p fuel) < 2 ^ 64
 few_works p fuel h small =
     let all = works p fuel p.threads h (program_runs p h) in
-    let most : length p.threads * (2 * fuel + 1) ≤ 16 * (2 * fuel + 1) = mul-le-mul_right (2 * fuel + 1) h.threads_few in
+    let most : length p.threads * (2 * fuel + 1) ≤ most_threads * (2 * fuel + 1) = mul-le-mul_right (2 * fuel + 1) h.threads_few in
     omega (arith, all, most)
 
 -- what each entry does, as laws say it

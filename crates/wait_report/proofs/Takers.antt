@@ -2,7 +2,7 @@
 use Rattle.std.proofs.Common.{◌≡◌, ℕ, ◌+◌, ◌==◌, ◌&&◌, not, if◌then◌else◌, eqb-true, eq-eqb, Bool, true, false, List, [], ◌∷◌, Option, Some, None, IsSome, option_and_then, refl, sym, ap, ◌∙◌, arith, inl, inr}
 use Rattle.plain_monitor.specs.declared.entry.Path.{Path}
 use Rattle.plain_monitor.specs.declared.entry.Entry.{Entry}
-use Rattle.plain_monitor.specs.declared.entry.Entry.TheVariants.{Enter, Exit, Get, Put, Wait, Resume, Notify, NotifyAll, Hash, Print, Dump, Trap, Spent, Done}
+use Rattle.plain_monitor.specs.declared.entry.Entry.TheVariants.{Enter, Exit, Get, Put, Wait, Resume, Notify, NotifyAll, Hash, New, Print, Dump, Trap, Spent, Done}
 use Rattle.plain_monitor.specs.declared.entry.Logged.{Logged}
 use Rattle.plain_monitor.specs.Monitor.{PlainMonitor}
 use Rattle.plain_monitor.specs.Objects.{PlainObject, take_entry}
@@ -96,6 +96,7 @@ entry_tallied o t (NotifyAll k w) objects after y taker h = other_tallied o t k 
 entry_tallied o t (Get k i v) objects after y taker h = other_tallied o t k (Get k i v) objects after y taker (named_turns objects o t k (Get k i v) after h) (λ turn. turn)
 entry_tallied o t (Put k i v) objects after y taker h = other_tallied o t k (Put k i v) objects after y taker (named_turns objects o t k (Put k i v) after h) (λ turn. turn)
 entry_tallied o t (Hash k v d) objects after y taker h = other_tallied o t k (Hash k v d) objects after y taker (named_turns objects o t k (Hash k v d) after h) (λ turn. turn)
+entry_tallied o t (New k c) objects after y taker h = untouched t (monitor_of objects o) (monitor_of after o) y taker (unnamed_turns objects o after h)
 entry_tallied o t (Print v) objects after y taker h = untouched t (monitor_of objects o) (monitor_of after o) y taker (unnamed_turns objects o after h)
 entry_tallied o t (Dump k) objects after y taker h = untouched t (monitor_of objects o) (monitor_of after o) y taker (unnamed_turns objects o after h)
 entry_tallied o t (Trap f i) objects after y taker h = untouched t (monitor_of objects o) (monitor_of after o) y taker (unnamed_turns objects o after h)

@@ -1,6 +1,7 @@
 //! How each object was locked, and how often it changed hands.
 
 ghost use Rattle.std.specs.Prelude.{◌≡◌, ◌≤◌, ◌<◌, ◌^◌, ◌++◌, [], ◌∷◌, IfOk, OnOk, length};
+ghost use Rattle.plain_monitor.specs.Limits.{most_objects};
 ghost use Rattle.plain_monitor.specs.Order.{order};
 ghost use Rattle.plain_machine.specs.Legal.{IsLegal};
 ghost use Rattle.lock_journal.specs.Merging.{AreOfSixteen};
@@ -52,7 +53,7 @@ fn entries_are_few(run: &RunRecord, fuel: u32)
 
 /// The counts of the objects that were entered.
 fn list_counts(alloc: Global, tallies: &[Tally]) -> Result<List<ObjectCount>, NoMemory>
-    requires { length tallies.now ≤ 4096 }
+    requires { length tallies.now ≤ most_objects }
     ensures { IfOk result (λ counts. counts ≡ counts_from 0 tallies.now) }
 {
     let mut counts = Vec::new(alloc);

@@ -1,6 +1,7 @@
 //! What is counted of each object.
 
 ghost use Rattle.std.specs.Prelude.{◌≡◌, ◌<◌, ◌≤◌, ◌+◌, ◌^◌, ◌++◌, IfOk, OnOk, replicate, slice_set, vec_len};
+ghost use Rattle.plain_monitor.specs.Limits.{most_objects};
 ghost use Rattle.lock_journal.specs.RunText.{path_number};
 ghost use Rattle.object_program.specs.Program.{objects_total};
 ghost use Rattle.wait_report.specs.Handovers.{is_handover};
@@ -24,7 +25,7 @@ pub(crate) struct Tally {
 /// A tally for each object of the program, before the first entry.
 pub(crate) fn new_tallies(alloc: Global, program: &Program) -> Result<Vec<Tally>, NoMemory>
     ensures items { IfOk result (λ v. v.items ≡ replicate (objects_total program.now) new_tally) }
-    ensures few { IfOk result (λ v. vec_len v ≤ 4096) }
+    ensures few { IfOk result (λ v. vec_len v ≤ most_objects) }
 {
     let mut tallies = Vec::new(alloc);
     for definition in program.objects.items() {

@@ -1,5 +1,6 @@
 -- What contracts see of `Hashes`.
 use Rattle.std.specs.Prelude.{◌≤◌, length}
+use Rattle.plain_monitor.specs.Limits.{most_objects}
 use Rattle.bias_check.specs.declared.hashes.Hashes.TheInside.{Inside}
 use Rattle.bias_check.specs.inner.HashState.{HashState}
 
@@ -8,4 +9,4 @@ hash_state a = record { marks = a.marks.items; drawers = a.drawers.items }
 
 -- a program has no more objects
 abbrev pub IsSmall : Inside → Type 0
-IsSmall a = length a.marks.items ≤ 4096
+IsSmall a = length a.marks.items ≤ most_objects

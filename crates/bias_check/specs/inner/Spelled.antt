@@ -3,14 +3,14 @@ use Rattle.std.specs.Prelude.{ℕ, List, [], ◌∷◌, codes}
 use Rattle.plain_monitor.specs.declared.entry.Path.{Path}
 use Rattle.plain_monitor.specs.declared.entry.Path.TheVariants.{BiasOwn, BiasTaken, StackFirst, StackAgain, MonitorFirst, MonitorAgain}
 use Rattle.plain_monitor.specs.declared.entry.Fault.{Fault}
-use Rattle.plain_monitor.specs.declared.entry.Fault.TheVariants.{IllegalMonitorState, Unguarded, NotRef, NotInt, Range, Overflow, TooDeep, TooManyDumps}
+use Rattle.plain_monitor.specs.declared.entry.Fault.TheVariants.{IllegalMonitorState, Unguarded, NotRef, NotInt, Range, Overflow, TooDeep, TooManyDumps, TooMany}
 use Rattle.bias_check.specs.declared.spelled.Verb.{Verb}
 use Rattle.bias_check.specs.declared.spelled.Verb.TheVariants as verb
 
 abbrev pub acts : List (List ℕ × Verb)
 acts =
     (codes "notify", verb.Notify) ∷ (codes "notifyall", verb.NotifyAll) ∷ (codes "hash", verb.Hash)
-    ∷ (codes "print", verb.Print)
+    ∷ (codes "new", verb.New) ∷ (codes "print", verb.Print)
     ∷ (codes "dump", verb.Dump) ∷ (codes "fault", verb.Fault) ∷ (codes "spent", verb.Spent)
     ∷ (codes "done", verb.Done) ∷ []
 
@@ -29,4 +29,4 @@ abbrev pub faults : List (List ℕ × Fault)
 faults =
     (codes "IllegalMonitorState", IllegalMonitorState) ∷ (codes "Unguarded", Unguarded) ∷ (codes "NotRef", NotRef)
     ∷ (codes "NotInt", NotInt) ∷ (codes "Range", Range) ∷ (codes "Overflow", Overflow) ∷ (codes "TooDeep", TooDeep)
-    ∷ (codes "TooManyDumps", TooManyDumps) ∷ []
+    ∷ (codes "TooManyDumps", TooManyDumps) ∷ (codes "TooMany", TooMany) ∷ []

@@ -2,9 +2,10 @@
 use Rattle.std.specs.Prelude.{ℕ, ℤ, pos, ◌+◌, ◌-◌, ◌^◌, nat_abs, ◌&&◌, ◌==◌, nat_lt, if◌then◌else◌, List, [], ◌∷◌, codes, drop, map, position, slice_get, take, Option, Some, None, option_map, option_and_then}
 use Rattle.std.specs.Fmt.{signed_decimal}
 use Rattle.std.specs.Str.{bytes_eq}
+use Rattle.plain_monitor.specs.Limits.{most_threads}
 use Rattle.plain_monitor.specs.declared.entry.Value.TheVariants.{Nil, Int, Ref}
 use Rattle.plain_monitor.specs.declared.entry.Entry.{Entry}
-use Rattle.plain_monitor.specs.declared.entry.Entry.TheVariants.{Enter, Exit, Get, Put, Wait, Resume, Notify, NotifyAll, Hash, Print, Dump, Trap, Spent, Done}
+use Rattle.plain_monitor.specs.declared.entry.Entry.TheVariants.{Enter, Exit, Get, Put, Wait, Resume, Notify, NotifyAll, Hash, New, Print, Dump, Trap, Spent, Done}
 use Rattle.plain_monitor.specs.Monitor.{only_if}
 use Rattle.plain_monitor.specs.Numbers.{least_number, greatest_number}
 use Rattle.object_program.specs.declared.program.ObjectDef.{ObjectDef}
@@ -24,7 +25,7 @@ use Rattle.bias_check.specs.inner.Spelled.{verbs, paths, faults}
 use Rattle.bias_check.specs.inner.Words.{before_last, unended, words_of}
 
 abbrev pub names_of : ProgramText → Names
-names_of p = record { threads = map (λ t. t.name) p.threads; objects = p.objects }
+names_of p = record { threads = map (λ t. t.name) p.threads; objects = p.objects; classes = map (λ c. c.name) p.classes }
 
 -- the number of the first of these names that is the word
 abbrev pub place_in : List (List ℕ) → List ℕ → Option ℕ
@@ -32,7 +33,11 @@ place_in names word = only_if (is_among names word) (number_among names word)
 
 -- a program has at most 16 threads
 abbrev pub thread_in : Names → List ℕ → Option ℕ
-thread_in t word = option_and_then (λ n. only_if (nat_lt n 16) n) (place_in t.threads word)
+thread_in t word = option_and_then (λ n. only_if (nat_lt n most_threads) n) (place_in t.threads word)
+
+-- a program has at most 64 classes
+abbrev pub class_in : Names → List ℕ → Option ℕ
+class_in t word = option_and_then (λ n. only_if (nat_lt n 64) n) (place_in t.classes word)
 
 abbrev pub declared_in : Names → List ℕ → Option ObjectDef
 declared_in t name = option_and_then (λ n. slice_get t.objects n) (place_in (map (λ d. d.name) t.objects) name)
@@ -128,6 +133,7 @@ two_told t verb.Notify a b = option_and_then (λ o. option_map (λ w. notify_rea
 two_told t verb.NotifyAll a b =
     option_and_then (λ o. option_map (λ n. sure (NotifyAll o n)) (count_in b)) (object_in t a)
 two_told t verb.Hash a b = option_and_then (λ o. option_map (λ n. sure (Hash o n None)) (count_in b)) (object_in t a)
+two_told t verb.New a b = option_and_then (λ o. option_map (λ c. sure (New o c)) (class_in t b)) (object_in t a)
 two_told t v a b = None
 
 abbrev pub slot_told : (ℕ → ℕ → ValueRead → EntryRead) → Names → List ℕ → List ℕ → List ℕ → Option EntryRead

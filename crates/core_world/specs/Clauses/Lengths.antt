@@ -1,10 +1,11 @@
 -- The published lengths of the logs.
 use Rattle.std.specs.Prelude.{◌≡◌, ℕ, ◌≤◌, Bool, false, List, length}
+use Rattle.plain_monitor.specs.Limits.{most_fuel, entries_for}
 use Rattle.plain_monitor.specs.declared.entry.Logged.{Logged}
 
--- what a log may have at most: two entries for each unit of fuel, an Exit for each of 64 holds, a hash and an end
+-- what a log may have at most, of a thread with the most fuel
 abbrev pub log_limit : ℕ
-log_limit = 400066
+log_limit = entries_for most_fuel
 
 pub record LengthsFit (word published : ℕ → ℕ) (log : ℕ → List Logged) (running requesting : ℕ → Bool)
     (halted : Bool) : Type 0 where

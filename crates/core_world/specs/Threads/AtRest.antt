@@ -1,5 +1,6 @@
 -- What each thread knows between its calls, whatever its last call was. A call may begin from there where its own conditions hold.
-use Rattle.std.specs.Prelude.{◌≡◌, ◌⊎◌, ℕ, ◌<◌, true, false, length, Option, Some, None}
+use Rattle.std.specs.Prelude.{◌≡◌, ◌⊎◌, ℕ, ◌<◌, true, false, List, length, Option, Some, None}
+use Rattle.plain_monitor.specs.Limits.{most_holds}
 use Rattle.mark_word.specs.Mark.{read_mark}
 use Rattle.core_world.specs.declared.name.Name.{Name}
 use Rattle.core_world.specs.declared.name.Name.TheVariants.{Safepoint, Mark, Prototype}
@@ -9,22 +10,30 @@ use Rattle.core_world.specs.declared.task.Op.TheVariants as op
 use Rattle.core_world.specs.declared.task.Unfinished.{Unfinished}
 use Rattle.core_world.specs.Words.Forms.{waits_on, says_notified, says_ended}
 use Rattle.core_world.specs.Words.Shape.{Shape, class_of}
-use Rattle.core_world.specs.Threads.Known.{Known, Still, last_seen}
+use Rattle.core_world.specs.Threads.Known.{Known, Still, StepMade, last_seen}
 use Rattle.core_world.specs.Locks.{is_valid_bias}
 use Rattle.core_world.specs.Trees.Plans.{free_place}
 use Rattle.core_world.specs.Clauses.Safepoints.{ends, IsUnfinished}
 use Rattle.core_world.specs.Shots.{dumps_from}
 
+-- who has made these steps has seen that c is the class of o: the heap's shape says so, whatever the steps were
+abbrev pub SawClass : Shape → List StepMade → ℕ → ℕ → Type 0
+SawClass s seen o c = c ≡ class_of s o
+
 -- the thread saw a valid bias of o since the call began that made its request
 abbrev pub SawValidBias : Shape → Known → ℕ → Type 0
 SawValidBias s k o =
-    (v p : ℕ) × (last_seen (Mark o) k.seen ≡ Some v) × (last_seen (Prototype (class_of s o)) k.seen ≡ Some p)
+    (v p c : ℕ) × (last_seen (Mark o) k.seen ≡ Some v) × SawClass s k.seen o c × (last_seen (Prototype c) k.seen ≡ Some p)
     × (is_valid_bias (read_mark v) p ≡ true)
+
+-- the prototype of its class, as these steps saw the class
+abbrev pub IsItsPrototype : Shape → List StepMade → ℕ → Name → Type 0
+IsItsPrototype s seen o n = (c : ℕ) × SawClass s seen o c × (n ≡ Prototype c)
 
 -- since then it has seen no words but these two and the safepoint word
 abbrev pub SawNoOther : Shape → Known → ℕ → Type 0
 SawNoOther s k o = (n : Name) (v : ℕ) → last_seen n k.seen ≡ Some v
-    → (n ≡ Safepoint) ⊎ (n ≡ Mark o) ⊎ (n ≡ Prototype (class_of s o))
+    → (n ≡ Safepoint) ⊎ (n ≡ Mark o) ⊎ IsItsPrototype s k.seen o n
 
 -- It saw a valid bias of o and nothing else, and has not reached its safepoint: in the call in which it reaches that, it goes on up to the release.
 abbrev pub MayRevoke : Shape → Known → ℕ → Type 0
@@ -49,7 +58,7 @@ pub record AtRest (s : Shape) (k : Known) : Type 0 where
   -- it has ended with nothing unfinished, and says so
   pub ended : ends k.log ≡ true → (says_ended k.wait ≡ true) × (k.unfinished ≡ None)
   -- an unfinished enter has a place for its hold word
-  pub place : (o : ℕ) → IsUnfinished k.unfinished op.Enter o → free_place k.holds < 64
+  pub place : (o : ℕ) → IsUnfinished k.unfinished op.Enter o → free_place k.holds < most_holds
   -- that it was notified it has not stored itself
   pub untold : (o : ℕ) → says_notified k.wait o ≡ false
   -- a thread that asks for a safepoint doesn't run; it asks for a check, or for its operation

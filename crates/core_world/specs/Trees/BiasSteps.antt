@@ -12,10 +12,11 @@ use Rattle.core_world.specs.declared.stage.Stage.{Stage}
 use Rattle.core_world.specs.declared.stage.Stage.TheVariants.{Calm, Takes}
 use Rattle.core_world.specs.declared.answer.BiasTry.{BiasTry}
 use Rattle.core_world.specs.declared.answer.BiasTry.TheVariants.{Took, Unbiased, Valid, Raced}
+use Rattle.core_world.specs.Words.Shape.{Shape}
 use Rattle.core_world.specs.Words.Forms.{epoch_in, is_biased}
 use Rattle.core_world.specs.Threads.Known.{Local}
 use Rattle.core_world.specs.Trees.Todo.{Todo, done, never, ◌>>=◌, ask}
-use Rattle.core_world.specs.Trees.Plans.{Purpose, with_stage, load_plan, load, swap}
+use Rattle.core_world.specs.Trees.Plans.{Purpose, with_stage, load_plan, load, swap, class_steps}
 use Rattle.core_world.specs.Trees.LockSteps.{hold_steps, raise_steps, leave_steps}
 
 -- THE PLANS. The mark of o is exchanged for a neutral one.
@@ -60,12 +61,13 @@ bias_enter_by (Some (Neutral hash age)) e k o mark prototype = unbias_swap_steps
 bias_enter_by (Some (Anonymous epoch age)) e k o mark prototype = bias_enter_at (read_mark mark) epoch e k o mark
 bias_enter_by _ e k o mark prototype = never
 
--- an enter of o, which is of class c
-abbrev pub bias_enter_steps : Purpose → Local → ℕ → ℕ → Todo BiasTry
-bias_enter_steps e k c o = do
+-- an enter of o
+abbrev pub bias_enter_steps : Shape → Purpose → Local → ℕ → Todo BiasTry
+bias_enter_steps s e k o = do
   mark ← ask (load e (Mark o))
   if is_biased mark then (do
-    prototype ← ask (load e (Prototype c))
+    class ← class_steps e Calm s o
+    prototype ← ask (load e (Prototype class))
     bias_enter_by (read_mark prototype) e k o mark prototype) else done (Unbiased mark)
 
 -- An exit under a bias makes no exchange: the stamp is raised, and where the mark has the bias pattern the hold word is cleared, which logs
@@ -90,11 +92,12 @@ bias_drop_by None e o mark prototype = unbias_swap_steps e o mark prototype
 bias_drop_by (Some epoch) e o mark prototype = bias_drop_at (read_mark mark) epoch e o mark
 
 -- the end of o's bias, as far as it needs no safepoint
-abbrev pub bias_drop_steps : Purpose → ℕ → ℕ → Todo BiasTry
-bias_drop_steps e c o = do
+abbrev pub bias_drop_steps : Shape → Purpose → ℕ → Todo BiasTry
+bias_drop_steps s e o = do
   mark ← ask (load e (Mark o))
   if is_biased mark then (do
-    prototype ← ask (load e (Prototype c))
+    class ← class_steps e Calm s o
+    prototype ← ask (load e (Prototype class))
     bias_drop_by (epoch_in prototype) e o mark prototype) else done (Unbiased mark)
 
 abbrev pub bias_after_at : Option MarkForm → Purpose → Local → ℕ → Todo BiasTry

@@ -1,9 +1,7 @@
 -- The steps of each call, and when a call may begin.
-use Rattle.std.specs.Prelude.{ℕ, ◌+◌, ◌==◌, ◌&&◌, ◌||◌, nat_lt, nat_le, not, is_none, if◌then◌else◌, Bool, true, false, length}
+use Rattle.std.specs.Prelude.{ℕ, ◌+◌, ◌==◌, ◌&&◌, ◌||◌, nat_lt, nat_le, not, is_none, if◌then◌else◌, Bool, false, length}
 use Rattle.std.specs.List.{list_all}
-use Rattle.plain_monitor.specs.declared.entry.Value.{Value}
-use Rattle.plain_monitor.specs.declared.entry.Value.TheVariants.{Nil, Int, Ref}
-use Rattle.plain_monitor.specs.Numbers.{is_in_range}
+use Rattle.plain_monitor.specs.Limits.{most_holds}
 use Rattle.core_world.specs.declared.task.Op.TheVariants as op
 use Rattle.core_world.specs.declared.task.Task.{Task}
 use Rattle.core_world.specs.declared.task.Task.TheVariants.{Enter, Exit, Wait, Notify, NotifyAll, Hash, Get, Put, Print, Dump, Finish, Poll, Stop, Resume, Check, StackEnter, StackExit, Request, Reached, Release}
@@ -16,6 +14,8 @@ use Rattle.core_world.specs.RevocationRules.{first_place}
 use Rattle.core_world.specs.Clauses.Safepoints.{ends}
 use Rattle.core_world.specs.Clauses.Lengths.{log_limit}
 use Rattle.core_world.specs.Threads.Known.{Known, Start}
+pub use Rattle.core_world.specs.Threads.References.{is_object, is_value}
+use Rattle.core_world.specs.Threads.References.{has_reference, has_value}
 use Rattle.core_world.specs.Trees.Todo.{Todo, done, ◌>>=◌}
 use Rattle.core_world.specs.Trees.Plans.{Purpose, purpose, free_place}
 use Rattle.core_world.specs.Trees.LockSteps.{stack_enter_steps, stack_exit_steps}
@@ -53,16 +53,6 @@ steps_of s Request k = request_steps (lone_purpose Request) k.local.thread >>= e
 steps_of s Reached k = reached_steps (lone_purpose Reached) >>= end
 steps_of s Release k = release_safepoint (lone_purpose Release) k.local.thread
 
--- the object is there
-abbrev pub is_object : Shape → ℕ → Bool
-is_object s o = nat_lt o (length s.objects)
-
--- the value may stand in a slot: it is in its range, and a reference names an object
-abbrev pub is_value : Shape → Value → Bool
-is_value s Nil = true
-is_value s (Int i) = is_in_range i
-is_value s (Ref o) = is_object s o
-
 -- nothing is unfinished but this operation on o, which then goes on
 abbrev pub is_free_for : Known → Bool → Bool
 is_free_for k going_on = is_none k.unfinished || going_on
@@ -97,17 +87,17 @@ is_own_first k o mark = nat_lt 0 (hold_count o k.holds) && (mark == mark_of (Loc
 -- The call may begin, by its own conditions. The two parts of an operation that may be called by themselves on a lock can't know that its mark has no
 -- bias pattern, so they are calls of heaps without biases.
 abbrev pub may_begin : Shape → Bool → Known → Task → Bool
-may_begin s biasing k (Enter o now) = is_object s o && may_operate k (goes_on_with op.Enter o k.unfinished)
-may_begin s biasing k (Exit o) = is_object s o && may_operate k (goes_on_with op.Exit o k.unfinished)
+may_begin s biasing k (Enter o now) = has_reference s k o && may_operate k (goes_on_with op.Enter o k.unfinished)
+may_begin s biasing k (Exit o) = has_reference s k o && may_operate k (goes_on_with op.Exit o k.unfinished)
 may_begin s biasing k (Wait o now) =
-    is_object s o && may_operate k (goes_on_with op.Wait o k.unfinished)
+    has_reference s k o && may_operate k (goes_on_with op.Wait o k.unfinished)
     && nat_le (length k.log + most_logged k (Wait o now)) log_limit
-may_begin s biasing k (Notify o now) = is_object s o && may_operate k (goes_on_with op.Notify o k.unfinished)
-may_begin s biasing k (NotifyAll o now) = is_object s o && may_operate k (goes_on_with op.NotifyAll o k.unfinished)
-may_begin s biasing k (Hash o now) = is_object s o && may_operate k (goes_on_with op.Hash o k.unfinished)
-may_begin s biasing k (Get o slot) = is_object s o && nat_lt slot (slots_of s o) && may_act k
-may_begin s biasing k (Put o slot value) = is_object s o && nat_lt slot (slots_of s o) && is_value s value && may_act k
-may_begin s biasing k (Print value) = is_value s value && may_act k
+may_begin s biasing k (Notify o now) = has_reference s k o && may_operate k (goes_on_with op.Notify o k.unfinished)
+may_begin s biasing k (NotifyAll o now) = has_reference s k o && may_operate k (goes_on_with op.NotifyAll o k.unfinished)
+may_begin s biasing k (Hash o now) = has_reference s k o && may_operate k (goes_on_with op.Hash o k.unfinished)
+may_begin s biasing k (Get o slot) = has_reference s k o && nat_lt slot (slots_of s o) && may_act k
+may_begin s biasing k (Put o slot value) = has_reference s k o && nat_lt slot (slots_of s o) && has_value s k value && may_act k
+may_begin s biasing k (Print value) = has_value s k value && may_act k
 may_begin s biasing k Dump = may_operate k (goes_on_with op.Dump 0 k.unfinished)
 may_begin s biasing k (Finish ending) = list_all (λ h. h == 0) k.holds && may_act k
 may_begin s biasing k Poll = k.running
@@ -115,10 +105,10 @@ may_begin s biasing k Stop = k.running
 may_begin s biasing k Resume = not k.running && not k.requesting
 may_begin s biasing k Check = not (ends k.log) && (if k.requesting then k.checking else k.running)
 may_begin s biasing k (StackEnter o mark) =
-    not biasing && is_object s o && may_log_once k false && nat_lt (free_place k.holds) 64
+    not biasing && has_reference s k o && may_log_once k false && nat_lt (free_place k.holds) most_holds
     && (is_neutral mark || is_own_first k o mark)
 may_begin s biasing k (StackExit o) =
-    not biasing && is_object s o && nat_lt 0 (hold_count o k.holds)
+    not biasing && has_reference s k o && nat_lt 0 (hold_count o k.holds)
     && may_log_once k (goes_on_with op.Exit o k.unfinished)
 may_begin s biasing k Request = k.running && is_none k.unfinished && not k.checking
 may_begin s biasing k Reached = k.requesting && is_none k.unfinished && not k.checking

@@ -1,5 +1,6 @@
 -- The steps that look at all threads and objects at a reached safepoint: for a dump, and to see whether the run is stuck.
 use Rattle.std.specs.Prelude.{ℕ, ◌==◌, ◌&&◌, not, if◌then◌else◌, Bool, true, false, List, [], ◌∷◌, length, Option, Some, None}
+use Rattle.plain_monitor.specs.Limits.{most_holds}
 use Rattle.mark_word.specs.declared.mark.MarkForm.{MarkForm}
 use Rattle.mark_word.specs.declared.mark.MarkForm.TheVariants.{Biased, Locked, Inflated}
 use Rattle.mark_word.specs.declared.owner.OwnerForm.{OwnerForm}
@@ -12,11 +13,12 @@ use Rattle.mark_word.specs.Wait.{read_wait}
 use Rattle.core_world.specs.declared.name.Name.TheVariants as name
 use Rattle.core_world.specs.declared.plan.Own.TheVariants as own
 use Rattle.core_world.specs.declared.plan.StepPlan.{StepPlan}
-use Rattle.core_world.specs.Words.Shape.{Shape, class_of}
+use Rattle.core_world.specs.declared.stage.Stage.TheVariants.{Calm}
+use Rattle.core_world.specs.Words.Shape.{Shape}
 use Rattle.core_world.specs.Words.Forms.{epoch_in}
 use Rattle.core_world.specs.Locks.{has_epoch}
 use Rattle.core_world.specs.Trees.Todo.{Todo, done, never, ◌>>=◌, ask, each_from, all_from}
-use Rattle.core_world.specs.Trees.Plans.{Purpose, with_own, load}
+use Rattle.core_world.specs.Trees.Plans.{Purpose, with_own, load, class_steps}
 
 -- THE PLAN of the step that keeps a shot: the safepoint word is loaded once more.
 abbrev pub keep_shot_plan : Purpose → StepPlan
@@ -24,7 +26,7 @@ keep_shot_plan e = with_own own.TakeShot (load e name.Safepoint)
 
 -- THE STEPS. The hold words of a thread.
 abbrev pub look_at_holds : Purpose → ℕ → Todo (Unit {0})
-look_at_holds e t = all_from 0 64 (λ p. do
+look_at_holds e t = all_from 0 most_holds (λ p. do
   _ ← ask (load e (name.Hold t p))
   done tt)
 
@@ -36,7 +38,8 @@ look_at_owner _ e = done tt
 -- What a mark names: the prototype behind a bias, the monitor, and the hold words of the thread that has the lock.
 abbrev pub look_behind : Option MarkForm → Purpose → Shape → ℕ → Todo (Unit {0})
 look_behind (Some (Biased thread epoch age)) e s o = do
-  prototype ← ask (load e (name.Prototype (class_of s o)))
+  class ← class_steps e Calm s o
+  prototype ← ask (load e (name.Prototype class))
   if has_epoch (epoch_in prototype) epoch then look_at_holds e thread else done tt
 look_behind (Some (Locked thread place)) e s o = look_at_holds e thread
 look_behind (Some (Inflated monitor)) e s o = do

@@ -5,6 +5,7 @@ use Rattle.mark_word.specs.declared.mark.MarkForm.TheVariants.{Inflating, Neutra
 use Rattle.mark_word.specs.declared.wait.WaitForm.TheVariants.{Ended}
 use Rattle.mark_word.specs.Mark.{read_mark}
 use Rattle.mark_word.specs.Wait.{wait_of}
+use Rattle.plain_monitor.specs.Limits.{most_holds}
 use Rattle.plain_monitor.specs.declared.entry.Entry.TheVariants as entry
 use Rattle.plain_monitor.specs.declared.entry.Ending.{Ending}
 use Rattle.plain_monitor.specs.declared.entry.Path.{Path}
@@ -32,7 +33,7 @@ use Rattle.core_world.specs.declared.answer.TooDeep.{TooDeep}
 use Rattle.core_world.specs.declared.answer.IllegalMonitorState.{IllegalMonitorState}
 use Rattle.core_world.specs.declared.answer.Unguarded.{Unguarded}
 use Rattle.core_world.specs.declared.answer.TooManyDumps.{TooManyDumps}
-use Rattle.core_world.specs.Words.Shape.{Shape, class_of}
+use Rattle.core_world.specs.Words.Shape.{Shape}
 use Rattle.core_world.specs.Words.Forms.{waits_on}
 use Rattle.core_world.specs.Threads.Stages.{Revocation}
 use Rattle.core_world.specs.Threads.Known.{Local, Start}
@@ -118,16 +119,16 @@ enter_tried tried s e k b = enter_unbiased tried s e k b.object
 
 abbrev pub enter_going : Shape → Purpose → Start → Revocation → Todo (Turn Path)
 enter_going s e k b = if k.requesting then enter_revoked s true e k b else (do
-  tried ← bias_enter_steps e k.local (class_of s b.object) b.object
+  tried ← bias_enter_steps s e k.local b.object
   enter_tried tried s e k b)
 
--- With 64 holds there is no place for one more. An enter that goes on found a place before, and has it still.
+-- With the most holds there is no place for one more. An enter that goes on found a place before, and has it still.
 abbrev pub full_steps : Start → ℕ → Todo (Result (Turn Path) TooDeep)
 full_steps k o = if goes_on_with op.Enter o k.unfinished then never else done (Err record {})
 
 abbrev pub enter_steps : Shape → Start → ℕ → ℕ → Todo (Result (Turn Path) TooDeep)
 enter_steps s k o now =
-    if free_place k.local.holds == 64 then full_steps k o
+    if free_place k.local.holds == most_holds then full_steps k o
     else enter_going s (purpose (task.Enter o now) op.Enter o) k
     (record { object = o; rebias = true; now = now }) >>= answer
 
@@ -165,7 +166,7 @@ unbias_tried (Raced expected found) s e k b = pending_for (why.Raced expected fo
 
 abbrev pub unbias_steps : Shape → Purpose → Start → Revocation → Todo (Turn (Unit {0}))
 unbias_steps s e k b = if k.requesting then revoked_steps s k.local.thread true e b else (do
-  tried ← bias_drop_steps e (class_of s b.object) b.object
+  tried ← bias_drop_steps s e b.object
   unbias_tried tried s e k b)
 
 abbrev pub no_bias : ℕ → ℕ → Revocation

@@ -21,6 +21,7 @@ use Rattle.core_world.specs.declared.answer.Why.{Why}
 use Rattle.core_world.specs.Words.Forms.{hold_word}
 use Rattle.core_world.specs.Threads.Known.{Local}
 use Rattle.core_world.specs.Locks.{hold_count}
+use Rattle.core_world.specs.Words.Shape.{Shape, class_of}
 use Rattle.core_world.specs.Trees.Todo.{Todo, done}
 
 -- the call whose steps a part makes, and what is unfinished while it makes them
@@ -88,3 +89,7 @@ top_place o holds = position_or_len (λ h. h == hold_word o (hold_count o holds)
 -- the stamp of the thread's next entry, if that is no Enter or Resume
 abbrev pub next_stamp : Local → ℕ
 next_stamp k = last_stamp k.log + 1
+
+-- The class of an object, as a call finds it that stands at this stage: the heap's shape tells it, without a step.
+abbrev pub class_steps : Purpose → Stage → Shape → ℕ → Todo ℕ
+class_steps e stage s o = done (class_of s o)

@@ -1,5 +1,6 @@
 -- The steps that revoke a bias at a reached safepoint. They load what the rules of `RevocationRules` go by, and make their stores.
 use Rattle.std.specs.Prelude.{ℕ, ◌+◌, ◌%◌, ◌==◌, not, is_none, if◌then◌else◌, Bool, false, List, [], ◌∷◌, Option, Some, None}
+use Rattle.plain_monitor.specs.Limits.{most_holds}
 use Rattle.mark_word.specs.declared.mark.MarkForm.{MarkForm}
 use Rattle.mark_word.specs.declared.mark.MarkForm.TheVariants.{Neutral, Anonymous, Biased}
 use Rattle.mark_word.specs.Mark.{mark_of, read_mark}
@@ -13,14 +14,14 @@ use Rattle.core_world.specs.declared.plan.Own.{Own}
 use Rattle.core_world.specs.declared.plan.Own.TheVariants as own
 use Rattle.core_world.specs.declared.plan.StepPlan.{StepPlan}
 use Rattle.core_world.specs.declared.stage.Stage.{Stage}
-use Rattle.core_world.specs.declared.stage.Stage.TheVariants.{Revokes}
-use Rattle.core_world.specs.Words.Shape.{Shape, class_of}
+use Rattle.core_world.specs.declared.stage.Stage.TheVariants.{Calm, Revokes}
+use Rattle.core_world.specs.Words.Shape.{Shape}
 use Rattle.core_world.specs.Words.Forms.{epoch_in, is_biased}
 use Rattle.core_world.specs.Threads.Stages.{Revocation}
 use Rattle.core_world.specs.RevocationRules.{Write, write, raised_form, with_epoch, store_where, object_held, biased_word, revoke_biased}
 use Rattle.core_world.specs.Locks.{is_valid_bias}
 use Rattle.core_world.specs.Trees.Todo.{Todo, done, never, ◌>>=◌, ask, each_from, all_from}
-use Rattle.core_world.specs.Trees.Plans.{Purpose, with_stage, with_own, load_plan, load, store}
+use Rattle.core_world.specs.Trees.Plans.{Purpose, with_stage, with_own, load_plan, load, store, class_steps}
 
 abbrev pub revocation_stage : Revocation → Stage
 revocation_stage b = Revokes b.object b.rebias b.now
@@ -44,7 +45,7 @@ abbrev pub revoke_at : Option MarkForm → Purpose → Revocation → ℕ → Bo
 revoke_at (Some (Anonymous epoch age)) e b o allowed =
     store_steps e b (if allowed then [] else write (Mark o) (mark_of (Neutral 0 0)) ∷ [])
 revoke_at (Some (Biased thread epoch age)) e b o allowed = do
-  holds ← each_from 0 64 (λ p. look e b (Hold thread p))
+  holds ← each_from 0 most_holds (λ p. look e b (Hold thread p))
   store_steps e b (revoke_biased o thread allowed holds)
 revoke_at _ e b o allowed = done tt
 
@@ -57,13 +58,15 @@ revoke_steps e b o allowed = do
 -- the visit of a biased object of class c that a record names, with its mark
 abbrev pub visit_held : Shape → ℕ → Purpose → Revocation → (ℕ → ℕ → Todo (Unit {0})) → Option ℕ → Todo (Unit {0})
 visit_held s c e b visit None = done tt
-visit_held s c e b visit (Some o) = if class_of s o == c then (do
-  mark ← look e b (Mark o)
-  if is_biased mark then visit o mark else done tt) else done tt
+visit_held s c e b visit (Some o) = do
+  class ← class_steps e (revocation_stage b) s o
+  if class == c then (do
+    mark ← look e b (Mark o)
+    if is_biased mark then visit o mark else done tt) else done tt
 
 -- the records of all threads, by rising thread and place
 abbrev pub walk_steps : Shape → ℕ → Purpose → Revocation → (ℕ → ℕ → Todo (Unit {0})) → Todo (Unit {0})
-walk_steps s c e b visit = all_from 0 s.threads (λ t. all_from 0 64 (λ p. do
+walk_steps s c e b visit = all_from 0 s.threads (λ t. all_from 0 most_holds (λ p. do
   hold ← look e b (Hold t p)
   visit_held s c e b visit (object_held (read_hold hold))))
 
@@ -122,8 +125,9 @@ decided_steps s t c e b epoch count last = do
 abbrev pub revoke_at_safepoint_steps : Shape → ℕ → Purpose → Revocation → Todo RevocationOutcome
 revoke_at_safepoint_steps s t e b = do
   mark ← ask (load e (Mark b.object))
-  prototype ← ask (load e (Prototype (class_of s b.object)))
-  count ← ask (load e (Revocations (class_of s b.object)))
-  last ← ask (load e (LastBulk (class_of s b.object)))
+  class ← class_steps e Calm s b.object
+  prototype ← ask (load e (Prototype class))
+  count ← ask (load e (Revocations class))
+  last ← ask (load e (LastBulk class))
   if is_valid_bias (read_mark mark) prototype
-      then decided_steps s t (class_of s b.object) e b (epoch_in prototype) count last else never
+      then decided_steps s t class e b (epoch_in prototype) count last else never

@@ -2,6 +2,7 @@
 use Rattle.std.specs.Prelude.{ℕ, ◌==◌, ◌&&◌, Bool, if◌then◌else◌, Option, Some, None}
 use Rattle.core_world.specs.declared.name.Name.{Name}
 use Rattle.core_world.specs.declared.name.Name.TheVariants.{Safepoint, Prototype, Revocations, LastBulk, Mark, Stamp, Slot, Hold, Displaced, Waiting, Length, Owner, Recursions, Header, Object, Claim, End, Ring}
+use Rattle.core_world.specs.Words.Shape.{Shape, class_of}
 
 -- the monitor of which this is a word
 abbrev pub its_monitor : Name → Option ℕ
@@ -64,3 +65,7 @@ same_name m n = (kind_of m == kind_of n) && (second_index m == second_index n) &
 -- the word is v at this name, and as it was at all others
 abbrev pub with_word : Name → ℕ → (Name → ℕ) → Name → ℕ
 with_word at v f n = if same_name n at then v else f n
+
+-- the class of an object, by the heap's shape and these words
+abbrev pub class_by : Shape → (Name → ℕ) → ℕ → ℕ
+class_by s f o = class_of s o

@@ -1,6 +1,7 @@
 -- What no step changes of a heap: how many there are of everything.
 use Rattle.std.specs.Prelude.{ℕ, zero, suc, ◌+◌, ◌^◌, ◌<◌, ◌≤◌, nat_le, if◌then◌else◌, List, length, slice_index_or}
 use Rattle.std.specs.List.{AllByRecursion}
+use Rattle.plain_monitor.specs.Limits.{most_threads, most_classes, most_slots, most_objects}
 
 pub record Shape : Type 0 where
   pub threads : ℕ
@@ -32,7 +33,7 @@ ring_places s = 2 ^ ring_bits s
 
 -- the limits of a program
 pub record IsInLimits (s : Shape) : Type 0 where
-  pub threads : s.threads ≤ 16
-  pub classes : s.classes ≤ 64
-  pub objects : length s.objects ≤ 4096
-  pub each : AllByRecursion (λ x. (x.0 < s.classes) × (x.1 ≤ 16)) s.objects
+  pub threads : s.threads ≤ most_threads
+  pub classes : s.classes ≤ most_classes
+  pub objects : length s.objects ≤ most_objects
+  pub each : AllByRecursion (λ x. (x.0 < s.classes) × (x.1 ≤ most_slots)) s.objects

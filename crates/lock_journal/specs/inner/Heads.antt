@@ -1,5 +1,6 @@
 -- Which entry a merge of the logs gives next.
 use Rattle.std.specs.Prelude.{◌≡◌, ◌≢◌, ℕ, ◌-◌, ◌^◌, ◌<◌, ◌≤◌, ◌||◌, ◌&&◌, ◌==◌, nat_lt, nat_le, if◌then◌else◌, IsTrue, List, slice_get, slice_index, Option, Some, None}
+use Rattle.plain_monitor.specs.Limits.{most_threads}
 use Rattle.plain_monitor.specs.declared.entry.Logged.{Logged}
 use Rattle.plain_monitor.specs.History.{log_of}
 
@@ -41,7 +42,7 @@ or_greatest (Some stamp) = stamp
 
 -- the stamps of the first entries that the threads have left, for as many threads as a program has at most
 abbrev pub HasStamps : List (List Logged) → List ℕ → List ℕ → Type 0
-HasStamps logs places stamps = (t : ℕ) → t < 16 → slice_index stamps t ≡ or_greatest (stamp_of logs places t)
+HasStamps logs places stamps = (t : ℕ) → t < most_threads → slice_index stamps t ≡ or_greatest (stamp_of logs places t)
 
 -- the least of the first n stamps, with the first thread that has it where it isn't the greatest number
 pub record IsFirstLeast (stamps : List ℕ) (n : ℕ) (x : ℕ × ℕ) : Type 0 where

@@ -13,7 +13,7 @@ use Rattle.core_world.specs.Trees.Plans.{Purpose, done_with}
 use Rattle.core_world.specs.Trees.RevocationSteps.{revoke_at_safepoint_steps}
 use Rattle.core_world.specs.Trees.SafepointSteps.{release_to}
 use Rattle.core_world.specs.Trees.Todo.{Todo, ◌>>=◌}
-use Rattle.core_world.specs.Words.Shape.{Shape, class_of}
+use Rattle.core_world.specs.Words.Shape.{Shape}
 
 -- an exit of o, whose mark has no bias pattern
 abbrev pub exit_unbiased : Purpose → Local → ℕ → Todo (Turn (Unit {0}))
@@ -43,11 +43,11 @@ enter_again s e k o took = do
 -- an enter that asks for no safepoint, unless it finds a valid bias of another thread
 abbrev pub enter_first : Shape → Purpose → Start → Revocation → Todo (Turn Path)
 enter_first s e k b = do
-  tried ← bias_enter_steps e k.local (class_of s b.object) b.object
+  tried ← bias_enter_steps s e k.local b.object
   enter_tried tried s e k b
 
 -- the end of a bias that asks for no safepoint, unless it is a valid one
 abbrev pub unbias_first : Shape → Purpose → Start → Revocation → Todo (Turn (Unit {0}))
 unbias_first s e k b = do
-  tried ← bias_drop_steps e (class_of s b.object) b.object
+  tried ← bias_drop_steps s e b.object
   unbias_tried tried s e k b

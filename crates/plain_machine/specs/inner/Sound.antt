@@ -1,7 +1,10 @@
 -- What is kept true of a machine, so that no count and no room of a monitor gives out.
 use Rattle.std.specs.Prelude.{◌≡◌, ℕ, ◌+◌, ◌≤◌, if◌then◌else◌, List, length, sum, slice_index_or, Option, Some, None}
 use Rattle.std.specs.List.{All, sum_by}
+use Rattle.plain_monitor.specs.Limits.{most_threads, most_holds}
 use Rattle.plain_monitor.specs.Monitor.{PlainMonitor}
+use Rattle.object_program.specs.Program.{objects_total}
+use Rattle.object_program.specs.Valid.{IsProgram}
 use Rattle.plain_machine.specs.Thread.{ThreadState, holds_of}
 use Rattle.plain_machine.specs.Machine.{PlainMachine}
 use Rattle.plain_monitor.specs.Listed.{times_in, counts_in}
@@ -51,14 +54,16 @@ pub record IsBeside (threads : List ThreadState) (o : ℕ) (m : PlainMonitor) : 
 -- a thread of a machine of n objects: it has at most 64 holds in all
 pub record IsKept (n : ℕ) (s : ThreadState) : Type 0 where
   pub objects : length s.holds ≡ n
-  pub few : sum s.holds ≤ 64
+  pub few : sum s.holds ≤ most_holds
   pub ready : IsReady s
 
 abbrev pub AreKept : ℕ → List ThreadState → Type 0
 AreKept n threads = All (IsKept n) threads
 
 pub record IsSound (m : PlainMachine) : Type 0 where
+  pub program : IsProgram m.program
+  pub total : length m.objects ≡ objects_total m.program
   pub threads : length m.threads ≡ length m.program.threads
-  pub few : length m.threads ≤ 16
+  pub few : length m.threads ≤ most_threads
   pub kept : AreKept (length m.objects) m.threads
   pub monitors : (o : ℕ) → IsBeside m.threads o (monitor_in m.objects o)

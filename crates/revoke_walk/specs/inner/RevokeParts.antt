@@ -1,5 +1,6 @@
 -- Parts of a revocation at a safepoint, as the code makes them.
 use Rattle.std.specs.Prelude.{ℕ, ◌+◌, ◌%◌, ◌==◌, ◌<◌, ◌++◌, if◌then◌else◌, Bool, false, List, [], ◌∷◌, Option, Some}
+use Rattle.plain_monitor.specs.Limits.{most_holds}
 use Rattle.mark_word.specs.declared.mark.MarkForm.{MarkForm}
 use Rattle.mark_word.specs.declared.mark.MarkForm.TheVariants.{Neutral, Locked}
 use Rattle.mark_word.specs.Hold.{read_hold}
@@ -17,7 +18,7 @@ use Rattle.revoke_walk.specs.declared.visit.Visit.TheVariants.{Renew, Revoke}
 
 -- the loads of thread t's hold words
 abbrev pub holds_steps : Purpose → Revocation → ℕ → Todo (List ℕ)
-holds_steps e b t = each_from 0 64 (λ p. look e b (Hold t p))
+holds_steps e b t = each_from 0 most_holds (λ p. look e b (Hold t p))
 
 -- the displaced word of t's record with hold word h at place p, where it is one of o
 abbrev pub record_write : ℕ → ℕ → ℕ → ℕ → List Write
@@ -61,7 +62,7 @@ place_steps s c e b v t p = do
   visit_held s c e b (visit_by v e b) (object_held (read_hold hold))
 
 abbrev pub thread_steps : Shape → ℕ → Purpose → Revocation → Visit → ℕ → Todo (Unit {0})
-thread_steps s c e b v t = all_from 0 64 (λ p. place_steps s c e b v t p)
+thread_steps s c e b v t = all_from 0 most_holds (λ p. place_steps s c e b v t p)
 
 -- OF A BULK REBIAS: behind the walk, where the class's epoch is this one; with the walk; and with the store of the next epoch before it
 abbrev pub rebiased_steps : Purpose → Revocation → ℕ → ℕ → Todo Bool

@@ -5,15 +5,17 @@ use Rattle.mark_word.specs.Mark.{read_mark}
 use Rattle.mark_word.specs.Owner.{read_owner}
 use Rattle.core_world.specs.declared.name.Name.{Name}
 use Rattle.core_world.specs.declared.name.Name.TheVariants.{Prototype, Mark, Hold, Length, Owner}
+use Rattle.core_world.specs.declared.stage.Stage.TheVariants.{Calm}
 use Rattle.core_world.specs.Locks.{Lock, Open, BiasedTo, has_epoch, lock_form, holder, hold_count, owner_and_count_by}
 use Rattle.core_world.specs.RevocationRules.{holds_in, words_from}
 use Rattle.core_world.specs.Steps.{seen_words, cells_from}
 use Rattle.core_world.specs.Threads.Known.{Known, last_seen, local_of}
 use Rattle.core_world.specs.Trees.LookSteps.{look_at_holds, look_at_owner, look_behind}
-use Rattle.core_world.specs.Trees.Plans.{Purpose, load}
+use Rattle.core_world.specs.Trees.Plans.{Purpose, class_steps, load}
 use Rattle.core_world.specs.Trees.Todo.{Todo, done, ◌>>=◌, ask, all_from}
 use Rattle.core_world.specs.Words.Forms.{epoch_in}
-use Rattle.core_world.specs.Words.Shape.{Shape, class_of}
+use Rattle.core_world.specs.Words.Names.{class_by}
+use Rattle.core_world.specs.Words.Shape.{Shape}
 
 -- Of one thread, that knew k: at the same reached safepoint it knows l. It has logged nothing and stored none of its own words, and has seen at the
 -- safepoint what it had seen, and as it had.
@@ -44,7 +46,7 @@ cell_by lock o k = owner_and_count_by (holder lock (held_in o k)) (held_in o k)
 -- whose mark has this form
 abbrev pub cell_at : Option MarkForm → Shape → ℕ → Known → Option ℕ × ℕ
 cell_at form s o k =
-    cell_by (lock_form form (seen_words k (Prototype (class_of s o))) (λ m. seen_words k (Owner m)) None) o k
+    cell_by (lock_form form (seen_words k (Prototype (class_by s (seen_words k) o))) (λ m. seen_words k (Owner m)) None) o k
 
 -- whatever its mark is
 abbrev pub cell_of : Shape → ℕ → Known → Option ℕ × ℕ
@@ -53,7 +55,7 @@ cell_of s o k = cell_at (read_mark (seen_words k (Mark o))) s o k
 -- the lock of an object that is biased to a thread in this epoch
 abbrev pub bias_lock : Shape → ℕ → ℕ → ℕ → Known → Lock
 bias_lock s o thread epoch k =
-    if has_epoch (epoch_in (seen_words k (Prototype (class_of s o)))) epoch then BiasedTo thread else Open
+    if has_epoch (epoch_in (seen_words k (Prototype (class_by s (seen_words k) o)))) epoch then BiasedTo thread else Open
 
 -- the length of thread u's log
 abbrev pub length_of : ℕ → Known → ℕ
@@ -74,7 +76,8 @@ look_at_hold e t p = do
 
 abbrev pub look_at_bias : Purpose → Shape → ℕ → ℕ → ℕ → Todo (Unit {0})
 look_at_bias e s o thread epoch = do
-  prototype ← ask (load e (Prototype (class_of s o)))
+  class ← class_steps e Calm s o
+  prototype ← ask (load e (Prototype class))
   if has_epoch (epoch_in prototype) epoch then look_at_holds e thread else done tt
 
 abbrev pub look_at_monitor : Purpose → ℕ → Todo (Unit {0})

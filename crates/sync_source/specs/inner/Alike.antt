@@ -67,8 +67,9 @@ abbrev pub index_in : Mode → ℕ
 index_in (Unwinding (ending.Trap f i)) = i
 index_in m = 0
 
--- the two machines are alike, the indexes of traps aside: the same objects, and alike threads. The threads of the world are these
+-- the two machines are alike, the indexes of traps aside: the same objects, and as many are made, and alike threads. The threads of the world are these
 pub record MachinesAlike (in_world : List ThreadDef) (a : SyncMachine) (m : PlainMachine) : Type 0 where
   pub world : a.world ≡ record (m.program) { threads = in_world }
   pub objects : a.objects ≡ m.objects
+  pub made : a.made ≡ m.made
   pub threads : (t : ℕ) → OptionAlike (code_of m.program t) (slice_get a.threads t) (slice_get m.threads t)

@@ -1,5 +1,6 @@
 -- What each outcome of an instruction makes of a frame, and where a frame may stand for it.
 use Rattle.std.specs.Prelude.{◌+◌, ◌-◌, ◌<◌, ℕ, slice_set, Some}
+use Rattle.object_program.specs.Limits.{most_code}
 use Rattle.plain_machine.specs.declared.call.Mode.TheVariants.{Calling, Unwinding}
 use Rattle.plain_machine.specs.declared.step.Next.{Next}
 use Rattle.plain_machine.specs.declared.step.Next.TheVariants as next
@@ -15,6 +16,6 @@ frame_moved f (next.Stops ending) = record f { fuel = f.fuel - 1; mode = Some (U
 
 -- a frame that sets a local or calls is at an instruction
 abbrev pub IsPlacedFor : ℕ → Next → Type 0
-IsPlacedFor place (next.Sets x value) = place < 4096
-IsPlacedFor place (next.Calls c) = place < 4096
+IsPlacedFor place (next.Sets x value) = place < most_code
+IsPlacedFor place (next.Calls c) = place < most_code
 IsPlacedFor place n = Unit {0}

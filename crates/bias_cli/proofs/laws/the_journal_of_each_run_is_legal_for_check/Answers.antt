@@ -1,4 +1,4 @@
-use Rattle.bias_cli.proofs.JournalsLegal.{journal_legal, journal_lines_again, journal_only, journal_written, call_legal}
+use Rattle.bias_cli.proofs.JournalsLegal.{journal_few_bytes, journal_legal, journal_lines_again, journal_only, journal_written, call_legal}
 use Rattle.bias_cli.proofs.laws.the_journal_of_each_run_is_legal_for_check.Goals as goal
 
 pub returns-clause-written : goal.returns-clause-written
@@ -6,6 +6,9 @@ returns-clause-written c = journal_written
 
 pub returns-clause-lines : goal.returns-clause-lines
 returns-clause-lines c = journal_lines_again
+
+pub returns-clause-short : goal.returns-clause-short
+returns-clause-short c = journal_few_bytes
 
 pub returns-clause-legal : goal.returns-clause-legal
 returns-clause-legal c = journal_legal

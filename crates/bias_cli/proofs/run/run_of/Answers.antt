@@ -1,4 +1,5 @@
 use Rattle.std.proofs.Common.{◌≡◌, ◌≤◌, length, ap, subst, arith}
+use Rattle.plain_monitor.specs.Limits.{most_threads}
 use Rattle.plain_machine.specs.Machine.{PlainMachine}
 use Rattle.lock_journal.proofs.Sixteen.{few_of_sixteen}
 use Rattle.bias_cli.proofs.Under.{under_logs}
@@ -14,8 +15,8 @@ returns-clause-shown g c =
     let run = c.in_ok-run.field-0.record in
     let like = under_logs run.program run.fuel run.logs c.in_ok-machine.machine c.in_ok-machine.ensures in
     let ran = c.in_ok-run.ensures in
-    let few : length c.in_ok-machine.machine.threads ≤ 16 =
-    subst (λ (m : PlainMachine). length m.threads ≤ 16) c.machine.view_is c.machine.invariant.few in
+    let few : length c.in_ok-machine.machine.threads ≤ most_threads =
+    subst (λ (m : PlainMachine). length m.threads ≤ most_threads) c.machine.view_is c.machine.invariant.few in
     let of_program : length run.program.threads ≡ length c.args.program.threads = ap (λ p. length p.threads) ran.of.program in
     record {
       rising = ran.legal.rises;

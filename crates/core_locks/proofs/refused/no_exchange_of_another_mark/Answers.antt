@@ -1,3 +1,4 @@
+use Rattle.plain_monitor.specs.Limits.{most_holds}
 use Rattle.core_locks.proofs.Prelude.{◌≡◌, ◌≢◌, ℕ, ◌<◌, ◌||◌, ne_eqb, true, false, List, Some, refl, sym, ap, ◌∙◌, arith, read_mark, mark_of, Locked, is_thread, PlainObject, objects_after, Mark, StepPlan, Seizes, bears, World, logs, marks, who, owner_at, Purpose, with_stage, swap, Fits, with_known_else, logs_stay, same_number, running_fits, with_word_there}
 use Rattle.core_locks.proofs.MarkMeanings.{locked_read}
 use Rattle.core_locks.proofs.RefutedSteps.{knows, hit, swap_hits, hit_fits, record_holder}
@@ -7,7 +8,7 @@ abbrev exchange : (o t u p q : ℕ) → Purpose → StepPlan
 exchange o t u p q e = with_stage (Seizes o p) (swap e (Mark o) (mark_of (Locked u q)) (mark_of (Locked t p)))
 
 -- the thread that had the lock has it no more, though it is still the plain owner or is still taking it
-no_exchange : (w : World) (P Q : List PlainObject) (o t u p q : ℕ) (e : Purpose) → (w.known t).running ≡ true → t ≢ u → u < 32 → p < 64 → q < 64
+no_exchange : (w : World) (P Q : List PlainObject) (o t u p q : ℕ) (e : Purpose) → (w.known t).running ≡ true → t ≢ u → u < 32 → p < 64 → q < most_holds
     → w.words (Mark o) ≡ mark_of (Locked u q) → Fits w P → Fits (hit (exchange o t u p q e) t w) Q → ⊥
 no_exchange w P Q o t u p q e runs other few place there mark before afterwards =
     let x = hit (exchange o t u p q e) t w in

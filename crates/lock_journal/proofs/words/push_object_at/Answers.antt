@@ -1,10 +1,13 @@
-use Rattle.std.proofs.Common.{sym, subst, arith}
-use Rattle.std.proofs.lemmas.List.{append-nil}
-use Rattle.object_program.specs.Valid.{IsProgram}
-use Rattle.lock_journal.proofs.Names.{object_text-past}
+use Rattle.std.proofs.Common.{ℕ, ◌-◌, ◌/◌, ◌%◌, List, ◌++◌, codes, ap, sym, ◌∙◌, arith}
+use Rattle.std.specs.Prelude.{decimal}
+use Rattle.plain_monitor.specs.Limits.{most_made}
+use Rattle.lock_journal.specs.Words.{thread_text}
+use Rattle.lock_journal.proofs.Names.{made_is}
 use Rattle.lock_journal.proofs.words.push_object_at.Goals as goal
 
-pub returns-then-place-objects_total-clause-text : goal.returns-then-place-objects_total-clause-text
-returns-then-place-objects_total-clause-text c =
-    let kept : IsProgram c.args.program.now = subst (λ p. IsProgram p) c.program.view_is c.program.invariant in
-    rw (object_text-past c.args.program.now c.args.place kept (omega (arith, c.objects_total.ensures))) (sym (append-nil _))
+pub returns-then-place-declared-clause-text : goal.returns-then-place-declared-clause-text
+returns-then-place-declared-clause-text c =
+    let total = c.objects_total-declared.ensures in
+    c.push_made.ensures.text
+    ∙ ap (λ (n : ℕ). c.args.out.now ++ (thread_text c.args.program.now ((c.args.place - n) / most_made) ++ codes "." ++ decimal ((c.args.place - n) % most_made))) total
+    ∙ ap (λ (text : List ℕ). c.args.out.now ++ text) (sym (made_is c.args.program.now c.args.place (omega (arith, total, c.if-place-declared.true))))

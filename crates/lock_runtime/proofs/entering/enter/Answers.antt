@@ -1,4 +1,5 @@
 use Rattle.std.proofs.Common.{◌≡◌, ◌==◌, true, false, Ok, refl, sym, ap, ◌∙◌, subst, eq-eqb, ne_eqb}
+use Rattle.plain_monitor.specs.Limits.{most_holds}
 use Rattle.core_world.specs.declared.task.Task.TheVariants.{Enter}
 use Rattle.core_world.specs.Trees.Calls.{steps_of}
 use Rattle.core_world.specs.Trees.Operations.{enter_going, enter_steps}
@@ -12,16 +13,16 @@ use Rattle.lock_runtime.proofs.Enters.{refused, placed, entered, first_to_enter}
 use Rattle.lock_runtime.proofs.StandsCalls.{enter_leaves}
 use Rattle.lock_runtime.proofs.entering.enter.Goals as goal
 
-pub returns-then-free_place-eq64-clause-run : goal.returns-then-free_place-eq64-clause-run
-returns-then-free_place-eq64-clause-run c =
-    let full : (free_place c.args.pass.now.known.holds == 64) ≡ true = eq-eqb _ _ (sym c.free_place.ensures.place ∙ c.if-free_place-eq64.true) in
+pub returns-then-free_place-eq-HOLDS-clause-run : goal.returns-then-free_place-eq-HOLDS-clause-run
+returns-then-free_place-eq-HOLDS-clause-run c =
+    let full : (free_place c.args.pass.now.known.holds == most_holds) ≡ true = eq-eqb _ _ (sym c.free_place.ensures.place ∙ c.if-free_place-eq-HOLDS.true) in
     refused c.args.heap.now c.args.pass.now c.args.object c.args.now c.requires.call full
 
-pub returns-then-free_place-eq64-clause-says : goal.returns-then-free_place-eq64-clause-says
-returns-then-free_place-eq64-clause-says c =
+pub returns-then-free_place-eq-HOLDS-clause-says : goal.returns-then-free_place-eq-HOLDS-clause-says
+returns-then-free_place-eq-HOLDS-clause-says c =
     let h = c.args.heap.now in
     let p = c.args.pass.now in
-    let full : (free_place p.known.holds == 64) ≡ true = eq-eqb _ _ (sym c.free_place.ensures.place ∙ c.if-free_place-eq64.true) in
+    let full : (free_place p.known.holds == most_holds) ≡ true = eq-eqb _ _ (sym c.free_place.ensures.place ∙ c.if-free_place-eq-HOLDS.true) in
     tells (enter_says h.heap.shape (start_now h p) c.args.object c.args.now) (refused h p c.args.object c.args.now c.requires.call full).ran
 
 pub enter_placed-requires-clause-due : goal.enter_placed-requires-clause-due
@@ -29,7 +30,7 @@ enter_placed-requires-clause-due c =
     let a = c.args in
     let h = a.heap.now in
     let p = a.pass.now in
-    let place : (free_place p.known.holds == 64) ≡ false = ap (λ n. n == 64) (sym c.free_place.ensures.place) ∙ ne_eqb _ _ c.if-free_place-eq64.false in
+    let place : (free_place p.known.holds == most_holds) ≡ false = ap (λ n. n == most_holds) (sym c.free_place.ensures.place) ∙ ne_eqb _ _ c.if-free_place-eq-HOLDS.false in
     subst (λ (x : Purpose). IsDueOn h p x.task (enter_going h.heap.shape x (start_now h p) (record { object = a.object; rebias = true; now = a.now }))) (sym c.unfinished-why.ensures)
     (placed h p a.object a.now c.requires.call place)
 
@@ -39,7 +40,7 @@ returns-clause-run c =
     let h = a.heap.now in
     let p = a.pass.now in
     let q = c.enter_placed.new.pass in
-    let place : (free_place p.known.holds == 64) ≡ false = ap (λ n. n == 64) (sym c.free_place.ensures.place) ∙ ne_eqb _ _ c.if-free_place-eq64.false in
+    let place : (free_place p.known.holds == most_holds) ≡ false = ap (λ n. n == most_holds) (sym c.free_place.ensures.place) ∙ ne_eqb _ _ c.if-free_place-eq-HOLDS.false in
     let run = subst (λ (x : Purpose). HasRun h (enter_going h.heap.shape x (start_now h p) (record { object = a.object; rebias = true; now = a.now })) p q c.enter_placed.result) c.unfinished-why.ensures c.enter_placed.ensures in
     entered h p a.object a.now c.requires.call place q c.enter_placed.result run
 
@@ -50,7 +51,7 @@ returns-clause-rests c =
     let h = a.heap.now in
     let p = a.pass.now in
     let q = c.enter_placed.new.pass in
-    let place : (free_place p.known.holds == 64) ≡ false = ap (λ n. n == 64) (sym c.free_place.ensures.place) ∙ ne_eqb _ _ c.if-free_place-eq64.false in
+    let place : (free_place p.known.holds == most_holds) ≡ false = ap (λ n. n == most_holds) (sym c.free_place.ensures.place) ∙ ne_eqb _ _ c.if-free_place-eq-HOLDS.false in
     let run = subst (λ (x : Purpose). HasRun h (enter_going h.heap.shape x (start_now h p) (record { object = a.object; rebias = true; now = a.now })) p q c.enter_placed.result) c.unfinished-why.ensures c.enter_placed.ensures in
     behind h p (Enter a.object a.now) c.requires.call (enter_steps h.heap.shape (start_now h p) a.object a.now) refl (first_to_enter h.heap.shape (start_now h p) a.object a.now) q (Ok c.enter_placed.result)
     (entered h p a.object a.now c.requires.call place q c.enter_placed.result run)
@@ -61,7 +62,7 @@ returns-clause-says c =
     let h = a.heap.now in
     let p = a.pass.now in
     let q = c.enter_placed.new.pass in
-    let place : (free_place p.known.holds == 64) ≡ false = ap (λ n. n == 64) (sym c.free_place.ensures.place) ∙ ne_eqb _ _ c.if-free_place-eq64.false in
+    let place : (free_place p.known.holds == most_holds) ≡ false = ap (λ n. n == most_holds) (sym c.free_place.ensures.place) ∙ ne_eqb _ _ c.if-free_place-eq-HOLDS.false in
     let run = subst (λ (x : Purpose). HasRun h (enter_going h.heap.shape x (start_now h p) (record { object = a.object; rebias = true; now = a.now })) p q c.enter_placed.result) c.unfinished-why.ensures c.enter_placed.ensures in
     tells (enter_says h.heap.shape (start_now h p) a.object a.now) (entered h p a.object a.now c.requires.call place q c.enter_placed.result run).ran
 

@@ -11,7 +11,6 @@ use Rattle.core_world.specs.Threads.Stages.{Revocation}
 use Rattle.core_world.specs.Trees.BiasSteps.{bias_enter_steps}
 use Rattle.core_world.specs.Trees.Operations.{enter_at, enter_tried}
 use Rattle.core_world.specs.Trees.Todo.{Todo}
-use Rattle.core_world.specs.Words.Shape.{class_of}
 use Rattle.core_world.proofs.CallRests.{part_due}
 use Rattle.heap_table.specs.Parts.{IsDueOn, HasRun}
 use Rattle.heap_table.specs.Resting.{start_now}
@@ -32,10 +31,9 @@ bias_enter-requires-clause-due c =
     let p = a.pass.now in
     let k = start_now h p in
     let ob : c.bias.inside.object ≡ b.object = ap (λ (r : Revocation). r.object) c.bias.view_is in
-    let class : c.class_of-class.result ≡ class_of h.heap.shape b.object = c.class_of-class.ensures.class ∙ (λ i. class_of (c.shape.ensures i) (ob i)) in
-    let d = bias_enter_steps e k.local (class_of h.heap.shape b.object) b.object in
+    let d = bias_enter_steps h.heap.shape e k.local b.object in
     let next : BiasTry → Todo (Turn Path) = λ tried. enter_tried tried h.heap.shape e k b in
-    subst (IsDueOn h p e.task) (λ i. bias_enter_steps e k.local (sym class i) (sym ob i))
+    subst (IsDueOn h p e.task) (λ i. bias_enter_steps h.heap.shape e k.local (sym ob i))
     (part_due h.heap.shape h.heap.start h.heap.biasing p.known e.task d next c.requires.due)
 
 pub enter_marked-requires-clause-due : goal.enter_marked-requires-clause-due
@@ -48,12 +46,11 @@ enter_marked-requires-clause-due c =
     let k = start_now h p in
     let q = c.bias_enter.new.pass in
     let ob : c.bias.inside.object ≡ b.object = ap (λ (r : Revocation). r.object) c.bias.view_is in
-    let class : c.class_of-class.result ≡ class_of h.heap.shape b.object = c.class_of-class.ensures.class ∙ (λ i. class_of (c.shape.ensures i) (ob i)) in
-    let d = bias_enter_steps e k.local (class_of h.heap.shape b.object) b.object in
+    let d = bias_enter_steps h.heap.shape e k.local b.object in
     let next : BiasTry → Todo (Turn Path) = λ tried. enter_tried tried h.heap.shape e k b in
-    let ran = subst (λ (x : Todo BiasTry). HasRun h x p q (Unbiased c.in-Unbiased.mark)) (λ i. bias_enter_steps e k.local (class i) (ob i)) (subst (λ (x : BiasTry). HasRun h (bias_enter_steps e k.local c.class_of-class.result c.bias.inside.object) p q x) c.in-Unbiased.is c.bias_enter.ensures.run) in
+    let ran = subst (λ (x : Todo BiasTry). HasRun h x p q (Unbiased c.in-Unbiased.mark)) (λ i. bias_enter_steps h.heap.shape e k.local (ob i)) (subst (λ (x : BiasTry). HasRun h (bias_enter_steps h.heap.shape e k.local c.bias.inside.object) p q x) c.in-Unbiased.is c.bias_enter.ensures.run) in
     let local = subst (λ (x : BiasTry). IsKeptUnlessTook x (local_of p.known) (local_of q.known)) c.in-Unbiased.is c.bias_enter.ensures.kept in
-    let same = keeps h d p q (Unbiased c.in-Unbiased.mark) (enter_keeps e k.local (class_of h.heap.shape b.object) b.object) ran in
+    let same = keeps h d p q (Unbiased c.in-Unbiased.mark) (enter_keeps h.heap.shape e k.local b.object) ran in
     let m = c.in-Unbiased.mark in
     subst (IsDueOn h q e.task) (enters_alike h.heap.shape e k (start_now h q) b.object (sym local) (sym same) (read_mark m) m ∙ λ i. enter_at (read_mark m) h.heap.shape e (start_now h q) (sym ob i) m)
     (next_part h p q e.task d next (Unbiased c.in-Unbiased.mark) c.requires.due refl ran)
@@ -68,10 +65,9 @@ enter_marked-requires-clause-room c =
     let k = start_now h p in
     let q = c.bias_enter.new.pass in
     let ob : c.bias.inside.object ≡ b.object = ap (λ (r : Revocation). r.object) c.bias.view_is in
-    let class : c.class_of-class.result ≡ class_of h.heap.shape b.object = c.class_of-class.ensures.class ∙ (λ i. class_of (c.shape.ensures i) (ob i)) in
-    let d = bias_enter_steps e k.local (class_of h.heap.shape b.object) b.object in
+    let d = bias_enter_steps h.heap.shape e k.local b.object in
     let next : BiasTry → Todo (Turn Path) = λ tried. enter_tried tried h.heap.shape e k b in
-    let ran = subst (λ (x : Todo BiasTry). HasRun h x p q (Unbiased c.in-Unbiased.mark)) (λ i. bias_enter_steps e k.local (class i) (ob i)) (subst (λ (x : BiasTry). HasRun h (bias_enter_steps e k.local c.class_of-class.result c.bias.inside.object) p q x) c.in-Unbiased.is c.bias_enter.ensures.run) in
+    let ran = subst (λ (x : Todo BiasTry). HasRun h x p q (Unbiased c.in-Unbiased.mark)) (λ i. bias_enter_steps h.heap.shape e k.local (ob i)) (subst (λ (x : BiasTry). HasRun h (bias_enter_steps h.heap.shape e k.local c.bias.inside.object) p q x) c.in-Unbiased.is c.bias_enter.ensures.run) in
     let local = subst (λ (x : BiasTry). IsKeptUnlessTook x (local_of p.known) (local_of q.known)) c.in-Unbiased.is c.bias_enter.ensures.kept in
     room_kept h d p q (Unbiased c.in-Unbiased.mark) local ran c.requires.room
 
@@ -85,12 +81,11 @@ enter_revoked-requires-clause-due c =
     let k = start_now h p in
     let q = c.bias_enter.new.pass in
     let ob : c.bias.inside.object ≡ b.object = ap (λ (r : Revocation). r.object) c.bias.view_is in
-    let class : c.class_of-class.result ≡ class_of h.heap.shape b.object = c.class_of-class.ensures.class ∙ (λ i. class_of (c.shape.ensures i) (ob i)) in
-    let d = bias_enter_steps e k.local (class_of h.heap.shape b.object) b.object in
+    let d = bias_enter_steps h.heap.shape e k.local b.object in
     let next : BiasTry → Todo (Turn Path) = λ tried. enter_tried tried h.heap.shape e k b in
-    let ran = subst (λ (x : Todo BiasTry). HasRun h x p q (Valid c.in-Valid.mark)) (λ i. bias_enter_steps e k.local (class i) (ob i)) (subst (λ (x : BiasTry). HasRun h (bias_enter_steps e k.local c.class_of-class.result c.bias.inside.object) p q x) c.in-Valid.is c.bias_enter.ensures.run) in
+    let ran = subst (λ (x : Todo BiasTry). HasRun h x p q (Valid c.in-Valid.mark)) (λ i. bias_enter_steps h.heap.shape e k.local (ob i)) (subst (λ (x : BiasTry). HasRun h (bias_enter_steps h.heap.shape e k.local c.bias.inside.object) p q x) c.in-Valid.is c.bias_enter.ensures.run) in
     let local = subst (λ (x : BiasTry). IsKeptUnlessTook x (local_of p.known) (local_of q.known)) c.in-Valid.is c.bias_enter.ensures.kept in
-    let same = keeps h d p q (Valid c.in-Valid.mark) (enter_keeps e k.local (class_of h.heap.shape b.object) b.object) ran in
+    let same = keeps h d p q (Valid c.in-Valid.mark) (enter_keeps h.heap.shape e k.local b.object) ran in
     subst (IsDueOn h q e.task) (revoked_alike h.heap.shape false e k (start_now h q) b (sym local) (sym same))
     (next_part h p q e.task d next (Valid c.in-Valid.mark) c.requires.due refl ran)
 
@@ -104,10 +99,9 @@ enter_revoked-requires-clause-room c =
     let k = start_now h p in
     let q = c.bias_enter.new.pass in
     let ob : c.bias.inside.object ≡ b.object = ap (λ (r : Revocation). r.object) c.bias.view_is in
-    let class : c.class_of-class.result ≡ class_of h.heap.shape b.object = c.class_of-class.ensures.class ∙ (λ i. class_of (c.shape.ensures i) (ob i)) in
-    let d = bias_enter_steps e k.local (class_of h.heap.shape b.object) b.object in
+    let d = bias_enter_steps h.heap.shape e k.local b.object in
     let next : BiasTry → Todo (Turn Path) = λ tried. enter_tried tried h.heap.shape e k b in
-    let ran = subst (λ (x : Todo BiasTry). HasRun h x p q (Valid c.in-Valid.mark)) (λ i. bias_enter_steps e k.local (class i) (ob i)) (subst (λ (x : BiasTry). HasRun h (bias_enter_steps e k.local c.class_of-class.result c.bias.inside.object) p q x) c.in-Valid.is c.bias_enter.ensures.run) in
+    let ran = subst (λ (x : Todo BiasTry). HasRun h x p q (Valid c.in-Valid.mark)) (λ i. bias_enter_steps h.heap.shape e k.local (ob i)) (subst (λ (x : BiasTry). HasRun h (bias_enter_steps h.heap.shape e k.local c.bias.inside.object) p q x) c.in-Valid.is c.bias_enter.ensures.run) in
     let local = subst (λ (x : BiasTry). IsKeptUnlessTook x (local_of p.known) (local_of q.known)) c.in-Valid.is c.bias_enter.ensures.kept in
     room_kept h d p q (Valid c.in-Valid.mark) local ran c.requires.room
 
@@ -121,10 +115,9 @@ returns-in-Took c =
     let k = start_now h p in
     let q = c.bias_enter.new.pass in
     let ob : c.bias.inside.object ≡ b.object = ap (λ (r : Revocation). r.object) c.bias.view_is in
-    let class : c.class_of-class.result ≡ class_of h.heap.shape b.object = c.class_of-class.ensures.class ∙ (λ i. class_of (c.shape.ensures i) (ob i)) in
-    let d = bias_enter_steps e k.local (class_of h.heap.shape b.object) b.object in
+    let d = bias_enter_steps h.heap.shape e k.local b.object in
     let next : BiasTry → Todo (Turn Path) = λ tried. enter_tried tried h.heap.shape e k b in
-    let ran = subst (λ (x : Todo BiasTry). HasRun h x p q (Took c.in-Took.path)) (λ i. bias_enter_steps e k.local (class i) (ob i)) (subst (λ (x : BiasTry). HasRun h (bias_enter_steps e k.local c.class_of-class.result c.bias.inside.object) p q x) c.in-Took.is c.bias_enter.ensures.run) in
+    let ran = subst (λ (x : Todo BiasTry). HasRun h x p q (Took c.in-Took.path)) (λ i. bias_enter_steps h.heap.shape e k.local (ob i)) (subst (λ (x : BiasTry). HasRun h (bias_enter_steps h.heap.shape e k.local c.bias.inside.object) p q x) c.in-Took.is c.bias_enter.ensures.run) in
     let out : Turn Path = Done c.in-Took.path in
     in_turn h p q q d next (Took c.in-Took.path) out ran (ends h q out ran.heap)
 
@@ -138,10 +131,9 @@ returns-in-Raced c =
     let k = start_now h p in
     let q = c.bias_enter.new.pass in
     let ob : c.bias.inside.object ≡ b.object = ap (λ (r : Revocation). r.object) c.bias.view_is in
-    let class : c.class_of-class.result ≡ class_of h.heap.shape b.object = c.class_of-class.ensures.class ∙ (λ i. class_of (c.shape.ensures i) (ob i)) in
-    let d = bias_enter_steps e k.local (class_of h.heap.shape b.object) b.object in
+    let d = bias_enter_steps h.heap.shape e k.local b.object in
     let next : BiasTry → Todo (Turn Path) = λ tried. enter_tried tried h.heap.shape e k b in
-    let ran = subst (λ (x : Todo BiasTry). HasRun h x p q (Raced c.in-Raced.expected c.in-Raced.found)) (λ i. bias_enter_steps e k.local (class i) (ob i)) (subst (λ (x : BiasTry). HasRun h (bias_enter_steps e k.local c.class_of-class.result c.bias.inside.object) p q x) c.in-Raced.is c.bias_enter.ensures.run) in
+    let ran = subst (λ (x : Todo BiasTry). HasRun h x p q (Raced c.in-Raced.expected c.in-Raced.found)) (λ i. bias_enter_steps h.heap.shape e k.local (ob i)) (subst (λ (x : BiasTry). HasRun h (bias_enter_steps h.heap.shape e k.local c.bias.inside.object) p q x) c.in-Raced.is c.bias_enter.ensures.run) in
     let out : Turn Path = Pending (why.Raced c.in-Raced.expected c.in-Raced.found) in
     in_turn h p q q d next (Raced c.in-Raced.expected c.in-Raced.found) out ran (ends h q out ran.heap)
 
@@ -155,12 +147,11 @@ returns-in-Unbiased c =
     let k = start_now h p in
     let q = c.bias_enter.new.pass in
     let ob : c.bias.inside.object ≡ b.object = ap (λ (r : Revocation). r.object) c.bias.view_is in
-    let class : c.class_of-class.result ≡ class_of h.heap.shape b.object = c.class_of-class.ensures.class ∙ (λ i. class_of (c.shape.ensures i) (ob i)) in
-    let d = bias_enter_steps e k.local (class_of h.heap.shape b.object) b.object in
+    let d = bias_enter_steps h.heap.shape e k.local b.object in
     let next : BiasTry → Todo (Turn Path) = λ tried. enter_tried tried h.heap.shape e k b in
-    let ran = subst (λ (x : Todo BiasTry). HasRun h x p q (Unbiased c.in-Unbiased.mark)) (λ i. bias_enter_steps e k.local (class i) (ob i)) (subst (λ (x : BiasTry). HasRun h (bias_enter_steps e k.local c.class_of-class.result c.bias.inside.object) p q x) c.in-Unbiased.is c.bias_enter.ensures.run) in
+    let ran = subst (λ (x : Todo BiasTry). HasRun h x p q (Unbiased c.in-Unbiased.mark)) (λ i. bias_enter_steps h.heap.shape e k.local (ob i)) (subst (λ (x : BiasTry). HasRun h (bias_enter_steps h.heap.shape e k.local c.bias.inside.object) p q x) c.in-Unbiased.is c.bias_enter.ensures.run) in
     let local = subst (λ (x : BiasTry). IsKeptUnlessTook x (local_of p.known) (local_of q.known)) c.in-Unbiased.is c.bias_enter.ensures.kept in
-    let same = keeps h d p q (Unbiased c.in-Unbiased.mark) (enter_keeps e k.local (class_of h.heap.shape b.object) b.object) ran in
+    let same = keeps h d p q (Unbiased c.in-Unbiased.mark) (enter_keeps h.heap.shape e k.local b.object) ran in
     let m = c.in-Unbiased.mark in
     let r = c.enter_marked.new.pass in
     let rest = subst (λ (x : Todo (Turn Path)). HasRun h x q r c.enter_marked.result) (sym (enters_alike h.heap.shape e k (start_now h q) b.object (sym local) (sym same) (read_mark m) m ∙ λ i. enter_at (read_mark m) h.heap.shape e (start_now h q) (sym ob i) m)) c.enter_marked.ensures in
@@ -176,12 +167,11 @@ returns-in-Valid c =
     let k = start_now h p in
     let q = c.bias_enter.new.pass in
     let ob : c.bias.inside.object ≡ b.object = ap (λ (r : Revocation). r.object) c.bias.view_is in
-    let class : c.class_of-class.result ≡ class_of h.heap.shape b.object = c.class_of-class.ensures.class ∙ (λ i. class_of (c.shape.ensures i) (ob i)) in
-    let d = bias_enter_steps e k.local (class_of h.heap.shape b.object) b.object in
+    let d = bias_enter_steps h.heap.shape e k.local b.object in
     let next : BiasTry → Todo (Turn Path) = λ tried. enter_tried tried h.heap.shape e k b in
-    let ran = subst (λ (x : Todo BiasTry). HasRun h x p q (Valid c.in-Valid.mark)) (λ i. bias_enter_steps e k.local (class i) (ob i)) (subst (λ (x : BiasTry). HasRun h (bias_enter_steps e k.local c.class_of-class.result c.bias.inside.object) p q x) c.in-Valid.is c.bias_enter.ensures.run) in
+    let ran = subst (λ (x : Todo BiasTry). HasRun h x p q (Valid c.in-Valid.mark)) (λ i. bias_enter_steps h.heap.shape e k.local (ob i)) (subst (λ (x : BiasTry). HasRun h (bias_enter_steps h.heap.shape e k.local c.bias.inside.object) p q x) c.in-Valid.is c.bias_enter.ensures.run) in
     let local = subst (λ (x : BiasTry). IsKeptUnlessTook x (local_of p.known) (local_of q.known)) c.in-Valid.is c.bias_enter.ensures.kept in
-    let same = keeps h d p q (Valid c.in-Valid.mark) (enter_keeps e k.local (class_of h.heap.shape b.object) b.object) ran in
+    let same = keeps h d p q (Valid c.in-Valid.mark) (enter_keeps h.heap.shape e k.local b.object) ran in
     let r = c.enter_revoked.new.pass in
     let rest = subst (λ (x : Todo (Turn Path)). HasRun h x q r c.enter_revoked.result) (sym (revoked_alike h.heap.shape false e k (start_now h q) b (sym local) (sym same))) c.enter_revoked.ensures in
     in_turn h p q r d next (Valid c.in-Valid.mark) c.enter_revoked.result ran rest

@@ -1,4 +1,5 @@
 use Rattle.std.proofs.Common.{◌≡◌, ◌≤◌, refl, ap, ◌∙◌, arith, length-set}
+use Rattle.plain_monitor.specs.Limits.{most_threads}
 use Rattle.core_world.specs.Words.Shape.{Shape}
 use Rattle.object_monitor.proofs.Looking.{none_looked, can_look, looked_on, all_looked}
 use Rattle.object_monitor.proofs.notifies.look.Goals as goal
@@ -18,7 +19,7 @@ loop-thread-preserved c =
     let h = c.args.heap.now in
     let l = c.loop-thread in
     let all : c.threads-thread-end.result ≡ h.heap.shape.threads = c.threads-thread-end.ensures.same ∙ ap (λ (s : Shape). s.threads) c.shape.ensures in
-    let few : c.threads-thread-end.result ≤ 16 = omega (arith, c.threads-thread-end.ensures.same, c.threads-thread-end.ensures.limits.threads) in
+    let few : c.threads-thread-end.result ≤ most_threads = omega (arith, c.threads-thread-end.ensures.same, c.threads-thread-end.ensures.limits.threads) in
     let sixteen = l.invariant.1 in (
       looked_on h c.args.why.now c.args.pass.now h.heap.shape.threads l.pass l.thread l.words l.invariant.0 (omega (arith, all, c.loop-thread-test.true))
           c.load.new.pass c.load.result c.load.ensures (omega (arith, sixteen, few, c.loop-thread-test.true)),

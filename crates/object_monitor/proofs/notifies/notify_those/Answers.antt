@@ -1,4 +1,5 @@
 use Rattle.std.proofs.Common.{rules, ◌≡◌, ◌≤◌, length, Some, sym, ap, ◌∙◌, arith, length-set}
+use Rattle.plain_monitor.specs.Limits.{most_threads}
 use Rattle.core_world.specs.Words.Shape.{Shape}
 use Rattle.object_monitor.specs.inner.NotifyParts.{first_of}
 use Rattle.object_monitor.proofs.Waking.{waiting, few_waiting, one_less, fewer, nobody, first_on_its_way, can_wake, woken_on, can_end, ended}
@@ -9,8 +10,8 @@ bounds-words-thread c =
     let a = c.args in
     let n = a.heap.now.heap.shape.threads in
     let all : c.threads-count.result ≡ n = c.threads-count.ensures.same ∙ ap (λ (s : Shape). s.threads) c.shape.ensures in
-    let few : n ≤ 16 = omega (arith, all, c.threads-count.ensures.same, c.threads-count.ensures.limits.threads) in
-    let sixteen : length a.words ≡ 16 = search rules in
+    let few : n ≤ most_threads = omega (arith, all, c.threads-count.ensures.same, c.threads-count.ensures.limits.threads) in
+    let sixteen : length a.words ≡ most_threads = search rules in
     let less = one_less a.object n a.words a.first (omega (arith, few, sixteen)) c.requires.first in
     let low = less.0 in
     omega (arith, few, low)
@@ -21,8 +22,8 @@ loop-next-init c =
     let h = a.heap.now in
     let n = h.heap.shape.threads in
     let all : c.threads-count.result ≡ n = c.threads-count.ensures.same ∙ ap (λ (s : Shape). s.threads) c.shape.ensures in
-    let few : n ≤ 16 = omega (arith, all, c.threads-count.ensures.same, c.threads-count.ensures.limits.threads) in
-    let sixteen : length a.words ≡ 16 = search rules in (
+    let few : n ≤ most_threads = omega (arith, all, c.threads-count.ensures.same, c.threads-count.ensures.limits.threads) in
+    let sixteen : length a.words ≡ most_threads = search rules in (
       first_on_its_way h a.why.now a.pass.now a.object n a.words a.first (omega (arith, few, sixteen)) c.requires.first c.requires.heap c.requires.room c.requires.due,
       length-set a.words a.first.0 0 ∙ sixteen,
     )
@@ -45,7 +46,7 @@ bounds-words-next c =
     let l = c.loop-next in
     let n = a.heap.now.heap.shape.threads in
     let all : c.threads-count.result ≡ n = c.threads-count.ensures.same ∙ ap (λ (s : Shape). s.threads) c.shape.ensures in
-    let few : n ≤ 16 = omega (arith, all, c.threads-count.ensures.same, c.threads-count.ensures.limits.threads) in
+    let few : n ≤ most_threads = omega (arith, all, c.threads-count.ensures.same, c.threads-count.ensures.limits.threads) in
     let some : first_of (waiting a.object n l.words) ≡ Some (c.in-Some.next, c.in-Some.field-0-1) =
     sym (c.oldest.ensures ∙ ap (λ m. first_of (waiting a.object m l.words)) all) ∙ c.in-Some.is in
     let sixteen = l.invariant.1 in
@@ -59,11 +60,11 @@ overflow_add-woken c =
     let l = c.loop-next in
     let n = a.heap.now.heap.shape.threads in
     let all : c.threads-count.result ≡ n = c.threads-count.ensures.same ∙ ap (λ (s : Shape). s.threads) c.shape.ensures in
-    let few : n ≤ 16 = omega (arith, all, c.threads-count.ensures.same, c.threads-count.ensures.limits.threads) in
-    let sixteen : length a.words ≡ 16 = search rules in
+    let few : n ≤ most_threads = omega (arith, all, c.threads-count.ensures.same, c.threads-count.ensures.limits.threads) in
+    let sixteen : length a.words ≡ most_threads = search rules in
     let total = few_waiting a.object n a.words (omega (arith, few, sixteen)) in
     let woken = l.invariant.0.all in
-    let small : l.woken ≤ 16 = omega (arith, few, total, woken) in
+    let small : l.woken ≤ most_threads = omega (arith, few, total, woken) in
     omega (arith, small)
 
 pub loop-next-smaller : goal.loop-next-smaller
@@ -72,7 +73,7 @@ loop-next-smaller c =
     let l = c.loop-next in
     let n = a.heap.now.heap.shape.threads in
     let all : c.threads-count.result ≡ n = c.threads-count.ensures.same ∙ ap (λ (s : Shape). s.threads) c.shape.ensures in
-    let few : n ≤ 16 = omega (arith, all, c.threads-count.ensures.same, c.threads-count.ensures.limits.threads) in
+    let few : n ≤ most_threads = omega (arith, all, c.threads-count.ensures.same, c.threads-count.ensures.limits.threads) in
     let some : first_of (waiting a.object n l.words) ≡ Some (c.in-Some.next, c.in-Some.field-0-1) =
     sym (c.oldest.ensures ∙ ap (λ m. first_of (waiting a.object m l.words)) all) ∙ c.in-Some.is in
     let sixteen = l.invariant.1 in
@@ -85,7 +86,7 @@ loop-next-preserved c =
     let l = c.loop-next in
     let n = h.heap.shape.threads in
     let all : c.threads-count.result ≡ n = c.threads-count.ensures.same ∙ ap (λ (s : Shape). s.threads) c.shape.ensures in
-    let few : n ≤ 16 = omega (arith, all, c.threads-count.ensures.same, c.threads-count.ensures.limits.threads) in
+    let few : n ≤ most_threads = omega (arith, all, c.threads-count.ensures.same, c.threads-count.ensures.limits.threads) in
     let some : first_of (waiting a.object n l.words) ≡ Some (c.in-Some.next, c.in-Some.field-0-1) =
     sym (c.oldest.ensures ∙ ap (λ m. first_of (waiting a.object m l.words)) all) ∙ c.in-Some.is in
     let sixteen = l.invariant.1 in (

@@ -1,4 +1,5 @@
 use Rattle.std.proofs.Common.{◌≤◌, ◌∙◌, subst, arith}
+use Rattle.plain_monitor.specs.Limits.{most_objects}
 use Rattle.object_program.specs.Program.{ProgramText, total_of}
 use Rattle.plain_machine.proofs.Starts.{new_objects_step, total_at_end}
 use Rattle.plain_machine.proofs.build.new_objects.Goals as goal
@@ -15,6 +16,6 @@ returns-clause-total c =
 
 pub returns-clause-few : goal.returns-clause-few
 returns-clause-few c =
-    let few : total_of c.args.program.now.objects ≤ 4096 = subst (λ (p : ProgramText). total_of p.objects ≤ 4096) c.program.view_is c.program.invariant.objects_few in
+    let few : total_of c.args.program.now.objects ≤ most_objects = subst (λ (p : ProgramText). total_of p.objects ≤ most_objects) c.program.view_is c.program.invariant.objects_few in
     let total = total_at_end _ _ _ _ _ c.loop-definition.invariant.objects c.loop-definition.invariant.items c.loop-definition-test.false in
     omega (arith, total, c.loop-definition.objects.ok.0)

@@ -1,4 +1,5 @@
 use Rattle.std.proofs.Common.{◌+◌, ◌*◌, ◌<◌, ℕ, ◌∙◌, sym, ap, subst}
+use Rattle.plain_monitor.specs.Limits.{entries_for}
 use Rattle.core_world.specs.Words.Shape.{Shape}
 use Rattle.core_law.specs.Logic.{Heap}
 use Rattle.heap_table.specs.Fresh.{IsFresh}
@@ -21,6 +22,6 @@ returns-clause-runners c =
     let fuel = c.args.settings.now.fuel in
     let heap = c.in_ok-heap.ensures.heap in
     c.in_ok-runners.ensures h c.args.program.now c.args.settings.now.tick (returns-clause-program c) (record {
-      are = c.in_ok-heap.ensures.passes ∙ ap (λ (b : Heap). first_passes h (2 * fuel + 66) 0 b.shape.threads) (sym heap);
-      fresh = subst (λ (b : Heap). (t : ℕ) → t < b.shape.threads → IsFresh h t (first_pass h (2 * fuel + 66) t)) (sym heap) c.in_ok-heap.ensures.fresh;
+      are = c.in_ok-heap.ensures.passes ∙ ap (λ (b : Heap). first_passes h (entries_for fuel) 0 b.shape.threads) (sym heap);
+      fresh = subst (λ (b : Heap). (t : ℕ) → t < b.shape.threads → IsFresh h t (first_pass h (entries_for fuel) t)) (sym heap) c.in_ok-heap.ensures.fresh;
     })

@@ -1,5 +1,6 @@
 use Rattle.std.proofs.Common.{◌≡◌, ◌+◌, ℕ, List, take, refl, sym, ◌∙◌, subst, arith}
 use Rattle.std.proofs.lemmas.List.{take_all, take_more_set, length-set}
+use Rattle.plain_monitor.specs.Limits.{most_holds}
 use Rattle.core_world.specs.declared.name.Name.TheVariants.{Hold}
 use Rattle.core_world.specs.Trees.Plans.{load_plan}
 use Rattle.core_world.specs.Trees.RevocationSteps.{revocation_stage, look}
@@ -13,7 +14,7 @@ pub loop-i-init : goal.loop-i-init
 loop-i-init c =
     let a = c.args in
     let f : ℕ → Todo ℕ = λ p. look a.why.now a.revocation.now (Hold a.thread p) in
-    (refl, none_answered a.heap.now a.pass.now a.why.now.task 64 f c.requires.heap c.requires.due)
+    (refl, none_answered a.heap.now a.pass.now a.why.now.task most_holds f c.requires.heap c.requires.due)
 
 pub look-requires : goal.look-requires
 look-requires c =
@@ -23,7 +24,7 @@ look-requires c =
     let f : ℕ → Todo ℕ = λ p. look e a.revocation.now (Hold a.thread p) in
     let plan = load_plan e (revocation_stage a.revocation.now) (Hold a.thread l.i) in
     let so_far = l.invariant.1 in
-    can a.heap.now l.pass e.task plan done (next_asked a.heap.now a.pass.now e.task 64 f l.i (take l.i l.holds) l.pass so_far (omega (arith, c.loop-i-test.true))) refl so_far.is_of tt refl
+    can a.heap.now l.pass e.task plan done (next_asked a.heap.now a.pass.now e.task most_holds f l.i (take l.i l.holds) l.pass so_far (omega (arith, c.loop-i-test.true))) refl so_far.is_of tt refl
 
 pub loop-i-preserved : goal.loop-i-preserved
 loop-i-preserved c =
@@ -38,8 +39,8 @@ loop-i-preserved c =
     let run : HasRun a.heap.now (f l.i) l.pass q n = last_step a.heap.now l.pass q plan done n n c.look.ensures refl refl in
     let many = l.invariant.0 in (
       length-set l.holds l.i n ∙ many,
-      subst (λ (xs : List ℕ). Answered a.heap.now a.pass.now e.task 64 f (l.i + 1) xs q) (sym (take_more_set l.holds l.i n (omega (arith, many, c.loop-i-test.true))))
-          (next_answered a.heap.now a.pass.now e.task 64 f l.i (take l.i l.holds) l.pass q n so_far (omega (arith, c.loop-i-test.true)) (refl, λ m. tt) run),
+      subst (λ (xs : List ℕ). Answered a.heap.now a.pass.now e.task most_holds f (l.i + 1) xs q) (sym (take_more_set l.holds l.i n (omega (arith, many, c.loop-i-test.true))))
+          (next_answered a.heap.now a.pass.now e.task most_holds f l.i (take l.i l.holds) l.pass q n so_far (omega (arith, c.loop-i-test.true)) (refl, λ m. tt) run),
     )
 
 pub returns : goal.returns
@@ -48,8 +49,8 @@ returns c =
     let l = c.loop-i in
     let e = a.why.now in
     let f : ℕ → Todo ℕ = λ p. look e a.revocation.now (Hold a.thread p) in
-    let end : l.i ≡ 64 = omega (arith, c.loop-i-test.false, l.auto.i-end) in
+    let end : l.i ≡ most_holds = omega (arith, c.loop-i-test.false, l.auto.i-end) in
     let whole : take l.i l.holds ≡ l.holds = take_all l.i l.holds (omega (arith, end, l.invariant.0)) in
-    all_answered a.heap.now a.pass.now e.task 64 f l.holds l.pass
-    (subst (λ (xs : List ℕ). Answered a.heap.now a.pass.now e.task 64 f 64 xs l.pass) whole
-    (subst (λ (i : ℕ). Answered a.heap.now a.pass.now e.task 64 f i (take l.i l.holds) l.pass) end l.invariant.1))
+    all_answered a.heap.now a.pass.now e.task most_holds f l.holds l.pass
+    (subst (λ (xs : List ℕ). Answered a.heap.now a.pass.now e.task most_holds f most_holds xs l.pass) whole
+    (subst (λ (i : ℕ). Answered a.heap.now a.pass.now e.task most_holds f i (take l.i l.holds) l.pass) end l.invariant.1))

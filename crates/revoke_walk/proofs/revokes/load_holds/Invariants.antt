@@ -1,4 +1,5 @@
 use Rattle.std.proofs.Common.{◌≡◌, length, take}
+use Rattle.plain_monitor.specs.Limits.{most_holds}
 use Rattle.core_world.specs.declared.name.Name.TheVariants.{Hold}
 use Rattle.core_world.specs.Trees.RevocationSteps.{look}
 use Rattle.revoke_walk.proofs.Rounds.{Answered}
@@ -6,4 +7,4 @@ use Rattle.revoke_walk.proofs.revokes.load_holds.Given as goal
 
 abbrev pub invariant-loop-i : goal.invariant-loop-i
 invariant-loop-i l =
-    (length l.holds ≡ 64) × Answered l.heap l.fn.pass l.why.task 64 (λ p. look l.why l.revocation (Hold l.thread p)) l.i (take l.i l.holds) l.pass
+    (length l.holds ≡ most_holds) × Answered l.heap l.fn.pass l.why.task most_holds (λ p. look l.why l.revocation (Hold l.thread p)) l.i (take l.i l.holds) l.pass

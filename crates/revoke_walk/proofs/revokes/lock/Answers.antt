@@ -1,4 +1,5 @@
 use Rattle.std.proofs.Common.{rules, ◌≡◌, ◌<◌, ◌≤◌, ◌∷◌, [], ℕ, length, get_or, sym, ap, ◌∙◌, subst, arith}
+use Rattle.plain_monitor.specs.Limits.{most_holds}
 use Rattle.mark_word.specs.declared.mark.MarkForm.TheVariants.{Locked}
 use Rattle.mark_word.specs.Mark.{mark_of}
 use Rattle.core_world.specs.declared.name.Name.TheVariants.{Mark}
@@ -28,7 +29,7 @@ store_record-requires-clause-due c =
     let e = a.why.now in
     let b = a.revocation.now in
     let hs = a.holds.now in
-    let many : length hs ≡ 64 = search rules in
+    let many : length hs ≡ most_holds = search rules in
     let ys = mark_locked a.object a.thread hs in
     let rest : ℕ → Todo (Unit {0}) = records_left e b a.object a.thread hs ys in
     let part : Todo (Unit {0}) = record_steps e b a.object a.thread l.i (get_or hs l.i 0) in
@@ -41,7 +42,7 @@ loop-i-preserved c =
     let e = a.why.now in
     let b = a.revocation.now in
     let hs = a.holds.now in
-    let many : length hs ≡ 64 = search rules in
+    let many : length hs ≡ most_holds = search rules in
     let ys = mark_locked a.object a.thread hs in
     let rest : ℕ → Todo (Unit {0}) = records_left e b a.object a.thread hs ys in
     let part : Todo (Unit {0}) = record_steps e b a.object a.thread l.i (get_or hs l.i 0) in
@@ -56,14 +57,14 @@ encode-mark-requires c =
     let e = a.why.now in
     let b = a.revocation.now in
     let hs = a.holds.now in
-    let many : length hs ≡ 64 = search rules in
+    let many : length hs ≡ most_holds = search rules in
     let ys = mark_locked a.object a.thread hs in
     let none = records_none e b a.object a.thread hs ys l.i (omega (arith, many, c.loop-i-test.false)) in
     let due = subst (IsDueOn h l.pass e.task) none l.invariant.due in
     let limits = in_limits h l.pass l.invariant.is_of in
     let thread : a.thread < 32 = omega (arith, c.requires.thread, limits.threads) in
     let place = c.first_place-place.ensures in
-    let most : first_place a.object hs ≤ 64 = omega (arith, place.place, place.few) in
+    let most : first_place a.object hs ≤ most_holds = omega (arith, place.place, place.few) in
     let within = locked_place h l.pass e b a.object a.thread (first_place a.object hs) _ l.invariant.is_of due thread most in
     (thread, omega (arith, place.place, within))
 
@@ -75,7 +76,7 @@ store_one-requires-clause-due c =
     let e = a.why.now in
     let b = a.revocation.now in
     let hs = a.holds.now in
-    let many : length hs ≡ 64 = search rules in
+    let many : length hs ≡ most_holds = search rules in
     let ys = mark_locked a.object a.thread hs in
     let none = records_none e b a.object a.thread hs ys l.i (omega (arith, many, c.loop-i-test.false)) in
     let word : c.encode-mark.result ≡ mark_of (Locked a.thread (first_place a.object hs)) =
@@ -91,7 +92,7 @@ returns c =
     let e = a.why.now in
     let b = a.revocation.now in
     let hs = a.holds.now in
-    let many : length hs ≡ 64 = search rules in
+    let many : length hs ≡ most_holds = search rules in
     let ys = mark_locked a.object a.thread hs in
     let none = records_none e b a.object a.thread hs ys l.i (omega (arith, many, c.loop-i-test.false)) in
     let word : c.encode-mark.result ≡ mark_of (Locked a.thread (first_place a.object hs)) =

@@ -1,4 +1,5 @@
 use Rattle.std.proofs.Common.{◌≡◌, ◌+◌, refl, sym, ap, ◌∙◌, subst, arith, add-one}
+use Rattle.plain_monitor.specs.Limits.{most_holds}
 use Rattle.core_world.specs.declared.name.Name.TheVariants.{Hold}
 use Rattle.core_world.specs.RevocationRules.{holds_in}
 use Rattle.core_world.specs.Steps.{seen_words}
@@ -24,7 +25,7 @@ look_at_hold-held-requires-clause-due c =
     let e = a.why.now in
     let l = c.loop-place in
     let left = l.invariant.left in
-    let more = one_more l.place left.0 64 left.1 c.loop-place-test.true in
+    let more = one_more l.place left.0 most_holds left.1 c.loop-place-test.true in
     let due = subst (λ m. IsDueOn h l.pass e.task (all_from l.place m (look_at_hold e a.thread))) more.1 left.2 in
     part_is_due h a.pass.now l.pass e.task (look_at_holds e a.thread) (λ p. load e (Hold a.thread p)) (λ p n. done tt) l.place more.0 due
 
@@ -36,7 +37,7 @@ loop-place-preserved c =
     let o = a.pass.now in
     let l = c.loop-place in
     let left = l.invariant.left in
-    let more = one_more l.place left.0 64 left.1 c.loop-place-test.true in
+    let more = one_more l.place left.0 most_holds left.1 c.loop-place-test.true in
     let d = look_at_holds e a.thread in
     let due = subst (λ m. IsDueOn h l.pass e.task (all_from l.place m (look_at_hold e a.thread))) more.1 left.2 in
     let come = subst (λ m. HasCome h d o (all_from l.place m (look_at_hold e a.thread)) l.pass) more.1 left.3 in
@@ -69,7 +70,7 @@ returns-clause-run c =
     let e = a.why.now in
     let l = c.loop-place in
     let left = l.invariant.left in
-    let none = no_more l.place left.0 64 left.1 (λ less. omega (arith, less, c.loop-place-test.false)) in
+    let none = no_more l.place left.0 most_holds left.1 (λ less. omega (arith, less, c.loop-place-test.false)) in
     left.3.through l.pass tt (subst (λ m. HasRun h (all_from l.place m (look_at_hold e a.thread)) l.pass l.pass tt) (sym none) (ends h l.pass tt l.invariant.heap))
 
 pub returns-clause-held : goal.returns-clause-held
@@ -78,6 +79,6 @@ returns-clause-held c = λ m later.
     let a = c.args in
     let l = c.loop-place in
     let left = l.invariant.left in
-    let none = no_more l.place left.0 64 left.1 (λ less. omega (arith, less, c.loop-place-test.false)) in
-    let all : 64 ≡ l.place = omega (arith, left.1, none) in
+    let none = no_more l.place left.0 most_holds left.1 (λ less. omega (arith, less, c.loop-place-test.false)) in
+    let all : most_holds ≡ l.place = omega (arith, left.1, none) in
     ap (λ n. held_below a.object a.thread n m) all ∙ l.invariant.held m later

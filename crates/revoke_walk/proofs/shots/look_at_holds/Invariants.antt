@@ -1,4 +1,5 @@
 use Rattle.std.proofs.Common.{◌≡◌, ℕ, ◌+◌, ◌≤◌}
+use Rattle.plain_monitor.specs.Limits.{most_holds}
 use Rattle.core_world.specs.Trees.LookSteps.{look_at_holds}
 use Rattle.core_world.specs.Trees.Todo.{all_from}
 use Rattle.heap_table.specs.Parts.{IsDueOn}
@@ -11,7 +12,7 @@ use Rattle.revoke_walk.proofs.shots.look_at_holds.Given as goal
 abbrev pub invariant-loop-place : goal.invariant-loop-place
 invariant-loop-place l = record {
   heap : IsOf l.heap l.pass;
-  left : (m : ℕ) × (l.place + m ≡ 64) × IsDueOn l.heap l.pass l.why.task (all_from l.place m (look_at_hold l.why l.thread))
+  left : (m : ℕ) × (l.place + m ≡ most_holds) × IsDueOn l.heap l.pass l.why.task (all_from l.place m (look_at_hold l.why l.thread))
       × HasCome l.heap (look_at_holds l.why l.thread) l.fn.pass (all_from l.place m (look_at_hold l.why l.thread)) l.pass;
   later : IsLater l.fn.pass.known l.pass.known;
   held : IsSettled l.pass.known (held_below l.object l.thread l.place) l.held;

@@ -1,4 +1,5 @@
 use Rattle.std.proofs.Common.{◌≡◌, ℕ, sym, ap, ◌∙◌, subst, arith}
+use Rattle.plain_monitor.specs.Limits.{most_holds}
 use Rattle.core_world.specs.Trees.Todo.{Todo, done}
 use Rattle.heap_table.specs.Parts.{HasRun}
 use Rattle.heap_table.proofs.Parts.{ends}
@@ -11,7 +12,7 @@ pub loop-place-init : goal.loop-place-init
 loop-place-init c =
     let a = c.args in
     let f : ℕ → Todo (Unit {0}) = λ p. place_steps a.heap.now.heap.shape a.class a.why.now a.revocation.now a.how a.thread p in
-    first_round a.heap.now a.pass.now a.why.now.task (all_left 64 f) c.requires.heap c.requires.due
+    first_round a.heap.now a.pass.now a.why.now.task (all_left most_holds f) c.requires.heap c.requires.due
 
 pub walk_place-requires-clause-heap : goal.walk_place-requires-clause-heap
 walk_place-requires-clause-heap c = c.loop-place.invariant.is_of
@@ -21,7 +22,7 @@ walk_place-requires-clause-due c =
     let a = c.args in
     let l = c.loop-place in
     let f : ℕ → Todo (Unit {0}) = λ p. place_steps a.heap.now.heap.shape a.class a.why.now a.revocation.now a.how a.thread p in
-    round_due a.heap.now a.pass.now a.why.now.task (all_left 64 f) l.place l.pass l.invariant (f l.place) (left_next 64 f l.place (omega (arith, c.loop-place-test.true)))
+    round_due a.heap.now a.pass.now a.why.now.task (all_left most_holds f) l.place l.pass l.invariant (f l.place) (left_next most_holds f l.place (omega (arith, c.loop-place-test.true)))
 
 pub loop-place-preserved : goal.loop-place-preserved
 loop-place-preserved c =
@@ -29,7 +30,7 @@ loop-place-preserved c =
     let l = c.loop-place in
     let s = a.heap.now.heap.shape in
     let f : ℕ → Todo (Unit {0}) = λ p. place_steps s a.class a.why.now a.revocation.now a.how a.thread p in
-    next_round a.heap.now a.pass.now a.why.now.task (all_left 64 f) l.place l.pass l.invariant (f l.place) (left_next 64 f l.place (omega (arith, c.loop-place-test.true)))
+    next_round a.heap.now a.pass.now a.why.now.task (all_left most_holds f) l.place l.pass l.invariant (f l.place) (left_next most_holds f l.place (omega (arith, c.loop-place-test.true)))
     c.walk_place.new.pass tt (place_of a.why.now a.revocation.now s a.class a.how a.thread l.place) c.walk_place.ensures
 
 pub returns : goal.returns
@@ -38,6 +39,6 @@ returns c =
     let l = c.loop-place in
     let h = a.heap.now in
     let f : ℕ → Todo (Unit {0}) = λ p. place_steps h.heap.shape a.class a.why.now a.revocation.now a.how a.thread p in
-    let end : l.place ≡ 64 = omega (arith, c.loop-place-test.false, l.auto.place-end) in
-    let none : all_left 64 f l.place ≡ done tt = ap (all_left 64 f) end ∙ left_none 64 f in
+    let end : l.place ≡ most_holds = omega (arith, c.loop-place-test.false, l.auto.place-end) in
+    let none : all_left most_holds f l.place ≡ done tt = ap (all_left most_holds f) end ∙ left_none most_holds f in
     l.invariant.come.through l.pass tt (subst (λ (d : Todo (Unit {0})). HasRun h d l.pass l.pass tt) (sym none) (ends h l.pass tt l.invariant.is_of))

@@ -1,4 +1,5 @@
 use Rattle.std.proofs.Common.{◌≡◌, ◌≤◌, length, replicate, vec_len}
+use Rattle.plain_monitor.specs.Limits.{most_objects}
 use Rattle.plain_monitor.specs.Order.{order}
 use Rattle.object_program.specs.Program.{objects_total}
 use Rattle.lock_journal.specs.Merging.{left_of}
@@ -10,7 +11,7 @@ abbrev pub invariant-loop-t : goal.invariant-loop-t
 invariant-loop-t l = record {
   tallies : behind_entries l.tallies.items (order (left_of l.run.logs l.merge)) ≡ behind_entries (replicate (objects_total l.run.program) new_tally) (order l.run.logs);
   room : HaveRoom (length (order (left_of l.run.logs l.merge))) l.tallies.items;
-  few : vec_len l.tallies ≤ 4096;
+  few : vec_len l.tallies ≤ most_objects;
 }
 
 abbrev pub decreases-loop-t : goal.decreases-loop-t

@@ -1,5 +1,6 @@
 use Rattle.std.proofs.Common.{◌≡◌, ◌<◌, [], length, Some, None, arith, refl}
 use Rattle.std.proofs.lemmas.List.{get_or_read_under}
+use Rattle.plain_monitor.specs.Limits.{most_threads}
 use Rattle.lock_journal.specs.inner.Heads.{stamp_of, or_greatest, HasStamps}
 use Rattle.lock_journal.proofs.Merging.{none_left, stamps_given}
 use Rattle.lock_journal.proofs.Sixteen.{given_by_first, held_by_first, held_in_first}
@@ -29,7 +30,7 @@ returns-clause-stamps c =
     let few = c.first_logs-logs.ensures.few in
     let t = c.in_ok-least.least.0 in
     let least = rw c.in_ok-least.was at c.first_head.ensures in
-    let long : length c.args.self.now.stamps ≡ 16 = omega arith in
+    let long : length c.args.self.now.stamps ≡ most_threads = omega arith in
     let thread : t < length logs = least.thread in
     let log = get_or_read_under _ _ _ _ [] c.index-logs-index.is thread refl in
     let at : c.cached_stamp.result ≡ or_greatest (stamp_of logs c.take_head-head.new.places t) = rw (c.cached_stamp.ensures, log) refl in

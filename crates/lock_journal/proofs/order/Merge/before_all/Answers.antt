@@ -1,5 +1,6 @@
+use Rattle.plain_monitor.specs.Limits.{most_threads}
 use Rattle.lock_journal.proofs.Merging.{all_left}
 use Rattle.lock_journal.proofs.order.Merge.before_all.Goals as goal
 
 pub returns : goal.returns
-returns c logs = all_left logs 16
+returns c logs = all_left logs most_threads

@@ -1,13 +1,15 @@
-use Rattle.std.proofs.Common.{◌≡◌, ◌<◌, length, ◌∙◌, Some, vec_len, subst}
+use Rattle.std.proofs.Common.{◌≡◌, ◌<◌, Bool, length, refl, ap, ◌∙◌, Some, vec_len, subst}
 use Rattle.std.proofs.lemmas.List.{with_items_is}
+use Rattle.plain_monitor.specs.Monitor.{only_if}
 use Rattle.plain_monitor.specs.Objects.{take_entry}
 use Rattle.plain_machine.specs.Thread.{ThreadState}
 use Rattle.plain_machine.specs.Asking.{behind_entry}
-use Rattle.plain_machine.specs.Machine.{code_of}
+use Rattle.plain_machine.specs.Machine.{code_of, made_behind, take}
 use Rattle.plain_machine.specs.MachineView.{plain_machine}
 use Rattle.plain_machine.specs.inner.Kept.{holds_behind}
 use Rattle.plain_machine.proofs.Behind.{IsAnswered, sound_behind, length_behind, same_read, takable}
-use Rattle.plain_machine.proofs.Taking.{taken}
+use Rattle.plain_machine.proofs.NeededObjects.{made_where}
+use Rattle.plain_machine.proofs.Taking.{taken, nothing_taken}
 use Rattle.plain_machine.proofs.machine.Machine.take.Goals as goal
 
 pub take-requires : goal.take-requires
@@ -41,6 +43,18 @@ answered c =
       waits = c.advance.ensures.waits;
     }
 
+made : (c : goal.After-self-2-1) → made_behind (plain_machine c.self.inside) c.args.t c.args.entry.now ≡ Some (plain_machine c.self.inside).made
+made c =
+    made_where (plain_machine c.self.inside) _ c.in-Some.asked _ _ _ refl c.in-Some.ensures.fits (c.len.ensures ∙ c.self.inside.objects.ok.0 ∙ c.self.invariant.total) c.finds_all.ensures
+    ∙ ap (λ (b : Bool). only_if b (plain_machine c.self.inside).made) c.if-not-finds_all.false
+
+pub returns-then-not-finds_all-clause-refused : goal.returns-then-not-finds_all-clause-refused
+returns-then-not-finds_all-clause-refused c =
+    let made =
+    made_where (plain_machine c.self.inside) c.args.t c.in-Some.asked c.args.entry.now _ _ refl c.in-Some.ensures.fits (c.len.ensures ∙ c.self.inside.objects.ok.0 ∙ c.self.invariant.total)
+    c.finds_all.ensures in
+    rw (← c.self.view_is) (nothing_taken (plain_machine c.self.inside) _ _ (made ∙ ap (λ (b : Bool). only_if b (plain_machine c.self.inside).made) c.if-not-finds_all.true))
+
 pub invariant_of-self-2 : goal.invariant_of-self-2
 invariant_of-self-2 c =
     rw (with_items_is c.self.inside.objects c.take.new.objects (as_many c))
@@ -49,4 +63,4 @@ invariant_of-self-2 c =
 pub returns-clause-ok : goal.returns-clause-ok
 returns-clause-ok c =
     rw (with_items_is c.self.inside.objects c.take.new.objects (as_many c), ← c.self.view_is)
-    (taken (plain_machine c.self.inside) _ _ _ _ _ _ _ (within c) c.index.ensures c.index_mut.ensures.value c.in-Some.ensures.asked c.in-Some.ensures.fits (objects c) (behind c))
+    (taken (plain_machine c.self.inside) _ _ _ _ _ _ _ (within c) c.index.ensures c.index_mut.ensures.value c.in-Some.ensures.asked c.in-Some.ensures.fits (made c) (objects c) (behind c))

@@ -2,7 +2,7 @@ use Rattle.std.proofs.Common.{◌≡◌, subst, Some, refl}
 use Rattle.std.specs.Prelude.{slice_get}
 use Rattle.std.proofs.lemmas.Option.{slice_get_read}
 use Rattle.lock_journal.proofs.Names.{length_name_at}
-use Rattle.lock_journal.proofs.words.thread_name.Goals as goal
+use Rattle.lock_journal.proofs.words.name_at.Goals as goal
 
 pub returns-clause-short : goal.returns-clause-short
 returns-clause-short c =
