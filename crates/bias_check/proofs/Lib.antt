@@ -6,12 +6,15 @@ pub mod Spellings
 pub mod Numerals
 pub mod ThreadsRead
 pub mod ObjectsRead
+pub mod Dots
+pub mod MadeRead
 pub mod ValuesRead
 pub mod LineWords
 pub mod TellsRead
 pub mod Rivals
 pub mod MarksRun
 pub mod MarksBehind
+pub mod TakenObjects
 pub mod RunsChecked
 pub mod TrueAnswers
 pub mod OrdersOfLogs

@@ -1,9 +1,9 @@
 -- A line of the journal as words.
-use Rattle.std.proofs.Common.{◌≡◌, ℕ, ◌+◌, ◌<◌, ◌^◌, ◌==◌, ◌||◌, Bool, true, false, not, List, [], ◌∷◌, ◌++◌, length, map, get_or, refl, subst, ◌∙◌, ap, arith, append_assoc, append-nil, codes, slice_get, Option, Some, None}
+use Rattle.std.proofs.Common.{◌≡◌, ℕ, ◌+◌, ◌<◌, ◌^◌, ◌==◌, ◌||◌, Bool, true, false, not, List, [], ◌∷◌, ◌++◌, length, map, get_or, refl, subst, ◌∙◌, ap, arith, inl, inr, append_assoc, append-nil, codes, slice_get, Option, Some, None}
 use Rattle.std.specs.Prelude.{decimal}
 use Rattle.std.specs.Fmt.{signed_decimal}
 use Rattle.std.specs.List.{AllByRecursion, list_all, join_with_byte}
-use Rattle.std.proofs.lemmas.Bool.{and_parts}
+use Rattle.std.proofs.lemmas.Bool.{and_parts, cases_lt}
 use Rattle.std.proofs.lemmas.Bool.Decides.{nat_tests}
 use Rattle.std.proofs.lemmas.List.{length-map}
 use Rattle.std.proofs.lemmas.List.Elements.{All-from_recursion}
@@ -30,11 +30,12 @@ use Rattle.lock_journal.proofs.Names.{declared_is as text_of_declared}
 use Rattle.lock_journal.specs.RunText.{journal_line, entry_text, newline, class_name, woken_text, draw_text}
 use Rattle.bias_check.specs.declared.spelled.Verb.{Verb}
 use Rattle.bias_check.specs.declared.spelled.Verb.TheVariants as verb
-use Rattle.bias_check.specs.Lines.{IsEntryIn, Tells}
+use Rattle.bias_check.specs.Lines.{numbers_total, HasNumber, IsEntryIn, Tells}
 use Rattle.bias_check.specs.inner.Words.{words_of}
 use Rattle.bias_check.proofs.Spellings.{verb_text}
 use Rattle.bias_check.proofs.ThreadsRead.{thread_name, class_at_name}
 use Rattle.bias_check.proofs.ObjectsRead.{stands, array_text, single_text, object_is_name}
+use Rattle.bias_check.proofs.MadeRead.{made_by}
 
 abbrev pub verb_in : Entry → Verb
 verb_in (Enter o path) = verb.Enter
@@ -148,8 +149,8 @@ element_spaceless d i true a h lt =
     rw (array_text d i a) (spaceless_append d.name (91 ∷ (decimal i ++ 93 ∷ [])) (name_spaceless d.name h) (spaceless_append (decimal i) (93 ∷ []) (decimal_spaceless i lt) refl))
 element_spaceless d i false a h lt = rw (single_text d i a) (name_spaceless d.name h)
 
-object_spaceless : (p : ProgramText) (o : ℕ) → IsProgram p → o < objects_total p → spaceless (object_text p o) ≡ true
-object_spaceless p o h lt =
+declared_spaceless : (p : ProgramText) (o : ℕ) → IsProgram p → o < objects_total p → spaceless (object_text p o) ≡ true
+declared_spaceless p o h lt =
     let r = stands (length p.classes) 0 0 p.objects o h.objects (omega arith) (omega (arith, lt)) in
     let s = r.3 in
     let number : 0 + r.0 ≡ r.0 = omega arith in
@@ -162,12 +163,23 @@ thread_spaceless p t h lt =
     let within : t < length (map (λ d. d.name) p.threads) = omega (arith, lt, length-map p.threads (λ d. d.name)) in
     rw (thread_name p.threads t) (name_spaceless (get_or (map (λ d. d.name) p.threads) t []) (nth_is_name (map (λ d. d.name) p.threads) t h.thread_names within))
 
+object_spaceless : (p : ProgramText) (o : ℕ) → IsProgram p → HasNumber p o → spaceless (object_text p o) ≡ true
+object_spaceless p o h lt =
+    elim (cases_lt o (objects_total p)) [
+      | inl low ↦ declared_spaceless p o h low
+      | inr late ↦
+          let r = made_by p o late lt in
+          let small : r.1 < 2 ^ 46 = omega (arith, r.2.place) in
+          ap spaceless r.2.text
+          ∙ spaceless_append (thread_text p r.0) (46 ∷ decimal r.1) (thread_spaceless p r.0 h r.2.thread) (decimal_spaceless r.1 small)
+    ]
+
 class_spaceless : (p : ProgramText) (c : ℕ) → IsProgram p → c < length p.classes → spaceless (class_name (slice_get p.classes c)) ≡ true
 class_spaceless p c h lt =
     let within : c < length (map (λ d. d.name) p.classes) = omega (arith, lt, length-map p.classes (λ d. d.name)) in
     rw (class_at_name p.classes c) (name_spaceless (get_or (map (λ d. d.name) p.classes) c []) (nth_is_name (map (λ d. d.name) p.classes) c h.class_names within))
 
-value_spaceless : (p : ProgramText) (v : Value) → IsProgram p → IsValueOf (objects_total p) v → spaceless (value_text p v) ≡ true
+value_spaceless : (p : ProgramText) (v : Value) → IsProgram p → IsValueOf (numbers_total p) v → spaceless (value_text p v) ≡ true
 value_spaceless p Nil h valid = refl
 value_spaceless p (Int z) h valid = word_spaceless (signed_decimal z) (signed_word z valid.1)
 value_spaceless p (Ref o) h valid = object_spaceless p o h valid.0

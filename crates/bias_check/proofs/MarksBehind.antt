@@ -14,7 +14,6 @@ use Rattle.plain_monitor.specs.declared.entry.Entry.{Entry}
 use Rattle.plain_monitor.specs.declared.entry.Entry.TheVariants.{Hash}
 use Rattle.plain_monitor.specs.declared.entry.Logged.{Logged}
 use Rattle.object_program.specs.Program.{ProgramText, objects_total}
-use Rattle.bias_check.specs.Lines.{IsEntryIn}
 use Rattle.lock_journal.specs.Hashes.{first_word, hash_in, hashes_of, is_draw, is_draw_of, draws_by, is_right, are_right, hash_fits}
 use Rattle.bias_check.specs.inner.HashState.{HashState}
 use Rattle.bias_check.specs.declared.hashes.Mark.{Mark}
@@ -194,10 +193,15 @@ behind_drawn p start done h t s q v n within thread b =
       drawers = λ u lt. drawers_behind start t u done x h.drawers (omega (arith, b.threads, thread)) refl refl (b.drawers u lt);
     }
 
-behind_entry : (p : ProgramText) (start : ℕ) (done : List (ℕ × Logged)) (h : HashState) (t s : ℕ) (e : Entry) → t < length p.threads → IsEntryIn p e → IsBehind p start done h
+-- a hash is of a declared object
+abbrev pub HashesDeclared : ProgramText → Entry → Type 0
+HashesDeclared p (Hash o v drawn) = o < objects_total p
+HashesDeclared p e = Unit {0}
+
+behind_entry : (p : ProgramText) (start : ℕ) (done : List (ℕ × Logged)) (h : HashState) (t s : ℕ) (e : Entry) → t < length p.threads → HashesDeclared p e → IsBehind p start done h
     → IsBehind p start (done ++ (t, record { stamp = s; entry = e }) ∷ []) (noted h t e)
-behind_entry p start done h t s (Hash q v None) thread valid b = behind_undrawn p start done h t s q v valid.0 b
-behind_entry p start done h t s (Hash q v (Some n)) thread valid b = behind_drawn p start done h t s q v n valid.0 thread b
+behind_entry p start done h t s (Hash q v None) thread valid b = behind_undrawn p start done h t s q v valid b
+behind_entry p start done h t s (Hash q v (Some n)) thread valid b = behind_drawn p start done h t s q v n valid thread b
 behind_entry p start done h t s e thread valid b =
     behind_other p start done h (t, record { stamp = s; entry = e }) (λ o. refl) (λ o. refl) refl b
 
@@ -207,7 +211,7 @@ noted_all h [] = h
 noted_all h (x ∷ xs) = noted_all (noted h x.0 x.1.entry) xs
 
 abbrev pub AreEntriesIn : ProgramText → List (ℕ × Logged) → Type 0
-AreEntriesIn p xs = AllByRecursion (λ x. (x.0 < length p.threads) × IsEntryIn p x.1.entry) xs
+AreEntriesIn p xs = AllByRecursion (λ x. (x.0 < length p.threads) × HashesDeclared p x.1.entry) xs
 
 behind_from : (p : ProgramText) (start : ℕ) (done xs : List (ℕ × Logged)) (h : HashState) → AreEntriesIn p xs → IsBehind p start done h → IsBehind p start (done ++ xs) (noted_all h xs)
 behind_from p start done [] h valid b = rw append-nil b
@@ -247,8 +251,8 @@ marks_tell p start xs o valid lt =
     mark_tells (hashes_of o xs) (draws_on o xs) (are_right start o [] xs) _ ((all_behind p start xs valid).marks o lt)
 
 -- no entry hashes an object that the program doesn't have
-unhashed : (p : ProgramText) (o : ℕ) (e : Entry) → objects_total p ≤ o → IsEntryIn p e → hash_in o e ≡ None
-unhashed p o (Hash q v drawn) h valid = let apart : (q == o) ≡ false = let lt = valid.0 in grind (arith, nat_tests) in rw apart refl
+unhashed : (p : ProgramText) (o : ℕ) (e : Entry) → objects_total p ≤ o → HashesDeclared p e → hash_in o e ≡ None
+unhashed p o (Hash q v drawn) h valid = let apart : (q == o) ≡ false = let lt = valid in grind (arith, nat_tests) in rw apart refl
 unhashed p o e h valid = refl
 
 pub no_hashes : (p : ProgramText) (o : ℕ) (xs : List (ℕ × Logged)) → objects_total p ≤ o → AreEntriesIn p xs → hashes_of o xs ≡ []

@@ -1,4 +1,4 @@
--- Objects and their words.
+-- Declared objects and their words.
 use Rattle.std.proofs.Common.{◌≡◌, ℕ, zero, suc, ◌+◌, ◌-◌, ◌<◌, ◌≤◌, ◌^◌, ◌==◌, ◌&&◌, ◌||◌, Bool, true, false, List, [], ◌∷◌, ◌++◌, length, map, take, drop, refl, sym, ◌∙◌, ap, arith, append_assoc, append-nil, length-append, codes, slice_get, Option, Some, None}
 use Rattle.std.specs.Prelude.{decimal, nat_lt, position}
 use Rattle.std.specs.List.{position_or_len}
@@ -13,7 +13,7 @@ use Rattle.object_program.specs.Valid.{AreObjects, IsProgram}
 use Rattle.lock_journal.specs.Words.{element_text, object_text}
 use Rattle.lock_journal.proofs.Names.{declared_is as text_of_declared}
 use Rattle.bias_check.specs.inner.Words.{before_last}
-use Rattle.bias_check.specs.inner.Table.{names_of, declared_in, unbracketed, element_of, element_in, object_by, object_in}
+use Rattle.bias_check.specs.inner.Table.{names_of, declared_in, unbracketed, element_of, element_in, object_by, undotted_in}
 use Rattle.bias_check.proofs.Options.{and_then, mapped, where_true}
 use Rattle.bias_check.proofs.Cuts.{first_at, last_byte}
 use Rattle.bias_check.proofs.Numerals.{below_is, below_read}
@@ -143,13 +143,13 @@ AreObjects_at classes m (e ∷ es) zero d h at =
     let same : e ≡ d = cc at in rw (← same) (record { some = h.0.2; single = h.0.3 })
 AreObjects_at classes m (e ∷ es) (suc n) d h at = AreObjects_at classes (m + e.size) es n d h.1 at
 
--- an object's word
-pub record IsObjectWord (p : ProgramText) (w : List ℕ) (o : ℕ) : Type 0 where
+-- a declared object's word
+pub record IsDeclaredWord (p : ProgramText) (w : List ℕ) (o : ℕ) : Type 0 where
   pub text : object_text p o ≡ w
   pub within : o < objects_total p
 
 -- element i of a declaration is the object with this word
-element_word : (p : ProgramText) (n i o : ℕ) (d : ObjectDef) (w : List ℕ) → IsProgram p → slice_get p.objects n ≡ Some d → i < d.size → d.first + i ≡ o → element_text i (Some d) ≡ w → IsObjectWord p w o
+element_word : (p : ProgramText) (n i o : ℕ) (d : ObjectDef) (w : List ℕ) → IsProgram p → slice_get p.objects n ≡ Some d → i < d.size → d.first + i ≡ o → element_text i (Some d) ≡ w → IsDeclaredWord p w o
 element_word p n i o d w h at lt same text =
     let r = found_at (length p.classes) 0 0 p.objects n i d h.objects at lt in
     let place : place_of p o ≡ (0 + n, i) = rw (← same) r.2 in
@@ -158,7 +158,7 @@ element_word p n i o d w h at lt same text =
     record { text = text_of_declared p o within ∙ rw (place, number, at) text; within = within }
 
 single_is : (p : ProgramText) (name : List ℕ) (o : ℕ) (d : ObjectDef) (n : ℕ) (b : Bool) → d.array ≡ b → IsProgram p → slice_get p.objects n ≡ Some d → d.name ≡ name
-    → element_of d None ≡ Some o → IsObjectWord p name o
+    → element_of d None ≡ Some o → IsDeclaredWord p name o
 single_is p name o d n true a h at named e = absurd (cc (rw a at e))
 single_is p name o d n false a h at named e =
     let first : d.first ≡ o = cc (rw a at e) in
@@ -166,7 +166,7 @@ single_is p name o d n false a h at named e =
     element_word p n 0 o d name h at (omega (arith, some)) (omega (arith, first)) (single_text d 0 a ∙ named)
 
 array_is : (p : ProgramText) (name index : List ℕ) (o : ℕ) (d : ObjectDef) (n : ℕ) (b : Bool) → d.array ≡ b → IsProgram p → slice_get p.objects n ≡ Some d → d.name ≡ name
-    → element_of d (Some index) ≡ Some o → IsObjectWord p (name ++ 91 ∷ index) o
+    → element_of d (Some index) ≡ Some o → IsDeclaredWord p (name ++ 91 ∷ index) o
 array_is p name index o d n false a h at named e = absurd (cc (rw a at e))
 array_is p name index o d n true a h at named e =
     and_then _ (unbracketed index) o (rw a at e) (λ digits some f.
@@ -177,7 +177,7 @@ array_is p name index o d n true a h at named e =
     element_word p n i o d (name ++ 91 ∷ index) h at below.below same (array_text d i a ∙ rw (named, below.text, cut) refl))))
 
 element_is : (p : ProgramText) (name : List ℕ) (index : Option (List ℕ)) (w : List ℕ) (o : ℕ) → IsProgram p → element_in (names_of p) name index ≡ Some o
-    → WordOf name index w → IsObjectWord p w o
+    → WordOf name index w → IsDeclaredWord p w o
 element_is p name None w o h e word =
     and_then _ (declared_in (names_of p) name) o e (λ d some f.
     let at = declared_is p name d some in
@@ -187,14 +187,14 @@ element_is p name (Some index) w o h e word =
     let at = declared_is p name d some in
     rw word (array_is p name index o d at.number d.array refl h at.at at.named f))
 
-object_by_is : (p : ProgramText) (w : List ℕ) (o : ℕ) (end : Option ℕ) → IsProgram p → end ≡ position (λ b. b == 91) w → object_by (names_of p) w end ≡ Some o → IsObjectWord p w o
+object_by_is : (p : ProgramText) (w : List ℕ) (o : ℕ) (end : Option ℕ) → IsProgram p → end ≡ position (λ b. b == 91) w → object_by (names_of p) w end ≡ Some o → IsDeclaredWord p w o
 object_by_is p w o None h at e = element_is p w None w o h e refl
 object_by_is p w o (Some k) h at e =
     element_is p (take k w) (Some (drop (k + 1) w)) w o h e (cut_at 91 w k at)
 
 -- the word of an object that is found is that object's
-pub object_is : (p : ProgramText) (w : List ℕ) (o : ℕ) → IsProgram p → object_in (names_of p) w ≡ Some o → IsObjectWord p w o
-object_is p w o h e = object_by_is p w o (position (λ b. b == 91) w) h refl e
+pub undotted_is : (p : ProgramText) (w : List ℕ) (o : ℕ) → IsProgram p → undotted_in (names_of p) w ≡ Some o → IsDeclaredWord p w o
+undotted_is p w o h e = object_by_is p w o (position (λ b. b == 91) w) h refl e
 
 pub object_is_name : (p : ProgramText) (n : ℕ) (d : ObjectDef) → IsProgram p → slice_get p.objects n ≡ Some d → is_name d.name ≡ true
 object_is_name p n d h at =
@@ -211,28 +211,28 @@ bracketless (b ∷ bs) h rest =
     let parts = and_parts (is_letter b || is_digit b) (list_all (λ c. is_letter c || is_digit c) bs) h in
     rw (no_bracket b parts.0, bracketless bs parts.1 rest) (omega arith)
 
-name_bracketless : (name : List ℕ) → is_name name ≡ true → list_all (λ c. is_letter c || is_digit c) name ≡ true
-name_bracketless [] h = absurd (cc h)
-name_bracketless (b ∷ bs) h =
+pub name_bytes : (name : List ℕ) → is_name name ≡ true → list_all (λ c. is_letter c || is_digit c) name ≡ true
+name_bytes [] h = absurd (cc h)
+name_bytes (b ∷ bs) h =
     let short = and_parts (is_letter b && list_all (λ c. is_letter c || is_digit c) bs) _ h in
     let parts = and_parts (is_letter b) (list_all (λ c. is_letter c || is_digit c) bs) short.0 in
     rw (or_left (is_letter b) (is_digit b) parts.0) parts.1
 
 single_position : (name : List ℕ) → is_name name ≡ true → position (λ b. b == 91) name ≡ None
 single_position name h =
-    let at : position_or_len (λ b. b == 91) (name ++ []) ≡ length name + 0 = bracketless name (name_bracketless name h) [] in
+    let at : position_or_len (λ b. b == 91) (name ++ []) ≡ length name + 0 = bracketless name (name_bytes name h) [] in
     let same : position_or_len (λ b. b == 91) name ≡ length name + 0 = ap (position_or_len (λ b. b == 91)) (sym (append-nil name)) ∙ at in
     let not_less : nat_lt (position_or_len (λ b. b == 91) name) (length name) ≡ false = grind (arith, nat_tests) in
     rw not_less refl
 
 array_position : (name rest : List ℕ) → is_name name ≡ true → position (λ b. b == 91) (name ++ 91 ∷ rest) ≡ Some (length name)
 array_position name rest h =
-    let at : position_or_len (λ b. b == 91) (name ++ 91 ∷ rest) ≡ length name + 0 = bracketless name (name_bracketless name h) (91 ∷ rest) in
+    let at : position_or_len (λ b. b == 91) (name ++ 91 ∷ rest) ≡ length name + 0 = bracketless name (name_bytes name h) (91 ∷ rest) in
     let same : position_or_len (λ b. b == 91) (name ++ 91 ∷ rest) ≡ length name = at ∙ omega arith in
     let less : nat_lt (length name) (length (name ++ 91 ∷ rest)) ≡ true = let n = length-append name (91 ∷ rest) in grind (arith, nat_tests) in
     rw (same, less) refl
 
-single_read : (p : ProgramText) (n i : ℕ) (d : ObjectDef) → IsProgram p → slice_get p.objects n ≡ Some d → i < d.size → d.array ≡ false → object_in (names_of p) (element_text i (Some d)) ≡ Some (d.first + i)
+single_read : (p : ProgramText) (n i : ℕ) (d : ObjectDef) → IsProgram p → slice_get p.objects n ≡ Some d → i < d.size → d.array ≡ false → undotted_in (names_of p) (element_text i (Some d)) ≡ Some (d.first + i)
 single_read p n i d h at lt a =
     let good = AreObjects_at (length p.classes) 0 p.objects n d h.objects at in
     let one : d.size ≡ 1 = good.single a in
@@ -240,7 +240,7 @@ single_read p n i d h at lt a =
     rw (single_text d i a, single_position d.name (object_is_name p n d h at), declared_read p n d h at, a) (ap Some first)
 
 array_read : (p : ProgramText) (n i : ℕ) (d : ObjectDef) → IsProgram p → slice_get p.objects n ≡ Some d → i < d.size → d.array ≡ true → d.first + i < 2 ^ 32
-    → object_in (names_of p) (element_text i (Some d)) ≡ Some (d.first + i)
+    → undotted_in (names_of p) (element_text i (Some d)) ≡ Some (d.first + i)
 array_read p n i d h at lt a fits =
     let behind = decimal i ++ 93 ∷ [] in
     let front : take (length d.name) (d.name ++ 91 ∷ behind) ≡ d.name = take-append_seam d.name (91 ∷ behind) in
@@ -251,13 +251,13 @@ array_read p n i d h at lt a fits =
     rw (array_text d i a, array_position d.name behind (object_is_name p n d h at), front, back, declared_read p n d h at, a, digits, count, small) refl
 
 read_by : (p : ProgramText) (n i : ℕ) (d : ObjectDef) (b : Bool) → IsProgram p → slice_get p.objects n ≡ Some d → i < d.size → d.array ≡ b → d.first + i < 2 ^ 32
-    → object_in (names_of p) (element_text i (Some d)) ≡ Some (d.first + i)
+    → undotted_in (names_of p) (element_text i (Some d)) ≡ Some (d.first + i)
 read_by p n i d true h at lt a fits = array_read p n i d h at lt a fits
 read_by p n i d false h at lt a fits = single_read p n i d h at lt a
 
--- the word of an object is read as it
-pub object_read : (p : ProgramText) (o : ℕ) → IsProgram p → o < objects_total p → object_in (names_of p) (object_text p o) ≡ Some o
-object_read p o h lt =
+-- the word of a declared object is read as it
+pub undotted_read : (p : ProgramText) (o : ℕ) → IsProgram p → o < objects_total p → undotted_in (names_of p) (object_text p o) ≡ Some o
+undotted_read p o h lt =
     let r = stands (length p.classes) 0 0 p.objects o h.objects (omega arith) (omega (arith, lt)) in
     let s = r.3 in
     let number : 0 + r.0 ≡ r.0 = omega arith in

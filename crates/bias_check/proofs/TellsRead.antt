@@ -27,7 +27,8 @@ use Rattle.bias_check.proofs.Cuts.{last_byte}
 use Rattle.bias_check.proofs.Spellings.{same_word, verb_text, verb_is, path_is, fault_is, verb_read, path_read, fault_read}
 use Rattle.bias_check.proofs.Numerals.{IsCount, count_is, count_read, IsStamp, stamp_is, stamp_read}
 use Rattle.bias_check.proofs.ThreadsRead.{IsThreadWord, thread_is, thread_read, class_is, class_read}
-use Rattle.bias_check.proofs.ObjectsRead.{IsObjectWord, object_is, object_read, last_is}
+use Rattle.bias_check.proofs.ObjectsRead.{last_is}
+use Rattle.bias_check.proofs.MadeRead.{IsObjectWord, object_is, object_read}
 use Rattle.bias_check.proofs.ValuesRead.{ReadsValue, value_is, HasValue, value_read, ReadsWoken, woken_is, HasWoken, woken_read}
 use Rattle.bias_check.proofs.LineWords.{verb_in, args_of, line_words, line_is, line_spaceless, words_again}
 

@@ -25,15 +25,22 @@ use Rattle.bias_check.specs.Answer.{IsFirstUnreadable, IsFirstWithoutStep, IsLea
 use Rattle.bias_check.specs.inner.Checking.{first_check, checked_from, hash_verdict, verdict_of, answer_of}
 use Rattle.bias_check.proofs.Cuts.{first_at, none_at}
 use Rattle.bias_check.proofs.MarksBehind.{noted_all, AreEntriesIn, all_behind, marks_tell, fits_beyond}
+use Rattle.bias_check.proofs.TakenObjects.{first_count, as_many, hash_is_declared}
 use Rattle.bias_check.proofs.RunsChecked.{going, run_checked, all_readable, unread, HasRun, HasStop, Ends, ends}
 
--- the entries of a run are the program's, one for each line
-entries_in : (p : ProgramText) (before : Option (ℕ × Logged)) (m n : PlainMachine) (lines : List (List ℕ)) (xs : List (ℕ × Logged)) → IsRun p before m lines xs n → AreEntriesIn p xs
-entries_in p before m n [] [] run = tt
-entries_in p before m n [] (x ∷ xs) run = absurd run
-entries_in p before m n (line ∷ lines) [] run = absurd run
-entries_in p before m n (line ∷ lines) (x ∷ xs) run =
-    ((run.1.tells.thread, run.1.tells.entry), entries_in p (Some x) run.0 n lines xs run.2)
+-- the entries of a run are of the program's threads, and no hash is of an object that isn't there
+entries_from : (p : ProgramText) (before : Option (ℕ × Logged)) (m n : PlainMachine) (lines : List (List ℕ)) (xs : List (ℕ × Logged)) → length m.objects ≡ objects_total p → IsRun p before m lines xs n → AreEntriesIn p xs
+entries_from p before m n [] [] count run = tt
+entries_from p before m n [] (x ∷ xs) count run = absurd run
+entries_from p before m n (line ∷ lines) [] count run = absurd run
+entries_from p before m n (line ∷ lines) (x ∷ xs) count run =
+    let taken = run.1.taken in (
+      (run.1.tells.thread, hash_is_declared p m run.0 x.0 x.1.entry count taken),
+      entries_from p (Some x) run.0 n lines xs (as_many m run.0 x.0 x.1.entry taken ∙ count) run.2,
+    )
+
+entries_in : (p : ProgramText) (fuel : ℕ) (n : PlainMachine) (lines : List (List ℕ)) (xs : List (ℕ × Logged)) → IsRun p None (new_machine p fuel) lines xs n → AreEntriesIn p xs
+entries_in p fuel n lines xs run = entries_from p None (new_machine p fuel) n lines xs (first_count p fuel) run
 
 length_run : (p : ProgramText) (before : Option (ℕ × Logged)) (m n : PlainMachine) (lines : List (List ℕ)) (xs : List (ℕ × Logged)) → IsRun p before m lines xs n → length xs ≡ length lines
 length_run p before m n [] [] run = refl
@@ -100,11 +107,11 @@ no_place p start xs o valid h =
 run_answer_by : (p : ProgramText) (fuel start : ℕ) (lines : List (List ℕ)) (d : Check) (place : Option ℕ) (r : HasRun p None (new_machine p fuel) (new_hashes p start) lines d)
     → place ≡ position is_bad (marks_of p start r.entries) → IsTrueOf p fuel start lines (Ok (hash_verdict d (length lines) place))
 run_answer_by p fuel start lines d (Some o) r at =
-    let valid = entries_in p None (new_machine p fuel) d.machine lines r.entries r.run in
+    let valid = entries_in p fuel d.machine lines r.entries r.run in
     let t = bad_place p start r.entries o valid at in
     record { entries = r.entries; machine = d.machine; run = r.run; bad = t.bad; least = t.least }
 run_answer_by p fuel start lines d None r at =
-    let valid = entries_in p None (new_machine p fuel) d.machine lines r.entries r.run in
+    let valid = entries_in p fuel d.machine lines r.entries r.run in
     record {
       entries = r.entries;
       machine = d.machine;
@@ -174,7 +181,7 @@ run_found p fuel start lines xs n h run =
 legal_by : (p : ProgramText) (fuel start : ℕ) (lines : List (List ℕ)) (count : ℕ) (state : Reached) (r : IsLegalRun p fuel start lines count state) (place : Option ℕ) → place ≡ position is_bad (marks_of p start r.entries)
     → hash_verdict (going r.machine (noted_all (new_hashes p start) r.entries) (last_of None r.entries)) (length lines) place ≡ Legal count state
 legal_by p fuel start lines count state r (Some o) at =
-    let valid = entries_in p None (new_machine p fuel) r.machine lines r.entries r.run in
+    let valid = entries_in p fuel r.machine lines r.entries r.run in
     let t = bad_place p start r.entries o valid at in absurd (cc (sym t.bad ∙ r.fits o))
 legal_by p fuel start lines count state r None at =
     let counted : count ≡ length lines = r.counted ∙ length_run p None (new_machine p fuel) r.machine lines r.entries r.run in
@@ -183,7 +190,7 @@ legal_by p fuel start lines count state r None at =
 bad_by : (p : ProgramText) (fuel start : ℕ) (lines : List (List ℕ)) (object : ℕ) (r : IsLeastBadHash p fuel start lines object) (place : Option ℕ) → place ≡ position is_bad (marks_of p start r.entries)
     → hash_verdict (going r.machine (noted_all (new_hashes p start) r.entries) (last_of None r.entries)) (length lines) place ≡ BadHash object
 bad_by p fuel start lines object r (Some o) at =
-    let valid = entries_in p None (new_machine p fuel) r.machine lines r.entries r.run in
+    let valid = entries_in p fuel r.machine lines r.entries r.run in
     let t = bad_place p start r.entries o valid at in
     elim (cases_eq o object) [
       | inl same ↦ ap BadHash same
@@ -193,7 +200,7 @@ bad_by p fuel start lines object r (Some o) at =
       ]
     ]
 bad_by p fuel start lines object r None at =
-    let valid = entries_in p None (new_machine p fuel) r.machine lines r.entries r.run in
+    let valid = entries_in p fuel r.machine lines r.entries r.run in
     absurd (cc (sym r.bad ∙ no_place p start r.entries object valid at))
 
 -- of two places where a text stops being readable there is one

@@ -2,7 +2,7 @@
 use Rattle.std.proofs.Common.{◌≡◌, ℕ, ◌+◌, ◌<◌, ◌==◌, ◌⊎◌, Bool, true, false, if◌then◌else◌, List, [], ◌∷◌, ◌++◌, length, refl, sym, ◌∙◌, ap, append-nil, arith, codes, inl, inr, ℤ, bytes_eq, Option, Some, None}
 use Rattle.std.specs.Prelude.{decimal, int_le, MatchOption}
 use Rattle.std.specs.Fmt.{signed_decimal}
-use Rattle.std.proofs.lemmas.Bool.{and_parts}
+use Rattle.std.proofs.lemmas.Bool.{and_parts, cases_lt}
 use Rattle.std.proofs.lemmas.Bool.Decides.{nat_tests}
 use Rattle.std.proofs.lemmas.Int.{ints}
 use Rattle.std.proofs.lemmas.Option.{same_Some}
@@ -21,17 +21,19 @@ use Rattle.lock_journal.proofs.Names.{declared_is as text_of_declared}
 use Rattle.lock_journal.specs.RunText.{woken_text}
 use Rattle.bias_check.specs.declared.entries.ValueRead.{ValueRead}
 use Rattle.bias_check.specs.declared.entries.WokenRead.{WokenRead}
+use Rattle.bias_check.specs.Lines.{numbers_total, HasNumber}
 use Rattle.bias_check.specs.inner.Table.{names_of, int_in, object_in, thread_in, value_in, value_else, woken_in}
 use Rattle.bias_check.proofs.Options.{mapped}
 use Rattle.bias_check.proofs.Spellings.{same_word}
 use Rattle.bias_check.proofs.Numerals.{IsInt, int_is, value_int_read}
 use Rattle.bias_check.proofs.ThreadsRead.{thread_is, thread_read}
-use Rattle.bias_check.proofs.ObjectsRead.{object_is, object_read, object_is_name, stands, array_text, single_text}
+use Rattle.bias_check.proofs.ObjectsRead.{object_is_name, stands, array_text, single_text}
+use Rattle.bias_check.proofs.MadeRead.{thread_is_name, made_by, object_is, object_read}
 
 -- a value with this word
 pub record IsValueWord (p : ProgramText) (w : List ℕ) (v : Value) : Type 0 where
   pub text : value_text p v ≡ w
-  pub valid : IsValueOf (objects_total p) v
+  pub valid : IsValueOf (numbers_total p) v
 
 -- what a word reads as
 pub record ReadsValue (p : ProgramText) (w : List ℕ) (r : ValueRead) : Type 0 where
@@ -96,13 +98,22 @@ element_is_no_number d i true a h = rw (array_text d i a) (name_is_no_number d.n
 element_is_no_number d i false a h =
     rw (single_text d i a) (ap number_of (sym (append-nil d.name)) ∙ name_is_no_number d.name [] h)
 
-object_is_no_number : (p : ProgramText) (o : ℕ) → IsProgram p → o < objects_total p → number_of (object_text p o) ≡ None
-object_is_no_number p o h lt =
+declared_is_no_number : (p : ProgramText) (o : ℕ) → IsProgram p → o < objects_total p → number_of (object_text p o) ≡ None
+declared_is_no_number p o h lt =
     let r = stands (length p.classes) 0 0 p.objects o h.objects (omega arith) (omega (arith, lt)) in
     let s = r.3 in
     let number : 0 + r.0 ≡ r.0 = omega arith in
     let text : object_text p o ≡ element_text r.1 (Some r.2) = text_of_declared p o lt ∙ rw (s.place, number, s.at) refl in
     rw text (element_is_no_number r.2 r.1 r.2.array refl (object_is_name p r.0 r.2 h s.at))
+
+object_is_no_number : (p : ProgramText) (o : ℕ) → IsProgram p → HasNumber p o → number_of (object_text p o) ≡ None
+object_is_no_number p o h lt =
+    elim (cases_lt o (objects_total p)) [
+      | inl low ↦ declared_is_no_number p o h low
+      | inr late ↦
+          let r = made_by p o late lt in
+          ap number_of r.2.text ∙ name_is_no_number (thread_text p r.0) (46 ∷ decimal r.1) (thread_is_name p r.0 h r.2.thread)
+    ]
 
 int_read_by : (p : ProgramText) (z : ℤ) (b : Bool) → bytes_eq (codes "nil") (signed_decimal z) ≡ b → IsInRange z
     → (r : ValueRead) × (value_in (names_of p) (signed_decimal z) ≡ Some r) × HasValue r (Int z)
@@ -111,7 +122,7 @@ int_read_by p z true at range =
 int_read_by p z false at range =
     (record { plain = Int z; other = None }, rw (at, value_int_read z range) refl, inl refl)
 
-ref_read_by : (p : ProgramText) (o : ℕ) (b : Bool) → bytes_eq (codes "nil") (object_text p o) ≡ b → IsProgram p → o < objects_total p
+ref_read_by : (p : ProgramText) (o : ℕ) (b : Bool) → bytes_eq (codes "nil") (object_text p o) ≡ b → IsProgram p → HasNumber p o
     → (r : ValueRead) × (value_in (names_of p) (object_text p o) ≡ Some r) × HasValue r (Ref o)
 ref_read_by p o true at h lt =
     (record { plain = Nil; other = Some o }, rw (at, object_read p o h lt) refl, inr (o, refl, refl))
@@ -119,7 +130,7 @@ ref_read_by p o false at h lt =
     (record { plain = Ref o; other = None }, rw (at, object_is_no_number p o h lt, object_read p o h lt) refl, inl refl)
 
 -- a value is among the readings of its word
-pub value_read : (p : ProgramText) (v : Value) → IsProgram p → IsValueOf (objects_total p) v → (r : ValueRead) × (value_in (names_of p) (value_text p v) ≡ Some r) × HasValue r v
+pub value_read : (p : ProgramText) (v : Value) → IsProgram p → IsValueOf (numbers_total p) v → (r : ValueRead) × (value_in (names_of p) (value_text p v) ≡ Some r) × HasValue r v
 value_read p Nil h valid = (record { plain = Nil; other = object_in (names_of p) (codes "nil") }, refl, inl refl)
 value_read p (Int z) h valid = int_read_by p z (bytes_eq (codes "nil") (signed_decimal z)) refl valid.1
 value_read p (Ref o) h valid = ref_read_by p o (bytes_eq (codes "nil") (object_text p o)) refl h valid.0

@@ -1,11 +1,12 @@
 -- The lines of a journal, and which entries a line tells.
-use Rattle.std.specs.Prelude.{◌≡◌, ℕ, ◌<◌, ◌≤◌, ◌^◌, ◌==◌, if◌then◌else◌, List, [], ◌∷◌, length, MatchOption}
+use Rattle.std.specs.Prelude.{◌≡◌, ℕ, ◌+◌, ◌*◌, ◌<◌, ◌≤◌, ◌^◌, ◌==◌, if◌then◌else◌, List, [], ◌∷◌, length, MatchOption}
 use Rattle.std.specs.List.{onto_first}
+use Rattle.plain_monitor.specs.Limits.{most_made}
 use Rattle.plain_monitor.specs.declared.entry.Entry.{Entry}
 use Rattle.plain_monitor.specs.declared.entry.Entry.TheVariants.{Enter, Exit, Get, Put, Wait, Resume, Notify, NotifyAll, Hash, New, Print, Dump, Trap, Spent, Done}
 use Rattle.plain_monitor.specs.declared.entry.Logged.{Logged}
 use Rattle.object_program.specs.Program.{ProgramText, objects_total}
-use Rattle.plain_machine.specs.Values.{IsObject, IsValueOf}
+use Rattle.plain_machine.specs.Values.{IsValueOf}
 use Rattle.lock_journal.specs.RunText.{journal_line}
 
 -- the lines of a text, each with its line feed; bytes behind the last line feed are a line without one
@@ -17,19 +18,28 @@ lines_of (b ∷ bs) = if b == 10 then (b ∷ []) ∷ lines_of bs else onto_first
 abbrev pub IsWord : ℕ → Type 0
 IsWord n = n < 2 ^ 32
 
--- an entry of the program: its objects, its threads and its values are the program's, and its numbers have 32 bits
+-- how many numbers there are for objects: first one for each that is declared, and then, for each thread, as many as it may make
+abbrev pub numbers_total : ProgramText → ℕ
+numbers_total p = objects_total p + most_made * length p.threads
+
+-- an object can have the number, whether the object is there or not
+abbrev pub HasNumber : ProgramText → ℕ → Type 0
+HasNumber p o = o < numbers_total p
+
+-- an entry of the program: its objects have numbers of the program, its threads and its values are the program's, and its other numbers have
+-- 32 bits
 abbrev pub IsEntryIn : ProgramText → Entry → Type 0
-IsEntryIn p (Enter o path) = IsObject p o
-IsEntryIn p (Exit o) = IsObject p o
-IsEntryIn p (Wait o) = IsObject p o
-IsEntryIn p (Resume o) = IsObject p o
-IsEntryIn p (Get o k v) = IsObject p o × IsWord k × IsValueOf (objects_total p) v
-IsEntryIn p (Put o k v) = IsObject p o × IsWord k × IsValueOf (objects_total p) v
-IsEntryIn p (Notify o woken) = IsObject p o × MatchOption woken (Unit {0}) (λ t. t < length p.threads)
-IsEntryIn p (NotifyAll o n) = IsObject p o × IsWord n
-IsEntryIn p (Hash o v drawn) = IsObject p o × IsWord v × MatchOption drawn (Unit {0}) IsWord
-IsEntryIn p (New o c) = IsObject p o × c < length p.classes
-IsEntryIn p (Print v) = IsValueOf (objects_total p) v
+IsEntryIn p (Enter o path) = HasNumber p o
+IsEntryIn p (Exit o) = HasNumber p o
+IsEntryIn p (Wait o) = HasNumber p o
+IsEntryIn p (Resume o) = HasNumber p o
+IsEntryIn p (Get o k v) = HasNumber p o × IsWord k × IsValueOf (numbers_total p) v
+IsEntryIn p (Put o k v) = HasNumber p o × IsWord k × IsValueOf (numbers_total p) v
+IsEntryIn p (Notify o woken) = HasNumber p o × MatchOption woken (Unit {0}) (λ t. t < length p.threads)
+IsEntryIn p (NotifyAll o n) = HasNumber p o × IsWord n
+IsEntryIn p (Hash o v drawn) = HasNumber p o × IsWord v × MatchOption drawn (Unit {0}) IsWord
+IsEntryIn p (New o c) = HasNumber p o × c < length p.classes
+IsEntryIn p (Print v) = IsValueOf (numbers_total p) v
 IsEntryIn p (Dump n) = IsWord n
 IsEntryIn p (Trap fault index) = IsWord index
 IsEntryIn p Spent = Unit {0}

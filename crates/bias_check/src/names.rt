@@ -1,12 +1,13 @@
 //! The names of a program, and the words that stand for numbers and names.
 
 ghost use Rattle.std.specs.Prelude.{◌≡◌, ◌<◌, ◌==◌, map, length, position, IfOk, IfSome, MatchOption, Some, None};
-ghost use Rattle.bias_check.specs.inner.Table.{names_of, place_in, thread_in, class_in, declared_in, element_in, object_in, int_in, count_below, count_in, stamp_in, unbracketed};
+ghost use Rattle.plain_monitor.specs.Limits.{most_threads};
+ghost use Rattle.bias_check.specs.inner.Table.{names_of, place_in, thread_in, class_in, declared_in, element_in, undotted_in, made_in, object_in, int_in, count_below, count_in, stamp_in, unbracketed};
 
 use itoa::Buffer;
 use object_program::{Name, ObjectDef, Program};
 use plain_monitor::NoMemory;
-use plain_monitor::limits::{CLASSES, THREADS};
+use plain_monitor::limits::{CLASSES, MADE, THREADS};
 use program_syntax::{Directory, number_within};
 use std::alloc::Global;
 
@@ -17,12 +18,13 @@ const MOST_THREADS: usize = THREADS as usize;
 /// The most classes that a program has.
 const MOST_CLASSES: usize = CLASSES as usize;
 
-/// The names of a program's threads and classes, and its declarations of objects.
+/// The names of a program's threads and classes, its declarations of objects, and how many objects these stand for.
 #[derive(Drop)]
 pub(crate) struct Names {
     pub(crate) threads: Directory<Name>,
     pub(crate) objects: Directory<ObjectDef>,
     pub(crate) classes: Directory<Name>,
+    pub(crate) total: u32,
 }
 
 impl Names {
@@ -37,6 +39,7 @@ impl Names {
             threads,
             objects,
             classes,
+            total: program.objects_total(),
         })
     }
 
@@ -44,6 +47,7 @@ impl Names {
     pub(crate) fn thread(&self, word: &[u8]) -> Option<u32>
         ensures thread { result ≡ thread_in self.now word.now }
         ensures within { IfSome result (λ t. t < length self.now.threads) }
+        ensures few { IfSome result (λ t. t < most_threads) }
     {
         let place = self.threads.place_of(word)?;
         if place < MOST_THREADS {
@@ -73,9 +77,28 @@ impl Names {
         self.objects.items().get(place).copied()
     }
 
-    /// The number of the object that the word names: `NAME`, or `NAME[i]` for an element of an array.
+    /// The number of the object that the word names: `NAME` or `NAME[i]` of a declared one, and `THREAD.k` of one that a thread makes.
     pub(crate) fn object(&self, word: &[u8]) -> Option<u32>
         ensures { result ≡ object_in self.now word.now }
+    {
+        match dot(word) {
+            None => self.undotted(word),
+            Some(end) => self.made(&word[..end], &word[end + 1..]),
+        }
+    }
+
+    /// The k-th object, from 0, that the thread with this name makes.
+    fn made(&self, name: &[u8], digits: &[u8]) -> Option<u32>
+        ensures { result ≡ made_in self.now name.now digits.now }
+    {
+        let thread = self.thread(name)?;
+        let place = count_below(digits, MADE)?;
+        self.total.checked_add(MADE * thread + place)
+    }
+
+    /// The number of the declared object that the word names: `NAME`, or `NAME[i]` for an element of an array.
+    fn undotted(&self, word: &[u8]) -> Option<u32>
+        ensures { result ≡ undotted_in self.now word.now }
     {
         match bracket(word) {
             None => self.single(word),
@@ -141,6 +164,13 @@ fn object_names(alloc: Global, program: &Program) -> Result<Directory<ObjectDef>
     Ok(objects)
 }
 
+/// Where the first dot stands.
+fn dot(word: &[u8]) -> Option<usize>
+    ensures { result ≡ position (λ b. b == 46) word.now }
+{
+    word.iter().position(|b| *b == b'.')
+}
+
 /// Where the opening bracket stands.
 fn bracket(word: &[u8]) -> Option<usize>
     ensures { result ≡ position (λ b. b == 91) word.now }
@@ -173,7 +203,8 @@ pub(crate) fn int_in(word: &[u8], low: i64, high: i64) -> Option<i64>
 
 /// The number below the limit that the word is.
 fn count_below(word: &[u8], limit: u32) -> Option<u32>
-    ensures { result ≡ count_below limit word.now }
+    ensures count { result ≡ count_below limit word.now }
+    ensures below { IfSome result (λ n. n < limit) }
 {
     let number = count_in(word)?;
     if number < limit { Some(number) } else { None }

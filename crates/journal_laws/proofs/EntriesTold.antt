@@ -6,6 +6,7 @@ use Rattle.std.proofs.lemmas.List.{length-append}
 use Rattle.std.proofs.lemmas.Option.{cond_some, none-some, slice_get_within}
 use Rattle.plain_monitor.specs.Limits.{most_slots, most_fuel, most_threads}
 use Rattle.plain_monitor.specs.declared.entry.Value.{Value}
+use Rattle.plain_monitor.specs.declared.entry.Value.TheVariants.{Nil, Int, Ref}
 use Rattle.plain_monitor.specs.declared.entry.Fault.{Fault}
 use Rattle.plain_monitor.specs.declared.entry.Ending.TheVariants as ending
 use Rattle.plain_monitor.specs.declared.entry.Entry.{Entry}
@@ -21,6 +22,7 @@ use Rattle.object_program.specs.Limits.{most_code}
 use Rattle.object_program.specs.declared.program.ClassDef.{ClassDef}
 use Rattle.object_program.specs.Program.{ProgramText, objects_total, slots_in, slots_of, class_of}
 use Rattle.object_program.specs.Valid.{IsProgram}
+use Rattle.plain_machine.specs.Values.{IsValueOf}
 use Rattle.plain_machine.specs.declared.call.Call.{Call}
 use Rattle.plain_machine.specs.declared.call.Call.TheVariants as call
 use Rattle.plain_machine.specs.declared.call.Asked.{Asked}
@@ -41,7 +43,7 @@ use Rattle.core_world.specs.Clauses.Draws.{AreDraws, first_draw}
 use Rattle.lock_journal.specs.Hashes.{hash_fits}
 use Rattle.hash_laws.proofs.DrawsAgain.{are_drawn}
 use Rattle.hash_laws.proofs.LegalHashes.{the_some}
-use Rattle.bias_check.specs.Lines.{IsEntryIn}
+use Rattle.bias_check.specs.Lines.{IsEntryIn, numbers_total}
 use Rattle.bias_check.specs.Printed.{IsTellable}
 use Rattle.hash_laws.proofs.Placed.{IsPlaced, all_placed, log_within}
 use Rattle.journal_laws.proofs.NoGaps.{next_of, stamps_are_few}
@@ -115,9 +117,33 @@ many_few m t o many after h takes =
         omega (arith, same, listed, threads, few)
 
 -- ENTRIES
+-- a value beside some objects is one beside more
+value_of_more : (n m : ℕ) (v : Value) → n ≤ m → IsValueOf n v → IsValueOf m v
+value_of_more n m Nil le h = h
+value_of_more n m (Int z) le h = h
+value_of_more n m (Ref o) le h = let below = h.0 in (omega (arith, below, le), tt)
+
+-- and so is an entry
+entry_of_more : (n m threads : ℕ) (e : Entry) → n ≤ m → IsEntryOf n threads e → IsEntryOf m threads e
+entry_of_more n m threads (Enter o path) le h = omega (arith, h, le)
+entry_of_more n m threads (Exit o) le h = omega (arith, h, le)
+entry_of_more n m threads (Wait o) le h = omega (arith, h, le)
+entry_of_more n m threads (Resume o) le h = omega (arith, h, le)
+entry_of_more n m threads (Get o k v) le h = let below = h.0 in (omega (arith, below, le), value_of_more n m v le h.1)
+entry_of_more n m threads (Put o k v) le h = let below = h.0 in (omega (arith, below, le), value_of_more n m v le h.1)
+entry_of_more n m threads (Notify o woken) le h = let below = h.0 in (omega (arith, below, le), h.1)
+entry_of_more n m threads (NotifyAll o many) le h = omega (arith, h, le)
+entry_of_more n m threads (Hash o v drawn) le h = let below = h.0 in (omega (arith, below, le), h.1)
+entry_of_more n m threads (New o c) le h = omega (arith, h, le)
+entry_of_more n m threads (Print v) le h = value_of_more n m v le h
+entry_of_more n m threads (Dump number) le h = h
+entry_of_more n m threads (Trap f i) le h = tt
+entry_of_more n m threads Spent le h = tt
+entry_of_more n m threads Done le h = tt
+
 -- an entry that was asked for and that the objects took
 told : (m : PlainMachine) (t : ℕ) (s : ThreadState) (a : Asked) (e : Entry) (after : List PlainObject) → IsReached m → UnwindsWithin most_code s.mode → IsAskedOf m.program s a
-    → fits a e ≡ true → take_entry m.objects t e ≡ Some after → IsEntryOf (objects_total m.program) (length m.program.threads) e → HasShortDraw e → IsEntryIn m.program e
+    → fits a e ≡ true → take_entry m.objects t e ≡ Some after → IsEntryOf (numbers_total m.program) (length m.program.threads) e → HasShortDraw e → IsEntryIn m.program e
 told m t s a (Enter o path) after h near asked fit takes is draw = is
 told m t s a (Exit o) after h near asked fit takes is draw = is
 told m t s a (Wait o) after h near asked fit takes is draw = is
@@ -139,9 +165,10 @@ module _ (m next : PlainMachine) (t : ℕ) (e : Entry) (h : IsReached m) (near :
   taken_is_told draw =
       let k = taken m t e next takes in
       let asked = asked_of m.program k.s k.asked (thread_of m t k.s (record { reached = h; at = k.at })) k.asks in
-      let range : IsEntryOf (objects_total m.program) (length m.program.threads) e =
+      let declared : IsEntryOf (objects_total m.program) (length m.program.threads) e =
       subst (λ n. IsEntryOf n (length m.program.threads) e) h.object_count
       (subst (λ n. IsEntryOf (length m.objects) n e) h.thread_count (taken_in_range m next t e h takes)) in
+      let range = entry_of_more (objects_total m.program) (numbers_total m.program) (length m.program.threads) e (omega arith) declared in
       told m t k.s k.asked e k.objects h (all_at (λ (s : ThreadState). UnwindsWithin most_code s.mode) m.threads t k.s near k.at) asked k.fit k.takes range draw
 
   thread_is_there : t < length m.program.threads

@@ -1,12 +1,13 @@
 -- The journal of a run is short: it has few lines, and no line is long.
-use Rattle.std.proofs.Common.{◌≡◌, ℕ, suc, ◌+◌, ◌-◌, ◌*◌, ◌<◌, ◌≤◌, ◌^◌, if◌then◌else◌, Bool, true, false, List, [], ◌∷◌, ◌++◌, codes, decimal, length, map, Option, Some, None, refl, arith, ℤ, pos, negsuc}
+use Rattle.std.proofs.Common.{◌≡◌, ℕ, suc, ◌+◌, ◌-◌, ◌*◌, ◌/◌, ◌%◌, ◌<◌, ◌≤◌, ◌^◌, if◌then◌else◌, Bool, true, false, List, [], ◌∷◌, ◌++◌, codes, decimal, length, map, Option, Some, None, refl, arith, inl, inr, ℤ, pos, negsuc}
 use Rattle.std.specs.Prelude.{slice_get, MatchOption}
 use Rattle.std.specs.Fmt.{signed_decimal}
 use Rattle.std.specs.List.{AllByRecursion}
+use Rattle.std.proofs.lemmas.Bool.{cases_lt}
 use Rattle.std.proofs.lemmas.Fmt.{length-decimal-le}
 use Rattle.std.proofs.lemmas.Int.{ints}
 use Rattle.std.proofs.lemmas.List.{length-append}
-use Rattle.plain_monitor.specs.Limits.{most_fuel}
+use Rattle.plain_monitor.specs.Limits.{most_fuel, most_made}
 use Rattle.plain_monitor.specs.declared.entry.Entry.{Entry}
 use Rattle.plain_monitor.specs.declared.entry.Entry.TheVariants.{Enter, Exit, Get, Put, Wait, Resume, Notify, NotifyAll, Hash, New, Print, Dump, Trap, Spent, Done}
 use Rattle.plain_monitor.specs.declared.entry.Fault.{Fault}
@@ -27,8 +28,8 @@ use Rattle.plain_machine.specs.Values.{IsValueOf}
 use Rattle.lock_journal.specs.RunText.{class_name, draw_text, entry_text, journal_line, newline, text_of_lines, woken_text}
 use Rattle.lock_journal.specs.Words.{element_text, fault_text, name_of, object_text, path_text, thread_text, value_text}
 use Rattle.lock_journal.proofs.Names.{length_name_at}
-use Rattle.lock_journal.proofs.Names.{declared_is as text_of_declared}
-use Rattle.bias_check.specs.Lines.{IsEntryIn}
+use Rattle.lock_journal.proofs.Names.{declared_is as text_of_declared, made_is}
+use Rattle.bias_check.specs.Lines.{numbers_total, HasNumber, IsEntryIn}
 use Rattle.bias_check.specs.Printed.{IsTellable, journal_of}
 use Rattle.lock_journal.specs.Hashes.{hash_fits}
 use Rattle.plain_history.specs.ExactStamps.{StampsAreExact}
@@ -98,8 +99,8 @@ draw_short None few = omega arith
 draw_short (Some n) few = both (codes " draw ") _ 6 10 (omega arith) (word_short n few)
 
 module _ (p : ProgramText) (is : IsProgram p) where
-  object_short : (o : ℕ) → o < objects_total p → length (object_text p o) ≤ 44
-  object_short o there = rw (text_of_declared p o there) (by_declared (slice_get p.objects (place_of p o).0) refl)
+  declared_short : (o : ℕ) → o < objects_total p → length (object_text p o) ≤ 44
+  declared_short o there = rw (text_of_declared p o there) (by_declared (slice_get p.objects (place_of p o).0) refl)
     where
       by_declared : (found : Option ObjectDef) → slice_get p.objects (place_of p o).0 ≡ found → length (element_text (place_of p o).1 found) ≤ 44
       by_declared None e = omega arith
@@ -115,6 +116,21 @@ module _ (p : ProgramText) (is : IsProgram p) where
       by_declared None e = omega arith
       by_declared (Some d) e = length_name_at (λ x. x.name) p.threads t d is.thread_names e
 
+  made_short : (o : ℕ) → objects_total p ≤ o → length (object_text p o) ≤ 44
+  made_short o late =
+      let thread = thread_text p ((o - objects_total p) / most_made) in
+      let place = (o - objects_total p) % most_made in
+      let dotted = both thread (codes ".") 32 1 (thread_short ((o - objects_total p) / most_made)) (omega arith) in
+      let all = both (thread ++ codes ".") (decimal place) 33 10 dotted (word_short place (omega arith)) in
+      rw (made_is p o late) (omega (arith, all))
+
+  object_short : (o : ℕ) → length (object_text p o) ≤ 44
+  object_short o =
+      elim (cases_lt o (objects_total p)) [
+        | inl low ↦ declared_short o low
+        | inr late ↦ made_short o late
+      ]
+
   class_short : (c : ℕ) → length (class_name (slice_get p.classes c)) ≤ 32
   class_short c = by_declared (slice_get p.classes c) refl
     where
@@ -122,27 +138,27 @@ module _ (p : ProgramText) (is : IsProgram p) where
       by_declared None e = omega arith
       by_declared (Some d) e = length_name_at (λ x. x.name) p.classes c d is.class_names e
 
-  value_short : (v : Value) → IsValueOf (objects_total p) v → length (value_text p v) ≤ 44
+  value_short : (v : Value) → IsValueOf (numbers_total p) v → length (value_text p v) ≤ 44
   value_short Nil h = omega arith
   value_short (Int z) h = let short = number_short z h.1 in omega (arith, short)
-  value_short (Ref o) h = object_short o h.0
+  value_short (Ref o) h = object_short o
 
   woken_short : (woken : Option ℕ) → length (woken_text p woken) ≤ 32
   woken_short None = omega arith
   woken_short (Some t) = thread_short t
 
   -- what was done, and the object that it was done to
-  on_short : (done : List ℕ) (o : ℕ) → length done ≤ 10 → o < objects_total p → length (done ++ object_text p o) ≤ 54
-  on_short done o few there = both done (object_text p o) 10 44 few (object_short o there)
+  on_short : (done : List ℕ) (o : ℕ) → length done ≤ 10 → HasNumber p o → length (done ++ object_text p o) ≤ 54
+  on_short done o few there = both done (object_text p o) 10 44 few (object_short o)
 
   -- and something behind that
-  with_short : (done last : List ℕ) (o n : ℕ) → length done ≤ 10 → o < objects_total p → length last ≤ n
+  with_short : (done last : List ℕ) (o n : ℕ) → length done ≤ 10 → HasNumber p o → length last ≤ n
       → length (done ++ object_text p o ++ codes " " ++ last) ≤ 55 + n
   with_short done last o n few there short =
       let space = both (done ++ object_text p o) (codes " ") 54 1 (on_short done o few there) (omega arith) in
       both (done ++ object_text p o ++ codes " ") last 55 n space short
 
-  slot_short : (done : List ℕ) (o k : ℕ) (v : Value) → length done ≤ 10 → o < objects_total p → k < 2 ^ 32 → IsValueOf (objects_total p) v
+  slot_short : (done : List ℕ) (o k : ℕ) (v : Value) → length done ≤ 10 → HasNumber p o → k < 2 ^ 32 → IsValueOf (numbers_total p) v
       → length (done ++ object_text p o ++ codes " " ++ decimal k ++ codes " " ++ value_text p v) ≤ 110
   slot_short done o k v few there small value =
       let slot = with_short done (decimal k) o 10 few there (word_short k small) in

@@ -112,6 +112,43 @@ fn a_line_of_no_entry_is_unreadable(rt: HostRuntime) -> Result<(), Fail> {
     Ok(())
 }
 
+/// The answer to a journal of this one line.
+fn answer_to(alloc: Global, line: &[u8]) -> Result<Result<Checked, CheckFault>, Fail> {
+    answer(alloc, TWO_WAIT, line)
+}
+
+#[test]
+fn an_object_that_nobody_made_is_no_step(rt: HostRuntime) -> Result<(), Fail> {
+    let step = Ok(Checked::NoStep { line: 1 });
+    let enter = answer_to(rt.alloc(), b"@1 t1 enter t1.0 stack-first\n")?;
+    assert_eq!(rt; enter, step);
+    let last = answer_to(rt.alloc(), b"@1 t1 enter t3.1023 stack-first\n")?;
+    assert_eq!(rt; last, step);
+    let print = answer_to(rt.alloc(), b"@1 t1 print t2.7\n")?;
+    assert_eq!(rt; print, step);
+    let hash = answer_to(rt.alloc(), b"@1 t1 hash t1.0 7 draw 1\n")?;
+    assert_eq!(rt; hash, step);
+    let new = answer_to(rt.alloc(), b"@1 t1 new t2.0 C\n")?;
+    assert_eq!(rt; new, step);
+    Ok(())
+}
+
+#[test]
+fn a_name_that_no_made_object_has_is_unreadable(rt: HostRuntime) -> Result<(), Fail> {
+    let first = Err(CheckFault::Unreadable { line: 1 });
+    let late = answer_to(rt.alloc(), b"@1 t1 enter t1.1024 stack-first\n")?;
+    assert_eq!(rt; late, first);
+    let zeros = answer_to(rt.alloc(), b"@1 t1 enter t1.00 stack-first\n")?;
+    assert_eq!(rt; zeros, first);
+    let nobody = answer_to(rt.alloc(), b"@1 t1 enter nobody.0 stack-first\n")?;
+    assert_eq!(rt; nobody, first);
+    let cut = answer_to(rt.alloc(), b"@1 t1 enter t1. stack-first\n")?;
+    assert_eq!(rt; cut, first);
+    let class = answer_to(rt.alloc(), b"@1 t1 new t1.0 D\n")?;
+    assert_eq!(rt; class, first);
+    Ok(())
+}
+
 #[test]
 fn a_hash_that_nobody_drew_is_bad(rt: HostRuntime) -> Result<(), Fail> {
     let lines = b"@1 t1 hash a 77\n@2 t1 print 77\n@3 t1 done\n";

@@ -1,31 +1,17 @@
--- What the loops that make tallies and count entries keep.
-use Rattle.std.proofs.Common.{◌≡◌, ◌≢◌, ◌⊎◌, inl, inr, if◌then◌else◌, Bool, true, false, slice_index, slice_set, ℕ, zero, suc, ◌+◌, ◌<◌, ◌≤◌, ◌^◌, List, [], ◌∷◌, ◌++◌, length, get_or, drop, replicate, Some, sym, ap, ◌∙◌, subst, arith, append_assoc}
-use Rattle.std.proofs.lemmas.List.{replicate-append-replicate, get_or-set_other}
-use Rattle.std.proofs.lemmas.Option.{slice_get-get_or}
+-- What the loop that counts entries keeps.
+use Rattle.std.proofs.Common.{◌≡◌, ◌≢◌, ◌⊎◌, inl, inr, if◌then◌else◌, Bool, true, false, slice_index, slice_set, ℕ, zero, suc, ◌+◌, ◌-◌, ◌<◌, ◌≤◌, ◌^◌, List, [], ◌∷◌, ◌++◌, length, replicate, sym, ap, ◌∙◌, subst, arith}
+use Rattle.std.proofs.lemmas.List.{get_or-set_other}
 use Rattle.plain_monitor.specs.declared.entry.Path.{Path}
 use Rattle.plain_monitor.specs.declared.entry.Entry.{Entry}
 use Rattle.plain_monitor.specs.declared.entry.Entry.TheVariants.{Enter, Resume}
-use Rattle.object_program.specs.declared.program.ObjectDef.{ObjectDef}
-use Rattle.object_program.specs.Program.{total_of}
-use Rattle.lock_journal.proofs.Lists.{left_from}
 use Rattle.wait_report.specs.declared.tallies.Tally.{Tally}
-use Rattle.wait_report.specs.inner.Tallies.{new_tally, had_by, entered_by, tally_at, count_at, HasRoom, HaveRoom, behind_entry, behind_entries}
-use Rattle.wait_report.proofs.Tallied.{length-behind_entry}
+use Rattle.wait_report.specs.inner.Tallies.{new_tally, had_by, entered_by, tally_at, count_at, HasRoom, HaveRoom, reaching, behind_entry, behind_entries}
+use Rattle.wait_report.proofs.Tallied.{none_yet}
 use Rattle.wait_report.specs.Handovers.{is_handover}
 use Rattle.lock_journal.specs.RunText.{path_number}
 use Rattle.plain_monitor.specs.declared.entry.Logged.{Logged}
-use Rattle.plain_monitor.proofs.Lists.{all_weaker}
+use Rattle.plain_monitor.proofs.Lists.{all_append, all_replicate, all_weaker}
 use Rattle.std.proofs.lemmas.Bool.{cases_eq}
-
--- the tallies of one more declaration
-pub declared_on : (ds : List ObjectDef) (k : ℕ) (d : ObjectDef) (ys more all : List Tally) → k < length ds → d ≡ get_or ds k d
-    → ys ++ replicate (total_of (drop k ds)) new_tally ≡ all → more ≡ ys ++ replicate d.size new_tally
-    → more ++ replicate (total_of (drop (k + 1) ds)) new_tally ≡ all
-declared_on ds k d ys more all within at whole added =
-    let here : drop k ds ≡ d ∷ drop (k + 1) ds = left_from ds k d (slice_get-get_or ds k d within ∙ ap Some (sym at)) in
-    let rest = total_of (drop (k + 1) ds) in
-    ap (λ zs. zs ++ replicate rest new_tally) added ∙ append_assoc ys (replicate d.size new_tally) (replicate rest new_tally)
-    ∙ ap (λ zs. ys ++ zs) (replicate-append-replicate d.size rest new_tally) ∙ ap (λ es. ys ++ replicate (total_of es) new_tally) (sym here) ∙ whole
 
 -- one count fits less where one was counted
 less_room : (n : ℕ) (y : Tally) → HasRoom (suc n) y → HasRoom n y
@@ -61,29 +47,31 @@ set_room n f [] k here h = tt
 set_room n f (y ∷ ys) zero here h = (here y h.0, all_weaker (HasRoom (suc n)) (HasRoom n) (less_room n) ys h.1)
 set_room n f (y ∷ ys) (suc k) here h = (less_room n y h.0, set_room n f ys k here h.1)
 
--- the tallies behind an entry have room for those that are left
-room_on : (n t : ℕ) (e : Entry) (ys : List Tally) → HaveRoom (suc n) ys → HaveRoom n (behind_entry ys t e)
-room_on n t (Enter k by) ys h = set_room n (λ y. entered_by (had_by y t) by) ys k (entered_room n t by) h
-room_on n t (Resume k) ys h = set_room n (λ y. had_by y t) ys k (had_room n t) h
-room_on n t e ys h = all_weaker (HasRoom (suc n)) (HasRoom n) (less_room n) ys h
+-- new tallies have room for as many as a number of 64 bits counts
+pub added_room : (n k : ℕ) (ys : List Tally) → n < 2 ^ 64 → HaveRoom n ys → HaveRoom n (ys ++ replicate k new_tally)
+added_room n k ys small h = all_append (HasRoom n) ys (replicate k new_tally) h (all_replicate (HasRoom n) k new_tally new_room) where
+  new_room : HasRoom n new_tally
+  new_room = record { paths = λ path. omega (arith, none_yet path, small); handovers = omega (arith, small) }
 
--- the tallies behind the next entry, and their room for those that are left
+-- the tallies behind an entry have room for those that are left
+room_on : (n t : ℕ) (e : Entry) (ys : List Tally) → suc n < 2 ^ 64 → HaveRoom (suc n) ys → HaveRoom n (behind_entry ys t e)
+room_on n t (Enter k by) ys small h = set_room n (λ y. entered_by (had_by y t) by) (reaching ys k) k (entered_room n t by) (added_room (suc n) ((k + 1) - length ys) ys small h)
+room_on n t (Resume k) ys small h = set_room n (λ y. had_by y t) (reaching ys k) k (had_room n t) (added_room (suc n) ((k + 1) - length ys) ys small h)
+room_on n t e ys small h = all_weaker (HasRoom (suc n)) (HasRoom n) (less_room n) ys h
+
+-- the tallies behind the next entry, and their room for those that are left, which are few
 pub record IsOn (ys after : List Tally) (xs rest : List (ℕ × Logged)) : Type 0 where
   pub tallies : behind_entries after rest ≡ behind_entries ys xs
   pub room : HaveRoom (length rest) after
-  pub as_many : length after ≡ length ys
+  pub small : length rest < 2 ^ 64
 
-pub entry_on : (ys after : List Tally) (t : ℕ) (l : Logged) (xs rest : List (ℕ × Logged)) → xs ≡ (t, l) ∷ rest → after ≡ behind_entry ys t l.entry → HaveRoom (length xs) ys → IsOn ys after xs rest
-entry_on ys after t l xs rest first is room =
+pub entry_on : (ys after : List Tally) (t : ℕ) (l : Logged) (xs rest : List (ℕ × Logged)) → xs ≡ (t, l) ∷ rest → after ≡ behind_entry ys t l.entry → length xs < 2 ^ 64 → HaveRoom (length xs) ys
+    → IsOn ys after xs rest
+entry_on ys after t l xs rest first is small room =
     let some : HaveRoom (suc (length rest)) ys = subst (λ (n : ℕ). HaveRoom n ys) (ap length first) room in
+    let one : suc (length rest) < 2 ^ 64 = subst (λ (n : ℕ). n < 2 ^ 64) (ap length first) small in
     record {
       tallies = ap (λ zs. behind_entries zs rest) is ∙ ap (behind_entries ys) (sym first);
-      room = subst (HaveRoom (length rest)) (sym is) (room_on (length rest) t l.entry ys some);
-      as_many = ap length is ∙ length-behind_entry ys t l.entry;
+      room = subst (HaveRoom (length rest)) (sym is) (room_on (length rest) t l.entry ys one some);
+      small = omega (arith, one);
     }
-
--- there is room for the next entry
-pub room_for_one : (ys : List Tally) (x : ℕ × Logged) (xs rest : List (ℕ × Logged)) → xs ≡ x ∷ rest → HaveRoom (length xs) ys → HaveRoom 1 ys
-room_for_one ys x xs rest first room =
-    let some : HaveRoom (suc (length rest)) ys = subst (λ (n : ℕ). HaveRoom n ys) (ap length first) room in
-    all_weaker (HasRoom (suc (length rest))) (HasRoom 1) (λ y h. record { paths = λ path. omega (arith, h.paths path); handovers = omega (arith, h.handovers) }) ys some

@@ -1,12 +1,15 @@
--- A machine takes few entries: each uses up some of its work, and no more of that is there at first than fuel pays for.
-use Rattle.std.proofs.Common.{◌≡◌, ℕ, ◌+◌, ◌*◌, ◌<◌, ◌≤◌, ◌^◌, List, [], ◌∷◌, length, map, sum, Option, Some, None, IsSome, option_and_then, refl, sym, ap, subst, arith}
+-- A machine takes few entries: each uses up some of its work, and no more of that is there at first than fuel pays for. And none of them enters an object
+-- that the machine hasn't.
+use Rattle.std.proofs.Common.{◌≡◌, ℕ, ◌+◌, ◌*◌, ◌<◌, ◌≤◌, ◌^◌, ◌==◌, eqb-true, Bool, true, false, List, [], ◌∷◌, length, map, sum, Option, Some, None, IsSome, option_and_then, refl, sym, ap, subst, arith}
 use Rattle.std.specs.List.{AllByRecursion}
 use Rattle.std.proofs.Math.Nat.{mul-le-mul_right}
 use Rattle.std.proofs.lemmas.List.Folds.{sum_by-replicate}
+use Rattle.std.proofs.lemmas.Option.{slice_get_within}
 use Rattle.plain_monitor.specs.Limits.{most_threads}
 use Rattle.plain_monitor.specs.declared.entry.Entry.{Entry}
+use Rattle.plain_monitor.specs.declared.entry.Entry.TheVariants.{Enter}
 use Rattle.plain_monitor.specs.declared.entry.Logged.{Logged}
-use Rattle.plain_monitor.specs.Objects.{PlainObject}
+use Rattle.plain_monitor.specs.Objects.{PlainObject, take_entry}
 use Rattle.plain_monitor.specs.History.{take_all}
 use Rattle.object_program.specs.declared.program.ThreadDef.{ThreadDef}
 use Rattle.object_program.specs.Program.{ProgramText, objects_total}
@@ -14,10 +17,12 @@ use Rattle.object_program.specs.Valid.{IsProgram}
 use Rattle.plain_machine.specs.Running.{first_state}
 use Rattle.plain_machine.specs.Machine.{PlainMachine, new_machine, take}
 use Rattle.plain_machine.specs.Legal.{behind_all}
+use Rattle.plain_machine.proofs.Behind.{length_behind}
 use Rattle.machine_laws.specs.Work.{work_of, work_in, work_left}
 use Rattle.machine_laws.specs.Reached.{IsReached}
-use Rattle.machine_laws.proofs.ReachedAsked.{taken}
+use Rattle.machine_laws.proofs.ReachedAsked.{taken, taken_at}
 use Rattle.machine_laws.proofs.ReachedRunning.{RunsAll, first_run, program_runs}
+use Rattle.wait_report.specs.Counts.{is_enter, is_entered}
 
 -- a thread's work before its first entry
 first_work : (p : ProgramText) (d : ThreadDef) (fuel : ℕ) → IsProgram p → RunsAll (length p.objects) d → work_of (first_state p d fuel) ≤ 2 * fuel + 1
@@ -66,3 +71,23 @@ objects_take m (x ∷ xs) some = by_taking (take m x.0 x.1.entry) refl some (λ 
       let r = taken m x.0 x.1.entry n at in
       let same : r.objects ≡ n.objects = ap (λ (z : PlainMachine). z.objects) r.is in
       rw r.takes (subst (λ (objects : List PlainObject). IsSome (take_all objects xs)) (sym same) (rest n some))
+
+-- an enter that the objects take is of one of them
+entered_within : (objects after : List PlainObject) (t o : ℕ) (e : Entry) → take_entry objects t e ≡ Some after → length objects ≤ o → is_enter o e ≡ false
+entered_within objects after t o (Enter k path) h past = by_test (k == o) refl where
+  by_test : (b : Bool) → (k == o) ≡ b → b ≡ false
+  by_test true e =
+      let r = taken_at objects k t (Enter k path) after h in
+      absurd (omega (arith, eqb-true k o e, slice_get_within objects k r.x r.there, past))
+  by_test false e = refl
+entered_within objects after t o e h past = refl
+
+-- no other object is entered
+pub none_entered : (objects : List PlainObject) (xs : List (ℕ × Logged)) (o : ℕ) → IsSome (take_all objects xs) → length objects ≤ o → is_entered xs o ≡ false
+none_entered objects [] o some past = refl
+none_entered objects (x ∷ xs) o some past = by_taking (take_entry objects x.0 x.1.entry) refl some (λ after. none_entered after xs o) where
+  by_taking : (r : Option (List PlainObject)) → take_entry objects x.0 x.1.entry ≡ r → IsSome (option_and_then (λ after. take_all after xs) r)
+      → ((after : List PlainObject) → IsSome (take_all after xs) → length after ≤ o → is_entered xs o ≡ false) → is_entered (x ∷ xs) o ≡ false
+  by_taking None at some rest = absurd (cc some)
+  by_taking (Some after) at some rest =
+      rw (entered_within objects after x.0 o x.1.entry at past) (rest after some (omega (arith, length_behind objects after x.0 x.1.entry at, past)))

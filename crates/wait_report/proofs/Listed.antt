@@ -1,10 +1,8 @@
 -- The counts that are listed behind all entries are those of the objects that are entered.
-use Rattle.std.proofs.Common.{◌≡◌, ℕ, zero, suc, ◌+◌, ◌<◌, if◌then◌else◌, nat_le, Bool, true, false, List, [], ◌∷◌, length, map, filter, replicate, slice_get, Some, IsSome, refl, sym, ap, ◌∙◌, subst, arith}
+use Rattle.std.proofs.Common.{◌≡◌, ℕ, zero, suc, ◌+◌, ◌≤◌, if◌then◌else◌, nat_le, Bool, true, false, List, [], ◌∷◌, length, map, filter, slice_get, Some, IsSome, refl, sym, ap, ◌∙◌, subst, arith}
 use Rattle.std.specs.List.{list_any, range_with_len}
-use Rattle.std.proofs.lemmas.List.{length-replicate}
-use Rattle.std.proofs.lemmas.Option.{none-some, slice_get_within, same_Some}
-use Rattle.plain_monitor.specs.declared.entry.Path.{Path}
-use Rattle.plain_monitor.specs.declared.entry.Path.TheVariants.{BiasOwn, BiasTaken, StackFirst, StackAgain, MonitorFirst, MonitorAgain}
+use Rattle.std.proofs.lemmas.List.{get_or_past}
+use Rattle.std.proofs.lemmas.Option.{none-some, get_or_from_slice_get}
 use Rattle.plain_monitor.specs.declared.entry.Logged.{Logged}
 use Rattle.plain_monitor.specs.Objects.{new_objects}
 use Rattle.plain_monitor.specs.History.{take_all}
@@ -13,8 +11,8 @@ use Rattle.object_program.specs.Program.{ProgramText, objects_total, shape_of}
 use Rattle.wait_report.specs.declared.tallies.Tally.{Tally}
 use Rattle.wait_report.specs.Handovers.{monitor_of, handovers}
 use Rattle.wait_report.specs.Counts.{paths, enters_by, is_entered, count_of, counts_of}
-use Rattle.wait_report.specs.inner.Tallies.{new_tally, behind_entries, is_counted, count_in, counts_from, count_at}
-use Rattle.wait_report.proofs.Tallied.{tally_through, through_at, length-behind_entries}
+use Rattle.wait_report.specs.inner.Tallies.{new_tally, tally_at, behind_entries, is_counted, count_in, counts_from}
+use Rattle.wait_report.proofs.Tallied.{tally_through, through_at, none_yet}
 use Rattle.wait_report.proofs.Takers.{through_handovers}
 use Rattle.wait_report.proofs.Entered.{through_adds, counts_are, any_counted}
 
@@ -48,14 +46,6 @@ first_free [] o = refl
 first_free (s ∷ ss) zero = refl
 first_free (s ∷ ss) (suc o) = first_free ss o
 
-none_yet : (path : Path) → count_at new_tally.paths path ≡ 0
-none_yet BiasOwn = refl
-none_yet BiasTaken = refl
-none_yet StackFirst = refl
-none_yet StackAgain = refl
-none_yet MonitorFirst = refl
-none_yet MonitorAgain = refl
-
 tally_is : (p : ProgramText) (xs : List (ℕ × Logged)) (o : ℕ) → IsSome (take_all (new_objects (shape_of p)) xs) → IsTallyOf p xs o (tally_through o new_tally xs)
 tally_is p xs o taken =
     let y = tally_through o new_tally xs in
@@ -69,27 +59,31 @@ tally_is p xs o taken =
       is = ap (λ ns. record { object = o; paths = ns; handovers = y.handovers }) by_path ∙ ap (λ n. record { object = o; paths = map (enters_by xs o) paths; handovers = n }) passed;
     }
 
-replicate_at : (n k : ℕ) (y : Tally) → k < n → slice_get (replicate n y) k ≡ Some y
-replicate_at zero k y less = absurd (omega arith)
-replicate_at (suc n) zero y less = refl
-replicate_at (suc n) (suc k) y less = replicate_at n k y (omega arith)
+-- a test that nothing passes behind the ends of both lists
+same_filtered : (test : ℕ → Bool) (a m n : ℕ) → ((o : ℕ) → a + m ≤ o → test o ≡ false) → ((o : ℕ) → a + n ≤ o → test o ≡ false)
+    → filter test (range_with_len a m) ≡ filter test (range_with_len a n)
+same_filtered test a zero zero less more = refl
+same_filtered test a zero (suc n) less more =
+    rw (less a (omega arith)) (same_filtered test (a + 1) zero n (λ o h. less o (omega (arith, h))) (λ o h. more o (omega (arith, h))))
+same_filtered test a (suc m) zero less more =
+    rw (more a (omega arith)) (same_filtered test (a + 1) m zero (λ o h. less o (omega (arith, h))) (λ o h. more o (omega (arith, h))))
+same_filtered test a (suc m) (suc n) less more =
+    ap (λ os. if test a then a ∷ os else os) (same_filtered test (a + 1) m n (λ o h. less o (omega (arith, h))) (λ o h. more o (omega (arith, h))))
 
 -- the counts behind all entries
-pub all_listed : (p : ProgramText) (xs : List (ℕ × Logged)) (n : ℕ) → n ≡ objects_total p → IsSome (take_all (new_objects (shape_of p)) xs)
-    → counts_from 0 (behind_entries (replicate n new_tally) xs) ≡ counts_of p xs
-all_listed p xs n total taken =
-    listed p xs 0 ys all ∙ ap (λ k. map (count_of p xs) (filter (is_entered xs) (range_with_len 0 k))) (as_many ∙ total)
-  where
-    ys : List Tally
-    ys = behind_entries (replicate n new_tally) xs
+pub all_listed : (p : ProgramText) (xs : List (ℕ × Logged)) → IsSome (take_all (new_objects (shape_of p)) xs) → ((o : ℕ) → objects_total p ≤ o → is_entered xs o ≡ false)
+    → counts_from 0 (behind_entries [] xs) ≡ counts_of p xs
+all_listed p xs taken within = listed p xs 0 ys all ∙ ap (map (count_of p xs)) (same_filtered (is_entered xs) 0 (length ys) (objects_total p) unreached (λ o h. within o (omega (arith, h)))) where
+  ys : List Tally
+  ys = behind_entries [] xs
 
-    as_many : length ys ≡ n
-    as_many = length-behind_entries (replicate n new_tally) xs ∙ length-replicate n new_tally
+  at : (o : ℕ) → IsTallyOf p xs o (tally_at ys o)
+  at o = subst (IsTallyOf p xs o) (sym (through_at [] o xs)) (tally_is p xs o taken)
 
-    all : AreTalliesOf p xs 0 ys
-    all k y at =
-        let within : k < n = omega (arith, as_many, slice_get_within ys k y at) in
-        let is : slice_get ys k ≡ Some (tally_through k new_tally xs) = through_at (replicate n new_tally) k xs new_tally (replicate_at n k new_tally within) in
-        let same : tally_through k new_tally xs ≡ y = same_Some (tally_through k new_tally xs) y (sym is ∙ at) in
-        let place : k ≡ 0 + k = omega arith in
-        subst (λ (o : ℕ). IsTallyOf p xs o y) place (subst (IsTallyOf p xs k) same (tally_is p xs k taken))
+  all : AreTalliesOf p xs 0 ys
+  all k y there =
+      let place : k ≡ 0 + k = omega arith in
+      subst (λ (o : ℕ). IsTallyOf p xs o y) place (subst (IsTallyOf p xs k) (get_or_from_slice_get ys k y new_tally there) (at k))
+
+  unreached : (o : ℕ) → 0 + length ys ≤ o → is_entered xs o ≡ false
+  unreached o h = sym (at o).counted ∙ ap is_counted (get_or_past ys o new_tally (omega (arith, h)))

@@ -1,13 +1,22 @@
 -- The tally of one object, entry by entry.
-use Rattle.std.proofs.Common.{◌≡◌, ℕ, ◌==◌, if◌then◌else◌, eqb-true, eq-eqb, Bool, true, false, List, [], ◌∷◌, length, slice_get, slice_set, Some, refl, sym, ap, ◌∙◌, subst}
-use Rattle.std.proofs.lemmas.List.{length-set}
-use Rattle.std.proofs.lemmas.Option.{get_or_from_slice_get}
+use Rattle.std.proofs.Common.{◌≡◌, ℕ, zero, suc, ◌+◌, ◌-◌, ◌<◌, ◌==◌, if◌then◌else◌, eqb-true, eq-eqb, Bool, true, false, List, [], ◌∷◌, ◌++◌, length, replicate, slice_set, refl, sym, ap, ◌∙◌, subst, arith}
+use Rattle.std.proofs.lemmas.List.{length-append, length-replicate, get_or-set_same, get_or-set_other}
+use Rattle.plain_monitor.specs.declared.entry.Path.{Path}
+use Rattle.plain_monitor.specs.declared.entry.Path.TheVariants.{BiasOwn, BiasTaken, StackFirst, StackAgain, MonitorFirst, MonitorAgain}
 use Rattle.plain_monitor.specs.declared.entry.Entry.{Entry}
 use Rattle.plain_monitor.specs.declared.entry.Entry.TheVariants.{Enter, Resume}
 use Rattle.plain_monitor.specs.declared.entry.Logged.{Logged}
-use Rattle.plain_monitor.proofs.Lists.{get_set_same, get_set_other}
 use Rattle.wait_report.specs.declared.tallies.Tally.{Tally}
-use Rattle.wait_report.specs.inner.Tallies.{new_tally, had_by, entered_by, tally_at, behind_entry, behind_entries}
+use Rattle.wait_report.specs.inner.Tallies.{new_tally, had_by, entered_by, tally_at, count_at, reaching, behind_entry, behind_entries}
+
+-- nothing is counted at first
+pub none_yet : (path : Path) → count_at new_tally.paths path ≡ 0
+none_yet BiasOwn = refl
+none_yet BiasTaken = refl
+none_yet StackFirst = refl
+none_yet StackAgain = refl
+none_yet MonitorFirst = refl
+none_yet MonitorAgain = refl
 
 -- the tally of object o behind an entry of thread t
 abbrev pub tally_on : ℕ → Tally → ℕ → Entry → Tally
@@ -20,30 +29,43 @@ abbrev pub tally_through : ℕ → Tally → List (ℕ × Logged) → Tally
 tally_through o y [] = y
 tally_through o y (x ∷ xs) = tally_through o (tally_on o y x.0 x.1.entry) xs
 
+-- new tallies at the end are those that the objects have without them
+new_at : (n o : ℕ) → tally_at (replicate n new_tally) o ≡ new_tally
+new_at zero o = refl
+new_at (suc n) zero = refl
+new_at (suc n) (suc o) = new_at n o
+
+added_at : (ys : List Tally) (n o : ℕ) → tally_at (ys ++ replicate n new_tally) o ≡ tally_at ys o
+added_at [] n o = new_at n o
+added_at (y ∷ ys) n zero = refl
+added_at (y ∷ ys) n (suc o) = added_at ys n o
+
+length_reaching : (ys : List Tally) (o : ℕ) → length (reaching ys o) ≡ length ys + ((o + 1) - length ys)
+length_reaching ys o = length-append ys _ ∙ ap (λ n. length ys + n) (length-replicate ((o + 1) - length ys) new_tally)
+
+reaches : (ys : List Tally) (o : ℕ) → o < length (reaching ys o)
+reaches ys o = omega (arith, length_reaching ys o)
+
 -- a tally that is written in place of one
-written : (ys : List Tally) (o k : ℕ) (y : Tally) (f : Tally → Tally) → slice_get ys o ≡ Some y → slice_get (slice_set ys k (f (tally_at ys k))) o ≡ Some (if k == o then f y else y)
-written ys o k y f at = by_test (k == o) refl where
-  by_test : (b : Bool) → (k == o) ≡ b → slice_get (slice_set ys k (f (tally_at ys k))) o ≡ Some (if b then f y else y)
+written : (ys : List Tally) (o k : ℕ) (f : Tally → Tally)
+    → tally_at (slice_set (reaching ys k) k (f (tally_at (reaching ys k) k))) o ≡ (if k == o then f (tally_at ys o) else tally_at ys o)
+written ys o k f = by_test (k == o) refl where
+  zs : List Tally
+  zs = reaching ys k
+
+  by_test : (b : Bool) → (k == o) ≡ b → tally_at (slice_set zs k (f (tally_at zs k))) o ≡ (if b then f (tally_at ys o) else tally_at ys o)
   by_test true t =
-      let same : o ≡ k = sym (eqb-true k o t) in
-      let is : tally_at ys o ≡ y = get_or_from_slice_get ys o y new_tally at in
-      subst (λ (j : ℕ). slice_get (slice_set ys j (f (tally_at ys j))) o ≡ Some (f y)) same (get_set_same ys o y (f (tally_at ys o)) at ∙ ap (λ (z : Tally). Some (f z)) is)
-  by_test false t = get_set_other ys k o (f (tally_at ys k)) (λ h. absurd (let own : (k == o) ≡ true = eq-eqb k o h in cc (own, t))) ∙ at
+      subst (λ (j : ℕ). tally_at (slice_set zs k (f (tally_at zs k))) j ≡ f (tally_at ys j)) (eqb-true k o t)
+      (get_or-set_same zs k (f (tally_at zs k)) new_tally (reaches ys k) ∙ ap f (added_at ys ((k + 1) - length ys) k))
+  by_test false t =
+      get_or-set_other zs k o (f (tally_at zs k)) new_tally (λ h. absurd (let own : (k == o) ≡ true = eq-eqb k o (sym h) in cc (own, t)))
+      ∙ added_at ys ((k + 1) - length ys) o
 
-behind_at : (ys : List Tally) (o t : ℕ) (e : Entry) (y : Tally) → slice_get ys o ≡ Some y → slice_get (behind_entry ys t e) o ≡ Some (tally_on o y t e)
-behind_at ys o t (Enter k path) y at = written ys o k y (λ z. entered_by (had_by z t) path) at
-behind_at ys o t (Resume k) y at = written ys o k y (λ z. had_by z t) at
-behind_at ys o t e y at = at
+behind_at : (ys : List Tally) (o t : ℕ) (e : Entry) → tally_at (behind_entry ys t e) o ≡ tally_on o (tally_at ys o) t e
+behind_at ys o t (Enter k path) = written ys o k (λ z. entered_by (had_by z t) path)
+behind_at ys o t (Resume k) = written ys o k (λ z. had_by z t)
+behind_at ys o t e = refl
 
-pub through_at : (ys : List Tally) (o : ℕ) (xs : List (ℕ × Logged)) (y : Tally) → slice_get ys o ≡ Some y → slice_get (behind_entries ys xs) o ≡ Some (tally_through o y xs)
-through_at ys o [] y at = at
-through_at ys o (x ∷ xs) y at = through_at (behind_entry ys x.0 x.1.entry) o xs (tally_on o y x.0 x.1.entry) (behind_at ys o x.0 x.1.entry y at)
-
-pub length-behind_entry : (ys : List Tally) (t : ℕ) (e : Entry) → length (behind_entry ys t e) ≡ length ys
-length-behind_entry ys t (Enter k path) = length-set ys k _
-length-behind_entry ys t (Resume k) = length-set ys k _
-length-behind_entry ys t e = refl
-
-pub length-behind_entries : (ys : List Tally) (xs : List (ℕ × Logged)) → length (behind_entries ys xs) ≡ length ys
-length-behind_entries ys [] = refl
-length-behind_entries ys (x ∷ xs) = length-behind_entries (behind_entry ys x.0 x.1.entry) xs ∙ length-behind_entry ys x.0 x.1.entry
+pub through_at : (ys : List Tally) (o : ℕ) (xs : List (ℕ × Logged)) → tally_at (behind_entries ys xs) o ≡ tally_through o (tally_at ys o) xs
+through_at ys o [] = refl
+through_at ys o (x ∷ xs) = through_at (behind_entry ys x.0 x.1.entry) o xs ∙ ap (λ y. tally_through o y xs) (behind_at ys o x.0 x.1.entry)

@@ -1,14 +1,14 @@
 //! How each object was locked, and how often it changed hands.
 
-ghost use Rattle.std.specs.Prelude.{◌≡◌, ◌≤◌, ◌<◌, ◌^◌, ◌++◌, [], ◌∷◌, IfOk, OnOk, length};
-ghost use Rattle.plain_monitor.specs.Limits.{most_objects};
+ghost use Rattle.std.specs.Prelude.{◌≡◌, ℕ, false, ◌≤◌, ◌<◌, ◌^◌, ◌++◌, [], ◌∷◌, IfOk, OnOk, length};
 ghost use Rattle.plain_monitor.specs.Order.{order};
+ghost use Rattle.object_program.specs.Program.{objects_total};
 ghost use Rattle.plain_machine.specs.Legal.{IsLegal};
 ghost use Rattle.lock_journal.specs.Merging.{AreOfSixteen};
-ghost use Rattle.wait_report.specs.Counts.{counts_of};
+ghost use Rattle.wait_report.specs.Counts.{is_entered, counts_of};
 ghost use Rattle.wait_report.specs.inner.Tallies.{count_in, counts_from};
 
-use crate::tallies::{Tally, count_entry, is_counted, new_tallies};
+use crate::tallies::{Tally, count_entry, is_counted};
 use lock_journal::{Merge, RunRecord, legal_logs_can_be_merged};
 use plain_monitor::{List, NoMemory};
 use std::alloc::Global;
@@ -24,25 +24,28 @@ pub struct ObjectCount {
 }
 
 /// The counts of each object that a thread entered, by rising number. The logs are legal for the record's program and fuel. It goes through
-/// the entries once.
+/// the entries once, with a table of the objects up to the greatest that they take: so what it keeps goes by the logs, and not by how many objects
+/// there may be.
 pub fn count_objects(alloc: Global, run: &RunRecord) -> Result<List<ObjectCount>, NoMemory>
     requires legal { IsLegal run.now.program run.now.fuel run.now.logs }
     ensures { IfOk result (λ counts. counts ≡ counts_of run.now.program (order run.now.logs)) }
 {
     entries_are_few(run, run.fuel);
-    let mut tallies = new_tallies(alloc, &run.program)?;
+    let mut tallies = Vec::new(alloc);
     let mut merge = Merge::new(run);
     while let Some((t, logged)) = merge.next(run) {
-        count_entry(&mut tallies, t, &logged.entry);
+        count_entry(&mut tallies, t, &logged.entry)?;
     }
     list_counts(alloc, &tallies)
 }
 
-/// A machine takes fewer entries than a number of 64 bits counts, since each costs fuel or ends a hold or a wait. And legal logs can be merged.
+/// A machine takes fewer entries than a number of 64 bits counts, since each costs fuel or ends a hold or a wait. Only its objects are entered. And
+/// legal logs can be merged.
 fn entries_are_few(run: &RunRecord, fuel: u32)
     requires legal { IsLegal run.now.program run.now.fuel run.now.logs }
     requires fuel { fuel ≡ run.now.fuel }
     ensures few { length (order run.now.logs) < 2 ^ 64 }
+    ensures within { (o : ℕ) → objects_total run.now.program ≤ o → is_entered (order run.now.logs) o ≡ false }
     ensures merged { AreOfSixteen run.now.logs }
 {
     legal_logs_can_be_merged();
@@ -53,7 +56,7 @@ fn entries_are_few(run: &RunRecord, fuel: u32)
 
 /// The counts of the objects that were entered.
 fn list_counts(alloc: Global, tallies: &[Tally]) -> Result<List<ObjectCount>, NoMemory>
-    requires { length tallies.now ≤ most_objects }
+    requires { length tallies.now ≤ 2 ^ 32 }
     ensures { IfOk result (λ counts. counts ≡ counts_from 0 tallies.now) }
 {
     let mut counts = Vec::new(alloc);

@@ -1,15 +1,11 @@
 //! What is counted of each object.
 
-ghost use Rattle.std.specs.Prelude.{◌≡◌, ◌<◌, ◌≤◌, ◌+◌, ◌^◌, ◌++◌, IfOk, OnOk, replicate, slice_set, vec_len};
-ghost use Rattle.plain_monitor.specs.Limits.{most_objects};
+ghost use Rattle.std.specs.Prelude.{◌≡◌, ◌<◌, ◌≤◌, ◌+◌, ◌^◌, ◌++◌, OnOk, replicate, vec_len};
 ghost use Rattle.lock_journal.specs.RunText.{path_number};
-ghost use Rattle.object_program.specs.Program.{objects_total};
 ghost use Rattle.wait_report.specs.Handovers.{is_handover};
-ghost use Rattle.wait_report.specs.inner.Tallies.{new_tally, had_by, entered_by, tally_at, count_at, behind_entry, HaveRoom, is_counted};
+ghost use Rattle.wait_report.specs.inner.Tallies.{new_tally, had_by, entered_by, count_at, reaching, with_enter, with_resume, behind_entry, HaveRoom, is_counted};
 
-use object_program::Program;
 use plain_monitor::{Entry, NoMemory, Path};
-use std::alloc::Global;
 
 /// How many paths there are.
 const PATHS: usize = 6;
@@ -22,20 +18,62 @@ pub(crate) struct Tally {
     pub(crate) taker: Option<u32>,
 }
 
-/// A tally for each object of the program, before the first entry.
-pub(crate) fn new_tallies(alloc: Global, program: &Program) -> Result<Vec<Tally>, NoMemory>
-    ensures items { IfOk result (λ v. v.items ≡ replicate (objects_total program.now) new_tally) }
-    ensures few { IfOk result (λ v. vec_len v ≤ most_objects) }
+/// Counts an entry of thread `t`. Only an object up to the greatest that was entered or resumed has a tally.
+pub(crate) fn count_entry(tallies: &mut Vec<Tally>, t: u32, entry: &Entry) -> Result<(), NoMemory>
+    requires room { HaveRoom 1 tallies.old.items }
+    requires few { vec_len tallies.old ≤ 2 ^ 32 }
+    ensures counted { OnOk result (tallies.new.items ≡ behind_entry tallies.old.items t entry.now) }
+    ensures few { OnOk result (vec_len tallies.new ≤ 2 ^ 32) }
 {
-    let mut tallies = Vec::new(alloc);
-    for definition in program.objects.items() {
-        push_new(&mut tallies, definition.size)?;
+    match entry {
+        Entry::Enter { object, path } => count_enter(tallies, t, *object, *path),
+        Entry::Resume { object } => count_resume(tallies, t, *object),
+        _ => Ok(()),
     }
-    Ok(tallies)
+}
+
+/// Counts an enter of the object.
+fn count_enter(tallies: &mut Vec<Tally>, t: u32, object: u32, path: Path) -> Result<(), NoMemory>
+    requires room { HaveRoom 1 tallies.old.items }
+    requires few { vec_len tallies.old ≤ 2 ^ 32 }
+    ensures counted { OnOk result (tallies.new.items ≡ with_enter (reaching tallies.old.items object) t object path) }
+    ensures few { OnOk result (vec_len tallies.new ≤ 2 ^ 32) }
+{
+    reach(tallies, object)?;
+    let tally = &mut tallies[object as usize];
+    count_taker(tally, t);
+    count_path(tally, path);
+    Ok(())
+}
+
+/// Counts a resume of the object.
+fn count_resume(tallies: &mut Vec<Tally>, t: u32, object: u32) -> Result<(), NoMemory>
+    requires room { HaveRoom 1 tallies.old.items }
+    requires few { vec_len tallies.old ≤ 2 ^ 32 }
+    ensures counted { OnOk result (tallies.new.items ≡ with_resume (reaching tallies.old.items object) t object) }
+    ensures few { OnOk result (vec_len tallies.new ≤ 2 ^ 32) }
+{
+    reach(tallies, object)?;
+    count_taker(&mut tallies[object as usize], t);
+    Ok(())
+}
+
+/// Adds new tallies until the object has one.
+fn reach(tallies: &mut Vec<Tally>, object: u32) -> Result<(), NoMemory>
+    requires room { HaveRoom 1 tallies.old.items }
+    requires few { vec_len tallies.old ≤ 2 ^ 32 }
+    ensures items { OnOk result (tallies.new.items ≡ reaching tallies.old.items object) }
+    ensures within { OnOk result (object < vec_len tallies.new) }
+    ensures room { OnOk result (HaveRoom 1 tallies.new.items) }
+    ensures few { OnOk result (vec_len tallies.new ≤ 2 ^ 32) }
+{
+    let wanted = object as usize + 1;
+    let missing = wanted.saturating_sub(tallies.len());
+    push_new(tallies, missing)
 }
 
 /// Adds this many tallies.
-fn push_new(tallies: &mut Vec<Tally>, size: u32) -> Result<(), NoMemory>
+fn push_new(tallies: &mut Vec<Tally>, size: usize) -> Result<(), NoMemory>
     ensures { OnOk result (tallies.new.items ≡ tallies.old.items ++ replicate size new_tally) }
 {
     for _ in 0..size {
@@ -47,42 +85,6 @@ fn push_new(tallies: &mut Vec<Tally>, size: u32) -> Result<(), NoMemory>
         tallies.push(tally).map_err(|_| NoMemory)?;
     }
     Ok(())
-}
-
-/// Counts an entry of thread `t`.
-pub(crate) fn count_entry(tallies: &mut [Tally], t: u32, entry: &Entry)
-    requires { HaveRoom 1 tallies.old }
-    ensures { tallies.new ≡ behind_entry tallies.old t entry.now }
-{
-    match entry {
-        Entry::Enter { object, path } => count_enter(tallies, t, *object, *path),
-        Entry::Resume { object } => count_resume(tallies, t, *object),
-        _ => {}
-    }
-}
-
-/// Counts an enter of the object.
-fn count_enter(tallies: &mut [Tally], t: u32, object: u32, path: Path)
-    requires { HaveRoom 1 tallies.old }
-    ensures { tallies.new ≡ slice_set tallies.old object (entered_by (had_by (tally_at tallies.old object) t) path) }
-{
-    let at = object as usize;
-    if at < tallies.len() {
-        let tally = &mut tallies[at];
-        count_taker(tally, t);
-        count_path(tally, path);
-    }
-}
-
-/// Counts a resume of the object.
-fn count_resume(tallies: &mut [Tally], t: u32, object: u32)
-    requires { HaveRoom 1 tallies.old }
-    ensures { tallies.new ≡ slice_set tallies.old object (had_by (tally_at tallies.old object) t) }
-{
-    let at = object as usize;
-    if at < tallies.len() {
-        count_taker(&mut tallies[at], t);
-    }
 }
 
 /// Counts that thread `t` took the object, or had it and entered it once more: then it is the last that took it, and nothing

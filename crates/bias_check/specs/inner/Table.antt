@@ -1,8 +1,8 @@
 -- What a line tells, word by word.
-use Rattle.std.specs.Prelude.{ℕ, ℤ, pos, ◌+◌, ◌-◌, ◌^◌, nat_abs, ◌&&◌, ◌==◌, nat_lt, if◌then◌else◌, List, [], ◌∷◌, codes, drop, map, position, slice_get, take, Option, Some, None, option_map, option_and_then}
+use Rattle.std.specs.Prelude.{ℕ, ℤ, pos, ◌+◌, ◌-◌, ◌*◌, ◌^◌, nat_abs, ◌&&◌, ◌==◌, nat_lt, if◌then◌else◌, List, [], ◌∷◌, codes, drop, map, position, slice_get, take, Option, Some, None, option_map, option_and_then}
 use Rattle.std.specs.Fmt.{signed_decimal}
 use Rattle.std.specs.Str.{bytes_eq}
-use Rattle.plain_monitor.specs.Limits.{most_threads}
+use Rattle.plain_monitor.specs.Limits.{most_classes, most_made, most_threads}
 use Rattle.plain_monitor.specs.declared.entry.Value.TheVariants.{Nil, Int, Ref}
 use Rattle.plain_monitor.specs.declared.entry.Entry.{Entry}
 use Rattle.plain_monitor.specs.declared.entry.Entry.TheVariants.{Enter, Exit, Get, Put, Wait, Resume, Notify, NotifyAll, Hash, New, Print, Dump, Trap, Spent, Done}
@@ -10,7 +10,7 @@ use Rattle.plain_monitor.specs.Monitor.{only_if}
 use Rattle.plain_monitor.specs.Numbers.{least_number, greatest_number}
 use Rattle.object_program.specs.declared.program.ObjectDef.{ObjectDef}
 use Rattle.program_syntax.specs.Number.{number_of, is_within}
-use Rattle.object_program.specs.Program.{ProgramText}
+use Rattle.object_program.specs.Program.{ProgramText, objects_total}
 use Rattle.program_syntax.specs.Reading.{number_among}
 use Rattle.object_program.specs.Valid.{is_among}
 use Rattle.bias_check.specs.declared.names.Names.{Names}
@@ -25,7 +25,12 @@ use Rattle.bias_check.specs.inner.Spelled.{verbs, paths, faults}
 use Rattle.bias_check.specs.inner.Words.{before_last, unended, words_of}
 
 abbrev pub names_of : ProgramText → Names
-names_of p = record { threads = map (λ t. t.name) p.threads; objects = p.objects; classes = map (λ c. c.name) p.classes }
+names_of p = record {
+  threads = map (λ t. t.name) p.threads;
+  objects = p.objects;
+  classes = map (λ c. c.name) p.classes;
+  total = objects_total p;
+}
 
 -- the number of the first of these names that is the word
 abbrev pub place_in : List (List ℕ) → List ℕ → Option ℕ
@@ -35,9 +40,9 @@ place_in names word = only_if (is_among names word) (number_among names word)
 abbrev pub thread_in : Names → List ℕ → Option ℕ
 thread_in t word = option_and_then (λ n. only_if (nat_lt n most_threads) n) (place_in t.threads word)
 
--- a program has at most 64 classes
+-- a program has no more classes than that
 abbrev pub class_in : Names → List ℕ → Option ℕ
-class_in t word = option_and_then (λ n. only_if (nat_lt n 64) n) (place_in t.classes word)
+class_in t word = option_and_then (λ n. only_if (nat_lt n most_classes) n) (place_in t.classes word)
 
 abbrev pub declared_in : Names → List ℕ → Option ObjectDef
 declared_in t name = option_and_then (λ n. slice_get t.objects n) (place_in (map (λ d. d.name) t.objects) name)
@@ -79,9 +84,27 @@ abbrev pub object_by : Names → List ℕ → Option ℕ → Option ℕ
 object_by t word None = element_in t word None
 object_by t word (Some end) = element_in t (take end word) (Some (drop (end + 1) word))
 
+-- the declared object that the word names
+abbrev pub undotted_in : Names → List ℕ → Option ℕ
+undotted_in t word = object_by t word (position (λ b. b == 91) word)
+
+-- the k-th object that thread n makes
+abbrev pub made_at : Names → ℕ → ℕ → Option ℕ
+made_at t n k =
+    only_if (nat_lt (t.total + (most_made * n + k)) (2 ^ 32)) (t.total + (most_made * n + k))
+
+-- the object that a thread makes, by the thread's name and what stands behind the dot
+abbrev pub made_in : Names → List ℕ → List ℕ → Option ℕ
+made_in t name digits =
+    option_and_then (λ n. option_and_then (λ k. made_at t n k) (count_below most_made digits)) (thread_in t name)
+
+abbrev pub dotted_by : Names → List ℕ → Option ℕ → Option ℕ
+dotted_by t word None = undotted_in t word
+dotted_by t word (Some end) = made_in t (take end word) (drop (end + 1) word)
+
 -- the object that the word names
 abbrev pub object_in : Names → List ℕ → Option ℕ
-object_in t word = object_by t word (position (λ b. b == 91) word)
+object_in t word = dotted_by t word (position (λ b. b == 46) word)
 
 abbrev pub value_else : Option ℤ → Option ℕ → Option ValueRead
 value_else (Some z) o = Some (record { plain = Int z; other = None })

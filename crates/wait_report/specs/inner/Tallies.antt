@@ -1,5 +1,5 @@
 -- What is counted of each object while the entries are gone through once.
-use Rattle.std.specs.Prelude.{ℕ, ◌+◌, ◌<◌, ◌^◌, Bool, nat_le, if◌then◌else◌, List, [], ◌∷◌, slice_index, slice_index_or, slice_set, Some, None}
+use Rattle.std.specs.Prelude.{ℕ, ◌+◌, ◌-◌, ◌<◌, ◌^◌, Bool, nat_le, if◌then◌else◌, List, [], ◌∷◌, ◌++◌, length, replicate, slice_index, slice_index_or, slice_set, Some, None}
 use Rattle.std.specs.List.{AllByRecursion, list_any}
 use Rattle.plain_monitor.specs.declared.entry.Path.{Path}
 use Rattle.plain_monitor.specs.declared.entry.Entry.{Entry}
@@ -25,13 +25,26 @@ had_by y t = record y { handovers = y.handovers + (if is_handover y.taker t then
 abbrev pub entered_by : Tally → Path → Tally
 entered_by y path = record y { paths = slice_set y.paths (path_number path) (count_at y.paths path + 1) }
 
+-- an object behind the last that has a tally has a new one
 abbrev pub tally_at : List Tally → ℕ → Tally
 tally_at ys o = slice_index_or ys o new_tally
 
--- the tallies of all objects behind an entry of thread t
+-- the same tallies, where new ones are added until object o has one
+abbrev pub reaching : List Tally → ℕ → List Tally
+reaching ys o = ys ++ replicate ((o + 1) - length ys) new_tally
+
+-- an enter of object o by thread t
+abbrev pub with_enter : List Tally → ℕ → ℕ → Path → List Tally
+with_enter ys t o path = slice_set ys o (entered_by (had_by (tally_at ys o) t) path)
+
+-- a resume of object o by thread t
+abbrev pub with_resume : List Tally → ℕ → ℕ → List Tally
+with_resume ys t o = slice_set ys o (had_by (tally_at ys o) t)
+
+-- the tallies behind an entry of thread t: of the objects up to the greatest that was entered or resumed
 abbrev pub behind_entry : List Tally → ℕ → Entry → List Tally
-behind_entry ys t (Enter o path) = slice_set ys o (entered_by (had_by (tally_at ys o) t) path)
-behind_entry ys t (Resume o) = slice_set ys o (had_by (tally_at ys o) t)
+behind_entry ys t (Enter o path) = with_enter (reaching ys o) t o path
+behind_entry ys t (Resume o) = with_resume (reaching ys o) t o
 behind_entry ys t e = ys
 
 -- behind these entries, one after the other

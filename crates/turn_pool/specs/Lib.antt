@@ -1,0 +1,3 @@
+pub mod Pool
+pub mod Standstill
+pub mod inner
