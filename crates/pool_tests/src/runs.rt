@@ -1,4 +1,5 @@
-//! Runs of a pool, and what two seats of it can take.
+//! Runs of a pool, and what two seats of it can take. A pool may answer that memory is wanting, whatever its body does, so a test fails
+//! where it does.
 
 ghost use Rattle.std.specs.Prelude.{◌≡◌, ◌<◌, ◌≤◌, ℕ, [], None, Some, true, false, IfOk, IfErr, vec_len, vec_capacity, slice_get, length};
 ghost use Rattle.turn_pool.specs.Pool.{seat_view, all_parts};
@@ -48,6 +49,7 @@ fn two_workers_end_all_and_each_comes_back_once(rt: HostRuntime) -> Result<(), F
                     same(&rt, thing.turns, 0);
                     same(&rt, Some(&thing.left), lefts.as_slice().get(i));
                 }
+                return Err(Fail::from(AllocError));
             }
         }
     }
@@ -59,7 +61,7 @@ fn what_is_out_cannot_be_taken(rt: HostRuntime) -> Result<(), Fail> {
     let things = countdowns(rt.alloc(), &[2, 1])?;
     let room = Vec::with_capacity(rt.alloc(), 2)?;
     let Ok((pool, mut seat)) = Counted::new(rt.alloc(), things) else {
-        return Ok(());
+        return Err(Fail::from(AllocError));
     };
     let mut first = pool.hire(&mut seat);
     let mut second = pool.hire(&mut seat);
@@ -88,7 +90,7 @@ fn hints_are_noted_and_cleared(rt: HostRuntime) -> Result<(), Fail> {
     let things = countdowns(rt.alloc(), &[1, 1, 1])?;
     let room = Vec::with_capacity(rt.alloc(), 3)?;
     let Ok((pool, mut seat)) = Counted::new(rt.alloc(), things) else {
-        return Ok(());
+        return Err(Fail::from(AllocError));
     };
     pool.note(&mut seat, 2);
     same(&rt, pool.look(3), 4);
