@@ -18,7 +18,7 @@ use Rattle.plain_monitor.specs.declared.entry.Entry.{Entry}
 use Rattle.plain_monitor.specs.declared.entry.Entry.TheVariants.{Enter, Exit, Get, Put, Wait, Resume, Notify, NotifyAll, Hash, New, Print, Dump, Trap, Spent, Done}
 use Rattle.plain_monitor.specs.declared.entry.Logged.{Logged}
 use Rattle.object_program.specs.declared.program.ObjectDef.{ObjectDef}
-use Rattle.object_program.specs.Program.{ProgramText, objects_total}
+use Rattle.object_program.specs.Program.{ProgramText, declared_total}
 use Rattle.object_program.specs.Valid.{IsProgram}
 use Rattle.object_program.specs.Name.{is_name}
 use Rattle.program_syntax.proofs.CanonicalText.{is_word_byte, is_word}
@@ -149,7 +149,7 @@ element_spaceless d i true a h lt =
     rw (array_text d i a) (spaceless_append d.name (91 ∷ (decimal i ++ 93 ∷ [])) (name_spaceless d.name h) (spaceless_append (decimal i) (93 ∷ []) (decimal_spaceless i lt) refl))
 element_spaceless d i false a h lt = rw (single_text d i a) (name_spaceless d.name h)
 
-declared_spaceless : (p : ProgramText) (o : ℕ) → IsProgram p → o < objects_total p → spaceless (object_text p o) ≡ true
+declared_spaceless : (p : ProgramText) (o : ℕ) → IsProgram p → o < declared_total p → spaceless (object_text p o) ≡ true
 declared_spaceless p o h lt =
     let r = stands (length p.classes) 0 0 p.objects o h.objects (omega arith) (omega (arith, lt)) in
     let s = r.3 in
@@ -165,7 +165,7 @@ thread_spaceless p t h lt =
 
 object_spaceless : (p : ProgramText) (o : ℕ) → IsProgram p → HasNumber p o → spaceless (object_text p o) ≡ true
 object_spaceless p o h lt =
-    elim (cases_lt o (objects_total p)) [
+    elim (cases_lt o (declared_total p)) [
       | inl low ↦ declared_spaceless p o h low
       | inr late ↦
           let r = made_by p o late lt in

@@ -8,7 +8,7 @@ use Rattle.std.proofs.lemmas.List.{length-map}
 use Rattle.plain_monitor.specs.Limits.{most_made}
 use Rattle.object_program.specs.Name.{is_name}
 use Rattle.object_program.specs.declared.program.ObjectDef.{ObjectDef}
-use Rattle.object_program.specs.Program.{ProgramText, objects_total}
+use Rattle.object_program.specs.Program.{ProgramText, declared_total}
 use Rattle.object_program.specs.Valid.{IsProgram}
 use Rattle.program_syntax.proofs.CanonicalNames.{nth_is_name}
 use Rattle.lock_journal.specs.Words.{element_text, object_text, thread_text}
@@ -30,17 +30,17 @@ thread_is_name p t h lt =
 pub record IsMade (p : ProgramText) (o t k : ℕ) : Type 0 where
   pub thread : t < length p.threads
   pub place : k < most_made
-  pub number : objects_total p + (most_made * t + k) ≡ o
+  pub number : declared_total p + (most_made * t + k) ≡ o
   pub text : object_text p o ≡ thread_text p t ++ 46 ∷ decimal k
 
 dot_text : (a b : List ℕ) → (a ++ codes ".") ++ b ≡ a ++ 46 ∷ b
 dot_text a b = append_assoc a (codes ".") b
 
 -- each number behind the declared ones is that of a thread
-pub made_by : (p : ProgramText) (o : ℕ) → objects_total p ≤ o → HasNumber p o → (t : ℕ) × (k : ℕ) × IsMade p o t k
+pub made_by : (p : ProgramText) (o : ℕ) → declared_total p ≤ o → HasNumber p o → (t : ℕ) × (k : ℕ) × IsMade p o t k
 made_by p o late lt =
-    let t = (o - objects_total p) / most_made in
-    let k = (o - objects_total p) % most_made in (
+    let t = (o - declared_total p) / most_made in
+    let k = (o - declared_total p) % most_made in (
       t,
       k,
       record {
@@ -67,13 +67,13 @@ text_at : (p : ProgramText) (a b t k : ℕ) (name digits w : List ℕ) → a ≡
 text_at p a b t k name digits w maker nth thread place cut = rw (maker, nth, thread, place, cut) refl
 
 -- the k-th object of a thread has this word
-made_word : (p : ProgramText) (t k o : ℕ) (name digits w : List ℕ) → IsThreadWord p name t → IsBelow most_made digits k → objects_total p + (most_made * t + k) ≡ o
+made_word : (p : ProgramText) (t k o : ℕ) (name digits w : List ℕ) → IsThreadWord p name t → IsBelow most_made digits k → declared_total p + (most_made * t + k) ≡ o
     → w ≡ name ++ 46 ∷ digits → IsObjectWord p w o
 made_word p t k o name digits w thread place number cut =
-    let maker = thread_back (objects_total p) t k o place.below number in
-    let nth = place_back (objects_total p) t k o place.below number in
-    let at : object_text p o ≡ thread_text p ((o - objects_total p) / most_made) ++ 46 ∷ decimal ((o - objects_total p) % most_made) =
-    made_is p o (omega (arith, number)) ∙ dot_text (thread_text p ((o - objects_total p) / most_made)) (decimal ((o - objects_total p) % most_made)) in
+    let maker = thread_back (declared_total p) t k o place.below number in
+    let nth = place_back (declared_total p) t k o place.below number in
+    let at : object_text p o ≡ thread_text p ((o - declared_total p) / most_made) ++ 46 ∷ decimal ((o - declared_total p) % most_made) =
+    made_is p o (omega (arith, number)) ∙ dot_text (thread_text p ((o - declared_total p) / most_made)) (decimal ((o - declared_total p) % most_made)) in
     record {
       text = at ∙ text_at p _ _ t k name digits w maker nth thread.text place.text cut;
       within = omega (arith, number, place.below, thread.within);
@@ -87,7 +87,7 @@ dotted_is p w o (Some end) h at e =
     let digits = drop (end + 1) w in
     and_then _ (thread_in (names_of p) name) o e (λ t some f.
     and_then _ (count_below most_made digits) o f (λ k counted g.
-    let number = objects_total p + (most_made * t + k) in
+    let number = declared_total p + (most_made * t + k) in
     where_true (nat_lt number (2 ^ 32)) number o g (λ fits same.
     made_word p t k o name digits w (thread_is p name t some) (below_is most_made digits k counted) same (cut_at 46 w end at))))
 
@@ -101,7 +101,7 @@ element_dotless d i true a h lt =
     rw (array_text d i a) (dotless_append d.name (91 ∷ (decimal i ++ 93 ∷ [])) (name_dotless d.name h) (dotless_append (decimal i) (93 ∷ []) (decimal_dotless i lt) refl))
 element_dotless d i false a h lt = rw (single_text d i a) (name_dotless d.name h)
 
-declared_dotless : (p : ProgramText) (o : ℕ) → IsProgram p → o < objects_total p → dotless (object_text p o) ≡ true
+declared_dotless : (p : ProgramText) (o : ℕ) → IsProgram p → o < declared_total p → dotless (object_text p o) ≡ true
 declared_dotless p o h lt =
     let r = stands (length p.classes) 0 0 p.objects o h.objects (omega arith) (omega (arith, lt)) in
     let s = r.3 in
@@ -123,13 +123,13 @@ number_read : (p : ProgramText) (o t k : ℕ) → IsProgram p → IsMade p o t k
 number_read p o t k h made =
     let objects = h.objects_few in
     let threads = h.threads_few in
-    let small : nat_lt (objects_total p + (most_made * t + k)) (2 ^ 32) ≡ true = let few : objects_total p + (most_made * t + k) < 2 ^ 32 = omega (arith, objects, threads, made.thread, made.place) in grind (arith, nat_tests) in
+    let small : nat_lt (declared_total p + (most_made * t + k)) (2 ^ 32) ≡ true = let few : declared_total p + (most_made * t + k) < 2 ^ 32 = omega (arith, objects, threads, made.thread, made.place) in grind (arith, nat_tests) in
     rw (thread_read p t h made.thread, below_read most_made k (omega (arith, made.place)) made.place, small) (ap Some made.number)
 
 -- the word of an object is read as it
 pub object_read : (p : ProgramText) (o : ℕ) → IsProgram p → HasNumber p o → object_in (names_of p) (object_text p o) ≡ Some o
 object_read p o h lt =
-    elim (cases_lt o (objects_total p)) [
+    elim (cases_lt o (declared_total p)) [
       | inl low ↦ by_no_dot p (object_text p o) (declared_dotless p o h low) ∙ undotted_read p o h low
       | inr late ↦
           let r = made_by p o late lt in

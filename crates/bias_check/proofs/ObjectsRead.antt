@@ -8,7 +8,7 @@ use Rattle.std.proofs.lemmas.Bool.Decides.{nat_tests}
 use Rattle.std.specs.List.{list_all}
 use Rattle.object_program.specs.Name.{is_letter, is_digit, is_name}
 use Rattle.object_program.specs.declared.program.ObjectDef.{ObjectDef}
-use Rattle.object_program.specs.Program.{ProgramText, total_of, objects_total, has_object, place_from, place_of}
+use Rattle.object_program.specs.Program.{ProgramText, total_of, declared_total, has_object, place_from, place_of}
 use Rattle.object_program.specs.Valid.{AreObjects, IsProgram}
 use Rattle.lock_journal.specs.Words.{element_text, object_text}
 use Rattle.lock_journal.proofs.Names.{declared_is as text_of_declared}
@@ -146,7 +146,7 @@ AreObjects_at classes m (e ∷ es) (suc n) d h at = AreObjects_at classes (m + e
 -- a declared object's word
 pub record IsDeclaredWord (p : ProgramText) (w : List ℕ) (o : ℕ) : Type 0 where
   pub text : object_text p o ≡ w
-  pub within : o < objects_total p
+  pub within : o < declared_total p
 
 -- element i of a declaration is the object with this word
 element_word : (p : ProgramText) (n i o : ℕ) (d : ObjectDef) (w : List ℕ) → IsProgram p → slice_get p.objects n ≡ Some d → i < d.size → d.first + i ≡ o → element_text i (Some d) ≡ w → IsDeclaredWord p w o
@@ -154,7 +154,7 @@ element_word p n i o d w h at lt same text =
     let r = found_at (length p.classes) 0 0 p.objects n i d h.objects at lt in
     let place : place_of p o ≡ (0 + n, i) = rw (← same) r.2 in
     let number : 0 + n ≡ n = omega arith in
-    let within : o < objects_total p = omega (arith, same, r.1) in
+    let within : o < declared_total p = omega (arith, same, r.1) in
     record { text = text_of_declared p o within ∙ rw (place, number, at) text; within = within }
 
 single_is : (p : ProgramText) (name : List ℕ) (o : ℕ) (d : ObjectDef) (n : ℕ) (b : Bool) → d.array ≡ b → IsProgram p → slice_get p.objects n ≡ Some d → d.name ≡ name
@@ -256,7 +256,7 @@ read_by p n i d true h at lt a fits = array_read p n i d h at lt a fits
 read_by p n i d false h at lt a fits = single_read p n i d h at lt a
 
 -- the word of a declared object is read as it
-pub undotted_read : (p : ProgramText) (o : ℕ) → IsProgram p → o < objects_total p → undotted_in (names_of p) (object_text p o) ≡ Some o
+pub undotted_read : (p : ProgramText) (o : ℕ) → IsProgram p → o < declared_total p → undotted_in (names_of p) (object_text p o) ≡ Some o
 undotted_read p o h lt =
     let r = stands (length p.classes) 0 0 p.objects o h.objects (omega arith) (omega (arith, lt)) in
     let s = r.3 in

@@ -6,7 +6,9 @@ use Rattle.plain_monitor.specs.declared.entry.Entry.{Entry}
 use Rattle.plain_monitor.specs.declared.entry.Entry.TheVariants.{Hash}
 use Rattle.plain_monitor.specs.Objects.{PlainObject, new_objects, take_entry}
 use Rattle.object_program.specs.declared.program.ObjectDef.{ObjectDef}
-use Rattle.object_program.specs.Program.{ProgramText, objects_total, shape_from}
+use Rattle.object_program.specs.Program.{ProgramText, declared_total, shape_from}
+use Rattle.object_program.specs.Valid.{IsProgram}
+use Rattle.object_program.proofs.Made.{declared_shape}
 use Rattle.plain_machine.specs.Thread.{ThreadState}
 use Rattle.plain_machine.specs.Machine.{PlainMachine, new_machine, moved, take, made_behind}
 use Rattle.plain_machine.proofs.Behind.{length_behind}
@@ -15,10 +17,10 @@ use Rattle.bias_check.proofs.Options.{and_then}
 use Rattle.bias_check.proofs.ThreadsRead.{get_within}
 use Rattle.bias_check.proofs.MarksBehind.{HashesDeclared}
 
-pub first_count : (p : ProgramText) (fuel : ℕ) → length (new_machine p fuel).objects ≡ objects_total p
-first_count p fuel =
+pub first_count : (p : ProgramText) (fuel : ℕ) → IsProgram p → length (new_machine p fuel).objects ≡ declared_total p
+first_count p fuel h =
     total_at_end p.classes p.objects p.objects (length p.objects) (new_machine p fuel).objects
-    (ap (λ (ds : List ObjectDef). new_objects (shape_from p.classes ds)) (sym (take_all (length p.objects) p.objects (omega arith)))) refl (omega arith)
+    (ap new_objects (declared_shape p h) ∙ ap (λ (ds : List ObjectDef). new_objects (shape_from p.classes ds)) (sym (take_all (length p.objects) p.objects (omega arith)))) refl (omega arith)
 
 -- the objects behind an entry that the machine takes
 record IsBehind (m n : PlainMachine) (t : ℕ) (e : Entry) : Type 0 where
@@ -42,10 +44,10 @@ pub as_many : (m n : PlainMachine) (t : ℕ) (e : Entry) → take m t e ≡ Some
 as_many m n t e h =
     let b = behind m n t e h in ap length (sym b.are) ∙ length_behind m.objects b.objects t e b.takes
 
-hashed : (p : ProgramText) (objects after : List PlainObject) (t : ℕ) (e : Entry) → length objects ≡ objects_total p → take_entry objects t e ≡ Some after → HashesDeclared p e
+hashed : (p : ProgramText) (objects after : List PlainObject) (t : ℕ) (e : Entry) → length objects ≡ declared_total p → take_entry objects t e ≡ Some after → HashesDeclared p e
 hashed p objects after t (Hash o v drawn) count h =
     and_then _ (slice_get objects o) after h (λ x some f. let lt = get_within objects o x some in omega (arith, lt, count))
 hashed p objects after t e count h = tt
 
-pub hash_is_declared : (p : ProgramText) (m n : PlainMachine) (t : ℕ) (e : Entry) → length m.objects ≡ objects_total p → take m t e ≡ Some n → HashesDeclared p e
+pub hash_is_declared : (p : ProgramText) (m n : PlainMachine) (t : ℕ) (e : Entry) → length m.objects ≡ declared_total p → take m t e ≡ Some n → HashesDeclared p e
 hash_is_declared p m n t e count h = let b = behind m n t e h in hashed p m.objects b.objects t e count b.takes

@@ -4,7 +4,7 @@ use Rattle.std.specs.Prelude.{Result, position}
 use Rattle.std.specs.List.{AllByRecursion, position_or_len}
 use Rattle.std.proofs.lemmas.Bool.{cases_lt, cases_eq}
 use Rattle.plain_monitor.specs.declared.entry.Logged.{Logged}
-use Rattle.object_program.specs.Program.{ProgramText, objects_total}
+use Rattle.object_program.specs.Program.{ProgramText, declared_total}
 use Rattle.object_program.specs.Valid.{IsProgram}
 use Rattle.plain_machine.specs.Machine.{PlainMachine, new_machine}
 use Rattle.bias_check.specs.declared.answer.Checked.{Checked}
@@ -29,7 +29,7 @@ use Rattle.bias_check.proofs.TakenObjects.{first_count, as_many, hash_is_declare
 use Rattle.bias_check.proofs.RunsChecked.{going, run_checked, all_readable, unread, HasRun, HasStop, Ends, ends}
 
 -- the entries of a run are of the program's threads, and no hash is of an object that isn't there
-entries_from : (p : ProgramText) (before : Option (ℕ × Logged)) (m n : PlainMachine) (lines : List (List ℕ)) (xs : List (ℕ × Logged)) → length m.objects ≡ objects_total p → IsRun p before m lines xs n → AreEntriesIn p xs
+entries_from : (p : ProgramText) (before : Option (ℕ × Logged)) (m n : PlainMachine) (lines : List (List ℕ)) (xs : List (ℕ × Logged)) → length m.objects ≡ declared_total p → IsRun p before m lines xs n → AreEntriesIn p xs
 entries_from p before m n [] [] count run = tt
 entries_from p before m n [] (x ∷ xs) count run = absurd run
 entries_from p before m n (line ∷ lines) [] count run = absurd run
@@ -39,8 +39,8 @@ entries_from p before m n (line ∷ lines) (x ∷ xs) count run =
       entries_from p (Some x) run.0 n lines xs (as_many m run.0 x.0 x.1.entry taken ∙ count) run.2,
     )
 
-entries_in : (p : ProgramText) (fuel : ℕ) (n : PlainMachine) (lines : List (List ℕ)) (xs : List (ℕ × Logged)) → IsRun p None (new_machine p fuel) lines xs n → AreEntriesIn p xs
-entries_in p fuel n lines xs run = entries_from p None (new_machine p fuel) n lines xs (first_count p fuel) run
+entries_in : (p : ProgramText) (fuel : ℕ) (n : PlainMachine) (lines : List (List ℕ)) (xs : List (ℕ × Logged)) → IsProgram p → IsRun p None (new_machine p fuel) lines xs n → AreEntriesIn p xs
+entries_in p fuel n lines xs is run = entries_from p None (new_machine p fuel) n lines xs (first_count p fuel is) run
 
 length_run : (p : ProgramText) (before : Option (ℕ × Logged)) (m n : PlainMachine) (lines : List (List ℕ)) (xs : List (ℕ × Logged)) → IsRun p before m lines xs n → length xs ≡ length lines
 length_run p before m n [] [] run = refl
@@ -85,8 +85,8 @@ bad_place : (p : ProgramText) (start : ℕ) (xs : List (ℕ × Logged)) (o : ℕ
 bad_place p start xs o valid h =
     let marks = marks_of p start xs in
     let t = first_at is_bad marks o h in
-    let count : length marks ≡ objects_total p = (all_behind p start xs valid).objects in
-    let within : o < objects_total p = omega (arith, t.same, t.less, count) in
+    let count : length marks ≡ declared_total p = (all_behind p start xs valid).objects in
+    let within : o < declared_total p = omega (arith, t.same, t.less, count) in
     let bad : is_bad (get_or marks o Unseen) ≡ true = rw t.same (passes is_bad marks Unseen t.less) in
     record {
       bad = marks_tell p start xs o valid within ∙ ap not bad;
@@ -96,22 +96,22 @@ bad_place p start xs o valid h =
 no_place : (p : ProgramText) (start : ℕ) (xs : List (ℕ × Logged)) (o : ℕ) → AreEntriesIn p xs → None ≡ position is_bad (marks_of p start xs) → hash_fits start xs o ≡ true
 no_place p start xs o valid h =
     let marks = marks_of p start xs in
-    let count : length marks ≡ objects_total p = (all_behind p start xs valid).objects in
+    let count : length marks ≡ declared_total p = (all_behind p start xs valid).objects in
     let past = none_at is_bad marks h in
-    elim (cases_lt o (objects_total p)) [
+    elim (cases_lt o (declared_total p)) [
       | inl lt ↦ marks_tell p start xs o valid lt ∙ ap not (fails is_bad marks Unseen o (omega (arith, count, lt, past)))
       | inr beyond ↦ fits_beyond p start o xs beyond valid
     ]
 
 -- the answer to a run
-run_answer_by : (p : ProgramText) (fuel start : ℕ) (lines : List (List ℕ)) (d : Check) (place : Option ℕ) (r : HasRun p None (new_machine p fuel) (new_hashes p start) lines d)
+run_answer_by : (p : ProgramText) → IsProgram p → (fuel start : ℕ) (lines : List (List ℕ)) (d : Check) (place : Option ℕ) (r : HasRun p None (new_machine p fuel) (new_hashes p start) lines d)
     → place ≡ position is_bad (marks_of p start r.entries) → IsTrueOf p fuel start lines (Ok (hash_verdict d (length lines) place))
-run_answer_by p fuel start lines d (Some o) r at =
-    let valid = entries_in p fuel d.machine lines r.entries r.run in
+run_answer_by p is fuel start lines d (Some o) r at =
+    let valid = entries_in p fuel d.machine lines r.entries is r.run in
     let t = bad_place p start r.entries o valid at in
     record { entries = r.entries; machine = d.machine; run = r.run; bad = t.bad; least = t.least }
-run_answer_by p fuel start lines d None r at =
-    let valid = entries_in p fuel d.machine lines r.entries r.run in
+run_answer_by p is fuel start lines d None r at =
+    let valid = entries_in p fuel d.machine lines r.entries is r.run in
     record {
       entries = r.entries;
       machine = d.machine;
@@ -121,9 +121,9 @@ run_answer_by p fuel start lines d None r at =
       stands = refl;
     }
 
-run_answer : (p : ProgramText) (fuel start : ℕ) (lines : List (List ℕ)) (d : Check) → HasRun p None (new_machine p fuel) (new_hashes p start) lines d → IsTrueOf p fuel start lines (Ok (verdict_of d (length lines)))
-run_answer p fuel start lines d r =
-    rw r.unstopped (run_answer_by p fuel start lines d (position is_bad d.hashes.marks) r (ap (λ (h : HashState). position is_bad h.marks) r.hashes_are))
+run_answer : (p : ProgramText) → IsProgram p → (fuel start : ℕ) (lines : List (List ℕ)) (d : Check) → HasRun p None (new_machine p fuel) (new_hashes p start) lines d → IsTrueOf p fuel start lines (Ok (verdict_of d (length lines)))
+run_answer p is fuel start lines d r =
+    rw r.unstopped (run_answer_by p is fuel start lines d (position is_bad d.hashes.marks) r (ap (λ (h : HashState). position is_bad h.marks) r.hashes_are))
 
 stop_answer : (p : ProgramText) (fuel start : ℕ) (lines : List (List ℕ)) (d : Check) → AllByRecursion (IsReadable p) lines → HasStop p 0 None (new_machine p fuel) lines d
     → IsTrueOf p fuel start lines (Ok (verdict_of d (length lines)))
@@ -141,15 +141,15 @@ stop_answer p fuel start lines d readable s =
       no_step = s.no_step;
     })
 
-ok_answer : (p : ProgramText) (fuel start : ℕ) (lines : List (List ℕ)) (d : Check) → AllByRecursion (IsReadable p) lines → Ends p 0 None (new_machine p fuel) (new_hashes p start) lines d
+ok_answer : (p : ProgramText) → IsProgram p → (fuel start : ℕ) (lines : List (List ℕ)) (d : Check) → AllByRecursion (IsReadable p) lines → Ends p 0 None (new_machine p fuel) (new_hashes p start) lines d
     → IsTrueOf p fuel start lines (Ok (verdict_of d (length lines)))
-ok_answer p fuel start lines d readable (inl r) = run_answer p fuel start lines d r
-ok_answer p fuel start lines d readable (inr s) = stop_answer p fuel start lines d readable s
+ok_answer p is fuel start lines d readable (inl r) = run_answer p is fuel start lines d r
+ok_answer p is fuel start lines d readable (inr s) = stop_answer p fuel start lines d readable s
 
 true_by : (p : ProgramText) (fuel start : ℕ) (lines : List (List ℕ)) (out : Result Check ℕ) → IsProgram p → checked_from (names_of p) 0 (first_check p fuel start) lines ≡ out
     → IsTrueOf p fuel start lines (answer_of out (length lines))
 true_by p fuel start lines (Ok d) h e =
-    ok_answer p fuel start lines d (all_readable p 0 (first_check p fuel start) d lines h e) (ends p 0 lines d h None (new_machine p fuel) (new_hashes p start) e)
+    ok_answer p h fuel start lines d (all_readable p 0 (first_check p fuel start) d lines h e) (ends p 0 lines d h None (new_machine p fuel) (new_hashes p start) e)
 true_by p fuel start lines (Err k) h e =
     let u = unread p 0 k (first_check p fuel start) lines h e in
     record {
@@ -178,19 +178,19 @@ run_found p fuel start lines xs n h run =
     let same = rw append-nil at whole in
     ap (λ (out : Result Check ℕ). answer_of out (length lines)) same
 
-legal_by : (p : ProgramText) (fuel start : ℕ) (lines : List (List ℕ)) (count : ℕ) (state : Reached) (r : IsLegalRun p fuel start lines count state) (place : Option ℕ) → place ≡ position is_bad (marks_of p start r.entries)
+legal_by : (p : ProgramText) → IsProgram p → (fuel start : ℕ) (lines : List (List ℕ)) (count : ℕ) (state : Reached) (r : IsLegalRun p fuel start lines count state) (place : Option ℕ) → place ≡ position is_bad (marks_of p start r.entries)
     → hash_verdict (going r.machine (noted_all (new_hashes p start) r.entries) (last_of None r.entries)) (length lines) place ≡ Legal count state
-legal_by p fuel start lines count state r (Some o) at =
-    let valid = entries_in p fuel r.machine lines r.entries r.run in
+legal_by p is fuel start lines count state r (Some o) at =
+    let valid = entries_in p fuel r.machine lines r.entries is r.run in
     let t = bad_place p start r.entries o valid at in absurd (cc (sym t.bad ∙ r.fits o))
-legal_by p fuel start lines count state r None at =
+legal_by p is fuel start lines count state r None at =
     let counted : count ≡ length lines = r.counted ∙ length_run p None (new_machine p fuel) r.machine lines r.entries r.run in
     rw (counted, r.stands) refl
 
-bad_by : (p : ProgramText) (fuel start : ℕ) (lines : List (List ℕ)) (object : ℕ) (r : IsLeastBadHash p fuel start lines object) (place : Option ℕ) → place ≡ position is_bad (marks_of p start r.entries)
+bad_by : (p : ProgramText) → IsProgram p → (fuel start : ℕ) (lines : List (List ℕ)) (object : ℕ) (r : IsLeastBadHash p fuel start lines object) (place : Option ℕ) → place ≡ position is_bad (marks_of p start r.entries)
     → hash_verdict (going r.machine (noted_all (new_hashes p start) r.entries) (last_of None r.entries)) (length lines) place ≡ BadHash object
-bad_by p fuel start lines object r (Some o) at =
-    let valid = entries_in p fuel r.machine lines r.entries r.run in
+bad_by p is fuel start lines object r (Some o) at =
+    let valid = entries_in p fuel r.machine lines r.entries is r.run in
     let t = bad_place p start r.entries o valid at in
     elim (cases_eq o object) [
       | inl same ↦ ap BadHash same
@@ -199,8 +199,8 @@ bad_by p fuel start lines object r (Some o) at =
         | inr ge ↦ absurd (cc (sym r.bad ∙ t.least object (omega (arith, apart, ge))))
       ]
     ]
-bad_by p fuel start lines object r None at =
-    let valid = entries_in p fuel r.machine lines r.entries r.run in
+bad_by p is fuel start lines object r None at =
+    let valid = entries_in p fuel r.machine lines r.entries is r.run in
     absurd (cc (sym r.bad ∙ no_place p start r.entries object valid at))
 
 -- of two places where a text stops being readable there is one
@@ -283,10 +283,10 @@ stop_found p fuel start lines number h s =
 -- each true answer but want of memory is the one that is found
 pub found_only : (p : ProgramText) (fuel start : ℕ) (lines : List (List ℕ)) (r : Result Checked CheckFault) → IsProgram p → IsTrueOf p fuel start lines r → r ≢ Err NoMemory → found p fuel start lines ≡ r
 found_only p fuel start lines (Ok (Legal count state)) h r other =
-    run_found p fuel start lines r.entries r.machine h r.run ∙ ap Ok (legal_by p fuel start lines count state r (position is_bad (marks_of p start r.entries)) refl)
+    run_found p fuel start lines r.entries r.machine h r.run ∙ ap Ok (legal_by p h fuel start lines count state r (position is_bad (marks_of p start r.entries)) refl)
 found_only p fuel start lines (Ok (NoStep number)) h r other = stop_found p fuel start lines number h r
 found_only p fuel start lines (Ok (BadHash object)) h r other =
-    run_found p fuel start lines r.entries r.machine h r.run ∙ ap Ok (bad_by p fuel start lines object r (position is_bad (marks_of p start r.entries)) refl)
+    run_found p fuel start lines r.entries r.machine h r.run ∙ ap Ok (bad_by p h fuel start lines object r (position is_bad (marks_of p start r.entries)) refl)
 found_only p fuel start lines (Err (Unreadable number)) h r other =
     unreadable_found p fuel start lines number (checked_from (names_of p) 0 (first_check p fuel start) lines) h refl r
 found_only p fuel start lines (Err NoMemory) h r other = absurd (other refl)

@@ -12,7 +12,7 @@ use Rattle.plain_monitor.specs.declared.entry.Value.TheVariants.{Nil, Int, Ref}
 use Rattle.object_program.specs.Name.{is_letter, is_digit, is_name}
 use Rattle.program_syntax.specs.Number.{number_of, digits_of, number_behind}
 use Rattle.object_program.specs.declared.program.ObjectDef.{ObjectDef}
-use Rattle.object_program.specs.Program.{ProgramText, objects_total}
+use Rattle.object_program.specs.Program.{ProgramText, declared_total}
 use Rattle.object_program.specs.Valid.{IsProgram}
 use Rattle.program_syntax.proofs.CanonicalNumbers.{number_of_signed}
 use Rattle.plain_machine.specs.Values.{IsValueOf}
@@ -98,7 +98,7 @@ element_is_no_number d i true a h = rw (array_text d i a) (name_is_no_number d.n
 element_is_no_number d i false a h =
     rw (single_text d i a) (ap number_of (sym (append-nil d.name)) ∙ name_is_no_number d.name [] h)
 
-declared_is_no_number : (p : ProgramText) (o : ℕ) → IsProgram p → o < objects_total p → number_of (object_text p o) ≡ None
+declared_is_no_number : (p : ProgramText) (o : ℕ) → IsProgram p → o < declared_total p → number_of (object_text p o) ≡ None
 declared_is_no_number p o h lt =
     let r = stands (length p.classes) 0 0 p.objects o h.objects (omega arith) (omega (arith, lt)) in
     let s = r.3 in
@@ -108,7 +108,7 @@ declared_is_no_number p o h lt =
 
 object_is_no_number : (p : ProgramText) (o : ℕ) → IsProgram p → HasNumber p o → number_of (object_text p o) ≡ None
 object_is_no_number p o h lt =
-    elim (cases_lt o (objects_total p)) [
+    elim (cases_lt o (declared_total p)) [
       | inl low ↦ declared_is_no_number p o h low
       | inr late ↦
           let r = made_by p o late lt in

@@ -5,7 +5,7 @@ use Rattle.plain_monitor.specs.Limits.{most_made}
 use Rattle.plain_monitor.specs.declared.entry.Entry.{Entry}
 use Rattle.plain_monitor.specs.declared.entry.Entry.TheVariants.{Enter, Exit, Get, Put, Wait, Resume, Notify, NotifyAll, Hash, New, Print, Dump, Trap, Spent, Done}
 use Rattle.plain_monitor.specs.declared.entry.Logged.{Logged}
-use Rattle.object_program.specs.Program.{ProgramText, objects_total}
+use Rattle.object_program.specs.Program.{ProgramText, declared_total}
 use Rattle.plain_machine.specs.Values.{IsValueOf}
 use Rattle.lock_journal.specs.RunText.{journal_line}
 
@@ -20,7 +20,7 @@ IsWord n = n < 2 ^ 32
 
 -- how many numbers there are for objects: first one for each that is declared, and then, for each thread, as many as it may make
 abbrev pub numbers_total : ProgramText → ℕ
-numbers_total p = objects_total p + most_made * length p.threads
+numbers_total p = declared_total p + most_made * length p.threads
 
 -- an object can have the number, whether the object is there or not
 abbrev pub HasNumber : ProgramText → ℕ → Type 0

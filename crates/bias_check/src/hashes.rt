@@ -2,7 +2,7 @@
 
 ghost use Rattle.std.specs.Prelude.{◌≡◌, ◌<◌, ◌≤◌, IfOk, OnOk, length, position, replicate};
 ghost use Rattle.plain_monitor.specs.Limits.{most_objects};
-ghost use Rattle.object_program.specs.Program.{objects_total};
+ghost use Rattle.object_program.specs.Program.{declared_total};
 ghost use Rattle.bias_check.specs.inner.Marks.{new_drawer, drawer_next, gives, drawers_to, new_hashes, noted, marked_at, marked, first_mark, is_bad};
 
 use lock_policy::Draw;
@@ -142,11 +142,11 @@ fn bad_place(marks: &[Mark]) -> Option<usize>
 
 /// How many objects the program has, at most 4,096.
 fn object_count(program: &Program) -> u32
-    ensures total { result ≡ objects_total program.now }
+    ensures total { result ≡ declared_total program.now }
     ensures few { result ≤ most_objects }
 {
     let _objects = program.objects.items();
-    program.objects_total()
+    program.declared_total()
 }
 
 /// No object has a hash entry.

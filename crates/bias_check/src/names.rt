@@ -39,7 +39,7 @@ impl Names {
             threads,
             objects,
             classes,
-            total: program.objects_total(),
+            total: program.declared_total(),
         })
     }
 

@@ -20,7 +20,7 @@ use Rattle.plain_history.specs.ExactStamps.{StampsAreExact}
 use Rattle.plain_history.proofs.Joined.{first_some}
 use Rattle.object_program.specs.Limits.{most_code}
 use Rattle.object_program.specs.declared.program.ClassDef.{ClassDef}
-use Rattle.object_program.specs.Program.{ProgramText, objects_total, slots_in, slots_of, class_of}
+use Rattle.object_program.specs.Program.{ProgramText, declared_total, slots_in, slots_of, class_of}
 use Rattle.object_program.specs.Valid.{IsProgram}
 use Rattle.plain_machine.specs.Values.{IsValueOf}
 use Rattle.plain_machine.specs.declared.call.Call.{Call}
@@ -38,7 +38,9 @@ use Rattle.machine_laws.proofs.ReachedAsked.{IsAskedOf, asked_of, taken, taken_a
 use Rattle.machine_laws.proofs.ReachedEntries.{progress}
 use Rattle.machine_laws.proofs.ReachedFirst.{first_is_reached}
 use Rattle.machine_laws.proofs.ReachedKinds.{thread_of}
-use Rattle.machine_laws.proofs.ReachedRange.{taken_in_range, new_unasked}
+use Rattle.machine_laws.proofs.ReachedNeeds.{asks_no_new}
+use Rattle.machine_laws.proofs.ReachedRange.{taken_in_range}
+use Rattle.object_program.proofs.Made.{all_declared, slots_few}
 use Rattle.core_world.specs.Clauses.Draws.{AreDraws, first_draw}
 use Rattle.lock_journal.specs.Hashes.{hash_fits}
 use Rattle.hash_laws.proofs.DrawsAgain.{are_drawn}
@@ -53,11 +55,6 @@ use Rattle.journal_laws.proofs.FewEntries.{entries_few}
 use Rattle.journal_laws.proofs.DrawNumbers.{HasShortDraw, draw_is_short}
 
 -- NUMBERS
-slots_few : (classes : List ClassDef) (c : ℕ) → AllByRecursion (λ c. c.slots ≤ most_slots) classes → slots_in (slice_get classes c) ≤ most_slots
-slots_few [] c few = omega arith
-slots_few (d ∷ ds) zero few = few.0
-slots_few (d ∷ ds) (suc c) few = slots_few ds c few.1
-
 -- no call is a trap
 not_called : (c : Call) (f : Fault) (i : ℕ) → is_call c (Trap f i) ≡ false
 not_called (call.Enter o) f i = refl
@@ -68,7 +65,7 @@ module _ (p : ProgramText) (is : IsProgram p) (s : ThreadState) where
   slot_few : (o k j : ℕ) → j < slots_of p o → (j == k) ≡ true → k < 2 ^ 32
   slot_few o k j within e =
       let same = eqb-true j k e in
-      let few : slots_of p o ≤ most_slots = slots_few p.classes (class_of p o) is.class_slots in
+      let few = slots_few p o is in
       omega (arith, same, few, within)
 
   got_slot : (a : Asked) (o k : ℕ) (v : Value) → IsAskedOf p s a → fits a (Get o k v) ≡ true → k < 2 ^ 32
@@ -153,7 +150,7 @@ told m t s a (Put o k v) after h near asked fit takes is draw = (is.0, put_slot 
 told m t s a (Notify o woken) after h near asked fit takes is draw = is
 told m t s a (NotifyAll o many) after h near asked fit takes is draw = (is, many_few m t o many after h takes)
 told m t s a (Hash o v drawn) after h near asked fit takes is draw = let below = is.1.1 in (is.0, omega (arith, below), draw)
-told m t s a (New o c) after h near asked fit takes is draw = absurd (new_unasked a o c fit)
+told m t s a (New o c) after h near asked fit takes is draw = absurd (none-some (o, c) (sym (asks_no_new m.program s a (New o c) asked fit)))
 told m t s a (Print v) after h near asked fit takes is draw = is
 told m t s a (Dump n) after h near asked fit takes is draw = omega (arith, is)
 told m t s a (Trap f i) after h near asked fit takes is draw = trap_number m.program h.program s a f i near asked fit
@@ -165,10 +162,10 @@ module _ (m next : PlainMachine) (t : ℕ) (e : Entry) (h : IsReached m) (near :
   taken_is_told draw =
       let k = taken m t e next takes in
       let asked = asked_of m.program k.s k.asked (thread_of m t k.s (record { reached = h; at = k.at })) k.asks in
-      let declared : IsEntryOf (objects_total m.program) (length m.program.threads) e =
-      subst (λ n. IsEntryOf n (length m.program.threads) e) h.object_count
+      let declared : IsEntryOf (declared_total m.program) (length m.program.threads) e =
+      subst (λ n. IsEntryOf n (length m.program.threads) e) (h.object_count ∙ all_declared m.program h.program)
       (subst (λ n. IsEntryOf (length m.objects) n e) h.thread_count (taken_in_range m next t e h takes)) in
-      let range = entry_of_more (objects_total m.program) (numbers_total m.program) (length m.program.threads) e (omega arith) declared in
+      let range = entry_of_more (declared_total m.program) (numbers_total m.program) (length m.program.threads) e (omega arith) declared in
       told m t k.s k.asked e k.objects h (all_at (λ (s : ThreadState). UnwindsWithin most_code s.mode) m.threads t k.s near k.at) asked k.fit k.takes range draw
 
   thread_is_there : t < length m.program.threads

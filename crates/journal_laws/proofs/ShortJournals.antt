@@ -22,7 +22,7 @@ use Rattle.plain_monitor.specs.Order.{order}
 use Rattle.object_program.specs.declared.program.ClassDef.{ClassDef}
 use Rattle.object_program.specs.declared.program.ObjectDef.{ObjectDef}
 use Rattle.object_program.specs.declared.program.ThreadDef.{ThreadDef}
-use Rattle.object_program.specs.Program.{ProgramText, has_object, objects_total, place_from, place_of}
+use Rattle.object_program.specs.Program.{ProgramText, has_object, declared_total, place_from, place_of}
 use Rattle.object_program.specs.Valid.{IsProgram}
 use Rattle.plain_machine.specs.Values.{IsValueOf}
 use Rattle.lock_journal.specs.RunText.{class_name, draw_text, entry_text, journal_line, newline, text_of_lines, woken_text}
@@ -99,7 +99,7 @@ draw_short None few = omega arith
 draw_short (Some n) few = both (codes " draw ") _ 6 10 (omega arith) (word_short n few)
 
 module _ (p : ProgramText) (is : IsProgram p) where
-  declared_short : (o : ℕ) → o < objects_total p → length (object_text p o) ≤ 44
+  declared_short : (o : ℕ) → o < declared_total p → length (object_text p o) ≤ 44
   declared_short o there = rw (text_of_declared p o there) (by_declared (slice_get p.objects (place_of p o).0) refl)
     where
       by_declared : (found : Option ObjectDef) → slice_get p.objects (place_of p o).0 ≡ found → length (element_text (place_of p o).1 found) ≤ 44
@@ -116,17 +116,17 @@ module _ (p : ProgramText) (is : IsProgram p) where
       by_declared None e = omega arith
       by_declared (Some d) e = length_name_at (λ x. x.name) p.threads t d is.thread_names e
 
-  made_short : (o : ℕ) → objects_total p ≤ o → length (object_text p o) ≤ 44
+  made_short : (o : ℕ) → declared_total p ≤ o → length (object_text p o) ≤ 44
   made_short o late =
-      let thread = thread_text p ((o - objects_total p) / most_made) in
-      let place = (o - objects_total p) % most_made in
-      let dotted = both thread (codes ".") 32 1 (thread_short ((o - objects_total p) / most_made)) (omega arith) in
+      let thread = thread_text p ((o - declared_total p) / most_made) in
+      let place = (o - declared_total p) % most_made in
+      let dotted = both thread (codes ".") 32 1 (thread_short ((o - declared_total p) / most_made)) (omega arith) in
       let all = both (thread ++ codes ".") (decimal place) 33 10 dotted (word_short place (omega arith)) in
       rw (made_is p o late) (omega (arith, all))
 
   object_short : (o : ℕ) → length (object_text p o) ≤ 44
   object_short o =
-      elim (cases_lt o (objects_total p)) [
+      elim (cases_lt o (declared_total p)) [
         | inl low ↦ declared_short o low
         | inr late ↦ made_short o late
       ]

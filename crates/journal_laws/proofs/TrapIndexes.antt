@@ -3,11 +3,11 @@ use Rattle.std.proofs.Common.{◌≡◌, inl, inr, ℤ, ◌+ℤ◌, ◌-ℤ◌, 
 use Rattle.std.specs.List.{AllByRecursion}
 use Rattle.std.proofs.lemmas.Bool.{cases_lt}
 use Rattle.std.proofs.lemmas.List.{get_or_past}
-use Rattle.plain_monitor.specs.Limits.{most_holds}
+use Rattle.plain_monitor.specs.Limits.{most_holds, most_made}
 use Rattle.plain_monitor.specs.declared.entry.Value.{Value}
 use Rattle.plain_monitor.specs.declared.entry.Value.TheVariants.{Int, Ref}
 use Rattle.plain_monitor.specs.declared.entry.Fault.{Fault}
-use Rattle.plain_monitor.specs.declared.entry.Fault.TheVariants.{IllegalMonitorState, Unguarded, NotRef, NotInt, Range, Overflow, TooDeep, TooManyDumps}
+use Rattle.plain_monitor.specs.declared.entry.Fault.TheVariants.{IllegalMonitorState, Unguarded, NotRef, NotInt, Range, Overflow, TooDeep, TooManyDumps, TooMany}
 use Rattle.plain_monitor.specs.declared.entry.Ending.{Ending}
 use Rattle.plain_monitor.specs.declared.entry.Ending.TheVariants as ending
 use Rattle.plain_monitor.specs.declared.entry.Entry.{Entry}
@@ -99,6 +99,7 @@ module _ (s : ThreadState) (n : ℕ) (h : s.place < n) where
   stepping p (code.Get x o k) = objecting (local s o) (λ r. on_slot p s r k (call.Get x r k)) (λ r. slotting p r k (call.Get x r k))
   stepping p (code.Put o k x) = objecting (local s o) (λ r. on_slot p s r k (call.Put r k (local s x))) (λ r. slotting p r k (call.Put r k (local s x)))
   stepping p (code.Hash x o) = objecting (local s o) (λ r. Calls (call.Hash x r)) (λ r. tt)
+  stepping p (code.New x c) = by_test (nat_lt s.made most_made) TooMany (Calls (call.New x c)) tt
   stepping p (code.Print x) = tt
   stepping p (code.Jump l) = tt
   stepping p (code.Jlt x y l) = comparing (local s x) (local s y) l

@@ -136,7 +136,9 @@ end
     let Ok(program) = first.try_clone(rt.alloc()) else {
         panic!(rt; "no copy")
     };
+    assert!(rt; program.declared_total() == 6);
     assert!(rt; program.objects_total() == 6);
+    assert!(rt; program.made_slots() == 0);
     let rows = [
         (0, 1, 0, (0, 0)),
         (1, 0, 3, (1, 0)),
@@ -144,7 +146,7 @@ end
         (5, 1, 0, (2, 0)),
     ];
     for (o, class, slots, place) in rows {
-        if o < program.objects_total() {
+        if o < program.declared_total() {
             assert!(rt; program.class_of(o) == class, "{o}");
             assert!(rt; program.slots_of(o) == slots, "{o}");
             assert!(rt; program.place_of(o) == place, "{o}");

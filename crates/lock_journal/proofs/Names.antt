@@ -4,7 +4,7 @@ use Rattle.std.specs.Prelude.{nat_lt, slice_get, decimal}
 use Rattle.std.proofs.lemmas.Bool.Decides.{nat_tests}
 use Rattle.object_program.specs.Name.{is_name}
 use Rattle.plain_monitor.specs.Limits.{most_made}
-use Rattle.object_program.specs.Program.{ProgramText, declared_total, objects_total}
+use Rattle.object_program.specs.Program.{ProgramText, declared_total}
 use Rattle.object_program.specs.Valid.{AreNames}
 use Rattle.plain_machine.proofs.NeededObjects.{first_is_total}
 use Rattle.lock_journal.specs.Words.{declared_text, thread_text, object_text}
@@ -22,10 +22,10 @@ length_name_at name (y ∷ ys) zero x h e =
 length_name_at name (y ∷ ys) (suc n) x h e = length_name_at name ys n x h.2 e
 
 -- a declared object is written as one, and each other as a thread's
-pub declared_is : (p : ProgramText) (o : ℕ) → o < objects_total p → object_text p o ≡ declared_text p o
+pub declared_is : (p : ProgramText) (o : ℕ) → o < declared_total p → object_text p o ≡ declared_text p o
 declared_is p o h = let below : nat_lt o (declared_total p) ≡ true = grind (arith, nat_tests, h) in rw below refl
 
-pub made_is : (p : ProgramText) (o : ℕ) → objects_total p ≤ o → object_text p o ≡ thread_text p ((o - objects_total p) / most_made) ++ codes "." ++ decimal ((o - objects_total p) % most_made)
+pub made_is : (p : ProgramText) (o : ℕ) → declared_total p ≤ o → object_text p o ≡ thread_text p ((o - declared_total p) / most_made) ++ codes "." ++ decimal ((o - declared_total p) % most_made)
 made_is p o h =
     let late : nat_lt o (declared_total p) ≡ false = grind (arith, nat_tests, h) in
     rw late (ap (λ (n : ℕ). thread_text p ((o - n) / most_made) ++ codes "." ++ decimal ((o - n) % most_made)) (first_is_total p.objects))

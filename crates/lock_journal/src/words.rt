@@ -27,7 +27,7 @@ pub(crate) fn push_object_at(out: &mut Line, program: &Program, place: usize)
     ensures short { length out.new ≤ length out.old + 64 }
 {
     let objects = program.objects.items();
-    let declared = program.objects_total() as usize;
+    let declared = program.declared_total() as usize;
     if place >= declared {
         push_made(out, program, place - declared);
         return;

@@ -1,12 +1,14 @@
 -- A machine that is over takes nothing more.
-use Rattle.std.proofs.Common.{◌≡◌, inl, inr, ℕ, ◌+◌, ◌==◌, ◌&&◌, ◌||◌, cond, Bool, true, false, List, [], ◌∷◌, slice_get, Option, Some, None, is_none, option_and_then, refl, sym, ap, ◌∙◌, subst, arith}
-use Rattle.std.proofs.lemmas.Bool.{and_parts, false≢true}
+use Rattle.std.proofs.Common.{◌≡◌, inl, inr, ℕ, ◌+◌, ◌==◌, ◌&&◌, ◌||◌, cond, Bool, true, false, List, [], ◌∷◌, length, slice_get, Option, Some, None, is_none, option_and_then, refl, sym, ap, ◌∙◌, subst, arith}
+use Rattle.std.proofs.lemmas.Bool.{and_parts, cases_eq, false≢true}
 use Rattle.std.proofs.lemmas.Option.{cond_some, same_Some, none-some, get_or_from_slice_get}
 use Rattle.plain_monitor.specs.declared.entry.Entry.{Entry}
 use Rattle.plain_monitor.specs.declared.entry.Entry.TheVariants as entry
 use Rattle.plain_monitor.specs.Monitor.{PlainMonitor, only_if, is_thread, count_of, is_listed, is_outside, enter, resumed, resume}
 use Rattle.plain_monitor.specs.Objects.{PlainObject, new_object, take_entry}
 use Rattle.plain_monitor.specs.Listed.{times_in}
+use Rattle.plain_monitor.specs.Made.{made_by, made_number}
+use Rattle.object_program.specs.Program.{numbering_of}
 use Rattle.plain_history.specs.Sound.{IsSound}
 use Rattle.plain_history.proofs.Joined.{first_some}
 use Rattle.plain_history.proofs.SoundHistories.{AllSound, sound_at}
@@ -19,6 +21,7 @@ use Rattle.plain_machine.specs.Asking.{ask, fits, behind_entry, thread_after}
 use Rattle.plain_machine.specs.Machine.{PlainMachine, code_of, made_behind, take, moved, monitor_at, object_at, other_owner}
 use Rattle.plain_machine.specs.Offering.{unless_owned, hash_offer, asked_offer, offered, is_next}
 use Rattle.machine_laws.proofs.ReachedOver.{stuck_offers_nothing, ended_offers_nothing}
+use Rattle.machine_laws.proofs.RefusedEntries.{other_number}
 use Rattle.lone_logs.specs.LoneRun.{NoneGoesOn}
 use Rattle.lone_logs.proofs.Fitting.{IsOf, of_asked, moved_monitor}
 
@@ -30,6 +33,8 @@ pub record HasTaken (m n : PlainMachine) (t : ℕ) (e : Entry) : Type 0 where
   pub asks : ask s ≡ Some asked
   pub fit : fits asked e ≡ true
   pub takes : take_entry m.objects t e ≡ Some n.objects
+  -- an object that it makes has the thread's next number
+  pub next : (o c : ℕ) → e ≡ entry.New o c → o ≡ made_number (numbering_of m.program) t (length (made_by m.made t))
 
 both_moved : (m n : PlainMachine) (t : ℕ) (s : Option ThreadState) (made : Option (List (List ℕ))) (objects : Option (List PlainObject)) → moved m t s made objects ≡ Some n
     → (next : ThreadState) × (s ≡ Some next) × (objects ≡ Some n.objects)
@@ -38,6 +43,13 @@ both_moved m n t (Some s) None objects h = absurd (cc h)
 both_moved m n t (Some s) (Some made) None h = absurd (cc h)
 both_moved m n t (Some s) (Some made) (Some x) h = (s, refl, ap (λ (k : PlainMachine). Some k.objects) (same_Some _ n h))
 
+-- a taken New has the thread's next number
+next_made : (m n : PlainMachine) (t o c : ℕ) → take m t (entry.New o c) ≡ Some n → o ≡ made_number (numbering_of m.program) t (length (made_by m.made t))
+next_made m n t o c h = elim (cases_eq o (made_number (numbering_of m.program) t (length (made_by m.made t)))) [
+  | inl same ↦ same
+  | inr other ↦ absurd (none-some n (sym (other_number m t o c other) ∙ h))
+]
+
 pub has_taken : (m n : PlainMachine) (t : ℕ) (e : Entry) → take m t e ≡ Some n → HasTaken m n t e
 has_taken m n t e h =
     let step : ThreadState → Option PlainMachine = λ s. moved m t (thread_after m.program (code_of m.program t) s e) (made_behind m t e) (take_entry m.objects t e) in
@@ -45,7 +57,15 @@ has_taken m n t e h =
     let b = both_moved m n t (thread_after m.program (code_of m.program t) a.0 e) (made_behind m t e) (take_entry m.objects t e) a.2 in
     let answer : Asked → ThreadState = λ asked. behind_entry m.program (code_of m.program t) a.0 asked e in
     let c = first_some (λ asked. only_if (fits asked e) (answer asked)) (ask a.0) b.0 b.1 in
-    record { s = a.0; at = a.1; asked = c.0; asks = c.1; fit = (cond_some (fits c.0 e) (answer c.0) b.0 c.2).0; takes = b.2 }
+    record {
+      s = a.0;
+      at = a.1;
+      asked = c.0;
+      asks = c.1;
+      fit = (cond_some (fits c.0 e) (answer c.0) b.0 c.2).0;
+      takes = b.2;
+      next = λ o d is. next_made m n t o d (ap (take m t) (sym is) ∙ h);
+    }
 
 -- MONITORS
 no_owner : (owner : Option ℕ) → is_none owner ≡ true → owner ≡ None

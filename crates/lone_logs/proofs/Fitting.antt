@@ -37,6 +37,7 @@ IsOfCall (call.NotifyAll o) e = (woken : ℕ) × (e ≡ entry.NotifyAll o woken)
 IsOfCall (call.Get x o k) e = (value : Value) × (e ≡ entry.Get o k value)
 IsOfCall (call.Put o k v) e = e ≡ entry.Put o k v
 IsOfCall (call.Hash x o) e = (value : ℕ) × (drawn : Option ℕ) × (e ≡ entry.Hash o value drawn)
+IsOfCall (call.New x c) e = (object : ℕ) × (e ≡ entry.New object c)
 IsOfCall (call.Print v) e = e ≡ entry.Print v
 IsOfCall (call.Dump n) e = e ≡ entry.Dump n
 
@@ -73,6 +74,8 @@ of_call (call.Put o k v) (entry.Put i j w) h =
 of_call (call.Put o k v) e h = absurd (false≢true h)
 of_call (call.Hash x o) (entry.Hash k value drawn) h = (value, drawn, ap (λ i. entry.Hash i value drawn) (same_number o k h))
 of_call (call.Hash x o) e h = absurd (false≢true h)
+of_call (call.New x c) (entry.New object d) h = (object, ap (λ i. entry.New object i) (same_number c d h))
+of_call (call.New x c) e h = absurd (false≢true h)
 of_call (call.Print v) (entry.Print w) h = ap entry.Print (sym (same_is v w h))
 of_call (call.Print v) e h = absurd (false≢true h)
 of_call (call.Dump n) (entry.Dump k) h = ap entry.Dump (same_number n k h)
@@ -245,31 +248,36 @@ same_hash objects seen first n t o v w d g r b = by_seen (seen o) refl
 abbrev AreSame : Entry → Entry → Type 0
 AreSame e f = without_path e ≡ without_path f
 
+-- where both make an object, it is the same one
+abbrev pub MakeTheSame : Entry → Entry → Type 0
+MakeTheSame e f = (o p c : ℕ) → e ≡ entry.New o c → f ≡ entry.New p c → o ≡ p
+
 module _ (objects : List PlainObject) (seen : ℕ → Bool) (first n t : ℕ) where
   at_call : (c : Call) (e f : Entry) → IsOfCall c e → IsOfCall c f → IsTaken objects t e → IsTaken objects t f
-      → AreBefore objects seen first n e f → AreSame e f
-  at_call (call.Enter o) e f a b h k w = ap without_path a.1 ∙ sym (ap without_path b.1)
-  at_call (call.Exit o) e f a b h k w = ap without_path (a ∙ sym b)
-  at_call (call.Wait o) e f a b h k w = ap without_path (a ∙ sym b)
-  at_call (call.Put o i v) e f a b h k w = ap without_path (a ∙ sym b)
-  at_call (call.Print v) e f a b h k w = ap without_path (a ∙ sym b)
-  at_call (call.Dump i) e f a b h k w = ap without_path (a ∙ sym b)
-  at_call (call.Notify o) e f a b h k w =
+      → MakeTheSame e f → AreBefore objects seen first n e f → AreSame e f
+  at_call (call.Enter o) e f a b h k made w = ap without_path a.1 ∙ sym (ap without_path b.1)
+  at_call (call.Exit o) e f a b h k made w = ap without_path (a ∙ sym b)
+  at_call (call.Wait o) e f a b h k made w = ap without_path (a ∙ sym b)
+  at_call (call.Put o i v) e f a b h k made w = ap without_path (a ∙ sym b)
+  at_call (call.New x c) e f a b h k made w = ap without_path (a.1 ∙ ap (λ i. entry.New i c) (made a.0 b.0 c a.1 b.1) ∙ sym b.1)
+  at_call (call.Print v) e f a b h k made w = ap without_path (a ∙ sym b)
+  at_call (call.Dump i) e f a b h k made w = ap without_path (a ∙ sym b)
+  at_call (call.Notify o) e f a b h k made w =
       let r = taken_at objects h.0 t (entry.Notify o a.0) o (subst (λ x. take_entry objects t x ≡ Some h.0) a.1 h.1) in
       let q = taken_at objects k.0 t (entry.Notify o b.0) o (subst (λ x. take_entry objects t x ≡ Some k.0) b.1 k.1) in
       let same = same_woken objects t o a.0 b.0 (both_at objects t o _ _ h.0 k.0 r q) in
       ap without_path (a.1 ∙ ap (λ u. entry.Notify o u) same ∙ sym b.1)
-  at_call (call.NotifyAll o) e f a b h k w =
+  at_call (call.NotifyAll o) e f a b h k made w =
       let r = taken_at objects h.0 t (entry.NotifyAll o a.0) o (subst (λ x. take_entry objects t x ≡ Some h.0) a.1 h.1) in
       let q = taken_at objects k.0 t (entry.NotifyAll o b.0) o (subst (λ x. take_entry objects t x ≡ Some k.0) b.1 k.1) in
       let same = same_many objects t o a.0 b.0 (both_at objects t o _ _ h.0 k.0 r q) in
       ap without_path (a.1 ∙ ap (λ u. entry.NotifyAll o u) same ∙ sym b.1)
-  at_call (call.Get x o i) e f a b h k w =
+  at_call (call.Get x o i) e f a b h k made w =
       let r = taken_at objects h.0 t (entry.Get o i a.0) o (subst (λ x. take_entry objects t x ≡ Some h.0) a.1 h.1) in
       let q = taken_at objects k.0 t (entry.Get o i b.0) o (subst (λ x. take_entry objects t x ≡ Some k.0) b.1 k.1) in
       let same = same_get objects t o i a.0 b.0 (both_at objects t o _ _ h.0 k.0 r q) in
       ap without_path (a.1 ∙ ap (λ v. entry.Get o i v) same ∙ sym b.1)
-  at_call (call.Hash x o) e f a b h k w =
+  at_call (call.Hash x o) e f a b h k made w =
       let r = taken_at objects h.0 t (entry.Hash o a.0 a.1) o (subst (λ x. take_entry objects t x ≡ Some h.0) a.2 h.1) in
       let q = taken_at objects k.0 t (entry.Hash o b.0 b.1) o (subst (λ x. take_entry objects t x ≡ Some k.0) b.2 k.1) in
       let before : AreBefore objects seen first n (entry.Hash o a.0 a.1) (entry.Hash o b.0 b.1) =
@@ -279,8 +287,8 @@ module _ (objects : List PlainObject) (seen : ℕ → Bool) (first n t : ℕ) wh
 
   -- two entries that fit what the thread asks, and that the objects take, are the same but for the path
   pub same_entry : (a : Asked) (e f : Entry) → fits a e ≡ true → fits a f ≡ true → IsTaken objects t e → IsTaken objects t f
-      → AreBefore objects seen first n e f → without_path e ≡ without_path f
-  same_entry (Calls c) e f x y h k w = at_call c e f (of_call c e x) (of_call c f y) h k w
-  same_entry (Resumes o) e f x y h k w = ap without_path (of_resume o e x ∙ sym (of_resume o f y))
-  same_entry (Leaves o) e f x y h k w = ap without_path (of_exit o e x ∙ sym (of_exit o f y))
-  same_entry (Ends g) e f x y h k w = ap without_path (of_ending g e x ∙ sym (of_ending g f y))
+      → MakeTheSame e f → AreBefore objects seen first n e f → without_path e ≡ without_path f
+  same_entry (Calls c) e f x y h k made w = at_call c e f (of_call c e x) (of_call c f y) h k made w
+  same_entry (Resumes o) e f x y h k made w = ap without_path (of_resume o e x ∙ sym (of_resume o f y))
+  same_entry (Leaves o) e f x y h k made w = ap without_path (of_exit o e x ∙ sym (of_exit o f y))
+  same_entry (Ends g) e f x y h k made w = ap without_path (of_ending g e x ∙ sym (of_ending g f y))

@@ -108,7 +108,7 @@ first_same m next after seen first drawn stamp l k log other x y known g h r q =
     let state = same_Some q.s r.s (sym q.at ∙ r.at) in
     let asked = same_Some q.asked r.asked (sym q.asks ∙ ap ask state ∙ r.asks) in
     same_entry m.objects seen first drawn 0 r.asked l.entry k.entry r.fit (subst (λ a. fits a k.entry ≡ true) asked q.fit)
-    (next.objects, r.takes) (after.objects, q.takes)
+    (next.objects, r.takes) (after.objects, q.takes) (λ o p c is at. r.next o c is ∙ sym (q.next p c at))
     (record { hashes = known.hashes; drawn = g.firsts.0; drawn_other = h.firsts.0; next = g.draws.0; next_other = h.draws.0 })
 
 -- an entry cannot be logged at a machine that is over

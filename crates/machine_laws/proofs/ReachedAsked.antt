@@ -15,7 +15,6 @@ use Rattle.plain_machine.specs.Thread.{ThreadState}
 use Rattle.plain_machine.specs.Asking.{ask, ask_in, unwinds, held_from, fits, behind_entry, thread_after}
 use Rattle.plain_machine.specs.Machine.{PlainMachine, code_of, made_behind, moved, take}
 use Rattle.plain_machine.specs.Values.{IsObject}
-use Rattle.plain_machine.proofs.NeededObjects.{made_kept}
 use Rattle.machine_laws.specs.ReachedThread.{IsHeld, IsCallOf, IsModeOf, IsStateOf, IsThreadOf}
 use Rattle.machine_laws.proofs.ReachedFrame.{moved_to}
 
@@ -99,12 +98,14 @@ asked_of p s a h asks = asks_in p s s.mode a h.state refl h.mode asks
 pub record IsTaken (m : PlainMachine) (t : ℕ) (e : Entry) (next : PlainMachine) : Type 0 where
   pub s : ThreadState
   pub asked : Asked
+  pub behind : List (List ℕ)
   pub objects : List PlainObject
   pub at : slice_get m.threads t ≡ Some s
   pub asks : ask s ≡ Some asked
   pub fit : fits asked e ≡ true
+  pub makes : made_behind m t e ≡ Some behind
   pub takes : take_entry m.objects t e ≡ Some objects
-  pub is : moved_to m t (behind_entry m.program (code_of m.program t) s asked e) objects ≡ next
+  pub is : record (moved_to m t (behind_entry m.program (code_of m.program t) s asked e) objects) { made = behind } ≡ next
 
 -- all parts moved
 pub record IsMoved (m : PlainMachine) (t : ℕ) (state : Option ThreadState) (made : Option (List (List ℕ))) (parts : Option (List PlainObject)) (next : PlainMachine) : Type 0 where
@@ -136,17 +137,17 @@ taken m t e next h = option_and_then_some _ (slice_get m.threads t) next h at_st
         at_asked : (a : Asked) → ask s ≡ Some a → (if fits a e then Some (behind_entry m.program (code_of m.program t) s a e) else None) ≡ Some parts.s → IsTaken m t e next
         at_asked a asks only =
             let c = cond_some (fits a e) (behind_entry m.program (code_of m.program t) s a e) parts.s only in
-            let kept : m.made ≡ parts.behind = made_kept m t a e parts.behind c.0 parts.makes in
             record {
               s = s;
               asked = a;
+              behind = parts.behind;
               objects = parts.objects;
               at = at;
               asks = asks;
               fit = c.0;
+              makes = parts.makes;
               takes = parts.takes;
-              is = ap (λ (x : ThreadState). moved_to m t x parts.objects) c.1
-                  ∙ ap (λ (made : List (List ℕ)). record m { objects = parts.objects; made = made; threads = slice_set m.threads t parts.s }) kept ∙ parts.is;
+              is = ap (λ (x : ThreadState). record (moved_to m t x parts.objects) { made = parts.behind }) c.1 ∙ parts.is;
             }
 
 -- an entry that object o takes

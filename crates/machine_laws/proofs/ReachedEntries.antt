@@ -1,5 +1,5 @@
 -- Each entry that a reached machine takes leaves a reached machine with less work.
-use Rattle.std.proofs.Common.{◌≡◌, ℕ, true, pos, List, Option, Some, None, refl, sym, subst, eqb-true, ◌==◌, ◌&&◌}
+use Rattle.std.proofs.Common.{◌≡◌, ℕ, true, pos, List, Option, Some, None, refl, sym, ap, ◌∙◌, subst, eqb-true, ◌==◌, ◌&&◌}
 use Rattle.std.proofs.lemmas.Bool.{false≢true, and_parts}
 use Rattle.std.proofs.lemmas.Option.{same_Some, slice_get_within}
 use Rattle.plain_monitor.specs.declared.entry.Value.{Value}
@@ -22,6 +22,7 @@ use Rattle.plain_machine.specs.Values.{IsValueOf}
 use Rattle.machine_laws.specs.Reached.{IsReached}
 use Rattle.machine_laws.proofs.ReachedRunning.{set_state}
 use Rattle.machine_laws.proofs.ReachedFrame.{IsProgress, IsMaker, moved_to}
+use Rattle.machine_laws.proofs.ReachedNeeds.{made_kept}
 use Rattle.machine_laws.proofs.ReachedAsked.{IsPaid, IsAwaited, IsLeft, IsLast, IsAskedOf, IsTakenAt, asked_of, taken, taken_at}
 use Rattle.machine_laws.proofs.ReachedObjects.{same_is, enter_step, exit_step, wait_step, resume_step, notify_step, notify_all_step, get_step, put_step, hash_step}
 use Rattle.machine_laws.proofs.ReachedKinds.{in_wait, thread_of, state_of, call_alone, call_at, enter_kind, exit_kind, leave_kind, wait_kind, resume_kind, end_kind}
@@ -147,6 +148,7 @@ call_entry m t s (call.NotifyAll o) e objects h paid fit takes = notify_all_entr
 call_entry m t s (call.Get x o k) e objects h paid fit takes = get_entry m t x o k s e objects h paid fit takes
 call_entry m t s (call.Put o k v) e objects h paid fit takes = put_entry m t o k v s e objects h paid fit takes
 call_entry m t s (call.Hash x o) e objects h paid fit takes = hash_entry m t x o s e objects h paid fit takes
+call_entry m t s (call.New x c) e objects h paid fit takes = absurd paid.call
 call_entry m t s (call.Print v) e objects h paid fit takes = print_entry m t v s e objects h paid fit takes
 call_entry m t s (call.Dump k) e objects h paid fit takes = dump_entry m t k s e objects h paid fit takes
 
@@ -163,4 +165,6 @@ progress m next t e h takes =
     let k = taken m t e next takes in
     let maker : IsMaker m t k.s = record { reached = h; at = k.at } in
     let asked = asked_of m.program k.s k.asked (thread_of m t k.s maker) k.asks in
-    subst (IsProgress m) k.is (asked_entry m t k.s k.asked e k.objects maker asked k.fit k.takes)
+    let kept = made_kept m t k.s k.asked e k.behind asked k.fit k.makes in
+    let is = ap (λ (made : List (List ℕ)). record (moved_to m t (behind_entry m.program (code_of m.program t) k.s k.asked e) k.objects) { made = made }) kept ∙ k.is in
+    subst (IsProgress m) is (asked_entry m t k.s k.asked e k.objects maker asked k.fit k.takes)

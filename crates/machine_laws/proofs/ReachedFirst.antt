@@ -5,15 +5,16 @@ use Rattle.std.proofs.lemmas.Bool.{and_from}
 use Rattle.std.proofs.lemmas.Bool.Decides.{nat_tests}
 use Rattle.std.proofs.lemmas.Int.{ints}
 use Rattle.std.proofs.lemmas.List.{length-map, length-replicate}
-use Rattle.std.proofs.lemmas.Option.{none-some, same_Some}
+use Rattle.std.proofs.lemmas.Option.{none-some, same_Some, slice_get_within}
 use Rattle.plain_monitor.specs.declared.entry.Value.TheVariants.{Int}
 use Rattle.plain_monitor.specs.Monitor.{free_monitor}
 use Rattle.plain_monitor.specs.Objects.{PlainObject, new_object, new_objects}
 use Rattle.object_program.specs.declared.program.ClassDef.{ClassDef}
 use Rattle.object_program.specs.declared.program.ObjectDef.{ObjectDef}
 use Rattle.object_program.specs.declared.program.ThreadDef.{ThreadDef}
-use Rattle.object_program.specs.Program.{ProgramText, total_of, objects_total, shape_from, shape_of, slots_of_class, slots_of, has_object, class_from}
+use Rattle.object_program.specs.Program.{ProgramText, total_of, declared_total, objects_total, class_of, shape_from, shape_of, slots_of_class, slots_of, has_object, class_from}
 use Rattle.object_program.specs.Valid.{IsProgram, AreObjects}
+use Rattle.object_program.proofs.Made.{all_declared, declared_shape}
 use Rattle.plain_machine.specs.Thread.{ThreadState, holds_of}
 use Rattle.plain_machine.specs.Running.{first_state}
 use Rattle.plain_machine.specs.Machine.{new_machine}
@@ -96,7 +97,13 @@ new_slots : (p : ProgramText) → IsProgram p → AtEach (HasSlots p) (new_objec
 new_slots p h o x e =
     let r = new_at (shape_of p) o x e in
     let zero_value : IsValueOf (objects_total p) (Int (pos 0)) = (tt, (omega (arith, ints), omega (arith, ints))) in
-    let count : r.form.1 ≡ slots_of p o = shape_slots p.classes (length p.classes) 0 p.objects o r.form h.objects r.at ∙ ap (λ (i : ℕ). slots_of p i) (zero-add o) in
+    let at : slice_get (shape_from p.classes p.objects) o ≡ Some r.form = ap (λ s. slice_get s o) (sym (declared_shape p h)) ∙ r.at in
+    let within = slice_get_within (shape_from p.classes p.objects) o r.form at in
+    let total = shape_length p.classes p.objects in
+    let declared : nat_lt o (declared_total p) ≡ true = grind (arith, nat_tests, within, total) in
+    let by_class : r.form.1 ≡ slots_of_class p.classes (class_of p o) =
+    shape_slots p.classes (length p.classes) 0 p.objects o r.form h.objects at ∙ ap (λ (i : ℕ). slots_of_class p.classes (class_of p i)) (zero-add o) in
+    let count : r.form.1 ≡ slots_of p o = rw declared by_class in
     let fresh : HasSlots p o (new_object r.form.1) = record {
       count = length-replicate r.form.1 (Int (pos 0)) ∙ count;
       values = all_replicate (IsValueOf (objects_total p)) r.form.1 (Int (pos 0)) zero_value;
@@ -125,7 +132,8 @@ first_is_reached p fuel h =
       program = h;
       made = refl;
       thread_count = length-map p.threads _;
-      object_count = length-map (shape_of p) _ ∙ shape_length p.classes p.objects;
+      object_count =
+          length-map (shape_of p) _ ∙ ap length (declared_shape p h) ∙ shape_length p.classes p.objects ∙ sym (all_declared p h);
       threads = all_weaker (IsFirst p fuel) (IsThreadOf p) (λ s r. r.thread) (new_machine p fuel).threads threads;
       slots = new_slots p h;
       hashes = new_hashes (shape_of p);

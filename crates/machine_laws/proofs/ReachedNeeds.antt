@@ -1,9 +1,9 @@
 -- What a thread of a reached machine asks for finds the objects that it needs.
-use Rattle.std.proofs.Common.{◌≡◌, ℕ, ◌<◌, ◌&&◌, nat_lt, Bool, true, false, List, [], ◌∷◌, ◌++◌, length, Option, Some, None, refl, sym, ap, ◌∙◌, arith}
+use Rattle.std.proofs.Common.{◌≡◌, ℕ, nat_lt, true, List, ◌++◌, Option, Some, None, refl, sym, ap, ◌∙◌, arith}
 use Rattle.std.specs.List.{list_all}
 use Rattle.std.proofs.lemmas.Bool.{false≢true, and_parts}
 use Rattle.std.proofs.lemmas.Bool.Decides.{nat_tests}
-use Rattle.std.proofs.lemmas.Option.{slice_get_within}
+use Rattle.std.proofs.lemmas.Option.{slice_get_within, cond_some}
 use Rattle.plain_monitor.specs.declared.entry.Value.{Value}
 use Rattle.plain_monitor.specs.declared.entry.Value.TheVariants.{Nil, Int, Ref}
 use Rattle.plain_monitor.specs.declared.entry.Ending.TheVariants as ending
@@ -11,8 +11,10 @@ use Rattle.plain_monitor.specs.declared.entry.Entry.{Entry}
 use Rattle.plain_monitor.specs.declared.entry.Entry.TheVariants as entry
 use Rattle.plain_monitor.specs.Monitor.{only_if}
 use Rattle.plain_monitor.specs.Objects.{PlainObject, named, same_value, take_named, take_entry}
-use Rattle.plain_monitor.specs.Made.{one_or_none, refers, hands_on, needs}
-use Rattle.object_program.specs.Program.{objects_total}
+use Rattle.plain_monitor.specs.Made.{is_there, creates, one_or_none, refers, hands_on, needs, take_created}
+use Rattle.object_program.specs.Program.{ProgramText, objects_total, numbering_of}
+use Rattle.object_program.proofs.Made.{all_declared}
+use Rattle.plain_machine.specs.declared.call.Call.{Call}
 use Rattle.plain_machine.specs.declared.call.Asked.{Asked}
 use Rattle.plain_machine.specs.declared.call.Asked.TheVariants.{Calls, Resumes, Leaves, Ends}
 use Rattle.plain_machine.specs.declared.call.Call.TheVariants as call
@@ -20,7 +22,7 @@ use Rattle.plain_machine.specs.Thread.{ThreadState}
 use Rattle.plain_machine.specs.Asking.{fits}
 use Rattle.plain_machine.specs.Machine.{PlainMachine, made_behind}
 use Rattle.plain_machine.specs.Values.{IsValueOf}
-use Rattle.plain_machine.proofs.NeededObjects.{made_stays}
+use Rattle.plain_machine.proofs.NeededObjects.{declared_are_there}
 use Rattle.machine_laws.specs.Reached.{IsReached}
 use Rattle.machine_laws.proofs.ReachedAsked.{IsAskedOf, taken_at}
 use Rattle.machine_laws.proofs.ReachedObjects.{same_is}
@@ -72,11 +74,58 @@ both_declared : (n : ℕ) (w : Option ℕ) (os : List ℕ) → ((o : ℕ) → w 
 both_declared n None os named rest = rest
 both_declared n (Some o) os named rest = rw (named o refl) rest
 
--- so what is made stays as it is, where the objects take the entry
+-- no thread asks for a new object, as no program has a `new` yet
+pub asks_no_new : (p : ProgramText) (s : ThreadState) (a : Asked) (e : Entry) → IsAskedOf p s a → fits a e ≡ true → creates e ≡ None
+asks_no_new p s (Calls (call.New x c)) e asked fit = absurd asked.call
+asks_no_new p s (Calls c) (entry.New object class) asked fit = absurd (no_other_call c object class asked fit)
+  where
+    no_other_call : (c : Call) (object class : ℕ) → IsAskedOf p s (Calls c) → fits (Calls c) (entry.New object class) ≡ true → ⊥
+    no_other_call (call.New x c) object class asked fit = asked.call
+    no_other_call (call.Enter o) object class asked fit = false≢true fit
+    no_other_call (call.Exit o) object class asked fit = false≢true fit
+    no_other_call (call.Wait o) object class asked fit = false≢true fit
+    no_other_call (call.Notify o) object class asked fit = false≢true fit
+    no_other_call (call.NotifyAll o) object class asked fit = false≢true fit
+    no_other_call (call.Get x o k) object class asked fit = false≢true fit
+    no_other_call (call.Put o k v) object class asked fit = false≢true fit
+    no_other_call (call.Hash x o) object class asked fit = false≢true fit
+    no_other_call (call.Print v) object class asked fit = false≢true fit
+    no_other_call (call.Dump n) object class asked fit = false≢true fit
+asks_no_new p s (Resumes k) (entry.New object class) asked fit = absurd (false≢true fit)
+asks_no_new p s (Leaves k) (entry.New object class) asked fit = absurd (false≢true fit)
+asks_no_new p s (Ends (ending.Trap f i)) (entry.New object class) asked fit = absurd (false≢true fit)
+asks_no_new p s (Ends g) (entry.New object class) asked fit = absurd (false≢true fit)
+asks_no_new p s a (entry.Enter o path) asked fit = refl
+asks_no_new p s a (entry.Exit o) asked fit = refl
+asks_no_new p s a (entry.Wait o) asked fit = refl
+asks_no_new p s a (entry.Resume o) asked fit = refl
+asks_no_new p s a (entry.Notify o w) asked fit = refl
+asks_no_new p s a (entry.NotifyAll o w) asked fit = refl
+asks_no_new p s a (entry.Get o k v) asked fit = refl
+asks_no_new p s a (entry.Put o k v) asked fit = refl
+asks_no_new p s a (entry.Hash o v d) asked fit = refl
+asks_no_new p s a (entry.Print v) asked fit = refl
+asks_no_new p s a (entry.Dump n) asked fit = refl
+asks_no_new p s a (entry.Trap f i) asked fit = refl
+asks_no_new p s a entry.Spent asked fit = refl
+asks_no_new p s a entry.Done asked fit = refl
+
+-- so what is made stays as it is behind each entry
+pub made_kept : (m : PlainMachine) (t : ℕ) (s : ThreadState) (a : Asked) (e : Entry) (after : List (List ℕ)) → IsAskedOf m.program s a → fits a e ≡ true
+    → made_behind m t e ≡ Some after → m.made ≡ after
+made_kept m t s a e after asked fit h =
+    let step : take_created (numbering_of m.program) m.made t e None ≡ Some after =
+    ap (take_created (numbering_of m.program) m.made t e) (sym (asks_no_new m.program s a e asked fit)) ∙ h in
+    (cond_some (list_all (is_there (numbering_of m.program) m.made) (needs e)) m.made after step).1
+
+-- and there is such an entry where the objects take it
 pub made_there : (m : PlainMachine) (t : ℕ) (s : ThreadState) (a : Asked) (e : Entry) (after : List PlainObject) → IsReached m → IsAskedOf m.program s a → fits a e ≡ true
     → take_entry m.objects t e ≡ Some after → made_behind m t e ≡ Some m.made
 made_there m t s a e after h asked fit takes =
     let all : AreDeclared (objects_total m.program) (needs e) =
     both_declared (objects_total m.program) (named e) (hands_on e)
     (λ o is. named_declared m t e after o h (ap (take_named m.objects t e) (sym is) ∙ takes)) (handed_declared m s a e asked fit) in
-    made_stays m t a e h.made fit ∙ ap (λ b. only_if b m.made) all
+    ap (take_created (numbering_of m.program) m.made t e) (asks_no_new m.program s a e asked fit)
+    ∙ ap (λ made. only_if (list_all (is_there (numbering_of m.program) made) (needs e)) m.made) h.made
+    ∙ ap (λ b. only_if b m.made) (declared_are_there m.program (needs e))
+    ∙ ap (λ (n : ℕ). only_if (list_all (λ o. nat_lt o n) (needs e)) m.made) (sym (all_declared m.program h.program)) ∙ ap (λ b. only_if b m.made) all

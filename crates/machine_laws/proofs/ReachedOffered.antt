@@ -17,7 +17,7 @@ use Rattle.plain_machine.specs.declared.offer.Offer.{Offer}
 use Rattle.plain_machine.specs.declared.offer.Offer.TheVariants as offer
 use Rattle.plain_machine.specs.Thread.{ThreadState}
 use Rattle.plain_machine.specs.Asking.{ask, fits, is_ending, fault_number, behind_entry, thread_after}
-use Rattle.plain_machine.specs.Machine.{PlainMachine, code_of, moved, take, object_at, monitor_at, slot_at, other_owner}
+use Rattle.plain_machine.specs.Machine.{PlainMachine, code_of, take, object_at, monitor_at, slot_at, other_owner}
 use Rattle.plain_monitor.specs.Endings.{ending_entry}
 use Rattle.plain_machine.specs.Offering.{unless_owned, hash_offer, oldest, asked_offer, offered}
 use Rattle.machine_laws.specs.ReachedMonitor.{waiting_on}
@@ -109,6 +109,7 @@ call_offered m t s (call.Put o k v) e h asks paid next =
     let owner = caller_owns m t o s (call.Put o k v) h paid paid.call.0 in
     taken_as m t (Put o k v) e next (take_some m t s (Calls (call.Put o k v)) (Put o k v) h asks (put_fits o k v) (put_taken m t o k v s owner paid.call.1))
 call_offered m t s (call.Hash x o) e h asks paid next = hash_offered m t x o s e (object_at m o).hash h asks paid refl next
+call_offered m t s (call.New x c) e h asks paid next = absurd paid.call
 call_offered m t s (call.Print v) e h asks paid next = taken_as m t (Print v) e next (take_some m t s (Calls (call.Print v)) (Print v) h asks (same_itself v) refl)
 call_offered m t s (call.Dump n) e h asks paid next = taken_as m t (Dump n) e next (take_some m t s (Calls (call.Dump n)) (Dump n) h asks (eq-eqb n n refl) refl)
 

@@ -16,7 +16,8 @@ use Rattle.plain_monitor.specs.declared.entry.Entry.TheVariants.{Enter, Exit, Ge
 use Rattle.plain_monitor.specs.Monitor.{PlainMonitor, is_thread, is_listed, owns, calls, notify}
 use Rattle.plain_monitor.specs.Objects.{PlainObject, new_object, same_value, hashed, with_monitor, with_hash, take_named, take_entry}
 use Rattle.plain_monitor.specs.Made.{is_there}
-use Rattle.object_program.specs.Program.{objects_total, numbering_of}
+use Rattle.object_program.specs.Program.{declared_total, objects_total, numbering_of}
+use Rattle.object_program.proofs.Made.{all_declared}
 use Rattle.plain_machine.specs.declared.call.Call.TheVariants as call
 use Rattle.plain_machine.specs.declared.call.Asked.{Asked}
 use Rattle.plain_machine.specs.declared.call.Asked.TheVariants.{Calls, Resumes, Leaves, Ends}
@@ -37,6 +38,7 @@ use Rattle.machine_laws.proofs.ReachedLists.{each_or, at_within, all_bounded}
 use Rattle.machine_laws.proofs.ReachedMonitor.{free_is}
 use Rattle.machine_laws.proofs.ReachedFrame.{IsMaker}
 use Rattle.machine_laws.proofs.ReachedAsked.{IsAskedOf, asked_of, taken, taken_at}
+use Rattle.machine_laws.proofs.ReachedNeeds.{asks_no_new}
 use Rattle.machine_laws.proofs.ReachedObjects.{same_is, get_step, hash_taken}
 use Rattle.machine_laws.proofs.ReachedKinds.{thread_of}
 use Rattle.machine_laws.proofs.ReachedStanding.{beside}
@@ -146,15 +148,6 @@ print_of m s (Leaves o) v asked fit = absurd (false≢true fit)
 print_of m s (Ends (ending.Trap f i)) v asked fit = absurd (false≢true fit)
 print_of m s (Ends g) v asked fit = absurd (false≢true fit)
 
--- nobody asks for a new object
-pub new_unasked : (a : Asked) (o c : ℕ) → fits a (New o c) ≡ true → ⊥
-new_unasked (Calls (call.Print w)) o c fit = false≢true fit
-new_unasked (Calls d) o c fit = false≢true fit
-new_unasked (Resumes p) o c fit = false≢true fit
-new_unasked (Leaves p) o c fit = false≢true fit
-new_unasked (Ends (ending.Trap f i)) o c fit = false≢true fit
-new_unasked (Ends g) o c fit = false≢true fit
-
 put_of : (m : PlainMachine) (s : ThreadState) (a : Asked) (o k : ℕ) (v : Value) → IsAskedOf m.program s a → fits a (Put o k v) ≡ true → IsValueOf (objects_total m.program) v
 put_of m s (Calls (call.Put p j w)) o k v asked fit =
     subst (IsValueOf (objects_total m.program)) (same_is w v (and_parts ((p == o) && (j == k)) (same_value w v) fit).1) asked.call.2
@@ -193,7 +186,7 @@ entry_of m t s a (Put o k v) after h asked fit takes = (within m.objects o t (Pu
 entry_of m t s a (Hash o v drawn) after h asked fit takes =
     let r = taken_at m.objects o t (Hash o v drawn) after takes in
     (within m.objects o t (Hash o v drawn) after takes, hash_of r.x r.y v (hashed r.x.hash v) refl (h.hashes o r.x r.there) r.takes)
-entry_of m t s a (New o c) after h asked fit takes = absurd (new_unasked a o c fit)
+entry_of m t s a (New o c) after h asked fit takes = absurd (none-some (o, c) (sym (asks_no_new m.program s a (New o c) asked fit)))
 entry_of m t s a (Print v) after h asked fit takes = of_machine m v h (print_of m s a v asked fit)
 entry_of m t s a (Dump n) after h asked fit takes = (dump_of m s a n asked fit).1
 entry_of m t s a (Trap f i) after h asked fit takes = tt
@@ -288,7 +281,8 @@ dumped_in_range m next t number s h at takes =
 reference_is_there : (m : PlainMachine) (o : ℕ) → IsReached m → o < length m.objects → is_there (numbering_of m.program) m.made o ≡ true
 reference_is_there m o h within =
     let count = h.object_count in
-    let declared : nat_lt o (objects_total m.program) ≡ true = grind (arith, nat_tests, within, count) in
+    let all = all_declared m.program h.program in
+    let declared : nat_lt o (declared_total m.program) ≡ true = grind (arith, nat_tests, within, count, all) in
     ap (λ made. is_there (numbering_of m.program) made o) h.made ∙ declared_is_there m.program o ∙ declared
 
 pub local_is_there : (m : PlainMachine) (t x o : ℕ) (s : ThreadState) → IsReached m → slice_get m.threads t ≡ Some s → local s x ≡ Ref o → is_there (numbering_of m.program) m.made o ≡ true

@@ -32,11 +32,13 @@ use Rattle.plain_monitor.proofs.Lists.{all_or, all_set, all_replicate, all_map, 
 abbrev pub IsRunnable : ℕ → Code → Type 0
 IsRunnable n (code.Set x v) = IsInRange v
 IsRunnable n (code.Ref x k) = k < n
+IsRunnable n (code.New x c) = ⊥
 IsRunnable n c = Unit {0}
 
 runnable : (locals n : ℕ) (labels : List LabelDef) (c : Code) → IsInstruction locals n labels c → IsRunnable n c
 runnable locals n labels (code.Set x v) h = h.1
 runnable locals n labels (code.Ref x k) h = h.1
+runnable locals n labels (code.New x c) h = h
 runnable locals n labels c h = tt
 
 -- each thread's instructions are runnable
@@ -182,6 +184,7 @@ step_keeps p s (code.NotifyAll x) h st r = object_step p s x (λ o. owner_only s
 step_keeps p s (code.Get x y k) h st r = object_step p s y (λ o. on_slot p s o k (call.Get x o k)) st (λ o l. slot_step p s o k (call.Get x o k) (λ held slot. ((l, held), slot)))
 step_keeps p s (code.Put y k x) h st r = object_step p s y (λ o. on_slot p s o k (call.Put o k (local s x))) st (λ o l. slot_step p s o k (call.Put o k (local s x)) (λ held slot. ((l, held), slot, local_value p s x st)))
 step_keeps p s (code.Hash x y) h st r = object_step p s y (λ o. Calls (call.Hash x o)) st (λ o l. l)
+step_keeps p s (code.New x c) h st r = absurd r
 step_keeps p s (code.Print x) h st r = local_value p s x st
 step_keeps p s (code.Jump l) h st r = at_place p s _ st
 step_keeps p s (code.Jlt x y l) h st r = below_step p s (local s x) (local s y) l st

@@ -1,9 +1,10 @@
 -- Entries that find something missing are taken by no machine.
 use Rattle.std.proofs.Common.{◌≡◌, ◌≢◌, ℕ, ◌≤◌, ◌==◌, ◌&&◌, ◌||◌, nat_lt, Bool, true, false, List, [], ◌∷◌, length, refl, ap, sym, ◌∙◌, arith, eqb-true, None}
 use Rattle.std.specs.List.{list_all, list_any}
+use Rattle.std.proofs.lemmas.Bool.{false≢true}
 use Rattle.std.proofs.lemmas.Bool.Decides.{nat_tests}
 use Rattle.plain_monitor.specs.declared.entry.Entry.{Entry}
-use Rattle.plain_monitor.specs.declared.entry.Entry.TheVariants.{New}
+use Rattle.plain_monitor.specs.declared.entry.Entry.TheVariants.{Enter, Exit, Get, Put, Wait, Resume, Notify, NotifyAll, Hash, New, Print, Dump, Trap, Spent, Done}
 use Rattle.plain_monitor.specs.Limits.{most_made}
 use Rattle.plain_monitor.specs.Made.{Numbering, made_number, made_by, is_there, creates, needs, take_created}
 use Rattle.object_program.specs.Program.{numbering_of}
@@ -24,9 +25,27 @@ not_all n made o (i ∷ os) h none = by_test (o == i) refl h (λ g. not_all n ma
     by_test true e g ih = let same = eqb-true o i e in ap (λ j. is_there n made j && list_all (is_there n made) os) (sym same) ∙ ap (λ b. b && list_all (is_there n made) os) none
     by_test false e g ih = ap (λ b. is_there n made i && b) (ih g) ∙ and_false (is_there n made i)
 
-pub not_there : (m : PlainMachine) (t o : ℕ) (e : Entry) → creates e ≡ None → list_any (λ i. o == i) (needs e) ≡ true → is_there (numbering_of m.program) m.made o ≡ false → take m t e ≡ None
-not_there m t o e makes among none =
-    nothing_taken m t e (ap (take_created (numbering_of m.program) m.made t e) makes ∙ rw (not_all (numbering_of m.program) m.made o (needs e) among none) refl)
+-- an entry that makes an object needs none
+maker_needs_none : (o : ℕ) (e : Entry) → list_any (λ i. o == i) (needs e) ≡ true → creates e ≡ None
+maker_needs_none o (New object class) h = absurd (false≢true h)
+maker_needs_none o (Enter object path) h = refl
+maker_needs_none o (Exit object) h = refl
+maker_needs_none o (Get object slot value) h = refl
+maker_needs_none o (Put object slot value) h = refl
+maker_needs_none o (Wait object) h = refl
+maker_needs_none o (Resume object) h = refl
+maker_needs_none o (Notify object woken) h = refl
+maker_needs_none o (NotifyAll object woken) h = refl
+maker_needs_none o (Hash object value drawn) h = refl
+maker_needs_none o (Print value) h = refl
+maker_needs_none o (Dump number) h = refl
+maker_needs_none o (Trap fault index) h = refl
+maker_needs_none o Spent h = refl
+maker_needs_none o Done h = refl
+
+pub not_there : (m : PlainMachine) (t o : ℕ) (e : Entry) → list_any (λ i. o == i) (needs e) ≡ true → is_there (numbering_of m.program) m.made o ≡ false → take m t e ≡ None
+not_there m t o e among none =
+    nothing_taken m t e (ap (take_created (numbering_of m.program) m.made t e) (maker_needs_none o e among) ∙ rw (not_all (numbering_of m.program) m.made o (needs e) among none) refl)
 
 pub other_number : (m : PlainMachine) (t o c : ℕ) → o ≢ made_number (numbering_of m.program) t (length (made_by m.made t)) → take m t (New o c) ≡ None
 other_number m t o c d =

@@ -14,7 +14,7 @@ use Rattle.plain_machine.specs.Values.{IsObject, IsValueOf}
 abbrev pub IsHeld : ProgramText → List ℕ → ℕ → Type 0
 IsHeld p holds o = IsObject p o × (1 ≤ slice_index holds o)
 
--- a call that a thread with these holds and so many dumps may make
+-- a call that a thread with these holds and so many dumps may make; no program makes objects yet
 abbrev pub IsCallOf : ProgramText → List ℕ → ℕ → Call → Type 0
 IsCallOf p holds dumps (call.Enter o) = IsObject p o × (sum holds < most_holds)
 IsCallOf p holds dumps (call.Exit o) = IsHeld p holds o
@@ -24,6 +24,7 @@ IsCallOf p holds dumps (call.NotifyAll o) = IsHeld p holds o
 IsCallOf p holds dumps (call.Get x o k) = IsHeld p holds o × (k < slots_of p o)
 IsCallOf p holds dumps (call.Put o k v) = IsHeld p holds o × (k < slots_of p o) × IsValueOf (objects_total p) v
 IsCallOf p holds dumps (call.Hash x o) = IsObject p o
+IsCallOf p holds dumps (call.New x c) = ⊥
 IsCallOf p holds dumps (call.Print v) = IsValueOf (objects_total p) v
 IsCallOf p holds dumps (call.Dump k) = (k ≡ dumps + 1) × (k ≤ 4)
 

@@ -5,14 +5,14 @@ ghost use Rattle.std.specs.List.{list_any};
 ghost use Rattle.plain_monitor.specs.declared.entry.Entry.{Entry};
 ghost use Rattle.plain_monitor.specs.declared.entry.Entry.TheVariants.{New};
 ghost use Rattle.plain_monitor.specs.Limits.{most_made};
-ghost use Rattle.plain_monitor.specs.Made.{made_number, made_by, is_there, creates, needs};
+ghost use Rattle.plain_monitor.specs.Made.{made_number, made_by, is_there, needs};
 ghost use Rattle.object_program.specs.Program.{numbering_of};
 ghost use Rattle.plain_machine.specs.Machine.{PlainMachine, take};
 
 /// An object is neither named, nor put, nor printed before its New.
 pub fn what_is_not_there_is_refused()
     ensures { (m : PlainMachine) (t o : ℕ) (e : Entry)
-        → creates e ≡ None → list_any (λ i. o == i) (needs e) ≡ true → is_there (numbering_of m.program) m.made o ≡ false
+        → list_any (λ i. o == i) (needs e) ≡ true → is_there (numbering_of m.program) m.made o ≡ false
         → take m t e ≡ None }
 {}
 

@@ -10,7 +10,7 @@ use Rattle.object_program.specs.declared.program.ObjectDef.{ObjectDef}
 use Rattle.object_program.specs.declared.program.LabelDef.{LabelDef}
 use Rattle.object_program.specs.declared.program.ThreadDef.{ThreadDef}
 use Rattle.object_program.specs.declared.program.Code.{Code}
-use Rattle.object_program.specs.declared.program.Code.TheVariants.{Set, Add, Sub, Mul, Ref, Elem, Enter, Exit, Wait, Notify, NotifyAll, Get, Put, Hash, Print, Jump, Jlt, Jeq, Dump, End}
+use Rattle.object_program.specs.declared.program.Code.TheVariants.{Set, Add, Sub, Mul, Ref, Elem, Enter, Exit, Wait, Notify, NotifyAll, Get, Put, Hash, New, Print, Jump, Jlt, Jeq, Dump, End}
 
 -- the name stands among these
 abbrev pub is_among : List (List ℕ) → List ℕ → Bool
@@ -33,7 +33,7 @@ abbrev pub is_target : List LabelDef → ℕ → Bool
 is_target labels l = list_any (λ d. d.index == l) labels
 
 -- the operands of an instruction: its locals are declared, its declaration of objects too, its slot is one that objects may have, its number
--- is in range, and a label of its thread names its target
+-- is in range, and a label of its thread names its target. No program makes objects yet: texts have no word for it
 abbrev pub IsInstruction : ℕ → ℕ → List LabelDef → Code → Type 0
 IsInstruction locals objects labels (Set x v) = (x < locals) × IsInRange v
 IsInstruction locals objects labels (Add x y z) = (x < locals) × (y < locals) × (z < locals)
@@ -49,6 +49,7 @@ IsInstruction locals objects labels (NotifyAll x) = x < locals
 IsInstruction locals objects labels (Get x o k) = (x < locals) × (o < locals) × (k < most_slots)
 IsInstruction locals objects labels (Put o k x) = (o < locals) × (k < most_slots) × (x < locals)
 IsInstruction locals objects labels (Hash x o) = (x < locals) × (o < locals)
+IsInstruction locals objects labels (New x c) = ⊥
 IsInstruction locals objects labels (Print x) = x < locals
 IsInstruction locals objects labels (Jump l) = is_target labels l ≡ true
 IsInstruction locals objects labels (Jlt x y l) = (x < locals) × (y < locals) × (is_target labels l ≡ true)

@@ -39,7 +39,7 @@ pub struct ThreadDef {
     pub code: List<Code>,
 }
 
-/// An instruction. `x`, `y`, `z`, `i` and `o` are numbers of locals, `n` of a declaration of objects and `k` of a slot, all from 0;
+/// An instruction. `x`, `y`, `z`, `i` and `o` are numbers of locals, `n` of a declaration of objects, `c` of a class and `k` of a slot, all from 0;
 /// `v` is a number from -2^61 to 2^61 - 1; and `l` is the number of the target instruction, from 1, which a label of the thread
 /// names.
 #[derive(Clone, Copy, Debug, PartialEq, Eq)]
@@ -72,6 +72,8 @@ pub enum Code {
     Put { o: u32, k: u32, x: u32 },
     /// x becomes the identity hash of the object that o refers to.
     Hash { x: u32, o: u32 },
+    /// x refers to a new object of class c. No text has a word for it yet.
+    New { x: u32, c: u32 },
     /// Prints x.
     Print { x: u32 },
     /// Goes on at l.

@@ -1,33 +1,59 @@
 //! The objects of a program, and a copy of it.
 
 ghost use Rattle.std.specs.Prelude.{◌≡◌, ◌<◌, ◌≤◌, length, IfOk};
+ghost use Rattle.std.specs.List.{list_any};
 ghost use Rattle.object_program.specs.Limits.{most_objects};
-ghost use Rattle.object_program.specs.Program.{objects_total, class_of, slots_of, place_of, has_object};
-ghost use Rattle.object_program.specs.Program.{class_from, total_of, place_from};
+ghost use Rattle.object_program.specs.Program.{declared_total, objects_total, made_slots, is_new, has_new, slots_made, most_in_code, most_in, class_of, slots_of, place_of, has_object};
+ghost use Rattle.object_program.specs.Program.{class_from, place_from};
 
-use crate::program::{ClassDef, ObjectDef, Program, ThreadDef};
+use crate::program::{ClassDef, Code, ObjectDef, Program, ThreadDef};
+use plain_monitor::limits::MADE;
 use plain_monitor::{List, NoMemory};
 use std::alloc::{AllocError, Global};
 
 impl Program {
-    /// How many objects the program declares, at most 4,096.
+    /// How many objects the program declares, at most 4,096: declarations stand for neighbouring numbers, from 0 on.
+    #[tactic(auto, using(crate::proofs::Shapes::last_total))]
+    pub fn declared_total(&self) -> u32
+        ensures { result ≡ declared_total self.now }
+    {
+        match self.objects.items().last() {
+            Some(object) => object.first + object.size,
+            None => 0,
+        }
+    }
+
+    /// How many numbers objects have: those of the declared ones, and where some thread has a `new`, 1,024 for each thread.
     pub fn objects_total(&self) -> u32
         ensures { result ≡ objects_total self.now }
     {
-        total_among(self.objects.items())
+        let declared = self.declared_total();
+        let threads = self.threads.items();
+        if has_new(threads) {
+            declared + MADE * threads.len() as u32
+        } else {
+            declared
+        }
     }
 
-    /// The number of the class of object `o`.
+    /// The slots of an object that a thread makes, at most 16.
+    pub fn made_slots(&self) -> u32
+        ensures { result ≡ made_slots self.now }
+    {
+        most_in(self.classes.items(), self.threads.items())
+    }
+
+    /// The number of the class of declared object `o`.
     pub fn class_of(&self, o: u32) -> u32
-        requires { o < objects_total self.now }
+        requires { o < declared_total self.now }
         ensures { result ≡ class_of self.now o }
     {
         class_among(self.objects.items(), o)
     }
 
-    /// The number of slots of object `o`, at most 16.
+    /// The number of slots of declared object `o`, at most 16.
     pub fn slots_of(&self, o: u32) -> u32
-        requires { o < objects_total self.now }
+        requires { o < declared_total self.now }
         ensures { result ≡ slots_of self.now o }
     {
         let class = class_among(self.objects.items(), o);
@@ -37,9 +63,9 @@ impl Program {
         }
     }
 
-    /// The number of the declaration that stands for object `o`, and which element of it the object is, from 0.
+    /// The number of the declaration that stands for declared object `o`, and which element of it the object is, from 0.
     pub fn place_of(&self, o: u32) -> (u32, u32)
-        requires { o < objects_total self.now }
+        requires { o < declared_total self.now }
         ensures { result ≡ place_of self.now o }
     {
         place_among(self.objects.items(), o)
@@ -67,17 +93,76 @@ fn has_object(object: &ObjectDef, o: u32) -> bool
     object.first <= o && o - object.first < object.size
 }
 
-/// How many objects the declarations stand for.
-#[tactic(auto, using(crate::proofs::Shapes::total_step))]
-fn total_among(objects: &[ObjectDef]) -> u32
-    requires { total_of objects.now ≤ most_objects }
-    ensures { result ≡ total_of objects.now }
+/// Whether some thread has a `new`.
+#[tactic(auto, using(crate::proofs::Made::has_new_step))]
+fn has_new(threads: &[ThreadDef]) -> bool
+    ensures { result ≡ has_new threads.now }
 {
-    let mut total = 0;
-    for object in objects {
-        total += object.size;
+    for thread in threads {
+        if any_new(thread.code.items()) {
+            return true;
+        }
     }
-    total
+    false
+}
+
+/// Whether an instruction is a `new`.
+#[tactic(auto, using(crate::proofs::Made::any_new_step))]
+fn any_new(code: &[Code]) -> bool
+    ensures { result ≡ list_any is_new code.now }
+{
+    for instruction in code {
+        if is_new(*instruction) {
+            return true;
+        }
+    }
+    false
+}
+
+fn is_new(instruction: Code) -> bool
+    ensures { result ≡ is_new instruction }
+{
+    match instruction {
+        Code::New { .. } => true,
+        _ => false,
+    }
+}
+
+/// The slots of the largest class that a `new` of these threads names.
+#[tactic(auto, using(crate::proofs::Made::most_in_step))]
+fn most_in(classes: &[ClassDef], threads: &[ThreadDef]) -> u32
+    ensures { result ≡ most_in classes.now threads.now }
+{
+    let mut most = 0;
+    for thread in threads {
+        most = most.max(most_in_code(classes, thread.code.items()));
+    }
+    most
+}
+
+/// The slots of the largest class that a `new` of this code names.
+#[tactic(auto, using(crate::proofs::Made::most_in_code_step))]
+fn most_in_code(classes: &[ClassDef], code: &[Code]) -> u32
+    ensures { result ≡ most_in_code classes.now code.now }
+{
+    let mut most = 0;
+    for instruction in code {
+        most = most.max(slots_made(classes, *instruction));
+    }
+    most
+}
+
+/// The slots of the class that the instruction makes an object of.
+fn slots_made(classes: &[ClassDef], instruction: Code) -> u32
+    ensures { result ≡ slots_made classes.now instruction }
+{
+    match instruction {
+        Code::New { c, .. } => match classes.get(c as usize) {
+            None => 0,
+            Some(class) => class.slots,
+        },
+        _ => 0,
+    }
 }
 
 /// The number of the declaration that stands for object `o`, and which element the object is.

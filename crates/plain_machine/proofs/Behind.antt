@@ -219,6 +219,10 @@ quiet_hash : (l o t : ℕ) (e : Entry) → is_call (call.Hash l o) e ≡ true �
 quiet_hash l o t (entry.Hash object value drawn) f = λ x y h. hash_quiet x y (hashed x.hash value) h
 quiet_hash l o t e f = absurd (cc f)
 
+quiet_new : (l c t : ℕ) (e : Entry) → is_call (call.New l c) e ≡ true → IsQuiet t e
+quiet_new l c t (entry.New object class) f = quiet_same
+quiet_new l c t e f = absurd (cc f)
+
 quiet_print : (v : Value) (t : ℕ) (e : Entry) → is_call (call.Print v) e ≡ true → IsQuiet t e
 quiet_print v t (entry.Print value) f = quiet_same
 quiet_print v t e f = absurd (cc f)
@@ -279,6 +283,8 @@ beside_behind objects after threads t s (Calls (call.Put o i v)) e f h w =
     quiet_named objects after threads t s (Calls (call.Put o i v)) e (named e) (λ k. refl) refl (quiet_put o i v t e f) w h
 beside_behind objects after threads t s (Calls (call.Hash l o)) e f h w =
     quiet_named objects after threads t s (Calls (call.Hash l o)) e (named e) (λ k. refl) refl (quiet_hash l o t e f) w h
+beside_behind objects after threads t s (Calls (call.New l c)) e f h w =
+    quiet_named objects after threads t s (Calls (call.New l c)) e (named e) (λ k. refl) refl (quiet_new l c t e f) w h
 beside_behind objects after threads t s (Calls (call.Print v)) e f h w =
     quiet_named objects after threads t s (Calls (call.Print v)) e (named e) (λ k. refl) refl (quiet_print v t e f) w h
 beside_behind objects after threads t s (Calls (call.Dump i)) e f h w =
@@ -352,10 +358,10 @@ pub record IsAnswered (s next : ThreadState) (a : Asked) : Type 0 where
   pub now : IsReady next
   pub waits : (o : ℕ) → waits_on next.mode o ≡ waits_behind a o
 
-sound_at : (m : PlainMachine) (t : ℕ) (e : Entry) (a : Asked) (after : List PlainObject) (next : ThreadState)
+sound_at : (m : PlainMachine) (t : ℕ) (e : Entry) (a : Asked) (made : List (List ℕ)) (after : List PlainObject) (next : ThreadState)
     → t < length m.threads → fits a e ≡ true → take_entry m.objects t e ≡ Some after → IsAnswered (thread_in m.threads t) next a → IsSound m
-    → IsSound (record m { objects = after; threads = set m.threads t next })
-sound_at m t e a after next lt f h w k =
+    → IsSound (record m { objects = after; made = made; threads = set m.threads t next })
+sound_at m t e a made after next lt f h w k =
     let len : length after ≡ length m.objects = length_behind m.objects after t e h in
     let turn : IsTurn m.objects m.threads t next a = record {
       lives = lt;
@@ -379,11 +385,11 @@ pub same_read : (threads : List ThreadState) (t : ℕ) (s u : ThreadState) → t
 same_read threads t s u lt p q = get_or_read threads t s lt p s ∙ sym (get_or_read threads t u lt q s)
 
 -- the machine behind an entry that thread t, in state s, asked for
-pub sound_behind : (m : PlainMachine) (t : ℕ) (e : Entry) (a : Asked) (after : List PlainObject) (s next : ThreadState)
+pub sound_behind : (m : PlainMachine) (t : ℕ) (e : Entry) (a : Asked) (made : List (List ℕ)) (after : List PlainObject) (s next : ThreadState)
     → t < length m.threads → s ≡ get_or m.threads t s → fits a e ≡ true → take_entry m.objects t e ≡ Some after → IsAnswered s next a → IsSound m
-    → IsSound (record m { objects = after; threads = set m.threads t next })
-sound_behind m t e a after s next lt at f h w k =
-    sound_at m t e a after next lt f h (subst (λ z. IsAnswered z next a) (get_or_read m.threads t s lt at (unrun 0 0 0)) w) k
+    → IsSound (record m { objects = after; made = made; threads = set m.threads t next })
+sound_behind m t e a made after s next lt at f h w k =
+    sound_at m t e a made after next lt f h (subst (λ z. IsAnswered z next a) (get_or_read m.threads t s lt at (unrun 0 0 0)) w) k
 
 wait_awake : (a : Asked) (o k : ℕ) → fits a (entry.Wait o) ≡ true → waits_asked a k ≡ false
 wait_awake (Resumes p) o k f = absurd (cc f)

@@ -51,6 +51,12 @@ new_objects_step classes ds i d before after lt at b a =
     ∙ sym (new_objects-append classes (take i ds) (d ∷ []))
     ∙ ap (λ xs. new_objects (shape_from classes xs)) (sym more)
 
+-- behind the declared objects stand those that threads may make
+pub new_objects_made : (shape : List (ℕ × ℕ)) (n c slots : ℕ) → new_objects (shape ++ replicate n (c, slots)) ≡ new_objects shape ++ replicate n (new_object slots)
+new_objects_made shape n c slots =
+    map-append (λ (x : ℕ × ℕ). new_object x.1) shape (replicate n (c, slots))
+    ∙ ap (λ xs. new_objects shape ++ xs) (map-replicate (λ (x : ℕ × ℕ). new_object x.1) n (c, slots))
+
 length-shape : (classes : List ClassDef) (ds : List ObjectDef) → length (shape_from classes ds) ≡ total_of ds
 length-shape classes [] = refl
 length-shape classes (d ∷ ds) =

@@ -1,12 +1,12 @@
 -- What a thread has to make next, which entries fit that, and the thread behind an entry.
 use Rattle.std.specs.Prelude.{ℕ, pos, ◌+◌, ◌-◌, Bool, true, false, ◌&&◌, ◌==◌, nat_le, if◌then◌else◌, List, [], ◌∷◌, slice_set, Option, Some, None, option_and_then}
-use Rattle.plain_monitor.specs.declared.entry.Value.TheVariants.{Int}
+use Rattle.plain_monitor.specs.declared.entry.Value.TheVariants.{Int, Ref}
 use Rattle.plain_monitor.specs.declared.entry.Fault.{Fault}
 use Rattle.plain_monitor.specs.declared.entry.Fault.TheVariants.{IllegalMonitorState, Unguarded, NotRef, NotInt, Range, Overflow, TooDeep, TooManyDumps, TooMany}
 use Rattle.plain_monitor.specs.declared.entry.Ending.{Ending}
 use Rattle.plain_monitor.specs.declared.entry.Ending.TheVariants as ending
 use Rattle.plain_monitor.specs.declared.entry.Entry.{Entry}
-use Rattle.plain_monitor.specs.declared.entry.Entry.TheVariants.{Enter, Exit, Get, Put, Wait, Resume, Notify, NotifyAll, Hash, Print, Dump, Trap, Spent, Done}
+use Rattle.plain_monitor.specs.declared.entry.Entry.TheVariants.{Enter, Exit, Get, Put, Wait, Resume, Notify, NotifyAll, Hash, New, Print, Dump, Trap, Spent, Done}
 use Rattle.plain_monitor.specs.Monitor.{only_if}
 use Rattle.plain_monitor.specs.Objects.{same_value}
 use Rattle.object_program.specs.declared.program.Code.{Code}
@@ -51,7 +51,8 @@ fault_number TooDeep = 6
 fault_number TooManyDumps = 7
 fault_number TooMany = 8
 
--- the entry is this call; what the objects answer is open
+-- the entry is this call; what the objects answer is open, and so is the number of a new one, which is its maker's next by the objects that are
+-- there
 abbrev pub is_call : Call → Entry → Bool
 is_call (call.Enter o) (Enter object path) = o == object
 is_call (call.Exit o) (Exit object) = o == object
@@ -61,6 +62,7 @@ is_call (call.NotifyAll o) (NotifyAll object woken) = o == object
 is_call (call.Get x o k) (Get object slot value) = (o == object) && (k == slot)
 is_call (call.Put o k v) (Put object slot value) = (o == object) && (k == slot) && same_value v value
 is_call (call.Hash x o) (Hash object value drawn) = o == object
+is_call (call.New x c) (New object class) = c == class
 is_call (call.Print v) (Print value) = same_value v value
 is_call (call.Dump n) (Dump number) = n == number
 is_call c e = false
@@ -99,6 +101,7 @@ answered s (call.Enter o) e = holds_more s o
 answered s (call.Exit o) e = holds_less s o
 answered s (call.Get x o k) (Get object slot value) = with_local s x value
 answered s (call.Hash x o) (Hash object value drawn) = with_local s x (Int (pos value))
+answered s (call.New x c) (New object class) = with_local (record s { made = s.made + 1 }) x (Ref object)
 answered s (call.Dump n) e = record s { dumps = n }
 answered s c e = s
 

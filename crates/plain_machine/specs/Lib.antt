@@ -9,5 +9,8 @@ pub mod Ready
 pub mod ThreadView
 pub mod Next
 pub mod ObjectView
+pub mod Registered
+pub mod RegisterView
+pub mod RowView
 pub mod MachineView
 pub mod inner

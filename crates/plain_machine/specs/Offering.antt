@@ -2,9 +2,11 @@
 use Rattle.std.specs.Prelude.{ℕ, Bool, true, false, if◌then◌else◌, List, [], ◌∷◌, length, slice_get, Option, Some, None, option_and_then}
 use Rattle.plain_monitor.specs.declared.entry.Path.TheVariants.{StackFirst}
 use Rattle.plain_monitor.specs.declared.entry.Entry.{Entry}
-use Rattle.plain_monitor.specs.declared.entry.Entry.TheVariants.{Enter, Exit, Get, Put, Wait, Resume, Notify, NotifyAll, Hash, Print, Dump}
+use Rattle.plain_monitor.specs.declared.entry.Entry.TheVariants.{Enter, Exit, Get, Put, Wait, Resume, Notify, NotifyAll, Hash, New, Print, Dump}
 use Rattle.plain_monitor.specs.Endings.{ending_entry}
 use Rattle.plain_monitor.specs.Monitor.{PlainMonitor, is_listed}
+use Rattle.plain_monitor.specs.Made.{made_by, made_number}
+use Rattle.object_program.specs.Program.{numbering_of}
 use Rattle.plain_machine.specs.declared.call.Call.{Call}
 use Rattle.plain_machine.specs.declared.call.Call.TheVariants as call
 use Rattle.plain_machine.specs.declared.call.Asked.{Asked}
@@ -29,6 +31,10 @@ abbrev pub hash_offer : ℕ → Option ℕ → Offer
 hash_offer o None = NextHash o
 hash_offer o (Some value) = Next (Hash o value None)
 
+-- the number of the object that thread t makes next
+abbrev pub next_made : PlainMachine → ℕ → ℕ
+next_made m t = made_number (numbering_of m.program) t (length (made_by m.made t))
+
 abbrev pub call_offer : PlainMachine → ℕ → Call → Offer
 call_offer m t (call.Enter o) = unless_owned o (other_owner (monitor_at m o) t) (Enter o StackFirst)
 call_offer m t (call.Exit o) = Next (Exit o)
@@ -38,6 +44,7 @@ call_offer m t (call.NotifyAll o) = Next (NotifyAll o (length (monitor_at m o).w
 call_offer m t (call.Get x o k) = Next (Get o k (slot_at m o k))
 call_offer m t (call.Put o k v) = Next (Put o k v)
 call_offer m t (call.Hash x o) = hash_offer o (object_at m o).hash
+call_offer m t (call.New x c) = Next (New (next_made m t) c)
 call_offer m t (call.Print v) = Next (Print v)
 call_offer m t (call.Dump n) = Next (Dump n)
 

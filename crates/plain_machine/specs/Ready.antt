@@ -1,16 +1,17 @@
 -- When a thread may stand before a call, and when it waits on an object.
 use Rattle.std.specs.Prelude.{ℕ, ◌<◌, Bool, false, ◌==◌, sum}
 use Rattle.object_program.specs.Limits.{most_code}
-use Rattle.plain_monitor.specs.Limits.{most_holds}
+use Rattle.plain_monitor.specs.Limits.{most_holds, most_made}
 use Rattle.plain_machine.specs.declared.call.Call.{Call}
 use Rattle.plain_machine.specs.declared.call.Call.TheVariants as call
 use Rattle.plain_machine.specs.declared.call.Mode.{Mode}
 use Rattle.plain_machine.specs.declared.call.Mode.TheVariants.{Waiting}
 use Rattle.plain_machine.specs.Thread.{ThreadState}
 
--- a thread that enters has room for one more hold
+-- a thread that enters has room for one more hold, and one that makes an object for one more object
 abbrev pub HasRoomFor : ThreadState → Call → Type 0
 HasRoomFor s (call.Enter o) = sum s.holds < most_holds
+HasRoomFor s (call.New x c) = s.made < most_made
 HasRoomFor s c = Unit {0}
 
 -- a call that a thread may stand before, which is then at an instruction

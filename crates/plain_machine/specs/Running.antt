@@ -33,5 +33,6 @@ first_state p t fuel =
       fuel = fuel;
       holds = replicate (objects_total p) 0;
       dumps = 0;
+      made = 0;
       mode = Unwinding Done;
     })

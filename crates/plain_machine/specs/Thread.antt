@@ -2,11 +2,11 @@
 -- IllegalMonitorStateException of the Java Language Specification 8, 17.2, nor exit, by `monitorexit` of the Java Virtual Machine
 -- Specification 8. The rest of the language is this project's own.
 use Rattle.std.specs.Prelude.{ℕ, ℤ, pos, ◌+ℤ◌, ◌-ℤ◌, ◌*ℤ◌, int_lt, int_le, nat_abs, ◌+◌, ◌-◌, Bool, ◌&&◌, nat_le, nat_lt, if◌then◌else◌, List, sum, slice_get, slice_index, slice_index_or, slice_set, Option, Some, None}
-use Rattle.plain_monitor.specs.Limits.{most_holds}
+use Rattle.plain_monitor.specs.Limits.{most_holds, most_made}
 use Rattle.plain_monitor.specs.declared.entry.Value.{Value}
 use Rattle.plain_monitor.specs.declared.entry.Value.TheVariants.{Nil, Int, Ref}
 use Rattle.plain_monitor.specs.declared.entry.Fault.{Fault}
-use Rattle.plain_monitor.specs.declared.entry.Fault.TheVariants.{IllegalMonitorState, Unguarded, NotRef, NotInt, Range, Overflow, TooDeep, TooManyDumps}
+use Rattle.plain_monitor.specs.declared.entry.Fault.TheVariants.{IllegalMonitorState, Unguarded, NotRef, NotInt, Range, Overflow, TooDeep, TooManyDumps, TooMany}
 use Rattle.plain_monitor.specs.declared.entry.Ending.{Ending}
 use Rattle.plain_monitor.specs.declared.entry.Ending.TheVariants.{Trap, Done}
 use Rattle.plain_monitor.specs.Objects.{same_value}
@@ -29,6 +29,8 @@ pub record ThreadState : Type 0 where
   pub holds : List ℕ
   -- how many dumps it has made
   pub dumps : ℕ
+  -- how many objects it has made
+  pub made : ℕ
   pub mode : Mode
 
 -- what an instruction leads to: the next instruction, a call that the thread stands before, or its end
@@ -115,6 +117,10 @@ jumps_below s v w l = faults s NotInt
 abbrev pub dumps_next : ThreadState → Step
 dumps_next s = if nat_lt s.dumps 4 then Calls (call.Dump (s.dumps + 1)) else faults s TooManyDumps
 
+-- a new object, of at most 1,024 that a thread may make
+abbrev pub makes_next : ThreadState → ℕ → ℕ → Step
+makes_next s x c = if nat_lt s.made most_made then Calls (call.New x c) else faults s TooMany
+
 -- what the instruction does to a thread that is at it; its faults are tried in the order of the tests
 abbrev pub step_of : ProgramText → ThreadState → Code → Step
 step_of p s (code.Set x v) = sets s x (Int v)
@@ -132,6 +138,7 @@ step_of p s (code.NotifyAll x) =
 step_of p s (code.Get x o k) = on_object s (local s o) (λ r. on_slot p s r k (call.Get x r k))
 step_of p s (code.Put o k x) = on_object s (local s o) (λ r. on_slot p s r k (call.Put r k (local s x)))
 step_of p s (code.Hash x o) = on_object s (local s o) (λ r. Calls (call.Hash x r))
+step_of p s (code.New x c) = makes_next s x c
 step_of p s (code.Print x) = Calls (call.Print (local s x))
 step_of p s (code.Jump l) = Goes (at s l)
 step_of p s (code.Jlt x y l) = jumps_below s (local s x) (local s y) l

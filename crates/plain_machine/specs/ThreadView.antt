@@ -11,6 +11,7 @@ state a =
       fuel = a.fuel;
       holds = a.holds.items;
       dumps = a.dumps;
+      made = a.made;
       mode = a.mode;
     }
 

@@ -5,7 +5,7 @@ ghost use Rattle.plain_machine.specs.Thread.{ThreadState, local, holds_of};
 
 use plain_monitor::Value;
 
-/// A thread as an instruction reads it: where it is, its locals, its holds and its dumps.
+/// A thread as an instruction reads it: where it is, its locals, its holds, its dumps, and how many objects it has made.
 ///
 /// `state` is the thread's state. A type may keep it in a shape of its own, and count a hold only where it is asked.
 pub trait Actor {
@@ -30,4 +30,8 @@ pub trait Actor {
     /// How many dumps it has made.
     fn dumps(&self) -> u32
         ensures { result ≡ (state self.now).dumps };
+
+    /// How many objects it has made.
+    fn made(&self) -> u32
+        ensures { result ≡ (state self.now).made };
 }

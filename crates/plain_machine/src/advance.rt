@@ -76,6 +76,12 @@ fn answer(thread: &mut Thread, call: Call, entry: &Entry)
                 thread.set_local(local, Value::Int(i64::from(*value)));
             }
         }
+        Call::New { local, .. } => {
+            if let Entry::New { object, .. } = entry {
+                thread.count_made();
+                thread.set_local(local, Value::Ref(*object));
+            }
+        }
         Call::Dump { number } => thread.count_dumps(number),
         Call::Wait { .. }
         | Call::Notify { .. }

@@ -2,7 +2,7 @@
 
 ghost use Rattle.std.specs.Prelude.{◌≡◌, ◌≤◌, ◌++◌, IfOk, OnOk, length, map, replicate, vec_len};
 ghost use Rattle.object_program.specs.Limits.{most_code};
-ghost use Rattle.object_program.specs.Program.{shape_of, objects_total};
+ghost use Rattle.object_program.specs.Program.{shape_from, shape_of, declared_total, objects_total};
 ghost use Rattle.plain_monitor.specs.Limits.{most_threads};
 ghost use Rattle.plain_monitor.specs.Objects.{new_object, new_objects};
 ghost use Rattle.plain_machine.specs.Running.{first_state};
@@ -16,11 +16,21 @@ use object_program::{Program, ThreadDef};
 use plain_monitor::NoMemory;
 use std::alloc::Global;
 
-/// The objects of a program, each with the slots of its class.
+/// The objects of a program by their numbers: those that it declares, each with the slots of its class, and those that its threads may make.
 pub fn new_objects(alloc: Global, program: &Program) -> Result<Vec<Object>, NoMemory>
     ensures objects { IfOk result (λ v. v.items ≡ new_objects (shape_of program.now)) }
     ensures total { IfOk result (λ v. vec_len v ≡ objects_total program.now) }
-    ensures few { IfOk result (λ v. vec_len v ≤ most_code) }
+{
+    let mut objects = declared_objects(alloc, program)?;
+    let made = program.objects_total() - program.declared_total();
+    push_objects(alloc, &mut objects, made, program.made_slots())?;
+    Ok(objects)
+}
+
+/// The objects that a program declares, each with the slots of its class.
+fn declared_objects(alloc: Global, program: &Program) -> Result<Vec<Object>, NoMemory>
+    ensures objects { IfOk result (λ v. v.items ≡ new_objects (shape_from program.now.classes program.now.objects)) }
+    ensures total { IfOk result (λ v. vec_len v ≡ declared_total program.now) }
 {
     let mut objects = Vec::new(alloc);
     for definition in program.objects.items() {

@@ -37,6 +37,11 @@ pub enum Call {
         local: u32,
         object: u32,
     },
+    /// A new object of the class, the thread's next one. The local refers to it.
+    New {
+        local: u32,
+        class: u32,
+    },
     Print {
         value: Value,
     },

@@ -28,11 +28,15 @@ pub fn slots_of_class(program: &Program, class: u32) -> u32
     }
 }
 
-/// The slots of object o; where there is no such object, those of class 0.
+/// The slots of object o: those of its class where it is declared, and else those of an object that a thread makes.
 pub fn slots_of(program: &Program, o: u32) -> u32
     ensures { result ≡ slots_of program.now o }
 {
-    slots_of_class(program, class_of(program, o))
+    if o < program.declared_total() {
+        slots_of_class(program, class_of(program, o))
+    } else {
+        program.made_slots()
+    }
 }
 
 /// The class of object o; where there is no such object, 0. Declarations stand by rising numbers of their objects, so that it is

@@ -55,6 +55,7 @@ fn is_call(call: Call, entry: &Entry) -> bool
             value,
         } => is_put(object, slot, value, entry),
         Call::Hash { object, .. } => is_hash(object, entry),
+        Call::New { class, .. } => is_new(class, entry),
         Call::Print { value } => is_print(value, entry),
         Call::Dump { number } => is_dump(number, entry),
     }
@@ -155,6 +156,15 @@ fn is_hash(object: u32, entry: &Entry) -> bool
 {
     match entry {
         Entry::Hash { object: hashed, .. } => object == *hashed,
+        _ => false,
+    }
+}
+
+fn is_new(class: u32, entry: &Entry) -> bool
+    ensures { (local : ℕ) → result ≡ is_call (call.New local class) entry.now }
+{
+    match entry {
+        Entry::New { class: made, .. } => class == *made,
         _ => false,
     }
 }

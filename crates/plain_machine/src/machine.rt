@@ -12,10 +12,10 @@ use crate::build::{new_objects, new_threads};
 use crate::call::{Asked, Call, Mode};
 use crate::code::code_of;
 use crate::fit::asked_for;
-use crate::needs::finds_all;
 use crate::object::Object;
 use crate::objects;
 use crate::offer::Offer;
+use crate::register::Register;
 use crate::thread::Thread;
 use object_program::Program;
 use plain_monitor::{Ending, Entry, NoMemory, Path, Refused, Value, ending_entry};
@@ -27,6 +27,7 @@ use std::marker::Model;
 pub struct Machine {
     program: Program,
     objects: Vec<Object>,
+    register: Register,
     threads: Vec<Thread>,
 }
 
@@ -50,10 +51,12 @@ impl Machine {
     {
         let program = program.try_clone(alloc)?;
         let objects = new_objects(alloc, &program)?;
+        let register = Register::new(alloc, &program)?;
         let threads = new_threads(alloc, &program, objects.len() as u32, fuel)?;
         Ok(Machine {
             program,
             objects,
+            register,
             threads,
         })
     }
@@ -74,6 +77,7 @@ impl Machine {
 
     /// What a thread that stands before the call is offered.
     fn offer_call(&self, t: u32, call: Call) -> Offer
+        requires { t < length self.now.threads }
         ensures { result ≡ call_offer self.now t call }
     {
         match call {
@@ -106,6 +110,10 @@ impl Machine {
                 value,
             }),
             Call::Hash { object, .. } => hash_offer(object, self.hash_of(object)),
+            Call::New { class, .. } => {
+                let object = self.register.next_of(t);
+                Offer::Next(Entry::New { object, class })
+            }
             Call::Print { value } => Offer::Next(Entry::Print { value }),
             Call::Dump { number } => Offer::Next(Entry::Dump { number }),
         }
@@ -151,10 +159,11 @@ impl Machine {
         let Some(asked) = asked_for(&self.threads[at], entry) else {
             return Err(Refused);
         };
-        if !finds_all(self.objects.len(), entry) {
+        if !self.register.may_take(t, entry) {
             return Err(Refused);
         }
         objects::take(&mut self.objects, t, entry)?;
+        self.register.note(t, entry);
         let code = code_of(&self.program, t);
         advance(&self.program, code, &mut self.threads[at], asked, entry);
         Ok(())
@@ -172,10 +181,7 @@ impl Machine {
     pub fn class_of(&self, o: u32) -> Option<u32>
         ensures { result ≡ class_at self.now o }
     {
-        if o as usize >= self.objects.len() {
-            return None;
-        }
-        Some(self.program.class_of(o))
+        self.register.class_of(o)
     }
 
     /// The thread that has the monitor of the object.

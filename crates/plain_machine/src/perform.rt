@@ -2,7 +2,7 @@
 
 ghost use Rattle.std.specs.Prelude.{◌≡◌, ◌<◌};
 ghost use Rattle.object_program.specs.Limits.{most_code};
-ghost use Rattle.plain_machine.specs.Thread.{ThreadState, on_object, enters, owner_only, on_slot, dumps_next, Calls};
+ghost use Rattle.plain_machine.specs.Thread.{ThreadState, on_object, enters, owner_only, on_slot, dumps_next, makes_next, Calls};
 ghost use Rattle.plain_machine.specs.Next.{meant, IsReadyNext};
 ghost use Rattle.plain_machine.specs.Ready.{HasRoomFor};
 ghost use Rattle.plain_machine.specs.inner.OwnerCalls.{owner_call};
@@ -14,7 +14,7 @@ use crate::call::Call;
 use crate::code::slots_of;
 use crate::step::{Next, fault};
 use object_program::Program;
-use plain_monitor::limits::HOLDS;
+use plain_monitor::limits::{HOLDS, MADE};
 use plain_monitor::{Fault, Value};
 
 /// An enter, of at most so many holds as a thread may have.
@@ -151,6 +151,20 @@ pub fn hash<T: Actor>(thread: &T, x: u32, value: Value) -> Next
             call: Call::Hash { local: x, object },
         },
         _ => fault(thread, Fault::NotRef),
+    }
+}
+
+/// A new object of class c, which x then refers to, of at most so many as a thread may make.
+pub fn create<T: Actor>(thread: &T, x: u32, c: u32) -> Next
+    requires { (T.state thread.now).place < most_code }
+    ensures next { makes_next (T.state thread.now) x c ≡ meant (T.state thread.now) result }
+    ensures ready { IsReadyNext (T.state thread.now) result }
+{
+    if thread.made() >= MADE {
+        return fault(thread, Fault::TooMany);
+    }
+    Next::Calls {
+        call: Call::New { local: x, class: c },
     }
 }
 

@@ -10,7 +10,7 @@ use crate::actor::Actor;
 use crate::call::Call;
 use crate::compute::{add, element, first_object, mul, sub};
 use crate::jump::{jump, jump_below, jump_equal};
-use crate::perform::{OwnerCall, dump, enter, get, hash, of_owner, print, put};
+use crate::perform::{OwnerCall, create, dump, enter, get, hash, of_owner, print, put};
 use object_program::{Code, Program};
 use plain_monitor::{Ending, Fault, Value};
 
@@ -32,7 +32,7 @@ pub enum Next {
 /// one a thread is done. The thread is only read: whoever keeps it makes of it what the answer says.
 ///
 /// The answer stands for the step that the language gives. Where it sets a local or calls, the thread is at an
-/// instruction, and a thread that enters has fewer than 64 holds.
+/// instruction, a thread that enters has fewer than 64 holds, and one that makes an object has made fewer than 1,024.
 pub fn look<T: Actor>(program: &Program, code: &[Code], thread: &T) -> Next
     requires { length code.now ≤ most_code }
     ensures next { step_of program.now (T.state thread.now) (instruction_at code.now (T.state thread.now).place)
@@ -74,6 +74,7 @@ fn next_at<T: Actor>(program: &Program, thread: &T, instruction: Code) -> Next
         Code::Get { x, o, k } => get(program, thread, x, thread.local(o), k),
         Code::Put { o, k, x } => put(program, thread, thread.local(o), k, thread.local(x)),
         Code::Hash { x, o } => hash(thread, x, thread.local(o)),
+        Code::New { x, c } => create(thread, x, c),
         Code::Print { x } => print(thread, thread.local(x)),
         Code::Jump { l } => jump(thread, l),
         Code::Jlt { x, y, l } => jump_below(thread, thread.local(x), thread.local(y), l),

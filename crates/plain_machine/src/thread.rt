@@ -1,8 +1,8 @@
 //! A thread: where it is, its locals and its holds.
 
-ghost use Rattle.std.specs.Prelude.{◌≡◌, ◌<◌, ◌^◌, IfOk, IfSome, sum, length};
+ghost use Rattle.std.specs.Prelude.{◌≡◌, ◌+◌, ◌<◌, ◌^◌, IfOk, IfSome, sum, length};
 ghost use Rattle.object_program.specs.Limits.{most_code};
-ghost use Rattle.plain_monitor.specs.Limits.{most_holds};
+ghost use Rattle.plain_monitor.specs.Limits.{most_holds, most_made};
 ghost use Rattle.plain_machine.specs.Thread.{ThreadState, local, with_local, behind, holds_of};
 ghost use Rattle.plain_machine.specs.Asking.{holds_more, holds_less, ask, held_from, unwinds};
 ghost use Rattle.plain_machine.specs.inner.Kept.{unrun, IsReady, IsReadyToAsk, IsUnwinding};
@@ -21,6 +21,7 @@ pub struct Thread {
     holds: Vec<u32>,
     depth: u32,
     dumps: u32,
+    made: u32,
     mode: Mode,
 }
 
@@ -50,6 +51,7 @@ impl Thread {
             holds,
             depth: 0,
             dumps: 0,
+            made: 0,
             mode: Mode::Unwinding {
                 ending: Ending::Done,
             },
@@ -101,6 +103,14 @@ impl Thread {
         ensures { self.new ≡ record self.old { dumps = dumps } }
     {
         self.dumps = dumps;
+    }
+
+    /// It has made one object more.
+    pub fn count_made(&mut self)
+        requires { self.old.made < most_made }
+        ensures { self.new ≡ record self.old { made = self.old.made + 1 } }
+    {
+        self.made += 1;
     }
 
     /// It has this much fuel, and is where the mode says.
@@ -181,6 +191,10 @@ impl Actor for Thread {
 
     fn dumps(&self) -> u32 {
         self.dumps
+    }
+
+    fn made(&self) -> u32 {
+        self.made
     }
 }
 

@@ -9,12 +9,13 @@ use crate::countdown::Countdown;
 use crate::workers::{Counted, finish, run, turn};
 use std::alloc::{AllocError, Global};
 use std::test::Fail;
-use turn_pool::stand_still;
+use turn_pool::{first_from, stand_still};
 
 // Countdowns from these numbers, each with the name of its place.
 fn countdowns(alloc: Global, lefts: &[u32]) -> Result<Vec<Countdown>, AllocError>
     requires { length lefts.now < 33 }
-    ensures { IfOk result (λ v. (vec_len v ≡ length lefts.now) × ((i : ℕ) (y : Countdown) → slice_get v.items i ≡ Some y → y.name ≡ i)) }
+    ensures count { IfOk result (λ v. vec_len v ≡ length lefts.now) }
+    ensures named { IfOk result (λ v. (i : ℕ) (y : Countdown) → slice_get v.items i ≡ Some y → y.name ≡ i) }
 {
     let mut all = Vec::with_capacity(alloc, lefts.len())?;
     for i in 0..lefts.len() {
@@ -67,16 +68,16 @@ fn what_is_out_cannot_be_taken(rt: HostRuntime) -> Result<(), Fail> {
     let mut second = pool.hire(&mut seat);
     let taken = pool.take(&mut first, 0);
     holds(&rt, taken);
-    same(&rt, pool.look(0), 2);
+    same(&rt, pool.ready(), 2);
     let again = pool.take(&mut second, 0);
     holds(&rt, !again);
     turn(&pool, &mut first, 0);
-    same(&rt, pool.look(0), 3);
+    same(&rt, pool.ready(), 3);
     let back = pool.take(&mut second, 0);
     holds(&rt, back);
     turn(&pool, &mut second, 0);
-    same(&rt, pool.look(0), 2);
-    same(&rt, pool.look(1), 1);
+    same(&rt, pool.ready(), 2);
+    same(&rt, pool.ended(), 1);
     let ended = pool.take(&mut first, 0);
     holds(&rt, !ended);
     holds(&rt, !pool.sees_ended(&mut second));
@@ -93,10 +94,10 @@ fn hints_are_noted_and_cleared(rt: HostRuntime) -> Result<(), Fail> {
         return Err(Fail::from(AllocError));
     };
     pool.note(&mut seat, 2);
-    same(&rt, pool.look(3), 4);
+    same(&rt, pool.stalled(), 4);
     pool.rest(&rt, 0);
     pool.clear(&mut seat);
-    same(&rt, pool.look(3), 0);
+    same(&rt, pool.stalled(), 0);
     pool.wake();
     same(&rt, pool.end(seat, room).len(), 3);
     Ok(())
@@ -114,6 +115,22 @@ fn things_stand_still_where_all_are_home_and_none_goes_on(rt: HostRuntime) -> Re
         (7, 0, 3, false),
     ] {
         same(&rt, stand_still(3, ready, ended, stalled), still);
+    }
+    Ok(())
+}
+
+#[test]
+fn the_next_is_the_first_that_stands_in_a_circle(rt: HostRuntime) -> Result<(), Fail> {
+    for (word, next, found) in [
+        (5, 0, Some(0)),
+        (5, 1, Some(2)),
+        (5, 2, Some(2)),
+        (5, 3, Some(0)),
+        (2, 2, Some(1)),
+        (8, 0, None),
+        (0, 1, None),
+    ] {
+        same(&rt, first_from(word, next, 3), found);
     }
     Ok(())
 }

@@ -8,6 +8,7 @@ use Rattle.object_program.specs.declared.program.ClassDef.{ClassDef}
 use Rattle.object_program.specs.declared.program.ObjectDef.{ObjectDef}
 use Rattle.object_program.specs.Program.{class_from, class_of, has_object, shape_from, shape_of, slots_of_class, ProgramText}
 use Rattle.object_program.specs.Valid.{AreObjects, IsProgram}
+use Rattle.object_program.proofs.Made.{declared_shape}
 
 module _ (classes : List ClassDef) where
   abbrev both : ObjectDef → ℕ × ℕ
@@ -47,4 +48,6 @@ module _ (classes : List ClassDef) where
   ]
 
 pub class_is : (p : ProgramText) → IsProgram p → (o : ℕ) → (slice_index_or (shape_of p) o (0, 0)).0 ≡ class_of p o
-class_is p is o = class_at p.classes (length p.classes) 0 o p.objects is.objects ∙ ap (class_from p.objects) (omega arith)
+class_is p is o =
+    ap (λ (s : List (ℕ × ℕ)). (slice_index_or s o (0, 0)).0) (declared_shape p is)
+    ∙ class_at p.classes (length p.classes) 0 o p.objects is.objects ∙ ap (class_from p.objects) (omega arith)

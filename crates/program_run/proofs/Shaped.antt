@@ -7,7 +7,8 @@ use Rattle.heap_table.specs.Layout as layout
 use Rattle.object_program.specs.declared.program.ClassDef.{ClassDef}
 use Rattle.object_program.specs.declared.program.ObjectDef.{ObjectDef}
 use Rattle.object_program.specs.declared.program.ThreadDef.{ThreadDef}
-use Rattle.object_program.specs.Program.{ProgramText, shape_from, slots_of_class, total_of}
+use Rattle.object_program.specs.Program.{ProgramText, shape_from, shape_of, slots_of_class, total_of}
+use Rattle.object_program.proofs.Made.{declared_shape}
 use Rattle.object_program.specs.Valid.{AreObjects, IsProgram}
 use Rattle.plain_monitor.specs.Limits.{most_threads, most_classes, most_slots, most_objects}
 use Rattle.plain_monitor.proofs.Lists.{all_map}
@@ -76,6 +77,6 @@ module _ (p : ProgramText) (is : IsProgram p) (threads : List ThreadDef) (slots 
   pub shape_is : layout.shape_of (length threads) slots classes ≡ shape_for p
   shape_is =
       let many : length slots ≡ length p.classes = ap length s ∙ length-map p.classes (λ (d : ClassDef). d.slots) in
-      let objects : map (λ d. (d, slice_index slots d)) classes ≡ shape_from p.classes p.objects =
-      (λ i. map (λ d. (d, slice_index (s i) d)) (c i)) ∙ objects_are p.classes p.objects in
+      let objects : map (λ d. (d, slice_index slots d)) classes ≡ shape_of p =
+      (λ i. map (λ d. (d, slice_index (s i) d)) (c i)) ∙ objects_are p.classes p.objects ∙ sym (declared_shape p is) in
       λ i. record { threads = length (t i); classes = many i; objects = objects i }

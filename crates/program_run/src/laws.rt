@@ -40,7 +40,7 @@ pub fn the_record_tells_the_run()
 /// the dump cuts them, and that machine takes all later entries in stamped order and comes to the machine under the logs of the run.
 pub fn a_dump_shows_a_state_that_the_run_passes_through()
     ensures { (s : Settings) (p : ProgramText) (r : RunRecord) (c : ClosedSeen) (last : PlainMachine) (t i : ℕ) (shot : Shot)
-        → IsRan s p r c → machine_after p s.fuel r.logs ≡ Some last → slice_get (shots_of r.shots t) i ≡ Some shot
+        → IsProgram p → IsRan s p r c → machine_after p s.fuel r.logs ≡ Some last → slice_get (shots_of r.shots t) i ≡ Some shot
         → (m : PlainMachine) × IsOnTheWay p s.fuel r.logs shot.cut last m × (shot.cells ≡ cells_in m) }
 {
     thread_logs::machines_pass_through_a_cut_in_order();

@@ -10,7 +10,7 @@ use Rattle.object_program.specs.declared.program.ObjectDef.{ObjectDef}
 use Rattle.object_program.specs.declared.program.LabelDef.{LabelDef}
 use Rattle.object_program.specs.declared.program.ThreadDef.{ThreadDef}
 use Rattle.object_program.specs.declared.program.Code.{Code}
-use Rattle.object_program.specs.declared.program.Code.TheVariants.{Set, Add, Sub, Mul, Ref, Elem, Enter, Exit, Wait, Notify, NotifyAll, Get, Put, Hash, Print, Jump, Jlt, Jeq, Dump, End}
+use Rattle.object_program.specs.declared.program.Code.TheVariants.{Set, Add, Sub, Mul, Ref, Elem, Enter, Exit, Wait, Notify, NotifyAll, Get, Put, Hash, New, Print, Jump, Jlt, Jeq, Dump, End}
 use Rattle.program_syntax.specs.declared.keyword.Keyword.{Keyword}
 use Rattle.object_program.specs.Limits.{most_locals}
 use Rattle.plain_monitor.specs.Limits.{most_threads, most_slots, most_objects, most_classes}
@@ -93,6 +93,7 @@ IsInstruction-more l m o p labels lm op (NotifyAll x) h = omega arith
 IsInstruction-more l m o p labels lm op (Get x y s) h = omega arith
 IsInstruction-more l m o p labels lm op (Put y s x) h = omega arith
 IsInstruction-more l m o p labels lm op (Hash x y) h = omega arith
+IsInstruction-more l m o p labels lm op (New x c) h = h
 IsInstruction-more l m o p labels lm op (Print x) h = omega arith
 IsInstruction-more l m o p labels lm op (Jump t) h = h
 IsInstruction-more l m o p labels lm op (Jlt x y t) h = (omega arith, omega arith, h.2)

@@ -16,7 +16,7 @@ use Rattle.program_syntax.proofs.CanonicalText.{line_of}
 use Rattle.program_syntax.proofs.CanonicalLabels.{labels_from}
 use Rattle.program_syntax.proofs.CanonicalWords.{local_is_words, label_is_words}
 use Rattle.program_syntax.proofs.CanonicalReading.{ahead_by, labels_ahead-line, closed_by, is_closed-line}
-use Rattle.program_syntax.proofs.CanonicalInstructions.{AreNamed, instruction_is_words}
+use Rattle.program_syntax.proofs.CanonicalInstructions.{IsSpelled, spelled, AreNamed, instruction_is_words}
 
 -- a label of instruction n
 pub record IsLabelOf (n : ℕ) (l : LabelDef) : Type 0 where
@@ -53,10 +53,11 @@ ahead_labels n (l ∷ ls) later h =
     ∙ ap (λ x. x ∷ labels_ahead n rest) (same_label n l h.0.index_is)
     ∙ ap (λ xs. l ∷ xs) (ahead_labels n ls later h.1)
 
-ahead_inner : (n : ℕ) (ds : List ObjectDef) (t : ThreadDef) (c : Code) (later : List (List ℕ)) → (c ≡ code.End → ⊥)
+ahead_inner : (n : ℕ) (ds : List ObjectDef) (t : ThreadDef) (c : Code) (later : List (List ℕ)) → IsSpelled c → (c ≡ code.End → ⊥)
     → ahead_by n (instruction_words ds t c) (first_keyword (instruction_words ds t c)) later ≡ labels_ahead (n + 1) later
-ahead_inner n ds t code.End later h = absurd (h refl)
-ahead_inner n ds t c later h = refl
+ahead_inner n ds t code.End later k h = absurd (h refl)
+ahead_inner n ds t (code.New x c) later k h = absurd k
+ahead_inner n ds t c later k h = refl
 
 ahead_last : (n : ℕ) (ds : List ObjectDef) (t : ThreadDef) (c : Code) (later : List (List ℕ)) → c ≡ code.End
     → ahead_by n (instruction_words ds t c) (first_keyword (instruction_words ds t c)) later ≡ []
@@ -107,7 +108,7 @@ module _ (ds : List ObjectDef) (t : ThreadDef) (named : AreNamed ds t) (later : 
       let rest = map line_of (code_lines ds t (n + 1) (d ∷ cs)) ++ later in
       ahead_by_labels n c (d ∷ cs)
       ∙ ap (λ ls. labels_at n t.labels ++ ls)
-      (labels_ahead-line n (instruction_words ds t c) rest (instruction_is_words ds t named c h.0) ∙ ahead_inner n ds t c rest ends.0
+      (labels_ahead-line n (instruction_words ds t c) rest (instruction_is_words ds t named c h.0) ∙ ahead_inner n ds t c rest (spelled _ _ _ c h.0) ends.0
       ∙ ahead_code (n + 1) (d ∷ cs) h.1 ends.1)
 
   closed_by_labels : (n : ℕ) (c : Code) (cs : List Code) → is_closed (map line_of (code_lines ds t n (c ∷ cs)) ++ later) ≡ is_closed (code_behind n c cs)

@@ -46,6 +46,7 @@ keyword_for (code.NotifyAll x) = NotifyAll
 keyword_for (code.Get x o k) = Get
 keyword_for (code.Put o k x) = Put
 keyword_for (code.Hash x o) = Hash
+keyword_for (code.New x c) = End
 keyword_for (code.Print x) = Print
 keyword_for (code.Jump l) = Jump
 keyword_for (code.Jlt x y l) = Jlt
@@ -57,16 +58,27 @@ keyword_for code.End = End
 abbrev operand_words : List ObjectDef → ThreadDef → Code → List (List ℕ)
 operand_words ds t c = drop 1 (instruction_words ds t c)
 
-words_cause-instruction : (b : Before) (later : List (List ℕ)) (ds : List ObjectDef) (t : ThreadDef) (c : Code)
-    → words_cause b later (instruction_words ds t c) ≡ keyword_cause b later (operand_words ds t c) (Some (keyword_for c))
-words_cause-instruction b later ds t code.End = refl
-words_cause-instruction b later ds t c = refl
+-- an instruction that a program may have is written by its keyword: a text has no word for a new object yet
+abbrev pub IsSpelled : Code → Type 0
+IsSpelled (code.New x c) = ⊥
+IsSpelled c = Unit {0}
 
-behind_words-instruction : (p : ProgramText) (s : ThreadDef) (later : List (List ℕ)) (ds : List ObjectDef) (t : ThreadDef) (c : Code)
+pub spelled : (locals objects : ℕ) (labels : List LabelDef) (c : Code) → IsInstruction locals objects labels c → IsSpelled c
+spelled locals objects labels (code.New x c) h = h
+spelled locals objects labels c h = tt
+
+words_cause-instruction : (b : Before) (later : List (List ℕ)) (ds : List ObjectDef) (t : ThreadDef) (c : Code) → IsSpelled c
+    → words_cause b later (instruction_words ds t c) ≡ keyword_cause b later (operand_words ds t c) (Some (keyword_for c))
+words_cause-instruction b later ds t code.End h = refl
+words_cause-instruction b later ds t (code.New x c) h = absurd h
+words_cause-instruction b later ds t c h = refl
+
+behind_words-instruction : (p : ProgramText) (s : ThreadDef) (later : List (List ℕ)) (ds : List ObjectDef) (t : ThreadDef) (c : Code) → IsSpelled c
     → behind_words (opened p s) later (instruction_words ds t c) (first_keyword (instruction_words ds t c))
     ≡ section_behind p (record s { code = s.code ++ instruction_on p s later (operand_words ds t c) (keyword_for c) ∷ [] }) (keyword_for c)
-behind_words-instruction p s later ds t code.End = refl
-behind_words-instruction p s later ds t c = refl
+behind_words-instruction p s later ds t code.End h = refl
+behind_words-instruction p s later ds t (code.New x c) h = absurd h
+behind_words-instruction p s later ds t c h = refl
 
 operands_number : (ds : List ObjectDef) (t : ThreadDef) (c : Code) → (length (operand_words ds t c) == length (operands_of (keyword_for c))) ≡ true
 operands_number ds t code.End = refl
@@ -136,6 +148,7 @@ module _ (ds : List ObjectDef) (t : ThreadDef) (named : AreNamed ds t) where
   instruction_is_words (code.Get x o k) h = (refl, (local_word x h.0, (local_word o h.1, (slot_word k h.2, tt))))
   instruction_is_words (code.Put o k x) h = (refl, (local_word o h.0, (slot_word k h.1, (local_word x h.2, tt))))
   instruction_is_words (code.Hash x o) h = (refl, (local_word x h.0, (local_word o h.1, tt)))
+  instruction_is_words (code.New x c) h = absurd h
   instruction_is_words (code.Print x) h = (refl, (local_word x h, tt))
   instruction_is_words (code.Jump l) h = (refl, (target_word l h, tt))
   instruction_is_words (code.Jlt x y l) h = (refl, (local_word x h.0, (local_word y h.1, (target_word l h.2, tt))))
@@ -187,6 +200,7 @@ module _ (p : ProgramText) (t : ThreadDef) (named : AreNamed p.objects t) (befor
   operands_good (code.Get x o k) h = (a_local_name x h.0, (a_local_name o h.1, (a_slot_number k h.2, tt)))
   operands_good (code.Put o k x) h = (a_local_name o h.0, (a_slot_number k h.1, (a_local_name x h.2, tt)))
   operands_good (code.Hash x o) h = (a_local_name x h.0, (a_local_name o h.1, tt))
+  operands_good (code.New x c) h = absurd h
   operands_good (code.Print x) h = (a_local_name x h, tt)
   operands_good (code.Jump l) h = (a_label_name l h, tt)
   operands_good (code.Jlt x y l) h = (a_local_name x h.0, (a_local_name y h.1, (a_label_name l h.2, tt)))
@@ -226,6 +240,7 @@ module _ (p : ProgramText) (t : ThreadDef) (named : AreNamed p.objects t) (befor
   instruction_meant (code.Get x o k) h = three_same code.Get (local_found x h.0) (local_found o h.1) (slot_found k h.2)
   instruction_meant (code.Put o k x) h = three_same code.Put (local_found o h.0) (slot_found k h.1) (local_found x h.2)
   instruction_meant (code.Hash x o) h = ap₂ code.Hash (local_found x h.0) (local_found o h.1)
+  instruction_meant (code.New x c) h = absurd h
   instruction_meant (code.Print x) h = ap code.Print (local_found x h)
   instruction_meant (code.Jump l) h = ap code.Jump (label_found l h)
   instruction_meant (code.Jlt x y l) h = three_same code.Jlt (local_found x h.0) (local_found y h.1) (label_found l h.2)
@@ -246,7 +261,7 @@ module _ (p : ProgramText) (t : ThreadDef) (named : AreNamed p.objects t) (befor
       } in
       read_line final here (section_behind p (so_far t before (done ++ c ∷ [])) (keyword_for c)) later (instruction_words p.objects t c)
       (instruction_is_words p.objects t named c h)
-      (words_cause-instruction here later p.objects t c ∙ no_cause here later (operand_words p.objects t c) (keyword_for c) allowed)
-      (behind_words-instruction p (so_far t before done) later p.objects t c
+      (words_cause-instruction here later p.objects t c (spelled _ _ _ c h) ∙ no_cause here later (operand_words p.objects t c) (keyword_for c) allowed)
+      (behind_words-instruction p (so_far t before done) later p.objects t c (spelled _ _ _ c h)
       ∙ ap (λ (x : Code). section_behind p (so_far t before (done ++ x ∷ [])) (keyword_for c)) (instruction_meant c h))
       k

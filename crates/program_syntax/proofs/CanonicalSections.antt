@@ -22,13 +22,14 @@ use Rattle.program_syntax.proofs.CanonicalNames.{AreNames-front}
 use Rattle.program_syntax.proofs.CanonicalWords.{opening_is_words}
 use Rattle.program_syntax.proofs.CanonicalReading.{good_new, no_cause, ReadsAs, read_line}
 use Rattle.program_syntax.proofs.CanonicalRuns.{each_adds, each_unit, IsNew, new_among, new_in_middle, length_front, outside, opened, local_read, label_read}
-use Rattle.program_syntax.proofs.CanonicalInstructions.{keyword_for, AreNamed, so_far, instruction_read}
+use Rattle.program_syntax.proofs.CanonicalInstructions.{keyword_for, IsSpelled, spelled, AreNamed, so_far, instruction_read}
 use Rattle.program_syntax.proofs.CanonicalAhead.{IsLabelOf, labels_at_are, lines-append, code_behind, code_lines-cons, ahead_code, closed_locals, closed_code}
 
 -- an instruction that is no `end` leaves the section open
-stays_open : (p : ProgramText) (s : ThreadDef) (c : Code) → (c ≡ code.End → ⊥) → section_behind p s (keyword_for c) ≡ opened p s
-stays_open p s code.End h = absurd (h refl)
-stays_open p s c h = refl
+stays_open : (p : ProgramText) (s : ThreadDef) (c : Code) → IsSpelled c → (c ≡ code.End → ⊥) → section_behind p s (keyword_for c) ≡ opened p s
+stays_open p s code.End k h = absurd (h refl)
+stays_open p s (code.New x c) k h = absurd k
+stays_open p s c k h = refl
 
 -- an `end` closes it
 end_read : (final : Before) (p : ProgramText) (s : ThreadDef) (later : List (List ℕ)) → length s.code < most_code
@@ -96,7 +97,7 @@ module _ (final : Before) (p : ProgramText) (t : ThreadDef) (named : AreNamed p.
       let behind = map line_of (code_lines p.objects t (n + 1) (d ∷ cs)) ++ later in
       let before = labels_below (n + 1) t.labels in
       let line = instruction_read p t named before done behind (all_labels n done (d ∷ cs) later e (omega arith) allowed.1 ends.1) (omega arith) final c allowed.0
-      (subst (λ (b : Before). ReadsAs final b behind) (sym (stays_open p (so_far t before (done ++ c ∷ [])) c ends.0)) rest) in
+      (subst (λ (b : Before). ReadsAs final b behind) (sym (stays_open p (so_far t before (done ++ c ∷ [])) c (spelled _ _ _ c allowed.0) ends.0)) rest) in
       subst (λ lines. ReadsAs final (at_code n done) lines) (sym (code_lines-cons p.objects t named later n c (d ∷ cs)))
       (labels_read n done (d ∷ cs) (code_behind p.objects t named later n c (d ∷ cs)) e (omega arith) line)
 

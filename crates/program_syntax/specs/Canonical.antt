@@ -8,7 +8,7 @@ use Rattle.object_program.specs.declared.program.ObjectDef.{ObjectDef}
 use Rattle.object_program.specs.declared.program.LabelDef.{LabelDef}
 use Rattle.object_program.specs.declared.program.ThreadDef.{ThreadDef}
 use Rattle.object_program.specs.declared.program.Code.{Code}
-use Rattle.object_program.specs.declared.program.Code.TheVariants.{Set, Add, Sub, Mul, Ref, Elem, Enter, Exit, Wait, Notify, NotifyAll, Get, Put, Hash, Print, Jump, Jlt, Jeq, Dump, End}
+use Rattle.object_program.specs.declared.program.Code.TheVariants.{Set, Add, Sub, Mul, Ref, Elem, Enter, Exit, Wait, Notify, NotifyAll, Get, Put, Hash, New, Print, Jump, Jlt, Jeq, Dump, End}
 
 -- the words of a line as text: a space between each two, and a line feed behind the last
 abbrev pub line_text : List (List ℕ) → List ℕ
@@ -65,6 +65,8 @@ instruction_words ds t (NotifyAll x) = codes "notifyall" ∷ local_name t.locals
 instruction_words ds t (Get x o k) = codes "get" ∷ local_name t.locals x ∷ local_name t.locals o ∷ decimal k ∷ []
 instruction_words ds t (Put o k x) = codes "put" ∷ local_name t.locals o ∷ decimal k ∷ local_name t.locals x ∷ []
 instruction_words ds t (Hash x o) = codes "hash" ∷ local_name t.locals x ∷ local_name t.locals o ∷ []
+-- a text has no word for a new object yet, and no program has one
+instruction_words ds t (New x c) = []
 instruction_words ds t (Print x) = codes "print" ∷ local_name t.locals x ∷ []
 instruction_words ds t (Jump l) = codes "jump" ∷ label_name t.labels l ∷ []
 instruction_words ds t (Jlt x y l) =

@@ -285,6 +285,7 @@ fn write_instruction(
         Code::Get { x, o, k } => write_get(locals, x, o, k, out),
         Code::Put { o, k, x } => write_put(locals, o, k, x, out),
         Code::Hash { x, o } => write_hash(locals, x, o, out),
+        Code::New { .. } => write_line(out, &[]),
         Code::Print { x } => write_on_local(b"print", locals, x, out),
         Code::Jump { l } => write_jump(thread, l, out),
         Code::Jlt { x, y, l } => write_branch(b"jlt", thread, x, y, l, out),

@@ -1,7 +1,7 @@
 pub mod Ready
 pub mod Lists
-pub mod Seated
-pub mod GoneOn
+pub mod Stays
+pub mod Slotted
 pub mod StuckMachines
 pub mod Ending
 pub mod Over

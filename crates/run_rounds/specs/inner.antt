@@ -1,4 +1,5 @@
 -- What only the private contracts of this crate cite: its own steps, states and invariants.
-pub mod Rounds
-pub mod Shares
+pub mod Ends
+pub mod Turns
+pub mod Slots
 pub mod First

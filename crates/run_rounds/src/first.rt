@@ -1,4 +1,4 @@
-//! The runners of a heap before its first round.
+//! The runners of a heap before its first turn.
 
 ghost use Rattle.std.specs.Prelude.{◌≡◌, ◌≤◌, ℕ, map, IfOk};
 ghost use Rattle.plain_monitor.specs.Limits.{most_fuel};
@@ -14,7 +14,7 @@ use std::alloc::Global;
 use thread_calls::unused_passes_are_on;
 use thread_interp::Runner;
 
-/// The runners of a heap's threads before the first round: where the passes are those of a new heap of a program, made for this fuel, they
+/// The runners of a heap's threads before the first turn: where the passes are those of a new heap of a program, made for this fuel, they
 /// are ready for `run`, with ticks of any length. The fuel is at most 200,000. `NoMemory` where memory is wanting.
 pub fn first_runners(alloc: Global, passes: List<Pass>, fuel: u32) -> Result<List<Runner>, NoMemory>
     requires { fuel ≤ most_fuel }

@@ -1,15 +1,15 @@
 //! The threads of a program on workers.
 //!
-//! In each round of `run` each worker gives the runners of its share turns, one after the other, until they have ended or stand still. After a
-//! round in which no turn did an instruction it is checked whether the run is stuck. `run` returns when all threads have ended or the run was
-//! halted, and closes the heap.
+//! `run` puts the runners into a pool. Each worker takes one that is ready, gives it a turn and puts it back, so that no runner is in a
+//! worker's hand but while it has a turn. Where all stand still a worker checks with one of them whether the run is stuck. `run` returns when
+//! all threads have ended or the run was halted, and closes the heap.
 #![tactic(auto)]
 
+mod course;
 mod first;
-mod rounds;
 mod runs;
-mod seats;
-mod shares;
+mod turns;
+mod workers;
 
 pub use first::first_runners;
 pub use runs::run;

@@ -4,10 +4,8 @@ ghost use Rattle.std.specs.Prelude.{◌≡◌, ◌≤◌, [], map, IfOk, vec_len
 ghost use Rattle.thread_calls.specs.Between.{IsHeapOf};
 ghost use Rattle.run_rounds.specs.Outcome.{HasRun};
 ghost use Rattle.run_rounds.specs.Rounds.{AreReady};
-ghost use Rattle.run_rounds.specs.inner.Rounds.{runners_in};
 
-use crate::rounds::rounds;
-use crate::seats::{Seat, seats};
+use crate::workers::serve_until_over;
 use heap_table::{Closed, Heap, Pass, close};
 use object_program::Program;
 use plain_monitor::{List, NoMemory};
@@ -19,13 +17,13 @@ use thread_interp::Runner;
 use thread_logs::{a_log_tells_where_its_thread_stands, the_machine_is_what_the_logs_make_it};
 use wait_history::waits_follow_from_the_own_log;
 
-fn into_passes(seats: Vec<Seat>, mut passes: Vec<Pass>) -> Vec<Pass>
+fn into_passes(runners: Vec<Runner>, mut passes: Vec<Pass>) -> Vec<Pass>
     requires empty { passes.items ≡ [] }
-    requires room { vec_len seats ≤ vec_capacity passes }
-    ensures { result.items ≡ map (λ r. r.pass) (runners_in seats.items) }
+    requires room { vec_len runners ≤ vec_capacity passes }
+    ensures { result.items ≡ map (λ r. r.pass) runners.items }
 {
-    for seat in seats {
-        passes.push_reserved(seat.runner.into_pass());
+    for runner in runners {
+        passes.push_reserved(runner.into_pass());
     }
     passes
 }
@@ -33,11 +31,11 @@ fn into_passes(seats: Vec<Seat>, mut passes: Vec<Pass>) -> Vec<Pass>
 /// Runs the threads of a program on workers, and closes its heap.
 ///
 /// The runners are those of this heap, one for each thread in the order of the threads, all with one fuel, and no check of theirs is
-/// unfinished: as `Runner::new` gives them, or behind turns of their own. In a round each of so many workers gives the live runners of its
-/// share turns of at most `quantum` instructions, one after the other, until they have ended or none of them gets on for some time. It
-/// returns when all threads have ended, or when the run was halted because it is stuck, and it may wait for workers. Memory is taken before
-/// the first turn: `NoMemory` where it is wanting. The clock's counts are of `tick` units each: a call that takes a moment is given the time
-/// after some count of ticks. So it must have been with the calls that were made before.
+/// unfinished: as `Runner::new` gives them, or behind turns of their own. Each of so many workers, or of as many as there are threads where
+/// these are fewer, takes runners that are ready, one after the other, and gives each a turn of at most `quantum` instructions. It returns
+/// when all threads have ended, or when the run was halted because it is stuck, and it may wait for workers. Memory is taken before the first
+/// turn: `NoMemory` where it is wanting. The clock's counts are of `tick` units each: a call that takes a moment is given the time after some
+/// count of ticks. So it must have been with the calls that were made before.
 pub fn run<R: Threads + Wait + Sync, C: Clock + Sync, G: Gate + Sync>(
     rt: &R,
     alloc: Global,
@@ -58,20 +56,13 @@ pub fn run<R: Threads + Wait + Sync, C: Clock + Sync, G: Gate + Sync>(
     ensures { IfOk result (HasRun heap.heap program.now fuel tick) }
 {
     let passes = Vec::with_capacity(alloc, runners.items().len()).map_err(|_| NoMemory)?;
-    let mut seats = seats(alloc, runners)?;
-    rounds(
-        rt,
-        program,
-        &heap,
-        fuel,
-        seats.as_mut_slice(),
-        workers,
-        quantum,
-        clock,
-        tick,
-        gate,
-    );
-    let passes = into_passes(seats, passes);
+    let room = Vec::with_capacity(alloc, runners.items().len()).map_err(|_| NoMemory)?;
+    let runners = runners.into_vec();
+    let workers = workers.min(runners.len() as u32);
+    let runners = serve_until_over(
+        rt, alloc, program, &heap, fuel, runners, room, workers, quantum, clock, tick, gate,
+    )?;
+    let passes = into_passes(runners, passes);
     the_machine_is_what_the_logs_make_it();
     a_log_tells_where_its_thread_stands();
     waits_follow_from_the_own_log();

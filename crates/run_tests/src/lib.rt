@@ -7,6 +7,8 @@ mod calls;
 #[cfg(test)]
 mod checks;
 #[cfg(test)]
+mod leads;
+#[cfg(test)]
 mod makes;
 #[cfg(test)]
 mod meets;

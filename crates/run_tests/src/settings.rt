@@ -49,6 +49,12 @@ fn no_setting_loses_a_count(rt: HostRuntime) -> Result<(), Fail> {
     Ok(())
 }
 
+/// Sixteen workers for two threads lose none either, in turns of one instruction.
+#[test]
+fn more_workers_than_threads_lose_no_count(rt: HostRuntime) -> Result<(), Fail> {
+    count_together(&rt, &["run", "--workers", "16", "--quantum", "1"])
+}
+
 /// Two threads count to 2,000 together in each of 60 runs with biases, in turns of at most 10 and 20 instructions.
 #[test]
 fn short_turns_with_biases_lose_no_count(rt: HostRuntime) -> Result<(), Fail> {

@@ -4,13 +4,13 @@ use Rattle.plain_monitor.proofs.Threads.{same_thread}
 use Rattle.plain_monitor.specs.declared.entry.Ending.{Ending}
 use Rattle.plain_monitor.specs.declared.entry.Ending.TheVariants as ending
 use Rattle.plain_monitor.specs.declared.entry.Entry.{Entry}
-use Rattle.plain_monitor.specs.declared.entry.Entry.TheVariants.{Get, Hash, Trap}
+use Rattle.plain_monitor.specs.declared.entry.Entry.TheVariants.{Get, Hash, New, Trap}
 use Rattle.plain_monitor.specs.Monitor.{only_if}
 use Rattle.object_program.specs.declared.program.ClassDef.{ClassDef}
 use Rattle.object_program.specs.declared.program.ObjectDef.{ObjectDef}
 use Rattle.object_program.specs.declared.program.ThreadDef.{ThreadDef}
 use Rattle.object_program.specs.declared.program.Code.{Code}
-use Rattle.object_program.specs.Program.{ProgramText}
+use Rattle.object_program.specs.Program.{ProgramText, most_in}
 use Rattle.plain_machine.specs.declared.call.Call.{Call}
 use Rattle.plain_machine.specs.declared.call.Call.TheVariants as call
 use Rattle.plain_machine.specs.declared.call.Mode.{Mode}
@@ -22,7 +22,8 @@ use Rattle.sync_source.specs.SyncThread.{Left, SyncState, unplaced, sync_run, sy
 use Rattle.sync_source.specs.inner.Alike.{Stands, StandsIn, AreAlike, erased, OptionAlike, index_in}
 use Rattle.sync_source.proofs.Units.{run_alike}
 
-module _ (code : List Code) (classes : List ClassDef) (objects : List ObjectDef) (ts us : List ThreadDef) where
+module _ (code : List Code) (classes : List ClassDef) (objects : List ObjectDef) (ts us : List ThreadDef)
+    (same : most_in classes ts ≡ most_in classes us) where
   abbrev p : ProgramText
   p = record { classes = classes; objects = objects; threads = ts }
 
@@ -33,7 +34,7 @@ module _ (code : List Code) (classes : List ClassDef) (objects : List ObjectDef)
   answer_alike : (left : Left) (s t : ThreadState) (a : ThreadState) (n : ℕ) → Stands code (s.place + 1) left → a ≡ erased t → t.place ≡ s.place → AreAlike code (sync_run q n left a) (run_on p code n (behind t))
   answer_alike left s t a n h e k =
       let at : Stands code (t.place + 1) left = subst (λ (i : ℕ). Stands code (i + 1) left) (sym k) h in
-      subst (λ (x : ThreadState). AreAlike code (sync_run q n left x) (run_on p code n (behind t))) (sym e) (run_alike code classes objects ts us n left (behind t) at)
+      subst (λ (x : ThreadState). AreAlike code (sync_run q n left x) (run_on p code n (behind t))) (sym e) (run_alike code classes objects ts us same n left (behind t) at)
 
   after_call_alike : (left : Left) (s : ThreadState) (c : Call) (e : Entry) → Stands code (s.place + 1) left → AreAlike code (sync_after_call q (record { left = left; thread = erased s }) c e) (behind_call p code s c e)
   after_call_alike left s (call.Enter o) e h = answer_alike left s (holds_more s o) _ _ h refl refl
@@ -59,6 +60,15 @@ module _ (code : List Code) (classes : List ClassDef) (objects : List ObjectDef)
 
       got_place : (e : Entry) → (answered s (call.Hash x o) e).place ≡ s.place
       got_place (Hash object value drawn) = refl
+      got_place e = refl
+  after_call_alike left s (call.New x c) e h = answer_alike left s (answered s (call.New x c) e) _ _ h (got e) (got_place e)
+    where
+      got : (e : Entry) → answered (erased s) (call.New x c) e ≡ erased (answered s (call.New x c) e)
+      got (New object class) = refl
+      got e = refl
+
+      got_place : (e : Entry) → (answered s (call.New x c) e).place ≡ s.place
+      got_place (New object class) = refl
       got_place e = refl
   after_call_alike left s (call.Print v) e h = answer_alike left s s _ _ h refl refl
   after_call_alike left s (call.Dump n) e h = answer_alike left s (record s { dumps = n }) _ _ h refl refl
@@ -92,7 +102,7 @@ module _ (code : List Code) (classes : List ClassDef) (objects : List ObjectDef)
   mode_alike left s (Calling c) e h =
       if_both (is_call c (with_index 0 e)) _ _ (after_call_alike left (record s { mode = Calling c }) c (with_index 0 e) h)
   mode_alike left s (Waiting o) e h =
-      if_both (is_resume o (with_index 0 e)) _ _ (run_alike code classes objects ts us s.fuel left (record s { mode = Waiting o }) h)
+      if_both (is_resume o (with_index 0 e)) _ _ (run_alike code classes objects ts us same s.fuel left (record s { mode = Waiting o }) h)
   mode_alike left s (Unwinding ending) e h = unwinding_alike left s ending e (held_from 0 s.holds)
   mode_alike left s (Ended ending) e h = tt
 

@@ -131,6 +131,7 @@ module _ (code : List Code) (classes : List ClassDef) (objects : List ObjectDef)
       before (call.Get x o k) r = record { spares = r.spares; kept = r.kept }
       before (call.Put o k v) r = record { spares = r.spares; kept = r.kept }
       before (call.Hash x o) r = record { spares = r.spares; kept = r.kept }
+      before (call.New x c) r = record { spares = r.spares; kept = r.kept }
       before (call.Print v) r = record { spares = r.spares; kept = r.kept }
       before (call.Dump m) r = record { spares = r.spares; kept = r.kept }
   after_fine n s (StandsBefore c left) (Stops f) h k stop go = absurd h
@@ -148,7 +149,7 @@ module _ (code : List Code) (classes : List ClassDef) (objects : List ObjectDef)
   unfolding run_on
   run_fine zero left s h k = (tt, tt)
   run_fine (suc n) left s h k =
-      after_fine n s _ _ (step_alike code classes objects ts [] left s h) (unit_kept (record { classes = classes; objects = objects; threads = [] }) (erased s) left k) (λ e at stops. names_no_exit s left e h k at stops) (λ l next i j. run_fine n l next i j)
+      after_fine n s _ _ (step_alike code classes objects ts ts refl left s h) (unit_kept p (erased s) left k) (λ e at stops. names_no_exit s left e h k at stops) (λ l next i j. run_fine n l next i j)
 
   -- it runs on so from the answer to its call
   answer_fine : (s a : ThreadState) (left : Left) (n : ℕ) → a.place ≡ s.place → Stands code (s.place + 1) left → IsKept left a.locals (holds_of a) → IsFine code (run_on p code n (behind a))
@@ -219,6 +220,7 @@ module _ (code : List Code) (classes : List ClassDef) (objects : List ObjectDef)
   call_fine s (call.Hash x o) (entry.Hash object value drawn) left a n h r =
       goes_on s (with_local s x _) left refl h (given_fine s x _ left r.spares r.kept)
   call_fine s (call.Hash x o) e left a n h r = goes_on s s left refl h r.kept
+  call_fine s (call.New x c) e left a n h r = absurd a.call
   call_fine s (call.Print v) e left a n h r = goes_on s s left refl h r.kept
   call_fine s (call.Dump m) e left a n h r = goes_on s (record s { dumps = m }) left refl h r.kept
 

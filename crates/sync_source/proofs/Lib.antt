@@ -1,4 +1,5 @@
 pub mod Placed
+pub mod Makes
 pub mod Steps
 pub mod Units
 pub mod Traps

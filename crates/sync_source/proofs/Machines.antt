@@ -9,7 +9,7 @@ use Rattle.plain_monitor.specs.declared.entry.Logged.{Logged}
 use Rattle.plain_monitor.specs.Objects.{PlainObject, take_entry}
 use Rattle.object_program.specs.declared.program.ThreadDef.{ThreadDef}
 use Rattle.plain_monitor.specs.Made.{take_made}
-use Rattle.object_program.specs.Program.{ProgramText, numbering_of}
+use Rattle.object_program.specs.Program.{ProgramText, most_in, numbering_of}
 use Rattle.plain_machine.specs.Thread.{ThreadState}
 use Rattle.plain_machine.specs.Asking.{thread_after}
 use Rattle.plain_machine.specs.Machine.{PlainMachine, code_of, moved, take}
@@ -43,7 +43,8 @@ made_aside : (p : ProgramText) (us : List ThreadDef) (made : List (List ℕ)) (t
 made_aside p us made t i (Trap f j) = refl
 made_aside p us made t i e = refl
 
-module _ (p : ProgramText) (us : List ThreadDef) (objects : List PlainObject) (made : List (List ℕ)) (qs : List SyncState) (ss : List ThreadState) where
+module _ (p : ProgramText) (us : List ThreadDef) (same : most_in p.classes p.threads ≡ most_in p.classes us)
+    (objects : List PlainObject) (made : List (List ℕ)) (qs : List SyncState) (ss : List ThreadState) where
   abbrev source_machine : SyncMachine
   source_machine = record { world = record p { threads = us }; objects = objects; made = made; threads = qs }
 
@@ -69,7 +70,7 @@ module _ (p : ProgramText) (us : List ThreadDef) (objects : List PlainObject) (m
   moved_alike all t a r e f (Some b) (Some s) None o h = tt
   moved_alike all t a r e f (Some b) (Some s) (Some n) None h = tt
   moved_alike all t a r e f (Some b) (Some s) (Some n) (Some o) h =
-      record { world = refl; objects = refl; made = refl; threads = set_alike all t a b r s e f h }
+      record { world = refl; slots = same; objects = refl; made = refl; threads = set_alike all t a b r s e f h }
 
   take_at_alike : Threads qs ss → (t : ℕ) (e : Entry) (a : Option SyncState) (s : Option ThreadState) → slice_get qs t ≡ a → slice_get ss t ≡ s → OptionAlike (code_of p t) a s → BothAlike us (option_and_then (λ x. sync_moved source_machine t (sync_thread_after (record p { threads = us }) x e) (take_made (numbering_of (record p { threads = us })) made t e) (take_entry objects t e)) a) (option_and_then (λ x. moved code_machine t (thread_after p (code_of p t) x (with_index (index_of s) e)) (take_made (numbering_of p) made t (with_index (index_of s) e)) (take_entry objects t (with_index (index_of s) e))) s)
   take_at_alike all t e None None f g h = tt
@@ -78,7 +79,7 @@ module _ (p : ProgramText) (us : List ThreadDef) (objects : List PlainObject) (m
   take_at_alike all t e (Some a) (Some s) f g h =
       let source : Option (List (List ℕ)) = take_made (numbering_of (record p { threads = us })) made t e in
       subst (λ (n : Option (List (List ℕ))). BothAlike us (sync_moved source_machine t (sync_thread_after (record p { threads = us }) a e) source (take_entry objects t e)) (moved code_machine t (thread_after p (code_of p t) s (with_index (index_in s.mode) e)) n (take_entry objects t (with_index (index_in s.mode) e)))) (made_aside p us made t (index_in s.mode) e)
-      (subst (λ (o : Option (List PlainObject)). BothAlike us (sync_moved source_machine t (sync_thread_after (record p { threads = us }) a e) source (take_entry objects t e)) (moved code_machine t (thread_after p (code_of p t) s (with_index (index_in s.mode) e)) source o)) (index_aside objects t (index_in s.mode) e) (moved_alike all t a s f g _ _ source (take_entry objects t e) (thread_alike (code_of p t) p.classes p.objects p.threads us a s e h)))
+      (subst (λ (o : Option (List PlainObject)). BothAlike us (sync_moved source_machine t (sync_thread_after (record p { threads = us }) a e) source (take_entry objects t e)) (moved code_machine t (thread_after p (code_of p t) s (with_index (index_in s.mode) e)) source o)) (index_aside objects t (index_in s.mode) e) (moved_alike all t a s f g _ _ source (take_entry objects t e) (thread_alike (code_of p t) p.classes p.objects p.threads us same a s e h)))
 
   pub take_alike_at : Threads qs ss → (t : ℕ) (e : Entry) → BothAlike us (sync_take source_machine t e) (take code_machine t (with_index (index_of (slice_get ss t)) e))
   take_alike_at all t e = take_at_alike all t e (slice_get qs t) (slice_get ss t) refl refl (all t)
@@ -90,7 +91,7 @@ take_alike us a m t e h =
     ap (λ w. record { world = w; objects = m.objects; made = m.made; threads = a.threads }) (sym h.world)
     ∙ ap (λ o. record { world = a.world; objects = o; made = m.made; threads = a.threads }) (sym h.objects)
     ∙ ap (λ n. record { world = a.world; objects = a.objects; made = n; threads = a.threads }) (sym h.made) in
-    subst (λ (x : SyncMachine). BothAlike us (sync_take x t e) (take m t (with_index (index_of (slice_get m.threads t)) e))) same (take_alike_at m.program us m.objects m.made a.threads m.threads h.threads t e)
+    subst (λ (x : SyncMachine). BothAlike us (sync_take x t e) (take m t (with_index (index_of (slice_get m.threads t)) e))) same (take_alike_at m.program us h.slots m.objects m.made a.threads m.threads h.threads t e)
 
 -- the machine of the code after these entries, where the index of a trap isn't looked at
 abbrev pub aside_all : PlainMachine → List (ℕ × Logged) → Option PlainMachine

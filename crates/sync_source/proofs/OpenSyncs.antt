@@ -4,11 +4,11 @@ use Rattle.std.proofs.Common.{◌≡◌, ℕ, ◌+◌, ◌-◌, ◌≤◌, ◌==
 use Rattle.std.specs.Prelude.{int_lt}
 use Rattle.std.specs.List.{AllByRecursion}
 use Rattle.std.proofs.lemmas.Bool.{false≢true}
-use Rattle.plain_monitor.specs.Limits.{most_holds}
+use Rattle.plain_monitor.specs.Limits.{most_holds, most_made}
 use Rattle.plain_monitor.specs.declared.entry.Value.{Value}
 use Rattle.plain_monitor.specs.declared.entry.Value.TheVariants.{Nil, Int, Ref}
 use Rattle.plain_monitor.specs.declared.entry.Fault.{Fault}
-use Rattle.plain_monitor.specs.declared.entry.Fault.TheVariants.{IllegalMonitorState, Unguarded, Range, Overflow, TooDeep, TooManyDumps}
+use Rattle.plain_monitor.specs.declared.entry.Fault.TheVariants.{IllegalMonitorState, Unguarded, Range, Overflow, TooDeep, TooManyDumps, TooMany}
 use Rattle.plain_monitor.specs.Numbers.{is_in_range}
 use Rattle.plain_monitor.specs.Objects.{same_value}
 use Rattle.object_program.specs.declared.program.ObjectDef.{ObjectDef}
@@ -103,6 +103,7 @@ AreOthers x xs = AllByRecursion (λ y. (x == y) ≡ false) xs
 abbrev pub Spares : List ℕ → Call → Type 0
 Spares xs (call.Get x o k) = AreOthers x xs
 Spares xs (call.Hash x o) = AreOthers x xs
+Spares xs (call.New x c) = AreOthers x xs
 Spares xs c = Unit {0}
 
 -- what holds of what is left for a thread, wherever it is
@@ -203,6 +204,8 @@ module _ (s : ThreadState) (left : Left) (kept : IsKept left s.locals (holds_of 
       object_kept (local s y) (λ o. on_slot p s o k (call.Put o k (local s x))) (λ o. slot_kept p o k (call.Put o k (local s x)) (record { spares = tt; kept = kept }))
   plain_kept p (instr.Hash x y) i h e =
       object_kept (local s y) (λ o. Calls (call.Hash x o)) (λ o. record { spares = h; kept = kept })
+  plain_kept p (instr.New x c) i h e =
+      either (nat_lt s.made most_made) (Calls (call.New x c)) (faults s TooMany) (record { spares = h; kept = kept }) tt
   plain_kept p (instr.Print x) i h e = record { spares = tt; kept = kept }
   plain_kept p (instr.Jump l) i h e = absurd i
   plain_kept p (instr.Jlt x y l) i h e = absurd i

@@ -1,23 +1,23 @@
 -- An instruction does the same to a thread without its place.
-use Rattle.std.proofs.Common.{◌≡◌, ℕ, ◌+◌, Bool, true, false, if◌then◌else◌, List, refl}
+use Rattle.std.proofs.Common.{◌≡◌, ℕ, ◌+◌, Bool, true, false, if◌then◌else◌, List, refl, ap, subst}
 use Rattle.std.specs.Prelude.{ℤ, ◌+ℤ◌, ◌-ℤ◌, ◌*ℤ◌, nat_abs, nat_le, nat_lt, slice_get, Option, sum}
-use Rattle.plain_monitor.specs.Limits.{most_holds}
+use Rattle.plain_monitor.specs.Limits.{most_holds, most_made}
 use Rattle.plain_monitor.specs.declared.entry.Value.{Value}
 use Rattle.plain_monitor.specs.declared.entry.Value.TheVariants.{Int, Ref}
 use Rattle.plain_monitor.specs.declared.entry.Ending.{Ending}
 use Rattle.plain_monitor.specs.declared.entry.Ending.TheVariants as ending
 use Rattle.plain_monitor.specs.declared.entry.Fault.{Fault}
-use Rattle.plain_monitor.specs.declared.entry.Fault.TheVariants.{IllegalMonitorState, Unguarded, Range, Overflow, TooDeep, TooManyDumps}
+use Rattle.plain_monitor.specs.declared.entry.Fault.TheVariants.{IllegalMonitorState, Unguarded, Range, Overflow, TooDeep, TooManyDumps, TooMany}
 use Rattle.plain_monitor.specs.Numbers.{is_in_range}
 use Rattle.object_program.specs.declared.program.ClassDef.{ClassDef}
 use Rattle.object_program.specs.declared.program.ObjectDef.{ObjectDef}
 use Rattle.object_program.specs.declared.program.ThreadDef.{ThreadDef}
 use Rattle.object_program.specs.declared.program.Code.{Code}
 use Rattle.object_program.specs.declared.program.Code.TheVariants as instr
-use Rattle.object_program.specs.Program.{ProgramText, slots_of}
+use Rattle.object_program.specs.Program.{ProgramText, declared_total, slots_of_class, class_of, most_in, slots_of}
 use Rattle.plain_machine.specs.declared.call.Call.{Call}
 use Rattle.plain_machine.specs.declared.call.Call.TheVariants as call
-use Rattle.plain_machine.specs.Thread.{ThreadState, Step, Goes, Calls, Stops, sets, faults, computes, combines, on_object, owner_only, on_slot, size_of, first_of, element, is_element, dumps_next, step_of, local, holds_of}
+use Rattle.plain_machine.specs.Thread.{ThreadState, Step, Goes, Calls, Stops, sets, faults, computes, combines, on_object, owner_only, on_slot, size_of, first_of, element, is_element, dumps_next, makes_next, step_of, local, holds_of}
 use Rattle.sync_source.specs.Valid.{IsPlain}
 use Rattle.sync_source.specs.SyncThread.{unplaced}
 use Rattle.sync_source.specs.inner.Alike.{erased}
@@ -68,6 +68,9 @@ module _ (s : ThreadState) where
   dumps_alike : StepsAlike s (dumps_next s) (dumps_next (erased s))
   dumps_alike = either (nat_lt s.dumps 4) _ _ _ _ refl (faults_alike TooManyDumps)
 
+  makes_alike : (x c : ℕ) → StepsAlike s (makes_next s x c) (makes_next (erased s) x c)
+  makes_alike x c = either (nat_lt s.made most_made) _ _ _ _ refl (faults_alike TooMany)
+
   pub enter_alike : (p q : ProgramText) (x : ℕ) → StepsAlike s (step_of p s (instr.Enter x)) (step_of q (erased s) (instr.Enter x))
   enter_alike p q x =
       on_object_alike (local s x) _ _ (λ o. either (nat_lt (sum s.holds) most_holds) _ _ _ _ refl (faults_alike TooDeep))
@@ -75,15 +78,22 @@ module _ (s : ThreadState) where
   pub exit_alike : (p q : ProgramText) (x : ℕ) → StepsAlike s (step_of p s (instr.Exit x)) (step_of q (erased s) (instr.Exit x))
   exit_alike p q x = on_object_alike (local s x) _ _ (λ o. owner_alike o IllegalMonitorState (call.Exit o))
 
-  module _ (classes : List ClassDef) (objects : List ObjectDef) (ts us : List ThreadDef) where
+  module _ (classes : List ClassDef) (objects : List ObjectDef) (ts us : List ThreadDef) (same : most_in classes ts ≡ most_in classes us) where
     abbrev p : ProgramText
     p = record { classes = classes; objects = objects; threads = ts }
 
     abbrev q : ProgramText
     q = record { classes = classes; objects = objects; threads = us }
 
+    -- an object that isn't declared has as many slots by the one's threads as by the other's
+    same_slots : (o : ℕ) → slots_of p o ≡ slots_of q o
+    same_slots o = ap (λ (n : ℕ). if nat_lt o (declared_total p) then slots_of_class classes (class_of p o) else n) same
+
     slot_alike : (o k : ℕ) (c : Call) → StepsAlike s (on_slot p s o k c) (on_slot q (erased s) o k c)
-    slot_alike o k c = either (nat_lt k (slots_of p o)) _ _ _ _ (owner_alike o Unguarded c) (faults_alike Range)
+    slot_alike o k c =
+        let within : ℕ → Step = λ n. if nat_lt k n then owner_only (erased s) o Unguarded (Calls c) else faults (erased s) Range in
+        subst (λ (n : ℕ). StepsAlike s (on_slot p s o k c) (within n)) (same_slots o)
+        (either (nat_lt k (slots_of p o)) _ _ _ _ (owner_alike o Unguarded c) (faults_alike Range))
 
     pub plain_alike : (c : Code) → IsPlain c → StepsAlike s (step_of p s c) (step_of q (erased s) c)
     plain_alike (instr.Set x v) h = sets_alike x (Int v)
@@ -102,6 +112,7 @@ module _ (s : ThreadState) where
     plain_alike (instr.Get x o k) h = on_object_alike (local s o) _ _ (λ r. slot_alike r k (call.Get x r k))
     plain_alike (instr.Put o k x) h = on_object_alike (local s o) _ _ (λ r. slot_alike r k (call.Put r k (local s x)))
     plain_alike (instr.Hash x o) h = on_object_alike (local s o) _ _ (λ r. refl)
+    plain_alike (instr.New x c) h = makes_alike x c
     plain_alike (instr.Print x) h = refl
     plain_alike (instr.Jump l) h = absurd h
     plain_alike (instr.Jlt x y l) h = absurd h

@@ -35,6 +35,7 @@ no_call (call.NotifyAll o) f j = refl
 no_call (call.Get x o k) f j = refl
 no_call (call.Put o k v) f j = refl
 no_call (call.Hash x o) f j = refl
+no_call (call.New x c) f j = refl
 no_call (call.Print v) f j = refl
 no_call (call.Dump n) f j = refl
 

@@ -9,7 +9,7 @@ use Rattle.object_program.specs.declared.program.ObjectDef.{ObjectDef}
 use Rattle.object_program.specs.declared.program.ThreadDef.{ThreadDef}
 use Rattle.object_program.specs.declared.program.Code.{Code}
 use Rattle.object_program.specs.declared.program.Code.TheVariants as instr
-use Rattle.object_program.specs.Program.{ProgramText}
+use Rattle.object_program.specs.Program.{ProgramText, most_in}
 use Rattle.plain_machine.specs.declared.call.Mode.TheVariants.{Calling, Unwinding}
 use Rattle.plain_machine.specs.Thread.{ThreadState, Step, Goes, Calls, Stops, step_of, local, jumps_where, jumps_below}
 use Rattle.plain_machine.specs.Running.{instruction_at, after_step, run_on}
@@ -54,7 +54,7 @@ module _ (code : List Code) where
   tests_alike p s true x y to held missed h k = choose_alike s (same_value (local s x) (local s y)) to held missed h k
   tests_alike p s false x y to held missed h k = below_alike s (local s x) (local s y) to held missed h k
 
-  module _ (classes : List ClassDef) (objects : List ObjectDef) (ts us : List ThreadDef) where
+  module _ (classes : List ClassDef) (objects : List ObjectDef) (ts us : List ThreadDef) (same : most_in classes ts ≡ most_in classes us) where
     abbrev p : ProgramText
     p = record { classes = classes; objects = objects; threads = ts }
 
@@ -73,7 +73,7 @@ module _ (code : List Code) where
     step_alike (Runs (Plain c r) left) s h =
         let at = s.place in
         let e : at + (1 + size r) ≡ at + 1 + size r = omega arith in
-        there s _ c h.1.0 (from_steps s (Runs r left) _ _ (plain_alike s classes objects ts us c h.0.0) (h.0.1, h.1.1, subst (λ (i : ℕ). Stands code i left) e h.2))
+        there s _ c h.1.0 (from_steps s (Runs r left) _ _ (plain_alike s classes objects ts us same c h.0.0) (h.0.1, h.1.1, subst (λ (i : ℕ). Stands code i left) e h.2))
     step_alike (Runs (Sync x b r) left) s h =
         let at = s.place + 1 in
         let to = at + size b in

@@ -48,6 +48,7 @@ first_thread p locals fuel =
       fuel = fuel;
       holds = replicate (objects_total p) 0;
       dumps = 0;
+      made = 0;
       mode = Unwinding Done;
     }
 

@@ -73,6 +73,7 @@ assigns x (instr.Ref y n) = y == x
 assigns x (instr.Elem y n i) = y == x
 assigns x (instr.Get y o k) = y == x
 assigns x (instr.Hash y o) = y == x
+assigns x (instr.New y c) = y == x
 assigns x c = false
 
 -- no instruction gives a value to one of these locals, nor to the local of a `sync` that it stands in

@@ -232,6 +232,7 @@ module _ (h : HeapSeen) (p : ProgramText) (fuel : ℕ) (k : PassSeen) (f : _) (o
     held_is o is.0,
   )
   may_make_of (call.Hash x o) asks other is = λ now. may_do _ asks (task.Hash o now) (may_on _ asks o op.Hash is (ap unfinished_of asks))
+  may_make_of (call.New x c) asks other is = is
   may_make_of (call.Print v) asks other is =
       may_do _ asks (task.Print v) (and_from _ _ (value_is h (objects_total p) v (as_many h p of) is) (act_ready _ asks (ap unfinished_of asks)))
   may_make_of (call.Dump n) asks other is =

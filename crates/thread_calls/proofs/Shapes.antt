@@ -1,5 +1,5 @@
 -- The objects of a heap are those of its program.
-use Rattle.std.proofs.Common.{◌≡◌, ℕ, ◌+◌, ◌-◌, ◌<◌, ◌≤◌, ◌++◌, ◌∷◌, [], Bool, true, false, nat_le, nat_lt, ltb-true, ltb-false, List, length, replicate, slice_index_or, refl, ap, ◌∙◌, arith}
+use Rattle.std.proofs.Common.{◌≡◌, ℕ, ◌+◌, ◌-◌, ◌<◌, ◌≤◌, ◌++◌, ◌∷◌, [], Bool, true, false, nat_le, nat_lt, ltb-true, ltb-false, List, length, replicate, slice_index_or, refl, sym, ap, ◌∙◌, arith}
 use Rattle.std.proofs.lemmas.Bool.{and_from}
 use Rattle.std.proofs.lemmas.Bool.Decides.{nat_tests}
 use Rattle.std.proofs.lemmas.List.{length-append, length-replicate, get_or-replicate, get_or_append_left, get_or-append_right}
@@ -7,7 +7,8 @@ use Rattle.heap_table.specs.Seen.{HeapSeen}
 use Rattle.core_world.specs.Words.Shape.{slots_of as slots_in_heap}
 use Rattle.object_program.specs.declared.program.ClassDef.{ClassDef}
 use Rattle.object_program.specs.declared.program.ObjectDef.{ObjectDef}
-use Rattle.object_program.specs.Program.{ProgramText, total_of, objects_total, shape_from, slots_of_class, slots_of, has_object, class_from}
+use Rattle.object_program.specs.Program.{ProgramText, total_of, declared_total, objects_total, shape_from, slots_of_class, class_of, slots_of, has_object, class_from}
+use Rattle.object_program.proofs.Made.{all_declared, declared_shape}
 use Rattle.object_program.specs.Valid.{AreObjects}
 use Rattle.thread_calls.specs.Between.{IsHeapOf}
 
@@ -20,7 +21,8 @@ shape_length classes (d ∷ ds) =
     length-append here (shape_from classes ds) ∙ omega (arith, length-replicate {A = ℕ × ℕ} d.size (d.class, slots_of_class classes d.class), rest)
 
 pub as_many : (h : HeapSeen) (p : ProgramText) → IsHeapOf h p → length h.heap.shape.objects ≡ objects_total p
-as_many h p of = ap (λ (x : List (ℕ × ℕ)). length x) of.objects ∙ shape_length p.classes p.objects
+as_many h p of =
+    ap (λ (x : List (ℕ × ℕ)). length x) (of.objects ∙ declared_shape p of.program) ∙ shape_length p.classes p.objects ∙ sym (all_declared p of.program)
 
 -- whether the first declaration, whose objects start at k, has object k + o
 has_first : (d : ObjectDef) (k o : ℕ) → d.first ≡ k → o < d.size → has_object d (k + o) ≡ true
@@ -64,6 +66,11 @@ shape_slots classes n k (d ∷ ds) o h l =
 pub same_slots : (h : HeapSeen) (p : ProgramText) (o : ℕ) → IsHeapOf h p → o < objects_total p → slots_in_heap h.heap.shape o ≡ slots_of p o
 same_slots h p o of l =
     let zero : 0 + o ≡ o = omega arith in
-    ap (λ (x : List (ℕ × ℕ)). (slice_index_or x o (0, 0)).1) of.objects
-    ∙ shape_slots p.classes (length p.classes) 0 p.objects o of.program.objects l
-    ∙ ap (λ (i : ℕ). slots_of p i) zero
+    let all = all_declared p of.program in
+    let within : o < declared_total p = omega (arith, l, all) in
+    let declared : nat_lt o (declared_total p) ≡ true = grind (arith, nat_tests, within) in
+    let by_class : slots_in_heap h.heap.shape o ≡ slots_of_class p.classes (class_of p o) =
+    ap (λ (x : List (ℕ × ℕ)). (slice_index_or x o (0, 0)).1) (of.objects ∙ declared_shape p of.program)
+    ∙ shape_slots p.classes (length p.classes) 0 p.objects o of.program.objects within
+    ∙ ap (λ (i : ℕ). slots_of_class p.classes (class_of p i)) zero in
+    rw declared by_class

@@ -188,6 +188,7 @@ pub(crate) fn make<C: Clock>(
         Call::Hash { local, object } => {
             hash(heap, pass, local, object, moment(clock.now(), tick))
         }
+        Call::New { .. } => unreachable!(),
         Call::Print { value } => print(heap, pass, value),
         Call::Dump { number } => dump(heap, pass, number),
     }

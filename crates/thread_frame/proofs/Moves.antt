@@ -1,10 +1,10 @@
 -- A frame moves on as the plain machine's thread does.
-use Rattle.std.proofs.Common.{◌≡◌, ℕ, ◌+◌, ◌-◌, pos, List, slice_set, Option, Some, None, ap, sym, ◌∙◌}
+use Rattle.std.proofs.Common.{◌≡◌, ℕ, ◌+◌, ◌-◌, pos, List, slice_set, Option, Some, None, refl, ap, sym, ◌∙◌}
 use Rattle.plain_monitor.specs.declared.entry.Ending.TheVariants.{Done}
 use Rattle.plain_monitor.specs.declared.entry.Entry.{Entry}
 use Rattle.plain_monitor.specs.declared.entry.Entry.TheVariants as entry
 use Rattle.plain_monitor.specs.declared.entry.Value.{Value}
-use Rattle.plain_monitor.specs.declared.entry.Value.TheVariants.{Int}
+use Rattle.plain_monitor.specs.declared.entry.Value.TheVariants.{Int, Ref}
 use Rattle.object_program.specs.declared.program.Code.{Code}
 use Rattle.object_program.specs.Program.{ProgramText}
 use Rattle.plain_machine.specs.declared.call.Call.{Call}
@@ -23,6 +23,24 @@ use Rattle.thread_frame.proofs.Runs.{in_mode, run_same, run_holds}
 -- the frame at this place, with so much fuel, in the middle of its local instructions
 abbrev goes_on : ℕ → ℕ → FrameSeen → FrameSeen
 goes_on place fuel f = record f { place = place; fuel = fuel; mode = None }
+
+-- what an answer changes, it changes wherever the frame stands
+pub answered_later : (f : FrameSeen) (c : Call) (e : Entry) (place fuel : ℕ) (mode : Option Mode)
+    → frame_answered (record f { place = place; fuel = fuel; mode = mode }) c e ≡ record (frame_answered f c e) { place = place; fuel = fuel; mode = mode }
+answered_later f (call.Get x o k) (entry.Get object slot value) place fuel mode = refl
+answered_later f (call.Get x o k) e place fuel mode = refl
+answered_later f (call.Hash x o) (entry.Hash object value drawn) place fuel mode = refl
+answered_later f (call.Hash x o) e place fuel mode = refl
+answered_later f (call.New x c) (entry.New object class) place fuel mode = refl
+answered_later f (call.New x c) e place fuel mode = refl
+answered_later f (call.Dump n) e place fuel mode = refl
+answered_later f (call.Enter o) e place fuel mode = refl
+answered_later f (call.Exit o) e place fuel mode = refl
+answered_later f (call.Wait o) e place fuel mode = refl
+answered_later f (call.Notify o) e place fuel mode = refl
+answered_later f (call.NotifyAll o) e place fuel mode = refl
+answered_later f (call.Put o k v) e place fuel mode = refl
+answered_later f (call.Print v) e place fuel mode = refl
 
 -- a local that an answer sets
 set_same : (n fuel x : ℕ) (f : FrameSeen) (v : Value) (holds after : List ℕ) → after ≡ holds
@@ -43,6 +61,9 @@ answered_same n fuel f (call.Get x o k) e holds after h = ap (λ hs. state_in n 
 answered_same n fuel f (call.Hash x o) (entry.Hash object value drawn) holds after h =
     set_same n fuel x f (Int (pos value)) holds after h
 answered_same n fuel f (call.Hash x o) e holds after h = ap (λ hs. state_in n hs (goes_on (f.place + 1) fuel f)) h
+answered_same n fuel f (call.New x c) (entry.New object class) holds after h =
+    set_same n fuel x (record f { made = f.made + 1 }) (Ref object) holds after h
+answered_same n fuel f (call.New x c) e holds after h = ap (λ hs. state_in n hs (goes_on (f.place + 1) fuel f)) h
 answered_same n fuel f (call.Dump number) e holds after h =
     ap (λ hs. state_in n hs (goes_on (f.place + 1) fuel (record f { dumps = number }))) h
 answered_same n fuel f c e holds after h = ap (λ hs. state_in n hs (goes_on (f.place + 1) fuel f)) h

@@ -1,6 +1,6 @@
 -- A run doesn't ask for the fuel and the mode that its thread has, and leaves the thread's holds as they are.
 use Rattle.std.proofs.Common.{◌≡◌, ℕ, zero, suc, ◌+ℤ◌, ◌-ℤ◌, ◌*ℤ◌, ℤ, Bool, true, false, if◌then◌else◌, List, slice_get, sum, nat_le, nat_lt, Option, refl, ap, sym, ◌∙◌}
-use Rattle.plain_monitor.specs.Limits.{most_holds}
+use Rattle.plain_monitor.specs.Limits.{most_holds, most_made}
 use Rattle.plain_monitor.specs.declared.entry.Fault.{Fault}
 use Rattle.plain_monitor.specs.declared.entry.Fault.TheVariants.{IllegalMonitorState, Unguarded}
 use Rattle.plain_monitor.specs.declared.entry.Value.{Value}
@@ -89,6 +89,7 @@ steps_in p s n m (code.NotifyAll x) = object_in s n m (local s x) _ _ (λ o. own
 steps_in p s n m (code.Get x y k) = object_in s n m (local s y) _ _ (λ o. slot_in p s n m o k (call.Get x o k))
 steps_in p s n m (code.Put y k x) = object_in s n m (local s y) _ _ (λ o. slot_in p s n m o k (call.Put o k (local s x)))
 steps_in p s n m (code.Hash x y) = object_in s n m (local s y) _ _ (λ o. refl)
+steps_in p s n m (code.New x c) = either_in (in_mode n m s) (nat_lt s.made most_made) _ _ _ _ refl refl
 steps_in p s n m (code.Print x) = refl
 steps_in p s n m (code.Jump l) = refl
 steps_in p s n m (code.Jlt x y l) = below_in s n m (local s x) (local s y) l

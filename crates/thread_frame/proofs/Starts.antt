@@ -17,7 +17,7 @@ use Rattle.thread_frame.specs.Frames.{first_frame, next_state}
 -- a thread with these locals that has not run
 abbrev unrun_with : ProgramText → ℕ → List Value → ThreadState
 unrun_with p fuel locals =
-    record { place = 0; locals = locals; fuel = fuel; holds = replicate (objects_total p) 0; dumps = 0; mode = Unwinding Done }
+    record { place = 0; locals = locals; fuel = fuel; holds = replicate (objects_total p) 0; dumps = 0; made = 0; mode = Unwinding Done }
 
 first_at : (p : ProgramText) (fuel objects : ℕ) (ds : List ThreadDef) (t : ℕ) → AllByRecursion (IsThread objects) ds → t < length ds
     → slice_get (map (λ d. first_state p d fuel) ds) t ≡ Some (run_on p (slice_index_or (map (λ d. d.code) ds) t []) fuel

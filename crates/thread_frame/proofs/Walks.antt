@@ -7,12 +7,13 @@ use Rattle.plain_machine.specs.declared.call.Mode.{Mode}
 use Rattle.plain_machine.specs.declared.call.Mode.TheVariants.{Unwinding}
 use Rattle.plain_machine.specs.declared.step.Next.{Next}
 use Rattle.plain_machine.specs.declared.step.Next.TheVariants as next
-use Rattle.plain_machine.specs.Next.{meant}
+use Rattle.plain_machine.specs.declared.call.Call.TheVariants as call
+use Rattle.plain_machine.specs.Next.{meant, IsReadyNext}
 use Rattle.plain_machine.specs.Running.{instruction_at, run_on}
 use Rattle.plain_machine.specs.Thread.{ThreadState, step_of, behind, with_local}
 use Rattle.plain_machine.proofs.Runs.{run_goes, run_calls, run_stops, run_spent}
 use Rattle.thread_frame.specs.Frames.{FrameSeen, state_in, led_on}
-use Rattle.thread_frame.specs.inner.Walking.{frame_moved}
+use Rattle.thread_frame.specs.inner.Walking.{frame_moved, IsPlacedFor}
 use Rattle.thread_frame.proofs.Lists.{take_set}
 use Rattle.thread_frame.proofs.Runs.{in_mode, run_same}
 
@@ -39,6 +40,14 @@ walks_in p cs n holds f (next.Jumps place) l e =
     sym (run_same p cs left left (Unwinding Done) went) ∙ sym (run_goes p cs f.fuel s went l e)
 walks_in p cs n holds f (next.Calls c) l e = sym (run_calls p cs f.fuel (state_in n holds (in_option f None)) c l e)
 walks_in p cs n holds f (next.Stops g) l e = sym (run_stops p cs f.fuel (state_in n holds (in_option f None)) g l e)
+
+-- where the instruction finds the thread ready, the frame stands where it may
+pub placed : (n : ℕ) (holds : List ℕ) (f : FrameSeen) (x : Next) → IsReadyNext (state_in n holds f) x → IsPlacedFor f x
+placed n holds f (next.Sets x v) h = h
+placed n holds f (next.Jumps place) h = tt
+placed n holds f (next.Calls (call.New x c)) h = h
+placed n holds f (next.Calls c) h = (h.0, tt)
+placed n holds f (next.Stops g) h = tt
 
 -- a frame in the middle of its local instructions
 pub walks : (p : ProgramText) (cs : List Code) (n : ℕ) (holds : List ℕ) (f : FrameSeen) (o : Option Mode) (x : Next)

@@ -1,10 +1,11 @@
 -- A thread of a program between two of its entries, apart from its holds: its pass knows those.
 use Rattle.std.specs.Prelude.{◌≡◌, ℕ, pos, ◌+◌, ◌-◌, ◌*◌, ◌<◌, Bool, true, false, List, [], length, map, replicate, take, slice_index_or, slice_set, Option, Some, None}
+use Rattle.plain_monitor.specs.Limits.{most_made}
 use Rattle.plain_monitor.specs.declared.entry.Ending.TheVariants.{Done}
 use Rattle.plain_monitor.specs.declared.entry.Entry.{Entry}
 use Rattle.plain_monitor.specs.declared.entry.Entry.TheVariants as entry
 use Rattle.plain_monitor.specs.declared.entry.Value.{Value}
-use Rattle.plain_monitor.specs.declared.entry.Value.TheVariants.{Nil, Int}
+use Rattle.plain_monitor.specs.declared.entry.Value.TheVariants.{Nil, Int, Ref}
 use Rattle.object_program.specs.Limits.{most_code}
 use Rattle.object_program.specs.declared.program.Code.{Code}
 use Rattle.object_program.specs.Program.{ProgramText}
@@ -27,12 +28,14 @@ pub record FrameSeen : Type 0 where
   pub fuel : ℕ
   -- how many dumps it has made
   pub dumps : ℕ
+  -- how many objects it has made
+  pub made : ℕ
   -- what it stands before, or how it ended; none in the middle of its local instructions
   pub mode : Option Mode
 
 -- before its first instruction
 abbrev pub first_frame : ℕ → FrameSeen
-first_frame fuel = record { place = 0; locals = replicate 32 Nil; fuel = fuel; dumps = 0; mode = None }
+first_frame fuel = record { place = 0; locals = replicate 32 Nil; fuel = fuel; dumps = 0; made = 0; mode = None }
 
 -- how many locals thread t of the program declares
 abbrev pub locals_of : ProgramText → ℕ → ℕ
@@ -52,6 +55,7 @@ state_in n holds f =
       fuel = f.fuel;
       holds = holds;
       dumps = f.dumps;
+      made = f.made;
       mode = shown_mode f.mode;
     }
 
@@ -68,6 +72,8 @@ abbrev pub frame_answered : FrameSeen → Call → Entry → FrameSeen
 frame_answered f (call.Get x o k) (entry.Get object slot value) = record f { locals = slice_set f.locals x value }
 frame_answered f (call.Hash x o) (entry.Hash object value drawn) =
     record f { locals = slice_set f.locals x (Int (pos value)) }
+frame_answered f (call.New x c) (entry.New object class) =
+    record f { made = f.made + 1; locals = slice_set f.locals x (Ref object) }
 frame_answered f (call.Dump n) e = record f { dumps = n }
 frame_answered f c e = f
 
@@ -110,10 +116,15 @@ is_ended_mode mode = false
 abbrev pub has_ended : FrameSeen → Bool
 has_ended f = is_ended_mode f.mode
 
+-- a thread that makes an object has made fewer than it may
+abbrev pub MayMakeMore : ℕ → Call → Type 0
+MayMakeMore made (call.New x c) = made < most_made
+MayMakeMore made c = Unit {0}
+
 -- a thread that stands before a call is at an instruction, of which a thread has at most 4,096
-abbrev pub IsAtInstruction : ℕ → Option Mode → Type 0
-IsAtInstruction place (Some (Calling c)) = place < most_code
-IsAtInstruction place mode = Unit {0}
+abbrev pub IsAtInstruction : ℕ → ℕ → Option Mode → Type 0
+IsAtInstruction place made (Some (Calling c)) = (place < most_code) × MayMakeMore made c
+IsAtInstruction place made mode = Unit {0}
 
 -- a thread that is asked for a call stands before it
 abbrev pub StandsBefore : Option Mode → Asked → Type 0

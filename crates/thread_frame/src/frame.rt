@@ -1,9 +1,9 @@
-//! A thread's place, locals, fuel and dumps.
+//! A thread's place, locals and fuel, its dumps, and how many objects it has made.
 
-ghost use Rattle.std.specs.Prelude.{◌≡◌, slice_index_or, slice_set};
+ghost use Rattle.std.specs.Prelude.{◌≡◌, slice_index_or, slice_set, None};
 ghost use Rattle.plain_machine.specs.declared.call.Asked.TheVariants.{Calls};
 ghost use Rattle.plain_monitor.specs.declared.entry.Value.TheVariants.{Nil};
-ghost use Rattle.thread_frame.specs.Frames.{first_frame, frame_answered, frame_behind, frame_behind_call, has_ended, IsAtInstruction, StandsBefore};
+ghost use Rattle.thread_frame.specs.Frames.{first_frame, frame_answered, frame_behind, frame_behind_call, has_ended, IsAtInstruction, MayMakeMore, StandsBefore};
 
 use plain_machine::{Asked, Call, Mode};
 use plain_monitor::{Entry, Value};
@@ -16,6 +16,7 @@ pub struct Frame {
     locals: [Value; 32],
     fuel: u32,
     dumps: u32,
+    made: u32,
     mode: Option<Mode>,
 }
 
@@ -24,14 +25,16 @@ impl Model for Frame {
 
     ghost Value = { FrameSeen };
 
-    ghost view = { λ f. record { place = f.place; locals = f.locals; fuel = f.fuel; dumps = f.dumps; mode = f.mode } };
+    ghost view = { λ f.
+        record { place = f.place; locals = f.locals; fuel = f.fuel; dumps = f.dumps; made = f.made; mode = f.mode } };
 
     // a thread before a call stands at an instruction
     ghost use Rattle.thread_frame.specs.Frames.{IsAtInstruction};
 
-    ghost invariant = { λ f. IsAtInstruction f.place f.mode };
+    ghost invariant = { λ f. IsAtInstruction f.place f.made f.mode };
 
-    ghost inverse = { λ f. record { place = f.place; locals = f.locals; fuel = f.fuel; dumps = f.dumps; mode = f.mode } };
+    ghost inverse = { λ f.
+        record { place = f.place; locals = f.locals; fuel = f.fuel; dumps = f.dumps; made = f.made; mode = f.mode } };
 }
 
 impl Frame {
@@ -44,6 +47,7 @@ impl Frame {
             locals: [Value::Nil; 32],
             fuel,
             dumps: 0,
+            made: 0,
             mode: None,
         }
     }
@@ -96,6 +100,14 @@ impl Frame {
         self.dumps
     }
 
+    /// How many objects it has made.
+    #[inline]
+    pub(crate) fn made(&self) -> u32
+        ensures { result ≡ self.now.made }
+    {
+        self.made
+    }
+
     /// Moves on behind an entry that is what it asked.
     pub fn follow(&mut self, asked: Asked, entry: &Entry)
         requires { StandsBefore self.old.mode asked }
@@ -110,6 +122,7 @@ impl Frame {
     }
 
     // Moves on behind this call, which is paid for.
+    #[tactic(auto, using(crate::proofs::Moves::answered_later))]
     fn follow_call(&mut self, call: Call, entry: &Entry)
         requires { StandsBefore self.old.mode (Calls call) }
         ensures { self.new ≡ frame_behind_call self.old call entry.now }
@@ -119,12 +132,14 @@ impl Frame {
         if let Call::Wait { object } = call {
             return self.stand(place, fuel, Some(Mode::Waiting { object }));
         }
-        self.answer(call, entry);
         self.stand(place, fuel, None);
+        self.answer(call, entry);
     }
 
-    // What the call's answer makes of it.
+    // What the call's answer makes of it, behind the call.
     fn answer(&mut self, call: Call, entry: &Entry)
+        requires behind { self.old.mode ≡ None }
+        requires room { MayMakeMore self.old.made call }
         ensures { self.new ≡ frame_answered self.old call entry.now }
     {
         match call {
@@ -136,6 +151,12 @@ impl Frame {
             Call::Hash { local, .. } => {
                 if let Entry::Hash { value, .. } = entry {
                     self.set_local(local, Value::Int(i64::from(*value)));
+                }
+            }
+            Call::New { local, .. } => {
+                if let Entry::New { object, .. } = entry {
+                    self.made += 1;
+                    self.set_local(local, Value::Ref(*object));
                 }
             }
             Call::Dump { number } => self.dumps = number,
@@ -164,7 +185,7 @@ impl Frame {
     /// It is at this place, has this much fuel, and stands before this.
     #[inline]
     pub(crate) fn stand(&mut self, place: u32, fuel: u32, mode: Option<Mode>)
-        requires { IsAtInstruction place mode }
+        requires { IsAtInstruction place self.old.made mode }
         ensures { self.new ≡ record self.old { place = place; fuel = fuel; mode = mode } }
     {
         self.place = place;

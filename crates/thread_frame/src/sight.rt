@@ -51,4 +51,9 @@ impl Actor for Sight<'_> {
     fn dumps(&self) -> u32 {
         self.frame.dumps()
     }
+
+    #[inline]
+    fn made(&self) -> u32 {
+        self.frame.made()
+    }
 }

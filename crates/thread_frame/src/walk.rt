@@ -52,13 +52,14 @@ impl Frame {
 
     // What the instruction that it is at leads to.
     #[inline]
+    #[tactic(auto, using(crate::proofs::Walks::placed))]
     fn sees(&self, program: &Program, pass: &Pass, objects: u32) -> Next
         requires thread { pass.now.known.thread < length program.now.threads }
         requires holds { AreOf objects pass.now.known.holds }
         ensures next { let t = pass.now.known.thread in
             let s = state_in (locals_of program.now t) (counts_from 0 objects pass.now.known.holds) self.now in
             step_of program.now s (instruction_at (code_of program.now t) self.now.place) ≡ meant s result }
-        ensures placed { IsPlacedFor self.now.place result }
+        ensures placed { IsPlacedFor self.now result }
     {
         let thread = pass.thread();
         let sight = Sight {
@@ -75,7 +76,7 @@ impl Frame {
     fn make(&mut self, next: Next) -> Walked
         requires local { self.old.mode ≡ None }
         requires fuel { 0 < self.old.fuel }
-        requires placed { IsPlacedFor self.old.place next }
+        requires placed { IsPlacedFor self.old next }
         ensures moved { self.new ≡ frame_moved self.old next }
         ensures walked { HasWalked self.old self.new result }
     {

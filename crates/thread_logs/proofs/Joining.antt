@@ -87,12 +87,12 @@ abbrev parts : PlainMachine → List PlainObject × List Coded
 parts m = (m.objects, coded m.program 0 m.threads)
 
 -- the thread and the objects alone move on
-abbrev together : PlainMachine → ℕ → Option ThreadState → Option (List PlainObject) → Option PlainMachine
+abbrev pub together : PlainMachine → ℕ → Option ThreadState → Option (List PlainObject) → Option PlainMachine
 together m t None objects = None
 together m t (Some s) None = None
 together m t (Some s) (Some objects) = Some (record m { objects = objects; threads = slice_set m.threads t s })
 
-abbrev take_together : PlainMachine → ℕ → Entry → Option PlainMachine
+abbrev pub take_together : PlainMachine → ℕ → Entry → Option PlainMachine
 take_together m t e = option_and_then (λ s. together m t (thread_after m.program (code_of m.program t) s e) (take_entry m.objects t e)) (slice_get m.threads t)
 
 moved_parts : (m : PlainMachine) (t : ℕ) (a : Option ThreadState) (o : Option (List PlainObject))
@@ -151,24 +151,33 @@ taken_together m n t e h k =
         let made = made_there m t s a.0 e objects h asked fit g in
         rw (at, f, made, g) k
 
+-- the machine where this is made: threads and objects together don't look at that
+abbrev with_made : List (List ℕ) → PlainMachine → PlainMachine
+with_made made m = record m { made = made }
+
 -- what a machine takes, its threads and its objects take together
-together_at : (m n : PlainMachine) (t : ℕ) (e : Entry) (s : ThreadState) (a : Asked) (objects : List PlainObject) → slice_get m.threads t ≡ Some s → ask s ≡ Some a → fits a e ≡ true
-    → take_entry m.objects t e ≡ Some objects → moved_to m t (behind_entry m.program (code_of m.program t) s a e) objects ≡ n → take_together m t e ≡ Some n
-together_at m n t e s a objects at asks fit takes is =
+together_at : (made : List (List ℕ)) (m n : PlainMachine) (t : ℕ) (e : Entry) (s : ThreadState) (a : Asked) (objects : List PlainObject)
+    → slice_get m.threads t ≡ Some s → ask s ≡ Some a → fits a e ≡ true
+    → take_entry m.objects t e ≡ Some objects → with_made made (moved_to m t (behind_entry m.program (code_of m.program t) s a e) objects) ≡ with_made made n
+    → take_together (with_made made m) t e ≡ Some (with_made made n)
+together_at made m n t e s a objects at asks fit takes is =
     let after : thread_after m.program (code_of m.program t) s e ≡ Some (behind_entry m.program (code_of m.program t) s a e) = rw (asks, fit) refl in
     rw (at, after, takes) (ap Some is)
 
-took_together : (m n : PlainMachine) (t : ℕ) (e : Entry) → take m t e ≡ Some n → take_together m t e ≡ Some n
-took_together m n t e h = let k = taken m t e n h in together_at m n t e k.s k.asked k.objects k.at k.asks k.fit k.takes k.is
+took_together : (made : List (List ℕ)) (m n : PlainMachine) (t : ℕ) (e : Entry) → take m t e ≡ Some n → take_together (with_made made m) t e ≡ Some (with_made made n)
+took_together made m n t e h =
+    let k = taken m t e n h in
+    together_at made m n t e k.s k.asked k.objects k.at k.asks k.fit k.takes (ap (with_made made) k.is)
 
-all_together : (m last : PlainMachine) (xs : List (ℕ × Logged)) → behind_all m xs ≡ Some last → run_all take_together m xs ≡ Some last
-all_together m last [] h = h
-all_together m last (x ∷ xs) h =
+pub all_together : (made : List (List ℕ)) (m last : PlainMachine) (xs : List (ℕ × Logged)) → behind_all m xs ≡ Some last
+    → run_all take_together (with_made made m) xs ≡ Some (with_made made last)
+all_together made m last [] h = ap (option_map (with_made made)) h
+all_together made m last (x ∷ xs) h =
     let a = first_some (λ n. behind_all n xs) (take m x.0 x.1.entry) last h in
-    rw (took_together m a.0 x.0 x.1.entry a.1) (all_together a.0 last xs a.2)
+    rw (took_together made m a.0 x.0 x.1.entry a.1) (all_together made a.0 last xs a.2)
 
 -- and a reached machine takes it, since all is there that its threads need
-all_taken : (m last : PlainMachine) (xs : List (ℕ × Logged)) → IsReached m → run_all take_together m xs ≡ Some last → behind_all m xs ≡ Some last
+pub all_taken : (m last : PlainMachine) (xs : List (ℕ × Logged)) → IsReached m → run_all take_together m xs ≡ Some last → behind_all m xs ≡ Some last
 all_taken m last [] h e = e
 all_taken m last (x ∷ xs) h e =
     let a = first_some (λ n. run_all take_together n xs) (take_together m x.0 x.1.entry) last e in
@@ -308,8 +317,8 @@ module _ (law : Law) (p : ProgramText) (fuel : ℕ) (logs : List (List Logged)) 
       record { rises = h.objects.rises; taken = subst IsSome (sym takes) refl }
 
   module _ (m : PlainMachine) (h : HaveFollowed p fuel logs) (at : machine_after p fuel logs ≡ Some m) where
-    same : (now h).machine ≡ m
-    same = same_Some _ _ (sym (now h).is ∙ all_together (new_machine p fuel) m (order logs) at)
+    same : (now h).machine ≡ with_made (new_machine p fuel).made m
+    same = same_Some _ _ (sym (now h).is ∙ all_together (new_machine p fuel).made (new_machine p fuel) m (order logs) at)
 
     pub objects_are : objects_after (shape_of p) logs ≡ Some m.objects
     objects_are = (now h).objects ∙ ap (λ (x : PlainMachine). Some x.objects) same

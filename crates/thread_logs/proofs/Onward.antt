@@ -91,6 +91,7 @@ answer p s (call.Exit o) e st h fit v =
     record { state = holds_set p s o (holds_of s o - 1) st (omega (arith, fewer, st.few)); few = omega (arith, fewer) }
 answer p s (call.Get x o k) e st h fit v = get_answer p s x o k e st fit v
 answer p s (call.Hash x o) e st h fit v = hash_answer p s x o e st fit v
+answer p s (call.New x c) e st h fit v = absurd h
 answer p s (call.Dump k) e st h fit v =
     record { state = record { holds = st.holds; few = st.few; dumps = h.1; locals = st.locals }; few = omega arith }
 answer p s c e st h fit v = record { state = st; few = omega arith }

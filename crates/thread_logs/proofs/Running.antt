@@ -1,7 +1,8 @@
 -- What a run of local instructions leaves: the holds and the dumps stay, and the thread calls or unwinds.
 use Rattle.std.proofs.Common.{◌≡◌, ℕ, zero, suc, ◌+◌, ℤ, ◌+ℤ◌, ◌-ℤ◌, ◌*ℤ◌, nat_le, nat_lt, nat_abs, Bool, true, false, if◌then◌else◌, List, length, sum, replicate, slice_get, Option, Some, refl, ◌∙◌}
+use Rattle.plain_monitor.specs.Limits.{most_made}
 use Rattle.plain_monitor.specs.declared.entry.Fault.{Fault}
-use Rattle.plain_monitor.specs.declared.entry.Fault.TheVariants.{IllegalMonitorState, Unguarded, Range, Overflow, TooDeep, TooManyDumps}
+use Rattle.plain_monitor.specs.declared.entry.Fault.TheVariants.{IllegalMonitorState, Unguarded, Range, Overflow, TooDeep, TooManyDumps, TooMany}
 use Rattle.plain_monitor.specs.declared.entry.Value.{Value}
 use Rattle.plain_monitor.specs.declared.entry.Value.TheVariants.{Int, Ref}
 use Rattle.plain_monitor.specs.Numbers.{is_in_range}
@@ -103,6 +104,7 @@ step_steady p s (code.NotifyAll x) = object_steady s (local s x) _ (λ o. owned_
 step_steady p s (code.Get x y k) = object_steady s (local s y) _ (λ o. slot_steady p s o k (call.Get x o k) tt)
 step_steady p s (code.Put y k x) = object_steady s (local s y) _ (λ o. slot_steady p s o k (call.Put o k (local s x)) tt)
 step_steady p s (code.Hash x y) = object_steady s (local s y) _ (λ o. tt)
+step_steady p s (code.New x c) = tested_steady s TooMany (Calls (call.New x c)) (nat_lt s.made most_made) tt
 step_steady p s (code.Print x) = tt
 step_steady p s (code.Jump l) = (refl, refl)
 step_steady p s (code.Jlt x y l) = below_steady s (local s x) (local s y) l

@@ -3,7 +3,7 @@ use Rattle.std.proofs.Common.{◌≡◌, inl, inr, ℕ, ◌+◌, ◌-◌, ◌<�
 use Rattle.std.proofs.lemmas.Bool.{false≢true, cases_eq}
 use Rattle.std.proofs.lemmas.Option.{none-some, same_Some}
 use Rattle.plain_monitor.specs.declared.entry.Entry.{Entry}
-use Rattle.plain_monitor.specs.declared.entry.Entry.TheVariants.{Enter, Exit, Get, Put, Wait, Resume, Notify, NotifyAll, Hash, Print, Dump, Trap, Spent, Done}
+use Rattle.plain_monitor.specs.declared.entry.Entry.TheVariants.{Enter, Exit, Get, Put, Wait, Resume, Notify, NotifyAll, Hash, New, Print, Dump, Trap, Spent, Done}
 use Rattle.plain_monitor.specs.declared.entry.Ending.{Ending}
 use Rattle.plain_monitor.specs.declared.entry.Ending.TheVariants as ending
 use Rattle.plain_monitor.specs.declared.entry.Value.{Value}
@@ -237,6 +237,13 @@ module _ (p : ProgramText) (cs : List Code) (s : ThreadState) where
       silent_tells (answered s (call.Hash x o) e) (call.Hash x o) e at refl refl tt
   hash_tells x o e at fit = absurd (false≢true fit)
 
+  new_tells : (x c : ℕ) (e : Entry) → s.mode ≡ Calling (call.New x c) → is_call (call.New x c) e ≡ true
+      → IsTold s (Behind (answered s (call.New x c) e)) e
+  new_tells x c (New object class) at fit =
+      let e = New object class in
+      silent_tells (answered s (call.New x c) e) (call.New x c) e at refl refl tt
+  new_tells x c e at fit = absurd (false≢true fit)
+
   print_tells : (v : Value) (e : Entry) → s.mode ≡ Calling (call.Print v) → is_call (call.Print v) e ≡ true
       → IsTold s (Behind s) e
   print_tells v (Print value) at fit = silent_tells s (call.Print v) (Print value) at refl refl tt
@@ -267,6 +274,7 @@ module _ (p : ProgramText) (cs : List Code) (s : ThreadState) where
   call_tells (call.Get x o k) e at next fit = get_tells x o k e at fit
   call_tells (call.Put o k v) e at next fit = put_tells o k v e at fit
   call_tells (call.Hash x o) e at next fit = hash_tells x o e at fit
+  call_tells (call.New x c) e at next fit = new_tells x c e at fit
   call_tells (call.Print v) e at next fit = print_tells v e at fit
   call_tells (call.Dump n) e at next fit = dump_tells n e at next fit
 

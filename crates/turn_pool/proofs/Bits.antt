@@ -1,16 +1,19 @@
 -- Bits of words, and lists of words.
-use Rattle.std.proofs.Common.{◌≡◌, ◌≢◌, ◌⊎◌, ℕ, Bool, true, false, nat_eq, not, MatchBool, subst, rules, ◌/◌, ◌-◌, ◌^◌, ◌<◌, sym, ap, ◌∙◌, ⊎_elim, inl, inr, arith}
+use Rattle.std.proofs.Common.{◌≡◌, ◌≢◌, ◌⊎◌, ℕ, Bool, true, false, nat_eq, not, MatchBool, subst, rules, ◌/◌, ◌-◌, ◌^◌, ◌<◌, ◌≤◌, sym, ap, ◌∙◌, ⊎_elim, inl, inr, arith}
 use mathlib.Core.Logic.{dite}
-use native.Mathlib.Decide.{ℕ_discrete}
+use native.Mathlib.Decide.{ℕ_discrete, dec_le}
 use mir.Syntax.{w64}
 use Rattle.std.specs.Int.{bit_at}
 use Rattle.std.specs.Int.Bits.{bit_and, bit_or}
-use Rattle.std.proofs.lemmas.Nat.Bits.{shr_and_one, bit_at-lt, bit_at_and, bit_at_or, bit_at_ones, bit_at-pow_same, bit_at_clear_same, bit_at_clear_other}
+use Rattle.std.proofs.lemmas.Nat.Bits.{shr_and_one, bit_at-lt, bit_at_and, bit_at_or, bit_at_ones, bit_at_ones_above, same_from_bits, bit_at-pow_same, bit_at_clear_same, bit_at_clear_other}
 use Rattle.turn_pool.specs.inner.Pooled.{all_but}
 use Rattle.turn_pool.specs.Standstill.{InEither}
 
 pub same_or : (i k : ℕ) → (i ≡ k) ⊎ (i ≢ k)
 same_or i k = dite (ℕ_discrete i k) (λ e. inl e) (λ n. inr n)
+
+pub below_or : (k n : ℕ) → (k < n) ⊎ (n ≤ k)
+below_or k n = dite (dec_le n k) (λ (h : n ≤ k). inr h) (λ (d : ¬ (n ≤ k)). inl (omega (arith, d)))
 
 pub none_or_one : (x i : ℕ) → (bit_at x i ≡ 0) ⊎ (bit_at x i ≡ 1)
 none_or_one x i = let h = bit_at-lt x i in ⊎_elim (λ (e : bit_at x i ≡ 0). inl e) (λ (n : bit_at x i ≢ 0). inr (omega (arith, h, n))) (same_or (bit_at x i) 0)
@@ -35,6 +38,22 @@ in_either n a b e i li =
     (λ (z : bit_at a i ≡ 0). inr (let l = bit_at-lt b i in omega (arith, all, both, one, z, l)))
     (λ (o : bit_at a i ≡ 1). inl o)
     (none_or_one a i)
+
+-- and conversely
+pub all_stand : (n x : ℕ) → ((i : ℕ) → i < n → bit_at x i ≡ 1) → bit_and x (2 ^ n - 1) ≡ 2 ^ n - 1
+all_stand n x each = same_from_bits (bit_and x (2 ^ n - 1)) (2 ^ n - 1) (λ i.
+    let both = bit_at_and x (2 ^ n - 1) i in
+    ⊎_elim
+    (λ (lt : i < n). let one = bit_at_ones n i lt in let here = each i lt in omega (arith, both, one, here))
+    (λ (le : n ≤ i). let none = bit_at_ones_above n i le in omega (arith, both, none))
+    (below_or i n))
+
+pub either_stands : (a b i : ℕ) → InEither i a b → bit_at (bit_or a b) i ≡ 1
+either_stands a b i h =
+    let both = bit_at_or a b i in
+    let one = bit_at-lt a i in
+    let other = bit_at-lt b i in
+    ⊎_elim (λ (x : bit_at a i ≡ 1). omega (arith, both, other, x)) (λ (x : bit_at b i ≡ 1). omega (arith, both, one, x)) h
 
 -- what a bit says, by the test for it that code makes
 pub by_bit : {A B : Type 0} (n k : ℕ) → (bit_at n k ≡ 1 → A) → (bit_at n k ≡ 0 → B) → MatchBool (nat_eq (bit_and (n / 2 ^ k) 1) 1) A B

@@ -2,8 +2,6 @@
 use Rattle.std.proofs.Common.{◌≡◌, ◌≢◌, ◌⊎◌, ℕ, zero, suc, ◌+◌, ◌-◌, ◌*◌, ◌%◌, ◌^◌, ◌<◌, ◌≤◌, List, [], ◌∷◌, ◌++◌, length, Option, None, Some, refl, sym, ap, ◌∙◌, subst, ⊎_elim, inl, inr, arith, length-set, min, take, get_or}
 use Rattle.std.specs.Prelude.{slice_set, slice_index, replicate, slice_index_or, slice_get, map, Bool, true, false, ◌||◌}
 use mathlib.Core.Option.{Option as Maybe, some, none, some-injective, some-ne-none}
-use mathlib.Core.Logic.{dite}
-use native.Mathlib.Decide.{dec_le}
 use mir.Syntax.{w64}
 use lib.ListN.{get_elem?}
 use Rattle.std.specs.Int.{bit_at, trailing_zeros}
@@ -16,9 +14,9 @@ use Rattle.std.proofs.lemmas.Nat.Bits.{bit_at-trailing_zeros, bit_at_and, bit_at
 use Rattle.atomic_table.specs.Table.{State, Me, takes, gives, keeps, step, Allows, Splits, Joins, opening, Final, Seen}
 use Rattle.atomic_table.proofs.Lists.{at_set, at_snoc, at_longer, set_here, set_else, set_again}
 use Rattle.turn_pool.specs.declared.rule.SeatView.{SeatView}
-use Rattle.turn_pool.specs.Pool.{width, EndsOver, seat_view, all_parts}
+use Rattle.turn_pool.specs.Pool.{width, seat_view, all_parts}
 use Rattle.turn_pool.specs.inner.Pooled.{bit, IsOver, SawEnded, SawStopped, total, bit_of, all_but, Pooled, Took}
-use Rattle.turn_pool.proofs.Bits.{same_or, none_or_one, all_but_same}
+use Rattle.turn_pool.proofs.Bits.{same_or, below_or, none_or_one, all_but_same}
 
 held_or : ℕ → Option ℕ → ℕ
 held_or d None = d
@@ -27,9 +25,6 @@ held_or d (Some x) = x
 out_same : (i k : ℕ) → Some i ≡ Some k → i ≡ k
 unfolding held_or
 out_same i k e = ap (held_or i) e
-
-below_or : (k n : ℕ) → (k < n) ⊎ (n ≤ k)
-below_or k n = dite (dec_le n k) (λ (h : n ≤ k). inr h) (λ (d : ¬ (n ≤ k)). inl (omega (arith, d)))
 
 either_true : (f e : Bool) → (f || e) ≡ true → (f ≡ true) ⊎ (e ≡ true)
 either_true true e h = inl refl
@@ -57,7 +52,8 @@ total_one [] id v e = absurd (some-ne-none v (sym e))
 total_one (x ∷ xs) zero v e = omega (arith, ap (λ (u : SeatView). u.parts) (some-injective x v e))
 total_one (x ∷ xs) (suc i) v e = omega (arith, total_one xs i v e)
 
-total_two : (views : List SeatView) (id other : ℕ) (v u : SeatView) → get_elem? views id ≡ some v → get_elem? views other ≡ some u → other ≢ id → v.parts + u.parts ≤ total views
+total_two : (views : List SeatView) (id other : ℕ) (v u : SeatView) → get_elem? views id ≡ some v → get_elem? views other ≡ some u → other ≢ id
+    → v.parts + u.parts ≤ total views
 total_two [] id other v u e f n = absurd (some-ne-none v (sym e))
 total_two (x ∷ xs) zero zero v u e f n = absurd (n refl)
 total_two (x ∷ xs) zero (suc j) v u e f n = omega (arith, ap (λ (h : SeatView). h.parts) (some-injective x v e), total_one xs j u f)
@@ -89,7 +85,8 @@ by_both (x ∷ xs) (suc i) y e = by_both xs i y e
 
 over_grows : (n m : ℕ) (ws us : List ℕ) → m ≡ n → ((b i : ℕ) → b < 3 → b ≢ 0 → i < n → bit ws b i ≡ 1 → bit us b i ≡ 1) → IsOver n ws → IsOver m us
 over_grows n m ws us e grows h = ⊎_elim
-    (λ (x : (i : ℕ) → i < n → bit ws 1 i ≡ 1). inl (λ i lt. grows 1 i (omega arith) (λ z. absurd (omega (arith, z))) (omega (arith, lt, e)) (x i (omega (arith, lt, e)))))
+    (λ (x : (i : ℕ) → i < n → bit ws 1 i ≡ 1). inl (λ i lt. grows 1 i (omega arith) (λ z. absurd (omega (arith, z))) (omega (arith, lt, e))
+    (x i (omega (arith, lt, e)))))
     (λ (x : (i : ℕ) × (i < n) × (bit ws 2 i ≡ 1)). inr (x.0, omega (arith, x.1, e), grows 2 x.0 (omega arith) (λ z. absurd (omega (arith, z))) x.1 x.2))
     h
 
@@ -118,7 +115,8 @@ module _ {S : Type 0} (Is : ℕ → ℕ → S → Type 0) where
   changed s id k v w ws hs p ch =
       let lt : (i : ℕ) → i < length hs → i < length s.homes = λ i h. let c = ch.count in omega (arith, h, c) in
       let lt' : (i : ℕ) → i < length s.homes → i < length hs = λ i h. let c = ch.count in omega (arith, h, c) in
-      let known : (j : ℕ) (u : SeatView) → get_elem? (slice_set s.views id w) j ≡ some u → ((j ≡ id) × (w ≡ u)) ⊎ ((j ≢ id) × (get_elem? s.views j ≡ some u)) = λ j u e. at_set s.views id j w u e in
+      let known : (j : ℕ) (u : SeatView) → get_elem? (slice_set s.views id w) j ≡ some u
+      → ((j ≡ id) × (w ≡ u)) ⊎ ((j ≢ id) × (get_elem? s.views j ≡ some u)) = λ j u e. at_set s.views id j w u e in
       record {
         width = ch.width;
         few = (let f = p.few in let c = ch.count in omega (arith, f, c));
@@ -138,7 +136,8 @@ module _ {S : Type 0} (Is : ℕ → ℕ → S → Type 0) where
             (λ (n : i ≢ k). ⊎_elim
             (λ (x : (b : ℕ) × (b < 3) × (bit s.words b i ≡ 1)). inl (x.0, x.1, ch.bits x.0 i x.1 (lt i li) n ∙ x.2))
             (λ (x : (j : ℕ) × (u : SeatView) × (get_elem? s.views j ≡ some u) × (u.held ≡ Some i)).
-            let other : x.0 ≢ id = λ e. n (ch.had i (ap (λ (u : SeatView). u.held) (some-injective v x.1 (sym ch.at ∙ ap (get_elem? s.views) (sym e) ∙ x.2)) ∙ x.3)) in
+            let other : x.0 ≢ id = λ e. n (ch.had i (ap (λ (u : SeatView). u.held) (some-injective v x.1 (sym ch.at ∙ ap (get_elem? s.views) (sym e) ∙ x.2))
+            ∙ x.3)) in
             inr (x.0, x.1, set_else s.views id x.0 w other ∙ x.2, x.3))
             (p.somewhere i (lt i li)))
             (same_or i k);
@@ -154,7 +153,8 @@ module _ {S : Type 0} (Is : ℕ → ℕ → S → Type 0) where
         sole = λ j m i u z e f o q. ⊎_elim
             (λ (x : (j ≡ id) × (w ≡ u)). ⊎_elim
             (λ (t : (m ≡ id) × (w ≡ z)). x.0 ∙ sym t.0)
-            (λ (t : (m ≢ id) × (get_elem? s.views m ≡ some z)). absurd (ch.others m z t.0 t.1 (q ∙ ap (λ (j : ℕ). Some j) (ch.has i (ap (λ (u : SeatView). u.held) x.1 ∙ o)).0)))
+            (λ (t : (m ≢ id) × (get_elem? s.views m ≡ some z)). absurd
+            (ch.others m z t.0 t.1 (q ∙ ap (λ (j : ℕ). Some j) (ch.has i (ap (λ (u : SeatView). u.held) x.1 ∙ o)).0)))
             (known m z f))
             (λ (x : (j ≢ id) × (get_elem? s.views j ≡ some u)). ⊎_elim
             (λ (t : (m ≡ id) × (w ≡ z)). absurd (ch.others j u x.0 x.1 (o ∙ ap (λ (j : ℕ). Some j) (ch.has i (ap (λ (u : SeatView). u.held) t.1 ∙ q)).0)))
@@ -167,7 +167,8 @@ module _ {S : Type 0} (Is : ℕ → ℕ → S → Type 0) where
             (λ (x : (j ≢ id) × (get_elem? s.views j ≡ some u)). p.over j u x.1 is)
             (known j u e));
         idle = λ j u e none. ⊎_elim
-            (λ (x : (j ≡ id) × (w ≡ u)). absurd (let a = ap (λ (u : SeatView). u.parts) x.1 in let z = ch.parts in let b = ch.some_part in omega (arith, a, z, b, none)))
+            (λ (x : (j ≡ id) × (w ≡ u)). absurd (let a = ap (λ (u : SeatView). u.parts) x.1 in let z = ch.parts in let b = ch.some_part in
+            omega (arith, a, z, b, none)))
             (λ (x : (j ≢ id) × (get_elem? s.views j ≡ some u)). p.idle j u x.1 none)
             (known j u e);
       }
@@ -177,7 +178,8 @@ module _ {S : Type 0} (Is : ℕ → ℕ → S → Type 0) where
       → ((b i : ℕ) → b < 3 → i < length s.homes → bit ws b i ≡ bit s.words b i)
       → ((j i : ℕ) (u : SeatView) → get_elem? vs j ≡ some u → u.held ≡ Some i → get_elem? s.views j ≡ some u)
       → ((j i : ℕ) (u : SeatView) → get_elem? s.views j ≡ some u → u.held ≡ Some i → get_elem? vs j ≡ some u)
-      → total vs ≡ all_parts → ((j : ℕ) (u : SeatView) → get_elem? vs j ≡ some u → u.over ≡ true → IsOver (length s.homes) s.words) → ((j : ℕ) (u : SeatView) → get_elem? vs j ≡ some u → u.parts ≡ 0 → u.held ≡ None)
+      → total vs ≡ all_parts → ((j : ℕ) (u : SeatView) → get_elem? vs j ≡ some u → u.over ≡ true → IsOver (length s.homes) s.words)
+      → ((j : ℕ) (u : SeatView) → get_elem? vs j ≡ some u → u.parts ≡ 0 → u.held ≡ None)
       → Pooled Is record { words = ws; homes = s.homes; views = vs }
   revised s ws vs p width bits old new all over idle =
       record {
@@ -210,9 +212,11 @@ module _ {S : Type 0} (Is : ℕ → ℕ → S → Type 0) where
       (at_snoc (slice_set s.views id l) r u j e) in
       revised s s.words vs pool pool.width (λ b i lb li. refl)
       (λ j i u e o. ⊎_elim (λ (x : u.held ≡ None). absurd (nobody i (sym x ∙ o))) (λ (x : get_elem? s.views j ≡ some u). x) (before j u e))
-      (λ j i u e o. let other : j ≢ id = λ h. nobody i (ap (λ (u : SeatView). u.held) (some-injective (seat_view p None f) u (sym at ∙ ap (get_elem? s.views) (sym h) ∙ e)) ∙ o) in
+      (λ j i u e o. let other : j ≢ id = λ h. nobody i (ap (λ (u : SeatView). u.held)
+      (some-injective (seat_view p None f) u (sym at ∙ ap (get_elem? s.views) (sym h) ∙ e)) ∙ o) in
       at_longer (slice_set s.views id l) (r ∷ []) j u (set_else s.views id j l other ∙ e))
-      (let t = total_set s.views id (seat_view p None f) l at in let z = total_end (slice_set s.views id l) r in let q = pool.parts in omega (arith, t, z, q, more))
+      (let t = total_set s.views id (seat_view p None f) l at in let z = total_end (slice_set s.views id l) r in let q = pool.parts in
+      omega (arith, t, z, q, more))
       (λ j u e is. ⊎_elim
       (λ (x : get_elem? (slice_set s.views id l) j ≡ some u). ⊎_elim
       (λ (y : (j ≡ id) × (l ≡ u)). pool.over id (seat_view p None f) at (ap (λ (h : SeatView). h.over) y.1 ∙ is))
@@ -222,7 +226,8 @@ module _ {S : Type 0} (Is : ℕ → ℕ → S → Type 0) where
       (at_snoc (slice_set s.views id l) r u j e))
       (λ j u e none. ⊎_elim (λ (x : u.held ≡ None). x) (λ (x : get_elem? s.views j ≡ some u). pool.idle j u x none) (before j u e))
 
-  pub joins : (id p other q : ℕ) (f e' : Bool) → Joins (Pooled Is) id (seat_view p None f) other (seat_view q None e') (seat_view (p + q) None (f || e')) (seat_view 0 None false)
+  pub joins : (id p other q : ℕ) (f e' : Bool) → Joins (Pooled Is) id (seat_view p None f) other (seat_view q None e') (seat_view (p + q) None (f || e'))
+      (seat_view 0 None false)
   joins id p other q f e' s pool at apart there =
       let v : SeatView = seat_view p None f in
       let w : SeatView = seat_view q None e' in
@@ -230,7 +235,8 @@ module _ {S : Type 0} (Is : ℕ → ℕ → S → Type 0) where
       let spent : SeatView = seat_view 0 None false in
       let mid : List SeatView = slice_set s.views id both in
       let vs : List SeatView = slice_set mid other spent in
-      let was : get_elem? s.views other ≡ some w = ⊎_elim (λ (x : (other ≡ id) × (both ≡ w)). absurd (apart x.0)) (λ (x : (other ≢ id) × (get_elem? s.views other ≡ some w)). x.1) (at_set s.views id other both w there) in
+      let was : get_elem? s.views other ≡ some w = ⊎_elim (λ (x : (other ≡ id) × (both ≡ w)). absurd (apart x.0))
+      (λ (x : (other ≢ id) × (get_elem? s.views other ≡ some w)). x.1) (at_set s.views id other both w there) in
       let before : (j : ℕ) (u : SeatView) → get_elem? vs j ≡ some u → (u.held ≡ None) ⊎ (get_elem? s.views j ≡ some u) = λ j u e. ⊎_elim
       (λ (x : (j ≡ other) × (spent ≡ u)). inl (ap (λ (h : SeatView). h.held) (sym x.1)))
       (λ (x : (j ≢ other) × (get_elem? mid j ≡ some u)). ⊎_elim
@@ -248,13 +254,15 @@ module _ {S : Type 0} (Is : ℕ → ℕ → S → Type 0) where
       (λ j u e is. ⊎_elim
       (λ (x : (j ≡ other) × (spent ≡ u)). absurd (cc (ap (λ (h : SeatView). h.over) x.1, is)))
       (λ (x : (j ≢ other) × (get_elem? mid j ≡ some u)). ⊎_elim
-      (λ (y : (j ≡ id) × (both ≡ u)). ⊎_elim (λ (o : f ≡ true). pool.over id v at o) (λ (o : e' ≡ true). pool.over other w was o) (either_true f e' (ap (λ (h : SeatView). h.over) y.1 ∙ is)))
+      (λ (y : (j ≡ id) × (both ≡ u)). ⊎_elim (λ (o : f ≡ true). pool.over id v at o) (λ (o : e' ≡ true). pool.over other w was o)
+      (either_true f e' (ap (λ (h : SeatView). h.over) y.1 ∙ is)))
       (λ (y : (j ≢ id) × (get_elem? s.views j ≡ some u)). pool.over j u y.1 is)
       (at_set s.views id j both u x.1))
       (at_set mid other j spent u e))
       (λ j u e none. ⊎_elim (λ (x : u.held ≡ None). x) (λ (x : get_elem? s.views j ≡ some u). pool.idle j u x none) (before j u e))
 
-  pub took : (n id p k : ℕ) (f : Bool) → 0 < p → k < n → Allows (Pooled Is) n id (seat_view p None f, []) 0 (λ x. bit_and x (all_but k)) (Took Is (step n 0 (all_but k) 0 none) (seat_view p None f, []))
+  pub took : (n id p k : ℕ) (f : Bool) → 0 < p → k < n → Allows (Pooled Is) n id (seat_view p None f, []) 0 (λ x. bit_and x (all_but k))
+      (Took Is (step n 0 (all_but k) 0 none) (seat_view p None f, []))
   took n id p k f some_part inside s pool count at fits =
       let li : k < length s.homes = omega (arith, count, inside) in
       let small : k < 64 = (let f = pool.few in omega (arith, li, f)) in
@@ -263,9 +271,11 @@ module _ {S : Type 0} (Is : ℕ → ℕ → S → Type 0) where
       let ws : List ℕ = slice_set s.words 0 new in
       let zeroth : slice_index ws 0 ≡ new = get_or-set_same s.words 0 new 0 (let w = pool.width in omega (arith, w)) in
       let off : bit ws 0 k ≡ 0 = ap (λ (m : ℕ). bit_at m k) zeroth ∙ bit_at_clear_same w64 x k small in
-      let rest : (b i : ℕ) → b ≢ 0 → bit ws b i ≡ bit s.words b i = λ b i d. ap (λ (m : ℕ). bit_at m i) (get_or-set_other s.words 0 (16 * b) new 0 (λ h. d (omega (arith, h)))) in
+      let rest : (b i : ℕ) → b ≢ 0 → bit ws b i ≡ bit s.words b i = λ b i d. ap (λ (m : ℕ). bit_at m i)
+      (get_or-set_other s.words 0 (16 * b) new 0 (λ h. d (omega (arith, h)))) in
       let bits : (b i : ℕ) → b < 3 → i < length s.homes → i ≢ k → bit ws b i ≡ bit s.words b i = λ b i lb lj n. ⊎_elim
-      (λ (z : b ≡ 0). ap (λ (c : ℕ). bit ws c i) z ∙ ap (λ (m : ℕ). bit_at m i) zeroth ∙ bit_at_clear_other w64 x k small i (let f = pool.few in omega (arith, lj, f)) n ∙ ap (λ (c : ℕ). bit s.words c i) (sym z))
+      (λ (z : b ≡ 0). ap (λ (c : ℕ). bit ws c i) z ∙ ap (λ (m : ℕ). bit_at m i) zeroth
+      ∙ bit_at_clear_other w64 x k small i (let f = pool.few in omega (arith, lj, f)) n ∙ ap (λ (c : ℕ). bit s.words c i) (sym z))
       (λ (d : b ≢ 0). rest b i d)
       (same_or b 0) in
       ⊎_elim
@@ -276,7 +286,8 @@ module _ {S : Type 0} (Is : ℕ → ℕ → S → Type 0) where
         revised s ws (slice_set s.views id (seat_view p None f)) pool (length-set s.words 0 new ∙ pool.width)
             (λ b i lb lj. ⊎_elim
             (λ (h : i ≡ k). ⊎_elim
-            (λ (z : b ≡ 0). ap (λ (c : ℕ). bit ws c i) z ∙ ap (bit ws 0) h ∙ off ∙ sym zero_bit ∙ ap (bit s.words 0) (sym h) ∙ ap (λ (c : ℕ). bit s.words c i) (sym z))
+            (λ (z : b ≡ 0). ap (λ (c : ℕ). bit ws c i) z ∙ ap (bit ws 0) h ∙ off ∙ sym zero_bit ∙ ap (bit s.words 0) (sym h)
+            ∙ ap (λ (c : ℕ). bit s.words c i) (sym z))
             (λ (d : b ≢ 0). rest b i d)
             (same_or b 0))
             (λ (d : i ≢ k). bits b i lb lj d)
@@ -293,7 +304,8 @@ module _ {S : Type 0} (Is : ℕ → ℕ → S → Type 0) where
       let w : SeatView = seat_view p (Some k) f in
       let clear : (b : ℕ) → b < 3 → bit ws b k ≡ 0 = λ b lb. ⊎_elim
       (λ (z : b ≡ 0). ap (λ (c : ℕ). bit ws c k) z ∙ off)
-      (λ (d : b ≢ 0). rest b k d ∙ ⊎_elim (λ (z : bit s.words b k ≡ 0). z) (λ (o : bit s.words b k ≡ 1). absurd (d (pool.apart b 0 k lb (omega arith) li o one_bit))) (none_or_one (slice_index s.words (16 * b)) k))
+      (λ (d : b ≢ 0). rest b k d ∙ ⊎_elim (λ (z : bit s.words b k ≡ 0). z)
+      (λ (o : bit s.words b k ≡ 1). absurd (d (pool.apart b 0 k lb (omega arith) li o one_bit))) (none_or_one (slice_index s.words (16 * b)) k))
       (same_or b 0) in (
         w,
         takes k y.0,
@@ -334,7 +346,8 @@ module _ {S : Type 0} (Is : ℕ → ℕ → S → Type 0) where
       let ws : List ℕ = slice_set s.words (16 * b) new in
       let here : slice_index ws (16 * b) ≡ new = get_or-set_same s.words (16 * b) new 0 (let w = pool.width in omega (arith, w, lb)) in
       let on : bit ws b k ≡ 1 = ap (λ (m : ℕ). bit_at m k) here ∙ bit_at_set_same w64 x k small in
-      let rest : (c i : ℕ) → c ≢ b → bit ws c i ≡ bit s.words c i = λ c i d. ap (λ (m : ℕ). bit_at m i) (get_or-set_other s.words (16 * b) (16 * c) new 0 (λ h. d (omega (arith, h)))) in
+      let rest : (c i : ℕ) → c ≢ b → bit ws c i ≡ bit s.words c i = λ c i d. ap (λ (m : ℕ). bit_at m i)
+      (get_or-set_other s.words (16 * b) (16 * c) new 0 (λ h. d (omega (arith, h)))) in
       let only : (c : ℕ) → c < 3 → bit ws c k ≡ 1 → c ≡ b = λ c lc e. ⊎_elim (λ (z : c ≡ b). z)
       (λ (d : c ≢ b). absurd (let z = out.1 c lc in let r = rest c k d in omega (arith, z, r, e))) (same_or c b) in (
         seat_view p None f,
@@ -347,7 +360,8 @@ module _ {S : Type 0} (Is : ℕ → ℕ → S → Type 0) where
               width = length-set s.words (16 * b) new ∙ pool.width;
               count = length-set s.homes k (some y);
               bits = λ c i lc li d. ⊎_elim
-                  (λ (z : c ≡ b). ap (λ (c : ℕ). bit ws c i) z ∙ ap (λ (m : ℕ). bit_at m i) here ∙ bit_at_set_other w64 x k small i d ∙ ap (λ (c : ℕ). bit s.words c i) (sym z))
+                  (λ (z : c ≡ b). ap (λ (c : ℕ). bit ws c i) z ∙ ap (λ (m : ℕ). bit_at m i) here ∙ bit_at_set_other w64 x k small i d
+                  ∙ ap (λ (c : ℕ). bit s.words c i) (sym z))
                   (λ (z : c ≢ b). rest c i z)
                   (same_or c b);
               homes = λ i d. set_else s.homes k i (some y) d;
@@ -363,7 +377,8 @@ module _ {S : Type 0} (Is : ℕ → ℕ → S → Type 0) where
               grows = λ c i lc d li one. ⊎_elim
                   (λ (z : c ≡ b). ⊎_elim
                   (λ (h : i ≡ k). ap (λ (c : ℕ). bit ws c i) z ∙ ap (bit ws b) h ∙ on)
-                  (λ (h : i ≢ k). ap (λ (c : ℕ). bit ws c i) z ∙ ap (λ (m : ℕ). bit_at m i) here ∙ bit_at_set_other w64 x k small i h ∙ ap (λ (c : ℕ). bit s.words c i) (sym z) ∙ one)
+                  (λ (h : i ≢ k). ap (λ (c : ℕ). bit ws c i) z ∙ ap (λ (m : ℕ). bit_at m i) here ∙ bit_at_set_other w64 x k small i h
+                  ∙ ap (λ (c : ℕ). bit s.words c i) (sym z) ∙ one)
                   (same_or i k))
                   (λ (z : c ≢ b). rest c i z ∙ one)
                   (same_or c b);
@@ -377,7 +392,8 @@ module _ {S : Type 0} (Is : ℕ → ℕ → S → Type 0) where
     v,
     keeps,
     tt,
-    revised s (slice_set s.words 48 (f (slice_index s.words 48))) (slice_set s.views id v) pool (length-set s.words 48 (f (slice_index s.words 48)) ∙ pool.width)
+    revised s (slice_set s.words 48 (f (slice_index s.words 48))) (slice_set s.views id v) pool
+        (length-set s.words 48 (f (slice_index s.words 48)) ∙ pool.width)
         (λ b i lb li. ap (λ (m : ℕ). bit_at m i) (get_or-set_other s.words 48 (16 * b) (f (slice_index s.words 48)) 0 (λ h. absurd (omega (arith, lb, h)))))
         (λ j i u e o. ap (λ (l : List SeatView). get_elem? l j) (sym (set_again s.views id v at)) ∙ e)
         (λ j i u e o. ap (λ (l : List SeatView). get_elem? l j) (set_again s.views id v at) ∙ e)
@@ -411,7 +427,8 @@ module _ {S : Type 0} (Is : ℕ → ℕ → S → Type 0) where
   kept s id b v pool at = subst (λ (z : List ℕ × List SeatView). Pooled Is record { words = z.0; homes = s.homes; views = z.1 })
       (λ i. (sym (set-get_or s.words b 0) i, sym (set_again s.views id v at) i)) pool
 
-  pub sees_ended : (n id p : ℕ) (f : Bool) → Allows (Pooled Is) n id (seat_view p None f, []) 16 (λ x. x) (SawEnded (step n 16 0 0 none) (seat_view p None f, []))
+  pub sees_ended : (n id p : ℕ) (f : Bool) → Allows (Pooled Is) n id (seat_view p None f, []) 16 (λ x. x)
+      (SawEnded (step n 16 0 0 none) (seat_view p None f, []))
   sees_ended n id p f s pool count at fits = ⊎_elim
       (λ (e : slice_index s.words 16 ≡ 2 ^ n - 1). (
         seat_view p None true,
@@ -423,7 +440,8 @@ module _ {S : Type 0} (Is : ℕ → ℕ → S → Type 0) where
       (λ (d : slice_index s.words 16 ≢ 2 ^ n - 1). (seat_view p None f, keeps, tt, kept s id 16 (seat_view p None f) pool at, ((λ e. absurd (d e)), λ _. refl)))
       (same_or (slice_index s.words 16) (2 ^ n - 1))
 
-  pub sees_stopped : (n id p : ℕ) (f : Bool) → Allows (Pooled Is) n id (seat_view p None f, []) 32 (λ x. x) (SawStopped (step n 32 0 0 none) (seat_view p None f, []))
+  pub sees_stopped : (n id p : ℕ) (f : Bool) → Allows (Pooled Is) n id (seat_view p None f, []) 32 (λ x. x)
+      (SawStopped (step n 32 0 0 none) (seat_view p None f, []))
   sees_stopped n id p f s pool count at fits =
       let x : ℕ = slice_index s.words 32 in
       let m : ℕ = bit_and x (2 ^ n - 1) in
@@ -433,7 +451,8 @@ module _ {S : Type 0} (Is : ℕ → ℕ → S → Type 0) where
       let some_bit = bit_at-trailing_zeros w64 m (omega (arith, d)) (let l = and_le_l x (2 ^ n - 1) in omega (arith, l, fits)) in
       let k : ℕ = trailing_zeros w64 m in
       let both : min (bit_at x k) (bit_at (2 ^ n - 1) k) ≡ 1 = sym (bit_at_and x (2 ^ n - 1) k) ∙ some_bit.1 in
-      let low : k < length s.homes = ⊎_elim (λ (y : k < n). (omega (arith, y, count))) (λ (y : n ≤ k). absurd (let o = bit_at_ones_above n k y in omega (arith, o, both))) (below_or k n) in
+      let low : k < length s.homes = ⊎_elim (λ (y : k < n). (omega (arith, y, count)))
+      (λ (y : n ≤ k). absurd (let o = bit_at_ones_above n k y in omega (arith, o, both))) (below_or k n) in
       let on : bit_at x k ≡ 1 = (let y = bit_at-lt x k in omega (arith, both, y)) in (
         seat_view p None true,
         keeps,
@@ -449,7 +468,8 @@ module _ {S : Type 0} (Is : ℕ → ℕ → S → Type 0) where
   all_home s id f pool at i li = ⊎_elim
       (λ (x : (b : ℕ) × (b < 3) × (bit s.words b i ≡ 1)). let h = pool.home x.0 i x.1 li x.2 in (x.0, h.0, x.1, h.1, h.2))
       (λ (x : (j : ℕ) × (u : SeatView) × (get_elem? s.views j ≡ some u) × (u.held ≡ Some i)). ⊎_elim
-      (λ (e : x.0 ≡ id). absurd (nobody i (ap (λ (u : SeatView). u.held) (some-injective (seat_view all_parts None f) x.1 (sym at ∙ ap (get_elem? s.views) (sym e) ∙ x.2)) ∙ x.3)))
+      (λ (e : x.0 ≡ id). absurd (nobody i (ap (λ (u : SeatView). u.held)
+      (some-injective (seat_view all_parts None f) x.1 (sym at ∙ ap (get_elem? s.views) (sym e) ∙ x.2)) ∙ x.3)))
       (λ (n : x.0 ≢ id).
       let two = total_two s.views id x.0 (seat_view all_parts None f) x.1 at x.2 n in
       let none = pool.idle x.0 x.1 x.2 (let q = pool.parts in omega (arith, two, q)) in
@@ -460,7 +480,8 @@ module _ {S : Type 0} (Is : ℕ → ℕ → S → Type 0) where
   abbrev AllReady : List S → Type 0
   AllReady xs = (i : ℕ) (y : S) → slice_get xs i ≡ Some y → Is 0 i y
 
-  pub opens : (xs : List S) → length xs < 33 → AllReady xs → Pooled Is (opening (slice_set (replicate width 0) 0 (1 * 2 ^ length xs % 2 ^ 64 - 1)) xs (seat_view all_parts None false))
+  pub opens : (xs : List S) → length xs < 33 → AllReady xs → Pooled Is
+      (opening (slice_set (replicate width 0) 0 (1 * 2 ^ length xs % 2 ^ 64 - 1)) xs (seat_view all_parts None false))
   opens xs few all =
       let n : ℕ = length xs in
       let one : 1 * 2 ^ n % 2 ^ 64 ≡ 2 ^ n = one_bit n (omega (arith, few)) in
@@ -469,8 +490,10 @@ module _ {S : Type 0} (Is : ℕ → ℕ → S → Type 0) where
       let len : length (map some xs) ≡ n = length-map xs some in
       let on : (i : ℕ) → i < n → bit_at ready i ≡ 1 = λ i li. ap (λ (m : ℕ). bit_at (m - 1) i) one ∙ bit_at_ones n i li in
       let off : (b i : ℕ) → b < 3 → b ≢ 0 → bit ws b i ≡ 0 = λ b i lb d. noughts b lb d ready i in
-      let zero_of : (b i : ℕ) → b < 3 → bit ws b i ≡ 1 → b ≡ 0 = λ b i lb e. ⊎_elim (λ (z : b ≡ 0). z) (λ (d : b ≢ 0). absurd (let o = off b i lb d in omega (arith, o, e))) (same_or b 0) in
-      let alone : (j : ℕ) (u : SeatView) → get_elem? (seat_view all_parts None false ∷ []) j ≡ some u → u ≡ seat_view all_parts None false = λ j u e. only_one j u e in
+      let zero_of : (b i : ℕ) → b < 3 → bit ws b i ≡ 1 → b ≡ 0 = λ b i lb e. ⊎_elim (λ (z : b ≡ 0). z)
+      (λ (d : b ≢ 0). absurd (let o = off b i lb d in omega (arith, o, e))) (same_or b 0) in
+      let alone : (j : ℕ) (u : SeatView) → get_elem? (seat_view all_parts None false ∷ []) j ≡ some u
+      → u ≡ seat_view all_parts None false = λ j u e. only_one j u e in
       record {
         width = refl;
         few = omega (arith, len, few);
@@ -486,7 +509,8 @@ module _ {S : Type 0} (Is : ℕ → ℕ → S → Type 0) where
         idle = λ j u e none. ap (λ (u : SeatView). u.held) (alone j u e);
       }
 
-  pub at_last : (id n : ℕ) (f : Bool) (v : SeatView) (ws : List ℕ) (xs : List S) → v ≡ seat_view all_parts None f → Final (Seen (Pooled Is) id v) ws xs → length xs ≡ n
+  pub at_last : (id n : ℕ) (f : Bool) (v : SeatView) (ws : List ℕ) (xs : List S) → v ≡ seat_view all_parts None f → Final (Seen (Pooled Is) id v) ws xs
+      → length xs ≡ n
       → (i : ℕ) (y : S) → slice_get xs i ≡ Some y → (b : ℕ) × (b < 3) × Is b i y
   at_last id n f v ws xs all (s, (pool, at), words, count, slots) len i y e =
       let inside = slice_get_within xs i y e in
@@ -496,8 +520,9 @@ module _ {S : Type 0} (Is : ℕ → ℕ → S → Type 0) where
 
 module _ {S : Type 0} (Is : ℕ → ℕ → S → Type 0) where
   -- all have ended, or one has stopped all: so it is with what lies in the slots
-  pub over_at_last : (id : ℕ) (f : Bool) (v : SeatView) (ws : List ℕ) (xs : List S) → v ≡ seat_view all_parts None f → Final (Seen (Pooled Is) id v) ws xs → v.over ≡ true
-      → EndsOver Is xs
+  pub over_at_last : (id : ℕ) (f : Bool) (v : SeatView) (ws : List ℕ) (xs : List S) → v ≡ seat_view all_parts None f → Final (Seen (Pooled Is) id v) ws xs
+      → v.over ≡ true
+      → ((i : ℕ) (y : S) → slice_get xs i ≡ Some y → Is 1 i y) ⊎ ((i : ℕ) × (y : S) × (slice_get xs i ≡ Some y) × Is 2 i y)
   over_at_last id f v ws xs all (s, (pool, at), words, count, slots) is =
       let lies : (b i : ℕ) (y : S) → b < 3 → i < length s.homes → bit s.words b i ≡ 1 → slice_get xs i ≡ Some y → Is b i y = λ b i y lb li one e.
       let h = pool.home b i lb li one in
@@ -519,14 +544,17 @@ at_place (y ∷ ys) (suc i) x d e = let h = at_place ys i x d e in (omega (arith
 pub copies : {A : Type 0} (xs copy : List A) (i : ℕ) (x : A) → get_elem? xs i ≡ some x → copy ≡ take i xs → copy ++ x ∷ [] ≡ take (i + 1) xs
 copies xs copy i x e c = let h = at_place xs i x x e in (λ j. c j ++ sym h.1 j ∷ []) ∙ sym (take_more xs i x h.0)
 
-pub emptied : (fs gs : List Bool) (i : ℕ) → i < length fs → gs ≡ slice_set fs i false → ((k : ℕ) → k < i → slice_index_or fs k false ≡ false) → (k : ℕ) → k < i + 1 → slice_index_or gs k false ≡ false
+pub emptied : (fs gs : List Bool) (i : ℕ) → i < length fs → gs ≡ slice_set fs i false → ((k : ℕ) → k < i → slice_index_or fs k false ≡ false) → (k : ℕ)
+    → k < i + 1 → slice_index_or gs k false ≡ false
 emptied fs gs i li e before k lt = ⊎_elim
     (λ (h : k ≡ i). ap (λ (l : List Bool). get_or l k false) e ∙ ap (λ (m : ℕ). get_or (slice_set fs i false) m false) h ∙ get_or-set_same fs i false false li)
     (λ (n : k ≢ i). ap (λ (l : List Bool). get_or l k false) e ∙ get_or-set_other fs i k false false n ∙ before k (omega (arith, lt, n)))
     (same_or k i)
 
-pub still_full : (fs gs : List Bool) (i n : ℕ) → gs ≡ slice_set fs i false → ((k : ℕ) → i ≤ k → k < n → slice_index_or fs k false ≡ true) → (k : ℕ) → i + 1 ≤ k → k < n → slice_index_or gs k false ≡ true
-still_full fs gs i n e before k low lt = ap (λ (l : List Bool). get_or l k false) e ∙ get_or-set_other fs i k false false (λ h. absurd (omega (arith, low, h))) ∙ before k (omega (arith, low)) lt
+pub still_full : (fs gs : List Bool) (i n : ℕ) → gs ≡ slice_set fs i false → ((k : ℕ) → i ≤ k → k < n → slice_index_or fs k false ≡ true) → (k : ℕ)
+    → i + 1 ≤ k → k < n → slice_index_or gs k false ≡ true
+still_full fs gs i n e before k low lt = ap (λ (l : List Bool). get_or l k false) e
+    ∙ get_or-set_other fs i k false false (λ h. absurd (omega (arith, low, h))) ∙ before k (omega (arith, low)) lt
 
 module _ {S : Type 0} (Is : ℕ → ℕ → S → Type 0) where
   pub noted_as : (n id : ℕ) (me : Me S SeatView) (f : ℕ → ℕ) → me.1 ≡ [] → Allows (Pooled Is) n id me 48 f (λ found after. after ≡ me)

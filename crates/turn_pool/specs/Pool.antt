@@ -1,6 +1,8 @@
 -- What the seats of a pool know, and what lies in its slots at the end.
 use Rattle.std.specs.Prelude.{◌≡◌, ◌⊎◌, ℕ, List, slice_get, Option, Some, Bool}
 use Rattle.turn_pool.specs.declared.rule.SeatView.{SeatView}
+use Rattle.turn_pool.specs.declared.word.Word.{Word}
+use Rattle.turn_pool.specs.declared.word.Word.TheVariants.{Ended, Stopped}
 
 abbrev pub seat_view : ℕ → Option ℕ → Bool → SeatView
 seat_view p h o = record { parts = p; held = h; over = o }
@@ -14,5 +16,7 @@ abbrev pub width : ℕ
 width = 49
 
 -- what lies in the slots at the end where all is over: all have ended, or one has stopped all
-abbrev pub EndsOver : {S : Type 0} → (ℕ → ℕ → S → Type 0) → List S → Type 0
-EndsOver {S} Is xs = ((i : ℕ) (y : S) → slice_get xs i ≡ Some y → Is 1 i y) ⊎ ((i : ℕ) × (y : S) × (slice_get xs i ≡ Some y) × Is 2 i y)
+abbrev pub EndsOver : {S : Type 0} → (Word → ℕ → S → Type 0) → List S → Type 0
+EndsOver {S} Is xs =
+    ((i : ℕ) (y : S) → slice_get xs i ≡ Some y → Is Ended i y)
+    ⊎ ((i : ℕ) × (y : S) × (slice_get xs i ≡ Some y) × Is Stopped i y)

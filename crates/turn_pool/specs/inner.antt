@@ -1,2 +1,3 @@
 -- What only the private contracts and the proofs of this crate cite.
 pub mod Pooled
+pub mod Words

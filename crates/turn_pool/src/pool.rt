@@ -3,24 +3,18 @@ ghost use Rattle.std.specs.Prelude.{◌≡◌, ℕ, ◌+◌, ◌-◌, ◌<◌, �
 ghost use Rattle.std.specs.Prelude.{IfOk, IfErr, vec_len, vec_capacity, MatchBool};
 ghost use Rattle.std.specs.Prelude.{Bool, true, false, ◌||◌};
 ghost use Rattle.std.specs.Slots.{slots_items, slots_len, IsFull};
+ghost use Rattle.turn_pool.specs.declared.word.Word.{Word};
+ghost use Rattle.turn_pool.specs.declared.word.Word.TheVariants.{Ready};
 ghost use Rattle.turn_pool.specs.Pool.{seat_view, all_parts, width, EndsOver};
 
 use crate::rule::{
     Gives, Looks, Part, PoolSeat, PoolTable, SeesEnded, SeesStopped, Takes, TurnRule,
 };
+use crate::word::{ENDED, READY, STALLED, STOPPED, Word};
 use atomic_table::Closed;
 use std::alloc::Global;
 use std::sync::Wait;
 use std::time::Duration;
-
-// The words lie 16 from one another: different workers write them, so each has a cache line of its own.
-const READY: usize = 0;
-
-const ENDED: usize = 16;
-
-const STOPPED: usize = 32;
-
-const STALLED: usize = 48;
 
 /// Things in slots, of which each is at home or in one worker's hand.
 pub struct Pool<T, P: TurnRule<T>> {
@@ -49,8 +43,9 @@ impl<T, P: TurnRule<T>> Pool<T, P> {
     /// is wanting: the things come back as they were.
     pub fn new(alloc: Global, things: Vec<T>) -> Result<(Pool<T, P>, PoolSeat<T>), Vec<T>>
         requires few { vec_len things < 33 }
-        requires are { (i : ℕ) (y : T) → slice_get things.items i ≡ Some y → P.may_be 0 i y }
-        ensures ok { IfOk result (λ r. (r.0.slots.shared.table_id.slots ≡ vec_len things) × (r.1.table_id ≡ r.0.slots.shared.table_id)
+        requires are { (i : ℕ) (y : T) → slice_get things.items i ≡ Some y → P.may_be Ready i y }
+        ensures ok { IfOk result (λ r. (r.0.slots.shared.table_id.slots ≡ vec_len things)
+            × (r.1.table_id ≡ r.0.slots.shared.table_id)
             × (r.1.me ≡ (seat_view all_parts None false, []))) }
         ensures err { IfErr result (λ v. v.items ≡ things.items) }
     {
@@ -63,15 +58,16 @@ impl<T, P: TurnRule<T>> Pool<T, P> {
         }
     }
 
-    /// The things, in the order of their slots, where the seat has all parts again. Each is what it may be under one of the words; and where
-    /// the seat knows that all is over, all have ended or one has stopped all. `things` is empty, with room for them: no memory is taken.
+    /// The things, in the order of their slots, where the seat has all parts again. Each is what it may be under one of the words; and
+    /// where the seat knows that all is over, all have ended or one has stopped all. `things` is empty, with room for them: no memory is
+    /// taken.
     pub fn end(self, seat: PoolSeat<T>, things: Vec<T>) -> Vec<T>
         requires table { seat.table_id ≡ self.slots.shared.table_id }
         requires whole { (f : Bool) × (seat.me ≡ (seat_view all_parts None f, [])) }
         requires empty { things.items ≡ [] }
         requires room { self.slots.shared.table_id.slots ≤ vec_capacity things }
         ensures count { vec_len result ≡ self.slots.shared.table_id.slots }
-        ensures are { (i : ℕ) (y : T) → slice_get result.items i ≡ Some y → (b : ℕ) × (b < 3) × P.may_be b i y }
+        ensures are { (i : ℕ) (y : T) → slice_get result.items i ≡ Some y → (w : Word) × P.may_be w i y }
         ensures over { seat.me.0.over ≡ true → EndsOver P.may_be result.items }
     {
         let Pool { slots, count: _ } = self;
@@ -91,11 +87,13 @@ impl<T, P: TurnRule<T>> Pool<T, P> {
 
     /// A worker's seat comes back, with its part and with what it knows.
     pub fn dismiss(&self, seat: &mut PoolSeat<T>, worker: PoolSeat<T>)
-        requires table { (seat.old.table_id ≡ self.now.slots.shared.table_id) × (worker.table_id ≡ self.now.slots.shared.table_id) }
+        requires table { (seat.old.table_id ≡ self.now.slots.shared.table_id)
+            × (worker.table_id ≡ self.now.slots.shared.table_id) }
         requires knows { (p : ℕ) × (f : Bool) × (seat.old.me ≡ (seat_view p None f, [])) }
         requires worker { (f : Bool) × (worker.me ≡ (seat_view 1 None f, [])) }
         ensures seat { (seat.new.table_id ≡ seat.old.table_id)
-            × (seat.new.me ≡ (seat_view (seat.old.me.0.parts + 1) None (seat.old.me.0.over || worker.me.0.over), [])) }
+            × (seat.new.me
+            ≡ (seat_view (seat.old.me.0.parts + 1) None (seat.old.me.0.over || worker.me.0.over), [])) }
     {
         self.slots.shared.join_seat::<Part>(seat, worker);
     }
@@ -108,7 +106,8 @@ impl<T, P: TurnRule<T>> Pool<T, P> {
         requires knows { (p : ℕ) × (f : Bool) × (0 < p) × (seat.old.me ≡ (seat_view p None f, [])) }
         ensures table { seat.new.table_id ≡ seat.old.table_id }
         ensures taken { MatchBool result
-            ((y : T) × P.may_be 0 place y × (seat.new.me ≡ (seat_view seat.old.me.0.parts (Some place) seat.old.me.0.over, (place, y) ∷ [])))
+            ((y : T) × P.may_be Ready place y
+            × (seat.new.me ≡ (seat_view seat.old.me.0.parts (Some place) seat.old.me.0.over, (place, y) ∷ [])))
             (seat.new.me ≡ seat.old.me) }
     {
         let bit = 1u64 << place;
@@ -116,11 +115,10 @@ impl<T, P: TurnRule<T>> Pool<T, P> {
         (found >> place) & 1 == 1
     }
 
-    /// Gives the thing of this slot back, where it is what it may be under this word: 0 ready, 1 ended, 2 stopped.
+    /// Gives the thing of this slot back, where it is what it may be under this word.
     #[inline(always)]
-    pub fn give(&self, seat: &mut PoolSeat<T>, place: u32, word: usize)
+    pub fn give(&self, seat: &mut PoolSeat<T>, place: u32, word: Word)
         requires table { seat.old.table_id ≡ self.now.slots.shared.table_id }
-        requires word { word < 3 }
         requires place { place < self.now.slots.shared.table_id.slots }
         requires knows { (p : ℕ) × (f : Bool) × (y : T) × (0 < p)
             × (seat.old.me ≡ (seat_view p (Some place) f, (place, y) ∷ [])) × P.may_be word place y }
@@ -129,7 +127,7 @@ impl<T, P: TurnRule<T>> Pool<T, P> {
     {
         self.slots
             .shared
-            .fetch_or::<Gives>(seat, 16 * word, 1u64 << place);
+            .fetch_or::<Gives>(seat, word.place(), 1u64 << place);
     }
 
     /// Notes that the last turn of this slot's thing did nothing. A hint alone: no contract says what comes of it.
@@ -181,23 +179,33 @@ impl<T, P: TurnRule<T>> Pool<T, P> {
         self.slots.shared.load::<SeesStopped>(seat, STOPPED) & all != 0
     }
 
-    /// Sleeps while the low 32 bits of the hints are still those that were seen, for at most 200 microseconds.
+    /// Sleeps while the low 32 bits of the hints are still those that were seen, for at most 200 microseconds. No contract says when it wakes.
     pub fn rest<R: Wait>(&self, rt: &R, seen: u32) {
         self.slots
             .shared
             .park_timeout(rt, STALLED, seen, Duration::from_micros(200));
     }
 
-    /// Wakes those who sleep so.
+    /// Wakes those who sleep so. No contract says that one does.
     pub fn wake(&self) {
         self.slots.shared.wake_all(STALLED);
     }
 
-    /// What a word is just now, for a worker that chooses: 0 ready, 1 ended, 2 stopped, 3 the hints. It tells nothing.
+    /// Which are ready just now: bit i for slot i, as in the other two words. A hint alone, for a worker that chooses.
     #[inline(always)]
-    pub fn look(&self, word: usize) -> u64
-        requires word { word < 4 }
-    {
-        self.slots.shared.peek(16 * word)
+    pub fn ready(&self) -> u64 {
+        self.slots.shared.peek(READY)
+    }
+
+    /// Which have ended by now. A hint alone.
+    #[inline(always)]
+    pub fn ended(&self) -> u64 {
+        self.slots.shared.peek(ENDED)
+    }
+
+    /// Of which it is noted just now that their last turns did nothing. A hint alone.
+    #[inline(always)]
+    pub fn stalled(&self) -> u64 {
+        self.slots.shared.peek(STALLED)
     }
 }

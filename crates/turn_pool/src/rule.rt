@@ -6,8 +6,9 @@ use std::marker::{Brand, PhantomData};
 /// What may lie in a slot: of the word whose bit stands for it, the place, and the thing.
 pub trait TurnRule<T> {
     ghost use Rattle.std.specs.Prelude.{ℕ};
+    ghost use Rattle.turn_pool.specs.declared.word.Word.{Word};
 
-    ghost may_be: { ℕ → ℕ → T → Type 0 };
+    ghost may_be: { Word → ℕ → T → Type 0 };
 }
 
 impl<T> TurnRule<T> for Brand {
@@ -16,7 +17,8 @@ impl<T> TurnRule<T> for Brand {
     ghost may_be = { λ b i y. ⊤ };
 }
 
-/// What a seat knows: its parts of the right to know that all are at home, which slot it holds, and whether it saw that all is over. No value of it is made.
+/// What a seat knows: its parts of the right to know that all are at home, which slot it holds, and whether it saw that all is over. No
+/// value of it is made.
 pub struct SeatView {
     pub parts: u64,
     pub held: Option<u32>,
@@ -31,8 +33,9 @@ impl<T, P: TurnRule<T>> TableRule<T, SeatView, ()> for PoolRule<P> {
     ghost use Rattle.std.specs.Prelude.{None, false};
     ghost use Rattle.turn_pool.specs.Pool.{seat_view, all_parts};
     ghost use Rattle.turn_pool.specs.inner.Pooled.{Pooled};
+    ghost use Rattle.turn_pool.specs.inner.Words.{by_number};
 
-    ghost holds = { λ _. Pooled P.may_be };
+    ghost holds = { λ _. Pooled (by_number P.may_be) };
 
     ghost first = { λ _. seat_view all_parts None false };
 }
@@ -48,8 +51,9 @@ pub struct Takes<P> {
 
 impl<T, P: TurnRule<T>> Play<T, SeatView> for Takes<P> {
     ghost use Rattle.turn_pool.specs.inner.Pooled.{Took};
+    ghost use Rattle.turn_pool.specs.inner.Words.{by_number};
 
-    ghost then = { Took P.may_be };
+    ghost then = { Took (by_number P.may_be) };
 }
 
 /// The slot is given back.

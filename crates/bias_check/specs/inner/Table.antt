@@ -10,7 +10,7 @@ use Rattle.plain_monitor.specs.Monitor.{only_if}
 use Rattle.plain_monitor.specs.Numbers.{least_number, greatest_number}
 use Rattle.object_program.specs.declared.program.ObjectDef.{ObjectDef}
 use Rattle.program_syntax.specs.Number.{number_of, is_within}
-use Rattle.object_program.specs.Program.{ProgramText, objects_total}
+use Rattle.object_program.specs.Program.{ProgramText, declared_total}
 use Rattle.program_syntax.specs.Reading.{number_among}
 use Rattle.object_program.specs.Valid.{is_among}
 use Rattle.bias_check.specs.declared.names.Names.{Names}
@@ -29,7 +29,7 @@ names_of p = record {
   threads = map (λ t. t.name) p.threads;
   objects = p.objects;
   classes = map (λ c. c.name) p.classes;
-  total = objects_total p;
+  total = declared_total p;
 }
 
 -- the number of the first of these names that is the word

@@ -19,6 +19,7 @@ unrun locals objects fuel =
       fuel = fuel;
       holds = replicate objects 0;
       dumps = 0;
+      made = 0;
       mode = Unwinding Done;
     }
 

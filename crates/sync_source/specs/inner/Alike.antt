@@ -4,6 +4,7 @@ use Rattle.plain_monitor.specs.declared.entry.Ending.TheVariants as ending
 use Rattle.object_program.specs.declared.program.Code.{Code}
 use Rattle.object_program.specs.declared.program.Code.TheVariants as instr
 use Rattle.object_program.specs.declared.program.ThreadDef.{ThreadDef}
+use Rattle.object_program.specs.Program.{most_in}
 use Rattle.plain_machine.specs.declared.call.Mode.{Mode}
 use Rattle.plain_machine.specs.declared.call.Mode.TheVariants.{Calling, Waiting, Unwinding, Ended}
 use Rattle.plain_machine.specs.Thread.{ThreadState}
@@ -67,9 +68,11 @@ abbrev pub index_in : Mode → ℕ
 index_in (Unwinding (ending.Trap f i)) = i
 index_in m = 0
 
--- the two machines are alike, the indexes of traps aside: the same objects, and as many are made, and alike threads. The threads of the world are these
+-- the two machines are alike, the indexes of traps aside: the same objects, and as many are made, and alike threads. The threads of the world are
+-- these, and the largest class that a `new` of theirs names has as many slots as that of the code
 pub record MachinesAlike (in_world : List ThreadDef) (a : SyncMachine) (m : PlainMachine) : Type 0 where
   pub world : a.world ≡ record (m.program) { threads = in_world }
+  pub slots : most_in m.program.classes m.program.threads ≡ most_in m.program.classes in_world
   pub objects : a.objects ≡ m.objects
   pub made : a.made ≡ m.made
   pub threads : (t : ℕ) → OptionAlike (code_of m.program t) (slice_get a.threads t) (slice_get m.threads t)

@@ -23,7 +23,8 @@ use Rattle.thread_logs.specs.Followed.{HasValue}
 abbrev pub Holds : PassSeen → ℕ → Type 0
 Holds p o = 1 ≤ held_by nothing_held p.known.log o
 
--- a call on the heap that may begin, at whatever moment, and isn't refused; a wait is not one of these, since it makes two entries
+-- a call on the heap that may begin, at whatever moment, and isn't refused; a wait is not one of these, since it makes two entries,
+-- nor is a new object, which no program makes yet
 abbrev pub MayMake : HeapSeen → PassSeen → Call → Type 0
 MayMake h p (call.Enter o) = ((now : ℕ) → MayOperate h p (task.Enter o now)) × (is_full (start_now h p) o ≡ false)
 MayMake h p (call.Exit o) = MayOperate h p (task.Exit o) × Holds p o
@@ -33,6 +34,7 @@ MayMake h p (call.NotifyAll o) = ((now : ℕ) → MayOperate h p (task.NotifyAll
 MayMake h p (call.Get x o k) = MayOperate h p (task.Get o k) × Holds p o
 MayMake h p (call.Put o k v) = MayOperate h p (task.Put o k v) × Holds p o
 MayMake h p (call.Hash x o) = (now : ℕ) → MayOperate h p (task.Hash o now)
+MayMake h p (call.New x c) = ⊥
 MayMake h p (call.Print v) = MayOperate h p (task.Print v)
 MayMake h p (call.Dump n) = MayOperate h p task.Dump × (n ≡ length p.known.shots + 1) × (n ≤ 4)
 

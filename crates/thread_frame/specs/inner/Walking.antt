@@ -4,7 +4,7 @@ use Rattle.object_program.specs.Limits.{most_code}
 use Rattle.plain_machine.specs.declared.call.Mode.TheVariants.{Calling, Unwinding}
 use Rattle.plain_machine.specs.declared.step.Next.{Next}
 use Rattle.plain_machine.specs.declared.step.Next.TheVariants as next
-use Rattle.thread_frame.specs.Frames.{FrameSeen}
+use Rattle.thread_frame.specs.Frames.{FrameSeen, IsAtInstruction}
 
 -- the frame behind the instruction that it is at, by what this leads to
 abbrev pub frame_moved : FrameSeen → Next → FrameSeen
@@ -15,7 +15,7 @@ frame_moved f (next.Calls c) = record f { mode = Some (Calling c) }
 frame_moved f (next.Stops ending) = record f { fuel = f.fuel - 1; mode = Some (Unwinding ending) }
 
 -- a frame that sets a local or calls is at an instruction
-abbrev pub IsPlacedFor : ℕ → Next → Type 0
-IsPlacedFor place (next.Sets x value) = place < most_code
-IsPlacedFor place (next.Calls c) = place < most_code
-IsPlacedFor place n = Unit {0}
+abbrev pub IsPlacedFor : FrameSeen → Next → Type 0
+IsPlacedFor f (next.Sets x value) = f.place < most_code
+IsPlacedFor f (next.Calls c) = IsAtInstruction f.place f.made (Some (Calling c))
+IsPlacedFor f n = Unit {0}

@@ -33,16 +33,20 @@ IsOver n ws = ((i : ℕ) → i < n → bit ws 1 i ≡ 1) ⊎ ((i : ℕ) × (i < 
 pub record Pooled {S : Type 0} (Is : ℕ → ℕ → S → Type 0) (s : State S SeatView) : Type 0 where
   pub width : length s.words ≡ width
   pub few : length s.homes < 33
-  pub home : (b i : ℕ) → b < 3 → i < length s.homes → bit s.words b i ≡ 1 → (y : S) × (get_elem? s.homes i ≡ some (some y)) × Is b i y
+  pub home : (b i : ℕ) → b < 3 → i < length s.homes → bit s.words b i ≡ 1
+      → (y : S) × (get_elem? s.homes i ≡ some (some y)) × Is b i y
   -- under one word at most
   pub apart : (b c i : ℕ) → b < 3 → c < 3 → i < length s.homes → bit s.words b i ≡ 1 → bit s.words c i ≡ 1 → b ≡ c
   -- each slot is at home, or out with a seat whose view names it
   pub somewhere : (i : ℕ) → i < length s.homes
-      → ((b : ℕ) × (b < 3) × (bit s.words b i ≡ 1)) ⊎ ((id : ℕ) × (v : SeatView) × (get_elem? s.views id ≡ some v) × (v.held ≡ Some i))
+      → ((b : ℕ) × (b < 3) × (bit s.words b i ≡ 1))
+      ⊎ ((id : ℕ) × (v : SeatView) × (get_elem? s.views id ≡ some v) × (v.held ≡ Some i))
   -- what a view names is not at home
-  pub away : (id i : ℕ) (v : SeatView) → get_elem? s.views id ≡ some v → v.held ≡ Some i → (i < length s.homes) × ((b : ℕ) → b < 3 → bit s.words b i ≡ 0)
+  pub away : (id i : ℕ) (v : SeatView) → get_elem? s.views id ≡ some v → v.held ≡ Some i
+      → (i < length s.homes) × ((b : ℕ) → b < 3 → bit s.words b i ≡ 0)
   -- and no other view names it
-  pub sole : (id other i : ℕ) (v u : SeatView) → get_elem? s.views id ≡ some v → get_elem? s.views other ≡ some u → v.held ≡ Some i → u.held ≡ Some i → id ≡ other
+  pub sole : (id other i : ℕ) (v u : SeatView) → get_elem? s.views id ≡ some v → get_elem? s.views other ≡ some u
+      → v.held ≡ Some i → u.held ≡ Some i → id ≡ other
   pub parts : total s.views ≡ all_parts
   -- a seat knows that all is over only where it is so
   pub over : (id : ℕ) (v : SeatView) → get_elem? s.views id ≡ some v → v.over ≡ true → IsOver (length s.homes) s.words
@@ -52,12 +56,16 @@ pub record Pooled {S : Type 0} (Is : ℕ → ℕ → S → Type 0) (s : State S 
 -- where the bit stood the slot is taken, with a thing that lay there ready
 abbrev pub Took : {S : Type 0} → (ℕ → ℕ → S → Type 0) → Step S → Me S SeatView → ℕ → Me S SeatView → Type 0
 Took {S} Is s me n after = (k : ℕ) → k < 64 → s.first ≡ all_but k
-    → (bit_at n k ≡ 1 → (y : S) × Is 0 k y × (after ≡ (seat_view me.0.parts (Some k) me.0.over, (k, y) ∷ []))) × (bit_at n k ≡ 0 → after ≡ me)
+    → (bit_at n k ≡ 1 → (y : S) × Is 0 k y × (after ≡ (seat_view me.0.parts (Some k) me.0.over, (k, y) ∷ [])))
+    × (bit_at n k ≡ 0 → after ≡ me)
 
 -- where the word has the bits of all slots the seat knows that all is over
 abbrev pub SawEnded : {S : Type 0} → Step S → Me S SeatView → ℕ → Me S SeatView → Type 0
-SawEnded s me n after = (n ≡ 2 ^ s.slots - 1 → after ≡ (seat_view me.0.parts None true, [])) × (n ≢ 2 ^ s.slots - 1 → after ≡ me)
+SawEnded s me n after =
+    (n ≡ 2 ^ s.slots - 1 → after ≡ (seat_view me.0.parts None true, [])) × (n ≢ 2 ^ s.slots - 1 → after ≡ me)
 
 -- and where it has the bit of one of them
 abbrev pub SawStopped : {S : Type 0} → Step S → Me S SeatView → ℕ → Me S SeatView → Type 0
-SawStopped s me n after = (0 < bit_and n (2 ^ s.slots - 1) → after ≡ (seat_view me.0.parts None true, [])) × (bit_and n (2 ^ s.slots - 1) ≡ 0 → after ≡ me)
+SawStopped s me n after =
+    (0 < bit_and n (2 ^ s.slots - 1) → after ≡ (seat_view me.0.parts None true, []))
+    × (bit_and n (2 ^ s.slots - 1) ≡ 0 → after ≡ me)

@@ -16,7 +16,7 @@ returns-clause-shown g c =
     let like = under_logs run.program run.fuel run.logs c.in_ok-machine.machine c.in_ok-machine.ensures in
     let ran = c.in_ok-run.ensures in
     let few : length c.in_ok-machine.machine.threads ≤ most_threads =
-    subst (λ (m : PlainMachine). length m.threads ≤ most_threads) c.machine.view_is c.machine.invariant.few in
+    subst (λ (m : PlainMachine). length m.threads ≤ most_threads) c.machine.view_is c.machine.invariant.sound.few in
     let of_program : length run.program.threads ≡ length c.args.program.threads = ap (λ p. length p.threads) ran.of.program in
     record {
       rising = ran.legal.rises;

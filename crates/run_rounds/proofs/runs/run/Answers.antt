@@ -1,73 +1,64 @@
 use Rattle.std.proofs.Common.{◌≡◌, ◌⊎◌, List, length, sym, ap, ◌∙◌, subst, All, Any, true, false}
-use Rattle.std.proofs.lemmas.List.{with_items_is, length-map}
+use Rattle.std.proofs.lemmas.List.{length-map}
 use Rattle.heap_table.specs.Seen.{PassSeen, IsOf, InOrder, knowns, logs_of}
 use Rattle.object_program.specs.Program.{shape_of}
-use Rattle.run_rounds.specs.declared.seats.Seat.{Seat}
 use Rattle.run_rounds.specs.Rounds.{AreRunners, AreTimed}
-use Rattle.run_rounds.specs.inner.Rounds.{runners_in}
 use Rattle.run_rounds.proofs.Closing.{IsClosed, has_run}
 use Rattle.run_rounds.proofs.Ending.{passes, all_of, all_still, ordered, quiet}
 use Rattle.run_rounds.proofs.Over.{Laws}
 use Rattle.run_rounds.proofs.runs.run.Goals as goal
 
-pub rounds-requires-clause-runners : goal.rounds-requires-clause-runners
-rounds-requires-clause-runners g c κs within =
-    subst (AreRunners c.args.heap c.args.program.now c.args.fuel) (sym (ap runners_in c.as_mut_slice.ensures.value ∙ c.in_ok-seats.ensures))
-    c.requires.runners.runners
+pub serve_until_over-requires-clause-runners : goal.serve_until_over-requires-clause-runners
+serve_until_over-requires-clause-runners g c κs within =
+    subst (AreRunners c.args.heap c.args.program.now c.args.fuel) (sym c.into_vec-runners.ensures) c.requires.runners.runners
+
+pub serve_until_over-requires-clause-timed : goal.serve_until_over-requires-clause-timed
+serve_until_over-requires-clause-timed g c κs within =
+    subst (AreTimed c.args.tick) (sym c.into_vec-runners.ensures) c.requires.runners.timed
 
 -- the passes are those of the runners, in their order
 pub close-requires-clause-passes : goal.close-requires-clause-passes
 close-requires-clause-passes g c =
-    let seats = c.rounds.new.seats in
-    let same : c.of.result ≡ passes (runners_in seats) = c.of.ensures ∙ c.into_passes-passes.ensures
-    ∙ ap (λ (s : List Seat). passes (runners_in s))
-    (with_items_is c.in_ok-seats.seats seats (c.rounds.ensures.count ∙ c.as_mut_slice.ensures.len)) in
-    subst (All (IsOf c.args.heap)) (sym same) (all_of c.args.heap c.args.program.now c.args.fuel (runners_in seats) c.rounds.ensures.runners)
+    let done = c.in_ok-runners.ensures in
+    let rs = c.in_ok-runners.runners.items in
+    let same : c.of.result ≡ passes rs = c.of.ensures ∙ c.into_passes-passes.ensures in
+    subst (All (IsOf c.args.heap)) (sym same) (all_of c.args.heap c.args.program.now c.args.fuel rs done.runners)
 
 pub close-requires-clause-order : goal.close-requires-clause-order
 close-requires-clause-order g c =
-    let seats = c.rounds.new.seats in
-    let same : c.of.result ≡ passes (runners_in seats) = c.of.ensures ∙ c.into_passes-passes.ensures
-    ∙ ap (λ (s : List Seat). passes (runners_in s))
-    (with_items_is c.in_ok-seats.seats seats (c.rounds.ensures.count ∙ c.as_mut_slice.ensures.len)) in
-    let many : length (runners_in seats) ≡ c.args.heap.heap.shape.threads =
-    length-map seats (λ (s : Seat). s.runner) ∙ c.rounds.ensures.count ∙ ap length c.as_mut_slice.ensures.value
-    ∙ sym (length-map c.in_ok-seats.seats.items (λ (s : Seat). s.runner)) ∙ ap length c.in_ok-seats.ensures ∙ c.requires.runners.count in
+    let done = c.in_ok-runners.ensures in
+    let rs = c.in_ok-runners.runners.items in
+    let same : c.of.result ≡ passes rs = c.of.ensures ∙ c.into_passes-passes.ensures in
+    let many : length rs ≡ c.args.heap.heap.shape.threads = done.many ∙ ap length c.into_vec-runners.ensures ∙ c.requires.runners.count in
     subst (λ (ps : List PassSeen). InOrder 0 (knowns ps) × (length ps ≡ c.args.heap.heap.shape.threads)) (sym same) (
-      ordered c.args.heap c.args.program.now c.args.fuel (runners_in seats) c.rounds.ensures.runners,
-      length-map (runners_in seats) (λ r. r.pass) ∙ many,
+      ordered c.args.heap c.args.program.now c.args.fuel rs done.runners,
+      length-map rs (λ r. r.pass) ∙ many,
     )
 
 pub close-requires-clause-stopped : goal.close-requires-clause-stopped
 close-requires-clause-stopped g c =
-    let seats = c.rounds.new.seats in
-    let same : c.of.result ≡ passes (runners_in seats) = c.of.ensures ∙ c.into_passes-passes.ensures
-    ∙ ap (λ (s : List Seat). passes (runners_in s))
-    (with_items_is c.in_ok-seats.seats seats (c.rounds.ensures.count ∙ c.as_mut_slice.ensures.len)) in
+    let done = c.in_ok-runners.ensures in
+    let rs = c.in_ok-runners.runners.items in
+    let same : c.of.result ≡ passes rs = c.of.ensures ∙ c.into_passes-passes.ensures in
     subst (All (λ (p : PassSeen). p.known.running ≡ false)) (sym same)
-    (all_still c.args.heap c.args.program.now c.args.fuel (runners_in seats) c.rounds.ensures.runners)
+    (all_still c.args.heap c.args.program.now c.args.fuel rs done.runners)
 
 pub close-requires-clause-quiet : goal.close-requires-clause-quiet
 close-requires-clause-quiet g c =
-    let seats = c.rounds.new.seats in
-    let same : c.of.result ≡ passes (runners_in seats) = c.of.ensures ∙ c.into_passes-passes.ensures
-    ∙ ap (λ (s : List Seat). passes (runners_in s))
-    (with_items_is c.in_ok-seats.seats seats (c.rounds.ensures.count ∙ c.as_mut_slice.ensures.len)) in
+    let done = c.in_ok-runners.ensures in
+    let rs = c.in_ok-runners.runners.items in
+    let same : c.of.result ≡ passes rs = c.of.ensures ∙ c.into_passes-passes.ensures in
     subst (λ (ps : List PassSeen). All (λ (p : PassSeen). p.known.requesting ≡ false) ps ⊎ Any (λ (p : PassSeen). p.known.halted ≡ true) ps)
-    (sym same)
-    (quiet c.args.heap c.args.program.now c.args.fuel (runners_in seats) c.rounds.ensures.runners c.rounds.result c.rounds.ensures.over)
+    (sym same) (quiet c.args.heap c.args.program.now c.args.fuel rs done.runners done.over.0 done.over.1)
 
 pub returns : goal.returns
 returns g c =
-    let seats = c.rounds.new.seats in
+    let done = c.in_ok-runners.ensures in
+    let rs = c.in_ok-runners.runners.items in
     let p = c.args.program.now in
-    let logs = logs_of (passes (runners_in seats)) in
-    let same : c.of.result ≡ passes (runners_in seats) = c.of.ensures ∙ c.into_passes-passes.ensures
-    ∙ ap (λ (s : List Seat). passes (runners_in s))
-    (with_items_is c.in_ok-seats.seats seats (c.rounds.ensures.count ∙ c.as_mut_slice.ensures.len)) in
-    let many : length (runners_in seats) ≡ c.args.heap.heap.shape.threads =
-    length-map seats (λ (s : Seat). s.runner) ∙ c.rounds.ensures.count ∙ ap length c.as_mut_slice.ensures.value
-    ∙ sym (length-map c.in_ok-seats.seats.items (λ (s : Seat). s.runner)) ∙ ap length c.in_ok-seats.ensures ∙ c.requires.runners.count in
+    let logs = logs_of (passes rs) in
+    let same : c.of.result ≡ passes rs = c.of.ensures ∙ c.into_passes-passes.ensures in
+    let many : length rs ≡ c.args.heap.heap.shape.threads = done.many ∙ ap length c.into_vec-runners.ensures ∙ c.requires.runners.count in
     let closed : IsClosed c.args.heap c.of.result c.close.result = record {
       heap = c.close.ensures.heap;
       law = c.close.ensures.law;
@@ -88,8 +79,5 @@ returns g c =
       ends = λ t log s. c.a_log_tells_where_its_thread_stands.ensures.ends p c.args.fuel t log s;
       listed = λ objects t o x. c.waits_follow_from_the_own_log.ensures (shape_of p) logs objects t o x;
     } in
-    has_run c.args.heap p c.args.fuel (runners_in seats) c.rounds.ensures.runners c.requires.program many c.close.result
-    (subst (λ (ps : List PassSeen). IsClosed c.args.heap ps c.close.result) same closed) laws c.rounds.result c.rounds.ensures.over
-    c.args.tick (c.rounds.ensures.timed
-    (subst (AreTimed c.args.tick) (sym (ap runners_in c.as_mut_slice.ensures.value ∙ c.in_ok-seats.ensures))
-    c.requires.runners.timed))
+    has_run c.args.heap p c.args.fuel rs done.runners c.requires.program many c.close.result
+    (subst (λ (ps : List PassSeen). IsClosed c.args.heap ps c.close.result) same closed) laws done.over.0 done.over.1 c.args.tick done.timed

@@ -1,22 +1,24 @@
-use Rattle.std.proofs.Common.{◌≡◌, ◌<◌, Bool, length, refl, ap, ◌∙◌, Some, vec_len, subst}
+use Rattle.std.proofs.Common.{◌≡◌, ◌<◌, false, length, sym, ◌∙◌, Some, vec_len, subst, is_some}
 use Rattle.std.proofs.lemmas.List.{with_items_is}
-use Rattle.plain_monitor.specs.Monitor.{only_if}
+use Rattle.plain_monitor.specs.Made.{Numbering, take_made}
 use Rattle.plain_monitor.specs.Objects.{take_entry}
 use Rattle.plain_machine.specs.Thread.{ThreadState}
 use Rattle.plain_machine.specs.Asking.{behind_entry}
-use Rattle.plain_machine.specs.Machine.{code_of, made_behind, take}
+use Rattle.plain_machine.specs.Machine.{code_of, made_behind}
 use Rattle.plain_machine.specs.MachineView.{plain_machine}
 use Rattle.plain_machine.specs.inner.Kept.{holds_behind}
 use Rattle.plain_machine.proofs.Behind.{IsAnswered, sound_behind, length_behind, same_read, takable}
-use Rattle.plain_machine.proofs.NeededObjects.{made_where}
-use Rattle.plain_machine.proofs.Taking.{taken, nothing_taken}
+use Rattle.plain_machine.proofs.Taking.{taken, nothing_taken, none_where}
 use Rattle.plain_machine.proofs.machine.Machine.take.Goals as goal
 
 pub take-requires : goal.take-requires
 take-requires c =
     let within : c.args.t < length c.self.inside.threads.items = rw (← c.self.view_is) at c.requires in
     rw c.deref_mut.ensures.value
-    (takable (plain_machine c.self.inside) _ _ _ _ within c.index.ensures c.in-Some.ensures.asked c.in-Some.ensures.fits c.self.invariant)
+    (takable (plain_machine c.self.inside) _ _ _ _ within c.index.ensures c.in-Some.ensures.asked c.in-Some.ensures.fits c.self.invariant.sound)
+
+pub note-requires : goal.note-requires
+note-requires c = sym c.may_take.ensures ∙ c.if-not-may_take.false
 
 within : (c : goal.After-self-2-1) → c.args.t < length c.self.inside.threads.items
 within c = rw (← c.self.view_is) at c.requires
@@ -43,24 +45,27 @@ answered c =
       waits = c.advance.ensures.waits;
     }
 
-made : (c : goal.After-self-2-1) → made_behind (plain_machine c.self.inside) c.args.t c.args.entry.now ≡ Some (plain_machine c.self.inside).made
+made : (c : goal.After-self-2-1) → made_behind (plain_machine c.self.inside) c.args.t c.args.entry.now ≡ Some c.note.new.self.made
 made c =
-    made_where (plain_machine c.self.inside) _ c.in-Some.asked _ _ _ refl c.in-Some.ensures.fits (c.len.ensures ∙ c.self.inside.objects.ok.0 ∙ c.self.invariant.total) c.finds_all.ensures
-    ∙ ap (λ (b : Bool). only_if b (plain_machine c.self.inside).made) c.if-not-finds_all.false
+    subst (λ (n : Numbering). take_made n c.self.inside.register.made c.args.t c.args.entry.now ≡ Some c.note.new.self.made) c.self.invariant.numbering c.note.ensures.made
 
-pub returns-then-not-finds_all-clause-refused : goal.returns-then-not-finds_all-clause-refused
-returns-then-not-finds_all-clause-refused c =
-    let made =
-    made_where (plain_machine c.self.inside) c.args.t c.in-Some.asked c.args.entry.now _ _ refl c.in-Some.ensures.fits (c.len.ensures ∙ c.self.inside.objects.ok.0 ∙ c.self.invariant.total)
-    c.finds_all.ensures in
-    rw (← c.self.view_is) (nothing_taken (plain_machine c.self.inside) _ _ (made ∙ ap (λ (b : Bool). only_if b (plain_machine c.self.inside).made) c.if-not-finds_all.true))
+pub returns-then-not-may_take-clause-refused : goal.returns-then-not-may_take-clause-refused
+returns-then-not-may_take-clause-refused c =
+    let none : is_some (made_behind (plain_machine c.self.inside) c.args.t c.args.entry.now) ≡ false =
+    subst (λ (n : Numbering). is_some (take_made n c.self.inside.register.made c.args.t c.args.entry.now) ≡ false) c.self.invariant.numbering
+    (sym c.may_take.ensures ∙ c.if-not-may_take.true) in
+    rw (← c.self.view_is) (nothing_taken (plain_machine c.self.inside) _ _ (none_where _ none))
 
 pub invariant_of-self-2 : goal.invariant_of-self-2
-invariant_of-self-2 c =
-    rw (with_items_is c.self.inside.objects c.take.new.objects (as_many c))
-    (sound_behind (plain_machine c.self.inside) _ _ _ _ _ _ (within c) c.index.ensures c.in-Some.ensures.fits (objects c) (answered c) c.self.invariant)
+invariant_of-self-2 c = record {
+  sound =
+      rw (with_items_is c.self.inside.objects c.take.new.objects (as_many c))
+      (sound_behind (plain_machine c.self.inside) _ _ _ c.note.new.self.made _ _ _ (within c) c.index.ensures c.in-Some.ensures.fits (objects c) (answered c) c.self.invariant.sound);
+  numbering = c.note.ensures.numbering ∙ c.self.invariant.numbering;
+}
 
 pub returns-clause-ok : goal.returns-clause-ok
 returns-clause-ok c =
     rw (with_items_is c.self.inside.objects c.take.new.objects (as_many c), ← c.self.view_is)
-    (taken (plain_machine c.self.inside) _ _ _ _ _ _ _ (within c) c.index.ensures c.index_mut.ensures.value c.in-Some.ensures.asked c.in-Some.ensures.fits (made c) (objects c) (behind c))
+    (taken (plain_machine c.self.inside) _ _ _ c.note.new.self.made _ _ _ _ (within c) c.index.ensures c.index_mut.ensures.value c.in-Some.ensures.asked c.in-Some.ensures.fits
+    (made c) (objects c) (behind c))

@@ -4,6 +4,7 @@ use Rattle.turn_pool.specs.declared.rule.SeatView.{SeatView}
 use Rattle.turn_pool.specs.Pool.{seat_view}
 use Rattle.turn_pool.specs.inner.Pooled.{Pooled}
 use Rattle.turn_pool.proofs.Laws.{joins}
+use Rattle.turn_pool.specs.inner.Words.{by_number}
 use Rattle.turn_pool.proofs.pool.Pool.dismiss.Goals as goal
 
 pub join_seat-requires : goal.join_seat-requires
@@ -15,9 +16,11 @@ join_seat-requires g c =
       c.requires.table.1,
       ap (λ (m : Me g.row.T.Denot SeatView). m.1) c.requires.worker.1,
       (let s = c.args.self.now.sized.0 in omega (arith, s)),
-      subst (λ (v : SeatView). Joins (Pooled g.P.TurnRule.may_be) c.args.seat.now.id v c.args.worker.id c.args.worker.me.0 (seat_view (v.parts + c.args.worker.me.0.parts) None (v.over || c.args.worker.me.0.over)) (seat_view 0 None false)) (sym view)
-          (subst (λ (w : SeatView). Joins (Pooled g.P.TurnRule.may_be) c.args.seat.now.id (seat_view h.0 None h.1) c.args.worker.id w (seat_view (h.0 + w.parts) None (h.1 || w.over)) (seat_view 0 None false)) (sym theirs)
-          (joins g.P.TurnRule.may_be c.args.seat.now.id h.0 c.args.worker.id 1 h.1 c.requires.worker.0)),
+      subst (λ (v : SeatView). Joins (Pooled (by_number g.P.TurnRule.may_be)) c.args.seat.now.id v c.args.worker.id c.args.worker.me.0
+          (seat_view (v.parts + c.args.worker.me.0.parts) None (v.over || c.args.worker.me.0.over)) (seat_view 0 None false)) (sym view)
+          (subst (λ (w : SeatView). Joins (Pooled (by_number g.P.TurnRule.may_be)) c.args.seat.now.id (seat_view h.0 None h.1) c.args.worker.id w
+          (seat_view (h.0 + w.parts) None (h.1 || w.over)) (seat_view 0 None false)) (sym theirs)
+          (joins (by_number g.P.TurnRule.may_be) c.args.seat.now.id h.0 c.args.worker.id 1 h.1 c.requires.worker.0)),
     )
 
 pub returns : goal.returns
@@ -25,4 +28,12 @@ returns g c =
     let e = c.join_seat.ensures in
     let h = c.requires.knows in
     let theirs = ap (λ (m : Me g.row.T.Denot SeatView). m.0.parts) c.requires.worker.1 in
-    record { seat = (e.0, e.2 ∙ λ i. (seat_view (c.args.seat.now.me.0.parts + theirs i) None (c.args.seat.now.me.0.over || c.args.worker.me.0.over), (h.2 i).1)) }
+    record {
+      seat = (
+        e.0,
+        e.2 ∙ λ i. (
+          seat_view (c.args.seat.now.me.0.parts + theirs i) None (c.args.seat.now.me.0.over || c.args.worker.me.0.over),
+          (h.2 i).1,
+        ),
+      );
+    }

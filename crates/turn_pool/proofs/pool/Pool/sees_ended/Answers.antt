@@ -6,6 +6,7 @@ use Rattle.turn_pool.specs.inner.Pooled.{Pooled, SawEnded}
 use Rattle.std.proofs.lemmas.Nat.{one_shl}
 use Rattle.turn_pool.proofs.Bits.{by_word}
 use Rattle.turn_pool.proofs.Laws.{sees_ended}
+use Rattle.turn_pool.specs.inner.Words.{by_number}
 use Rattle.turn_pool.proofs.pool.Pool.sees_ended.Goals as goal
 
 pub load-requires : goal.load-requires
@@ -15,8 +16,9 @@ load-requires g c =
     let n = c.args.self.now.slots.shared.table_id.slots in (
       c.requires.table,
       (let a = s.0 in omega (arith, a)),
-      subst (λ (m : Me g.row.T.Denot SeatView). Allows (Pooled g.P.TurnRule.may_be) n c.args.seat.now.id m 16 (λ x. x) (SawEnded (step n 16 0 0 none) m)) (sym h.2)
-          (sees_ended g.P.TurnRule.may_be n c.args.seat.now.id h.0 h.1),
+      subst (λ (m : Me g.row.T.Denot SeatView). Allows (Pooled (by_number g.P.TurnRule.may_be)) n c.args.seat.now.id m 16 (λ x. x)
+          (SawEnded (step n 16 0 0 none) m)) (sym h.2)
+          (sees_ended (by_number g.P.TurnRule.may_be) n c.args.seat.now.id h.0 h.1),
     )
 
 pub returns-clause-seen : goal.returns-clause-seen

@@ -7,6 +7,7 @@ use Rattle.std.proofs.lemmas.Nat.{one_shl}
 use Rattle.std.specs.Int.Bits.{bit_and}
 use Rattle.turn_pool.proofs.Bits.{by_some}
 use Rattle.turn_pool.proofs.Laws.{sees_stopped}
+use Rattle.turn_pool.specs.inner.Words.{by_number}
 use Rattle.turn_pool.proofs.pool.Pool.sees_stopped.Goals as goal
 
 pub load-requires : goal.load-requires
@@ -16,8 +17,9 @@ load-requires g c =
     let n = c.args.self.now.slots.shared.table_id.slots in (
       c.requires.table,
       (let a = s.0 in omega (arith, a)),
-      subst (λ (m : Me g.row.T.Denot SeatView). Allows (Pooled g.P.TurnRule.may_be) n c.args.seat.now.id m 32 (λ x. x) (SawStopped (step n 32 0 0 none) m)) (sym h.2)
-          (sees_stopped g.P.TurnRule.may_be n c.args.seat.now.id h.0 h.1),
+      subst (λ (m : Me g.row.T.Denot SeatView). Allows (Pooled (by_number g.P.TurnRule.may_be)) n c.args.seat.now.id m 32 (λ x. x)
+          (SawStopped (step n 32 0 0 none) m)) (sym h.2)
+          (sees_stopped (by_number g.P.TurnRule.may_be) n c.args.seat.now.id h.0 h.1),
     )
 
 pub returns-clause-seen : goal.returns-clause-seen

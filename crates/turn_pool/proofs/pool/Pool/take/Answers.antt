@@ -6,6 +6,7 @@ use Rattle.turn_pool.specs.declared.rule.SeatView.{SeatView}
 use Rattle.turn_pool.specs.inner.Pooled.{Pooled, Took, all_but}
 use Rattle.turn_pool.proofs.Bits.{by_bit}
 use Rattle.turn_pool.proofs.Laws.{took}
+use Rattle.turn_pool.specs.inner.Words.{by_number}
 use Rattle.turn_pool.proofs.pool.Pool.take.Goals as goal
 
 pub fetch_and-found-requires : goal.fetch_and-found-requires
@@ -16,8 +17,9 @@ fetch_and-found-requires g c =
     let k = c.args.place in (
       c.requires.table,
       (let a = s.0 in omega (arith, a)),
-      subst (λ (m : Me g.row.T.Denot SeatView). Allows (Pooled g.P.TurnRule.may_be) n c.args.seat.now.id m 0 (λ x. bit_and x (all_but k)) (Took g.P.TurnRule.may_be (step n 0 (all_but k) 0 none) m)) (sym h.3)
-          (took g.P.TurnRule.may_be n c.args.seat.now.id h.0 k h.1 h.2 c.requires.place),
+      subst (λ (m : Me g.row.T.Denot SeatView). Allows (Pooled (by_number g.P.TurnRule.may_be)) n c.args.seat.now.id m 0 (λ x. bit_and x (all_but k))
+          (Took (by_number g.P.TurnRule.may_be) (step n 0 (all_but k) 0 none) m)) (sym h.3)
+          (took (by_number g.P.TurnRule.may_be) n c.args.seat.now.id h.0 k h.1 h.2 c.requires.place),
     )
 
 pub returns : goal.returns

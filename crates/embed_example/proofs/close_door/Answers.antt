@@ -1,0 +1,27 @@
+use Rattle.std.proofs.Common.{◌≡◌, [], ◌∷◌, true, false, List, length, All, sym, subst, inl, rules}
+use Rattle.heap_table.specs.Seen.{PassSeen, IsOf, InOrder, knowns}
+use Rattle.heap_table.proofs.AtLast.{both}
+use Rattle.embed_example.proofs.close_door.Goals as goal
+
+-- the two passes, in the order of their threads
+pub close-requires-clause-passes : goal.close-requires-clause-passes
+close-requires-clause-passes c =
+    let two : c.of.result ≡ c.args.first ∷ c.args.second ∷ [] = search rules in
+    subst (All (IsOf c.args.heap)) (sym two) (both (IsOf c.args.heap) c.args.first c.args.second c.requires.first.0.is_of c.requires.second.0.is_of)
+
+pub close-requires-clause-order : goal.close-requires-clause-order
+close-requires-clause-order c =
+    let two : c.of.result ≡ c.args.first ∷ c.args.second ∷ [] = search rules in
+    let in_order : c.in_order.result ≡ true = search (rules, c.if-not-in_order) in
+    let may = c.in_order.ensures in_order in
+    subst (λ (ps : List PassSeen). InOrder 0 (knowns ps) × (length ps ≡ c.args.heap.heap.shape.threads)) (sym two) ((may.1.0, (may.1.1, tt)), sym may.0)
+
+pub close-requires-clause-stopped : goal.close-requires-clause-stopped
+close-requires-clause-stopped c =
+    let two : c.of.result ≡ c.args.first ∷ c.args.second ∷ [] = search rules in
+    subst (All (λ p. p.known.running ≡ false)) (sym two) (both (λ p. p.known.running ≡ false) c.args.first c.args.second c.requires.first.1.runs c.requires.second.1.runs)
+
+pub close-requires-clause-quiet : goal.close-requires-clause-quiet
+close-requires-clause-quiet c =
+    let two : c.of.result ≡ c.args.first ∷ c.args.second ∷ [] = search rules in
+    inl (subst (All (λ p. p.known.requesting ≡ false)) (sym two) (both (λ p. p.known.requesting ≡ false) c.args.first c.args.second c.requires.first.1.asks c.requires.second.1.asks))

@@ -1,0 +1,24 @@
+//! The classes of the objects of a machine.
+
+use plain_machine::Machine;
+use program_syntax::read_program;
+use std::test::Fail;
+
+const TEXT: &[u8] = b"\
+class C 0
+class D 1
+object a D
+array s C 2
+thread t
+end
+";
+
+#[test]
+fn declared_objects_have_the_class_of_their_line(rt: HostRuntime) -> Result<(), Fail> {
+    let program = read_program(rt.alloc(), TEXT)?;
+    let machine = Machine::new(rt.alloc(), &program, 10)?;
+    for (o, class) in [(0, Some(1)), (1, Some(0)), (2, Some(0)), (3, None)] {
+        assert_eq!(rt; machine.class_of(o), class, "of {o}");
+    }
+    Ok(())
+}

@@ -1,0 +1,175 @@
+//! What a worker does with the runner that it has taken from the pool.
+
+ghost use Rattle.std.specs.Prelude.{◌≡◌, ◌≤◌, ◌<◌, ◌∷◌, [], ℕ, None, Some, true, false};
+ghost use Rattle.thread_calls.specs.Between.{IsHeapOf};
+ghost use Rattle.thread_calls.specs.Timed.{StaysTimed};
+ghost use Rattle.thread_frame.specs.Frames.{has_ended};
+ghost use Rattle.thread_interp.specs.Runners.{RunnerSeen, IsRunner, IsSame};
+ghost use Rattle.turn_pool.specs.declared.word.Word.TheVariants.{Ready};
+ghost use Rattle.turn_pool.specs.Pool.{seat_view};
+ghost use Rattle.run_rounds.specs.inner.Slots.{IsCourse, MayLie, StandsUnder};
+ghost use Rattle.run_rounds.specs.inner.Turns.{HasGoneOn};
+
+use crate::course::{Course, RunnerPool, RunnerSeat};
+use core_world::{Turn, Why};
+use heap_table::Heap;
+use object_program::Program;
+use run_io::{Clock, Gate};
+use std::sync::Wait;
+use thread_interp::{RunState, Runner};
+use turn_pool::Word;
+
+/// What came of a turn, for those that wait for one another.
+#[derive(Clone, Copy, Debug, PartialEq, Eq)]
+pub enum Outcome {
+    /// It did something for which others may have waited: an instruction, or the exits and the end of a thread that unwinds, which are none.
+    Moved,
+    /// It did nothing, since another thread was faster. A further one needn't wait for anything.
+    Raced,
+    /// It did nothing, and a further one does nothing until another thread does something.
+    Stalled,
+}
+
+// A turn of the runner, unless its thread has ended.
+fn turn<K: Clock, G: Gate>(
+    program: &Program,
+    heap: &Heap,
+    runner: &mut Runner,
+    quantum: u32,
+    clock: &K,
+    tick: u32,
+    gate: &G,
+) -> Outcome
+    requires heap { IsHeapOf heap.now program.now }
+    requires runner { IsRunner heap.now program.now runner.old }
+    requires unchecked { runner.old.pass.known.checking ≡ false }
+    requires quantum { 1 ≤ quantum }
+    ensures gone { HasGoneOn heap.now program.now tick runner.old runner.new }
+{
+    if runner.has_ended() {
+        return Outcome::Stalled;
+    }
+    let turn = runner.turn(program, heap, clock, tick, gate, quantum);
+    if turn.instructions > 0 || runner.has_ended() {
+        return Outcome::Moved;
+    }
+    match turn.state {
+        RunState::Blocked(Why::Raced { .. }) => Outcome::Raced,
+        _ => Outcome::Stalled,
+    }
+}
+
+// Under which word a runner goes back after a turn.
+fn word_after_turn(runner: &Runner) -> Word
+    ensures { StandsUnder result runner.now }
+{
+    if runner.has_ended() {
+        return Word::Ended;
+    }
+    Word::Ready
+}
+
+/// A turn of the runner of this place, which goes back into the pool then.
+pub fn give_turn<C: Course, K: Clock, G: Gate>(
+    program: &Program,
+    heap: &Heap,
+    fuel: u32,
+    pool: &RunnerPool<C>,
+    mine: &mut RunnerSeat,
+    place: u32,
+    quantum: u32,
+    clock: &K,
+    tick: u32,
+    gate: &G,
+) -> Outcome
+    requires course { IsCourse C.heap C.program C.fuel C.tick heap.now program.now fuel tick }
+    requires heap { IsHeapOf heap.now program.now }
+    requires quantum { 1 ≤ quantum }
+    requires table { mine.old.table_id ≡ pool.now.slots.shared.table_id }
+    requires place { place < pool.now.slots.shared.table_id.slots }
+    requires held { (r : RunnerSeen) × MayLie C.heap C.program C.fuel C.tick Ready place r
+        × (mine.old.me ≡ (seat_view 1 (Some place) false, (place, r) ∷ [])) }
+    ensures table { mine.new.table_id ≡ mine.old.table_id }
+    ensures free { mine.new.me ≡ (seat_view 1 None false, []) }
+{
+    let runner = mine.slot_mut(&pool.slots.shared, place as usize);
+    let outcome = turn(program, heap, runner, quantum, clock, tick, gate);
+    let word = word_after_turn(runner);
+    pool.give(mine, place, word);
+    outcome
+}
+
+// Whether the run is stuck, by a check of this runner. One that other threads have to stop for is made again.
+fn check<R: Wait>(rt: &R, program: &Program, heap: &Heap, runner: &mut Runner) -> bool
+    requires program { IsHeapOf heap.now program.now }
+    requires runner { IsRunner heap.now program.now runner.old }
+    requires free { (runner.old.pass.known.requesting ≡ false) × (runner.old.pass.known.checking ≡ false) }
+    requires live { has_ended runner.old.frame ≡ false }
+    ensures runner { IsRunner heap.now program.now runner.new }
+    ensures unchecked { runner.new.pass.known.checking ≡ false }
+    ensures same { IsSame runner.old runner.new }
+    ensures halted { result ≡ true → runner.new.pass.known.halted ≡ true }
+    ensures timed { (tick : ℕ) → StaysTimed tick runner.old.pass runner.new.pass }
+{
+    for _ in rt.forever() {
+        if let Turn::Done(stuck) = runner.check(program, heap) {
+            return stuck;
+        }
+        if !runner.checking() {
+            return false;
+        }
+    }
+    unreachable!()
+}
+
+// The same, where the runner can make a check: its thread hasn't ended, and asks for no safepoint.
+fn check_where_free<R: Wait>(rt: &R, program: &Program, heap: &Heap, runner: &mut Runner) -> bool
+    requires heap { IsHeapOf heap.now program.now }
+    requires runner { IsRunner heap.now program.now runner.old }
+    requires unchecked { runner.old.pass.known.checking ≡ false }
+    ensures gone { (tick : ℕ) → HasGoneOn heap.now program.now tick runner.old runner.new }
+    ensures halted { result ≡ true → runner.new.pass.known.halted ≡ true }
+{
+    if runner.has_ended() || runner.requesting() {
+        return false;
+    }
+    check(rt, program, heap, runner)
+}
+
+// Under which word a runner goes back after a check.
+fn word_after_check(runner: &Runner, stuck: bool) -> Word
+    requires { stuck ≡ true → runner.now.pass.known.halted ≡ true }
+    ensures { StandsUnder result runner.now }
+{
+    if stuck {
+        return Word::Stopped;
+    }
+    Word::Ready
+}
+
+/// A check of the runner of this place, which goes back into the pool then. Whether the run was halted.
+pub fn give_check<C: Course, R: Wait>(
+    rt: &R,
+    program: &Program,
+    heap: &Heap,
+    fuel: u32,
+    pool: &RunnerPool<C>,
+    mine: &mut RunnerSeat,
+    place: u32,
+    tick: u32,
+) -> bool
+    requires course { IsCourse C.heap C.program C.fuel C.tick heap.now program.now fuel tick }
+    requires heap { IsHeapOf heap.now program.now }
+    requires table { mine.old.table_id ≡ pool.now.slots.shared.table_id }
+    requires place { place < pool.now.slots.shared.table_id.slots }
+    requires held { (r : RunnerSeen) × MayLie C.heap C.program C.fuel C.tick Ready place r
+        × (mine.old.me ≡ (seat_view 1 (Some place) false, (place, r) ∷ [])) }
+    ensures table { mine.new.table_id ≡ mine.old.table_id }
+    ensures free { mine.new.me ≡ (seat_view 1 None false, []) }
+{
+    let runner = mine.slot_mut(&pool.slots.shared, place as usize);
+    let stuck = check_where_free(rt, program, heap, runner);
+    let word = word_after_check(runner, stuck);
+    pool.give(mine, place, word);
+    stuck
+}
