@@ -8,17 +8,20 @@ use Rattle.plain_monitor.specs.declared.entry.Path.TheVariants.{BiasOwn, BiasTak
 use Rattle.core_world.specs.declared.answer.BiasTry.{BiasTry}
 use Rattle.core_world.specs.declared.answer.BiasTry.TheVariants.{Took, Unbiased, Valid, Raced}
 use Rattle.core_world.specs.declared.name.Name.TheVariants.{Mark, Prototype}
+use Rattle.core_world.specs.declared.stage.Stage.TheVariants.{Calm}
 use Rattle.core_world.specs.Due.{Runs}
 use Rattle.core_world.specs.Steps.{known_after}
 use Rattle.core_world.specs.Threads.Known.{Known, Local, local_of}
 use Rattle.core_world.specs.Words.Forms.{is_biased, epoch_in}
-use Rattle.core_world.specs.Words.Shape.{Shape, class_of}
+use Rattle.core_world.specs.Words.Shape.{Shape}
 use Rattle.core_world.specs.Trees.BiasSteps.{unbias_plan, rebias_plan, took_steps, unbias_swap_steps}
 use Rattle.core_world.specs.Trees.BiasSteps.{rebias_steps, bias_valid_steps, bias_enter_at, bias_enter_by, bias_enter_steps}
 use Rattle.core_world.specs.Trees.BiasSteps.{bias_drop_at, bias_drop_by, bias_drop_steps, stage_after, bias_after_at, bias_after_steps}
 use Rattle.core_world.specs.Trees.LockSteps.{hold_steps}
-use Rattle.core_world.specs.Trees.Plans.{Purpose, load, load_plan}
+use Rattle.core_world.specs.Trees.Plans.{Purpose, load, load_plan, class_steps}
 use Rattle.core_world.specs.Trees.Todo.{Todo, done, never, step, ◌>>=◌}
+use Rattle.heap_table.proofs.ClassSteps.{class_splits}
+use Rattle.bias_lock.specs.inner.Parts.{prototype_enter, prototype_drop}
 use Rattle.bias_lock.specs.Kept.{IsKeptUnlessTook}
 use Rattle.bias_lock.proofs.Taking.{unbiased, rebiased}
 
@@ -97,18 +100,15 @@ module _ (s : Shape) (start : ℕ) where
       → IsKeptUnlessTook out (local_of k) (local_of l)
   enter_keeps e t o k l out (mark, rest) = cases (is_biased mark) rest
     where
-      c : ℕ
-      c = class_of s o
-
       m : Known
       m = known_after s start (load e (Mark o)) mark k
 
-      proto : ℕ → Todo BiasTry
-      proto prototype = bias_enter_by (read_mark prototype) e t o mark prototype
-
-      cases : (b : Bool) → Runs s start (if b then step (load e (Prototype c)) proto else done (Unbiased mark)) m l out
+      cases : (b : Bool) → Runs s start (if b then class_steps e Calm s o >>= (λ c. prototype_enter e t c o mark) else done (Unbiased mark)) m l out
           → IsKeptUnlessTook out (local_of k) (local_of l)
-      cases true (prototype, run) = by_keeps e t o mark l out (read_mark prototype) prototype (known_after s start (load e (Prototype c)) prototype m) run
+      cases true run =
+          let (c, x, alike, (prototype, more)) = class_splits s start e Calm o (λ c. prototype_enter e t c o mark) m l out run in
+          subst (λ (z : Local). IsKeptUnlessTook out z (local_of l)) alike.local
+          (by_keeps e t o mark l out (read_mark prototype) prototype (known_after s start (load e (Prototype c)) prototype x) more)
       cases false run = kept out (local_of k) (local_of l) (ap local_of run.0)
 
   own_keeps : (e : Purpose) (t : Local) (o : ℕ) (b : Bool) (k l : Known) (out : BiasTry) (before after : Local)
@@ -168,15 +168,12 @@ module _ (s : Shape) (start : ℕ) where
   pub drop_keeps : (e : Purpose) (o : ℕ) (k l : Known) (out : BiasTry) → Runs s start (bias_drop_steps s e o) k l out → local_of l ≡ local_of k
   drop_keeps e o k l out (mark, rest) = cases (is_biased mark) rest
     where
-      c : ℕ
-      c = class_of s o
-
       m : Known
       m = known_after s start (load e (Mark o)) mark k
 
-      proto : ℕ → Todo BiasTry
-      proto prototype = bias_drop_by (epoch_in prototype) e o mark prototype
-
-      cases : (b : Bool) → Runs s start (if b then step (load e (Prototype c)) proto else done (Unbiased mark)) m l out → local_of l ≡ local_of k
-      cases true (prototype, run) = drop_by_keeps (epoch_in prototype) e o mark prototype (known_after s start (load e (Prototype c)) prototype m) l out run
+      cases : (b : Bool) → Runs s start (if b then class_steps e Calm s o >>= (λ c. prototype_drop e c o mark) else done (Unbiased mark)) m l out
+          → local_of l ≡ local_of k
+      cases true run =
+          let (c, x, alike, (prototype, more)) = class_splits s start e Calm o (λ c. prototype_drop e c o mark) m l out run in
+          drop_by_keeps (epoch_in prototype) e o mark prototype (known_after s start (load e (Prototype c)) prototype x) l out more ∙ alike.local
       cases false run = ap local_of run.0

@@ -189,7 +189,7 @@ pub fn bias_enter(heap: &Heap, pass: &mut Pass, why: &Purpose, object: u32) -> B
 {
     let mark = heap.load(pass, why, Stage::Calm, Name::Mark { object });
     if is_biased(mark) {
-        let class = heap.shape().class_of(object);
+        let class = heap.class_of(pass, why, Stage::Calm, object);
         return enter_biased(heap, pass, why, class, object, mark);
     }
     BiasTry::Unbiased { mark }

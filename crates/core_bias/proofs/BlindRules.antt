@@ -6,11 +6,12 @@ use Rattle.core_world.specs.RevocationRules.{Write, write, words_after, Rule, in
 use Rattle.core_world.proofs.Naming.{same_named}
 use Rattle.core_bias.proofs.GoodWrites.{holds_same}
 
--- a word of a class
+-- a word of a class, or the class word of an object
 abbrev pub of_class : Name → Bool
 of_class (name.Prototype c) = true
 of_class (name.Revocations c) = true
 of_class (name.LastBulk c) = true
+of_class (name.Class o) = true
 of_class _ = false
 
 -- words that are the same but for those of classes

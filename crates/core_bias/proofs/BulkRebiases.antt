@@ -18,7 +18,7 @@ use Rattle.core_world.proofs.Counting.{named_none}
 use Rattle.core_world.proofs.Readings.{mark_one}
 use Rattle.core_locks.proofs.Clauses as clause
 use Rattle.core_bias.specs.Revoking.{TellsBias, HasCounted, revoked_world}
-use Rattle.core_bias.proofs.Unseen.{FitsUnseen, Unclassed, unclassed, classed, with_words, rewords}
+use Rattle.core_bias.proofs.Unseen.{FitsUnseen, Unclassed, unclassed, classed, with_words, rewords, class_stays}
 use Rattle.core_bias.proofs.MarkTurns.{AllCalm, biased_lock}
 use Rattle.core_bias.proofs.Revokes.{revoke_unbiased, stored_append, revoke_fits}
 use Rattle.core_bias.proofs.Knows.{knows_unclassed, rebiases_same, revokes_same}
@@ -317,6 +317,7 @@ module _ (w : World) (P : List PlainObject) (r : ℕ) (b : Revocation) (l : Know
     each name.Claim = sym (walked.words name.Claim refl ∙ raised_other name.Claim refl)
     each name.End = sym (walked.words name.End refl ∙ raised_other name.End refl)
     each (name.Ring q) = sym (walked.words (name.Ring q) refl ∙ raised_other (name.Ring q) refl)
+    each (name.Class o) = sym (walked.words (name.Class o) refl ∙ raised_other (name.Class o) refl)
 
     walked_fits : FitsUnseen (with_words f3 y) P
     walked_fits =
@@ -332,7 +333,10 @@ module _ (w : World) (P : List PlainObject) (r : ℕ) (b : Revocation) (l : Know
     rest_fits true =
         let f4 = words_after (revoke b.object true f3) f3 in
         let after = revoke_allowed (with_words f3 y) P b.object calm_now walked_fits in
-        let taken = take_fits (with_words f4 y) P b.object calm_now after.0 r (reached_within w P r reached v) after.1 in
+        let word = classless_stays (revoke b.object true f3) f3 (name.Class b.object) ((blind_revoke b.object true).stores f3) refl
+        ∙ walked.words (name.Class b.object) refl ∙ raised_other (name.Class b.object) refl in
+        let taken = subst (λ i. FitsUnseen (with_words (words_after (take_bias i b.object r f4) f4) y) P) (class_stays w.shape f f4 b.object word)
+        (take_fits (with_words f4 y) P b.object calm_now after.0 r (reached_within w P r reached v) after.1) in
         let all = turn_stored (revoke b.object true) (take_bias c b.object r ∷ []) f3 ∙ turn_stored (take_bias c b.object r) [] f4 in
         subst (λ z. FitsUnseen (with_words z y) P) (sym all) taken
 

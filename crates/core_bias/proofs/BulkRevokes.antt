@@ -6,13 +6,14 @@ use Rattle.lock_policy.specs.declared.policy.Verdict.{Verdict}
 use Rattle.lock_policy.specs.declared.policy.Verdict.TheVariants.{BulkRevoke}
 use Rattle.lock_policy.specs.Policy.{decided, is_reset, most_revocations}
 use Rattle.core_world.specs.declared.name.Name.TheVariants as name
+use Rattle.core_world.specs.declared.name.Name.TheVariants.{Class}
 use Rattle.core_world.specs.Threads.Counts.{ClassCounts, CountedVerdict, counts_of, CountedVerdict, counts_of, with_verdict_counted, with_verdict, with_reset}
 use Rattle.core_world.specs.Threads.Stages.{Revocation}
 use Rattle.core_world.specs.RevocationRules.{write, words_after, Rule, in_turn, each_below, revoke_form, revoke, object_held, on_held, on_records, record_writes, revocation_rules, revocation_writes}
 use Rattle.core_world.proofs.Counting.{named_none}
 use Rattle.core_locks.proofs.Clauses as clause
 use Rattle.core_bias.specs.Revoking.{HasCounted, revoked_world}
-use Rattle.core_bias.proofs.Unseen.{FitsUnseen, Unclassed, unclassed, classed, with_words, rewords}
+use Rattle.core_bias.proofs.Unseen.{FitsUnseen, Unclassed, unclassed, classed, with_words, rewords, class_stays}
 use Rattle.core_bias.proofs.MarkTurns.{AllCalm}
 use Rattle.core_bias.proofs.Revokes.{stored_append, revoke_fits, revoke_unbiased}
 use Rattle.core_bias.proofs.Places.{record_other}
@@ -253,12 +254,19 @@ module _ (w : World) (P : List PlainObject) (r : ℕ) (b : Revocation) (l : Know
       classless_stays (single (words_after (walk f) f)) (words_after (walk f) f) n ((blind_revoke b.object false).stores (words_after (walk f) f)) e
       ∙ classless_stays (walk f) f n ((blind_walk w.shape class c (λ o. revoke o false) (λ o. blind_revoke o false)).stores f) e
 
+  same_class : (o : ℕ) → class_by w.shape g o ≡ class o
+  same_class o = class_stays w.shape f g o (class_word (Class o) refl)
+
   moves : (o : ℕ) → Moves y x o
   moves o = by_equal (class o) c
       (λ e. by_bias e (is_biased (g (Mark o))) refl)
       (λ e.
       let proto : prototype (class o) ≡ g (Prototype (class o)) = ap (λ (a : Bool). cond a 1 (f (Prototype (class o)))) (ne_eqb (class o) c e) ∙ sym (class_word (Prototype (class o)) refl) in
-      inl (refl, ap (λ z. lock_form (read_mark (g (Mark o))) z (owner_words y) (inflations y o)) proto))
+      inl (
+        refl,
+        ap (λ z. lock_form (read_mark (g (Mark o))) z (owner_words y) (inflations y o))
+            (subst (λ i. prototype i ≡ g (Prototype i)) (sym (same_class o)) proto),
+      ))
     where
       by_bias : class o ≡ c → (a : Bool) → is_biased (g (Mark o)) ≡ a → Moves y x o
       by_bias e true z = inr (z, z, (known_before clause.forms).marks o, inr (λ u. each_with_known (λ u m. hold_count o m.holds ≡ 0) r l w.known u (ap (hold_count o) (sym k.same.holds) ∙ free o e z r) (λ d. free o e z u)))
@@ -308,6 +316,7 @@ module _ (w : World) (P : List PlainObject) (r : ℕ) (b : Revocation) (l : Know
     each name.Claim = other name.Claim refl
     each name.End = other name.End refl
     each (name.Ring q) = other (name.Ring q) refl
+    each (name.Class o) = class_word (Class o) refl ∙ of_classes (Class o) refl
 
     words : words_after (revocation_writes w.shape r b f) f ≡ words_after (turn f2) f2
     unfolding revocation_writes

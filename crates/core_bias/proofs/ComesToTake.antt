@@ -1,5 +1,6 @@
 -- A running thread that stands in the middle of nothing comes to stand in that of taking an object under a bias: no clause says more of it there.
 use Rattle.core_locks.proofs.Prelude.{◌≡◌, ◌⊎◌, ℕ, ◌+◌, ◌<◌, true, false, List, [], Some, None, refl, sym, ap, ◌∙◌, subst, inl, inr, PlainObject, Name, Mark, Waiting, Recursions, Calm, Waits, Resumes, TakesOver, is_biased, monitor_in, waits_on, inflation_in, recursions_ahead, recursions_behind, revocation_in, Known, last_seen, World, with_known, OwnedBy, lock, displaced_words, recursion_count, owner_at, waits_at, notified_at, Fits, SeenFit, Stays, RecursionsFit, each_with_known, header_stays, Takes, IsKeptOrNamed, with_knowledge, stays_back}
+use Rattle.core_world.specs.Words.Names.{has_class}
 use Rattle.core_world.specs.Clauses.SeenWords.{AreTheSteps, HasMet}
 use Rattle.core_locks.proofs.Clauses.{kept_parts, parts_stand, AllHold}
 use Rattle.core_locks.proofs.Clauses as clause
@@ -69,6 +70,10 @@ module _ (w : World) (P : List PlainObject) (t o : ℕ) (l : Known) (within : t 
         (λ h st. v.seen.stays t n s (saw n s h) (stays_mine n s st)) (λ d h st. v.seen.stays u n s h (others_by w x (owner_at P) refl refl u n s st));
     unbiased = λ u i s. each_with_known (λ u y. last_seen (Mark i) y.seen ≡ Some s → (y.running ≡ true) ⊎ (y.requesting ≡ true) → is_biased s ≡ false → is_biased (w.words (Mark i)) ≡ false) t l w.known u
         (λ h a b. v.seen.unbiased t i s (saw (Mark i) s h) (inl runs) b) (λ d. v.seen.unbiased u i s);
+    classed = v.seen.classed;
+    saw_classed = λ u i s. each_with_known (λ u y. last_seen (Mark i) y.seen ≡ Some s → (y.running ≡ true) ⊎ (y.requesting ≡ true) → is_biased s ≡ true
+        → has_class w.shape w.words i ≡ true) t l w.known u
+        (λ h a b. v.seen.saw_classed t i s (saw (Mark i) s h) (inl runs) b) (λ d. v.seen.saw_classed u i s);
     unwaiting = λ u y i s. each_with_known (λ u z. last_seen (Waiting y) z.seen ≡ Some s → z.running ≡ true → owner_at P i u ≡ true → waits_on s i ≡ false → waits_on (w.words (Waiting y)) i ≡ false) t l w.known u
         (λ h a b c. v.seen.unwaiting t y i s (saw (Waiting y) s h) runs b c) (λ d. v.seen.unwaiting u y i s);
     unwaited = λ u i s. each_with_known (λ u z. last_seen (Mark i) z.seen ≡ Some s → z.running ≡ true → owner_at P i u ≡ true → monitor_in s ≡ None → waits_at P i ≡ []) t l w.known u

@@ -2,6 +2,7 @@
 use Rattle.core_locks.proofs.Prelude.{◌≡◌, ◌≢◌, ◌⊎◌, ℕ, true, false, List, [], Some, None, refl, sym, ap, ◌∙◌, subst, inl, inr, PlainObject, Name, Mark, Calm, is_biased, Known, last_seen, marks, owner_at, Purpose, Stays, StaysWhileAsking, revocation_in, Fits, SeenFit, IsRevoking, World, with_known, with_knowledge, each_with_known, with_known_here}
 use Rattle.core_world.specs.declared.name.Name.TheVariants as name
 use Rattle.core_world.specs.Threads.Counts.{counts_of}
+use Rattle.core_world.specs.Words.Names.{has_class}
 use Rattle.core_world.specs.Clauses.SeenWords.{AreTheSteps}
 use Rattle.core_world.specs.RevocationRules.{FoundAfter, words_after, writes_in}
 use Rattle.core_world.proofs.NoWordChanges.{one_requester}
@@ -77,12 +78,13 @@ module _ (w : World) (P : List PlainObject) (s : IsRevoking w P) (e : Purpose) (
   stopped_now u = each_with_known (λ u y. y.running ≡ true → ⊥) r l w.known u
       (λ a. let no = stopped r in let same = ap (λ (k : Known). k.running) only.is in absurd (cc (a, same, no))) (λ d a. let no = stopped u in absurd (cc (a, no)))
 
-  -- what it counts on while its request stands is a mark or a word of a class
+  -- what it counts on while its request stands is a mark, a word of a class or the class word of an object
   counts_on : (n : Name) (v : ℕ) → StaysWhileAsking x n v → is_kept_on_request n ≡ true
   counts_on (name.Prototype c) v h = refl
   counts_on (name.Revocations c) v h = refl
   counts_on (name.LastBulk c) v h = refl
   counts_on (Mark o) v h = refl
+  counts_on (name.Class o) v h = refl
   counts_on _ v h = absurd h
 
   seen_law : SeenFit x P
@@ -95,6 +97,11 @@ module _ (w : World) (P : List PlainObject) (s : IsRevoking w P) (e : Purpose) (
         (λ d h st. elim st [ inl a ↦ let no = stopped u in let yes = a.0 in absurd (cc (yes, no)) | inr a ↦ absurd (no_other u d a.0) ]);
     unbiased = λ u i m. each_with_known (λ u y. last_seen (Mark i) y.seen ≡ Some m → (y.running ≡ true) ⊎ (y.requesting ≡ true) → is_biased m ≡ false → is_biased (marks w i) ≡ false) r l w.known u
         (λ h a c. s.seen.unbiased r i m (sym (only.seen (Mark i)) ∙ h) (inr asks) c)
+        (λ d h a c. elim a [ inl b ↦ let no = stopped u in absurd (cc (b, no)) | inr b ↦ absurd (no_other u d b) ]);
+    classed = s.seen.classed;
+    saw_classed = λ u i m. each_with_known (λ u y. last_seen (Mark i) y.seen ≡ Some m → (y.running ≡ true) ⊎ (y.requesting ≡ true) → is_biased m ≡ true
+        → has_class w.shape w.words i ≡ true) r l w.known u
+        (λ h a c. s.seen.saw_classed r i m (sym (only.seen (Mark i)) ∙ h) (inr asks) c)
         (λ d h a c. elim a [ inl b ↦ let no = stopped u in absurd (cc (b, no)) | inr b ↦ absurd (no_other u d b) ]);
     unwaiting = λ u y i m h a. absurd (stopped_now u a);
     unwaited = λ u i m h a. absurd (stopped_now u a);

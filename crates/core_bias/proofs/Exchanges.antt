@@ -1,5 +1,6 @@
 -- A running thread exchanges an anonymous or stale mark, for its own bias or for a neutral one.
 use Rattle.core_locks.proofs.Prelude.{◌≡◌, ℕ, ◌<◌, ◌==◌, ◌||◌, eqb-true, Bool, true, false, cond, if◌then◌else◌, List, Option, Some, refl, sym, ap, ◌∙◌, subst, inl, inr, MarkForm, Biased, read_mark, is_thread, PlainObject, Swap, Mark, StepPlan, Calm, Takes, word_after, is_biased, monitor_in, inflation_in, bears, Known, World, with_word_and_known, with_known, Lock, Open, BiasedTo, lock, lock_form, holder, marks, owner_words, prototype_of, inflations, hold_count, owner_at, waits_at, Purpose, with_stage, swap, IsValidBias, Stays, world_after, known_hit, known_miss, seen_before, Fits, SeenFit, seen_is_part, unwaited_fits, with_known_here, stays_back, Spares, counts_more, seen_moves}
+use Rattle.core_world.specs.Words.Names.{has_class}
 use Rattle.core_locks.proofs.MarkMeanings.{each_set}
 use Rattle.core_locks.proofs.MarkChanges.{names_same, mark_back}
 use Rattle.core_locks.proofs.Steps.{none_reached}
@@ -97,6 +98,9 @@ module _ (w : World) (P : List PlainObject) (t : ℕ) (e : Purpose) (o mark m : 
     owned = λ u i d h. h;
     word = λ u s d st is. absurd (uncounted u s st is);
     bias = λ u i s e r. bias_forth i;
+    there = λ i h. h;
+    classed = λ i. each_set (λ j y. is_biased y ≡ true → has_class w.shape w.words j ≡ true) o n (marks w) i (λ h. v.seen.classed o turns.biased)
+        (λ d. v.seen.classed i);
     waits = λ u i j d h g. g;
     unwaited = λ u i d h g. g;
     unreached = none_reached w P t l v runs refl;

@@ -1,10 +1,11 @@
--- What a revocation stores: words of classes, displaced words, and marks that spell a form and name no monitor, in the place of such.
+-- What a revocation stores: words of classes, displaced words, and marks that spell a form and name no monitor, where a mark has the bias pattern.
 use Rattle.plain_monitor.specs.Limits.{most_threads, most_holds}
 use Rattle.core_locks.proofs.Prelude.{◌≡◌, ◌≢◌, ℕ, zero, suc, ◌+◌, ◌<◌, ◌==◌, ◌&&◌, ◌++◌, Bool, true, false, if◌then◌else◌, List, [], ◌∷◌, Option, Some, None, refl, sym, ap, ◌∙◌, subst, arith, eq-eqb, ◌≤◌, AllByRecursion, MarkForm, Neutral, Anonymous, Biased, Locked, mark_of, read_mark, read_hold, read_mark-mark_of, read_mark-spells, Name, Mark, Hold, Shape, class_by, with_word, is_biased, is_biased_form, monitor_in, monitor_form, epoch_in, hold_word, names, hold_count, IsMark}
 use Rattle.lock_policy.specs.declared.policy.Verdict.{Verdict}
 use Rattle.lock_policy.specs.declared.policy.Verdict.TheVariants.{Single, BulkRebias, BulkRevoke}
 use Rattle.lock_policy.specs.Policy.{decided}
 use Rattle.core_world.specs.declared.name.Name.TheVariants as name
+use Rattle.core_world.specs.declared.name.Name.TheVariants.{Class}
 use Rattle.core_world.specs.Words.Forms.{epoch_form}
 use Rattle.core_world.specs.Threads.Stages.{Revocation}
 use Rattle.core_world.specs.RevocationRules.{Write, write, words_after, words_from, Rule, in_turn, each_below, store_one, holds_in, record_writes, first_place, revoke_biased, revoke_form, revoke, raised_form, raise_epoch, with_epoch, store_where, renew, object_held, on_held, on_records, biased_word, take_bias, verdict_rules, revocation_rules, revocation_writes}
@@ -35,9 +36,9 @@ epoch_few n epoch e = by_form (read_mark n) refl e
     by_form _ r q = absurd (cc q)
 
 module _ (s : Shape) (f : Name → ℕ) where
-  -- a store of such a word; a mark is one that spells a form and names no monitor, where none was named
+  -- a store of such a word; a mark is one that spells a form and names no monitor, where one had the bias pattern
   abbrev pub GoodMark : Name → ℕ → Type 0
-  GoodMark (name.Mark o) word = IsMark s (read_mark word) × (monitor_in word ≡ None) × (monitor_in (f (Mark o)) ≡ None)
+  GoodMark (name.Mark o) word = IsMark s (read_mark word) × (monitor_in word ≡ None) × (is_biased (f (Mark o)) ≡ true)
   GoodMark _ word = Unit {0}
 
   abbrev pub IsGood : Write → Type 0
@@ -46,22 +47,28 @@ module _ (s : Shape) (f : Name → ℕ) where
   abbrev pub AreGood : List Write → Type 0
   AreGood xs = AllByRecursion IsGood xs
 
-  -- words whose marks spell forms and name the monitors that those of f name, with the hold words of f
+  -- words whose marks spell forms, name the monitors that those of f name, and have the bias pattern only where those of f have it, with the hold
+  -- words and the class words of f
   pub record Follows (g : Name → ℕ) : Type 0 where
     pub forms : (o : ℕ) → IsMark s (read_mark (g (Mark o)))
     pub names : (o : ℕ) → monitor_in (g (Mark o)) ≡ monitor_in (f (Mark o))
+    pub leaning : (o : ℕ) → is_biased (g (Mark o)) ≡ true → is_biased (f (Mark o)) ≡ true
     pub holds : (t p : ℕ) → g (Hold t p) ≡ f (Hold t p)
+    pub classes : (o : ℕ) → g (Class o) ≡ f (Class o)
 
   pub one_follows : (at : Name) (word : ℕ) (g : Name → ℕ) → IsGood (write at word) → Follows g → Follows (with_word at word g)
   one_follows (name.Mark i) word g good h = record {
     forms = λ o. each_set (λ j y. IsMark s (read_mark y)) i word (λ j. g (Mark j)) o good.1.0 (λ d. h.forms o);
-    names = λ o. each_set (λ j y. monitor_in y ≡ monitor_in (f (Mark j))) i word (λ j. g (Mark j)) o (good.1.1 ∙ sym good.1.2) (λ d. h.names o);
+    names = λ o. each_set (λ j y. monitor_in y ≡ monitor_in (f (Mark j))) i word (λ j. g (Mark j)) o (good.1.1 ∙ sym (biased_unnamed (f (Mark i)) good.1.2))
+        (λ d. h.names o);
+    leaning = λ o. each_set (λ j y. is_biased y ≡ true → is_biased (f (Mark j)) ≡ true) i word (λ j. g (Mark j)) o (λ e. good.1.2) (λ d. h.leaning o);
     holds = h.holds;
+    classes = h.classes;
   }
-  one_follows (name.Prototype c) word g good h = record { forms = h.forms; names = h.names; holds = h.holds }
-  one_follows (name.Revocations c) word g good h = record { forms = h.forms; names = h.names; holds = h.holds }
-  one_follows (name.LastBulk c) word g good h = record { forms = h.forms; names = h.names; holds = h.holds }
-  one_follows (name.Displaced t p) word g good h = record { forms = h.forms; names = h.names; holds = h.holds }
+  one_follows (name.Prototype c) word g good h = record { forms = h.forms; names = h.names; leaning = h.leaning; holds = h.holds; classes = h.classes }
+  one_follows (name.Revocations c) word g good h = record { forms = h.forms; names = h.names; leaning = h.leaning; holds = h.holds; classes = h.classes }
+  one_follows (name.LastBulk c) word g good h = record { forms = h.forms; names = h.names; leaning = h.leaning; holds = h.holds; classes = h.classes }
+  one_follows (name.Displaced t p) word g good h = record { forms = h.forms; names = h.names; leaning = h.leaning; holds = h.holds; classes = h.classes }
   one_follows _ word g good h = let no = good.0 in absurd (cc no)
 
   pub follow : (xs : List Write) (g : Name → ℕ) → AreGood xs → Follows g → Follows (words_after xs g)
@@ -107,12 +114,9 @@ module _ (s : Shape) (f : Name → ℕ) where
 
   -- the threads are few, and who holds an object has a record of it with depth 1
   module _ (threads : s.threads ≤ most_threads) (first : (t o : ℕ) → hold_count o (holds_in f t) ≢ 0 → first_place o (holds_in f t) < most_holds) where
-    bare : (g : Name → ℕ) → Follows g → (o : ℕ) → is_biased (g (Mark o)) ≡ true → monitor_in (f (Mark o)) ≡ None
-    bare g h o e = sym (h.names o) ∙ biased_unnamed (g (Mark o)) e
-
     good_free : (g : Name → ℕ) → Follows g → (o : ℕ) → is_biased (g (Mark o)) ≡ true → (b : Bool) → AreGood (write (Mark o) (mark_of (if b then Anonymous 0 0 else Neutral 0 0)) ∷ [])
-    good_free g h o e true = ((refl, (rw mark_five refl, ap monitor_form mark_five, bare g h o e)), tt)
-    good_free g h o e false = ((refl, (rw mark_one refl, ap monitor_form mark_one, bare g h o e)), tt)
+    good_free g h o e true = ((refl, (rw mark_five refl, ap monitor_form mark_five, h.leaning o e)), tt)
+    good_free g h o e false = ((refl, (rw mark_one refl, ap monitor_form mark_one, h.leaning o e)), tt)
 
     good_revoke : (o : ℕ) (allowed : Bool) → IsGoodRule (revoke o allowed)
     good_revoke o allowed g h = by_form (read_mark (g (Mark o))) refl
@@ -130,7 +134,7 @@ module _ (s : Shape) (f : Name → ℕ) where
             let place = first t o (λ z. absurd (cc (eq-eqb (hold_count o (holds_in f t)) 0 z, n))) in
             let spelled = locked_read t (first_place o (holds_in f t)) (omega (arith, within, threads)) place in
             good_append (record_writes o t 0 (holds_in f t)) _ (good_records o t 0 (holds_in f t))
-            ((refl, (subst (IsMark s) (sym spelled) within, ap monitor_form spelled, bare g h o (ap is_biased_form e))), tt)
+            ((refl, (subst (IsMark s) (sym spelled) within, ap monitor_form spelled, h.leaning o (ap is_biased_form e))), tt)
 
         by_form : (a : Option MarkForm) → read_mark (g (Mark o)) ≡ a → AreGood (revoke_form a o allowed g)
         by_form (Some (Anonymous epoch age)) e = anonymous allowed (ap is_biased_form e)
@@ -156,7 +160,7 @@ module _ (s : Shape) (f : Name → ℕ) where
             let low : epoch < 4 = epoch_few _ epoch q in
             let young : age < 16 = omega (arith, form) in
             let spelled = read_mark-mark_of (Anonymous epoch age) (low, young) in
-            ((refl, (subst (IsMark s) (sym spelled) form, ap monitor_form spelled, bare g h o (ap is_biased_form r))), tt)
+            ((refl, (subst (IsMark s) (sym spelled) form, ap monitor_form spelled, h.leaning o (ap is_biased_form r))), tt)
         by_form (Some (Biased t e age)) r (Some epoch) q =
             let form = subst (IsMark s) r (h.forms o) in
             let low : epoch < 4 = epoch_few _ epoch q in
@@ -165,7 +169,7 @@ module _ (s : Shape) (f : Name → ℕ) where
             let young : age < 16 = omega (arith, new) in
             let small : t < 32 = omega (arith, within, threads) in
             let spelled = read_mark-mark_of (Biased t epoch age) (small, low, young) in
-            ((refl, (subst (IsMark s) (sym spelled) form, ap monitor_form spelled, bare g h o (ap is_biased_form r))), tt)
+            ((refl, (subst (IsMark s) (sym spelled) form, ap monitor_form spelled, h.leaning o (ap is_biased_form r))), tt)
         by_form _ r _ q = tt
 
     good_take : (c o t : ℕ) → t < s.threads → IsGoodRule (take_bias c o t)
@@ -176,7 +180,7 @@ module _ (s : Shape) (f : Name → ℕ) where
             let low : epoch < 4 = epoch_few _ epoch q in
             let small : t < 32 = omega (arith, within, threads) in
             let spelled = read_mark-mark_of (Biased t epoch 0) (small, low, omega arith) in
-            ((refl, (subst (IsMark s) (sym spelled) (within, refl), ap monitor_form spelled, bare g h o r)), tt)
+            ((refl, (subst (IsMark s) (sym spelled) (within, refl), ap monitor_form spelled, h.leaning o r)), tt)
         by_form _ r _ q = tt
 
     good_held : (class : ℕ → ℕ) (c : ℕ) (r : ℕ → Rule) → ((o : ℕ) → IsGoodRule (r o)) → (a : Option ℕ) → IsGoodRule (on_held class c r a)
@@ -213,4 +217,4 @@ module _ (s : Shape) (f : Name → ℕ) where
         let class = class_by s f in
         let c = class b.object in
         let d = decided (f (name.Revocations c)) (f (name.LastBulk c)) b.now in
-        good_in_turn (revocation_rules s class t c b d) (good_one (name.Revocations c) d.1 refl tt, good_verdict class t c b within d.0) f (record { forms = forms; names = λ o. refl; holds = λ t p. refl })
+        good_in_turn (revocation_rules s class t c b d) (good_one (name.Revocations c) d.1 refl tt, good_verdict class t c b within d.0) f (record { forms = forms; names = λ o. refl; leaning = λ o e. e; holds = λ t p. refl; classes = λ o. refl })

@@ -105,6 +105,7 @@ module _ (w : World) (P : List PlainObject) (mark prototype count last : ℕ →
     objects = (v clause.forms).objects;
     holds = (v clause.forms).holds;
     safepoint = (v clause.forms).safepoint;
+    classes = (v clause.forms).classes;
   }
   locks_moved clause.owners = frame3 LocksArePlain who_is refl refl (v clause.owners)
   locks_moved clause.biases = biases_law

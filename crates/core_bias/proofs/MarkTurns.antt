@@ -112,6 +112,7 @@ module _ (w : World) (P : List PlainObject) (o m : ℕ) (f : Lock) (g : MarkTurn
     objects = (v clause.forms).objects;
     holds = (v clause.forms).holds;
     safepoint = (v clause.forms).safepoint;
+    classes = (v clause.forms).classes;
   }
 
   -- a mark that has the bias pattern had it

@@ -1,8 +1,9 @@
 -- What the answer of a revocation tells of its object's mark once all stores are made.
-use Rattle.core_locks.proofs.Prelude.{◌≡◌, ℕ, ◌++◌, true, List, [], Option, Some, None, refl, sym, ap, ◌∙◌, subst, MarkForm, Biased, read_mark, PlainObject, Prototype, Revocations, LastBulk, class_by, with_word, epoch_in, revocation_in, Known, StepMade, World, marks, prototype_of, has_epoch, Purpose, IsRevoking, IsValid}
+use Rattle.core_locks.proofs.Prelude.{◌≡◌, ℕ, ◌++◌, true, List, [], Option, Some, None, refl, sym, ap, ◌∙◌, subst, MarkForm, Biased, read_mark, PlainObject, Name, Prototype, Revocations, LastBulk, class_by, with_word, epoch_in, revocation_in, Known, StepMade, World, marks, prototype_of, has_epoch, Purpose, IsRevoking, IsValid}
 use Rattle.lock_policy.specs.declared.policy.Verdict.{Verdict}
 use Rattle.lock_policy.specs.declared.policy.Verdict.TheVariants.{Single, BulkRebias, BulkRevoke}
 use Rattle.lock_policy.specs.Policy.{decided}
+use Rattle.core_world.specs.declared.name.Name.TheVariants.{Class}
 use Rattle.core_world.specs.Locks.{is_valid_bias}
 use Rattle.core_world.specs.RevocationRules.{FoundAfter, words_after, revocation_writes, writes_in}
 use Rattle.core_world.specs.Trees.RevocationSteps.{RevocationOutcome, next_epoch, revoke_at_safepoint_steps}
@@ -14,8 +15,8 @@ use Rattle.core_bias.proofs.BulkRevokes.{revoked_plain}
 use Rattle.core_bias.proofs.Releases.{blank, was_counted}
 use Rattle.core_bias.proofs.RevocationRuns.{answer_of, steps_all, steps_answer, took_by}
 use Rattle.core_bias.proofs.Singles.{single_plain}
-use Rattle.core_bias.proofs.Unseen.{FitsUnseen, unseen}
-use Rattle.core_bias.proofs.Wholes.{biasing_on, by_requester, valid_biased}
+use Rattle.core_bias.proofs.Unseen.{FitsUnseen, unseen, class_stays}
+use Rattle.core_bias.proofs.Wholes.{biasing_on, by_requester, valid_biased, whole_follows}
 
 -- where a mark is validly biased its class has an epoch
 valid_epoch : (f : Option MarkForm) (p : ℕ) → is_valid_bias f p ≡ true → (epoch : ℕ) × (epoch_in p ≡ Some epoch)
@@ -69,8 +70,15 @@ answer_tells w P t e b ms earlier a reached its_revocation since looked path =
         let words : w.words ≡ words_after (revocation_writes w.shape t b f) f = s.words ∙ ap (λ u. words_after (writes_in (w.known u).seen_at_safepoint) f) it ∙ ap (λ xs. words_after xs f) all in
         let answer : a ≡ answer_of w.shape t b f = steps_answer w.shape t e b ms earlier looked a path f valid found in
         let whole = whole_tells s.before P s.requester s.revocation (blank w P s e) s.reached s.biased (was_counted w P s e) (unseen s.before P s.fits) in
-        let here : TellsBias t b.object (class_by w.shape w.words b.object) (answer_of w.shape t b f).took (words_after (revocation_writes w.shape t b f) f) =
+        let here : TellsBias t b.object (class_by w.shape f b.object) (answer_of w.shape t b f).took (words_after (revocation_writes w.shape t b f) f) =
         subst (λ z. TellsBias t z.object (class_by w.shape f z.object) (answer_of w.shape t z f).took (words_after (revocation_writes w.shape t z f) f)) same
         (subst (λ u. TellsBias u s.revocation.object (class_by w.shape f s.revocation.object) (answer_of w.shape u s.revocation f).took (words_after (revocation_writes w.shape u s.revocation f) f)) it
         (subst (λ z. TellsBias s.requester s.revocation.object (class_by z f s.revocation.object) (answer_of z s.requester s.revocation f).took (words_after (revocation_writes z s.requester s.revocation f) f)) (sym shape) whole)) in
-        subst (λ g. TellsBias t b.object (class_by w.shape w.words b.object) a.took g) (sym words) (subst (λ z. TellsBias t b.object (class_by w.shape w.words b.object) z.took (words_after (revocation_writes w.shape t b f) f)) (sym answer) here)
+        let after : words_after (revocation_writes w.shape t b f) f (Class b.object) ≡ f (Class b.object) =
+        (λ i. words_after (revocation_writes (shape i) (sym it i) (sym same i) f) f (Class b.object))
+        ∙ (whole_follows s.before P s.requester s.revocation s.reached s.fits).classes b.object in
+        let class : class_by w.shape w.words b.object ≡ class_by w.shape f b.object =
+        class_stays w.shape f w.words b.object (ap (λ (g : Name → ℕ). g (Class b.object)) words ∙ after) in
+        subst (λ c. TellsBias t b.object c a.took w.words) (sym class)
+        (subst (λ g. TellsBias t b.object (class_by w.shape f b.object) a.took g) (sym words)
+        (subst (λ z. TellsBias t b.object (class_by w.shape f b.object) z.took (words_after (revocation_writes w.shape t b f) f)) (sym answer) here))

@@ -1,6 +1,7 @@
 -- The exchanges of an anonymous or stale mark, whether they hit or miss.
 use Rattle.core_locks.proofs.Prelude.{◌≡◌, ℕ, ◌+◌, ◌*◌, ◌<◌, ◌==◌, eq-eqb, eqb-true, Bool, true, false, if◌then◌else◌, List, Option, Some, None, refl, sym, ap, ◌∙◌, subst, arith, inl, inr, MarkForm, Anonymous, Biased, mark_of, read_mark, read_mark-mark_of, PlainObject, Mark, Prototype, StepPlan, hits, class_by, is_biased, is_biased_form, epoch_in, World, Open, BiasedTo, has_epoch, lock, lock_form, marks, owner_words, prototype_of, inflations, hold_count, Purpose, world_after, Fits, IsValid, IsMark, miss_valid, fits_running, KeepsValid, MayLoad, load_plan}
 use Rattle.std.proofs.Common.{◌%◌}
+use Rattle.core_world.specs.declared.name.Name.TheVariants.{Class}
 use Rattle.core_world.specs.Words.Forms.{epoch_form}
 use Rattle.core_bias.specs.Biasing.{IsLoose, MayExchange, MayRebias, MayUnbias}
 use Rattle.core_world.specs.Trees.BiasSteps.{rebias_plan, unbias_plan}
@@ -21,7 +22,8 @@ module _ (w : World) (P : List PlainObject) (t : ℕ) (e : Purpose) (o mark prot
     -- the prototype is as it was seen
     pub prototype_is : prototype_of w o ≡ prototype
     prototype_is =
-        ap (λ c. w.words (Prototype c)) (class_seen w.shape w.words (w.known t).seen o may.class may.saw_class)
+        ap (λ c. w.words (Prototype c)) (class_seen w.shape w.words (w.known t).seen o may.class
+        (λ m e d. v.seen.stays t (Class o) m e (inl (may.runs, d))) may.saw_class)
         ∙ v.seen.stays t (Prototype may.class) prototype may.saw (inl (may.runs, tt))
 
     loose_now : IsLoose (read_mark (marks w o)) (epoch_in (prototype_of w o))

@@ -1,7 +1,8 @@
 -- The release of a safepoint at which all stores of a revocation were made leads to a world in which every clause holds.
-use Rattle.core_locks.proofs.Prelude.{◌≡◌, ◌≢◌, ◌⊎◌, ℕ, ◌<◌, ◌==◌, ◌++◌, ◌^◌, ◌&&◌, not, eq-eqb, append-nil, Bool, true, false, cond, List, [], ◌∷◌, Some, None, refl, sym, ap, ◌∙◌, subst, inl, inr, pow_below, bit_at-pow_same, read_safe-safe_of, is_thread, PlainObject, Swap, Name, Safepoint, Mark, Waiting, StepPlan, Calm, Takes, word_after, asks_in, runs_in, runs_form, requester_form, is_biased, monitor_in, waits_on, Known, StepMade, last_seen, its_monitor, World, with_word_and_known, with_known, owner_at, waits_at, Purpose, with_stage, swap, reached_word, released_word, world_after, known_hit, known_miss, known_after, kept_by_act, seen_before, only_headers, is_header, Fits, SafepointFits, SeenFit, IsRevoking, headers_are_part, unwaited_fits, with_knowledge, by_equal, each_with_known, with_known_here, with_known_else, stays_back, Counts, Spares, seen_moves, Still}
+use Rattle.core_locks.proofs.Prelude.{◌≡◌, ◌≢◌, ◌⊎◌, ℕ, ◌<◌, ◌==◌, ◌++◌, ◌^◌, ◌&&◌, not, eq-eqb, append-nil, Bool, true, false, cond, List, [], ◌∷◌, Some, None, refl, sym, ap, ◌∙◌, subst, inl, inr, pow_below, bit_at-pow_same, read_safe-safe_of, is_thread, PlainObject, Swap, Name, Safepoint, Mark, Waiting, StepPlan, Calm, Takes, word_after, asks_in, runs_in, runs_form, requester_form, is_biased, monitor_in, waits_on, Known, StepMade, last_seen, its_monitor, World, with_word_and_known, with_known, marks, owner_at, waits_at, Purpose, with_stage, swap, reached_word, released_word, world_after, known_hit, known_miss, known_after, kept_by_act, seen_before, only_headers, is_header, Fits, SafepointFits, SeenFit, IsRevoking, headers_are_part, unwaited_fits, with_knowledge, by_equal, each_with_known, with_known_here, with_known_else, stays_back, Counts, Spares, seen_moves, Still}
 use Rattle.core_world.specs.declared.name.Name.TheVariants as name
 use Rattle.core_world.specs.Threads.Counts.{counts_of}
+use Rattle.core_world.specs.Words.Names.{has_class}
 use Rattle.core_world.specs.Clauses.SeenWords.{AreTheSteps}
 use Rattle.core_world.specs.Trees.BiasSteps.{stage_after}
 use Rattle.core_world.specs.RevocationRules.{words_after, revocation_writes, writes_in}
@@ -18,13 +19,19 @@ use Rattle.core_bias.proofs.Singles.{reached_within}
 abbrev pub CountsOnNone : Known → Type 0
 CountsOnNone k = ((k.seen ≡ []) × (k.seen_at_safepoint ≡ [])) ⊎ ((k.running ≡ false) × (k.requesting ≡ false) × (k.reached ≡ false))
 
-pub none_seen : (w : World) (P : List PlainObject) → ((u : ℕ) → CountsOnNone (w.known u)) → SeenFit w P
-none_seen w P h = record {
+pub none_seen : (w : World) (P : List PlainObject) → ((u : ℕ) → CountsOnNone (w.known u))
+    → ((o : ℕ) → is_biased (marks w o) ≡ true → has_class w.shape w.words o ≡ true) → SeenFit w P
+none_seen w P h classed = record {
   stays = λ u n s e st. elim (h u) [
     | inl a ↦ let none = ap (last_seen n) a.0 in absurd (cc (none, e))
     | inr a ↦ let no_run = a.0 in let no_ask = a.1 in elim st [ inl b ↦ let r = b.0 in absurd (cc (r, no_run)) | inr b ↦ let r = b.0 in absurd (cc (r, no_ask)) ]
   ];
   unbiased = λ u o s e r g. elim (h u) [
+    | inl a ↦ let none = ap (last_seen (Mark o)) a.0 in absurd (cc (none, e))
+    | inr a ↦ let no_run = a.0 in let no_ask = a.1 in elim r [ inl b ↦ absurd (cc (b, no_run)) | inr b ↦ absurd (cc (b, no_ask)) ]
+  ];
+  classed = classed;
+  saw_classed = λ u o s e r g. elim (h u) [
     | inl a ↦ let none = ap (last_seen (Mark o)) a.0 in absurd (cc (none, e))
     | inr a ↦ let no_run = a.0 in let no_ask = a.1 in elim r [ inl b ↦ absurd (cc (b, no_run)) | inr b ↦ absurd (cc (b, no_ask)) ]
   ];
@@ -123,7 +130,7 @@ module _ (w : World) (P : List PlainObject) (s : IsRevoking w P) (e : Purpose) w
     now = subst (λ y. FitsUnseen y P) world_is whole
 
     fits : Fits z P
-    fits = with_seen z P (none_seen z P (λ u. each_with_known (λ u y. CountsOnNone y) r blank w.known u (inl (refl, refl)) (λ d. inr (others_stopped w P r reached s.safe u d)))) now
+    fits = with_seen z P (none_seen z P (λ u. each_with_known (λ u y. CountsOnNone y) r blank w.known u (inl (refl, refl)) (λ d. inr (others_stopped w P r reached s.safe u d))) s.seen.classed) now
 
     abbrev plan : StepPlan
     plan = swap e Safepoint (reached_word r) (released_word r)
@@ -231,6 +238,8 @@ module _ (w : World) (P : List PlainObject) (s : IsRevoking w P) (e : Purpose) w
         owned = λ u o d h. h;
         word = λ u m d st was. elim st [ inl a ↦ absurd a.1 | inr a ↦ absurd a.2 ];
         bias = λ u o s e r h. h;
+        there = λ o h. h;
+        classed = s.seen.classed;
         waits = λ u i o d a h. h;
         unwaited = λ u o d a h. h;
         unreached = λ u. each_with_known (λ u k. k.reached ≡ true → ⊥) r l w.known u
@@ -239,19 +248,21 @@ module _ (w : World) (P : List PlainObject) (s : IsRevoking w P) (e : Purpose) w
         names = λ o m h. h;
       }
 
-      -- only marks and prototypes, as they were seen at the safepoint
+      -- only marks, class words and prototypes, as they were seen at the safepoint
       part : (n : Name) (m : ℕ) → last_seen n (only_headers (w.known r).seen_at_safepoint) ≡ Some m → last_seen n (w.known r).seen_at_safepoint ≡ Some m
       part n m h = (headers_are_part (w.known r).seen_at_safepoint n m h).1
 
       no_monitor : (n : Name) (m : ℕ) → its_monitor n ≡ Some m → is_header n ≡ true → ⊥
       no_monitor (Mark i) m h g = absurd (cc h)
       no_monitor (name.Prototype i) m h g = absurd (cc h)
+      no_monitor (name.Class i) m h g = absurd (cc h)
       no_monitor _ m h g = absurd (cc g)
 
       counts : Counts Safepoint v r l w (owner_at P) (waits_at P) (only_headers (w.known r).seen_at_safepoint)
       counts = record {
         others = λ n m a d st. s.seen.stands r n m reached (part n m a);
         unbiased = λ o m a g h. ap is_biased (s.seen.stands r (Mark o) m reached (part (Mark o) m a)) ∙ g;
+        classed = λ o m a g h. s.seen.classed o (ap is_biased (s.seen.stands r (Mark o) m reached (part (Mark o) m a)) ∙ g);
         unwaiting = λ u o m a g h i. ap (λ b. waits_on b o) (s.seen.stands r (Waiting u) m reached (part (Waiting u) m a)) ∙ h;
         unwaited = λ o m a g h i. unwaited_fits z P fits o (ap monitor_in (s.seen.stands r (Mark o) m reached (part (Mark o) m a)) ∙ i);
         idle = λ o a g h i. absurd (cc a);

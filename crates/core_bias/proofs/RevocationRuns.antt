@@ -1,20 +1,24 @@
 -- The steps of a revocation make the stores that its rules list, by the words that they find.
-use Rattle.core_locks.proofs.Prelude.{◌≡◌, ℕ, zero, suc, ◌+◌, ◌<◌, ◌==◌, ◌&&◌, ◌++◌, append-nil, add-zero, zero-add, eq-eqb, not, is_none, Bool, true, false, cond, if◌then◌else◌, List, [], ◌∷◌, Option, Some, None, refl, sym, ap, ◌∙◌, subst, arith, MarkForm, Neutral, Anonymous, Biased, mark_of, read_mark, read_hold, read_mark-mark_of, Store, Name, Mark, Hold, Prototype, Revocations, LastBulk, StepPlan, Shape, class_by, with_word, is_biased, epoch_in, StepMade, Purpose}
+use Rattle.core_locks.proofs.Prelude.{◌≡◌, ℕ, zero, suc, ◌+◌, ◌<◌, ◌==◌, ◌&&◌, ◌++◌, append-nil, add-zero, zero-add, eq-eqb, nat_lt, ◌-◌, not, is_none, Bool, true, false, cond, if◌then◌else◌, List, [], ◌∷◌, Option, Some, None, refl, sym, ap, ◌∙◌, subst, arith, MarkForm, Neutral, Anonymous, Biased, mark_of, read_mark, read_hold, read_mark-mark_of, Store, Name, Mark, Hold, Prototype, Revocations, LastBulk, Calm, StepPlan, Shape, class_by, with_word, is_biased, epoch_in, StepMade, Purpose}
 use Rattle.std.proofs.Common.{◌%◌, append_assoc}
 use Rattle.plain_monitor.specs.Limits.{most_holds}
 use Rattle.lock_policy.specs.declared.policy.Verdict.{Verdict}
 use Rattle.lock_policy.specs.declared.policy.Verdict.TheVariants.{Single, BulkRebias, BulkRevoke}
 use Rattle.lock_policy.specs.Policy.{decided}
+use Rattle.core_world.specs.declared.name.Name.TheVariants.{Class}
 use Rattle.core_world.specs.Words.Forms.{epoch_form}
+use Rattle.core_world.specs.Words.Shape.{class_of}
+use Rattle.core_world.specs.Locks.{is_valid_bias}
 use Rattle.core_world.specs.Threads.Stages.{Revocation}
 use Rattle.core_world.specs.declared.stage.Stage.{Stage}
 use Rattle.core_world.specs.RevocationRules.{Write, write, words_after, write_by, writes_in, FoundAfter, Rule, in_turn, each_below, words_from, holds_in, revoke_biased, revoke_form, revoke, raised_form, raise_epoch, with_epoch, store_where, renew, object_held, on_held, on_records, biased_word, take_bias, verdict_rules, revocation_writes}
 use Rattle.core_world.specs.Trees.RevocationSteps.{revocation_stage, look, store_steps, revoke_at, revoke_steps, visit_held, walk_steps, take_bias_steps, next_epoch, bulk_revoke_steps, verdict_steps, decided_steps, RevocationOutcome, revoke_at_safepoint_steps}
-use Rattle.core_world.specs.Trees.Plans.{class_steps}
-use Rattle.core_world.specs.Trees.Todo.{Todo, done, never, step, ◌>>=◌, each_from, all_from}
+use Rattle.core_world.specs.Trees.Plans.{class_steps, load_plan, load}
+use Rattle.core_world.specs.Trees.Todo.{Todo, done, never, step, ask, ◌>>=◌, each_from, all_from}
 use Rattle.core_bias.specs.Revoking.{AreAllStores, IsBiasedToOne, IsNextStore, Leads}
 use Rattle.core_bias.proofs.BlindRules.{blind_revoke, classless_stays}
 use Rattle.core_bias.proofs.Revokes.{stored_append}
+use Rattle.core_bias.proofs.Unseen.{class_stays}
 
 -- carried out alone on the words f, the steps make these stores and come to this answer
 abbrev pub Runs : {A : Type 0} → Todo A → (Name → ℕ) → List Write → A → Type 0
@@ -66,7 +70,12 @@ module _ (e : Purpose) (b : Revocation) where
 
   -- the class that is found is that by the words
   run_class : (stage : Stage) (s : Shape) (o : ℕ) (f : Name → ℕ) → Runs (class_steps e stage s o) f [] (class_by s f o)
-  run_class stage s o f = (refl, refl)
+  run_class stage s o f = by_test (nat_lt o s.declared)
+    where
+      by_test : (a : Bool) → Runs (cond a (done (class_of s o)) (step (load_plan e stage (Class o)) (λ word. done (word - 1)))) f []
+          (cond a (class_of s o) (f (Class o) - 1))
+      by_test true = (refl, refl)
+      by_test false = ([], refl, (refl, refl))
 
   run_stores : (xs : List Write) (f : Name → ℕ) → Runs (store_steps e b xs) f xs tt
   run_stores [] f = (refl, refl)
@@ -176,27 +185,33 @@ module _ (e : Purpose) (b : Revocation) where
     abbrev Epoch : Option ℕ → (Name → ℕ) → Type 0
     Epoch a f = epoch_in (f (Prototype c)) ≡ a
 
-    run_raise : (f : Name → ℕ) → Epoch epoch f → Runs (store_steps e b (raised_form epoch c)) f (raise_epoch c f) tt × Epoch (next_epoch epoch) (words_after (raise_epoch c f) f)
-    run_raise f h = subst (λ a. Runs (store_steps e b (raised_form epoch c)) f (raised_form a c) tt × Epoch (next_epoch epoch) (words_after (raised_form a c) f)) (sym h) (run_stores (raised_form epoch c) f, by_epoch epoch h)
+    abbrev Classed : (Name → ℕ) → Type 0
+    Classed f = (o : ℕ) → f (Class o) ≡ start (Class o)
+
+    abbrev At : Option ℕ → (Name → ℕ) → Type 0
+    At a f = Epoch a f × Classed f
+
+    run_raise : (f : Name → ℕ) → At epoch f → Runs (store_steps e b (raised_form epoch c)) f (raise_epoch c f) tt × At (next_epoch epoch) (words_after (raise_epoch c f) f)
+    run_raise f h = subst (λ a. Runs (store_steps e b (raised_form epoch c)) f (raised_form a c) tt × At (next_epoch epoch) (words_after (raised_form a c) f)) (sym h.0) (run_stores (raised_form epoch c) f, by_epoch epoch h)
       where
-        by_epoch : (a : Option ℕ) → Epoch a f → Epoch (next_epoch a) (words_after (raised_form a c) f)
+        by_epoch : (a : Option ℕ) → At a f → At (next_epoch a) (words_after (raised_form a c) f)
         by_epoch None h = h
         by_epoch (Some i) h =
             let low : (i + 1) % 4 < 4 = omega arith in
             let young : 0 < 16 = omega arith in
-            ap (λ z. epoch_in (cond z (mark_of (Anonymous ((i + 1) % 4) 0)) (f (Prototype c)))) (eq-eqb c c refl) ∙ ap epoch_form (read_mark-mark_of (Anonymous ((i + 1) % 4) 0) (low, young))
+            (ap (λ z. epoch_in (cond z (mark_of (Anonymous ((i + 1) % 4) 0)) (f (Prototype c)))) (eq-eqb c c refl) ∙ ap epoch_form (read_mark-mark_of (Anonymous ((i + 1) % 4) 0) (low, young)), h.1)
 
     -- the visit of a held object in a bulk rebias
     abbrev renewing : ℕ → ℕ → Todo (Unit {0})
     renewing o mark = store_steps e b (store_where (Mark o) (with_epoch (read_mark mark) (next_epoch epoch)))
 
-    run_renew : (o : ℕ) (f : Name → ℕ) → Epoch (next_epoch epoch) f → Runs (renewing o (f (Mark o))) f (renew c o f) tt × Epoch (next_epoch epoch) (words_after (renew c o f) f)
+    run_renew : (o : ℕ) (f : Name → ℕ) → At (next_epoch epoch) f → Runs (renewing o (f (Mark o))) f (renew c o f) tt × At (next_epoch epoch) (words_after (renew c o f) f)
     run_renew o f h = (
-      subst (λ a. Runs (renewing o (f (Mark o))) f (store_where (Mark o) (with_epoch (read_mark (f (Mark o))) a)) tt) (sym h) (run_stores (store_where (Mark o) (with_epoch (read_mark (f (Mark o))) (next_epoch epoch))) f),
+      subst (λ a. Runs (renewing o (f (Mark o))) f (store_where (Mark o) (with_epoch (read_mark (f (Mark o))) a)) tt) (sym h.0) (run_stores (store_where (Mark o) (with_epoch (read_mark (f (Mark o))) (next_epoch epoch))) f),
       by_word (with_epoch (read_mark (f (Mark o))) (epoch_in (f (Prototype c)))),
     )
       where
-        by_word : (a : Option ℕ) → Epoch (next_epoch epoch) (words_after (store_where (Mark o) a) f)
+        by_word : (a : Option ℕ) → At (next_epoch epoch) (words_after (store_where (Mark o) a) f)
         by_word None = h
         by_word (Some m) = h
 
@@ -223,20 +238,20 @@ module _ (e : Purpose) (b : Revocation) where
         taking true g h = run_last (take_bias_steps e b (next_epoch epoch) t) g (take_bias c b.object t g) (takes_by b t (next_epoch epoch) g) (run_take g h)
         taking false g h = (refl, refl)
 
-    run_verdict : (d : Verdict) (f : Name → ℕ) → Epoch epoch f → Runs (verdict_steps s t c e b epoch d) f (in_turn (verdict_rules s class t c b d) f) (took_by s class t c b (next_epoch epoch) d f)
+    run_verdict : (d : Verdict) (f : Name → ℕ) → At epoch f → Runs (verdict_steps s t c e b epoch d) f (in_turn (verdict_rules s class t c b d) f) (took_by s class t c b (next_epoch epoch) d f)
     run_verdict Single f h = run_bind (revoke_steps e b b.object false) (λ _. done false) f (revoke b.object false f) [] tt false (run_revoke b.object false f) (refl, refl)
     run_verdict BulkRebias f h =
         let f1 = with_word (LastBulk c) b.now f in
         let raised = run_raise f1 h in
         let f2 = words_after (raise_epoch c f1) f1 in
-        let walked = run_walk (Epoch (next_epoch epoch)) s class c renewing (renew c) (λ f v o. refl) run_renew f2 raised.1 in
+        let walked = run_walk (At (next_epoch epoch)) s class c renewing (renew c) (λ f v o. class_stays s start f o (v.1 o)) run_renew f2 raised.1 in
         let f3 = words_after (on_records s class c (renew c) f2) f2 in
         let rest = in_turn (revoke b.object b.rebias ∷ (if b.rebias then take_bias c b.object t ∷ [] else [])) in
         let ending : Todo Bool = revoke_steps e b b.object b.rebias >>= λ _. cond b.rebias (take_bias_steps e b (next_epoch epoch) t) (done false) in
         let walking : Todo Bool = walk_steps s c e b renewing >>= λ _. ending in
         let raising : Todo Bool = store_steps e b (raised_form epoch c) >>= λ _. walking in
         let took = cond b.rebias (takes_by b t (next_epoch epoch) (words_after (revoke b.object b.rebias f3) f3)) false in
-        let three : Runs walking f2 (on_records s class c (renew c) f2 ++ rest f3) took = run_bind (walk_steps s c e b renewing) (λ _. ending) f2 (on_records s class c (renew c) f2) (rest f3) tt took walked.0 (run_end b.rebias f3 walked.1) in
+        let three : Runs walking f2 (on_records s class c (renew c) f2 ++ rest f3) took = run_bind (walk_steps s c e b renewing) (λ _. ending) f2 (on_records s class c (renew c) f2) (rest f3) tt took walked.0 (run_end b.rebias f3 walked.1.0) in
         let two : Runs raising f1 (raise_epoch c f1 ++ (on_records s class c (renew c) f2 ++ rest f3)) took =
         run_bind (store_steps e b (raised_form epoch c)) (λ _. walking) f1 (raise_epoch c f1) (on_records s class c (renew c) f2 ++ rest f3) tt took raised.0 three in
         run_bind (store_steps e b (write (LastBulk c) b.now ∷ [])) (λ _. raising) f (write (LastBulk c) b.now ∷ []) (raise_epoch c f1 ++ (on_records s class c (renew c) f2 ++ rest f3)) tt took (run_stores (write (LastBulk c) b.now ∷ []) f) two
@@ -245,7 +260,12 @@ module _ (e : Purpose) (b : Revocation) where
         let f2 = with_word (Prototype c) (mark_of (Neutral 0 0)) f1 in
         let walk = on_records s class c (λ o. revoke o false) in
         let visit : ℕ → ℕ → Todo (Unit {0}) = λ o mark. revoke_at (read_mark mark) e b o false in
-        let walked = run_walk (λ f. Unit {0}) s class c visit (λ o. revoke o false) (λ f v o. refl) (λ o f u. (run_revoke_at o false (read_mark (f (Mark o))) f, tt)) f2 tt in
+        let walked = run_walk Classed s class c visit (λ o. revoke o false) (λ f v o. class_stays s start f o (v o))
+        (λ o f v. (
+          run_revoke_at o false (read_mark (f (Mark o))) f,
+          λ i. classless_stays (revoke o false f) f (Class i)
+              ((blind_revoke o false).stores f) refl ∙ v i,
+        )) f2 h.1 in
         let f3 = words_after (walk f2) f2 in
         let ending : Todo Bool = revoke_steps e b b.object false >>= λ _. done false in
         let revoking : Todo (Unit {0}) = revoke_steps e b b.object false in
@@ -284,11 +304,18 @@ revocation_runs s t e b f valid =
     let end : Runs (done answer) (words_after others f1) [] answer = (refl, refl) in
     let verdict : Runs (verdict_steps s t c e b (epoch_in (f (Prototype c))) d.0 >>= λ took. done (record { verdict = d.0; took = took })) f1 (others ++ []) answer =
     run_bind (verdict_steps s t c e b (epoch_in (f (Prototype c))) d.0) (λ took. done (record { verdict = d.0; took = took })) f1 others [] answer.took answer
-    (run_verdict e b s f t c (epoch_in (f (Prototype c))) d.0 f1 refl) end in
+    (run_verdict e b s f t c (epoch_in (f (Prototype c))) d.0 f1 (refl, λ o. refl)) end in
     let steps : Todo RevocationOutcome = decided_steps s t c e b (epoch_in (f (Prototype c))) (f (Revocations c)) (f (LastBulk c)) in
     let counted : Runs steps f all answer =
     (others, refl, subst (λ zs. Runs (verdict_steps s t c e b (epoch_in (f (Prototype c))) d.0 >>= λ took. done (record { verdict = d.0; took = took })) f1 zs answer) (append-nil others) verdict) in
-    (all, refl, (all, refl, (all, refl, (all, refl, subst (λ z. Runs (cond z steps never) f all answer) (sym valid) counted))))
+    let behind : ℕ → Todo RevocationOutcome =
+    λ i. ask (load e (Prototype i)) >>= λ prototype. ask (load e (Revocations i)) >>= λ count. ask (load e (LastBulk i)) >>= λ last.
+    cond (is_valid_bias (read_mark (f (Mark b.object))) prototype) (decided_steps s t i e b (epoch_in prototype) count last) never in (
+      all,
+      refl,
+      run_bind (class_steps e Calm s b.object) behind f [] all c answer (run_class e b Calm s b.object f)
+          (all, refl, (all, refl, (all, refl, subst (λ z. Runs (cond z steps never) f all answer) (sym valid) counted))),
+    )
 
 -- steps that stored nothing went before
 unwritten_before : (ms earlier : List StepMade) → writes_in earlier ≡ [] → writes_in (ms ++ earlier) ≡ writes_in ms

@@ -1,12 +1,13 @@
 -- The revocation of one object's bias as a whole keeps all clauses but that of what was seen.
 use Rattle.plain_monitor.specs.Limits.{most_holds}
 use Rattle.core_locks.proofs.Prelude.{◌≡◌, ◌≢◌, ℕ, ◌<◌, ◌≤◌, ◌==◌, ◌++◌, nat_lt, eq-eqb, ne_eqb, eqb-true, Bool, true, false, cond, if◌then◌else◌, List, [], ◌∷◌, length, slice_index, Option, Some, None, refl, sym, ap, ◌∙◌, subst, arith, zero-add, nat_tests, MarkForm, Anonymous, Biased, Locked, mark_of, read_mark, PlainObject, Name, Prototype, Mark, Displaced, Owner, class_by, with_word, is_biased, is_biased_form, hash_in, monitor_form, epoch_in, hold_word, one_if, World, Open, BiasedTo, OnRecord, has_epoch, lock, lock_form, header_form, holder, who, marks, displaced_words, headers, owner_words, prototype_of, inflations, hold_count, depth_count, IsMark, by_equal, hold_some, one_named}
+use Rattle.core_world.specs.declared.name.Name.TheVariants.{Class}
 use Rattle.core_world.specs.RevocationRules.{Write, write, words_after, record_writes, first_place, revoke_biased, revoke_form, revoke}
 use Rattle.core_world.proofs.Readings.{mark_one}
 use Rattle.core_locks.proofs.HoldCounts.{index_past}
 use Rattle.core_locks.proofs.MarkMeanings.{locked_read, locked_some, locked_bare}
 use Rattle.core_locks.proofs.Clauses as clause
-use Rattle.core_bias.proofs.Unseen.{FitsUnseen, with_words, set_mark}
+use Rattle.core_bias.proofs.Unseen.{FitsUnseen, with_words, set_mark, class_stays}
 use Rattle.core_bias.proofs.MarkTurns.{AllCalm, MarkTurns, mark_turned}
 use Rattle.core_bias.proofs.DisplacedTurns.{stored_names}
 use Rattle.core_bias.proofs.Places.{displaced_word, holds_are, placed, alone, record_other, record_here}
@@ -162,7 +163,9 @@ module _ (w : World) (P : List PlainObject) (o : ℕ) (calm : AllCalm w) (v : Fi
       where
         lock_same : lock y o ≡ BiasedTo t
         lock_same =
-            let proto : prototype_of y o ≡ prototype_of w o = record_other o t hs 0 w.words (Prototype (class_by w.shape w.words o)) (λ i. refl) in
+            let class = class_stays w.shape w.words f o (record_other o t hs 0 w.words (Class o) (λ i. refl)) in
+            let proto : prototype_of y o ≡ prototype_of w o =
+            ap (λ c. f (Prototype c)) class ∙ record_other o t hs 0 w.words (Prototype (class_by w.shape w.words o)) (λ i. refl) in
             let owners : (i : ℕ) → owner_words y i ≡ owner_words w i = λ i. record_other o t hs 0 w.words (Owner i) (λ i. refl) in
             (λ j. lock_form (read_mark (mark_same j)) (proto j) (λ i. owners i j) (inflations w o)) ∙ leans
 

@@ -1,5 +1,5 @@
 -- A store of a revocation: the first one leads from a world in which every clause holds into the revocation, and each other one goes on there.
-use Rattle.core_locks.proofs.Prelude.{◌≡◌, ◌≢◌, ◌⊎◌, ℕ, ◌<◌, ◌≤◌, ◌++◌, nat_lt, Bool, true, false, cond, List, [], ◌∷◌, length, Some, None, refl, sym, ap, ◌∙◌, subst, arith, inl, inr, same_Some, nat_tests, read_mark, PlainObject, Store, Name, Safepoint, Mark, Prototype, Revocations, LastBulk, Waiting, StepPlan, Shape, class_by, same_name, with_word, is_biased, hold_word, revocation_in, one_if, Known, StepMade, last_seen, World, with_word_and_known, with_known, marks, owner_at, hold_count, depth_count, Purpose, SafepointIsKnown, ends, Stays, IsKeptOrNamed, world_after, known_hit, seen_before, runs_after, asks_after, reached_after, halted_after, kept_by_act, seen_at_safepoint_before, Fits, SeenFit, FormsFit, SafepointFits, IsRevoking, WordsHaveForms, IsMark, seen_is_part, frame5, frame8, each_with_known, with_known_here, with_known_else, part_moves, IsPart, Calm}
+use Rattle.core_locks.proofs.Prelude.{◌≡◌, ◌≢◌, ◌⊎◌, ℕ, ◌<◌, ◌≤◌, ◌++◌, ◌==◌, ◌||◌, not, nat_lt, Bool, true, false, cond, List, [], ◌∷◌, length, Some, None, refl, sym, ap, ◌∙◌, subst, arith, inl, inr, same_Some, nat_tests, read_mark, PlainObject, Store, Name, Safepoint, Mark, Prototype, Revocations, LastBulk, Waiting, StepPlan, Shape, class_by, same_name, with_word, is_biased, hold_word, revocation_in, one_if, Known, StepMade, last_seen, World, with_word_and_known, with_known, marks, owner_at, hold_count, depth_count, Purpose, SafepointIsKnown, ends, Stays, IsKeptOrNamed, world_after, known_hit, seen_before, runs_after, asks_after, reached_after, halted_after, kept_by_act, seen_at_safepoint_before, Fits, SeenFit, FormsFit, SafepointFits, IsRevoking, WordsHaveForms, IsMark, seen_is_part, frame6, frame8, each_with_known, with_known_here, with_known_else, part_moves, IsPart, Calm}
 use Rattle.std.proofs.Common.{append_assoc}
 use Rattle.plain_monitor.specs.Limits.{most_threads, most_holds}
 use Rattle.lock_policy.specs.declared.policy.Verdict.{Verdict}
@@ -10,6 +10,7 @@ use Rattle.core_world.specs.declared.plan.Own.TheVariants as own
 use Rattle.core_world.specs.declared.task.Op.{Op}
 use Rattle.core_world.specs.Threads.Counts.{with_verdict_counted}
 use Rattle.core_world.specs.Threads.Stages.{Revocation}
+use Rattle.core_world.specs.Words.Names.{has_class}
 use Rattle.core_world.specs.Locks.{is_valid_bias}
 use Rattle.core_world.specs.Clauses.SeenWords.{HasMet, AreTheSteps}
 use Rattle.core_world.specs.RevocationRules.{Write, write, words_after, revocation_writes, holds_in, first_place, writes_in, FoundAfter}
@@ -160,6 +161,11 @@ module _ (w : World) (P : List PlainObject) (r : ℕ) (b : Revocation) (g : Goin
     unbiased = λ u i m. each_with_known (λ u y. last_seen (Mark i) y.seen ≡ Some m → (y.running ≡ true) ⊎ (y.requesting ≡ true) → is_biased m ≡ false → is_biased (marks x i) ≡ false) r l w.known u
         (λ h a c. mark_case i m c (same_name (Mark i) at) (ap (last_seen (Mark i)) (sym leaves.seen) ∙ h))
         (λ d h a c. elim a [ inl z ↦ let no = stopped u in absurd (cc (z, no)) | inr z ↦ absurd (no_other u d z) ]);
+    classed = λ i e. there i (follows_now.leaning i e);
+    saw_classed = λ u i m. each_with_known (λ u y. last_seen (Mark i) y.seen ≡ Some m → (y.running ≡ true) ⊎ (y.requesting ≡ true) → is_biased m ≡ true
+        → has_class w.shape x.words i ≡ true) r l w.known u
+        (λ h a c. saw_there i m c (same_name (Mark i) at) refl (ap (last_seen (Mark i)) (sym leaves.seen) ∙ h))
+        (λ d h a c. elim a [ inl z ↦ let no = stopped u in absurd (cc (z, no)) | inr z ↦ absurd (no_other u d z) ]);
     unwaiting = λ u y i m h a. absurd (stopped_now u a);
     unwaited = λ u i m h a. absurd (stopped_now u a);
     stands = λ u n m. each_with_known (λ u y. y.reached ≡ true → last_seen n y.seen_at_safepoint ≡ Some m → x.words n ≡ m) r l w.known u
@@ -176,14 +182,26 @@ module _ (w : World) (P : List PlainObject) (r : ℕ) (b : Revocation) (g : Goin
       mark_case i m plain true h = ap is_biased (same_Some _ _ h) ∙ plain
       mark_case i m plain false h = g.seen.unbiased r i m (leaves.part (Mark i) m h) (inr asks) plain
 
+      -- what had the bias pattern before the first store is there
+      there : (i : ℕ) → is_biased (marks g.before i) ≡ true → has_class w.shape x.words i ≡ true
+      there i e = ap (λ n. nat_lt i w.shape.declared || not (n == 0)) (follows_now.classes i) ∙ ap (λ s. has_class s g.before.words i) g.shape
+          ∙ g.fits.seen.classed i e
+
+      saw_there : (i m : ℕ) → is_biased m ≡ true → (c : Bool) → same_name (Mark i) at ≡ c → cond c (Some word) (last_seen (Mark i) leaves.old) ≡ Some m
+          → has_class w.shape x.words i ≡ true
+      saw_there i m e true s h = there i (follows_now.leaning i (ap (λ c. is_biased (cond c word (w.words (Mark i)))) s ∙ ap is_biased (same_Some _ _ h) ∙ e))
+      saw_there i m e false s h =
+          ap (λ n. nat_lt i w.shape.declared || not (n == 0)) (other_words_same (name.Class i) at word w.words its_revocation refl)
+          ∙ g.seen.saw_classed r i m (leaves.part (Mark i) m h) (inr asks) e
+
   -- each word of another kind is as it was
   kept_word : (n : Name) → is_revocation_word n ≡ false → w.words n ≡ x.words n
   kept_word n h = sym (other_words_same n at word w.words its_revocation h)
 
   forms_law : FormsFit x
   forms_law =
-      frame5 (WordsHaveForms w.shape (marks x)) (λ i. λ m. kept_word (name.Owner m) refl i) (λ i. λ t. kept_word (name.Waiting t) refl i) (λ i. λ m. kept_word (name.Object m) refl i)
-      (λ i. λ t p. kept_word (name.Hold t p) refl i) (kept_word Safepoint refl)
+      frame6 (WordsHaveForms w.shape (marks x)) (λ i. λ m. kept_word (name.Owner m) refl i) (λ i. λ t. kept_word (name.Waiting t) refl i) (λ i. λ m. kept_word (name.Object m) refl i)
+      (λ i. λ o. kept_word (name.Class o) refl i) (λ i. λ t p. kept_word (name.Hold t p) refl i) (kept_word Safepoint refl)
       (record {
         marks = follows_now.forms;
         owners = g.forms.owners;
@@ -191,6 +209,7 @@ module _ (w : World) (P : List PlainObject) (r : ℕ) (b : Revocation) (g : Goin
         objects = g.forms.objects;
         holds = g.forms.holds;
         safepoint = g.forms.safepoint;
+        classes = g.forms.classes;
       })
 
   safe_law : SafepointFits x P
@@ -305,7 +324,8 @@ module _ (w : World) (P : List PlainObject) (e : Purpose) (b : Revocation) (at :
       let threads : w.shape.threads ≤ most_threads = subst (λ (s : Shape). s.threads ≤ most_threads) (sym g.shape) g.fits.limits.threads in
       let all = good_writes w.shape g.before.words threads (first_below g.before P g.fits) r b within forms in
       let parts = good_next w.shape g.before.words (writes_in (w.known r).seen_at_safepoint) rest (write at word) (subst (AreGood w.shape g.before.words) (sym writes) all) in
-      let first : Follows w.shape g.before.words g.before.words = record { forms = forms; names = λ o. refl; holds = λ t p. refl } in
+      let first : Follows w.shape g.before.words g.before.words =
+      record { forms = forms; names = λ o. refl; leaning = λ o e. e; holds = λ t p. refl; classes = λ o. refl } in
       (parts.1, subst (Follows w.shape g.before.words) (sym g.words) (follow w.shape g.before.words (writes_in (w.known r).seen_at_safepoint) g.before.words parts.0 first))
 
   abbrev plan : Own → StepPlan
@@ -333,7 +353,8 @@ module _ (w : World) (P : List PlainObject) (e : Purpose) (b : Revocation) (at :
       → RevokesSince (world_after (plan (own.CountVerdict class verdict reset)) r w) P w
   first_store r class verdict reset within may v =
       let c = class_by w.shape w.words b.object in
-      let is : c ≡ class = class_seen w.shape w.words (w.known r).seen_at_safepoint b.object class may.saw_class in
+      let is : c ≡ class = class_seen w.shape w.words (w.known r).seen_at_safepoint b.object class
+      (λ m e d. v.seen.stands r (name.Class b.object) m may.reached e) may.saw_class in
       let stands = λ (n : Name) (m : ℕ). v.seen.stands r n m may.reached in
       let saw = may.biased in
       let prototype : w.words (Prototype c) ≡ saw.1 = ap (λ z. w.words (Prototype z)) is ∙ stands (Prototype class) saw.1 saw.3 in

@@ -1,6 +1,7 @@
 -- A thread at its reached safepoint that stands in the middle of nothing comes to stand in that of taking an object under a bias: no clause says
 -- more of it there. So a load that ends a revocation may leave its thread there, and a deflation may follow before the release.
 use Rattle.core_locks.proofs.Prelude.{◌≡◌, ◌⊎◌, ◌||◌, ℕ, ◌+◌, ◌<◌, true, false, List, Some, None, refl, sym, ap, ◌∙◌, subst, inl, inr, PlainObject, Name, Mark, Recursions, Calm, Takes, Waits, Resumes, TakesOver, Seizes, Grabs, is_biased, inflation_in, revocation_in, recursions_ahead, recursions_behind, Known, last_seen, World, with_known, OwnedBy, lock, displaced_words, recursion_count, owner_at, waits_at, notified_at, Stays, RecursionsFit, Fits, SeenFit, with_knowledge, each_with_known, with_known_here, header_stays, IsQuiet, IsValid, Purpose, StepPlan, load, load_plan, world_after, known_hit}
+use Rattle.core_world.specs.Words.Names.{has_class}
 use Rattle.core_world.specs.Clauses.SeenWords.{AreTheSteps}
 use Rattle.core_locks.proofs.Clauses.{kept_parts, parts_stand, AllHold}
 use Rattle.core_locks.proofs.Clauses as clause
@@ -72,6 +73,10 @@ module _ (w : World) (P : List PlainObject) (t o : ℕ) (l : Known) (within : t 
         (λ d h st. elim st [ inl a ↦ (let no = stopped u in let yes = a.0 in absurd (cc (yes, no))) | inr a ↦ v.seen.stays u n s h (inr (a.0, a.1, a.2)) ]);
     unbiased = λ u i s. each_with_known (λ u y. last_seen (Mark i) y.seen ≡ Some s → (y.running ≡ true) ⊎ (y.requesting ≡ true) → is_biased s ≡ false → is_biased (w.words (Mark i)) ≡ false) t l w.known u
         (λ h r. v.seen.unbiased t i s (sym (only.seen (Mark i)) ∙ h) (inr (v.safe.safepoint t reached).0)) (λ d. v.seen.unbiased u i s);
+    classed = v.seen.classed;
+    saw_classed = λ u i s. each_with_known (λ u y. last_seen (Mark i) y.seen ≡ Some s → (y.running ≡ true) ⊎ (y.requesting ≡ true) → is_biased s ≡ true
+        → has_class w.shape w.words i ≡ true) t l w.known u
+        (λ h r. v.seen.saw_classed t i s (sym (only.seen (Mark i)) ∙ h) (inr (v.safe.safepoint t reached).0)) (λ d. v.seen.saw_classed u i s);
     unwaiting = λ u y i s e r. absurd (nobody u r);
     unwaited = λ u i s e r. absurd (nobody u r);
     stands = λ u n s. each_with_known (λ u y. y.reached ≡ true → last_seen n y.seen_at_safepoint ≡ Some s → w.words n ≡ s) t l w.known u (λ r h. v.seen.stands t n s reached (sym (only.there n) ∙ h)) (λ d. v.seen.stands u n s);

@@ -1,6 +1,8 @@
 -- The clauses of a valid world but that of what was seen: a revocation as a whole keeps these, whatever its thread saw meanwhile. Some of the
 -- stores in its middle break them.
-use Rattle.core_locks.proofs.Prelude.{ℕ, List, PlainObject, Name, Prototype, Revocations, LastBulk, Mark, Displaced, with_word, World, Fits, SeenFit}
+use Rattle.core_locks.proofs.Prelude.{◌≡◌, ℕ, ◌-◌, nat_lt, cond, ap, class_by, Shape, List, PlainObject, Name, Prototype, Revocations, LastBulk, Mark, Displaced, with_word, World, Fits, SeenFit}
+use Rattle.core_world.specs.declared.name.Name.TheVariants.{Class}
+use Rattle.core_world.specs.Words.Shape.{class_of}
 use Rattle.core_locks.proofs.Clauses.{Parts, parts_of, Clause, Holds, clauses, fits}
 use Rattle.core_locks.proofs.Clauses as clause
 
@@ -43,6 +45,10 @@ classed w P v classes c = v c
 -- the world with these words
 abbrev pub with_words : (Name → ℕ) → World → World
 with_words f w = record { shape = w.shape; start = w.start; biasing = w.biasing; words = f; known = w.known }
+
+-- an object has the same class by words among which its class word is the same
+pub class_stays : (s : Shape) (f g : Name → ℕ) (o : ℕ) → g (Class o) ≡ f (Class o) → class_by s g o ≡ class_by s f o
+class_stays s f g o h = ap (λ n. cond (nat_lt o s.declared) (class_of s o) (n - 1)) h
 
 -- the world in which the mark of o is m, and in which a displaced word is d
 abbrev pub set_mark : ℕ → ℕ → World → World

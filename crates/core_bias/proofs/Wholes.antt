@@ -1,20 +1,22 @@
 -- A revocation as a whole, whatever its verdict, and the release after it.
-use Rattle.core_locks.proofs.Prelude.{◌≡◌, ℕ, ◌<◌, ◌++◌, Bool, true, false, List, [], ◌∷◌, Option, Some, refl, sym, ap, ◌∙◌, subst, inl, inr, MarkForm, Biased, read_mark, PlainObject, Name, Revocations, LastBulk, class_by, is_biased, is_biased_form, revocation_in, Known, World, marks, prototype_of, Purpose, world_after, Fits, IsRevoking, IsValid, each_with_known, KeepsValid}
+use Rattle.core_locks.proofs.Prelude.{◌≡◌, ℕ, ◌<◌, ◌==◌, ◌||◌, ◌++◌, not, nat_lt, Bool, true, false, List, [], ◌∷◌, Option, Some, refl, sym, ap, ◌∙◌, subst, inl, inr, MarkForm, Biased, read_mark, PlainObject, Name, Revocations, LastBulk, class_by, is_biased, is_biased_form, revocation_in, Known, World, marks, prototype_of, Purpose, world_after, Fits, IsRevoking, IsValid, each_with_known, KeepsValid}
 use Rattle.lock_policy.specs.declared.policy.Verdict.{Verdict}
 use Rattle.lock_policy.specs.declared.policy.Verdict.TheVariants.{Single, BulkRebias, BulkRevoke}
 use Rattle.lock_policy.specs.Policy.{decided}
 use Rattle.core_world.specs.declared.plan.Own.TheVariants as own
 use Rattle.core_world.specs.Threads.Stages.{Revocation}
+use Rattle.core_world.specs.Words.Names.{has_class}
 use Rattle.core_world.specs.Locks.{is_valid_bias}
-use Rattle.core_world.specs.RevocationRules.{Write, revocation_writes, writes_in}
+use Rattle.core_world.specs.RevocationRules.{Write, words_after, revocation_writes, writes_in}
 use Rattle.core_world.specs.Valid.{RevokesSince}
 use Rattle.core_world.proofs.NoWordChanges.{one_requester}
 use Rattle.core_locks.proofs.Clauses as clause
 use Rattle.core_bias.specs.Revoking.{MayBeginRevoking, MayGoOnRevoking, MayStore, MayEndRevoking, HasCounted, IsBiasedToOne, revoked_world}
+use Rattle.core_bias.proofs.GoodWrites.{Follows, follow, good_writes}
 use Rattle.core_bias.proofs.Unseen.{FitsUnseen}
 use Rattle.core_bias.proofs.Singles.{single_fits, reached_within}
 use Rattle.core_locks.proofs.SafeFacts.{fits_calm}
-use Rattle.core_bias.proofs.Stores.{first_store, middle_store}
+use Rattle.core_bias.proofs.Stores.{first_below, first_store, middle_store}
 use Rattle.core_bias.proofs.BulkRevokes.{revoked_fits}
 use Rattle.core_bias.proofs.BulkRebiases.{rebiased_fits}
 use Rattle.core_bias.proofs.Unseen.{unseen, with_seen}
@@ -52,13 +54,28 @@ pub valid_biased : (f : Option MarkForm) (p : ℕ) → is_valid_bias f p ≡ tru
 valid_biased (Some (Biased t epoch age)) p e = refl
 valid_biased _ p e = absurd (cc e)
 
+-- the stores of a revocation give no mark the bias pattern that had none, and are on no class word
+pub whole_follows : (w : World) (P : List PlainObject) (r : ℕ) (b : Revocation) → (w.known r).reached ≡ true → Fits w P
+    → Follows w.shape w.words (words_after (revocation_writes w.shape r b w.words) w.words)
+whole_follows w P r b reached v =
+    let all = good_writes w.shape w.words v.limits.threads (first_below w P v) r b (reached_within w P r reached (unseen w P v)) v.forms.marks in
+    follow w.shape w.words (revocation_writes w.shape r b w.words) w.words all
+    (record { forms = v.forms.marks; names = λ o. refl; leaning = λ o e. e; holds = λ t p. refl; classes = λ o. refl })
+
 -- and nobody counts on what it saw: at a reached safepoint the others have stopped
 pub whole_valid : (w : World) (P : List PlainObject) (r : ℕ) (b : Revocation) (l : Known) → (w.known r).reached ≡ true → is_biased (marks w b.object) ≡ true → HasCounted w r b l → l.seen ≡ [] → l.seen_at_safepoint ≡ [] → Fits w P
     → Fits (revoked_world w r b l) P
 whole_valid w P r b l reached biased k unseen_now unstood v =
     with_seen (revoked_world w r b l) P
-    (none_seen (revoked_world w r b l) P (λ u. each_with_known (λ u y. CountsOnNone y) r l w.known u (inl (unseen_now, unstood)) (λ d. inr (others_stopped w P r reached v.safe u d))))
+    (none_seen (revoked_world w r b l) P (λ u. each_with_known (λ u y. CountsOnNone y) r l w.known u (inl (unseen_now, unstood)) (λ d. inr (others_stopped w P r reached v.safe u d))) there)
     (whole_fits w P r b l reached biased k (unseen w P v))
+  where
+    follows : Follows w.shape w.words (words_after (revocation_writes w.shape r b w.words) w.words)
+    follows = whole_follows w P r b reached v
+
+    there : (o : ℕ) → is_biased (marks (revoked_world w r b l) o) ≡ true
+        → has_class w.shape (words_after (revocation_writes w.shape r b w.words) w.words) o ≡ true
+    there o e = ap (λ n. nat_lt o w.shape.declared || not (n == 0)) (follows.classes o) ∙ v.seen.classed o (follows.leaning o e)
 
 -- WHO MAKES A STEP at its reached safepoint while a bias is being revoked is the requester.
 module _ (w : World) (P : List PlainObject) (t : ℕ) (b : Revocation) (reached : (w.known t).reached ≡ true) (its_revocation : revocation_in (w.known t).stage ≡ Some b) where

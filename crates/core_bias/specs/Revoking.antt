@@ -4,7 +4,7 @@ use Rattle.mark_word.specs.Mark.{read_mark}
 use Rattle.lock_policy.specs.declared.policy.Verdict.{Verdict}
 use Rattle.lock_policy.specs.Policy.{decided, is_reset}
 use Rattle.core_world.specs.declared.name.Name.{Name}
-use Rattle.core_world.specs.declared.name.Name.TheVariants.{Safepoint, Mark, Prototype, Revocations, LastBulk}
+use Rattle.core_world.specs.declared.name.Name.TheVariants.{Safepoint, Mark, Prototype, Revocations, LastBulk, Class}
 use Rattle.core_world.specs.declared.stage.Stage.TheVariants.{Calm}
 use Rattle.core_world.specs.declared.task.Op.{Op}
 use Rattle.core_world.specs.Threads.Counts.{with_verdict_counted}
@@ -131,15 +131,16 @@ abbrev pub TellsBias : ℕ → ℕ → ℕ → Bool → (Name → ℕ) → Type 
 TellsBias t o c true f = IsBiasTo t (read_mark (f (Mark o))) (epoch_in (f (Prototype c)))
 TellsBias t o c false f = is_biased (f (Mark o)) ≡ false
 
--- the marks and the words of classes: those that stay while a request stands
+-- the marks, the words of classes and the class words of objects: those that stay while a request stands
 abbrev pub is_kept_on_request : Name → Bool
 is_kept_on_request (Mark o) = true
 is_kept_on_request (Prototype c) = true
 is_kept_on_request (Revocations c) = true
 is_kept_on_request (LastBulk c) = true
+is_kept_on_request (Class o) = true
 is_kept_on_request _ = false
 
--- A load at the safepoint, which is still reached then. What the thread has seen of marks and words of classes since the call that made the
+-- A load at the safepoint, which is still reached then. What the thread has seen of marks, words of classes and class words since the call that made the
 -- request, it has seen or stored since the safepoint was reached: what it saw there before may be another word by now.
 pub record MayLookAfterRevoking (s : Shape) (k : Known) (e : Purpose) (r : ℕ) (b : Revocation) : Type 0 where
   pub ends : MayEndRevoking s k e r b

@@ -17,8 +17,9 @@ use Rattle.core_world.specs.Trees.LockSteps.{hold_steps, raise_steps, leave_step
 use Rattle.core_world.specs.Trees.BiasSteps.{took_steps, unbias_swap_steps, rebias_steps, bias_enter_at, bias_enter_by, bias_enter_steps, bias_exit_steps, bias_drop_at, bias_drop_by, bias_drop_steps, stage_after, bias_after_at, bias_after_steps}
 use Rattle.core_calls.specs.Paths.{made, Always}
 use Rattle.core_calls.specs.Causes.{Loaded, Put, Missed}
-use Rattle.core_calls.proofs.Paths.{always_then, either_way, Silent, Still, still, still_leaves, now_silent, missed_last, put_last}
+use Rattle.core_calls.proofs.Paths.{always_then, either_way, Silent, Still, still, still_leaves, now_silent, missed_last, put_last, class_way}
 use Rattle.core_calls.proofs.LocksSay.{zero_loaded, Entered, hold_says, raise_says, Exited, leave_says}
+use Rattle.core_world.specs.declared.stage.Stage.TheVariants.{Calm}
 
 -- the end of a bias without a safepoint logs nothing
 abbrev pub DropSays : Purpose → List StepMade → BiasTry → Type 0
@@ -49,7 +50,10 @@ module _ (e : Purpose) (o : ℕ) where
   bias_drop_says s ms h = λ mark.
       let silent = now_silent e _ mark ms refl refl refl refl h in
       either_way (DropSays e) _ (is_biased mark) _ _
-      (λ _ prototype. drop_by_says (epoch_in prototype) mark prototype _ (inr (inl (refl, refl, refl))) (still_leaves _ prototype _ refl refl refl silent))
+      (λ _. class_way (DropSays e) _ e Calm s o _
+      (λ class prototype. drop_by_says (epoch_in prototype) mark prototype _ (inr (inl (refl, refl, refl))) (still_leaves _ prototype _ refl refl refl silent))
+      (λ word prototype. drop_by_says (epoch_in prototype) mark prototype _ (inr (inr (inl (refl, refl, refl))))
+      (still_leaves _ prototype _ refl refl refl (still_leaves _ word _ refl refl refl silent))))
       (λ _. silent)
 
 module _ (e : Purpose) (k : Local) (o : ℕ) where
@@ -102,7 +106,10 @@ module _ (e : Purpose) (k : Local) (o : ℕ) where
   bias_enter_says s ms h = λ mark.
       let silent = now_silent e _ mark ms refl refl refl refl h in
       either_way TrySays _ (is_biased mark) _ _
-      (λ _ prototype. enter_by_says (read_mark prototype) mark prototype _ refl (inr (inl (refl, refl, refl))) (still_leaves _ prototype _ refl refl refl silent))
+      (λ _. class_way TrySays _ e Calm s o _
+      (λ class prototype. enter_by_says (read_mark prototype) mark prototype _ refl (inr (inl (refl, refl, refl))) (still_leaves _ prototype _ refl refl refl silent))
+      (λ word prototype. enter_by_says (read_mark prototype) mark prototype _ refl (inr (inr (inl (refl, refl, refl))))
+      (still_leaves _ prototype _ refl refl refl (still_leaves _ word _ refl refl refl silent))))
       (λ _. (silent, λ is. zero_loaded (Mark o) (made (load e (Mark o)) mark ∷ ms) mark is (inl (refl, refl, refl)), inl (inl (refl, refl, refl))))
 
   after_at_says : (form : Option MarkForm) (ms : List StepMade) → Still ms → Always TrySays ms (bias_after_at form e k o)

@@ -47,12 +47,12 @@ then_spends f (Pending why) h = spend_done {a = Pending why} (omega arith)
 module _ (s : Shape) (e : Purpose) where
   pub revocation_spends : (t : ℕ) (requesting : Bool) (b : Revocation) → Spend Any Nothing (a_revocation s) (revocation_steps s t requesting e b)
   revocation_spends t requesting b =
-      spend_both {k = 8384 * s.threads + 140 + a_deflation s} (safepoint_spends e t requesting) (λ turn. then_spends _ turn (λ _.
+      spend_both {k = 8448 * s.threads + 141 + a_deflation s} (safepoint_spends e t requesting) (λ turn. then_spends _ turn (λ _.
       spend_both {k = a_deflation s + 1} (spend_any (revoke_at_safepoint_spends e b s t)) (λ outcome.
       spend_both {k = 1} (spend_any (deflate_spends e s (stage_after outcome.took b.object))) (λ _.
       spend_both {k = 0} (release_spends e t (stage_after outcome.took b.object)) (λ _. spend_done {a = Done outcome.took} (omega arith)) (omega arith)) (omega arith)) (omega arith))) (omega arith)
 
-  unbias_spends : (k : Start) (b : Revocation) → Spend Any Nothing (a_revocation s + 2) (unbias_steps s e k b)
+  unbias_spends : (k : Start) (b : Revocation) → Spend Any Nothing (a_revocation s + 3) (unbias_steps s e k b)
   unbias_spends k b =
       spend_either k.requesting (spend_more (omega arith) (revoked true))
       (spend_then (bias_drop_spends e b.object (a_revocation s) (omega arith) s) tried)
@@ -98,7 +98,7 @@ module _ (s : Shape) (e : Purpose) (k : Start) where
   tried_spends b (Unbiased mark) = unbiased_spends b.object 0 (Unbiased mark)
   tried_spends b (Raced expected found) = spend_done {a = Pending (why.Raced expected found)} (omega arith)
 
-  pub enter_going_spends : (b : Revocation) → Spend Any Nothing (a_revocation s + 20) (enter_going s e k b)
+  pub enter_going_spends : (b : Revocation) → Spend Any Nothing (a_revocation s + 21) (enter_going s e k b)
   enter_going_spends b =
       spend_either k.requesting (spend_more (omega arith) (enter_revoked_spends true b))
       (spend_more (omega arith) (spend_then (bias_enter_spends e k.local b.object (a_revocation s + 18) 17 (a_revocation s + 18) (omega arith) (omega arith) (omega arith) s) (tried_spends b)))
@@ -126,7 +126,7 @@ module _ (s : Shape) (k : Start) (o now : ℕ) where
   abbrev exiting : Purpose
   exiting = purpose (task.Exit o) op.Exit o
 
-  pub enter_spends : Spend Any Nothing (a_revocation s + 20) (enter_steps s k o now)
+  pub enter_spends : Spend Any Nothing (a_revocation s + 21) (enter_steps s k o now)
   enter_spends =
       spend_either (free_place k.local.holds == most_holds) (spend_either (goes_on_with op.Enter o k.unfinished) spend_never (spend_done {a = Err record {}} (omega arith)))
       (answers (enter_going_spends s (purpose (task.Enter o now) op.Enter o) k (record { object = o; rebias = true; now = now })))
@@ -145,7 +145,7 @@ module _ (s : Shape) (k : Start) (o now : ℕ) where
       by_bias false = spend_then (stack_exit_spends exiting k.local o 6 (omega arith)) by_out
 
   -- WAIT
-  pub wait_spends : Spend Any Nothing (a_revocation s + 26) (wait_steps s k o now)
+  pub wait_spends : Spend Any Nothing (a_revocation s + 27) (wait_steps s k o now)
   wait_spends = refused (hold_count o k.local.holds == 0) (record {}) (answers (spend_either (waits_on k.local.wait o)
       (spend_more (omega arith) (monitor_resume_spends waiting k.local.thread k.saved o))
       (spend_both {k = 24} (unbias_spends s waiting k (no_bias o now)) (λ turn. then_spends _ turn (λ _.
@@ -163,7 +163,7 @@ module _ (s : Shape) (k : Start) (o now : ℕ) where
   notify_at_spends (Some Marked) = spend_never
   notify_at_spends None = spend_never
 
-  pub notify_call_spends : Spend Any Nothing (a_revocation s + s.threads + 4) (notify_steps s k o now)
+  pub notify_call_spends : Spend Any Nothing (a_revocation s + s.threads + 5) (notify_steps s k o now)
   notify_call_spends = refused (hold_count o k.local.holds == 0) (record {}) (answers (
       spend_both {k = s.threads + 2} (unbias_spends s notifying k (no_bias o now)) (λ turn. then_spends _ turn (λ _.
       spend_more (omega arith) (any_step {n = s.threads + 1} (λ mark. notify_at_spends (read_mark mark))))) (omega arith)))
@@ -178,13 +178,13 @@ module _ (s : Shape) (k : Start) (o now : ℕ) where
   notify_all_at_spends (Some Marked) = spend_never
   notify_all_at_spends None = spend_never
 
-  pub notify_all_call_spends : Spend Any Nothing (a_revocation s + 2 * s.threads + 4) (notify_all_steps s k o now)
+  pub notify_all_call_spends : Spend Any Nothing (a_revocation s + 2 * s.threads + 5) (notify_all_steps s k o now)
   notify_all_call_spends = refused (hold_count o k.local.holds == 0) (record {}) (answers (
       spend_both {k = 2 * s.threads + 2} (unbias_spends s calling k (no_bias o now)) (λ turn. then_spends _ turn (λ _.
       spend_more (omega arith) (any_step {n = 2 * s.threads + 1} (λ mark. notify_all_at_spends (read_mark mark))))) (omega arith)))
 
   -- HASH
-  pub hash_call_spends : Spend Any Nothing (a_revocation s + 16) (hash_steps s k o now)
+  pub hash_call_spends : Spend Any Nothing (a_revocation s + 17) (hash_steps s k o now)
   hash_call_spends =
       spend_both {k = 14} (unbias_spends s hashing k (no_bias o now)) (λ turn. then_spends _ turn (λ _. hash_header_spends s hashing k.local (record { number = k.draws + 1; value = k.draw }) o k.kept)) (omega arith)
 
@@ -208,9 +208,9 @@ module _ (s : Shape) (k : Start) where
   abbrev checking : Purpose
   checking = record { task = task.Check; unfinished = k.unfinished; check = true }
 
-  pub dump_spends : Spend Any Nothing (66 * length s.objects + s.threads + 6 + a_deflation s) (dump_steps s k)
+  pub dump_spends : Spend Any Nothing (67 * length s.objects + s.threads + 6 + a_deflation s) (dump_steps s k)
   dump_spends = refused (k.shots == 4) (record {}) (answers (
-      spend_both {k = 66 * length s.objects + s.threads + 3 + a_deflation s} (safepoint_spends dumping k.local.thread k.requesting) (λ turn. then_spends _ turn (λ _.
+      spend_both {k = 67 * length s.objects + s.threads + 3 + a_deflation s} (safepoint_spends dumping k.local.thread k.requesting) (λ turn. then_spends _ turn (λ _.
       spend_both {k = a_deflation s + 2} (spend_any (shot_spends dumping s)) (λ _. spend_both {k = 2} (spend_any (deflate_spends dumping s Calm)) (λ _.
       spend_both {k = 1} (release_spends dumping k.local.thread Calm) (λ _.
       spend_both {k = 0} (publish_spends dumping k.local 0 (entry.Dump (k.shots + 1))) (λ _. spend_done {a = Done (k.shots + 1)} (omega arith)) (omega arith)) (omega arith)) (omega arith)) (omega arith))) (omega arith)))

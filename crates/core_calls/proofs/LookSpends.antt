@@ -18,7 +18,8 @@ use Rattle.core_world.specs.Trees.Plans.{Purpose, load}
 use Rattle.core_world.specs.Trees.Todo.{done, ◌>>=◌, ask}
 use Rattle.core_world.specs.Trees.LookSteps.{look_at_holds, look_at_owner, look_behind, take_shot_steps, look_at_monitor, look_at_object, look_at_wait, stands_still_steps}
 use Rattle.core_calls.proofs.Paths.{IsQuiet}
-use Rattle.core_calls.proofs.Spends.{Spend, spend_done, spend_never, spend_more, spend_either, spend_both, spend_all, spend_list, quiet_step}
+use Rattle.core_calls.proofs.Spends.{Spend, spend_done, spend_never, spend_more, spend_either, spend_both, spend_all, spend_list, quiet_step, quiet_class}
+use Rattle.core_world.specs.declared.stage.Stage.TheVariants.{Calm}
 
 module _ (e : Purpose) where
   hold_spends : (t p : ℕ) → Spend (IsQuiet e) (λ _. 0) 1 (ask (load e (Hold t p)) >>= λ _. done (tt {0}))
@@ -33,11 +34,12 @@ module _ (e : Purpose) where
   owner_spends (Some Free) = spend_done (omega arith)
   owner_spends None = spend_done (omega arith)
 
-  behind_spends : (s : Shape) (o : ℕ) (form : Option MarkForm) → Spend (IsQuiet e) (λ _. 0) 65 (look_behind form e s o)
+  behind_spends : (s : Shape) (o : ℕ) (form : Option MarkForm) → Spend (IsQuiet e) (λ _. 0) 66 (look_behind form e s o)
   behind_spends s o (Some (Biased thread epoch age)) =
-      quiet_step {n = 64} refl refl refl (λ prototype. spend_either (has_epoch (epoch_in prototype) epoch) (holds_spend thread) (spend_done (omega arith)))
+      quiet_class {n = 65} e Calm s o (λ class. quiet_step {n = 64} refl refl refl (λ prototype.
+      spend_either (has_epoch (epoch_in prototype) epoch) (holds_spend thread) (spend_done (omega arith))))
   behind_spends s o (Some (Locked thread place)) = spend_more (omega arith) (holds_spend thread)
-  behind_spends s o (Some (Inflated monitor)) = quiet_step {n = 64} refl refl refl (λ owner. owner_spends (read_owner owner))
+  behind_spends s o (Some (Inflated monitor)) = spend_more {n = 65} (omega arith) (quiet_step {n = 64} refl refl refl (λ owner. owner_spends (read_owner owner)))
   behind_spends s o (Some Inflating) = spend_done (omega arith)
   behind_spends s o (Some (Neutral hash age)) = spend_done (omega arith)
   behind_spends s o (Some (Anonymous epoch age)) = spend_done (omega arith)
@@ -45,9 +47,9 @@ module _ (e : Purpose) where
   behind_spends s o None = spend_done (omega arith)
 
   -- a shot
-  pub shot_spends : (s : Shape) → Spend (IsQuiet e) (λ _. 0) (66 * length s.objects + s.threads + 1) (take_shot_steps e s)
+  pub shot_spends : (s : Shape) → Spend (IsQuiet e) (λ _. 0) (67 * length s.objects + s.threads + 1) (take_shot_steps e s)
   shot_spends s =
-      spend_both {k = s.threads + 1} (spend_all {n = 66} 0 (length s.objects) (λ o. quiet_step {n = 65} refl refl refl (λ mark. behind_spends s o (read_mark mark)))) (λ _.
+      spend_both {k = s.threads + 1} (spend_all {n = 67} 0 (length s.objects) (λ o. quiet_step {n = 66} refl refl refl (λ mark. behind_spends s o (read_mark mark)))) (λ _.
       spend_both {k = 1} (spend_all {n = 1} 0 s.threads (λ t. quiet_step {n = 0} refl refl refl (λ _. spend_done (omega arith)))) (λ _.
       quiet_step {n = 0} refl refl refl (λ _. spend_done (omega arith))) (omega arith)) (omega arith)
 

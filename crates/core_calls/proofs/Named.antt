@@ -1,5 +1,5 @@
 -- Trees whose steps are all of one call: each names the call, and counts a verdict by its moment alone.
-use Rattle.std.proofs.Common.{◌≡◌, ℕ, zero, suc, ◌+◌, cond, Bool, true, false, List, [], ◌∷◌}
+use Rattle.std.proofs.Common.{◌≡◌, ℕ, zero, suc, ◌+◌, cond, Bool, true, false, List, [], ◌∷◌, ◌-◌, nat_lt, refl}
 use Rattle.std.specs.List.{AllByRecursion}
 use Rattle.core_world.specs.declared.plan.StepPlan.{StepPlan}
 use Rattle.core_world.specs.declared.task.Task.{Task}
@@ -7,6 +7,10 @@ use Rattle.core_world.specs.Threads.Known.{StepMade}
 use Rattle.core_world.specs.Trees.Todo.{Todo, done, never, step, ◌>>=◌, each_from, all_from}
 use Rattle.core_calls.specs.Moments.{moment_of, CountsBy, IsPlanOf, IsStepOf}
 use Rattle.core_calls.specs.Paths.{made, Always, Says}
+use Rattle.core_world.specs.Trees.Plans.{Purpose, load_plan, class_steps}
+use Rattle.core_world.specs.Words.Shape.{Shape, class_of}
+use Rattle.core_world.specs.declared.stage.Stage.{Stage}
+use Rattle.core_world.specs.declared.name.Name.TheVariants.{Class}
 
 abbrev Names : {A : Type 0} → Task → Todo A → Type 0
 Names t (done a) = Unit {0}
@@ -51,6 +55,14 @@ pub named_each : {A : Type 0} {t : Task} {f : ℕ → Todo A} (i n : ℕ) → ((
 named_each i zero h = named_done
 named_each {A} {t} {f} i (suc n) h =
     named_then {d = f i} (h i) (λ a. named_then {d = each_from (i + 1) n f} (named_each (i + 1) n h) (λ xs. named_done))
+
+pub named_class : {A : Type 0} {f : ℕ → Todo A} (e : Purpose) (stage : Stage) (s : Shape) (o : ℕ) → ((class : ℕ) → Named e.task (f class))
+    → Named e.task (class_steps e stage s o >>= f)
+named_class {A} {f} e stage s o h = by_test (nat_lt o s.declared)
+  where
+    by_test : (b : Bool) → Named e.task (cond b (done (class_of s o)) (step (load_plan e stage (Class o)) (λ word. done (word - 1))) >>= f)
+    by_test true = h (class_of s o)
+    by_test false = named_step refl tt (λ word. h (word - 1))
 
 -- SO IT IS ALONG EACH PATH
 module _ {A : Type 0} (t : Task) where

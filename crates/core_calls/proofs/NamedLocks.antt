@@ -18,7 +18,7 @@ use Rattle.core_world.specs.Trees.Plans.{Purpose}
 use Rattle.core_world.specs.Trees.LockSteps.{log_enter_steps, entered_steps, hold_steps, stack_again_steps, stack_first_steps, stack_enter_at, stack_enter_steps, leave_steps, clear_steps, stack_exit_by, stack_exit_at, stack_exit_record, raise_steps, stack_exit_steps}
 use Rattle.core_world.specs.Trees.BiasSteps.{took_steps, unbias_swap_steps, rebias_steps, bias_valid_steps, bias_enter_at, bias_enter_by, bias_enter_steps, bias_exit_steps, bias_drop_at, bias_drop_by, bias_drop_steps, bias_after_at, bias_after_steps}
 use Rattle.core_world.specs.Trees.MonitorSteps.{prepare_steps, inflate_locked, inflate_neutral, inflate_with, inflate_by, inflate_at, inflate_steps, record_steps, owned_steps, monitor_again_steps, monitor_own_steps, monitor_enter_at, monitor_enter_steps, own_steps, release_steps, monitor_exit_steps}
-use Rattle.core_calls.proofs.Named.{Named, named_done, named_never, named_step, named_either, named_then, named_next}
+use Rattle.core_calls.proofs.Named.{Named, named_done, named_never, named_step, named_either, named_then, named_next, named_class}
 
 -- LOCK RECORDS
 module _ (e : Purpose) (k : Local) (o : ℕ) where
@@ -98,7 +98,8 @@ module _ (e : Purpose) (k : Local) (o : ℕ) where
 
   pub bias_enter_named : (s : Shape) → Named e.task (bias_enter_steps s e k o)
   bias_enter_named s =
-      named_step refl tt (λ mark. named_either (is_biased mark) (named_step refl tt (λ prototype. bias_by_named (read_mark prototype) mark prototype))
+      named_step refl tt (λ mark. named_either (is_biased mark) (named_class e Calm s o (λ class.
+      named_step refl tt (λ prototype. bias_by_named (read_mark prototype) mark prototype)))
       named_done)
 
   pub bias_exit_named : Named e.task (bias_exit_steps e k o)
@@ -115,7 +116,8 @@ module _ (e : Purpose) (k : Local) (o : ℕ) where
 
   pub bias_drop_named : (s : Shape) → Named e.task (bias_drop_steps s e o)
   bias_drop_named s =
-      named_step refl tt (λ mark. named_either (is_biased mark) (named_step refl tt (λ prototype. drop_by_named (epoch_in prototype) mark prototype))
+      named_step refl tt (λ mark. named_either (is_biased mark) (named_class e Calm s o (λ class.
+      named_step refl tt (λ prototype. drop_by_named (epoch_in prototype) mark prototype)))
       named_done)
 
   after_at_named : (form : Option MarkForm) → Named e.task (bias_after_at form e k o)

@@ -19,17 +19,18 @@ use Rattle.core_world.specs.declared.name.Name.{Name}
 use Rattle.core_world.specs.declared.name.Name.TheVariants as name
 use Rattle.core_world.specs.declared.stage.Stage.{Stage}
 use Rattle.core_world.specs.Words.Forms.{epoch_in, is_biased, monitor_in}
-use Rattle.core_world.specs.Words.Shape.{Shape, class_of, monitor_count}
+use Rattle.core_world.specs.Words.Shape.{Shape, monitor_count}
 use Rattle.core_world.specs.Locks.{has_epoch, is_valid_bias}
 use Rattle.core_world.specs.Threads.Stages.{Revocation}
 use Rattle.core_world.specs.RevocationRules.{Write, write, revoke_biased, store_where, with_epoch, raised_form, biased_word, object_held}
 use Rattle.core_world.specs.Trees.DeflateSteps.{look_at, give_back_steps, is_untouched, deflate_free, deflate_named, names_monitor, deflate_monitor, deflate_steps}
 use Rattle.core_world.specs.Trees.LookSteps.{look_at_holds, look_at_owner, look_behind, look_at_objects, take_shot_steps, look_at_monitor, look_at_object, look_at_wait, stands_still_steps}
 use Rattle.core_world.specs.Trees.Plans.{Purpose, load}
-use Rattle.core_world.specs.Trees.RevocationSteps.{look, store_steps, revoke_at, revoke_steps, visit_held, walk_steps, take_bias_steps, next_epoch, bulk_rebias_steps, bulk_revoke_steps, verdict_steps, decided_steps, revoke_at_safepoint_steps}
+use Rattle.core_world.specs.Trees.RevocationSteps.{look, store_steps, revoke_at, revoke_steps, visit_held, walk_steps, take_bias_steps, next_epoch, bulk_rebias_steps, bulk_revoke_steps, verdict_steps, decided_steps, revoke_at_safepoint_steps, revocation_stage}
 use Rattle.core_world.specs.Trees.Todo.{Todo, done, ◌>>=◌, ask, each_from}
 use Rattle.core_calls.specs.Moments.{moment_of}
-use Rattle.core_calls.proofs.Named.{Named, named_done, named_never, named_step, named_either, named_then, named_next, named_all, named_each}
+use Rattle.core_calls.proofs.Named.{Named, named_done, named_never, named_step, named_either, named_then, named_next, named_all, named_each, named_class}
+use Rattle.core_world.specs.declared.stage.Stage.TheVariants.{Calm}
 
 module _ (e : Purpose) (s : Shape) where
   -- A SHOT
@@ -47,7 +48,7 @@ module _ (e : Purpose) (s : Shape) where
 
   behind_named : (form : Option MarkForm) (o : ℕ) → Named e.task (look_behind form e s o)
   behind_named (Some (Biased thread epoch age)) o =
-      named_step refl tt (λ prototype. named_either (has_epoch (epoch_in prototype) epoch) (holds_named thread) named_done)
+      named_class e Calm s o (λ class. named_step refl tt (λ prototype. named_either (has_epoch (epoch_in prototype) epoch) (holds_named thread) named_done))
   behind_named (Some (Locked thread place)) o = holds_named thread
   behind_named (Some (Inflated monitor)) o = named_step refl tt (λ owner. owner_named (read_owner owner))
   behind_named _ o = named_done
@@ -128,7 +129,8 @@ module _ (e : Purpose) (b : Revocation) (given : moment_of e.task ≡ Some b.now
   module _ (s : Shape) (c : ℕ) (visit : ℕ → ℕ → Todo (Unit {0})) (each : (o mark : ℕ) → Named e.task (visit o mark)) where
     visit_named : (held : Option ℕ) → Named e.task (visit_held s c e b visit held)
     visit_named None = named_done
-    visit_named (Some o) = named_either (class_of s o == c) (named_step refl tt (λ mark. named_either (is_biased mark) (each o mark) named_done)) named_done
+    visit_named (Some o) =
+        named_class e (revocation_stage b) s o (λ class. named_either (class == c) (named_step refl tt (λ mark. named_either (is_biased mark) (each o mark) named_done)) named_done)
 
     place_named : (t p : ℕ) → Named e.task (look e b (name.Hold t p) >>= λ hold. visit_held s c e b visit (object_held (read_hold hold)))
     place_named t p = named_step refl tt (λ hold. visit_named (object_held (read_hold hold)))
@@ -173,5 +175,5 @@ module _ (e : Purpose) (b : Revocation) (given : moment_of e.task ≡ Some b.now
 
   pub revocation_named : (s : Shape) (t : ℕ) → Named e.task (revoke_at_safepoint_steps s t e b)
   revocation_named s t =
-      named_step refl tt (λ mark. named_step refl tt (λ prototype. named_step refl tt (λ count. named_step refl tt (λ last.
-      named_either (is_valid_bias (read_mark mark) prototype) (decided_named s t (class_of s b.object) (epoch_in prototype) count last) named_never))))
+      named_step refl tt (λ mark. named_class e Calm s b.object (λ class. named_step refl tt (λ prototype. named_step refl tt (λ count. named_step refl tt (λ last.
+      named_either (is_valid_bias (read_mark mark) prototype) (decided_named s t class (epoch_in prototype) count last) named_never)))))

@@ -17,7 +17,7 @@ use Rattle.core_world.specs.declared.name.Name.TheVariants.{Waiting, Mark, Heade
 use Rattle.core_world.specs.declared.act.Act.TheVariants.{Raise}
 use Rattle.core_world.specs.declared.plan.Own.TheVariants as own
 use Rattle.core_world.specs.declared.stage.Stage.{Stage}
-use Rattle.core_world.specs.declared.stage.Stage.TheVariants.{Waits}
+use Rattle.core_world.specs.declared.stage.Stage.TheVariants.{Waits, Calm}
 use Rattle.core_world.specs.declared.answer.BiasTry.{BiasTry}
 use Rattle.core_world.specs.declared.answer.BiasTry.TheVariants.{Took, Unbiased, Valid, Raced}
 use Rattle.core_world.specs.declared.answer.Turn.{Turn}
@@ -33,7 +33,7 @@ use Rattle.core_world.specs.Trees.WaitSteps.{log_wait_steps, monitor_wait_steps,
 use Rattle.core_world.specs.Trees.BiasSteps.{took_steps, unbias_swap_steps, rebias_steps, bias_enter_at, bias_enter_by, bias_enter_steps, bias_drop_at, bias_drop_by, bias_drop_steps, bias_after_at, bias_after_steps}
 use Rattle.core_world.specs.Trees.SafepointSteps.{has_requester, reached_word, bar, unless, stop_steps, resume_swap_steps, resume_steps, poll_steps, request_swap_steps, request_steps, reached_steps, then_reached, safepoint_steps, release_to, halt_steps}
 use Rattle.core_world.specs.Trees.HashSteps.{NextDraw, draw_steps, hash_monitor_steps, hash_displaced_steps, hash_inflated, hash_inflate_steps, hash_unless, hash_mark_steps, hash_header_steps}
-use Rattle.core_calls.proofs.Spends.{Spend, spend_done, spend_never, spend_more, spend_either, spend_then, spend_both, spend_list, spend_any}
+use Rattle.core_calls.proofs.Spends.{Spend, spend_done, spend_never, spend_more, spend_either, spend_then, spend_both, spend_list, spend_any, spend_class}
 use Rattle.core_calls.proofs.MonitorsSay.{own_spends}
 use Rattle.core_calls.proofs.WaitsSay.{look_spends}
 use Rattle.core_calls.proofs.LocksSpend.{Any, any_step, Nothing, hold_spends, inflate_spends}
@@ -145,10 +145,11 @@ module _ (e : Purpose) (o n : ℕ) (one : 1 ≤ n) where
   drop_by_spends None mark prototype = unbias_spends mark prototype
   drop_by_spends (Some epoch) mark prototype = drop_at_spends (read_mark mark) epoch mark
 
-  pub bias_drop_spends : (s : Shape) → Spend Any (to_revoke n) (n + 2) (bias_drop_steps s e o)
+  pub bias_drop_spends : (s : Shape) → Spend Any (to_revoke n) (n + 3) (bias_drop_steps s e o)
   bias_drop_spends s =
-      spend_more (omega arith) (any_step {n = n + 1} (λ mark. spend_either (is_biased mark)
-      (spend_more (omega arith) (any_step {n = n} (λ prototype. drop_by_spends (epoch_in prototype) mark prototype)))
+      spend_more (omega arith) (any_step {n = n + 2} (λ mark. spend_either (is_biased mark)
+      (spend_more (omega arith) (spend_class {n = n + 1} e Calm s o tt (λ class.
+      spend_more (omega arith) (any_step {n = n} (λ prototype. drop_by_spends (epoch_in prototype) mark prototype)))))
       (spend_done {a = Unbiased mark} (omega arith))))
 
 module _ (e : Purpose) (k : Local) (o n u : ℕ) where
@@ -181,10 +182,11 @@ module _ (e : Purpose) (k : Local) (o n u m : ℕ) (four : 4 ≤ m) (more : u + 
   enter_by_spends (Some Marked) mark prototype = spend_never
   enter_by_spends None mark prototype = spend_never
 
-  pub bias_enter_spends : (s : Shape) → Spend Any (to_enter n u) (m + 2) (bias_enter_steps s e k o)
+  pub bias_enter_spends : (s : Shape) → Spend Any (to_enter n u) (m + 3) (bias_enter_steps s e k o)
   bias_enter_spends s =
-      spend_more (omega arith) (any_step {n = m + 1} (λ mark. spend_either (is_biased mark)
-      (spend_more (omega arith) (any_step {n = m} (λ prototype. enter_by_spends (read_mark prototype) mark prototype)))
+      spend_more (omega arith) (any_step {n = m + 2} (λ mark. spend_either (is_biased mark)
+      (spend_more (omega arith) (spend_class {n = m + 1} e Calm s o tt (λ class.
+      spend_more (omega arith) (any_step {n = m} (λ prototype. enter_by_spends (read_mark prototype) mark prototype)))))
       (spend_done {a = Unbiased mark} (omega (arith, more)))))
 
 -- behind a revocation the mark is loaded again, and is not exchanged

@@ -1,5 +1,5 @@
 -- How what is said of paths goes from step to step and from part to part.
-use Rattle.std.proofs.Common.{◌≡◌, ℕ, ◌==◌, cond, Bool, true, false, List, [], ◌∷◌, ◌++◌, Option, refl, sym, ap, ◌∙◌, inl, append-nil, true≢false, eq-eqb, eqb-true}
+use Rattle.std.proofs.Common.{◌≡◌, ℕ, ◌==◌, cond, Bool, true, false, List, [], ◌∷◌, ◌++◌, Option, refl, sym, ap, ◌∙◌, inl, append-nil, true≢false, eq-eqb, eqb-true, ◌-◌, nat_lt}
 use Rattle.plain_monitor.specs.declared.entry.Entry.{Entry}
 use Rattle.core_world.specs.declared.act.Act.TheVariants.{Swap}
 use Rattle.core_world.specs.declared.name.Name.{Name}
@@ -9,11 +9,14 @@ use Rattle.core_world.specs.declared.plan.StepPlan.{StepPlan}
 use Rattle.core_world.specs.declared.task.Unfinished.{Unfinished}
 use Rattle.core_world.specs.Words.Acts.{hits}
 use Rattle.core_world.specs.Threads.Known.{StepMade}
-use Rattle.core_world.specs.Trees.Plans.{Purpose}
+use Rattle.core_world.specs.Trees.Plans.{Purpose, load_plan, class_steps}
 use Rattle.core_world.specs.Steps.{unfinished_after}
 use Rattle.core_world.specs.Trees.Todo.{Todo, done, never, step, ◌>>=◌}
 use Rattle.core_calls.specs.Paths.{made, Always, noted, entries_of, left_unfinished, left_checking, Leaves}
 use Rattle.core_calls.specs.Causes.{Missed, Put}
+use Rattle.core_world.specs.Words.Shape.{Shape, class_of}
+use Rattle.core_world.specs.declared.stage.Stage.{Stage}
+use Rattle.core_world.specs.declared.name.Name.TheVariants.{Class}
 
 -- FROM PART TO PART
 pub always_then : {A B : Type 0} (P : List StepMade → A → Type 0) (Q : List StepMade → B → Type 0) (d : Todo A) (g : A → Todo B) (ms : List StepMade) → Always P ms d → ((ms : List StepMade) (a : A) → P ms a → Always Q ms (g a)) → Always Q ms (d >>= g)
@@ -30,6 +33,16 @@ always_so P Q (step p f) ms h more = λ n. always_so P Q (f n) (made p n ∷ ms)
 pub either_way : {A : Type 0} (P : List StepMade → A → Type 0) (ms : List StepMade) (b : Bool) (x y : Todo A) → (b ≡ true → Always P ms x) → (b ≡ false → Always P ms y) → Always P ms (cond b x y)
 either_way P ms true x y h g = h refl
 either_way P ms false x y h g = g refl
+
+-- the class of an object is known at once, or by one load
+pub class_way : {A : Type 0} (P : List StepMade → A → Type 0) (ms : List StepMade) (e : Purpose) (stage : Stage) (s : Shape) (o : ℕ) (f : ℕ → Todo A)
+    → ((class : ℕ) → Always P ms (f class)) → ((word : ℕ) → Always P (made (load_plan e stage (Class o)) word ∷ ms) (f (word - 1)))
+    → Always P ms (class_steps e stage s o >>= f)
+class_way P ms e stage s o f h g = by_test (nat_lt o s.declared)
+  where
+    by_test : (b : Bool) → Always P ms (cond b (done (class_of s o)) (step (load_plan e stage (Class o)) (λ word. done (word - 1))) >>= f)
+    by_test true = h (class_of s o)
+    by_test false = λ word. g word
 
 -- FROM STEP TO STEP. Nothing is logged, and this is unfinished.
 abbrev pub Silent : Purpose → List StepMade → Type 0

@@ -10,16 +10,17 @@ use Rattle.lock_policy.specs.declared.policy.Verdict.TheVariants.{Single, BulkRe
 use Rattle.lock_policy.specs.Policy.{decided}
 use Rattle.core_world.specs.declared.name.Name.{Name}
 use Rattle.core_world.specs.declared.name.Name.TheVariants.{Prototype, LastBulk, Mark, Hold, Displaced}
-use Rattle.core_world.specs.Words.Shape.{Shape, class_of}
+use Rattle.core_world.specs.Words.Shape.{Shape}
 use Rattle.core_world.specs.Words.Forms.{epoch_in, is_biased, names, hold_word}
 use Rattle.core_world.specs.Threads.Stages.{Revocation}
 use Rattle.core_world.specs.RevocationRules.{Write, write, raised_form, with_epoch, store_where, object_held, biased_word, record_writes, first_place, revoke_biased}
 use Rattle.core_world.specs.Locks.{hold_count, is_valid_bias}
 use Rattle.core_world.specs.Trees.Todo.{Todo, each_from}
 use Rattle.core_world.specs.Trees.Plans.{Purpose}
-use Rattle.core_world.specs.Trees.RevocationSteps.{look, store_steps, revoke_at, revoke_steps, visit_held, walk_steps, take_bias_steps, next_epoch, bulk_rebias_steps, bulk_revoke_steps, verdict_steps, decided_steps, revoke_at_safepoint_steps}
+use Rattle.core_world.specs.Trees.RevocationSteps.{look, store_steps, revoke_at, revoke_steps, visit_held, walk_steps, take_bias_steps, next_epoch, bulk_rebias_steps, bulk_revoke_steps, verdict_steps, decided_steps, revoke_at_safepoint_steps, revocation_stage}
 use Rattle.core_calls.proofs.Paths.{IsQuiet}
-use Rattle.core_calls.proofs.Spends.{Spend, spend_done, spend_never, spend_more, spend_either, spend_then, spend_both, spend_all, spend_each, quiet_step}
+use Rattle.core_calls.proofs.Spends.{Spend, spend_done, spend_never, spend_more, spend_either, spend_then, spend_both, spend_all, spend_each, quiet_step, quiet_class}
+use Rattle.core_world.specs.declared.stage.Stage.TheVariants.{Calm}
 
 module _ (e : Purpose) (b : Revocation) where
   pub look_spends : (at : Name) → Spend (IsQuiet e) (λ _. 0) 1 (look e b at)
@@ -67,16 +68,16 @@ module _ (e : Purpose) (b : Revocation) where
   revoke_spends o allowed = quiet_step {n = 129} refl refl refl (λ mark. revoke_at_spends (read_mark mark) o allowed)
 
   module _ (s : Shape) (c : ℕ) (visit : ℕ → ℕ → Todo (Unit {0})) (n : ℕ) (within : (o mark : ℕ) → Spend (IsQuiet e) (λ _. 0) n (visit o mark)) where
-    visit_spends : (held : Option ℕ) → Spend (IsQuiet e) (λ _. 0) (n + 1) (visit_held s c e b visit held)
+    visit_spends : (held : Option ℕ) → Spend (IsQuiet e) (λ _. 0) (n + 2) (visit_held s c e b visit held)
     visit_spends None = spend_done (omega arith)
     visit_spends (Some o) =
-        spend_either (class_of s o == c)
+        spend_more (omega arith) (quiet_class {n = n + 1} e (revocation_stage b) s o (λ class. spend_either (class == c)
         (spend_more (omega arith) (quiet_step {n = n} refl refl refl (λ mark. spend_either (is_biased mark) (within o mark) (spend_done (omega arith)))))
-        (spend_done (omega arith))
+        (spend_done (omega arith))))
 
-    walk_spends : Spend (IsQuiet e) (λ _. 0) (s.threads * (64 * (n + 2))) (walk_steps s c e b visit)
+    walk_spends : Spend (IsQuiet e) (λ _. 0) (s.threads * (64 * (n + 3))) (walk_steps s c e b visit)
     walk_spends =
-        spend_all {n = 64 * (n + 2)} 0 s.threads (λ t. spend_all {n = n + 2} 0 most_holds (λ p. spend_both (look_spends e b (Hold t p)) (λ hold. visit_spends (object_held (read_hold hold))) (omega arith)))
+        spend_all {n = 64 * (n + 3)} 0 s.threads (λ t. spend_all {n = n + 3} 0 most_holds (λ p. spend_both (look_spends e b (Hold t p)) (λ hold. visit_spends (object_held (read_hold hold))) (omega arith)))
 
   where_spends : (at : Name) (word : Option ℕ) → Spend (IsQuiet e) (λ _. 0) 1 (store_steps e b (store_where at word))
   where_spends at None = spend_done (omega arith)
@@ -89,36 +90,37 @@ module _ (e : Purpose) (b : Revocation) where
   take_spends : (epoch : Option ℕ) (t : ℕ) → Spend (IsQuiet e) (λ _. 0) 2 (take_bias_steps e b epoch t)
   take_spends epoch t = quiet_step {n = 1} refl refl refl (λ mark. spend_both (where_spends (Mark b.object) (biased_word (is_biased mark) epoch t)) (λ _. spend_done {n = 0} (omega arith)) (omega arith))
 
-  rebias_spends : (s : Shape) (t c : ℕ) (epoch : Option ℕ) → Spend (IsQuiet e) (λ _. 0) (8384 * s.threads + 134) (bulk_rebias_steps s t c e b epoch)
+  rebias_spends : (s : Shape) (t c : ℕ) (epoch : Option ℕ) → Spend (IsQuiet e) (λ _. 0) (8448 * s.threads + 134) (bulk_rebias_steps s t c e b epoch)
   rebias_spends s t c epoch =
-      spend_both {k = 8384 * s.threads + 133} (store_spends e b (write (LastBulk c) b.now ∷ [])) (λ _.
-      spend_both {k = 8384 * s.threads + 132} (raised_spends epoch c) (λ _.
+      spend_both {k = 8448 * s.threads + 133} (store_spends e b (write (LastBulk c) b.now ∷ [])) (λ _.
+      spend_both {k = 8448 * s.threads + 132} (raised_spends epoch c) (λ _.
       spend_both {k = 132} (walk_spends s c _ 1 (λ o mark. where_spends (Mark o) (with_epoch (read_mark mark) (next_epoch epoch)))) (λ _.
       spend_both {k = 2} (revoke_spends b.object b.rebias) (λ _.
       spend_either b.rebias (take_spends (next_epoch epoch) t) (spend_done {a = false} (omega arith))) (omega arith)) (omega arith)) (omega arith)) (omega arith)
 
-  bulk_revoke_spends : (s : Shape) (c : ℕ) → Spend (IsQuiet e) (λ _. 0) (8384 * s.threads + 134) (bulk_revoke_steps s c e b)
+  bulk_revoke_spends : (s : Shape) (c : ℕ) → Spend (IsQuiet e) (λ _. 0) (8448 * s.threads + 134) (bulk_revoke_steps s c e b)
   bulk_revoke_spends s c =
-      spend_both {k = 8384 * s.threads + 133} (store_spends e b (write (LastBulk c) b.now ∷ [])) (λ _.
-      spend_both {k = 8384 * s.threads + 132} (store_spends e b (write (Prototype c) (mark_of (Neutral 0 0)) ∷ [])) (λ _.
+      spend_both {k = 8448 * s.threads + 133} (store_spends e b (write (LastBulk c) b.now ∷ [])) (λ _.
+      spend_both {k = 8448 * s.threads + 132} (store_spends e b (write (Prototype c) (mark_of (Neutral 0 0)) ∷ [])) (λ _.
       spend_both {k = 130} (walk_spends s c _ 129 (λ o mark. revoke_at_spends (read_mark mark) o false)) (λ _.
       revoke_spends b.object false) (omega arith)) (omega arith)) (omega arith)
 
-  verdict_spends : (s : Shape) (t c : ℕ) (epoch : Option ℕ) (verdict : Verdict) → Spend (IsQuiet e) (λ _. 0) (8384 * s.threads + 134) (verdict_steps s t c e b epoch verdict)
+  verdict_spends : (s : Shape) (t c : ℕ) (epoch : Option ℕ) (verdict : Verdict) → Spend (IsQuiet e) (λ _. 0) (8448 * s.threads + 134) (verdict_steps s t c e b epoch verdict)
   verdict_spends s t c epoch Single = spend_both (revoke_spends b.object false) (λ _. spend_done {n = 0} (omega arith)) (omega arith)
   verdict_spends s t c epoch BulkRebias = rebias_spends s t c epoch
   verdict_spends s t c epoch BulkRevoke = spend_both (bulk_revoke_spends s c) (λ _. spend_done {n = 0} (omega arith)) (omega arith)
 
-  decided_spends : (s : Shape) (t c : ℕ) (epoch : Option ℕ) (count last : ℕ) → Spend (IsQuiet e) (λ _. 0) (8384 * s.threads + 135) (decided_steps s t c e b epoch count last)
+  decided_spends : (s : Shape) (t c : ℕ) (epoch : Option ℕ) (count last : ℕ) → Spend (IsQuiet e) (λ _. 0) (8448 * s.threads + 135) (decided_steps s t c e b epoch count last)
   decided_spends s t c epoch count last =
-      spend_more (omega arith) (quiet_step {n = 8384 * s.threads + 134} refl refl refl (λ _.
+      spend_more (omega arith) (quiet_step {n = 8448 * s.threads + 134} refl refl refl (λ _.
       spend_both (verdict_spends s t c epoch (decided count last b.now).0) (λ _. spend_done {n = 0} (omega arith)) (omega arith)))
 
   -- a revocation at a reached safepoint
-  pub revoke_at_safepoint_spends : (s : Shape) (t : ℕ) → Spend (IsQuiet e) (λ _. 0) (8384 * s.threads + 139) (revoke_at_safepoint_steps s t e b)
+  pub revoke_at_safepoint_spends : (s : Shape) (t : ℕ) → Spend (IsQuiet e) (λ _. 0) (8448 * s.threads + 140) (revoke_at_safepoint_steps s t e b)
   revoke_at_safepoint_spends s t =
-      spend_more (omega arith) (quiet_step {n = 8384 * s.threads + 138} refl refl refl (λ mark.
-      spend_more (omega arith) (quiet_step {n = 8384 * s.threads + 137} refl refl refl (λ prototype.
-      spend_more (omega arith) (quiet_step {n = 8384 * s.threads + 136} refl refl refl (λ count.
-      spend_more (omega arith) (quiet_step {n = 8384 * s.threads + 135} refl refl refl (λ last.
-      spend_either (is_valid_bias (read_mark mark) prototype) (decided_spends s t (class_of s b.object) (epoch_in prototype) count last) spend_never))))))))
+      spend_more (omega arith) (quiet_step {n = 8448 * s.threads + 139} refl refl refl (λ mark.
+      spend_more (omega arith) (quiet_class {n = 8448 * s.threads + 138} e Calm s b.object (λ class.
+      spend_more (omega arith) (quiet_step {n = 8448 * s.threads + 137} refl refl refl (λ prototype.
+      spend_more (omega arith) (quiet_step {n = 8448 * s.threads + 136} refl refl refl (λ count.
+      spend_more (omega arith) (quiet_step {n = 8448 * s.threads + 135} refl refl refl (λ last.
+      spend_either (is_valid_bias (read_mark mark) prototype) (decided_spends s t class (epoch_in prototype) count last) spend_never))))))))))

@@ -1,12 +1,12 @@
 -- The enters that are common take few steps.
-use Rattle.std.proofs.Common.{◌≡◌, ℕ, ◌+◌, ◌==◌, cond, Bool, true, false, Option, Some, Result, Err, refl, ap, sym, subst, eq-eqb}
+use Rattle.std.proofs.Common.{◌≡◌, ℕ, ◌+◌, ◌==◌, cond, Bool, true, false, Option, Some, Result, Err, refl, ap, sym, subst, eq-eqb, ◌-◌, nat_lt}
 use Rattle.mark_word.specs.declared.mark.MarkForm.{MarkForm}
 use Rattle.mark_word.specs.declared.mark.MarkForm.TheVariants.{Neutral, Anonymous, Biased}
 use Rattle.mark_word.specs.Mark.{read_mark}
 use Rattle.plain_monitor.specs.Limits.{most_holds}
 use Rattle.plain_monitor.specs.declared.entry.Path.{Path}
 use Rattle.plain_monitor.specs.declared.entry.Path.TheVariants.{BiasOwn}
-use Rattle.core_world.specs.declared.name.Name.TheVariants.{Prototype}
+use Rattle.core_world.specs.declared.name.Name.TheVariants.{Prototype, Class}
 use Rattle.core_world.specs.declared.task.Op.TheVariants as op
 use Rattle.core_world.specs.declared.task.Task.TheVariants as task
 use Rattle.core_world.specs.declared.answer.BiasTry.{BiasTry}
@@ -18,10 +18,10 @@ use Rattle.core_world.specs.Threads.Known.{Start}
 use Rattle.core_world.specs.Trees.Plans.{Purpose, purpose, load, free_place}
 use Rattle.core_world.specs.Words.Shape.{Shape, class_of}
 use Rattle.core_world.specs.Threads.Stages.{Revocation}
-use Rattle.core_world.specs.Trees.Todo.{Todo, done, never, ◌>>=◌, ask, after_answer}
+use Rattle.core_world.specs.Trees.Todo.{Todo, done, never, ◌>>=◌, ask, after_answer, step}
 use Rattle.core_world.specs.Trees.BiasSteps.{bias_enter_at, bias_enter_by, bias_enter_steps, took_steps}
 use Rattle.core_world.specs.Trees.Operations.{goes_on_with, answer, enter_at, enter_revoked, enter_tried, full_steps, enter_steps}
-use Rattle.core_calls.specs.Bounds.{IsWithin, a_revocation}
+use Rattle.core_calls.specs.Bounds.{IsWithin, a_revocation, after_class}
 use Rattle.core_calls.proofs.Spends.{Spend, spend_never, spend_then}
 use Rattle.core_calls.proofs.LocksSpend.{Any, Nothing, stack_enter_spends}
 use Rattle.core_calls.proofs.PartsSpend.{took_spends}
@@ -71,22 +71,36 @@ module _ (s : Shape) (k : Start) (o now : ℕ) where
       spend_within _ 5 (at_mark (free_place k.local.holds == most_holds) k.requesting mark 5 none (unbiased mark 5 (ap is_biased_form is)
       (subst (λ (form : Option MarkForm). Spend Any Nothing 5 (enter_at form s entering k o mark)) (sym is) (stack_enter_spends entering k.local o (read_mark mark) mark))))
 
-  -- and at its second
-  at_prototype : (full requesting : Bool) (mark prototype n : ℕ) → requesting ≡ false → Spend Any Nothing n (after_answer (goes_on (by_mark mark)) prototype) → Spend Any Nothing n (after_answer (after_answer (cond full (full_steps k o) (cond requesting (enter_revoked s true entering k revoking) (bias_enter_steps s entering k.local o >>= λ tried. enter_tried tried s entering k revoking) >>= answer)) mark) prototype)
-  at_prototype true requesting mark prototype n none h = full (goes_on_with op.Enter o k.unfinished)
+  -- and behind its class
+  at_prototype : (full requesting : Bool) (mark class prototype n : ℕ) → requesting ≡ false → Spend Any Nothing n (after_answer (after_class s o class (goes_on (by_mark mark))) prototype) → Spend Any Nothing n (after_answer (after_class s o class (after_answer (cond full (full_steps k o) (cond requesting (enter_revoked s true entering k revoking) (bias_enter_steps s entering k.local o >>= λ tried. enter_tried tried s entering k revoking) >>= answer)) mark)) prototype)
+  at_prototype true requesting mark class prototype n none h = full (goes_on_with op.Enter o k.unfinished) (nat_lt o s.declared)
     where
-      full : (b : Bool) → Spend Any Nothing n (after_answer (after_answer (cond b never too_deep) mark) prototype)
-      full true = spend_never
-      full false = spend_never
-  at_prototype false true mark prototype n none h = absurd (cc none)
-  at_prototype false false mark prototype n none h = h
+      full : (b declared : Bool) → Spend Any Nothing n (after_answer (cond declared (after_answer (cond b never too_deep) mark) (after_answer (after_answer (cond b never too_deep) mark) class)) prototype)
+      full true true = spend_never
+      full true false = spend_never
+      full false true = spend_never
+      full false false = spend_never
+  at_prototype false true mark class prototype n none h = absurd (cc none)
+  at_prototype false false mark class prototype n none h = h
 
-  biased : (mark prototype n : ℕ) → is_biased mark ≡ true → Spend Any Nothing n (goes_on (bias_enter_by (read_mark prototype) entering k.local o mark prototype)) → Spend Any Nothing n (after_answer (goes_on (by_mark mark)) prototype)
-  biased mark prototype n so h = by_bias (is_biased mark) so
+  -- what is to do with the prototype of this class
+  abbrev with_class : ℕ → ℕ → Todo BiasTry
+  with_class mark class = ask (load entering (Prototype class)) >>= λ prototype. bias_enter_by (read_mark prototype) entering k.local o mark prototype
+
+  -- the enter behind the load of its mark, by whether that has the bias pattern and whether o is declared
+  abbrev by_class : Bool → Bool → ℕ → Todo (Result (Turn Path) TooDeep)
+  by_class b declared mark =
+      goes_on (cond b (cond declared (done (class_of s o)) (step (load entering (Class o)) (λ word. done (word - 1))) >>= λ class. with_class mark class) (done (Unbiased mark)))
+
+  biased : (mark class prototype n : ℕ) → is_biased mark ≡ true → Spend Any Nothing n (goes_on (bias_enter_by (read_mark prototype) entering k.local o mark prototype))
+      → Spend Any Nothing n (after_answer (after_class s o class (goes_on (by_mark mark))) prototype)
+  biased mark class prototype n so h = by_bias (is_biased mark) so (nat_lt o s.declared)
     where
-      by_bias : (b : Bool) → b ≡ true → Spend Any Nothing n (after_answer (goes_on (cond b (ask (load entering (Prototype (class_of s o))) >>= λ prototype. bias_enter_by (read_mark prototype) entering k.local o mark prototype) (done (Unbiased mark)))) prototype)
-      by_bias true so = h
-      by_bias false so = absurd (cc so)
+      by_bias : (b : Bool) → b ≡ true → (declared : Bool)
+          → Spend Any Nothing n (after_answer (cond declared (by_class b declared mark) (after_answer (by_class b declared mark) class)) prototype)
+      by_bias true so true = h
+      by_bias true so false = h
+      by_bias false so declared = absurd (cc so)
 
   -- the hold alone is stored
   own : (epoch age mark : ℕ) → Spend Any Nothing 3 (goes_on (bias_enter_at (Some (Biased k.local.thread epoch age)) epoch entering k.local o mark))
@@ -98,8 +112,8 @@ module _ (s : Shape) (k : Start) (o now : ℕ) where
       by_epoch true so true c_so x =
           spend_then (took_spends entering k.local o (a_revocation s + 18) 17 BiasOwn) (tried_spends s entering k revoking)
 
-  pub own_enter : (mark prototype epoch age other : ℕ) → k.requesting ≡ false → read_mark mark ≡ Some (Biased k.local.thread epoch age) → read_mark prototype ≡ Some (Anonymous epoch other) → IsWithin 3 (after_answer (after_answer (enter_steps s k o now) mark) prototype)
-  own_enter mark prototype epoch age other none is valid =
-      spend_within _ 3 (at_prototype (free_place k.local.holds == most_holds) k.requesting mark prototype 3 none (biased mark prototype 3 (ap is_biased_form is)
+  pub own_enter : (mark class prototype epoch age other : ℕ) → k.requesting ≡ false → read_mark mark ≡ Some (Biased k.local.thread epoch age) → read_mark prototype ≡ Some (Anonymous epoch other) → IsWithin 3 (after_answer (after_class s o class (after_answer (enter_steps s k o now) mark)) prototype)
+  own_enter mark class prototype epoch age other none is valid =
+      spend_within _ 3 (at_prototype (free_place k.local.holds == most_holds) k.requesting mark class prototype 3 none (biased mark class prototype 3 (ap is_biased_form is)
       (subst (λ (form : Option MarkForm). Spend Any Nothing 3 (goes_on (bias_enter_by form entering k.local o mark prototype))) (sym valid)
       (subst (λ (form : Option MarkForm). Spend Any Nothing 3 (goes_on (bias_enter_at form epoch entering k.local o mark))) (sym is) (own epoch age mark)))))

@@ -37,7 +37,7 @@ use Rattle.core_calls.specs.Paths.{made, Always}
 use Rattle.core_calls.specs.Bounds.{a_deflation}
 use Rattle.core_calls.specs.CallsSay.{unfinished_on}
 use Rattle.core_calls.proofs.Paths.{always_then, either_way}
-use Rattle.core_calls.proofs.Spends.{Spends, Spend, spend_done, spend_never, spend_more, spend_step, spend_either, spend_then, spend_leaving, spend_all}
+use Rattle.core_calls.proofs.Spends.{Spends, Spend, spend_done, spend_never, spend_more, spend_step, spend_either, spend_then, spend_leaving, spend_all, spend_class}
 use Rattle.core_calls.proofs.DeflationSpends.{each_spends}
 use Rattle.core_calls.proofs.OperationsSay.{working}
 use Rattle.core_calls.proofs.Runs.{on_path, knows}
@@ -90,19 +90,20 @@ module _ (e : Purpose) where
   owner_plain (Some Free) = spend_done (omega arith)
   owner_plain None = spend_done (omega arith)
 
-  behind_plain : (s : Shape) (o : ℕ) (form : Option MarkForm) → Spend IsPlain (λ _. 0) 65 (look_behind form e s o)
+  behind_plain : (s : Shape) (o : ℕ) (form : Option MarkForm) → Spend IsPlain (λ _. 0) 66 (look_behind form e s o)
   behind_plain s o (Some (Biased thread epoch age)) =
-      plain {n = 64} refl (λ prototype. spend_either (has_epoch (epoch_in prototype) epoch) (holds_plain thread) (spend_done (omega arith)))
+      spend_class {n = 65} e Calm s o (record { none = refl }) (λ class. plain {n = 64} refl (λ prototype.
+      spend_either (has_epoch (epoch_in prototype) epoch) (holds_plain thread) (spend_done (omega arith))))
   behind_plain s o (Some (Locked thread place)) = spend_more (omega arith) (holds_plain thread)
-  behind_plain s o (Some (Inflated monitor)) = plain {n = 64} refl (λ owner. owner_plain (read_owner owner))
+  behind_plain s o (Some (Inflated monitor)) = spend_more {n = 65} (omega arith) (plain {n = 64} refl (λ owner. owner_plain (read_owner owner)))
   behind_plain s o (Some Inflating) = spend_done (omega arith)
   behind_plain s o (Some (Neutral hash age)) = spend_done (omega arith)
   behind_plain s o (Some (Anonymous epoch age)) = spend_done (omega arith)
   behind_plain s o (Some Marked) = spend_done (omega arith)
   behind_plain s o None = spend_done (omega arith)
 
-  objects_plain : (s : Shape) → Spend IsPlain (λ _. 0) (length s.objects * 66) (look_at_objects e s)
-  objects_plain s = spend_all {n = 66} 0 (length s.objects) (λ o. plain {n = 65} refl (λ mark. behind_plain s o (read_mark mark)))
+  objects_plain : (s : Shape) → Spend IsPlain (λ _. 0) (length s.objects * 67) (look_at_objects e s)
+  objects_plain s = spend_all {n = 67} 0 (length s.objects) (λ o. plain {n = 66} refl (λ mark. behind_plain s o (read_mark mark)))
 
   -- the last step of a shot keeps it
   shot_kept : (s : Shape) (ms : List StepMade) → kept_shots ms ≡ 0 → Always (λ ms _. kept_shots ms ≡ 1) ms (take_shot_steps e s)

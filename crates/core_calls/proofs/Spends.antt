@@ -1,12 +1,15 @@
 -- How many steps trees make at most, and of what kind.
-use Rattle.std.proofs.Common.{◌≡◌, ℕ, zero, suc, ◌+◌, ◌*◌, ◌≤◌, cond, Bool, true, false, List, ◌∷◌, length, arith}
+use Rattle.std.proofs.Common.{◌≡◌, ℕ, zero, suc, ◌+◌, ◌*◌, ◌≤◌, cond, Bool, true, false, List, ◌∷◌, length, arith, ◌-◌, nat_lt, refl}
 use Rattle.core_world.specs.declared.plan.Note.TheVariants.{Quiet}
 use Rattle.core_world.specs.declared.plan.StepPlan.{StepPlan}
 use Rattle.core_world.specs.Threads.Known.{StepMade}
-use Rattle.core_world.specs.Trees.Plans.{Purpose}
+use Rattle.core_world.specs.Trees.Plans.{Purpose, load_plan, class_steps}
 use Rattle.core_world.specs.Trees.Todo.{Todo, done, never, step, ◌>>=◌, each_from, all_from}
 use Rattle.core_calls.specs.Paths.{made, Always}
 use Rattle.core_calls.proofs.Paths.{Silent, IsQuiet, still_leaves}
+use Rattle.core_world.specs.Words.Shape.{Shape, class_of}
+use Rattle.core_world.specs.declared.stage.Stage.{Stage}
+use Rattle.core_world.specs.declared.name.Name.TheVariants.{Class}
 
 -- Each step is such a one, there are at most n of them, and at the end as many are left as the answer asks for.
 abbrev pub Spends : {A : Type 0} → (StepPlan → Type 0) → (A → ℕ) → ℕ → Todo A → Type 0
@@ -58,6 +61,15 @@ module _ {Q : StepPlan → Type 0} where
   pub spend_then : {A B : Type 0} {r : A → ℕ} {rest : B → ℕ} {d : Todo A} {f : A → Todo B} {n : ℕ} → Spend Q r n d → ((a : A) → Spend Q rest (r a) (f a)) → Spend Q rest n (d >>= f)
   spend_then {A} {B} {r} {rest} {d} {f} {n} h g = record { by = then_spends Q r rest d f n h.by (λ a. (g a).by) }
 
+  -- the class of an object takes at most a step
+  pub spend_class : {A : Type 0} {rest : A → ℕ} {f : ℕ → Todo A} {n : ℕ} (e : Purpose) (stage : Stage) (s : Shape) (o : ℕ) → Q (load_plan e stage (Class o))
+      → ((class : ℕ) → Spend Q rest n (f class)) → Spend Q rest (n + 1) (class_steps e stage s o >>= f)
+  spend_class {A} {rest} {f} {n} e stage s o q h = by_test (nat_lt o s.declared)
+    where
+      by_test : (b : Bool) → Spend Q rest (n + 1) (cond b (done (class_of s o)) (step (load_plan e stage (Class o)) (λ word. done (word - 1))) >>= f)
+      by_test true = spend_more (omega arith) (h (class_of s o))
+      by_test false = spend_more (omega arith) (spend_step {n = n} q (λ word. h (word - 1)))
+
   -- as many steps more are left behind it
   pub spend_leaving : {A : Type 0} {d : Todo A} {n : ℕ} (k : ℕ) → Spend Q (λ _. 0) n d → Spend Q (λ _. k) (n + k) d
   spend_leaving {A} {d} {n} k h = record { by = leaving Q k d n h.by }
@@ -102,3 +114,7 @@ spend_any {A} {Q} {rest} {d} {n} h = record { by = any_kind Q rest d n h.by }
 
 pub quiet_step : {A : Type 0} {e : Purpose} {rest : A → ℕ} {p : StepPlan} {f : ℕ → Todo A} {n : ℕ} → p.note ≡ Quiet → p.after ≡ e.unfinished → p.check ≡ e.check → ((w : ℕ) → Spend (IsQuiet e) rest n (f w)) → Spend (IsQuiet e) rest (suc n) (step p f)
 quiet_step note unfinished check h = spend_step (record { note = note; unfinished = unfinished; check = check }) h
+
+pub quiet_class : {A : Type 0} {rest : A → ℕ} {f : ℕ → Todo A} {n : ℕ} (e : Purpose) (stage : Stage) (s : Shape) (o : ℕ) → ((class : ℕ) → Spend (IsQuiet e) rest n (f class))
+    → Spend (IsQuiet e) rest (n + 1) (class_steps e stage s o >>= f)
+quiet_class e stage s o h = spend_class e stage s o (record { note = refl; unfinished = refl; check = refl }) h

@@ -1,9 +1,9 @@
 -- Trees that leave the safepoint word alone: none of their steps is on it but loads. So their thread stands after them as it stood before.
-use Rattle.std.proofs.Common.{◌≡◌, ◌≢◌, ℕ, zero, suc, ◌+◌, ◌%◌, cond, Bool, true, false, List, ◌∷◌, refl, sym, subst}
+use Rattle.std.proofs.Common.{◌≡◌, ◌≢◌, ℕ, zero, suc, ◌+◌, ◌%◌, cond, Bool, true, false, List, ◌∷◌, refl, sym, subst, ◌-◌, nat_lt}
 use Rattle.core_world.specs.declared.act.Act.{Act}
 use Rattle.core_world.specs.declared.act.Act.TheVariants.{Load, Store}
 use Rattle.core_world.specs.declared.name.Name.{Name}
-use Rattle.core_world.specs.declared.name.Name.TheVariants.{Safepoint, Mark}
+use Rattle.core_world.specs.declared.name.Name.TheVariants.{Safepoint, Mark, Class}
 use Rattle.core_world.specs.declared.plan.StepPlan.{StepPlan}
 use Rattle.core_world.specs.declared.answer.StackOut.{StackOut}
 use Rattle.core_world.specs.declared.answer.StackOut.TheVariants.{Left, Monitor, Not}
@@ -16,6 +16,9 @@ use Rattle.core_world.specs.Threads.Known.{StepMade}
 use Rattle.core_world.specs.Trees.Todo.{Todo, done, never, step, ◌>>=◌, each_from, all_from}
 use Rattle.core_calls.specs.Paths.{made, Always}
 use Rattle.core_calls.specs.Stands.{Stand, IsGoing, FoundTrue, stand_by, stand_behind, TurnStands}
+use Rattle.core_world.specs.Trees.Plans.{Purpose, load_plan, class_steps}
+use Rattle.core_world.specs.Words.Shape.{Shape, class_of}
+use Rattle.core_world.specs.declared.stage.Stage.{Stage}
 
 -- TESTS OF STEPS. The step is on another word, or is a load.
 abbrev pub IsApart : Name → Act → Type 0
@@ -107,6 +110,14 @@ pub stay_each : {T : Name → Act → Type 0} {A : Type 0} {f : ℕ → Todo A} 
 stay_each i zero h = stay_done tt
 stay_each {T} {A} {f} i (suc n) h =
     stay_then {d = f i} (h i) (λ a _. stay_then {d = each_from (i + 1) n f} (stay_each (i + 1) n h) (λ xs _. stay_done tt))
+
+pub stay_class : {T : Name → Act → Type 0} {A : Type 0} {R : A → Type 0} {f : ℕ → Todo A} (e : Purpose) (stage : Stage) (s : Shape) (o : ℕ)
+    → T (Class o) Load → ((class : ℕ) → Passes T R (f class)) → Passes T R (class_steps e stage s o >>= f)
+stay_class {T} {A} {R} {f} e stage s o h g = by_test (nat_lt o s.declared)
+  where
+    by_test : (b : Bool) → Passes T R (cond b (done (class_of s o)) (step (load_plan e stage (Class o)) (λ word. done (word - 1))) >>= f)
+    by_test true = g (class_of s o)
+    by_test false = stay_step h (λ word. g (word - 1))
 
 -- A STEP THAT SPARES is apart.
 sparing_apart : (at : Name) (act : Act) → IsSparing at act → IsApart at act

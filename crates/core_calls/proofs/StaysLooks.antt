@@ -21,16 +21,17 @@ use Rattle.core_world.specs.declared.name.Name.TheVariants as name
 use Rattle.core_world.specs.declared.act.Act.TheVariants.{Load, Store}
 use Rattle.core_world.specs.declared.stage.Stage.{Stage}
 use Rattle.core_world.specs.Words.Forms.{epoch_in, is_biased, monitor_in, names, hold_word}
-use Rattle.core_world.specs.Words.Shape.{Shape, class_of, monitor_count}
+use Rattle.core_world.specs.Words.Shape.{Shape, monitor_count}
 use Rattle.core_world.specs.Locks.{has_epoch, is_valid_bias, hold_count}
 use Rattle.core_world.specs.Threads.Stages.{Revocation}
 use Rattle.core_world.specs.RevocationRules.{Write, write, first_place, revoke_biased, record_writes, store_where, with_epoch, raised_form, biased_word, object_held}
 use Rattle.core_world.specs.Trees.DeflateSteps.{look_at, give_back_steps, is_untouched, deflate_free, deflate_named, names_monitor, deflate_monitor, deflate_steps}
 use Rattle.core_world.specs.Trees.LookSteps.{look_at_holds, look_at_owner, look_behind, look_at_objects, take_shot_steps, look_at_monitor, look_at_object, look_at_wait, stands_still_steps}
 use Rattle.core_world.specs.Trees.Plans.{Purpose, load}
-use Rattle.core_world.specs.Trees.RevocationSteps.{look, store_steps, revoke_at, revoke_steps, visit_held, walk_steps, take_bias_steps, next_epoch, bulk_rebias_steps, bulk_revoke_steps, verdict_steps, decided_steps, revoke_at_safepoint_steps}
+use Rattle.core_world.specs.Trees.RevocationSteps.{look, store_steps, revoke_at, revoke_steps, visit_held, walk_steps, take_bias_steps, next_epoch, bulk_rebias_steps, bulk_revoke_steps, verdict_steps, decided_steps, revoke_at_safepoint_steps, revocation_stage}
 use Rattle.core_world.specs.Trees.Todo.{Todo, done, ◌>>=◌, ask, each_from}
-use Rattle.core_calls.proofs.Stays.{Passes, Stay, Whatever, IsPlainMark, IsSparing, spares_apart, stay_done, stay_never, stay_step, stay_either, stay_then, stay_next, stay_all, stay_each}
+use Rattle.core_calls.proofs.Stays.{Passes, Stay, Whatever, IsPlainMark, IsSparing, spares_apart, stay_done, stay_never, stay_step, stay_either, stay_then, stay_next, stay_all, stay_each, stay_class}
+use Rattle.core_world.specs.declared.stage.Stage.TheVariants.{Calm}
 
 abbrev Spares : {A : Type 0} → Todo A → Type 0
 Spares d = Passes IsSparing Whatever d
@@ -51,7 +52,7 @@ module _ (e : Purpose) (s : Shape) where
 
   behind_spares : (form : Option MarkForm) (o : ℕ) → Spares (look_behind form e s o)
   behind_spares (Some (Biased thread epoch age)) o =
-      stay_step tt (λ prototype. stay_either (has_epoch (epoch_in prototype) epoch) (holds_spare thread) (stay_done tt))
+      stay_class e Calm s o tt (λ class. stay_step tt (λ prototype. stay_either (has_epoch (epoch_in prototype) epoch) (holds_spare thread) (stay_done tt)))
   behind_spares (Some (Locked thread place)) o = holds_spare thread
   behind_spares (Some (Inflated monitor)) o = stay_step tt (λ owner. owner_spares (read_owner owner))
   behind_spares _ o = stay_done tt
@@ -142,7 +143,8 @@ module _ (e : Purpose) (b : Revocation) where
   module _ (s : Shape) (c : ℕ) (visit : ℕ → ℕ → Todo (Unit {0})) (each : (o mark : ℕ) → Spares (visit o mark)) where
     visit_spares : (held : Option ℕ) → Spares (visit_held s c e b visit held)
     visit_spares None = stay_done tt
-    visit_spares (Some o) = stay_either (class_of s o == c) (stay_step tt (λ mark. stay_either (is_biased mark) (each o mark) (stay_done tt))) (stay_done tt)
+    visit_spares (Some o) =
+        stay_class e (revocation_stage b) s o tt (λ class. stay_either (class == c) (stay_step tt (λ mark. stay_either (is_biased mark) (each o mark) (stay_done tt))) (stay_done tt))
 
     place_spares : (t p : ℕ) → Spares (look e b (name.Hold t p) >>= λ hold. visit_held s c e b visit (object_held (read_hold hold)))
     place_spares t p = stay_step tt (λ hold. visit_spares (object_held (read_hold hold)))
@@ -200,8 +202,8 @@ module _ (e : Purpose) (b : Revocation) where
 
   pub revocation_spares : (s : Shape) (t : ℕ) → Spares (revoke_at_safepoint_steps s t e b)
   revocation_spares s t =
-      stay_step tt (λ mark. stay_step tt (λ prototype. stay_step tt (λ count. stay_step tt (λ last.
-      stay_either (is_valid_bias (read_mark mark) prototype) (decided_spares s t (class_of s b.object) (epoch_in prototype) count last) stay_never))))
+      stay_step tt (λ mark. stay_class e Calm s b.object tt (λ class. stay_step tt (λ prototype. stay_step tt (λ count. stay_step tt (λ last.
+      stay_either (is_valid_bias (read_mark mark) prototype) (decided_spares s t class (epoch_in prototype) count last) stay_never)))))
 
 -- so they leave the safepoint word alone
 pub shot_stays : (e : Purpose) (s : Shape) → Stay Whatever (take_shot_steps e s)

@@ -14,7 +14,7 @@ ghost use Rattle.core_world.specs.Words.Shape.{Shape};
 ghost use Rattle.core_world.specs.Threads.Stages.{Revocation};
 ghost use Rattle.core_world.specs.Steps.{rest_of_call};
 ghost use Rattle.core_world.specs.Trees.Todo.{after_answer, head};
-ghost use Rattle.core_calls.specs.Bounds.{IsWithin, a_revocation, most_steps};
+ghost use Rattle.core_calls.specs.Bounds.{IsWithin, a_revocation, after_class, most_steps};
 
 /// Whatever words its steps find, and whatever other threads do, a call makes at most `most_steps` steps: no call waits or tries again. So
 /// it is of a whole run, and of a call that goes on: where a step is to come, fewer were made.
@@ -29,16 +29,16 @@ pub fn every_call_is_bounded()
 {}
 
 /// The enters that are common take few steps, where the thread has no request that stands. Behind the load of a mark without the bias pattern there are at most 17, and 5 where it is neutral.
-/// Behind the loads of a mark that is biased to the thread and of a prototype with the same epoch there are at most 3.
+/// Behind the loads of a mark that is biased to the thread, of the object's class where it isn't declared, and of a prototype with the same epoch there are at most 3.
 pub fn common_enters_are_short()
     ensures free { (s : Shape) (k : Start) (o now mark hash age : ℕ) → k.requesting ≡ false
         → read_mark mark ≡ Some (Neutral hash age)
         → IsWithin 5 (after_answer (enter_steps s k o now) mark) }
     ensures unbiased { (s : Shape) (k : Start) (o now mark : ℕ) → k.requesting ≡ false → is_biased mark ≡ false
         → IsWithin 17 (after_answer (enter_steps s k o now) mark) }
-    ensures own { (s : Shape) (k : Start) (o now mark prototype epoch age other : ℕ) → k.requesting ≡ false
+    ensures own { (s : Shape) (k : Start) (o now mark class prototype epoch age other : ℕ) → k.requesting ≡ false
         → read_mark mark ≡ Some (Biased k.local.thread epoch age) → read_mark prototype ≡ Some (Anonymous epoch other)
-        → IsWithin 3 (after_answer (after_answer (enter_steps s k o now) mark) prototype) }
+        → IsWithin 3 (after_answer (after_class s o class (after_answer (enter_steps s k o now) mark)) prototype) }
 {}
 
 /// A revocation at a safepoint, with its request, the idle monitors that it gives back, and its release, takes at most so many steps.

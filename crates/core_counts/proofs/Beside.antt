@@ -6,8 +6,8 @@ use Rattle.plain_monitor.specs.declared.entry.Path.{Path}
 use Rattle.plain_monitor.specs.declared.entry.Path.TheVariants.{BiasTaken}
 use Rattle.plain_monitor.specs.Order.{order}
 use Rattle.core_world.specs.declared.name.Name.{Name}
-use Rattle.core_world.specs.declared.name.Name.TheVariants.{Revocations}
-use Rattle.core_world.specs.Words.Names.{class_by}
+use Rattle.core_world.specs.declared.name.Name.TheVariants.{Revocations, Class}
+use Rattle.core_world.specs.Words.Names.{class_by, has_class}
 use Rattle.core_world.specs.Threads.Counts.{ClassCounts, counts_of}
 use Rattle.core_world.specs.Words.Forms.{is_biased}
 use Rattle.core_world.specs.Threads.Known.{Known}
@@ -19,7 +19,7 @@ use Rattle.core_world.specs.declared.act.Act.TheVariants as act
 use Rattle.core_world.specs.declared.plan.StepPlan.{StepPlan}
 use Rattle.core_world.specs.Steps.{world_after, known_hit, known_miss}
 use Rattle.core_counts.specs.Steps.{IsBeside}
-use Rattle.core_counts.proofs.Leaning.{left_biases, left_counts}
+use Rattle.core_counts.proofs.Leaning.{left_biases, left_counts, left_classes, by_class_words}
 use Rattle.core_world.specs.World.{World, with_word_and_known, logs}
 use Rattle.core_law.specs.BiasLaw.{BiasLaw, BiasLawHolds}
 use Rattle.plain_history.specs.EnterPaths.{PathFits, entries_on, is_by_bias}
@@ -31,7 +31,8 @@ use Rattle.core_world.proofs.KnowledgeParts.{with_known_here, with_known_else, p
 use Rattle.core_counts.proofs.Whole.{quiet_law}
 
 module _ (w : World) (at : Name) (v t : ℕ) (l : Known) (law : BiasLawHolds w) (same_log : l.log ≡ (w.known t).log) (same_counts : l.counts ≡ (w.known t).counts)
-    (goes : (l.unfinished ≡ (w.known t).unfinished) ⊎ ((w.known t).unfinished ≡ None)) (same_count : (c : ℕ) → (with_word_and_known at v t l w).words (Revocations c) ≡ w.words (Revocations c)) where
+    (goes : (l.unfinished ≡ (w.known t).unfinished) ⊎ ((w.known t).unfinished ≡ None)) (same_count : (c : ℕ) → (with_word_and_known at v t l w).words (Revocations c) ≡ w.words (Revocations c))
+    (same_class : (i : ℕ) → (with_word_and_known at v t l w).words (Class i) ≡ w.words (Class i)) where
   abbrev x : World
   x = with_word_and_known at v t l w
 
@@ -60,21 +61,24 @@ module _ (w : World) (at : Name) (v t : ℕ) (l : Known) (law : BiasLawHolds w) 
       → TakesFreeBiases t (class_by w.shape w.words) (marks w) (lock w) (λ u. (w.known u).stage) rebiased revoked (marks x) (lock x) (λ u. (x.known u).stage) rebiased revoked
       → ((i : ℕ) (path : Path) → path_into l.stage i ≡ Some path → PathFits (held_by nothing_held (w.known t).log) (entry.Enter i path)) → BiasLawHolds x
   quiet_world a free fits =
-      subst (λ (f : ℕ → ℕ). BiasLaw w.biasing w.shape.threads w.shape.classes (class_by w.shape w.words) (marks x) (lock x) (λ i. entries_on i (order (logs x)))
+      by_class_words (λ there class. BiasLaw w.biasing w.shape.threads w.shape.classes there class (marks x) (lock x)
+      (λ i. entries_on i (order (logs x))) (λ u. (x.known u).log) (λ u. (x.known u).stage) (λ u. (x.known u).unfinished)
+      (λ c. x.words (Revocations c)) (λ u. counts_of (x.known u).counts)) w.shape w.words x.words (λ i. sym (same_class i))
+      (subst (λ (f : ℕ → ℕ). BiasLaw w.biasing w.shape.threads w.shape.classes (has_class w.shape w.words) (class_by w.shape w.words) (marks x) (lock x) (λ i. entries_on i (order (logs x)))
       (λ u. (x.known u).log) (λ u. (x.known u).stage) (λ u. (x.known u).unfinished) f (λ u. counts_of (x.known u).counts))
       (λ i. λ c. sym (same_count c) i)
-      (subst (λ (f : ℕ → ℕ → ClassCounts). BiasLaw w.biasing w.shape.threads w.shape.classes (class_by w.shape w.words) (marks x) (lock x) (λ i. entries_on i (order (logs x)))
+      (subst (λ (f : ℕ → ℕ → ClassCounts). BiasLaw w.biasing w.shape.threads w.shape.classes (has_class w.shape w.words) (class_by w.shape w.words) (marks x) (lock x) (λ i. entries_on i (order (logs x)))
       (λ u. (x.known u).log) (λ u. (x.known u).stage) (λ u. (x.known u).unfinished) (λ c. w.words (Revocations c)) f)
       (part_moves (λ k. counts_of k.counts) t l w.known (ap counts_of (sym same_counts)))
-      (subst (λ (f : ℕ → List Logged). BiasLaw w.biasing w.shape.threads w.shape.classes (class_by w.shape w.words) (marks x) (lock x) (λ i. entries_on i (order (logs x)))
+      (subst (λ (f : ℕ → List Logged). BiasLaw w.biasing w.shape.threads w.shape.classes (has_class w.shape w.words) (class_by w.shape w.words) (marks x) (lock x) (λ i. entries_on i (order (logs x)))
       f (λ u. (x.known u).stage) (λ u. (x.known u).unfinished) (λ c. w.words (Revocations c)) (λ u. counts_of (w.known u).counts))
       (part_moves (λ k. k.log) t l w.known (sym same_log))
-      (subst (λ (ls : List (List Logged)). BiasLaw w.biasing w.shape.threads w.shape.classes (class_by w.shape w.words) (marks x) (lock x) (λ i. entries_on i (order ls))
+      (subst (λ (ls : List (List Logged)). BiasLaw w.biasing w.shape.threads w.shape.classes (has_class w.shape w.words) (class_by w.shape w.words) (marks x) (lock x) (λ i. entries_on i (order ls))
       (λ u. (w.known u).log) (λ u. (x.known u).stage) (λ u. (x.known u).unfinished) (λ c. w.words (Revocations c)) (λ u. counts_of (w.known u).counts))
       (sym (logs_stay 0 w.shape.threads t l w.known same_log))
-      (quiet_law w.biasing w.shape.threads w.shape.classes (class_by w.shape w.words) (marks w) (lock w) (λ i. entries_on i (order (logs w))) (λ u. (w.known u).log) (λ u. (w.known u).stage)
+      (quiet_law w.biasing w.shape.threads w.shape.classes (has_class w.shape w.words) (class_by w.shape w.words) (marks w) (lock w) (λ i. entries_on i (order (logs w))) (λ u. (w.known u).log) (λ u. (w.known u).stage)
       (λ u. (w.known u).unfinished) (λ c. w.words (Revocations c)) (λ u. counts_of (w.known u).counts) (marks x) (lock x) (λ u. (x.known u).stage) (λ u. (x.known u).unfinished) t law
-      rest_stays a free (λ i path h. fits i path (ap (λ s. path_into s i) (sym stage_is) ∙ h)) mine_goes))))
+      rest_stays a free (λ i path h. fits i path (ap (λ s. path_into s i) (sym stage_is) ∙ h)) mine_goes)))))
 
   -- a step that leaves the biases frees none
   takes_none : BiasesKept (marks w) (lock w) (marks x) (lock x) → ((i : ℕ) → path_into (x.known t).stage i ≡ Some BiasTaken → path_into (w.known t).stage i ≡ Some BiasTaken)
@@ -155,7 +159,8 @@ module _ (w : World) (t : ℕ) (p : StepPlan) (law : BiasLawHolds w) where
   without : hits p.act (w.words p.at) ≡ false → BiasLawHolds (with false)
   without h =
       let leaves = inr (inl (missed p.act (w.words p.at) h)) in
-      same_world w p.at (word_after p.act (w.words p.at)) t miss law refl refl (inl refl) (left_counts w p.at _ t miss leaves) (left_biases w p.at _ t miss leaves) (λ i. refl)
+      same_world w p.at (word_after p.act (w.words p.at)) t miss law refl refl (inl refl)
+      (left_counts w p.at _ t miss leaves) (left_classes w p.at _ t miss leaves) (left_biases w p.at _ t miss leaves) (λ i. refl)
 
   -- one that misses
   pub missed_keeps : hits p.act (w.words p.at) ≡ false → BiasLawHolds (world_after p t w)
@@ -174,4 +179,4 @@ module _ (w : World) (t : ℕ) (p : StepPlan) (law : BiasLawHolds w) where
   beside_keeps a = hit_keeps (λ h.
       same_world w p.at (word_after p.act (w.words p.at)) t hit law
       a.log (a.own (w.known t).counts) a.goes_on
-      (left_counts w p.at _ t hit a.leaves) (left_biases w p.at _ t hit a.leaves) a.stands)
+      (left_counts w p.at _ t hit a.leaves) (left_classes w p.at _ t hit a.leaves) (left_biases w p.at _ t hit a.leaves) a.stands)

@@ -3,7 +3,7 @@ use Rattle.std.proofs.Common.{◌≡◌, ◌≢◌, ◌⊎◌, ℕ, zero, suc, �
 use Rattle.std.proofs.Math.Nat.{mod-lt}
 use Rattle.mark_word.specs.Mark.{read_mark}
 use Rattle.plain_monitor.specs.Objects.{PlainObject}
-use Rattle.core_world.specs.declared.name.Name.TheVariants.{Mark, Prototype}
+use Rattle.core_world.specs.declared.name.Name.TheVariants.{Mark, Prototype, Class}
 use Rattle.core_world.specs.declared.stage.Stage.TheVariants.{Calm}
 use Rattle.core_world.specs.declared.task.Op.TheVariants as op
 use Rattle.core_world.specs.Clauses.Classes.{bulk_rebiases, bulk_revokes}
@@ -54,7 +54,7 @@ module _ (w : World) (t o new : ℕ) (l : Known) (law : BiasLawHolds w) (same_lo
   revoked i = sum_below w.shape.threads (λ u. (counts_of (w.known u).counts (class_by w.shape w.words i)).revoke)
 
   dropped_hit : BiasLawHolds x
-  dropped_hit = quiet_world w (Mark o) new t l law same_log same_counts goes (λ c. refl)
+  dropped_hit = quiet_world w (Mark o) new t l law same_log same_counts goes (λ c. refl) (λ i. refl)
       (record {
         pattern = λ i h. by_equal i o (λ s. ap (λ j. is_biased (marks w j)) s ∙ biased) (λ d. ap is_biased (sym (away i d)) ∙ h);
         owners = λ i u h. by_equal i o
@@ -98,7 +98,8 @@ pub bias_dropped : (w : World) (P : List PlainObject) (t : ℕ) (e : Purpose) (o
 bias_dropped w P t e o mark prototype neutral within may v law =
     hit_keeps w t (unbias_plan e o mark neutral) law (λ h.
     let is : marks w o ≡ mark = eqb-true (marks w o) mark h in
-    let class : class_by w.shape w.words o ≡ may.saw.class = class_seen w.shape w.words (w.known t).seen o may.saw.class may.saw.saw_class in
+    let class : class_by w.shape w.words o ≡ may.saw.class =
+    class_seen w.shape w.words (w.known t).seen o may.saw.class (λ c k d. v.seen.stays t (Class o) c k (inl (may.runs, d))) may.saw.saw_class in
     let proto : prototype_of w o ≡ prototype = ap (λ c. w.words (Prototype c)) class ∙ v.seen.stays t (Prototype may.saw.class) prototype may.saw.seen (inl (may.runs, tt)) in
     let biased : is_biased (marks w o) ≡ true = ap is_biased is ∙ may.saw.biased in
     let free : is_valid_bias (read_mark (marks w o)) (prototype_of w o) ≡ false = ap (λ m. is_valid_bias (read_mark m) (prototype_of w o)) is ∙ ap (is_valid_bias (read_mark mark)) proto ∙ may.saw.free in

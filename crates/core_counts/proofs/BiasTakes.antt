@@ -12,7 +12,7 @@ use Rattle.plain_monitor.specs.Objects.{PlainObject}
 use Rattle.plain_monitor.specs.Order.{order}
 use Rattle.plain_history.specs.EnterPaths.{PathFits, entries_on, is_by_bias}
 use Rattle.plain_history.specs.HeldByLog.{held_by, nothing_held}
-use Rattle.core_world.specs.declared.name.Name.TheVariants.{Mark, Prototype}
+use Rattle.core_world.specs.declared.name.Name.TheVariants.{Mark, Prototype, Class}
 use Rattle.core_world.specs.declared.stage.Stage.TheVariants.{Calm, Takes}
 use Rattle.core_world.specs.Threads.Counts.{counts_of}
 use Rattle.core_world.specs.Clauses.Classes.{bulk_revokes}
@@ -126,7 +126,7 @@ module _ (w : World) (t o mark found epoch : ℕ) (e : Purpose) (within : t < w.
       (subst (λ q. PathFits (held_by nothing_held (w.known t).log) (entry.Enter o q)) only.1 first)
 
   taken_hit : BiasLawHolds z
-  taken_hit = quiet_world w (Mark o) (mark_of (Biased t epoch 0)) t k law refl refl goes (λ c. refl) quietly takes_free (λ i path h. path_fits i path (ap (λ s. path_into s i) stage_is ∙ h))
+  taken_hit = quiet_world w (Mark o) (mark_of (Biased t epoch 0)) t k law refl refl goes (λ c. refl) (λ i. refl) quietly takes_free (λ i path h. path_fits i path (ap (λ s. path_into s i) stage_is ∙ h))
 
 -- a class with such a prototype wasn't revoked in bulk
 unrevoked_of : (w : World) (P : List PlainObject) (o epoch : ℕ) → Fits w P → is_biased (marks w o) ≡ true → epoch_in (prototype_of w o) ≡ Some epoch
@@ -150,7 +150,8 @@ pub bias_taken : (w : World) (P : List PlainObject) (t : ℕ) (e : Purpose) (o m
 bias_taken w P t e o mark prototype epoch within may v law =
     hit_keeps w t (rebias_plan e t o mark epoch) law (λ h.
     let is : marks w o ≡ mark = eqb-true (marks w o) mark h in
-    let class : class_by w.shape w.words o ≡ may.saw.class = class_seen w.shape w.words (w.known t).seen o may.saw.class may.saw.saw_class in
+    let class : class_by w.shape w.words o ≡ may.saw.class =
+    class_seen w.shape w.words (w.known t).seen o may.saw.class (λ c k d. v.seen.stays t (Class o) c k (inl (may.runs, d))) may.saw.saw_class in
     let proto : prototype_of w o ≡ prototype = ap (λ c. w.words (Prototype c)) class ∙ v.seen.stays t (Prototype may.saw.class) prototype may.saw.seen (inl (may.runs, tt)) in
     let valid : epoch_in (prototype_of w o) ≡ Some epoch = ap epoch_in proto ∙ may.valid in
     let biased : is_biased (marks w o) ≡ true = ap is_biased is ∙ may.saw.biased in

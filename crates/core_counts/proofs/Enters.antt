@@ -112,7 +112,7 @@ leaning_one t u e = cc e
 pub enter_bound : (e : Entry) (j i : ℕ) (path : Path) → e ≡ entry.Enter j path → is_same_object (bound_to e) (Some i) ≡ (j == i)
 enter_bound e j i path h = ap (λ (f : Entry). is_same_object (bound_to f) (Some i)) h
 
-module _ (biasing : Bool) (class mark : ℕ → ℕ) (lock : ℕ → Lock) (entries : ℕ → List Entry) (log : ℕ → List Logged) (stage : ℕ → Stage) (unfinished : ℕ → Option Unfinished) (revoked : ℕ → ℕ) (mark2 : ℕ → ℕ) (lock2 : ℕ → Lock) (entries2 : ℕ → List Entry) (log2 : ℕ → List Logged) (stage2 : ℕ → Stage) (unfinished2 : ℕ → Option Unfinished) (t : ℕ) (y : Logged) (law : EntersFitMarks biasing class mark lock entries log stage unfinished revoked) (by_mark : LeansByMark mark lock) (kept : BiasesKept mark lock mark2 lock2) (others : OthersStay t log stage unfinished log2 stage2 unfinished2) (a : LogsEntry t y mark entries log stage unfinished entries2 log2 stage2 unfinished2) where
+module _ (biasing : Bool) (there : ℕ → Bool) (class mark : ℕ → ℕ) (lock : ℕ → Lock) (entries : ℕ → List Entry) (log : ℕ → List Logged) (stage : ℕ → Stage) (unfinished : ℕ → Option Unfinished) (revoked : ℕ → ℕ) (mark2 : ℕ → ℕ) (lock2 : ℕ → Lock) (entries2 : ℕ → List Entry) (log2 : ℕ → List Logged) (stage2 : ℕ → Stage) (unfinished2 : ℕ → Option Unfinished) (t : ℕ) (y : Logged) (law : EntersFitMarks biasing there class mark lock entries log stage unfinished revoked) (by_mark : LeansByMark mark lock) (kept : BiasesKept mark lock mark2 lock2) (others : OthersStay t log stage unfinished log2 stage2 unfinished2) (a : LogsEntry t y mark entries log stage unfinished entries2 log2 stage2 unfinished2) where
   -- a hash that was logged or open is so
   hashed : (i : ℕ) → IsHashed log unfinished i → IsHashed log2 unfinished2 i
   hashed i (u, inl h) = by_equal u t
@@ -132,11 +132,11 @@ module _ (biasing : Bool) (class mark : ℕ → ℕ) (lock : ℕ → Lock) (entr
       (λ d. (u, ap (λ s. path_into s i) (others.stages u d) ∙ h))
 
   -- the first enter of an object
-  first : biasing ≡ true → (i : ℕ) (path : Path) → revoked (class i) ≡ 0 → first_path (entries i) ≡ None → path_into (stage t) i ≡ Some path
+  first : biasing ≡ true → (i : ℕ) (path : Path) → there i ≡ true → revoked (class i) ≡ 0 → first_path (entries i) ≡ None → path_into (stage t) i ≡ Some path
       → (path ≡ BiasTaken) ⊎ IsHashed log2 unfinished2 i
-  first b i path r none into = elim (kind_of path) [
+  first b i path is r none into = elim (kind_of path) [
     | inl k ↦ inl k
-    | inr k ↦ inr (elim (law.unentered b i r none) [
+    | inr k ↦ inr (elim (law.unentered b i is r none) [
       | inl anonymous ↦ elim k [
         | inl own ↦ absurd (cc (anonymous, (by_mark i t (law.biased t i path into (ap is_by_bias own))).1))
         | inr not_by ↦ absurd (cc (anonymous_is_biased (mark i) anonymous, law.unbiased t i path into not_by))
@@ -155,7 +155,7 @@ module _ (biasing : Bool) (class mark : ℕ → ℕ) (lock : ℕ → Lock) (entr
     ])
   ]
 
-  pub entry_keeps : EntersFitMarks biasing class mark2 lock2 entries2 log2 stage2 unfinished2 revoked
+  pub entry_keeps : EntersFitMarks biasing there class mark2 lock2 entries2 log2 stage2 unfinished2 revoked
   entry_keeps = record {
     ended = λ i e. kept.pattern i ∙ ended i (is_same_object (bound_to y.entry) (Some i)) refl e;
     stays = λ i. stays i (is_same_object (bound_to y.entry) (Some i)) refl;
@@ -165,8 +165,8 @@ module _ (biasing : Bool) (class mark : ℕ → ℕ) (lock : ℕ → Lock) (entr
     unbiased = λ u i path e b. by_equal u t
         (λ s. absurd (let l = a.left i in let c : path_into (stage2 t) i ≡ Some path = ap (λ v. path_into (stage2 v) i) (sym s) ∙ e in cc (l, c)))
         (λ d. kept.pattern i ∙ law.unbiased u i path (ap (λ s. path_into s i) (sym (others.stages u d)) ∙ e) b);
-    unentered = λ b i r e. unentered b i r (is_same_object (bound_to y.entry) (Some i)) refl e;
-    entered = λ b i path r e. entered b i path r (is_same_object (bound_to y.entry) (Some i)) refl e;
+    unentered = λ b i is r e. unentered b i is r (is_same_object (bound_to y.entry) (Some i)) refl e;
+    entered = λ b i path is r e. entered b i path is r (is_same_object (bound_to y.entry) (Some i)) refl e;
   }
     where
       ended : (i : ℕ) (c : Bool) → is_same_object (bound_to y.entry) (Some i) ≡ c → list_any ends_bias (entries2 i) ≡ true → is_biased (mark i) ≡ false
@@ -191,20 +191,20 @@ module _ (biasing : Bool) (class mark : ℕ → ℕ) (lock : ℕ → Lock) (entr
       not_elsewhere : (i : ℕ) → is_same_object (bound_to y.entry) (Some i) ≡ false → (path : Path) → y.entry ≡ entry.Enter i path → ⊥
       not_elsewhere i c path e = absurd (let b = enter_bound y.entry i i path e in let s = eq-eqb i i refl in cc (b, c, s))
 
-      unentered : biasing ≡ true → (i : ℕ) → revoked (class i) ≡ 0 → (c : Bool) → is_same_object (bound_to y.entry) (Some i) ≡ c → first_path (entries2 i) ≡ None
+      unentered : biasing ≡ true → (i : ℕ) → there i ≡ true → revoked (class i) ≡ 0 → (c : Bool) → is_same_object (bound_to y.entry) (Some i) ≡ c → first_path (entries2 i) ≡ None
           → (is_anonymous (mark2 i) ≡ true) ⊎ IsTaken stage2 i ⊎ IsHashed log2 unfinished2 i
-      unentered b i r true c e = before (first_path (entries i)) refl
+      unentered b i is r true c e = before (first_path (entries i)) refl
         where
           before : (p : Option Path) → first_path (entries i) ≡ p → (is_anonymous (mark2 i) ≡ true) ⊎ IsTaken stage2 i ⊎ IsHashed log2 unfinished2 i
           before (Some p) f = absurd (let g = first_stays (entries i) y.entry p f in let s = ap first_path (a.here i c) in cc (e, g, s))
-          before None f = elim (law.unentered b i r f) [
+          before None f = elim (law.unentered b i is r f) [
             | inl g ↦ inl (kept.nobody i ∙ g)
             | inr g ↦ elim g [
               | inl k ↦ inr (inl (taken i (λ path n. absurd (let s = ap first_path (a.here i c) in let q = first_new (entries i) y.entry f in let m = ap (λ (d : Entry). first_path (d ∷ [])) n in cc (e, s, q, m))) k))
               | inr k ↦ inr (inr (hashed i k))
             ]
           ]
-      unentered b i r false c e = elim (law.unentered b i r (ap first_path (sym (a.elsewhere i c)) ∙ e)) [
+      unentered b i is r false c e = elim (law.unentered b i is r (ap first_path (sym (a.elsewhere i c)) ∙ e)) [
         | inl g ↦ inl (kept.nobody i ∙ g)
         | inr g ↦ elim g [ inl k ↦ inr (inl (taken i (not_elsewhere i c) k)) | inr k ↦ inr (inr (hashed i k)) ]
       ]
@@ -213,16 +213,16 @@ module _ (biasing : Bool) (class mark : ℕ → ℕ) (lock : ℕ → Lock) (entr
       keeps i path (inl e) = inl e
       keeps i path (inr h) = inr (hashed i h)
 
-      entered : biasing ≡ true → (i : ℕ) (path : Path) → revoked (class i) ≡ 0 → (c : Bool) → is_same_object (bound_to y.entry) (Some i) ≡ c → first_path (entries2 i) ≡ Some path
+      entered : biasing ≡ true → (i : ℕ) (path : Path) → there i ≡ true → revoked (class i) ≡ 0 → (c : Bool) → is_same_object (bound_to y.entry) (Some i) ≡ c → first_path (entries2 i) ≡ Some path
           → (path ≡ BiasTaken) ⊎ IsHashed log2 unfinished2 i
-      entered b i path r true c e = before (first_path (entries i)) refl
+      entered b i path there r true c e = before (first_path (entries i)) refl
         where
           before : (p : Option Path) → first_path (entries i) ≡ p → (path ≡ BiasTaken) ⊎ IsHashed log2 unfinished2 i
           before (Some p) f =
               let same : p ≡ path = same_Some p path (sym (first_stays (entries i) y.entry p f) ∙ ap first_path (sym (a.here i c)) ∙ e) in
-              keeps i path (law.entered b i path r (f ∙ ap Some same))
+              keeps i path (law.entered b i path there r (f ∙ ap Some same))
           before None f =
               let is = is_enter y.entry path (sym (first_new (entries i) y.entry f) ∙ ap first_path (sym (a.here i c)) ∙ e) in
               let same : is.0 ≡ i = eqb-true is.0 i (sym (enter_bound y.entry is.0 i path is.1) ∙ c) in
-              first b i path r f (a.enters i path (is.1 ∙ ap (λ j. entry.Enter j path) same))
-      entered b i path r false c e = keeps i path (law.entered b i path r (ap first_path (sym (a.elsewhere i c)) ∙ e))
+              first b i path there r f (a.enters i path (is.1 ∙ ap (λ j. entry.Enter j path) same))
+      entered b i path there r false c e = keeps i path (law.entered b i path there r (ap first_path (sym (a.elsewhere i c)) ∙ e))

@@ -9,7 +9,7 @@ use Rattle.plain_monitor.specs.declared.entry.Path.TheVariants.{BiasOwn, BiasTak
 use Rattle.plain_monitor.specs.Objects.{PlainObject}
 use Rattle.plain_history.specs.EnterPaths.{is_by_bias, is_own, is_first}
 use Rattle.plain_history.specs.HeldByLog.{held_by, nothing_held}
-use Rattle.core_world.specs.declared.name.Name.TheVariants.{Mark, Prototype, Hold}
+use Rattle.core_world.specs.declared.name.Name.TheVariants.{Mark, Prototype, Hold, Class}
 use Rattle.core_world.specs.declared.stage.Stage.TheVariants.{Takes}
 use Rattle.core_world.specs.Words.Forms.{is_biased, epoch_in, hold_word}
 use Rattle.core_world.specs.Threads.Known.{Known}
@@ -39,7 +39,8 @@ biased_form t _ p h = absurd h
 -- a thread that saw its own bias has it still
 own_still : (w : World) (P : List PlainObject) (t o : ℕ) → Fits w P → (w.known t).running ≡ true → SawOwnBias w.shape (w.known t) o → lock w o ≡ BiasedTo t
 own_still w P t o v runs saw =
-    let class : class_by w.shape w.words o ≡ saw.2 = class_seen w.shape w.words (w.known t).seen o saw.2 saw.4 in
+    let class : class_by w.shape w.words o ≡ saw.2 =
+    class_seen w.shape w.words (w.known t).seen o saw.2 (λ c k d. v.seen.stays t (Class o) c k (inl (runs, d))) saw.4 in
     let proto : prototype_of w o ≡ saw.1 = ap (λ c. w.words (Prototype c)) class ∙ v.seen.stays t (Prototype saw.2) saw.1 saw.5 (inl (runs, tt)) in
     let its : IsBiasTo (w.known t).thread (read_mark saw.0) (epoch_in (prototype_of w o)) =
     subst (λ z. IsBiasTo (w.known t).thread (read_mark saw.0) (epoch_in z)) (sym proto) saw.6 in
@@ -140,7 +141,7 @@ module _ (w : World) (P : List PlainObject) (t : ℕ) (e : Purpose) (o d p : ℕ
   comes : Comes w t o path → BiasLawHolds (world_after (hold_plan e t o d p path) t w)
   comes h = hit_keeps w t (hold_plan e t o d p path) law (λ hits.
       let named_is : hold_count o (w.known t).holds ≡ held_by nothing_held (w.known t).log o = let a = h.even in let b = held_named w P t o within v in omega (arith, a, b) in
-      coming_world w (Hold t p) (hold_word o d) t l law refl refl may.goes_on (left_counts w (Hold t p) (hold_word o d) t l (inl refl)) o path
+      coming_world w (Hold t p) (hold_word o d) t l law refl refl may.goes_on (left_counts w (Hold t p) (hold_word o d) t l (inl refl)) (λ i. refl) o path
       (left_biases w (Hold t p) (hold_word o d) t l (inl refl)) only (ap (λ (b : Bool). cond b (Some path) None) (eq-eqb o o refl))
       (λ i g. absurd (let n = h.none i in cc (n, g))) h.leaning h.unbiased h.other
       (h.first ∙ ap (λ n. (n == 0) && not (is_own path)) named_is))

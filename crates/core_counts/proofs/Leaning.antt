@@ -1,5 +1,5 @@
 -- Whether a lock is under a bias follows from the mark and the prototype alone.
-use Rattle.std.proofs.Common.{◌≡◌, ◌≢◌, ℕ, ◌==◌, eq-eqb, eqb-true, ne_eqb, cond, Bool, true, false, Option, Some, None, refl, sym, ap, ◌∙◌, inl, inr}
+use Rattle.std.proofs.Common.{◌≡◌, ◌≢◌, ℕ, ◌==◌, eq-eqb, eqb-true, ne_eqb, cond, Bool, true, false, Option, Some, None, refl, sym, ap, ◌∙◌, inl, inr, ◌-◌, ◌||◌, not, nat_lt, subst}
 use Rattle.mark_word.specs.declared.mark.MarkForm.{MarkForm}
 use Rattle.mark_word.specs.declared.mark.MarkForm.TheVariants.{Inflating, Neutral, Anonymous, Biased, Locked, Inflated, Marked}
 use Rattle.mark_word.specs.declared.owner.OwnerForm.{OwnerForm}
@@ -7,14 +7,15 @@ use Rattle.mark_word.specs.declared.owner.OwnerForm.TheVariants.{Free, ByThread,
 use Rattle.mark_word.specs.Mark.{read_mark}
 use Rattle.mark_word.specs.Owner.{read_owner}
 use Rattle.core_world.specs.declared.name.Name.{Name}
-use Rattle.core_world.specs.declared.name.Name.TheVariants.{Prototype, Revocations, Mark, Owner}
+use Rattle.core_world.specs.declared.name.Name.TheVariants.{Prototype, Revocations, Mark, Owner, Class}
 use Rattle.core_world.specs.declared.act.Act.TheVariants.{Swap}
 use Rattle.core_world.specs.Words.Acts.{word_after}
 use Rattle.core_world.specs.Words.Forms.{is_biased, is_biased_form, epoch_in, monitor_in, monitor_form}
 use Rattle.core_world.specs.Threads.Known.{Known}
 use Rattle.core_world.specs.Locks.{Open, BiasedTo, OnRecord, OwnedBy, lock, lock_form, owner_lock, has_epoch, inflations, is_valid_bias, marks, prototype_of}
 use Rattle.core_world.specs.Words.Names.{same_name, with_word}
-use Rattle.core_world.specs.Words.Names.{class_by}
+use Rattle.core_world.specs.Words.Names.{class_by, has_class}
+use Rattle.core_world.specs.Words.Shape.{Shape, class_of}
 use Rattle.core_world.proofs.Naming.{same_named, with_word_same}
 use Rattle.core_world.specs.Threads.Stages.{Inflation}
 use Rattle.core_world.specs.World.{World, with_word_and_known}
@@ -119,6 +120,16 @@ inflated_unbiased n m h = by_form (read_mark n) h
     by_form (Some (Inflated k)) e = refl
     by_form (Some Marked) e = refl
 
+-- WORDS WHOSE CLASS WORDS ARE THE SAME say the same of classes.
+pub same_classes : (s : Shape) (f g : Name → ℕ) → ((i : ℕ) → f (Class i) ≡ g (Class i)) → class_by s f ≡ class_by s g
+same_classes s f g h = λ j. λ i. cond (nat_lt i s.declared) (class_of s i) (h i j - 1)
+
+pub by_class_words : (Law : (ℕ → Bool) → (ℕ → ℕ) → Type 0) (s : Shape) (f g : Name → ℕ) → ((i : ℕ) → f (Class i) ≡ g (Class i))
+    → Law (has_class s f) (class_by s f) → Law (has_class s g) (class_by s g)
+by_class_words Law s f g h =
+    let there : has_class s f ≡ has_class s g = λ j. λ i. nat_lt i s.declared || not (h i j == 0) in
+    subst (λ (z : (ℕ → Bool) × (ℕ → ℕ)). Law z.0 z.1) (λ j. (there j, same_classes s f g h j))
+
 -- A STEP THAT LEAVES THE BIASES, by its word: the words that the law reads stay.
 others_stay : (at : Name) (v : ℕ) (f : Name → ℕ) → is_bias_word at ≡ false → (n : Name) → is_bias_word n ≡ true → with_word at v f n ≡ f n
 others_stay at v f e n b = by_test (same_name n at) refl
@@ -136,7 +147,9 @@ module _ (w : World) (at : Name) (v t : ℕ) (l : Known) where
     pattern = λ i. ap is_biased (h (Mark i) refl);
     nobody = λ i. ap is_anonymous (h (Mark i) refl);
     owners = λ i. ap bias_owner (h (Mark i) refl);
-    leans = λ i u e. still_leans w x i (h (Mark i) refl) (h (Prototype (class_by w.shape w.words i)) refl) u e;
+    leans = λ i u e.
+        let class = ap (λ (k : ℕ → ℕ). x.words (Prototype (k i))) (same_classes w.shape x.words w.words (λ j. h (Class j) refl)) in
+        still_leans w x i (h (Mark i) refl) (class ∙ h (Prototype (class_by w.shape w.words i)) refl) u e;
   }
 
   -- a mark without the bias pattern becomes one without it
@@ -145,7 +158,7 @@ module _ (w : World) (at : Name) (v t : ℕ) (l : Known) where
     pattern = λ i. by_equal i o (λ s. ap is_biased (here i s) ∙ now ∙ sym (old i s)) (λ d. ap is_biased (away i d));
     nobody = λ i. by_equal i o (λ s. ap is_anonymous (here i s) ∙ not_anonymous v now ∙ sym (not_anonymous (marks w i) (old i s))) (λ d. ap is_anonymous (away i d));
     owners = λ i. by_equal i o (λ s. ap bias_owner (here i s) ∙ unbiased_unowned v now ∙ sym (unbiased_unowned (marks w i) (old i s))) (λ d. ap bias_owner (away i d));
-    leans = λ i u e. by_equal i o (λ s. absurd (let b = (leans_by_mark w i u e).0 in cc (b, old i s))) (λ d. still_leans w x i (away i d) (prototypes (class_by w.shape w.words i)) u e);
+    leans = λ i u e. by_equal i o (λ s. absurd (let b = (leans_by_mark w i u e).0 in cc (b, old i s))) (λ d. still_leans w x i (away i d) (prototypes i) u e);
   }
     where
       here : (i : ℕ) → i ≡ o → marks x i ≡ v
@@ -157,8 +170,8 @@ module _ (w : World) (at : Name) (v t : ℕ) (l : Known) where
       old : (i : ℕ) → i ≡ o → is_biased (marks w i) ≡ false
       old i s = ap (λ j. is_biased (marks w j)) s ∙ was
 
-      prototypes : (c : ℕ) → x.words (Prototype c) ≡ w.words (Prototype c)
-      prototypes c = ap (λ n. with_word n v w.words (Prototype c)) is
+      prototypes : (i : ℕ) → prototype_of x i ≡ prototype_of w i
+      prototypes i = ap (λ n. with_word n v w.words (Prototype (class_by w.shape (with_word n v w.words) i))) is
 
   -- the counts stay, and each mark is as biased as it was
   pub left_biases : LeavesBiases w at v → BiasesKept (marks w) (lock w) (marks x) (lock x)
@@ -170,6 +183,12 @@ module _ (w : World) (at : Name) (v t : ℕ) (l : Known) where
   left_counts (inl e) c = others_stay at v w.words e (Revocations c) refl
   left_counts (inr (inl e)) c = λ i. with_word_same at v w.words e i (Revocations c)
   left_counts (inr (inr e)) c = ap (λ n. with_word n v w.words (Revocations c)) e.1
+
+  -- and so do the class words
+  pub left_classes : LeavesBiases w at v → (i : ℕ) → x.words (Class i) ≡ w.words (Class i)
+  left_classes (inl e) i = others_stay at v w.words e (Class i) refl
+  left_classes (inr (inl e)) i = λ j. with_word_same at v w.words e j (Class i)
+  left_classes (inr (inr e)) i = ap (λ n. with_word n v w.words (Class i)) e.1
 
 -- an exchange of a mark without the bias pattern for one without it leaves the biases, whether it hits or misses
 pub exchange_leaves : (w : World) (o expected word : ℕ) → is_biased expected ≡ false → is_biased word ≡ false → LeavesBiases w (Mark o) (word_after (Swap expected word) (marks w o))

@@ -20,7 +20,7 @@ use Rattle.core_world.specs.Words.Forms.{is_biased}
 use Rattle.core_world.specs.Threads.Known.{Known}
 use Rattle.core_world.specs.Locks.{lock, marks}
 use Rattle.core_world.specs.Clauses.Safepoints.{IsUnfinished}
-use Rattle.core_world.specs.Words.Names.{class_by}
+use Rattle.core_world.specs.Words.Names.{class_by, has_class}
 use Rattle.core_world.specs.Threads.Stages.{path_into}
 use Rattle.core_world.specs.Valid.{Fits}
 use Rattle.core_world.specs.World.{World, with_word_and_known, logs}
@@ -30,7 +30,7 @@ use Rattle.core_locks.specs.Knowing.{operation_of}
 use Rattle.core_law.specs.BiasLaw.{BiasLaw, BiasLawHolds}
 use Rattle.core_counts.specs.Moves.{OthersStay, LogsEntry}
 use Rattle.core_counts.specs.Steps.{HasNone, LogsBeside, SawNone, SawUnbiased}
-use Rattle.core_counts.proofs.Leaning.{leans_by_mark, left_biases, left_counts}
+use Rattle.core_counts.proofs.Leaning.{leans_by_mark, left_biases, left_counts, left_classes, by_class_words}
 use Rattle.core_counts.proofs.Whole.{entry_law}
 
 -- where two are one object, the first is it
@@ -146,12 +146,16 @@ module _ (w : World) (P : List PlainObject) (at : Name) (n t : ℕ) (y : Logged)
   pub entry_logged : BiasLawHolds x
   entry_logged =
       let none : w.biasing ≡ false → (i : ℕ) → is_biased (marks w i) ≡ false = v.classes.unbiased in
-      subst (λ (f : ℕ → ℕ). BiasLaw w.biasing w.shape.threads w.shape.classes (class_by w.shape w.words) (marks x) (lock x) (λ i. entries_on i (order (logs x)))
+      by_class_words (λ there class. BiasLaw w.biasing w.shape.threads w.shape.classes there class (marks x) (lock x)
+      (λ i. entries_on i (order (logs x))) (λ u. (x.known u).log) (λ u. (x.known u).stage) (λ u. (x.known u).unfinished)
+      (λ c. x.words (Revocations c)) (λ u. counts_of (x.known u).counts)) w.shape w.words x.words
+      (λ i. sym (left_classes w at n t l a.leaves i))
+      (subst (λ (f : ℕ → ℕ). BiasLaw w.biasing w.shape.threads w.shape.classes (has_class w.shape w.words) (class_by w.shape w.words) (marks x) (lock x) (λ i. entries_on i (order (logs x)))
       (λ u. (x.known u).log) (λ u. (x.known u).stage) (λ u. (x.known u).unfinished) f (λ u. counts_of (x.known u).counts))
       (same (λ c. sym (left_counts w at n t l a.leaves c)))
-      (subst (λ (f : ℕ → ℕ → ClassCounts). BiasLaw w.biasing w.shape.threads w.shape.classes (class_by w.shape w.words) (marks x) (lock x) (λ i. entries_on i (order (logs x)))
+      (subst (λ (f : ℕ → ℕ → ClassCounts). BiasLaw w.biasing w.shape.threads w.shape.classes (has_class w.shape w.words) (class_by w.shape w.words) (marks x) (lock x) (λ i. entries_on i (order (logs x)))
       (λ u. (x.known u).log) (λ u. (x.known u).stage) (λ u. (x.known u).unfinished) (λ c. w.words (Revocations c)) f)
       (part_moves (λ k. counts_of k.counts) t l w.known (ap counts_of (sym a.counts)))
-      (entry_law w.biasing w.shape.threads w.shape.classes (class_by w.shape w.words) (marks w) (lock w) (λ i. entries_on i (order (logs w))) (λ u. (w.known u).log) (λ u. (w.known u).stage)
+      (entry_law w.biasing w.shape.threads w.shape.classes (has_class w.shape w.words) (class_by w.shape w.words) (marks w) (lock w) (λ i. entries_on i (order (logs w))) (λ u. (w.known u).log) (λ u. (w.known u).stage)
       (λ u. (w.known u).unfinished) (λ c. w.words (Revocations c)) (λ u. counts_of (w.known u).counts) (marks x) (lock x) (λ u. (x.known u).stage) (λ u. (x.known u).unfinished) t law y
-      (λ i. entries_on i (order (logs x))) (λ u. (x.known u).log) none (leans_by_mark w) (left_biases w at n t l a.leaves) others entry_is))
+      (λ i. entries_on i (order (logs x))) (λ u. (x.known u).log) none (leans_by_mark w) (left_biases w at n t l a.leaves) others entry_is)))

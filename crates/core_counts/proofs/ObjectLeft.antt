@@ -13,8 +13,9 @@ use Rattle.core_world.specs.Words.Shape.{Shape}
 use Rattle.core_world.specs.Words.Names.{class_by}
 use Rattle.core_world.specs.Valid.{IsRevoking}
 use Rattle.core_world.specs.World.{World}
-use Rattle.core_counts.proofs.Leaning.{LeansTo, leans}
-use Rattle.core_world.specs.declared.name.Name.TheVariants.{Hold, Prototype}
+use Rattle.core_counts.proofs.Leaning.{LeansTo, leans, same_classes}
+use Rattle.core_world.specs.declared.name.Name.{Name}
+use Rattle.core_world.specs.declared.name.Name.TheVariants.{Hold, Prototype, Class}
 use Rattle.core_world.specs.Words.Forms.{epoch_in, is_biased}
 use Rattle.core_world.specs.Locks.{has_epoch}
 use Rattle.core_world.specs.RevocationRules.{Write, holds_in, revocation_writes, words_after, writes_in}
@@ -23,7 +24,7 @@ use Rattle.core_locks.proofs.ShotWords.{words_are}
 use Rattle.core_counts.specs.Steps.{LeavesObject}
 use Rattle.core_counts.proofs.FinalMarks.{Final, mark_at_the_end}
 use Rattle.core_counts.proofs.Leaning.{leans_by_mark}
-use Rattle.core_counts.proofs.Walks.{verdict_of}
+use Rattle.core_counts.proofs.Walks.{verdict_of, revokes_gently}
 use Rattle.lock_policy.specs.declared.policy.Verdict.{Verdict}
 use Rattle.lock_policy.specs.declared.policy.Verdict.TheVariants.{BulkRebias}
 
@@ -65,6 +66,10 @@ module _ (w : World) (P : List PlainObject) (s : IsRevoking w P) (over : s.rest 
 
   all_made : w.words ≡ words_after (revocation_writes b.shape t s.revocation b.words) b.words
   all_made = s.words ∙ ap (λ ws. words_after ws b.words) (sym (append_none (writes_in (w.known t).seen_at_safepoint)) ∙ ap (λ r. writes_in (w.known t).seen_at_safepoint ++ r) (sym over) ∙ s.writes)
+
+  -- they are of no class word
+  pub class_words : (i : ℕ) → w.words (Class i) ≡ b.words (Class i)
+  class_words i = ap (λ (g : Name → ℕ). g (Class i)) all_made ∙ (revokes_gently b.shape t s.revocation b.words).classes i
 
   abbrev leaner : (u : ℕ) × LeansTo (read_mark (marks b o)) (prototype_of b o) u
   leaner = valid_leans (read_mark (marks b o)) (prototype_of b o) s.biased
@@ -108,7 +113,9 @@ module _ (w : World) (P : List PlainObject) (s : IsRevoking w P) (over : s.rest 
     taken = λ biased. elim final [
       | inl free ↦ absurd (cc (free, biased))
       | inr h ↦
-          let stands : epoch_in (prototype_of w o) ≡ Some h.0 = ap (λ (z : Shape). epoch_in (w.words (Prototype (class_by z w.words o)))) s.shape ∙ h.2 in
+          let stands : epoch_in (prototype_of w o) ≡ Some h.0 =
+          ap (λ (z : Shape). epoch_in (w.words (Prototype (class_by z w.words o)))) s.shape
+          ∙ ap (λ (k : ℕ → ℕ). epoch_in (w.words (Prototype (k o)))) (same_classes b.shape w.words b.words class_words) ∙ h.2 in
           let valid : is_valid_bias (read_mark (marks w o)) (prototype_of w o) ≡ true = ap (λ m. is_valid_bias m (prototype_of w o)) h.1 ∙ ap (λ m. has_epoch m h.0) stands ∙ eq-eqb h.0 h.0 refl in
           (leans w o t (h.0, 0, h.1, valid), unheld h.3)
     ];

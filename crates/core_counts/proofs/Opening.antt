@@ -1,11 +1,11 @@
 -- The bias law holds of the opening world.
-use Rattle.std.proofs.Common.{◌≡◌, ℕ, zero, suc, ◌+◌, Bool, true, false, Some, None, List, [], refl, sym, ap, arith, subst, inl}
+use Rattle.std.proofs.Common.{◌≡◌, ℕ, zero, suc, ◌+◌, Bool, true, false, Some, None, List, [], refl, sym, ap, arith, subst, inl, ◌&&◌, ◌||◌, nat_lt, ◌∙◌}
 use Rattle.plain_monitor.specs.declared.entry.Entry.{Entry}
 use Rattle.plain_monitor.specs.Order.{order, ordered, with_threads}
 use Rattle.core_world.specs.declared.stage.Stage.TheVariants.{Calm}
 use Rattle.core_world.specs.Threads.Counts.{no_counts}
 use Rattle.core_world.specs.Words.Shape.{Shape}
-use Rattle.core_world.specs.Words.Names.{class_by}
+use Rattle.core_world.specs.Words.Names.{class_by, has_class}
 use Rattle.core_world.specs.World.{logs_from}
 use Rattle.core_world.specs.Locks.{lock}
 use Rattle.core_world.specs.Opening.{opening, first_known, first_mark}
@@ -32,6 +32,11 @@ first_anonymous : (biasing : Bool) → biasing ≡ true → is_anonymous (first_
 first_anonymous true e = ap is_anonymous_form mark_five
 first_anonymous false e = absurd (cc e)
 
+-- an object that is there at the beginning is declared
+declared_anonymous : (biasing declared : Bool) → biasing ≡ true → (declared || false) ≡ true → is_anonymous (first_mark (biasing && declared)) ≡ true
+declared_anonymous biasing true e there = ap (λ b. is_anonymous (first_mark (b && true))) e ∙ first_anonymous true refl
+declared_anonymous biasing false e there = absurd (cc there)
+
 first_unowned : (biasing : Bool) (t : ℕ) → bias_owner (first_mark biasing) ≡ Some t → ⊥
 first_unowned true t e = let first = ap owner_form mark_five in cc (first, e)
 first_unowned false t e = let first = ap owner_form mark_one in cc (first, e)
@@ -50,7 +55,8 @@ counts_none n e = subst (λ (m : ℕ). CountFits 0 m m m m) (sym e) (record {
 
 pub opening_meets : (s : Shape) (start : ℕ) (biasing : Bool) → BiasLawHolds (opening s start biasing)
 opening_meets s start biasing =
-    subst (λ (entries : ℕ → List Entry). BiasLaw biasing s.threads s.classes (class_by s (opening s start biasing).words) (λ o. first_mark biasing) (lock (opening s start biasing)) entries (λ t. []) (λ t. Calm) (λ t. None) (λ c. 0) (λ t c. no_counts))
+    subst (λ (entries : ℕ → List Entry). BiasLaw biasing s.threads s.classes (has_class s (opening s start biasing).words) (class_by s (opening s start biasing).words)
+    (λ o. first_mark (biasing && nat_lt o s.declared)) (lock (opening s start biasing)) entries (λ t. []) (λ t. Calm) (λ t. None) (λ c. 0) (λ t c. no_counts))
     (sym (none_on s.threads))
     (record {
       marks = record {
@@ -58,12 +64,12 @@ opening_meets s start biasing =
         stays = λ o. tt;
         biased = λ t o path e. absurd (cc e);
         unbiased = λ t o path e. absurd (cc e);
-        unentered = λ e o f g. inl (first_anonymous biasing e);
-        entered = λ e o path f g. absurd (cc g);
+        unentered = λ e o there f g. inl (declared_anonymous biasing (nat_lt o s.declared) e there);
+        entered = λ e o path there f g. absurd (cc g);
       };
       taken = record {
         logged = λ t o before l later e. absurd (none_before before later l e);
-        owners = λ t o e. absurd (first_unowned biasing t e);
+        owners = λ t o e. absurd (first_unowned (biasing && nat_lt o s.declared) t e);
       };
       few = record { logged = λ o. omega arith; coming = λ o c. absurd (cc c.1); free = λ o f. omega arith };
       paths = record { logged = λ t. tt; coming = λ t o path e. absurd (cc e) };

@@ -15,7 +15,7 @@ use Rattle.core_world.specs.declared.stage.Stage.{Stage}
 use Rattle.core_world.specs.declared.stage.Stage.TheVariants.{Calm}
 use Rattle.core_world.specs.declared.task.Unfinished.{Unfinished}
 use Rattle.core_world.specs.Words.Shape.{Shape}
-use Rattle.core_world.specs.Words.Names.{class_by}
+use Rattle.core_world.specs.Words.Names.{class_by, has_class}
 use Rattle.core_world.specs.Words.Names.{with_word}
 use Rattle.core_world.specs.Threads.Counts.{CountedVerdict, with_verdict_counted, counts_of}
 use Rattle.core_world.specs.Words.Forms.{is_biased}
@@ -38,7 +38,7 @@ use Rattle.core_world.proofs.KnowledgeParts.{by_equal, with_known_here, with_kno
 use Rattle.core_counts.proofs.Walks.{revokes_gently, verdict_of}
 use Rattle.core_counts.proofs.Whole.{revocation_law, fewer_revoked, revoked_here, rebiased_here, rebiased_more, bulk_rebiases, bulk_revokes}
 use Rattle.core_counts.proofs.FarWords.{IsFar, left_alone}
-use Rattle.core_counts.proofs.Leaning.{leans_by_mark, still_leans}
+use Rattle.core_counts.proofs.Leaning.{leans_by_mark, still_leans, same_classes}
 use Rattle.core_counts.proofs.Owners.{unbiased_unowned}
 -- The world w is in the middle of a revocation, all of whose stores are made; its requester releases, and then knows l. What its object's mark
 -- was before the first store, the first premise says, and what it is now the last but one.
@@ -151,17 +151,17 @@ module _ (w : World) (P : List PlainObject) (s : IsRevoking w P) (leaner : ℕ) 
 
   -- its verdict was counted on the class
   more : sum_below b.shape.threads (λ v. (counts_of (x.known v).counts c).revoke) ≡ sum_below b.shape.threads (λ v. (counts_of (b.known v).counts c).revoke) + bulk_revokes d.0
-  more = revoked_here b.biasing b.shape.threads b.shape.classes (class_by b.shape b.words) (marks b) (lock b) (λ i. entries_on i (order (logs b))) (λ u. (b.known u).log) (λ u. (b.known u).stage) (λ u. (b.known u).unfinished)
+  more = revoked_here b.biasing b.shape.threads b.shape.classes (has_class b.shape b.words) (class_by b.shape b.words) (marks b) (lock b) (λ i. entries_on i (order (logs b))) (λ u. (b.known u).log) (λ u. (b.known u).stage) (λ u. (b.known u).unfinished)
       (λ e. b.words (Revocations e)) (λ u. counts_of (b.known u).counts) (marks x) (lock x) (λ u. (x.known u).stage) (λ u. (x.known u).unfinished) t law
       c (b.words (LastBulk c)) s.revocation.now (record { op = s.operation; object = o }) (λ u. counts_of (x.known u).counts) (λ e. x.words (Revocations e)) within class_within (ap counts_of counts_now) (λ u n. ap counts_of (counts_else u n)) count_here count_else
 
   more_rebiased : sum_below b.shape.threads (λ v. (counts_of (x.known v).counts c).rebias) ≡ sum_below b.shape.threads (λ v. (counts_of (b.known v).counts c).rebias) + bulk_rebiases d.0
-  more_rebiased = rebiased_here b.biasing b.shape.threads b.shape.classes (class_by b.shape b.words) (marks b) (lock b) (λ i. entries_on i (order (logs b))) (λ u. (b.known u).log) (λ u. (b.known u).stage) (λ u. (b.known u).unfinished)
+  more_rebiased = rebiased_here b.biasing b.shape.threads b.shape.classes (has_class b.shape b.words) (class_by b.shape b.words) (marks b) (lock b) (λ i. entries_on i (order (logs b))) (λ u. (b.known u).log) (λ u. (b.known u).stage) (λ u. (b.known u).unfinished)
       (λ e. b.words (Revocations e)) (λ u. counts_of (b.known u).counts) (marks x) (lock x) (λ u. (x.known u).stage) (λ u. (x.known u).unfinished) t law
       c (b.words (LastBulk c)) s.revocation.now (record { op = s.operation; object = o }) (λ u. counts_of (x.known u).counts) (λ e. x.words (Revocations e)) within class_within (ap counts_of counts_now) (λ u n. ap counts_of (counts_else u n)) count_here count_else
 
   still_unrevoked : (e : ℕ) → sum_below b.shape.threads (λ u. (counts_of (x.known u).counts e).revoke) ≡ 0 → sum_below b.shape.threads (λ u. (counts_of (b.known u).counts e).revoke) ≡ 0
-  still_unrevoked = fewer_revoked b.biasing b.shape.threads b.shape.classes (class_by b.shape b.words) (marks b) (lock b) (λ i. entries_on i (order (logs b))) (λ u. (b.known u).log) (λ u. (b.known u).stage) (λ u. (b.known u).unfinished)
+  still_unrevoked = fewer_revoked b.biasing b.shape.threads b.shape.classes (has_class b.shape b.words) (class_by b.shape b.words) (marks b) (lock b) (λ i. entries_on i (order (logs b))) (λ u. (b.known u).log) (λ u. (b.known u).stage) (λ u. (b.known u).unfinished)
       (λ e. b.words (Revocations e)) (λ u. counts_of (b.known u).counts) (marks x) (lock x) (λ u. (x.known u).stage) (λ u. (x.known u).unfinished) t law
       c (b.words (LastBulk c)) s.revocation.now (record { op = s.operation; object = o }) (λ u. counts_of (x.known u).counts) (λ e. x.words (Revocations e)) within class_within (ap counts_of counts_now) (λ u n. ap counts_of (counts_else u n)) count_here count_else
 
@@ -219,7 +219,9 @@ module _ (w : World) (P : List PlainObject) (s : IsRevoking w P) (leaner : ℕ) 
       let alone = left_alone b.shape t s.revocation i b.words far in
       let mark : marks x i ≡ marks b i = ap (λ (g : Name → ℕ). g (Mark i)) all_made ∙ alone.0 in
       let prototype : prototype_of x i ≡ prototype_of b i =
-      ap (λ (z : Shape). w.words (Prototype (class_by z w.words i))) s.shape ∙ ap (λ (g : Name → ℕ). g (Prototype (class_by b.shape b.words i))) all_made ∙ alone.1 in
+      ap (λ (z : Shape). w.words (Prototype (class_by z w.words i))) s.shape
+      ∙ ap (λ (k : ℕ → ℕ). w.words (Prototype (k i))) (same_classes b.shape w.words b.words gentle.classes)
+      ∙ ap (λ (g : Name → ℕ). g (Prototype (class_by b.shape b.words i))) all_made ∙ alone.1 in
       (still_unrevoked (class_by b.shape b.words i) f.0, ap is_biased (sym mark) ∙ f.1, λ u h. f.2 u (still_leans b x i mark prototype u h))
 
   own_unfree : (i : ℕ) → i ≡ o → NowFree i → ⊥
@@ -237,7 +239,7 @@ module _ (w : World) (P : List PlainObject) (s : IsRevoking w P) (leaner : ℕ) 
   takes_free : TakesFreeBiases t (class_by b.shape b.words) (marks b) (lock b) (λ u. (b.known u).stage) (λ e. sum_below b.shape.threads (λ u. (counts_of (b.known u).counts e).rebias)) (λ e. sum_below b.shape.threads (λ u. (counts_of (b.known u).counts e).revoke))
       (marks x) (lock x) (λ u. (x.known u).stage) (λ e. sum_below b.shape.threads (λ u. (counts_of (x.known u).counts e).rebias)) (λ e. sum_below b.shape.threads (λ u. (counts_of (x.known u).counts e).revoke))
   takes_free = record {
-    more = rebiased_more b.biasing b.shape.threads b.shape.classes (class_by b.shape b.words) (marks b) (lock b) (λ i. entries_on i (order (logs b))) (λ u. (b.known u).log) (λ u. (b.known u).stage) (λ u. (b.known u).unfinished)
+    more = rebiased_more b.biasing b.shape.threads b.shape.classes (has_class b.shape b.words) (class_by b.shape b.words) (marks b) (lock b) (λ i. entries_on i (order (logs b))) (λ u. (b.known u).log) (λ u. (b.known u).stage) (λ u. (b.known u).unfinished)
         (λ e. b.words (Revocations e)) (λ u. counts_of (b.known u).counts) (marks x) (lock x) (λ u. (x.known u).stage) (λ u. (x.known u).unfinished) t law
         c (b.words (LastBulk c)) s.revocation.now (record { op = s.operation; object = o }) (λ u. counts_of (x.known u).counts) (λ e. x.words (Revocations e)) within class_within (ap counts_of counts_now) (λ u n. ap counts_of (counts_else u n)) count_here count_else;
     comes = λ i h. let k = into_took i BiasTaken h in inr (inr (rebiased_now (by_rebias k.0) i (ap (class_by b.shape b.words) (sym k.1))));
@@ -256,9 +258,9 @@ module _ (w : World) (P : List PlainObject) (s : IsRevoking w P) (leaner : ℕ) 
   biased_heap false e = absurd (let k = s.fits.classes.unbiased e o in cc (k, was))
 
   -- the law, of the words after the release
-  pub released : BiasLaw b.biasing b.shape.threads b.shape.classes (class_by b.shape b.words) (marks x) (lock x) (λ i. entries_on i (order (logs b))) (λ u. (b.known u).log) (λ u. (x.known u).stage)
+  pub released : BiasLaw b.biasing b.shape.threads b.shape.classes (has_class b.shape b.words) (class_by b.shape b.words) (marks x) (lock x) (λ i. entries_on i (order (logs b))) (λ u. (b.known u).log) (λ u. (x.known u).stage)
       (λ u. (x.known u).unfinished) (λ e. x.words (Revocations e)) (λ u. counts_of (x.known u).counts)
-  released = revocation_law b.biasing b.shape.threads b.shape.classes (class_by b.shape b.words) (marks b) (lock b) (λ i. entries_on i (order (logs b))) (λ u. (b.known u).log) (λ u. (b.known u).stage) (λ u. (b.known u).unfinished)
+  released = revocation_law b.biasing b.shape.threads b.shape.classes (has_class b.shape b.words) (class_by b.shape b.words) (marks b) (lock b) (λ i. entries_on i (order (logs b))) (λ u. (b.known u).log) (λ u. (b.known u).stage) (λ u. (b.known u).unfinished)
       (λ e. b.words (Revocations e)) (λ u. counts_of (b.known u).counts) (marks x) (lock x) (λ u. (x.known u).stage) (λ u. (x.known u).unfinished) t law
       c (b.words (LastBulk c)) s.revocation.now (record { op = s.operation; object = o }) (λ u. counts_of (x.known u).counts) (λ e. x.words (Revocations e)) within class_within (ap counts_of counts_now) (λ u n. ap counts_of (counts_else u n)) count_here count_else
       (biased_heap b.biasing refl) open_before (open_now ∙ open_before) was (into_none t o) was_decided rest_stays quietly takes_free path_fits

@@ -1,9 +1,6 @@
 -- The release that ends a revocation: the law of biases held of the world before its first store, and holds of the world after it.
-use Rattle.std.proofs.Common.{◌≡◌, ℕ, zero, suc, ◌+◌, ◌<◌, ◌≤◌, eq-eqb, cond, Bool, true, List, [], ◌∷◌, length, refl, sym, ap, ◌∙◌, subst, arith, inr}
-use Rattle.std.specs.Prelude.{slice_index_or}
-use Rattle.std.specs.List.{AllByRecursion}
+use Rattle.std.proofs.Common.{◌≡◌, ℕ, zero, suc, ◌+◌, ◌<◌, eq-eqb, cond, Bool, true, List, ◌∷◌, refl, sym, ap, ◌∙◌, subst, arith, inr}
 use Rattle.mark_word.specs.Mark.{read_mark}
-use Rattle.plain_monitor.specs.Limits.{most_slots}
 use Rattle.plain_monitor.specs.Objects.{PlainObject}
 use Rattle.plain_monitor.specs.Order.{order}
 use Rattle.plain_history.specs.EnterPaths.{entries_on}
@@ -18,27 +15,22 @@ use Rattle.core_world.specs.Words.Acts.{word_after}
 use Rattle.core_locks.proofs.SafeEnds.{reached_finds}
 use Rattle.plain_history.specs.HeldByLog.{held_by, nothing_held}
 use Rattle.core_world.specs.Words.Shape.{Shape}
-use Rattle.core_world.specs.Words.Names.{class_by}
+use Rattle.core_world.specs.Words.Names.{class_by, has_class}
 use Rattle.core_world.specs.Steps.{world_after, known_hit, known_miss, known_after}
 use Rattle.core_world.specs.Valid.{IsRevoking}
 use Rattle.core_world.specs.World.{World, with_word_and_known, logs, logs_from}
 use Rattle.core_world.proofs.Frames.{same}
+use Rattle.core_world.proofs.There.{class_in_heap}
 use Rattle.core_world.proofs.KnowledgeParts.{each_with_known}
 use Rattle.core_law.specs.BiasLaw.{BiasLaw, BiasLawHolds}
 use Rattle.core_counts.specs.Steps.{MayEndRevocation}
 use Rattle.core_world.specs.Trees.BiasSteps.{stage_after}
 use Rattle.core_world.specs.Trees.SafepointSteps.{release_plan}
-use Rattle.core_counts.proofs.ObjectLeft.{requester_within, valid_leans, took_by_rebias, leaves_object}
+use Rattle.core_counts.proofs.ObjectLeft.{requester_within, valid_leans, took_by_rebias, leaves_object, class_words}
 use Rattle.core_counts.specs.Steps.{LeavesObject}
 use Rattle.core_counts.proofs.Holds.{held_named}
-use Rattle.core_counts.proofs.Leaning.{LeansTo, leans, still_leans}
+use Rattle.core_counts.proofs.Leaning.{LeansTo, leans, still_leans, by_class_words}
 use Rattle.core_counts.proofs.Releases.{released}
-
--- each object is of one of the classes
-pub class_within : (xs : List (ℕ × ℕ)) (n o : ℕ) → AllByRecursion (λ x. (x.0 < n) × (x.1 ≤ most_slots)) xs → o < length xs → (slice_index_or xs o (0, 0)).0 < n
-class_within [] n o h l = absurd (omega (arith, l))
-class_within (x ∷ xs) n zero h l = h.0.0
-class_within (x ∷ xs) n (suc o) h l = class_within xs n o h.1 (omega (arith, l))
 
 -- the same logs, one by one and as a list
 pub logs_same : (f g : ℕ → Known) (u n : ℕ) → ((v : ℕ) → (f v).log ≡ (g v).log) → logs_from u n f ≡ logs_from u n g
@@ -89,10 +81,10 @@ module _ (w : World) (P : List PlainObject) (s : IsRevoking w P) (e : Purpose) (
       let d = held_named b P t o within s.fits in
       omega (arith, a, c, d)
 
-  after_release : BiasLaw b.biasing b.shape.threads b.shape.classes (class_by b.shape b.words) (marks x) (lock x) (λ i. entries_on i (order (logs b))) (λ u. (b.known u).log) (λ u. (x.known u).stage)
+  after_release : BiasLaw b.biasing b.shape.threads b.shape.classes (has_class b.shape b.words) (class_by b.shape b.words) (marks x) (lock x) (λ i. entries_on i (order (logs b))) (λ u. (b.known u).log) (λ u. (x.known u).stage)
       (λ u. (x.known u).unfinished) (λ c. x.words (Revocations c)) (λ u. counts_of (x.known u).counts)
   after_release = released w P s leaner.0 (leans b o leaner.0 leaner.1) law may.over l (released_word t) took log_is refl may.goes_on refl within
-      (class_within b.shape.objects b.shape.classes o s.fits.limits.each s.object) taken left.dropped unheld (λ h. took_by_rebias w P s may.over (sym may.says ∙ h))
+      (class_in_heap b.shape b.words o s.fits.limits (s.fits.forms.classes o) s.object) taken left.dropped unheld (λ h. took_by_rebias w P s may.over (sym may.says ∙ h))
 
   -- nobody has logged anything since the revocation began
   log_now : (u : ℕ) → (x.known u).log ≡ (b.known u).log
@@ -103,14 +95,18 @@ module _ (w : World) (P : List PlainObject) (s : IsRevoking w P) (e : Purpose) (
 
   ends : BiasLawHolds x
   ends =
-      subst (λ h. BiasLaw w.biasing h.threads h.classes (class_by h w.words) (marks x) (lock x) (λ i. entries_on i (order (logs x))) (λ u. (x.known u).log) (λ u. (x.known u).stage)
+      subst (λ h. BiasLaw w.biasing h.threads h.classes (has_class h w.words) (class_by h w.words) (marks x) (lock x) (λ i. entries_on i (order (logs x))) (λ u. (x.known u).log) (λ u. (x.known u).stage)
       (λ u. (x.known u).unfinished) (λ c. x.words (Revocations c)) (λ u. counts_of (x.known u).counts)) (sym s.shape)
-      (subst (λ h. BiasLaw h b.shape.threads b.shape.classes (class_by b.shape b.words) (marks x) (lock x) (λ i. entries_on i (order (logs x))) (λ u. (x.known u).log) (λ u. (x.known u).stage)
+      (by_class_words (λ there class. BiasLaw w.biasing b.shape.threads b.shape.classes there class (marks x) (lock x)
+      (λ i. entries_on i (order (logs x))) (λ u. (x.known u).log) (λ u. (x.known u).stage) (λ u. (x.known u).unfinished)
+      (λ c. x.words (Revocations c)) (λ u. counts_of (x.known u).counts)) b.shape b.words w.words
+      (λ i. sym (class_words w P s may.over i))
+      (subst (λ h. BiasLaw h b.shape.threads b.shape.classes (has_class b.shape b.words) (class_by b.shape b.words) (marks x) (lock x) (λ i. entries_on i (order (logs x))) (λ u. (x.known u).log) (λ u. (x.known u).stage)
       (λ u. (x.known u).unfinished) (λ c. x.words (Revocations c)) (λ u. counts_of (x.known u).counts)) (sym s.biasing)
-      (subst (λ f. BiasLaw b.biasing b.shape.threads b.shape.classes (class_by b.shape b.words) (marks x) (lock x) (λ i. entries_on i (order (logs x))) f (λ u. (x.known u).stage)
+      (subst (λ f. BiasLaw b.biasing b.shape.threads b.shape.classes (has_class b.shape b.words) (class_by b.shape b.words) (marks x) (lock x) (λ i. entries_on i (order (logs x))) f (λ u. (x.known u).stage)
       (λ u. (x.known u).unfinished) (λ c. x.words (Revocations c)) (λ u. counts_of (x.known u).counts)) (same (λ u. sym (log_now u)))
-      (subst (λ ls. BiasLaw b.biasing b.shape.threads b.shape.classes (class_by b.shape b.words) (marks x) (lock x) (λ i. entries_on i (order ls)) (λ u. (b.known u).log) (λ u. (x.known u).stage)
-      (λ u. (x.known u).unfinished) (λ c. x.words (Revocations c)) (λ u. counts_of (x.known u).counts)) (sym logs_now) after_release)))
+      (subst (λ ls. BiasLaw b.biasing b.shape.threads b.shape.classes (has_class b.shape b.words) (class_by b.shape b.words) (marks x) (lock x) (λ i. entries_on i (order ls)) (λ u. (b.known u).log) (λ u. (x.known u).stage)
+      (λ u. (x.known u).unfinished) (λ c. x.words (Revocations c)) (λ u. counts_of (x.known u).counts)) (sym logs_now) after_release))))
 
   finds : w.words Safepoint ≡ reached_word t
   finds = reached_finds w P t (ap (λ (k : Known). k.reached) s.knows ∙ s.reached) (inr s)

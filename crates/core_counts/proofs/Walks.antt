@@ -12,7 +12,7 @@ use Rattle.lock_policy.specs.declared.policy.Verdict.{Verdict}
 use Rattle.lock_policy.specs.declared.policy.Verdict.TheVariants.{Single, BulkRebias, BulkRevoke}
 use Rattle.lock_policy.specs.Policy.{decided}
 use Rattle.core_world.specs.declared.name.Name.{Name}
-use Rattle.core_world.specs.declared.name.Name.TheVariants.{Prototype, Revocations, LastBulk, Mark, Hold, Displaced}
+use Rattle.core_world.specs.declared.name.Name.TheVariants.{Prototype, Revocations, LastBulk, Mark, Hold, Displaced, Class}
 use Rattle.core_world.specs.Words.Shape.{Shape}
 use Rattle.core_world.specs.Words.Names.{class_by}
 use Rattle.core_world.specs.Words.Names.{with_word}
@@ -69,7 +69,7 @@ locked_unowned t p = unbiased_unowned (mark_of (Locked t p)) (locked_unbiased t 
 -- The bias of this object is revoked, and anonymous marks stay so but where Q says so.
 module _ (own : ℕ) (Q : ℕ → Type 0) where
   same : (f : Name → ℕ) → IsGentle own Q f f
-  same f = record { pattern = λ i e. e; owners = λ i u d e. e; nobody = λ i n e. e; counts = λ c. refl }
+  same f = record { pattern = λ i e. e; owners = λ i u d e. e; nobody = λ i n e. e; counts = λ c. refl; classes = λ i. refl }
 
   next : (f g h : Name → ℕ) → IsGentle own Q f g → IsGentle own Q g h → IsGentle own Q f h
   next f g h a b = record {
@@ -77,6 +77,7 @@ module _ (own : ℕ) (Q : ℕ → Type 0) where
     owners = λ i u d e. a.owners i u d (b.owners i u d e);
     nobody = λ i n e. b.nobody i n (a.nobody i n e);
     counts = λ c. b.counts c ∙ a.counts c;
+    classes = λ i. b.classes i ∙ a.classes i;
   }
 
   abbrev Gentle : Rule → Type 0
@@ -110,6 +111,7 @@ module _ (own : ℕ) (Q : ℕ → Type 0) where
         (λ s. ap is_anonymous (here i s) ∙ nobody (λ q. n (subst Q (sym s) q)) (subst (λ k. is_anonymous (f (Mark k)) ≡ true) s e))
         (λ d. ap is_anonymous (away i d) ∙ a.nobody i n e);
     counts = a.counts;
+    classes = a.classes;
   }
     where
       here : (i : ℕ) → i ≡ j → with_word (Mark j) v g (Mark i) ≡ v
@@ -124,7 +126,7 @@ module _ (own : ℕ) (Q : ℕ → Type 0) where
     where
       by_name : (b : Bool) → ((g : Name → ℕ) → IsGentle own Q g (words_after (record_writes o t (p + 1) hs) g))
           → IsGentle own Q f (words_after (cond b (write (Displaced t p) (cond (h == hold_word o 1) (mark_of (Neutral 0 0)) 0) ∷ []) [] ++ record_writes o t (p + 1) hs) f)
-      by_name true r = let a = r (with_word (Displaced t p) (cond (h == hold_word o 1) (mark_of (Neutral 0 0)) 0) f) in record { pattern = a.pattern; owners = a.owners; nobody = a.nobody; counts = a.counts }
+      by_name true r = let a = r (with_word (Displaced t p) (cond (h == hold_word o 1) (mark_of (Neutral 0 0)) 0) f) in record { pattern = a.pattern; owners = a.owners; nobody = a.nobody; counts = a.counts; classes = a.classes }
       by_name false r = r f
 
   -- THE RULES. A biased object that is excepted is revoked.
@@ -156,7 +158,7 @@ module _ (own : ℕ) (Q : ℕ → Type 0) where
     where
       by_epoch : (e : Option ℕ) → IsGentle own Q f (words_after (raised_form e c) f)
       by_epoch None = same f
-      by_epoch (Some e) = record { pattern = λ i g. g; owners = λ i u d g. g; nobody = λ i n g. g; counts = λ c. refl }
+      by_epoch (Some e) = record { pattern = λ i g. g; owners = λ i u d g. g; nobody = λ i n g. g; counts = λ c. refl; classes = λ i. refl }
 
   renews : (c j : ℕ) → Gentle (renew c j)
   renews c j f = by_forms (read_mark (f (Mark j))) (epoch_in (f (Prototype c))) refl refl
@@ -203,14 +205,16 @@ module _ (own : ℕ) (Q : ℕ → Type 0) where
       held None f = same f
       held (Some j) f = by_test j (class j == c) (is_biased (f (Mark j))) f refl
 
-  ones : (at : Name) (v : ℕ) → ((f : Name → ℕ) (i : ℕ) → (with_word at v f (Mark i) ≡ f (Mark i)) × (with_word at v f (Revocations i) ≡ f (Revocations i))) → Gentle (store_one at v)
-  ones at v h f = record { pattern = λ i e. sym (ap is_biased (h f i).0) ∙ e; owners = λ i u d e. sym (ap bias_owner (h f i).0) ∙ e; nobody = λ i n e. ap is_anonymous (h f i).0 ∙ e; counts = λ c. (h f c).1 }
+  ones : (at : Name) (v : ℕ)
+      → ((f : Name → ℕ) (i : ℕ) → (with_word at v f (Mark i) ≡ f (Mark i)) × (with_word at v f (Revocations i) ≡ f (Revocations i)) × (with_word at v f (Class i) ≡ f (Class i)))
+      → Gentle (store_one at v)
+  ones at v h f = record { pattern = λ i e. sym (ap is_biased (h f i).0) ∙ e; owners = λ i u d e. sym (ap bias_owner (h f i).0) ∙ e; nobody = λ i n e. ap is_anonymous (h f i).0 ∙ e; counts = λ c. (h f c).1; classes = λ i. (h f i).2 }
 
 -- each verdict's rules
 rules_gentle : (s : Shape) (class : ℕ → ℕ) (t : ℕ) (b : Revocation) (v : Verdict) → AllByRecursion (Gentle b.object (Touched class b.object v)) (verdict_rules s class t (class b.object) b v)
 rules_gentle s class t b Single = (revokes b.object (Touched class b.object Single) b.object false refl, tt)
 rules_gentle s class t b BulkRebias = (
-  ones _ _ (LastBulk _) _ (λ f i. (refl, refl)),
+  ones _ _ (LastBulk _) _ (λ f i. (refl, refl, refl)),
   (
     raises _ _ _,
     (
@@ -224,9 +228,9 @@ rules_gentle s class t b BulkRebias = (
     by_rebias true = (takes b.object (Touched class b.object BulkRebias) _ b.object t refl refl, tt)
     by_rebias false = tt
 rules_gentle s class t b BulkRevoke = (
-  ones _ _ (LastBulk _) _ (λ f i. (refl, refl)),
+  ones _ _ (LastBulk _) _ (λ f i. (refl, refl, refl)),
   (
-    ones _ _ (Prototype _) _ (λ f i. (refl, refl)),
+    ones _ _ (Prototype _) _ (λ f i. (refl, refl, refl)),
     (
       visits b.object (Touched class b.object BulkRevoke) s class (class b.object) (λ j. revoke j false) (λ j e. revokes b.object (Touched class b.object BulkRevoke) j false e),
       (revokes b.object (Touched class b.object BulkRevoke) b.object false refl, tt),

@@ -53,7 +53,7 @@ length_more : (log : List Logged) (y : Logged) → length (log ++ y ∷ []) ≡ 
 length_more [] y = refl
 length_more (x ∷ log) y = let a = length_more log y in omega (arith, a)
 
-module _ (biasing : Bool) (threads classes : ℕ) (class mark : ℕ → ℕ) (lock : ℕ → Lock) (entries : ℕ → List Entry) (log : ℕ → List Logged) (stage : ℕ → Stage) (unfinished : ℕ → Option Unfinished) (count : ℕ → ℕ) (counts : ℕ → ℕ → ClassCounts) (mark2 : ℕ → ℕ) (lock2 : ℕ → Lock) (stage2 : ℕ → Stage) (unfinished2 : ℕ → Option Unfinished) (t : ℕ) (law : BiasLaw biasing threads classes class mark lock entries log stage unfinished count counts) where
+module _ (biasing : Bool) (threads classes : ℕ) (there : ℕ → Bool) (class mark : ℕ → ℕ) (lock : ℕ → Lock) (entries : ℕ → List Entry) (log : ℕ → List Logged) (stage : ℕ → Stage) (unfinished : ℕ → Option Unfinished) (count : ℕ → ℕ) (counts : ℕ → ℕ → ClassCounts) (mark2 : ℕ → ℕ) (lock2 : ℕ → Lock) (stage2 : ℕ → Stage) (unfinished2 : ℕ → Option Unfinished) (t : ℕ) (law : BiasLaw biasing threads classes there class mark lock entries log stage unfinished count counts) where
   -- without biases no mark is biased
   abbrev Plain : Type 0
   Plain = biasing ≡ false → (i : ℕ) → is_biased (mark i) ≡ false
@@ -61,9 +61,9 @@ module _ (biasing : Bool) (threads classes : ℕ) (class mark : ℕ → ℕ) (lo
   -- AN ENTRY
   pub entry_law : (y : Logged) (entries2 : ℕ → List Entry) (log2 : ℕ → List Logged) → Plain → LeansByMark mark lock → BiasesKept mark lock mark2 lock2
       → OthersStay t log stage unfinished log2 stage2 unfinished2 → LogsEntry t y mark entries log stage unfinished entries2 log2 stage2 unfinished2
-      → BiasLaw biasing threads classes class mark2 lock2 entries2 log2 stage2 unfinished2 count counts
+      → BiasLaw biasing threads classes there class mark2 lock2 entries2 log2 stage2 unfinished2 count counts
   entry_law y entries2 log2 none by_mark kept others a = record {
-    marks = entry_keeps biasing class mark lock entries log stage unfinished _ mark2 lock2 entries2 log2 stage2 unfinished2 t y law.marks by_mark kept others a;
+    marks = entry_keeps biasing there class mark lock entries log stage unfinished _ mark2 lock2 entries2 log2 stage2 unfinished2 t y law.marks by_mark kept others a;
     paths = entry_keeps_paths log stage log2 stage2 t y law.paths others.logs others.stages a.grows a.left a.enters;
     taken = entry_keeps_owners mark entries log stage unfinished mark2 entries2 log2 stage2 unfinished2 t y law.taken kept.owners (λ i into. (by_mark i t (law.marks.biased t i BiasOwn into refl)).2) others a;
     few = entry_keeps_takings class mark lock entries log stage unfinished _ _ mark2 lock2 entries2 log2 stage2 unfinished2 t y law.few (λ u i h. law.marks.biased u i BiasTaken h refl) kept others a;
@@ -96,9 +96,9 @@ module _ (biasing : Bool) (threads classes : ℕ) (class mark : ℕ → ℕ) (lo
       → LogsNothing biasing t class mark lock entries stage unfinished (λ c. sum_below threads (λ u. (counts u c).revoke)) mark2 lock2 stage2 unfinished2 (λ c. sum_below threads (λ u. (counts u c).revoke))
       → TakesFreeBiases t class mark lock stage (λ c. sum_below threads (λ u. (counts u c).rebias)) (λ c. sum_below threads (λ u. (counts u c).revoke)) mark2 lock2 stage2 (λ c. sum_below threads (λ u. (counts u c).rebias)) (λ c. sum_below threads (λ u. (counts u c).revoke))
       → ((i : ℕ) (path : Path) → path_into (stage2 t) i ≡ Some path → PathFits (held_by nothing_held (log t)) (entry.Enter i path)) → (unfinished2 t ≡ unfinished t) ⊎ (unfinished t ≡ None)
-      → BiasLaw biasing threads classes class mark2 lock2 entries log stage2 unfinished2 count counts
+      → BiasLaw biasing threads classes there class mark2 lock2 entries log stage2 unfinished2 count counts
   quiet_law others a free fits goes = record {
-    marks = quiet_keeps biasing class mark lock entries log stage unfinished _ mark2 lock2 stage2 unfinished2 _ t law.marks others a;
+    marks = quiet_keeps biasing there class mark lock entries log stage unfinished _ mark2 lock2 stage2 unfinished2 _ t law.marks others a;
     paths = quiet_keeps_paths log stage stage2 t law.paths others.stages fits;
     taken = quiet_keeps_owners mark log stage mark2 stage2 t law.taken others.stages a.taking a.owners;
     few = quiet_keeps_takings class mark lock entries stage _ _ mark2 lock2 stage2 _ _ t law.few others.stages free;
@@ -204,9 +204,9 @@ module _ (biasing : Bool) (threads classes : ℕ) (class mark : ℕ → ℕ) (lo
         → LogsNothing biasing t class mark lock entries stage unfinished (λ d. sum_below threads (λ v. (counts v d).revoke)) mark2 lock2 stage2 unfinished2 (λ d. sum_below threads (λ v. (counts2 v d).revoke))
         → TakesFreeBiases t class mark lock stage (λ d. sum_below threads (λ v. (counts v d).rebias)) (λ d. sum_below threads (λ v. (counts v d).revoke)) mark2 lock2 stage2 (λ d. sum_below threads (λ v. (counts2 v d).rebias)) (λ d. sum_below threads (λ v. (counts2 v d).revoke))
         → ((i : ℕ) (path : Path) → path_into (stage2 t) i ≡ Some path → PathFits (held_by nothing_held (log t)) (entry.Enter i path))
-        → BiasLaw biasing threads classes class mark2 lock2 entries log stage2 unfinished2 count2 counts2
+        → BiasLaw biasing threads classes there class mark2 lock2 entries log stage2 unfinished2 count2 counts2
     revocation_law biased going going2 was calm was_decided others a free fits = record {
-      marks = quiet_keeps biasing class mark lock entries log stage unfinished _ mark2 lock2 stage2 unfinished2 _ t law.marks others a;
+      marks = quiet_keeps biasing there class mark lock entries log stage unfinished _ mark2 lock2 stage2 unfinished2 _ t law.marks others a;
       paths = quiet_keeps_paths log stage stage2 t law.paths others.stages fits;
       taken = quiet_keeps_owners mark log stage mark2 stage2 t law.taken others.stages a.taking a.owners;
       few = quiet_keeps_takings class mark lock entries stage _ _ mark2 lock2 stage2 _ _ t law.few others.stages free;

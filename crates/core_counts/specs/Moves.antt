@@ -9,7 +9,7 @@ use Rattle.plain_history.specs.Tied.{bound_to, is_same_object}
 use Rattle.lock_policy.specs.declared.policy.Verdict.{Verdict}
 use Rattle.lock_policy.specs.declared.policy.Verdict.TheVariants.{BulkRevoke}
 use Rattle.core_world.specs.declared.name.Name.{Name}
-use Rattle.core_world.specs.declared.name.Name.TheVariants.{Mark, Revocations}
+use Rattle.core_world.specs.declared.name.Name.TheVariants.{Mark, Revocations, Class}
 use Rattle.core_world.specs.declared.stage.Stage.{Stage}
 use Rattle.core_world.specs.declared.task.Op.TheVariants as op
 use Rattle.core_world.specs.declared.task.Unfinished.{Unfinished}
@@ -93,8 +93,9 @@ pub record IsGentle (o : ℕ) (Q : ℕ → Type 0) (f g : Name → ℕ) : Type 0
   pub pattern : (i : ℕ) → is_biased (g (Mark i)) ≡ true → is_biased (f (Mark i)) ≡ true
   pub owners : (i u : ℕ) → i ≢ o → bias_owner (g (Mark i)) ≡ Some u → bias_owner (f (Mark i)) ≡ Some u
   pub nobody : (i : ℕ) → (Q i → ⊥) → is_anonymous (f (Mark i)) ≡ true → is_anonymous (g (Mark i)) ≡ true
-  -- the counts stay
+  -- the counts stay, and so do the class words
   pub counts : (c : ℕ) → g (Revocations c) ≡ f (Revocations c)
+  pub classes : (i : ℕ) → g (Class i) ≡ f (Class i)
 
 -- which objects a revocation may leave without an anonymous mark: its own, and in a bulk revoke those of its class
 abbrev pub Touched : (ℕ → ℕ) → ℕ → Verdict → ℕ → Type 0

@@ -9,7 +9,7 @@ use Rattle.plain_monitor.specs.declared.entry.Path.TheVariants.{BiasOwn, BiasTak
 use Rattle.plain_monitor.specs.Objects.{PlainObject}
 use Rattle.plain_history.specs.Appending.{MayAppend}
 use Rattle.core_world.specs.declared.name.Name.{Name}
-use Rattle.core_world.specs.declared.name.Name.TheVariants.{Mark, Prototype, Revocations}
+use Rattle.core_world.specs.declared.name.Name.TheVariants.{Mark, Prototype, Revocations, Class}
 use Rattle.core_world.specs.declared.plan.StepPlan.{StepPlan}
 use Rattle.core_world.specs.declared.stage.Stage.TheVariants.{Calm, Seizes, Grabs, Takes, Ahead}
 use Rattle.core_world.specs.declared.task.Op.TheVariants as op
@@ -29,11 +29,12 @@ use Rattle.core_world.specs.World.{World, logs}
 use Rattle.core_law.specs.BiasLaw.{BiasLawHolds}
 use Rattle.core_locks.specs.Knowing.{GoesOn, WorksFor, HasHold, SawInflated, SawOwnBias}
 
--- WORDS. The marks, the prototypes and the counts of revocations are the words that the law reads.
+-- WORDS. The marks, the prototypes, the counts of revocations and the class words are the words that the law reads.
 abbrev pub is_bias_word : Name → Bool
 is_bias_word (Mark o) = true
 is_bias_word (Prototype c) = true
 is_bias_word (Revocations c) = true
+is_bias_word (Class o) = true
 is_bias_word _ = false
 
 -- In this word a step leaves v, and with that each mark as biased as it was: the word is another one, or v is what stood there, or it is a mark

@@ -35,32 +35,32 @@ pub fn the_opening_world_meets_the_law_of_biases()
 
 /// A step that logs an entry, and leaves the biases, keeps what the law of biases says of enters and marks.
 pub fn a_logged_entry_keeps_enters_and_marks()
-    ensures { (biasing : Bool) (class mark : ℕ → ℕ) (lock : ℕ → Lock) (entries : ℕ → List Entry)
+    ensures { (biasing : Bool) (there : ℕ → Bool) (class mark : ℕ → ℕ) (lock : ℕ → Lock) (entries : ℕ → List Entry)
         (log : ℕ → List Logged) (stage : ℕ → Stage) (unfinished : ℕ → Option Unfinished)
         (revoked mark2 : ℕ → ℕ) (lock2 : ℕ → Lock) (entries2 : ℕ → List Entry) (log2 : ℕ → List Logged)
         (stage2 : ℕ → Stage) (unfinished2 : ℕ → Option Unfinished) (t : ℕ) (y : Logged)
-        → EntersFitMarks biasing class mark lock entries log stage unfinished revoked → LeansByMark mark lock
+        → EntersFitMarks biasing there class mark lock entries log stage unfinished revoked → LeansByMark mark lock
         → BiasesKept mark lock mark2 lock2
         → OthersStay t log stage unfinished log2 stage2 unfinished2
         → LogsEntry t y mark entries log stage unfinished entries2 log2 stage2 unfinished2
-        → EntersFitMarks biasing class mark2 lock2 entries2 log2 stage2 unfinished2 revoked }
+        → EntersFitMarks biasing there class mark2 lock2 entries2 log2 stage2 unfinished2 revoked }
 {}
 
 /// A step that logs nothing, and a revocation as a whole, keep what the law of biases says of enters and marks.
 pub fn a_quiet_step_keeps_enters_and_marks()
-    ensures { (biasing : Bool) (class mark : ℕ → ℕ) (lock : ℕ → Lock) (entries : ℕ → List Entry)
+    ensures { (biasing : Bool) (there : ℕ → Bool) (class mark : ℕ → ℕ) (lock : ℕ → Lock) (entries : ℕ → List Entry)
         (log : ℕ → List Logged) (stage : ℕ → Stage) (unfinished : ℕ → Option Unfinished)
         (revoked mark2 : ℕ → ℕ) (lock2 : ℕ → Lock) (stage2 : ℕ → Stage) (unfinished2 : ℕ → Option Unfinished)
         (revoked2 : ℕ → ℕ) (t : ℕ)
-        → EntersFitMarks biasing class mark lock entries log stage unfinished revoked
+        → EntersFitMarks biasing there class mark lock entries log stage unfinished revoked
         → OthersStay t log stage unfinished log stage2 unfinished2
         → LogsNothing biasing t class mark lock entries stage unfinished revoked mark2 lock2 stage2 unfinished2 revoked2
-        → EntersFitMarks biasing class mark2 lock2 entries log stage2 unfinished2 revoked2 }
+        → EntersFitMarks biasing there class mark2 lock2 entries log stage2 unfinished2 revoked2 }
 {}
 
 /// What the stores of a revocation as a whole do to marks: none gets the bias pattern, none but that of the revocation's own object gets
-/// another bias owner, and an anonymous mark stays so, but for the own object's, and in a bulk revoke for those of its class. After its
-/// first store, the counts of classes stay.
+/// another bias owner, and an anonymous mark stays so, but for the own object's, and in a bulk revoke for those of its class. The class
+/// words stay, and after its first store the counts of classes do.
 pub fn a_revocation_is_gentle()
     ensures { (s : Shape) (t : ℕ) (b : Revocation) (f : Name → ℕ)
         → IsGentle b.object (Touched (class_by s f) b.object

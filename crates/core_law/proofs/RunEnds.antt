@@ -13,7 +13,7 @@ use Rattle.core_world.specs.declared.task.Unfinished.{Unfinished}
 use Rattle.core_world.specs.Threads.Known.{Known}
 use Rattle.core_world.specs.Locks.{marks}
 use Rattle.core_world.specs.Clauses.Safepoints.{IsUnfinished}
-use Rattle.core_world.specs.Words.Names.{class_by}
+use Rattle.core_world.specs.Words.Names.{class_by, has_class}
 use Rattle.core_world.specs.Valid.{Fits}
 use Rattle.core_world.specs.World.{World, logs}
 use Rattle.core_world.proofs.KnowledgeParts.{log_at}
@@ -36,11 +36,12 @@ module _ (w : World) (P : List PlainObject) (v : Fits w P) (law : BiasLawHolds w
   ]
 
   pub run_fits : ((t o : ℕ) → IsUnfinished (w.known t).unfinished op.Hash o → ⊥)
-      → BiasesOfRun w.biasing w.shape.threads (class_by w.shape w.words) (logs w) (λ c. w.words (Revocations c)) (λ t. (w.known t).counts)
+      → BiasesOfRun w.biasing w.shape.threads (has_class w.shape w.words) (class_by w.shape w.words) (logs w)
+      (λ c. w.words (Revocations c)) (λ t. (w.known t).counts)
   run_fits none = record {
     stays = law.marks.stays;
     paths = λ t within. subst (PathsFit nothing_held) (sym (log_is t within)) (law.paths.logged t);
-    entered = λ b o path r e. elim (law.marks.entered b o path r e) [ inl h ↦ inl h | inr h ↦ inr (hash_logged none o h) ];
+    entered = λ b o path there r e. elim (law.marks.entered b o path there r e) [ inl h ↦ inl h | inr h ↦ inr (hash_logged none o h) ];
     counts = law.count_fits;
     plain = law.plain;
     uncounted = law.uncounted;
@@ -70,5 +71,6 @@ module _ (w : World) (P : List PlainObject) (v : Fits w P) (law : BiasLawHolds w
       omega (arith, a, b)
 
   pub run_ends : ((t : ℕ) → (w.known t).unfinished ≡ None)
-      → BiasesOfRun w.biasing w.shape.threads (class_by w.shape w.words) (logs w) (λ c. w.words (Revocations c)) (λ t. (w.known t).counts)
+      → BiasesOfRun w.biasing w.shape.threads (has_class w.shape w.words) (class_by w.shape w.words) (logs w)
+      (λ c. w.words (Revocations c)) (λ t. (w.known t).counts)
   run_ends none = run_fits (λ t o h. let n = none t in cc (n, h))

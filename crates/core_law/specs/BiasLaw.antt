@@ -11,7 +11,7 @@ use Rattle.core_world.specs.declared.stage.Stage.{Stage}
 use Rattle.core_world.specs.declared.task.Unfinished.{Unfinished}
 use Rattle.core_world.specs.Threads.Counts.{ClassCounts, counts_of}
 use Rattle.core_world.specs.Locks.{Lock, lock, marks}
-use Rattle.core_world.specs.Words.Names.{class_by}
+use Rattle.core_world.specs.Words.Names.{class_by, has_class}
 use Rattle.core_world.specs.Valid.{IsValidWith, ValidWith}
 use Rattle.core_world.specs.World.{World, logs}
 use Rattle.core_law.specs.BiasOwners.{BiasesTakenAtMost, OwnersHaveTaken}
@@ -28,11 +28,11 @@ summed n counts c =
       reset = sum_below n (λ t. (counts t c).reset);
     }
 
--- the law, of threads and classes below these numbers; `counts` are each thread's, by class
-pub record BiasLaw (biasing : Bool) (threads classes : ℕ) (class mark : ℕ → ℕ) (lock : ℕ → Lock)
+-- the law, of threads and classes below these numbers, and of the objects that are there; `counts` are each thread's, by class
+pub record BiasLaw (biasing : Bool) (threads classes : ℕ) (there : ℕ → Bool) (class mark : ℕ → ℕ) (lock : ℕ → Lock)
     (entries : ℕ → List Entry) (log : ℕ → List Logged) (stage : ℕ → Stage)
     (unfinished : ℕ → Option Unfinished) (count : ℕ → ℕ) (counts : ℕ → ℕ → ClassCounts) : Type 0 where
-  pub marks : EntersFitMarks biasing class mark lock entries log stage unfinished
+  pub marks : EntersFitMarks biasing there class mark lock entries log stage unfinished
       (λ c. (summed threads counts c).revoke)
   pub paths : PathsFitHolds log stage
   pub taken : OwnersHaveTaken mark log stage
@@ -47,7 +47,7 @@ pub record BiasLaw (biasing : Bool) (threads classes : ℕ) (class mark : ℕ �
 
 abbrev pub BiasLawHolds : World → Type 0
 BiasLawHolds w =
-    BiasLaw w.biasing w.shape.threads w.shape.classes (class_by w.shape w.words) (marks w) (lock w)
+    BiasLaw w.biasing w.shape.threads w.shape.classes (has_class w.shape w.words) (class_by w.shape w.words) (marks w) (lock w)
     (λ o. entries_on o (order (logs w)))
     (λ t. (w.known t).log) (λ t. (w.known t).stage) (λ t. (w.known t).unfinished)
     (λ c. w.words (Revocations c)) (λ t. counts_of (w.known t).counts)

@@ -35,8 +35,9 @@ IsHashed log unfinished o = (t : ℕ) × ((has_hash o (log t) ≡ true) ⊎ IsUn
 abbrev pub IsTaken : (ℕ → Stage) → ℕ → Type 0
 IsTaken stage o = (t : ℕ) × (path_into (stage t) o ≡ Some BiasTaken)
 
--- `entries` are those on an object, in the order of all logs; `revoked` is how many bulk revokes of a class were counted.
-pub record EntersFitMarks (biasing : Bool) (class mark : ℕ → ℕ) (lock : ℕ → Lock) (entries : ℕ → List Entry)
+-- `there` says which objects there are, and `entries` are those on an object, in the order of all logs; `revoked` is how many bulk revokes of a class
+-- were counted.
+pub record EntersFitMarks (biasing : Bool) (there : ℕ → Bool) (class mark : ℕ → ℕ) (lock : ℕ → Lock) (entries : ℕ → List Entry)
     (log : ℕ → List Logged) (stage : ℕ → Stage) (unfinished : ℕ → Option Unfinished)
     (revoked : ℕ → ℕ) : Type 0 where
   -- an object with an Enter of a path that is no bias path, or with a Wait, Notify or NotifyAll, has no bias pattern in its mark
@@ -48,12 +49,12 @@ pub record EntersFitMarks (biasing : Bool) (class mark : ℕ → ℕ) (lock : �
       → lock o ≡ BiasedTo t
   pub unbiased : (t o : ℕ) (path : Path) → path_into (stage t) o ≡ Some path → is_by_bias path ≡ false
       → is_biased (mark o) ≡ false
-  -- with biases, and where the class wasn't revoked in bulk: an object without an Enter has an anonymous mark, or its bias is being taken, or a
-  -- Hash of it is logged or open
-  pub unentered : biasing ≡ true → (o : ℕ) → revoked (class o) ≡ 0 → first_path (entries o) ≡ None
+  -- with biases, and where the class wasn't revoked in bulk: an object that is there, and has no Enter, has an anonymous mark, or its bias is being
+  -- taken, or a Hash of it is logged or open
+  pub unentered : biasing ≡ true → (o : ℕ) → there o ≡ true → revoked (class o) ≡ 0 → first_path (entries o) ≡ None
       → (is_anonymous (mark o) ≡ true) ⊎ IsTaken stage o ⊎ IsHashed log unfinished o
   -- and one with an Enter has BiasTaken as its first path, or a Hash of it is logged or open
-  pub entered : biasing ≡ true → (o : ℕ) (path : Path) → revoked (class o) ≡ 0 → first_path (entries o) ≡ Some path
+  pub entered : biasing ≡ true → (o : ℕ) (path : Path) → there o ≡ true → revoked (class o) ≡ 0 → first_path (entries o) ≡ Some path
       → (path ≡ BiasTaken) ⊎ IsHashed log unfinished o
 
 -- In each log, and with the Enter that its thread is about to log, the paths of a first hold stand exactly where the thread's count was 0 and the

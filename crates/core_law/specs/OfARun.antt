@@ -17,15 +17,17 @@ use Rattle.core_law.specs.TakenBiases.{OwnsAreTaken, times_taken}
 abbrev pub IsHashLogged : List (List Logged) → ℕ → Type 0
 IsHashLogged logs o = (t : ℕ) × (has_hash o (log_of logs t) ≡ true)
 
--- `class` is each object's class, `count` the count of revocations of each class, and `counted` the verdicts that each of the threads counted
-pub record BiasesOfRun (biasing : Bool) (threads : ℕ) (class : ℕ → ℕ) (logs : List (List Logged))
+-- `there` says which objects there are, `class` is each object's class, `count` the count of revocations of each class, and `counted` the verdicts that
+-- each of the threads counted
+pub record BiasesOfRun (biasing : Bool) (threads : ℕ) (there : ℕ → Bool) (class : ℕ → ℕ) (logs : List (List Logged))
     (count : ℕ → ℕ) (counted : ℕ → List CountedVerdict) : Type 0 where
   -- in the order of all logs no Enter with a bias path stands after one of its object with another path, or after a Wait, Notify or NotifyAll of it
   pub stays : (o : ℕ) → EndsStay (entries_on o (order logs))
   -- in each log the paths of a first hold stand exactly where the thread's count was 0 and the path isn't BiasOwn
   pub paths : (t : ℕ) → t < threads → PathsFit nothing_held (log_of logs t)
-  -- with biases, and where the class wasn't revoked in bulk, an object with an Enter has BiasTaken as its first path, or a Hash of it is logged
-  pub entered : biasing ≡ true → (o : ℕ) (path : Path)
+  -- with biases, and where the class wasn't revoked in bulk, an object that is there, and has an Enter, has BiasTaken as its first path, or a Hash of it
+  -- is logged
+  pub entered : biasing ≡ true → (o : ℕ) (path : Path) → there o ≡ true
       → (summed threads (λ t. counts_of (counted t)) (class o)).revoke ≡ 0
       → first_path (entries_on o (order logs)) ≡ Some path → (path ≡ BiasTaken) ⊎ IsHashLogged logs o
   -- the count of each class fits the verdicts on it

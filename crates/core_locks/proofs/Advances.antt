@@ -105,7 +105,7 @@ module _ (w : World) (P : List PlainObject) (t : ℕ) (e : Purpose) (m end : ℕ
   z = next w t l handling x.words
 
   store : IsStore w P t plan
-  store = record { reached = reached; unrevoking = may.stands.unrevoking; written = refl; seen = refl; seen_at_safepoint = refl; running = refl; requesting = refl; unbiased = λ o h. h; prototypes = refl }
+  store = record { reached = reached; unrevoking = may.stands.unrevoking; written = refl; seen = refl; seen_at_safepoint = refl; running = refl; requesting = refl; unbiased = λ o h. h; biased = λ o h. h; there = λ o h. h; prototypes = refl }
 
   all_after : AllHold (kept_parts w z P)
   all_after seen = seen_next step x.words P (standing_seen w P t plan store v)

@@ -174,6 +174,7 @@ module _ (w : World) (P : List PlainObject) (t : ℕ) (e : Purpose) (within : t 
     marks = refl;
     prototypes = refl;
     no_mark = λ o. refl;
+    no_class = λ o. refl;
     named = tt;
     waits = λ u o h. h;
     uncounted = uncounted;

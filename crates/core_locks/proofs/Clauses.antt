@@ -1,5 +1,5 @@
 -- The clauses of a valid world by name, over the parts that they read. A step shows those that it touches, and all others by what they were.
-use Rattle.core_locks.proofs.Prelude.{◌≡◌, ℕ, zero, suc, ◌+◌, ◌≤◌, Bool, List, ◌∷◌, length, Option, Some, refl, ◌∙◌, read_mark, PlainMonitor, PlainObject, Logged, objects_after, LegalObjects, Value, Safepoint, Prototype, Stamp, Slot, Hold, Waiting, Length, Recursions, Object, Claim, Revocations, LastBulk, is_halted, Inflation, inflation_in, hold_words_ahead, Known, World, logs, logs_from, Lock, lock, lock_form, header, marks, displaced_words, headers, owner_words, prototype_of, inflations, holder, hold_count, holds_by_monitor, object_of, monitor_of, owner_at, hash_at, waits_at, notified_at, inflated_to, inflation_of, SeenStays, HoldsFitLogs, RecordsRest, RecursionsFit, Fits, WaitsFit, ends, StoppedAreQuiet, SafepointIsKnown, StampsFit, LocksArePlain, BiasedAreFree, LengthsFit, InflationsAreOne, DrawsFit, MonitorsAreClaimed, first_known, HashesFit, SlotsFit, ClassesFit, bulk_rebiases, bulk_revokes, IsInLimits, WordsHaveForms, MonitorsAreNamed, ShotsFit, End, Ring, MovesFit, monitor_count, ring_bits}
+use Rattle.core_locks.proofs.Prelude.{◌≡◌, ℕ, zero, suc, ◌+◌, ◌≤◌, Bool, List, ◌∷◌, length, Option, Some, refl, ◌∙◌, read_mark, PlainMonitor, PlainObject, Logged, objects_after, LegalObjects, Value, Safepoint, Prototype, Stamp, Slot, Hold, Waiting, Length, Recursions, Object, Claim, Revocations, LastBulk, is_halted, Inflation, inflation_in, hold_words_ahead, Known, World, logs, logs_from, Lock, lock, lock_form, header, marks, displaced_words, headers, owner_words, prototype_of, inflations, holder, hold_count, holds_by_monitor, object_of, monitor_of, owner_at, hash_at, waits_at, notified_at, inflated_to, inflation_of, SeenStays, HoldsFitLogs, RecordsRest, RecursionsFit, Fits, WaitsFit, ends, StoppedAreQuiet, SafepointIsKnown, StampsFit, LocksArePlain, BiasedAreFree, LengthsFit, InflationsAreOne, DrawsFit, MonitorsAreClaimed, first_known, HashesFit, SlotsFit, ClassesFit, bulk_rebiases, bulk_revokes, IsInLimits, WordsHaveForms, MonitorsAreNamed, ShotsFit, End, Ring, MovesFit, monitor_count, ring_bits, Class}
 
 -- what the clauses read: the world, what is made of its words and stages, and the plain objects
 pub record Parts : Type 0 where
@@ -52,7 +52,8 @@ Holds p numbered = (t : ℕ) → (p.world.known t).thread ≡ t
 Holds p absent = (t : ℕ) → p.world.shape.threads ≤ t → p.world.known t ≡ first_known t
 Holds p seen = SeenStays p.world p.owner p.waits
 Holds p forms =
-    WordsHaveForms p.world.shape (marks p.world) (owner_words p.world) (λ t. p.world.words (Waiting t)) (λ m. p.world.words (Object m)) (λ t q. p.world.words (Hold t q)) (p.world.words Safepoint)
+    WordsHaveForms p.world.shape (marks p.world) (owner_words p.world) (λ t. p.world.words (Waiting t)) (λ m. p.world.words (Object m))
+    (λ o. p.world.words (Class o)) (λ t q. p.world.words (Hold t q)) (p.world.words Safepoint)
 Holds p safe =
     SafepointIsKnown p.world.shape.threads (p.world.words Safepoint) (λ t. (p.world.known t).running) (λ t. (p.world.known t).requesting) (λ t. (p.world.known t).reached)
     (λ t. (p.world.known t).halted) (λ t. ends (p.world.known t).log) (λ t. (p.world.known t).unfinished) p.monitors

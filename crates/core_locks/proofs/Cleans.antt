@@ -31,7 +31,7 @@ module _ (w : World) (P : List PlainObject) (t : ℕ) (e : Purpose) (m : ℕ) (w
   owner_next = next w t (left_with w t owner_plan) quietly (hit_world w t owner_plan).words
 
   owner_store : IsStore w P t owner_plan
-  owner_store = record { reached = reached; unrevoking = may.stands.unrevoking; written = refl; seen = refl; seen_at_safepoint = refl; running = refl; requesting = refl; unbiased = λ o h. h; prototypes = refl }
+  owner_store = record { reached = reached; unrevoking = may.stands.unrevoking; written = refl; seen = refl; seen_at_safepoint = refl; running = refl; requesting = refl; unbiased = λ o h. h; biased = λ o h. h; there = λ o h. h; prototypes = refl }
 
   owner_after : AllHold (turned_parts w owner_next P (lock w))
   owner_after seen = seen_next owner_step (hit_world w t owner_plan).words P (standing_seen w P t owner_plan owner_store v)
@@ -52,7 +52,7 @@ module _ (w : World) (P : List PlainObject) (t : ℕ) (e : Purpose) (m : ℕ) (w
   count_next = next w t (left_with w t count_plan) quietly (hit_world w t count_plan).words
 
   count_store : IsStore w P t count_plan
-  count_store = record { reached = reached; unrevoking = may.stands.unrevoking; written = refl; seen = refl; seen_at_safepoint = refl; running = refl; requesting = refl; unbiased = λ o h. h; prototypes = refl }
+  count_store = record { reached = reached; unrevoking = may.stands.unrevoking; written = refl; seen = refl; seen_at_safepoint = refl; running = refl; requesting = refl; unbiased = λ o h. h; biased = λ o h. h; there = λ o h. h; prototypes = refl }
 
   count_after : AllHold (turned_parts w count_next P (lock w))
   count_after seen = seen_next count_step (hit_world w t count_plan).words P (standing_seen w P t count_plan count_store v)
@@ -81,7 +81,7 @@ module _ (w : World) (P : List PlainObject) (t : ℕ) (e : Purpose) (m : ℕ) (w
   head_next = next w t (left_with w t head_plan) quietly (hit_world w t head_plan).words
 
   head_store : IsStore w P t head_plan
-  head_store = record { reached = reached; unrevoking = may.stands.unrevoking; written = refl; seen = refl; seen_at_safepoint = refl; running = refl; requesting = refl; unbiased = λ o h. h; prototypes = refl }
+  head_store = record { reached = reached; unrevoking = may.stands.unrevoking; written = refl; seen = refl; seen_at_safepoint = refl; running = refl; requesting = refl; unbiased = λ o h. h; biased = λ o h. h; there = λ o h. h; prototypes = refl }
 
   head_after : AllHold (turned_parts w head_next P (lock w))
   head_after seen = seen_next head_step (hit_world w t head_plan).words P (standing_seen w P t head_plan head_store v)
@@ -103,7 +103,7 @@ module _ (w : World) (P : List PlainObject) (t : ℕ) (e : Purpose) (m : ℕ) (w
   object_next = next w t (left_with w t object_plan) quietly (hit_world w t object_plan).words
 
   object_store : IsStore w P t object_plan
-  object_store = record { reached = reached; unrevoking = may.stands.unrevoking; written = refl; seen = refl; seen_at_safepoint = refl; running = refl; requesting = refl; unbiased = λ o h. h; prototypes = refl }
+  object_store = record { reached = reached; unrevoking = may.stands.unrevoking; written = refl; seen = refl; seen_at_safepoint = refl; running = refl; requesting = refl; unbiased = λ o h. h; biased = λ o h. h; there = λ o h. h; prototypes = refl }
 
   object_after : AllHold (turned_parts w object_next P (lock w))
   object_after seen = seen_next object_step (hit_world w t object_plan).words P (standing_seen w P t object_plan object_store v)
@@ -114,6 +114,7 @@ module _ (w : World) (P : List PlainObject) (t : ℕ) (e : Purpose) (m : ℕ) (w
     objects = λ a. each_set (λ b y. y ≢ 0 → y < length w.shape.objects) m 0 (λ a. w.words (Object a)) a (λ d. absurd (d refl)) (λ d. v.forms.objects a);
     holds = v.forms.holds;
     safepoint = v.forms.safepoint;
+    classes = v.forms.classes;
   }
   object_after monitors = record { own = λ o a n. word_else (λ a. w.words (Object a)) o a n ∙ v.monitors.own o a n; neutral = v.monitors.neutral; alone = v.monitors.alone }
   object_after c = standing_step object_step P may.stands.goes_on reached v c

@@ -200,6 +200,8 @@ module _ (w : World) (P : List PlainObject) (t : ℕ) (e : Purpose) (o m new : �
     running = refl;
     requesting = refl;
     unbiased = bias_forth w o new t l unbiased;
+    biased = λ i h. (bias_back w o new t l unbiased i h).1;
+    there = λ i h. h;
     prototypes = refl;
   }) v)
   all_after forms = forms_marked o new v.forms (subst (IsMark w.shape) (sym (neutral_is new neutral).1) refl)

@@ -79,7 +79,7 @@ module _ (w : World) (P : List PlainObject) (t : ℕ) (e : Purpose) (m end : ℕ
   z = next w t l quietly x.words
 
   store : IsStore w P t plan
-  store = record { reached = reached; unrevoking = may.stands.unrevoking; written = refl; seen = refl; seen_at_safepoint = refl; running = refl; requesting = refl; unbiased = λ o h. h; prototypes = refl }
+  store = record { reached = reached; unrevoking = may.stands.unrevoking; written = refl; seen = refl; seen_at_safepoint = refl; running = refl; requesting = refl; unbiased = λ o h. h; biased = λ o h. h; there = λ o h. h; prototypes = refl }
 
   abbrev put : ℕ → ℕ
   put q = cond (q == end % 2 ^ ring_bits w.shape) m (w.words (Ring q))

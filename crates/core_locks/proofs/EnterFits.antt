@@ -129,6 +129,8 @@ module _ (w : World) (P : List PlainObject) (t o : ℕ) (e : Entry) (r : Purpose
         owned = λ u i d h. sym (owner_other i u d) ∙ h;
         word = λ u s d h g. g;
         bias = λ u i s e r h. h;
+        there = λ i h. h;
+        classed = v.seen.classed;
         waits = λ u q i d c h. h;
         unwaited = λ u i d c h. sym (waits_same i) ∙ h;
         unreached = none_reached w P t l v a.runs refl;

@@ -81,7 +81,7 @@ module _ (w : World) (P : List PlainObject) (t : ℕ) (e : Purpose) (o h s p : �
   seen_law : SeenStays x (owner_at Q) (waits_at P)
   seen_law =
       let spares = mark_spares w o h t l (owner_at P) (owner_at Q) (waits_at P) (waits_at P) old old_some new (λ u. v.inflating.zero u)
-      (λ u i d a. (owner_gone i u a).1) (λ u i d a b. b) (none_reached w P t l v may.runs refl) in
+      (λ u i d a. (owner_gone i u a).1) (λ u i d a b. b) (none_reached w P t l v may.runs refl) v.seen.classed in
       let back = mark_back w o h t l (w.known t) l (owner_at P) (owner_at Q) t (λ i a g. names i ∙ g) refl refl (sym (ap inflation_in may.calm)) (λ a. v.quiet.none_revokes t) refl
       (λ i a. (owner_gone i t a).1) (λ i a b g. mine i g) in
       let counts = counts_more (Mark o) h t l w (owner_at P) (owner_at Q) (waits_at P) (waits_at P) (seen_before w.shape (w.known t)) (seen_is_part w.shape (w.known t)) back

@@ -112,6 +112,8 @@ module _ (w : World) (P : List PlainObject) (t : ℕ) (e : Purpose) (p : ℕ) (w
     others = λ u n s d e. others_by w x (owner_at P) refl refl u n s;
     uncounted = λ u s d g h. elim g [ inl a ↦ a.1 | inr a ↦ a.2 ];
     unbiased = λ o h. h;
+    biased = λ o h. h;
+    there = λ o h. h;
     names = λ o m h. h;
     waits = λ u o h. h;
     idle = λ o is. absurd (cc is);

@@ -78,7 +78,7 @@ module _ (w : World) (P : List PlainObject) (t : ℕ) (e : Purpose) (draw : Next
   spares : Spares (Mark o) m t l w (owner_at P) (owner_at P) (waits_at P) (waits_at P)
   spares =
       mark_spares w o m t l (owner_at P) (owner_at P) (waits_at P) (waits_at P) old_bare (neutral_some (marks w o) was_neutral) new_bare v.inflating.zero (λ u i d h. h) (λ u i d h g. g)
-      (none_reached w P t l v may.runs refl)
+      (none_reached w P t l v may.runs refl) v.seen.classed
 
   seen_law : SeenFit x P
   seen_law =

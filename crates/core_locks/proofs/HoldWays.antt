@@ -1,5 +1,5 @@
 -- The five ways in which a thread comes to store a hold word, and what each says of the world.
-use Rattle.core_locks.proofs.Prelude.{◌≡◌, ℕ, ◌<◌, ◌≤◌, ◌||◌, eq-eqb, Bool, true, List, Some, refl, sym, ap, ◌∙◌, subst, arith, inl, inr, or-true, read_mark, read_owner, owner_of, Inflated, ByThread, read_owner-owner_of, PlainObject, Mark, Displaced, Owner, Stage, Calm, Seizes, Grabs, Ahead, monitor_in, bears, hold_words_ahead, last_seen, World, OnRecord, OwnedBy, lock, lock_form, marks, displaced_words, owner_words, prototype_of, inflations, hold_count, owner_at, owner_lock, Purpose, Fits, inflated_form, SawInflated, SawOwn, MayHold, Precedes, ◌⊎◌, Option, if◌then◌else◌, MarkForm, Biased, Takes, Prototype, Inflation, Open, BiasedTo, is_biased, is_biased_form, epoch_in, class_by, IsValidBias}
+use Rattle.core_locks.proofs.Prelude.{◌≡◌, ℕ, ◌<◌, ◌≤◌, ◌||◌, eq-eqb, Bool, true, List, Some, refl, sym, ap, ◌∙◌, subst, arith, inl, inr, or-true, read_mark, read_owner, owner_of, Inflated, ByThread, read_owner-owner_of, PlainObject, Mark, Displaced, Owner, Stage, Calm, Seizes, Grabs, Ahead, monitor_in, bears, hold_words_ahead, last_seen, World, OnRecord, OwnedBy, lock, lock_form, marks, displaced_words, owner_words, prototype_of, inflations, hold_count, owner_at, owner_lock, Purpose, Fits, inflated_form, SawInflated, SawOwn, MayHold, Precedes, ◌⊎◌, Option, if◌then◌else◌, MarkForm, Biased, Takes, Prototype, Inflation, Open, BiasedTo, is_biased, is_biased_form, epoch_in, class_by, IsValidBias, Class}
 use Rattle.core_world.proofs.There.{class_seen}
 use Rattle.core_locks.specs.Knowing.{IsBiasTo, SawOwnBias}
 use Rattle.core_locks.proofs.WaitOut.{even_holder_owns}
@@ -89,7 +89,8 @@ module _ (w : World) (P : List PlainObject) (t o : ℕ) (runs : (w.known t).runn
   -- an object that it saw in this call to be validly biased to itself is so
   pub saw_leaning : SawOwnBias w.shape (w.known t) o → (lock w o ≡ BiasedTo t) × (is_biased (marks w o) ≡ true)
   saw_leaning saw =
-      let class_now : class_by w.shape w.words o ≡ saw.2 = class_seen w.shape w.words (w.known t).seen o saw.2 saw.4 in
+      let class_now : class_by w.shape w.words o ≡ saw.2 =
+      class_seen w.shape w.words (w.known t).seen o saw.2 (λ c e d. v.seen.stays t (Class o) c e (inl (runs, d))) saw.4 in
       let prototype_now : prototype_of w o ≡ saw.1 = ap (λ c. w.words (Prototype c)) class_now ∙ v.seen.stays t (Prototype saw.2) saw.1 saw.5 (inl (runs, tt)) in
       let bias : IsBiasTo t (read_mark saw.0) (epoch_in (prototype_of w o)) =
       subst (λ p. IsBiasTo t (read_mark saw.0) (epoch_in p)) (sym prototype_now) (subst (λ u. IsBiasTo u (read_mark saw.0) (epoch_in saw.1)) (v.numbered t) saw.6) in

@@ -152,6 +152,8 @@ module _ (w : World) (P : List PlainObject) (t : ℕ) (e : Purpose) (o mark u p 
         (mark_back w o m t l (w.known y) (w.known y) (owner_at P) (owner_at P) y (λ i a h. names i ∙ h) refl refl refl (λ a. a) refl (λ i h. h) (λ i a h b. b)) n s g;
     uncounted = λ y s d. uncounted_mark w (w.known y) (owner_at P) y o s old.unnamed old.unbiased (λ i. alone y i.0 i.1 i.2);
     unbiased = bias_forth w o m t l new.unbiased;
+    biased = λ i h. (bias_back w o m t l new.unbiased i h).1;
+    there = λ i h. h;
     names = λ i a h. sym (names i) ∙ h;
     waits = λ y i h. h;
     idle = λ i is none. unwaited_fits w P v i (ap (λ j. monitor_in (marks w j)) (eqb-true i o is) ∙ old.unnamed);

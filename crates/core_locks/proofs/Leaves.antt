@@ -104,6 +104,8 @@ module _ (w : World) (P : List PlainObject) (t o m : ℕ) (e : Purpose) (goes_on
         owned = λ u i d e. (owner_back v s i u e).1;
         word = word_spared;
         bias = λ u i s e r h. h;
+        there = λ i h. h;
+        classed = v.seen.classed;
         waits = λ u y i d e g. unwaiting_else y i (owns_else u i d e) g;
         unwaited = λ u i d e g. waiters_else i (owns_else u i d e) g;
         unreached = none_reached w P t l v s.runs refl;
@@ -122,6 +124,7 @@ module _ (w : World) (P : List PlainObject) (t o m : ℕ) (e : Purpose) (goes_on
       record {
         others = λ n y e a g. v.seen.stays t n y (part n y e) (stays_back w x (w.known t) l (owner_at P) (owner_at Q) t back_own n y g);
         unbiased = λ i y e g r. v.seen.unbiased t i y (part (Mark i) y e) r g;
+        classed = λ i y e g r. v.seen.saw_classed t i y (part (Mark i) y e) r g;
         unwaiting = λ u i y e a g r. let b = owner_back v s i t a in unwaiting_else u i b.0 (v.seen.unwaiting t u i y (part (Waiting u) y e) s.runs b.1 g);
         unwaited = λ i y e r a g. let b = owner_back v s i t a in waiters_else i b.0 (v.seen.unwaited t i y (part (Mark i) y e) s.runs b.1 g);
         idle = λ i e. absurd (cc e);

@@ -1,6 +1,6 @@
 -- The mark of one object changes: what stays of marks, locks and headers, which clauses read of marks only what stays, and that the other
 -- threads don't count on the mark that was there.
-use Rattle.core_locks.proofs.Prelude.{◌≡◌, ◌≢◌, ◌⊎◌, ℕ, ◌||◌, eq-eqb, ne_eqb, Bool, true, false, cond, List, [], Option, Some, None, refl, sym, ap, ◌∙◌, subst, inl, inr, read_mark, Logged, Mark, Stage, is_biased, monitor_in, Inflation, inflation_in, bears, revocation_in, Known, World, with_word_and_known, with_known, Lock, BiasedTo, OwnedBy, lock, lock_form, header, header_form, marks, displaced_words, headers, owner_words, prototype_of, inflations, IsValidBias, RecursionsFit, GoesByMonitor, WaitsFit, BiasedAreFree, InflationsAreOne, MonitorsAreClaimed, ClassesFit, Unfinished, MonitorsAreNamed, by_equal, stays_back, Back, Spares, Moving}
+use Rattle.core_locks.proofs.Prelude.{◌≡◌, ◌≢◌, ◌⊎◌, ℕ, ◌||◌, eq-eqb, ne_eqb, Bool, true, false, cond, List, [], Option, Some, None, refl, sym, ap, ◌∙◌, subst, inl, inr, read_mark, Logged, Mark, Stage, is_biased, monitor_in, Inflation, inflation_in, bears, revocation_in, Known, World, with_word_and_known, with_known, Lock, BiasedTo, OwnedBy, lock, lock_form, header, header_form, marks, displaced_words, headers, owner_words, prototype_of, inflations, IsValidBias, RecursionsFit, GoesByMonitor, WaitsFit, BiasedAreFree, InflationsAreOne, MonitorsAreClaimed, ClassesFit, Unfinished, MonitorsAreNamed, by_equal, stays_back, Back, Spares, Moving, has_class}
 use Rattle.core_locks.proofs.OwnSeen.{either}
 use Rattle.core_locks.proofs.MarkMeanings.{each_set, IsBare, bare_unnamed, bare_unbiased}
 
@@ -116,8 +116,9 @@ module _ (w : World) (o m t : ℕ) (l : Known) where
   pub mark_spares : (owner next : ℕ → ℕ → Bool) (waiters next_waiters : ℕ → List (ℕ × ℕ)) → IsBare (marks w o) → marks w o ≢ 0 → IsBare m
       → ((u : ℕ) (i : Inflation) → inflation_in (w.known u).stage ≡ Some i → marks w i.object ≡ 0)
       → ((u i : ℕ) → u ≢ t → next i u ≡ true → owner i u ≡ true) → ((u i : ℕ) → u ≢ t → owner i u ≡ true → waiters i ≡ [] → next_waiters i ≡ [])
-      → ((u : ℕ) → (with_known t l w.known u).reached ≡ true → ⊥) → Spares (Mark o) m t l w owner next waiters next_waiters
-  mark_spares owner next waiters next_waiters old some new inflating owned unwaited unreached =
+      → ((u : ℕ) → (with_known t l w.known u).reached ≡ true → ⊥) → ((i : ℕ) → is_biased (marks w i) ≡ true → has_class w.shape w.words i ≡ true)
+      → Spares (Mark o) m t l w owner next waiters next_waiters
+  mark_spares owner next waiters next_waiters old some new inflating owned unwaited unreached classed =
       let names : (i : ℕ) → monitor_in (marks w i) ≡ monitor_in (marks x i) = names_same (old.unnamed ∙ sym new.unnamed) in
       record {
         before = λ u n s d e g.
@@ -139,6 +140,8 @@ module _ (w : World) (o m t : ℕ) (l : Known) where
           | inr a ↦ bare_unbiased (marks w o) (prototype_of w o) old (subst (λ y. IsValidBias (read_mark y) (prototype_of w o)) (sym is) a.2)
         ]);
         bias = λ u i s e r. bias_forth new.unbiased i;
+        there = λ i h. h;
+        classed = λ i h. classed i (bias_back new.unbiased i h).1;
         waits = λ u i j d e h. h;
         unwaited = unwaited;
         unreached = unreached;

@@ -69,9 +69,9 @@ pub locked_header : (n t p : ℕ) (displaced : ℕ → ℕ → ℕ) (headers : �
 locked_header n t p displaced headers inflation e = ap (λ f. header_form f n displaced headers inflation) e
 
 -- FORMS. A word of the kind that changes has its form, and so have all.
-module _ {s : Shape} {mark owner waiting object : ℕ → ℕ} {hold : ℕ → ℕ → ℕ} {safe : ℕ} (i n : ℕ) (h : WordsHaveForms s mark owner waiting object hold safe) where
-  pub forms_marked : IsMark s (read_mark n) → WordsHaveForms s (λ o. cond (o == i) n (mark o)) owner waiting object hold safe
+module _ {s : Shape} {mark owner waiting object class : ℕ → ℕ} {hold : ℕ → ℕ → ℕ} {safe : ℕ} (i n : ℕ) (h : WordsHaveForms s mark owner waiting object class hold safe) where
+  pub forms_marked : IsMark s (read_mark n) → WordsHaveForms s (λ o. cond (o == i) n (mark o)) owner waiting object class hold safe
   forms_marked is = let marks : (o : ℕ) → IsMark s (read_mark (cond (o == i) n (mark o))) = λ o. each_set (λ o y. IsMark s (read_mark y)) i n mark o is (λ d. h.marks o) in search (marks, h)
 
-  pub forms_owned : IsOwner s (read_owner n) → WordsHaveForms s mark (λ m. cond (m == i) n (owner m)) waiting object hold safe
+  pub forms_owned : IsOwner s (read_owner n) → WordsHaveForms s mark (λ m. cond (m == i) n (owner m)) waiting object class hold safe
   forms_owned is = let owners : (m : ℕ) → IsOwner s (read_owner (cond (m == i) n (owner m))) = λ m. each_set (λ m y. IsOwner s (read_owner y)) i n owner m is (λ d. h.owners m) in search (owners, h)

@@ -1,5 +1,5 @@
 -- What the threads have seen stays when a running thread makes a step that logs nothing: what it counts on afterwards, and what the others count on.
-use Rattle.core_locks.proofs.Prelude.{◌≡◌, ◌≢◌, ◌⊎◌, ℕ, ◌||◌, Bool, true, false, List, [], ◌∷◌, Some, None, refl, sym, ap, ◌∙◌, subst, inl, inr, read_mark, is_thread, PlainObject, Name, Safepoint, Prototype, Mark, Stamp, Slot, Hold, Displaced, Waiting, Length, Owner, Recursions, Header, Object, Claim, Revocations, LastBulk, StepPlan, is_biased, monitor_in, waits_on, Inflation, inflation_in, bears, revocation_in, word_after, same_name, its_monitor, Known, last_seen, World, marks, prototype_of, who, owner_at, waits_at, Stays, IsKeptOrNamed, IsValidBias, IsOwnMonitor, StaysWhileRunning, StaysWhileAsking, seen_before, Fits, SeenFit, IsOfMonitor, seen_is_part, stays_back, Spares, seen_moves, Counts, End, Ring}
+use Rattle.core_locks.proofs.Prelude.{◌≡◌, ◌≢◌, ◌⊎◌, ℕ, ◌||◌, Bool, true, false, List, [], ◌∷◌, Some, None, refl, sym, ap, ◌∙◌, subst, inl, inr, read_mark, is_thread, PlainObject, Name, Safepoint, Prototype, Mark, Stamp, Slot, Hold, Displaced, Waiting, Length, Owner, Recursions, Header, Object, Claim, Revocations, LastBulk, StepPlan, is_biased, monitor_in, waits_on, Inflation, inflation_in, bears, revocation_in, word_after, same_name, its_monitor, Known, last_seen, World, marks, prototype_of, who, owner_at, waits_at, Stays, IsKeptOrNamed, IsValidBias, IsOwnMonitor, StaysWhileRunning, StaysWhileAsking, seen_before, Fits, SeenFit, IsOfMonitor, seen_is_part, stays_back, Spares, seen_moves, Counts, End, Ring, Class, has_class}
 use Rattle.core_locks.proofs.OwnSeen.{left_with, hit_world, back_by}
 use Rattle.core_locks.proofs.Steps.{none_reached}
 use Rattle.core_locks.proofs.Places.{kept_once, kept_apart}
@@ -17,8 +17,10 @@ pub record Seeing (w : World) (P : List PlainObject) (t : ℕ) (p : StepPlan) : 
   -- the others count on no more than before, and not on the word that changes
   pub others : (u : ℕ) (n : Name) (s : ℕ) → u ≢ t → last_seen n (w.known u).seen ≡ Some s → Stays (hit_world w t p) (w.known u) (owner_at P) u n s → Stays w (w.known u) (owner_at P) u n s
   pub uncounted : (u s : ℕ) → u ≢ t → Stays w (w.known u) (owner_at P) u p.at s → w.words p.at ≡ s → ⊥
-  -- marks and waiting words
+  -- marks, classes and waiting words
   pub unbiased : (o : ℕ) → is_biased (marks w o) ≡ false → is_biased (marks (hit_world w t p) o) ≡ false
+  pub biased : (o : ℕ) → is_biased (marks (hit_world w t p) o) ≡ true → is_biased (marks w o) ≡ true
+  pub there : (o : ℕ) → has_class w.shape w.words o ≡ true → has_class w.shape (hit_world w t p).words o ≡ true
   pub names : (o m : ℕ) → monitor_in (marks w o) ≡ Some m → monitor_in (marks (hit_world w t p) o) ≡ Some m
   pub waits : (u o : ℕ) → waits_on (w.words (Waiting u)) o ≡ false → waits_on ((hit_world w t p).words (Waiting u)) o ≡ false
   pub idle : (o : ℕ) → same_name (Mark o) p.at ≡ true → monitor_in (word_after p.act (w.words p.at)) ≡ None → waits_at P o ≡ []
@@ -33,6 +35,8 @@ module _ (w : World) (P : List PlainObject) (t : ℕ) (p : StepPlan) (a : Seeing
     owned = λ u o d h. h;
     word = λ u s d h g. absurd (a.uncounted u s d h g);
     bias = λ u o s e r. a.unbiased o;
+    there = a.there;
+    classed = λ o h. v.seen.classed o (a.biased o h);
     waits = λ u y o d e h. a.waits y o h;
     unwaited = λ u o d e h. h;
     unreached = none_reached w P t l v a.runs a.reached;
@@ -43,6 +47,7 @@ module _ (w : World) (P : List PlainObject) (t : ℕ) (p : StepPlan) (a : Seeing
   counts = record {
     others = λ n s e. a.mine n s (seen_is_part w.shape (w.known t) n s e);
     unbiased = λ o s e g r. a.unbiased o (v.seen.unbiased t o s (seen_is_part w.shape (w.known t) (Mark o) s e) (inl a.runs) g);
+    classed = λ o s e g r. v.seen.saw_classed t o s (seen_is_part w.shape (w.known t) (Mark o) s e) (inl a.runs) g;
     unwaiting = λ u o s e h g r. a.waits u o (v.seen.unwaiting t u o s (seen_is_part w.shape (w.known t) (Waiting u) s e) a.runs h g);
     unwaited = λ o s e r h g. v.seen.unwaited t o s (seen_is_part w.shape (w.known t) (Mark o) s e) a.runs h g;
     idle = λ o is r h g. a.idle o is g;
@@ -79,6 +84,7 @@ stays_nearly {w} {x} {k} {y} {owner} {u} besides b n s (inr h) = inl (inr (b.ask
     by_name (Prototype i) g = g
     by_name (Revocations i) g = g
     by_name (LastBulk i) g = g
+    by_name (Class i) g = g
     by_name (Mark i) g = subst (IsValidBias (read_mark s)) (λ j. b.prototype j i) g
     by_name Safepoint g = g
     by_name (Stamp i) g = g
@@ -104,6 +110,7 @@ stays_nearly {w} {x} {k} {y} {owner} {u} besides b n s (inl h) = by_name n h.1
     by_name (Prototype i) g = is (Prototype i) g
     by_name (Revocations i) g = is (Revocations i) g
     by_name (LastBulk i) g = is (LastBulk i) g
+    by_name (Class i) g = is (Class i) g
     by_name (Mark i) (inl g) = is (Mark i) (inl (subst (IsValidBias (read_mark s)) (λ j. b.prototype j i) g))
     by_name (Mark i) (inr (inl g)) = is (Mark i) (inr (inl g))
     by_name (Mark i) (inr (inr (inl g))) = elim (b.inflates g.0 g.1) [ inl a ↦ is (Mark i) (inr (inr (inl (g.0, a, g.2)))) | inr a ↦ inr (subst (λ j. besides (Mark j)) g.2 a.0) ]

@@ -128,6 +128,8 @@ module _ (w : World) (P : List PlainObject) (t : ℕ) (e : Purpose) (o m : ℕ) 
     ];
     uncounted = λ u s d. uncounted_mark w (w.known u) (owner_at P) u o s unnamed unbiased (apart u d);
     unbiased = bias_forth w o mark t l new_unbiased;
+    biased = λ i h. (bias_back w o mark t l new_unbiased i h).1;
+    there = λ i h. h;
     names = forth;
     waits = λ u i h. h;
     idle = λ i is none. let some = ap monitor_form form in absurd (cc (none, some));

@@ -1,5 +1,5 @@
 -- What the threads have seen stays when a running thread makes a step on a word on which no other counts, with the same marks and plain objects.
-use Rattle.core_locks.proofs.Prelude.{◌≡◌, ◌≢◌, ℕ, ◌||◌, Bool, true, false, List, [], ◌∷◌, Option, Some, None, refl, sym, ap, ◌∙◌, inl, inr, PlainObject, Mark, Waiting, StepPlan, is_biased, monitor_in, waits_on, inflation_in, bears, revocation_in, word_after, same_name, its_monitor, Known, World, with_word_and_known, marks, prototype_of, owner_at, waits_at, Stays, IsKeptOrNamed, SeenStays, known_hit, seen_before, Fits, SeenFit, seen_is_part, stays_back, Back, Spares, seen_moves, counts_more, hits, world_after, known_miss, subst, cond, Name, Length, Hold}
+use Rattle.core_locks.proofs.Prelude.{◌≡◌, ◌≢◌, ℕ, ◌||◌, Bool, true, false, List, [], ◌∷◌, Option, Some, None, refl, sym, ap, ◌∙◌, inl, inr, PlainObject, Mark, Waiting, StepPlan, is_biased, monitor_in, waits_on, inflation_in, bears, revocation_in, word_after, same_name, its_monitor, Known, World, with_word_and_known, marks, prototype_of, owner_at, waits_at, Stays, IsKeptOrNamed, SeenStays, known_hit, seen_before, Fits, SeenFit, seen_is_part, stays_back, Back, Spares, seen_moves, counts_more, hits, world_after, known_miss, subst, cond, Name, Length, Hold, Class, nat_lt, not, ◌==◌}
 use Rattle.std.proofs.Math.Bool.{or-true}
 use Rattle.std.specs.Prelude.{IfSome}
 use Rattle.core_locks.proofs.Steps.{none_reached}
@@ -30,6 +30,7 @@ pub record OnOwn (w : World) (P : List PlainObject) (t : ℕ) (p : StepPlan) : T
   pub marks : marks (hit_world w t p) ≡ marks w
   pub prototypes : prototype_of (hit_world w t p) ≡ prototype_of w
   pub no_mark : (o : ℕ) → same_name (Mark o) p.at ≡ false
+  pub no_class : (o : ℕ) → same_name (Class o) p.at ≡ false
   -- if the word is one of a monitor, the thread keeps that or a mark names it
   pub named : IfSome (its_monitor p.at) (λ m. IsKeptOrNamed w (w.known t) m)
   pub waits : (u o : ℕ) → waits_on (w.words (Waiting u)) o ≡ false → waits_on ((hit_world w t p).words (Waiting u)) o ≡ false
@@ -87,6 +88,8 @@ module _ (w : World) (P : List PlainObject) (t : ℕ) (p : StepPlan) (a : OnOwn 
     owned = λ u o d. fewer o u;
     word = λ u s d h g. absurd (a.uncounted u s d h g);
     bias = λ u o s e r h. (λ i. is_biased (a.marks i o)) ∙ h;
+    there = λ o h. ap (λ b. nat_lt o w.shape.declared || not (cond b (word_after p.act n) (w.words (Class o)) == 0)) (a.no_class o) ∙ h;
+    classed = λ o h. v.seen.classed o ((λ i. is_biased (sym a.marks i o)) ∙ h);
     waits = λ u y o d e h. a.waits y o h;
     unwaited = λ u o d e h. no_more o h;
     unreached = none_reached w P t l v a.runs a.reached;

@@ -1,5 +1,5 @@
 -- The words that the laws are written in, by one import.
-pub use Rattle.std.proofs.Common.{◌≡◌, ◌≢◌, ◌⊎◌, ℕ, zero, suc, ◌+◌, ◌<◌, ◌≤◌, ◌^◌, ◌==◌, ◌&&◌, ◌||◌, not, max, nat_lt, eq-eqb, ne_eqb, Bool, true, false, cond, List, [], ◌∷◌, ◌++◌, length, slice_index, slice_set, Option, Some, None, refl, sym, ap, ◌∙◌, subst, arith, inl, inr, eqb-true, slice_get, option_and_then, ◌-◌, IfSome, nat_le, option_map, is_none, bit_and, ◌*◌, add-zero, replicate, slice_index_or, zero-add, if◌then◌else◌, append-nil, IsSome, append_assoc}
+pub use Rattle.std.proofs.Common.{◌≡◌, ◌≢◌, ◌⊎◌, ℕ, zero, suc, ◌+◌, ◌-◌, ◌<◌, ◌≤◌, ◌^◌, ◌==◌, ◌&&◌, ◌||◌, not, max, nat_lt, eq-eqb, ne_eqb, Bool, true, false, cond, List, [], ◌∷◌, ◌++◌, length, slice_index, slice_set, Option, Some, None, refl, sym, ap, ◌∙◌, subst, arith, inl, inr, eqb-true, slice_get, option_and_then, ◌-◌, IfSome, nat_le, option_map, is_none, bit_and, ◌*◌, add-zero, replicate, slice_index_or, zero-add, if◌then◌else◌, append-nil, IsSome, append_assoc}
 pub use Rattle.std.proofs.Math.Bool.{or-true, or-false}
 pub use Rattle.std.proofs.lemmas.Bool.Decides.{nat_tests, Decides-int_eq}
 pub use Rattle.std.proofs.lemmas.Option.{same_Some}
@@ -47,14 +47,14 @@ pub use Rattle.plain_monitor.specs.Listed.{times_in}
 pub use Rattle.plain_history.proofs.HoldSteps.{never_counted}
 pub use Rattle.plain_history.specs.HeldByLog.{HasLetGo, held_by, nothing_held, LetsGoOf, IsLastLetGo}
 pub use Rattle.core_world.specs.declared.name.Name.{Name}
-pub use Rattle.core_world.specs.declared.name.Name.TheVariants.{Safepoint, Prototype, Mark, Stamp, Slot, Hold, Displaced, Waiting, Length, Owner, Recursions, Header, Object, Claim, End, Ring, Revocations, LastBulk}
+pub use Rattle.core_world.specs.declared.name.Name.TheVariants.{Safepoint, Prototype, Mark, Stamp, Slot, Hold, Displaced, Waiting, Length, Owner, Recursions, Header, Object, Claim, End, Ring, Revocations, LastBulk, Class}
 pub use Rattle.core_world.specs.declared.plan.StepPlan.{StepPlan}
 pub use Rattle.core_world.specs.declared.stage.Stage.{Stage}
 pub use Rattle.core_world.specs.declared.stage.Stage.TheVariants.{Calm, Seizes, Grabs, Enters, Resumes, Exits, Waits, TakesOver, Ahead, Behind, Inflates, Notifies, Revokes, Takes}
 pub use Rattle.core_world.specs.Words.Forms.{hold_word, is_biased, is_neutral, is_deeper, hash_in, monitor_in, names, waits_on, says_notified, stamp_in, enters_on, says_ended, is_halted, is_biased_form, asks_in, monitor_form, runs_form, waits_form, ended_form, runs_in, requester_form, notified_form, enters_form, hash_form, is_neutral_form, requester_in, halted_form, deeper_form, names_form, is_still, epoch_in, stamp_form}
 pub use Rattle.core_world.specs.Threads.Stages.{Inflation, inflation_in, bears, hold_words_ahead, recursions_ahead, recursions_behind, notification_in, revocation_in, one_if}
 pub use Rattle.core_world.specs.Words.Acts.{word_after, hits}
-pub use Rattle.core_world.specs.Words.Names.{class_by, with_word, same_name, its_monitor, kind_of, first_index, second_index}
+pub use Rattle.core_world.specs.Words.Names.{class_by, has_class, with_word, same_name, its_monitor, kind_of, first_index, second_index}
 pub use Rattle.core_world.specs.Threads.Known.{Known, Moving, Still, Fetches, Returns, StepMade, last_seen, local_of, draw_of}
 pub use Rattle.core_world.specs.World.{World, with_word_and_known, with_known, logs, logs_from}
 pub use Rattle.core_world.specs.Locks.{Lock, Open, BiasedTo, OnRecord, OwnedBy, record_lock, lock, lock_form, header, header_form, marks, displaced_words, headers, owner_words, prototype_of, inflations, who, holder, hold_count, depth_count, recursion_count, holds_by_monitor, object_of, monitor_of, owner_at, hash_at, waits_at, notified_at, owner_lock, or_zero, inflated_to, count_where, is_for, inflation_of, record_header, has_epoch}
@@ -81,7 +81,7 @@ pub use Rattle.core_world.specs.Clauses.Slots.{SlotsFit, IsHere}
 pub use Rattle.core_world.specs.Threads.References.{HasValue}
 pub use Rattle.core_world.specs.Shots.{ShotsFit}
 pub use Rattle.core_world.specs.Clauses.Classes.{ClassesFit, bulk_rebiases, bulk_revokes}
-pub use Rattle.core_world.specs.Words.Shape.{Shape, monitor_count, ring_bits, ring_places, slots_of, IsInLimits}
+pub use Rattle.core_world.specs.Words.Shape.{Shape, monitor_count, ring_bits, ring_places, slots_of, class_of, IsInLimits}
 pub use Rattle.core_world.specs.declared.task.Unfinished.{Unfinished}
 pub use Rattle.core_world.specs.Clauses.WordForms.{IsOwner, IsMark, IsSafepoint, IsWait, IsHold, WordsHaveForms}
 pub use Rattle.core_world.specs.Looking.{IsOfMonitor, HasFound, MayLook}

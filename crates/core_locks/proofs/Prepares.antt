@@ -118,6 +118,7 @@ module _ (w : World) (P : List PlainObject) (t : ℕ) (e : Purpose) (m word : �
       objects = λ a. each_set (λ b y. y ≢ 0 → y < length w.shape.objects) m word (λ a. w.words (Object a)) a (λ d. here) (λ d. v.forms.objects a);
       holds = v.forms.holds;
       safepoint = v.forms.safepoint;
+      classes = v.forms.classes;
     }
     object_after monitors = record { own = λ o a n. word_else (λ a. w.words (Object a)) o a n ∙ v.monitors.own o a n; neutral = v.monitors.neutral; alone = v.monitors.alone }
     object_after c = quiet_step object_step P may.goes_on may.runs v c

@@ -1,6 +1,6 @@
 -- Whether a thread owns an object changes by its own entries alone. So an entry that only the owner may log isn't taken from another, wherever
 -- in the order its stamp puts it.
-use Rattle.core_locks.proofs.Prelude.{eq-eqb, is_none, ◌≡◌, ◌≢◌, ℕ, zero, suc, ◌+◌, ◌<◌, ◌≤◌, ◌==◌, ne_eqb, eqb-true, Bool, true, false, List, [], ◌∷◌, ◌++◌, length, slice_get, Option, Some, None, refl, sym, ap, ◌∙◌, subst, arith, AllByRecursion, nat_tests, same_Some, Entry, Enter, Exit, Get, Put, Wait, Resume, Notify, NotifyAll, Hash, Logged, Path, owns, is_thread, count_of, resumed, PlainObject, new_objects, take_at, take_entry, take_named, with_monitor, hashed, order, of_thread, RisesAbove, take_all, objects_after, appended, last_stamp, log_of, order_appended, thread_kept, taken_at, bound_to, read_value, Act, Name, Safepoint, Prototype, Revocations, LastBulk, Mark, Stamp, Slot, Hold, Displaced, Waiting, Length, Owner, Recursions, Header, Object, Claim, LogGet, StepPlan, Stage, word_after, hits, Known, object_of, owner_at, value_found, Purpose, with_stage, logging_plan, load, world_after, runs_after, stamp_by, Fits, Valid, World, with_word_and_known, logs, by_equal, log_at, logs_grow, logs_length, running_fits, thread_is, same_number, End, Ring}
+use Rattle.core_locks.proofs.Prelude.{eq-eqb, is_none, ◌≡◌, ◌≢◌, ℕ, zero, suc, ◌+◌, ◌<◌, ◌≤◌, ◌==◌, ne_eqb, eqb-true, Bool, true, false, List, [], ◌∷◌, ◌++◌, length, slice_get, Option, Some, None, refl, sym, ap, ◌∙◌, subst, arith, AllByRecursion, nat_tests, same_Some, Entry, Enter, Exit, Get, Put, Wait, Resume, Notify, NotifyAll, Hash, Logged, Path, owns, is_thread, count_of, resumed, PlainObject, new_objects, take_at, take_entry, take_named, with_monitor, hashed, order, of_thread, RisesAbove, take_all, objects_after, appended, last_stamp, log_of, order_appended, thread_kept, taken_at, bound_to, read_value, Act, Name, Safepoint, Prototype, Revocations, LastBulk, Mark, Stamp, Slot, Hold, Displaced, Waiting, Length, Owner, Recursions, Header, Object, Claim, LogGet, StepPlan, Stage, word_after, hits, Known, object_of, owner_at, value_found, Purpose, with_stage, logging_plan, load, world_after, runs_after, stamp_by, Fits, Valid, World, with_word_and_known, logs, by_equal, log_at, logs_grow, logs_length, running_fits, thread_is, same_number, End, Ring, Class}
 use Rattle.plain_monitor.specs.Objects.{named}
 use Rattle.plain_monitor.specs.Order.{is_before, insert_ordered, with_threads}
 use Rattle.plain_monitor.specs.History.{last_above}
@@ -206,6 +206,7 @@ goes_on Safepoint act left k d = absurd (d refl)
 goes_on (Prototype c) act left k d = refl
 goes_on (Revocations c) act left k d = refl
 goes_on (LastBulk c) act left k d = refl
+goes_on (Class o) act left k d = refl
 goes_on (Mark o) act left k d = refl
 goes_on (Stamp o) act left k d = refl
 goes_on (Slot o i) act left k d = refl

@@ -108,6 +108,8 @@ module _ (w : World) (P : List PlainObject) (t : ℕ) (e : Purpose) (act : Act) 
     owned = λ u o d h. h;
     word = λ u s d st was. elim st [ inl a ↦ absurd a.1 | inr a ↦ absurd a.2 ];
     bias = λ u o s e r h. h;
+    there = λ o h. h;
+    classed = v.seen.classed;
     waits = λ u y o d a h. h;
     unwaited = λ u o d a h. h;
     unreached = unreached;

@@ -1,5 +1,5 @@
 -- What a thread goes on to count on after its step on the safepoint word.
-use Rattle.core_locks.proofs.Prelude.{◌≡◌, ℕ, Bool, true, false, List, [], ap, ◌∙◌, inl, inr, PlainObject, Name, Safepoint, Prototype, Mark, Waiting, Revocations, LastBulk, is_biased, monitor_in, waits_on, Known, StepMade, World, owner_at, waits_at, StaysWhileRunning, StaysWhileAsking, only_headers, is_header, Fits, SeenFit, IsOfMonitor, headers_are_part, Counts, IsPart, counts_anew, unwaited_fits}
+use Rattle.core_locks.proofs.Prelude.{◌≡◌, ℕ, Bool, true, false, List, [], ap, ◌∙◌, inl, inr, PlainObject, Name, Safepoint, Prototype, Mark, Waiting, Revocations, LastBulk, is_biased, monitor_in, waits_on, Known, StepMade, World, owner_at, waits_at, StaysWhileRunning, StaysWhileAsking, only_headers, is_header, Fits, SeenFit, IsOfMonitor, headers_are_part, Counts, IsPart, counts_anew, unwaited_fits, Class}
 
 module _ (w : World) (P : List PlainObject) (t word : ℕ) (l : Known) where
   -- the safepoint word is of no monitor
@@ -12,6 +12,7 @@ module _ (w : World) (P : List PlainObject) (t word : ℕ) (l : Known) where
   asking_runs owner (Revocations c) s h = tt
   asking_runs owner (LastBulk c) s h = tt
   asking_runs owner (Mark o) s h = inl h
+  asking_runs owner (Class o) s h = h
   asking_runs owner _ s h = absurd h
 
   -- a thread that ran, and runs no more: what it counts on, since its request stands, it could count on while it ran
@@ -22,6 +23,7 @@ module _ (w : World) (P : List PlainObject) (t word : ℕ) (l : Known) where
       | inr b ↦ h.stays t n s (part n s e) (inl (runs, asking_runs (owner_at P) n s b.2))
     ];
     unbiased = λ o s e g r. h.unbiased t o s (part (Mark o) s e) (inl runs) g;
+    classed = λ o s e g r. h.saw_classed t o s (part (Mark o) s e) (inl runs) g;
     unwaiting = λ u o s e a g r. absurd (cc (r, stops));
     unwaited = λ o s e r a g. absurd (cc (r, stops));
     idle = λ o e r a g. absurd (cc (r, stops));
@@ -38,6 +40,7 @@ module _ (w : World) (P : List PlainObject) (t word : ℕ) (l : Known) where
   counts_since reached kept v = record {
     others = λ n s e a st. v.seen.stands t n s reached (part n s e);
     unbiased = λ o s e g r. ap is_biased (v.seen.stands t (Mark o) s reached (part (Mark o) s e)) ∙ g;
+    classed = λ o s e g r. v.seen.classed o (ap is_biased (v.seen.stands t (Mark o) s reached (part (Mark o) s e)) ∙ g);
     unwaiting = λ u o s e a g r. ap (λ z. waits_on z o) (v.seen.stands t (Waiting u) s reached (part (Waiting u) s e)) ∙ g;
     unwaited = λ o s e r a g. unwaited_fits w P v o (ap monitor_in (v.seen.stands t (Mark o) s reached (part (Mark o) s e)) ∙ g);
     idle = λ o e r a g. absurd (cc e);
@@ -48,8 +51,9 @@ module _ (w : World) (P : List PlainObject) (t word : ℕ) (l : Known) where
       part : IsPart (only_headers (w.known t).seen_at_safepoint) (w.known t).seen_at_safepoint
       part n s e = (headers_are_part (w.known t).seen_at_safepoint n s e).1
 
-      -- a mark or a prototype is of no monitor
+      -- a mark, a class word or a prototype is of no monitor
       no_monitor : (n : Name) → is_header n ≡ true → (m : ℕ) → IsOfMonitor m n → ⊥
       no_monitor (Mark o) h m e = absurd (cc e)
       no_monitor (Prototype c) h m e = absurd (cc e)
+      no_monitor (Class o) h m e = absurd (cc e)
       no_monitor _ h m e = absurd (cc h)

@@ -102,7 +102,7 @@ module _ (w : World) (P : List PlainObject) (t : ℕ) (e : Purpose) (o mark p : 
   spares : Spares (Mark o) m t l w (owner_at P) (owner_at P) (waits_at P) (waits_at P)
   spares =
       mark_spares w o m t l (owner_at P) (owner_at P) (waits_at P) (waits_at P) old (neutral_some (marks w o) was_neutral) new v.inflating.zero (λ u i d h. h) (λ u i d h g. g)
-      (none_reached w P t l v may.runs refl)
+      (none_reached w P t l v may.runs refl) v.seen.classed
 
   -- the thread comes to bear o alone, whose mark names no monitor
   held : (i a : ℕ) → monitor_in (marks x i) ≡ Some a → (owner_at P i t || bears l.stage i) ≡ true → (owner_at P i t || bears (w.known t).stage i) ≡ true

@@ -1,10 +1,11 @@
 -- The looks of a dump see all that its shot is made of.
 use Rattle.plain_monitor.specs.Limits.{most_holds}
-use Rattle.core_locks.proofs.Prelude.{◌≡◌, ℕ, zero, suc, ◌+◌, ◌<◌, ◌≤◌, Bool, cond, length, Option, Some, refl, sym, subst, arith, MarkForm, read_mark, Safepoint, Mark, Hold, Length, Known, Purpose, load, by_equal, Biased, Locked, Inflated, OwnerForm, ByThread, ByRecord, read_owner, with_own, Shape}
+use Rattle.core_locks.proofs.Prelude.{◌≡◌, ℕ, zero, suc, ◌+◌, ◌<◌, ◌≤◌, Bool, cond, length, Option, Some, refl, sym, subst, arith, MarkForm, read_mark, Safepoint, Mark, Hold, Length, Known, Purpose, load, by_equal, Biased, Locked, Inflated, OwnerForm, ByThread, ByRecord, read_owner, with_own, Shape, Class, ◌-◌, nat_lt, true, false, class_of, Calm}
 use Rattle.core_world.specs.declared.plan.Own.TheVariants as own
 use Rattle.core_world.specs.Trees.LookSteps.{look_at_holds, look_at_owner, look_behind, look_at_objects, take_shot_steps}
+use Rattle.core_world.specs.Trees.Plans.{class_steps}
 use Rattle.core_world.specs.Trees.Todo.{Todo, done, never, step, ◌>>=◌, ask, all_from}
-use Rattle.core_locks.specs.ShotLaws.{SawHolds, SawByOwner, SawBehind, SawAll, SawSteps, shot_looks, looks_and_shot}
+use Rattle.core_locks.specs.ShotLaws.{SawHolds, SawByOwner, SawBehind, SawAll, SawSteps, shot_looks, looks_and_shot, SawClassWord, SawClassWordIf}
 
 -- first the one, then the other, then what is behind both
 bind_assoc : {A B C : Type 0} (d : Todo A) (g : A → Todo B) (h : B → Todo C) → ((d >>= g) >>= h) ≡ (d >>= (λ a. g a >>= h))
@@ -70,9 +71,20 @@ module _ (k : Known) where
   saw_owner (Some (ByRecord thread place)) e P h = saw_holds e thread P h
   saw_owner _ e P h = tt
 
+  -- the class word of an object that isn't declared
+  saw_class : (e : Purpose) (s : Shape) (o : ℕ) (X : ℕ → Type 0) → SawSteps (class_steps e Calm s o) k X → (c : ℕ) × SawClassWord s k o c × X c
+  saw_class e s o X = by_test (nat_lt o s.declared)
+    where
+      by_test : (b : Bool) → SawSteps (cond b (done (class_of s o)) (step (load e (Class o)) (λ word. done (word - 1)))) k X
+          → (c : ℕ) × SawClassWordIf b s k o c × X c
+      by_test true h = (class_of s o, refl, h)
+      by_test false h = (h.0 - 1, (h.0, h.1, refl), h.2)
+
   saw_behind : (g : Option MarkForm) (e : Purpose) (s : Shape) (o : ℕ) (P : Unit {0} → Type 0) → SawSteps (look_behind g e s o) k P → SawBehind g s k o
   saw_behind (Some (Biased thread epoch age)) e s o P h =
-      (h.0, _, refl, h.1, λ b. saw_holds e thread P (subst (λ (c : Bool). SawSteps (cond c (look_at_holds e thread) (done tt)) k P) b h.2))
+      let a = saw_class e s o _ (saw_bind (class_steps e Calm s o) _ P h) in
+      let rest = a.2 in
+      (rest.0, a.0, a.1, rest.1, λ b. saw_holds e thread P (subst (λ (c : Bool). SawSteps (cond c (look_at_holds e thread) (done tt)) k P) b rest.2))
   saw_behind (Some (Locked thread place)) e s o P h = saw_holds e thread P h
   saw_behind (Some (Inflated monitor)) e s o P h = (h.0, h.1, saw_owner (read_owner h.0) e P h.2)
   saw_behind _ e s o P h = tt

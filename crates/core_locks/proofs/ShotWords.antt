@@ -1,14 +1,12 @@
 -- What a thread has seen at its reached safepoint is what is there, and so the cells that it makes of that are the plain owners and counts.
 use Rattle.plain_monitor.specs.Limits.{most_holds}
-use Rattle.core_locks.proofs.Prelude.{◌≡◌, ℕ, zero, suc, ◌+◌, ◌<◌, ◌==◌, Bool, true, false, cond, List, [], ◌∷◌, length, slice_index, Option, Some, None, refl, sym, ap, ◌∙◌, subst, arith, MarkForm, read_mark, PlainObject, Name, Prototype, Mark, Hold, Owner, Inflation, inflation_in, last_seen, World, Lock, Open, BiasedTo, OnRecord, OwnedBy, lock_form, marks, owner_words, prototype_of, inflations, holder, hold_count, monitor_of, Fits, Biased, Locked, Inflated, OwnerForm, ByThread, ByRecord, read_owner, epoch_in, class_by}
+use Rattle.core_locks.proofs.Prelude.{◌≡◌, ℕ, zero, suc, ◌+◌, ◌<◌, ◌==◌, Bool, true, false, cond, List, [], ◌∷◌, length, slice_index, Option, Some, None, refl, sym, ap, ◌∙◌, subst, arith, MarkForm, read_mark, PlainObject, Name, Prototype, Mark, Hold, Owner, Inflation, inflation_in, last_seen, World, Lock, Open, BiasedTo, OnRecord, OwnedBy, lock_form, marks, owner_words, prototype_of, inflations, holder, hold_count, monitor_of, Fits, Biased, Locked, Inflated, OwnerForm, ByThread, ByRecord, read_owner, epoch_in, class_by, Class, ◌-◌, nat_lt, class_of}
 use Rattle.core_world.specs.Locks.{is_for, inflation_of, owner_lock, has_epoch, owner_and_count_by, or_zero}
 use Rattle.core_world.specs.RevocationRules.{holds_in, words_from}
 use Rattle.core_world.specs.Shots.{cell_in, cells_of}
 use Rattle.core_world.specs.Steps.{seen_words, owner_and_count_in, cells_from}
-use Rattle.core_world.specs.Threads.AtRest.{SawClass}
-use Rattle.core_world.proofs.There.{class_seen}
 use Rattle.core_world.proofs.OwnersShown.{safepoint_part, at_safepoint_shown}
-use Rattle.core_locks.specs.ShotLaws.{Saw, SawHolds, SawByOwner, SawBehind, SawAll}
+use Rattle.core_locks.specs.ShotLaws.{Saw, SawHolds, SawByOwner, SawBehind, SawAll, SawClassWord, SawClassWordIf}
 
 -- where no thread is in the middle of an inflation, no object is
 no_inflation : (o n : ℕ) (f : ℕ → Option Inflation) → ((u : ℕ) → f u ≡ None) → inflation_of o n f ≡ None
@@ -81,15 +79,20 @@ module _ (w : World) (P : List PlainObject) (t : ℕ) (reached : (w.known t).rea
     owner_counted _ saw = tt
 
     -- the class that was seen is that by these words, and by those that are there
-    abbrev class_is : (g : Name → ℕ) (c : ℕ) → SawClass w.shape (w.known t).seen_at_safepoint o c → class_by w.shape g o ≡ c
-    class_is g = class_seen w.shape g (w.known t).seen_at_safepoint o
+    class_is : (g : Name → ℕ) → (Saw (w.known t) (Class o) → g (Class o) ≡ w.words (Class o)) → (c : ℕ) → SawClassWord w.shape (w.known t) o c
+        → class_by w.shape g o ≡ c
+    class_is g same c saw = by_test (nat_lt o w.shape.declared) saw
+      where
+        by_test : (b : Bool) → SawClassWordIf b w.shape (w.known t) o c → cond b (class_of w.shape o) (g (Class o) - 1) ≡ c
+        by_test true h = sym h
+        by_test false h = ap (λ n. n - 1) (same (h.0, h.1) ∙ sym (word_seen (Class o) h.0 h.1)) ∙ sym h.2
 
     sees_lock : (g : Option MarkForm) → SawBehind g w.shape (w.known t) o → SeesLock g
     sees_lock (Some (Biased thread epoch age)) saw =
-        let of_class : w.words (Prototype saw.1) ≡ prototype_of w o = ap (λ c. w.words (Prototype c)) (sym (class_is w.words saw.1 saw.2)) in
+        let of_class : w.words (Prototype saw.1) ≡ prototype_of w o = ap (λ c. w.words (Prototype c)) (sym (class_is w.words (λ h. refl) saw.1 saw.2)) in
         let is : saw.0 ≡ prototype_of w o = word_seen (Prototype saw.1) saw.0 saw.3 ∙ of_class in
         let same : f (Prototype (class_by w.shape f o)) ≡ prototype_of w o =
-        ap (λ c. f (Prototype c)) (class_is f saw.1 saw.2) ∙ word_is (Prototype saw.1) (saw.0, saw.3) ∙ of_class in
+        ap (λ c. f (Prototype c)) (class_is f (word_is (Class o)) saw.1 saw.2) ∙ word_is (Prototype saw.1) (saw.0, saw.3) ∙ of_class in
         record {
           same = ap (λ y. lock_form (Some (Biased thread epoch age)) y (λ m. f (Owner m)) None) same;
           counted = by_epoch (has_epoch (epoch_in (prototype_of w o)) epoch) (λ e. saw.4 (ap (λ y. has_epoch (epoch_in y) epoch) is ∙ e));

@@ -1,5 +1,5 @@
 -- What the threads have seen stays when the requester makes a store at its reached safepoint, and the clauses that a store there leaves.
-use Rattle.core_locks.proofs.Prelude.{◌≡◌, ◌⊎◌, ℕ, Bool, true, false, cond, List, [], ◌∷◌, ◌++◌, Some, None, refl, sym, ap, ◌∙◌, subst, inl, inr, same_Some, read_mark, is_thread, PlainObject, Name, Safepoint, Prototype, Mark, Stamp, Slot, Hold, Displaced, Waiting, Length, Owner, Recursions, Header, Object, Claim, End, Ring, Revocations, LastBulk, StepPlan, is_biased, is_halted, revocation_in, word_after, same_name, with_word, Known, StepMade, last_seen, World, with_known, marks, prototype_of, owner_at, Stays, StaysWhileAsking, IsValidBias, seen_before, Fits, IsValid, SeenFit, each_with_known, seen_is_part}
+use Rattle.core_locks.proofs.Prelude.{◌≡◌, ◌⊎◌, ℕ, Bool, true, false, cond, List, [], ◌∷◌, ◌++◌, Some, None, refl, sym, ap, ◌∙◌, subst, inl, inr, same_Some, read_mark, is_thread, PlainObject, Name, Safepoint, Prototype, Mark, Stamp, Slot, Hold, Displaced, Waiting, Length, Owner, Recursions, Header, Object, Claim, End, Ring, Revocations, LastBulk, StepPlan, is_biased, is_halted, revocation_in, word_after, same_name, with_word, Known, StepMade, last_seen, World, with_known, marks, prototype_of, owner_at, Stays, StaysWhileAsking, IsValidBias, seen_before, Fits, IsValid, SeenFit, each_with_known, seen_is_part, Class, has_class}
 use Rattle.core_world.specs.RevocationRules.{Write, write, write_by, writes_in, words_after}
 use Rattle.core_world.specs.Clauses.SeenWords.{AreTheSteps}
 use Rattle.core_world.proofs.NoWordChanges.{one_requester}
@@ -29,6 +29,8 @@ pub record IsStore (w : World) (P : List PlainObject) (t : ℕ) (p : StepPlan) :
   pub running : (left_with w t p).running ≡ (w.known t).running
   pub requesting : (left_with w t p).requesting ≡ (w.known t).requesting
   pub unbiased : (o : ℕ) → is_biased (marks w o) ≡ false → is_biased (marks (hit_world w t p) o) ≡ false
+  pub biased : (o : ℕ) → is_biased (marks (hit_world w t p) o) ≡ true → is_biased (marks w o) ≡ true
+  pub there : (o : ℕ) → has_class w.shape w.words o ≡ true → has_class w.shape (hit_world w t p).words o ≡ true
   pub prototypes : prototype_of (hit_world w t p) ≡ prototype_of w
 
 module _ (w : World) (P : List PlainObject) (t : ℕ) (p : StepPlan) (a : IsStore w P t p) (v : Fits w P) where
@@ -57,6 +59,7 @@ module _ (w : World) (P : List PlainObject) (t : ℕ) (p : StepPlan) (a : IsStor
   asking_back (Prototype c) s h = h
   asking_back (Revocations c) s h = h
   asking_back (LastBulk c) s h = h
+  asking_back (Class o) s h = h
   asking_back (Mark o) s h = subst (IsValidBias (read_mark s)) (λ i. a.prototypes i o) h
   asking_back Safepoint s h = h
   asking_back (Stamp o) s h = h
@@ -84,6 +87,15 @@ module _ (w : World) (P : List PlainObject) (t : ℕ) (p : StepPlan) (a : IsStor
       ap is_biased (ap (λ b. cond b word (w.words (Mark o))) e ∙ same_Some _ _ (ap (λ b. cond b (Some word) (last_seen (Mark o) (seen_before w.shape (w.known t)))) (sym e) ∙ h)) ∙ g
   newest_unbiased o s g before false e h = a.unbiased o (before (ap (λ b. cond b (Some word) (last_seen (Mark o) (seen_before w.shape (w.known t)))) (sym e) ∙ h))
 
+  newest_there : (o s : ℕ) → is_biased s ≡ true → (last_seen (Mark o) (seen_before w.shape (w.known t)) ≡ Some s → has_class w.shape w.words o ≡ true)
+      → (b : Bool) → same_name (Mark o) p.at ≡ b
+      → last_seen (Mark o) (made ∷ seen_before w.shape (w.known t)) ≡ Some s → has_class w.shape x.words o ≡ true
+  newest_there o s g before true e h =
+      let newest = same_Some _ _ (ap (λ b. cond b (Some word) (last_seen (Mark o) (seen_before w.shape (w.known t)))) (sym e) ∙ h) in
+      let is = ap is_biased (ap (λ b. cond b word (w.words (Mark o))) e ∙ newest) ∙ g in
+      a.there o (v.seen.classed o (a.biased o is))
+  newest_there o s g before false e h = a.there o (before (ap (λ b. cond b (Some word) (last_seen (Mark o) (seen_before w.shape (w.known t)))) (sym e) ∙ h))
+
   one_more : AreTheSteps x.words (made ∷ (w.known t).seen_at_safepoint)
   one_more =
       let b = v.seen.alone t a.reached a.unrevoking in
@@ -110,6 +122,10 @@ module _ (w : World) (P : List PlainObject) (t : ℕ) (p : StepPlan) (a : IsStor
     unbiased = λ u o s. each_with_known (λ u y. last_seen (Mark o) y.seen ≡ Some s → (y.running ≡ true) ⊎ (y.requesting ≡ true) → is_biased s ≡ false → is_biased (marks x o) ≡ false) t l w.known u
         (λ e r g. newest_unbiased o s g (λ c. v.seen.unbiased t o s (seen_is_part w.shape (w.known t) (Mark o) s c) (inr asks) g) (same_name (Mark o) p.at) refl (ap (last_seen (Mark o)) (sym a.seen) ∙ e))
         (λ d e r g. a.unbiased o (v.seen.unbiased u o s e r g));
+    classed = λ o e. a.there o (v.seen.classed o (a.biased o e));
+    saw_classed = λ u o s. each_with_known (λ u y. last_seen (Mark o) y.seen ≡ Some s → (y.running ≡ true) ⊎ (y.requesting ≡ true) → is_biased s ≡ true → has_class w.shape x.words o ≡ true) t l w.known u
+        (λ e r g. newest_there o s g (λ c. v.seen.saw_classed t o s (seen_is_part w.shape (w.known t) (Mark o) s c) (inr asks) g) (same_name (Mark o) p.at) refl (ap (last_seen (Mark o)) (sym a.seen) ∙ e))
+        (λ d e r g. a.there o (v.seen.saw_classed u o s e r g));
     unwaiting = λ u y o s e r. absurd (stopped u r);
     unwaited = λ u o s e r. absurd (stopped u r);
     stands = λ u n s. each_with_known (λ u y. y.reached ≡ true → last_seen n y.seen_at_safepoint ≡ Some s → x.words n ≡ s) t l w.known u

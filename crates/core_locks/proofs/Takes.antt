@@ -149,6 +149,8 @@ module _ (w : World) (P : List PlainObject) (t : ℕ) (e : Purpose) (o m : ℕ) 
       others = λ u n s d e. others_by w x (owner_at P) refl refl u n s;
       uncounted = λ u s d g h. uncounted_named w P o m u v mark_names (ap (λ f. is_thread (holder f (λ y. hold_count o (w.known y).holds)) u) was_open) (Owner m) s refl g;
       unbiased = λ o h. h;
+      biased = λ o h. h;
+      there = λ o h. h;
       names = λ o a h. h;
       waits = λ u o h. h;
       idle = λ o is. absurd (cc is);

@@ -1,10 +1,10 @@
 -- Who counts on a waiting word that an owner changes, and that it spells a form.
-use Rattle.core_locks.proofs.Prelude.{◌≡◌, ◌≢◌, ℕ, ◌<◌, ◌||◌, Bool, true, false, List, refl, sym, ap, ◌∙◌, subst, inl, inr, wait_of, read_wait, Notified, PlainObject, Safepoint, Hold, Waiting, Object, waits_on, says_notified, bears, with_word, Known, World, marks, owner_words, owner_at, Stays, Fits, IsWait, WordsHaveForms, MayWake}
+use Rattle.core_locks.proofs.Prelude.{◌≡◌, ◌≢◌, ℕ, ◌<◌, ◌||◌, Bool, true, false, List, refl, sym, ap, ◌∙◌, subst, inl, inr, wait_of, read_wait, Notified, PlainObject, Safepoint, Hold, Waiting, Object, waits_on, says_notified, bears, with_word, Known, World, marks, owner_words, owner_at, Stays, Fits, IsWait, WordsHaveForms, MayWake, Class}
 use Rattle.core_locks.proofs.TellLists.{waits_untold, waits_one}
 use Rattle.core_locks.proofs.Wakes.{IsStill, at_still, others_out, was_waiting, at, reads}
 
 module _ (w : World) (P : List PlainObject) (t o u n : ℕ) (within : t < w.shape.threads) (may : MayWake w.shape (w.known t) o u n) (v : Fits w P) where
-  pub wait_forms : WordsHaveForms w.shape (marks w) (owner_words w) (λ z. with_word (Waiting u) (wait_of (Notified o)) w.words (Waiting z)) (λ m. w.words (Object m)) (λ z q. w.words (Hold z q)) (w.words Safepoint)
+  pub wait_forms : WordsHaveForms w.shape (marks w) (owner_words w) (λ z. with_word (Waiting u) (wait_of (Notified o)) w.words (Waiting z)) (λ m. w.words (Object m)) (λ i. w.words (Class i)) (λ z q. w.words (Hold z q)) (w.words Safepoint)
   wait_forms = record {
     marks = v.forms.marks;
     owners = v.forms.owners;
@@ -12,6 +12,7 @@ module _ (w : World) (P : List PlainObject) (t o u n : ℕ) (within : t < w.shap
     objects = v.forms.objects;
     holds = v.forms.holds;
     safepoint = v.forms.safepoint;
+    classes = v.forms.classes;
   }
 
   -- another thread counts on the word where it is the owner of what u waits on, or is u, and was notified

@@ -1,5 +1,5 @@
 -- When a thread may keep a shot at its reached safepoint, and what such a shot says.
-use Rattle.std.specs.Prelude.{◌≡◌, ℕ, ◌<◌, ◌==◌, Bool, true, false, List, length, map, Option, Some}
+use Rattle.std.specs.Prelude.{◌≡◌, ℕ, ◌-◌, ◌<◌, nat_lt, ◌==◌, Bool, true, false, List, length, map, Option, Some}
 use Rattle.mark_word.specs.declared.mark.MarkForm.{MarkForm}
 use Rattle.mark_word.specs.declared.mark.MarkForm.TheVariants.{Biased, Locked, Inflated}
 use Rattle.mark_word.specs.declared.owner.OwnerForm.{OwnerForm}
@@ -11,7 +11,7 @@ use Rattle.plain_monitor.specs.declared.entry.Entry.{Entry}
 use Rattle.plain_monitor.specs.declared.entry.Entry.TheVariants.{Enter}
 use Rattle.plain_monitor.specs.Objects.{PlainObject}
 use Rattle.core_world.specs.declared.name.Name.{Name}
-use Rattle.core_world.specs.declared.name.Name.TheVariants.{Prototype, Mark, Hold, Length, Owner}
+use Rattle.core_world.specs.declared.name.Name.TheVariants.{Prototype, Mark, Hold, Length, Owner, Class}
 use Rattle.core_world.specs.declared.stage.Stage.TheVariants.{Calm}
 use Rattle.core_world.specs.declared.task.Op.TheVariants as op
 use Rattle.core_world.specs.Words.Forms.{epoch_in}
@@ -20,8 +20,7 @@ use Rattle.core_world.specs.Locks.{has_epoch}
 use Rattle.core_world.specs.Trees.LookSteps.{keep_shot_plan, look_at_objects}
 use Rattle.core_world.specs.Trees.Plans.{Purpose, load}
 use Rattle.core_world.specs.Clauses.Safepoints.{IsUnfinished}
-use Rattle.core_world.specs.Words.Shape.{Shape}
-use Rattle.core_world.specs.Threads.AtRest.{SawClass}
+use Rattle.core_world.specs.Words.Shape.{Shape, class_of}
 use Rattle.core_world.specs.Shots.{IsRightShot, cells_of, dumps_from}
 use Rattle.core_world.specs.Trees.Todo.{Todo, done, never, step, ◌>>=◌, ask, all_from}
 use Rattle.core_world.specs.World.{World, logs}
@@ -40,11 +39,19 @@ SawByOwner (Some (ByThread thread)) k = SawHolds k thread
 SawByOwner (Some (ByRecord thread place)) k = SawHolds k thread
 SawByOwner _ k = Unit {0}
 
--- what a mark of o names: the prototype behind a bias, and the hold words of its thread where it is valid; the hold words of the thread whose
--- record it is; the owner word of the monitor, and the hold words of the owner
+-- c is the class of o: that of the shape where o is declared, and else that by its class word
+abbrev pub SawClassWordIf : Bool → Shape → Known → ℕ → ℕ → Type 0
+SawClassWordIf true s k o c = c ≡ class_of s o
+SawClassWordIf false s k o c = (v : ℕ) × (last_seen (Class o) k.seen_at_safepoint ≡ Some v) × (c ≡ v - 1)
+
+abbrev pub SawClassWord : Shape → Known → ℕ → ℕ → Type 0
+SawClassWord s k o c = SawClassWordIf (nat_lt o s.declared) s k o c
+
+-- what a mark of o names: the class of o and its prototype behind a bias, and the hold words of its thread where it is valid; the hold words of the
+-- thread whose record it is; the owner word of the monitor, and the hold words of the owner
 abbrev pub SawBehind : Option MarkForm → Shape → Known → ℕ → Type 0
 SawBehind (Some (Biased thread epoch age)) s k o =
-    (v c : ℕ) × SawClass s k.seen_at_safepoint o c × (last_seen (Prototype c) k.seen_at_safepoint ≡ Some v)
+    (v c : ℕ) × SawClassWord s k o c × (last_seen (Prototype c) k.seen_at_safepoint ≡ Some v)
     × (has_epoch (epoch_in v) epoch ≡ true → SawHolds k thread)
 SawBehind (Some (Locked thread place)) s k o = SawHolds k thread
 SawBehind (Some (Inflated monitor)) s k o =

@@ -1,5 +1,5 @@
 -- A revocation from the request for its safepoint on, or from where its request stands.
-use Rattle.std.proofs.Common.{◌≡◌, ◌⊎◌, ℕ, ◌<◌, Bool, true, false, List, length, Some, refl, sym, ap, ◌∙◌, subst, inl, inr}
+use Rattle.std.proofs.Common.{◌≡◌, ◌⊎◌, ℕ, ◌<◌, nat_lt, Bool, true, false, List, length, Some, refl, sym, ap, ◌∙◌, subst, inl, inr}
 use Rattle.mark_word.specs.Mark.{read_mark}
 use Rattle.core_world.specs.declared.answer.Turn.{Turn}
 use Rattle.core_world.specs.declared.answer.Turn.TheVariants.{Done, Pending}
@@ -20,6 +20,7 @@ use Rattle.core_world.specs.Steps.{seen_before}
 use Rattle.core_world.specs.Trees.Todo.{Todo, ◌>>=◌}
 use Rattle.core_world.specs.Valid.{RevokesWithin}
 use Rattle.core_law.specs.Logic.{Heap, Does}
+use Rattle.core_steps.proofs.ClassSteps.{class_from}
 use Rattle.core_steps.proofs.Requests.{Asks, Since, Stood, BeginsSafepoint, safepoint_does}
 use Rattle.core_steps.proofs.Resting.{Carries}
 use Rattle.core_steps.proofs.Revocations.{Released, Revoked, revoke_does, ending_steps, ending_does}
@@ -32,9 +33,10 @@ module _ (heap : Heap) (e : Purpose) (b : Revocation) where
   ValidBiasIn seen =
       (v p c : ℕ) × (last_seen (name.Mark b.object) seen ≡ Some v) × SawClass heap.shape seen b.object c × (last_seen (name.Prototype c) seen ≡ Some p) × (is_valid_bias (read_mark v) p ≡ true)
 
-  -- and no words but those and the safepoint word
+  -- and no words but those, the class word of an object that isn't declared, and the safepoint word
   abbrev pub NoOtherIn : List StepMade → Type 0
-  NoOtherIn seen = (n : Name) (v : ℕ) → last_seen n seen ≡ Some v → (n ≡ name.Safepoint) ⊎ (n ≡ name.Mark b.object) ⊎ IsItsPrototype heap.shape seen b.object n
+  NoOtherIn seen = (n : Name) (v : ℕ) → last_seen n seen ≡ Some v → (n ≡ name.Safepoint) ⊎ (n ≡ name.Mark b.object)
+      ⊎ ((n ≡ name.Class b.object) × (nat_lt b.object heap.shape.declared ≡ false)) ⊎ IsItsPrototype heap.shape seen b.object n
 
   -- what a thread has to know that asks for a revocation, or whose request for it stands
   pub record BeginsRevocation (operation : Op) (k : Known) : Type 0 where
@@ -60,15 +62,30 @@ module _ (heap : Heap) (e : Purpose) (b : Revocation) where
     alone_since : (k l : Known) → NoOtherIn (seen_before heap.shape k) → Since heap e k.thread k l → SawNoOther heap.shape l b.object
     alone_since k l alone since n v saw = elim (since.alone n v saw) [
       | inl is ↦ inl is
-      | inr g ↦ alone n v g
+      | inr g ↦ elim (alone n v g) [
+        | inl is ↦ inl is
+        | inr (inl is) ↦ inr (inl is)
+        | inr (inr (inl is)) ↦ inr (inr (inl is))
+        | inr (inr (inr is)) ↦ inr (inr (inr (is.0, class_from heap.shape (seen_before heap.shape k) l.seen b.object is.0 (since.class b.object) is.1, is.2)))
+      ]
     ]
+
+    saw_since : (k l : Known) → ValidBiasIn (seen_before heap.shape k) → Since heap e k.thread k l → ValidBiasIn l.seen
+    saw_since k l saw since = (
+      saw.0,
+      saw.1,
+      saw.2,
+      since.mark b.object ∙ saw.3,
+      class_from heap.shape (seen_before heap.shape k) l.seen b.object saw.2 (since.class b.object) saw.4,
+      since.prototype saw.2 ∙ saw.5,
+      saw.6,
+    )
 
     -- while its request stands it is at rest
     asked : (k : Known) → BeginsRevocation operation k → (l : Known) → Asks heap e k.thread l → Since heap e k.thread k l → (k.reached ≡ false → l.reached ≡ false) → AtRest heap.shape l
     asked k may l a since unreached =
         let carries : Carries l.moving l.log l.wait l.holds l.shots l.unfinished = subst (Carries l.moving l.log l.wait l.holds l.shots) a.mine a.carries in
-        let saw = may.saw in
-        let revokes : MayRevoke heap.shape l b.object = ((saw.0, saw.1, saw.2, since.mark b.object ∙ saw.3, saw.4, since.prototype saw.2 ∙ saw.5, saw.6), unreached may.unreached, alone_since k l may.alone since) in
+        let revokes : MayRevoke heap.shape l b.object = (saw_since k l may.saw since, unreached may.unreached, alone_since k l may.alone since) in
         record {
           calm = a.calm;
           still = carries.still;
@@ -114,12 +131,11 @@ module _ (heap : Heap) (e : Purpose) (b : Revocation) where
     then_revoking k may f (Done x) l s =
         let unwritten = s.1.2 may.unreached in
         let since = s.1.1 in
-        let saw = may.saw in
+        let saw = saw_since k l may.saw since in
         subst (λ z. Does heap z (revoking k.thread (Done tt)) l (λ f turn m. (f ≡ false) × Revoked heap e b k.thread k turn m)) (sym s.0)
         (going heap (revoke_at_safepoint_steps heap.shape k.thread e b) (λ outcome. ending_steps heap e b k.thread outcome.took) l _ (
-        follows heap false (revoke_at_safepoint_steps heap.shape k.thread e b) l _ _ (revoke_does heap e b k.thread operation unfinished allowed object l s.1.0 unwritten
-        (saw.0, saw.1, saw.2, since.mark b.object ∙ saw.3, saw.4, since.prototype saw.2 ∙ saw.5, saw.6) (alone_since k l may.alone since))
-        (λ f a m y. follows heap false _ m _ _ (ending_does heap e b k.thread object l s.1.0 unwritten m a y.1) (λ f turn n z. (z.0, revoked_since k l n turn since z.1)))))
+        follows heap false (revoke_at_safepoint_steps heap.shape k.thread e b) l _ _ (revoke_does heap e b k.thread operation unfinished allowed object l s.1.0 unwritten saw (alone_since k l may.alone since))
+        (λ f a m y. follows heap false _ m _ _ (ending_does heap e b k.thread object l s.1.0 unwritten saw.2 m a y.1) (λ f turn n z. (z.0, revoked_since k l n turn since z.1)))))
     then_revoking k may f (Pending why) l s = answers heap f (Pending why) l _ s
 
     pub revocation_does : (fresh : Bool) (k : Known) → BeginsRevocation operation k

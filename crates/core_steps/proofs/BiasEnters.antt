@@ -1,5 +1,5 @@
 -- An enter as far as biases go: under a bias of its own, or of one that it takes, or up to a mark without the bias pattern.
-use Rattle.std.proofs.Common.{◌≡◌, ◌⊎◌, ℕ, ◌<◌, ◌≤◌, ◌==◌, eq-eqb, eqb-true, Bool, true, false, cond, length, Option, Some, None, refl, sym, ap, ◌∙◌, subst, inl, inr, arith}
+use Rattle.std.proofs.Common.{◌≡◌, ◌⊎◌, ℕ, ◌-◌, ◌<◌, ◌≤◌, ◌==◌, eq-eqb, eqb-true, Bool, true, false, cond, length, Option, Some, None, refl, sym, ap, ◌∙◌, subst, inl, inr, arith}
 use Rattle.mark_word.specs.declared.mark.MarkForm.{MarkForm}
 use Rattle.mark_word.specs.declared.mark.MarkForm.TheVariants.{Inflating, Neutral, Anonymous, Biased, Locked, Inflated, Marked}
 use Rattle.mark_word.specs.Mark.{mark_of, read_mark}
@@ -25,7 +25,7 @@ use Rattle.core_world.specs.Clauses.Safepoints.{IsUnfinished, ends}
 use Rattle.core_world.specs.Words.Shape.{class_of}
 use Rattle.core_world.specs.Threads.Stages.{Revocation}
 use Rattle.core_world.specs.Steps.{known_hit, known_miss}
-use Rattle.core_world.specs.Trees.Todo.{done}
+use Rattle.core_world.specs.Trees.Todo.{done, ask, ◌>>=◌}
 use Rattle.core_world.specs.Clauses.WordForms.{IsMark}
 use Rattle.core_world.proofs.OwnersShown.{lock_by_form}
 use Rattle.core_locks.specs.Knowing.{GoesOn, IsBiasTo, SawOwnBias}
@@ -35,12 +35,15 @@ use Rattle.core_locks.proofs.OwnerTurns.{rest_hold}
 use Rattle.core_bias.specs.Biasing.{IsLoose}
 use Rattle.core_counts.specs.Steps.{WentBefore}
 use Rattle.core_law.specs.Logic.{Heap, Stands, Does}
-use Rattle.core_steps.proofs.BiasFacts.{SawHeaders, headers_first, headers_more, saw_two, look_prototype, unreached_here, bias_stays, biasing_here, IsPrototype, IsPrototypeForm, prototype_here, prototype_form, prototype_neutral, own_bias, neutral_reads_so, loose_unepoched, stale_epoch, own_epoch, free_bias}
+use Rattle.core_steps.proofs.BiasFacts.{SawHeaders, SawMarkAlone, headers_first, headers_more, mark_alone, class_more, class_some, saw_two, look_class, look_prototype, unreached_here, bias_stays, biasing_here, IsPrototype, IsPrototypeForm, prototype_here, prototype_form, prototype_neutral, own_bias, neutral_reads_so, loose_unepoched, stale_epoch, own_epoch, free_bias}
 use Rattle.core_steps.proofs.BiasRules.{rebiases_rule, unbiases_rule}
 use Rattle.core_steps.proofs.Facts.{Untold}
 use Rattle.core_law.proofs.Standing.{fits_here, home, away}
 use Rattle.core_steps.proofs.Inflations.{form_found}
-use Rattle.core_steps.proofs.LawRules.{looks, class_in}
+use Rattle.core_steps.proofs.ClassSteps.{class_from, class_declared, class_made, class_found, made_there, class_does}
+use Rattle.core_law.proofs.SafepointSights.{found_formed}
+use Rattle.core_world.proofs.There.{class_there}
+use Rattle.core_steps.proofs.LawRules.{looks, limits}
 use Rattle.core_steps.proofs.Resting.{rests, live_carries}
 use Rattle.core_steps.proofs.SeenSteps.{saw_newest, saw_older}
 use Rattle.core_steps.proofs.StackEnters.{Taking, undumped_enter, hold_does}
@@ -137,7 +140,7 @@ module _ (heap : Heap) (o : ℕ) (e : Purpose) (enters : IsUnfinished e.unfinish
             prototype,
             class,
             saw_newest heap exchange n k ∙ ap (λ (z : Bool). Some (cond z own n)) (eq-eqb n mark h),
-            saw_class,
+            class_from heap.shape k.seen l.seen o class (saw_older heap exchange n k (name.Class o) i refl refl) saw_class,
             saw_older heap exchange n k (name.Prototype class) i refl refl ∙ saw_prototype,
             own_bias heap k was.stands prototype epoch is,
           ) refl)
@@ -218,26 +221,53 @@ module _ (heap : Heap) (o : ℕ) (e : Purpose) (enters : IsUnfinished e.unfinish
           (λ n i was h. answers heap false (Raced mark n) _ Q (races n (known_miss heap.shape heap.start exchange n k)
           (record { takes = x.takes; mine = x.mine; check = x.check; calm = x.calm; untold = x.untold; place = x.place })))
 
+    -- behind the loads of the mark, which has the bias pattern, and of the class
+    prototype_does : Tries here kept Q → (k : Known) (mark class : ℕ) → Enters k → local_of k ≡ here → k.kept ≡ kept → SawHeaders k → k.reached ≡ false
+        → last_seen (name.Mark o) k.seen ≡ Some mark → SawClass heap.shape k.seen o class → SawMarkAlone heap.shape o k → class < heap.shape.classes
+        → is_biased mark ≡ true → heap.biasing ≡ true
+        → Does heap false (ask (load e (name.Prototype class)) >>= (λ prototype. bias_enter_by (read_mark prototype) e (local_of k) o mark prototype)) k Q
+    prototype_does outs k mark class x local same headers unreached saw_mark saw_class alone there biased biasing =
+        let look = load e (name.Prototype class) in
+        hitting heap false look _ k Q (λ n. refl)
+        (λ j. looks heap k look (look_prototype k e x.takes.runs x.calm x.check (inl (sym x.mine)) class) (λ v. there)) (λ prototype j was.
+        let m = known_hit heap.shape heap.start look prototype k in
+        let is : IsPrototype prototype = prototype_here heap k was.stands x.takes.runs class prototype biasing was.found in
+        by_does outs m mark prototype class (record { takes = x.takes; mine = refl; check = refl; calm = refl; untold = x.untold; place = x.place }) local same
+        (headers_more heap look prototype k refl j refl headers) unreached
+        (saw_older heap look prototype k (name.Mark o) j refl refl ∙ saw_mark)
+        (class_from heap.shape k.seen m.seen o class (saw_older heap look prototype k (name.Class o) j refl refl) saw_class)
+        (saw_newest heap look prototype k) (saw_two heap e o class prototype k saw_class j alone)
+        (read_mark prototype) refl (prototype_form prototype is) biased is)
+
     -- THE WHOLE, which a call begins with
     pub bias_enter_does : Tries here kept Q → (k : Known) → Taking heap k.running k.requesting k.moving k.log e o → k.stage ≡ Calm → GoesOn k e → e.check ≡ k.checking → Untold k → free_place k.holds < most_holds → local_of k ≡ here → k.kept ≡ kept
         → Does heap true (bias_enter_steps heap.shape e (local_of k) o) k Q
     bias_enter_does outs k a calm goes check untold place local same =
         let look = load e (name.Mark o) in
-        let c = class_of heap.shape o in
+        let ask_class = load e (name.Class o) in
         hitting heap true look _ k Q (λ n. refl) (λ i. looks heap k look (look_mark heap k e a.runs calm check goes o) (λ v. a.object)) (λ mark i was.
         let l = known_hit heap.shape heap.start look mark k in
         let headers : SawHeaders l = headers_first heap look mark k refl i a.unasks refl in
         chooses heap false (is_biased mark) _ _ l Q
         (λ yes.
         let biasing = biasing_here heap k was.stands a.runs o (ap is_biased was.found ∙ yes) in
-        let ask_prototype = load e (name.Prototype c) in
-        hitting heap false ask_prototype _ l Q (λ n. refl) (λ j. looks heap l ask_prototype (look_prototype l e a.runs refl refl (inl refl) c) (class_in heap l o a.object)) (λ prototype j was1.
-        let m = known_hit heap.shape heap.start ask_prototype prototype l in
-        let is : IsPrototype prototype = prototype_here heap l was1.stands a.runs c prototype biasing was1.found in
-        by_does outs m mark prototype c (record { takes = a; mine = refl; check = refl; calm = refl; untold = untold; place = place }) local same (headers_more heap ask_prototype prototype l refl j refl headers)
-        (unreached_here heap k was.stands a.runs)
-        (saw_older heap ask_prototype prototype l (name.Mark o) j refl refl ∙ saw_newest heap look mark k) refl (saw_newest heap ask_prototype prototype l) (saw_two heap e o c mark prototype k refl i a.unasks j)
-        (read_mark prototype) refl (prototype_form prototype is) yes is))
+        let unreached = unreached_here heap k was.stands a.runs in
+        let all = limits heap k was.stands in
+        let alone = mark_alone heap e o mark k i a.unasks in
+        class_does heap e Calm o (λ class. ask (load e (name.Prototype class)) >>= (λ prototype. bias_enter_by (read_mark prototype) e
+        (local_of k) o mark prototype)) l Q
+        (λ declared. prototype_does outs l mark (class_of heap.shape o)
+        (record { takes = a; mine = refl; check = refl; calm = refl; untold = untold; place = place }) local same headers unreached
+        (saw_newest heap look mark k) (class_declared heap.shape l.seen o declared) alone (class_there heap.shape o all a.object) yes biasing)
+        (λ made j. looks heap l ask_class (look_class l e a.runs refl refl (inl refl) o) (λ v. made_there heap.shape o a.object made))
+        (λ made word j was1.
+        let m = known_hit heap.shape heap.start ask_class word l in
+        let some = class_some heap l was1.stands a.runs o mark word made (saw_newest heap look mark k) yes was1.found in
+        prototype_does outs m mark (word - 1) (record { takes = a; mine = refl; check = refl; calm = refl; untold = untold; place = place }) local same
+        (headers_more heap ask_class word l refl j refl headers) unreached
+        (saw_older heap ask_class word l (name.Mark o) j refl refl ∙ saw_newest heap look mark k)
+        (class_made heap.shape m.seen o (word - 1) made (saw_newest heap ask_class word l ∙ ap Some some))
+        (class_more heap e o word l made j alone) (class_found heap.shape o word all a.object (found_formed heap l (name.Class o) word refl was1)) yes biasing))
         (λ no. answers heap false (Unbiased mark) l Q (outs.outcomes.unbiased l mark (record {
           going = record { takes = a; mine = refl; check = refl; calm = refl; untold = untold; place = place };
           local = local;
@@ -328,8 +358,17 @@ module _ (heap : Heap) (e : Purpose) (b : Revocation) (enters : IsUnfinished e.u
       let bias : IsBiasTo k.thread (read_mark v) (epoch_in p) = x.mark.6 in
       let mark_is : mark ≡ v = sym was.found ∙ bias_stays heap k was.stands x.runs o class v p x.mark.3 x.mark.4 x.mark.5 bias in
       let bias_now : IsBiasTo k.thread (read_mark mark) (epoch_in p) = subst (λ z. IsBiasTo k.thread (read_mark z) (epoch_in p)) (sym mark_is) bias in
-      own_does (read_mark mark) mark p x bias_now
-      (mark, p, class, saw_newest heap (look true) mark k, x.mark.4, saw_older heap (look true) mark k (name.Prototype class) i refl refl ∙ x.mark.5, bias_now))
+      own_does (read_mark mark) mark p x bias_now (
+        mark,
+        p,
+        class,
+        saw_newest heap (look true) mark k,
+        class_from heap.shape k.seen (then_known true mark).seen o class
+            (saw_older heap (look true) mark k (name.Class o) i refl refl) x.mark.4,
+        saw_older heap (look true) mark k (name.Prototype class) i refl refl
+            ∙ x.mark.5,
+        bias_now,
+      ))
   bias_after_does false x =
       hitting heap false (look false) _ k Q (λ n. refl) (λ i. looks heap k (look false) (looks_again false x) (λ v. wants.object)) (λ mark i was.
       let l = then_known false mark in

@@ -1,5 +1,5 @@
 -- What a thread may count on that has seen a mark with the bias pattern, and its class's prototype.
-use Rattle.std.proofs.Common.{◌≡◌, ◌⊎◌, ℕ, ◌<◌, ◌+◌, ◌*◌, ◌%◌, ◌==◌, eq-eqb, eqb-true, Bool, true, false, cond, if◌then◌else◌, Option, Some, None, refl, sym, ap, ◌∙◌, subst, arith, inl, inr}
+use Rattle.std.proofs.Common.{◌≡◌, ◌≢◌, ◌⊎◌, ℕ, ◌<◌, ◌+◌, ◌-◌, ◌||◌, not, nat_lt, ◌*◌, ◌%◌, ◌==◌, eq-eqb, eqb-true, Bool, true, false, cond, if◌then◌else◌, Option, Some, None, refl, sym, ap, ◌∙◌, subst, arith, inl, inr}
 use Rattle.std.proofs.lemmas.Option.{same_Some}
 use Rattle.mark_word.specs.declared.mark.MarkForm.{MarkForm}
 use Rattle.mark_word.specs.declared.mark.MarkForm.TheVariants.{Inflating, Neutral, Anonymous, Biased, Locked, Inflated, Marked}
@@ -31,9 +31,10 @@ use Rattle.core_bias.proofs.Wholes.{biasing_on}
 use Rattle.core_counts.specs.Steps.{SawFreeBias}
 use Rattle.core_law.specs.Logic.{Heap, Stands}
 use Rattle.core_law.proofs.Standing.{fits_here, away, few_threads}
-use Rattle.core_steps.proofs.SeenSteps.{saw_any, first_any, first_alone, alone_more}
+use Rattle.core_steps.proofs.ClassSteps.{class_from}
+use Rattle.core_steps.proofs.SeenSteps.{saw_any, saw_older, first_any, first_alone, alone_more}
 
--- in its call it has seen marks and prototypes alone, besides the safepoint word
+-- in its call it has seen marks, class words and prototypes alone, besides the safepoint word
 abbrev pub SawHeaders : Known → Type 0
 SawHeaders k = (n : Name) → is_header n ≡ false → same_name n name.Safepoint ≡ false → last_seen n k.seen ≡ None
 
@@ -56,15 +57,73 @@ module _ (heap : Heap) (p : StepPlan) (n : ℕ) (k : Known) (on_header : is_head
   headers_more going kept bare m h other =
       saw_any heap p n k m going kept ∙ ap (λ (z : Bool). cond z (Some (word_after p.act n)) (last_seen m k.seen)) (hidden_apart m p.at h on_header) ∙ bare m h other
 
--- by the loads of an object's mark and then of its class's prototype, with which a call begins, it has seen no other words
-pub saw_two : (heap : Heap) (e : Purpose) (o class mark prototype : ℕ) (k : Known) → SawClass heap.shape (seen_before heap.shape k) o class → is_idle heap.shape k ≡ true → k.requesting ≡ false → is_idle heap.shape (known_hit heap.shape heap.start (load e (name.Mark o)) mark k) ≡ false
-    → SawNoOther heap.shape (known_hit heap.shape heap.start (load e (name.Prototype class)) prototype (known_hit heap.shape heap.start (load e (name.Mark o)) mark k)) o
-saw_two heap e o class mark prototype k saw_class over unasks going n v saw =
-    let l = known_hit heap.shape heap.start (load e (name.Mark o)) mark k in
-    elim (alone_more heap (load e (name.Prototype class)) prototype l n v going refl saw) [
-      | inl is ↦ inr (inr (class, saw_class, is))
-      | inr g ↦ inr (inl (first_alone heap (load e (name.Mark o)) mark k n v over unasks refl g))
-    ]
+-- it has seen the mark of o alone, or its class word besides, where o isn't declared
+abbrev pub SawMarkAlone : Shape → ℕ → Known → Type 0
+SawMarkAlone s o k = (n : Name) (v : ℕ) → last_seen n k.seen ≡ Some v → (n ≡ name.Mark o) ⊎ ((n ≡ name.Class o) × (nat_lt o s.declared ≡ false))
+
+module _ (heap : Heap) (e : Purpose) (o : ℕ) where
+  -- by the load of the mark, with which a call begins, and by one of the class word
+  pub mark_alone : (mark : ℕ) (k : Known) → is_idle heap.shape k ≡ true → k.requesting ≡ false
+      → SawMarkAlone heap.shape o (known_hit heap.shape heap.start (load e (name.Mark o)) mark k)
+  mark_alone mark k over unasks n v saw = inl (first_alone heap (load e (name.Mark o)) mark k n v over unasks refl saw)
+
+  pub class_more : (word : ℕ) (k : Known) → nat_lt o heap.shape.declared ≡ false → is_idle heap.shape k ≡ false → SawMarkAlone heap.shape o k
+      → SawMarkAlone heap.shape o (known_hit heap.shape heap.start (load e (name.Class o)) word k)
+  class_more word k made going alone n v saw = elim (alone_more heap (load e (name.Class o)) word k n v going refl saw) [
+    | inl is ↦ inr (is, made)
+    | inr g ↦ alone n v g
+  ]
+
+  -- behind which it loads the prototype of the class, and has seen no other words
+  pub saw_two : (class prototype : ℕ) (k : Known) → SawClass heap.shape k.seen o class → is_idle heap.shape k ≡ false → SawMarkAlone heap.shape o k
+      → SawNoOther heap.shape (known_hit heap.shape heap.start (load e (name.Prototype class)) prototype k) o
+  saw_two class prototype k saw_class going alone n v saw =
+      let p = load e (name.Prototype class) in
+      elim (alone_more heap p prototype k n v going refl saw) [
+        | inl is ↦ inr (inr (inr (
+          class,
+          class_from heap.shape k.seen (known_hit heap.shape heap.start p prototype k).seen o class
+              (saw_older heap p prototype k (name.Class o) going refl refl) saw_class,
+          is,
+        )))
+        | inr g ↦ elim (alone n v g) [
+          | inl is ↦ inr (inl is)
+          | inr is ↦ inr (inr (inl is))
+        ]
+      ]
+
+-- the load of a class word by a thread that runs
+pub look_class : (k : Known) (e : Purpose) → k.running ≡ true → k.stage ≡ Calm → e.check ≡ k.checking → GoesOn k e → (o : ℕ) → IsLook k (load e (name.Class o))
+look_class k e runs calm check goes o =
+    record {
+      act = refl;
+      note = refl;
+      own = refl;
+      stage = sym calm;
+      check = check;
+      after = goes;
+      may =
+          may_look k (name.Class o) (inl runs) (λ m is. absurd (cc is));
+    }
+
+-- a class word that was found is not 0, where the thread saw the mark of its object with the bias pattern in this call
+pub class_some : (heap : Heap) (k : Known) (v : Stands heap k) → k.running ≡ true → (o mark word : ℕ) → nat_lt o heap.shape.declared ≡ false
+    → last_seen (name.Mark o) k.seen ≡ Some mark → is_biased mark ≡ true
+    → v.world.words (name.Class o) ≡ word → word ≡ word - 1 + 1
+class_some heap k v runs o mark word made saw biased found =
+    let fits = fits_here heap k v runs in
+    let there = fits.seen.saw_classed k.thread o mark (away heap k v (λ s y. last_seen (name.Mark o) y.seen ≡ Some mark) saw)
+    (inl (away heap k v (λ s y. y.running ≡ true) runs)) biased in
+    let some : not (v.world.words (name.Class o) == 0) ≡ true =
+    ap (λ b. b || not (v.world.words (name.Class o) == 0)) (sym (away heap k v (λ s y. nat_lt o s.declared ≡ false) made)) ∙ there in
+    over word (ap (λ n. not (n == 0)) (sym found) ∙ some)
+  where
+    over : (n : ℕ) → not (n == 0) ≡ true → n ≡ n - 1 + 1
+    over n e = by_test (n == 0) refl e
+      where
+        by_test : (b : Bool) → (n == 0) ≡ b → not b ≡ true → n ≡ n - 1 + 1
+        by_test true h g = absurd (cc g)
+        by_test false h g = let some : n ≢ 0 = λ z. absurd (cc (eq-eqb n 0 z, h)) in omega (arith, some)
 
 pub look_prototype : (k : Known) (e : Purpose) → k.running ≡ true → k.stage ≡ Calm → e.check ≡ k.checking → GoesOn k e → (c : ℕ) → IsLook k (load e (name.Prototype c))
 look_prototype k e runs calm check goes c =
@@ -132,7 +191,9 @@ module _ (heap : Heap) (k : Known) (v : Stands heap k) (runs : k.running ≡ tru
   bias_stays o class mark prototype saw_mark saw_class saw_prototype bias =
       let fits = fits_here heap k v runs in
       let runs_there = away heap k v (λ s y. y.running ≡ true) runs in
-      let its : class_by v.world.shape v.world.words o ≡ class = class_seen v.world.shape v.world.words k.seen o class (away heap k v (λ s y. SawClass s k.seen o class) saw_class) in
+      let its : class_by v.world.shape v.world.words o ≡ class = class_seen v.world.shape v.world.words k.seen o class
+      (λ m e d. fits.seen.stays k.thread (name.Class o) m (away heap k v (λ s y. last_seen (name.Class o) y.seen ≡ Some m) e) (inl (runs_there, d)))
+      (away heap k v (λ s y. SawClass s k.seen o class) saw_class) in
       let now = ap (λ c. v.world.words (name.Prototype c)) its ∙ fits.seen.stays k.thread (name.Prototype class) prototype (away heap k v (λ s y. last_seen (name.Prototype class) y.seen ≡ Some prototype) saw_prototype) (inl (runs_there, tt)) in
       let valid : IsValidBias (read_mark mark) prototype = bias_valid k.thread (read_mark mark) prototype bias in
       fits.seen.stays k.thread (name.Mark o) mark (away heap k v (λ s y. last_seen (name.Mark o) y.seen ≡ Some mark) saw_mark) (inl (runs_there, inl (subst (IsValidBias (read_mark mark)) (sym now) valid)))

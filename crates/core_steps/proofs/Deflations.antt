@@ -200,12 +200,13 @@ module _ (heap : Heap) (e : Purpose) (k0 : Known) (st : Stage) (plain : revocati
   abbrev pub AllSettled : Known → Type 0
   AllSettled l = 0 < length heap.shape.objects → (m : ℕ) → m < monitor_count heap.shape → Settles l m
 
-  -- WHAT STAYS of what was seen: whoever had ended or was held up is so still, each prototype is what it was, and so is each mark, but for such as had
-  -- no bias pattern and have none; and no monitor that wasn't idle is so now
+  -- WHAT STAYS of what was seen: whoever had ended or was held up is so still, each prototype and each class word is what it was, and
+  -- so is each mark, but for such as had no bias pattern and have none; and no monitor that wasn't idle is so now
   pub record Holding (k l : Known) : Type 0 where
     pub held : (u : ℕ) → u < heap.shape.threads → Held k u → Held l u
     pub marks : (i v : ℕ) → last_seen (name.Mark i) k.seen_at_safepoint ≡ Some v → (u : ℕ) × (last_seen (name.Mark i) l.seen_at_safepoint ≡ Some u) × ((u ≡ v) ⊎ ((is_biased v ≡ false) × (is_biased u ≡ false)))
     pub prototypes : (i v : ℕ) → last_seen (name.Prototype i) k.seen_at_safepoint ≡ Some v → last_seen (name.Prototype i) l.seen_at_safepoint ≡ Some v
+    pub classes : (i v : ℕ) → last_seen (name.Class i) k.seen_at_safepoint ≡ Some v → last_seen (name.Class i) l.seen_at_safepoint ≡ Some v
     pub settled : (m : ℕ) → Settles k m → Settles l m
     -- what was given back since is clear, and what was clear is
     pub fresh : (m : ℕ) → GaveBack l m → GaveBack k m ⊎ Clears l m
@@ -234,6 +235,7 @@ module _ (heap : Heap) (e : Purpose) (k0 : Known) (st : Stage) (plain : revocati
           ],
         );
     prototypes = λ i v h. b.prototypes i v (a.prototypes i v h);
+    classes = λ i v h. b.classes i v (a.classes i v h);
     settled = λ i h. b.settled i (a.settled i h);
     fresh = λ i h. elim (b.fresh i h) [
       | inl x ↦ elim (a.fresh i x) [
@@ -267,6 +269,7 @@ module _ (heap : Heap) (e : Purpose) (k0 : Known) (st : Stage) (plain : revocati
     ];
     marks = λ i v h. (v, s.saw (name.Mark i) v h, inl refl);
     prototypes = λ i v h. s.saw (name.Prototype i) v h;
+    classes = λ i v h. s.saw (name.Class i) v h;
     settled = λ m h. elim h [
       | inl a ↦ inl (x.back m ∙ a.0, clears_on k l m s a.1)
       | inr a ↦ inr (a.0, a.1, s.saw (name.Object m) a.0 a.2, s.saw (name.Mark a.0) a.1 a.3, λ q. in_use_on k l a.0 m s (a.4 q))
@@ -485,6 +488,7 @@ module _ (heap : Heap) (e : Purpose) (k0 : Known) (st : Stage) (plain : revocati
       held = held_on v a b c d f g n;
       marks = λ i u saw. mark_on v i u (i == o) refl (s.saw (name.Mark i) u saw);
       prototypes = λ i u saw. s.saw (name.Prototype i) u saw;
+      classes = λ i u saw. s.saw (name.Class i) u saw;
       settled = λ j h. settled_on v a b c d f g n j h;
       fresh = λ j h. fresh_on v a b c d f g n j h;
       clear = λ j h. clear_still v a b c d f g n j h;

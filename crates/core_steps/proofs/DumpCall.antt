@@ -1,5 +1,5 @@
 -- A dump begins well: it looks at all objects and lengths at a safepoint, keeps its shot, releases the safepoint and logs its entry.
-use Rattle.std.proofs.Common.{◌≡◌, ℕ, zero, suc, ◌+◌, ◌<◌, ◌==◌, ◌||◌, ◌&&◌, ◌++◌, eq-eqb, Bool, true, false, cond, List, [], ◌∷◌, length, Option, Some, None, refl, sym, ap, ◌∙◌, subst, inl, inr, arith, ◌≤◌}
+use Rattle.std.proofs.Common.{◌≡◌, ℕ, zero, suc, ◌+◌, ◌-◌, ◌<◌, nat_lt, ◌==◌, ◌||◌, ◌&&◌, ◌++◌, eq-eqb, Bool, true, false, cond, List, [], ◌∷◌, length, Option, Some, None, refl, sym, ap, ◌∙◌, subst, inl, inr, arith, ◌≤◌}
 use Rattle.std.proofs.lemmas.List.{length-append, length-map}
 use Rattle.std.proofs.lemmas.Bool.Decides.{nat_tests}
 use Rattle.mark_word.specs.declared.mark.MarkForm.{MarkForm}
@@ -50,6 +50,7 @@ use Rattle.core_steps.proofs.Facts.{Untold, ready_here}
 use Rattle.core_law.proofs.Standing.{fits_here, home, valid_here, few_threads}
 use Rattle.core_world.specs.Trees.DeflateSteps.{deflate_steps}
 use Rattle.core_world.specs.Words.Forms.{says_notified}
+use Rattle.core_steps.proofs.ClassSteps.{made_there, class_found}
 use Rattle.core_steps.proofs.Deflations.{deflate_does}
 use Rattle.core_steps.proofs.LawRules.{keeps_calm, releases, publishes, limits}
 use Rattle.core_steps.proofs.Requests.{Asks, Stood, BeginsSafepoint, safepoint_does}
@@ -95,7 +96,20 @@ module _ (s : Shape) (e : Purpose) where
   module _ (limits : IsInLimits s) where
     look_named : (f : Option MarkForm) (o : ℕ) → o < length s.objects → IsMark s f → Looks s e (look_behind f e s o)
     look_named (Some (Biased thread epoch age)) o object form =
-        ((name.Prototype (class_of s o), class_there s o limits object, refl), λ n formed. look_valid (has_epoch (epoch_in n) epoch) thread form.0)
+        by_test (nat_lt o s.declared) refl
+      where
+        behind_class : (c : ℕ) → c < s.classes → Looks s e
+            (ask (load e (name.Prototype c)) >>= (λ n. cond (has_epoch (epoch_in n) epoch) (look_at_holds e thread) (done tt)))
+        behind_class c class = ((name.Prototype c, class, refl), λ n formed. look_valid (has_epoch (epoch_in n) epoch) thread form.0)
+
+        by_test : (b : Bool) → nat_lt o s.declared ≡ b → Looks s e (cond b (done (class_of s o)) (step (load e (name.Class o)) (λ word. done (word - 1)))
+            >>= (λ c. ask (load e (name.Prototype c)) >>= (λ n. cond (has_epoch (epoch_in n) epoch) (look_at_holds e thread) (done tt))))
+        by_test true declared = behind_class (class_of s o) (class_there s o limits object)
+        by_test false made = (
+          (name.Class o, made_there s o object made, refl),
+          λ word formed. behind_class (word - 1)
+              (class_found s o word limits object formed),
+        )
     look_named (Some (Locked thread place)) o object form = look_holds thread form
     look_named (Some (Inflated monitor)) o object form = ((name.Owner monitor, form, refl), λ n formed. look_owner (read_owner n) formed)
     look_named _ o object form = tt

@@ -25,7 +25,7 @@ use Rattle.core_world.specs.Trees.Operations.{answer, and_then, goes_on_with, re
 use Rattle.core_world.specs.Trees.Plans.{Purpose, purpose, free_place}
 use Rattle.core_world.specs.Clauses.Safepoints.{IsUnfinished, ends}
 use Rattle.core_world.specs.Threads.Stages.{Revocation}
-use Rattle.core_world.specs.Steps.{seen_before}
+use Rattle.core_world.specs.Steps.{is_idle, seen_before}
 use Rattle.core_world.specs.Trees.Todo.{Todo, ◌>>=◌}
 use Rattle.core_world.specs.Clauses.WordForms.{IsMark}
 use Rattle.core_locks.specs.Knowing.{GoesOn}
@@ -33,7 +33,7 @@ use Rattle.core_counts.specs.Steps.{SawUnbiased}
 use Rattle.core_law.specs.Logic.{Heap, Stands, Does}
 use Rattle.core_law.specs.Sound.{Finishes}
 use Rattle.core_law.specs.Begins.{BeginsWell}
-use Rattle.core_steps.proofs.AskedRevocations.{BeginsRevocation, revocation_does}
+use Rattle.core_steps.proofs.AskedRevocations.{NoOtherIn, ValidBiasIn, BeginsRevocation, revocation_does}
 use Rattle.core_steps.proofs.BiasEnters.{Enters, enters_rests, FoundMark, EnterOutcomes, Tries, bias_enter_does, Wants, taking, bias_after_does}
 use Rattle.core_steps.proofs.Inflations.{SawNone, Unseen, Apart, inflate_does}
 use Rattle.core_steps.proofs.MonitorEnters.{monitor_enter_does}
@@ -171,14 +171,16 @@ module _ (heap : Heap) (e : Purpose) (s : Start) (b : Revocation) (enters : e.un
             asking = λ asks. let unasks = x.going.takes.unasks in absurd (cc (asks, unasks));
             running = λ free. (x.going.takes.runs, inl (sym x.going.mine));
           };
-          saw = let before : seen_before heap.shape l ≡ l.seen = ap (λ (z : Bool). cond (z && not l.requesting) [] l.seen) i in
-              (mark, x.prototype.0, x.prototype.1, ap (last_seen (name.Mark b.object)) before ∙ x.saw, x.prototype.2, ap (last_seen (name.Prototype x.prototype.1)) before ∙ x.prototype.3, x.prototype.4);
-          alone = λ n v h. x.alone n v (ap (λ (z : Bool). last_seen n (cond (z && not l.requesting) [] l.seen)) (sym i) ∙ h);
+          saw = subst (ValidBiasIn heap e b) (sym (before l i)) (mark, x.prototype.0, x.prototype.1, x.saw, x.prototype.2, x.prototype.3, x.prototype.4);
+          alone = subst (NoOtherIn heap e b) (sym (before l i)) x.alone;
           unreached = x.unreached;
           unwaiting = λ waits. absurd (cc waits);
         }) x.local x.kept_is));
     raced = λ l mark found x. answers heap false _ l Q x;
   }
+    where
+      before : (l : Known) → is_idle heap.shape l ≡ false → seen_before heap.shape l ≡ l.seen
+      before l i = ap (λ (z : Bool). cond (z && not l.requesting) [] l.seen) i
 
   -- a call by a thread that runs
   first_does : (k : Known) → Taking heap k.running k.requesting k.moving k.log e b.object → k.stage ≡ Calm → GoesOn k e → e.check ≡ k.checking → local_of k ≡ s.local → k.kept ≡ s.kept
@@ -218,7 +220,6 @@ module _ (heap : Heap) where
       let goes_on = going_is op.Enter o k.unfinished (asking_goes k.running k.requesting going a.runs (rest.stopped asks)) in
       let place = rest.place o goes_on in
       let asked = subst (MayAsk heap.shape k) goes_on (rest.asks asks a.unchecking) in
-      let saw = asked.0 in
       let before = asking_saw heap e k.thread k asks in
       subst (λ (z : Bool). Does heap true (enter_revoked heap.shape z e s b) k (λ b r l. AtRest heap.shape l)) asks
       (revoked_does heap e s b refl refl (record { unchecks = refl; live = a.live; room = room; object = object; untold = rest.untold; place = place }) true k (record {
@@ -230,8 +231,8 @@ module _ (heap : Heap) where
           asking = λ asks. (sym a.unchecking, sym goes_on);
           running = λ free. absurd (cc (asks, free));
         };
-        saw = (saw.0, saw.1, saw.2, ap (last_seen (name.Mark o)) before ∙ saw.3, saw.4, ap (last_seen (name.Prototype saw.2)) before ∙ saw.5, saw.6);
-        alone = λ n v h. asked.2 n v (ap (last_seen n) (sym before) ∙ h);
+        saw = subst (ValidBiasIn heap e b) (sym before) asked.0;
+        alone = subst (NoOtherIn heap e b) (sym before) asked.2;
         unreached = asked.1;
         unwaiting = λ waits. absurd (cc waits);
       }) refl refl))

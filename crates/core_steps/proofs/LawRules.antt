@@ -14,7 +14,7 @@ use Rattle.core_world.specs.declared.name.Name.TheVariants as name
 use Rattle.core_world.specs.declared.plan.Note.TheVariants.{Quiet}
 use Rattle.core_world.specs.declared.plan.StepPlan.{StepPlan}
 use Rattle.core_world.specs.declared.stage.Stage.TheVariants.{Calm, Takes}
-use Rattle.core_world.specs.Words.Shape.{Shape, IsInLimits, class_of, monitor_count}
+use Rattle.core_world.specs.Words.Shape.{Shape, IsInLimits, monitor_count}
 use Rattle.core_world.specs.There.{HasPlace, IsIn, IsThere}
 use Rattle.core_world.specs.Threads.Known.{Known, local_of}
 use Rattle.core_world.specs.Looking.{IsLook}
@@ -63,7 +63,7 @@ use Rattle.core_counts.proofs.LoggedKinds as logged
 use Rattle.core_counts.proofs.QuietKinds as quiet
 use Rattle.core_law.specs.Takings.{StampsTaking, StampsNote, TakesExactly}
 use Rattle.core_law.specs.Logic.{Heap, Stands, Keeps}
-use Rattle.core_world.proofs.There.{class_there, slot_there, limits_there, kept_there}
+use Rattle.core_world.proofs.There.{slot_there, limits_there, kept_there}
 use Rattle.core_law.proofs.Standing.{home, away, inside, valid_here}
 use Rattle.core_law.proofs.Wholes.{All, all_unless, stops_all, was_asked, requester_is, kept_whole}
 
@@ -83,12 +83,9 @@ inflated_there w P t o m v runs saw =
     subst (IsMark w.shape) (inflated_form (read_mark (marks w o)) m names) (v.forms.marks o)
 
 module _ (heap : Heap) (k : Known) where
-  -- the heap has the thread's own words, those of an object's class,
+  -- the heap has the thread's own words,
   pub limits : Stands heap k → IsInLimits heap.shape
   limits v = home heap k v (λ s y. IsInLimits s) (limits_there v.world v.objects (valid_here heap k v))
-
-  pub class_in : (o : ℕ) → o < length heap.shape.objects → Stands heap k → class_of heap.shape o < heap.shape.classes
-  class_in o object v = class_there heap.shape o (limits v) object
 
   -- where the thread runs, every clause holds
   pub runs_in_all : (v : Stands heap k) → k.running ≡ true → All v.world v.objects

@@ -1,4 +1,5 @@
 pub mod Trees
+pub mod ClassSteps
 pub mod LawRules
 pub mod MonitorRules
 pub mod WaitRules

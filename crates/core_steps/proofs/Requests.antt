@@ -38,7 +38,7 @@ module _ (heap : Heap) (e : Purpose) (me : ℕ) where
     pub live : ends k.log ≡ false
     pub carries : Carries k.moving k.log k.wait k.holds k.shots e.unfinished
 
-  -- The parts that the steps up to there leave, and what the thread has seen of marks and prototypes: what it had seen before, by what a step of
+  -- The parts that the steps up to there leave, and what the thread has seen of marks, prototypes and class words: what it had seen before, by what a step of
   -- the call keeps of that. They are on the safepoint word alone.
   pub record Since (k l : Known) : Type 0 where
     pub local : local_of l ≡ local_of k
@@ -48,6 +48,7 @@ module _ (heap : Heap) (e : Purpose) (me : ℕ) where
     pub draws : l.draws ≡ k.draws
     pub mark : (o : ℕ) → last_seen (name.Mark o) l.seen ≡ last_seen (name.Mark o) (seen_before heap.shape k)
     pub prototype : (c : ℕ) → last_seen (name.Prototype c) l.seen ≡ last_seen (name.Prototype c) (seen_before heap.shape k)
+    pub class : (o : ℕ) → last_seen (name.Class o) l.seen ≡ last_seen (name.Class o) (seen_before heap.shape k)
     pub alone : (n : Name) (v : ℕ) → last_seen n l.seen ≡ Some v → (n ≡ name.Safepoint) ⊎ (last_seen n (seen_before heap.shape k) ≡ Some v)
 
   -- what is known behind the look whether the safepoint is reached, and behind the request
@@ -104,6 +105,7 @@ module _ (heap : Heap) (e : Purpose) (me : ℕ) where
           draws = since.draws;
           mark = λ o. ap (last_seen (name.Mark o)) (asking_saw k a.asks) ∙ since.mark o;
           prototype = λ c. ap (last_seen (name.Prototype c)) (asking_saw k a.asks) ∙ since.prototype c;
+          class = λ o. ap (last_seen (name.Class o)) (asking_saw k a.asks) ∙ since.class o;
           alone = λ n v saw. elim (newest_or n name.Safepoint word v (last_seen n (seen_before heap.shape k)) saw) [
             | inl is ↦ inl is
             | inr g ↦ since.alone n v (ap (last_seen n) (sym (asking_saw k a.asks)) ∙ g)
@@ -164,6 +166,7 @@ module _ (heap : Heap) (e : Purpose) (me : ℕ) where
               draws = refl;
               mark = λ o. ap (last_seen (name.Mark o)) kept;
               prototype = λ c. ap (last_seen (name.Prototype c)) kept;
+              class = λ o. ap (last_seen (name.Class o)) kept;
               alone = λ m v saw. elim (newest_or m name.Safepoint left v _ saw) [
                 | inl is ↦ inl is
                 | inr g ↦ newest_or m name.Safepoint word v (last_seen m (seen_before heap.shape k)) (ap (last_seen m) (sym kept) ∙ g)
@@ -197,6 +200,7 @@ module _ (heap : Heap) (e : Purpose) (me : ℕ) where
           draws = refl;
           mark = λ o. ap (last_seen (name.Mark o)) (sym saw);
           prototype = λ c. ap (last_seen (name.Prototype c)) (sym saw);
+          class = λ o. ap (last_seen (name.Class o)) (sym saw);
           alone = λ n v h. inr (ap (last_seen n) saw ∙ h);
         })
         (λ first. first))

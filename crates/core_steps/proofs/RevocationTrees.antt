@@ -1,5 +1,5 @@
 -- The steps of a revocation behind its first store: each loads a word in its middle, or stores one of those that revocations store.
-use Rattle.std.proofs.Common.{◌≡◌, ◌⊎◌, ℕ, zero, suc, ◌+◌, ◌==◌, ◌++◌, Bool, true, false, cond, if◌then◌else◌, List, [], ◌∷◌, Option, Some, None, refl, sym, subst, inl, inr, ◌<◌, ◌≤◌, length, ap, arith}
+use Rattle.std.proofs.Common.{◌≡◌, ◌⊎◌, ℕ, zero, suc, ◌+◌, ◌-◌, nat_lt, ◌==◌, ◌++◌, Bool, true, false, cond, if◌then◌else◌, List, [], ◌∷◌, Option, Some, None, refl, sym, subst, inl, inr, ◌<◌, ◌≤◌, length, ap, arith}
 use Rattle.plain_monitor.specs.Limits.{most_holds}
 use Rattle.mark_word.specs.declared.mark.MarkForm.{MarkForm}
 use Rattle.mark_word.specs.declared.mark.MarkForm.TheVariants.{Neutral, Anonymous, Biased, Locked}
@@ -11,12 +11,13 @@ use Rattle.lock_policy.specs.declared.policy.Verdict.{Verdict}
 use Rattle.lock_policy.specs.declared.policy.Verdict.TheVariants.{Single, BulkRebias, BulkRevoke}
 use Rattle.lock_policy.specs.Policy.{decided}
 use Rattle.core_world.specs.declared.name.Name.{Name}
-use Rattle.core_world.specs.declared.name.Name.TheVariants.{Prototype, Revocations, LastBulk, Mark, Hold, Displaced}
+use Rattle.core_world.specs.declared.name.Name.TheVariants.{Prototype, Revocations, LastBulk, Mark, Hold, Displaced, Class}
 use Rattle.core_world.specs.declared.plan.StepPlan.{StepPlan}
 use Rattle.core_world.specs.Words.Forms.{names, hold_word, is_biased, epoch_in}
 use Rattle.core_world.specs.Threads.Known.{StepMade}
 use Rattle.core_world.specs.Locks.{hold_count, is_valid_bias}
-use Rattle.core_world.specs.Trees.Plans.{Purpose, with_stage, load, store}
+use Rattle.core_world.specs.declared.stage.Stage.TheVariants.{Calm}
+use Rattle.core_world.specs.Trees.Plans.{Purpose, with_stage, load, load_plan, store, class_steps}
 use Rattle.core_world.specs.RevocationRules.{Write, write, raised_form, with_epoch, store_where, object_held, biased_word, record_writes, first_place, revoke_biased}
 use Rattle.core_world.specs.Trees.RevocationSteps.{revocation_stage, look, store_steps, revoke_at, revoke_steps, visit_held, walk_steps, take_bias_steps, next_epoch, bulk_rebias_steps, bulk_revoke_steps, verdict_steps, decided_steps, RevocationOutcome, revoke_at_safepoint_steps}
 use Rattle.core_world.specs.Words.Shape.{Shape, class_of}
@@ -26,6 +27,7 @@ use Rattle.core_world.specs.Clauses.WordForms.{IsMark, IsHold}
 use Rattle.core_world.specs.There.{IsIn}
 use Rattle.core_bias.specs.Revoking.{Leads}
 use Rattle.core_world.proofs.There.{IsFormed}
+use Rattle.core_steps.proofs.ClassSteps.{made_there}
 
 -- the words that a revocation loads, and those that it stores
 abbrev pub IsLooked : Name → Type 0
@@ -34,6 +36,7 @@ IsLooked (Revocations c) = Unit {0}
 IsLooked (LastBulk c) = Unit {0}
 IsLooked (Mark o) = Unit {0}
 IsLooked (Hold t p) = Unit {0}
+IsLooked (Class o) = Unit {0}
 IsLooked _ = ⊥
 
 abbrev pub IsStored : Name → Type 0
@@ -183,10 +186,20 @@ module _ (s : Shape) (e : Purpose) (b : Revocation) where
   middle_visit c visit None form h = absurd form
   middle_visit c visit (Some Empty) form h = tt
   middle_visit c visit (Some (Holds o d)) form h =
-      middle_chooses (class_of s o == c) (look e b (Mark o) >>= (λ mark. cond (is_biased mark) (visit o mark) (done tt))) (done tt)
-      (middle_look (Mark o) (λ mark. cond (is_biased mark) (visit o mark) (done tt)) tt form
-      (λ mark formed. middle_chooses (is_biased mark) (visit o mark) (done tt) (h o mark form formed) tt))
-      tt
+      by_test (nat_lt o s.declared) refl
+    where
+      behind_class : (k : ℕ) → InMiddle (cond (k == c) (look e b (Mark o) >>= (λ mark. cond (is_biased mark) (visit o mark) (done tt))) (done tt))
+      behind_class k =
+          middle_chooses (k == c) (look e b (Mark o) >>= (λ mark. cond (is_biased mark) (visit o mark) (done tt))) (done tt)
+          (middle_look (Mark o) (λ mark. cond (is_biased mark) (visit o mark) (done tt)) tt form
+          (λ mark formed. middle_chooses (is_biased mark) (visit o mark) (done tt) (h o mark form formed) tt))
+          tt
+
+      by_test : (a : Bool) → nat_lt o s.declared ≡ a
+          → InMiddle (cond a (done (class_of s o)) (step (load_plan e (revocation_stage b) (Class o)) (λ word. done (word - 1)))
+          >>= (λ k. cond (k == c) (look e b (Mark o) >>= (λ mark. cond (is_biased mark) (visit o mark) (done tt))) (done tt)))
+      by_test true declared = behind_class (class_of s o)
+      by_test false made = (inl (Class o, tt, made_there s o form made, refl), λ word formed. behind_class (word - 1))
 
   middle_walk : (c : ℕ) (visit : ℕ → ℕ → Todo (Unit {0})) → Visits visit → InMiddle (walk_steps s c e b visit)
   middle_walk c visit h =
@@ -248,13 +261,14 @@ module _ (e : Purpose) (b : Revocation) (none : b.rebias ≡ false) where
   verdict_untaken s t c epoch BulkRevoke = answers_behind Untaken (bulk_revoke_steps s c e b) (λ u. done false) (λ u. refl)
 
   pub revocation_untaken : (s : Shape) (t : ℕ) → AllAnswers (λ (a : RevocationOutcome). a.took ≡ false) (revoke_at_safepoint_steps s t e b)
-  revocation_untaken s t = λ mark prototype count last. by_test (is_valid_bias (read_mark mark) prototype) mark prototype count last
+  revocation_untaken s t = λ mark.
+      answers_behind (λ (a : RevocationOutcome). a.took ≡ false) (class_steps e Calm s b.object) _
+      (λ c prototype count last. by_test (is_valid_bias (read_mark mark) prototype) c prototype count last)
     where
-      by_test : (z : Bool) (mark prototype count last : ℕ)
-          → AllAnswers (λ (a : RevocationOutcome). a.took ≡ false) (cond z (decided_steps s t (class_of s b.object) e b (epoch_in prototype) count last) never)
-      by_test true mark prototype count last = λ n.
+      by_test : (z : Bool) (c prototype count last : ℕ) → AllAnswers (λ (a : RevocationOutcome). a.took ≡ false) (cond z (decided_steps s t c e b (epoch_in prototype) count last) never)
+      by_test true c prototype count last = λ n.
           answers_then Untaken (λ (a : RevocationOutcome). a.took ≡ false)
-          (verdict_steps s t (class_of s b.object) e b (epoch_in prototype) (decided count last b.now).0)
+          (verdict_steps s t c e b (epoch_in prototype) (decided count last b.now).0)
           (λ took. done (record { verdict = (decided count last b.now).0; took = took }))
-          (verdict_untaken s t (class_of s b.object) (epoch_in prototype) (decided count last b.now).0) (λ took h. h)
-      by_test false mark prototype count last = tt
+          (verdict_untaken s t c (epoch_in prototype) (decided count last b.now).0) (λ took h. h)
+      by_test false c prototype count last = tt

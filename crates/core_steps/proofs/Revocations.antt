@@ -1,6 +1,6 @@
 -- A revocation at a reached safepoint: its steps, from the loads by which the policy decides on, and behind them those that give idle monitors back, up
 -- to the release.
-use Rattle.std.proofs.Common.{◌≡◌, ◌⊎◌, ℕ, ◌<◌, ◌==◌, ◌&&◌, ◌++◌, not, eq-eqb, Bool, true, false, cond, List, [], ◌∷◌, length, Option, Some, None, refl, sym, ap, ◌∙◌, subst, arith, inl, inr}
+use Rattle.std.proofs.Common.{◌≡◌, ◌≢◌, ◌⊎◌, ℕ, ◌+◌, ◌-◌, ◌<◌, ◌≤◌, nat_lt, ◌==◌, ◌&&◌, ◌++◌, not, eq-eqb, Bool, true, false, cond, List, [], ◌∷◌, length, Option, Some, None, refl, sym, ap, ◌∙◌, subst, arith, inl, inr}
 use Rattle.mark_word.specs.Mark.{read_mark}
 use Rattle.lock_policy.specs.declared.policy.Verdict.{Verdict}
 use Rattle.lock_policy.specs.Policy.{decided, is_reset}
@@ -12,13 +12,13 @@ use Rattle.core_world.specs.declared.plan.Own.TheVariants as own
 use Rattle.core_world.specs.declared.plan.StepPlan.{StepPlan}
 use Rattle.core_world.specs.declared.stage.Stage.TheVariants.{Calm}
 use Rattle.core_world.specs.declared.task.Op.{Op}
-use Rattle.core_world.specs.Threads.AtRest.{AtRest, SawClass, SawValidBias, SawNoOther}
+use Rattle.core_world.specs.Threads.AtRest.{AtRest, SawClass, SawClassIf, SawValidBias, SawNoOther}
 use Rattle.core_world.specs.Trees.BiasSteps.{stage_after}
 use Rattle.core_world.specs.Words.Forms.{asks_in, runs_in, epoch_in, is_biased}
 use Rattle.core_world.specs.Threads.Known.{Known, Still, StepMade, local_of, last_seen, left_by}
 use Rattle.core_world.specs.Locks.{is_valid_bias, prototype_of}
 use Rattle.core_world.specs.Words.Names.{same_name, its_monitor}
-use Rattle.core_world.specs.Trees.Plans.{Purpose, with_stage, load, store, done_with}
+use Rattle.core_world.specs.Trees.Plans.{Purpose, with_stage, load, store, done_with, class_steps}
 use Rattle.core_world.specs.Trees.SafepointSteps.{reached_word, released_word, release_plan, release_to}
 use Rattle.core_world.specs.Clauses.SeenWords.{IsValidBias}
 use Rattle.core_world.specs.RevocationRules.{writes_in}
@@ -26,7 +26,7 @@ use Rattle.core_world.specs.Trees.RevocationSteps.{revocation_stage, revoke_plan
 use Rattle.core_world.specs.There.{IsIn}
 use Rattle.core_world.specs.Words.Shape.{Shape, class_of}
 use Rattle.core_world.specs.Words.Names.{class_by}
-use Rattle.core_world.proofs.There.{class_seen}
+use Rattle.core_world.proofs.There.{class_seen, class_in_heap}
 use Rattle.core_world.specs.Trees.DeflateSteps.{deflate_steps}
 use Rattle.core_world.specs.Threads.Stages.{Revocation, revocation_in}
 use Rattle.core_world.specs.Steps.{is_idle, known_hit, seen_before, only_headers, is_header}
@@ -43,12 +43,13 @@ use Rattle.core_steps.specs.Deflated.{HasRevoked}
 use Rattle.core_steps.proofs.BiasFacts.{valid_is}
 use Rattle.core_steps.proofs.BiasRules.{bias_biased, begins_revoking_rule, goes_on_revoking_rule}
 use Rattle.core_steps.proofs.BehindRevocations.{unrevoking_after, behind_tells, behind_keeps}
+use Rattle.core_steps.proofs.ClassSteps.{class_kept, class_from, class_once, class_declared, class_made, declared_class, made_class, made_there, class_does}
 use Rattle.core_steps.proofs.Deflations.{Idles, deflate_ends}
-use Rattle.core_steps.proofs.LawRules.{looks, class_in, releases, releases_taking}
+use Rattle.core_steps.proofs.LawRules.{looks, limits, releases, releases_taking}
 use Rattle.core_law.proofs.Standing.{home, away, few_threads}
 use Rattle.core_steps.proofs.RevocationTrees.{IsLooked, IsStored, InMiddle, middle_binds, middle_verdict, answers_left, revocation_untaken}
 use Rattle.core_steps.proofs.SafepointLooks.{Reaches, keeps_look, going}
-use Rattle.core_law.proofs.SafepointSights.{found_formed, is_as_seen, fits_reached}
+use Rattle.core_law.proofs.SafepointSights.{found_formed, forms_fit, is_as_seen, fits_reached}
 use Rattle.core_world.proofs.There.{IsFormed}
 use Rattle.core_steps.proofs.SafeWords.{reached_there, released_asks, released_runs}
 use Rattle.core_steps.proofs.Trees.{answers, chooses_then, follows, hitting, finding}
@@ -64,7 +65,7 @@ seen_more n m ms h = cases (same_name n m.plan.at)
     cases true = (left_by m, refl)
     cases false = h
 
--- of the marks and prototypes all is kept that was seen at the safepoint
+-- of the marks, class words and prototypes all is kept that was seen at the safepoint
 headers_stay : (n : Name) → is_header n ≡ true → (ms : List StepMade) → last_seen n (only_headers ms) ≡ last_seen n ms
 headers_stay n h [] = refl
 headers_stay n h (m ∷ ms) = by_header (is_header m.plan.at) refl (headers_stay n h ms)
@@ -86,7 +87,8 @@ headers_alone n h ms = cases (last_seen n (only_headers ms)) refl
     cases None e = refl
     cases (Some v) e = let is = (headers_are_part ms n v e).0 in absurd (cc (is, h))
 
--- WHAT STAYS WHILE A REQUEST STANDS, marks and words of classes: whatever all steps last saw of such a word, those since the safepoint was reached saw too.
+-- WHAT STAYS WHILE A REQUEST STANDS, marks, words of classes and class words: whatever all steps last saw of such a word, those since the safepoint was
+-- reached saw too.
 abbrev SeenSince : List StepMade → List StepMade → Type 0
 SeenSince all since = (n : Name) (v : ℕ) → is_kept_on_request n ≡ true → last_seen n all ≡ Some v → last_seen n since ≡ Some v
 
@@ -113,6 +115,12 @@ but_more But m all since f n v kept = by_name (same_name n m.plan.at) refl
       | inr a ↦ inr (a, other)
     ]
 
+but_less : (But Less : Name → Type 0) (all since : List StepMade) → ((n : Name) → But n → Less n) → SeenBut But all since → SeenBut Less all since
+but_less But Less all since less f n v kept h = elim (f n v kept h) [
+  | inl a ↦ inl a
+  | inr a ↦ inr (less n a)
+]
+
 -- within a call a step forgets nothing that was seen before
 goes_on_seeing : (s : Shape) (k : Known) → is_idle s k ≡ false → seen_before s k ≡ k.seen
 goes_on_seeing s k going = ap (λ (z : Bool). cond (z && not k.requesting) [] k.seen) going
@@ -120,9 +128,6 @@ goes_on_seeing s k going = ap (λ (z : Bool). cond (z && not k.requesting) [] k.
 module _ (heap : Heap) (e : Purpose) (b : Revocation) (me : ℕ) where
   abbrev T : Todo RevocationOutcome
   T = revoke_at_safepoint_steps heap.shape me e b
-
-  abbrev c : ℕ
-  c = class_of heap.shape b.object
 
   -- the parts that a revocation leaves
   pub record Leaves (k l : Known) : Type 0 where
@@ -178,6 +183,8 @@ module _ (heap : Heap) (e : Purpose) (b : Revocation) (me : ℕ) where
       record { leaves = record { local = refl; running = refl; reached = refl; kept = refl; moving = refl; saved = refl; draws = refl; shots = refl; mine = refl; check = refl }; seen_at_safepoint = refl; seen = refl; stage = refl }
   look_adds (name.Hold u p) h n k =
       record { leaves = record { local = refl; running = refl; reached = refl; kept = refl; moving = refl; saved = refl; draws = refl; shots = refl; mine = refl; check = refl }; seen_at_safepoint = refl; seen = refl; stage = refl }
+  look_adds (name.Class a) h n k =
+      record { leaves = record { local = refl; running = refl; reached = refl; kept = refl; moving = refl; saved = refl; draws = refl; shots = refl; mine = refl; check = refl }; seen_at_safepoint = refl; seen = refl; stage = refl }
   look_adds _ h n k = absurd h
 
   store_adds : (at : Name) (word : ℕ) → IsStored at → (n : ℕ) (k : Known) → Adds (storing at word) n k (then_known (storing at word) n k)
@@ -197,10 +204,29 @@ module _ (heap : Heap) (e : Purpose) (b : Revocation) (me : ℕ) where
   looked_shared (name.LastBulk a) h m is = cc is
   looked_shared (name.Mark a) h m is = cc is
   looked_shared (name.Hold u p) h m is = cc is
+  looked_shared (name.Class a) h m is = cc is
   looked_shared _ h m is = absurd h
 
-  -- FROM A REACHED SAFEPOINT where the thread has stored nothing
-  module _ (k0 : Known) (r : Reaches me k0 e) (unwritten : writes_in k0.seen_at_safepoint ≡ []) where
+  -- no class word is stored
+  stored_apart : (o : ℕ) (at : Name) → IsStored at → same_name (name.Class o) at ≡ false
+  stored_apart o (name.Prototype a) h = refl
+  stored_apart o (name.LastBulk a) h = refl
+  stored_apart o (name.Mark a) h = refl
+  stored_apart o (name.Displaced u p) h = refl
+  stored_apart o _ h = absurd h
+
+  -- a class word that was seen in the calls of the request
+  class_stays : (k : Known) (v : Stands heap k) (m : ℕ) → k.reached ≡ true → k.stage ≡ Calm → last_seen (name.Class b.object) k.seen ≡ Some m → m ≢ 0
+      → v.world.words (name.Class b.object) ≡ m
+  class_stays k v m reached calm saw some =
+      let fits = fits_reached heap k v reached calm in
+      let asks = (fits.safe.safepoint k.thread (away heap k v (λ s y. y.reached ≡ true) reached)).0 in
+      let none_revokes = away heap k v (λ s y. revocation_in y.stage ≡ None) (ap revocation_in calm) in
+      fits.seen.stays k.thread (name.Class b.object) m (away heap k v (λ s y. last_seen (name.Class b.object) y.seen ≡ Some m) saw)
+      (inr (asks, none_revokes, some))
+
+  -- FROM A REACHED SAFEPOINT where the thread has stored nothing, and comes to see that c is its object's class
+  module _ (k0 : Known) (r : Reaches me k0 e) (unwritten : writes_in k0.seen_at_safepoint ≡ []) (c : ℕ) where
     -- behind the first store, with the steps ms since, and this tree left to do
     pub record Revokes (k : Known) (ms : List StepMade) (d : Todo RevocationOutcome) : Type 0 where
       pub leaves : Leaves k0 k
@@ -208,6 +234,7 @@ module _ (heap : Heap) (e : Purpose) (b : Revocation) (me : ℕ) where
       pub seen_at_safepoint : k.seen_at_safepoint ≡ ms ++ k0.seen_at_safepoint
       pub path : Leads T ms d
       pub mark : HasSeen (name.Mark b.object) k.seen_at_safepoint
+      pub class : SawClass heap.shape k.seen_at_safepoint b.object c
       pub prototype : HasSeen (name.Prototype c) k.seen_at_safepoint
       pub since : SeenSince k.seen k.seen_at_safepoint
 
@@ -222,8 +249,9 @@ module _ (heap : Heap) (e : Purpose) (b : Revocation) (me : ℕ) where
     Q f a l = (f ≡ false) × Made_all a l
 
     then_revokes : (p : StepPlan) (n : ℕ) (f : ℕ → Todo RevocationOutcome) (k l : Known) (ms : List StepMade) → is_idle heap.shape k ≡ false → Revokes k ms (step p f) → Adds p n k l
-        → p.stage ≡ revocation_stage b → Revokes l (record { plan = p; found = n } ∷ ms) (f n)
-    then_revokes p n f k l ms going x a at =
+        → p.stage ≡ revocation_stage b → SawClass heap.shape (record { plan = p; found = n } ∷ k.seen_at_safepoint) b.object c
+        → Revokes l (record { plan = p; found = n } ∷ ms) (f n)
+    then_revokes p n f k l ms going x a at class =
         let m : StepMade = record { plan = p; found = n } in
         record {
           leaves = leaves_on k0 k l x.leaves a.leaves;
@@ -231,10 +259,27 @@ module _ (heap : Heap) (e : Purpose) (b : Revocation) (me : ℕ) where
           seen_at_safepoint = a.seen_at_safepoint ∙ ap (λ z. m ∷ z) x.seen_at_safepoint;
           path = (f, x.path, refl);
           mark = subst (HasSeen (name.Mark b.object)) (sym a.seen_at_safepoint) (seen_more (name.Mark b.object) m k.seen_at_safepoint x.mark);
+          class = subst (λ z. SawClass heap.shape z b.object c) (sym a.seen_at_safepoint) class;
           prototype = subst (HasSeen (name.Prototype c)) (sym a.seen_at_safepoint) (seen_more (name.Prototype c) m k.seen_at_safepoint x.prototype);
           since = subst (λ z. SeenSince l.seen z) (sym a.seen_at_safepoint)
               (subst (λ z. SeenSince z (m ∷ k.seen_at_safepoint)) (ap (λ z. m ∷ z) (sym (goes_on_seeing heap.shape k going)) ∙ sym a.seen) (since_more m k.seen k.seen_at_safepoint x.since));
         }
+
+    -- a load finds the class word as the thread saw it before
+    class_still : (at : Name) (n : ℕ) (k : Known) → k.reached ≡ true → Was heap (looking at) k n → SawClass heap.shape k.seen_at_safepoint b.object c
+        → SawClass heap.shape (record { plan = looking at; found = n } ∷ k.seen_at_safepoint) b.object c
+    class_still at n k reached was = by_test (nat_lt b.object heap.shape.declared)
+      where
+        by_name : (z : Bool) → same_name (name.Class b.object) at ≡ z → last_seen (name.Class b.object) k.seen_at_safepoint ≡ Some (c + 1)
+            → cond z (Some n) (last_seen (name.Class b.object) k.seen_at_safepoint) ≡ Some (c + 1)
+        by_name true same h = ap Some (sym was.found ∙ ap was.stands.world.words (sym (same_named (name.Class b.object) at same))
+            ∙ is_as_seen heap k was.stands reached (name.Class b.object) (c + 1) h)
+        by_name false other h = h
+
+        by_test : (z : Bool) → SawClassIf z heap.shape k.seen_at_safepoint b.object c
+            → SawClassIf z heap.shape (record { plan = looking at; found = n } ∷ k.seen_at_safepoint) b.object c
+        by_test true h = h
+        by_test false h = by_name (same_name (name.Class b.object) at) refl h
 
     by_look : (at : Name) (f : ℕ → Todo RevocationOutcome) (k : Known) (ms : List StepMade) → IsLooked at → IsIn heap.shape at
         → Revokes k ms (step (looking at) f)
@@ -251,7 +296,8 @@ module _ (heap : Heap) (e : Purpose) (b : Revocation) (me : ℕ) where
           after = inl x.leaves.mine;
           may = may_look k at (inr (x.leaves.reached ∙ r.reached)) (looked_shared at h);
         }) (λ v. there))
-        (λ n i was. go n (then_known (looking at) n k) (record { plan = looking at; found = n } ∷ ms) (found_formed heap k at n refl was) (then_revokes (looking at) n f k (then_known (looking at) n k) ms i x (look_adds at h n k) refl))
+        (λ n i was. go n (then_known (looking at) n k) (record { plan = looking at; found = n } ∷ ms) (found_formed heap k at n refl was) (then_revokes (looking at) n f k (then_known (looking at) n k) ms i x (look_adds at h n k) refl
+        (class_still at n k (x.leaves.reached ∙ r.reached) was x.class)))
 
     by_store : (at : Name) (word : ℕ) (f : ℕ → Todo RevocationOutcome) (k : Known) (ms : List StepMade) → IsStored at → IsIn heap.shape at
         → Revokes k ms (step (storing at word) f)
@@ -269,7 +315,9 @@ module _ (heap : Heap) (e : Purpose) (b : Revocation) (me : ℕ) where
             check = x.leaves.check;
           };
         }))
-        (λ n i was. go n (then_known (storing at word) n k) (record { plan = storing at word; found = n } ∷ ms) (found_formed heap k at n refl was) (then_revokes (storing at word) n f k (then_known (storing at word) n k) ms i x (store_adds at word h n k) refl))
+        (λ n i was. go n (then_known (storing at word) n k) (record { plan = storing at word; found = n } ∷ ms) (found_formed heap k at n refl was) (then_revokes (storing at word) n f k (then_known (storing at word) n k) ms i x (store_adds at word h n k) refl
+        (class_from heap.shape k.seen_at_safepoint (record { plan = storing at word; found = n } ∷ k.seen_at_safepoint) b.object c
+        (ap (λ (z : Bool). cond z (Some word) (last_seen (name.Class b.object) k.seen_at_safepoint)) (stored_apart b.object at h)) x.class)))
 
     middle_does : (d : Todo RevocationOutcome) (k : Known) (ms : List StepMade) → InMiddle heap.shape e b d → Revokes k ms d → Does heap false d k Q
     middle_does (done a) k ms h x = answers heap false a k Q (refl, (ms, x))
@@ -285,130 +333,49 @@ module _ (heap : Heap) (e : Purpose) (b : Revocation) (me : ℕ) where
           (λ n l ms formed y. middle_does (f n) l ms (h.1 n (subst (λ (z : StepPlan). IsFormed heap.shape z.at n) (sym a.4) formed)) y))
     ]
 
-    -- what the call that made the request saw of the object's mark is still there
-    still_valid : (v : Stands heap k0) (saw : SawValidBias heap.shape k0 b.object)
-        → (v.world.words (name.Mark b.object) ≡ saw.0) × (v.world.words (name.Prototype c) ≡ saw.1)
-    still_valid v saw =
-        let fits = fits_reached heap k0 v r.reached r.calm in
-        let asks = (fits.safe.safepoint k0.thread (away heap k0 v (λ s y. y.reached ≡ true) r.reached)).0 in
-        let none_revokes = away heap k0 v (λ s y. revocation_in y.stage ≡ None) (ap revocation_in r.calm) in
-        let its : class_by v.world.shape v.world.words b.object ≡ saw.2 =
-        class_seen v.world.shape v.world.words k0.seen b.object saw.2 (away heap k0 v (λ s y. SawClass s k0.seen b.object saw.2) saw.4) in
-        let prototype : prototype_of v.world b.object ≡ saw.1 =
-        ap (λ z. v.world.words (name.Prototype z)) its
-        ∙ fits.seen.stays k0.thread (name.Prototype saw.2) saw.1 (away heap k0 v (λ s y. last_seen (name.Prototype saw.2) y.seen ≡ Some saw.1) saw.5) (inr (asks, none_revokes, tt)) in
-        let valid : IsValidBias (read_mark saw.0) (prototype_of v.world b.object) = subst (IsValidBias (read_mark saw.0)) (sym prototype) (valid_is (read_mark saw.0) saw.1 saw.6) in (
-          fits.seen.stays k0.thread (name.Mark b.object) saw.0 (away heap k0 v (λ s y. last_seen (name.Mark b.object) y.seen ≡ Some saw.0) saw.3)
-              (inr (asks, none_revokes, valid)),
-          home heap k0 v (λ s y. v.world.words (name.Prototype (class_by s v.world.words b.object)) ≡ saw.1) prototype,
-        )
-
   -- a prototype that was seen in the calls of the request
-  still_prototype : (k : Known) (v : Stands heap k) (p : ℕ) → k.reached ≡ true → k.stage ≡ Calm → last_seen (name.Prototype c) k.seen ≡ Some p
+  still_prototype : (c : ℕ) (k : Known) (v : Stands heap k) (p : ℕ) → k.reached ≡ true → k.stage ≡ Calm → last_seen (name.Prototype c) k.seen ≡ Some p
       → v.world.words (name.Prototype c) ≡ p
-  still_prototype k v p reached calm saw =
+  still_prototype c k v p reached calm saw =
       let fits = fits_reached heap k v reached calm in
       let asks = (fits.safe.safepoint k.thread (away heap k v (λ s y. y.reached ≡ true) reached)).0 in
       let none_revokes = away heap k v (λ s y. revocation_in y.stage ≡ None) (ap revocation_in calm) in
       fits.seen.stays k.thread (name.Prototype c) p (away heap k v (λ s y. last_seen (name.Prototype c) y.seen ≡ Some p) saw) (inr (asks, none_revokes, tt))
 
+  -- what the call that made the request saw of the object's mark is still there
+  still_valid : (k0 : Known) (r : Reaches me k0 e) (v : Stands heap k0) (saw : SawValidBias heap.shape k0 b.object)
+      → v.world.words (name.Mark b.object) ≡ saw.0
+  still_valid k0 r v saw =
+      let fits = fits_reached heap k0 v r.reached r.calm in
+      let asks = (fits.safe.safepoint k0.thread (away heap k0 v (λ s y. y.reached ≡ true) r.reached)).0 in
+      let none_revokes = away heap k0 v (λ s y. revocation_in y.stage ≡ None) (ap revocation_in r.calm) in
+      let its : class_by v.world.shape v.world.words b.object ≡ saw.2 =
+      class_seen v.world.shape v.world.words k0.seen b.object saw.2 (λ m e d. class_stays k0 v m r.reached r.calm e d)
+      (away heap k0 v (λ s y. SawClass s k0.seen b.object saw.2) saw.4) in
+      let prototype : prototype_of v.world b.object ≡ saw.1 =
+      ap (λ z. v.world.words (name.Prototype z)) its
+      ∙ fits.seen.stays k0.thread (name.Prototype saw.2) saw.1 (away heap k0 v (λ s y. last_seen (name.Prototype saw.2) y.seen ≡ Some saw.1) saw.5) (inr (asks, none_revokes, tt)) in
+      let valid : IsValidBias (read_mark saw.0) (prototype_of v.world b.object) = subst (IsValidBias (read_mark saw.0)) (sym prototype) (valid_is (read_mark saw.0) saw.1 saw.6) in
+      fits.seen.stays k0.thread (name.Mark b.object) saw.0 (away heap k0 v (λ s y. last_seen (name.Mark b.object) y.seen ≡ Some saw.0) saw.3) (inr (asks, none_revokes, valid))
+
+  -- the words that the calls of the request may have seen, where c is the class
+  abbrev NotLooked : ℕ → Name → Type 0
+  NotLooked c n = (n ≡ name.Mark b.object) ⊎ ((n ≡ name.Class b.object) × (nat_lt b.object heap.shape.declared ≡ false)) ⊎ (n ≡ name.Prototype c)
+
+  not_itself : (n at : Name) → n ≡ at → same_name n at ≡ false → ⊥
+  not_itself n at is other = let same = ap (λ z. same_name z at) is ∙ same_as_itself at in cc (other, same)
+
   -- THE STEPS of a revocation for this operation, by a thread that saw a valid bias when it asked
   module _ (operation : Op) (unfinished : e.unfinished ≡ Some (record { op = operation; object = b.object }))
       (allowed : RevokesWithin operation b.rebias) (object : b.object < length heap.shape.objects) where
-    module _ (k0 : Known) (r : Reaches me k0 e) (unwritten : writes_in k0.seen_at_safepoint ≡ []) (mark prototype count last : ℕ)
-        (valid : is_valid_bias (read_mark mark) prototype ≡ true) where
-      abbrev looks_so_far : List StepMade
-      looks_so_far =
-          record { plan = load e (name.LastBulk c); found = last } ∷ record { plan = load e (name.Revocations c); found = count } ∷ record { plan = load e (name.Prototype c); found = prototype }
-          ∷ record { plan = load e (name.Mark b.object); found = mark } ∷ []
-
-      abbrev k4 : Known
-      k4 = then_known (load e (name.LastBulk c)) last (then_known (load e (name.Revocations c)) count (then_known (load e (name.Prototype c)) prototype (then_known (load e (name.Mark b.object)) mark k0)))
-
-      abbrev verdict : Verdict
-      verdict = (decided count last b.now).0
-
-      abbrev word : ℕ
-      word = (decided count last b.now).1
-
-      abbrev first_store : StepPlan
-      first_store = revoke_plan e b (own.CountVerdict c verdict (is_reset count last b.now)) (name.Revocations c) word
-
-      abbrev rest_of : ℕ → Todo RevocationOutcome
-      rest_of n = verdict_steps heap.shape me c e b (epoch_in prototype) verdict >>= (λ took. done (record { verdict = verdict; took = took }))
-
-      abbrev after_last : ℕ → ℕ → ℕ → ℕ → Todo RevocationOutcome
-      after_last m p a l = cond (is_valid_bias (read_mark m) p) (decided_steps heap.shape me c e b (epoch_in p) a l) never
-
-      path : Leads T looks_so_far (step first_store rest_of)
-      path = (
-        after_last mark prototype count,
-        (
-          λ a. step (load e (name.LastBulk c)) (after_last mark prototype a),
-          (
-            λ p. step (load e (name.Revocations c)) (λ a. step (load e (name.LastBulk c)) (after_last mark p a)),
-            (λ m. step (load e (name.Prototype c)) (λ p. step (load e (name.Revocations c)) (λ a. step (load e (name.LastBulk c)) (after_last m p a))), refl, refl),
-            refl,
-          ),
-          refl,
-        ),
-        ap (λ (z : Bool). cond z (decided_steps heap.shape me c e b (epoch_in prototype) count last) never) (sym valid),
-      )
-
-      saw_mark : last_seen (name.Mark b.object) k4.seen_at_safepoint ≡ Some mark
-      saw_mark = ap (λ (z : Bool). cond z (Some mark) (last_seen (name.Mark b.object) k0.seen_at_safepoint)) (same_as_itself (name.Mark b.object))
-
-      saw_prototype : last_seen (name.Prototype c) k4.seen_at_safepoint ≡ Some prototype
-      saw_prototype = ap (λ (z : Bool). cond z (Some prototype) (last_seen (name.Prototype c) (record { plan = load e (name.Mark b.object); found = mark } ∷ k0.seen_at_safepoint))) (same_as_itself (name.Prototype c))
-
-      saw_count : last_seen (name.Revocations c) k4.seen_at_safepoint ≡ Some count
-      saw_count = ap (λ (z : Bool). cond z (Some count) (last_seen (name.Revocations c) k0.seen_at_safepoint)) (same_as_itself (name.Revocations c))
-
-      saw_last : last_seen (name.LastBulk c) k4.seen_at_safepoint ≡ Some last
-      saw_last = ap (λ (z : Bool). cond z (Some last) (last_seen (name.LastBulk c) k0.seen_at_safepoint)) (same_as_itself (name.LastBulk c))
-
-      decides : SeenSince k4.seen k4.seen_at_safepoint → Does heap false (decided_steps heap.shape me c e b (epoch_in prototype) count last) k4 (λ f a l. (f ≡ false) × Made_all k0 r unwritten a l)
-      decides since =
-          hitting heap false first_store rest_of k4 _ (λ n. refl)
-          (λ i. begins_revoking_rule heap k4 e b c verdict (is_reset count last b.now) (name.Revocations c) word (class_in heap k4 b.object object) (λ v. record {
-            reached = r.reached;
-            calm = refl;
-            operation = operation;
-            unfinished = unfinished;
-            allowed = allowed;
-            object = object;
-            unwritten = ap (λ z. (((z ++ []) ++ []) ++ []) ++ []) unwritten;
-            saw_class = refl;
-            biased = (mark, prototype, saw_mark, saw_prototype, valid);
-            decides = (count, last, saw_count, saw_last, refl, refl);
-            store = record {
-              next =
-                  subst (λ t. IsNextStore heap.shape t b k4.seen_at_safepoint (name.Revocations c) word) (sym r.number)
-                  (steps_next heap.shape me e b looks_so_far k0.seen_at_safepoint unwritten first_store rest_of word path refl);
-              goes_on = refl;
-              check = refl;
-            };
-          }))
-          (λ n i was. middle_does k0 r unwritten (rest_of n) (then_known first_store n k4) (record { plan = first_store; found = n } ∷ looks_so_far)
-          (middle_binds heap.shape e b (verdict_steps heap.shape me c e b (epoch_in prototype) verdict) (λ took. done (record { verdict = verdict; took = took }))
-          (middle_verdict heap.shape e b object c (class_in heap k4 b.object object was.stands) me (epoch_in prototype) verdict) (λ took. tt))
-          (record {
-            leaves = record { local = refl; running = refl; reached = refl; kept = refl; moving = refl; saved = refl; draws = refl; shots = refl; mine = refl; check = refl };
-            stage = refl;
-            seen_at_safepoint = refl;
-            path = (rest_of, path, refl);
-            mark = (mark, saw_mark);
-            prototype = (prototype, saw_prototype);
-            since = subst (λ z. SeenSince (record { plan = first_store; found = n } ∷ z) (record { plan = first_store; found = n } ∷ k4.seen_at_safepoint)) (sym (goes_on_seeing heap.shape k4 i))
-                (since_more (record { plan = first_store; found = n }) k4.seen k4.seen_at_safepoint since);
-          }))
-
-    -- what the calls of the request saw of these words they saw of the object's mark and prototype alone
-    saw_two_before : (k0 : Known) → SawNoOther heap.shape k0 b.object → SeenBut (λ n. (n ≡ name.Mark b.object) ⊎ (n ≡ name.Prototype c)) k0.seen k0.seen_at_safepoint
-    saw_two_before k0 alone n v kept saw = elim (alone n v saw) [
+    -- what the calls of the request saw of these words they saw of the object's mark, class word and prototype alone
+    saw_before : (k0 : Known) (saw : SawValidBias heap.shape k0 b.object) → SawNoOther heap.shape k0 b.object
+        → SeenBut (NotLooked saw.2) k0.seen k0.seen_at_safepoint
+    saw_before k0 saw alone n v kept h = elim (alone n v h) [
       | inl is ↦ let no = ap is_kept_on_request is in absurd (cc (no, kept))
       | inr (inl is) ↦ inr (inl is)
-      | inr (inr is) ↦ inr (inr (is.2 ∙ ap name.Prototype is.1))
+      | inr (inr (inl is)) ↦ inr (inr (inl is))
+      | inr (inr (inr is)) ↦ inr (inr (inr (is.2 ∙ ap name.Prototype (class_once heap.shape k0.seen b.object is.0 saw.2 is.1 saw.4))))
     ]
 
     -- which are loaded again at the safepoint
@@ -418,54 +385,255 @@ module _ (heap : Heap) (e : Purpose) (b : Revocation) (me : ℕ) where
         subst (λ z. SeenBut (λ m. But m × (same_name m at ≡ false)) (record { plan = load e at; found = n } ∷ z) (record { plan = load e at; found = n } ∷ k.seen_at_safepoint)) (sym (goes_on_seeing heap.shape k going))
         (but_more But (record { plan = load e at; found = n }) k.seen k.seen_at_safepoint f)
 
-    pub revoke_does : (k0 : Known) (r : Reaches me k0 e) (unwritten : writes_in k0.seen_at_safepoint ≡ []) → SawValidBias heap.shape k0 b.object → SawNoOther heap.shape k0 b.object
-        → Does heap false T k0 (λ f a l. (f ≡ false) × Made_all k0 r unwritten a l)
+    -- behind the loads of the mark and, where it tells the class, of the class word: the steps ms since have led to the load of the prototype
+    abbrev after_last : ℕ → ℕ → ℕ → ℕ → ℕ → Todo RevocationOutcome
+    after_last c m p a l = cond (is_valid_bias (read_mark m) p) (decided_steps heap.shape me c e b (epoch_in p) a l) never
+
+    abbrev behind_class : ℕ → ℕ → Todo RevocationOutcome
+    behind_class m c = step (load e (name.Prototype c)) (λ p. step (load e (name.Revocations c)) (λ a. step (load e (name.LastBulk c)) (after_last c m p a)))
+
+    record HasClass (k0 : Known) (c mark : ℕ) (ms : List StepMade) (k : Known) : Type 0 where
+      reaches : Reaches me k e
+      leaves : Leaves k0 k
+      seen_at_safepoint : k.seen_at_safepoint ≡ ms ++ k0.seen_at_safepoint
+      unwritten : writes_in k.seen_at_safepoint ≡ []
+      path : Leads T ms (behind_class mark c)
+      saw_mark : last_seen (name.Mark b.object) k.seen_at_safepoint ≡ Some mark
+      class : SawClass heap.shape k.seen_at_safepoint b.object c
+      prototype : last_seen (name.Prototype c) k.seen ≡ last_seen (name.Prototype c) k0.seen
+      but : SeenBut (λ n. n ≡ name.Prototype c) k.seen k.seen_at_safepoint
+
+    module _ (k0 : Known) (r : Reaches me k0 e) (unwritten : writes_in k0.seen_at_safepoint ≡ []) (c mark : ℕ) (ms : List StepMade) (kc : Known)
+        (x : HasClass k0 c mark ms kc)
+        (in_heap : c < heap.shape.classes) where
+      -- behind the loads of the words of the class, with which the policy decides
+      module _ (prototype count last : ℕ) (valid : is_valid_bias (read_mark mark) prototype ≡ true) where
+        abbrev three : List StepMade → List StepMade
+        three before = record { plan = load e (name.LastBulk c); found = last } ∷ record { plan = load e (name.Revocations c); found = count } ∷ record { plan = load e (name.Prototype c); found = prototype } ∷ before
+
+        abbrev looks_so_far : List StepMade
+        looks_so_far = three ms
+
+        abbrev k4 : Known
+        k4 = then_known (load e (name.LastBulk c)) last (then_known (load e (name.Revocations c)) count (then_known (load e (name.Prototype c)) prototype kc))
+
+        abbrev verdict : Verdict
+        verdict = (decided count last b.now).0
+
+        abbrev word : ℕ
+        word = (decided count last b.now).1
+
+        abbrev first_store : StepPlan
+        first_store = revoke_plan e b (own.CountVerdict c verdict (is_reset count last b.now)) (name.Revocations c) word
+
+        abbrev rest_of : ℕ → Todo RevocationOutcome
+        rest_of n = verdict_steps heap.shape me c e b (epoch_in prototype) verdict >>= (λ took. done (record { verdict = verdict; took = took }))
+
+        path : Leads T looks_so_far (step first_store rest_of)
+        path = (
+          after_last c mark prototype count,
+          (
+            λ a. step (load e (name.LastBulk c)) (after_last c mark prototype a),
+            (λ p. step (load e (name.Revocations c)) (λ a. step (load e (name.LastBulk c)) (after_last c mark p a)), x.path, refl),
+            refl,
+          ),
+          ap (λ (z : Bool). cond z (decided_steps heap.shape me c e b (epoch_in prototype) count last) never) (sym valid),
+        )
+
+        stood : k4.seen_at_safepoint ≡ looks_so_far ++ k0.seen_at_safepoint
+        stood = ap three x.seen_at_safepoint
+
+        saw_prototype : last_seen (name.Prototype c) k4.seen_at_safepoint ≡ Some prototype
+        saw_prototype = ap (λ (z : Bool). cond z (Some prototype) (last_seen (name.Prototype c) kc.seen_at_safepoint)) (same_as_itself (name.Prototype c))
+
+        saw_count : last_seen (name.Revocations c) k4.seen_at_safepoint ≡ Some count
+        saw_count = ap (λ (z : Bool). cond z (Some count) (last_seen (name.Revocations c) kc.seen_at_safepoint)) (same_as_itself (name.Revocations c))
+
+        saw_last : last_seen (name.LastBulk c) k4.seen_at_safepoint ≡ Some last
+        saw_last = ap (λ (z : Bool). cond z (Some last) (last_seen (name.LastBulk c) kc.seen_at_safepoint)) (same_as_itself (name.LastBulk c))
+
+        saw_class : SawClass heap.shape k4.seen_at_safepoint b.object c
+        saw_class = class_from heap.shape kc.seen_at_safepoint k4.seen_at_safepoint b.object c refl x.class
+
+        decides : SeenSince k4.seen k4.seen_at_safepoint → Does heap false (decided_steps heap.shape me c e b (epoch_in prototype) count last) k4 (λ f a l. (f ≡ false) × Made_all k0 r unwritten c a l)
+        decides since =
+            hitting heap false first_store rest_of k4 _ (λ n. refl)
+            (λ i. begins_revoking_rule heap k4 e b c verdict (is_reset count last b.now) (name.Revocations c) word (λ v. in_heap) (λ v. record {
+              reached = x.reaches.reached;
+              calm = refl;
+              operation = operation;
+              unfinished = unfinished;
+              allowed = allowed;
+              object = object;
+              unwritten = ap (λ z. ((z ++ []) ++ []) ++ []) x.unwritten;
+              saw_class = saw_class;
+              biased = (mark, prototype, x.saw_mark, saw_prototype, valid);
+              decides = (count, last, saw_count, saw_last, refl, refl);
+              store = record {
+                next =
+                    subst (λ t. IsNextStore heap.shape t b k4.seen_at_safepoint (name.Revocations c) word) (sym x.reaches.number)
+                    (subst (λ z. IsNextStore heap.shape me b z (name.Revocations c) word) (sym stood)
+                    (steps_next heap.shape me e b looks_so_far k0.seen_at_safepoint unwritten first_store rest_of word path refl));
+                goes_on = refl;
+                check = refl;
+              };
+            }))
+            (λ n i was. middle_does k0 r unwritten c (rest_of n) (then_known first_store n k4) (record { plan = first_store; found = n } ∷ looks_so_far)
+            (middle_binds heap.shape e b (verdict_steps heap.shape me c e b (epoch_in prototype) verdict) (λ took. done (record { verdict = verdict; took = took }))
+            (middle_verdict heap.shape e b object c in_heap me (epoch_in prototype) verdict) (λ took. tt))
+            (record {
+              leaves = leaves_on k0 kc (then_known first_store n k4) x.leaves (record { local = refl; running = refl; reached = refl; kept = refl; moving = refl; saved = refl; draws = refl; shots = refl; mine = refl; check = refl });
+              stage = refl;
+              seen_at_safepoint = ap (λ z. record { plan = first_store; found = n } ∷ z) stood;
+              path = (rest_of, path, refl);
+              mark = (mark, x.saw_mark);
+              class = class_from heap.shape k4.seen_at_safepoint (then_known first_store n k4).seen_at_safepoint b.object c refl saw_class;
+              prototype = (prototype, saw_prototype);
+              since = subst (λ z. SeenSince (record { plan = first_store; found = n } ∷ z) (record { plan = first_store; found = n } ∷ k4.seen_at_safepoint)) (sym (goes_on_seeing heap.shape k4 i))
+                  (since_more (record { plan = first_store; found = n }) k4.seen k4.seen_at_safepoint since);
+            }))
+
+      -- where the object was validly biased in the calls of the request, it is so still
+      class_decides : (saw : SawValidBias heap.shape k0 b.object) → saw.2 ≡ c → mark ≡ saw.0
+          → Does heap false (behind_class mark c) kc (λ f a l. (f ≡ false) × Made_all k0 r unwritten c a l)
+      class_decides saw its mark_is =
+          let R : Bool → RevocationOutcome → Known → Type 0 = λ f a l. (f ≡ false) × Made_all k0 r unwritten c a l in
+          let r1 = x.reaches in
+          hitting heap false (load e (name.Prototype c)) _ kc R (λ n. refl) (λ i. keeps_look heap me e (name.Prototype c) kc r1 (λ v. in_heap)) (λ prototype i1 was1.
+          let k2 = then_known (load e (name.Prototype c)) prototype kc in
+          let r2 : Reaches me k2 e = record { number = r1.number; reached = r1.reached; stopped = r1.stopped; calm = refl; check = refl; mine = refl; live = r1.live; carries = r1.carries } in
+          hitting heap false (load e (name.Revocations c)) _ k2 R (λ n. refl) (λ i. keeps_look heap me e (name.Revocations c) k2 r2 (λ v. in_heap)) (λ count i2 was2.
+          let k3 = then_known (load e (name.Revocations c)) count k2 in
+          let r3 : Reaches me k3 e = record { number = r1.number; reached = r1.reached; stopped = r1.stopped; calm = refl; check = refl; mine = refl; live = r1.live; carries = r1.carries } in
+          hitting heap false (load e (name.LastBulk c)) _ k3 R (λ n. refl) (λ i. keeps_look heap me e (name.LastBulk c) k3 r3 (λ v. in_heap)) (λ last i3 was3.
+          let prototype_is : prototype ≡ saw.1 =
+          sym was1.found ∙ still_prototype c kc was1.stands saw.1 r1.reached r1.calm
+          (x.prototype ∙ ap (λ z. last_seen (name.Prototype z) k0.seen) (sym its) ∙ saw.5) in
+          let valid : is_valid_bias (read_mark mark) prototype ≡ true = (λ j. is_valid_bias (read_mark (mark_is j)) (prototype_is j)) ∙ saw.6 in
+          subst (λ (z : Bool). Does heap false (cond z (decided_steps heap.shape me c e b (epoch_in prototype) count last) never) (then_known (load e (name.LastBulk c)) last k3) R) (sym valid)
+          (decides prototype count last valid
+          (all_looked (then_known (load e (name.LastBulk c)) last k3)
+          (but_looked _ (name.LastBulk c) last k3 i3 (but_looked _ (name.Revocations c) count k2 i2 (but_looked _ (name.Prototype c) prototype kc i1 x.but))))))))
+        where
+          -- none is left
+          all_looked : (k : Known)
+              → SeenBut (λ n. (((n ≡ name.Prototype c) × (same_name n (name.Prototype c) ≡ false)) × (same_name n
+              (name.Revocations c) ≡ false)) × (same_name n (name.LastBulk c) ≡ false)) k.seen k.seen_at_safepoint
+              → SeenSince k.seen k.seen_at_safepoint
+          all_looked k f n v kept h = elim (f n v kept h) [
+            | inl a ↦ a
+            | inr a ↦ absurd (not_itself n (name.Prototype c) a.0.0.0 a.0.0.1)
+          ]
+
+    -- the class that was seen is one of the heap's
+    class_in : (k0 : Known) → Stands heap k0 → Reaches me k0 e → (saw : SawValidBias heap.shape k0 b.object) → saw.2 < heap.shape.classes
+    class_in k0 v r saw =
+        let its = class_seen heap.shape v.world.words k0.seen b.object saw.2 (λ m e d. class_stays k0 v m r.reached r.calm e d) saw.4 in
+        subst (λ z. z < heap.shape.classes) its
+        (class_in_heap heap.shape v.world.words b.object (limits heap k0 v)
+        (home heap k0 v (λ s y. v.world.words (name.Class b.object) ≤ s.classes) ((forms_fit heap k0 v).classes b.object)) object)
+
+    -- BEHIND THE LOAD of the mark
+    module _ (k0 : Known) (r : Reaches me k0 e) (unwritten : writes_in k0.seen_at_safepoint ≡ []) (saw : SawValidBias heap.shape k0 b.object) (alone : SawNoOther heap.shape k0 b.object)
+        (mark : ℕ) (going_on : is_idle heap.shape k0 ≡ false) (mark_is : mark ≡ saw.0) (in_heap : saw.2 < heap.shape.classes) where
+      abbrev R : Bool → RevocationOutcome → Known → Type 0
+      R f a l = (f ≡ false) × Made_all k0 r unwritten saw.2 a l
+
+      abbrev k1 : Known
+      k1 = then_known (load e (name.Mark b.object)) mark k0
+
+      abbrev finding_class : ℕ → Todo RevocationOutcome
+      finding_class m = class_steps e Calm heap.shape b.object >>= behind_class m
+
+      abbrev by_test : Bool → Todo RevocationOutcome
+      by_test z = cond z (done (class_of heap.shape b.object)) (step (load e (name.Class b.object)) (λ word. done (word - 1))) >>= behind_class mark
+
+      reaches : Reaches me k1 e
+      reaches = record { number = r.number; reached = r.reached; stopped = r.stopped; calm = refl; check = refl; mine = refl; live = r.live; carries = r.carries }
+
+      saw_mark : last_seen (name.Mark b.object) k1.seen_at_safepoint ≡ Some mark
+      saw_mark = ap (λ (z : Bool). cond z (Some mark) (last_seen (name.Mark b.object) k0.seen_at_safepoint)) (same_as_itself (name.Mark b.object))
+
+      saw_before_that : (at : Name) → same_name at (name.Mark b.object) ≡ false → last_seen at k1.seen ≡ last_seen at k0.seen
+      saw_before_that at other = ap (λ (z : Bool). cond z (Some mark) (last_seen at (seen_before heap.shape k0))) other
+          ∙ ap (last_seen at) (goes_on_seeing heap.shape k0 going_on)
+
+      but : SeenBut (λ n. NotLooked saw.2 n × (same_name n (name.Mark b.object) ≡ false)) k1.seen k1.seen_at_safepoint
+      but = but_looked (NotLooked saw.2) (name.Mark b.object) mark k0 going_on (saw_before k0 saw alone)
+
+      -- a declared object has its class by the heap's shape,
+      declared_does : nat_lt b.object heap.shape.declared ≡ true → Does heap false (behind_class mark (class_of heap.shape b.object)) k1 R
+      declared_does declared =
+          let same = declared_class heap.shape k0.seen b.object saw.2 declared saw.4 in
+          subst (λ c. Does heap false (behind_class mark c) k1 R) same
+          (class_decides k0 r unwritten saw.2 mark (record { plan = load e (name.Mark b.object); found = mark } ∷ []) k1 (record {
+            reaches = reaches;
+            leaves = record { local = refl; running = refl; reached = refl; kept = refl; moving = refl; saved = refl; draws = refl; shots = refl; mine = refl; check = refl };
+            seen_at_safepoint = refl;
+            unwritten = ap (λ z. z ++ []) unwritten;
+            path = (finding_class, refl, ap (behind_class mark) same ∙ sym (ap by_test declared));
+            saw_mark = saw_mark;
+            class = subst (SawClass heap.shape k1.seen_at_safepoint b.object) (sym same) (class_declared heap.shape k1.seen_at_safepoint b.object declared);
+            prototype = saw_before_that (name.Prototype saw.2) refl;
+            but = but_less _ (λ n. n ≡ name.Prototype saw.2) k1.seen k1.seen_at_safepoint (λ n h. elim h.0 [
+              | inl is ↦ absurd (not_itself n (name.Mark b.object) is h.1)
+              | inr (inl is) ↦ let made = is.1 in absurd (cc (declared, made))
+              | inr (inr is) ↦ is
+            ]) but;
+          }) in_heap saw refl mark_is)
+
+      -- and another's class word is what the thread saw before
+      made_does : nat_lt b.object heap.shape.declared ≡ false → (n : ℕ) → is_idle heap.shape k1 ≡ false → Was heap (load e (name.Class b.object)) k1 n
+          → Does heap false (behind_class mark (n - 1)) (then_known (load e (name.Class b.object)) n k1) R
+      made_does made n i was =
+          let kc = then_known (load e (name.Class b.object)) n k1 in
+          let word : n ≡ saw.2 + 1 = sym was.found ∙ class_stays k1 was.stands (saw.2 + 1) r.reached refl
+          (saw_before_that (name.Class b.object) refl ∙ made_class heap.shape k0.seen b.object saw.2 made saw.4) (λ z. absurd (omega (arith, z))) in
+          let same : saw.2 ≡ n - 1 = omega (arith, word) in
+          subst (λ c. Does heap false (behind_class mark c) kc R) same
+          (class_decides k0 r unwritten saw.2 mark
+          (record { plan = load e (name.Class b.object); found = n } ∷ record { plan = load e (name.Mark b.object); found = mark } ∷ []) kc (record {
+            reaches = record { number = r.number; reached = r.reached; stopped = r.stopped; calm = refl; check = refl; mine = refl; live = r.live; carries = r.carries };
+            leaves = record { local = refl; running = refl; reached = refl; kept = refl; moving = refl; saved = refl; draws = refl; shots = refl; mine = refl; check = refl };
+            seen_at_safepoint = refl;
+            unwritten = ap (λ z. (z ++ []) ++ []) unwritten;
+            path = (λ w. behind_class mark (w - 1), (finding_class, refl, sym (ap by_test made)), ap (behind_class mark) same);
+            saw_mark = saw_mark;
+            class = class_made heap.shape kc.seen_at_safepoint b.object saw.2 made
+                (ap (λ (z : Bool). cond z (Some n) (last_seen (name.Class b.object) k1.seen_at_safepoint)) (same_as_itself (name.Class b.object))
+                ∙ ap Some word);
+            prototype = ap (last_seen (name.Prototype saw.2)) (goes_on_seeing heap.shape k1 i) ∙ saw_before_that (name.Prototype saw.2) refl;
+            but = but_less _ (λ n. n ≡ name.Prototype saw.2) kc.seen kc.seen_at_safepoint (λ m h. elim h.0.0 [
+              | inl is ↦ absurd (not_itself m (name.Mark b.object) is h.0.1)
+              | inr (inl is) ↦ absurd (not_itself m (name.Class b.object) is.0 h.1)
+              | inr (inr is) ↦ is
+            ]) (but_looked _ (name.Class b.object) n k1 i but);
+          }) in_heap saw refl mark_is)
+
+    pub revoke_does : (k0 : Known) (r : Reaches me k0 e) (unwritten : writes_in k0.seen_at_safepoint ≡ []) (saw : SawValidBias heap.shape k0 b.object) → SawNoOther heap.shape k0 b.object
+        → Does heap false T k0 (λ f a l. (f ≡ false) × Made_all k0 r unwritten saw.2 a l)
     revoke_does k0 r unwritten saw alone =
-        let R : Bool → RevocationOutcome → Known → Type 0 = λ f a l. (f ≡ false) × Made_all k0 r unwritten a l in
-        hitting heap false (load e (name.Mark b.object)) _ k0 R (λ n. refl) (λ i. keeps_look heap me e (name.Mark b.object) k0 r (λ v. object)) (λ mark i0 was0.
+        let R : Bool → RevocationOutcome → Known → Type 0 = λ f a l. (f ≡ false) × Made_all k0 r unwritten saw.2 a l in
+        hitting heap false (load e (name.Mark b.object)) _ k0 R (λ n. refl) (λ i. keeps_look heap me e (name.Mark b.object) k0 r (λ v. object)) (λ mark i was.
         let k1 = then_known (load e (name.Mark b.object)) mark k0 in
-        let r1 : Reaches me k1 e = record { number = r.number; reached = r.reached; stopped = r.stopped; calm = refl; check = refl; mine = refl; live = r.live; carries = r.carries } in
-        hitting heap false (load e (name.Prototype c)) _ k1 R (λ n. refl) (λ i. keeps_look heap me e (name.Prototype c) k1 r1 (class_in heap k1 b.object object)) (λ prototype i1 was1.
-        let k2 = then_known (load e (name.Prototype c)) prototype k1 in
-        let r2 : Reaches me k2 e = record { number = r.number; reached = r.reached; stopped = r.stopped; calm = refl; check = refl; mine = refl; live = r.live; carries = r.carries } in
-        hitting heap false (load e (name.Revocations c)) _ k2 R (λ n. refl) (λ i. keeps_look heap me e (name.Revocations c) k2 r2 (class_in heap k2 b.object object)) (λ count i2 was2.
-        let k3 = then_known (load e (name.Revocations c)) count k2 in
-        let r3 : Reaches me k3 e = record { number = r.number; reached = r.reached; stopped = r.stopped; calm = refl; check = refl; mine = refl; live = r.live; carries = r.carries } in
-        hitting heap false (load e (name.LastBulk c)) _ k3 R (λ n. refl) (λ i. keeps_look heap me e (name.LastBulk c) k3 r3 (class_in heap k3 b.object object)) (λ last i3 was3.
-        let there = still_valid k0 r unwritten was0.stands saw in
-        let mark_is : mark ≡ saw.0 = sym was0.found ∙ there.0 in
-        let prototype_is : prototype ≡ saw.1 =
-        sym was1.found ∙ still_prototype k1 was1.stands saw.1 r.reached refl
-        (ap (λ (z : Bool). last_seen (name.Prototype c) (cond (z && not k0.requesting) [] k0.seen)) i0 ∙ ap (λ z. last_seen (name.Prototype z) k0.seen) (sym saw.4) ∙ saw.5) in
-        let valid : is_valid_bias (read_mark mark) prototype ≡ true = (λ j. is_valid_bias (read_mark (mark_is j)) (prototype_is j)) ∙ saw.6 in
-        subst (λ (z : Bool). Does heap false (cond z (decided_steps heap.shape me c e b (epoch_in prototype) count last) never) (then_known (load e (name.LastBulk c)) last k3) R) (sym valid)
-        (decides k0 r unwritten mark prototype count last valid
-        (all_looked (then_known (load e (name.LastBulk c)) last k3)
-        (but_looked _ (name.LastBulk c) last k3 i3 (but_looked _ (name.Revocations c) count k2 i2 (but_looked _ (name.Prototype c) prototype k1 i1 (but_looked _ (name.Mark b.object) mark k0 i0 (saw_two_before k0 alone)))))))))))
-      where
-        -- none is left
-        all_looked : (k : Known)
-            → SeenBut (λ n. (((((n ≡ name.Mark b.object) ⊎ (n ≡ name.Prototype c)) × (same_name n (name.Mark b.object) ≡ false)) × (same_name n (name.Prototype c) ≡ false)) × (same_name n (name.Revocations c) ≡ false))
-            × (same_name n (name.LastBulk c) ≡ false)) k.seen k.seen_at_safepoint
-            → SeenSince k.seen k.seen_at_safepoint
-        all_looked k f n v kept h = elim (f n v kept h) [
-          | inl a ↦ a
-          | inr a ↦ absurd (elim a.0.0.0.0 [
-            | inl is ↦ let other = a.0.0.0.1 in let same = ap (λ z. same_name z (name.Mark b.object)) is ∙ same_as_itself (name.Mark b.object) in cc (other, same)
-            | inr is ↦ let other = a.0.0.1 in let same = ap (λ z. same_name z (name.Prototype c)) is ∙ same_as_itself (name.Prototype c) in cc (other, same)
-          ])
-        ]
+        let mark_is : mark ≡ saw.0 = sym was.found ∙ still_valid k0 r was.stands saw in
+        let in_heap = class_in k0 was.stands r saw in
+        class_does heap e Calm b.object (behind_class mark) k1 R
+        (declared_does k0 r unwritten saw alone mark i mark_is in_heap)
+        (λ made j. keeps_look heap me e (name.Class b.object) k1 (reaches k0 r unwritten saw alone mark i mark_is in_heap)
+        (λ v. made_there heap.shape b.object object made))
+        (made_does k0 r unwritten saw alone mark i mark_is in_heap))
 
   -- THE RELEASE. What these words of mark and prototype tell of the bias, by whether the thread gave itself a new one.
   abbrev pub Tells : ℕ → Bool → ℕ → ℕ → Type 0
   Tells t true v p = IsBiasTo t (read_mark v) (epoch_in p)
   Tells t false v p = is_biased v ≡ false
 
-  tells_of : (t : ℕ) (took : Bool) (f : Name → ℕ) (v p : ℕ) → f (name.Mark b.object) ≡ v → f (name.Prototype c) ≡ p → TellsBias t b.object c took f
+  tells_of : (t : ℕ) (took : Bool) (f : Name → ℕ) (v p c : ℕ) → f (name.Mark b.object) ≡ v → f (name.Prototype c) ≡ p → TellsBias t b.object c took f
       → Tells t took v p
-  tells_of t true f v p mark prototype h =
+  tells_of t true f v p c mark prototype h =
       subst (λ z. IsBiasTo t (read_mark z) (epoch_in p)) mark (subst (λ z. IsBiasTo t (read_mark (f (name.Mark b.object))) (epoch_in z)) prototype h)
-  tells_of t false f v p mark prototype h = subst (λ z. is_biased z ≡ false) mark h
+  tells_of t false f v p c mark prototype h = subst (λ z. is_biased z ≡ false) mark h
 
   -- behind it the thread runs, and has seen in its call the object's mark and its class's prototype alone, besides such words of others
   pub record Released (k : Known) (took : Bool) (l : Known) : Type 0 where
@@ -490,12 +658,12 @@ module _ (heap : Heap) (e : Purpose) (b : Revocation) (me : ℕ) where
   Revoked k (Pending why) l = AtRest heap.shape l
 
   -- before it, all is known that a deflation asks for
-  has_revoked : (k0 : Known) (r : Reaches me k0 e) (unwritten : writes_in k0.seen_at_safepoint ≡ []) (k : Known) (a : RevocationOutcome) → Made_all k0 r unwritten a k → HasRevoked heap.shape k e b a
-  has_revoked k0 r unwritten k a all =
+  has_revoked : (k0 : Known) (r : Reaches me k0 e) (unwritten : writes_in k0.seen_at_safepoint ≡ []) (c : ℕ) (k : Known) (a : RevocationOutcome) → Made_all k0 r unwritten c a k → HasRevoked heap.shape k e b a
+  has_revoked k0 r unwritten c k a all =
       let x = all.1 in
       record {
         its_revocation = ap revocation_in x.stage;
-        steps = (all.0, k0.seen_at_safepoint, x.seen_at_safepoint, unwritten, subst (λ t. Leads (revoke_at_safepoint_steps heap.shape t e b) all.0 (done a)) (sym (number_of k0 r unwritten k x.leaves)) x.path);
+        steps = (all.0, k0.seen_at_safepoint, x.seen_at_safepoint, unwritten, subst (λ t. Leads (revoke_at_safepoint_steps heap.shape t e b) all.0 (done a)) (sym (number_of k0 r unwritten c k x.leaves)) x.path);
         since = x.since;
       }
 
@@ -506,10 +674,11 @@ module _ (heap : Heap) (e : Purpose) (b : Revocation) (me : ℕ) where
   abbrev pub ending_steps : Bool → Todo (Turn Bool)
   ending_steps took = deflate_steps heap.shape e (stage_after took b.object) >>= (λ u. release_steps took)
 
-  -- what is known between the two: the thread saw its object's mark and prototype, and what they tell
+  -- what is known between the two: the thread saw its object's mark, class and prototype, and what they tell
   record Deflated (k0 : Known) (took : Bool) (k : Known) : Type 0 where
     idles : Idles heap e k0 (stage_after took b.object) (unrevoking_after took b.object) k
-    mark : (v p : ℕ) × (last_seen (name.Mark b.object) k.seen_at_safepoint ≡ Some v) × (last_seen (name.Prototype c) k.seen_at_safepoint ≡ Some p) × Tells k.thread took v p
+    mark : (v p c : ℕ) × (last_seen (name.Mark b.object) k.seen_at_safepoint ≡ Some v) × SawClass heap.shape k.seen_at_safepoint b.object c
+        × (last_seen (name.Prototype c) k.seen_at_safepoint ≡ Some p) × Tells k.thread took v p
 
   -- a mark that stays, or had no bias pattern and has none, tells the same
   tells_on : (t : ℕ) (took : Bool) (v u p : ℕ) → Tells t took v p → (u ≡ v) ⊎ ((is_biased v ≡ false) × (is_biased u ≡ false)) → Tells t took u p
@@ -566,11 +735,13 @@ module _ (heap : Heap) (e : Purpose) (b : Revocation) (me : ℕ) where
             mark = (
               d.mark.0,
               d.mark.1,
-              c,
-              ap (last_seen (name.Mark b.object)) kept ∙ headers_stay (name.Mark b.object) refl k.seen_at_safepoint ∙ d.mark.2,
-              refl,
-              ap (last_seen (name.Prototype c)) kept ∙ headers_stay (name.Prototype c) refl k.seen_at_safepoint ∙ d.mark.3,
-              d.mark.4,
+              d.mark.2,
+              ap (last_seen (name.Mark b.object)) kept ∙ headers_stay (name.Mark b.object) refl k.seen_at_safepoint ∙ d.mark.3,
+              class_from heap.shape k.seen_at_safepoint
+                  (then_known (release_plan (record e { check = false }) (stage_after took b.object) k.thread) n k).seen b.object d.mark.2
+                  (ap (last_seen (name.Class b.object)) kept ∙ headers_stay (name.Class b.object) refl k.seen_at_safepoint) d.mark.4,
+              ap (last_seen (name.Prototype d.mark.2)) kept ∙ headers_stay (name.Prototype d.mark.2) refl k.seen_at_safepoint ∙ d.mark.5,
+              d.mark.6,
             );
             unseen = λ m hidden other. ap (λ (z : Bool). cond z (Some left) (last_seen m (cond (k.reached && not (asks_in left k.thread)) (only_headers k.seen_at_safepoint) call))) other
                 ∙ ap (last_seen m) kept ∙ headers_alone m hidden k.seen_at_safepoint;
@@ -578,16 +749,16 @@ module _ (heap : Heap) (e : Purpose) (b : Revocation) (me : ℕ) where
           }
 
   -- where all its stores are made
-  pub ending_does : b.object < length heap.shape.objects → (k0 : Known) (r : Reaches me k0 e) (unwritten : writes_in k0.seen_at_safepoint ≡ []) (k : Known) (a : RevocationOutcome)
-      → Made_all k0 r unwritten a k → Does heap false (ending_steps a.took) k (λ f turn l. (f ≡ false) × Revoked k0 turn l)
-  ending_does object k0 r unwritten k a all =
+  pub ending_does : b.object < length heap.shape.objects → (k0 : Known) (r : Reaches me k0 e) (unwritten : writes_in k0.seen_at_safepoint ≡ []) (c : ℕ) (k : Known) (a : RevocationOutcome)
+      → Made_all k0 r unwritten c a k → Does heap false (ending_steps a.took) k (λ f turn l. (f ≡ false) × Revoked k0 turn l)
+  ending_does object k0 r unwritten c k a all =
       let x = all.1 in
       let reached : k.reached ≡ true = x.leaves.reached ∙ r.reached in
-      let number : k.thread ≡ me = number_of k0 r unwritten k x.leaves in
+      let number : k.thread ≡ me = number_of k0 r unwritten c k x.leaves in
       let stage = stage_after a.took b.object in
       going heap (deflate_steps heap.shape e stage) (λ u. release_steps a.took) k _ (
       follows heap false _ k _ _ (deflate_ends heap e k0 stage (unrevoking_after a.took b.object) k (omega (arith, object)) (record {
-        keeps = behind_keeps heap k e b a (has_revoked k0 r unwritten k a all) reached (x.leaves.moving ∙ r.carries.still) x.leaves.check x.leaves.mine (name.Object 0) (λ v. omega (arith, object));
+        keeps = behind_keeps heap k e b a (has_revoked k0 r unwritten c k a all) reached (x.leaves.moving ∙ r.carries.still) x.leaves.check x.leaves.mine (name.Object 0) (λ v. omega (arith, object));
         reached = reached;
         idles = λ n. record {
           reached = reached;
@@ -605,10 +776,22 @@ module _ (heap : Heap) (e : Purpose) (b : Revocation) (me : ℕ) where
       })) (λ f u l y.
       let v = y.3 in
       let now = y.1.marks b.object x.mark.0 x.mark.1 in
-      let told = tells_of k.thread a.took v.world.words x.mark.0 x.prototype.0 (is_as_seen heap k v reached (name.Mark b.object) x.mark.0 x.mark.1)
-      (is_as_seen heap k v reached (name.Prototype c) x.prototype.0 x.prototype.1) (behind_tells heap k e b a (has_revoked k0 r unwritten k a all) reached v) in
+      let class = class_seen heap.shape v.world.words k.seen_at_safepoint b.object c (λ m e d. is_as_seen heap k v reached (name.Class b.object) m e) x.class in
+      let told = tells_of k.thread a.took v.world.words x.mark.0 x.prototype.0 c (is_as_seen heap k v reached (name.Mark b.object) x.mark.0 x.mark.1)
+      (is_as_seen heap k v reached (name.Prototype c) x.prototype.0 x.prototype.1)
+      (subst (λ z. TellsBias k.thread b.object z a.took v.world.words) class (behind_tells heap k e b a (has_revoked k0 r unwritten c k a all) reached v)) in
       let same : k.thread ≡ l.thread = ap (λ z. z.thread) x.leaves.local ∙ ap (λ z. z.thread) (sym y.0.local) in
       release_does k0 l a.took r.number (λ none. answers_left (λ (a : RevocationOutcome). a.took ≡ false) T (done a) all.0 x.path (revocation_untaken e b none heap.shape me)) (record {
         idles = y.0;
-        mark = (now.0, x.prototype.0, now.1, y.1.prototypes c x.prototype.0 x.prototype.1, tells_on l.thread a.took x.mark.0 now.0 x.prototype.0 (subst (λ t. Tells t a.took x.mark.0 x.prototype.0) same told) now.2);
+        mark = (
+          now.0,
+          x.prototype.0,
+          c,
+          now.1,
+          class_kept heap.shape k.seen_at_safepoint l.seen_at_safepoint b.object c
+              (y.1.classes b.object) x.class,
+          y.1.prototypes c x.prototype.0 x.prototype.1,
+          tells_on l.thread a.took x.mark.0 now.0 x.prototype.0
+              (subst (λ t. Tells t a.took x.mark.0 x.prototype.0) same told) now.2,
+        );
       })))

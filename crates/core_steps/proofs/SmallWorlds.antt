@@ -131,7 +131,7 @@ comes_reached = moves requested 0 (load (lone_purpose Reached) Safepoint) comes_
 
 -- they are valid, so that they show what the thread knows there
 abbrev shown : (w : World) → heap_of w ≡ small → Comes small w → Stands (heap_of w) (w.known 0)
-shown w is comes = stands_here w 0 (subst (λ (z : Heap). 0 < z.shape.threads) (sym is) (omega arith)) (reached_worlds_valid small w (record { threads = omega arith; classes = omega arith; objects = omega arith; each = ((omega arith, omega arith), tt) }) comes)
+shown w is comes = stands_here w 0 (subst (λ (z : Heap). 0 < z.shape.threads) (sym is) (omega arith)) (reached_worlds_valid small w (record { threads = omega arith; classes = omega arith; declared = omega arith; objects = omega arith; each = ((omega arith, omega arith), tt) }) comes)
 
 -- WEAKENED TREES there. An enter in the world in which the thread runs,
 pub no_late_displaced : (e : Purpose) → DoesSteps small true (late_displaced_steps e (local_of (known_in running)) 0 neutral) (known_in running) → ⊥

@@ -1,5 +1,5 @@
 -- The end of an object's bias, with which waiting, notifying and hashing begin: a look that finds none, an exchange, or a revocation.
-use Rattle.std.proofs.Common.{◌≡◌, ◌⊎◌, ℕ, ◌<◌, ◌≤◌, ◌==◌, ◌&&◌, not, eq-eqb, Bool, true, false, cond, [], length, Option, Some, None, refl, sym, ap, ◌∙◌, subst, inl, inr}
+use Rattle.std.proofs.Common.{◌≡◌, ◌⊎◌, ℕ, ◌-◌, ◌<◌, ◌≤◌, ◌==◌, ◌&&◌, not, eq-eqb, Bool, true, false, cond, [], length, Option, Some, None, refl, sym, ap, ◌∙◌, subst, inl, inr}
 use Rattle.mark_word.specs.declared.mark.MarkForm.{MarkForm}
 use Rattle.mark_word.specs.declared.mark.MarkForm.TheVariants.{Inflating, Neutral, Anonymous, Biased, Locked, Inflated, Marked}
 use Rattle.mark_word.specs.Mark.{mark_of, read_mark}
@@ -25,16 +25,19 @@ use Rattle.core_world.specs.Clauses.Safepoints.{IsUnfinished, ends}
 use Rattle.core_world.specs.Words.Shape.{class_of}
 use Rattle.core_world.specs.Threads.Stages.{Revocation}
 use Rattle.core_world.specs.Steps.{known_hit, known_miss, seen_before}
-use Rattle.core_world.specs.Trees.Todo.{Todo, done, ◌>>=◌}
+use Rattle.core_world.specs.Trees.Todo.{Todo, done, ask, ◌>>=◌}
 use Rattle.core_world.specs.Valid.{RevokesWithin}
 use Rattle.core_bias.specs.Biasing.{IsLoose}
 use Rattle.core_counts.specs.Steps.{SawUnbiased}
 use Rattle.core_locks.specs.Knowing.{HasHold}
 use Rattle.core_law.specs.Logic.{Heap, Does}
-use Rattle.core_steps.proofs.AskedRevocations.{BeginsRevocation, revocation_does}
-use Rattle.core_steps.proofs.BiasFacts.{SawHeaders, headers_first, headers_more, saw_two, look_prototype, unreached_here, biasing_here, IsPrototype, prototype_here, prototype_neutral, neutral_reads_so, loose_unepoched, stale_epoch, own_epoch, free_bias}
+use Rattle.core_steps.proofs.AskedRevocations.{BeginsRevocation, NoOtherIn, ValidBiasIn, revocation_does}
+use Rattle.core_steps.proofs.BiasFacts.{SawHeaders, SawMarkAlone, headers_first, headers_more, mark_alone, class_more, class_some, saw_two, look_class, look_prototype, unreached_here, biasing_here, IsPrototype, prototype_here, prototype_neutral, neutral_reads_so, loose_unepoched, stale_epoch, own_epoch, free_bias}
 use Rattle.core_steps.proofs.BiasRules.{unbiases_rule}
-use Rattle.core_steps.proofs.LawRules.{looks, class_in}
+use Rattle.core_steps.proofs.ClassSteps.{class_from, class_declared, class_made, class_found, made_there, class_does}
+use Rattle.core_law.proofs.SafepointSights.{found_formed}
+use Rattle.core_world.proofs.There.{class_there}
+use Rattle.core_steps.proofs.LawRules.{looks, limits}
 use Rattle.core_steps.proofs.Requests.{BeginsSafepoint, asking_saw}
 use Rattle.core_steps.proofs.Resting.{Carries, rests, live_carries}
 use Rattle.core_steps.proofs.Revocations.{Released, Revoked}
@@ -44,7 +47,7 @@ use Rattle.core_steps.proofs.Tests.{Operates, asking_goes, free_runs, going_is, 
 use Rattle.core_steps.proofs.Trees.{answers, binds, chooses, follows, hitting, swapping, once_idle}
 
 module _ (heap : Heap) (e : Purpose) (b : Revocation) where
-  -- a running thread in the middle of nothing, whose call has looked at marks and prototypes alone since it began with this knowledge
+  -- a running thread in the middle of nothing, whose call has looked at marks, class words and prototypes alone since it began with this knowledge
   pub record HasLooked (k l : Known) : Type 0 where
     pub local : local_of l ≡ local_of k
     pub kept : l.kept ≡ k.kept
@@ -77,9 +80,6 @@ module _ (heap : Heap) (e : Purpose) (b : Revocation) where
       (object : b.object < length heap.shape.objects) (unchecks : e.check ≡ false) (k : Known) (may : BeginsUnbias operation k) (Q : Bool → Turn (Unit {0}) → Known → Type 0) (outs : Unbiases k Q) where
     abbrev o : ℕ
     o = b.object
-
-    abbrev c : ℕ
-    c = class_of heap.shape o
 
     looked_carries : (l : Known) → HasLooked k l → Carries l.moving l.log l.wait l.holds l.shots e.unfinished
     looked_carries l x =
@@ -128,7 +128,7 @@ module _ (heap : Heap) (e : Purpose) (b : Revocation) where
     abbrev dropping : ℕ → ℕ → Todo BiasTry
     dropping mark neutral = bias_steps.unbias_swap_steps e o mark neutral
 
-    module _ (l : Known) (mark prototype : ℕ) (x : HasLooked k l) (unreached : l.reached ≡ false) (saw_mark : last_seen (name.Mark o) l.seen ≡ Some mark) (saw_class : SawClass heap.shape l.seen o c) (saw_prototype : last_seen (name.Prototype c) l.seen ≡ Some prototype) (alone : SawNoOther heap.shape l o) where
+    module _ (l : Known) (c mark prototype : ℕ) (x : HasLooked k l) (unreached : l.reached ≡ false) (saw_mark : last_seen (name.Mark o) l.seen ≡ Some mark) (saw_class : SawClass heap.shape l.seen o c) (saw_prototype : last_seen (name.Prototype c) l.seen ≡ Some prototype) (alone : SawNoOther heap.shape l o) where
       -- an anonymous or stale mark becomes neutral
       drop_does : (neutral : ℕ) → IsLoose (read_mark mark) (epoch_in prototype) → (neutral ≡ mark_of (Neutral 0 0)) ⊎ ((neutral ≡ prototype) × (epoch_in prototype ≡ None)) → is_biased neutral ≡ false
           → Does heap false (dropping mark neutral) l R
@@ -186,8 +186,8 @@ module _ (heap : Heap) (e : Purpose) (b : Revocation) where
               asking = λ asks. let unasks = x.unasks in absurd (cc (asks, unasks));
               running = λ free. (x.runs, inl (sym x.mine));
             };
-            saw = (mark, prototype, c, ap (last_seen (name.Mark o)) before ∙ saw_mark, saw_class, ap (last_seen (name.Prototype c)) before ∙ saw_prototype, valid);
-            alone = λ n v h. alone n v (ap (last_seen n) (sym before) ∙ h);
+            saw = subst (ValidBiasIn heap e b) (sym before) (mark, prototype, c, saw_mark, saw_class, saw_prototype, valid);
+            alone = subst (NoOtherIn heap e b) (sym before) alone;
             unreached = unreached;
             unwaiting = λ waits. ap (λ z. waits_on z.wait o) x.local ∙ may.unwaiting waits;
           }) x.local x.kept x.saved x.draws x.shots))
@@ -213,21 +213,52 @@ module _ (heap : Heap) (e : Purpose) (b : Revocation) where
       by_does None is biased form =
           drop_does prototype (loose_unepoched (read_mark mark) (epoch_in prototype) biased is) (inr (refl, is)) (ap is_biased (prototype_neutral prototype form is) ∙ neutral_plain)
 
+    -- behind the loads of the mark, which has the bias pattern, and of the class
+    prototype_does : (l : Known) (mark c : ℕ) → HasLooked k l → l.reached ≡ false → last_seen (name.Mark o) l.seen ≡ Some mark
+        → SawClass heap.shape l.seen o c → SawMarkAlone heap.shape o l
+        → c < heap.shape.classes → is_biased mark ≡ true → heap.biasing ≡ true
+        → Does heap false (ask (load e (name.Prototype c)) >>= (λ prototype. bias_drop_by (epoch_in prototype) e o mark prototype)) l R
+    prototype_does l mark c x unreached saw_mark saw_class alone there biased biasing =
+        let look = load e (name.Prototype c) in
+        hitting heap false look _ l R (λ n. refl) (λ j. looks heap l look (look_prototype l e x.runs x.calm x.check (inl (sym x.mine)) c) (λ v. there))
+        (λ prototype j was.
+        let m = known_hit heap.shape heap.start look prototype l in
+        by_does m c mark prototype (record {
+          local = x.local;
+          kept = x.kept;
+          saved = x.saved;
+          draws = x.draws;
+          shots = x.shots;
+          runs = x.runs;
+          unasks = x.unasks;
+          still = x.still;
+          calm = refl;
+          check = refl;
+          mine = refl;
+          headers = headers_more heap look prototype l refl j refl x.headers;
+        }) unreached
+        (saw_older heap look prototype l (name.Mark o) j refl refl ∙ saw_mark)
+        (class_from heap.shape l.seen m.seen o c (saw_older heap look prototype l (name.Class o) j refl refl) saw_class)
+        (saw_newest heap look prototype l) (saw_two heap e o c prototype l saw_class j alone)
+        (epoch_in prototype) refl biased (prototype_here heap l was.stands x.runs c prototype biasing was.found))
+
     dropped_does : k.requesting ≡ false → Does heap true (bias_drop_steps heap.shape e o) k R
     dropped_does free =
         let begins = may.begins.running free in
         let runs = begins.0 in
         let look = load e (name.Mark o) in
-        let ask_prototype = load e (name.Prototype c) in
+        let ask_class = load e (name.Class o) in
         hitting heap true look _ k R (λ n. refl) (λ i. looks heap k look (look_mark heap k e runs may.begins.rest.calm may.check begins.1 o) (λ v. object)) (λ mark i was.
         let l = known_hit heap.shape heap.start look mark k in
         let headers : SawHeaders l = headers_first heap look mark k refl i free refl in
         chooses heap false (is_biased mark) _ _ l R
         (λ yes.
         let biasing = biasing_here heap k was.stands runs o (ap is_biased was.found ∙ yes) in
-        hitting heap false ask_prototype _ l R (λ n. refl) (λ j. looks heap l ask_prototype (look_prototype l e runs refl refl (inl refl) c) (class_in heap l o object)) (λ prototype j was1.
-        let m = known_hit heap.shape heap.start ask_prototype prototype l in
-        by_does m mark prototype (record {
+        let unreached = unreached_here heap k was.stands runs in
+        let all = limits heap k was.stands in
+        let alone = mark_alone heap e o mark k i free in
+        class_does heap e Calm o (λ c. ask (load e (name.Prototype c)) >>= (λ prototype. bias_drop_by (epoch_in prototype) e o mark prototype)) l R
+        (λ declared. prototype_does l mark (class_of heap.shape o) (record {
           local = refl;
           kept = refl;
           saved = refl;
@@ -239,10 +270,29 @@ module _ (heap : Heap) (e : Purpose) (b : Revocation) where
           calm = refl;
           check = refl;
           mine = refl;
-          headers = headers_more heap ask_prototype prototype l refl j refl headers;
-        }) (unreached_here heap k was.stands runs)
-        (saw_older heap ask_prototype prototype l (name.Mark o) j refl refl ∙ saw_newest heap look mark k) refl (saw_newest heap ask_prototype prototype l) (saw_two heap e o c mark prototype k refl i free j)
-        (epoch_in prototype) refl yes (prototype_here heap l was1.stands runs c prototype biasing was1.found)))
+          headers = headers;
+        }) unreached (saw_newest heap look mark k) (class_declared heap.shape l.seen o declared) alone (class_there heap.shape o all object) yes biasing)
+        (λ made j. looks heap l ask_class (look_class l e runs refl refl (inl refl) o) (λ v. made_there heap.shape o object made))
+        (λ made word j was1.
+        let m = known_hit heap.shape heap.start ask_class word l in
+        let some = class_some heap l was1.stands runs o mark word made (saw_newest heap look mark k) yes was1.found in
+        prototype_does m mark (word - 1) (record {
+          local = refl;
+          kept = refl;
+          saved = refl;
+          draws = refl;
+          shots = refl;
+          runs = runs;
+          unasks = free;
+          still = may.begins.carries.still;
+          calm = refl;
+          check = refl;
+          mine = refl;
+          headers = headers_more heap ask_class word l refl j refl headers;
+        }) unreached
+        (saw_older heap ask_class word l (name.Mark o) j refl refl ∙ saw_newest heap look mark k)
+        (class_made heap.shape m.seen o (word - 1) made (saw_newest heap ask_class word l ∙ ap Some some))
+        (class_more heap e o word l made j alone) (class_found heap.shape o word all object (found_formed heap l (name.Class o) word refl was1)) yes biasing))
         (λ no. answers heap false (Unbiased mark) l R (answers heap false (Done tt) l Q (outs.unbiased l (record {
           local = refl;
           kept = refl;
@@ -263,13 +313,12 @@ module _ (heap : Heap) (e : Purpose) (b : Revocation) where
         chooses heap true k.requesting _ _ k Q
         (λ asks.
         let asked = may.asked asks in
-        let saw = asked.0 in
         let before = asking_saw heap e k.thread k asks in
         subst (λ (z : Bool). Does heap true (revoked_steps heap.shape k.thread z e b) k Q) asks
         (revoked_does true k (record {
           begins = may.begins;
-          saw = (saw.0, saw.1, saw.2, ap (last_seen (name.Mark o)) before ∙ saw.3, saw.4, ap (last_seen (name.Prototype saw.2)) before ∙ saw.5, saw.6);
-          alone = λ n v h. asked.2 n v (ap (last_seen n) (sym before) ∙ h);
+          saw = subst (ValidBiasIn heap e b) (sym before) asked.0;
+          alone = subst (NoOtherIn heap e b) (sym before) asked.2;
           unreached = asked.1;
           unwaiting = may.unwaiting;
         }) refl refl refl refl refl))

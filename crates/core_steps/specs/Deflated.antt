@@ -25,7 +25,7 @@ use Rattle.core_bias.specs.Revoking.{Leads, is_kept_on_request}
 use Rattle.core_law.specs.Logic.{Heap, Stands}
 
 -- WHERE IT BEGINS. All stores of the revocation b are made: the thread's steps since its safepoint was reached, behind some that stored nothing, have led
--- to its answer. What the thread saw of marks and words of classes in the calls of the request, it has seen or stored since.
+-- to its answer. What the thread saw of marks, words of classes and class words in the calls of the request, it has seen or stored since.
 pub record HasRevoked (s : Shape) (k : Known) (e : Purpose) (b : Revocation) (answer : RevocationOutcome) : Type 0 where
   pub its_revocation : revocation_in k.stage ≡ Some b
   pub steps : (ms earlier : List StepMade) × (k.seen_at_safepoint ≡ ms ++ earlier) × (writes_in earlier ≡ [])

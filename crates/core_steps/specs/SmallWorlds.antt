@@ -24,7 +24,7 @@ use Rattle.core_world.specs.Trees.LockSteps.{hold_plan, log_enter_plan, seize_pl
 use Rattle.core_law.specs.Logic.{Heap}
 
 abbrev pub small : Heap
-small = record { shape = record { threads = 1; classes = 1; objects = (0, 0) ∷ [] }; start = 0; biasing = false }
+small = record { shape = record { threads = 1; classes = 1; declared = 1; objects = (0, 0) ∷ [] }; start = 0; biasing = false }
 
 -- the thread has loaded the safepoint word, to resume; and it runs
 abbrev pub resuming : Purpose

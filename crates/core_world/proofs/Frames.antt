@@ -54,6 +54,8 @@ seen_stays w next owner next_owner waits next_waits s e k o q h =
     record {
       stays = seen.stays;
       unbiased = seen.unbiased;
+      classed = seen.classed;
+      saw_classed = seen.saw_classed;
       unwaiting = seen.unwaiting;
       unwaited = seen.unwaited;
       stands = seen.stands;

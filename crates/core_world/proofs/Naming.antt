@@ -2,7 +2,7 @@
 use Rattle.std.proofs.Common.{◌≡◌, ℕ, ◌==◌, ◌&&◌, eq-eqb, Bool, true, false, cond, if◌then◌else◌, refl, sym, ap, ◌∙◌}
 use borrow.Author.Tests.{eqb-true}
 use Rattle.core_world.specs.declared.name.Name.{Name}
-use Rattle.core_world.specs.declared.name.Name.TheVariants.{Safepoint, Prototype, Revocations, LastBulk, Mark, Stamp, Slot, Hold, Displaced, Waiting, Length, Owner, Recursions, Header, Object, Claim, End, Ring}
+use Rattle.core_world.specs.declared.name.Name.TheVariants.{Safepoint, Prototype, Revocations, LastBulk, Mark, Stamp, Slot, Hold, Displaced, Waiting, Length, Owner, Recursions, Header, Object, Claim, End, Ring, Class}
 use Rattle.core_world.specs.Words.Names.{kind_of, first_index, second_index, same_name, with_word}
 use Rattle.core_world.specs.Threads.Known.{Known}
 use Rattle.core_world.specs.World.{World, with_word_and_known, with_known}
@@ -33,7 +33,8 @@ named_by k a b =
     if k == 14 then Object a else
     if k == 15 then Claim else
     if k == 16 then End else
-    Ring a
+    if k == 17 then Ring a else
+    Class a
 
 named_again : (n : Name) → named_by (kind_of n) (first_index n) (second_index n) ≡ n
 named_again Safepoint = refl
@@ -54,6 +55,7 @@ named_again (Object a) = refl
 named_again Claim = refl
 named_again End = refl
 named_again (Ring a) = refl
+named_again (Class a) = refl
 
 both_true : (a b : Bool) → (a && b) ≡ true → (a ≡ true) × (b ≡ true)
 both_true true b h = (refl, h)

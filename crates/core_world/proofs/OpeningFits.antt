@@ -1,8 +1,9 @@
 -- The opening world is valid.
-use Rattle.std.proofs.Common.{◌≡◌, ℕ, zero, suc, ◌+◌, ◌*◌, ◌%◌, ◌^◌, ◌<◌, ◌==◌, Bool, true, false, if◌then◌else◌, List, [], ◌∷◌, length, slice_get, replicate, Some, None, refl, sym, ap, ◌∙◌, arith, subst, inl, inr, pos}
+use Rattle.std.proofs.Common.{◌≡◌, ℕ, zero, suc, ◌+◌, ◌*◌, ◌%◌, ◌^◌, ◌<◌, ◌==◌, nat_lt, ◌&&◌, ◌||◌, Bool, true, false, if◌then◌else◌, List, [], ◌∷◌, length, slice_get, replicate, Some, None, refl, sym, ap, ◌∙◌, arith, subst, inl, inr, pos}
 use Rattle.std.specs.List.{AllByRecursion}
 use Rattle.std.proofs.lemmas.List.{length-map}
 use Rattle.std.proofs.lemmas.Option.{same_Some}
+use Rattle.mark_word.specs.Mark.{read_mark}
 use Rattle.plain_monitor.specs.Limits.{most_holds}
 use Rattle.plain_monitor.specs.declared.entry.Value.{Value}
 use Rattle.plain_monitor.specs.declared.entry.Value.TheVariants.{Int}
@@ -14,7 +15,7 @@ use Rattle.core_world.specs.declared.name.Name.TheVariants.{Slot}
 use Rattle.core_world.specs.declared.stage.Stage.{Stage}
 use Rattle.core_world.specs.declared.stage.Stage.TheVariants.{Calm}
 use Rattle.core_world.specs.Words.Shape.{Shape, IsInLimits, monitor_count, ring_bits}
-use Rattle.core_world.specs.Words.Forms.{hash_in, is_halted, monitor_in}
+use Rattle.core_world.specs.Words.Forms.{hash_in, is_biased, is_halted, monitor_in}
 use Rattle.core_world.specs.World.{World, logs, logs_from}
 use Rattle.core_world.specs.Locks.{Lock, Open, lock, lock_form, header, header_form, marks, inflations, displaced_words, headers, object_of, monitor_of, hold_count, holder, who, holds_by_monitor, owner_at, hash_at, waits_at, notified_at}
 use Rattle.core_world.specs.Opening.{opening, first_known, first_mark}
@@ -110,20 +111,34 @@ module _ (s : Shape) (start : ℕ) (biasing : Bool) where
   abbrev calm : ℕ → Stage
   calm t = Calm
 
-  -- nobody has a lock
-  open_at : (b : Bool) (o : ℕ) → lock (opening s start b) o ≡ Open
-  open_at true o = ap (λ f. lock_form f 5 (λ m. 0) (inflations (opening s start true) o)) mark_five
-  open_at false o = ap (λ f. lock_form f 1 (λ m. 0) (inflations (opening s start false) o)) mark_one
+  -- the mark of o is that of a heap with biasing, where there is biasing and o is declared
+  abbrev leans : ℕ → Bool
+  leans o = biasing && nat_lt o s.declared
+
+  -- nobody has a lock, whatever the prototype
+  open_by : (b : Bool) (prototype : ℕ) (o : ℕ) → lock_form (read_mark (first_mark b)) prototype (λ m. 0) (inflations world o) ≡ Open
+  open_by true prototype o = ap (λ f. lock_form f prototype (λ m. 0) (inflations world o)) mark_five
+  open_by false prototype o = ap (λ f. lock_form f prototype (λ m. 0) (inflations world o)) mark_one
+
+  open_at : (o : ℕ) → lock world o ≡ Open
+  open_at o = open_by (leans o) (first_mark biasing) o
 
   all_open : lock world ≡ (λ (o : ℕ). Open)
-  all_open = λ i. λ o. open_at biasing o i
+  all_open = λ i. λ o. open_at o i
 
   -- the header of an object that isn't biased is its mark
-  header_is_mark : (b : Bool) (o h : ℕ) → header (opening s start b) o ≡ Some h → first_mark b ≡ h
-  header_is_mark true o h e =
-      let a = ap (λ f. header_form f 5 (λ t p. 0) (λ m. 0) (inflations (opening s start true) o)) mark_five in absurd (cc (a, e))
-  header_is_mark false o h e =
-      let a = ap (λ f. header_form f 1 (λ t p. 0) (λ m. 0) (inflations (opening s start false) o)) mark_one in same_Some _ _ (sym a ∙ e)
+  header_by : (b : Bool) (o h : ℕ) → header_form (read_mark (first_mark b)) (first_mark b) (λ t p. 0) (λ m. 0) (inflations world o) ≡ Some h → first_mark b ≡ h
+  header_by true o h e = let a = ap (λ f. header_form f 5 (λ t p. 0) (λ m. 0) (inflations world o)) mark_five in absurd (cc (a, e))
+  header_by false o h e = let a = ap (λ f. header_form f 1 (λ t p. 0) (λ m. 0) (inflations world o)) mark_one in same_Some _ _ (sym a ∙ e)
+
+  header_is_mark : (o h : ℕ) → header world o ≡ Some h → first_mark (leans o) ≡ h
+  header_is_mark o h e = header_by (leans o) o h e
+
+  -- a mark with the bias pattern is of a declared object
+  leaning : (b d c : Bool) → is_biased (first_mark (b && d)) ≡ true → (d || c) ≡ true
+  leaning b true c e = refl
+  leaning true false c e = absurd (cc (e, first_biased false))
+  leaning false false c e = absurd (cc (e, first_biased false))
 
   taken : objects_after s.objects (logs world) ≡ Some objects
   taken = ap (take_all objects) (order_none s.threads)
@@ -136,6 +151,8 @@ module _ (s : Shape) (start : ℕ) (biasing : Bool) where
       record {
         stays = λ t n v e g. absurd (cc e);
         unbiased = λ t o v e g h. absurd (cc e);
+        classed = λ o e. leaning biasing (nat_lt o s.declared) _ e;
+        saw_classed = λ t o v e g h. absurd (cc e);
         unwaiting = λ t u o v e g h i. absurd (cc e);
         unwaited = λ t o v e g h i. absurd (cc e);
         stands = λ t n v e. absurd (cc e);
@@ -146,12 +163,13 @@ module _ (s : Shape) (start : ℕ) (biasing : Bool) where
   forms : FormsFit world
   forms =
       record {
-        marks = λ o. first_is_mark s biasing;
+        marks = λ o. first_is_mark s (leans o);
         owners = λ m. rw owner_zero tt;
         waits = λ t. rw wait_zero tt;
         objects = λ m h. absurd (h refl);
         holds = λ t p. rw hold_zero tt;
         safepoint = rw safe_zero tt;
+        classes = λ o. omega arith;
       }
 
   safe : SafepointFits world objects
@@ -199,14 +217,14 @@ module _ (s : Shape) (start : ℕ) (biasing : Bool) where
       })
 
   inflating : InflationsAreOne (marks world) (λ t. None) (inflations world)
-  inflating = record { some = λ o e. absurd (first_nonzero biasing e); zero = λ t i e. absurd (cc e); one = λ t u i j e. absurd (cc e) }
+  inflating = record { some = λ o e. absurd (first_nonzero (leans o) e); zero = λ t i e. absurd (cc e); one = λ t u i j e. absurd (cc e) }
 
   monitors : MonitorsAreNamed (λ o. monitor_in (marks world o)) (λ m. 0) (headers world)
   monitors =
       record {
-        own = λ o m e. absurd (no_monitor biasing m e);
-        neutral = λ o m e. absurd (no_monitor biasing m e);
-        alone = λ o i m e. absurd (no_monitor biasing m e);
+        own = λ o m e. absurd (no_monitor (leans o) m e);
+        neutral = λ o m e. absurd (no_monitor (leans o) m e);
+        alone = λ o i m e. absurd (no_monitor (leans o) m e);
       }
 
   recursions : RecursionsFit (marks world) (λ m. 0) (lock world) holds calm (λ t. 0) (displaced_words world) (waits_at objects) (notified_at objects)
@@ -214,10 +232,10 @@ module _ (s : Shape) (start : ℕ) (biasing : Bool) where
       record {
         first = λ o t p g e. absurd (no_hold most_holds o 1 p e);
         others = λ o t p d g e. absurd (no_hold most_holds o (d + 2) p e);
-        owned = λ o m t e. absurd (no_monitor biasing m e);
+        owned = λ o m t e. absurd (no_monitor (leans o) m e);
         waiting = λ o t e. sym (again_none o (λ p. 0) most_holds);
-        on_record = λ o m t p e. absurd (no_monitor biasing m e);
-        free = λ o m e. absurd (no_monitor biasing m e);
+        on_record = λ o m t p e. absurd (no_monitor (leans o) m e);
+        free = λ o m e. absurd (no_monitor (leans o) m e);
         thread_owns = λ o t e. again_none o (λ p. 0) most_holds;
       }
 
@@ -225,9 +243,9 @@ module _ (s : Shape) (start : ℕ) (biasing : Bool) where
   hashes =
       subst (λ (hash : ℕ → ℕ). HashesFit (marks world) (lock world) (header world) holds (displaced_words world) hash) (sym (hash_none s.objects))
       (record {
-        stands = λ o h e. ap hash_in (sym (header_is_mark biasing o h e)) ∙ first_hash biasing;
+        stands = λ o h e. ap hash_in (sym (header_is_mark o h e)) ∙ first_hash (leans o);
         records = λ o t p e. absurd (no_hold most_holds o 1 p e);
-        on_record = λ o t p e. absurd (cc (e, open_at biasing o));
+        on_record = λ o t p e. absurd (cc (e, open_at o));
       })
 
   draws : DrawsFit start (logs world) (λ t. []) (λ t. 0) (hash_at objects)
@@ -291,7 +309,7 @@ module _ (s : Shape) (start : ℕ) (biasing : Bool) where
         place = InRing;
         keeps = λ t m e. absurd (cc e);
         fetches = λ t p e. absurd (cc e);
-        names = λ o m e. absurd (no_monitor biasing m e);
+        names = λ o m e. absurd (no_monitor (leans o) m e);
         returns = λ t m e. absurd (cc e);
         stands = λ p a b. let same = in_round p (omega (arith, b)) in (omega (arith, same, b), ap InRing same);
         kept_there = λ t m h e. absurd (cc e);
@@ -300,7 +318,7 @@ module _ (s : Shape) (start : ℕ) (biasing : Bool) where
         ringed_there = λ p m h e. let same : m ≡ p = at_position m p e in (omega arith, omega (arith, same, h), in_round p (omega (arith, same, h)) ∙ sym same);
         counted =
             let a = with_monitor_none s.threads (λ t. None) (λ t. refl) in
-            let b = with_monitor_none (length s.objects) (λ o. monitor_in (first_mark biasing)) (λ o. first_monitor biasing) in
+            let b = with_monitor_none (length s.objects) (λ o. monitor_in (first_mark (leans o))) (λ o. first_monitor (leans o)) in
             omega (arith, a, b);
       }
     where
@@ -317,7 +335,7 @@ module _ (s : Shape) (start : ℕ) (biasing : Bool) where
   classes =
       record {
         plain = λ e c. (plain_prototype biasing e, refl, refl);
-        unbiased = λ e o. first_biased biasing ∙ e;
+        unbiased = λ e o. first_biased (leans o) ∙ ap (λ b. b && nat_lt o s.declared) e;
         few = λ e c. omega arith;
         prototypes = λ e c. first_prototype biasing s.threads c e;
       }

@@ -2,7 +2,7 @@
 use Rattle.std.proofs.Common.{◌≡◌, ℕ, ◌||◌, Bool, true, Some, None, subst, inl, inr}
 use Rattle.mark_word.specs.Mark.{read_mark}
 use Rattle.core_world.specs.declared.name.Name.{Name}
-use Rattle.core_world.specs.declared.name.Name.TheVariants.{Safepoint, Prototype, Revocations, LastBulk, Mark, Stamp, Slot, Hold, Displaced, Waiting, Length, Owner, Recursions, Header, Object, Claim, End, Ring}
+use Rattle.core_world.specs.declared.name.Name.TheVariants.{Safepoint, Prototype, Revocations, LastBulk, Mark, Stamp, Slot, Hold, Displaced, Waiting, Length, Owner, Recursions, Header, Object, Claim, End, Ring, Class}
 use Rattle.core_world.specs.Words.Forms.{monitor_in}
 use Rattle.core_world.specs.Threads.Stages.{Inflation, inflation_in, bears, revocation_in}
 use Rattle.core_world.specs.Threads.Known.{Known}
@@ -52,6 +52,7 @@ module _ (w x : World) (k l : Known) (owner next : ℕ → ℕ → Bool) (u : �
   running_back Claim v h = h
   running_back End v h = h
   running_back (Ring p) v h = h
+  running_back (Class o) v h = h
 
   asking_back : (n : Name) (v : ℕ) → StaysWhileAsking x n v → StaysWhileAsking w n v
   asking_back (Prototype c) v h = h
@@ -72,6 +73,7 @@ module _ (w x : World) (k l : Known) (owner next : ℕ → ℕ → Bool) (u : �
   asking_back Claim v h = h
   asking_back End v h = h
   asking_back (Ring p) v h = h
+  asking_back (Class o) v h = h
 
   pub stays_back : (n : Name) (v : ℕ) → Stays x l next u n v → Stays w k owner u n v
   stays_back n v (inl h) = inl (b.run h.0, running_back n v h.1)

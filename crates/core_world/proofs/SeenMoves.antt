@@ -5,7 +5,7 @@ use Rattle.core_world.specs.declared.name.Name.{Name}
 use Rattle.core_world.specs.declared.name.Name.TheVariants.{Mark, Waiting}
 use Rattle.core_world.specs.declared.plan.StepPlan.{StepPlan}
 use Rattle.core_world.specs.Words.Acts.{word_after}
-use Rattle.core_world.specs.Words.Names.{same_name, its_monitor, with_word}
+use Rattle.core_world.specs.Words.Names.{has_class, same_name, its_monitor, with_word}
 use Rattle.core_world.specs.Words.Forms.{is_biased, monitor_in, waits_on}
 use Rattle.core_world.specs.Threads.Known.{Known, StepMade, last_seen}
 use Rattle.core_world.specs.World.{World, with_word_and_known, with_known}
@@ -28,6 +28,9 @@ pub record Spares (at : Name) (v t : ℕ) (l : Known) (w : World) (owner next : 
   -- asked only of marks that a thread has seen: another may come to have the bias pattern
   pub bias : (u o s : ℕ) → last_seen (Mark o) (w.known u).seen ≡ Some s → ((w.known u).running ≡ true) ⊎ ((w.known u).requesting ≡ true) → is_biased (marks w o) ≡ false
       → is_biased (marks (with_word_and_known at v t l w) o) ≡ false
+  -- what is there stays there, and a mark that has the bias pattern afterwards is of what was there before
+  pub there : (o : ℕ) → has_class w.shape w.words o ≡ true → has_class w.shape (with_word at v w.words) o ≡ true
+  pub classed : (o : ℕ) → is_biased (marks (with_word_and_known at v t l w) o) ≡ true → has_class w.shape w.words o ≡ true
   pub waits : (u x o : ℕ) → u ≢ t → owner o u ≡ true → waits_on (w.words (Waiting x)) o ≡ false → waits_on (with_word at v w.words (Waiting x)) o ≡ false
   pub unwaited : (u o : ℕ) → u ≢ t → owner o u ≡ true → waiters o ≡ [] → next_waiters o ≡ []
   -- no safepoint is reached, since the thread runs
@@ -38,6 +41,7 @@ pub record Spares (at : Name) (v t : ℕ) (l : Known) (w : World) (owner next : 
 pub record Counts (at : Name) (v t : ℕ) (l : Known) (w : World) (next : ℕ → ℕ → Bool) (next_waiters : ℕ → List (ℕ × ℕ)) (old : List StepMade) : Type 0 where
   pub others : (n : Name) (s : ℕ) → last_seen n old ≡ Some s → same_name n at ≡ false → Stays (with_word_and_known at v t l w) l next t n s → w.words n ≡ s
   pub unbiased : (o s : ℕ) → last_seen (Mark o) old ≡ Some s → is_biased s ≡ false → (l.running ≡ true) ⊎ (l.requesting ≡ true) → is_biased (marks (with_word_and_known at v t l w) o) ≡ false
+  pub classed : (o s : ℕ) → last_seen (Mark o) old ≡ Some s → is_biased s ≡ true → (l.running ≡ true) ⊎ (l.requesting ≡ true) → has_class w.shape w.words o ≡ true
   pub unwaiting : (u o s : ℕ) → last_seen (Waiting u) old ≡ Some s → next o t ≡ true → waits_on s o ≡ false → l.running ≡ true
       → waits_on (with_word at v w.words (Waiting u)) o ≡ false
   pub unwaited : (o s : ℕ) → last_seen (Mark o) old ≡ Some s → l.running ≡ true → next o t ≡ true → monitor_in s ≡ None → next_waiters o ≡ []
@@ -61,6 +65,10 @@ module _ (p : StepPlan) (found t : ℕ) (l : Known) (w : World) (owner next : �
         unbiased = λ u o s. each_with_known (λ u y. last_seen (Mark o) y.seen ≡ Some s → (y.running ≡ true) ⊎ (y.requesting ≡ true) → is_biased s ≡ false → is_biased (marks x o) ≡ false) t l w.known u
             (λ e r g. mark o s (same_name (Mark o) p.at) refl (ap (last_seen (Mark o)) (sym seen) ∙ e) r g)
             (λ d e r g. spares.bias u o s e r (h.unbiased u o s e r g));
+        classed = λ o e. spares.there o (spares.classed o e);
+        saw_classed = λ u o s. each_with_known (λ u y. last_seen (Mark o) y.seen ≡ Some s → (y.running ≡ true) ⊎ (y.requesting ≡ true) → is_biased s ≡ true → has_class w.shape x.words o ≡ true) t l w.known u
+            (λ e r g. there o s (same_name (Mark o) p.at) refl (ap (last_seen (Mark o)) (sym seen) ∙ e) r g)
+            (λ d e r g. spares.there o (h.saw_classed u o s e r g));
         unwaiting = λ u y o s. each_with_known (λ u k. last_seen (Waiting y) k.seen ≡ Some s → k.running ≡ true → next o u ≡ true → waits_on s o ≡ false → waits_on (with_word p.at v w.words (Waiting y)) o ≡ false) t l w.known u
             (λ e r a g. wait y o s (same_name (Waiting y) p.at) refl (ap (last_seen (Waiting y)) (sym seen) ∙ e) r a g)
             (λ d e r a g. spares.waits u y o d (spares.owned u o d a) (h.unwaiting u y o s e r (spares.owned u o d a) g));
@@ -99,6 +107,13 @@ module _ (p : StepPlan) (found t : ℕ) (l : Known) (w : World) (owner next : �
       mark o s true e a r g = ap is_biased (ap (λ c. cond c v (w.words (Mark o))) e ∙ same_Some _ _ (ap (λ c. cond c (Some v) (last_seen (Mark o) old)) (sym e) ∙ a)) ∙ g
       mark o s false e a r g = mine.unbiased o s (ap (λ c. cond c (Some v) (last_seen (Mark o) old)) (sym e) ∙ a) g r
 
+      there : (o s : ℕ) (b : Bool) → same_name (Mark o) p.at ≡ b → cond (same_name (Mark o) p.at) (Some v) (last_seen (Mark o) old) ≡ Some s
+          → (l.running ≡ true) ⊎ (l.requesting ≡ true) → is_biased s ≡ true → has_class w.shape x.words o ≡ true
+      there o s true e a r g =
+          let is = ap is_biased (ap (λ c. cond c v (w.words (Mark o))) e ∙ same_Some _ _ (ap (λ c. cond c (Some v) (last_seen (Mark o) old)) (sym e) ∙ a)) ∙ g in
+          spares.there o (spares.classed o is)
+      there o s false e a r g = spares.there o (mine.classed o s (ap (λ c. cond c (Some v) (last_seen (Mark o) old)) (sym e) ∙ a) g r)
+
       alone : (o s : ℕ) (b : Bool) → same_name (Mark o) p.at ≡ b → cond (same_name (Mark o) p.at) (Some v) (last_seen (Mark o) old) ≡ Some s
           → l.running ≡ true → next o t ≡ true → monitor_in s ≡ None → next_waiters o ≡ []
       alone o s true e a r q g = mine.idle o e r q (ap monitor_in (same_Some _ _ (ap (λ c. cond c (Some v) (last_seen (Mark o) old)) (sym e) ∙ a)) ∙ g)
@@ -123,6 +138,7 @@ counts_more at v t l w owner next waiters next_waiters old part back kept fresh 
       unbiased = λ o s e g r.
           let asks : ((w.known t).running ≡ true) ⊎ ((w.known t).requesting ≡ true) = elim r [ inl a ↦ inl (back.run a) | inr a ↦ inr (back.ask a) ] in
           spares.bias t o s (part (Mark o) s e) asks (h.unbiased t o s (part (Mark o) s e) asks g);
+      classed = λ o s e g r. h.saw_classed t o s (part (Mark o) s e) (elim r [ inl a ↦ inl (back.run a) | inr a ↦ inr (back.ask a) ]) g;
       unwaiting = λ u o s e a g r. waits u o (back.owned o a) (h.unwaiting t u o s (part (Waiting u) s e) (back.run r) (back.owned o a) g);
       unwaited = λ o s e r a g. unwaited o a (h.unwaited t o s (part (Mark o) s e) (back.run r) (back.owned o a) g);
       idle = idle;
@@ -141,6 +157,7 @@ counts_anew at v t l w next next_waiters idle fresh =
     record {
       others = λ n s e. absurd (cc e);
       unbiased = λ o s e. absurd (cc e);
+      classed = λ o s e. absurd (cc e);
       unwaiting = λ u o s e. absurd (cc e);
       unwaited = λ o s e. absurd (cc e);
       idle = idle;

@@ -5,7 +5,7 @@ use Rattle.core_world.specs.declared.name.Name.{Name}
 use Rattle.core_world.specs.declared.name.Name.TheVariants.{Mark, Waiting}
 use Rattle.core_world.specs.declared.plan.StepPlan.{StepPlan}
 use Rattle.core_world.specs.Words.Acts.{word_after}
-use Rattle.core_world.specs.Words.Names.{same_name, its_monitor}
+use Rattle.core_world.specs.Words.Names.{same_name, its_monitor, has_class}
 use Rattle.core_world.specs.Words.Forms.{is_biased, monitor_in, waits_on}
 use Rattle.core_world.specs.Threads.Stages.{inflation_in, bears, revocation_in}
 use Rattle.core_world.specs.Threads.Known.{Known, StepMade, last_seen}
@@ -96,6 +96,10 @@ module _ (p : StepPlan) (found t : ℕ) (l : Known) (w : World) (owner : ℕ →
         unbiased = λ u o s. each_with_known (λ u y. last_seen (Mark o) y.seen ≡ Some s → (y.running ≡ true) ⊎ (y.requesting ≡ true) → is_biased s ≡ false → is_biased (marks w o) ≡ false) t l w.known u
             (λ e r g. mark o s r g (same_name (Mark o) p.at) refl (ap (last_seen (Mark o)) (sym looks.seen) ∙ e))
             (λ d e r g. h.unbiased u o s e r g);
+        classed = h.classed;
+        saw_classed = λ u o s. each_with_known (λ u y. last_seen (Mark o) y.seen ≡ Some s → (y.running ≡ true) ⊎ (y.requesting ≡ true) → is_biased s ≡ true → has_class w.shape w.words o ≡ true) t l w.known u
+            (λ e r g. there o s r g (same_name (Mark o) p.at) refl (ap (last_seen (Mark o)) (sym looks.seen) ∙ e))
+            (λ d e r g. h.saw_classed u o s e r g);
         unwaiting = λ u y o s. each_with_known (λ u k. last_seen (Waiting y) k.seen ≡ Some s → k.running ≡ true → owner o u ≡ true → waits_on s o ≡ false → waits_on (w.words (Waiting y)) o ≡ false) t l w.known u
             (λ e r a g. wait y o s r a g (same_name (Waiting y) p.at) refl (ap (last_seen (Waiting y)) (sym looks.seen) ∙ e))
             (λ d e r a g. h.unwaiting u y o s e r a g);
@@ -125,6 +129,11 @@ module _ (p : StepPlan) (found t : ℕ) (l : Known) (w : World) (owner : ℕ →
           → cond (same_name (Mark o) p.at) (Some (word_after p.act found)) (last_seen (Mark o) looks.old) ≡ Some s → is_biased (marks w o) ≡ false
       mark o s r g true e a = ap is_biased (just_seen (Mark o) s looks.old e a) ∙ g
       mark o s r g false e a = h.unbiased t o s (looks.part (Mark o) s (ap (λ c. cond c (Some (word_after p.act found)) (last_seen (Mark o) looks.old)) (sym e) ∙ a)) (active r) g
+
+      there : (o s : ℕ) → (l.running ≡ true) ⊎ (l.requesting ≡ true) → is_biased s ≡ true → (b : Bool) → same_name (Mark o) p.at ≡ b
+          → cond (same_name (Mark o) p.at) (Some (word_after p.act found)) (last_seen (Mark o) looks.old) ≡ Some s → has_class w.shape w.words o ≡ true
+      there o s r g true e a = h.classed o (ap is_biased (just_seen (Mark o) s looks.old e a) ∙ g)
+      there o s r g false e a = h.saw_classed t o s (looks.part (Mark o) s (ap (λ c. cond c (Some (word_after p.act found)) (last_seen (Mark o) looks.old)) (sym e) ∙ a)) (active r) g
 
       alone : (o s : ℕ) → l.running ≡ true → owner o t ≡ true → monitor_in s ≡ None → (b : Bool) → same_name (Mark o) p.at ≡ b
           → cond (same_name (Mark o) p.at) (Some (word_after p.act found)) (last_seen (Mark o) looks.old) ≡ Some s → waiters o ≡ []

@@ -1,6 +1,6 @@
 -- The heap has the words that a thread names: of an object's class and slots, of a monitor that it keeps, and of a thread that waits; and which form
 -- a word has that is found at a name.
-use Rattle.std.proofs.Common.{◌≡◌, ℕ, suc, zero, ◌<◌, ◌≤◌, nat_lt, Bool, true, false, List, [], ◌∷◌, length, slice_index_or, Some, refl, sym, ap, ◌∙◌, subst, inl, inr, arith}
+use Rattle.std.proofs.Common.{◌≡◌, ◌≢◌, ℕ, suc, zero, ◌+◌, ◌-◌, ◌<◌, ◌≤◌, nat_lt, cond, Bool, true, false, List, [], ◌∷◌, length, slice_index_or, Some, refl, sym, ap, ◌∙◌, subst, inl, inr, arith}
 use Rattle.std.specs.List.{AllByRecursion}
 use Rattle.std.proofs.lemmas.Bool.Decides.{nat_tests}
 use Rattle.mark_word.specs.Hold.{read_hold}
@@ -12,13 +12,13 @@ use Rattle.mark_word.proofs.ReadingWaits.{read_wait-wait_of}
 use Rattle.plain_monitor.specs.Limits.{most_slots}
 use Rattle.plain_monitor.specs.Objects.{PlainObject}
 use Rattle.core_world.specs.declared.name.Name.{Name}
-use Rattle.core_world.specs.declared.name.Name.TheVariants.{Mark, Hold, Waiting, Owner}
+use Rattle.core_world.specs.declared.name.Name.TheVariants.{Mark, Hold, Waiting, Owner, Class}
 use Rattle.core_world.specs.Clauses.WordForms.{IsMark, IsHold, IsWait, IsOwner}
 use Rattle.core_world.specs.Words.Forms.{waits_on, waits_form}
 use Rattle.core_world.specs.Words.Shape.{Shape, IsInLimits, class_of, slots_of, monitor_count}
 use Rattle.core_world.specs.Words.Names.{class_by}
-use Rattle.core_world.specs.Threads.AtRest.{SawClass}
-use Rattle.core_world.specs.Threads.Known.{Known, StepMade}
+use Rattle.core_world.specs.Threads.AtRest.{SawClass, SawClassIf}
+use Rattle.core_world.specs.Threads.Known.{Known, StepMade, last_seen}
 use Rattle.core_world.specs.Valid.{Fits, FormsFit, IsValid}
 use Rattle.core_world.specs.World.{World}
 
@@ -28,6 +28,7 @@ IsFormed s (Mark o) n = IsMark s (read_mark n)
 IsFormed s (Hold t p) n = IsHold s (read_hold n)
 IsFormed s (Waiting t) n = IsWait s (read_wait n)
 IsFormed s (Owner m) n = IsOwner s (read_owner n)
+IsFormed s (Class o) n = n ≤ s.classes
 IsFormed s _ n = Unit {0}
 
 pub is_formed : (w : World) (n : Name) → FormsFit w → IsFormed w.shape n (w.words n)
@@ -35,6 +36,7 @@ is_formed w (Mark o) f = f.marks o
 is_formed w (Hold t p) f = f.holds t p
 is_formed w (Waiting t) f = f.waits t
 is_formed w (Owner m) f = f.owners m
+is_formed w (Class o) f = f.classes o
 is_formed w _ f = tt
 
 no_wait : (o : ℕ) → waits_on 0 o ≡ false
@@ -49,9 +51,22 @@ of_each (x ∷ xs) n (suc o) h l = of_each xs n o h.1 (omega (arith, l))
 pub class_there : (s : Shape) (o : ℕ) → IsInLimits s → o < length s.objects → class_of s o < s.classes
 class_there s o limits object = (of_each s.objects s.classes o limits.each object).0
 
--- the class that a thread has seen an object have is the one that it has, by whatever words the heap holds
-pub class_seen : (s : Shape) (f : Name → ℕ) (seen : List StepMade) (o c : ℕ) → SawClass s seen o c → class_by s f o ≡ c
-class_seen s f seen o c saw = sym saw
+-- where class words are of classes that there are, each object is of one
+pub class_in_heap : (s : Shape) (f : Name → ℕ) (o : ℕ) → IsInLimits s → f (Class o) ≤ s.classes → o < length s.objects → class_by s f o < s.classes
+class_in_heap s f o limits formed object = by_test (nat_lt o s.declared)
+  where
+    by_test : (b : Bool) → cond b (class_of s o) (f (Class o) - 1) < s.classes
+    by_test true = class_there s o limits object
+    by_test false = let some = class_there s o limits object in omega (arith, some, formed)
+
+-- the class that a thread has seen an object have is the one that it has by words among which its class word stays as it was seen
+pub class_seen : (s : Shape) (f : Name → ℕ) (seen : List StepMade) (o c : ℕ) → ((v : ℕ) → last_seen (Class o) seen ≡ Some v → v ≢ 0 → f (Class o) ≡ v)
+    → SawClass s seen o c → class_by s f o ≡ c
+class_seen s f seen o c stays saw = by_test (nat_lt o s.declared) saw
+  where
+    by_test : (b : Bool) → SawClassIf b s seen o c → cond b (class_of s o) (f (Class o) - 1) ≡ c
+    by_test true h = sym h
+    by_test false h = let is = stays (c + 1) h (λ z. absurd (omega (arith, z))) in omega (arith, is)
 
 pub slot_there : (s : Shape) (o slot : ℕ) → IsInLimits s → o < length s.objects → slot < slots_of s o → slot < most_slots
 slot_there s o slot limits object within = let most = (of_each s.objects s.classes o limits.each object).1 in omega (arith, within, most)

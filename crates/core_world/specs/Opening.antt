@@ -1,5 +1,5 @@
 -- The world before the first step.
-use Rattle.std.specs.Prelude.{ℕ, Bool, false, if◌then◌else◌, [], replicate, None, pos}
+use Rattle.std.specs.Prelude.{ℕ, nat_lt, ◌&&◌, Bool, false, if◌then◌else◌, [], replicate, None, pos}
 use Rattle.mark_word.specs.Mark.{mark_of}
 use Rattle.mark_word.specs.declared.mark.MarkForm.TheVariants.{Neutral, Anonymous}
 use Rattle.plain_monitor.specs.Limits.{most_holds}
@@ -12,15 +12,15 @@ use Rattle.core_world.specs.Words.Shape.{Shape, monitor_count}
 use Rattle.core_world.specs.Threads.Known.{Known, Still}
 use Rattle.core_world.specs.World.{World}
 
--- the prototype of each class, and so the mark of each object: biased to nobody at epoch 0, or neutral
+-- the prototype of each class, and so the mark of each declared object: biased to nobody at epoch 0, or neutral
 abbrev pub first_mark : Bool → ℕ
 first_mark biasing = if biasing then mark_of (Anonymous 0 0) else mark_of (Neutral 0 0)
 
--- each slot has the number 0, the ring has each monitor at the place of its number, and every other word is 0; a place behind the monitors has its
+-- an object that isn't made yet has a neutral mark; each slot has the number 0, the ring has each monitor at the place of its number, and every other word is 0; a place behind the monitors has its
 -- own number, which nobody reads
 abbrev pub first_word : Shape → Bool → Name → ℕ
 first_word s biasing (Prototype c) = first_mark biasing
-first_word s biasing (Mark o) = first_mark biasing
+first_word s biasing (Mark o) = first_mark (biasing && nat_lt o s.declared)
 first_word s biasing (Slot o i) = word_of (Int (pos 0))
 first_word s biasing End = monitor_count s
 first_word s biasing (Ring p) = p

@@ -174,10 +174,11 @@ abbrev pub seen_before : Shape → Known → List StepMade
 seen_before s k = if is_idle s k && not k.requesting then [] else k.seen
 
 -- The steps that log Enter or Resume, and that set the thread running again after a stop, begin anew, since the thread counts on more words
--- from then on. The release of a safepoint leaves the marks and prototypes that were seen at it: later steps of the call go by no others.
+-- from then on. The release of a safepoint leaves the marks, class words and prototypes that were seen at it: later steps of the call go by no others.
 abbrev pub is_header : Name → Bool
 is_header (name.Mark o) = true
 is_header (name.Prototype c) = true
+is_header (name.Class o) = true
 is_header _ = false
 
 abbrev pub only_headers : List StepMade → List StepMade

@@ -1,8 +1,8 @@
 -- What a step asks of its heap and its thread besides: that the heap has the word, and that there is a place for the shot that it takes.
-use Rattle.std.specs.Prelude.{ℕ, ◌<◌, length}
+use Rattle.std.specs.Prelude.{ℕ, ◌<◌, ◌≤◌, length}
 use Rattle.plain_monitor.specs.Limits.{most_slots, most_holds}
 use Rattle.core_world.specs.declared.name.Name.{Name}
-use Rattle.core_world.specs.declared.name.Name.TheVariants.{Safepoint, Prototype, Revocations, LastBulk, Mark, Stamp, Slot, Hold, Displaced, Waiting, Length, Owner, Recursions, Header, Object, Claim, End, Ring}
+use Rattle.core_world.specs.declared.name.Name.TheVariants.{Safepoint, Prototype, Revocations, LastBulk, Mark, Stamp, Slot, Hold, Displaced, Waiting, Length, Owner, Recursions, Header, Object, Claim, End, Ring, Class}
 use Rattle.core_world.specs.declared.plan.Own.{Own}
 use Rattle.core_world.specs.declared.plan.Own.TheVariants.{TakeShot}
 use Rattle.core_world.specs.declared.plan.StepPlan.{StepPlan}
@@ -29,6 +29,7 @@ IsIn s (Object m) = m < monitor_count s
 IsIn s Claim = Unit {0}
 IsIn s End = Unit {0}
 IsIn s (Ring p) = p < ring_places s
+IsIn s (Class o) = (o < length s.objects) × (s.declared ≤ o)
 
 -- there is a place for the shot: a thread takes at most 4
 abbrev pub HasPlace : Own → ℕ → Type 0

@@ -4,7 +4,7 @@ use Rattle.mark_word.specs.Mark.{read_mark}
 use Rattle.lock_policy.specs.Policy.{decided, is_reset}
 use Rattle.plain_monitor.specs.Objects.{PlainObject}
 use Rattle.plain_monitor.specs.History.{LegalObjects, objects_after}
-use Rattle.core_world.specs.declared.name.Name.TheVariants.{Safepoint, Prototype, Revocations, LastBulk, Mark, Stamp, Slot, Hold, Waiting, Length, Recursions, Object, Claim, End, Ring}
+use Rattle.core_world.specs.declared.name.Name.TheVariants.{Safepoint, Prototype, Revocations, LastBulk, Mark, Stamp, Slot, Hold, Waiting, Length, Recursions, Object, Claim, End, Ring, Class}
 use Rattle.core_world.specs.declared.stage.Stage.TheVariants.{Calm}
 use Rattle.core_world.specs.declared.task.Op.{Op}
 use Rattle.core_world.specs.declared.task.Op.TheVariants as op
@@ -45,7 +45,7 @@ SeenFit w objects = SeenStays w (owner_at objects) (waits_at objects)
 abbrev pub FormsFit : World → Type 0
 FormsFit w =
     WordsHaveForms w.shape (marks w) (owner_words w) (λ t. w.words (Waiting t)) (λ m. w.words (Object m))
-    (λ t p. w.words (Hold t p)) (w.words Safepoint)
+    (λ o. w.words (Class o)) (λ t p. w.words (Hold t p)) (w.words Safepoint)
 
 abbrev pub SafepointFits : World → List PlainObject → Type 0
 SafepointFits w objects =

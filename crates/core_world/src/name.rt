@@ -15,6 +15,8 @@ pub enum Name {
     Mark { object: u32 },
     /// A stamp that no entry which left the object free is above.
     Stamp { object: u32 },
+    /// Of an object that a thread makes: its class plus 1, or 0 where it isn't there. A declared object has no such word.
+    Class { object: u32 },
     /// A slot of the object.
     Slot { object: u32, slot: u32 },
     /// The object and the depth of the thread's lock record at this place.

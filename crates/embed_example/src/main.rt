@@ -72,7 +72,7 @@ pub fn new_door(alloc: Global) -> Result<(Heap, Pass, Pass), Stop>
     ensures new { IfOk result (λ r. IsNew r.0 FUEL 0 r.1 × IsNew r.0 FUEL 1 r.2) }
     ensures memory { IfErr result (λ e. e ≡ stop.NoMemory) }
 {
-    let Ok(shape) = HeapShape::of(alloc, 2, &[0], &[0]) else {
+    let Ok(shape) = HeapShape::of(alloc, 2, &[0], &[0], 1) else {
         return Err(Stop::NoMemory);
     };
     let Ok((heap, passes)) = new_heap(alloc, shape, FUEL, 1, true) else {

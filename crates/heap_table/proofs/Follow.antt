@@ -78,6 +78,7 @@ known_stand a c word k s r q e h = same a c word k ∙ ap (stand_after a c word 
     same (name.Mark x) c word k = refl
     same (name.Stamp x) c word k = refl
     same (name.Slot x y) c word k = refl
+    same (name.Class x) c word k = refl
     same (name.Hold x y) c word k = refl
     same (name.Displaced x y) c word k = refl
     same (name.Waiting x) c word k = refl

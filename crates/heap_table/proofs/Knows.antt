@@ -39,7 +39,7 @@ goes_on heap k p n l was within is =
     (λ i. comes (rest_of_call (sym was.is_of i).shape ((is ∙ sym now) i))) ∙ a
 
 -- the step is the newest one of its thread
-one_more : (s : Shape) (start : ℕ) (p : StepPlan) (n : ℕ) (k : Known) → (known_after s start p n k).steps ≡ record { plan = p; found = n } ∷ k.steps
+pub one_more : (s : Shape) (start : ℕ) (p : StepPlan) (n : ℕ) (k : Known) → (known_after s start p n k).steps ≡ record { plan = p; found = n } ∷ k.steps
 one_more s start p n k = cases (hits p.act n)
   where
     cases : (b : Bool) → (cond b (known_hit s start p n k) (known_miss s start p n k)).steps ≡ record { plan = p; found = n } ∷ k.steps

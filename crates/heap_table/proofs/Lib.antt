@@ -19,3 +19,5 @@ pub mod Arms
 pub mod Resting
 pub mod Aside
 pub mod Loops
+pub mod Forms
+pub mod ClassSteps

@@ -1,16 +1,17 @@
 -- The world at the start is sound, and the first seat knows all of it.
-use Rattle.std.proofs.Common.{◌≡◌, ◌≢◌, ℕ, zero, suc, ◌+◌, ◌*◌, ◌-◌, ◌<◌, ◌≤◌, Bool, List, [], ◌∷◌, ◌++◌, length, get_or, refl, sym, ap, ◌∙◌, subst, arith, inl, inr, add-one, append-nil}
+use Rattle.std.proofs.Common.{◌≡◌, ◌≢◌, ℕ, zero, suc, ◌+◌, ◌*◌, ◌-◌, ◌<◌, ◌≤◌, nat_lt, ◌&&◌, Bool, true, false, List, [], ◌∷◌, ◌++◌, length, get_or, refl, sym, ap, ◌∙◌, subst, arith, inl, inr, add-one, append-nil}
 use Rattle.std.proofs.Math.Nat.{mul-suc}
 use Rattle.std.specs.Prelude.{All, map, slice_index, replicate}
 use Rattle.std.specs.List.{AllByRecursion}
 use Rattle.std.proofs.lemmas.Bool.{cases_lt}
+use Rattle.std.proofs.lemmas.Bool.Decides.{nat_tests}
 use Rattle.std.proofs.lemmas.List.{get_or-replicate}
 use Rattle.plain_monitor.specs.Limits.{most_threads, most_classes, most_slots, most_objects}
 use mathlib.Core.Option.{some, some-injective, some-ne-none}
 use lib.ListN.{get_elem?}
 use Rattle.atomic_table.specs.Table.{Me, opening as opening_state}
 use Rattle.core_world.specs.declared.name.Name.{Name}
-use Rattle.core_world.specs.declared.name.Name.TheVariants.{Safepoint, Prototype, Revocations, LastBulk, Mark, Stamp, Slot, Hold, Displaced, Waiting, Length, Owner, Recursions, Header, Object, Claim, End, Ring}
+use Rattle.core_world.specs.declared.name.Name.TheVariants.{Safepoint, Prototype, Revocations, LastBulk, Mark, Stamp, Slot, Hold, Displaced, Waiting, Length, Owner, Recursions, Header, Object, Claim, End, Ring, Class}
 use Rattle.core_world.specs.Opening.{first_mark, first_word, first_known, opening}
 use Rattle.core_world.specs.Words.Shape.{Shape, IsInLimits, ring_places}
 use Rattle.core_world.specs.World.{World}
@@ -18,7 +19,7 @@ use Rattle.core_law.specs.HeapLaw.{HeapLaw}
 use Rattle.core_law.specs.Logic.{Heap}
 use Rattle.core_law.specs.Reached.{opens as at_opening}
 use Rattle.core_world.specs.There.{IsIn}
-use Rattle.heap_table.specs.Layout.{place_of, word_count}
+use Rattle.heap_table.specs.Layout.{place_of, word_count, many, objects_from}
 use Rattle.core_world.specs.Threads.Known.{Known}
 use Rattle.heap_table.specs.Fresh.{IsFresh}
 use Rattle.heap_table.specs.inner.Firsts.{first_knowns}
@@ -114,43 +115,69 @@ in_numbers (suc n) i h =
 slot_word : (mark i : ℕ) → i < 16 → get_or (object_words mark) (2 + i) 0 ≡ 9223372036854775809
 slot_word mark i h = behind (mark ∷ 0 ∷ []) (replicate 16 9223372036854775809 ++ replicate 14 0) (2 + i) i (omega arith) ∙ in_front (replicate 16 9223372036854775809) (replicate 14 0) i h ∙ get_or-replicate 16 i 9223372036854775809 0 h
 
-words_at : (s : Shape) (biasing : Bool) (n : Name) → IsIn s n → get_or (opening_words s biasing) (place_of s n) 0 ≡ first_word s biasing n
-words_at s biasing Safepoint h = found s biasing 0 0 0 (place_of s Safepoint) (omega arith) (omega arith) (omega arith)
-words_at s biasing Claim h = found s biasing 0 0 8 (place_of s Claim) (omega arith) (omega arith) (omega arith)
-words_at s biasing End h = found s biasing 0 0 7 (place_of s End) (omega arith) (omega arith) (omega arith)
-words_at s biasing (Prototype c) h = found s biasing 1 c 0 (place_of s (Prototype c)) (omega arith) h (omega arith)
-words_at s biasing (Revocations c) h = found s biasing 1 c 1 (place_of s (Revocations c)) (omega arith) h (omega arith)
-words_at s biasing (LastBulk c) h = found s biasing 1 c 2 (place_of s (LastBulk c)) (omega arith) h (omega arith)
-words_at s biasing (Mark o) h = found s biasing 2 o 0 (place_of s (Mark o)) (omega arith) h (omega arith)
-words_at s biasing (Stamp o) h = found s biasing 2 o 1 (place_of s (Stamp o)) (omega arith) h (omega arith)
-words_at s biasing (Slot o i) h = found s biasing 2 o (2 + i) (place_of s (Slot o i)) (omega arith) h.0 (omega (arith, h.1)) ∙ slot_word (first_mark biasing) i (omega (arith, h.1))
-words_at s biasing (Hold t p) h = found s biasing 3 (144 * t + p) 0 (place_of s (Hold t p)) (omega arith) (omega (arith, h.0, h.1)) (omega arith)
-words_at s biasing (Displaced t p) h = found s biasing 3 (144 * t + 64 + p) 0 (place_of s (Displaced t p)) (omega arith) (omega (arith, h.0, h.1)) (omega arith)
-words_at s biasing (Length t) h = found s biasing 3 (144 * t + 128) 0 (place_of s (Length t)) (omega arith) (omega (arith, h)) (omega arith)
-words_at s biasing (Waiting t) h = found s biasing 3 (144 * t + 136) 0 (place_of s (Waiting t)) (omega arith) (omega (arith, h)) (omega arith)
-words_at s biasing (Owner m) h = found s biasing 3 (144 * s.threads + 16 * m) 0 (place_of s (Owner m)) (omega arith) (omega (arith, h)) (omega arith)
-words_at s biasing (Recursions m) h = found s biasing 3 (144 * s.threads + 16 * m + 1) 0 (place_of s (Recursions m)) (omega arith) (omega (arith, h)) (omega arith)
-words_at s biasing (Header m) h = found s biasing 3 (144 * s.threads + 16 * m + 2) 0 (place_of s (Header m)) (omega arith) (omega (arith, h)) (omega arith)
-words_at s biasing (Object m) h = found s biasing 3 (144 * s.threads + 16 * m + 3) 0 (place_of s (Object m)) (omega arith) (omega (arith, h)) (omega arith)
-words_at s biasing (Ring p) h = in_rest (opening_groups s biasing) (numbers (ring_places s)) p (place_of s (Ring p)) (omega arith) ∙ in_numbers (ring_places s) p h
+and_true : (a : Bool) → (a && true) ≡ a
+and_true true = refl
+and_true false = refl
+
+and_false : (a : Bool) → (a && false) ≡ false
+and_false true = refl
+and_false false = refl
+
+-- the word at this place of the group of an object, which is declared or not
+object_word : (s : Shape) (biasing : Bool) (o i at : ℕ) (b : Bool) → nat_lt o s.declared ≡ b → s.declared ≤ many s → o < many s → i < 32
+    → at ≡ objects_from s + (32 * o + i) → get_or (opening_words s biasing) at 0 ≡ get_or (object_words (first_mark (biasing && b))) i 0
+object_word s biasing o i at true e few h l is =
+    let low : o < s.declared = grind (arith, nat_tests, e) in
+    found s biasing 2 o i at (omega (arith, is)) low l ∙ ap (λ (z : Bool). get_or (object_words (first_mark z)) i 0) (sym (and_true biasing))
+object_word s biasing o i at false e few h l is =
+    let high : s.declared ≤ o = grind (arith, nat_tests, e) in
+    found s biasing 3 (o - s.declared) i at (omega (arith, is, high)) (omega (arith, high, h)) l
+    ∙ ap (λ (z : Bool). get_or (object_words (first_mark z)) i 0) (sym (and_false biasing))
+
+words_at : (s : Shape) (biasing : Bool) → s.declared ≤ many s → (n : Name) → IsIn s n → get_or (opening_words s biasing) (place_of s n) 0 ≡ first_word s biasing n
+words_at s biasing few Safepoint h = found s biasing 0 0 0 (place_of s Safepoint) (omega arith) (omega arith) (omega arith)
+words_at s biasing few Claim h = found s biasing 0 0 8 (place_of s Claim) (omega arith) (omega arith) (omega arith)
+words_at s biasing few End h = found s biasing 0 0 7 (place_of s End) (omega arith) (omega arith) (omega arith)
+words_at s biasing few (Prototype c) h = found s biasing 1 c 0 (place_of s (Prototype c)) (omega arith) h (omega arith)
+words_at s biasing few (Revocations c) h = found s biasing 1 c 1 (place_of s (Revocations c)) (omega arith) h (omega arith)
+words_at s biasing few (LastBulk c) h = found s biasing 1 c 2 (place_of s (LastBulk c)) (omega arith) h (omega arith)
+words_at s biasing few (Mark o) h = object_word s biasing o 0 (place_of s (Mark o)) (nat_lt o s.declared) refl few h (omega arith) (omega arith)
+words_at s biasing few (Stamp o) h = object_word s biasing o 1 (place_of s (Stamp o)) (nat_lt o s.declared) refl few h (omega arith) (omega arith)
+words_at s biasing few (Class o) h = object_word s biasing o 18 (place_of s (Class o)) (nat_lt o s.declared) refl few h.0 (omega arith) (omega arith)
+words_at s biasing few (Slot o i) h =
+    object_word s biasing o (2 + i) (place_of s (Slot o i)) (nat_lt o s.declared) refl few h.0 (omega (arith, h.1)) (omega arith)
+    ∙ slot_word (first_mark (biasing && nat_lt o s.declared)) i (omega (arith, h.1))
+words_at s biasing few (Hold t p) h = found s biasing 4 (144 * t + p) 0 (place_of s (Hold t p)) (omega (arith, few)) (omega (arith, h.0, h.1)) (omega arith)
+words_at s biasing few (Displaced t p) h = found s biasing 4 (144 * t + 64 + p) 0 (place_of s (Displaced t p)) (omega (arith, few)) (omega (arith, h.0, h.1)) (omega arith)
+words_at s biasing few (Length t) h = found s biasing 4 (144 * t + 128) 0 (place_of s (Length t)) (omega (arith, few)) (omega (arith, h)) (omega arith)
+words_at s biasing few (Waiting t) h = found s biasing 4 (144 * t + 136) 0 (place_of s (Waiting t)) (omega (arith, few)) (omega (arith, h)) (omega arith)
+words_at s biasing few (Owner m) h = found s biasing 4 (144 * s.threads + 16 * m) 0 (place_of s (Owner m)) (omega (arith, few)) (omega (arith, h)) (omega arith)
+words_at s biasing few (Recursions m) h = found s biasing 4 (144 * s.threads + 16 * m + 1) 0 (place_of s (Recursions m)) (omega (arith, few)) (omega (arith, h)) (omega arith)
+words_at s biasing few (Header m) h = found s biasing 4 (144 * s.threads + 16 * m + 2) 0 (place_of s (Header m)) (omega (arith, few)) (omega (arith, h)) (omega arith)
+words_at s biasing few (Object m) h = found s biasing 4 (144 * s.threads + 16 * m + 3) 0 (place_of s (Object m)) (omega (arith, few)) (omega (arith, h)) (omega arith)
+words_at s biasing few (Ring p) h = in_rest (opening_groups s biasing) (numbers (ring_places s)) p (place_of s (Ring p)) (omega (arith, few)) ∙ in_numbers (ring_places s) p h
 
 wide_as : (rs : List (ℕ × List ℕ)) (ws : List ℕ) → length (spread rs ws) ≡ total rs + length ws
 wide_as [] ws = omega arith
 wide_as (r ∷ rs) ws = let a = length_append (copies r.0 r.1) (spread rs ws) in let b = length_copies r.0 r.1 in let c = wide_as rs ws in omega (arith, a, b, c)
 
-pub opening_count : (s : Shape) (biasing : Bool) (ws : List ℕ) → ws ≡ opening_words s biasing → length ws ≡ word_count s
-opening_count s biasing ws e =
+pub opening_count : (s : Shape) (biasing : Bool) (ws : List ℕ) → s.declared ≤ many s → ws ≡ opening_words s biasing → length ws ≡ word_count s
+opening_count s biasing ws few e =
     let h = wide_as (opening_groups s biasing) (numbers (ring_places s)) in
     let n = length_numbers (ring_places s) in
-    let g : length ws ≡ length (spread (opening_groups s biasing) (numbers (ring_places s))) = ap length e in omega (arith, h, n, g)
+    let g : length ws ≡ length (spread (opening_groups s biasing) (numbers (ring_places s))) = ap length e in omega (arith, h, n, g, few)
 
--- four kinds of group that were put behind one another, and the ring behind them
-pub chained : (w x y z v u a b c d r : List ℕ) → w ≡ [] → x ≡ w ++ a → y ≡ x ++ b → z ≡ y ++ c → v ≡ z ++ d → u ≡ v ++ r → u ≡ a ++ (b ++ (c ++ (d ++ r)))
-chained w x y z v u a b c d r e f g h i j =
-    let groups : v ≡ a ++ (b ++ (c ++ d)) =
-    i ∙ (λ k. (h ∙ (λ l. (g ∙ (λ m. (f ∙ (λ n. e n ++ a)) m ++ b)) l ++ c)) k ++ d) ∙ append_append (a ++ b) c d ∙ append_append a b (c ++ d) in
-    j ∙ ap (λ (l : List ℕ). l ++ r) groups ∙ append_append a (b ++ (c ++ d)) r ∙ ap (λ (l : List ℕ). a ++ l) (append_append b (c ++ d) r)
-    ∙ ap (λ (l : List ℕ). a ++ (b ++ l)) (append_append c d r)
+-- five kinds of group that were put behind one another, and the ring behind them
+pub chained : (w x y z v u t a b c d k r : List ℕ) → w ≡ [] → x ≡ w ++ a → y ≡ x ++ b → z ≡ y ++ c → v ≡ z ++ d → u ≡ v ++ k → t ≡ u ++ r
+    → t ≡ a ++ (b ++ (c ++ (d ++ (k ++ r))))
+chained w x y z v u t a b c d k r e f g h i j l =
+    let one : x ≡ a = f ∙ ap (λ (q : List ℕ). q ++ a) e in
+    let two : y ≡ a ++ b = g ∙ ap (λ (q : List ℕ). q ++ b) one in
+    let three : z ≡ (a ++ b) ++ c = h ∙ ap (λ (q : List ℕ). q ++ c) two in
+    let four : v ≡ ((a ++ b) ++ c) ++ d = i ∙ ap (λ (q : List ℕ). q ++ d) three in
+    let five : u ≡ (((a ++ b) ++ c) ++ d) ++ k = j ∙ ap (λ (q : List ℕ). q ++ k) four in
+    l ∙ ap (λ (q : List ℕ). q ++ r) five ∙ append_append (((a ++ b) ++ c) ++ d) k r ∙ append_append ((a ++ b) ++ c) d (k ++ r)
+    ∙ append_append (a ++ b) c (d ++ (k ++ r)) ∙ append_append a b (c ++ (d ++ (k ++ r)))
 
 -- the objects of a shape that is made are in its limits
 pub each_fits : (slots classes : List ℕ) → All (λ n. n ≤ most_slots) slots → All (λ c. c < length slots) classes
@@ -162,12 +189,19 @@ objects_few : (slots classes : List ℕ) → length {A = ℕ × ℕ} (map (λ c.
 objects_few slots [] = refl
 objects_few slots (c ∷ cs) = let h = objects_few slots cs in omega (arith, h)
 
-pub shape_fits : (threads : ℕ) (slots classes : List ℕ) (objects : List (ℕ × ℕ)) → (threads ≤ most_threads) × (length slots ≤ most_classes) × (length classes ≤ most_objects)
-    → All (λ n. n ≤ most_slots) slots → All (λ c. c < length slots) classes → objects ≡ map (λ c. (c, slice_index slots c)) classes
-    → IsInLimits (record { threads = threads; classes = length slots; objects = objects })
-shape_fits threads slots classes objects few h g e =
-    subst (λ (z : List (ℕ × ℕ)). IsInLimits (record { threads = threads; classes = length slots; objects = z })) (sym e)
-    (record { threads = few.0; classes = few.1; objects = (let n = objects_few slots classes in omega (arith, n, few.2)); each = each_fits slots classes h g })
+pub shape_fits : (threads : ℕ) (slots classes : List ℕ) (declared : ℕ) (objects : List (ℕ × ℕ)) → (threads ≤ most_threads) × (length slots ≤ most_classes) × (length classes ≤ most_objects)
+    → declared ≤ length classes → All (λ n. n ≤ most_slots) slots → All (λ c. c < length slots) classes → objects ≡ map (λ c. (c, slice_index slots c)) classes
+    → IsInLimits (record { threads = threads; classes = length slots; declared = declared; objects = objects })
+shape_fits threads slots classes declared objects few within h g e =
+    let n = objects_few slots classes in
+    subst (λ (z : List (ℕ × ℕ)). IsInLimits (record { threads = threads; classes = length slots; declared = declared; objects = z })) (sym e)
+    (record {
+      threads = few.0;
+      classes = few.1;
+      declared = omega (arith, n, within);
+      objects = omega (arith, n, few.2);
+      each = each_fits slots classes h g;
+    })
 
 abbrev nobody_else : ℕ → ℕ
 nobody_else t = 0
@@ -187,14 +221,14 @@ knowns_differ t (suc n) = (knowns_above t (suc t) n (omega arith), knowns_differ
 abbrev first_of : Heap → World
 first_of b = opening b.shape b.start b.biasing
 
-pub opens : {S : Type 0} (b : Setting) (ws : List ℕ) → HeapLaw (heap_in b) → ws ≡ opening_words b.shape b.biasing → Ruled {S = S} b (opening_state ws [] (first_knowns 0 b.shape.threads))
-opens {S} b ws law e = (
+pub opens : {S : Type 0} (b : Setting) (ws : List ℕ) → b.shape.declared ≤ many b.shape → HeapLaw (heap_in b) → ws ≡ opening_words b.shape b.biasing → Ruled {S = S} b (opening_state ws [] (first_knowns 0 b.shape.threads))
+opens {S} b ws few law e = (
   first_of (heap_in b),
   nobody_else,
   record {
     is_of = refl;
-    wide = opening_count b.shape b.biasing ws e;
-    words_are = λ n here. ap (λ (l : List ℕ). get_or l (place_of b.shape n) 0) e ∙ words_at b.shape b.biasing n here;
+    wide = opening_count b.shape b.biasing ws few e;
+    words_are = λ n here. ap (λ (l : List ℕ). get_or l (place_of b.shape n) 0) e ∙ words_at b.shape b.biasing few n here;
     knows = λ id v at. one id v at;
   },
   law.opens,

@@ -1,7 +1,8 @@
 -- No two names have one place.
 use Rattle.std.proofs.Common.{◌≡◌, ◌⊎◌, ℕ, zero, suc, ◌+◌, ◌-◌, ◌*◌, ◌<◌, ◌≤◌, ◌==◌, ◌&&◌, nat_lt, List, [], ◌∷◌, true, false, cond, if◌then◌else◌, true≢false, eq-eqb, inl, inr, ⊎_elim, ◌≢◌, refl, sym, ap, ◌∙◌, subst, arith}
+use Rattle.std.proofs.lemmas.Bool.Decides.{nat_tests}
 use Rattle.core_world.specs.declared.name.Name.{Name}
-use Rattle.core_world.specs.declared.name.Name.TheVariants.{Safepoint, Prototype, Revocations, LastBulk, Mark, Stamp, Slot, Hold, Displaced, Waiting, Length, Owner, Recursions, Header, Object, Claim, End, Ring}
+use Rattle.core_world.specs.declared.name.Name.TheVariants.{Safepoint, Prototype, Revocations, LastBulk, Mark, Stamp, Slot, Hold, Displaced, Waiting, Length, Owner, Recursions, Header, Object, Claim, End, Ring, Class}
 use Rattle.core_world.specs.Words.Names.{kind_of, first_index, second_index, same_name}
 use Rattle.core_world.specs.Words.Shape.{Shape, ring_places}
 use Rattle.core_world.proofs.Naming.{same_named}
@@ -20,6 +21,7 @@ offset (LastBulk c) = 2
 offset (Mark o) = 0
 offset (Stamp o) = 1
 offset (Slot o i) = 2 + i
+offset (Class o) = 18
 offset (Hold t p) = p
 offset (Displaced t p) = 64 + p
 offset (Length t) = 128
@@ -71,6 +73,7 @@ lies s (LastBulk c) h = record { from = omega (arith, h); to = omega (arith, h);
 lies s (Mark o) h = record { from = omega (arith, h); to = omega (arith, h); at = omega arith; low = omega arith }
 lies s (Stamp o) h = record { from = omega (arith, h); to = omega (arith, h); at = omega arith; low = omega arith }
 lies s (Slot o i) h = record { from = omega (arith, h.0, h.1); to = omega (arith, h.0, h.1); at = omega arith; low = omega (arith, h.1) }
+lies s (Class o) h = record { from = omega (arith, h.0); to = omega (arith, h.0); at = omega arith; low = omega arith }
 lies s (Hold t p) h = record { from = omega (arith, h.0, h.1); to = omega (arith, h.0, h.1); at = omega arith; low = omega (arith, h.1) }
 lies s (Displaced t p) h = record { from = omega (arith, h.0, h.1); to = omega (arith, h.0, h.1); at = omega arith; low = omega (arith, h.1) }
 lies s (Waiting t) h = record { from = omega (arith, h); to = omega (arith, h); at = omega arith; low = omega arith }
@@ -109,6 +112,7 @@ few_groups (LastBulk c) = omega arith
 few_groups (Mark o) = omega arith
 few_groups (Stamp o) = omega arith
 few_groups (Slot o i) = omega arith
+few_groups (Class o) = omega arith
 few_groups (Hold t p) = omega arith
 few_groups (Displaced t p) = omega arith
 few_groups (Waiting t) = omega arith
@@ -135,13 +139,13 @@ abbrev kind_in : ℕ → ℕ → ℕ
 kind_in g i =
     if g == 0 then cond (i == 0) 0 (cond (i == 8) 15 16)
     else if g == 1 then 1 + i
-    else if g == 2 then cond (i == 0) 4 (cond (i == 1) 5 6)
+    else if g == 2 then cond (i == 0) 4 (cond (i == 1) 5 (cond (i == 18) 18 6))
     else if g == 3 then cond (nat_lt i 64) 7 (cond (nat_lt i 128) 8 (cond (i == 128) 10 9))
     else if g == 4 then 11 + i
     else 17
 
 abbrev second_in : ℕ → ℕ → ℕ
-second_in g i = if g == 2 then i - 2 else if g == 3 then cond (nat_lt i 64) i (cond (nat_lt i 128) (i - 64) 0) else 0
+second_in g i = if g == 2 then cond (i == 18) 0 (i - 2) else if g == 3 then cond (nat_lt i 64) i (cond (nat_lt i 128) (i - 64) 0) else 0
 
 lower : (i : ℕ) → i < 64 → nat_lt i 64 ≡ true
 lower i h = search (arith, h)
@@ -151,6 +155,9 @@ not_lower i = search arith
 
 middle : (i : ℕ) → i < 64 → nat_lt (64 + i) 128 ≡ true
 middle i h = search (arith, h)
+
+before_class : (i : ℕ) → i < 16 → (2 + i == 18) ≡ false
+before_class i h = grind (arith, nat_tests, h)
 
 record Told (n : Name) : Type 0 where
   kind_is : kind_of n ≡ kind_in (group n) (offset n)
@@ -167,7 +174,13 @@ told s (Mark o) h = record { kind_is = refl; second_is = refl }
 told s (Stamp o) h = record { kind_is = refl; second_is = refl }
 told s (Slot o i) h =
     let e : (2 + i == 0) ≡ false = search arith in
-    let f : (2 + i == 1) ≡ false = search arith in record { kind_is = λ j. cond (sym e j) 4 (cond (sym f j) 5 6); second_is = omega arith }
+    let f : (2 + i == 1) ≡ false = search arith in
+    let g = before_class i h.1 in
+    let d : i ≡ 2 + i - 2 = omega arith in record {
+      kind_is = λ j. cond (sym e j) 4 (cond (sym f j) 5 (cond (sym g j) 18 6));
+      second_is = d ∙ λ j. cond (sym g j) 0 (2 + i - 2);
+    }
+told s (Class o) h = record { kind_is = refl; second_is = refl }
 told s (Hold t p) h =
     let e = lower p h.1 in record {
       kind_is = ap (λ b. cond b 7 (cond (nat_lt p 128) 8 (cond (p == 128) 10 9))) (sym e);
@@ -201,6 +214,7 @@ widths (LastBulk c) = inl refl
 widths (Mark o) = inr (inl refl)
 widths (Stamp o) = inr (inl refl)
 widths (Slot o i) = inr (inl refl)
+widths (Class o) = inr (inl refl)
 widths (Hold t p) = inr (inr (inl refl))
 widths (Displaced t p) = inr (inr (inl refl))
 widths (Waiting t) = inr (inr (inl refl))
@@ -312,6 +326,7 @@ placed s (LastBulk c) h = tt
 placed s (Mark o) h = tt
 placed s (Stamp o) h = tt
 placed s (Slot o i) h = tt
+placed s (Class o) h = tt
 placed s (Hold t p) h = h.1
 placed s (Displaced t p) h = tt
 placed s (Waiting t) h = tt

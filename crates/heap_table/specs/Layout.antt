@@ -1,16 +1,17 @@
 -- Where each word lies.
 use Rattle.std.specs.Prelude.{ℕ, ◌+◌, ◌*◌, List, length, map, slice_index}
 use Rattle.core_world.specs.declared.name.Name.{Name}
-use Rattle.core_world.specs.declared.name.Name.TheVariants.{Safepoint, Prototype, Revocations, LastBulk, Mark, Stamp, Slot, Hold, Displaced, Waiting, Length, Owner, Recursions, Header, Object, Claim, End, Ring}
+use Rattle.core_world.specs.declared.name.Name.TheVariants.{Safepoint, Prototype, Revocations, LastBulk, Mark, Stamp, Slot, Hold, Displaced, Waiting, Length, Owner, Recursions, Header, Object, Claim, End, Ring, Class}
 use Rattle.core_world.specs.Words.Names.{first_index}
 use Rattle.core_world.specs.Words.Shape.{Shape, ring_places}
 
--- the shape with so many threads, with classes of so many slots, and with an object of each of these classes
-abbrev pub shape_of : ℕ → List ℕ → List ℕ → Shape
-shape_of threads slots classes =
+-- the shape with so many threads, with classes of so many slots, and with an object of each of these classes, of which so many are declared
+abbrev pub shape_of : ℕ → List ℕ → List ℕ → ℕ → Shape
+shape_of threads slots classes declared =
     record {
       threads = threads;
       classes = length slots;
+      declared = declared;
       objects = map (λ c. (c, slice_index slots c)) classes;
     }
 
@@ -41,9 +42,9 @@ word_count s = ring_from s + ring_places s
 
 -- A word's place. The words of one group are mostly stored by one thread at a time; those of two groups, and the
 -- safepoint word and the claim word, and a thread's waiting word and its other words, lie 8 words apart or more, and so
--- in different lines of a cache. The ring's end lies beside the claim word, and in the line of the safepoint word where the
--- table begins at a line; and the words of the ring lie side by side. They are stored only at a reached safepoint, where
--- nobody runs, and a claim only loads one.
+-- in different lines of a cache. An object's class word lies behind its slots. The ring's end lies beside the claim word,
+-- and in the line of the safepoint word where the table begins at a line; and the words of the ring lie side by side. They
+-- are stored only at a reached safepoint, where nobody runs, and a claim only loads one.
 abbrev pub place_of : Shape → Name → ℕ
 place_of s Safepoint = 0
 place_of s Claim = 8
@@ -54,6 +55,7 @@ place_of s (LastBulk c) = classes_from + 16 * c + 2
 place_of s (Mark o) = objects_from s + 32 * o
 place_of s (Stamp o) = objects_from s + 32 * o + 1
 place_of s (Slot o i) = objects_from s + 32 * o + 2 + i
+place_of s (Class o) = objects_from s + 32 * o + 18
 place_of s (Hold t p) = threads_from s + 144 * t + p
 place_of s (Displaced t p) = threads_from s + 144 * t + 64 + p
 place_of s (Length t) = threads_from s + 144 * t + 128
@@ -75,6 +77,7 @@ group (LastBulk c) = 1
 group (Mark o) = 2
 group (Stamp o) = 2
 group (Slot o i) = 2
+group (Class o) = 2
 group (Hold t p) = 3
 group (Displaced t p) = 3
 group (Length t) = 3

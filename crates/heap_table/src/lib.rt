@@ -10,6 +10,7 @@ mod acts;
 mod afters;
 mod begins;
 mod choice;
+mod classes;
 mod counts;
 mod draws;
 mod ends;

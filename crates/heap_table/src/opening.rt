@@ -2,7 +2,7 @@
 ghost use Rattle.std.specs.Prelude.{◌≡◌, ◌++◌, IfOk, length};
 ghost use Rattle.core_world.specs.Opening.{first_mark};
 ghost use Rattle.heap_table.specs.Layout.{word_count};
-ghost use Rattle.heap_table.specs.inner.Openings.{copies, numbers, opening_words};
+ghost use Rattle.heap_table.specs.inner.Openings.{copies, numbers, object_words, opening_words};
 
 use crate::setting::Setting;
 use std::alloc::{AllocError, Global};
@@ -30,11 +30,21 @@ fn push_numbers(words: &mut Vec<u64>, count: u32) -> Result<(), AllocError>
     Ok(())
 }
 
-// Each class's prototype at first, and each object's mark.
+// Each class's prototype at first, and each declared object's mark; without biases, the mark of every object.
 fn mark_word(biasing: bool) -> u64
     ensures { result ≡ first_mark biasing }
 {
     if biasing { 5 } else { 1 }
+}
+
+// An object's words at first, by its mark.
+fn object_group(mark: u64) -> [u64; 32]
+    ensures { result ≡ object_words mark }
+{
+    [
+        mark, 0, ZERO, ZERO, ZERO, ZERO, ZERO, ZERO, ZERO, ZERO, ZERO, ZERO, ZERO, ZERO, ZERO,
+        ZERO, ZERO, ZERO, 0, 0, 0, 0, 0, 0, 0, 0, 0, 0, 0, 0, 0, 0,
+    ]
 }
 
 /// The words of the opening world, by their places.
@@ -45,21 +55,23 @@ pub fn opening_words(alloc: Global, setting: &Setting) -> Result<Vec<u64>, Alloc
     let threads = setting.shape.threads() as usize;
     let classes = setting.shape.classes() as usize;
     let objects = setting.shape.objects();
+    let declared = setting.shape.declared() as usize;
     let mark = mark_word(setting.biasing);
     let monitors = objects + threads;
     let places = setting.shape.ring_places();
     let rest = 144 * threads + 16 * monitors;
     let own = [0, 0, 0, 0, 0, 0, 0, monitors as u64, 0, 0, 0, 0, 0, 0, 0, 0];
     let class = [mark, 0, 0, 0, 0, 0, 0, 0, 0, 0, 0, 0, 0, 0, 0, 0];
-    let object = [
-        mark, 0, ZERO, ZERO, ZERO, ZERO, ZERO, ZERO, ZERO, ZERO, ZERO, ZERO, ZERO, ZERO, ZERO,
-        ZERO, ZERO, ZERO, 0, 0, 0, 0, 0, 0, 0, 0, 0, 0, 0, 0, 0, 0,
-    ];
     let count = 16 + 16 * classes + 32 * objects + rest + places as usize;
     let mut words = Vec::with_capacity(alloc, count)?;
     push_copies(&mut words, 1, &own)?;
     push_copies(&mut words, classes, &class)?;
-    push_copies(&mut words, objects, &object)?;
+    push_copies(&mut words, declared, &object_group(mark))?;
+    push_copies(
+        &mut words,
+        objects - declared,
+        &object_group(mark_word(false)),
+    )?;
     push_copies(&mut words, rest, &[0])?;
     push_numbers(&mut words, places)?;
     Ok(words)

@@ -10,11 +10,12 @@ use plain_monitor::NoMemory;
 use std::alloc::{AllocError, Global};
 use std::marker::Model;
 
-/// The shape of a heap. It keeps the class and the number of slots of each object.
+/// The shape of a heap. It keeps how many objects are declared, and the class and the number of slots of each object.
 #[derive(Drop)]
 pub struct HeapShape {
     threads: u32,
     classes: u32,
+    declared: u32,
     objects: Vec<(u32, u32)>,
 }
 
@@ -23,11 +24,12 @@ impl Model for HeapShape {
 
     ghost Value = { Shape };
 
-    ghost view = { λ s. record { threads = s.threads; classes = s.classes; objects = s.objects.items } };
+    ghost view = { λ s. record { threads = s.threads; classes = s.classes; declared = s.declared; objects = s.objects.items } };
 
     ghost invariant = { λ s. IsInLimits (record {
       threads = s.threads;
       classes = s.classes;
+      declared = s.declared;
       objects = s.objects.items;
     }) };
 }
@@ -75,7 +77,7 @@ impl HeapShape {
         requires { class < self.now.classes }
         ensures { result ≡ place_of self.now (Name.Prototype class) }
     {
-        self.class_at(class)
+        self.class_group_at(class)
     }
 
     /// The count of revocations of the class.
@@ -84,7 +86,7 @@ impl HeapShape {
         requires { class < self.now.classes }
         ensures { result ≡ place_of self.now (Name.Revocations class) }
     {
-        self.class_at(class) + 1
+        self.class_group_at(class) + 1
     }
 
     /// The moment of the class's last bulk operation.
@@ -93,7 +95,7 @@ impl HeapShape {
         requires { class < self.now.classes }
         ensures { result ≡ place_of self.now (Name.LastBulk class) }
     {
-        self.class_at(class) + 2
+        self.class_group_at(class) + 2
     }
 
     /// The mark of the object.
@@ -112,6 +114,15 @@ impl HeapShape {
         ensures { result ≡ place_of self.now (Name.Stamp object) }
     {
         self.group_at(object) + 1
+    }
+
+    /// The class word of the object. A declared object's group has the place, too, but no such word.
+    #[inline(always)]
+    pub fn class_at(&self, object: u32) -> usize
+        requires { object < many self.now }
+        ensures { result ≡ place_of self.now (Name.Class object) }
+    {
+        self.group_at(object) + 18
     }
 
     /// This slot of the object.
@@ -209,6 +220,7 @@ impl HeapShape {
             Name::LastBulk { class } => self.last_at(class),
             Name::Mark { object } => self.mark_at(object),
             Name::Stamp { object } => self.stamp_at(object),
+            Name::Class { object } => self.class_at(object),
             Name::Slot { object, slot } => self.slot_at(object, slot),
             Name::Hold { thread, place } => self.hold_at(thread, place),
             Name::Displaced { thread, place } => self.displaced_at(thread, place),
@@ -228,7 +240,7 @@ impl HeapShape {
 // Where the groups of words begin.
 impl HeapShape {
     #[inline(always)]
-    fn class_at(&self, class: u32) -> usize
+    fn class_group_at(&self, class: u32) -> usize
         requires { class < self.now.classes }
         ensures place { result ≡ classes_from + 16 * class }
         ensures low { result < 1000000 }
@@ -291,24 +303,27 @@ fn objects_of(alloc: Global, slots: &[u32], classes: &[u32]) -> Result<Vec<(u32,
 
 impl HeapShape {
     /// The shape of so many threads, of classes whose objects have so many slots, and of an object of each of these
-    /// classes.
+    /// classes. So many of the objects, the first ones, are declared; threads make the others.
     pub fn of(
         alloc: Global,
         threads: u32,
         slots: &[u32],
         classes: &[u32],
+        declared: u32,
     ) -> Result<HeapShape, NoMemory>
         requires counts { (threads ≤ most_threads) × (length slots.now ≤ most_classes)
             × (length classes.now ≤ most_objects) }
+        requires declared { declared ≤ length classes.now }
         requires slots { All (λ n. n ≤ most_slots) slots.now }
         requires classes { All (λ c. c < length slots.now) classes.now }
-        ensures { IfOk result (λ s. s ≡ shape_of threads slots.now classes.now) }
+        ensures { IfOk result (λ s. s ≡ shape_of threads slots.now classes.now declared) }
     {
         match objects_of(alloc, slots, classes) {
             Err(_) => Err(NoMemory),
             Ok(objects) => Ok(HeapShape {
                 threads,
                 classes: slots.len() as u32,
+                declared,
                 objects,
             }),
         }
@@ -336,6 +351,14 @@ impl HeapShape {
         self.objects.len()
     }
 
+    /// How many of the objects are declared. They have the first numbers.
+    pub fn declared(&self) -> u32
+        ensures same { result ≡ self.now.declared }
+        ensures within { result ≤ many self.now }
+    {
+        self.declared
+    }
+
     /// How many places the ring of monitors has: the least power of two that is at least the number of monitors, one
     /// for each object and each thread. From 1 to 8192.
     pub fn ring_places(&self) -> u32
@@ -345,7 +368,7 @@ impl HeapShape {
         (self.objects.len() as u32 + self.threads).next_power_of_two()
     }
 
-    /// The class of the object.
+    /// The class of a declared object. Of another, the shape tells only the number of slots.
     pub fn class_of(&self, object: u32) -> u32
         requires { object < many self.now }
         ensures class { result ≡ class_of self.now object }

@@ -18,7 +18,7 @@ use Rattle.heap_table.specs.Layout.{shape_of}
 use Rattle.heap_table.specs.Seen.{HeapSeen, PassSeen, IsOf}
 
 abbrev pub two : Shape
-two = shape_of 2 (1 ∷ []) (0 ∷ 0 ∷ [])
+two = shape_of 2 (1 ∷ []) (0 ∷ 0 ∷ []) 2
 
 -- behind these steps, newest first, each with the word that it found
 abbrev pub behind : List (StepPlan × ℕ) → Known

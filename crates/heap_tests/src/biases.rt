@@ -20,7 +20,7 @@ use std::test::Fail;
 fn begin(alloc: Global) -> Result<(Heap, Pass, Pass), NoMemory>
     ensures { IfOk result (λ r. Knows r.0 (first_known 0) r.1 × Knows r.0 (first_known 1) r.2) }
 {
-    let shape = HeapShape::of(alloc, 2, &[1], &[0, 0])?;
+    let shape = HeapShape::of(alloc, 2, &[1], &[0, 0], 2)?;
     let (heap, passes) = new_heap(alloc, shape, 10, 7, true)?;
     let mut passes = passes.into_vec();
     let Some(second) = passes.pop() else {

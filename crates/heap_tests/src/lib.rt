@@ -1,5 +1,5 @@
-//! Tests of the words of a heap and of the operations on them: single acts, steps that two threads make on one heap, the ring of
-//! monitors, safepoints, holds by lock records and under biases. They stand in a crate of their own, so that `core_world`,
+//! Tests of the words of a heap and of the operations on them: single acts, steps that two threads make on one heap, a heap as it
+//! begins, safepoints, holds by lock records and under biases. They stand in a crate of their own, so that `core_world`,
 //! `heap_table`, `safepoint`, `stack_lock` and `bias_lock` aren't proved once more with them.
 #![tactic(auto)]
 
@@ -10,11 +10,11 @@ mod biases;
 #[cfg(test)]
 mod compare;
 #[cfg(test)]
+mod opening;
+#[cfg(test)]
 mod races;
 #[cfg(test)]
 mod records;
-#[cfg(test)]
-mod rings;
 #[cfg(test)]
 mod safepoints;
 #[cfg(test)]

@@ -17,9 +17,9 @@ use std::thread::{Threads, join};
 // A heap of two threads and two objects of a class with one slot, without biases.
 fn begin(alloc: Global) -> Result<(Heap, Pass, Pass), NoMemory>
     ensures { IfOk result (λ r. IsFresh r.0 0 r.1 × IsFresh r.0 1 r.2
-        × (r.0.heap.shape ≡ shape_of 2 (1 ∷ []) (0 ∷ 0 ∷ []))) }
+        × (r.0.heap.shape ≡ shape_of 2 (1 ∷ []) (0 ∷ 0 ∷ []) 2)) }
 {
-    let shape = HeapShape::of(alloc, 2, &[1], &[0, 0])?;
+    let shape = HeapShape::of(alloc, 2, &[1], &[0, 0], 2)?;
     let (heap, passes) = new_heap(alloc, shape, 10, 7, false)?;
     let mut passes = passes.into_vec();
     let Some(second) = passes.pop() else {
@@ -33,7 +33,7 @@ fn begin(alloc: Global) -> Result<(Heap, Pass, Pass), NoMemory>
 
 // The places of the second object's mark and slot.
 fn places(heap: &Heap) -> (usize, usize)
-    requires { heap.now.heap.shape ≡ shape_of 2 (1 ∷ []) (0 ∷ 0 ∷ []) }
+    requires { heap.now.heap.shape ≡ shape_of 2 (1 ∷ []) (0 ∷ 0 ∷ []) 2 }
 {
     (heap.shape().mark_at(1), heap.shape().slot_at(1, 0))
 }
@@ -129,7 +129,7 @@ fn look_both<R: Threads>(rt: &R, heap: &Heap, first: Pass, second: Pass) -> (Pas
 // The end of a heap of two threads that are stopped.
 fn end(alloc: Global, heap: Heap, first: Pass, second: Pass) -> Result<Closed, NoMemory>
     requires passes { IsStill heap 0 first × IsStill heap 1 second }
-    requires shape { heap.heap.shape ≡ shape_of 2 (1 ∷ []) (0 ∷ 0 ∷ []) }
+    requires shape { heap.heap.shape ≡ shape_of 2 (1 ∷ []) (0 ∷ 0 ∷ []) 2 }
 {
     let Ok(mut passes) = Vec::with_capacity(alloc, 2) else {
         return Err(NoMemory);

@@ -15,7 +15,7 @@ use std::test::Fail;
 fn fresh(alloc: Global) -> Result<(Heap, Pass, Pass), NoMemory>
     ensures { IfOk result (λ r. IsFresh r.0 0 r.1 × IsFresh r.0 1 r.2) }
 {
-    let shape = HeapShape::of(alloc, 2, &[1], &[0])?;
+    let shape = HeapShape::of(alloc, 2, &[1], &[0], 1)?;
     let (heap, passes) = new_heap(alloc, shape, 10, 7, false)?;
     let mut passes = passes.into_vec();
     let Some(second) = passes.pop() else {

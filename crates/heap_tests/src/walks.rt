@@ -179,7 +179,7 @@ fn walk(heap: &Heap, pass: &mut Pass) -> bool
 fn begin(alloc: Global) -> Result<(Heap, Pass, Pass), NoMemory>
     ensures { IfOk result (λ r. IsAt r.0 [] r.1 × IsStill r.0 1 r.2 × (r.0.heap.shape ≡ two)) }
 {
-    let shape = HeapShape::of(alloc, 2, &[1], &[0, 0])?;
+    let shape = HeapShape::of(alloc, 2, &[1], &[0, 0], 2)?;
     let (heap, passes) = new_heap(alloc, shape, 10, 7, false)?;
     let mut passes = passes.into_vec();
     let Some(second) = passes.pop() else {

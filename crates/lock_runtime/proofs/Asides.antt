@@ -15,21 +15,23 @@ use Rattle.core_world.specs.declared.answer.Turn.{Turn}
 use Rattle.core_world.specs.declared.answer.Turn.TheVariants.{Done, Pending}
 use Rattle.core_world.specs.declared.name.Name.TheVariants.{Mark, Hold, Displaced}
 use Rattle.core_world.specs.declared.stage.Stage.{Stage}
+use Rattle.core_world.specs.declared.stage.Stage.TheVariants.{Calm}
 use Rattle.core_world.specs.Locks.{is_valid_bias, hold_count}
 use Rattle.core_world.specs.RevocationRules.{Write, write, raised_form, with_epoch, store_where, object_held, biased_word, revoke_biased, record_writes, first_place}
 use Rattle.core_world.specs.Threads.Known.{Start}
 use Rattle.core_world.specs.Threads.Stages.{Revocation}
 use Rattle.core_world.specs.Words.Forms.{epoch_in, is_biased, is_still, names, hold_word}
-use Rattle.core_world.specs.Words.Shape.{Shape, class_of}
+use Rattle.core_world.specs.Words.Shape.{Shape}
 use Rattle.core_world.specs.Trees.DeflateSteps.{deflate_steps}
 use Rattle.core_world.specs.Trees.Operations.{and_then, revocation_steps, revoked_steps, unbias_tried, unbias_steps}
-use Rattle.core_world.specs.Trees.Plans.{Purpose, done_with}
-use Rattle.core_world.specs.Trees.RevocationSteps.{look, store_steps, revoke_at, revoke_steps, visit_held, walk_steps, take_bias_steps, next_epoch, bulk_rebias_steps, bulk_revoke_steps, verdict_steps, decided_steps, revoke_at_safepoint_steps}
+use Rattle.core_world.specs.Trees.Plans.{Purpose, done_with, class_steps}
+use Rattle.core_world.specs.Trees.RevocationSteps.{revocation_stage, look, store_steps, revoke_at, revoke_steps, visit_held, walk_steps, take_bias_steps, next_epoch, bulk_rebias_steps, bulk_revoke_steps, verdict_steps, decided_steps, revoke_at_safepoint_steps}
 use Rattle.core_world.specs.Trees.SafepointSteps.{has_requester, request_swap_steps, request_steps, reached_steps, then_reached, safepoint_steps, release_to, reached_word}
 use Rattle.core_world.specs.Trees.Todo.{Todo, ◌>>=◌, each_from, all_from}
 use Rattle.core_world.specs.Trees.BiasSteps.{stage_after, unbias_swap_steps, bias_drop_at, bias_drop_by, bias_drop_steps}
 use Rattle.lock_runtime.specs.inner.Parts.{reached_revocation}
 use Rattle.revoke_walk.proofs.Deflating.{deflate_aside}
+use Rattle.heap_table.proofs.ClassSteps.{class_aside}
 use Rattle.heap_table.proofs.Aside.{AreAside, leaves_own_words, either_aside, then_aside, all_aside, each_aside}
 
 -- THE SAFEPOINT
@@ -110,7 +112,8 @@ module _ (e : Purpose) (b : Revocation) where
   module _ (s : Shape) (c : ℕ) (visit : ℕ → ℕ → Todo (Unit {0})) (visits : (o mark : ℕ) → AreAside (visit o mark)) where
     held : (o : Option ℕ) → AreAside (visit_held s c e b visit o)
     held None = tt
-    held (Some o) = either_aside (class_of s o == c) _ _ (record { quiet = refl; words = refl; keeps = refl }, λ mark. either_aside (is_biased mark) _ _ (visits o mark) tt) tt
+    held (Some o) = then_aside (class_steps e (revocation_stage b) s o) _ (class_aside e (revocation_stage b) s o) (λ class. either_aside (class == c) _ _
+        (record { quiet = refl; words = refl; keeps = refl }, λ mark. either_aside (is_biased mark) _ _ (visits o mark) tt) tt)
 
     placed : (t p : ℕ) → AreAside (look e b (Hold t p) >>= (λ hold. visit_held s c e b visit (object_held (read_hold hold))))
     placed t p = (record { quiet = refl; words = refl; keeps = refl }, λ hold. held (object_held (read_hold hold)))
@@ -160,16 +163,16 @@ module _ (e : Purpose) (b : Revocation) where
   pub at_safepoint : (s : Shape) (t : ℕ) → AreAside (revoke_at_safepoint_steps s t e b)
   at_safepoint s t = (
     record { quiet = refl; words = refl; keeps = refl },
-    λ mark. (
+    λ mark. then_aside (class_steps e Calm s b.object) _ (class_aside e Calm s b.object) (λ class. (
       record { quiet = refl; words = refl; keeps = refl },
       λ prototype. (
         record { quiet = refl; words = refl; keeps = refl },
         λ count. (
           record { quiet = refl; words = refl; keeps = refl },
-          λ last. either_aside (is_valid_bias (read_mark mark) prototype) _ _ (by_count s t (class_of s b.object) (epoch_in prototype) count last) tt,
+          λ last. either_aside (is_valid_bias (read_mark mark) prototype) _ _ (by_count s t class (epoch_in prototype) count last) tt,
         ),
       ),
-    ),
+    )),
   )
 
   behind_safepoint : (s : Shape) (t : ℕ) (turn : Turn (Unit {0}))
@@ -204,7 +207,8 @@ drop_by (Some epoch) e o mark prototype = drop_at (read_mark mark) epoch e o mar
 drop : (s : Shape) (e : Purpose) (o : ℕ) → AreAside (bias_drop_steps s e o)
 drop s e o = (
   record { quiet = refl; words = refl; keeps = refl },
-  λ mark. either_aside (is_biased mark) _ _ (record { quiet = refl; words = refl; keeps = refl }, λ prototype. drop_by (epoch_in prototype) e o mark prototype) tt,
+  λ mark. either_aside (is_biased mark) _ _ (then_aside (class_steps e Calm s o) _ (class_aside e Calm s o)
+      (λ class. (record { quiet = refl; words = refl; keeps = refl }, λ prototype. drop_by (epoch_in prototype) e o mark prototype))) tt,
 )
 
 revoked_turn : (turn : Turn Bool) → AreAside (and_then turn (λ _. done_with (tt {0})))

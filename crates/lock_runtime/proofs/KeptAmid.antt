@@ -1,5 +1,5 @@
 -- An attempt on a bias keeps no monitor and spends none.
-use Rattle.std.proofs.Common.{◌≡◌, ℕ, ◌==◌, Bool, true, false, cond, if◌then◌else◌, Option, Some, None, refl, ap, ◌∙◌}
+use Rattle.std.proofs.Common.{◌≡◌, ℕ, ◌==◌, nat_lt, Bool, true, false, cond, if◌then◌else◌, Option, Some, None, refl, ap, ◌∙◌}
 use Rattle.mark_word.specs.declared.mark.MarkForm.{MarkForm}
 use Rattle.mark_word.specs.declared.mark.MarkForm.TheVariants.{Inflating, Neutral, Anonymous, Biased, Locked, Inflated, Marked}
 use Rattle.mark_word.specs.Mark.{read_mark}
@@ -8,13 +8,13 @@ use Rattle.plain_monitor.specs.declared.entry.Path.TheVariants.{BiasTaken, BiasO
 use Rattle.core_world.specs.declared.plan.Own.{Own}
 use Rattle.core_world.specs.declared.plan.Own.TheVariants as own
 use Rattle.core_world.specs.declared.plan.StepPlan.{StepPlan}
-use Rattle.core_world.specs.declared.stage.Stage.TheVariants.{Enters}
+use Rattle.core_world.specs.declared.stage.Stage.TheVariants.{Calm, Enters}
 use Rattle.core_world.specs.Due.{Runs}
 use Rattle.core_world.specs.Steps.{known_after, known_hit, known_miss, kept_after}
 use Rattle.core_world.specs.Threads.Known.{Known, Local}
 use Rattle.core_world.specs.Trees.BiasSteps.{took_steps, unbias_swap_steps, rebias_steps, bias_enter_at, bias_enter_by, bias_enter_steps, bias_after_at, bias_after_steps}
 use Rattle.core_world.specs.Trees.LockSteps.{store_ready_plan, hold_steps, log_enter_steps}
-use Rattle.core_world.specs.Trees.Plans.{Purpose, free_place}
+use Rattle.core_world.specs.Trees.Plans.{Purpose, free_place, class_steps}
 use Rattle.core_world.specs.Trees.Todo.{Todo, done, never, step, ◌>>=◌}
 use Rattle.core_world.specs.Words.Acts.{hits}
 use Rattle.core_world.specs.Words.Forms.{is_biased, is_entering}
@@ -87,8 +87,15 @@ by_prototype (Some (Locked t p)) e k o mark prototype = tt
 by_prototype (Some (Inflated m)) e k o mark prototype = tt
 by_prototype (Some Marked) e k o mark prototype = tt
 
+class : (s : Shape) (e : Purpose) (o : ℕ) → AreSame (class_steps e Calm s o)
+class s e o = either (nat_lt o s.declared) _ _ tt (refl, λ n. tt)
+
 pub enter_keeps : (s : Shape) (e : Purpose) (k : Local) (o : ℕ) → AreSame (bias_enter_steps s e k o)
-enter_keeps s e k o = (refl, λ mark. either (is_biased mark) _ _ (refl, λ prototype. by_prototype (read_mark prototype) e k o mark prototype) tt)
+enter_keeps s e k o = (
+  refl,
+  λ mark. either (is_biased mark) _ _
+      (in_order (class_steps e Calm s o) _ (class s e o) (λ c. (refl, λ prototype. by_prototype (read_mark prototype) e k o mark prototype))) tt,
+)
 
 own_bias : (f : Option MarkForm) (e : Purpose) (k : Local) (o : ℕ) → AreSame (bias_after_at f e k o)
 own_bias (Some (Biased t epoch age)) e k o = either (t == k.thread) _ _ (takes e k o BiasTaken) tt

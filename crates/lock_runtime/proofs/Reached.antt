@@ -1,6 +1,6 @@
 -- A dump whose safepoint is done has reached it: its release, which is to come, finds the word of a reached safepoint.
 use Rattle.std.specs.List.{list_all}
-use Rattle.std.proofs.Common.{◌≡◌, ℕ, zero, suc, ◌+◌, ◌<◌, ◌==◌, ◌||◌, ◌&&◌, Bool, true, false, cond, if◌then◌else◌, Option, Some, None, length, inl, inr, refl, sym, ap, ◌∙◌, subst, eq-eqb, eqb-true, arith}
+use Rattle.std.proofs.Common.{◌≡◌, ℕ, zero, suc, ◌+◌, ◌<◌, nat_lt, ◌==◌, ◌||◌, ◌&&◌, Bool, true, false, cond, if◌then◌else◌, Option, Some, None, length, inl, inr, refl, sym, ap, ◌∙◌, subst, eq-eqb, eqb-true, arith}
 use Rattle.mark_word.specs.declared.mark.MarkForm.{MarkForm}
 use Rattle.mark_word.specs.declared.mark.MarkForm.TheVariants.{Inflating, Neutral, Anonymous, Biased, Locked, Inflated, Marked}
 use Rattle.mark_word.specs.declared.owner.OwnerForm.{OwnerForm}
@@ -32,7 +32,7 @@ use Rattle.core_world.specs.Trees.Operations.{and_then}
 use Rattle.core_world.specs.Trees.WaitSteps.{publish_steps}
 use Rattle.core_world.specs.Trees.DeflateSteps.{deflate_free, deflate_monitor, deflate_named, deflate_steps, give_back_steps, is_untouched, look_at, names_monitor}
 use Rattle.core_world.specs.Trees.LookSteps.{look_at_holds, look_at_owner, look_behind, look_at_objects, take_shot_steps}
-use Rattle.core_world.specs.Trees.Plans.{Purpose, load, done_with, pending_for}
+use Rattle.core_world.specs.Trees.Plans.{Purpose, load, class_steps, done_with, pending_for}
 use Rattle.core_world.specs.Trees.SafepointSteps.{has_requester, reached_word, reached_steps, then_reached, request_plan, request_swap_steps, release_plan, release_safepoint, safepoint_steps}
 use Rattle.core_world.specs.Trees.Todo.{Todo, done, never, step, ◌>>=◌, ask, after_answer, all_from, each_from, is_over}
 use Rattle.core_world.specs.Words.Acts.{hits, word_after}
@@ -88,8 +88,12 @@ module _ (e : Purpose) (s : Shape) where
   owner_leaves (Some Free) = tt
   owner_leaves None = tt
 
+  class_leaves : (o : ℕ) → LeaveSafepoint (class_steps e Calm s o)
+  class_leaves o = either_leave (nat_lt o s.declared) _ _ tt (refl, λ n. tt)
+
   mark_leaves : (f : Option MarkForm) (o : ℕ) → LeaveSafepoint (look_behind f e s o)
-  mark_leaves (Some (Biased thread epoch age)) o = (refl, λ n. either_leave (has_epoch (epoch_in n) epoch) _ _ (holds_leave thread) tt)
+  mark_leaves (Some (Biased thread epoch age)) o = leave_then (class_steps e Calm s o) _ (class_leaves o)
+      (λ class. (refl, λ n. either_leave (has_epoch (epoch_in n) epoch) _ _ (holds_leave thread) tt))
   mark_leaves (Some (Locked thread place)) o = holds_leave thread
   mark_leaves (Some (Inflated monitor)) o = (refl, λ n. owner_leaves (read_owner n))
   mark_leaves None o = tt

@@ -8,7 +8,6 @@ use Rattle.plain_monitor.specs.History.{log_of}
 use Rattle.plain_monitor.specs.Order.{order}
 use Rattle.core_law.specs.Logic.{Heap}
 use Rattle.core_law.specs.TakenBiases.{times_taken, OwnsAreTaken}
-use Rattle.core_world.specs.Words.Shape.{class_of}
 use Rattle.heap_table.specs.Seen.{ClosedSeen}
 use Rattle.run_rounds.specs.Outcome.{HasBiases as LeftBiases}
 use Rattle.program_run.proofs.Few.{most_in_all}
@@ -28,9 +27,9 @@ module _ {tick : ℕ} (heap : Heap) (c : ClosedSeen) (left : LeftBiases heap tic
   ]
 
   pub taken_few : c.heap ≡ heap → heap.shape.threads ≤ most_threads → ((t : ℕ) → length (log_of c.logs t) ≤ most_in_all) → (o : ℕ)
-      → class_of heap.shape o < heap.shape.classes
-      → times_taken o (entries_on o (order c.logs)) ≤ (line_of c (class_of heap.shape o)).rebias + 1
+      → left.biases.class o < heap.shape.classes
+      → times_taken o (entries_on o (order c.logs)) ≤ (line_of c (left.biases.class o)).rebias + 1
   taken_few same many short o within =
       let few = left.biases.biases.few o in
-      let is = rebias_is heap c left same many short (class_of heap.shape o) within in
+      let is = rebias_is heap c left same many short (left.biases.class o) within in
       omega (arith, few, is)

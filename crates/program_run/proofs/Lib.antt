@@ -19,3 +19,4 @@ pub mod MadeRuns
 pub mod FirstEnters
 pub mod ChosenPaths
 pub mod Passed
+pub mod NotDeclared

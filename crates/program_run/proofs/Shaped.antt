@@ -7,7 +7,7 @@ use Rattle.heap_table.specs.Layout as layout
 use Rattle.object_program.specs.declared.program.ClassDef.{ClassDef}
 use Rattle.object_program.specs.declared.program.ObjectDef.{ObjectDef}
 use Rattle.object_program.specs.declared.program.ThreadDef.{ThreadDef}
-use Rattle.object_program.specs.Program.{ProgramText, shape_from, shape_of, slots_of_class, total_of}
+use Rattle.object_program.specs.Program.{ProgramText, declared_total, shape_from, shape_of, slots_of_class, total_of}
 use Rattle.object_program.proofs.Made.{declared_shape}
 use Rattle.object_program.specs.Valid.{AreObjects, IsProgram}
 use Rattle.plain_monitor.specs.Limits.{most_threads, most_classes, most_slots, most_objects}
@@ -52,6 +52,12 @@ objects_are classes (d ∷ ds) =
     ∙ ap (λ (x : List (ℕ × ℕ)). x ++ map f (classes_of ds)) of_one
     ∙ ap (λ (x : List (ℕ × ℕ)). replicate d.size (d.class, slots_of_class classes d.class) ++ x) (objects_are classes ds)
 
+-- the heap has the declared objects, as no thread of a program makes one
+pub shape_many : (p : ProgramText) → IsProgram p → length (shape_of p) ≡ declared_total p
+shape_many p is =
+    ap length (declared_shape p is ∙ sym (objects_are p.classes p.objects))
+    ∙ length-map (classes_of p.objects) (λ c. (c, slice_index (slots_by p.classes) c)) ∙ many_classes p.objects
+
 module _ (p : ProgramText) (is : IsProgram p) (threads : List ThreadDef) (slots classes : List ℕ)
     (t : threads ≡ p.threads) (s : slots ≡ slots_by p.classes) (c : classes ≡ classes_of p.objects) where
   pub in_limits : (length threads ≤ most_threads) × (length slots ≤ most_classes) × (length classes ≤ most_objects)
@@ -74,9 +80,12 @@ module _ (p : ProgramText) (is : IsProgram p) (threads : List ThreadDef) (slots 
       let many : length slots ≡ length p.classes = ap length s ∙ length-map p.classes (λ (d : ClassDef). d.slots) in
       subst (λ (x : ℕ × List ℕ). All (λ d. d < x.0) x.1) (λ i. (sym many i, sym c i)) (all_declared (length p.classes) 0 p.objects is.objects)
 
-  pub shape_is : layout.shape_of (length threads) slots classes ≡ shape_for p
-  shape_is =
+  pub all_there : declared_total p ≤ length classes
+  all_there = let three : length classes ≡ total_of p.objects = ap length c ∙ many_classes p.objects in omega (arith, three)
+
+  pub shape_is : (declared : ℕ) → declared ≡ declared_total p → layout.shape_of (length threads) slots classes declared ≡ shape_for p
+  shape_is declared d =
       let many : length slots ≡ length p.classes = ap length s ∙ length-map p.classes (λ (d : ClassDef). d.slots) in
       let objects : map (λ d. (d, slice_index slots d)) classes ≡ shape_of p =
       (λ i. map (λ d. (d, slice_index (s i) d)) (c i)) ∙ objects_are p.classes p.objects ∙ sym (declared_shape p is) in
-      λ i. record { threads = length (t i); classes = many i; objects = objects i }
+      λ i. record { threads = length (t i); classes = many i; declared = d i; objects = objects i }

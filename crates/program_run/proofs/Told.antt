@@ -1,6 +1,8 @@
 -- A run of a program, told by its record.
-use Rattle.std.proofs.Common.{◌≡◌, ℕ, ◌+◌, ◌<◌, ◌≤◌, Bool, true, false, List, [], length, Some, refl, sym, ap, ◌∙◌, subst, arith}
-use Rattle.std.specs.Prelude.{◌⊎◌, slice_get, slice_index_or}
+use Rattle.std.proofs.Common.{◌≡◌, ℕ, ◌+◌, ◌-◌, ◌<◌, ◌≤◌, ◌==◌, ◌||◌, not, nat_lt, cond, inl, inr, Bool, true, false, List, [], length, Some, refl, sym, ap, ◌∙◌, subst, arith}
+use Rattle.std.specs.Prelude.{◌⊎◌, slice_get, slice_index_or, Option, None, IsSome}
+use Rattle.std.proofs.lemmas.Bool.{cases_lt}
+use Rattle.std.proofs.lemmas.Bool.Decides.{nat_tests}
 use Rattle.std.specs.List.{AllByRecursion, list_any}
 use Rattle.plain_history.specs.HeldByLog.{nothing_held}
 use Rattle.std.proofs.lemmas.List.{length-map}
@@ -11,18 +13,21 @@ use Rattle.plain_monitor.specs.Limits.{most_fuel}
 use Rattle.plain_monitor.specs.declared.entry.Logged.{Logged}
 use Rattle.plain_monitor.specs.declared.entry.Path.{Path}
 use Rattle.plain_monitor.specs.declared.entry.Path.TheVariants.{BiasTaken}
-use Rattle.plain_monitor.specs.History.{log_of}
+use Rattle.plain_monitor.specs.History.{log_of, objects_after}
+use Rattle.plain_monitor.specs.Objects.{new_object, new_objects}
 use Rattle.plain_monitor.specs.Order.{order}
 use Rattle.core_law.specs.OfARun.{IsHashLogged}
 use Rattle.core_law.specs.TakenBiases.{times_taken, OwnsAreTaken}
 use Rattle.core_law.specs.Logic.{Heap}
 use Rattle.core_world.specs.Threads.Known.{DumpShot, Known}
+use Rattle.core_world.specs.declared.name.Name.TheVariants.{Class}
+use Rattle.heap_table.specs.BiasesAtEnd.{word_in}
 use Rattle.heap_table.specs.Seen.{ClosedSeen}
 use Rattle.lock_journal.specs.Hashes.{hash_fits}
 use Rattle.lock_journal.specs.declared.record.ClassLine.{ClassLine}
 use Rattle.lock_journal.specs.declared.record.RunRecord.{RunRecord}
 use Rattle.lock_journal.specs.declared.record.Shot.{Shot}
-use Rattle.object_program.specs.Program.{ProgramText, class_of, shape_of}
+use Rattle.object_program.specs.Program.{ProgramText, class_of, declared_total, shape_of}
 use Rattle.object_program.specs.Valid.{IsProgram}
 use Rattle.plain_machine.specs.Legal.{IsLegal, machine_after}
 use Rattle.plain_machine.specs.Machine.{PlainMachine}
@@ -42,10 +47,16 @@ use Rattle.program_run.proofs.BiasesTaken.{log_owned, taken_few}
 use Rattle.program_run.proofs.Classes.{class_is}
 use Rattle.program_run.proofs.Cut.{Fronts, Legals, TheirObjects, right_shots}
 use Rattle.program_run.proofs.Few.{First, Stay, UseUp, Begins, Works, log_few, most_in_all}
+use Rattle.program_run.proofs.NotDeclared.{none_on}
+use Rattle.program_run.proofs.Shaped.{shape_many}
 use Rattle.program_run.proofs.LinesBelow.{line_at, lines_many}
 
 pub small : (s : Settings) (p : ProgramText) (c : ClosedSeen) → HasRun (heap_for s p) p s.fuel s.tick c → HasSmallCounts c
 small s p c ran = small_here (heap_for s p) c ran.biases ran.heap_is
+
+some_there : {A : Type 0} (m : Option A) → IsSome m → (x : A) × (m ≡ Some x)
+some_there None h = absurd (cc h)
+some_there (Some x) h = (x, refl)
 
 module _ (fronts : Fronts) (legals : Legals) (theirs : TheirObjects) (first : First) (stay : Stay) (use_up : UseUp) (begins : Begins) (works : Works)
     (biased_law : Biased) (plain_law : Plain)
@@ -96,32 +107,61 @@ module _ (fronts : Fronts) (legals : Legals) (theirs : TheirObjects) (first : Fi
       (λ i. (sym copy.logs i, sym copy.halted i))
       (verdicts_within heap c ran.biases ran.heap_is is.threads_few short t)
 
+  -- a declared object is there, with its program's class, by whatever words, and any other has no entry
+  in_heap : (o : ℕ) → o < declared_total p → o < length (shape_of p)
+  in_heap o here = let many = shape_many p is in omega (arith, many, here)
+
+  class_declared : (o : ℕ) → o < declared_total p → ran.biases.biases.class o ≡ class_of r.program o
+  class_declared o here =
+      let first : nat_lt o (declared_total p) ≡ true = grind (arith, nat_tests, here) in
+      ran.biases.biases.class_is o (in_heap o here)
+      ∙ ap (λ b. cond b (slice_index_or (shape_of p) o (0, 0)).0 (word_in heap c.words (Class o) - 1)) first
+      ∙ class_is p is o ∙ ap (λ (x : ProgramText). class_of x o) (sym of.program)
+
+  there_declared : (o : ℕ) → o < declared_total p → ran.biases.biases.there o ≡ true
+  there_declared o here =
+      let first : nat_lt o (declared_total p) ≡ true = grind (arith, nat_tests, here) in
+      ran.biases.biases.there_is o (in_heap o here) ∙ ap (λ b. b || not (word_in heap c.words (Class o) == 0)) first
+
+  none_past : (o : ℕ) → declared_total p ≤ o → entries_on o (order c.logs) ≡ []
+  none_past o past =
+      let taken = some_there (objects_after (shape_of p) c.logs) ran.followed.objects.taken in
+      let many : length (new_objects (shape_of p)) ≡ length (shape_of p) = length-map (shape_of p) (λ (x : ℕ × ℕ). new_object x.1) in
+      let declared = shape_many p is in
+      none_on (order c.logs) (new_objects (shape_of p)) taken.0 o taken.1 (omega (arith, past, many, declared))
+
   entered : r.bias ≡ true → (o : ℕ) (path : Path) → IsUnrevoked r (class_of r.program o)
       → first_path (entries_on o (order r.logs)) ≡ Some path → (path ≡ BiasTaken) ⊎ IsHashLogged r.logs o
   entered biased o path unrevoked e =
       let k : ℕ = class_of r.program o in
       let at = line_here k unrevoked.0 unrevoked.1 in
-      let class : (slice_index_or (shape_of p) o (0, 0)).0 ≡ k = class_is p is o ∙ ap (λ (x : ProgramText). class_of x o) (sym of.program) in
-      let within : (slice_index_or (shape_of p) o (0, 0)).0 < length p.classes = subst (λ n. n < length p.classes) (sym class) at.0 in
-      let none : (line_of c (slice_index_or (shape_of p) o (0, 0)).0).revoke ≡ 0 =
-      ap (λ n. (line_of c n).revoke) class ∙ ap (λ (x : ClassLine). x.revoke) at.1 ∙ unrevoked.2 in
+      let first : first_path (entries_on o (order c.logs)) ≡ Some path = ap (λ (x : List (List Logged)). first_path (entries_on o (order x))) (sym copy.logs) ∙ e in
       subst (λ (x : List (List Logged)). (path ≡ BiasTaken) ⊎ IsHashLogged x o) (sym copy.logs)
-      (ran.biases.biases.biases.entered (sym of.bias ∙ biased) o path
-      (sym (revoke_is heap c ran.biases ran.heap_is is.threads_few short (slice_index_or (shape_of p) o (0, 0)).0 within) ∙ none)
-      (ap (λ (x : List (List Logged)). first_path (entries_on o (order x))) (sym copy.logs) ∙ e))
+      (elim (cases_lt o (declared_total p)) [
+        | inl here ↦
+            let class = class_declared o here in
+            let within : ran.biases.biases.class o < length p.classes = subst (λ n. n < length p.classes) (sym class) at.0 in
+            let none : (line_of c (ran.biases.biases.class o)).revoke ≡ 0 = ap (λ n. (line_of c n).revoke) class ∙ ap (λ (x : ClassLine). x.revoke) at.1 ∙ unrevoked.2 in
+            ran.biases.biases.biases.entered (sym of.bias ∙ biased) o path (there_declared o here)
+            (sym (revoke_is heap c ran.biases ran.heap_is is.threads_few short (ran.biases.biases.class o) within) ∙ none) first
+        | inr past ↦ let none = ap first_path (none_past o past) in absurd (cc (none, first))
+      ])
 
   taken_at_most : (o : ℕ) (line : ClassLine) → slice_get r.classes (class_of r.program o) ≡ Some line
       → times_taken o (entries_on o (order r.logs)) ≤ line.rebias + 1
   taken_at_most o line e =
       let k : ℕ = class_of r.program o in
       let at = line_here k line e in
-      let class : (slice_index_or (shape_of p) o (0, 0)).0 ≡ k = class_is p is o ∙ ap (λ (x : ProgramText). class_of x o) (sym of.program) in
-      let within : (slice_index_or (shape_of p) o (0, 0)).0 < length p.classes = subst (λ n. n < length p.classes) (sym class) at.0 in
-      let few : times_taken o (entries_on o (order c.logs)) ≤ (line_of c (slice_index_or (shape_of p) o (0, 0)).0).rebias + 1 =
-      taken_few heap c ran.biases ran.heap_is is.threads_few short o within in
       let times = ap (λ (x : List (List Logged)). times_taken o (entries_on o (order x))) copy.logs in
-      let counted = ap (λ n. (line_of c n).rebias) class ∙ ap (λ (x : ClassLine). x.rebias) at.1 in
-      omega (arith, few, times, counted)
+      elim (cases_lt o (declared_total p)) [
+        | inl here ↦
+            let class = class_declared o here in
+            let within : ran.biases.biases.class o < length p.classes = subst (λ n. n < length p.classes) (sym class) at.0 in
+            let few = taken_few heap c ran.biases ran.heap_is is.threads_few short o within in
+            let counted = ap (λ n. (line_of c n).rebias) class ∙ ap (λ (x : ClassLine). x.rebias) at.1 in
+            omega (arith, few, times, counted)
+        | inr past ↦ let none = ap (times_taken o) (none_past o past) in omega (arith, times, none)
+      ]
 
   evens : s.tick ≡ 0 → AllByRecursion IsEven r.classes
   evens still =

@@ -2,12 +2,12 @@
 use Rattle.std.specs.Prelude.{length}
 use Rattle.core_law.specs.Logic.{Heap}
 use Rattle.core_world.specs.Words.Shape.{Shape}
-use Rattle.object_program.specs.Program.{ProgramText, shape_of}
+use Rattle.object_program.specs.Program.{ProgramText, declared_total, shape_of}
 use Rattle.program_run.specs.declared.settings.Settings.{Settings}
 
--- it has a place for each thread and each class, and the program's objects
+-- it has a place for each thread and each class, and the program's objects, of which the declared ones have the first numbers
 abbrev pub shape_for : ProgramText → Shape
-shape_for p = record { threads = length p.threads; classes = length p.classes; objects = shape_of p }
+shape_for p = record { threads = length p.threads; classes = length p.classes; declared = declared_total p; objects = shape_of p }
 
 abbrev pub heap_for : Settings → ProgramText → Heap
 heap_for s p = record { shape = shape_for p; start = s.start; biasing = s.bias }

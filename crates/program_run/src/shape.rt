@@ -18,7 +18,14 @@ pub fn heap_shape(alloc: Global, program: &Program) -> Result<HeapShape, NoMemor
     let slots = slots_by_class(alloc, program)?;
     let classes = classes_by_object(alloc, program)?;
     let threads = program.threads.items().len() as u32;
-    HeapShape::of(alloc, threads, slots.as_slice(), classes.as_slice())
+    let declared = program.declared_total();
+    HeapShape::of(
+        alloc,
+        threads,
+        slots.as_slice(),
+        classes.as_slice(),
+        declared,
+    )
 }
 
 // The number of slots of each class.

@@ -12,8 +12,8 @@ use Rattle.program_syntax.specs.Line.{keyword_of, is_outside, is_instruction, op
 use Rattle.program_syntax.specs.Reading.{Before, operand, count_at, label_of, labels_ahead, instruction_on, behind_keyword, ends_section}
 use Rattle.program_syntax.specs.Refusal.{is_closed, is_end, is_in_place, passes_limit, keyword_cause}
 use Rattle.program_syntax.specs.inner.Signs.{is_count, count_in}
-use Rattle.program_syntax.specs.inner.Labels.{labels_from, labels_at}
-use Rattle.program_syntax.specs.inner.Steps.{thread_of, HasAhead, HasAheadOf, IsAhead, IsAheadOf}
+use Rattle.program_syntax.specs.State.{labels_from, labels_at}
+use Rattle.program_syntax.specs.State.{thread_of, HasAhead, HasAheadOf, IsAhead, IsAheadOf}
 use Rattle.object_program.specs.declared.program.ThreadDef.{ThreadDef}
 use Rattle.object_program.specs.declared.program.Code.{Code}
 use Rattle.program_syntax.specs.declared.state.Section.{Section}

@@ -9,7 +9,8 @@ use Rattle.std.proofs.lemmas.Bool.Decides.{nat_tests}
 use Rattle.std.proofs.lemmas.Grind.{common_steps}
 use Rattle.program_syntax.specs.Text.{raw_lines, without_return, is_blank, is_empty}
 use Rattle.program_syntax.specs.Refusal.{lines_of}
-use Rattle.program_syntax.specs.inner.Left.{words_in, words_from}
+use Rattle.program_syntax.specs.Left.{words_in}
+use Rattle.program_syntax.specs.inner.Left.{words_from}
 
 none_by : (b : Bool) (n m : ℕ) → ltb n m ≡ b → None ≡ cond b (Some n) None → m ≤ n
 none_by true n m e h = absurd (cc h)

@@ -4,5 +4,8 @@ pub mod Line
 pub mod Reading
 pub mod Refusal
 pub mod Directory
+pub mod State
+pub mod Added
+pub mod Left
 pub mod Canonical
 pub mod inner

@@ -79,3 +79,10 @@ is_instruction Object = false
 is_instruction Array = false
 is_instruction Thread = false
 is_instruction k = true
+
+-- a line of a section that uses a label
+abbrev pub uses_label : Keyword → Bool
+uses_label Jump = true
+uses_label Jlt = true
+uses_label Jeq = true
+uses_label k = false

@@ -2,11 +2,12 @@
 
 ghost use Rattle.std.specs.Prelude.{◌≡◌, ◌==◌, true, false, Some, length};
 ghost use Rattle.object_program.specs.Valid.{is_among};
-ghost use Rattle.program_syntax.specs.Line.{operands_of};
+ghost use Rattle.program_syntax.specs.Line.{operands_of, uses_label};
 ghost use Rattle.program_syntax.specs.Reading.{operand};
 ghost use Rattle.program_syntax.specs.Refusal.{names_before, is_bad_name, is_twice, is_bad_number, some_operand};
 ghost use Rattle.program_syntax.specs.Refusal.{passes_limit, opens_unclosed, is_in_place};
-ghost use Rattle.program_syntax.specs.inner.Steps.{before_of, names_collected, is_unknown, fails, HasAheadOf, cause_of};
+ghost use Rattle.program_syntax.specs.State.{before_of, HasAheadOf, cause_of};
+ghost use Rattle.program_syntax.specs.inner.Steps.{names_collected, is_unknown, fails};
 
 use crate::error::Why;
 use crate::keyword::Keyword;
@@ -20,14 +21,15 @@ use crate::state::Reader;
 use crate::words::Words;
 use object_program::Name;
 
-/// The cause of a line with this keyword and these operands, with these lines behind it.
+/// The cause of a line with this keyword and these operands, with these lines behind it. Where the line uses a label, the reader has
+/// collected the labels of the section.
 pub fn keyword_cause(
     reader: &Reader,
     keyword: Keyword,
     operands: &Words<'_>,
     later: &Lines<'_>,
 ) -> Option<Why>
-    requires { HasAheadOf reader.now.section later.now operands.now keyword }
+    requires { uses_label keyword ≡ true → HasAheadOf reader.now.section later.now operands.now keyword }
     ensures { result ≡ cause_of reader.now later.now operands.now keyword }
 {
     if !is_in_place(reader, keyword) {

@@ -5,9 +5,10 @@ ghost use Rattle.object_program.specs.Limits.{most_classes, most_objects};
 ghost use Rattle.object_program.specs.Name.{is_name};
 ghost use Rattle.object_program.specs.Program.{total_of};
 ghost use Rattle.program_syntax.specs.Reading.{operand, new_thread, labels_ahead};
-ghost use Rattle.program_syntax.specs.inner.Added.{class_added, objects_added, thread_added};
+ghost use Rattle.program_syntax.specs.Added.{thread_added};
+ghost use Rattle.program_syntax.specs.inner.Added.{class_added, objects_added};
 ghost use Rattle.program_syntax.specs.inner.Signs.{is_count};
-ghost use Rattle.program_syntax.specs.inner.Steps.{text_of, thread_of};
+ghost use Rattle.program_syntax.specs.State.{text_of, thread_of};
 
 use crate::directory::Directory;
 use crate::labels::labels_ahead;

@@ -4,7 +4,7 @@ ghost use Rattle.std.specs.Prelude.{◌≡◌, ◌+◌, ◌==◌, ◌≤◌, pos
 ghost use Rattle.std.specs.List.{list_all};
 ghost use Rattle.program_syntax.specs.Text.{most_bytes, without_return, is_text_byte};
 ghost use Rattle.program_syntax.specs.Refusal.{lines_of};
-ghost use Rattle.program_syntax.specs.inner.Left.{lines_left};
+ghost use Rattle.program_syntax.specs.Left.{lines_left};
 
 use std::marker::Model;
 
@@ -18,7 +18,7 @@ pub struct Lines<'a> {
 impl<'a> Model for Lines<'a> {
     ghost use Rattle.std.specs.Prelude.{ℕ, ◌+◌, ◌≤◌, List, length, option_copied};
     ghost use Rattle.program_syntax.specs.Text.{most_bytes};
-    ghost use Rattle.program_syntax.specs.inner.Left.{lines_left};
+    ghost use Rattle.program_syntax.specs.Left.{lines_left};
 
     ghost Value = { List (List ℕ) };
 

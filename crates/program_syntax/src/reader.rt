@@ -5,8 +5,9 @@ ghost use Rattle.program_syntax.specs.Line.{is_outside};
 ghost use Rattle.program_syntax.specs.Reading.{nothing};
 ghost use Rattle.program_syntax.specs.Refusal.{read_from, program_of, lines_of};
 ghost use Rattle.program_syntax.specs.Text.{most_bytes};
-ghost use Rattle.program_syntax.specs.inner.Steps.{before_of, text_of, HasAhead, HasAheadOf};
-ghost use Rattle.program_syntax.specs.inner.Steps.{cause_of, IsBehindKeyword, IsKeywordStep, IsLineStep};
+ghost use Rattle.program_syntax.specs.State.{before_of, text_of, HasAhead, HasAheadOf};
+ghost use Rattle.program_syntax.specs.State.{cause_of, IsBehindKeyword};
+ghost use Rattle.program_syntax.specs.inner.Steps.{IsKeywordStep, IsLineStep};
 ghost use Rattle.program_syntax.specs.inner.Steps.{no_memory, refusal};
 ghost use Rattle.program_syntax.specs.Canonical.{canonical};
 ghost use Rattle.object_program.specs.Valid.{IsProgram};
@@ -70,7 +71,7 @@ fn behind_keyword(
 }
 
 /// What a line without a cause leaves where no section is open, behind these declarations.
-fn behind_declaration(
+pub fn behind_declaration(
     alloc: Global,
     declared: Declared,
     keyword: Keyword,

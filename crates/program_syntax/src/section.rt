@@ -6,8 +6,8 @@ ghost use Rattle.object_program.specs.Name.{is_name};
 ghost use Rattle.program_syntax.specs.Line.{is_instruction, operands_of};
 ghost use Rattle.program_syntax.specs.Reading.{operand, local_at, object_at, target_among};
 ghost use Rattle.program_syntax.specs.Refusal.{is_bad_number, some_operand};
-ghost use Rattle.program_syntax.specs.inner.Added.{local_added, code_added};
-ghost use Rattle.program_syntax.specs.inner.Steps.{text_of, thread_of, thread_to, IsInstructionOn};
+ghost use Rattle.program_syntax.specs.Added.{local_added, code_added};
+ghost use Rattle.program_syntax.specs.State.{text_of, thread_of, thread_to, IsInstructionOn};
 
 use crate::keyword::Keyword;
 use crate::number::{count_of, number_of};

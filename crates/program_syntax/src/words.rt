@@ -4,7 +4,8 @@ ghost use Rattle.std.specs.Prelude.{◌≡◌, ◌==◌, ◌<◌, position, [], 
 ghost use Rattle.std.specs.List.{before_first};
 ghost use Rattle.program_syntax.specs.Text.{is_blank, words_of};
 ghost use Rattle.program_syntax.specs.Reading.{operand};
-ghost use Rattle.program_syntax.specs.inner.Left.{words_in, words_from, words_behind, IsOnlyWord};
+ghost use Rattle.program_syntax.specs.Left.{words_in, IsOnlyWord};
+ghost use Rattle.program_syntax.specs.inner.Left.{words_from, words_behind};
 
 use std::marker::Model;
 
@@ -17,7 +18,7 @@ pub struct Words<'a> {
 
 impl<'a> Model for Words<'a> {
     ghost use Rattle.std.specs.Prelude.{ℕ, List};
-    ghost use Rattle.program_syntax.specs.inner.Left.{words_in};
+    ghost use Rattle.program_syntax.specs.Left.{words_in};
 
     ghost Value = { List (List ℕ) };
 

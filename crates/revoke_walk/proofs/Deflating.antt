@@ -20,7 +20,7 @@ use Rattle.heap_table.proofs.Aside.{AreAside, either_aside, then_aside, all_asid
 use Rattle.heap_table.proofs.Loops.{binds}
 use Rattle.revoke_walk.specs.inner.DeflateParts.{clean_steps, untouched_steps}
 use Rattle.revoke_walk.proofs.Behind.{AreOf, then_of, either_of, each_of}
-use Rattle.revoke_walk.proofs.RevokeWords.{sound_forms, in_limits}
+use Rattle.heap_table.proofs.Forms.{sound_forms, in_limits}
 
 module _ (s : Shape) (e : Purpose) (stage : Stage) where
   abbrev looks : Todo (List ℕ)

@@ -1,5 +1,5 @@
 -- What a thread sees at its reached safepoint stays seen.
-use Rattle.std.proofs.Common.{◌≡◌, ℕ, ◌≤◌, ◌||◌, Bool, true, false, cond, [], length, Some, refl, sym, ap, ◌∙◌, subst, arith}
+use Rattle.std.proofs.Common.{◌≡◌, ℕ, ◌-◌, ◌≤◌, nat_lt, ◌||◌, Bool, true, false, cond, [], length, Some, refl, sym, ap, ◌∙◌, subst, arith}
 use Rattle.core_world.specs.Clauses.Lengths.{log_limit}
 use Rattle.core_world.specs.declared.act.Act.TheVariants.{Load}
 use Rattle.core_world.specs.declared.name.Name.{Name}
@@ -9,15 +9,18 @@ use Rattle.core_world.specs.declared.stage.Stage.TheVariants.{Calm}
 use Rattle.core_world.specs.Locks.{or_zero}
 use Rattle.core_world.specs.Steps.{known_hit, seen_at_safepoint_before, seen_words}
 use Rattle.core_world.specs.Threads.Known.{Known, last_seen, local_of}
-use Rattle.core_world.specs.Trees.Plans.{Purpose, load}
+use Rattle.core_world.specs.Trees.Plans.{Purpose, load, class_steps}
 use Rattle.core_world.specs.Trees.Todo.{done, step}
-use Rattle.core_world.specs.Words.Shape.{Shape}
+use Rattle.core_world.specs.Words.Names.{class_by}
+use Rattle.core_world.specs.Words.Shape.{Shape, class_of}
 use Rattle.core_law.specs.Logic.{Stands}
 use Rattle.core_law.proofs.Standing.{home}
 use Rattle.core_law.proofs.SafepointSights.{still_seen, saw_there, is_as_seen, fits_reached}
+use Rattle.heap_table.specs.Parts.{HasRun}
 use Rattle.heap_table.specs.Seen.{HeapSeen, PassSeen, IsOf}
 use Rattle.heap_table.specs.Stepping.{HasStepped}
 use Rattle.heap_table.proofs.Aside.{AreAside, leaves_own_words, aside}
+use Rattle.heap_table.proofs.ClassSteps.{IsFound, class_found}
 use Rattle.heap_table.proofs.Parts.{last_step}
 use Rattle.heap_table.proofs.Knows.{was_of}
 use Rattle.revoke_walk.specs.inner.ShotParts.{IsLater, IsSettled}
@@ -97,3 +100,20 @@ module _ (h : HeapSeen) (p : PassSeen) (is_of : IsOf h p) where
         let b = fits.lengths.most u in
         let c = fits.lengths.few u in
         omega (arith, a, b, c, word)
+
+-- THE CLASS of an object, found at the reached safepoint, stays the one that was seen.
+module _ (h : HeapSeen) (p q : PassSeen) (e : Purpose) (o c : ℕ) (is_of : IsOf h p) (reached : p.known.reached ≡ true)
+    (run : HasRun h (class_steps e Calm h.heap.shape o) p q c) where
+  pub class_later : IsLater p.known q.known
+  class_later = by_test (nat_lt o h.heap.shape.declared) (class_found h p q e Calm o c is_of run)
+    where
+      by_test : (b : Bool) → IsFound b h p q e Calm o c → IsLater p.known q.known
+      by_test true found = subst (IsLater p.known) (sym found.0) (later_itself p.known)
+      by_test false found = load_later h p q e (name.Class o) found.0 is_of reached found.2
+
+  pub class_settled : IsSettled q.known (λ k. class_by h.heap.shape (seen_words k) o) c
+  class_settled l later = by_test (nat_lt o h.heap.shape.declared) (class_found h p q e Calm o c is_of run)
+    where
+      by_test : (b : Bool) → IsFound b h p q e Calm o c → cond b (class_of h.heap.shape o) (seen_words l (name.Class o) - 1) ≡ c
+      by_test true found = sym found.1
+      by_test false found = ap (λ n. n - 1) (load_settled h p q e (name.Class o) found.0 is_of reached found.2 l later) ∙ sym found.1

@@ -1,24 +1,25 @@
 -- The steps of a revocation: lists of stores, and of which call they are.
-use Rattle.std.proofs.Common.{◌≡◌, ℕ, ◌+◌, ◌<◌, ◌≤◌, ◌==◌, ◌++◌, Bool, true, false, cond, if◌then◌else◌, List, [], ◌∷◌, length, drop, get_or, Option, Some, None, refl, ap, ◌∙◌}
+use Rattle.std.proofs.Common.{◌≡◌, ℕ, ◌+◌, ◌-◌, ◌<◌, nat_lt, ◌≤◌, ◌==◌, ◌++◌, Bool, true, false, if◌then◌else◌, List, [], ◌∷◌, length, drop, get_or, Option, Some, None, refl, ap, ◌∙◌}
 use Rattle.std.proofs.lemmas.List.{drop_more, drop_all}
 use Rattle.plain_monitor.specs.Limits.{most_holds}
 use Rattle.mark_word.specs.declared.mark.MarkForm.{MarkForm}
 use Rattle.mark_word.specs.declared.mark.MarkForm.TheVariants.{Inflating, Neutral, Anonymous, Biased, Locked, Inflated, Marked}
 use Rattle.mark_word.specs.Hold.{read_hold}
 use Rattle.mark_word.specs.Mark.{mark_of, read_mark}
-use Rattle.core_world.specs.declared.name.Name.TheVariants.{Mark, Hold}
+use Rattle.core_world.specs.declared.name.Name.TheVariants.{Mark, Hold, Class}
 use Rattle.core_world.specs.declared.plan.Own.TheVariants as own
+use Rattle.core_world.specs.declared.stage.Stage.{Stage}
 use Rattle.core_world.specs.Locks.{hold_count}
 use Rattle.core_world.specs.RevocationRules.{Write, write, record_writes, revoke_biased, object_held}
 use Rattle.core_world.specs.Threads.Stages.{Revocation}
-use Rattle.core_world.specs.Trees.Plans.{Purpose}
-use Rattle.core_world.specs.Trees.RevocationSteps.{look, revoke_plan, store_steps, revoke_at, revoke_steps, visit_held}
+use Rattle.core_world.specs.Trees.Plans.{Purpose, load_plan, class_steps}
+use Rattle.core_world.specs.Trees.RevocationSteps.{revocation_stage, look, revoke_plan, store_steps, revoke_at, revoke_steps, visit_held}
 use Rattle.core_world.specs.Trees.Todo.{Todo, done, step, ◌>>=◌, all_from, each_from}
 use Rattle.core_world.specs.Words.Forms.{is_biased, is_biased_form}
 use Rattle.core_world.specs.Words.Shape.{Shape, class_of}
 use Rattle.revoke_walk.specs.declared.visit.Visit.{Visit}
 use Rattle.revoke_walk.specs.declared.visit.Visit.TheVariants.{Renew, Revoke}
-use Rattle.revoke_walk.specs.inner.RevokeParts.{mark_locked, record_write, record_steps, visit_form, visit_by, place_steps, thread_steps}
+use Rattle.revoke_walk.specs.inner.RevokeParts.{object_steps, mark_locked, record_write, record_steps, visit_form, visit_by, place_steps, thread_steps}
 use Rattle.revoke_walk.proofs.Behind.{AreOf, then_of, either_of, all_of, each_of}
 
 -- stores one after the other, in two parts
@@ -27,6 +28,10 @@ two_stores e b [] ys = refl
 two_stores e b (x ∷ xs) ys = λ i. step (revoke_plan e b own.Same x.at x.word) (λ n. two_stores e b xs ys i)
 
 -- ALL ARE OF the call for which they are made
+pub class_of_call : (e : Purpose) (stage : Stage) (s : Shape) (o : ℕ) → AreOf e.task (class_steps e stage s o)
+class_of_call e stage s o =
+    either_of e.task (nat_lt o s.declared) (done (class_of s o)) (step (load_plan e stage (Class o)) (λ word. done (word - 1))) tt (refl, λ n. tt)
+
 module _ (e : Purpose) (b : Revocation) where
   pub stores_of : (xs : List Write) → AreOf e.task (store_steps e b xs)
   stores_of [] = tt
@@ -56,8 +61,9 @@ module _ (e : Purpose) (b : Revocation) where
   pub held_of : (s : Shape) (c : ℕ) (v : Visit) (held : Option ℕ) → AreOf e.task (visit_held s c e b (visit_by v e b) held)
   held_of s c v None = tt
   held_of s c v (Some o) =
-      either_of e.task (class_of s o == c) (look e b (Mark o) >>= (λ mark. cond (is_biased mark) (visit_by v e b o mark) (done tt))) (done tt)
-      (refl, λ mark. either_of e.task (is_biased mark) (visit_by v e b o mark) (done tt) (visit_of v (read_mark mark) o) tt) tt
+      then_of e.task (class_steps e (revocation_stage b) s o) (λ class. if class == c then object_steps e b v o else done tt)
+      (class_of_call e (revocation_stage b) s o) (λ class. either_of e.task (class == c) (object_steps e b v o) (done tt)
+      (refl, λ mark. either_of e.task (is_biased mark) (visit_by v e b o mark) (done tt) (visit_of v (read_mark mark) o) tt) tt)
 
   pub place_of : (s : Shape) (c : ℕ) (v : Visit) (t p : ℕ) → AreOf e.task (place_steps s c e b v t p)
   place_of s c v t p = (refl, λ hold. held_of s c v (object_held (read_hold hold)))

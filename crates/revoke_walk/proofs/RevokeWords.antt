@@ -1,5 +1,5 @@
 -- The words that a revocation finds and stores have the forms that words of the heap have.
-use Rattle.std.proofs.Common.{◌≡◌, ℕ, ◌<◌, ◌≤◌, ◌==◌, Bool, true, false, cond, length, Option, Some, None, refl, sym, ap, ◌∙◌, subst, inl, inr, arith, eq-eqb}
+use Rattle.std.proofs.Common.{◌≡◌, ℕ, ◌<◌, ◌≤◌, ◌==◌, Bool, true, false, cond, length, Option, Some, None, refl, sym, ap, ◌∙◌, subst, arith, eq-eqb}
 use Rattle.std.proofs.lemmas.Bool.Decides.{nat_tests}
 use Rattle.plain_monitor.specs.Limits.{most_holds}
 use Rattle.mark_word.specs.declared.mark.MarkForm.{MarkForm}
@@ -19,36 +19,16 @@ use Rattle.core_world.specs.Threads.Stages.{Revocation}
 use Rattle.core_world.specs.Trees.Plans.{Purpose}
 use Rattle.core_world.specs.Trees.RevocationSteps.{revoke_plan}
 use Rattle.core_world.specs.Trees.Todo.{Todo, step}
-use Rattle.core_world.specs.Valid.{FormsFit}
 use Rattle.core_world.specs.Words.Forms.{epoch_in, epoch_form}
-use Rattle.core_world.specs.Words.Shape.{Shape, IsInLimits}
+use Rattle.core_world.specs.Words.Shape.{Shape}
 use Rattle.core_world.specs.World.{World}
 use Rattle.core_world.proofs.CallRests.{next_due}
-use Rattle.core_law.specs.Logic.{Heap}
 use Rattle.core_law.specs.Sound.{Sound}
 use Rattle.core_law.proofs.Lawful.{known_step_sound}
-use Rattle.core_world.proofs.There.{IsFormed, is_formed}
 use Rattle.heap_table.specs.Parts.{IsDueOn}
+use Rattle.heap_table.proofs.Forms.{sound_forms}
 use Rattle.heap_table.proofs.Lawful.{law_of}
 use Rattle.heap_table.specs.Seen.{HeapSeen, PassSeen, IsOf}
-use Rattle.heap_table.specs.Stepping.{HasStepped}
-
-pub sound_forms : (w : World) → Sound w → FormsFit w
-sound_forms w sound = elim sound.valid.is [ inl a ↦ a.0.forms | inr s ↦ s.0.forms ]
-
--- the word that a step found
-pub found_formed : (h : HeapSeen) (p q : PassSeen) (plan : StepPlan) (n : ℕ) → HasStepped h p q plan n → IsFormed h.heap.shape plan.at n
-found_formed h p q plan n s =
-    let was = s.stepped in
-    subst (λ (x : Heap). IsFormed x.shape plan.at n) was.is_of
-    (subst (λ (m : ℕ). IsFormed was.world.shape plan.at m) was.was_there (is_formed was.world plan.at (sound_forms was.world was.sound)))
-
-sound_limits : (w : World) → Sound w → IsInLimits w.shape
-sound_limits w sound = elim sound.valid.is [ inl a ↦ a.0.limits | inr s ↦ subst IsInLimits (sym s.0.shape) s.0.fits.limits ]
-
--- the limits of the heap
-pub in_limits : (h : HeapSeen) (p : PassSeen) → IsOf h p → IsInLimits h.heap.shape
-in_limits h p is_of = let r = is_of.real in subst (λ (z : Heap). IsInLimits z.shape) r.is_of (sound_limits r.world r.sound)
 
 -- no mark of the heap names a record at place 64
 no_place : (s : Shape) (t : ℕ) → t < 32 → IsMark s (read_mark (mark_of (Locked t 64))) → ⊥

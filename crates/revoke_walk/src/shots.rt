@@ -12,7 +12,8 @@ ghost use Rattle.heap_table.specs.Seen.{IsOf};
 ghost use Rattle.mark_word.specs.Hold.{read_hold};
 ghost use Rattle.revoke_walk.specs.ShotParts.{HasShot};
 ghost use Rattle.revoke_walk.specs.inner.ShotParts.{IsLater, IsSettled};
-ghost use Rattle.revoke_walk.specs.inner.ShotParts.{held_in, owned_cell, cell_by, cell_at, cell_of, bias_lock, length_of};
+ghost use Rattle.revoke_walk.specs.inner.ShotParts.{held_in, owned_cell, cell_by, cell_at, cell_of, length_of};
+ghost use Rattle.revoke_walk.specs.inner.ShotParts.{bias_lock, lock_by_class, look_by_class};
 ghost use Rattle.revoke_walk.specs.inner.ShotParts.{look_at_hold, look_at_bias, look_at_monitor, look_at_cell};
 ghost use Rattle.revoke_walk.specs.inner.ShotParts.{look_at_length, look_at_lengths};
 ghost use Rattle.core_world.specs.declared.name.Name.TheVariants as name;
@@ -101,6 +102,35 @@ fn look_at_biased(heap: &Heap, pass: &mut Pass, why: &Purpose, object: u32, thre
     Cell { owner, count }
 }
 
+// The object is biased to the thread, in this epoch, and of this class.
+fn look_by_class(
+    heap: &Heap,
+    pass: &mut Pass,
+    why: &Purpose,
+    class: u32,
+    object: u32,
+    thread: u32,
+    epoch: u8,
+) -> Cell
+    requires heap { IsOf heap.now pass.old }
+    requires due { IsDueOn heap.now pass.old why.now.task (look_by_class why.now class thread epoch) }
+    requires reached { pass.old.known.reached ≡ true }
+    ensures run { HasRun heap.now (look_by_class why.now class thread epoch) pass.old pass.new tt }
+    ensures later { IsLater pass.old.known pass.new.known }
+    ensures cell { IsSettled pass.new.known (λ k. cell_by (lock_by_class class thread epoch k) object k)
+        (result.owner, result.count) }
+{
+    let prototype = heap.load(pass, why, Stage::Calm, Name::Prototype { class });
+    if is_valid(prototype, epoch) {
+        look_at_biased(heap, pass, why, object, thread)
+    } else {
+        Cell {
+            owner: None,
+            count: 0,
+        }
+    }
+}
+
 // The object is biased to the thread, in this epoch.
 fn look_at_bias(
     heap: &Heap,
@@ -120,16 +150,8 @@ fn look_at_bias(
     ensures cell { IsSettled pass.new.known
         (λ k. cell_by (bias_lock heap.now.heap.shape object thread epoch k) object k) (result.owner, result.count) }
 {
-    let class = heap.shape().class_of(object);
-    let prototype = heap.load(pass, why, Stage::Calm, Name::Prototype { class });
-    if is_valid(prototype, epoch) {
-        look_at_biased(heap, pass, why, object, thread)
-    } else {
-        Cell {
-            owner: None,
-            count: 0,
-        }
-    }
+    let class = heap.class_of(pass, why, Stage::Calm, object);
+    look_by_class(heap, pass, why, class, object, thread, epoch)
 }
 
 // The owner word of the object's monitor has this form.

@@ -107,7 +107,7 @@ pub fn revoke_at_safepoint(
         pass.old pass.new result }
 {
     heap.load(pass, why, Stage::Calm, Name::Mark { object });
-    let class = heap.shape().class_of(object);
+    let class = heap.class_of(pass, why, Stage::Calm, object);
     let prototype = heap.load(pass, why, Stage::Calm, Name::Prototype { class });
     let count = heap.load(pass, why, Stage::Calm, Name::Revocations { class });
     let last = heap.load(pass, why, Stage::Calm, Name::LastBulk { class });

@@ -116,7 +116,8 @@ fn walk_place(
     let hold = look(heap, pass, why, revocation, Name::Hold { thread, place });
     match object_of_hold(hold) {
         Some(object) => {
-            if heap.shape().class_of(object) == class {
+            let its = heap.class_of(pass, why, revocation.stage(), object);
+            if its == class {
                 visit_object(heap, pass, why, revocation, object, how);
             }
         }

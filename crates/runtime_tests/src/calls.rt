@@ -16,7 +16,7 @@ const CLASSES: [u32; 101] = [0; 101];
 fn fresh(alloc: Global, biasing: bool) -> Result<(Heap, Pass, Pass), NoMemory>
     ensures { IfOk result (λ r. IsFresh r.0 0 r.1 × IsFresh r.0 1 r.2) }
 {
-    let shape = HeapShape::of(alloc, 2, &[1], &CLASSES)?;
+    let shape = HeapShape::of(alloc, 2, &[1], &CLASSES, 101)?;
     let (heap, passes) = new_heap(alloc, shape, 1000, 1, biasing)?;
     let mut passes = passes.into_vec();
     let Some(second) = passes.pop() else {

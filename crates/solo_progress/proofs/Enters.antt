@@ -17,11 +17,12 @@ use Rattle.core_world.specs.declared.answer.BiasTry.TheVariants.{Took, Unbiased,
 use Rattle.core_world.specs.declared.answer.Turn.{Turn}
 use Rattle.core_world.specs.declared.answer.Turn.TheVariants.{Done, Pending}
 use Rattle.core_world.specs.declared.answer.Why.TheVariants as why
+use Rattle.core_world.specs.declared.stage.Stage.TheVariants.{Calm}
 use Rattle.core_world.specs.declared.task.Op.TheVariants as op
 use Rattle.core_world.specs.declared.task.Task.TheVariants as task
 use Rattle.core_world.specs.Words.Names.{same_name}
 use Rattle.core_world.specs.Words.Forms.{epoch_in, epoch_form, is_biased, is_biased_form}
-use Rattle.core_world.specs.Words.Shape.{Shape, class_of}
+use Rattle.core_world.specs.Words.Shape.{Shape}
 use Rattle.core_world.specs.Words.Names.{class_by}
 use Rattle.core_world.specs.Locks.{has_epoch, Open, BiasedTo, lock_form, owner_lock, holder, hold_count}
 use Rattle.core_world.specs.RevocationRules.{holds_in}
@@ -38,7 +39,7 @@ use Rattle.core_calls.specs.CallsSay.{is_full}
 use Rattle.core_calls.specs.Causes.{is_other_form, names_other}
 use Rattle.solo_progress.specs.Alone.{AnswersAlone, Quiet, word_of_one}
 use Rattle.solo_progress.specs.Answers.{is_other, is_anothers, is_others_form, is_others_bias, PendsWhere, PendsForOwner, RefusedWhere}
-use Rattle.solo_progress.proofs.OneRun.{Alone, QuietAt, quiet_at, alone_then, alone_so, alone_either, answers_alone, load_leaves, alone_past}
+use Rattle.solo_progress.proofs.OneRun.{Alone, QuietAt, quiet_at, alone_then, alone_so, alone_either, alone_class, answers_alone, load_leaves, alone_past}
 use Rattle.solo_progress.proofs.Safe.{alone_turn, revocation_alone}
 use Rattle.solo_progress.proofs.Monitors.{own_word, owned_by, enter_at_alone}
 use Rattle.solo_progress.proofs.Spares.{put_some}
@@ -96,9 +97,6 @@ module _ (s : Shape) (safe : ℕ) (e : Purpose) (k : Start) (o : ℕ) where
   abbrev t : ℕ
   t = k.local.thread
 
-  abbrev c : ℕ
-  c = class_of s o
-
   -- AN ATTEMPT ON THE BIAS of o, by the words f before and g after
   abbrev pub Tried : (Name → ℕ) → (Name → ℕ) → BiasTry → Type 0
   Tried f g (Took path) = is_anothers s f o t ≡ false
@@ -117,6 +115,9 @@ module _ (s : Shape) (safe : ℕ) (e : Purpose) (k : Start) (o : ℕ) where
       (λ _. took_alone f _ BiasTaken free) (λ miss. let same = eq-eqb (g (Mark o)) (f (Mark o)) is in absurd (cc (miss, same)))
 
   module _ (f : Name → ℕ) (q : QuietAt o safe f) where
+    abbrev c : ℕ
+    c = class_by s f o
+
     abbrev count : ℕ → ℕ
     count u = hold_count o (holds_in f u)
 
@@ -186,7 +187,7 @@ module _ (s : Shape) (safe : ℕ) (e : Purpose) (k : Start) (o : ℕ) where
     pub bias_enter_alone : Alone (λ g tried. Tried f g tried) f (bias_enter_steps s e k.local o)
     bias_enter_alone =
         alone_either (λ g tried. Tried f g tried) _ (is_biased (f (Mark o))) _ _
-        (λ biased. by_prototype (read_mark (f (Prototype c))) refl biased)
+        (λ biased. alone_class (λ g tried. Tried f g tried) e Calm s o _ _ (by_prototype (read_mark (f (Prototype c))) refl biased))
         (λ unbiased. (
           load_leaves (Mark o) (Mark o) f,
           quiet_load safe o f q,

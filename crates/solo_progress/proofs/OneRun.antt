@@ -1,16 +1,19 @@
 -- The one run of a tree that a thread left alone makes.
-use Rattle.std.proofs.Common.{◌≡◌, ◌≢◌, ℕ, zero, suc, ◌+◌, cond, Bool, true, false, List, [], ◌∷◌, Some, Err, refl, sym, ap, subst}
+use Rattle.std.proofs.Common.{◌≡◌, ◌≢◌, ℕ, zero, suc, ◌+◌, cond, Bool, true, false, List, [], ◌∷◌, Some, Err, refl, sym, ap, subst, ◌-◌, nat_lt}
 use Rattle.mark_word.specs.declared.mark.MarkForm.TheVariants.{Inflating}
 use Rattle.mark_word.specs.Mark.{read_mark}
 use Rattle.mark_word.proofs.ReadingMarks.{read_mark-spells}
 use Rattle.core_world.specs.declared.answer.Turn.{Turn}
 use Rattle.core_world.specs.declared.answer.Turn.TheVariants.{Done, Pending}
 use Rattle.core_world.specs.declared.name.Name.{Name}
-use Rattle.core_world.specs.declared.name.Name.TheVariants.{Mark, Safepoint}
+use Rattle.core_world.specs.declared.name.Name.TheVariants.{Mark, Safepoint, Class}
 use Rattle.core_world.specs.declared.plan.StepPlan.{StepPlan}
 use Rattle.core_world.specs.Words.Acts.{word_after}
-use Rattle.core_world.specs.Words.Names.{with_word}
+use Rattle.core_world.specs.Words.Names.{class_by, with_word}
+use Rattle.core_world.specs.Words.Shape.{Shape, class_of}
 use Rattle.core_world.specs.Threads.Known.{StepMade}
+use Rattle.core_world.specs.declared.stage.Stage.{Stage}
+use Rattle.core_world.specs.Trees.Plans.{Purpose, load_plan, class_steps}
 use Rattle.core_world.specs.Trees.Operations.{answer}
 use Rattle.core_world.specs.Trees.Todo.{Todo, done, never, step, ◌>>=◌, all_from}
 use Rattle.core_world.proofs.Naming.{with_word_same}
@@ -63,6 +66,16 @@ pub alone_past : {A B : Type 0} (P : (Name → ℕ) → B → Type 0) (d : Todo 
     → ((g : Name → ℕ) (a : A) → Alone P g (k a))
     → Alone P f (d >>= k)
 alone_past P d k f more = alone_then (λ g a. Unit {0}) P d k f (alone_all (λ g a. Unit {0}) d f (λ g a. tt)) (λ g a x. more g a)
+
+-- what is loaded to find an object's class leaves every word
+pub alone_class : {A : Type 0} (P : (Name → ℕ) → A → Type 0) (e : Purpose) (stage : Stage) (s : Shape) (o : ℕ) (k : ℕ → Todo A) (f : Name → ℕ)
+    → Alone P f (k (class_by s f o)) → Alone P f (class_steps e stage s o >>= k)
+alone_class {A} P e stage s o k f = by_test (nat_lt o s.declared)
+  where
+    by_test : (b : Bool) → Alone P f (k (cond b (class_of s o) (f (Class o) - 1)))
+        → Alone P f (cond b (done (class_of s o)) (step (load_plan e stage (Class o)) (λ word. done (word - 1))) >>= k)
+    by_test true h = h
+    by_test false h = subst (λ (g : Name → ℕ). Alone P g (k (f (Class o) - 1))) (sym (with_word_same (Class o) (f (Class o)) f refl)) h
 
 -- the run is the one path whose steps found what those before them left
 module _ {A : Type 0} (P : A → Type 0) (f : Name → ℕ) where

@@ -24,7 +24,7 @@ use Rattle.core_world.specs.declared.task.Op.TheVariants as op
 use Rattle.core_world.specs.declared.task.Task.TheVariants as task
 use Rattle.core_world.specs.Words.Names.{same_name}
 use Rattle.core_world.specs.Words.Forms.{epoch_in, is_biased, is_biased_form, hash_in, waits_on, is_halted}
-use Rattle.core_world.specs.Words.Shape.{Shape, class_of}
+use Rattle.core_world.specs.Words.Shape.{Shape}
 use Rattle.core_world.specs.Words.Names.{class_by}
 use Rattle.core_world.specs.Locks.{hold_count}
 use Rattle.core_world.specs.RevocationRules.{first_place, holds_in}
@@ -43,7 +43,7 @@ use Rattle.core_calls.specs.CallsSay.{has_none}
 use Rattle.core_calls.specs.Causes.{is_other_form}
 use Rattle.solo_progress.specs.Alone.{AnswersAlone, Quiet, word_of_one}
 use Rattle.solo_progress.specs.Answers.{is_anothers, is_told, is_told_form, WaitsWhere, LetsGo, RefusedWhere, is_pending, IsDone, guarded}
-use Rattle.solo_progress.proofs.OneRun.{Alone, QuietAt, quiet_at, alone_then, alone_either, answers_alone, refused_or, load_leaves, not_inflating, DoneWith, alone_past}
+use Rattle.solo_progress.proofs.OneRun.{Alone, QuietAt, quiet_at, alone_then, alone_either, alone_class, answers_alone, refused_or, load_leaves, not_inflating, DoneWith, alone_past}
 use Rattle.solo_progress.proofs.Safe.{alone_turn, safepoint_alone, revocation_alone}
 use Rattle.solo_progress.proofs.Monitors.{OwnerAfter, one_some, own_word, inflate_alone, owned_by}
 use Rattle.solo_progress.proofs.Enters.{quiet_load, unbiased_other}
@@ -57,8 +57,8 @@ module _ (s : Shape) (e : Purpose) (k : Start) (o now : ℕ) (low : k.local.thre
   abbrev t : ℕ
   t = k.local.thread
 
-  abbrev c : ℕ
-  c = class_of s o
+  abbrev c : (Name → ℕ) → ℕ
+  c f = class_by s f o
 
   abbrev Dropped : (Name → ℕ) → BiasTry → Type 0
   Dropped g (Raced expected found) = ⊥
@@ -75,19 +75,19 @@ module _ (s : Shape) (e : Purpose) (k : Start) (o now : ℕ) (low : k.local.thre
       })
       (λ miss. let same = eq-eqb (g (Mark o)) mark is in absurd (cc (miss, same)))
 
-  drop_alone : (f : Name → ℕ) → f (Prototype c) ≢ 0 → QuietAt o (released_word t) f → Alone Dropped f (bias_drop_steps s e o)
+  drop_alone : (f : Name → ℕ) → f (Prototype (c f)) ≢ 0 → QuietAt o (released_word t) f → Alone Dropped f (bias_drop_steps s e o)
   drop_alone f some q =
-      alone_either Dropped _ (is_biased (f (Mark o))) _ _ (λ _. by_epoch (epoch_in (f (Prototype c))))
+      alone_either Dropped _ (is_biased (f (Mark o))) _ _ (λ _. alone_class Dropped e Calm s o _ _ (by_epoch (epoch_in (f (Prototype (c f))))))
       (λ _. quiet_load (released_word t) o f q)
     where
-      quiet_loaded : QuietAt o (released_word t) (λ n. cond (same_name n (Prototype c)) (f (Prototype c)) (cond (same_name n (Mark o)) (f (Mark o)) (f n)))
+      quiet_loaded : QuietAt o (released_word t) (λ n. cond (same_name n (Prototype (c f))) (f (Prototype (c f))) (cond (same_name n (Mark o)) (f (Mark o)) (f n)))
       quiet_loaded = record { mark = (quiet_load (released_word t) o f q).mark; safepoint = q.safepoint }
 
       neutral_some : mark_of (Neutral 0 0) ≢ 0
       neutral_some z = absurd (omega (arith, z))
 
       by_mark : (form : Option MarkForm) (epoch : ℕ)
-          → Alone Dropped (λ n. cond (same_name n (Prototype c)) (f (Prototype c)) (cond (same_name n (Mark o)) (f (Mark o)) (f n)))
+          → Alone Dropped (λ n. cond (same_name n (Prototype (c f))) (f (Prototype (c f))) (cond (same_name n (Mark o)) (f (Mark o)) (f n)))
           (bias_drop_at form epoch e o (f (Mark o)))
       by_mark (Some (Biased thread old age)) epoch =
           alone_either Dropped _ (old == epoch) _ _ (λ _. quiet_loaded)
@@ -97,9 +97,9 @@ module _ (s : Shape) (e : Purpose) (k : Start) (o now : ℕ) (low : k.local.thre
       by_mark _ epoch = tt
 
       by_epoch : (epoch : Option ℕ)
-          → Alone Dropped (λ n. cond (same_name n (Prototype c)) (f (Prototype c)) (cond (same_name n (Mark o)) (f (Mark o)) (f n)))
-          (bias_drop_by epoch e o (f (Mark o)) (f (Prototype c)))
-      by_epoch None = swap_alone (f (Mark o)) (f (Prototype c)) _ (load_leaves (Mark o) (Mark o) f) some quiet_loaded
+          → Alone Dropped (λ n. cond (same_name n (Prototype (c f))) (f (Prototype (c f))) (cond (same_name n (Mark o)) (f (Mark o)) (f n)))
+          (bias_drop_by epoch e o (f (Mark o)) (f (Prototype (c f))))
+      by_epoch None = swap_alone (f (Mark o)) (f (Prototype (c f))) _ (load_leaves (Mark o) (Mark o) f) some quiet_loaded
       by_epoch (Some epoch) = by_mark (read_mark (f (Mark o))) epoch
 
   abbrev Unbiases : (Name → ℕ) → Turn (Unit {0}) → Type 0
@@ -111,7 +111,7 @@ module _ (s : Shape) (e : Purpose) (k : Start) (o now : ℕ) (low : k.local.thre
       alone_turn (λ g (x : Bool). QuietAt o (released_word t) g) Unbiases (revocation_steps s t requesting e (no_bias o now))
       (λ _. done_with tt) f (revocation_alone t low s requesting e (no_bias o now) f q) (λ g x q. q)
 
-  pub unbias_alone : (f : Name → ℕ) → f (Prototype c) ≢ 0 → QuietAt o (word_of_one k.requesting t) f
+  pub unbias_alone : (f : Name → ℕ) → f (Prototype (c f)) ≢ 0 → QuietAt o (word_of_one k.requesting t) f
       → Alone Unbiases f (unbias_steps s e k (no_bias o now))
   unbias_alone f some q =
       alone_either Unbiases f k.requesting _ _
@@ -191,14 +191,14 @@ module _ (s : Shape) (e : Purpose) (k : Start) (o now : ℕ) (low : k.local.thre
       alone_past (λ h turn. IsDone turn) (monitor_notify_all_steps e k.local s.threads o) _ g (λ h x. tt)
   notify_all_at_alone _ mark g reads some = tt
 
-  pub notify_going_alone : (f : Name → ℕ) → f (Prototype c) ≢ 0 → QuietAt o (word_of_one k.requesting t) f
+  pub notify_going_alone : (f : Name → ℕ) → f (Prototype (c f)) ≢ 0 → QuietAt o (word_of_one k.requesting t) f
       → Alone (λ h turn. IsDone turn) f (notify_going s e k o now)
   notify_going_alone f some q =
       alone_turn (λ g (x : Unit {0}). QuietAt o (released_word t) g) (λ h turn. IsDone turn) (unbias_steps s e k (no_bias o now)) _ f
       (unbias_alone f some q)
       (λ g x q. notify_at_alone (read_mark (g (Mark o))) (g (Mark o)) _ refl q.mark)
 
-  pub notify_all_going_alone : (f : Name → ℕ) → f (Prototype c) ≢ 0 → QuietAt o (word_of_one k.requesting t) f
+  pub notify_all_going_alone : (f : Name → ℕ) → f (Prototype (c f)) ≢ 0 → QuietAt o (word_of_one k.requesting t) f
       → Alone (λ h turn. IsDone turn) f (notify_all_going s e k o now)
   notify_all_going_alone f some q =
       alone_turn (λ g (x : Unit {0}). QuietAt o (released_word t) g) (λ h turn. IsDone turn) (unbias_steps s e k (no_bias o now)) _ f
@@ -225,7 +225,7 @@ module _ (s : Shape) (e : Purpose) (k : Start) (o now : ℕ) (low : k.local.thre
   wait_alone m f =
       alone_past Waits (own_steps (read_owner (f (Owner m))) e k.local o m) _ _ (λ g x. (next_stamp k.local, own_word (Waiting t) _ _))
 
-  pub beginning_alone : (f : Name → ℕ) → f (Prototype c) ≢ 0 → QuietAt o (word_of_one k.requesting t) f
+  pub beginning_alone : (f : Name → ℕ) → f (Prototype (c f)) ≢ 0 → QuietAt o (word_of_one k.requesting t) f
       → Alone (λ h turn. LetsGo turn) f (wait_beginning s e k o now)
   beginning_alone f some q =
       alone_goes (λ g (x : Unit {0}). QuietAt o (released_word t) g) (unbias_steps s e k (no_bias o now)) _ f (unbias_alone f some q)
@@ -252,7 +252,7 @@ module _ (s : Shape) (e : Purpose) (k : Start) (o now : ℕ) (low : k.local.thre
         where
           owned : is_anothers s f o t ≡ is_other_form (read_owner (f (Owner m))) t
           owned =
-              unbiased_other (f (Prototype c)) t f (λ u. hold_count o (holds_in f u)) (read_mark (f (Mark o))) (ap is_biased_form reads)
+              unbiased_other (f (Prototype (c f))) t f (λ u. hold_count o (holds_in f u)) (read_mark (f (Mark o))) (ap is_biased_form reads)
               ∙ ap (λ form. owned_by form f t) reads
 
           by_case : (form : Option OwnerForm) → read_owner (f (Owner m)) ≡ form

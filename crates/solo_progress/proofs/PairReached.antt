@@ -75,7 +75,7 @@ unfolding steps_due is_idle steps_of read_safe read_mark read_hold read_wait
 comes_alone = moves seen 1 (resume_plan resuming 1 0) comes_seen (omega arith) refl
 
 limits : IsInLimits pair.shape
-limits = record { threads = omega arith; classes = omega arith; objects = omega arith; each = ((omega arith, omega arith), tt) }
+limits = record { threads = omega arith; classes = omega arith; declared = omega arith; objects = omega arith; each = ((omega arith, omega arith), tt) }
 
 thread_1_runs : (alone.known 1).running ≡ true
 unfolding read_safe

@@ -26,7 +26,7 @@ use Rattle.solo_progress.specs.LeftAlone.{IsLeftAlone, IsReady, MayCall}
 use Rattle.solo_progress.specs.Witnesses.{unowned, owned}
 
 limits : IsInLimits small.shape
-limits = record { threads = omega arith; classes = omega arith; objects = omega arith; each = ((omega arith, omega arith), tt) }
+limits = record { threads = omega arith; classes = omega arith; declared = omega arith; objects = omega arith; each = ((omega arith, omega arith), tt) }
 
 -- the heap has no other thread
 none_else : (w : World) → heap_of w ≡ small → Comes small w → (w.known 0).running ≡ true → (u : ℕ) → u ≢ 0 → w.known u ≡ first_known u

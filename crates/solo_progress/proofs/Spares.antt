@@ -12,19 +12,20 @@ use Rattle.core_world.specs.declared.act.Act.TheVariants.{Load, Store}
 use Rattle.core_world.specs.declared.name.Name.{Name}
 use Rattle.core_world.specs.declared.name.Name.TheVariants.{Safepoint, Mark, Prototype, Revocations, LastBulk, Waiting, Owner, Header, Object}
 use Rattle.core_world.specs.declared.stage.Stage.{Stage}
+use Rattle.core_world.specs.declared.stage.Stage.TheVariants.{Calm}
 use Rattle.core_world.specs.Locks.{is_valid_bias}
 use Rattle.core_world.specs.Threads.Stages.{Revocation}
 use Rattle.core_world.specs.Words.Acts.{word_after}
 use Rattle.core_world.specs.Words.Forms.{epoch_in, monitor_form, monitor_in}
-use Rattle.core_world.specs.Words.Names.{same_name, with_word}
-use Rattle.core_world.specs.Words.Shape.{Shape, class_of, monitor_count}
+use Rattle.core_world.specs.Words.Names.{class_by, same_name, with_word}
+use Rattle.core_world.specs.Words.Shape.{Shape, monitor_count}
 use Rattle.core_world.specs.Trees.DeflateSteps.{look_at, give_back_steps, is_untouched, deflate_free, deflate_named, names_monitor, deflate_monitor, deflate_steps}
 use Rattle.core_world.specs.Trees.Plans.{Purpose}
 use Rattle.core_world.specs.Trees.RevocationSteps.{RevocationOutcome, decided_steps, revoke_at_safepoint_steps}
 use Rattle.core_world.specs.Trees.Todo.{Todo, done, never, step, each_from}
 use Rattle.core_calls.proofs.Stays.{IsPlainMark, IsSparing, Passing, Passes, Whatever, stay_done, stay_step, stay_each}
 use Rattle.core_calls.proofs.StaysLooks.{decided_spares}
-use Rattle.solo_progress.proofs.OneRun.{after, Alone, QuietAt, alone_then, alone_either, alone_each, load_leaves}
+use Rattle.solo_progress.proofs.OneRun.{after, Alone, QuietAt, alone_then, alone_either, alone_class, alone_each, load_leaves}
 
 pub put_some : (b : Bool) (x y : ℕ) → x ≢ 0 → y ≢ 0 → cond b x y ≢ 0
 put_some true x y h g = h
@@ -74,7 +75,8 @@ bias_plain n p valid = by_form (read_mark n) refl valid
 pub revocation_plain : (s : Shape) (t safe : ℕ) (e : Purpose) (b : Revocation) (f : Name → ℕ) → QuietAt b.object safe f
     → Alone (λ g (x : RevocationOutcome). PlainAt b.object safe g) f (revoke_at_safepoint_steps s t e b)
 revocation_plain s t safe e b f q =
-    alone_either (λ g (x : RevocationOutcome). PlainAt b.object safe g) _ (is_valid_bias (read_mark (f (Mark b.object))) (f (Prototype c))) _ _
+    alone_class (λ g (x : RevocationOutcome). PlainAt b.object safe g) e Calm s b.object _ _
+    (alone_either (λ g (x : RevocationOutcome). PlainAt b.object safe g) _ (is_valid_bias (read_mark (f (Mark b.object))) (f (Prototype c))) _ _
     (λ valid. plain_alone b.object safe
     (decided_steps s t c e b (epoch_in (f (Prototype c))) (f (Revocations c)) (f (LastBulk c))) _
     (decided_spares e b s t c (epoch_in (f (Prototype c))) (f (Revocations c)) (f (LastBulk c)))
@@ -82,10 +84,10 @@ revocation_plain s t safe e b f q =
       mark = subst IsPlainMark (sym (load_leaves (Mark b.object) (Mark b.object) f)) (bias_plain (f (Mark b.object)) (f (Prototype c)) valid);
       safepoint = q.safepoint;
     }))
-    (λ _. tt)
+    (λ _. tt))
   where
     c : ℕ
-    c = class_of s b.object
+    c = class_by s f b.object
 
 -- A DEFLATION changes the marks that name a monitor.
 unnamed : (n m : ℕ) → IsPlainMark n → names_monitor (monitor_in n) m ≡ false

@@ -18,7 +18,7 @@ use Rattle.core_world.specs.World.{World}
 use Rattle.core_law.specs.Logic.{Heap}
 
 abbrev pub pair : Heap
-pair = record { shape = record { threads = 2; classes = 1; objects = (0, 0) ∷ [] }; start = 0; biasing = true }
+pair = record { shape = record { threads = 2; classes = 1; declared = 1; objects = (0, 0) ∷ [] }; start = 0; biasing = true }
 
 abbrev pub resuming : Purpose
 resuming = lone_purpose task.Resume

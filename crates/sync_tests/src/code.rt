@@ -5,7 +5,7 @@ use program_syntax::write_program;
 use std::test::Fail;
 use sync_source::compile;
 
-const CODE: &str = "\
+pub const CODE: &str = "\
 class C 1
 object a C
 thread t1

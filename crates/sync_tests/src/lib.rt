@@ -1,5 +1,6 @@
 //! Tests of programs with blocks: a program that counts to two under a monitor, its code, and what it does with just enough fuel and with
-//! one less. They stand in a crate of their own, so that `sync_source` isn't proved once more with them.
+//! one less; texts, and the program or the refusal that each has. They stand in a crate of their own, so that `sync_source` and
+//! `sync_syntax` aren't proved once more with them.
 #![tactic(auto)]
 
 #[cfg(test)]
@@ -8,5 +9,13 @@ mod code;
 mod counting;
 #[cfg(test)]
 mod fuel;
+#[cfg(test)]
+mod limits;
+#[cfg(test)]
+mod reading;
+#[cfg(test)]
+mod refusals;
+#[cfg(test)]
+mod texts;
 #[cfg(test)]
 mod units;

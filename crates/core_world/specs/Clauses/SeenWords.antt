@@ -1,11 +1,11 @@
 -- What a thread has seen in the middle of a call is still there, where no other thread may change it meanwhile.
-use Rattle.std.specs.Prelude.{◌≡◌, ◌⊎◌, ℕ, ◌||◌, Bool, true, false, List, [], Option, Some, None}
+use Rattle.std.specs.Prelude.{◌≡◌, ◌≢◌, ◌⊎◌, ℕ, ◌||◌, Bool, true, false, List, [], Option, Some, None}
 use Rattle.mark_word.specs.declared.mark.MarkForm.{MarkForm}
 use Rattle.mark_word.specs.declared.mark.MarkForm.TheVariants.{Biased}
 use Rattle.mark_word.specs.Mark.{read_mark}
 use Rattle.core_world.specs.declared.name.Name.{Name}
-use Rattle.core_world.specs.declared.name.Name.TheVariants.{Safepoint, Prototype, Revocations, LastBulk, Mark, Stamp, Slot, Hold, Displaced, Waiting, Length, Owner, Recursions, Header, Object, Claim, End, Ring}
-use Rattle.core_world.specs.Words.Names.{its_monitor}
+use Rattle.core_world.specs.declared.name.Name.TheVariants.{Safepoint, Prototype, Revocations, LastBulk, Mark, Stamp, Slot, Hold, Displaced, Waiting, Length, Owner, Recursions, Header, Object, Claim, End, Ring, Class}
+use Rattle.core_world.specs.Words.Names.{its_monitor, has_class}
 use Rattle.core_world.specs.Words.Forms.{epoch_in, is_biased, monitor_in, waits_on, says_notified}
 use Rattle.core_world.specs.Threads.Stages.{Inflation, inflation_in, bears, revocation_in}
 use Rattle.core_world.specs.Threads.Known.{Known, StepMade, last_seen}
@@ -50,12 +50,14 @@ StaysWhileRunning w k owner t (Object m) v = k.kept ≡ Some m
 StaysWhileRunning w k owner t Claim v = ⊥
 StaysWhileRunning w k owner t End v = ⊥
 StaysWhileRunning w k owner t (Ring p) v = ⊥
+StaysWhileRunning w k owner t (Class o) v = v ≢ 0
 
 -- a word that stays while a thread's request stands
 abbrev pub StaysWhileAsking : World → Name → ℕ → Type 0
 StaysWhileAsking w (Prototype c) v = Unit {0}
 StaysWhileAsking w (Revocations c) v = Unit {0}
 StaysWhileAsking w (LastBulk c) v = Unit {0}
+StaysWhileAsking w (Class o) v = v ≢ 0
 StaysWhileAsking w (Mark o) v = IsValidBias (read_mark v) (prototype_of w o)
 StaysWhileAsking w _ v = ⊥
 
@@ -85,6 +87,11 @@ pub record SeenStays (w : World) (owner : ℕ → ℕ → Bool) (waits : ℕ →
   pub unbiased : (t o v : ℕ) → last_seen (Mark o) (w.known t).seen ≡ Some v → ((w.known t).running ≡ true)
       ⊎ ((w.known t).requesting ≡ true)
       → is_biased v ≡ false → is_biased (marks w o) ≡ false
+  -- an object whose mark has the bias pattern, or had it when a thread saw it, is there
+  pub classed : (o : ℕ) → is_biased (marks w o) ≡ true → has_class w.shape w.words o ≡ true
+  pub saw_classed : (t o v : ℕ) → last_seen (Mark o) (w.known t).seen ≡ Some v → ((w.known t).running ≡ true)
+      ⊎ ((w.known t).requesting ≡ true)
+      → is_biased v ≡ true → has_class w.shape w.words o ≡ true
   -- nobody came to wait on an object of which the thread is the owner
   pub unwaiting : (t u o v : ℕ) → last_seen (Waiting u) (w.known t).seen ≡ Some v → (w.known t).running ≡ true
       → owner o t ≡ true

@@ -1,5 +1,5 @@
 -- Each word spells a form, and names what the heap has.
-use Rattle.std.specs.Prelude.{◌≡◌, ◌≢◌, ℕ, ◌<◌, length, Option, Some, None, IfSome}
+use Rattle.std.specs.Prelude.{◌≡◌, ◌≢◌, ℕ, ◌<◌, ◌≤◌, length, Option, Some, None, IfSome}
 use Rattle.mark_word.specs.declared.mark.MarkForm.{MarkForm}
 use Rattle.mark_word.specs.declared.mark.MarkForm.TheVariants.{Inflating, Neutral, Anonymous, Biased, Locked, Inflated, Marked}
 use Rattle.mark_word.specs.declared.owner.OwnerForm.{OwnerForm}
@@ -50,7 +50,7 @@ abbrev pub IsSafepoint : Shape → Option SafeForm → Type 0
 IsSafepoint s None = ⊥
 IsSafepoint s (Some form) = IfSome form.requester (λ thread. thread < s.threads)
 
-pub record WordsHaveForms (s : Shape) (mark owner wait object : ℕ → ℕ) (hold : ℕ → ℕ → ℕ) (safe : ℕ) : Type 0 where
+pub record WordsHaveForms (s : Shape) (mark owner wait object class : ℕ → ℕ) (hold : ℕ → ℕ → ℕ) (safe : ℕ) : Type 0 where
   pub marks : (o : ℕ) → IsMark s (read_mark (mark o))
   pub owners : (m : ℕ) → IsOwner s (read_owner (owner m))
   pub waits : (t : ℕ) → IsWait s (read_wait (wait t))
@@ -58,3 +58,5 @@ pub record WordsHaveForms (s : Shape) (mark owner wait object : ℕ → ℕ) (ho
   pub objects : (m : ℕ) → object m ≢ 0 → object m < length s.objects
   pub holds : (t p : ℕ) → IsHold s (read_hold (hold t p))
   pub safepoint : IsSafepoint s (read_safe safe)
+  -- a class plus 1, or 0
+  pub classes : (o : ℕ) → class o ≤ s.classes

@@ -1,9 +1,9 @@
 -- What each thread knows between its calls, whatever its last call was. A call may begin from there where its own conditions hold.
-use Rattle.std.specs.Prelude.{◌≡◌, ◌⊎◌, ℕ, ◌<◌, true, false, List, length, Option, Some, None}
+use Rattle.std.specs.Prelude.{◌≡◌, ◌⊎◌, ℕ, ◌+◌, nat_lt, ◌<◌, Bool, true, false, List, length, Option, Some, None}
 use Rattle.plain_monitor.specs.Limits.{most_holds}
 use Rattle.mark_word.specs.Mark.{read_mark}
 use Rattle.core_world.specs.declared.name.Name.{Name}
-use Rattle.core_world.specs.declared.name.Name.TheVariants.{Safepoint, Mark, Prototype}
+use Rattle.core_world.specs.declared.name.Name.TheVariants.{Safepoint, Mark, Prototype, Class}
 use Rattle.core_world.specs.declared.stage.Stage.TheVariants.{Calm}
 use Rattle.core_world.specs.declared.task.Op.{Op}
 use Rattle.core_world.specs.declared.task.Op.TheVariants as op
@@ -16,9 +16,14 @@ use Rattle.core_world.specs.Trees.Plans.{free_place}
 use Rattle.core_world.specs.Clauses.Safepoints.{ends, IsUnfinished}
 use Rattle.core_world.specs.Shots.{dumps_from}
 
--- who has made these steps has seen that c is the class of o: the heap's shape says so, whatever the steps were
+-- by whether o is declared: the heap's shape says that c is its class, or these steps saw its class word
+abbrev pub SawClassIf : Bool → Shape → List StepMade → ℕ → ℕ → Type 0
+SawClassIf true s seen o c = c ≡ class_of s o
+SawClassIf false s seen o c = last_seen (Class o) seen ≡ Some (c + 1)
+
+-- who has made these steps has seen that o is there, and that c is its class
 abbrev pub SawClass : Shape → List StepMade → ℕ → ℕ → Type 0
-SawClass s seen o c = c ≡ class_of s o
+SawClass s seen o c = SawClassIf (nat_lt o s.declared) s seen o c
 
 -- the thread saw a valid bias of o since the call began that made its request
 abbrev pub SawValidBias : Shape → Known → ℕ → Type 0
@@ -30,10 +35,10 @@ SawValidBias s k o =
 abbrev pub IsItsPrototype : Shape → List StepMade → ℕ → Name → Type 0
 IsItsPrototype s seen o n = (c : ℕ) × SawClass s seen o c × (n ≡ Prototype c)
 
--- since then it has seen no words but these two and the safepoint word
+-- since then it has seen no words but the mark, the class word of an object that isn't declared, the prototype, and the safepoint word
 abbrev pub SawNoOther : Shape → Known → ℕ → Type 0
 SawNoOther s k o = (n : Name) (v : ℕ) → last_seen n k.seen ≡ Some v
-    → (n ≡ Safepoint) ⊎ (n ≡ Mark o) ⊎ IsItsPrototype s k.seen o n
+    → (n ≡ Safepoint) ⊎ (n ≡ Mark o) ⊎ ((n ≡ Class o) × (nat_lt o s.declared ≡ false)) ⊎ IsItsPrototype s k.seen o n
 
 -- It saw a valid bias of o and nothing else, and has not reached its safepoint: in the call in which it reaches that, it goes on up to the release.
 abbrev pub MayRevoke : Shape → Known → ℕ → Type 0

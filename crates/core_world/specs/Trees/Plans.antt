@@ -1,11 +1,12 @@
 -- How the steps of the operations are written down.
-use Rattle.std.specs.Prelude.{ℕ, ◌+◌, ◌==◌, Bool, false, List, Option, Some, None}
+use Rattle.std.specs.Prelude.{ℕ, ◌+◌, ◌-◌, ◌==◌, nat_lt, if◌then◌else◌, Bool, false, List, Option, Some, None}
 use Rattle.std.specs.List.{position_or_len}
 use Rattle.plain_monitor.specs.declared.entry.Entry.{Entry}
 use Rattle.plain_monitor.specs.History.{last_stamp}
 use Rattle.core_world.specs.declared.act.Act.{Act}
 use Rattle.core_world.specs.declared.act.Act.TheVariants as act
 use Rattle.core_world.specs.declared.name.Name.{Name}
+use Rattle.core_world.specs.declared.name.Name.TheVariants.{Class}
 use Rattle.core_world.specs.declared.plan.Note.TheVariants as note
 use Rattle.core_world.specs.declared.plan.Own.{Own}
 use Rattle.core_world.specs.declared.plan.Own.TheVariants as own
@@ -22,7 +23,7 @@ use Rattle.core_world.specs.Words.Forms.{hold_word}
 use Rattle.core_world.specs.Threads.Known.{Local}
 use Rattle.core_world.specs.Locks.{hold_count}
 use Rattle.core_world.specs.Words.Shape.{Shape, class_of}
-use Rattle.core_world.specs.Trees.Todo.{Todo, done}
+use Rattle.core_world.specs.Trees.Todo.{Todo, done, step}
 
 -- the call whose steps a part makes, and what is unfinished while it makes them
 pub record Purpose : Type 0 where
@@ -90,6 +91,6 @@ top_place o holds = position_or_len (λ h. h == hold_word o (hold_count o holds)
 abbrev pub next_stamp : Local → ℕ
 next_stamp k = last_stamp k.log + 1
 
--- The class of an object, as a call finds it that stands at this stage: the heap's shape tells it, without a step.
+-- The class of an object, as a call finds it that stands at this stage: the heap's shape tells that of a declared one, and that of another is loaded.
 abbrev pub class_steps : Purpose → Stage → Shape → ℕ → Todo ℕ
-class_steps e stage s o = done (class_of s o)
+class_steps e stage s o = if nat_lt o s.declared then done (class_of s o) else step (load_plan e stage (Class o)) (λ word. done (word - 1))

@@ -1,7 +1,7 @@
 -- The words of the heap by name.
-use Rattle.std.specs.Prelude.{ℕ, ◌==◌, ◌&&◌, Bool, if◌then◌else◌, Option, Some, None}
+use Rattle.std.specs.Prelude.{ℕ, ◌-◌, ◌==◌, nat_lt, ◌&&◌, ◌||◌, not, Bool, if◌then◌else◌, Option, Some, None}
 use Rattle.core_world.specs.declared.name.Name.{Name}
-use Rattle.core_world.specs.declared.name.Name.TheVariants.{Safepoint, Prototype, Revocations, LastBulk, Mark, Stamp, Slot, Hold, Displaced, Waiting, Length, Owner, Recursions, Header, Object, Claim, End, Ring}
+use Rattle.core_world.specs.declared.name.Name.TheVariants.{Safepoint, Prototype, Revocations, LastBulk, Mark, Stamp, Slot, Hold, Displaced, Waiting, Length, Owner, Recursions, Header, Object, Claim, End, Ring, Class}
 use Rattle.core_world.specs.Words.Shape.{Shape, class_of}
 
 -- the monitor of which this is a word
@@ -32,6 +32,7 @@ kind_of (Object m) = 14
 kind_of Claim = 15
 kind_of End = 16
 kind_of (Ring p) = 17
+kind_of (Class o) = 18
 
 abbrev pub first_index : Name → ℕ
 first_index Safepoint = 0
@@ -52,6 +53,7 @@ first_index (Object m) = m
 first_index Claim = 0
 first_index End = 0
 first_index (Ring p) = p
+first_index (Class o) = o
 
 abbrev pub second_index : Name → ℕ
 second_index (Slot o s) = s
@@ -66,6 +68,10 @@ same_name m n = (kind_of m == kind_of n) && (second_index m == second_index n) &
 abbrev pub with_word : Name → ℕ → (Name → ℕ) → Name → ℕ
 with_word at v f n = if same_name n at then v else f n
 
--- the class of an object, by the heap's shape and these words
+-- by these words the object is there: it is declared, or its class is stored
+abbrev pub has_class : Shape → (Name → ℕ) → ℕ → Bool
+has_class s f o = nat_lt o s.declared || not (f (Class o) == 0)
+
+-- the class of an object by these words: a declared one has the shape's, and one that a thread made has its class word's, less 1
 abbrev pub class_by : Shape → (Name → ℕ) → ℕ → ℕ
-class_by s f o = class_of s o
+class_by s f o = if nat_lt o s.declared then class_of s o else f (Class o) - 1

@@ -6,9 +6,12 @@ use Rattle.plain_monitor.specs.Limits.{most_threads, most_classes, most_slots, m
 pub record Shape : Type 0 where
   pub threads : ℕ
   pub classes : ℕ
-  -- the class and the number of slots of each object
+  -- how many objects are declared: they have the first numbers, and threads make the others
+  pub declared : ℕ
+  -- the class and the number of slots of each object; of one that is made, the number of slots alone counts
   pub objects : List (ℕ × ℕ)
 
+-- the class of a declared object
 abbrev pub class_of : Shape → ℕ → ℕ
 class_of s o = (slice_index_or s.objects o (0, 0)).0
 
@@ -35,5 +38,6 @@ ring_places s = 2 ^ ring_bits s
 pub record IsInLimits (s : Shape) : Type 0 where
   pub threads : s.threads ≤ most_threads
   pub classes : s.classes ≤ most_classes
+  pub declared : s.declared ≤ length s.objects
   pub objects : length s.objects ≤ most_objects
   pub each : AllByRecursion (λ x. (x.0 < s.classes) × (x.1 ≤ most_slots)) s.objects

@@ -32,7 +32,7 @@ pub record MayStep (heap : Heap) (k : Known) (p : StepPlan) : Type 0 where
   pub at : IsIn heap.shape p.at
 
 abbrev pub no_heap : Heap
-no_heap = record { shape = record { threads = 0; classes = 0; objects = [] }; start = 0; biasing = false }
+no_heap = record { shape = record { threads = 0; classes = 0; declared = 0; objects = [] }; start = 0; biasing = false }
 
 abbrev pub no_plan : StepPlan
 no_plan =

@@ -5,13 +5,15 @@ use Rattle.mark_word.specs.declared.mark.MarkForm.{MarkForm}
 use Rattle.mark_word.specs.declared.mark.MarkForm.TheVariants.{Neutral, Locked}
 use Rattle.mark_word.specs.Hold.{read_hold}
 use Rattle.mark_word.specs.Mark.{mark_of, read_mark}
-use Rattle.core_world.specs.declared.name.Name.TheVariants.{Prototype, Mark, Hold, Displaced}
+use Rattle.core_world.specs.declared.name.Name.TheVariants.{Prototype, Revocations, LastBulk, Mark, Hold, Displaced}
+use Rattle.core_world.specs.Locks.{is_valid_bias}
 use Rattle.core_world.specs.RevocationRules.{Write, write, raised_form, with_epoch, store_where, object_held, record_writes, first_place}
 use Rattle.core_world.specs.Threads.Stages.{Revocation}
-use Rattle.core_world.specs.Trees.Plans.{Purpose}
+use Rattle.core_world.specs.Trees.Plans.{Purpose, load}
 use Rattle.core_world.specs.Trees.RevocationSteps.{look, store_steps, revoke_at, revoke_steps, visit_held, walk_steps, take_bias_steps}
-use Rattle.core_world.specs.Trees.Todo.{Todo, done, ◌>>=◌, each_from, all_from}
-use Rattle.core_world.specs.Words.Forms.{names, hold_word, is_biased}
+use Rattle.core_world.specs.Trees.RevocationSteps.{RevocationOutcome, decided_steps}
+use Rattle.core_world.specs.Trees.Todo.{Todo, done, never, ◌>>=◌, ask, each_from, all_from}
+use Rattle.core_world.specs.Words.Forms.{names, hold_word, epoch_in, is_biased}
 use Rattle.core_world.specs.Words.Shape.{Shape}
 use Rattle.revoke_walk.specs.declared.visit.Visit.{Visit}
 use Rattle.revoke_walk.specs.declared.visit.Visit.TheVariants.{Renew, Revoke}
@@ -90,3 +92,12 @@ abbrev pub neutral_steps : Shape → ℕ → Purpose → Revocation → Todo (Un
 neutral_steps s c e b = do
   _ ← store_steps e b (write (Prototype c) (mark_of (Neutral 0 0)) ∷ [])
   unbiased_steps s c e b
+
+-- OF A REVOCATION AT A SAFEPOINT: where the object's mark is this one, and its class this one
+abbrev pub decide_steps : Shape → ℕ → Purpose → Revocation → ℕ → ℕ → Todo RevocationOutcome
+decide_steps s t e b mark c = do
+  prototype ← ask (load e (Prototype c))
+  count ← ask (load e (Revocations c))
+  last ← ask (load e (LastBulk c))
+  if is_valid_bias (read_mark mark) prototype
+      then decided_steps s t c e b (epoch_in prototype) count last else never

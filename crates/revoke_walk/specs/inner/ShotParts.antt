@@ -52,10 +52,13 @@ cell_at form s o k =
 abbrev pub cell_of : Shape → ℕ → Known → Option ℕ × ℕ
 cell_of s o k = cell_at (read_mark (seen_words k (Mark o))) s o k
 
--- the lock of an object that is biased to a thread in this epoch
+-- the lock of an object that is biased to a thread in this epoch, where it is of this class; and by its class
+abbrev pub lock_by_class : ℕ → ℕ → ℕ → Known → Lock
+lock_by_class class thread epoch k =
+    if has_epoch (epoch_in (seen_words k (Prototype class))) epoch then BiasedTo thread else Open
+
 abbrev pub bias_lock : Shape → ℕ → ℕ → ℕ → Known → Lock
-bias_lock s o thread epoch k =
-    if has_epoch (epoch_in (seen_words k (Prototype (class_by s (seen_words k) o)))) epoch then BiasedTo thread else Open
+bias_lock s o thread epoch k = lock_by_class (class_by s (seen_words k) o) thread epoch k
 
 -- the length of thread u's log
 abbrev pub length_of : ℕ → Known → ℕ
@@ -74,11 +77,15 @@ look_at_hold e t p = do
   _ ← ask (load e (Hold t p))
   done tt
 
+abbrev pub look_by_class : Purpose → ℕ → ℕ → ℕ → Todo (Unit {0})
+look_by_class e class thread epoch = do
+  prototype ← ask (load e (Prototype class))
+  if has_epoch (epoch_in prototype) epoch then look_at_holds e thread else done tt
+
 abbrev pub look_at_bias : Purpose → Shape → ℕ → ℕ → ℕ → Todo (Unit {0})
 look_at_bias e s o thread epoch = do
   class ← class_steps e Calm s o
-  prototype ← ask (load e (Prototype class))
-  if has_epoch (epoch_in prototype) epoch then look_at_holds e thread else done tt
+  look_by_class e class thread epoch
 
 abbrev pub look_at_monitor : Purpose → ℕ → Todo (Unit {0})
 look_at_monitor e m = do

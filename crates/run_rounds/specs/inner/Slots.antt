@@ -34,7 +34,7 @@ abbrev pub no_heap : HeapSeen
 no_heap =
     record {
       table = record { words = 0; slots = 0; views_name = 0; atom = 0; block = 0; offset = 0; slot_names = [] };
-      heap = record { shape = record { threads = 0; classes = 0; objects = [] }; start = 0; biasing = false };
+      heap = record { shape = record { threads = 0; classes = 0; declared = 0; objects = [] }; start = 0; biasing = false };
     }
 
 abbrev pub no_program : ProgramText

@@ -1,14 +1,15 @@
-use Rattle.std.proofs.Common.{◌≡◌, ◌<◌, ℕ, length, true, false, refl, sym, ap, ◌∙◌, subst}
+use Rattle.std.proofs.Common.{◌≡◌, ℕ, true, false, refl, sym, ◌∙◌}
+use Rattle.core_world.specs.declared.answer.BiasTry.{BiasTry}
 use Rattle.core_world.specs.declared.answer.BiasTry.TheVariants.{Unbiased}
 use Rattle.core_world.specs.declared.name.Name.TheVariants.{Mark}
+use Rattle.core_world.specs.declared.stage.Stage.TheVariants.{Calm}
 use Rattle.core_world.specs.Words.Forms.{is_biased}
-use Rattle.core_world.specs.Words.Shape.{Shape, class_of}
-use Rattle.core_world.specs.Trees.Plans.{load}
-use Rattle.core_world.specs.Trees.Todo.{done}
-use Rattle.heap_table.specs.Parts.{IsDueOn, HasRun}
-use Rattle.heap_table.proofs.Ruled.{there}
-use Rattle.heap_table.proofs.Parts.{can, rest_due, stepped, ends}
+use Rattle.core_world.specs.Trees.Plans.{load, class_steps}
+use Rattle.core_world.specs.Trees.Todo.{Todo, done, ◌>>=◌}
+use Rattle.core_world.proofs.CallRests.{part_due}
 use Rattle.heap_table.proofs.Arms.{due_then, run_then, run_else}
+use Rattle.heap_table.proofs.ClassSteps.{class_then}
+use Rattle.heap_table.proofs.Parts.{can, rest_due, stepped, in_turn, ends}
 use Rattle.bias_lock.specs.inner.Parts.{prototype_drop}
 use Rattle.bias_lock.proofs.Keeping.{drop_keeps}
 use Rattle.bias_lock.proofs.drops.bias_drop.Goals as goal
@@ -17,11 +18,20 @@ pub load-mark-requires : goal.load-mark-requires
 load-mark-requires c =
     let a = c.args in can a.heap.now a.pass.now a.why.now.task (load a.why.now (Mark a.object)) _ c.requires.due refl c.requires.heap tt refl
 
-pub class_of-class-requires : goal.class_of-class-requires
-class_of-class-requires c =
+pub class_of-class-requires-clause-due : goal.class_of-class-requires-clause-due
+class_of-class-requires-clause-due c =
     let a = c.args in
-    let within = there a.heap.now a.pass.now a.why.now.task (load a.why.now (Mark a.object)) _ c.requires.heap c.requires.due refl in
-    subst (λ (s : Shape). a.object < length s.objects) (sym c.shape.ensures) within
+    let h = a.heap.now in
+    let p = a.pass.now in
+    let e = a.why.now in
+    let q = c.load-mark.new.pass in
+    let mark = c.load-mark.result in
+    let biased : is_biased mark ≡ true = sym c.is_biased.ensures ∙ c.if-is_biased.true in
+    let class = class_steps e Calm h.heap.shape a.object in
+    let behind : ℕ → Todo BiasTry = λ n. prototype_drop e n a.object mark in
+    part_due h.heap.shape h.heap.start h.heap.biasing q.known e.task class behind
+    (due_then h q (is_biased mark) (class >>= behind) (done (Unbiased mark)) e.task
+    (rest_due h p e.task (load e (Mark a.object)) _ c.requires.due refl q mark c.load-mark.ensures) biased)
 
 pub drop_biased-requires-clause-due : goal.drop_biased-requires-clause-due
 drop_biased-requires-clause-due c =
@@ -29,15 +39,14 @@ drop_biased-requires-clause-due c =
     let h = a.heap.now in
     let p = a.pass.now in
     let e = a.why.now in
-    let plan = load e (Mark a.object) in
     let q = c.load-mark.new.pass in
     let mark = c.load-mark.result in
-    let s = c.load-mark.ensures in
     let biased : is_biased mark ≡ true = sym c.is_biased.ensures ∙ c.if-is_biased.true in
-    let class : c.class_of-class.result ≡ class_of h.heap.shape a.object = c.class_of-class.ensures.class ∙ ap (λ (z : Shape). class_of z a.object) c.shape.ensures in
-    subst (λ (n : ℕ). IsDueOn h q e.task (prototype_drop e n a.object mark)) (sym class)
-    (due_then h q (is_biased mark) (prototype_drop e (class_of h.heap.shape a.object) a.object mark) (done (Unbiased mark)) e.task
-    (rest_due h p e.task plan _ c.requires.due refl q mark s) biased)
+    let class = class_steps e Calm h.heap.shape a.object in
+    let behind : ℕ → Todo BiasTry = λ n. prototype_drop e n a.object mark in
+    let due = due_then h q (is_biased mark) (class >>= behind) (done (Unbiased mark)) e.task
+    (rest_due h p e.task (load e (Mark a.object)) _ c.requires.due refl q mark c.load-mark.ensures) biased in
+    class_then h q c.class_of-class.new.pass e Calm a.object behind c.class_of-class.result due c.class_of-class.ensures
 
 pub returns-then-is_biased-clause-run : goal.returns-then-is_biased-clause-run
 returns-then-is_biased-clause-run c =
@@ -50,12 +59,12 @@ returns-then-is_biased-clause-run c =
     let mark = c.load-mark.result in
     let s = c.load-mark.ensures in
     let biased : is_biased mark ≡ true = sym c.is_biased.ensures ∙ c.if-is_biased.true in
-    let r = c.drop_biased.new.pass in
+    let class = class_steps e Calm h.heap.shape a.object in
+    let behind : ℕ → Todo BiasTry = λ n. prototype_drop e n a.object mark in
+    let u = c.drop_biased.new.pass in
     let out = c.drop_biased.result in
-    let class : c.class_of-class.result ≡ class_of h.heap.shape a.object = c.class_of-class.ensures.class ∙ ap (λ (z : Shape). class_of z a.object) c.shape.ensures in
-    let run = subst (λ (n : ℕ). HasRun h (prototype_drop e n a.object mark) q r out) class c.drop_biased.ensures in
-    stepped h p q r plan _ mark out s refl
-    (run_then h q (is_biased mark) (prototype_drop e (class_of h.heap.shape a.object) a.object mark) (done (Unbiased mark)) r out biased run)
+    let run = in_turn h q c.class_of-class.new.pass u class behind c.class_of-class.result out c.class_of-class.ensures c.drop_biased.ensures in
+    stepped h p q u plan _ mark out s refl (run_then h q (is_biased mark) (class >>= behind) (done (Unbiased mark)) u out biased run)
 
 pub returns-clause-run : goal.returns-clause-run
 returns-clause-run c =
@@ -70,7 +79,8 @@ returns-clause-run c =
     let unbiased : is_biased mark ≡ false = sym c.is_biased.ensures ∙ c.if-is_biased.false in
     let out = Unbiased mark in
     stepped h p q q plan _ mark out s refl
-    (run_else h q (is_biased mark) (prototype_drop e (class_of h.heap.shape a.object) a.object mark) (done out) q out unbiased (ends h q out s.heap))
+    (run_else h q (is_biased mark) (class_steps e Calm h.heap.shape a.object >>= (λ n. prototype_drop e n a.object mark)) (done out) q out unbiased
+    (ends h q out s.heap))
 
 pub returns-then-is_biased-clause-kept : goal.returns-then-is_biased-clause-kept
 returns-then-is_biased-clause-kept c =

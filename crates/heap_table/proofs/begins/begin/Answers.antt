@@ -4,7 +4,9 @@ use Rattle.heap_table.specs.Ruled.{heap_in}
 use Rattle.heap_table.proofs.begins.begin.Goals as goal
 
 pub of_words-requires : goal.of_words-requires
-of_words-requires c = opens c.args.setting _ (c.requires.law c.threads-threads.ensures.limits) (c.as_slice.ensures.value ∙ c.in_ok-start.ensures.words)
+of_words-requires c =
+    let limits = c.threads-threads.ensures.limits in
+    opens c.args.setting _ limits.declared (c.requires.law limits) (c.as_slice.ensures.value ∙ c.in_ok-start.ensures.words)
 
 pub loop-thread-preserved : goal.loop-thread-preserved
 loop-thread-preserved c =

@@ -1,5 +1,5 @@
 use Rattle.std.proofs.Common.{refl, None}
-use Rattle.program_syntax.specs.inner.Steps.{before_of}
+use Rattle.program_syntax.specs.State.{before_of}
 use Rattle.program_syntax.proofs.BehindLines.{array_counted}
 use Rattle.program_syntax.proofs.reader.behind_declaration.Goals as goal
 

@@ -1,6 +1,6 @@
 use Rattle.std.proofs.Common.{◌≡◌, false, None, Some}
 use Rattle.program_syntax.specs.Refusal.{keyword_cause, passes_limit}
-use Rattle.program_syntax.specs.inner.Steps.{before_of, text_of, thread_of, IsAheadOf}
+use Rattle.program_syntax.specs.State.{before_of, text_of, thread_of, IsAheadOf}
 use Rattle.program_syntax.specs.declared.keyword.Keyword.TheVariants.{Label}
 use Rattle.program_syntax.proofs.AllowedCause.{no_cause}
 use Rattle.program_syntax.proofs.BehindLines.{outside_kind, instruction_kind, instruction_room, next_label, behind_label, behind_instruction}

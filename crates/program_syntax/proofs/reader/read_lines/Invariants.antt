@@ -2,7 +2,7 @@ use Rattle.std.proofs.Common.{◌≡◌, ◌+◌, ◌≤◌, length}
 use Rattle.program_syntax.specs.Text.{most_bytes}
 use Rattle.program_syntax.specs.Reading.{nothing}
 use Rattle.program_syntax.specs.Refusal.{read_from, lines_of}
-use Rattle.program_syntax.specs.inner.Steps.{before_of, HasAhead}
+use Rattle.program_syntax.specs.State.{before_of, HasAhead}
 use Rattle.program_syntax.proofs.reader.read_lines.Given as goal
 
 -- the lines that are left decide, and each is counted

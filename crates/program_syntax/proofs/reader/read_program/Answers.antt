@@ -3,7 +3,7 @@ use Rattle.std.proofs.lemmas.Bool.Decides.{nat_tests}
 use Rattle.program_syntax.specs.Text.{most_bytes}
 use Rattle.program_syntax.specs.Reading.{Before, nothing}
 use Rattle.program_syntax.specs.Refusal.{read_from, lines_of, program_of}
-use Rattle.program_syntax.specs.inner.Steps.{before_of}
+use Rattle.program_syntax.specs.State.{before_of}
 use Rattle.program_syntax.proofs.Allowed.{allowed_law}
 use Rattle.program_syntax.proofs.reader.read_program.Goals as goal
 

@@ -1,5 +1,5 @@
 use Rattle.std.proofs.Common.{◌≡◌, length}
-use Rattle.program_syntax.specs.inner.Left.{words_in}
+use Rattle.program_syntax.specs.Left.{words_in}
 use Rattle.program_syntax.proofs.words.first_word.Given as goal
 
 -- what is left has the words

@@ -9,7 +9,8 @@ use Rattle.core_world.specs.Trees.Todo.{Todo}
 use Rattle.heap_table.specs.Parts.{IsDueOn, HasRun}
 use Rattle.revoke_walk.specs.inner.RevokeParts.{record_write, record_steps, mark_locked}
 use Rattle.revoke_walk.proofs.RevokeSteps.{records_left, record_first, records_none, stores_of}
-use Rattle.revoke_walk.proofs.RevokeWords.{in_limits, locked_place}
+use Rattle.heap_table.proofs.Forms.{in_limits}
+use Rattle.revoke_walk.proofs.RevokeWords.{locked_place}
 use Rattle.revoke_walk.proofs.Rounds.{first_round, round_due, next_round}
 use Rattle.revoke_walk.proofs.revokes.lock.Goals as goal
 

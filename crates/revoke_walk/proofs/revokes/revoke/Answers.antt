@@ -7,7 +7,7 @@ use Rattle.core_world.specs.Trees.Plans.{load_plan}
 use Rattle.core_world.specs.Trees.RevocationSteps.{revocation_stage, revoke_at}
 use Rattle.heap_table.specs.Parts.{IsDueOn, HasRun}
 use Rattle.heap_table.proofs.Parts.{can, rest_due, stepped}
-use Rattle.revoke_walk.proofs.RevokeWords.{found_formed}
+use Rattle.heap_table.proofs.Forms.{found_formed}
 use Rattle.revoke_walk.proofs.revokes.revoke.Goals as goal
 
 pub look-mark-requires : goal.look-mark-requires

@@ -1,135 +1,54 @@
-use Rattle.std.proofs.Common.{◌≡◌, Bool, true, false, cond, refl, sym, ap, ◌∙◌, subst}
-use Rattle.core_world.specs.declared.name.Name.TheVariants.{Prototype}
-use Rattle.core_world.specs.declared.plan.StepPlan.{StepPlan}
-use Rattle.core_world.specs.Locks.{Open, BiasedTo, has_epoch}
-use Rattle.core_world.specs.Trees.LookSteps.{look_at_holds}
-use Rattle.core_world.specs.Trees.Plans.{load}
-use Rattle.core_world.specs.Trees.Todo.{done}
-use Rattle.core_world.specs.Words.Forms.{epoch_in}
-use Rattle.core_world.specs.Words.Shape.{Shape, class_of}
-use Rattle.heap_table.specs.Stepping.{CanStep, HasStepped}
-use Rattle.heap_table.proofs.Arms.{due_then, run_then, run_else}
-use Rattle.heap_table.proofs.Parts.{can, rest_due, stepped, ends}
-use Rattle.revoke_walk.specs.inner.ShotParts.{cell_by}
-use Rattle.revoke_walk.proofs.Later.{load_later, load_settled, later_than}
+use Rattle.std.proofs.Common.{ℕ, ap, ◌∙◌}
+use Rattle.core_world.specs.declared.stage.Stage.TheVariants.{Calm}
+use Rattle.core_world.specs.Trees.Plans.{class_steps}
+use Rattle.core_world.proofs.CallRests.{part_due}
+use Rattle.heap_table.proofs.ClassSteps.{class_then}
+use Rattle.heap_table.proofs.Parts.{in_turn}
+use Rattle.revoke_walk.specs.inner.ShotParts.{cell_by, lock_by_class, look_by_class}
+use Rattle.revoke_walk.proofs.Later.{class_later, class_settled, later_than}
 use Rattle.revoke_walk.proofs.shots.look_at_bias.Goals as goal
 
-pub load-prototype-requires : goal.load-prototype-requires
-load-prototype-requires c =
+pub class_of-class-requires-clause-due : goal.class_of-class-requires-clause-due
+class_of-class-requires-clause-due c =
     let a = c.args in
     let h = a.heap.now in
     let e = a.why.now in
-    let s = h.heap.shape in
-    let class : c.class_of-class.result ≡ class_of s a.object = c.class_of-class.ensures.class ∙ ap (λ (z : Shape). class_of z a.object) c.shape.ensures in
-    subst (CanStep h a.pass.now) (ap (λ n. load e (Prototype n)) (sym class)) (can h a.pass.now e.task (load e (Prototype (class_of s a.object))) _ c.requires.due refl c.requires.heap tt refl)
+    part_due h.heap.shape h.heap.start h.heap.biasing a.pass.now.known e.task (class_steps e Calm h.heap.shape a.object)
+    (λ n. look_by_class e n a.thread a.epoch) c.requires.due
 
-pub look_at_biased-requires-clause-due : goal.look_at_biased-requires-clause-due
-look_at_biased-requires-clause-due c =
+pub look_by_class-requires-clause-due : goal.look_by_class-requires-clause-due
+look_by_class-requires-clause-due c =
     let a = c.args in
-    let h = a.heap.now in
-    let e = a.why.now in
-    let s = h.heap.shape in
-    let class : c.class_of-class.result ≡ class_of s a.object = c.class_of-class.ensures.class ∙ ap (λ (z : Shape). class_of z a.object) c.shape.ensures in
-    let plan = load e (Prototype (class_of s a.object)) in
-    let q = c.load-prototype.new.pass in
-    let n = c.load-prototype.result in
-    let step = subst (λ (x : StepPlan). HasStepped h a.pass.now q x n) (ap (λ m. load e (Prototype m)) class) c.load-prototype.ensures in
-    let rest = rest_due h a.pass.now e.task plan _ c.requires.due refl q n step in
-    let valid : has_epoch (epoch_in n) a.epoch ≡ true = sym c.is_valid.ensures ∙ c.if-is_valid.true in
-    due_then h q (has_epoch (epoch_in n) a.epoch) (look_at_holds e a.thread) (done tt) e.task rest valid
+    class_then a.heap.now a.pass.now c.class_of-class.new.pass a.why.now Calm a.object (λ n. look_by_class a.why.now n a.thread a.epoch)
+    c.class_of-class.result c.requires.due c.class_of-class.ensures
 
-pub look_at_biased-requires-clause-reached : goal.look_at_biased-requires-clause-reached
-look_at_biased-requires-clause-reached c =
+pub look_by_class-requires-clause-reached : goal.look_by_class-requires-clause-reached
+look_by_class-requires-clause-reached c =
     let a = c.args in
-    let h = a.heap.now in
-    let e = a.why.now in
-    let s = h.heap.shape in
-    let class : c.class_of-class.result ≡ class_of s a.object = c.class_of-class.ensures.class ∙ ap (λ (z : Shape). class_of z a.object) c.shape.ensures in
-    let q = c.load-prototype.new.pass in
-    let n = c.load-prototype.result in
-    let step = subst (λ (x : StepPlan). HasStepped h a.pass.now q x n) (ap (λ m. load e (Prototype m)) class) c.load-prototype.ensures in
-    (load_later h a.pass.now q e (Prototype (class_of s a.object)) n c.requires.heap c.requires.reached step).reached ∙ c.requires.reached
+    (class_later a.heap.now a.pass.now c.class_of-class.new.pass a.why.now a.object c.class_of-class.result c.requires.heap c.requires.reached
+    c.class_of-class.ensures).reached ∙ c.requires.reached
 
-pub returns-then-is_valid-clause-run : goal.returns-then-is_valid-clause-run
-returns-then-is_valid-clause-run c =
+pub returns-clause-run : goal.returns-clause-run
+returns-clause-run c =
     let a = c.args in
     let h = a.heap.now in
     let e = a.why.now in
-    let s = h.heap.shape in
-    let class : c.class_of-class.result ≡ class_of s a.object = c.class_of-class.ensures.class ∙ ap (λ (z : Shape). class_of z a.object) c.shape.ensures in
-    let plan = load e (Prototype (class_of s a.object)) in
-    let q = c.load-prototype.new.pass in
-    let n = c.load-prototype.result in
-    let r = c.look_at_biased.new.pass in
-    let step = subst (λ (x : StepPlan). HasStepped h a.pass.now q x n) (ap (λ m. load e (Prototype m)) class) c.load-prototype.ensures in
-    let valid : has_epoch (epoch_in n) a.epoch ≡ true = sym c.is_valid.ensures ∙ c.if-is_valid.true in
-    stepped h a.pass.now q r plan _ n tt step refl (run_then h q (has_epoch (epoch_in n) a.epoch) (look_at_holds e a.thread) (done tt) r tt valid c.look_at_biased.ensures.run)
+    in_turn h a.pass.now c.class_of-class.new.pass c.look_by_class.new.pass (class_steps e Calm h.heap.shape a.object)
+    (λ n. look_by_class e n a.thread a.epoch) c.class_of-class.result tt c.class_of-class.ensures c.look_by_class.ensures.run
 
-pub returns-then-is_valid-clause-later : goal.returns-then-is_valid-clause-later
-returns-then-is_valid-clause-later c =
+pub returns-clause-later : goal.returns-clause-later
+returns-clause-later c =
     let a = c.args in
-    let h = a.heap.now in
-    let e = a.why.now in
-    let s = h.heap.shape in
-    let class : c.class_of-class.result ≡ class_of s a.object = c.class_of-class.ensures.class ∙ ap (λ (z : Shape). class_of z a.object) c.shape.ensures in
-    let q = c.load-prototype.new.pass in
-    let n = c.load-prototype.result in
-    let step = subst (λ (x : StepPlan). HasStepped h a.pass.now q x n) (ap (λ m. load e (Prototype m)) class) c.load-prototype.ensures in
-    later_than a.pass.now.known q.known c.look_at_biased.new.pass.known
-    (load_later h a.pass.now q e (Prototype (class_of s a.object)) n c.requires.heap c.requires.reached step) c.look_at_biased.ensures.later
+    let q = c.class_of-class.new.pass in
+    later_than a.pass.now.known q.known c.look_by_class.new.pass.known
+    (class_later a.heap.now a.pass.now q a.why.now a.object c.class_of-class.result c.requires.heap c.requires.reached c.class_of-class.ensures)
+    c.look_by_class.ensures.later
 
-pub returns-then-is_valid-clause-cell : goal.returns-then-is_valid-clause-cell
-returns-then-is_valid-clause-cell c = λ l later.
+pub returns-clause-cell : goal.returns-clause-cell
+returns-clause-cell c = λ l later.
     let a = c.args in
-    let h = a.heap.now in
-    let e = a.why.now in
-    let s = h.heap.shape in
-    let class : c.class_of-class.result ≡ class_of s a.object = c.class_of-class.ensures.class ∙ ap (λ (z : Shape). class_of z a.object) c.shape.ensures in
-    let q = c.load-prototype.new.pass in
-    let n = c.load-prototype.result in
-    let step = subst (λ (x : StepPlan). HasStepped h a.pass.now q x n) (ap (λ m. load e (Prototype m)) class) c.load-prototype.ensures in
-    let valid : has_epoch (epoch_in n) a.epoch ≡ true = sym c.is_valid.ensures ∙ c.if-is_valid.true in
-    let now = later_than q.known c.look_at_biased.new.pass.known l c.look_at_biased.ensures.later later in
-    let word = load_settled h a.pass.now q e (Prototype (class_of s a.object)) n c.requires.heap c.requires.reached step l now in
-    ap (λ (b : Bool). cell_by (cond b (BiasedTo a.thread) Open) a.object l) (ap (λ m. has_epoch (epoch_in m) a.epoch) word ∙ valid)
-    ∙ c.look_at_biased.ensures.cell l later
-
-pub returns-else-is_valid-clause-run : goal.returns-else-is_valid-clause-run
-returns-else-is_valid-clause-run c =
-    let a = c.args in
-    let h = a.heap.now in
-    let e = a.why.now in
-    let s = h.heap.shape in
-    let class : c.class_of-class.result ≡ class_of s a.object = c.class_of-class.ensures.class ∙ ap (λ (z : Shape). class_of z a.object) c.shape.ensures in
-    let plan = load e (Prototype (class_of s a.object)) in
-    let q = c.load-prototype.new.pass in
-    let n = c.load-prototype.result in
-    let step = subst (λ (x : StepPlan). HasStepped h a.pass.now q x n) (ap (λ m. load e (Prototype m)) class) c.load-prototype.ensures in
-    let stale : has_epoch (epoch_in n) a.epoch ≡ false = sym c.is_valid.ensures ∙ c.if-is_valid.false in
-    stepped h a.pass.now q q plan _ n tt step refl (run_else h q (has_epoch (epoch_in n) a.epoch) (look_at_holds e a.thread) (done tt) q tt stale (ends h q tt step.heap))
-
-pub returns-else-is_valid-clause-later : goal.returns-else-is_valid-clause-later
-returns-else-is_valid-clause-later c =
-    let a = c.args in
-    let h = a.heap.now in
-    let e = a.why.now in
-    let s = h.heap.shape in
-    let class : c.class_of-class.result ≡ class_of s a.object = c.class_of-class.ensures.class ∙ ap (λ (z : Shape). class_of z a.object) c.shape.ensures in
-    let q = c.load-prototype.new.pass in
-    let n = c.load-prototype.result in
-    let step = subst (λ (x : StepPlan). HasStepped h a.pass.now q x n) (ap (λ m. load e (Prototype m)) class) c.load-prototype.ensures in
-    load_later h a.pass.now q e (Prototype (class_of s a.object)) n c.requires.heap c.requires.reached step
-
-pub returns-else-is_valid-clause-cell : goal.returns-else-is_valid-clause-cell
-returns-else-is_valid-clause-cell c = λ l later.
-    let a = c.args in
-    let h = a.heap.now in
-    let e = a.why.now in
-    let s = h.heap.shape in
-    let class : c.class_of-class.result ≡ class_of s a.object = c.class_of-class.ensures.class ∙ ap (λ (z : Shape). class_of z a.object) c.shape.ensures in
-    let q = c.load-prototype.new.pass in
-    let n = c.load-prototype.result in
-    let step = subst (λ (x : StepPlan). HasStepped h a.pass.now q x n) (ap (λ m. load e (Prototype m)) class) c.load-prototype.ensures in
-    let stale : has_epoch (epoch_in n) a.epoch ≡ false = sym c.is_valid.ensures ∙ c.if-is_valid.false in
-    let word = load_settled h a.pass.now q e (Prototype (class_of s a.object)) n c.requires.heap c.requires.reached step l later in
-    ap (λ (b : Bool). cell_by (cond b (BiasedTo a.thread) Open) a.object l) (ap (λ m. has_epoch (epoch_in m) a.epoch) word ∙ stale)
+    let q = c.class_of-class.new.pass in
+    let n = c.class_of-class.result in
+    let now = later_than q.known c.look_by_class.new.pass.known l c.look_by_class.ensures.later later in
+    let class = class_settled a.heap.now a.pass.now q a.why.now a.object n c.requires.heap c.requires.reached c.class_of-class.ensures l now in
+    ap (λ (m : ℕ). cell_by (lock_by_class m a.thread a.epoch l) a.object l) class ∙ c.look_by_class.ensures.cell l later

@@ -11,7 +11,7 @@ use Rattle.heap_table.specs.Parts.{IsDueOn, HasRun}
 use Rattle.heap_table.proofs.Parts.{can, rest_due, stepped, ends}
 use Rattle.revoke_walk.specs.inner.RevokeParts.{visit_form}
 use Rattle.revoke_walk.proofs.RevokeSteps.{biased_or_not, none_visited}
-use Rattle.revoke_walk.proofs.RevokeWords.{found_formed}
+use Rattle.heap_table.proofs.Forms.{found_formed}
 use Rattle.revoke_walk.proofs.walks.visit_object.Goals as goal
 
 pub look-mark-requires : goal.look-mark-requires

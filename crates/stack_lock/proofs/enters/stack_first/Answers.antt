@@ -1,4 +1,4 @@
-use Rattle.std.proofs.Common.{◌≡◌, ◌==◌, true, false, refl, sym, ap, ◌∙◌, subst, eq-eqb, ne_eqb, arith}
+use Rattle.std.proofs.Common.{◌≡◌, ◌==◌, ◌<◌, ℕ, length, true, false, refl, sym, ap, ◌∙◌, subst, eq-eqb, ne_eqb, arith}
 use Rattle.mark_word.specs.declared.mark.MarkForm.TheVariants.{Locked}
 use Rattle.mark_word.specs.Mark.{mark_of}
 use Rattle.plain_monitor.specs.declared.entry.Path.TheVariants.{StackFirst}
@@ -20,6 +20,11 @@ use Rattle.heap_table.proofs.Arms.{due_then, run_then, run_else}
 use Rattle.heap_table.proofs.Ruled.{there}
 use Rattle.stack_lock.proofs.Seizing.{seized}
 use Rattle.stack_lock.proofs.enters.stack_first.Goals as goal
+
+-- a log that is as it was has the room that it had
+room_as : (m n : ℕ) (after before : Local) → m ≡ n → after ≡ before → length before.log < n → length after.log < m
+room_as m n after before limit same room =
+    let log : length after.log ≡ length before.log = ap (λ (x : Local). length x.log) same in omega (arith, limit, log, room)
 
 pub store-requires : goal.store-requires
 store-requires c =
@@ -75,6 +80,25 @@ hold-requires-clause-due c =
     let due = due_then h r (found == a.mark) (hold_steps e (local_of k) a.object StackFirst >>= done_with) (pending_for (why.Raced a.mark found)) e.task (rest_due h q e.task seize _ rest refl r found t) hit in
     subst (λ (l : Local). IsDueOn h r e.task (hold_steps e l a.object StackFirst)) (sym local)
     (part_due h.heap.shape h.heap.start h.heap.biasing r.known e.task (hold_steps e (local_of k) a.object StackFirst) done_with due)
+
+pub hold-requires-clause-room : goal.hold-requires-clause-room
+hold-requires-clause-room c =
+    let a = c.args in
+    let h = a.heap.now in
+    let e = a.why.now in
+    let k = a.pass.now.known in
+    let q = c.store.new.pass in
+    let r = c.exchange-found.new.pass in
+    let plan = displace_plan e Calm k.thread (free_place k.holds) a.mark in
+    let same : store_plan e Calm (Displaced c.thread-thread.result c.free_place-place.result) a.mark ≡ plan = λ i. store_plan e Calm (Displaced (c.thread-thread.ensures.same i) (c.free_place-place.ensures.place i)) a.mark in
+    let s = subst (λ (x : StepPlan). HasStepped h a.pass.now q x c.store.result) same c.store.ensures in
+    let seize = seize_plan e k.thread a.object a.mark (free_place k.holds) in
+    let word : c.encode-locked.result ≡ mark_of (Locked k.thread (free_place k.holds)) = c.encode-locked.ensures ∙ λ i. mark_of (Locked (c.thread-thread.ensures.same i) (c.free_place-place.ensures.place i)) in
+    let alike : swap_plan e (Seizes a.object c.free_place-place.result) (Mark a.object) a.mark c.encode-locked.result ≡ seize = λ i. swap_plan e (Seizes a.object (c.free_place-place.ensures.place i)) (Mark a.object) a.mark (word i) in
+    let found = c.exchange-found.result in
+    let t = subst (λ (x : StepPlan). HasStepped h q r x found) alike c.exchange-found.ensures in
+    let local : local_of r.known ≡ local_of k = ap local_of t.known ∙ seized h.heap.shape h.heap.start e k.thread a.object a.mark (free_place k.holds) found q.known ∙ ap local_of s.known in
+    room_as r.limit a.pass.now.limit (local_of r.known) (local_of k) (c.exchange-found.ensures.limit ∙ c.store.ensures.limit) local c.requires.room
 
 pub returns-then-found-mark : goal.returns-then-found-mark
 returns-then-found-mark c =

@@ -6,7 +6,7 @@ use Rattle.heap_table.proofs.shape.HeapShape.ring_places.Goals as goal
 pub returns-clause-places : goal.returns-clause-places
 returns-clause-places c =
     let own = c.self.inside in
-    let s : Shape = record { threads = own.threads; classes = own.classes; objects = own.objects.items } in
+    let s : Shape = record { threads = own.threads; classes = own.classes; declared = own.declared; objects = own.objects.items } in
     let next = c.next_power_of_two.ensures in
     let objects = c.len.ensures in
     ring_is s c.next_power_of_two.result next.power.0 c.self.invariant next.power.1 (omega (arith, next.lower_bound, objects)) (omega (arith, next.upper_bound, objects))

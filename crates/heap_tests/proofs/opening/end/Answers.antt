@@ -1,7 +1,7 @@
 use Rattle.std.proofs.Common.{◌≡◌, [], ◌∷◌, false, All, sym, subst, inl, rules}
 use Rattle.heap_table.specs.Seen.{IsOf}
 use Rattle.heap_table.proofs.AtLast.{both}
-use Rattle.heap_tests.proofs.rings.end.Goals as goal
+use Rattle.heap_tests.proofs.opening.end.Goals as goal
 
 -- the two passes, in the order of their threads
 pub close-requires-clause-passes : goal.close-requires-clause-passes

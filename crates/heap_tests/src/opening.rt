@@ -1,5 +1,5 @@
-//! The ring of monitors as a heap begins.
-ghost use Rattle.std.specs.Prelude.{◌≡◌, [], ◌∷◌, IfOk};
+//! A heap as it begins: the marks and class words of its objects, and the ring of monitors.
+ghost use Rattle.std.specs.Prelude.{◌≡◌, ◌≤◌, [], ◌∷◌, IfOk};
 ghost use Rattle.heap_table.specs.Fresh.{IsStill};
 ghost use Rattle.heap_table.specs.Layout.{shape_of};
 
@@ -10,13 +10,14 @@ use plain_monitor::{List, NoMemory};
 use std::alloc::Global;
 use std::test::Fail;
 
-// A heap of two threads and three objects of a class with one slot, without biases, and the passes.
-fn begin(alloc: Global) -> Result<(Heap, Pass, Pass), NoMemory>
+// A heap of two threads and three objects of a class with one slot, of which so many are declared, and the passes.
+fn begin(alloc: Global, declared: u32, biasing: bool) -> Result<(Heap, Pass, Pass), NoMemory>
+    requires { declared ≤ 3 }
     ensures { IfOk result (λ r. IsStill r.0 0 r.1 × IsStill r.0 1 r.2
-        × (r.0.heap.shape ≡ shape_of 2 (1 ∷ []) (0 ∷ 0 ∷ 0 ∷ []))) }
+        × (r.0.heap.shape ≡ shape_of 2 (1 ∷ []) (0 ∷ 0 ∷ 0 ∷ []) declared)) }
 {
-    let shape = HeapShape::of(alloc, 2, &[1], &[0, 0, 0])?;
-    let (heap, passes) = new_heap(alloc, shape, 10, 7, false)?;
+    let shape = HeapShape::of(alloc, 2, &[1], &[0, 0, 0], declared)?;
+    let (heap, passes) = new_heap(alloc, shape, 10, 7, biasing)?;
     let mut passes = passes.into_vec();
     let Some(second) = passes.pop() else {
         return Err(NoMemory);
@@ -28,9 +29,16 @@ fn begin(alloc: Global) -> Result<(Heap, Pass, Pass), NoMemory>
 }
 
 // The end of such a heap.
-fn end(alloc: Global, heap: Heap, first: Pass, second: Pass) -> Result<Closed, NoMemory>
+fn end(
+    alloc: Global,
+    declared: u32,
+    heap: Heap,
+    first: Pass,
+    second: Pass,
+) -> Result<Closed, NoMemory>
     requires passes { IsStill heap 0 first × IsStill heap 1 second }
-    requires shape { heap.heap.shape ≡ shape_of 2 (1 ∷ []) (0 ∷ 0 ∷ 0 ∷ []) }
+    requires shape { heap.heap.shape ≡ shape_of 2 (1 ∷ []) (0 ∷ 0 ∷ 0 ∷ []) declared }
+    ensures { IfOk result (λ closed. closed.heap.shape ≡ shape_of 2 (1 ∷ []) (0 ∷ 0 ∷ 0 ∷ []) declared) }
 {
     let Ok(mut passes) = Vec::with_capacity(alloc, 2) else {
         return Err(NoMemory);
@@ -58,8 +66,8 @@ fn monitor(closed: &Closed, place: u32) -> Option<u64> {
 
 #[test]
 fn each_monitor_stands_in_the_ring_at_first(rt: HostRuntime) -> Result<(), Fail> {
-    let (heap, first, second) = begin(rt.alloc())?;
-    let closed = end(rt.alloc(), heap, first, second)?;
+    let (heap, first, second) = begin(rt.alloc(), 3, false)?;
+    let closed = end(rt.alloc(), 3, heap, first, second)?;
     let shape = closed.shape();
     // Three objects and two threads have 3 + 2 = 5 monitors, with the numbers 0 to 4, each at the place of its number. The
     // least power of two that is at least 5 is 8.
@@ -72,5 +80,21 @@ fn each_monitor_stands_in_the_ring_at_first(rt: HostRuntime) -> Result<(), Fail>
     same(&rt, monitor(&closed, 8), None);
     // 16 words of the heap, 16 of a class, 3 * 32 of objects, 2 * 144 of threads, 5 * 16 of monitors, and the 8 places.
     same(&rt, closed.words().items().len(), 504);
+    Ok(())
+}
+
+#[test]
+fn objects_that_are_not_made_yet_have_no_bias_and_no_class(rt: HostRuntime) -> Result<(), Fail> {
+    // With biases a declared object's mark is biased to nobody, at epoch 0: the bias pattern 101, and so the word 5. Object 2
+    // isn't there yet: its mark is the neutral one, 1, and its class word is 0, behind its mark, its stamp and 16 slots.
+    let (heap, first, second) = begin(rt.alloc(), 2, true)?;
+    let closed = end(rt.alloc(), 2, heap, first, second)?;
+    let shape = closed.shape();
+    same(&rt, shape.declared(), 2);
+    same(&rt, word(&closed, shape.mark_at(0)), Some(5));
+    same(&rt, word(&closed, shape.mark_at(1)), Some(5));
+    same(&rt, word(&closed, shape.mark_at(2)), Some(1));
+    same(&rt, shape.class_at(2), shape.mark_at(2) + 18);
+    same(&rt, word(&closed, shape.class_at(2)), Some(0));
     Ok(())
 }

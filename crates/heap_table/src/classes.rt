@@ -1,0 +1,28 @@
+//! The class of an object.
+ghost use Rattle.core_world.specs.Trees.Plans.{class_steps};
+ghost use Rattle.heap_table.specs.Parts.{IsDueOn, HasRun};
+ghost use Rattle.heap_table.specs.Seen.{IsOf};
+
+use crate::heap::Heap;
+use crate::pass::Pass;
+use crate::purpose::Purpose;
+use core_world::{Name, Stage};
+
+impl Heap {
+    /// The class of the object, at this stage of a call. The shape tells that of a declared object. For an object that a
+    /// thread makes, the class word is loaded, which has the class plus 1.
+    #[inline(always)]
+    pub fn class_of(&self, pass: &mut Pass, why: &Purpose, stage: Stage, object: u32) -> u32
+        requires heap { IsOf self.now pass.old }
+        requires due { IsDueOn self.now pass.old why.now.task
+            (class_steps why.now stage self.now.heap.shape object) }
+        ensures { HasRun self.now (class_steps why.now stage self.now.heap.shape object) pass.old pass.new result }
+    {
+        let shape = self.shape();
+        if object < shape.declared() {
+            return shape.class_of(object);
+        }
+        let word = self.load(pass, why, stage, Name::Class { object });
+        word.saturating_sub(1) as u32
+    }
+}

@@ -1,0 +1,5 @@
+pub mod Word
+pub mod Blocks
+pub mod Reading
+pub mod Refusal
+pub mod inner

@@ -1,0 +1,17 @@
+//! What holds of the lines of every text.
+
+ghost use Rattle.std.specs.Prelude.{◌≡◌, ℕ, List, [], slice_get, Some};
+ghost use Rattle.program_syntax.specs.Text.{words_of};
+ghost use Rattle.program_syntax.specs.declared.keyword.Keyword.TheVariants as keyword;
+ghost use Rattle.sync_syntax.specs.declared.word.Word.TheVariants as word;
+ghost use Rattle.sync_syntax.specs.Word.{first_word};
+ghost use Rattle.sync_syntax.specs.Reading.{SyncBefore, nothing_read};
+ghost use Rattle.sync_syntax.specs.Refusal.{read_first};
+
+/// Where the lines before an `end` have no cause of refusal, no block is open at it: so a thread has all statements of
+/// its section.
+pub fn no_block_is_open_at_an_end()
+    ensures { (lines : List (List ℕ)) (n : ℕ) (b : SyncBefore) (line : List ℕ)
+        → read_first n nothing_read lines ≡ Some b → slice_get lines n ≡ Some line
+        → first_word (words_of line) ≡ Some (word.Plain keyword.End) → b.blocks.opened ≡ [] }
+{}
