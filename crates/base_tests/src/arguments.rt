@@ -80,6 +80,26 @@ fn options_are_read(rt: HostRuntime) -> Result<(), Fail> {
     Ok(())
 }
 
+/// A program with blocks is run with the options of a run, and compiled without any.
+#[test]
+fn programs_with_blocks_are_asked_for(rt: HostRuntime) -> Result<(), Fail> {
+    let some = Options {
+        quantum: 7,
+        journal: true,
+        ..DEFAULT
+    };
+    let accepted = [
+        ("biasrun sync", Command::Sync(DEFAULT)),
+        ("biasrun sync --journal --quantum=7", Command::Sync(some)),
+        ("biasrun compile", Command::Compile),
+    ];
+    for (line, asked) in accepted {
+        let command = read_line(rt.alloc(), line)?;
+        assert_eq!(rt; command, Some(asked), "at {line}");
+    }
+    Ok(())
+}
+
 #[test]
 fn checks_are_read(rt: HostRuntime) -> Result<(), Fail> {
     let accepted = [
@@ -162,6 +182,20 @@ biasrun run --bias ON
 biasrun run --bias
 biasrun run --report=1
 biasrun run --report --report
+biasrun sync sync
+biasrun sync --items
+biasrun sync 40
+biasrun sync --fuel 0
+biasrun sync --journal --journal
+biasrun --journal sync
+biasrun SYNC
+biasrun syncs
+biasrun compile x
+biasrun compile\x20
+biasrun compile --stats
+biasrun compile --fuel 5
+biasrun compile compile
+biasrun compiles
 biasrun check check
 biasrun check --workers 4
 biasrun check --quantum 1

@@ -1,5 +1,5 @@
 -- The journal of a run is legal for a check.
-use Rattle.std.proofs.Common.{◌≡◌, ◌≢◌, ℕ, ◌<◌, ◌≤◌, ◌^◌, cond, Bool, true, false, List, [], ◌++◌, length, nat_lt, Option, Some, None, Result, Ok, Err, refl, sym, ap, ◌∙◌, subst}
+use Rattle.std.proofs.Common.{◌≡◌, ◌≢◌, ℕ, ◌<◌, ◌≤◌, ◌^◌, cond, Bool, true, false, List, [], ◌++◌, length, nat_lt, Option, Some, None, Result, Ok, Err, refl, sym, ap, ◌∙◌, subst, decimal}
 use Rattle.std.specs.List.{flat_map}
 use Rattle.std.proofs.lemmas.List.{append-nil}
 use Rattle.std.proofs.lemmas.Option.{none-some, same_Some}
@@ -9,6 +9,11 @@ use Rattle.object_program.specs.Valid.{IsProgram}
 use Rattle.program_syntax.specs.Refusal.{program_of}
 use Rattle.program_syntax.specs.declared.error.ProgramError.{ProgramError}
 use Rattle.program_syntax.proofs.Allowed.{allowed_law}
+use Rattle.sync_source.specs.Source.{SyncText}
+use Rattle.sync_source.specs.Valid.{IsSyncText}
+use Rattle.sync_source.proofs.Names.{compiled_is_program}
+use Rattle.sync_syntax.specs.Refusal.{sync_program_of}
+use Rattle.sync_syntax.specs.declared.error.SyncError.{SyncError}
 use Rattle.plain_machine.specs.Machine.{PlainMachine}
 use Rattle.plain_monitor.specs.Limits.{most_fuel}
 use Rattle.plain_monitor.specs.Order.{order}
@@ -30,14 +35,16 @@ use Rattle.bias_check.proofs.JournalsRun.{journal_lines}
 use Rattle.bias_check.proofs.TrueAnswers.{found_only}
 use Rattle.run_words.specs.Command.{accepted}
 use Rattle.run_words.specs.declared.options.Command.{Command}
-use Rattle.run_words.specs.declared.options.Command.TheVariants.{Run, Check, Make}
+use Rattle.run_words.specs.declared.options.Command.TheVariants.{Run, Sync, Compile, Check, Make}
 use Rattle.run_words.specs.declared.options.Options.{Options}
+use Rattle.sync_source.specs.Compiled.{compiled}
 use Rattle.bias_cli.specs.declared.finish.Finish.{Finish}
 use Rattle.bias_cli.specs.Seen.{SourceSeen, SinkSeen}
-use Rattle.bias_cli.specs.Finish.{IsFinish, IsRunOf, Meets, ReadFault, Reading, Tells, Text, Unread, due_of, journal_due, run_due, text_due}
+use Rattle.bias_cli.specs.Finish.{IsFinish, IsRunOf, LeavesRun, Meets, ReadFault, Reading, Tells, Text, Unread, compile_due, due_of, journal_due, run_due, sync_due, text_due}
 use Rattle.bias_cli.specs.Input.{most_of_journal}
 use Rattle.bias_cli.specs.Verdict.{IsVerdict, answer_to}
-use Rattle.bias_cli.proofs.RunOptions.{runnable}
+use Rattle.bias_cli.proofs.BlocksAllowed.{blocks_allowed}
+use Rattle.bias_cli.proofs.RunOptions.{runnable, sync_runnable}
 
 given : (n : Checked) → Ok n ≢ Err NoMemory
 given n e = absurd (cc e)
@@ -101,16 +108,31 @@ module _ (before after : SinkSeen) (f : Finish) where
   check_leaves fuel start a b lines false true (Ok p) met = met.0.0
   check_leaves fuel start a b lines false true (Err e) met = met.0.0
 
+  -- nor does what is compiled
+  compiled_leaves : (p : Result SyncText SyncError) → Meets before after f (compile_due p) → f.run ≡ None
+  compiled_leaves (Ok s) met = met.0.0
+  compiled_leaves (Err e) met = met.0.0
+
+  ran_leaves : (o : Options) (p : ProgramText) (r : RunRecord) → o.fuel ≤ most_fuel → IsProgram p → LeavesRun before after f o p → f.run ≡ Some r → IsLegalOf r
+  ran_leaves o p r few is met h =
+      subst IsLegalOf (same_Some met.0 r (sym met.2 ∙ h)) (run_legal o p met.0 met.1 met.4.machine is few met.4.run)
+
   run_leaves : (o : Options) (p : Result ProgramText ProgramError) (r : RunRecord) → o.fuel ≤ most_fuel → ((q : ProgramText) → p ≡ Ok q → IsProgram q)
       → Meets before after f (run_due o p) → f.run ≡ Some r → IsLegalOf r
   run_leaves o (Err e) r few is met h = absurd (none-some r (sym met.0.0 ∙ h))
-  run_leaves o (Ok p) r few is met h =
-      subst IsLegalOf (same_Some met.0 r (sym met.2 ∙ h)) (run_legal o p met.0 met.1 met.4.machine (is p refl) few met.4.run)
+  run_leaves o (Ok p) r few is met h = ran_leaves o p r few (is p refl) met h
+
+  sync_leaves : (o : Options) (p : Result SyncText SyncError) (r : RunRecord) → o.fuel ≤ most_fuel → ((s : SyncText) → p ≡ Ok s → IsSyncText s)
+      → Meets before after f (sync_due o p) → f.run ≡ Some r → IsLegalOf r
+  sync_leaves o (Err e) r few is met h = absurd (none-some r (sym met.0.0 ∙ h))
+  sync_leaves o (Ok s) r few is met h = ran_leaves o (compiled decimal s) r few (compiled_is_program s (is s refl)) met.0 h
 
   text_leaves : (words : List (List ℕ)) (c : Option Command) (bytes : List ℕ) (r : RunRecord) → accepted words ≡ c → Meets before after f (text_due c bytes) → f.run ≡ Some r
       → IsLegalOf r
   text_leaves words None bytes r e met h = absurd (none-some r (sym met.0.0 ∙ h))
   text_leaves words (Some (Run o)) bytes r e met h = run_leaves o (program_of bytes) r (runnable words o e).fuel (allowed_law bytes) met h
+  text_leaves words (Some (Sync o)) bytes r e met h = sync_leaves o (sync_program_of bytes) r (sync_runnable words o e).fuel (blocks_allowed bytes) met h
+  text_leaves words (Some Compile) bytes r e met h = absurd (none-some r (sym (compiled_leaves (sync_program_of bytes) met) ∙ h))
   text_leaves words (Some (Check fuel start)) bytes r e met h =
       absurd (none-some r (sym (check_leaves fuel start _ _ (journal_part bytes) (nat_lt most_of_journal (length bytes)) (has_journal bytes) (program_of (program_part bytes)) met) ∙ h))
   text_leaves words (Some (Make items)) bytes r e met h = absurd (none-some r (sym met.0.0 ∙ h))

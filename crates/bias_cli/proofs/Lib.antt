@@ -9,3 +9,5 @@ pub mod Statuses
 pub mod LoneRuns
 pub mod PlainRuns
 pub mod JournalsLegal
+pub mod BlocksAllowed
+pub mod BlockRuns

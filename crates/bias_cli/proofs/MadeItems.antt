@@ -7,14 +7,16 @@ use Rattle.std.specs.Str.Parse.{digits_value}
 use Rattle.std.proofs.lemmas.Bool.{leb-true}
 use Rattle.run_words.specs.declared.options.Options.{Options}
 use Rattle.run_words.specs.declared.options.Command.{Command}
-use Rattle.run_words.specs.declared.options.Command.TheVariants.{Run, Check, Make}
+use Rattle.run_words.specs.declared.options.Command.TheVariants.{Run, Sync, Compile, Check, Make}
 use Rattle.run_words.specs.Number.{is_number, within}
-use Rattle.run_words.specs.Command.{Text, Values, accepted, make_of, check_by, check_values, fuel_of, start_of, has_run_options, options_of, values_in}
+use Rattle.run_words.specs.Command.{Text, Values, accepted, compile_of, make_of, check_by, check_values, fuel_of, start_of, has_run_options, options_in, values_in}
 
 -- where a command makes a program, the number of its items is in that range
 abbrev IsFew : Option Command → Type 0
 IsFew None = ⊤
 IsFew (Some (Run o)) = ⊤
+IsFew (Some (Sync o)) = ⊤
+IsFew (Some Compile) = ⊤
 IsFew (Some (Check fuel start)) = ⊤
 IsFew (Some (Make items)) = (1 ≤ items) × (items ≤ 1500)
 
@@ -25,6 +27,14 @@ by_test false c d few_c few_d = few_d
 of_run : (o : Option Options) → IsFew (option_map Run o)
 of_run None = tt
 of_run (Some o) = tt
+
+of_sync : (o : Option Options) → IsFew (option_map Sync o)
+of_sync None = tt
+of_sync (Some o) = tt
+
+of_compile : (words : List Text) → IsFew (compile_of words)
+of_compile [] = tt
+of_compile (a ∷ words) = tt
 
 of_check : (fuel start : Option ℕ) → IsFew (option_and_then (λ f. option_and_then (λ s. Some (Check f s)) start) fuel)
 of_check None start = tt
@@ -53,9 +63,11 @@ of_words : (words : List Text) → IsFew (accepted words)
 of_words [] = tt
 of_words (program ∷ []) = tt
 of_words (program ∷ command ∷ words) =
-    by_test (bytes_eq command (codes "run")) _ _ (of_run (option_and_then options_of (values_in words)))
+    by_test (bytes_eq command (codes "run")) _ _ (of_run (options_in words))
+    (by_test (bytes_eq command (codes "sync")) _ _ (of_sync (options_in words))
+    (by_test (bytes_eq command (codes "compile")) _ _ (of_compile words)
     (by_test (bytes_eq command (codes "check")) _ _ (of_values (values_in words))
-    (by_test (bytes_eq command (codes "make")) _ _ (of_make words) tt))
+    (by_test (bytes_eq command (codes "make")) _ _ (of_make words) tt))))
 
 pub few_items : (words : List Text) (items : ℕ) → accepted words ≡ Some (Make items) → (1 ≤ items) × (items ≤ 1500)
 few_items words items e = subst IsFew e (of_words words)

@@ -14,7 +14,7 @@ use Rattle.program_run.proofs.ChosenPaths.{made}
 use Rattle.run_words.specs.declared.options.Options.{Options}
 use Rattle.bias_cli.specs.declared.finish.Finish.{Finish}
 use Rattle.bias_cli.specs.Asked.{settings_of}
-use Rattle.bias_cli.specs.Finish.{IsRunOf, IsWritten, Meets, Runs, status_of}
+use Rattle.bias_cli.specs.Finish.{IsRunOf, IsWritten, LeavesRun, status_of}
 use Rattle.bias_cli.specs.MayBeWritten.{AsksForNoMore, IsAllowedBy, MayBeWritten, WroteAllowed}
 use Rattle.bias_cli.specs.Report.{IsReportWhere}
 use Rattle.bias_cli.specs.Seen.{SinkSeen}
@@ -38,7 +38,7 @@ none_reported false r m lines unasked is = is
 none_reported true r m lines unasked is = absurd (cc unasked)
 
 pub call_wrote_allowed : (o : Options) (p : ProgramText) (before after : SinkSeen) (finish : Finish) → AsksForNoMore o
-    → Meets before after finish (Runs o p) → WroteAllowed p o.fuel o.start before after finish.status
+    → LeavesRun before after finish o p → WroteAllowed p o.fuel o.start before after finish.status
 call_wrote_allowed o p before after finish unasked (r, c, is_r, is_c, run) =
     let m = run.machine in
     let none = none_reported o.report r m run.report unasked.2 run.reported in

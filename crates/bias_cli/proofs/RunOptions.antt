@@ -8,9 +8,9 @@ use Rattle.std.proofs.lemmas.Bool.{leb-true}
 use Rattle.plain_monitor.specs.Limits.{most_threads, most_fuel}
 use Rattle.run_words.specs.declared.options.Options.{Options}
 use Rattle.run_words.specs.declared.options.Command.{Command}
-use Rattle.run_words.specs.declared.options.Command.TheVariants.{Run, Check, Make}
+use Rattle.run_words.specs.declared.options.Command.TheVariants.{Run, Sync, Compile, Check, Make}
 use Rattle.run_words.specs.Number.{is_number, number, within}
-use Rattle.run_words.specs.Command.{Text, Values, accepted, check_by, check_values, fuel_of, has_run_options, make_of, options_of, read_or, start_of, switch, values_in}
+use Rattle.run_words.specs.Command.{Text, Values, accepted, check_by, check_values, compile_of, fuel_of, has_run_options, make_of, options_in, options_of, read_or, start_of, switch, values_in}
 use Rattle.bias_cli.specs.inner.Asked.{IsRunnable}
 
 -- where there is a number, it lies between these
@@ -78,6 +78,8 @@ of_values (Some v) = of_options v
 abbrev CanRun : Option Command → Type 0
 CanRun None = ⊤
 CanRun (Some (Run o)) = IsRunnable o
+CanRun (Some (Sync o)) = IsRunnable o
+CanRun (Some Compile) = ⊤
 CanRun (Some (Check fuel start)) = ⊤
 CanRun (Some (Make items)) = ⊤
 
@@ -88,6 +90,14 @@ by_test false c d first second = second
 of_run : (o : Option Options) → AreRunnable o → CanRun (option_map Run o)
 of_run None can = tt
 of_run (Some o) can = can
+
+of_sync : (o : Option Options) → AreRunnable o → CanRun (option_map Sync o)
+of_sync None can = tt
+of_sync (Some o) can = can
+
+of_compile : (words : List Text) → CanRun (compile_of words)
+of_compile [] = tt
+of_compile (a ∷ words) = tt
 
 of_check : (fuel start : Option ℕ) → CanRun (option_and_then (λ f. option_and_then (λ s. Some (Check f s)) start) fuel)
 of_check None start = tt
@@ -111,9 +121,14 @@ of_words : (words : List Text) → CanRun (accepted words)
 of_words [] = tt
 of_words (program ∷ []) = tt
 of_words (program ∷ command ∷ words) =
-    by_test (bytes_eq command (codes "run")) _ _ (of_run (option_and_then options_of (values_in words)) (of_values (values_in words)))
+    by_test (bytes_eq command (codes "run")) _ _ (of_run (options_in words) (of_values (values_in words)))
+    (by_test (bytes_eq command (codes "sync")) _ _ (of_sync (options_in words) (of_values (values_in words)))
+    (by_test (bytes_eq command (codes "compile")) _ _ (of_compile words)
     (by_test (bytes_eq command (codes "check")) _ _ (of_checked (values_in words))
-    (by_test (bytes_eq command (codes "make")) _ _ (of_make words) tt))
+    (by_test (bytes_eq command (codes "make")) _ _ (of_make words) tt))))
 
 pub runnable : (words : List Text) (o : Options) → accepted words ≡ Some (Run o) → IsRunnable o
 runnable words o e = subst CanRun e (of_words words)
+
+pub sync_runnable : (words : List Text) (o : Options) → accepted words ≡ Some (Sync o) → IsRunnable o
+sync_runnable words o e = subst CanRun e (of_words words)

@@ -1,5 +1,5 @@
 -- Which calls have status 7.
-use Rattle.std.proofs.Common.{◌≡◌, ◌≢◌, ◌⊎◌, ℕ, Bool, true, false, nat_eq, nat_lt, if◌then◌else◌, List, length, Option, Some, None, refl, sym, ◌∙◌, arith, inl, inr}
+use Rattle.std.proofs.Common.{◌≡◌, ◌≢◌, ◌⊎◌, ℕ, Bool, true, false, nat_eq, nat_lt, if◌then◌else◌, List, length, Option, Some, None, refl, sym, ◌∙◌, arith, inl, inr, decimal}
 use Rattle.std.specs.Prelude.{Result, Ok, Err}
 use Rattle.std.specs.List.{list_any}
 use Rattle.std.specs.Bool.{⊤}
@@ -8,6 +8,9 @@ use Rattle.program_syntax.specs.declared.error.ProgramError.{ProgramError}
 use Rattle.object_program.specs.Program.{ProgramText}
 use Rattle.program_syntax.specs.Refusal.{program_of}
 use Rattle.plain_machine.specs.Machine.{ending_in, is_stuck}
+use Rattle.sync_source.specs.Source.{SyncText}
+use Rattle.sync_syntax.specs.declared.error.SyncError.{SyncError}
+use Rattle.sync_syntax.specs.Refusal.{sync_program_of}
 use Rattle.bias_check.specs.declared.answer.Checked.{Checked}
 use Rattle.bias_check.specs.declared.answer.Checked.TheVariants.{Legal, NoStep, BadHash}
 use Rattle.bias_check.specs.declared.answer.CheckFault.{CheckFault}
@@ -15,12 +18,13 @@ use Rattle.bias_check.specs.declared.answer.CheckFault.TheVariants.{Unreadable, 
 use Rattle.bias_check.specs.Parts.{has_journal, program_part, journal_part}
 use Rattle.run_words.specs.declared.options.Options.{Options}
 use Rattle.run_words.specs.declared.options.Command.{Command}
-use Rattle.run_words.specs.declared.options.Command.TheVariants.{Run, Check, Make}
+use Rattle.run_words.specs.declared.options.Command.TheVariants.{Run, Sync, Compile, Check, Make}
+use Rattle.sync_source.specs.Compiled.{compiled}
 use Rattle.bias_cli.specs.declared.finish.Finish.{Finish}
 use Rattle.bias_cli.specs.Seen.{SourceSeen, SinkSeen}
 use Rattle.bias_cli.specs.Input.{most_of_journal}
 use Rattle.bias_cli.specs.Verdict.{verdict_status}
-use Rattle.bias_cli.specs.Finish.{Reading, Unread, ReadFault, Text, Due, Tells, Runs, Checks, run_due, journal_due, text_due, due_of, is_cut_short, status_of, IsWritten, Meets, IsGivenUp, IsFinish}
+use Rattle.bias_cli.specs.Finish.{Reading, Unread, ReadFault, Text, Due, Tells, Runs, RunsBlocks, Checks, run_due, sync_due, compile_due, journal_due, text_due, due_of, is_cut_short, status_of, IsWritten, LeavesRun, Meets, IsGivenUp, IsFinish}
 
 -- ---- the statuses that are due
 
@@ -28,11 +32,20 @@ use Rattle.bias_cli.specs.Finish.{Reading, Unread, ReadFault, Text, Due, Tells, 
 abbrev HasAnother : Due → Type 0
 HasAnother (Tells status text) = status ≢ 7
 HasAnother (Runs o p) = ⊤
+HasAnother (RunsBlocks o s) = ⊤
 HasAnother (Checks p fuel start lines) = ⊤
 
 run_another : (o : Options) (r : Result ProgramText ProgramError) → HasAnother (run_due o r)
 run_another o (Ok p) = tt
 run_another o (Err e) = λ is. absurd (omega (arith, is))
+
+sync_another : (o : Options) (r : Result SyncText SyncError) → HasAnother (sync_due o r)
+sync_another o (Ok s) = tt
+sync_another o (Err e) = λ is. absurd (omega (arith, is))
+
+compile_another : (r : Result SyncText SyncError) → HasAnother (compile_due r)
+compile_another (Ok s) = λ is. absurd (omega (arith, is))
+compile_another (Err e) = λ is. absurd (omega (arith, is))
 
 journal_another : (fuel start : ℕ) (lines : List (List ℕ)) (r : Result ProgramText ProgramError) → HasAnother (journal_due fuel start lines r)
 journal_another fuel start lines (Ok p) = tt
@@ -51,6 +64,8 @@ check_another fuel start bytes =
 text_another : (c : Option Command) (bytes : List ℕ) → HasAnother (text_due c bytes)
 text_another None bytes = λ is. absurd (omega (arith, is))
 text_another (Some (Run o)) bytes = run_another o (program_of bytes)
+text_another (Some (Sync o)) bytes = sync_another o (sync_program_of bytes)
+text_another (Some Compile) bytes = compile_another (sync_program_of bytes)
 text_another (Some (Check fuel start)) bytes = check_another fuel start bytes
 text_another (Some (Make items)) bytes = λ is. absurd (omega (arith, is))
 
@@ -77,12 +92,16 @@ written_another : (before after : SinkSeen) (status due : ℕ) (text : List ℕ)
 written_another before after status due text another (inl whole) is = another (sym whole.0 ∙ is)
 written_another before after status due text another (inr front) is = absurd (omega (arith, front.0, is))
 
-met_another : (before after : SinkSeen) (f : Finish) (due : Due) → HasAnother due → Meets before after f due → f.status ≢ 7
-met_another before after f (Tells status text) another met = written_another before after f.status status text another met.1
-met_another before after f (Runs o p) another met =
+run_leaves_another : (before after : SinkSeen) (f : Finish) (o : Options) (p : ProgramText) → LeavesRun before after f o p → f.status ≢ 7
+run_leaves_another before after f o p met =
     let run = met.4 in
     let m = run.machine in
     written_another before after f.status (status_of m) _ (machine_another (is_stuck m) (list_any (λ s. is_cut_short (ending_in s.mode)) m.threads)) run.written
+
+met_another : (before after : SinkSeen) (f : Finish) (due : Due) → HasAnother due → Meets before after f due → f.status ≢ 7
+met_another before after f (Tells status text) another met = written_another before after f.status status text another met.1
+met_another before after f (Runs o p) another met = run_leaves_another before after f o p met
+met_another before after f (RunsBlocks o s) another met = run_leaves_another before after f o (compiled decimal s) met.0
 met_another before after f (Checks p fuel start lines) another met =
     let check = met.1 in
     written_another before after f.status (verdict_status check.answer) _ (verdict_another check.answer check.verdict.given) check.written

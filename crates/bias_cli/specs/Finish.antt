@@ -1,5 +1,5 @@
 -- What a call of `biasrun` reads, writes and answers.
-use Rattle.std.specs.Prelude.{◌≡◌, ◌⊎◌, ℕ, ◌+◌, Bool, true, false, nat_lt, if◌then◌else◌, List, [], ◌++◌, codes, length, IsTrue, Option, Some, None, Result, Ok, Err}
+use Rattle.std.specs.Prelude.{◌≡◌, ◌⊎◌, ℕ, ◌+◌, Bool, true, false, nat_lt, if◌then◌else◌, List, [], ◌++◌, codes, decimal, length, IsTrue, Option, Some, None, Result, Ok, Err}
 use Rattle.std.specs.List.{list_any}
 use Rattle.run_io.specs.Faults.{rose}
 use Rattle.run_io.specs.declared.source.Source as of_source
@@ -8,6 +8,12 @@ use Rattle.plain_monitor.specs.declared.entry.Ending.TheVariants.{Done}
 use Rattle.program_syntax.specs.declared.error.ProgramError.{ProgramError}
 use Rattle.object_program.specs.Program.{ProgramText}
 use Rattle.program_syntax.specs.Refusal.{program_of}
+use Rattle.program_syntax.specs.Canonical.{canonical}
+use Rattle.sync_source.specs.Source.{SyncText}
+use Rattle.sync_source.specs.Compiled.{compiled}
+use Rattle.sync_source.specs.SyncMachine.{IsSyncLegal}
+use Rattle.sync_syntax.specs.declared.error.SyncError.{SyncError}
+use Rattle.sync_syntax.specs.Refusal.{sync_program_of}
 use Rattle.plain_machine.specs.Machine.{PlainMachine, ending_in, is_stuck}
 use Rattle.plain_machine.specs.Legal.{machine_after}
 use Rattle.bias_check.specs.declared.answer.Checked.{Checked}
@@ -22,9 +28,9 @@ use Rattle.bias_cli.specs.Verdict.{IsVerdict, verdict_status, verdict_text}
 use Rattle.lock_journal.specs.RunText.{text_of_run, text_of_lines}
 use Rattle.run_words.specs.declared.options.Options.{Options}
 use Rattle.run_words.specs.declared.options.Command.{Command}
-use Rattle.run_words.specs.declared.options.Command.TheVariants.{Run, Check, Make}
+use Rattle.run_words.specs.declared.options.Command.TheVariants.{Run, Sync, Compile, Check, Make}
 use Rattle.made_program.specs.HandoverText.{handover_text}
-use Rattle.bias_cli.specs.Refused.{refusal_text}
+use Rattle.bias_cli.specs.Refused.{refusal_text, sync_refusal_text}
 use Rattle.lock_journal.specs.declared.record.RunRecord.{RunRecord}
 use Rattle.heap_table.specs.Seen.{ClosedSeen}
 use Rattle.program_run.specs.Ran.{IsRan}
@@ -34,6 +40,8 @@ use Rattle.bias_cli.specs.declared.finish.Finish.{Finish}
 abbrev pub most_asked : Option Command → Option ℕ
 most_asked None = None
 most_asked (Some (Run o)) = Some most_of_program
+most_asked (Some (Sync o)) = Some most_of_program
+most_asked (Some Compile) = Some most_of_program
 most_asked (Some (Check fuel start)) = Some most_of_journal
 most_asked (Some (Make items)) = None
 
@@ -57,11 +65,12 @@ IsReading (Some most) before after Unread = ⊥
 IsReading (Some most) before after ReadFault = IsTrue (rose before.faults after.faults)
 IsReading (Some most) before after (Text bytes) = Took most before.left after.left bytes
 
--- what is due: to tell a text with its status, where something is refused or a program is made; a run of a program under options; or a
--- check of a journal's lines, by the program, the fuel and what the generators of hashes start from
+-- what is due: to tell a text with its status, where something is refused, or a program is made or compiled; a run of a program, or of a
+-- program with blocks, under options; or a check of a journal's lines, by the program, the fuel and what the generators of hashes start from
 pub data Due : Type 0 where
   Tells : ℕ → List ℕ → Due
   Runs : Options → ProgramText → Due
+  RunsBlocks : Options → SyncText → Due
   Checks : ProgramText → ℕ → ℕ → List (List ℕ) → Due
 
 abbrev pub words_refused : Due
@@ -82,6 +91,18 @@ abbrev pub run_due : Options → Result ProgramText ProgramError → Due
 run_due o (Ok p) = Runs o p
 run_due o (Err e) = no_program e
 
+abbrev pub no_sync_program : SyncError → Due
+no_sync_program e = Tells 3 (sync_refusal_text e)
+
+abbrev pub sync_due : Options → Result SyncText SyncError → Due
+sync_due o (Ok s) = RunsBlocks o s
+sync_due o (Err e) = no_sync_program e
+
+-- the canonical text of the code
+abbrev pub compile_due : Result SyncText SyncError → Due
+compile_due (Ok s) = Tells 0 (canonical (compiled decimal s))
+compile_due (Err e) = no_sync_program e
+
 abbrev pub journal_due : ℕ → ℕ → List (List ℕ) → Result ProgramText ProgramError → Due
 journal_due fuel start lines (Ok p) = Checks p fuel start lines
 journal_due fuel start lines (Err e) = no_program e
@@ -98,6 +119,8 @@ check_due fuel start bytes =
 abbrev pub text_due : Option Command → List ℕ → Due
 text_due None bytes = words_refused
 text_due (Some (Run o)) bytes = run_due o (program_of bytes)
+text_due (Some (Sync o)) bytes = sync_due o (sync_program_of bytes)
+text_due (Some Compile) bytes = compile_due (sync_program_of bytes)
 text_due (Some (Check fuel start)) bytes = check_due fuel start bytes
 text_due (Some (Make items)) bytes = program_made items
 
@@ -154,12 +177,23 @@ pub record IsCheck (p : ProgramText) (fuel start : ℕ) (lines : List (List ℕ)
 abbrev pub LeavesNothing : Finish → Type 0
 LeavesNothing finish = (finish.run ≡ None) × (finish.closed ≡ None)
 
--- what was due was done; only a run leaves a record, and the closed heap with it
-abbrev pub Meets : SinkSeen → SinkSeen → Finish → Due → Type 0
-Meets before after finish (Tells status text) = LeavesNothing finish × IsWritten before after finish.status status text
-Meets before after finish (Runs o p) =
+-- a run of the program was written, and left its record, and the closed heap with it
+abbrev pub LeavesRun : SinkSeen → SinkSeen → Finish → Options → ProgramText → Type 0
+LeavesRun before after finish o p =
     (r : RunRecord) × (c : ClosedSeen) × (finish.run ≡ Some r) × (finish.closed ≡ Some c)
     × IsRun o p before after finish.status r c
+
+-- the logs of the record are legal for the program with blocks itself, whose threads do what their statements say. The indexes of traps
+-- are those of the code, and are not looked at
+abbrev pub FollowsBlocks : Finish → ℕ → SyncText → Type 0
+FollowsBlocks finish fuel s = (r : RunRecord) → finish.run ≡ Some r → IsSyncLegal s fuel r.logs
+
+-- what was due was done; only a run leaves a record. Of a program with blocks it is a run of its code
+abbrev pub Meets : SinkSeen → SinkSeen → Finish → Due → Type 0
+Meets before after finish (Tells status text) = LeavesNothing finish × IsWritten before after finish.status status text
+Meets before after finish (Runs o p) = LeavesRun before after finish o p
+Meets before after finish (RunsBlocks o s) =
+    LeavesRun before after finish o (compiled decimal s) × FollowsBlocks finish o.fuel s
 Meets before after finish (Checks p fuel start lines) =
     LeavesNothing finish × IsCheck p fuel start lines before after finish.status
 

@@ -2,6 +2,9 @@
 use Rattle.std.specs.Prelude.{ℕ, ◌==◌, if◌then◌else◌, List, ◌++◌, codes, decimal}
 use Rattle.program_syntax.specs.declared.error.ProgramError.{ProgramError}
 use Rattle.program_syntax.specs.declared.error.Why.{Why}
+use Rattle.sync_syntax.specs.declared.error.SyncError.{SyncError}
+use Rattle.sync_syntax.specs.declared.error.SyncWhy.{SyncWhy}
+use Rattle.sync_syntax.specs.declared.error.SyncWhy.TheVariants.{Plain, Open, Stray, Assigned, Deep}
 use Rattle.program_syntax.specs.declared.error.Why.TheVariants.{NotAscii, UnknownWord, Operands, BadName, Twice, Undeclared, BadNumber, Limit, NoThread, NoEnd, Later, NoMemory}
 
 abbrev pub cause_text : Why → List ℕ
@@ -22,5 +25,19 @@ cause_text NoMemory = codes "NoMemory"
 abbrev pub place_text : ℕ → List ℕ
 place_text line = if line == 0 then codes "program" else codes "line " ++ decimal line
 
+abbrev pub cause_line : ℕ → List ℕ → List ℕ
+cause_line line cause = place_text line ++ codes ": " ++ cause ++ codes "\n"
+
 abbrev pub refusal_text : ProgramError → List ℕ
-refusal_text e = place_text e.line ++ codes ": " ++ cause_text e.why ++ codes "\n"
+refusal_text e = cause_line e.line (cause_text e.why)
+
+-- the same of a text that has no program with blocks
+abbrev pub sync_cause_text : SyncWhy → List ℕ
+sync_cause_text (Plain why) = cause_text why
+sync_cause_text Open = codes "Open"
+sync_cause_text Stray = codes "Stray"
+sync_cause_text Assigned = codes "Assigned"
+sync_cause_text Deep = codes "Deep"
+
+abbrev pub sync_refusal_text : SyncError → List ℕ
+sync_refusal_text e = cause_line e.line (sync_cause_text e.why)

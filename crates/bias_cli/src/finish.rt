@@ -13,7 +13,7 @@ use run_io::Sink;
 ///
 /// | Status | Where |
 /// |---|---|
-/// | 0 | a program ran, and every thread came to its `end`; or a journal is legal; or a program was made |
+/// | 0 | a program ran, and every thread came to its `end`; or a journal is legal; or a program was made, or compiled |
 /// | 1 | a program ran, some thread faulted or was spent, and the machine isn't stuck; or a line of a journal is no step, or a hash is bad |
 /// | 2 | the arguments are not accepted |
 /// | 3 | the text has no program, its line and cause are written; or no journal, or a line of it is unreadable |
@@ -22,8 +22,8 @@ use run_io::Sink;
 /// | 6 | a write failed, in place of any of the above |
 /// | 7 | out of memory, before the first write; no contract says when that is |
 ///
-/// `run` and `closed` are there exactly where the arguments ask for a run, no read failed, the text has a program and the status isn't 7,
-/// with status 6 too.
+/// `run` and `closed` are there exactly where the arguments ask for a run, by `run` or by `sync`, no read failed, the text has such a program
+/// and the status isn't 7, with status 6 too.
 #[derive(Drop)]
 pub struct Finish {
     pub status: u8,

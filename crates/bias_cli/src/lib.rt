@@ -1,5 +1,5 @@
-//! `biasrun`: runs a program of the object language and writes what it prints and how each of its threads ended; or checks a
-//! journal of one; or makes one.
+//! `biasrun`: runs a program of the object language, or of the language with blocks, and writes what it prints and how each of its
+//! threads ended; or writes the code of a program with blocks; or checks a journal of a program; or makes one.
 //!
 //! `biasrun` is the top call. Its contract is over the arguments, the bytes read, the bytes written, the counts of faults and what
 //! it answers: `specs/Finish.antt` says what is due and what counts as done, and `lock_journal` what the text of a run is.
@@ -10,7 +10,10 @@ ghost use Rattle.run_words.specs.Command.{accepted};
 ghost use Rattle.bias_cli.specs.Seen.{source_seen, sink_seen};
 ghost use Rattle.bias_cli.specs.Finish.{most_asked, IsGivenUp, IsFinish, TakesAtMost};
 
+mod block_laws;
+mod blocks;
 mod check;
+mod compile;
 mod finish;
 mod input;
 mod laws;
@@ -23,6 +26,7 @@ mod settings_laws;
 mod text;
 mod verdict;
 
+pub use block_laws::compiling_first_changes_nothing;
 pub use finish::Finish;
 pub use heap_table::{ClassCounts, Closed};
 pub use laws::{
@@ -40,14 +44,15 @@ use std::thread::Threads;
 /// Does what the arguments, `words`, ask for: `run` reads a program from the source to its end, or one byte past the limit of a text, runs it,
 /// and writes to the sink the bytes of the run's text: what its threads print and dump, in stamped order, how each of them ended,
 /// and then, where they ask for them, the lock statistics, the journal of all monitor calls, and a report of who waits for whom
-/// and how each object was locked and passed on. `check` reads a program with a journal of it, to the end or one byte past the
-/// limit of both, and writes whether the journal is a legal history of the program, and if not, from which line on it isn't. `make`
-/// reads nothing, and writes the text of the handover program for the number of items that they say
-/// (`made_program::handover`), which may be run then.
+/// and how each object was locked and passed on. `sync` reads a program with blocks in the same way, and runs its code with the same
+/// options; and `compile` reads one and writes its code, as a text that `run` takes where it isn't too long. `check` reads a program with
+/// a journal of it, to the end or one byte past the limit of both, and writes whether the journal is a legal history of the program, and
+/// if not, from which line on it isn't. `make` reads nothing, and writes the text of the handover program for the number of items that
+/// they say (`made_program::handover`), which may be run then.
 ///
 /// `words[0]` is the program's name. Where the arguments are not accepted, a read fails, or the text has no program, that is what is
-/// written, and there is no record, nor is there one of a check or of a program that is made (`Finish` has the statuses). At the
-/// first write that fails the writing stops, with a prefix of the text written and status 6. Memory runs out only before the
+/// written, and there is no record, nor is there one of a check or of a program that is made or compiled (`Finish` has the statuses). At
+/// the first write that fails the writing stops, with a prefix of the text written and status 6. Memory runs out only before the
 /// first write, and leaves the sink as it was. Of the source, where it tells what is left, no more is taken than one byte past the limit.
 ///
 /// A program is run on a heap by workers of `rt`, each of which runs one thread of the program at a time for as many instructions as a

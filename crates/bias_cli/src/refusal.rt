@@ -1,19 +1,35 @@
 //! The line on a text that has no program.
 
 ghost use Rattle.std.specs.Prelude.{◌≡◌, ◌≤◌, ◌++◌, [], length};
-ghost use Rattle.bias_cli.specs.Refused.{cause_text, place_text, refusal_text};
+ghost use Rattle.bias_cli.specs.Refused.{cause_line, cause_text, place_text, refusal_text, sync_cause_text, sync_refusal_text};
 
 use lock_journal::Line;
 use program_syntax::{ProgramError, Why};
+use sync_syntax::{SyncError, SyncWhy};
 
-/// `program: CAUSE` for line 0, else `line N: CAUSE`, with its line feed.
+/// The line on a text that has no program.
 pub(crate) fn refusal_line(error: ProgramError) -> Line
     ensures { result ≡ refusal_text error }
 {
+    cause_line(error.line, cause_text(error.why))
+}
+
+/// The line on a text that has no program with blocks.
+pub(crate) fn sync_refusal_line(error: SyncError) -> Line
+    ensures { result ≡ sync_refusal_text error }
+{
+    cause_line(error.line, sync_cause_text(error.why))
+}
+
+/// `program: CAUSE` for line 0, else `line N: CAUSE`, with its line feed.
+fn cause_line(number: u32, cause: &'static [u8]) -> Line
+    requires { length cause.now ≤ 11 }
+    ensures { result ≡ cause_line number cause.now }
+{
     let mut line = Line::new();
-    push_place(&mut line, error.line);
+    push_place(&mut line, number);
     line.push(b": ");
-    line.push(cause_text(error.why));
+    line.push(cause);
     line.push(b"\n");
     line
 }
@@ -50,5 +66,19 @@ fn cause_text(why: Why) -> &'static [u8]
         Why::NoEnd => b"NoEnd",
         Why::Later => b"Later",
         Why::NoMemory => b"NoMemory",
+    }
+}
+
+/// The same of a text with blocks.
+fn sync_cause_text(why: SyncWhy) -> &'static [u8]
+    ensures text { result.now ≡ sync_cause_text why }
+    ensures short { length result.now ≤ 11 }
+{
+    match why {
+        SyncWhy::Plain(why) => cause_text(why),
+        SyncWhy::Open => b"Open",
+        SyncWhy::Stray => b"Stray",
+        SyncWhy::Assigned => b"Assigned",
+        SyncWhy::Deep => b"Deep",
     }
 }

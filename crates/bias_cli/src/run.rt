@@ -14,7 +14,9 @@ ghost use Rattle.bias_cli.specs.Seen.{source_seen, sink_seen};
 ghost use Rattle.bias_cli.specs.Finish.{most_asked, Meets, Runs, run_due, status_of, IsGivenUp, IsFinish, IsRunOf, IsWritten, TakesAtMost};
 ghost use Rattle.bias_cli.specs.Report.{IsReportWhere};
 
+use crate::blocks::run_blocks_of;
 use crate::check::check_source;
+use crate::compile::compile_source;
 use crate::finish::{Finish, WRITE_FAILED, give_up, tell};
 use crate::input::{MOST_OF_PROGRAM, ReadError, read_text};
 use crate::make::make_program;
@@ -58,6 +60,8 @@ pub(crate) fn run_words<
 {
     match read_words(alloc, words) {
         Ok(Command::Run(options)) => run_source(rt, alloc, &options, source, sink, clock, gate),
+        Ok(Command::Sync(options)) => run_blocks_of(rt, alloc, &options, source, sink, clock, gate),
+        Ok(Command::Compile) => compile_source(alloc, source, sink),
         Ok(Command::Check { fuel, start }) => check_source(alloc, fuel, start, source, sink),
         Ok(Command::Make { items }) => make_program(alloc, items, sink),
         Err(WordsFault::Refused) => tell(sink, 2, b"words refused\n"),
@@ -113,7 +117,7 @@ fn run_text<R: Threads + Wait + Sync, K: Sink, C: Clock + Sync, G: Gate + Sync>(
 }
 
 /// Runs the program and writes the run's text.
-fn run_and_write<R: Threads + Wait + Sync, K: Sink, C: Clock + Sync, G: Gate + Sync>(
+pub(crate) fn run_and_write<R: Threads + Wait + Sync, K: Sink, C: Clock + Sync, G: Gate + Sync>(
     rt: &R,
     alloc: Global,
     options: &Options,

@@ -9,13 +9,14 @@ ghost use Rattle.lock_journal.specs.declared.record.RunRecord.{RunRecord};
 ghost use Rattle.run_words.specs.declared.options.Options.{Options};
 ghost use Rattle.bias_cli.specs.declared.finish.Finish.{Finish};
 ghost use Rattle.bias_cli.specs.Seen.{SinkSeen};
-ghost use Rattle.bias_cli.specs.Finish.{IsRunOf, Meets, Runs, status_of};
+ghost use Rattle.bias_cli.specs.Finish.{IsRunOf, LeavesRun, status_of};
 ghost use Rattle.bias_cli.specs.MayBeWritten.{AsksForNoMore, IsAllowedBy, MayBeWritten, WroteAllowed};
 
 /// What a run of a program may write without statistics, journal and report, and with which status, is one set for `--bias on` and
 /// `--bias off`, for all numbers of workers, all lengths of turns and all ticks: `MayBeWritten` has of the options the fuel and the start of
 /// the generators of hashes alone. What a run writes under any options is of the set, and under any options all of the set is allowed. So
-/// what is said of a run allows the same texts and statuses under all options that have the same fuel and the same start.
+/// what is said of a run allows the same texts and statuses under all options that have the same fuel and the same start. The program may
+/// be the code of a program with blocks (`LeavesRun` is said of `run` and of `sync`).
 ///
 /// The set is what is allowed, and not what is reached: it is of all runs that the plain machine, the stamps, the draws and the shots allow,
 /// and which of them the workers come to under some options, no contract says. One worker with long turns may never come to a schedule that
@@ -24,7 +25,7 @@ pub fn settings_change_nothing_that_may_be_written()
     ensures run { (o : Options) (p : ProgramText) (r : RunRecord) (c : ClosedSeen) (m : PlainMachine) → IsRunOf o p r c m
         → MayBeWritten p o.fuel o.start (status_of m) (text_of_run false false r m) }
     ensures call { (o : Options) (p : ProgramText) (before after : SinkSeen) (finish : Finish) → AsksForNoMore o
-        → Meets before after finish (Runs o p) → WroteAllowed p o.fuel o.start before after finish.status }
+        → LeavesRun before after finish o p → WroteAllowed p o.fuel o.start before after finish.status }
     ensures all { (o : Options) (p : ProgramText) (status : ℕ) (text : List ℕ)
         → MayBeWritten p o.fuel o.start status text → IsAllowedBy o p status text }
     ensures others { (o q : Options) (p : ProgramText) (status : ℕ) (text : List ℕ) → o.fuel ≡ q.fuel → o.start ≡ q.start

@@ -3,6 +3,13 @@
 //! `tools/examples` sees to it that each file has its text here, and that the two are the same.
 #![tactic(auto)]
 
+mod blocks;
+
+pub use blocks::{
+    BOUNDED_BUFFER_SYNC, COUNTING_SYNC, CROSSED_BLOCKS_SYNC, PHILOSOPHERS_SYNC,
+    READERS_AND_WRITERS_SYNC,
+};
+
 /// One object, one thread: it enters, prints and leaves.
 pub const ANSWER: &str = "\
 class C 1
@@ -390,8 +397,34 @@ exit f
 end
 ";
 
+/// The code of `COUNTING_SYNC`.
+pub const COUNTING: &str = "\
+class C 1
+object a C
+thread t1
+local o
+local i
+local n
+local one
+ref o a
+set i 0
+set n 2
+set one 1
+label L5
+jlt i n L7
+jump L12
+label L7
+enter o
+print i
+exit o
+add i i one
+jump L5
+label L12
+end
+";
+
 /// All of them.
-pub const EXAMPLES: [&str; 14] = [
+pub const EXAMPLES: [&str; 15] = [
     ANSWER,
     EXIT_TOO_OFTEN,
     WAIT_WITHOUT_HOLD,
@@ -406,4 +439,5 @@ pub const EXAMPLES: [&str; 14] = [
     CROSSWISE,
     MANY_OBJECTS,
     HANDOVER_40,
+    COUNTING,
 ];

@@ -63,7 +63,7 @@ ahead_last : (n : ℕ) (ds : List ObjectDef) (t : ThreadDef) (c : Code) (later :
     → ahead_by n (instruction_words ds t c) (first_keyword (instruction_words ds t c)) later ≡ []
 ahead_last n ds t c later e = rw e refl
 
-closed_inner : (ds : List ObjectDef) (t : ThreadDef) (c : Code) (later : List (List ℕ)) → (c ≡ code.End → ⊥)
+pub closed_inner : (ds : List ObjectDef) (t : ThreadDef) (c : Code) (later : List (List ℕ)) → (c ≡ code.End → ⊥)
     → closed_by (first_keyword (instruction_words ds t c)) later ≡ is_closed later
 closed_inner ds t code.End later h = absurd (h refl)
 closed_inner ds t c later h = refl

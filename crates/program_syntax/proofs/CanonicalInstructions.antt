@@ -55,7 +55,7 @@ keyword_for code.Dump = Dump
 keyword_for code.End = End
 
 -- what a line of a canonical text has behind its keyword
-abbrev operand_words : List ObjectDef → ThreadDef → Code → List (List ℕ)
+abbrev pub operand_words : List ObjectDef → ThreadDef → Code → List (List ℕ)
 operand_words ds t c = drop 1 (instruction_words ds t c)
 
 -- an instruction that a program may have is written by its keyword: a text has no word for a new object yet
@@ -109,7 +109,7 @@ three_same : {A B C D : Type 0} (f : A → B → C → D) {a x : A} {b y : B} {c
 three_same f d e g = cc
 
 module _ (ds : List ObjectDef) (t : ThreadDef) (named : AreNamed ds t) where
-  local_is_name : (x : ℕ) → x < length t.locals → is_name (local_name t.locals x) ≡ true
+  pub local_is_name : (x : ℕ) → x < length t.locals → is_name (local_name t.locals x) ≡ true
   local_is_name x h = nth_is_name t.locals x named.local_names h
 
   object_in : (n : ℕ) → n < length ds → n < length (map (λ (d : ObjectDef). d.name) ds)
@@ -121,7 +121,7 @@ module _ (ds : List ObjectDef) (t : ThreadDef) (named : AreNamed ds t) where
   target_is_name : (l : ℕ) → is_target t.labels l ≡ true → is_name (label_name t.labels l) ≡ true
   target_is_name l h = label_is_name t.labels l named.label_names h
 
-  local_word : (x : ℕ) → x < length t.locals → is_word (local_name t.locals x) ≡ true
+  pub local_word : (x : ℕ) → x < length t.locals → is_word (local_name t.locals x) ≡ true
   local_word x h = name_word (local_name t.locals x) (local_is_name x h)
 
   object_word : (n : ℕ) → n < length ds → is_word (object_name ds n) ≡ true
@@ -225,7 +225,7 @@ module _ (p : ProgramText) (t : ThreadDef) (named : AreNamed p.objects t) (befor
   value_found : (v : ℤ) → IsInRange v → unwrap_or (number_of (signed_decimal v)) (pos 0) ≡ v
   value_found v h = value_of_signed v h
 
-  instruction_meant : (c : Code) → IsAllowed p.objects t c → instruction_on p (so_far t before done) later (operand_words p.objects t c) (keyword_for c) ≡ c
+  pub instruction_meant : (c : Code) → IsAllowed p.objects t c → instruction_on p (so_far t before done) later (operand_words p.objects t c) (keyword_for c) ≡ c
   instruction_meant (code.Set x v) h = ap₂ code.Set (local_found x h.0) (value_found v h.1)
   instruction_meant (code.Add x y z) h = three_same code.Add (local_found x h.0) (local_found y h.1) (local_found z h.2)
   instruction_meant (code.Sub x y z) h = three_same code.Sub (local_found x h.0) (local_found y h.1) (local_found z h.2)
@@ -248,20 +248,22 @@ module _ (p : ProgramText) (t : ThreadDef) (named : AreNamed p.objects t) (befor
   instruction_meant code.Dump h = refl
   instruction_meant code.End h = refl
 
+  pub instruction_allowed : (c : Code) → IsAllowed p.objects t c → IsAllowedLine here later (operand_words p.objects t c) (keyword_for c)
+  instruction_allowed c h = record {
+    place = in_place p (so_far t before done) c;
+    number = operands_number p.objects t c;
+    operands = operands_good c h;
+    limit = limit_of_code here (operand_words p.objects t c) c ∙ lt-leb most_code (length done) room;
+    closed = opens_nothing later c;
+  }
+
   pub instruction_read : (final : Before) (c : Code) → IsAllowed p.objects t c
       → ReadsAs final (section_behind p (so_far t before (done ++ c ∷ [])) (keyword_for c)) later
       → ReadsAs final here (line_of (instruction_words p.objects t c) ∷ later)
   instruction_read final c h k =
-      let allowed : IsAllowedLine here later (operand_words p.objects t c) (keyword_for c) = record {
-        place = in_place p (so_far t before done) c;
-        number = operands_number p.objects t c;
-        operands = operands_good c h;
-        limit = limit_of_code here (operand_words p.objects t c) c ∙ lt-leb most_code (length done) room;
-        closed = opens_nothing later c;
-      } in
       read_line final here (section_behind p (so_far t before (done ++ c ∷ [])) (keyword_for c)) later (instruction_words p.objects t c)
       (instruction_is_words p.objects t named c h)
-      (words_cause-instruction here later p.objects t c (spelled _ _ _ c h) ∙ no_cause here later (operand_words p.objects t c) (keyword_for c) allowed)
+      (words_cause-instruction here later p.objects t c (spelled _ _ _ c h) ∙ no_cause here later (operand_words p.objects t c) (keyword_for c) (instruction_allowed c h))
       (behind_words-instruction p (so_far t before done) later p.objects t c (spelled _ _ _ c h)
       ∙ ap (λ (x : Code). section_behind p (so_far t before (done ++ x ∷ [])) (keyword_for c)) (instruction_meant c h))
       k

@@ -58,22 +58,22 @@ lines_read p is =
     subst (λ lines. ReadsAs (outside p) nothing lines) (sym joined) in_classes
 
 -- all lines are lines of words
-lines_behind : (xs ys : List (List (List ℕ))) → AreLines xs → AreLines ys → AreLines (xs ++ ys)
+pub lines_behind : (xs ys : List (List (List ℕ))) → AreLines xs → AreLines ys → AreLines (xs ++ ys)
 lines_behind [] ys h k = k
 lines_behind (x ∷ xs) ys h k = (h.0, lines_behind xs ys h.1 k)
 
-class_lines : (classes : List ClassDef) → AreNames (map (λ c. c.name) classes) → AllByRecursion (λ c. c.slots ≤ most_slots) classes → AreLines (map class_words classes)
+pub class_lines : (classes : List ClassDef) → AreNames (map (λ c. c.name) classes) → AllByRecursion (λ c. c.slots ≤ most_slots) classes → AreLines (map class_words classes)
 class_lines [] names slots = tt
 class_lines (c ∷ cs) names slots = (class_is_words c names.0 slots.0, class_lines cs names.2 slots.1)
 
-object_lines : (classes : List ClassDef) (n : ℕ) (objects : List ObjectDef) → AreNames (map (λ c. c.name) classes) → AreNames (map (λ d. d.name) objects)
+pub object_lines : (classes : List ClassDef) (n : ℕ) (objects : List ObjectDef) → AreNames (map (λ c. c.name) classes) → AreNames (map (λ d. d.name) objects)
     → AreObjects (length classes) n objects → total_of objects ≤ most_objects → AreLines (map (object_words classes) objects)
 object_lines classes n [] class_names names are few = tt
 object_lines classes n (d ∷ ds) class_names names are few =
     let class = class_is classes d class_names are.0.0 in
     (object_is_words classes d names.0 class.class_name_is (omega arith), object_lines classes (n + d.size) ds class_names names.2 are.1 (omega arith))
 
-local_lines : (locals : List (List ℕ)) → AreNames locals → AreLines (map local_words locals)
+pub local_lines : (locals : List (List ℕ)) → AreNames locals → AreLines (map local_words locals)
 local_lines [] names = tt
 local_lines (x ∷ xs) names = (local_is_words x names.0, local_lines xs names.2)
 

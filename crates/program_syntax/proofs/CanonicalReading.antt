@@ -85,6 +85,15 @@ read_line final b next later ws words cause behind h = record {
   at = λ n. read_line_at final b next later (line_of ws) ws n (line_bytes_allowed ws words) (words_of_line ws words) cause behind (h.at (n + 1));
 }
 
+-- a line of these words leads from one state to another
+pub record IsRead (b next : Before) (later ws : List (List ℕ)) : Type 0 where
+  pub words : AreWords ws
+  pub cause : words_cause b later ws ≡ None
+  pub behind : behind_words b later ws (first_keyword ws) ≡ next
+
+pub line_read : (final b next : Before) (later ws : List (List ℕ)) → IsRead b next later ws → ReadsAs final next later → ReadsAs final b (line_of ws ∷ later)
+line_read final b next later ws is h = read_line final b next later ws is.words is.cause is.behind h
+
 -- the labels on lines that begin with this one, and whether they close their section
 abbrev pub ahead_by : ℕ → List (List ℕ) → Option Keyword → List (List ℕ) → List LabelDef
 ahead_by n ws keyword later = if ends_section keyword then [] else labels_on n ws keyword ++ labels_ahead (number_behind_line n keyword) later

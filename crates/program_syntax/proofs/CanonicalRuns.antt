@@ -22,19 +22,19 @@ use Rattle.program_syntax.proofs.CanonicalText.{line_of}
 use Rattle.program_syntax.proofs.CanonicalNames.{name_behind, new_behind, nth_is_name, nth_is_among, number_among-nth}
 use Rattle.program_syntax.proofs.CanonicalNumbers.{count_of_decimal}
 use Rattle.program_syntax.proofs.CanonicalWords.{class_is_words, array_is_words, single_is_words, local_is_words, label_is_words}
-use Rattle.program_syntax.proofs.CanonicalReading.{good_new, good_known, good_decimal, no_cause, ReadsAs, read_line}
+use Rattle.program_syntax.proofs.CanonicalReading.{good_new, good_known, good_decimal, no_cause, ReadsAs, read_line, IsRead, line_read}
 
 -- where each line adds what it was written for, all lines add all that they were written for
-pub each_adds : {X : Type 0} (final : Before) (state : List X → Before) (words : X → List (List ℕ)) (Q : X → Type 0) (whole : List X)
+pub each_adds : {X S : Type 0} (Reads : S → List (List ℕ) → Type 0) (state : List X → S) (words : X → List (List ℕ)) (Q : X → Type 0) (whole : List X)
     → ((done : List X) (x : X) (todo : List X) (later : List (List ℕ)) → done ++ x ∷ todo ≡ whole → Q x
-    → ReadsAs final (state (done ++ x ∷ [])) later → ReadsAs final (state done) (line_of (words x) ∷ later))
+    → Reads (state (done ++ x ∷ [])) later → Reads (state done) (line_of (words x) ∷ later))
     → (done todo : List X) (later : List (List ℕ)) → done ++ todo ≡ whole → AllByRecursion Q todo
-    → ReadsAs final (state whole) later → ReadsAs final (state done) (map line_of (map words todo) ++ later)
-each_adds final state words Q whole step done [] later e q h =
-    subst (λ xs. ReadsAs final (state xs) later) (sym e ∙ append-nil done) h
-each_adds final state words Q whole step done (x ∷ xs) later e q h =
+    → Reads (state whole) later → Reads (state done) (map line_of (map words todo) ++ later)
+each_adds Reads state words Q whole step done [] later e q h =
+    subst (λ xs. Reads (state xs) later) (sym e ∙ append-nil done) h
+each_adds Reads state words Q whole step done (x ∷ xs) later e q h =
     step done x xs (map line_of (map words xs) ++ later) e q.0
-    (each_adds final state words Q whole step (done ++ x ∷ []) xs later (append_assoc done (x ∷ []) xs ∙ e) q.1 h)
+    (each_adds Reads state words Q whole step (done ++ x ∷ []) xs later (append_assoc done (x ∷ []) xs ∙ e) q.1 h)
 
 -- a name in the middle of names
 pub record IsNew (names : List (List ℕ)) (name : List ℕ) : Type 0 where
@@ -61,29 +61,29 @@ outside p = record { text = p; section = None }
 abbrev pub opened : ProgramText → ThreadDef → Before
 opened p t = record { text = p; section = Some t }
 
-class_read : (final : Before) (p : ProgramText) (c : ClassDef) (later : List (List ℕ)) → IsNew (map (λ c. c.name) p.classes) c.name → c.slots ≤ most_slots → length p.classes < most_classes
-    → ReadsAs final (outside (record p { classes = p.classes ++ c ∷ [] })) later → ReadsAs final (outside p) (line_of (class_words c) ∷ later)
-class_read final p c later new slots few h =
+pub class_line : (p : ProgramText) (c : ClassDef) (later : List (List ℕ)) → IsNew (map (λ c. c.name) p.classes) c.name → c.slots ≤ most_slots → length p.classes < most_classes
+    → IsRead (outside p) (outside (record p { classes = p.classes ++ c ∷ [] })) later (class_words c)
+class_line p c later new slots few =
     let count = count_of_decimal c.slots (omega arith) in
-    read_line final (outside p) (outside (record p { classes = p.classes ++ c ∷ [] })) later (class_words c)
-    (class_is_words c new.name_is slots)
-    (no_cause (outside p) later (c.name ∷ decimal c.slots ∷ []) Class (record {
-      place = refl;
-      number = refl;
-      operands = (good_new (outside p) later Classes c.name new.name_is new.new, (good_decimal (outside p) later 0 most_slots c.slots (omega arith) slots (omega arith), tt));
-      limit = lt-leb most_classes (length p.classes) few;
-      closed = refl;
-    }))
-    (ap (λ (n : ℕ). outside (record p { classes = p.classes ++ record { name = c.name; slots = n } ∷ [] })) count)
-    h
+    record {
+      words = class_is_words c new.name_is slots;
+      cause = no_cause (outside p) later (c.name ∷ decimal c.slots ∷ []) Class (record {
+        place = refl;
+        number = refl;
+        operands = (good_new (outside p) later Classes c.name new.name_is new.new, (good_decimal (outside p) later 0 most_slots c.slots (omega arith) slots (omega arith), tt));
+        limit = lt-leb most_classes (length p.classes) few;
+        closed = refl;
+      });
+      behind = ap (λ (n : ℕ). outside (record p { classes = p.classes ++ record { name = c.name; slots = n } ∷ [] })) count;
+    }
 
 pub classes_read : (final : Before) (classes : List ClassDef) (later : List (List ℕ)) → AreNames (map (λ c. c.name) classes) → AllByRecursion (λ c. c.slots ≤ most_slots) classes → length classes ≤ most_classes
     → ReadsAs final (outside (record { classes = classes; objects = []; threads = [] })) later
     → ReadsAs final (outside (record { classes = []; objects = []; threads = [] })) (map line_of (map class_words classes) ++ later)
 classes_read final classes later names slots few h =
-    each_adds final (λ done. outside (record { classes = done; objects = []; threads = [] })) class_words (λ c. c.slots ≤ most_slots) classes
-    (λ done c todo rest e q k. class_read final (record { classes = done; objects = []; threads = [] }) c rest
-    (new_in_middle (λ (c : ClassDef). c.name) done c todo classes e names) q (omega (arith, length_front done c todo classes e)) k)
+    each_adds (ReadsAs final) (λ done. outside (record { classes = done; objects = []; threads = [] })) class_words (λ c. c.slots ≤ most_slots) classes
+    (λ done c todo rest e q k. line_read final _ _ rest (class_words c) (class_line (record { classes = done; objects = []; threads = [] }) c rest
+    (new_in_middle (λ (c : ClassDef). c.name) done c todo classes e names) q (omega (arith, length_front done c todo classes e))) k)
     [] classes later refl slots h
 
 -- what a declaration of objects is, in the middle of declarations
@@ -132,53 +132,53 @@ class_is classes d names lt =
 abbrev count_of : ℕ → ℕ
 count_of n = nat_abs (unwrap_or (number_of (decimal n)) (pos 0))
 
-array_read : (final : Before) (classes : List ClassDef) (done : List ObjectDef) (d : ObjectDef) (later : List (List ℕ)) → d.array ≡ true
+array_line : (classes : List ClassDef) (done : List ObjectDef) (d : ObjectDef) (later : List (List ℕ)) → d.array ≡ true
     → IsNew (map (λ d. d.name) done) d.name → IsOfClass classes d → IsDeclared (length classes) (total_of done) d → total_of done + d.size ≤ most_objects
-    → ReadsAs final (declared classes (done ++ d ∷ [])) later
-    → ReadsAs final (declared classes done) (line_of (codes "array" ∷ d.name ∷ class_name classes d.class ∷ decimal d.size ∷ []) ∷ later)
-array_read final classes done d later e new class is few h =
+    → IsRead (declared classes done) (declared classes (done ++ d ∷ [])) later (codes "array" ∷ d.name ∷ class_name classes d.class ∷ decimal d.size ∷ [])
+array_line classes done d later e new class is few =
     let b = declared classes done in
     let size = count_of_decimal d.size (omega arith) in
     let same = rebuilt d (number_among (map (λ (c : ClassDef). c.name) classes) (class_name classes d.class)) (total_of done) (count_of d.size) true class.class_found (sym is.numbered) size (sym e) in
-    read_line final b (declared classes (done ++ d ∷ [])) later (codes "array" ∷ d.name ∷ class_name classes d.class ∷ decimal d.size ∷ [])
-    (array_is_words classes d new.name_is class.class_name_is (omega arith))
-    (no_cause b later (d.name ∷ class_name classes d.class ∷ decimal d.size ∷ []) Array (record {
-      place = refl;
-      number = refl;
-      operands = (good_new b later Objects d.name new.name_is new.new, (good_known b later Classes (class_name classes d.class) class.class_name_is class.class_known, (good_decimal b later 1 most_objects d.size is.some (omega arith) (omega arith), tt)));
-      limit = let m : total_of done + count_of d.size ≤ most_objects = omega (arith, size) in le-ltb most_objects (total_of done + count_of d.size) m;
-      closed = refl;
-    }))
-    (ap (λ x. declared classes (done ++ x ∷ [])) same)
-    h
+    record {
+      words = array_is_words classes d new.name_is class.class_name_is (omega arith);
+      cause = no_cause b later (d.name ∷ class_name classes d.class ∷ decimal d.size ∷ []) Array (record {
+        place = refl;
+        number = refl;
+        operands = (good_new b later Objects d.name new.name_is new.new, (good_known b later Classes (class_name classes d.class) class.class_name_is class.class_known, (good_decimal b later 1 most_objects d.size is.some (omega arith) (omega arith), tt)));
+        limit = let m : total_of done + count_of d.size ≤ most_objects = omega (arith, size) in le-ltb most_objects (total_of done + count_of d.size) m;
+        closed = refl;
+      });
+      behind = ap (λ x. declared classes (done ++ x ∷ [])) same;
+    }
 
-object_read : (final : Before) (classes : List ClassDef) (done : List ObjectDef) (d : ObjectDef) (later : List (List ℕ)) → d.array ≡ false
+object_line : (classes : List ClassDef) (done : List ObjectDef) (d : ObjectDef) (later : List (List ℕ)) → d.array ≡ false
     → IsNew (map (λ d. d.name) done) d.name → IsOfClass classes d → IsDeclared (length classes) (total_of done) d → total_of done + d.size ≤ most_objects
-    → ReadsAs final (declared classes (done ++ d ∷ [])) later
-    → ReadsAs final (declared classes done) (line_of (codes "object" ∷ d.name ∷ class_name classes d.class ∷ []) ∷ later)
-object_read final classes done d later e new class is few h =
+    → IsRead (declared classes done) (declared classes (done ++ d ∷ [])) later (codes "object" ∷ d.name ∷ class_name classes d.class ∷ [])
+object_line classes done d later e new class is few =
     let b = declared classes done in
     let size = is.one e in
     let same = rebuilt d (number_among (map (λ (c : ClassDef). c.name) classes) (class_name classes d.class)) (total_of done) 1 false class.class_found (sym is.numbered) (sym size) (sym e) in
-    read_line final b (declared classes (done ++ d ∷ [])) later (codes "object" ∷ d.name ∷ class_name classes d.class ∷ [])
-    (single_is_words classes d new.name_is class.class_name_is)
-    (no_cause b later (d.name ∷ class_name classes d.class ∷ []) Object (record {
-      place = refl;
-      number = refl;
-      operands = (good_new b later Objects d.name new.name_is new.new, (good_known b later Classes (class_name classes d.class) class.class_name_is class.class_known, tt));
-      limit = le-ltb most_objects (total_of done + 1) (omega arith);
-      closed = refl;
-    }))
-    (ap (λ x. declared classes (done ++ x ∷ [])) same)
-    h
+    record {
+      words = single_is_words classes d new.name_is class.class_name_is;
+      cause = no_cause b later (d.name ∷ class_name classes d.class ∷ []) Object (record {
+        place = refl;
+        number = refl;
+        operands = (good_new b later Objects d.name new.name_is new.new, (good_known b later Classes (class_name classes d.class) class.class_name_is class.class_known, tt));
+        limit = le-ltb most_objects (total_of done + 1) (omega arith);
+        closed = refl;
+      });
+      behind = ap (λ x. declared classes (done ++ x ∷ [])) same;
+    }
 
-declaration_read : (final : Before) (classes : List ClassDef) (done : List ObjectDef) (d : ObjectDef) (later : List (List ℕ)) (b : Bool) → d.array ≡ b
+declaration_line : (classes : List ClassDef) (done : List ObjectDef) (d : ObjectDef) (later : List (List ℕ)) (b : Bool) → d.array ≡ b
     → IsNew (map (λ d. d.name) done) d.name → IsOfClass classes d → IsDeclared (length classes) (total_of done) d → total_of done + d.size ≤ most_objects
-    → ReadsAs final (declared classes (done ++ d ∷ [])) later → ReadsAs final (declared classes done) (line_of (object_words classes d) ∷ later)
-declaration_read final classes done d later true e new class is few h =
-    rw e (array_read final classes done d later e new class is few h)
-declaration_read final classes done d later false e new class is few h =
-    rw e (object_read final classes done d later e new class is few h)
+    → IsRead (declared classes done) (declared classes (done ++ d ∷ [])) later (object_words classes d)
+declaration_line classes done d later true e new class is few =
+    let words : object_words classes d ≡ codes "array" ∷ d.name ∷ class_name classes d.class ∷ decimal d.size ∷ [] = rw e refl in
+    subst (IsRead (declared classes done) (declared classes (done ++ d ∷ [])) later) (sym words) (array_line classes done d later e new class is few)
+declaration_line classes done d later false e new class is few =
+    let words : object_words classes d ≡ codes "object" ∷ d.name ∷ class_name classes d.class ∷ [] = rw e refl in
+    subst (IsRead (declared classes done) (declared classes (done ++ d ∷ [])) later) (sym words) (object_line classes done d later e new class is few)
 
 at_zero : (classes n : ℕ) (d : ObjectDef) → IsDeclared classes (0 + n) d → IsDeclared classes n d
 at_zero classes n d h =
@@ -188,34 +188,39 @@ pub each_unit : {X : Type 0} (xs : List X) → AllByRecursion (λ x. Unit {0}) x
 each_unit [] = tt
 each_unit (x ∷ xs) = (tt, each_unit xs)
 
+-- a declaration of objects in the middle of these declarations
+pub object_line_among : (classes : List ClassDef) (objects done : List ObjectDef) (d : ObjectDef) (todo : List ObjectDef) (later : List (List ℕ)) → done ++ d ∷ todo ≡ objects
+    → AreNames (map (λ c. c.name) classes) → AreNames (map (λ d. d.name) objects) → AreObjects (length classes) 0 objects → total_of objects ≤ most_objects
+    → IsRead (declared classes done) (declared classes (done ++ d ∷ [])) later (object_words classes d)
+object_line_among classes objects done d todo later e class_names names are few =
+    let is = object_in_middle (length classes) 0 done d todo (subst (AreObjects (length classes) 0) (sym e) are) in
+    let total : total_of (done ++ d ∷ todo) ≤ most_objects = rw e few in
+    declaration_line classes done d later d.array refl
+    (new_in_middle (λ (d : ObjectDef). d.name) done d todo objects e names) (class_is classes d class_names is.known) (at_zero (length classes) (total_of done) d is)
+    (omega (arith, total_of-middle done d todo))
+
 pub objects_read : (final : Before) (classes : List ClassDef) (objects : List ObjectDef) (later : List (List ℕ)) → AreNames (map (λ c. c.name) classes) → AreNames (map (λ d. d.name) objects)
     → AreObjects (length classes) 0 objects → total_of objects ≤ most_objects → ReadsAs final (declared classes objects) later
     → ReadsAs final (declared classes []) (map line_of (map (object_words classes) objects) ++ later)
 objects_read final classes objects later class_names names are few h =
-    each_adds final (λ done. declared classes done) (object_words classes) (λ d. Unit {0}) objects
-    (λ done d todo rest e q k.
-    let is = object_in_middle (length classes) 0 done d todo (subst (AreObjects (length classes) 0) (sym e) are) in
-    let total : total_of (done ++ d ∷ todo) ≤ most_objects = rw e few in
-    declaration_read final classes done d rest d.array refl
-    (new_in_middle (λ (d : ObjectDef). d.name) done d todo objects e names) (class_is classes d class_names is.known) (at_zero (length classes) (total_of done) d is)
-    (omega (arith, total_of-middle done d todo)) k)
+    each_adds (ReadsAs final) (λ done. declared classes done) (object_words classes) (λ d. Unit {0}) objects
+    (λ done d todo rest e q k. line_read final _ _ rest (object_words classes d) (object_line_among classes objects done d todo rest e class_names names are few) k)
     [] objects later refl (each_unit objects) h
 
 -- a local, and a label of the next instruction
-pub local_read : (final : Before) (p : ProgramText) (t : ThreadDef) (name : List ℕ) (later : List (List ℕ)) → IsNew t.locals name → length t.locals < most_locals
-    → ReadsAs final (opened p (record t { locals = t.locals ++ name ∷ [] })) later → ReadsAs final (opened p t) (line_of (local_words name) ∷ later)
-local_read final p t name later new few h =
-    read_line final (opened p t) (opened p (record t { locals = t.locals ++ name ∷ [] })) later (local_words name)
-    (local_is_words name new.name_is)
-    (no_cause (opened p t) later (name ∷ []) Local (record {
-      place = refl;
-      number = refl;
-      operands = (good_new (opened p t) later Locals name new.name_is new.new, tt);
-      limit = lt-leb most_locals (length t.locals) few;
-      closed = refl;
-    }))
-    refl
-    h
+pub local_line : (p : ProgramText) (t : ThreadDef) (name : List ℕ) (later : List (List ℕ)) → IsNew t.locals name → length t.locals < most_locals
+    → IsRead (opened p t) (opened p (record t { locals = t.locals ++ name ∷ [] })) later (local_words name)
+local_line p t name later new few = record {
+  words = local_is_words name new.name_is;
+  cause = no_cause (opened p t) later (name ∷ []) Local (record {
+    place = refl;
+    number = refl;
+    operands = (good_new (opened p t) later Locals name new.name_is new.new, tt);
+    limit = lt-leb most_locals (length t.locals) few;
+    closed = refl;
+  });
+  behind = refl;
+}
 
 pub label_read : (final : Before) (p : ProgramText) (t : ThreadDef) (l : LabelDef) (later : List (List ℕ)) → IsNew (map (λ l. l.name) t.labels) l.name → l.index ≡ length t.code + 1
     → ReadsAs final (opened p (record t { labels = t.labels ++ l ∷ [] })) later → ReadsAs final (opened p t) (line_of (label_words l) ∷ later)

@@ -20,8 +20,8 @@ use Rattle.program_syntax.proofs.CanonicalText.{line_of}
 use Rattle.program_syntax.proofs.CanonicalLabels.{labels_below, labels_from, none_below, all_below, below_next, below_from}
 use Rattle.program_syntax.proofs.CanonicalNames.{AreNames-front}
 use Rattle.program_syntax.proofs.CanonicalWords.{opening_is_words}
-use Rattle.program_syntax.proofs.CanonicalReading.{good_new, no_cause, ReadsAs, read_line}
-use Rattle.program_syntax.proofs.CanonicalRuns.{each_adds, each_unit, IsNew, new_among, new_in_middle, length_front, outside, opened, local_read, label_read}
+use Rattle.program_syntax.proofs.CanonicalReading.{good_new, no_cause, ReadsAs, read_line, IsRead, line_read}
+use Rattle.program_syntax.proofs.CanonicalRuns.{each_adds, each_unit, IsNew, new_among, new_in_middle, length_front, outside, opened, local_line, label_read}
 use Rattle.program_syntax.proofs.CanonicalInstructions.{keyword_for, IsSpelled, spelled, AreNamed, so_far, instruction_read}
 use Rattle.program_syntax.proofs.CanonicalAhead.{IsLabelOf, labels_at_are, lines-append, code_behind, code_lines-cons, ahead_code, closed_locals, closed_code}
 
@@ -42,6 +42,21 @@ end_read final p s later room h =
     refl
     h
 
+-- the line that opens a section, where the lines behind it close it
+pub opening_line : (p : ProgramText) (t : ThreadDef) (later : List (List ℕ)) → IsNew (map (λ t. t.name) p.threads) t.name → length p.threads < most_threads
+    → is_closed later ≡ true → IsRead (outside p) (opened p (new_thread t.name)) later (opening_words t)
+opening_line p t later new few closed_behind = record {
+  words = opening_is_words t new.name_is;
+  cause = no_cause (outside p) later (t.name ∷ []) Thread (record {
+    place = refl;
+    number = refl;
+    operands = (good_new (outside p) later Threads t.name new.name_is new.new, tt);
+    limit = lt-leb most_threads (length p.threads) few;
+    closed = ap not closed_behind;
+  });
+  behind = refl;
+}
+
 module _ (final : Before) (p : ProgramText) (t : ThreadDef) (named : AreNamed p.objects t) (is : IsThread (length p.objects) t) where
   -- the thread of the section before instruction n, with the labels and the code before it
   abbrev at_code : ℕ → List Code → Before
@@ -59,7 +74,7 @@ module _ (final : Before) (p : ProgramText) (t : ThreadDef) (named : AreNamed p.
   labels_read : (n : ℕ) (done cs : List Code) (later : List (List ℕ)) → n ≡ length done + 1 → n + 1 + length cs ≡ length t.code + 1
       → ReadsAs final (at_code (n + 1) done) later → ReadsAs final (at_code n done) (map line_of (map label_words (labels_at n t.labels)) ++ later)
   labels_read n done cs later e room h =
-      each_adds final (λ ls. opened p (so_far t ls done)) label_words (IsLabelOf n) (labels_below (n + 1) t.labels)
+      each_adds (ReadsAs final) (λ ls. opened p (so_far t ls done)) label_words (IsLabelOf n) (labels_below (n + 1) t.labels)
       (λ before l behind rest whole q k. label_read final p (so_far t before done) l rest
       (new_in_middle (λ (l : LabelDef). l.name) before l behind (labels_below (n + 1) t.labels) whole (label_names_below (n + 1) cs room)) (q.index_is ∙ e) k)
       (labels_below n t.labels) (labels_at n t.labels) later (below_next (length t.code) 1 n t.labels is.targets) (labels_at_are n t.labels is.labels) h
@@ -105,9 +120,9 @@ module _ (final : Before) (p : ProgramText) (t : ThreadDef) (named : AreNamed p.
       → ReadsAs final (opened p (new_thread t.name)) (map line_of (map local_words t.locals) ++ later)
   locals_read later h =
       let few = is.locals_few in
-      each_adds final (λ done. opened p (record { name = t.name; locals = done; labels = []; code = [] })) local_words (λ x. Unit {0}) t.locals
-      (λ done x todo rest e q k. local_read final p (record { name = t.name; locals = done; labels = []; code = [] }) x rest
-      (new_among done x todo t.locals e is.locals) (omega (arith, length_front done x todo t.locals e)) k)
+      each_adds (ReadsAs final) (λ done. opened p (record { name = t.name; locals = done; labels = []; code = [] })) local_words (λ x. Unit {0}) t.locals
+      (λ done x todo rest e q k. line_read final _ _ rest (local_words x) (local_line p (record { name = t.name; locals = done; labels = []; code = [] }) x rest
+      (new_among done x todo t.locals e is.locals) (omega (arith, length_front done x todo t.locals e))) k)
       [] t.locals later refl (each_unit t.locals) h
 
   pub section_read : (later : List (List ℕ)) → IsNew (map (λ t. t.name) p.threads) t.name → length p.threads < most_threads
@@ -120,14 +135,4 @@ module _ (final : Before) (p : ProgramText) (t : ThreadDef) (named : AreNamed p.
       let behind = subst (λ ls. ReadsAs final (opened p (new_thread t.name)) ls) lines (locals_read code_behind_locals in_code) in
       let rest = map line_of (map local_words t.locals ++ code_lines p.objects t 1 t.code) ++ later in
       let is_closed_behind : is_closed rest ≡ true = ap is_closed (sym lines) ∙ closed_locals t.locals code_behind_locals is.locals ∙ closed_code p.objects t named later 1 t.code is.code is.ends in
-      read_line final (outside p) (opened p (new_thread t.name)) rest (opening_words t)
-      (opening_is_words t new.name_is)
-      (no_cause (outside p) rest (t.name ∷ []) Thread (record {
-        place = refl;
-        number = refl;
-        operands = (good_new (outside p) rest Threads t.name new.name_is new.new, tt);
-        limit = lt-leb most_threads (length p.threads) few;
-        closed = ap not is_closed_behind;
-      }))
-      refl
-      behind
+      line_read final (outside p) (opened p (new_thread t.name)) rest (opening_words t) (opening_line p t rest new few is_closed_behind) behind

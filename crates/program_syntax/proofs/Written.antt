@@ -6,7 +6,7 @@ use Rattle.std.proofs.lemmas.Grind.{flat_map-append}
 use Rattle.std.proofs.lemmas.List.{map-append, take_more, drop_more, length-map}
 use Rattle.plain_monitor.specs.declared.refusal.NoMemory.{NoMemory}
 use Rattle.program_syntax.specs.Canonical.{line_text, label_name, instruction_words, label_words, labels_at, code_lines}
-use Rattle.program_syntax.specs.inner.Written.{BeginsWith, lines_text}
+use Rattle.program_syntax.specs.Written.{BeginsWith, lines_text}
 use Rattle.object_program.specs.declared.program.ObjectDef.{ObjectDef}
 use Rattle.object_program.specs.declared.program.LabelDef.{LabelDef}
 use Rattle.object_program.specs.declared.program.ThreadDef.{ThreadDef}

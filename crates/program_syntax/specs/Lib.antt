@@ -8,4 +8,5 @@ pub mod State
 pub mod Added
 pub mod Left
 pub mod Canonical
+pub mod Written
 pub mod inner

@@ -36,4 +36,7 @@ pub use section::{closed, instruction_on, with_code, with_local};
 pub use spelling::{ends_section, is_instruction, is_outside, keyword_of};
 pub use state::{Declared, Reader, Section};
 pub use words::Words;
-pub use write::write_program;
+pub use write::{
+    local_name, write_classes, write_instruction, write_line, write_objects, write_program,
+    write_thread,
+};

@@ -9,8 +9,8 @@ ghost use Rattle.program_syntax.specs.Canonical.{canonical, program_lines, line_
 ghost use Rattle.program_syntax.specs.Canonical.{local_name, label_name, class_words, object_words, local_words};
 ghost use Rattle.program_syntax.specs.Canonical.{label_words, thread_lines};
 ghost use Rattle.program_syntax.specs.Refusal.{program_of};
-ghost use Rattle.program_syntax.specs.inner.Written.{BeginsWith, lines_text, objects_text, threads_text};
-ghost use Rattle.program_syntax.specs.inner.Written.{code_text, labels_text, instruction_text, step_text};
+ghost use Rattle.program_syntax.specs.Written.{BeginsWith, lines_text, objects_text, instruction_text};
+ghost use Rattle.program_syntax.specs.inner.Written.{threads_text, code_text, labels_text, step_text};
 
 use crate::laws::canonical_texts_are_read_back;
 use itoa::Buffer;
@@ -50,7 +50,7 @@ fn write_parts(program: &Program, out: &mut Vec<u8>) -> Result<(), NoMemory>
 
 /// Writes a line of these words.
 #[tactic(auto, using(crate::proofs::Written::err_behind))]
-fn write_line(out: &mut Vec<u8>, words: &[&[u8]]) -> Result<(), NoMemory>
+pub fn write_line(out: &mut Vec<u8>, words: &[&[u8]]) -> Result<(), NoMemory>
     ensures ok { OnOk result (out.new.items ≡ out.old.items ++ line_text (map (λ w. w.now) words.now)) }
     ensures err { OnErr result (BeginsWith out.old.items out.new.items) }
 {
@@ -89,7 +89,7 @@ fn write_bytes(out: &mut Vec<u8>, bytes: &[u8]) -> Result<(), NoMemory>
 }
 
 /// Writes the lines of the classes.
-fn write_classes(classes: &[ClassDef], out: &mut Vec<u8>) -> Result<(), NoMemory>
+pub fn write_classes(classes: &[ClassDef], out: &mut Vec<u8>) -> Result<(), NoMemory>
     ensures ok { OnOk result (out.new.items ≡ out.old.items ++ lines_text (map class_words classes.now)) }
     ensures err { OnErr result (BeginsWith out.old.items out.new.items) }
 {
@@ -114,7 +114,7 @@ fn write_class(class: &ClassDef, out: &mut Vec<u8>) -> Result<(), NoMemory>
 }
 
 /// Writes the lines of the declarations of objects.
-fn write_objects(
+pub fn write_objects(
     classes: &[ClassDef],
     objects: &[ObjectDef],
     out: &mut Vec<u8>,
@@ -171,7 +171,7 @@ fn write_threads(
 }
 
 /// Writes the section of a thread.
-fn write_thread(
+pub fn write_thread(
     objects: &[ObjectDef],
     thread: &ThreadDef,
     out: &mut Vec<u8>,
@@ -260,7 +260,7 @@ fn write_label(label: &LabelDef, out: &mut Vec<u8>) -> Result<(), NoMemory>
 }
 
 /// Writes the line of an instruction.
-fn write_instruction(
+pub fn write_instruction(
     objects: &[ObjectDef],
     thread: &ThreadDef,
     code: Code,
@@ -451,7 +451,7 @@ fn write_jump(thread: &ThreadDef, l: u32, out: &mut Vec<u8>) -> Result<(), NoMem
 }
 
 /// The name of the local with this number.
-fn local_name(locals: &[Name], x: u32) -> &[u8]
+pub fn local_name(locals: &[Name], x: u32) -> &[u8]
     ensures { result.now ≡ local_name locals.now x }
 {
     match locals.get(x as usize) {

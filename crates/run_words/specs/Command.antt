@@ -9,7 +9,7 @@ use Rattle.run_words.specs.declared.words.Kind.{Kind}
 use Rattle.run_words.specs.declared.words.Kind.TheVariants.{Valued, Flag}
 use Rattle.run_words.specs.declared.options.Options.{Options}
 use Rattle.run_words.specs.declared.options.Command.{Command}
-use Rattle.run_words.specs.declared.options.Command.TheVariants.{Run, Check, Make}
+use Rattle.run_words.specs.declared.options.Command.TheVariants.{Run, Sync, Compile, Check, Make}
 
 abbrev pub Text : Type 0
 Text = List ℕ
@@ -205,8 +205,21 @@ check_values v = do
 abbrev pub values_in : List Text → Option Values
 values_in words = option_map values_of (gathered nothing_read words)
 
+-- the options of a run, where the words give such
+abbrev pub options_in : List Text → Option Options
+options_in words = option_and_then options_of (values_in words)
+
 abbrev pub run_of : List Text → Option Command
-run_of words = option_map Run (option_and_then options_of (values_in words))
+run_of words = option_map Run (options_in words)
+
+-- a program with blocks is run with the same options
+abbrev pub sync_of : List Text → Option Command
+sync_of words = option_map Sync (options_in words)
+
+-- what is compiled takes no words
+abbrev pub compile_of : List Text → Option Command
+compile_of [] = Some Compile
+compile_of words = None
 
 -- a check takes its words as a run does, but has no more options than these two
 abbrev pub check_by : Values → Option Command
@@ -223,6 +236,8 @@ make_of words = None
 abbrev pub command_in : Text → List Text → Option Command
 command_in command words =
     if bytes_eq command (codes "run") then run_of words
+    else if bytes_eq command (codes "sync") then sync_of words
+    else if bytes_eq command (codes "compile") then compile_of words
     else if bytes_eq command (codes "check") then check_of words
     else if bytes_eq command (codes "make") then make_of words
     else None

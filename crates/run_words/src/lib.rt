@@ -52,6 +52,10 @@ fn read_command(alloc: Global, command: &str, words: &[String]) -> Result<Comman
 {
     if command == "run" {
         read_run(alloc, words)
+    } else if command == "sync" {
+        read_sync(alloc, words)
+    } else if command == "compile" {
+        read_compile(words)
     } else if command == "check" {
         read_check(alloc, words)
     } else if command == "make" {
@@ -66,11 +70,37 @@ fn read_run(alloc: Global, words: &[String]) -> Result<Command, WordsFault>
     ensures ok { IfOk result (λ c. spec.run_of (map (λ w. string_bytes w) words.now) ≡ Some c) }
     ensures refused { result ≡ Err Refused → spec.run_of (map (λ w. string_bytes w) words.now) ≡ None }
 {
-    let values = read_values(alloc, words)?;
-    match options::options_of(values) {
-        Some(options) => Ok(Command::Run(options)),
-        None => Err(WordsFault::Refused),
+    let options = read_options(alloc, words)?;
+    Ok(Command::Run(options))
+}
+
+/// What the words behind `sync` ask for.
+fn read_sync(alloc: Global, words: &[String]) -> Result<Command, WordsFault>
+    ensures ok { IfOk result (λ c. spec.sync_of (map (λ w. string_bytes w) words.now) ≡ Some c) }
+    ensures refused { result ≡ Err Refused → spec.sync_of (map (λ w. string_bytes w) words.now) ≡ None }
+{
+    let options = read_options(alloc, words)?;
+    Ok(Command::Sync(options))
+}
+
+/// What the words behind `compile` ask for.
+fn read_compile(words: &[String]) -> Result<Command, WordsFault>
+    ensures ok { IfOk result (λ c. spec.compile_of (map (λ w. string_bytes w) words.now) ≡ Some c) }
+    ensures refused { result ≡ Err Refused → spec.compile_of (map (λ w. string_bytes w) words.now) ≡ None }
+{
+    match words {
+        [] => Ok(Command::Compile),
+        _ => Err(WordsFault::Refused),
     }
+}
+
+/// The options of a run that the words give.
+fn read_options(alloc: Global, words: &[String]) -> Result<Options, WordsFault>
+    ensures ok { IfOk result (λ o. spec.options_in (map (λ w. string_bytes w) words.now) ≡ Some o) }
+    ensures refused { result ≡ Err Refused → spec.options_in (map (λ w. string_bytes w) words.now) ≡ None }
+{
+    let values = read_values(alloc, words)?;
+    options::options_of(values).ok_or(WordsFault::Refused)
 }
 
 /// What the words behind `check` ask for.

@@ -14,6 +14,10 @@ use plain_monitor::limits::{FUEL, THREADS};
 pub enum Command {
     /// To run a program.
     Run(Options),
+    /// To run a program with blocks.
+    Sync(Options),
+    /// To write the code of a program with blocks.
+    Compile,
     /// To check a journal, where each thread has this much fuel, 1 to 200,000, and the generators of the identity hashes start
     /// from `start`.
     Check { fuel: u32, start: u32 },

@@ -24,7 +24,7 @@ AreClosed zero lines = Unit {0}
 AreClosed (suc n) lines = is_closed n lines ≡ true
 
 -- the same where the first of the lines has this word
-abbrev closed_at : ℕ → Option Word → List (List ℕ) → Bool
+abbrev pub closed_at : ℕ → Option Word → List (List ℕ) → Bool
 closed_at n k later = if ends k then false else if (n == 0) && is_done k then true else is_closed (inner_behind n k) later
 
 abbrev AreClosedAt : ℕ → Option Word → List (List ℕ) → Type 0
@@ -32,7 +32,7 @@ AreClosedAt zero k later = Unit {0}
 AreClosedAt (suc n) k later = closed_at n k later ≡ true
 
 -- a line that neither opens nor closes a block
-and_false : (b : Bool) → (b && false) ≡ false
+pub and_false : (b : Bool) → (b && false) ≡ false
 and_false true = refl
 and_false false = refl
 

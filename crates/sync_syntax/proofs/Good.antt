@@ -130,7 +130,7 @@ pub AreBlocks-more : (l m o : ℕ) (b : Blocks) → l ≤ m → AreBlocks l o b 
 AreBlocks-more l m o b lm h = record { opened = AreOpened-more l m o b.opened lm h.opened; statements = IsGood-more l m o _ _ b.statements lm h.statements }
 
 -- no statements
-nothing_good : (l o : ℕ) (xs : List ℕ) (n : ℕ) → n ≤ most_depth → IsGood l o xs n Nothing
+pub nothing_good : (l o : ℕ) (xs : List ℕ) (n : ℕ) → n ≤ most_depth → IsGood l o xs n Nothing
 nothing_good l o xs n h = record { fine = tt; goes_on = tt; keeps = tt; nested = omega arith }
 
 pub AreBlocks-none : (l o : ℕ) → AreBlocks l o (record { opened = []; statements = Nothing })

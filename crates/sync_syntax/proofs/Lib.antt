@@ -5,3 +5,9 @@ pub mod Good
 pub mod Kept
 pub mod Allowed
 pub mod Closed
+pub mod CanonicalReading
+pub mod CanonicalAhead
+pub mod CanonicalBlocks
+pub mod CanonicalSections
+pub mod CanonicalSyncs
+pub mod Written

@@ -14,7 +14,7 @@ use Rattle.sync_syntax.specs.Blocks.{Blocks, OpenBlock, Opener, OfSync, OfIf, Of
 use Rattle.sync_syntax.specs.inner.Views.{opener_of, block_of, opened_of}
 
 -- a statement stands before the others
-before-joined : (s : Statement) (rest last : Statements) → before s (joined rest last) ≡ joined (before s rest) last
+pub before-joined : (s : Statement) (rest last : Statements) → before s (joined rest last) ≡ joined (before s rest) last
 before-joined (statement.Plain c) rest last = refl
 before-joined (statement.Sync' local shape row) rest last = refl
 before-joined (statement.If' test shape row other_shape other) rest last = refl

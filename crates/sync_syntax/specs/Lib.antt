@@ -2,4 +2,5 @@ pub mod Word
 pub mod Blocks
 pub mod Reading
 pub mod Refusal
+pub mod Canonical
 pub mod inner

@@ -2,3 +2,4 @@
 pub mod Views
 pub mod State
 pub mod Steps
+pub mod Written

@@ -1,8 +1,8 @@
-//! The text of programs with blocks: the reader, with the cause of each refusal.
+//! The text of programs with blocks: the reader, with the cause of each refusal, and the canonical text.
 //!
 //! `specs/` has the syntax: the words of lines, what lines make of the blocks that are open, the program with blocks
-//! that a text has, and the line and the cause of each refusal. What a program with blocks is stands in `sync_source`,
-//! and what both languages share in `program_syntax`.
+//! that a text has, the line and the cause of each refusal, and the text that a program with blocks is written as. What
+//! a program with blocks is stands in `sync_source`, and what both languages share in `program_syntax`.
 #![tactic(auto)]
 
 mod block;
@@ -17,7 +17,9 @@ mod section;
 mod spelling;
 mod state;
 mod word;
+mod write;
 
 pub use error::{SyncError, SyncWhy};
-pub use laws::no_block_is_open_at_an_end;
+pub use laws::{canonical_texts_are_read_back, no_block_is_open_at_an_end};
 pub use reader::read_sync;
+pub use write::write_sync;

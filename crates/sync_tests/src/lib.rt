@@ -1,6 +1,6 @@
 //! Tests of programs with blocks: a program that counts to two under a monitor, its code, and what it does with just enough fuel and with
-//! one less; texts, and the program or the refusal that each has. They stand in a crate of their own, so that `sync_source` and
-//! `sync_syntax` aren't proved once more with them.
+//! one less; texts, and the program or the refusal that each has; what is written of programs. They stand in a crate of their own, so that
+//! `sync_source` and `sync_syntax` aren't proved once more with them.
 #![tactic(auto)]
 
 #[cfg(test)]
@@ -19,3 +19,5 @@ mod refusals;
 mod texts;
 #[cfg(test)]
 mod units;
+#[cfg(test)]
+mod writing;

@@ -1,13 +1,18 @@
 use Rattle.std.proofs.Common.{◌∙◌, ap, map, Some}
 use Rattle.std.specs.Prelude.{string_bytes}
 use Rattle.bias_cli.proofs.MadeItems.{few_items}
-use Rattle.bias_cli.proofs.RunOptions.{runnable}
+use Rattle.bias_cli.proofs.RunOptions.{runnable, sync_runnable}
 use Rattle.bias_cli.proofs.run.run_words.Goals as goal
 
 pub run_source-requires-after_bounds : goal.run_source-requires-after_bounds
 run_source-requires-after_bounds g c κs within =
     let asked = c.in-Ok-Run in
     runnable (map (λ w. string_bytes w) c.args.words.now) asked.options (asked.ensures.ok ∙ ap Some asked.field-0-is)
+
+pub run_blocks_of-requires-after_bounds : goal.run_blocks_of-requires-after_bounds
+run_blocks_of-requires-after_bounds g c κs within =
+    let asked = c.in-Ok-Sync in
+    sync_runnable (map (λ w. string_bytes w) c.args.words.now) asked.options (asked.ensures.ok ∙ ap Some asked.field-0-is)
 
 pub make_program-requires-clause-some : goal.make_program-requires-clause-some
 make_program-requires-clause-some g c =

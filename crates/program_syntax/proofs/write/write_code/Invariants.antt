@@ -1,6 +1,6 @@
 use Rattle.std.proofs.Common.{◌≡◌, ◌++◌, take}
 use Rattle.program_syntax.specs.Canonical.{code_lines}
-use Rattle.program_syntax.specs.inner.Written.{lines_text}
+use Rattle.program_syntax.specs.Written.{lines_text}
 use Rattle.program_syntax.proofs.write.write_code.Given as goal
 
 abbrev pub invariant-loop-i : goal.invariant-loop-i

@@ -1,0 +1,104 @@
+-- The law of what is there while a bias is being revoked: it held before the first store, and the stores are of marks that had the bias pattern.
+use Rattle.std.proofs.Common.{◌≡◌, ◌⊎◌, ℕ, ◌<◌, Bool, true, false, cond, List, [], ◌∷◌, ◌++◌, length, slice_get, Option, refl, sym, ap, ◌∙◌, subst, arith, inl, inr}
+use Rattle.std.proofs.lemmas.Bool.{cases_lt}
+use Rattle.plain_monitor.specs.declared.entry.Logged.{Logged}
+use Rattle.plain_monitor.specs.Objects.{PlainObject}
+use Rattle.plain_monitor.specs.Made.{is_there}
+use Rattle.core_world.specs.declared.name.Name.{Name}
+use Rattle.core_world.specs.declared.name.Name.TheVariants.{Mark, Stamp, Class}
+use Rattle.core_world.specs.Locks.{marks, hold_count}
+use Rattle.core_world.specs.RevocationRules.{Write, words_after, words_from, writes_in}
+use Rattle.core_world.specs.Threads.Known.{Known}
+use Rattle.core_world.specs.Valid.{IsRevoking, requester_known}
+use Rattle.core_world.specs.Words.Forms.{is_biased, is_biased_form}
+use Rattle.core_world.specs.Words.Names.{same_name, with_word}
+use Rattle.core_world.specs.Words.Shape.{Shape}
+use Rattle.core_world.specs.World.{World, logs, logs_from}
+use Rattle.core_world.proofs.KnowledgeParts.{by_equal}
+use Rattle.core_world.proofs.Naming.{same_named}
+use Rattle.core_world.proofs.Readings.{mark_one}
+use Rattle.core_bias.proofs.GoodWrites.{is_revocation_word, IsGood, GoodMark, AreGood, good_writes}
+use Rattle.core_bias.proofs.Stores.{first_below}
+use Rattle.core_counts.proofs.RevocationEnds.{logs_same}
+use Rattle.core_made.specs.MadeLaw.{MadeLaw, MadeLawWhile, IsOnOneOf, knows_by_log, numbering}
+use Rattle.core_made.proofs.Absent.{words_rise}
+use Rattle.core_made.proofs.Quiets.{law_stays}
+
+-- WHAT THE STORES LEAVE: words that no revocation stores, and marks that had no bias pattern
+module _ (s : Shape) (f : Name → ℕ) where
+  abbrev IsLeft : Name → Type 0
+  IsLeft n = (is_revocation_word n ≡ false) ⊎ ((o : ℕ) × (n ≡ Mark o) × (is_biased (f (Mark o)) ≡ false))
+
+  -- a good store is of another word
+  other : (x : Write) (n : Name) → IsGood s f x → IsLeft n → (b : Bool) → same_name n x.at ≡ b → b ≡ false
+  other x n good left false e = refl
+  other x n good left true e =
+      let same : n ≡ x.at = same_named n x.at e in
+      elim left [
+        | inl spared ↦ absurd (let stored = ap is_revocation_word same ∙ good.0 in cc (stored, spared))
+        | inr a ↦ absurd (let had = (subst (λ m. GoodMark s f m x.word) (sym same ∙ a.1) good.1).2 in let has_none = a.2 in cc (had, has_none))
+      ]
+
+  pub left_words : (xs : List Write) (g : Name → ℕ) (n : Name) → AreGood s f xs → IsLeft n → words_after xs g n ≡ g n
+  left_words [] g n good left = refl
+  left_words (x ∷ xs) g n good left =
+      left_words xs (with_word x.at x.word g) n good.1 left ∙ ap (λ (b : Bool). cond b x.word (g n)) (other x n good.0 left (same_name n x.at) refl)
+
+  pub good_front : (xs ys : List Write) → AreGood s f (xs ++ ys) → AreGood s f xs
+  good_front [] ys good = tt
+  good_front (x ∷ xs) ys good = (good.0, good_front xs ys good.1)
+
+module _ (w : World) (P : List PlainObject) (making : ℕ → Option (ℕ × ℕ)) (s : IsRevoking w P) (law : MadeLawWhile making s.before) where
+  abbrev b : World
+  b = s.before
+
+  abbrev t : ℕ
+  t = s.requester
+
+  within : t < b.shape.threads
+  within = elim (cases_lt t b.shape.threads) [
+    | inl h ↦ h
+    | inr h ↦ absurd (let a = ap (λ (k : Known). k.reached) (s.fits.absent t h) in cc (a, s.reached))
+  ]
+
+  good : AreGood b.shape b.words (writes_in (w.known t).seen_at_safepoint)
+  good = good_front b.shape b.words (writes_in (w.known t).seen_at_safepoint) s.rest
+      (subst (AreGood b.shape b.words) (sym s.writes) (good_writes b.shape b.words s.fits.limits.threads (first_below b P s.fits) t s.revocation within s.fits.forms.marks))
+
+  left : (n : Name) → IsLeft b.shape b.words n → w.words n ≡ b.words n
+  left n is = ap (λ (g : Name → ℕ). g n) s.words ∙ left_words b.shape b.words (writes_in (w.known t).seen_at_safepoint) b.words n good is
+
+  -- a part of the knowledge that the requester doesn't change meanwhile, and nobody else does
+  part_now : {A : Type 0} (part : Known → A) → part (requester_known b t s.revocation (w.known t)) ≡ part (b.known t) → (u : ℕ) → part (w.known u) ≡ part (b.known u)
+  part_now part same u = by_equal u t
+      (λ e. ap (λ v. part (w.known v)) e ∙ ap part s.knows ∙ same ∙ ap (λ v. part (b.known v)) (sym e))
+      (λ d. ap part (s.others u d))
+
+  logs_are : (u : ℕ) → (w.known u).log ≡ (b.known u).log
+  logs_are = part_now (λ k. k.log) refl
+
+  logs_now : logs_from 0 b.shape.threads w.known ≡ logs b
+  logs_now = logs_same w.known b.known 0 b.shape.threads logs_are
+
+  unbiased : (o : ℕ) → is_there (numbering b.shape) law.made o ≡ false → is_biased (marks b o) ≡ false
+  unbiased o e = ap is_biased ((law.absent o e).neutral) ∙ ap is_biased_form mark_one
+
+  before_shape : MadeLaw (numbering b.shape) b.shape.objects (logs_from 0 b.shape.threads w.known) (words_from 0 (length b.shape.objects) (λ o. w.words (Stamp o))) making (λ o. w.words (Class o)) (marks w)
+      (λ u. (w.known u).holds) (λ u. (w.known u).log) (λ u. (w.known u).unfinished) (λ u. (w.known u).shots)
+  before_shape =
+      subst (λ ls. MadeLaw (numbering b.shape) b.shape.objects ls (words_from 0 (length b.shape.objects) (λ o. w.words (Stamp o))) making (λ o. w.words (Class o)) (marks w)
+      (λ u. (w.known u).holds) (λ u. (w.known u).log) (λ u. (w.known u).unfinished) (λ u. (w.known u).shots)) (sym logs_now)
+      (subst (λ (f : ℕ → List Logged). MadeLaw (numbering b.shape) b.shape.objects (logs b) (words_from 0 (length b.shape.objects) (λ o. w.words (Stamp o))) making (λ o. w.words (Class o)) (marks w)
+      (λ u. (w.known u).holds) f (λ u. (w.known u).unfinished) (λ u. (w.known u).shots)) (λ i. λ u. sym (logs_are u) i)
+      (law_stays law
+      (words_rise 0 (length b.shape.objects) (λ o. b.words (Stamp o)) (λ o. w.words (Stamp o)) (λ o. let same = left (Stamp o) (inl refl) in omega (arith, same)))
+      (λ o. left (Class o) (inl refl))
+      (λ o e. left (Mark o) (inr (o, refl, unbiased o e)))
+      (λ o e u. ap (hold_count o) (part_now (λ k. k.holds) refl u) ∙ (law.absent o e).unheld u)
+      (λ u. subst (IsOnOneOf (knows_by_log (numbering b.shape) (b.known u).log)) (sym (part_now (λ k. k.unfinished) refl u)) (law.unfinished u))
+      (λ u i shot e. law.cut_in_time u i shot (ap (λ ss. slice_get ss i) (sym (part_now (λ k. k.shots) refl u)) ∙ e))))
+
+  pub revoking_keeps : MadeLawWhile making w
+  revoking_keeps =
+      subst (λ (h : Shape). MadeLaw (numbering h) h.objects (logs_from 0 h.threads w.known) (words_from 0 (length h.objects) (λ o. w.words (Stamp o))) making (λ o. w.words (Class o)) (marks w)
+      (λ u. (w.known u).holds) (λ u. (w.known u).log) (λ u. (w.known u).unfinished) (λ u. (w.known u).shots)) (sym s.shape) before_shape

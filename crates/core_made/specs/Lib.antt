@@ -1,0 +1,3 @@
+pub mod MadeLaw
+pub mod Steps
+pub mod Making

@@ -1,0 +1,53 @@
+-- When a step keeps the law of what is there: what it leaves of objects that aren't, what it begins, and what it logs.
+use Rattle.std.specs.Prelude.{◌≡◌, ◌⊎◌, ℕ, ◌≤◌, Bool, true, [], ◌∷◌, ◌++◌, Some, None}
+use Rattle.std.specs.List.{AllByRecursion}
+use Rattle.plain_monitor.specs.declared.entry.Logged.{Logged}
+use Rattle.plain_monitor.specs.History.{last_stamp}
+use Rattle.plain_monitor.specs.Made.{creates, needs}
+use Rattle.plain_history.specs.Tied.{bound_to}
+use Rattle.core_world.specs.declared.name.Name.{Name}
+use Rattle.core_world.specs.declared.name.Name.TheVariants.{Mark, Hold, Stamp, Class}
+use Rattle.core_world.specs.declared.plan.StepPlan.{StepPlan}
+use Rattle.core_world.specs.Words.Acts.{word_after, hits}
+use Rattle.core_world.specs.Words.Forms.{names}
+use Rattle.core_world.specs.Steps.{log_after, unfinished_after, shots_after, is_taking, stamp_by}
+use Rattle.core_world.specs.World.{World, logs}
+use Rattle.core_made.specs.MadeLaw.{numbering, is_there_by, knows_by_log, IsOnOneOf}
+
+-- What a step finds in its word and leaves there: the mark of an object that isn't there stays, and so does each class word; a new hold word names
+-- only objects that are there; and no stamp word falls.
+abbrev pub SparesAbsent : (ℕ → Bool) → Name → ℕ → ℕ → Type 0
+SparesAbsent there (Mark o) found left = (there o ≡ true) ⊎ (left ≡ found)
+SparesAbsent there (Hold t p) found left = (o : ℕ) → names o left ≡ true → there o ≡ true
+SparesAbsent there (Stamp o) found left = found ≤ left
+SparesAbsent there (Class o) found left = left ≡ found
+SparesAbsent there _ found left = Unit {0}
+
+-- the objects that are there in this world, by its logs
+abbrev pub is_there_in : World → ℕ → Bool
+is_there_in w o = is_there_by (numbering w.shape) (logs w) o
+
+-- thread t knows the object by its log
+abbrev pub knows_in : World → ℕ → ℕ → Bool
+knows_in w t o = knows_by_log (numbering w.shape) (w.known t).log o
+
+-- A step of thread t spares what isn't there, leaves unfinished nothing but an operation on an object that the thread knows, and makes no shot.
+pub record IsFair (w : World) (t : ℕ) (p : StepPlan) : Type 0 where
+  pub spares : SparesAbsent (is_there_in w) p.at (w.words p.at) (word_after p.act (w.words p.at))
+  pub begins : IsOnOneOf (knows_in w t) (unfinished_after p.note (w.words p.at) p.after)
+  pub shots : shots_after p.own w.shape (w.known t) ≡ (w.known t).shots
+
+-- such a step that logs nothing
+pub record IsFairQuietly (w : World) (t : ℕ) (p : StepPlan) : Type 0 where
+  pub fair : IsFair w t p
+  pub log : log_after p.note (w.words p.at) (w.known t).log ≡ (w.known t).log
+
+-- Such a step that logs y: the thread knows what the entry needs. An entry that takes an object is stamped by that object's stamp word.
+pub record IsFairTelling (w : World) (t : ℕ) (p : StepPlan) (y : Logged) : Type 0 where
+  pub fair : IsFair w t p
+  pub hits : hits p.act (w.words p.at) ≡ true
+  pub grows : log_after p.note (w.words p.at) (w.known t).log ≡ (w.known t).log ++ y ∷ []
+  pub stamp : y.stamp ≡ stamp_by y.entry (w.words p.at) (last_stamp (w.known t).log)
+  pub takes : (o : ℕ) → is_taking y.entry ≡ true → bound_to y.entry ≡ Some o → p.at ≡ Stamp o
+  pub makes_none : creates y.entry ≡ None
+  pub needs : AllByRecursion (λ o. knows_in w t o ≡ true) (needs y.entry)
