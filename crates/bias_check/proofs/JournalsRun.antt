@@ -99,9 +99,9 @@ abbrev pub AboveAll : Option (ℕ × Logged) → List (ℕ × Logged) → Type 0
 AboveAll None xs = Unit {0}
 AboveAll (Some b) xs = BeforeAll b xs
 
-above_first : (before : Option (ℕ × Logged)) (x : ℕ × Logged) (xs : List (ℕ × Logged)) → AboveAll before (x ∷ xs) → IsAbove before x
-above_first None x xs h = tt
-above_first (Some b) x xs h = h.0
+above_first : (before : Option (ℕ × Logged)) (x : ℕ × Logged) (xs : List (ℕ × Logged)) → 1 ≤ x.1.stamp → AboveAll before (x ∷ xs) → IsAbove before x
+above_first None x xs low h = low
+above_first (Some b) x xs low h = h.0
 
 sorted_run : (p : ProgramText) (before : Option (ℕ × Logged)) (m n : PlainMachine) (xs : List (ℕ × Logged)) → AboveAll before xs → IsSorted xs → AllByRecursion (IsTellable p) xs → behind_all m xs ≡ Some n
     → IsRun p before m (map (journal_line p) xs) xs n
@@ -111,8 +111,8 @@ sorted_run p before m n (x ∷ xs) above sorted tellable h =
     let t = tellable.0 in (
       next,
       record {
-        tells = record { thread = t.thread; above_zero = t.above_zero; below = t.below; entry = t.entry; text = refl };
-        above = above_first before x xs above;
+        tells = record { thread = t.thread; below = t.below; entry = t.entry; text = refl };
+        above = above_first before x xs t.above_zero above;
         taken = took;
       },
       sorted_run p (Some x) next n xs sorted.0 sorted.1 tellable.1 rest,
@@ -130,7 +130,7 @@ line_first (b ∷ bs) rest h = rw (h.0, line_first bs rest h.1) refl
 
 line_ahead : (p : ProgramText) (x : ℕ × Logged) (rest : List ℕ) → IsProgram p → IsTellable p x → lines_of (journal_line p x ++ rest) ≡ journal_line p x ∷ lines_of rest
 line_ahead p x rest h t =
-    let tells : Tells p (journal_line p x) x = record { thread = t.thread; above_zero = t.above_zero; below = t.below; entry = t.entry; text = refl } in
+    let tells : Tells p (journal_line p x) x = record { thread = t.thread; below = t.below; entry = t.entry; text = refl } in
     let words = join_with_byte 32 (line_words p x) in
     let feedless : Feedless words = feedless_words (line_words p x) (line_spaceless p (journal_line p x) x h tells) in
     let whole : journal_line p x ++ rest ≡ words ++ 10 ∷ rest = ap (λ (bs : List ℕ). bs ++ rest) (line_is p x) ∙ append_assoc words (10 ∷ []) rest in

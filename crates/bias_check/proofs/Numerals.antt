@@ -79,20 +79,19 @@ below_read limit n h k =
 -- a stamp
 pub record IsStamp (w : List ℕ) (s : ℕ) : Type 0 where
   pub text : 64 ∷ decimal s ≡ w
-  pub above_zero : 1 ≤ s
   pub below : s < 2 ^ 46
 
 stamp_by : (b : ℕ) (digits : List ℕ) (s : ℕ) (t : Bool) → nat_eq b 64 ≡ t → stamp_in (b ∷ digits) ≡ Some s → IsStamp (b ∷ digits) s
 stamp_by b digits s true e h =
-    let k = counted 1 (2 ^ 46 - 1) digits s (rw e at h) in
+    let k = counted 0 (2 ^ 46 - 1) digits s (rw e at h) in
     let at : b ≡ 64 = grind (arith, nat_tests) in
-    record { text = rw (at, k.text) refl; above_zero = k.low_is; below = omega (arith, k.high_is) }
+    record { text = rw (at, k.text) refl; below = omega (arith, k.high_is) }
 stamp_by b digits s false e h = absurd (cc (rw e at h))
 
 pub stamp_is : (w : List ℕ) (s : ℕ) → stamp_in w ≡ Some s → IsStamp w s
 stamp_is [] s h = absurd (cc h)
 stamp_is (b ∷ digits) s h = stamp_by b digits s (nat_eq b 64) refl h
 
-pub stamp_read : (s : ℕ) → 1 ≤ s → s < 2 ^ 46 → stamp_in (64 ∷ decimal s) ≡ Some s
-stamp_read s low h =
-    ap (λ o. option_map nat_abs o) (int_read (pos 1) (pos (2 ^ 46 - 1)) (pos s) (small_in_range s h) (count_within 1 (2 ^ 46 - 1) s low (omega (arith, h))))
+pub stamp_read : (s : ℕ) → s < 2 ^ 46 → stamp_in (64 ∷ decimal s) ≡ Some s
+stamp_read s h =
+    ap (λ o. option_map nat_abs o) (int_read (pos 0) (pos (2 ^ 46 - 1)) (pos s) (small_in_range s h) (count_within 0 (2 ^ 46 - 1) s (omega arith) (omega (arith, h))))

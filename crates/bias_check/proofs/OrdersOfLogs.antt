@@ -75,6 +75,16 @@ all_before None x ys end above = rw end tt
 all_before (Some b) x ys end above =
     all_weaker (λ y. is_before b y ≡ false) (λ y. is_before y x ≡ true) (λ y h. before_through b x y above h) ys end
 
+-- the entry before, if there is one, has a stamp from 1 on
+abbrev pub IsFromOne : Option (ℕ × Logged) → Type 0
+IsFromOne None = Unit {0}
+IsFromOne (Some b) = 1 ≤ b.1.stamp
+
+-- and so has the next one
+from_one : (before : Option (ℕ × Logged)) (x : ℕ × Logged) → IsFromOne before → IsAbove before x → 1 ≤ x.1.stamp
+from_one None x low above = above
+from_one (Some b) x low above = grind (arith, nat_tests)
+
 up_to : (x : ℕ × Logged) (ys : List (ℕ × Logged)) → AllBefore x ys → AllUpTo x (ys ++ x ∷ [])
 up_to x ys h =
     all_push (λ y. is_before x y ≡ false) ys x (all_weaker (λ y. is_before y x ≡ true) (λ y. is_before x y ≡ false) (λ y k. not_after x y k) ys h) (not_before_itself x)
@@ -90,20 +100,21 @@ pub record AreLogsOf (threads : ℕ) (entries : List (ℕ × Logged)) (logs : Li
   pub ordered : order logs ≡ entries
 
 logs_of_run : (p : ProgramText) (before : Option (ℕ × Logged)) (m n : PlainMachine) (lines : List (List ℕ)) (xs done : List (ℕ × Logged)) (logs : List (List Logged)) → IsRun p before m lines xs n
-    → AreLogsOf (length p.threads) done logs → IsEnd before done → AreLogsOf (length p.threads) (done ++ xs) (logs_behind logs xs)
-logs_of_run p before m n [] [] done logs run a end = rw append-nil a
-logs_of_run p before m n [] (x ∷ xs) done logs run a end = absurd run
-logs_of_run p before m n (line ∷ lines) [] done logs run a end = absurd run
-logs_of_run p before m n (line ∷ lines) (x ∷ xs) done logs run a end =
+    → AreLogsOf (length p.threads) done logs → IsEnd before done → IsFromOne before → AreLogsOf (length p.threads) (done ++ xs) (logs_behind logs xs)
+logs_of_run p before m n [] [] done logs run a end low = rw append-nil a
+logs_of_run p before m n [] (x ∷ xs) done logs run a end low = absurd run
+logs_of_run p before m n (line ∷ lines) [] done logs run a end low = absurd run
+logs_of_run p before m n (line ∷ lines) (x ∷ xs) done logs run a end low =
     let s = run.1 in
+    let positive = from_one before x low s.above in
     let first : AllBefore x done = all_before before x done end s.above in
-    let on = goes_last logs x a.rises (omega (arith, a.counted, s.tells.thread)) s.tells.above_zero (rw a.ordered first) in
+    let on = goes_last logs x a.rises (omega (arith, a.counted, s.tells.thread)) positive (rw a.ordered first) in
     let next : AreLogsOf (length p.threads) (done ++ x ∷ []) (appended logs x.0 x.1) = record {
       counted = length-set logs x.0 (log_of logs x.0 ++ x.1 ∷ []) ∙ a.counted;
       rises = on.rises;
       ordered = on.ordered ∙ ap (λ (ys : List (ℕ × Logged)). ys ++ x ∷ []) a.ordered;
     } in
-    let rest = logs_of_run p (Some x) run.0 n lines xs (done ++ x ∷ []) (appended logs x.0 x.1) run.2 next (up_to x done first) in
+    let rest = logs_of_run p (Some x) run.0 n lines xs (done ++ x ∷ []) (appended logs x.0 x.1) run.2 next (up_to x done first) positive in
     subst (λ (ys : List (ℕ × Logged)). AreLogsOf (length p.threads) ys (logs_behind (appended logs x.0 x.1) xs)) (append_assoc done (x ∷ []) xs) rest
 
 -- the machine takes the entries of a run
@@ -129,7 +140,7 @@ pub run_splits : (p : ProgramText) (fuel : ℕ) (lines : List (List ℕ)) (entri
     → SplitsIntoLegalLogs p fuel entries machine
 run_splits p fuel lines entries machine run =
     let logs = logs_behind (replicate (length p.threads) []) entries in
-    let a : AreLogsOf (length p.threads) entries logs = logs_of_run p None (new_machine p fuel) machine lines entries [] (replicate (length p.threads) []) run (first_logs (length p.threads)) refl in
+    let a : AreLogsOf (length p.threads) entries logs = logs_of_run p None (new_machine p fuel) machine lines entries [] (replicate (length p.threads) []) run (first_logs (length p.threads)) refl tt in
     let under : machine_after p fuel logs ≡ Some machine = ap (behind_all (new_machine p fuel)) a.ordered ∙ run_taken p None (new_machine p fuel) machine lines entries run in
     record {
       logs = logs;

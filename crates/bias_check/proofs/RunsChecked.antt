@@ -2,6 +2,7 @@
 use Rattle.std.proofs.Common.{◌≡◌, ℕ, ◌+◌, ◌⊎◌, Bool, true, false, List, [], ◌∷◌, ◌++◌, length, refl, sym, ◌∙◌, ap, arith, inl, inr, add-zero, Option, Some, None, Ok, Err}
 use Rattle.std.specs.Prelude.{option_and_then}
 use Rattle.std.specs.List.{AllByRecursion}
+use Rattle.std.proofs.lemmas.Bool.Decides.{nat_tests}
 use Rattle.std.proofs.lemmas.Option.{same_Some}
 use Rattle.plain_monitor.specs.declared.entry.Entry.{Entry}
 use Rattle.plain_monitor.specs.declared.entry.Logged.{Logged}
@@ -36,11 +37,11 @@ stopped_at m h before k = record { machine = m; hashes = h; last = last_place be
 
 -- the test is that of the order
 above_is : (before : Option (ℕ × Logged)) (x : ℕ × Logged) → IsAbove before x → is_above (last_place before) x.1.stamp x.0 ≡ true
-above_is None x h = refl
+above_is None x h = grind (arith, nat_tests)
 above_is (Some y) x h = h
 
 above_read : (before : Option (ℕ × Logged)) (x : ℕ × Logged) → is_above (last_place before) x.1.stamp x.0 ≡ true → IsAbove before x
-above_read None x h = tt
+above_read None x h = grind (arith, nat_tests)
 above_read (Some y) x h = h
 
 -- what the machine takes of two readings

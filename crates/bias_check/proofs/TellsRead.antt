@@ -209,7 +209,6 @@ tells_words p line text first second third ws stamp thread v e cut words s t spe
     let joined : join_with_byte 32 (line_words p x) ≡ text = ap (join_with_byte 32) (same ∙ sym words) ∙ join_with_byte-slice_split 32 text in
     record {
       thread = t.within;
-      above_zero = s.above_zero;
       below = s.below;
       entry = entry.valid;
       text = line_is p x ∙ ap (λ (bs : List ℕ). bs ++ 10 ∷ []) joined ∙ sym cut;
@@ -298,7 +297,7 @@ line_read p line x h t =
     let words : words_of (join_with_byte 32 (line_words p x)) ≡ line_words p x = words_again _ _ (line_spaceless p line x h t) in
     record {
       read = record { stamp = x.1.stamp; thread = x.0; entry = entry.read };
-      is = rw (front, words, stamp_read x.1.stamp t.above_zero t.below, thread_read p x.0 h t.thread, verb_read (verb_in x.1.entry), entry.is) refl;
+      is = rw (front, words, stamp_read x.1.stamp t.below, thread_read p x.0 h t.thread, verb_read (verb_in x.1.entry), entry.is) refl;
       stamp = refl;
       thread = refl;
       has = entry.has;

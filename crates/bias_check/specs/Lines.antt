@@ -1,5 +1,5 @@
 -- The lines of a journal, and which entries a line tells.
-use Rattle.std.specs.Prelude.{◌≡◌, ℕ, ◌+◌, ◌*◌, ◌<◌, ◌≤◌, ◌^◌, ◌==◌, if◌then◌else◌, List, [], ◌∷◌, length, MatchOption}
+use Rattle.std.specs.Prelude.{◌≡◌, ℕ, ◌+◌, ◌*◌, ◌<◌, ◌^◌, ◌==◌, if◌then◌else◌, List, [], ◌∷◌, length, MatchOption}
 use Rattle.std.specs.List.{onto_first}
 use Rattle.plain_monitor.specs.Limits.{most_made}
 use Rattle.plain_monitor.specs.declared.entry.Entry.{Entry}
@@ -45,10 +45,10 @@ IsEntryIn p (Trap fault index) = IsWord index
 IsEntryIn p Spent = Unit {0}
 IsEntryIn p Done = Unit {0}
 
--- the line tells this entry of this thread: it is the entry's line of the journal. Stamps are from 1 to 2^46 - 1
+-- the line tells this entry of this thread: it is the entry's line of the journal. Stamps have 46 bits. One that is 0 can be told, though no line with it
+-- is a step of a run
 pub record Tells (p : ProgramText) (line : List ℕ) (x : ℕ × Logged) : Type 0 where
   pub thread : x.0 < length p.threads
-  pub above_zero : 1 ≤ x.1.stamp
   pub below : x.1.stamp < 2 ^ 46
   pub entry : IsEntryIn p x.1.entry
   pub text : journal_line p x ≡ line

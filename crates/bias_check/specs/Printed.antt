@@ -6,7 +6,7 @@ use Rattle.object_program.specs.Program.{ProgramText}
 use Rattle.lock_journal.specs.RunText.{journal_line}
 use Rattle.bias_check.specs.Lines.{IsEntryIn}
 
--- a line can tell the entry: it is the program's, and its stamp has 46 bits
+-- a line of a run can tell the entry: it is the program's, and its stamp is from 1 to 2^46 - 1
 pub record IsTellable (p : ProgramText) (x : ℕ × Logged) : Type 0 where
   pub thread : x.0 < length p.threads
   pub above_zero : 1 ≤ x.1.stamp

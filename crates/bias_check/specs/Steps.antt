@@ -1,15 +1,15 @@
 -- The run that lines are. Of the entries that a line tells the machine takes at most one, and where it takes one, in the
 -- order of stamps and threads, the line is a step.
-use Rattle.std.specs.Prelude.{◌≡◌, ℕ, List, [], ◌∷◌, IsTrue, Option, Some, None}
+use Rattle.std.specs.Prelude.{◌≡◌, ℕ, ◌≤◌, List, [], ◌∷◌, IsTrue, Option, Some, None}
 use Rattle.plain_monitor.specs.declared.entry.Logged.{Logged}
 use Rattle.plain_monitor.specs.Order.{is_before}
 use Rattle.object_program.specs.Program.{ProgramText}
 use Rattle.plain_machine.specs.Machine.{PlainMachine, take}
 use Rattle.bias_check.specs.Lines.{Tells}
 
--- the entry's stamp and thread stand above those of the one before, if there is one
+-- the entry's stamp and thread stand above those of the one before. The first entry's stamp is at least 1, so all of a run are
 abbrev pub IsAbove : Option (ℕ × Logged) → ℕ × Logged → Type 0
-IsAbove None x = Unit {0}
+IsAbove None x = 1 ≤ x.1.stamp
 IsAbove (Some before) x = IsTrue (is_before before x)
 
 -- the line is a step of the machine m to the machine n, by the entry x

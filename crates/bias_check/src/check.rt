@@ -31,12 +31,12 @@ pub(crate) struct Check {
     stopped: Option<u32>,
 }
 
-/// Whether this stamp and thread stand above the last ones.
+/// Whether this stamp and thread stand above the last ones. The first stamp has to be at least 1.
 fn is_above(last: Option<(u64, u32)>, stamp: u64, thread: u32) -> bool
     ensures { result ≡ is_above last stamp thread }
 {
     match last {
-        None => true,
+        None => 0 < stamp,
         Some((before, other)) => before < stamp || (before == stamp && other < thread),
     }
 }

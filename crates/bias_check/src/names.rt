@@ -218,7 +218,7 @@ pub(crate) fn count_in(word: &[u8]) -> Option<u32>
     Some(number as u32)
 }
 
-/// The stamp that the word is: `@`, and a number from 1 to 2^46 - 1.
+/// The stamp that the word is: `@`, and a number from 0 to 2^46 - 1.
 pub(crate) fn stamp_in(word: &[u8]) -> Option<u64>
     ensures { result ≡ stamp_in word.now }
 {
@@ -228,6 +228,6 @@ pub(crate) fn stamp_in(word: &[u8]) -> Option<u64>
     if *first != b'@' {
         return None;
     }
-    let number = int_in(digits, 1, STAMP_LIMIT - 1)?;
+    let number = int_in(digits, 0, STAMP_LIMIT - 1)?;
     Some(number as u64)
 }

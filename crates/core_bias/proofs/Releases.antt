@@ -1,5 +1,5 @@
 -- The release of a safepoint at which all stores of a revocation were made leads to a world in which every clause holds.
-use Rattle.core_locks.proofs.Prelude.{◌≡◌, ◌≢◌, ◌⊎◌, ℕ, ◌<◌, ◌==◌, ◌++◌, ◌^◌, ◌&&◌, not, eq-eqb, append-nil, Bool, true, false, cond, List, [], ◌∷◌, Some, None, refl, sym, ap, ◌∙◌, subst, inl, inr, pow_below, bit_at-pow_same, read_safe-safe_of, is_thread, PlainObject, Swap, Name, Safepoint, Mark, Waiting, StepPlan, Calm, Takes, word_after, asks_in, runs_in, runs_form, requester_form, is_biased, monitor_in, waits_on, Known, StepMade, last_seen, its_monitor, World, with_word_and_known, with_known, marks, owner_at, waits_at, Purpose, with_stage, swap, reached_word, released_word, world_after, known_hit, known_miss, known_after, kept_by_act, seen_before, only_headers, is_header, Fits, SafepointFits, SeenFit, IsRevoking, headers_are_part, unwaited_fits, with_knowledge, by_equal, each_with_known, with_known_here, with_known_else, stays_back, Counts, Spares, seen_moves, Still}
+use Rattle.core_locks.proofs.Prelude.{◌≡◌, ◌≢◌, ◌⊎◌, ℕ, ◌<◌, ◌==◌, ◌++◌, ◌^◌, ◌&&◌, not, eq-eqb, append-nil, Bool, true, false, cond, List, [], ◌∷◌, Some, None, refl, sym, ap, ◌∙◌, subst, inl, inr, pow_below, bit_at-pow_same, read_safe-safe_of, is_thread, PlainObject, Swap, Name, Safepoint, Mark, Waiting, StepPlan, Calm, Takes, word_after, asks_in, runs_in, runs_form, requester_form, is_biased, monitor_in, waits_on, Known, StepMade, last_seen, its_monitor, World, with_word_and_known, with_known, marks, owner_at, waits_at, Purpose, with_stage, swap, reached_word, released_word, world_after, known_hit, known_miss, known_after, kept_by_act, seen_before, is_header, Fits, SafepointFits, SeenFit, IsRevoking, headers_are_part, unwaited_fits, with_knowledge, by_equal, each_with_known, with_known_here, with_known_else, stays_back, Counts, Spares, seen_moves, Still}
 use Rattle.core_world.specs.declared.name.Name.TheVariants as name
 use Rattle.core_world.specs.Threads.Counts.{counts_of}
 use Rattle.core_world.specs.Words.Names.{has_class}
@@ -8,6 +8,7 @@ use Rattle.core_world.specs.Trees.BiasSteps.{stage_after}
 use Rattle.core_world.specs.RevocationRules.{words_after, revocation_writes, writes_in}
 use Rattle.core_world.proofs.NoWordChanges.{one_requester}
 use Rattle.core_locks.proofs.SafeFacts.{one_reached, few_bits}
+use Rattle.core_locks.proofs.SafeCounts.{headers_seen}
 use Rattle.core_locks.proofs.SafeEnds.{reached_finds, released_fits}
 use Rattle.core_bias.specs.Revoking.{Alike, HasCounted, revoked_world}
 use Rattle.core_bias.proofs.Unseen.{FitsUnseen, unseen, with_seen}
@@ -170,10 +171,10 @@ module _ (w : World) (P : List PlainObject) (s : IsRevoking w P) (e : Purpose) w
         ap (λ n. runs_in n (w.known r).thread) left ∙ ap (λ f. runs_form f (w.known r).thread) reads ∙ ap (runs_form (Some (record { running = 2 ^ r; requester = None; halted = false }))) own
         ∙ ap (λ n. n == 1) (bit_at-pow_same r)
 
-    kept : kept_by_act Safepoint (Swap (reached_word r) (released_word r)) v (w.known r) (seen_before w.shape (w.known r)) ≡ only_headers (w.known r).seen_at_safepoint
+    kept : kept_by_act Safepoint (Swap (reached_word r) (released_word r)) v (w.known r) (seen_before w.shape (w.known r)) ≡ headers_seen w r
     kept =
         let call = cond (w.known r).running (seen_before w.shape (w.known r)) [] in
-        ap (λ b. cond (b && not (asks_in v (w.known r).thread)) (only_headers (w.known r).seen_at_safepoint) call) reached ∙ ap (λ b. cond (not b) (only_headers (w.known r).seen_at_safepoint) call) unasking
+        ap (λ b. cond (b && not (asks_in v (w.known r).thread)) (headers_seen w r) call) reached ∙ ap (λ b. cond (not b) (headers_seen w r) call) unasking
 
     -- THE WORLD AFTER THE RELEASE, by what the requester knew as one that saw nothing, and by what it knew.
     abbrev x : World
@@ -248,17 +249,17 @@ module _ (w : World) (P : List PlainObject) (s : IsRevoking w P) (e : Purpose) w
         names = λ o m h. h;
       }
 
-      -- only marks, class words and prototypes, as they were seen at the safepoint
-      part : (n : Name) (m : ℕ) → last_seen n (only_headers (w.known r).seen_at_safepoint) ≡ Some m → last_seen n (w.known r).seen_at_safepoint ≡ Some m
-      part n m h = (headers_are_part (w.known r).seen_at_safepoint n m h).1
+      -- only the header of the unfinished operation's object and prototypes, as they were seen at the safepoint
+      part : (n : Name) (m : ℕ) → last_seen n (headers_seen w r) ≡ Some m → last_seen n (w.known r).seen_at_safepoint ≡ Some m
+      part n m h = (headers_are_part (w.known r).unfinished (w.known r).seen_at_safepoint n m h).1
 
-      no_monitor : (n : Name) (m : ℕ) → its_monitor n ≡ Some m → is_header n ≡ true → ⊥
+      no_monitor : (n : Name) (m : ℕ) → its_monitor n ≡ Some m → is_header (w.known r).unfinished n ≡ true → ⊥
       no_monitor (Mark i) m h g = absurd (cc h)
       no_monitor (name.Prototype i) m h g = absurd (cc h)
       no_monitor (name.Class i) m h g = absurd (cc h)
       no_monitor _ m h g = absurd (cc g)
 
-      counts : Counts Safepoint v r l w (owner_at P) (waits_at P) (only_headers (w.known r).seen_at_safepoint)
+      counts : Counts Safepoint v r l w (owner_at P) (waits_at P) (headers_seen w r)
       counts = record {
         others = λ n m a d st. s.seen.stands r n m reached (part n m a);
         unbiased = λ o m a g h. ap is_biased (s.seen.stands r (Mark o) m reached (part (Mark o) m a)) ∙ g;
@@ -266,12 +267,12 @@ module _ (w : World) (P : List PlainObject) (s : IsRevoking w P) (e : Purpose) w
         unwaiting = λ u o m a g h i. ap (λ b. waits_on b o) (s.seen.stands r (Waiting u) m reached (part (Waiting u) m a)) ∙ h;
         unwaited = λ o m a g h i. unwaited_fits z P fits o (ap monitor_in (s.seen.stands r (Mark o) m reached (part (Mark o) m a)) ∙ i);
         idle = λ o a g h i. absurd (cc a);
-        monitors = λ m i g h. absurd (no_monitor h.0 m h.1 (headers_are_part (w.known r).seen_at_safepoint h.0 i h.2).0);
+        monitors = λ m i g h. absurd (no_monitor h.0 m h.1 (headers_are_part (w.known r).unfinished (w.known r).seen_at_safepoint h.0 i h.2).0);
         fresh = λ m g h. absurd (cc h);
       }
 
       seen_now : SeenFit x P
-      seen_now = seen_moves plan (w.words Safepoint) r l w (owner_at P) (owner_at P) (waits_at P) (waits_at P) (only_headers (w.known r).seen_at_safepoint)
+      seen_now = seen_moves plan (w.words Safepoint) r l w (owner_at P) (owner_at P) (waits_at P) (waits_at P) (headers_seen w r)
           (ap (λ (k : List StepMade). record { plan = plan; found = w.words Safepoint } ∷ k) kept) counts spares s.seen
 
       pub revoked_released : Fits (world_after plan r w) P

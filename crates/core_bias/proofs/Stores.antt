@@ -370,7 +370,7 @@ module _ (w : World) (P : List PlainObject) (e : Purpose) (b : Revocation) (at :
         operation = may.operation;
         unfinished = may.unfinished;
         allowed = may.allowed;
-        object = may.object;
+        object = may.object.within;
         biased = (λ i. is_valid_bias (read_mark (stands (Mark b.object) saw.0 saw.2 i)) (prototype i)) ∙ saw.4;
         words = sym (ap (λ xs. words_after xs w.words) may.unwritten);
         found = unwritten_found w.words (w.known r).seen_at_safepoint (v.seen.alone r may.reached (ap revocation_in may.calm)) may.unwritten;

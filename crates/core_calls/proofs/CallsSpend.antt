@@ -1,9 +1,9 @@
 -- How many steps each call makes at most.
-use Rattle.std.proofs.Common.{ℕ, zero, suc, ◌+◌, ◌*◌, ◌==◌, cond, Bool, true, false, length, Option, Some, None, Result, Ok, Err, arith}
+use Rattle.std.proofs.Common.{ℕ, zero, suc, ◌+◌, ◌*◌, ◌==◌, cond, Bool, true, false, length, nat_lt, Option, Some, None, Result, Ok, Err, arith}
 use Rattle.mark_word.specs.declared.mark.MarkForm.{MarkForm}
 use Rattle.mark_word.specs.declared.mark.MarkForm.TheVariants.{Inflating, Neutral, Anonymous, Biased, Locked, Inflated, Marked}
 use Rattle.mark_word.specs.Mark.{read_mark}
-use Rattle.plain_monitor.specs.Limits.{most_holds}
+use Rattle.plain_monitor.specs.Limits.{most_holds, most_made}
 use Rattle.plain_monitor.specs.declared.entry.Entry.TheVariants as entry
 use Rattle.plain_monitor.specs.declared.entry.Ending.{Ending}
 use Rattle.plain_monitor.specs.declared.entry.Value.{Value}
@@ -29,7 +29,8 @@ use Rattle.core_world.specs.Trees.Todo.{Todo, done, never, step, ◌>>=◌}
 use Rattle.core_world.specs.Trees.LockSteps.{stack_exit_steps}
 use Rattle.core_world.specs.Trees.MonitorSteps.{monitor_enter_steps}
 use Rattle.core_world.specs.Trees.BiasSteps.{stage_after}
-use Rattle.core_world.specs.Trees.Operations.{value_found, goes_on_with, and_then, answer, lone_purpose, revocation_steps, enter_monitor_steps, enter_at, enter_unbiased, enter_revoked, enter_tried, enter_going, enter_steps, exit_at, exit_steps, revoked_steps, unbias_tried, unbias_steps, no_bias, wait_steps, notify_at, notify_steps, notify_all_at, notify_all_steps, hash_steps, get_steps, put_steps, print_steps, finish_steps, dump_steps, check_ending, check_steps}
+use Rattle.core_world.specs.Trees.Operations.{value_found, goes_on_with, and_then, answer, lone_purpose, revocation_steps, enter_monitor_steps, enter_at, enter_unbiased, enter_revoked, enter_tried, enter_going, enter_steps, exit_at, exit_steps, revoked_steps, unbias_tried, unbias_steps, no_bias, wait_steps, notify_at, notify_steps, notify_all_at, notify_all_steps, hash_steps, get_steps, put_steps, print_steps, finish_steps, dump_steps, create_steps, check_ending, check_steps}
+use Rattle.core_world.specs.Trees.CreateSteps.{count_made, next_made}
 use Rattle.core_world.specs.Trees.Calls.{end, side_purpose, steps_of}
 use Rattle.core_calls.specs.Bounds.{IsWithin, a_deflation, a_revocation, most_steps}
 use Rattle.core_calls.proofs.Spends.{Spends, Spend, spend_done, spend_never, spend_more, spend_either, spend_then, spend_both, spend_any}
@@ -198,6 +199,12 @@ put_spends k o slot value = refused (hold_count o k.local.holds == 0) (record {}
 print_spends : (k : Start) (value : Value) → Spend Any Nothing 1 (print_steps k value)
 print_spends k value = any_step {n = 0} (λ _. spend_done (omega arith))
 
+create_spends : (s : Shape) (k : Start) (c : ℕ) → Spend Any Nothing 3 (create_steps s k c)
+create_spends s k c =
+    spend_either (nat_lt (count_made k.local) most_made)
+    (any_step {n = 2} (λ prototype. any_step {n = 1} (λ _. any_step {n = 0} (λ _. spend_done {a = Ok (next_made s k.local)} (omega arith)))))
+    (spend_done {a = Err record {}} (omega arith))
+
 finish_spends : (k : Start) (ending : Ending) → Spend Any Nothing 2 (finish_steps k ending)
 finish_spends k ending = any_step {n = 1} (λ _. any_step {n = 0} (λ _. spend_done (omega arith)))
 
@@ -251,6 +258,7 @@ call_spends s (task.Get o slot) k = ends (get_spends k o slot)
 call_spends s (task.Put o slot value) k = ends (put_spends k o slot value)
 call_spends s (task.Print value) k = print_spends k value
 call_spends s task.Dump k = ends (dump_spends s k)
+call_spends s (task.Create c) k = ends (create_spends s k c)
 call_spends s (task.Finish ending) k = finish_spends k ending
 call_spends s task.Poll k = ends (poll_spends (side_purpose task.Poll k) k.local.thread)
 call_spends s task.Stop k = stop_spends (side_purpose task.Stop k) k.local

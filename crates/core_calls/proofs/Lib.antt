@@ -14,6 +14,7 @@ pub mod OperationsSay
 pub mod EntersSay
 pub mod WaitCallsSay
 pub mod OtherCallsSay
+pub mod CreatesSay
 pub mod Waiters
 pub mod LocksSpend
 pub mod PartsSpend

@@ -1,9 +1,9 @@
 -- The steps of each call are of it.
-use Rattle.std.proofs.Common.{◌≡◌, ℕ, ◌+◌, ◌==◌, if◌then◌else◌, Bool, true, false, Option, Some, None, Err, refl}
+use Rattle.std.proofs.Common.{◌≡◌, ℕ, ◌+◌, ◌==◌, nat_lt, if◌then◌else◌, Bool, true, false, Option, Some, None, Err, refl}
 use Rattle.mark_word.specs.declared.mark.MarkForm.{MarkForm}
 use Rattle.mark_word.specs.declared.mark.MarkForm.TheVariants.{Inflating, Neutral, Locked, Inflated}
 use Rattle.mark_word.specs.Mark.{read_mark}
-use Rattle.plain_monitor.specs.Limits.{most_holds}
+use Rattle.plain_monitor.specs.Limits.{most_holds, most_made}
 use Rattle.plain_monitor.specs.declared.entry.Ending.{Ending}
 use Rattle.plain_monitor.specs.declared.entry.Entry.TheVariants as entry
 use Rattle.plain_monitor.specs.declared.entry.Value.{Value}
@@ -24,7 +24,8 @@ use Rattle.core_world.specs.Words.Forms.{waits_on}
 use Rattle.core_world.specs.Words.Shape.{Shape}
 use Rattle.core_world.specs.Trees.BiasSteps.{stage_after}
 use Rattle.core_world.specs.Trees.Calls.{end, side_purpose, steps_of}
-use Rattle.core_world.specs.Trees.Operations.{and_then, answer, goes_on_with, lone_purpose, revocation_steps, enter_monitor_steps, enter_at, enter_unbiased, enter_revoked, enter_tried, enter_going, enter_steps, exit_at, exit_going, exit_steps, revoked_steps, unbias_tried, unbias_steps, no_bias, wait_steps, notify_at, notify_steps, notify_all_at, notify_all_steps, hash_steps, get_steps, put_steps, print_steps, finish_steps, dump_steps, check_ending, check_steps}
+use Rattle.core_world.specs.Trees.Operations.{and_then, answer, goes_on_with, lone_purpose, revocation_steps, enter_monitor_steps, enter_at, enter_unbiased, enter_revoked, enter_tried, enter_going, enter_steps, exit_at, exit_going, exit_steps, revoked_steps, unbias_tried, unbias_steps, no_bias, wait_steps, notify_at, notify_steps, notify_all_at, notify_all_steps, hash_steps, get_steps, put_steps, print_steps, finish_steps, dump_steps, create_steps, check_ending, check_steps}
+use Rattle.core_world.specs.Trees.CreateSteps.{count_made}
 use Rattle.core_world.specs.Trees.Plans.{Purpose, purpose, free_place}
 use Rattle.core_world.specs.Trees.Todo.{Todo, done, ◌>>=◌}
 use Rattle.core_calls.specs.Moments.{moment_of}
@@ -188,6 +189,11 @@ module _ (s : Shape) (k : Start) where
       ends_named false = named_next (release_named e k.local.thread Calm) named_done
 
 module _ (k : Start) where
+  pub create_named : (s : Shape) (c : ℕ) → Named (task.Create c) (create_steps s k c)
+  create_named s c =
+      named_either (nat_lt (count_made k.local) most_made)
+      (named_step refl tt (λ prototype. named_step refl tt (λ _. named_step refl tt (λ _. named_done)))) named_done
+
   pub exit_named : (o : ℕ) → Named (task.Exit o) (exit_steps k o)
   exit_named o = refused_or (hold_count o k.local.holds == 0) (record {}) _ (exit_going_named (purpose (task.Exit o) op.Exit o) k o)
 
@@ -219,6 +225,7 @@ call_named s (task.Get o slot) k = ends (get_named k o slot)
 call_named s (task.Put o slot value) k = ends (put_named k o slot value)
 call_named s (task.Print value) k = print_named k value
 call_named s task.Dump k = ends (dump_named s k)
+call_named s (task.Create c) k = ends (create_named k s c)
 call_named s (task.Finish ending) k = finish_named k ending
 call_named s task.Poll k = ends (poll_named (side_purpose task.Poll k))
 call_named s task.Stop k = stop_named (side_purpose task.Stop k) k.local

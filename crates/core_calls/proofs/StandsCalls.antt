@@ -1,9 +1,9 @@
 -- How a thread stands behind each call.
-use Rattle.std.proofs.Common.{◌≡◌, ℕ, ◌+◌, ◌<◌, ◌==◌, cond, not, Bool, true, false, List, [], Option, Some, None, Result, Err, refl, ap}
+use Rattle.std.proofs.Common.{◌≡◌, ℕ, ◌+◌, ◌<◌, ◌==◌, nat_lt, cond, not, Bool, true, false, List, [], Option, Some, None, Result, Err, refl, ap}
 use Rattle.mark_word.specs.declared.mark.MarkForm.{MarkForm}
 use Rattle.mark_word.specs.declared.mark.MarkForm.TheVariants.{Inflating, Neutral, Locked, Inflated}
 use Rattle.mark_word.specs.Mark.{read_mark}
-use Rattle.plain_monitor.specs.Limits.{most_holds}
+use Rattle.plain_monitor.specs.Limits.{most_holds, most_made}
 use Rattle.plain_monitor.specs.declared.entry.Ending.{Ending}
 use Rattle.plain_monitor.specs.declared.entry.Entry.TheVariants as entry
 use Rattle.plain_monitor.specs.declared.entry.Path.{Path}
@@ -26,10 +26,11 @@ use Rattle.core_world.specs.Words.Forms.{waits_on}
 use Rattle.core_world.specs.Words.Shape.{Shape}
 use Rattle.core_world.specs.Trees.BiasSteps.{bias_enter_steps, bias_drop_steps, stage_after, bias_after_steps}
 use Rattle.core_world.specs.Trees.Calls.{side_purpose}
+use Rattle.core_world.specs.Trees.CreateSteps.{count_made}
 use Rattle.core_world.specs.Trees.DeflateSteps.{deflate_steps}
 use Rattle.core_world.specs.Trees.LookSteps.{take_shot_steps, stands_still_steps}
 use Rattle.core_world.specs.Trees.MonitorSteps.{inflate_steps, monitor_enter_steps}
-use Rattle.core_world.specs.Trees.Operations.{and_then, answer, goes_on_with, revocation_steps, enter_monitor_steps, enter_at, enter_unbiased, enter_revoked, enter_tried, enter_going, enter_steps, exit_at, exit_going, exit_steps, revoked_steps, unbias_tried, unbias_steps, no_bias, wait_going, wait_steps, notify_at, notify_going, notify_steps, notify_all_at, notify_all_going, notify_all_steps, hash_steps, get_steps, put_steps, print_steps, finish_steps, dump_going, dump_steps, check_ending, check_steps}
+use Rattle.core_world.specs.Trees.Operations.{and_then, answer, goes_on_with, revocation_steps, enter_monitor_steps, enter_at, enter_unbiased, enter_revoked, enter_tried, enter_going, enter_steps, exit_at, exit_going, exit_steps, revoked_steps, unbias_tried, unbias_steps, no_bias, wait_going, wait_steps, notify_at, notify_going, notify_steps, notify_all_at, notify_all_going, notify_all_steps, hash_steps, get_steps, put_steps, print_steps, finish_steps, dump_going, dump_steps, create_steps, check_ending, check_steps}
 use Rattle.core_world.specs.Trees.Plans.{Purpose, purpose, load, done_with, free_place}
 use Rattle.core_world.specs.Trees.RevocationSteps.{RevocationOutcome, revoke_at_safepoint_steps}
 use Rattle.core_world.specs.Trees.SafepointSteps.{stop_steps, resume_steps, poll_steps, safepoint_steps, release_to, release_safepoint, halt_steps}
@@ -398,6 +399,13 @@ module _ (k : Start) (low : k.local.thread < 32) where
 
     pub finish_stands : (ending : Ending) → StandsSo k.local.thread (begun k) (finish_steps k ending) (λ b _. IsGoing b)
     finish_stands ending = record { by = λ n w _. going_first none tt }
+
+    pub create_stands : (s : Shape) (c : ℕ) → StandsSo k.local.thread (begun k) (create_steps s k c) RunsBehind
+    create_stands s c =
+        record {
+          by = either_way (So k.local.thread low (begun k) RunsBehind) [] (nat_lt (count_made k.local) most_made) _ _
+              (λ _ prototype word mark _. going_first none tt) (λ _ _. tt);
+        }
 
   pub resume_call_stands : StandsSo k.local.thread stopped (resume_steps (side_purpose task.Resume k) k.local) (ResumeStands k.local.thread)
   resume_call_stands = record { by = resume_stands (side_purpose task.Resume k) k.local low stopped [] (λ _. record { runs = refl; asks = refl }) }

@@ -2,7 +2,7 @@
 use Rattle.std.specs.Prelude.{ℕ, zero, suc, ◌+◌, ◌*◌, length, nat_lt, if◌then◌else◌}
 use Rattle.plain_monitor.specs.Limits.{most_holds}
 use Rattle.core_world.specs.declared.task.Task.{Task}
-use Rattle.core_world.specs.declared.task.Task.TheVariants.{Enter, Exit, Wait, Notify, NotifyAll, Hash, Get, Put, Print, Dump, Finish, Poll, Stop, Resume, Check, StackEnter, StackExit, Request, Reached, Release}
+use Rattle.core_world.specs.declared.task.Task.TheVariants.{Enter, Exit, Wait, Notify, NotifyAll, Hash, Get, Put, Print, Dump, Create, Finish, Poll, Stop, Resume, Check, StackEnter, StackExit, Request, Reached, Release}
 use Rattle.core_world.specs.Words.Shape.{Shape, monitor_count}
 use Rattle.core_world.specs.Trees.Todo.{Todo, done, never, step, after_answer}
 
@@ -40,6 +40,7 @@ most_steps s (Get o slot) = 1
 most_steps s (Put o slot value) = 1
 most_steps s (Print value) = 1
 most_steps s Dump = (most_holds + 3) * length s.objects + s.threads + 6 + a_deflation s
+most_steps s (Create c) = 3
 most_steps s (Finish ending) = 2
 most_steps s Poll = 1
 most_steps s Stop = 2

@@ -1,6 +1,6 @@
 -- What each call logs and leaves, by its answer, and why it is pending.
-use Rattle.std.specs.Prelude.{◌≡◌, ◌≢◌, ◌⊎◌, ℕ, ◌+◌, ◌==◌, ◌&&◌, ◌||◌, not, cond, Bool, true, false, List, [], ◌∷◌, length, Option, Some, None, Result, Ok, Err}
-use Rattle.plain_monitor.specs.Limits.{most_holds}
+use Rattle.std.specs.Prelude.{◌≡◌, ◌≢◌, ◌⊎◌, ℕ, ◌+◌, ◌==◌, ◌&&◌, ◌||◌, nat_lt, not, cond, Bool, true, false, List, [], ◌∷◌, length, Option, Some, None, Result, Ok, Err}
+use Rattle.plain_monitor.specs.Limits.{most_holds, most_made}
 use Rattle.plain_monitor.specs.declared.entry.Entry.{Entry}
 use Rattle.plain_monitor.specs.declared.entry.Entry.TheVariants as entry
 use Rattle.plain_monitor.specs.declared.entry.Ending.{Ending}
@@ -12,7 +12,7 @@ use Rattle.mark_word.specs.Mark.{mark_of, read_mark}
 use Rattle.mark_word.specs.Safe.{read_safe}
 use Rattle.core_world.specs.declared.act.Act.TheVariants.{Load, Store, Swap, Mask}
 use Rattle.core_world.specs.declared.name.Name.{Name}
-use Rattle.core_world.specs.declared.name.Name.TheVariants.{Safepoint, Mark, Slot, Displaced, Header, Length}
+use Rattle.core_world.specs.declared.name.Name.TheVariants.{Safepoint, Prototype, Mark, Class, Slot, Displaced, Header, Length}
 use Rattle.core_world.specs.declared.task.Op.{Op}
 use Rattle.core_world.specs.declared.task.Op.TheVariants as op
 use Rattle.core_world.specs.declared.task.Unfinished.{Unfinished}
@@ -25,10 +25,13 @@ use Rattle.core_world.specs.declared.answer.Why.TheVariants.{Requested}
 use Rattle.core_world.specs.declared.answer.TooDeep.{TooDeep}
 use Rattle.core_world.specs.declared.answer.IllegalMonitorState.{IllegalMonitorState}
 use Rattle.core_world.specs.declared.answer.Unguarded.{Unguarded}
+use Rattle.core_world.specs.declared.answer.TooMany.{TooMany}
 use Rattle.core_world.specs.declared.answer.TooManyDumps.{TooManyDumps}
 use Rattle.core_world.specs.Words.Forms.{hash_in, waits_on, is_halted, is_still}
 use Rattle.core_world.specs.Threads.Known.{StepMade, Start}
 use Rattle.core_world.specs.Locks.{hold_count}
+use Rattle.core_world.specs.Words.Shape.{Shape}
+use Rattle.core_world.specs.Trees.CreateSteps.{count_made, next_made}
 use Rattle.core_world.specs.Trees.Plans.{free_place}
 use Rattle.core_world.specs.Trees.SafepointSteps.{has_requester, running_too, all_but, released_word, halted_word}
 use Rattle.plain_monitor.specs.Endings.{ending_entry}
@@ -176,6 +179,28 @@ DumpTurnSays k ms (Pending why) =
 
 abbrev pub DumpSays : Start → List StepMade → Result (Turn ℕ) TooManyDumps → Type 0
 DumpSays k = ResultSays (k.shots == 4) (DumpTurnSays k)
+
+-- CREATE is never pending. The thread has made as many objects as a thread may.
+abbrev pub has_made_all : Start → Bool
+has_made_all k = not (nat_lt (count_made k.local) most_made)
+
+-- These are all the steps, the newest first, and they make o of class c: the class's prototype was loaded, o's class word was stored, and then the
+-- prototype that was found as o's first mark. Between the two stores the making of o is unfinished.
+pub record MakesObject (o c : ℕ) (ms : List StepMade) : Type 0 where
+  pub load : StepMade
+  pub class_store : StepMade
+  pub mark_store : StepMade
+  pub all : ms ≡ mark_store ∷ class_store ∷ load ∷ []
+  pub loads : (load.plan.at ≡ Prototype c) × (load.plan.act ≡ Load)
+  pub stores_class : (class_store.plan.at ≡ Class o) × (class_store.plan.act ≡ Store (c + 1))
+  pub unfinished : class_store.plan.after ≡ unfinished_on op.Create o
+  pub stores_mark : (mark_store.plan.at ≡ Mark o) × (mark_store.plan.act ≡ Store load.found)
+
+-- It answers the thread's next object.
+abbrev pub CreateSays : Shape → Start → ℕ → List StepMade → Result ℕ TooMany → Type 0
+CreateSays s k c =
+    ResultSays (has_made_all k)
+    (λ ms o. (o ≡ next_made s k.local) × Leaves (entry.New o c ∷ []) None false ms × MakesObject o c ms)
 
 -- POLL, STOP, RESUME and CHECK log nothing, and leave the unfinished operation. So they leave the check, but for the check itself: that is
 -- unfinished where its request stands and isn't reached, and over after every other answer.

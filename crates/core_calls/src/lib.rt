@@ -8,6 +8,7 @@
 
 mod bounding;
 mod locking;
+mod making;
 mod moments;
 mod running;
 mod standing;
@@ -20,6 +21,7 @@ pub use locking::{
     enter_logs_its_answer, exit_logs_its_answer, stack_enter_logs_its_answer,
     stack_exit_logs_its_answer,
 };
+pub use making::create_logs_its_object;
 pub use moments::{a_run_counts_by_the_moment_of_its_call, each_step_names_its_call};
 pub use running::{a_run_follows_a_path_of_its_tree, steps_make_of_knowledge_what_they_leave};
 pub use standing::{

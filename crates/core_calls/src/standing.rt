@@ -11,7 +11,7 @@ ghost use Rattle.core_world.specs.Words.Forms.{waits_on};
 ghost use Rattle.core_world.specs.Words.Shape.{Shape};
 ghost use Rattle.core_world.specs.Trees.Calls.{side_purpose};
 ghost use Rattle.core_world.specs.Trees.Operations.{enter_steps, exit_steps, wait_steps, notify_steps, notify_all_steps, hash_steps};
-ghost use Rattle.core_world.specs.Trees.Operations.{get_steps, put_steps, print_steps, finish_steps, dump_steps, check_steps};
+ghost use Rattle.core_world.specs.Trees.Operations.{get_steps, put_steps, print_steps, finish_steps, dump_steps, create_steps, check_steps};
 ghost use Rattle.core_world.specs.Trees.SafepointSteps.{poll_steps, stop_steps, resume_steps};
 ghost use Rattle.core_calls.specs.Stands.{IsGoing, IsOff, StandsSo, stand_of, stand_behind, begun, stopped};
 ghost use Rattle.core_calls.specs.Stands.{TurnStands, ResultStands, RunsBehind, PollStands, ResumeStands, CheckStands};
@@ -47,6 +47,8 @@ pub fn short_operations_leave_their_thread_running()
         → StandsSo k.local.thread (begun k) (print_steps k value) (λ b _. IsGoing b) }
     ensures finish { (k : Start) (ending : Ending) → k.local.thread < 32 → k.requesting ≡ false
         → StandsSo k.local.thread (begun k) (finish_steps k ending) (λ b _. IsGoing b) }
+    ensures create { (s : Shape) (k : Start) (c : ℕ) → k.local.thread < 32 → k.requesting ≡ false
+        → StandsSo k.local.thread (begun k) (create_steps s k c) RunsBehind }
 {}
 
 /// A poll leaves its thread running, a stop leaves it stopped, and a resume sets it running or leaves it stopped. A check that finds the run

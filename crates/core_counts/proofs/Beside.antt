@@ -7,7 +7,7 @@ use Rattle.plain_monitor.specs.declared.entry.Path.TheVariants.{BiasTaken}
 use Rattle.plain_monitor.specs.Order.{order}
 use Rattle.core_world.specs.declared.name.Name.{Name}
 use Rattle.core_world.specs.declared.name.Name.TheVariants.{Revocations, Class}
-use Rattle.core_world.specs.Words.Names.{class_by, has_class}
+use Rattle.core_world.specs.Words.Names.{class_by}
 use Rattle.core_world.specs.Threads.Counts.{ClassCounts, counts_of}
 use Rattle.core_world.specs.Words.Forms.{is_biased}
 use Rattle.core_world.specs.Threads.Known.{Known}
@@ -21,7 +21,7 @@ use Rattle.core_world.specs.Steps.{world_after, known_hit, known_miss}
 use Rattle.core_counts.specs.Steps.{IsBeside}
 use Rattle.core_counts.proofs.Leaning.{left_biases, left_counts, left_classes, by_class_words}
 use Rattle.core_world.specs.World.{World, with_word_and_known, logs}
-use Rattle.core_law.specs.BiasLaw.{BiasLaw, BiasLawHolds}
+use Rattle.core_law.specs.BiasLaw.{BiasLaw, BiasLawHolds, is_logged}
 use Rattle.plain_history.specs.EnterPaths.{PathFits, entries_on, is_by_bias}
 use Rattle.plain_history.specs.HeldByLog.{held_by, nothing_held}
 use Rattle.core_law.specs.CountsAndVerdicts.{sum_below}
@@ -31,8 +31,7 @@ use Rattle.core_world.proofs.KnowledgeParts.{with_known_here, with_known_else, p
 use Rattle.core_counts.proofs.Whole.{quiet_law}
 
 module _ (w : World) (at : Name) (v t : ℕ) (l : Known) (law : BiasLawHolds w) (same_log : l.log ≡ (w.known t).log) (same_counts : l.counts ≡ (w.known t).counts)
-    (goes : (l.unfinished ≡ (w.known t).unfinished) ⊎ ((w.known t).unfinished ≡ None)) (same_count : (c : ℕ) → (with_word_and_known at v t l w).words (Revocations c) ≡ w.words (Revocations c))
-    (same_class : (i : ℕ) → (with_word_and_known at v t l w).words (Class i) ≡ w.words (Class i)) where
+    (goes : (l.unfinished ≡ (w.known t).unfinished) ⊎ ((w.known t).unfinished ≡ None)) (same_count : (c : ℕ) → (with_word_and_known at v t l w).words (Revocations c) ≡ w.words (Revocations c)) where
   abbrev x : World
   x = with_word_and_known at v t l w
 
@@ -55,34 +54,65 @@ module _ (w : World) (at : Name) (v t : ℕ) (l : Known) (law : BiasLawHolds w) 
   mine_goes : ((x.known t).unfinished ≡ (w.known t).unfinished) ⊎ ((w.known t).unfinished ≡ None)
   mine_goes = elim goes [ inl g ↦ inl (ap (λ (k : Known). k.unfinished) (with_known_here t l w.known) ∙ g) | inr g ↦ inr g ]
 
-  -- any step that logs nothing
-  pub quiet_world : LogsNothing w.biasing t (class_by w.shape w.words) (marks w) (lock w) (λ i. entries_on i (order (logs w))) (λ u. (w.known u).stage) (λ u. (w.known u).unfinished) revoked
-      (marks x) (lock x) (λ u. (x.known u).stage) (λ u. (x.known u).unfinished) revoked
-      → TakesFreeBiases t (class_by w.shape w.words) (marks w) (lock w) (λ u. (w.known u).stage) rebiased revoked (marks x) (lock x) (λ u. (x.known u).stage) rebiased revoked
-      → ((i : ℕ) (path : Path) → path_into l.stage i ≡ Some path → PathFits (held_by nothing_held (w.known t).log) (entry.Enter i path)) → BiasLawHolds x
-  quiet_world a free fits =
-      by_class_words (λ there class. BiasLaw w.biasing w.shape.threads w.shape.classes there class (marks x) (lock x)
+  -- the law of the world afterwards, but with the classes as they were
+  abbrev pub Unclassed : Type 0
+  Unclassed =
+      BiasLaw w.biasing w.shape.threads w.shape.classes (is_logged w.shape (logs x)) (class_by w.shape w.words) (marks x) (lock x)
+      (λ i. entries_on i (order (logs x))) (λ u. (x.known u).log) (λ u. (x.known u).stage) (λ u. (x.known u).unfinished)
+      (λ c. x.words (Revocations c)) (λ u. counts_of (x.known u).counts)
+
+  -- the class words stay
+  abbrev ClassesStay : Type 0
+  ClassesStay = (i : ℕ) → x.words (Class i) ≡ w.words (Class i)
+
+  classed : ClassesStay → Unclassed → BiasLawHolds x
+  classed same_class =
+      by_class_words (λ class. BiasLaw w.biasing w.shape.threads w.shape.classes (is_logged w.shape (logs x)) class (marks x) (lock x)
       (λ i. entries_on i (order (logs x))) (λ u. (x.known u).log) (λ u. (x.known u).stage) (λ u. (x.known u).unfinished)
       (λ c. x.words (Revocations c)) (λ u. counts_of (x.known u).counts)) w.shape w.words x.words (λ i. sym (same_class i))
-      (subst (λ (f : ℕ → ℕ). BiasLaw w.biasing w.shape.threads w.shape.classes (has_class w.shape w.words) (class_by w.shape w.words) (marks x) (lock x) (λ i. entries_on i (order (logs x)))
-      (λ u. (x.known u).log) (λ u. (x.known u).stage) (λ u. (x.known u).unfinished) f (λ u. counts_of (x.known u).counts))
+
+  -- what the law of a quiet step asks for
+  abbrev IsQuiet : Type 0
+  IsQuiet =
+      LogsNothing w.biasing t (class_by w.shape w.words) (marks w) (lock w) (λ i. entries_on i (order (logs w))) (λ u. (w.known u).stage)
+      (λ u. (w.known u).unfinished) revoked (marks x) (lock x) (λ u. (x.known u).stage) (λ u. (x.known u).unfinished) revoked
+
+  abbrev TakesFree : Type 0
+  TakesFree =
+      TakesFreeBiases t (class_by w.shape w.words) (marks w) (lock w) (λ u. (w.known u).stage) rebiased revoked
+      (marks x) (lock x) (λ u. (x.known u).stage) rebiased revoked
+
+  abbrev PathsFit : Type 0
+  PathsFit = (i : ℕ) (path : Path) → path_into l.stage i ≡ Some path → PathFits (held_by nothing_held (w.known t).log) (entry.Enter i path)
+
+  -- any step that logs nothing
+  quiet_unclassed : IsQuiet → TakesFree → PathsFit → Unclassed
+  quiet_unclassed a free fits =
+      subst (λ (f : ℕ → ℕ). BiasLaw w.biasing w.shape.threads w.shape.classes (is_logged w.shape (logs x)) (class_by w.shape w.words)
+      (marks x) (lock x) (λ i. entries_on i (order (logs x))) (λ u. (x.known u).log) (λ u. (x.known u).stage) (λ u. (x.known u).unfinished) f (λ u. counts_of (x.known u).counts))
       (λ i. λ c. sym (same_count c) i)
-      (subst (λ (f : ℕ → ℕ → ClassCounts). BiasLaw w.biasing w.shape.threads w.shape.classes (has_class w.shape w.words) (class_by w.shape w.words) (marks x) (lock x) (λ i. entries_on i (order (logs x)))
-      (λ u. (x.known u).log) (λ u. (x.known u).stage) (λ u. (x.known u).unfinished) (λ c. w.words (Revocations c)) f)
+      (subst (λ (f : ℕ → ℕ → ClassCounts). BiasLaw w.biasing w.shape.threads w.shape.classes (is_logged w.shape (logs x)) (class_by w.shape w.words)
+      (marks x) (lock x) (λ i. entries_on i (order (logs x))) (λ u. (x.known u).log) (λ u. (x.known u).stage) (λ u. (x.known u).unfinished)
+      (λ c. w.words (Revocations c)) f)
       (part_moves (λ k. counts_of k.counts) t l w.known (ap counts_of (sym same_counts)))
-      (subst (λ (f : ℕ → List Logged). BiasLaw w.biasing w.shape.threads w.shape.classes (has_class w.shape w.words) (class_by w.shape w.words) (marks x) (lock x) (λ i. entries_on i (order (logs x)))
-      f (λ u. (x.known u).stage) (λ u. (x.known u).unfinished) (λ c. w.words (Revocations c)) (λ u. counts_of (w.known u).counts))
+      (subst (λ (f : ℕ → List Logged). BiasLaw w.biasing w.shape.threads w.shape.classes (is_logged w.shape (logs x)) (class_by w.shape w.words)
+      (marks x) (lock x) (λ i. entries_on i (order (logs x))) f (λ u. (x.known u).stage) (λ u. (x.known u).unfinished) (λ c. w.words (Revocations c)) (λ u. counts_of (w.known u).counts))
       (part_moves (λ k. k.log) t l w.known (sym same_log))
-      (subst (λ (ls : List (List Logged)). BiasLaw w.biasing w.shape.threads w.shape.classes (has_class w.shape w.words) (class_by w.shape w.words) (marks x) (lock x) (λ i. entries_on i (order ls))
-      (λ u. (w.known u).log) (λ u. (x.known u).stage) (λ u. (x.known u).unfinished) (λ c. w.words (Revocations c)) (λ u. counts_of (w.known u).counts))
+      (subst (λ (ls : List (List Logged)). BiasLaw w.biasing w.shape.threads w.shape.classes (is_logged w.shape ls) (class_by w.shape w.words)
+      (marks x) (lock x) (λ i. entries_on i (order ls)) (λ u. (w.known u).log) (λ u. (x.known u).stage) (λ u. (x.known u).unfinished)
+      (λ c. w.words (Revocations c)) (λ u. counts_of (w.known u).counts))
       (sym (logs_stay 0 w.shape.threads t l w.known same_log))
-      (quiet_law w.biasing w.shape.threads w.shape.classes (has_class w.shape w.words) (class_by w.shape w.words) (marks w) (lock w) (λ i. entries_on i (order (logs w))) (λ u. (w.known u).log) (λ u. (w.known u).stage)
-      (λ u. (w.known u).unfinished) (λ c. w.words (Revocations c)) (λ u. counts_of (w.known u).counts) (marks x) (lock x) (λ u. (x.known u).stage) (λ u. (x.known u).unfinished) t law
-      rest_stays a free (λ i path h. fits i path (ap (λ s. path_into s i) (sym stage_is) ∙ h)) mine_goes)))))
+      (quiet_law w.biasing w.shape.threads w.shape.classes (is_logged w.shape (logs w)) (class_by w.shape w.words) (marks w) (lock w)
+      (λ i. entries_on i (order (logs w))) (λ u. (w.known u).log) (λ u. (w.known u).stage) (λ u. (w.known u).unfinished)
+      (λ c. w.words (Revocations c)) (λ u. counts_of (w.known u).counts) (marks x) (lock x) (λ u. (x.known u).stage) (λ u. (x.known u).unfinished) t law
+      rest_stays a free (λ i path h. fits i path (ap (λ s. path_into s i) (sym stage_is) ∙ h)) mine_goes))))
+
+  pub quiet_world : ClassesStay → IsQuiet → TakesFree → PathsFit → BiasLawHolds x
+  quiet_world same_class a free fits = classed same_class (quiet_unclassed a free fits)
 
   -- a step that leaves the biases frees none
-  takes_none : BiasesKept (marks w) (lock w) (marks x) (lock x) → ((i : ℕ) → path_into (x.known t).stage i ≡ Some BiasTaken → path_into (w.known t).stage i ≡ Some BiasTaken)
-      → TakesFreeBiases t (class_by w.shape w.words) (marks w) (lock w) (λ u. (w.known u).stage) rebiased revoked (marks x) (lock x) (λ u. (x.known u).stage) rebiased revoked
+  takes_none : BiasesKept (marks w) (lock w) (marks x) (lock x)
+      → ((i : ℕ) → path_into (x.known t).stage i ≡ Some BiasTaken → path_into (w.known t).stage i ≡ Some BiasTaken) → TakesFree
   takes_none kept back = record {
     more = λ c. omega arith;
     comes = λ i h. inl (back i h);
@@ -90,11 +120,11 @@ module _ (w : World) (at : Name) (v t : ℕ) (l : Known) (law : BiasLawHolds w) 
   }
 
   -- one that leaves the biases, and is about to log the enter that it was about to log
-  pub same_world : BiasesKept (marks w) (lock w) (marks x) (lock x) → ((i : ℕ) → path_into l.stage i ≡ path_into (w.known t).stage i) → BiasLawHolds x
-  same_world kept into =
+  pub same_unclassed : BiasesKept (marks w) (lock w) (marks x) (lock x) → ((i : ℕ) → path_into l.stage i ≡ path_into (w.known t).stage i) → Unclassed
+  same_unclassed kept into =
       let back : (i : ℕ) (path : Path) → path_into (x.known t).stage i ≡ Some path → path_into (w.known t).stage i ≡ Some path =
       λ i path h. sym (into i) ∙ ap (λ s. path_into s i) (sym stage_is) ∙ h in
-      quiet_world
+      quiet_unclassed
       (record {
         pattern = λ i h. sym (kept.pattern i) ∙ h;
         owners = λ i u h. inl (sym (kept.owners i) ∙ h);
@@ -109,13 +139,19 @@ module _ (w : World) (at : Name) (v t : ℕ) (l : Known) (law : BiasLawHolds w) 
       (takes_none kept (λ i h. back i BiasTaken h))
       (λ i path h. law.paths.coming t i path (sym (into i) ∙ h))
 
+  pub same_world : ClassesStay → BiasesKept (marks w) (lock w) (marks x) (lock x) → ((i : ℕ) → path_into l.stage i ≡ path_into (w.known t).stage i)
+      → BiasLawHolds x
+  same_world same_class kept into = classed same_class (same_unclassed kept into)
+
   -- one that leaves the biases, and by which the thread is about to log this enter
-  pub coming_world : (o : ℕ) (path : Path) → BiasesKept (marks w) (lock w) (marks x) (lock x) → ((i : ℕ) (other : Path) → path_into l.stage i ≡ Some other → (o ≡ i) × (path ≡ other)) → path_into l.stage o ≡ Some path
-      → ((i : ℕ) → path_into (w.known t).stage i ≡ Some BiasTaken → (o ≡ i) × (path ≡ BiasTaken)) → (is_by_bias path ≡ true → lock w o ≡ BiasedTo t) → (is_by_bias path ≡ false → is_biased (marks w o) ≡ false)
+  pub coming_world : ClassesStay → (o : ℕ) (path : Path) → BiasesKept (marks w) (lock w) (marks x) (lock x)
+      → ((i : ℕ) (other : Path) → path_into l.stage i ≡ Some other → (o ≡ i) × (path ≡ other)) → path_into l.stage o ≡ Some path
+      → ((i : ℕ) → path_into (w.known t).stage i ≡ Some BiasTaken → (o ≡ i) × (path ≡ BiasTaken))
+      → (is_by_bias path ≡ true → lock w o ≡ BiasedTo t) → (is_by_bias path ≡ false → is_biased (marks w o) ≡ false)
       → (path ≡ BiasTaken → ⊥) → PathFits (held_by nothing_held (w.known t).log) (entry.Enter o path) → BiasLawHolds x
-  coming_world o path kept only into taken by_bias not_by not_taken fits =
+  coming_world same_class o path kept only into taken by_bias not_by not_taken fits =
       let mine : (i : ℕ) (other : Path) → path_into (x.known t).stage i ≡ Some other → (o ≡ i) × (path ≡ other) = λ i other h. only i other (ap (λ s. path_into s i) (sym stage_is) ∙ h) in
-      quiet_world
+      quiet_world same_class
       (record {
         pattern = λ i h. sym (kept.pattern i) ∙ h;
         owners = λ i u h. inl (sym (kept.owners i) ∙ h);

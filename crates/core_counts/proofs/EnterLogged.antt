@@ -63,6 +63,7 @@ module _ (w : World) (P : List PlainObject) (t o p : ℕ) (path : Path) (r : Pur
     appends = may_log w P Q t y l v logs_it;
     grows = refl;
     counts = refl;
+    makes_none = refl;
     operation = may.own_entry.operation;
     came = λ i other e. into_other i other (o == i) refl (sym (into i) ∙ e);
     enters = λ i other e. into i ∙ enters_it i other e;

@@ -1,5 +1,5 @@
 -- Whether a lock is under a bias follows from the mark and the prototype alone.
-use Rattle.std.proofs.Common.{◌≡◌, ◌≢◌, ℕ, ◌==◌, eq-eqb, eqb-true, ne_eqb, cond, Bool, true, false, Option, Some, None, refl, sym, ap, ◌∙◌, inl, inr, ◌-◌, ◌||◌, not, nat_lt, subst}
+use Rattle.std.proofs.Common.{◌≡◌, ◌≢◌, ℕ, ◌==◌, eq-eqb, eqb-true, ne_eqb, cond, Bool, true, false, Option, Some, None, refl, sym, ap, ◌∙◌, inl, inr, ◌-◌, nat_lt, subst}
 use Rattle.mark_word.specs.declared.mark.MarkForm.{MarkForm}
 use Rattle.mark_word.specs.declared.mark.MarkForm.TheVariants.{Inflating, Neutral, Anonymous, Biased, Locked, Inflated, Marked}
 use Rattle.mark_word.specs.declared.owner.OwnerForm.{OwnerForm}
@@ -14,7 +14,7 @@ use Rattle.core_world.specs.Words.Forms.{is_biased, is_biased_form, epoch_in, mo
 use Rattle.core_world.specs.Threads.Known.{Known}
 use Rattle.core_world.specs.Locks.{Open, BiasedTo, OnRecord, OwnedBy, lock, lock_form, owner_lock, has_epoch, inflations, is_valid_bias, marks, prototype_of}
 use Rattle.core_world.specs.Words.Names.{same_name, with_word}
-use Rattle.core_world.specs.Words.Names.{class_by, has_class}
+use Rattle.core_world.specs.Words.Names.{class_by}
 use Rattle.core_world.specs.Words.Shape.{Shape, class_of}
 use Rattle.core_world.proofs.Naming.{same_named, with_word_same}
 use Rattle.core_world.specs.Threads.Stages.{Inflation}
@@ -124,11 +124,9 @@ inflated_unbiased n m h = by_form (read_mark n) h
 pub same_classes : (s : Shape) (f g : Name → ℕ) → ((i : ℕ) → f (Class i) ≡ g (Class i)) → class_by s f ≡ class_by s g
 same_classes s f g h = λ j. λ i. cond (nat_lt i s.declared) (class_of s i) (h i j - 1)
 
-pub by_class_words : (Law : (ℕ → Bool) → (ℕ → ℕ) → Type 0) (s : Shape) (f g : Name → ℕ) → ((i : ℕ) → f (Class i) ≡ g (Class i))
-    → Law (has_class s f) (class_by s f) → Law (has_class s g) (class_by s g)
-by_class_words Law s f g h =
-    let there : has_class s f ≡ has_class s g = λ j. λ i. nat_lt i s.declared || not (h i j == 0) in
-    subst (λ (z : (ℕ → Bool) × (ℕ → ℕ)). Law z.0 z.1) (λ j. (there j, same_classes s f g h j))
+pub by_class_words : (Law : (ℕ → ℕ) → Type 0) (s : Shape) (f g : Name → ℕ) → ((i : ℕ) → f (Class i) ≡ g (Class i))
+    → Law (class_by s f) → Law (class_by s g)
+by_class_words Law s f g h = subst Law (same_classes s f g h)
 
 -- A STEP THAT LEAVES THE BIASES, by its word: the words that the law reads stay.
 others_stay : (at : Name) (v : ℕ) (f : Name → ℕ) → is_bias_word at ≡ false → (n : Name) → is_bias_word n ≡ true → with_word at v f n ≡ f n

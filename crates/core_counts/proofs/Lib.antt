@@ -9,6 +9,11 @@ pub mod Quiets
 pub mod Paths
 pub mod Whole
 pub mod Walks
+pub mod News
+pub mod NewObjects
+pub mod Untouched
+pub mod ClassStored
+pub mod MarkStored
 pub mod Leaning
 pub mod Beside
 pub mod Logged

@@ -20,17 +20,18 @@ use Rattle.core_world.specs.Words.Forms.{is_biased}
 use Rattle.core_world.specs.Threads.Known.{Known}
 use Rattle.core_world.specs.Locks.{lock, marks}
 use Rattle.core_world.specs.Clauses.Safepoints.{IsUnfinished}
-use Rattle.core_world.specs.Words.Names.{class_by, has_class}
+use Rattle.core_world.specs.Words.Names.{class_by}
 use Rattle.core_world.specs.Threads.Stages.{path_into}
 use Rattle.core_world.specs.Valid.{Fits}
 use Rattle.core_world.specs.World.{World, with_word_and_known, logs}
 use Rattle.core_world.proofs.Frames.{same}
 use Rattle.core_world.proofs.KnowledgeParts.{with_known_here, with_known_else, part_moves, logs_grow, logs_length}
 use Rattle.core_locks.specs.Knowing.{operation_of}
-use Rattle.core_law.specs.BiasLaw.{BiasLaw, BiasLawHolds}
+use Rattle.core_law.specs.BiasLaw.{BiasLaw, BiasLawHolds, is_logged}
 use Rattle.core_counts.specs.Moves.{OthersStay, LogsEntry}
 use Rattle.core_counts.specs.Steps.{HasNone, LogsBeside, SawNone, SawUnbiased}
 use Rattle.core_counts.proofs.Leaning.{leans_by_mark, left_biases, left_counts, left_classes, by_class_words}
+use Rattle.core_counts.proofs.News.{no_news}
 use Rattle.core_counts.proofs.Whole.{entry_law}
 
 -- where two are one object, the first is it
@@ -39,7 +40,7 @@ same_is None i e = absurd (cc e)
 same_is (Some o) i e = ap Some (eqb-true o i e)
 
 -- the operation of an entry is a hash of i only if the entry is
-abbrev op_of : Option Unfinished → Option Op
+abbrev pub op_of : Option Unfinished → Option Op
 op_of None = None
 op_of (Some u) = Some u.op
 
@@ -57,7 +58,7 @@ is_its_hash (entry.Resume o) i h = absurd (cc (ap op_of h))
 is_its_hash (entry.Notify o u) i h = absurd (cc (ap op_of h))
 is_its_hash (entry.NotifyAll o u) i h = absurd (cc (ap op_of h))
 is_its_hash (entry.Hash o u d) i h = let same = ap hash_of h in eq-eqb o i same
-is_its_hash (entry.New o c) i h = absurd (cc h)
+is_its_hash (entry.New o c) i h = absurd (cc (ap op_of h))
 is_its_hash (entry.Print u) i h = absurd (cc h)
 is_its_hash (entry.Dump u) i h = absurd (cc (ap op_of h))
 is_its_hash (entry.Trap f j) i h = absurd (cc h)
@@ -146,16 +147,19 @@ module _ (w : World) (P : List PlainObject) (at : Name) (n t : ℕ) (y : Logged)
   pub entry_logged : BiasLawHolds x
   entry_logged =
       let none : w.biasing ≡ false → (i : ℕ) → is_biased (marks w i) ≡ false = v.classes.unbiased in
-      by_class_words (λ there class. BiasLaw w.biasing w.shape.threads w.shape.classes there class (marks x) (lock x)
+      by_class_words (λ class. BiasLaw w.biasing w.shape.threads w.shape.classes (is_logged w.shape (logs x)) class (marks x) (lock x)
       (λ i. entries_on i (order (logs x))) (λ u. (x.known u).log) (λ u. (x.known u).stage) (λ u. (x.known u).unfinished)
       (λ c. x.words (Revocations c)) (λ u. counts_of (x.known u).counts)) w.shape w.words x.words
       (λ i. sym (left_classes w at n t l a.leaves i))
-      (subst (λ (f : ℕ → ℕ). BiasLaw w.biasing w.shape.threads w.shape.classes (has_class w.shape w.words) (class_by w.shape w.words) (marks x) (lock x) (λ i. entries_on i (order (logs x)))
+      (subst (λ (f : ℕ → ℕ). BiasLaw w.biasing w.shape.threads w.shape.classes (is_logged w.shape (logs x)) (class_by w.shape w.words) (marks x) (lock x) (λ i. entries_on i (order (logs x)))
       (λ u. (x.known u).log) (λ u. (x.known u).stage) (λ u. (x.known u).unfinished) f (λ u. counts_of (x.known u).counts))
       (same (λ c. sym (left_counts w at n t l a.leaves c)))
-      (subst (λ (f : ℕ → ℕ → ClassCounts). BiasLaw w.biasing w.shape.threads w.shape.classes (has_class w.shape w.words) (class_by w.shape w.words) (marks x) (lock x) (λ i. entries_on i (order (logs x)))
+      (subst (λ (f : ℕ → ℕ → ClassCounts). BiasLaw w.biasing w.shape.threads w.shape.classes (is_logged w.shape (logs x)) (class_by w.shape w.words) (marks x) (lock x) (λ i. entries_on i (order (logs x)))
       (λ u. (x.known u).log) (λ u. (x.known u).stage) (λ u. (x.known u).unfinished) (λ c. w.words (Revocations c)) f)
       (part_moves (λ k. counts_of k.counts) t l w.known (ap counts_of (sym a.counts)))
-      (entry_law w.biasing w.shape.threads w.shape.classes (has_class w.shape w.words) (class_by w.shape w.words) (marks w) (lock w) (λ i. entries_on i (order (logs w))) (λ u. (w.known u).log) (λ u. (w.known u).stage)
+      (subst (λ (f : ℕ → Bool). BiasLaw w.biasing w.shape.threads w.shape.classes f (class_by w.shape w.words) (marks x) (lock x) (λ i. entries_on i (order (logs x)))
+      (λ u. (x.known u).log) (λ u. (x.known u).stage) (λ u. (x.known u).unfinished) (λ c. w.words (Revocations c)) (λ u. counts_of (w.known u).counts))
+      (sym (ap (is_logged w.shape) logs_now ∙ same (λ i. no_news w.shape (logs w) t i y a.appends.thread a.makes_none)))
+      (entry_law w.biasing w.shape.threads w.shape.classes (is_logged w.shape (logs w)) (class_by w.shape w.words) (marks w) (lock w) (λ i. entries_on i (order (logs w))) (λ u. (w.known u).log) (λ u. (w.known u).stage)
       (λ u. (w.known u).unfinished) (λ c. w.words (Revocations c)) (λ u. counts_of (w.known u).counts) (marks x) (lock x) (λ u. (x.known u).stage) (λ u. (x.known u).unfinished) t law y
-      (λ i. entries_on i (order (logs x))) (λ u. (x.known u).log) none (leans_by_mark w) (left_biases w at n t l a.leaves) others entry_is)))
+      (λ i. entries_on i (order (logs x))) (λ u. (x.known u).log) none (leans_by_mark w) (left_biases w at n t l a.leaves) others entry_is))))

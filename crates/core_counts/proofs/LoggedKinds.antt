@@ -7,6 +7,7 @@ use Rattle.plain_monitor.specs.declared.entry.Entry.TheVariants as entry
 use Rattle.plain_monitor.specs.declared.entry.Logged.{Logged}
 use Rattle.plain_monitor.specs.declared.entry.Value.{Value}
 use Rattle.plain_monitor.specs.History.{last_stamp}
+use Rattle.plain_monitor.specs.Made.{creates}
 use Rattle.plain_monitor.specs.Objects.{PlainObject}
 use Rattle.plain_monitor.specs.ValueWords.{read_value}
 use Rattle.core_world.specs.declared.act.Act.TheVariants as act
@@ -69,6 +70,7 @@ gets e o slot w P t within may v law =
     (record {
       runs = may.touches.runs;
       other = refl;
+      makes_none = refl;
       log = refl;
       own = λ c. refl;
       operation = inl may.touches.nothing;
@@ -87,6 +89,7 @@ puts e o slot value w P t within may v law =
     (record {
       runs = may.touches.runs;
       other = refl;
+      makes_none = refl;
       log = refl;
       own = λ c. refl;
       operation = inl may.touches.nothing;
@@ -106,6 +109,7 @@ exits_by_hold e o d p w P t within may v law =
     (record {
       runs = may.runs;
       other = refl;
+      makes_none = refl;
       log = refl;
       own = λ c. refl;
       operation = may.own_entry.operation;
@@ -133,6 +137,7 @@ exits_by_mark e o header stamp p w P t within may v law = by_test (marks w o == 
         (record {
           runs = may.runs;
           other = refl;
+          makes_none = refl;
           log = refl;
           own = λ c. refl;
           operation = may.own_entry.operation;
@@ -151,6 +156,7 @@ exits_by_monitor e o m p stamp w P t within may v law =
     (record {
       runs = may.runs;
       other = refl;
+      makes_none = refl;
       log = refl;
       own = λ c. refl;
       operation = may.own_entry.operation;
@@ -171,6 +177,7 @@ waits e o m stamp w P t within may v law =
     (record {
       runs = may.runs;
       other = refl;
+      makes_none = refl;
       log = refl;
       own = λ c. refl;
       operation = inr (sym may.goes_on ∙ may.waits);
@@ -197,6 +204,7 @@ notifies e o u w P t within may v law =
     (record {
       runs = may.wakes.runs;
       other = refl;
+      makes_none = refl;
       log = refl;
       own = λ c. refl;
       operation = may.own_entry.operation;
@@ -215,6 +223,7 @@ notifies_all e o u n w P t within may v law =
     (record {
       runs = may.wakes.runs;
       other = refl;
+      makes_none = refl;
       log = refl;
       own = λ c. refl;
       operation = may.own_entry.operation;
@@ -245,6 +254,23 @@ told_other s k (entry.Trap f j) h = refl
 told_other s k entry.Spent h = refl
 told_other s k entry.Done h = refl
 
+told_makes_none : (s : Shape) (k : Known) (e : Entry) → MayTell s k e → creates e ≡ None
+told_makes_none s k (entry.New o c) h = absurd h
+told_makes_none s k (entry.Enter o p) h = refl
+told_makes_none s k (entry.Exit o) h = refl
+told_makes_none s k (entry.Get o i u) h = refl
+told_makes_none s k (entry.Put o i u) h = refl
+told_makes_none s k (entry.Wait o) h = refl
+told_makes_none s k (entry.Resume o) h = refl
+told_makes_none s k (entry.Notify o u) h = refl
+told_makes_none s k (entry.NotifyAll o u) h = refl
+told_makes_none s k (entry.Hash o u d) h = refl
+told_makes_none s k (entry.Print u) h = refl
+told_makes_none s k (entry.Dump u) h = refl
+told_makes_none s k (entry.Trap f j) h = refl
+told_makes_none s k entry.Spent h = refl
+told_makes_none s k entry.Done h = refl
+
 pub publishes : (e : Purpose) (entry : Entry) → KeepsBiases (λ w t. MayPublish w.shape (w.known t) entry × SawNone (w.known t) entry) (λ w t. publish_plan e t entry (length (w.known t).log + 1))
 publishes e entry w P t within may v law =
     let l = publish_law e entry w P t within may.0 (inl v) in
@@ -254,6 +280,7 @@ publishes e entry w P t within may v law =
     (record {
       runs = may.0.runs;
       other = other;
+      makes_none = told_makes_none w.shape (w.known t) entry may.0.tells;
       log = ap (λ (b : Bool). (w.known t).log ++ record { stamp = cond b (max n (last_stamp (w.known t).log) + 1) (last_stamp (w.known t).log + 1); entry = entry } ∷ []) other;
       own = λ c. refl;
       operation = may.0.own_entry.operation;
@@ -285,6 +312,7 @@ finds w P t e at o may goes_on it v law = by_test (hash_in (w.words at) == 0) re
         (record {
           runs = may.runs;
           other = refl;
+          makes_none = refl;
           log = ap (λ b. cond b (w.known t).log ((w.known t).log ++ record { stamp = last_stamp (w.known t).log + 1; entry = entry.Hash o (hash_in (w.words at)) None } ∷ [])) some;
           own = λ c. refl;
           operation = (may.own_entry (hash_in (w.words at)) None).operation;
@@ -318,6 +346,7 @@ draws w P t e draw at o header may it leaves v law = by_test (w.words at == head
         (record {
           runs = may.runs;
           other = refl;
+          makes_none = refl;
           log = refl;
           own = λ c. refl;
           operation = (may.own_entry draw.value (Some draw.number)).operation;
@@ -375,6 +404,7 @@ module _ (w : World) (P : List PlainObject) (t o m : ℕ) (r : Purpose) (within 
     appends = may_log w P Q t y l v logs_it;
     grows = refl;
     counts = refl;
+    makes_none = refl;
     operation = logs_it.own.operation;
     came = λ i path e. absurd (let a = none i in cc (a, e));
     enters = λ i path e. absurd (cc e);

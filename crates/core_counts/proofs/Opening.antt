@@ -1,15 +1,16 @@
 -- The bias law holds of the opening world.
-use Rattle.std.proofs.Common.{◌≡◌, ℕ, zero, suc, ◌+◌, Bool, true, false, Some, None, List, [], refl, sym, ap, arith, subst, inl, ◌&&◌, ◌||◌, nat_lt, ◌∙◌}
+use Rattle.std.proofs.Common.{◌≡◌, ℕ, zero, suc, ◌+◌, Bool, true, false, Some, None, List, [], refl, sym, ap, arith, subst, inl, ◌&&◌, nat_lt, ◌∙◌}
+use Rattle.std.proofs.Math.Bool.{or-false}
 use Rattle.plain_monitor.specs.declared.entry.Entry.{Entry}
 use Rattle.plain_monitor.specs.Order.{order, ordered, with_threads}
 use Rattle.core_world.specs.declared.stage.Stage.TheVariants.{Calm}
 use Rattle.core_world.specs.Threads.Counts.{no_counts}
 use Rattle.core_world.specs.Words.Shape.{Shape}
-use Rattle.core_world.specs.Words.Names.{class_by, has_class}
+use Rattle.core_world.specs.Words.Names.{class_by}
 use Rattle.core_world.specs.World.{logs_from}
 use Rattle.core_world.specs.Locks.{lock}
 use Rattle.core_world.specs.Opening.{opening, first_known, first_mark}
-use Rattle.core_law.specs.BiasLaw.{BiasLaw, BiasLawHolds}
+use Rattle.core_law.specs.BiasLaw.{BiasLaw, BiasLawHolds, is_logged}
 use Rattle.core_law.specs.CountsAndVerdicts.{CountFits, sum_below}
 use Rattle.core_law.specs.BiasOwners.{bias_owner, owner_form}
 use Rattle.core_law.specs.MarksAndLogs.{is_anonymous, is_anonymous_form}
@@ -32,8 +33,12 @@ first_anonymous : (biasing : Bool) → biasing ≡ true → is_anonymous (first_
 first_anonymous true e = ap is_anonymous_form mark_five
 first_anonymous false e = absurd (cc e)
 
--- an object that is there at the beginning is declared
-declared_anonymous : (biasing declared : Bool) → biasing ≡ true → (declared || false) ≡ true → is_anonymous (first_mark (biasing && declared)) ≡ true
+-- the logs are empty, so that the declared objects alone are there
+none_logged : (s : Shape) (u n o : ℕ) → is_logged s (logs_from u n first_known) o ≡ nat_lt o s.declared
+none_logged s u zero o = or-false (nat_lt o s.declared)
+none_logged s u (suc n) o = none_logged s (u + 1) n o
+
+declared_anonymous : (biasing declared : Bool) → biasing ≡ true → declared ≡ true → is_anonymous (first_mark (biasing && declared)) ≡ true
 declared_anonymous biasing true e there = ap (λ b. is_anonymous (first_mark (b && true))) e ∙ first_anonymous true refl
 declared_anonymous biasing false e there = absurd (cc there)
 
@@ -55,8 +60,8 @@ counts_none n e = subst (λ (m : ℕ). CountFits 0 m m m m) (sym e) (record {
 
 pub opening_meets : (s : Shape) (start : ℕ) (biasing : Bool) → BiasLawHolds (opening s start biasing)
 opening_meets s start biasing =
-    subst (λ (entries : ℕ → List Entry). BiasLaw biasing s.threads s.classes (has_class s (opening s start biasing).words) (class_by s (opening s start biasing).words)
-    (λ o. first_mark (biasing && nat_lt o s.declared)) (lock (opening s start biasing)) entries (λ t. []) (λ t. Calm) (λ t. None) (λ c. 0) (λ t c. no_counts))
+    subst (λ (entries : ℕ → List Entry). BiasLaw biasing s.threads s.classes (is_logged s (logs_from 0 s.threads first_known))
+    (class_by s (opening s start biasing).words) (λ o. first_mark (biasing && nat_lt o s.declared)) (lock (opening s start biasing)) entries (λ t. []) (λ t. Calm) (λ t. None) (λ c. 0) (λ t c. no_counts))
     (sym (none_on s.threads))
     (record {
       marks = record {
@@ -64,7 +69,7 @@ opening_meets s start biasing =
         stays = λ o. tt;
         biased = λ t o path e. absurd (cc e);
         unbiased = λ t o path e. absurd (cc e);
-        unentered = λ e o there f g. inl (declared_anonymous biasing (nat_lt o s.declared) e there);
+        unentered = λ e o there f g. inl (declared_anonymous biasing (nat_lt o s.declared) e (sym (none_logged s 0 s.threads o) ∙ there));
         entered = λ e o path there f g. absurd (cc g);
       };
       taken = record {

@@ -75,8 +75,9 @@ entry_keeps_verdicts mark n log s u mark2 log2 s2 u2 more (inr h) = inl (let a =
 pub decided_stays : (mark mark2 : ℕ → ℕ) (s s2 : Stage) (u : Option Unfinished) → ((i : ℕ) → is_biased (mark2 i) ≡ true → is_biased (mark i) ≡ true)
     → ((i : ℕ) → path_into s i ≡ Some BiasTaken → path_into s2 i ≡ Some BiasTaken) → IsDecided mark s u → IsDecided mark2 s2 u
 decided_stays mark mark2 s s2 None pattern taking h = h
-decided_stays mark mark2 s s2 (Some u) pattern taking (inl h) = inl (stays_unbiased (mark u.object) (mark2 u.object) (pattern u.object) h (is_biased (mark2 u.object)) refl)
-decided_stays mark mark2 s s2 (Some u) pattern taking (inr h) = inr (taking u.object h)
+decided_stays mark mark2 s s2 (Some u) pattern taking (no_dump, inl h) =
+    (no_dump, inl (stays_unbiased (mark u.object) (mark2 u.object) (pattern u.object) h (is_biased (mark2 u.object)) refl))
+decided_stays mark mark2 s s2 (Some u) pattern taking (no_dump, inr h) = (no_dump, inr (taking u.object h))
 
 pub quiet_keeps_verdicts : (mark mark2 : ℕ → ℕ) (n : ℕ) (log : List Logged) (s s2 : Stage) (u u2 : Option Unfinished) → ((i : ℕ) → is_biased (mark2 i) ≡ true → is_biased (mark i) ≡ true)
     → ((i : ℕ) → path_into s i ≡ Some BiasTaken → path_into s2 i ≡ Some BiasTaken) → (u2 ≡ u) ⊎ (u ≡ None) → VerdictsFit mark n log s u → VerdictsFit mark2 n log s2 u2
@@ -95,7 +96,7 @@ revocation_keeps_verdicts mark mark2 n log s s2 u biased none (inl h) was_decide
     by_less : (n + 1 ≤ length log) ⊎ (n ≡ length log) → VerdictsFit mark2 (n + 1) log s2 (Some u)
     by_less (inl e) = inl e
     by_less (inr e) = inr (omega (arith, e), was_decided)
-revocation_keeps_verdicts mark mark2 n log s s2 u biased none (inr h) was_decided = absurd (elim h.1 [ inl e ↦ cc (e, biased) | inr e ↦ cc (e, none) ])
+revocation_keeps_verdicts mark mark2 n log s s2 u biased none (inr h) was_decided = absurd (elim h.1.1 [ inl e ↦ cc (e, biased) | inr e ↦ cc (e, none) ])
 
 -- SUMS. One of the summands grows by d.
 pub sum_same : (n : ℕ) (f g : ℕ → ℕ) → ((i : ℕ) → i < n → g i ≡ f i) → sum_below n g ≡ sum_below n f

@@ -15,7 +15,7 @@ use Rattle.core_world.specs.declared.stage.Stage.{Stage}
 use Rattle.core_world.specs.declared.stage.Stage.TheVariants.{Calm}
 use Rattle.core_world.specs.declared.task.Unfinished.{Unfinished}
 use Rattle.core_world.specs.Words.Shape.{Shape}
-use Rattle.core_world.specs.Words.Names.{class_by, has_class}
+use Rattle.core_world.specs.Words.Names.{class_by}
 use Rattle.core_world.specs.Words.Names.{with_word}
 use Rattle.core_world.specs.Threads.Counts.{CountedVerdict, with_verdict_counted, counts_of}
 use Rattle.core_world.specs.Words.Forms.{is_biased}
@@ -24,9 +24,11 @@ use Rattle.core_world.specs.Locks.{BiasedTo, lock, marks, prototype_of}
 use Rattle.core_world.specs.Threads.Stages.{path_into}
 use Rattle.core_world.specs.Trees.BiasSteps.{stage_after}
 use Rattle.core_world.specs.RevocationRules.{Write, writes_in, words_after, revocation_writes}
-use Rattle.core_world.specs.Valid.{IsRevoking}
+use Rattle.core_world.specs.declared.task.Op.{Op}
+use Rattle.core_world.specs.declared.task.Op.TheVariants as op
+use Rattle.core_world.specs.Valid.{IsRevoking, RevokesWithin}
 use Rattle.core_world.specs.World.{World, with_word_and_known, logs}
-use Rattle.core_law.specs.BiasLaw.{BiasLaw, BiasLawHolds}
+use Rattle.core_law.specs.BiasLaw.{BiasLaw, BiasLawHolds, is_logged}
 use Rattle.core_law.specs.CountsAndVerdicts.{IsDecided, sum_below}
 use Rattle.plain_history.specs.EnterPaths.{PathFits, entries_on, is_by_bias}
 use Rattle.core_law.specs.BiasOwners.{IsFree, bias_owner}
@@ -43,6 +45,17 @@ use Rattle.core_counts.proofs.Owners.{unbiased_unowned}
 -- The world w is in the middle of a revocation, all of whose stores are made; its requester releases, and then knows l. What its object's mark
 -- was before the first store, the first premise says, and what it is now the last but one.
 use Rattle.core_world.proofs.NoWordChanges.{one_requester}
+
+-- no dump revokes a bias
+revokes_no_dump : (a : Op) (rebias : Bool) → RevokesWithin a rebias → a ≢ op.Dump
+revokes_no_dump op.Dump rebias allowed same = allowed
+revokes_no_dump op.Enter rebias allowed same = cc same
+revokes_no_dump op.Exit rebias allowed same = cc same
+revokes_no_dump op.Wait rebias allowed same = cc same
+revokes_no_dump op.Notify rebias allowed same = cc same
+revokes_no_dump op.NotifyAll rebias allowed same = cc same
+revokes_no_dump op.Hash rebias allowed same = cc same
+revokes_no_dump op.Create rebias allowed same = cc same
 
 module _ (w : World) (P : List PlainObject) (s : IsRevoking w P) (leaner : ℕ) (leant : lock s.before s.revocation.object ≡ BiasedTo leaner) (law : BiasLawHolds s.before) (over : s.rest ≡ [])
     (l : Known) (word : ℕ) (took : Bool) (same_log : l.log ≡ (s.before.known s.requester).log) (same_counts : l.counts ≡ (w.known s.requester).counts) (same_unfinished : l.unfinished ≡ (w.known s.requester).unfinished)
@@ -143,7 +156,7 @@ module _ (w : World) (P : List PlainObject) (s : IsRevoking w P) (leaner : ℕ) 
   own_owner u h false e i same = absurd (let none = unbiased_unowned (marks w o) (dropped e) in cc (none, h))
 
   was_decided : IsDecided (marks x) (x.known t).stage (Some (record { op = s.operation; object = o }))
-  was_decided = by_took took refl
+  was_decided = (revokes_no_dump s.operation s.revocation.rebias s.allowed, by_took took refl)
     where
       by_took : (q : Bool) → took ≡ q → (is_biased (marks x o) ≡ false) ⊎ (path_into (x.known t).stage o ≡ Some BiasTaken)
       by_took true e = inr (takes_it e)
@@ -151,17 +164,17 @@ module _ (w : World) (P : List PlainObject) (s : IsRevoking w P) (leaner : ℕ) 
 
   -- its verdict was counted on the class
   more : sum_below b.shape.threads (λ v. (counts_of (x.known v).counts c).revoke) ≡ sum_below b.shape.threads (λ v. (counts_of (b.known v).counts c).revoke) + bulk_revokes d.0
-  more = revoked_here b.biasing b.shape.threads b.shape.classes (has_class b.shape b.words) (class_by b.shape b.words) (marks b) (lock b) (λ i. entries_on i (order (logs b))) (λ u. (b.known u).log) (λ u. (b.known u).stage) (λ u. (b.known u).unfinished)
+  more = revoked_here b.biasing b.shape.threads b.shape.classes (is_logged b.shape (logs b)) (class_by b.shape b.words) (marks b) (lock b) (λ i. entries_on i (order (logs b))) (λ u. (b.known u).log) (λ u. (b.known u).stage) (λ u. (b.known u).unfinished)
       (λ e. b.words (Revocations e)) (λ u. counts_of (b.known u).counts) (marks x) (lock x) (λ u. (x.known u).stage) (λ u. (x.known u).unfinished) t law
       c (b.words (LastBulk c)) s.revocation.now (record { op = s.operation; object = o }) (λ u. counts_of (x.known u).counts) (λ e. x.words (Revocations e)) within class_within (ap counts_of counts_now) (λ u n. ap counts_of (counts_else u n)) count_here count_else
 
   more_rebiased : sum_below b.shape.threads (λ v. (counts_of (x.known v).counts c).rebias) ≡ sum_below b.shape.threads (λ v. (counts_of (b.known v).counts c).rebias) + bulk_rebiases d.0
-  more_rebiased = rebiased_here b.biasing b.shape.threads b.shape.classes (has_class b.shape b.words) (class_by b.shape b.words) (marks b) (lock b) (λ i. entries_on i (order (logs b))) (λ u. (b.known u).log) (λ u. (b.known u).stage) (λ u. (b.known u).unfinished)
+  more_rebiased = rebiased_here b.biasing b.shape.threads b.shape.classes (is_logged b.shape (logs b)) (class_by b.shape b.words) (marks b) (lock b) (λ i. entries_on i (order (logs b))) (λ u. (b.known u).log) (λ u. (b.known u).stage) (λ u. (b.known u).unfinished)
       (λ e. b.words (Revocations e)) (λ u. counts_of (b.known u).counts) (marks x) (lock x) (λ u. (x.known u).stage) (λ u. (x.known u).unfinished) t law
       c (b.words (LastBulk c)) s.revocation.now (record { op = s.operation; object = o }) (λ u. counts_of (x.known u).counts) (λ e. x.words (Revocations e)) within class_within (ap counts_of counts_now) (λ u n. ap counts_of (counts_else u n)) count_here count_else
 
   still_unrevoked : (e : ℕ) → sum_below b.shape.threads (λ u. (counts_of (x.known u).counts e).revoke) ≡ 0 → sum_below b.shape.threads (λ u. (counts_of (b.known u).counts e).revoke) ≡ 0
-  still_unrevoked = fewer_revoked b.biasing b.shape.threads b.shape.classes (has_class b.shape b.words) (class_by b.shape b.words) (marks b) (lock b) (λ i. entries_on i (order (logs b))) (λ u. (b.known u).log) (λ u. (b.known u).stage) (λ u. (b.known u).unfinished)
+  still_unrevoked = fewer_revoked b.biasing b.shape.threads b.shape.classes (is_logged b.shape (logs b)) (class_by b.shape b.words) (marks b) (lock b) (λ i. entries_on i (order (logs b))) (λ u. (b.known u).log) (λ u. (b.known u).stage) (λ u. (b.known u).unfinished)
       (λ e. b.words (Revocations e)) (λ u. counts_of (b.known u).counts) (marks x) (lock x) (λ u. (x.known u).stage) (λ u. (x.known u).unfinished) t law
       c (b.words (LastBulk c)) s.revocation.now (record { op = s.operation; object = o }) (λ u. counts_of (x.known u).counts) (λ e. x.words (Revocations e)) within class_within (ap counts_of counts_now) (λ u n. ap counts_of (counts_else u n)) count_here count_else
 
@@ -239,7 +252,7 @@ module _ (w : World) (P : List PlainObject) (s : IsRevoking w P) (leaner : ℕ) 
   takes_free : TakesFreeBiases t (class_by b.shape b.words) (marks b) (lock b) (λ u. (b.known u).stage) (λ e. sum_below b.shape.threads (λ u. (counts_of (b.known u).counts e).rebias)) (λ e. sum_below b.shape.threads (λ u. (counts_of (b.known u).counts e).revoke))
       (marks x) (lock x) (λ u. (x.known u).stage) (λ e. sum_below b.shape.threads (λ u. (counts_of (x.known u).counts e).rebias)) (λ e. sum_below b.shape.threads (λ u. (counts_of (x.known u).counts e).revoke))
   takes_free = record {
-    more = rebiased_more b.biasing b.shape.threads b.shape.classes (has_class b.shape b.words) (class_by b.shape b.words) (marks b) (lock b) (λ i. entries_on i (order (logs b))) (λ u. (b.known u).log) (λ u. (b.known u).stage) (λ u. (b.known u).unfinished)
+    more = rebiased_more b.biasing b.shape.threads b.shape.classes (is_logged b.shape (logs b)) (class_by b.shape b.words) (marks b) (lock b) (λ i. entries_on i (order (logs b))) (λ u. (b.known u).log) (λ u. (b.known u).stage) (λ u. (b.known u).unfinished)
         (λ e. b.words (Revocations e)) (λ u. counts_of (b.known u).counts) (marks x) (lock x) (λ u. (x.known u).stage) (λ u. (x.known u).unfinished) t law
         c (b.words (LastBulk c)) s.revocation.now (record { op = s.operation; object = o }) (λ u. counts_of (x.known u).counts) (λ e. x.words (Revocations e)) within class_within (ap counts_of counts_now) (λ u n. ap counts_of (counts_else u n)) count_here count_else;
     comes = λ i h. let k = into_took i BiasTaken h in inr (inr (rebiased_now (by_rebias k.0) i (ap (class_by b.shape b.words) (sym k.1))));
@@ -258,9 +271,9 @@ module _ (w : World) (P : List PlainObject) (s : IsRevoking w P) (leaner : ℕ) 
   biased_heap false e = absurd (let k = s.fits.classes.unbiased e o in cc (k, was))
 
   -- the law, of the words after the release
-  pub released : BiasLaw b.biasing b.shape.threads b.shape.classes (has_class b.shape b.words) (class_by b.shape b.words) (marks x) (lock x) (λ i. entries_on i (order (logs b))) (λ u. (b.known u).log) (λ u. (x.known u).stage)
+  pub released : BiasLaw b.biasing b.shape.threads b.shape.classes (is_logged b.shape (logs b)) (class_by b.shape b.words) (marks x) (lock x) (λ i. entries_on i (order (logs b))) (λ u. (b.known u).log) (λ u. (x.known u).stage)
       (λ u. (x.known u).unfinished) (λ e. x.words (Revocations e)) (λ u. counts_of (x.known u).counts)
-  released = revocation_law b.biasing b.shape.threads b.shape.classes (has_class b.shape b.words) (class_by b.shape b.words) (marks b) (lock b) (λ i. entries_on i (order (logs b))) (λ u. (b.known u).log) (λ u. (b.known u).stage) (λ u. (b.known u).unfinished)
+  released = revocation_law b.biasing b.shape.threads b.shape.classes (is_logged b.shape (logs b)) (class_by b.shape b.words) (marks b) (lock b) (λ i. entries_on i (order (logs b))) (λ u. (b.known u).log) (λ u. (b.known u).stage) (λ u. (b.known u).unfinished)
       (λ e. b.words (Revocations e)) (λ u. counts_of (b.known u).counts) (marks x) (lock x) (λ u. (x.known u).stage) (λ u. (x.known u).unfinished) t law
       c (b.words (LastBulk c)) s.revocation.now (record { op = s.operation; object = o }) (λ u. counts_of (x.known u).counts) (λ e. x.words (Revocations e)) within class_within (ap counts_of counts_now) (λ u n. ap counts_of (counts_else u n)) count_here count_else
       (biased_heap b.biasing refl) open_before (open_now ∙ open_before) was (into_none t o) was_decided rest_stays quietly takes_free path_fits

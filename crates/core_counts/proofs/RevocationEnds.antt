@@ -15,14 +15,14 @@ use Rattle.core_world.specs.Words.Acts.{word_after}
 use Rattle.core_locks.proofs.SafeEnds.{reached_finds}
 use Rattle.plain_history.specs.HeldByLog.{held_by, nothing_held}
 use Rattle.core_world.specs.Words.Shape.{Shape}
-use Rattle.core_world.specs.Words.Names.{class_by, has_class}
+use Rattle.core_world.specs.Words.Names.{class_by}
 use Rattle.core_world.specs.Steps.{world_after, known_hit, known_miss, known_after}
 use Rattle.core_world.specs.Valid.{IsRevoking}
 use Rattle.core_world.specs.World.{World, with_word_and_known, logs, logs_from}
 use Rattle.core_world.proofs.Frames.{same}
 use Rattle.core_world.proofs.There.{class_in_heap}
 use Rattle.core_world.proofs.KnowledgeParts.{each_with_known}
-use Rattle.core_law.specs.BiasLaw.{BiasLaw, BiasLawHolds}
+use Rattle.core_law.specs.BiasLaw.{BiasLaw, BiasLawHolds, is_logged}
 use Rattle.core_counts.specs.Steps.{MayEndRevocation}
 use Rattle.core_world.specs.Trees.BiasSteps.{stage_after}
 use Rattle.core_world.specs.Trees.SafepointSteps.{release_plan}
@@ -81,7 +81,7 @@ module _ (w : World) (P : List PlainObject) (s : IsRevoking w P) (e : Purpose) (
       let d = held_named b P t o within s.fits in
       omega (arith, a, c, d)
 
-  after_release : BiasLaw b.biasing b.shape.threads b.shape.classes (has_class b.shape b.words) (class_by b.shape b.words) (marks x) (lock x) (λ i. entries_on i (order (logs b))) (λ u. (b.known u).log) (λ u. (x.known u).stage)
+  after_release : BiasLaw b.biasing b.shape.threads b.shape.classes (is_logged b.shape (logs b)) (class_by b.shape b.words) (marks x) (lock x) (λ i. entries_on i (order (logs b))) (λ u. (b.known u).log) (λ u. (x.known u).stage)
       (λ u. (x.known u).unfinished) (λ c. x.words (Revocations c)) (λ u. counts_of (x.known u).counts)
   after_release = released w P s leaner.0 (leans b o leaner.0 leaner.1) law may.over l (released_word t) took log_is refl may.goes_on refl within
       (class_in_heap b.shape b.words o s.fits.limits (s.fits.forms.classes o) s.object) taken left.dropped unheld (λ h. took_by_rebias w P s may.over (sym may.says ∙ h))
@@ -95,17 +95,17 @@ module _ (w : World) (P : List PlainObject) (s : IsRevoking w P) (e : Purpose) (
 
   ends : BiasLawHolds x
   ends =
-      subst (λ h. BiasLaw w.biasing h.threads h.classes (has_class h w.words) (class_by h w.words) (marks x) (lock x) (λ i. entries_on i (order (logs x))) (λ u. (x.known u).log) (λ u. (x.known u).stage)
+      subst (λ h. BiasLaw w.biasing h.threads h.classes (is_logged h (logs x)) (class_by h w.words) (marks x) (lock x) (λ i. entries_on i (order (logs x))) (λ u. (x.known u).log) (λ u. (x.known u).stage)
       (λ u. (x.known u).unfinished) (λ c. x.words (Revocations c)) (λ u. counts_of (x.known u).counts)) (sym s.shape)
-      (by_class_words (λ there class. BiasLaw w.biasing b.shape.threads b.shape.classes there class (marks x) (lock x)
+      (by_class_words (λ class. BiasLaw w.biasing b.shape.threads b.shape.classes (is_logged b.shape (logs x)) class (marks x) (lock x)
       (λ i. entries_on i (order (logs x))) (λ u. (x.known u).log) (λ u. (x.known u).stage) (λ u. (x.known u).unfinished)
       (λ c. x.words (Revocations c)) (λ u. counts_of (x.known u).counts)) b.shape b.words w.words
       (λ i. sym (class_words w P s may.over i))
-      (subst (λ h. BiasLaw h b.shape.threads b.shape.classes (has_class b.shape b.words) (class_by b.shape b.words) (marks x) (lock x) (λ i. entries_on i (order (logs x))) (λ u. (x.known u).log) (λ u. (x.known u).stage)
+      (subst (λ h. BiasLaw h b.shape.threads b.shape.classes (is_logged b.shape (logs x)) (class_by b.shape b.words) (marks x) (lock x) (λ i. entries_on i (order (logs x))) (λ u. (x.known u).log) (λ u. (x.known u).stage)
       (λ u. (x.known u).unfinished) (λ c. x.words (Revocations c)) (λ u. counts_of (x.known u).counts)) (sym s.biasing)
-      (subst (λ f. BiasLaw b.biasing b.shape.threads b.shape.classes (has_class b.shape b.words) (class_by b.shape b.words) (marks x) (lock x) (λ i. entries_on i (order (logs x))) f (λ u. (x.known u).stage)
+      (subst (λ f. BiasLaw b.biasing b.shape.threads b.shape.classes (is_logged b.shape (logs x)) (class_by b.shape b.words) (marks x) (lock x) (λ i. entries_on i (order (logs x))) f (λ u. (x.known u).stage)
       (λ u. (x.known u).unfinished) (λ c. x.words (Revocations c)) (λ u. counts_of (x.known u).counts)) (same (λ u. sym (log_now u)))
-      (subst (λ ls. BiasLaw b.biasing b.shape.threads b.shape.classes (has_class b.shape b.words) (class_by b.shape b.words) (marks x) (lock x) (λ i. entries_on i (order ls)) (λ u. (b.known u).log) (λ u. (x.known u).stage)
+      (subst (λ ls. BiasLaw b.biasing b.shape.threads b.shape.classes (is_logged b.shape ls) (class_by b.shape b.words) (marks x) (lock x) (λ i. entries_on i (order ls)) (λ u. (b.known u).log) (λ u. (x.known u).stage)
       (λ u. (x.known u).unfinished) (λ c. x.words (Revocations c)) (λ u. counts_of (x.known u).counts)) (sym logs_now) after_release))))
 
   finds : w.words Safepoint ≡ reached_word t

@@ -85,6 +85,7 @@ module _ (w : World) (P : List PlainObject) (t : ℕ) (p : StepPlan) (e : Entry)
     appends = takes_appends w P a.now t y v a.runs a.other refl a.taken;
     grows = a.log;
     counts = a.own (w.known t).counts;
+    makes_none = a.makes_none;
     operation = a.operation;
     came = λ o path h. absurd (let n = a.calm o in cc (n, h));
     enters = λ o path is. absurd (no_enter o path is);

@@ -1,3 +1,4 @@
+pub mod Making
 pub mod Miscounts
 pub mod Moves
 pub mod Steps

@@ -6,6 +6,7 @@ use Rattle.plain_monitor.specs.declared.entry.Entry.TheVariants as entry
 use Rattle.plain_monitor.specs.declared.entry.Logged.{Logged}
 use Rattle.plain_monitor.specs.declared.entry.Path.{Path}
 use Rattle.plain_monitor.specs.declared.entry.Path.TheVariants.{BiasOwn, BiasTaken, StackFirst, StackAgain, MonitorFirst, MonitorAgain}
+use Rattle.plain_monitor.specs.Made.{creates}
 use Rattle.plain_monitor.specs.Objects.{PlainObject}
 use Rattle.plain_history.specs.Appending.{MayAppend}
 use Rattle.core_world.specs.declared.name.Name.{Name}
@@ -116,13 +117,14 @@ SawNone k (entry.Notify o woken) = SawUnbiased k o
 SawNone k (entry.NotifyAll o woken) = SawUnbiased k o
 SawNone k _ = Unit {0}
 
--- By a step that leaves v in this word, thread t logs y and then knows l. The entry is of its own operation, the Enter that it was about to log
--- if it is one, and after it the thread is about to log none.
+-- By a step that leaves v in this word, thread t logs y and then knows l. The entry makes no object. It is of its own operation, the Enter that it
+-- was about to log if it is one, and after it the thread is about to log none.
 pub record LogsBeside (w : World) (at : Name) (v t : ℕ) (y : Logged) (l : Known) : Type 0 where
   pub runs : (w.known t).running ≡ true
   pub appends : MayAppend (logs w) t y
   pub grows : l.log ≡ (w.known t).log ++ y ∷ []
   pub counts : l.counts ≡ (w.known t).counts
+  pub makes_none : creates y.entry ≡ None
   pub operation : WorksFor (w.known t) y.entry
   pub came : (o : ℕ) (path : Path) → path_into (w.known t).stage o ≡ Some path → y.entry ≡ entry.Enter o path
   pub enters : (o : ℕ) (path : Path) → y.entry ≡ entry.Enter o path → path_into (w.known t).stage o ≡ Some path

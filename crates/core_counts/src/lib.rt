@@ -4,6 +4,7 @@
 
 mod kinds;
 mod laws;
+mod making;
 mod refused;
 mod runs;
 mod steps;
@@ -19,6 +20,9 @@ pub use laws::{
     a_counted_verdict_fits, a_logged_entry_keeps_enters_and_marks,
     a_quiet_step_keeps_enters_and_marks, a_revocation_is_gentle,
     the_opening_world_meets_the_law_of_biases,
+};
+pub use making::{
+    storing_a_class_word_keeps_the_law_of_biases, storing_a_first_mark_keeps_the_law_of_biases,
 };
 pub use refused::{
     no_bias_taken_more_often_than_rebiases_allow, no_bulk_rebias_at_a_count_below_20,

@@ -5,10 +5,10 @@ ghost use Rattle.plain_monitor.specs.Objects.{PlainObject};
 ghost use Rattle.core_world.specs.declared.name.Name.TheVariants.{Revocations};
 ghost use Rattle.core_world.specs.declared.task.Op.TheVariants as op;
 ghost use Rattle.core_world.specs.Clauses.Safepoints.{IsUnfinished};
-ghost use Rattle.core_world.specs.Words.Names.{class_by, has_class};
+ghost use Rattle.core_world.specs.Words.Names.{class_by};
 ghost use Rattle.core_world.specs.Valid.{Fits};
 ghost use Rattle.core_world.specs.World.{World, logs};
-ghost use Rattle.core_law.specs.BiasLaw.{BiasLawHolds};
+ghost use Rattle.core_law.specs.BiasLaw.{BiasLawHolds, is_logged};
 ghost use Rattle.core_law.specs.OfARun.{BiasesOfRun, VerdictsAtMost};
 
 /// Where no thread has anything unfinished, the law of biases of the world gives the law of biases of the run: over its logs, the
@@ -18,12 +18,12 @@ ghost use Rattle.core_law.specs.OfARun.{BiasesOfRun, VerdictsAtMost};
 pub fn the_law_of_biases_holds_of_runs()
     ensures ended { (w : World) (objects : List PlainObject) → Fits w objects → BiasLawHolds w
         → ((t : ℕ) → (w.known t).unfinished ≡ None)
-        → BiasesOfRun w.biasing w.shape.threads (has_class w.shape w.words) (class_by w.shape w.words) (logs w)
+        → BiasesOfRun w.biasing w.shape.threads (is_logged w.shape (logs w)) (class_by w.shape w.words) (logs w)
         (λ c. w.words (Revocations c)) (λ t. (w.known t).counts)
         × VerdictsAtMost 0 w.shape.threads w.shape.classes (logs w) (λ t. (w.known t).counts) }
     ensures stuck { (w : World) (objects : List PlainObject) → Fits w objects → BiasLawHolds w
         → ((t o : ℕ) → IsUnfinished (w.known t).unfinished op.Hash o → ⊥)
-        → BiasesOfRun w.biasing w.shape.threads (has_class w.shape w.words) (class_by w.shape w.words) (logs w)
+        → BiasesOfRun w.biasing w.shape.threads (is_logged w.shape (logs w)) (class_by w.shape w.words) (logs w)
         (λ c. w.words (Revocations c)) (λ t. (w.known t).counts)
         × VerdictsAtMost 1 w.shape.threads w.shape.classes (logs w) (λ t. (w.known t).counts) }
 {}

@@ -49,7 +49,8 @@ pub fn storing_a_hold_word_keeps_the_law_of_biases()
         → BiasLawHolds (world_after (hold_plan e t o d p path) t w) }
 {}
 
-/// A step that logs an entry and leaves the biases keeps the law of biases, whatever the entry is.
+/// A step that logs an entry and leaves the biases keeps the law of biases, whatever the entry is but a New: from that on its object
+/// is there, and has to have a mark as the law asks.
 pub fn logging_an_entry_keeps_the_law_of_biases()
     ensures { (w : World) (objects : List PlainObject) (at : Name) (v t : ℕ) (y : Logged) (l : Known)
         → LogsBeside w at v t y l

@@ -16,7 +16,7 @@ use Rattle.core_world.specs.World.{World}
 use Rattle.core_world.proofs.CallRests.{begun_rest, gone_rest}
 use Rattle.core_world.proofs.KnowledgeParts.{by_equal, each_with_known}
 use Rattle.core_world.proofs.LookWhileRevoking.{forgotten}
-use Rattle.core_law.specs.BiasLaw.{BiasLawHolds, WhollyValid}
+use Rattle.core_law.specs.WholeLaw.{LawsHold, WhollyValid}
 use Rattle.core_law.specs.Takings.{TakesExactly}
 use Rattle.core_law.specs.Logic.{Heap, heap_of, Stands, Keeps, Was}
 use Rattle.core_law.specs.Sound.{Finishes, Sound}
@@ -33,7 +33,7 @@ number_is w P t v = elim v [
 
 abbrev pub stands_here : (w : World) (t : ℕ) → t < w.shape.threads → WhollyValid w → Stands (heap_of w) (w.known t)
 stands_here w t within v =
-    let same : (w.known t).thread ≡ t = number_is w v.objects t (forgotten BiasLawHolds w v.objects v.is) in
+    let same : (w.known t).thread ≡ t = number_is w v.objects t (forgotten LawsHold w v.objects v.is) in
     record { world = w; objects = v.objects; is_of = refl; knows = ap w.known same; within = subst (λ u. u < w.shape.threads) (sym same) within; valid = v.is }
 
 -- a tree's first step
@@ -107,7 +107,7 @@ pub stepping_sound : (w : World) (t : ℕ) (p : StepPlan) → t < w.shape.thread
     → IsNext w.shape w.start w.biasing (w.known t) p → Sound (world_after p t w)
 stepping_sound w t p within begins sound next =
     let here = goes w t p within begins sound next in
-    let number : (w.known t).thread ≡ t = number_is w sound.valid.objects t (forgotten BiasLawHolds w sound.valid.objects sound.valid.is) in
+    let number : (w.known t).thread ≡ t = number_is w sound.valid.objects t (forgotten LawsHold w sound.valid.objects sound.valid.is) in
     record {
       valid = subst (λ u. WhollyValid (world_after p u w)) number (here.keeps.by (stands_here w t within sound.valid));
       goes_on = λ u h. each_with_known (λ u y. u < w.shape.threads → Finishes (heap_of w) false (rest_of_call w.shape y) y) t (known_after w.shape w.start p (w.words p.at) (w.known t)) w.known u
@@ -123,5 +123,5 @@ stepping_there w t p within begins sound next = (goes w t p within begins sound 
 pub stepping_stamps : (w : World) (t : ℕ) (p : StepPlan) → t < w.shape.threads → BeginsWell (heap_of w) p.task → Sound w
     → IsNext w.shape w.start w.biasing (w.known t) p → TakesExactly w t p
 stepping_stamps w t p within begins sound next =
-    let number : (w.known t).thread ≡ t = number_is w sound.valid.objects t (forgotten BiasLawHolds w sound.valid.objects sound.valid.is) in
+    let number : (w.known t).thread ≡ t = number_is w sound.valid.objects t (forgotten LawsHold w sound.valid.objects sound.valid.is) in
     subst (λ u. TakesExactly w u p) number ((goes w t p within begins sound next).keeps.exact (stands_here w t within sound.valid))

@@ -13,11 +13,11 @@ use Rattle.core_world.specs.declared.task.Unfinished.{Unfinished}
 use Rattle.core_world.specs.Threads.Known.{Known}
 use Rattle.core_world.specs.Locks.{marks}
 use Rattle.core_world.specs.Clauses.Safepoints.{IsUnfinished}
-use Rattle.core_world.specs.Words.Names.{class_by, has_class}
+use Rattle.core_world.specs.Words.Names.{class_by}
 use Rattle.core_world.specs.Valid.{Fits}
 use Rattle.core_world.specs.World.{World, logs}
 use Rattle.core_world.proofs.KnowledgeParts.{log_at}
-use Rattle.core_law.specs.BiasLaw.{BiasLawHolds}
+use Rattle.core_law.specs.BiasLaw.{BiasLawHolds, is_logged}
 use Rattle.core_law.specs.CountsAndVerdicts.{IsDecided, VerdictsFit}
 use Rattle.core_law.specs.MarksAndLogs.{IsHashed}
 use Rattle.core_law.specs.OfARun.{IsHashLogged, BiasesOfRun, VerdictsAtMost}
@@ -36,7 +36,7 @@ module _ (w : World) (P : List PlainObject) (v : Fits w P) (law : BiasLawHolds w
   ]
 
   pub run_fits : ((t o : ℕ) → IsUnfinished (w.known t).unfinished op.Hash o → ⊥)
-      → BiasesOfRun w.biasing w.shape.threads (has_class w.shape w.words) (class_by w.shape w.words) (logs w)
+      → BiasesOfRun w.biasing w.shape.threads (is_logged w.shape (logs w)) (class_by w.shape w.words) (logs w)
       (λ c. w.words (Revocations c)) (λ t. (w.known t).counts)
   run_fits none = record {
     stays = law.marks.stays;
@@ -71,6 +71,6 @@ module _ (w : World) (P : List PlainObject) (v : Fits w P) (law : BiasLawHolds w
       omega (arith, a, b)
 
   pub run_ends : ((t : ℕ) → (w.known t).unfinished ≡ None)
-      → BiasesOfRun w.biasing w.shape.threads (has_class w.shape w.words) (class_by w.shape w.words) (logs w)
+      → BiasesOfRun w.biasing w.shape.threads (is_logged w.shape (logs w)) (class_by w.shape w.words) (logs w)
       (λ c. w.words (Revocations c)) (λ t. (w.known t).counts)
   run_ends none = run_fits (λ t o h. let n = none t in cc (n, h))

@@ -8,7 +8,7 @@ use Rattle.core_world.specs.Words.Forms.{asks_in}
 use Rattle.core_world.specs.Words.Shape.{Shape}
 use Rattle.core_world.proofs.LookWhileRevoking.{forgotten}
 use Rattle.core_world.proofs.OwnersShown.{fits_running}
-use Rattle.core_law.specs.BiasLaw.{BiasLawHolds}
+use Rattle.core_law.specs.WholeLaw.{LawsHold}
 use Rattle.core_law.specs.Logic.{Heap, Stands}
 
 module _ (heap : Heap) (k : Known) where
@@ -23,7 +23,7 @@ module _ (heap : Heap) (k : Known) where
   inside v = subst (λ (z : Heap). k.thread < z.shape.threads) (sym v.is_of) v.within
 
   pub valid_here : (v : Stands heap k) → IsValid v.world v.objects
-  valid_here v = forgotten BiasLawHolds v.world v.objects v.valid
+  valid_here v = forgotten LawsHold v.world v.objects v.valid
 
   -- every clause holds where the thread runs
   pub fits_here : (v : Stands heap k) → k.running ≡ true → Fits v.world v.objects

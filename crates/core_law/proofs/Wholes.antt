@@ -1,4 +1,4 @@
--- When every clause holds and the law of biases with them, and how a step that ends no revocation keeps both.
+-- When every clause holds and the laws with them, and how a step that ends no revocation keeps all.
 use Rattle.std.proofs.Common.{◌≡◌, ℕ, Bool, true, false, cond, List, None, ap, ◌∙◌, inl, inr}
 use Rattle.plain_monitor.specs.Objects.{PlainObject}
 use Rattle.core_world.specs.declared.name.Name.TheVariants.{Safepoint}
@@ -14,7 +14,9 @@ use Rattle.core_world.specs.World.{World}
 use Rattle.plain_monitor.specs.Monitor.{is_thread}
 use Rattle.core_world.proofs.KnowledgeParts.{each_with_known}
 use Rattle.core_world.proofs.NoWordChanges.{one_requester}
-use Rattle.core_law.specs.BiasLaw.{BiasLawHolds, IsWhollyValid, WhollyValid}
+use Rattle.core_law.specs.BiasLaw.{BiasLawHolds}
+use Rattle.core_law.specs.MadeLaw.{MadeLawHolds}
+use Rattle.core_law.specs.WholeLaw.{IsWhollyValid, WhollyValid}
 
 -- NO BIAS IS BEING REVOKED
 module _ (w : World) (P : List PlainObject) (s : IsRevoking w P) where
@@ -43,16 +45,17 @@ module _ (w : World) (P : List PlainObject) (s : IsRevoking w P) where
       let some = s.its_revocation in
       absurd (cc (none, some))
 
--- ALL CLAUSES HOLD, the law of biases with them,
+-- ALL CLAUSES HOLD, the laws with them,
 pub record All (w : World) (P : List PlainObject) : Type 0 where
   pub fits : Fits w P
   pub biases : BiasLawHolds w
+  pub made : MadeLawHolds w
 
 -- and so they do where no bias is being revoked
 pub all_unless : (w : World) (P : List PlainObject) → (IsRevoking w P → ⊥) → IsWhollyValid w P → All w P
-all_unless w P none valid = elim valid [ inl a ↦ record { fits = a.0; biases = a.1 } | inr a ↦ absurd (none a.0) ]
+all_unless w P none valid = elim valid [ inl a ↦ record { fits = a.0; biases = a.1.biases; made = a.1.made } | inr a ↦ absurd (none a.0) ]
 
--- A STEP from there after which its thread revokes nothing leads to where all clauses hold, if it leads to a valid world and keeps the law.
+-- A STEP from there after which its thread revokes nothing leads to where all clauses hold, if it leads to a valid world and keeps the laws.
 module _ (w : World) (P : List PlainObject) (t : ℕ) (p : StepPlan) (a : All w P)
     (unrevoking : revocation_in (w.known t).stage ≡ None → revocation_in p.stage ≡ None) where
   stage_after : revocation_in (known_after w.shape w.start p (w.words p.at) (w.known t)).stage ≡ None
@@ -70,5 +73,5 @@ module _ (w : World) (P : List PlainObject) (t : ℕ) (p : StepPlan) (a : All w 
       let some = s.its_revocation in
       absurd (cc (none, some))
 
-  pub kept_whole : (Q : List PlainObject) → IsValid (world_after p t w) Q → BiasLawHolds (world_after p t w) → WhollyValid (world_after p t w)
-  kept_whole Q valid law = record { objects = Q; is = elim valid [ inl v ↦ inl (v, law) | inr s ↦ absurd (unrevoked Q s) ] }
+  pub kept_whole : (Q : List PlainObject) → IsValid (world_after p t w) Q → BiasLawHolds (world_after p t w) → MadeLawHolds (world_after p t w) → WhollyValid (world_after p t w)
+  kept_whole Q valid biases made = record { objects = Q; is = elim valid [ inl v ↦ inl (v, record { biases = biases; made = made }) | inr s ↦ absurd (unrevoked Q s) ] }

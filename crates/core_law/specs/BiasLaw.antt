@@ -1,18 +1,18 @@
 -- The law of biases: what the counts of verdicts and the words of the classes say of one another, and what the logs say of the marks.
-use Rattle.std.specs.Prelude.{◌≡◌, ℕ, Bool, false, List, Option}
+use Rattle.std.specs.Prelude.{◌≡◌, ℕ, nat_lt, Bool, false, ◌||◌, List, [], ◌∷◌, Option}
 use Rattle.std.specs.List.{list_any}
 use Rattle.plain_monitor.specs.declared.entry.Entry.{Entry}
 use Rattle.plain_monitor.specs.declared.entry.Logged.{Logged}
-use Rattle.plain_monitor.specs.Objects.{PlainObject}
 use Rattle.plain_monitor.specs.Order.{order}
+use Rattle.plain_history.specs.Known.{makes, is_one_of}
 use Rattle.plain_history.specs.EnterPaths.{entries_on, needs_bias}
 use Rattle.core_world.specs.declared.name.Name.TheVariants.{Revocations}
 use Rattle.core_world.specs.declared.stage.Stage.{Stage}
 use Rattle.core_world.specs.declared.task.Unfinished.{Unfinished}
 use Rattle.core_world.specs.Threads.Counts.{ClassCounts, counts_of}
 use Rattle.core_world.specs.Locks.{Lock, lock, marks}
-use Rattle.core_world.specs.Words.Names.{class_by, has_class}
-use Rattle.core_world.specs.Valid.{IsValidWith, ValidWith}
+use Rattle.core_world.specs.Words.Names.{class_by}
+use Rattle.core_world.specs.Words.Shape.{Shape}
 use Rattle.core_world.specs.World.{World, logs}
 use Rattle.core_law.specs.BiasOwners.{BiasesTakenAtMost, OwnersHaveTaken}
 use Rattle.core_law.specs.MarksAndLogs.{EntersFitMarks, PathsFitHolds}
@@ -45,17 +45,13 @@ pub record BiasLaw (biasing : Bool) (threads classes : ℕ) (there : ℕ → Boo
   pub plain : biasing ≡ false → (o : ℕ) → list_any needs_bias (entries o) ≡ false
   pub uncounted : biasing ≡ false → (t c : ℕ) → verdicts_on (counts t c) ≡ 0
 
+-- the object is declared, or some thread has logged that it made the object
+abbrev pub is_logged : Shape → List (List Logged) → ℕ → Bool
+is_logged s logs o = nat_lt o s.declared || list_any (λ log. list_any (λ l. is_one_of (makes l.entry) (o ∷ [])) log) logs
+
 abbrev pub BiasLawHolds : World → Type 0
 BiasLawHolds w =
-    BiasLaw w.biasing w.shape.threads w.shape.classes (has_class w.shape w.words) (class_by w.shape w.words) (marks w) (lock w)
+    BiasLaw w.biasing w.shape.threads w.shape.classes (is_logged w.shape (logs w)) (class_by w.shape w.words) (marks w) (lock w)
     (λ o. entries_on o (order (logs w)))
     (λ t. (w.known t).log) (λ t. (w.known t).stage) (λ t. (w.known t).unfinished)
     (λ c. w.words (Revocations c)) (λ t. counts_of (w.known t).counts)
-
--- The law among the clauses of a valid world: every clause of `Fits` holds, and the law of biases; or a bias is being revoked in a world of which they
--- held before the first store.
-abbrev pub IsWhollyValid : World → List PlainObject → Type 0
-IsWhollyValid = IsValidWith BiasLawHolds
-
-abbrev pub WhollyValid : World → Type 0
-WhollyValid = ValidWith BiasLawHolds

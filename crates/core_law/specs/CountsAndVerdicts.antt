@@ -1,9 +1,10 @@
 -- What the count of a class and the verdicts on it that were carried out say of one another, and how many verdicts a thread may have counted.
-use Rattle.std.specs.Prelude.{◌≡◌, ◌⊎◌, ℕ, zero, suc, ◌+◌, ◌*◌, ◌-◌, ◌≤◌, nat_lt, nat_le, min, if◌then◌else◌, false, List, length, Option, Some, None}
+use Rattle.std.specs.Prelude.{◌≡◌, ◌≢◌, ◌⊎◌, ℕ, zero, suc, ◌+◌, ◌*◌, ◌-◌, ◌≤◌, nat_lt, nat_le, min, if◌then◌else◌, false, List, length, Option, Some, None}
 use Rattle.plain_monitor.specs.declared.entry.Logged.{Logged}
 use Rattle.plain_monitor.specs.declared.entry.Path.TheVariants.{BiasTaken}
 use Rattle.lock_policy.specs.Policy.{decided, is_reset, rebias_threshold, revoke_threshold, most_revocations}
 use Rattle.core_world.specs.declared.stage.Stage.{Stage}
+use Rattle.core_world.specs.declared.task.Op.TheVariants as op
 use Rattle.core_world.specs.declared.task.Unfinished.{Unfinished}
 use Rattle.core_world.specs.Threads.Counts.{ClassCounts, with_verdict, with_reset}
 use Rattle.core_world.specs.Words.Forms.{is_biased}
@@ -41,10 +42,11 @@ once_more k count last now = with_reset (with_verdict k (decided count last now)
 abbrev pub verdicts_on : ClassCounts → ℕ
 verdicts_on k = k.single + k.rebias + k.revoke
 
--- the object of the unfinished operation has no bias pattern, or the thread is taking its bias
+-- the object of the unfinished operation, which is no dump, has no bias pattern, or the thread is taking its bias
 abbrev pub IsDecided : (ℕ → ℕ) → Stage → Option Unfinished → Type 0
 IsDecided mark stage None = ⊥
-IsDecided mark stage (Some u) = (is_biased (mark u.object) ≡ false) ⊎ (path_into stage u.object ≡ Some BiasTaken)
+IsDecided mark stage (Some u) =
+    (u.op ≢ op.Dump) × ((is_biased (mark u.object) ≡ false) ⊎ (path_into stage u.object ≡ Some BiasTaken))
 
 -- A thread has counted at most as many verdicts as it has entries, or one more while its operation is unfinished after its own revocation.
 abbrev pub VerdictsFit : (ℕ → ℕ) → ℕ → List Logged → Stage → Option Unfinished → Type 0

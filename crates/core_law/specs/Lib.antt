@@ -3,6 +3,8 @@ pub mod TakenBiases
 pub mod BiasOwners
 pub mod CountsAndVerdicts
 pub mod BiasLaw
+pub mod MadeLaw
+pub mod WholeLaw
 pub mod OfARun
 pub mod Draws
 pub mod Takings

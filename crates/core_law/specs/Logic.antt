@@ -8,7 +8,7 @@ use Rattle.core_world.specs.Threads.Known.{Known}
 use Rattle.core_world.specs.Trees.Todo.{Todo, done, never, step}
 use Rattle.core_world.specs.Steps.{is_idle, known_after, world_after}
 use Rattle.core_world.specs.World.{World}
-use Rattle.core_law.specs.BiasLaw.{IsWhollyValid, WhollyValid}
+use Rattle.core_law.specs.WholeLaw.{IsWhollyValid, WhollyValid}
 use Rattle.core_law.specs.Takings.{TakesExactly}
 
 -- what no step changes
@@ -20,7 +20,7 @@ pub record Heap : Type 0 where
 abbrev pub heap_of : World → Heap
 heap_of w = record { shape = w.shape; start = w.start; biasing = w.biasing }
 
--- a valid world of this heap, in which the law of biases holds, and in which the thread of this knowledge knows it
+-- a valid world of this heap, in which the laws hold, and in which the thread of this knowledge knows it
 pub record Stands (heap : Heap) (k : Known) : Type 0 where
   pub world : World
   pub objects : List PlainObject

@@ -58,7 +58,7 @@ module _ (w : World) (t : ℕ) (going : seen_before w.shape (w.known t) ≡ (w.k
           runs = may.wakes.runs;
           ready = ap (λ (b : Bool). cond b (wait_of (Notified o)) (w.known t).wait) (ap (λ u. p.0 == u) number ∙ ne_eqb p.0 t other) ∙ may.wakes.ready;
           holds = may.wakes.holds;
-          object = may.wakes.object;
+          object = record { within = may.wakes.object.within; known = may.wakes.object.known };
           told = inr refl;
           oldest = oldest_seen w.shape.threads l o q ps left;
         },

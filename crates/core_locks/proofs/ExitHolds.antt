@@ -126,7 +126,7 @@ module _ (w : World) (P : List PlainObject) (t : ℕ) (e : Purpose) (o d p : ℕ
   step = record { within = within; mine = refl; others = λ k. refl }
 
   pub inside : o < length P
-  inside = omega (arith, v.sized, may.object)
+  inside = omega (arith, v.sized, may.object.within)
 
   owns : (monitor_of P o).owner ≡ Some t
   owns = owner_is w P t o d p within may v

@@ -52,7 +52,7 @@ module _ (w : World) (P : List PlainObject) (t o d p : ℕ) (within : t < w.shap
   leaves_ahead i = by_stage (λ s. recursions_ahead s i ≡ 0) refl refl
 
   pub leaves_few : o < 2 ^ 15
-  leaves_few = omega (arith, may.object, v.limits.objects)
+  leaves_few = omega (arith, may.object.within, v.limits.objects)
 
   pub leaves_some : 1 ≤ d
   leaves_some = (hold_in_form w.shape o d (w.words (Hold t p)) may.small (v.holds.stored t p ∙ may.hold) (v.forms.holds t p)).1

@@ -88,7 +88,7 @@ module _ (w : World) (P : List PlainObject) (t : ℕ) (e : Purpose) (draw : Next
   y = record { stamp = last_stamp (w.known t).log + 1; entry = entry.Hash o draw.value (Some draw.number) }
 
   pub inside : o < length P
-  inside = object_there w P o v may.object
+  inside = object_there w P o v may.object.within
 
   pub taken : take_entry P t y.entry ≡ Some Q
   taken = takes P o t y.entry hashed_object inside refl

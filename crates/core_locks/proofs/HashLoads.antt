@@ -107,7 +107,7 @@ module _ (w : World) (P : List PlainObject) (t : ℕ) (e : Purpose) (o : ℕ) (a
     step = record { within = within; mine = known_is; others = λ k. refl }
 
     taken : take_entry P t y.entry ≡ Some P
-    taken = found_taken P t o (hash_in found) (object_there w P o v may.object) (sym plain) some
+    taken = found_taken P t o (hash_in found) (object_there w P o v may.object.within) (sym plain) some
 
     logs_it : IsLogging w P P t y l
     logs_it = record {

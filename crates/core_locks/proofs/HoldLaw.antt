@@ -33,7 +33,7 @@ module _ (w : World) (P : List PlainObject) (t : ℕ) (e : Purpose) (o d p : ℕ
   put : IsPut old o d p
   put = record {
     within = omega (arith, v.holds.places t, may.free.place);
-    few = omega (arith, may.object, v.limits.objects);
+    few = omega (arith, may.object.within, v.limits.objects);
     some = omega (arith, may.depth);
     small = may.small;
     empty = may.free.empty;
@@ -215,7 +215,7 @@ module _ (w : World) (P : List PlainObject) (t : ℕ) (e : Purpose) (o d p : ℕ
       biased_unnamed _ e = absurd (cc e)
 
   word_form : IsHold w.shape (read_hold (hold_word o d))
-  word_form = subst (IsHold w.shape) (sym (read_hold-hold_of (Holds o d) (put.few, put.some, put.small))) may.object
+  word_form = subst (IsHold w.shape) (sym (read_hold-hold_of (Holds o d) (put.few, put.some, put.small))) may.object.within
 
   step : IsStep w t l holding
   step = record { within = within; mine = refl; others = λ k. refl }

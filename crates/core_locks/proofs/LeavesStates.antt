@@ -55,7 +55,7 @@ module _ (w : World) (P : List PlainObject) (t : ℕ) (e : Purpose) (o m stamp :
 
   pub leaving : IsLeaving w P o m t
   leaving =
-      let object : o < length P = omega (arith, v.sized, may.object) in
+      let object : o < length P = omega (arith, v.sized, may.object.within) in
       let word : w.words (Stamp o) ≡ stamp = v.seen.stays t (Stamp o) stamp may.stamped (inl (may.runs, owns.0)) in
       let raised : last_stamp (w.known t).log + 1 ≤ w.words (Stamp o) = omega (arith, word, may.high) in
       search (within, object, out, owns, mark_is, thread_owns, saved, raised, sym may.goes_on ∙ may.waits, may)

@@ -119,3 +119,4 @@ pub mod RefutedWaits
 pub mod RefutedOwning
 pub mod RefutedResumes
 pub mod NotingNew
+pub mod KnownMore

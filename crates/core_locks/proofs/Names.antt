@@ -214,7 +214,7 @@ module _ (w : World) (P : List PlainObject) (t : ℕ) (e : Purpose) (o m : ℕ) 
         let less = with_more w.shape.threads t (hands (with_known t l w.known)) (hands w.known) within
         (ap (λ k. is_some (claimed_or_kept (w.known t).moving k)) kept_here ∙ free.0) free.1
         (λ u d. ap (λ k. is_some (claimed_or_kept (w.known u).moving k)) (sym (kept_else u d))) in
-        let more = with_more (length w.shape.objects) o (inflated_to w) (inflated_to x) ready.object (ap is_some unnamed) (ap is_some here) (λ i d. ap (λ z. is_some (monitor_in z)) (mark_else w o mark t l i d)) in
+        let more = with_more (length w.shape.objects) o (inflated_to w) (inflated_to x) ready.object.within (ap is_some unnamed) (ap is_some here) (λ i d. ap (λ z. is_some (monitor_in z)) (mark_else w o mark t l i d)) in
         omega (arith, less, more, v.claims.counted);
   }
 

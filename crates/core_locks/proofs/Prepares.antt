@@ -138,4 +138,5 @@ pub prepares_header : (e : Purpose) (m word : ℕ) → KeepsValid (λ w t. MayPr
 prepares_header e m word w P t within may valid = inl (head_fits w P t e m word within may (fits_running w P t may.runs valid))
 
 pub prepares_object : (e : Purpose) (m word : ℕ) → KeepsValid (λ w t. MayPrepareObject w.shape (w.known t) e m word) (λ w t. prepare_plan e (w.known t).stage (Object m) word)
-prepares_object e m word w P t within may valid = inl (object_fits w P t e m word within may.prepares (fits_running w P t may.prepares.runs valid) may.object)
+prepares_object e m word w P t within may valid =
+    inl (object_fits w P t e m word within may.prepares (fits_running w P t may.prepares.runs valid) may.object.within)

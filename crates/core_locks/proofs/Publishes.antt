@@ -56,11 +56,11 @@ entry_quiet w P t v free Done h = quiet_unbound P t Done refl refl refl refl
 entry_quiet w P t v free (Notify o None) h =
     let own = owns_held w P t v free o h.0 in
     let none = nobody_waits w P t o v free.runs free.calm own h.2 in
-    quiet_owner P t o (Notify o None) (monitor_of P o) (object_there w P o v h.1) own refl refl refl refl (notify_taken (object_of P o) t o own none)
+    quiet_owner P t o (Notify o None) (monitor_of P o) (object_there w P o v h.1.within) own refl refl refl refl (notify_taken (object_of P o) t o own none)
 entry_quiet w P t v free (NotifyAll o n) h =
     let own = owns_held w P t v free o h.0 in
     let none = nobody_waits w P t o v free.runs free.calm own h.2 in
-    quiet_owner P t o (NotifyAll o n) (all_called (monitor_of P o)) (object_there w P o v h.1) own refl refl refl
+    quiet_owner P t o (NotifyAll o n) (all_called (monitor_of P o)) (object_there w P o v h.1.within) own refl refl refl
     (nobody_called (monitor_of P o) none) (notify_all_taken (object_of P o) t o n own none h.3)
 entry_quiet w P t v free _ h = absurd h
 

@@ -1,6 +1,10 @@
 -- What a thread goes on to count on after its step on the safepoint word.
 use Rattle.core_locks.proofs.Prelude.{◌≡◌, ℕ, Bool, true, false, List, [], ap, ◌∙◌, inl, inr, PlainObject, Name, Safepoint, Prototype, Mark, Waiting, Revocations, LastBulk, is_biased, monitor_in, waits_on, Known, StepMade, World, owner_at, waits_at, StaysWhileRunning, StaysWhileAsking, only_headers, is_header, Fits, SeenFit, IsOfMonitor, headers_are_part, Counts, IsPart, counts_anew, unwaited_fits, Class}
 
+-- what is left of a thread's sights behind the release of its safepoint
+abbrev pub headers_seen : World → ℕ → List StepMade
+headers_seen w t = only_headers (w.known t).unfinished (w.known t).seen_at_safepoint
+
 module _ (w : World) (P : List PlainObject) (t word : ℕ) (l : Known) where
   -- the safepoint word is of no monitor
   of_none : (m : ℕ) → IsOfMonitor m Safepoint → ⊥
@@ -36,7 +40,7 @@ module _ (w : World) (P : List PlainObject) (t word : ℕ) (l : Known) where
   counts_begun = counts_anew Safepoint word t l w (owner_at P) (waits_at P) (λ o e r a g. absurd (cc e)) (λ m r is. absurd (of_none m is))
 
   -- a thread that leaves its reached safepoint, where each word is as it saw it
-  pub counts_since : (w.known t).reached ≡ true → l.kept ≡ (w.known t).kept → Fits w P → Counts Safepoint word t l w (owner_at P) (waits_at P) (only_headers (w.known t).seen_at_safepoint)
+  pub counts_since : (w.known t).reached ≡ true → l.kept ≡ (w.known t).kept → Fits w P → Counts Safepoint word t l w (owner_at P) (waits_at P) (headers_seen w t)
   counts_since reached kept v = record {
     others = λ n s e a st. v.seen.stands t n s reached (part n s e);
     unbiased = λ o s e g r. ap is_biased (v.seen.stands t (Mark o) s reached (part (Mark o) s e)) ∙ g;
@@ -44,15 +48,15 @@ module _ (w : World) (P : List PlainObject) (t word : ℕ) (l : Known) where
     unwaiting = λ u o s e a g r. ap (λ z. waits_on z o) (v.seen.stands t (Waiting u) s reached (part (Waiting u) s e)) ∙ g;
     unwaited = λ o s e r a g. unwaited_fits w P v o (ap monitor_in (v.seen.stands t (Mark o) s reached (part (Mark o) s e)) ∙ g);
     idle = λ o e r a g. absurd (cc e);
-    monitors = λ m s r e. absurd (no_monitor e.0 (headers_are_part (w.known t).seen_at_safepoint e.0 s e.2).0 m e.1);
+    monitors = λ m s r e. absurd (no_monitor e.0 (headers_are_part (w.known t).unfinished (w.known t).seen_at_safepoint e.0 s e.2).0 m e.1);
     fresh = λ m r is. absurd (of_none m is);
   }
     where
-      part : IsPart (only_headers (w.known t).seen_at_safepoint) (w.known t).seen_at_safepoint
-      part n s e = (headers_are_part (w.known t).seen_at_safepoint n s e).1
+      part : IsPart (headers_seen w t) (w.known t).seen_at_safepoint
+      part n s e = (headers_are_part (w.known t).unfinished (w.known t).seen_at_safepoint n s e).1
 
-      -- a mark, a class word or a prototype is of no monitor
-      no_monitor : (n : Name) → is_header n ≡ true → (m : ℕ) → IsOfMonitor m n → ⊥
+      -- a header or a prototype is of no monitor
+      no_monitor : (n : Name) → is_header (w.known t).unfinished n ≡ true → (m : ℕ) → IsOfMonitor m n → ⊥
       no_monitor (Mark o) h m e = absurd (cc e)
       no_monitor (Prototype c) h m e = absurd (cc e)
       no_monitor (Class o) h m e = absurd (cc e)

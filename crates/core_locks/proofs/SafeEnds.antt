@@ -1,9 +1,9 @@
 -- A thread whose safepoint is reached releases it, or halts the run.
-use Rattle.core_locks.proofs.Prelude.{◌≡◌, ◌≢◌, ℕ, ◌<◌, ◌^◌, ◌==◌, ◌&&◌, not, eq-eqb, ne_eqb, Bool, true, false, cond, List, [], Some, None, refl, sym, ap, ◌∙◌, arith, inl, inr, pow_below, bit_at-zero, bit_at-pow_same, bit_at-pow_other, SafeForm, safe_of, read_safe-safe_of, is_thread, PlainObject, Safepoint, Calm, asks_in, runs_form, requester_form, word_after, Known, World, Purpose, world_after, seen_before, only_headers, kept_by_act, Fits, Swap, reached_word, released_word, halted_word, by_equal, KeepsValid, FindsWord, MayHalt, MayRelease, release_plan, halt_plan, Stage, Takes, Still, revocation_in}
+use Rattle.core_locks.proofs.Prelude.{◌≡◌, ◌≢◌, ℕ, ◌<◌, ◌^◌, ◌==◌, ◌&&◌, not, eq-eqb, ne_eqb, Bool, true, false, cond, List, [], Some, None, refl, sym, ap, ◌∙◌, arith, inl, inr, pow_below, bit_at-zero, bit_at-pow_same, bit_at-pow_other, SafeForm, safe_of, read_safe-safe_of, is_thread, PlainObject, Safepoint, Calm, asks_in, runs_form, requester_form, word_after, Known, World, Purpose, world_after, seen_before, kept_by_act, Fits, Swap, reached_word, released_word, halted_word, by_equal, KeepsValid, FindsWord, MayHalt, MayRelease, release_plan, halt_plan, Stage, Takes, Still, revocation_in}
 use Rattle.core_locks.specs.SafepointLaws.{MayReleaseTaking}
 use Rattle.core_locks.proofs.Standing.{fits_standing}
 use Rattle.core_locks.proofs.SafeFacts.{fits_calm, few_bits, one_reached, reached_form, reached_reads, reached_found}
-use Rattle.core_locks.proofs.SafeCounts.{counts_since}
+use Rattle.core_locks.proofs.SafeCounts.{headers_seen, counts_since}
 use Rattle.core_locks.proofs.SafeStuck.{stuck}
 use Rattle.core_locks.proofs.SafeChanges.{Changes, known_then, changed_fits}
 
@@ -48,12 +48,12 @@ module _ (w : World) (P : List PlainObject) (t : ℕ) (e : Purpose) (within : t 
   abbrev asks_after : ℕ → Bool
   asks_after word = asks_in (word_after (Swap (reached_word t) word) (w.words Safepoint)) (w.known t).thread
 
-  -- where it has none, the thread goes on to count on what it saw at its safepoint
+  -- where it has none, the thread goes on to count on what it saw at its safepoint of the unfinished operation's object and of prototypes
   kept_since : (word : ℕ) → asks_after word ≡ false
-      → kept_by_act Safepoint (Swap (reached_word t) word) (word_after (Swap (reached_word t) word) (w.words Safepoint)) (w.known t) (seen_before w.shape (w.known t)) ≡ only_headers (w.known t).seen_at_safepoint
+      → kept_by_act Safepoint (Swap (reached_word t) word) (word_after (Swap (reached_word t) word) (w.words Safepoint)) (w.known t) (seen_before w.shape (w.known t)) ≡ headers_seen w t
   kept_since word unasking =
       let call = cond (w.known t).running (seen_before w.shape (w.known t)) [] in
-      ap (λ b. cond (b && not (asks_after word)) (only_headers (w.known t).seen_at_safepoint) call) reached ∙ ap (λ b. cond (not b) (only_headers (w.known t).seen_at_safepoint) call) unasking
+      ap (λ b. cond (b && not (asks_after word)) (headers_seen w t) call) reached ∙ ap (λ b. cond (not b) (headers_seen w t) call) unasking
 
   release_changes : (st : Stage) → (w.known t).stage ≡ st → (w.known t).moving ≡ Still → e.unfinished ≡ (w.known t).unfinished
       → Changes w P t e (Swap (reached_word t) (released_word t)) (reached_form t) (released_form t) st
@@ -77,7 +77,7 @@ module _ (w : World) (P : List PlainObject) (t : ℕ) (e : Purpose) (within : t 
         halts = λ h r. absurd (cc h);
         published = λ r a h. absurd (cc (r, runs));
         ended = λ a r. absurd (cc (r, runs));
-        old = only_headers (w.known t).seen_at_safepoint;
+        old = headers_seen w t;
         kept = kept_since (released_word t);
         counts = λ r. counts_since w P t (safe_of (released_form t)) (known_then w t e (Swap (reached_word t) (released_word t)) st) reached refl v;
       }
@@ -107,7 +107,7 @@ module _ (w : World) (P : List PlainObject) (t : ℕ) (e : Purpose) (within : t 
     };
     published = λ r a h. absurd (cc h);
     ended = λ a r. let live = may.live in absurd (cc (a, live));
-    old = only_headers (w.known t).seen_at_safepoint;
+    old = headers_seen w t;
     kept = kept_since halted_word;
     counts = λ r. counts_since w P t (safe_of halted_form) (known_then w t e (Swap (reached_word t) halted_word) Calm) reached refl v;
   }

@@ -1,10 +1,10 @@
 -- A thread stops, resumes, and requests a safepoint.
-use Rattle.core_locks.proofs.Prelude.{◌≡◌, ℕ, ◌<◌, ◌^◌, ◌==◌, ◌&&◌, not, eq-eqb, ne_eqb, Bool, true, false, cond, List, [], Option, Some, None, refl, sym, ap, ◌∙◌, subst, inl, inr, eqb-true, ◌-◌, IfSome, bit_and, read_wait, SafeForm, safe_of, read_safe, WaitForm, read_safe-spells, is_thread, PlainObject, Safepoint, Waiting, waits_on, says_ended, is_halted, asks_in, runs_form, waits_form, ended_form, requester_form, requester_in, halted_form, word_after, World, Purpose, swap, world_after, seen_before, only_headers, Fits, IsValid, Swap, Mask, IsSafepoint, all_but, running_too, requested_by, same_number, fits_running, seen_is_part, miss_valid, KeepsValid, MayStop, MayResume, MayRequest, stop_plan, resume_plan, request_plan, Moving, Still, Fetches, Returns, Calm}
+use Rattle.core_locks.proofs.Prelude.{◌≡◌, ℕ, ◌<◌, ◌^◌, ◌==◌, ◌&&◌, not, eq-eqb, ne_eqb, Bool, true, false, cond, List, [], Option, Some, None, refl, sym, ap, ◌∙◌, subst, inl, inr, eqb-true, ◌-◌, IfSome, bit_and, read_wait, SafeForm, safe_of, read_safe, WaitForm, read_safe-spells, is_thread, PlainObject, Safepoint, Waiting, waits_on, says_ended, is_halted, asks_in, runs_form, waits_form, ended_form, requester_form, requester_in, halted_form, word_after, World, Purpose, swap, world_after, seen_before, Fits, IsValid, Swap, Mask, IsSafepoint, all_but, running_too, requested_by, same_number, fits_running, seen_is_part, miss_valid, KeepsValid, MayStop, MayResume, MayRequest, stop_plan, resume_plan, request_plan, Moving, Still, Fetches, Returns, Calm}
 use Rattle.mark_word.specs.declared.wait.WaitForm.TheVariants as wait
 use Rattle.core_locks.proofs.LookOn.{may_look_safe}
 use Rattle.core_world.proofs.SafeBits.{without, including, without_other, without_mine, without_range, including_other, including_mine, including_range, masked}
 use Rattle.core_locks.proofs.SafeFacts.{fits_unasked, safe_form, few_bits, running_unhalted, running_unreached, unasked_unreached}
-use Rattle.core_locks.proofs.SafeCounts.{counts_stopped, counts_begun}
+use Rattle.core_locks.proofs.SafeCounts.{headers_seen, counts_stopped, counts_begun}
 use Rattle.core_locks.proofs.SafeChanges.{Changes, known_then, changed_fits}
 
 -- a waiting word that says it waits doesn't say Ended
@@ -111,7 +111,7 @@ module _ (w : World) (P : List PlainObject) (t : ℕ) (e : Purpose) (within : t 
       }
     where
       anew : (b : Bool) → (w.known t).reached ≡ b → (asks : Bool) → requester_in (w.words Safepoint) ≡ None
-          → cond (b && not asks) (only_headers (w.known t).seen_at_safepoint) (cond (w.known t).running (seen_before w.shape (w.known t)) []) ≡ []
+          → cond (b && not asks) (headers_seen w t) (cond (w.known t).running (seen_before w.shape (w.known t)) []) ≡ []
       anew true r asks unasked = absurd (unasked_unreached w P t v.safe unasked r)
       anew false r asks unasked = ap (λ b. cond b (seen_before w.shape (w.known t)) []) may.stopped
 
@@ -168,7 +168,7 @@ module _ (w : World) (P : List PlainObject) (t : ℕ) (e : Purpose) (within : t 
       }
     where
       goes_on_seen : (b : Bool) → (w.known t).reached ≡ b → (asks : Bool)
-          → cond (b && not asks) (only_headers (w.known t).seen_at_safepoint) (cond (w.known t).running (seen_before w.shape (w.known t)) []) ≡ seen_before w.shape (w.known t)
+          → cond (b && not asks) (headers_seen w t) (cond (w.known t).running (seen_before w.shape (w.known t)) []) ≡ seen_before w.shape (w.known t)
       goes_on_seen true r asks = absurd (running_unreached w P t t v.safe may.runs r)
       goes_on_seen false r asks = ap (λ b. cond b (seen_before w.shape (w.known t)) []) may.runs
 

@@ -20,7 +20,7 @@ use Rattle.core_world.proofs.Updates.{object_here, object_else, slots_stay}
 value_here : (s : Shape) (k : Known) (v : Value) → HasValue s k v → IsHere s v
 value_here s k Nil h = tt
 value_here s k (Int i) h = tt
-value_here s k (Ref o) h = h
+value_here s k (Ref o) h = h.within
 
 -- the slots after one has got another value
 slot_here : (xs : List Value) (i : ℕ) (v u : Value) → slice_get (slice_set xs i v) i ≡ Some u → v ≡ u
@@ -55,7 +55,7 @@ module _ (w : World) (P : List PlainObject) (t : ℕ) (e : Purpose) (o slot : �
   own = owns_held w P t v free o may.holds
 
   there : o < length P
-  there = object_there w P o v may.object
+  there = object_there w P o v may.object.within
 
   slot_within : slot < length (object_of P o).slots
   slot_within = omega (arith, slots_are w P v o, may.within)

@@ -61,7 +61,7 @@ calm_says w P t e word within calm v may = subst (λ stage. Fits (world_after (w
 module _ (w : World) (P : List PlainObject) (t : ℕ) (e : Purpose) (o m : ℕ) (may : MayStand w.shape (w.known t) e o m) (v : Fits w P) where
   -- the number of the object fits into the word
   read : read_wait (wait_of (Entering o)) ≡ Some (Entering o)
-  read = let few = v.limits.objects in read_wait-wait_of (Entering o) (omega (arith, few, may.object))
+  read = let few = v.limits.objects in read_wait-wait_of (Entering o) (omega (arith, few, may.object.within))
 
   outside : (i : ℕ) → (is_listed (waits_at P i) t ≡ false) × (is_listed (notified_at P i) t ≡ false)
   outside = out_unlisted w P t v may.out (λ i stage. absurd (cc (stage, may.calm)))
@@ -73,7 +73,7 @@ module _ (w : World) (P : List PlainObject) (t : ℕ) (e : Purpose) (o m : ℕ) 
     goes_on = inl may.goes_on;
     unlisted = λ i. (outside i).0;
     called = λ i h. let not = (outside i).1 in absurd (cc (not, h));
-    form = subst (IsWait w.shape) (sym read) may.object;
+    form = subst (IsWait w.shape) (sym read) may.object.within;
     unwaiting = λ i. ap (λ f. waits_form f i) read;
     untold = λ i. ap (λ f. notified_form f i) read;
     entering = λ i h.

@@ -8,7 +8,7 @@ module _ (w : World) (P : List PlainObject) (t o u n : ℕ) (within : t < w.shap
   wait_forms = record {
     marks = v.forms.marks;
     owners = v.forms.owners;
-    waits = λ z. at w P t o u n within may v (λ z y. IsWait w.shape (read_wait y)) z (subst (IsWait w.shape) (sym (reads w P t o u n within may v)) may.object) (λ d. v.forms.waits z);
+    waits = λ z. at w P t o u n within may v (λ z y. IsWait w.shape (read_wait y)) z (subst (IsWait w.shape) (sym (reads w P t o u n within may v)) may.object.within) (λ d. v.forms.waits z);
     objects = v.forms.objects;
     holds = v.forms.holds;
     safepoint = v.forms.safepoint;

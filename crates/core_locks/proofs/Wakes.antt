@@ -82,7 +82,7 @@ module _ (w : World) (P : List PlainObject) (t o u n : ℕ) (within : t < w.shap
 
   -- THE WORD
   pub reads : read_wait (wait_of (Notified o)) ≡ Some (Notified o)
-  reads = read_wait-wait_of (Notified o) (let a = v.limits.objects in omega (arith, a, may.object))
+  reads = read_wait-wait_of (Notified o) (let a = v.limits.objects in omega (arith, a, may.object.within))
 
   pub word_told : (i : ℕ) → says_notified (wait_of (Notified o)) i ≡ (o == i)
   word_told i = ap (λ z. notified_form z i) reads

@@ -55,7 +55,7 @@ module _ (w : World) (P : List PlainObject) (t : ℕ) (r : Purpose) (o u n : ℕ
   y = record { stamp = stamp_by e (w.words (Waiting u)) (last_stamp (w.known t).log); entry = e }
 
   inside : o < length P
-  inside = omega (arith, v.sized, may.object)
+  inside = omega (arith, v.sized, may.object.within)
 
   now : IsStill l.stage
   now = inl refl

@@ -38,6 +38,7 @@ operation_of (entry.Notify o woken) = Some (record { op = op.Notify; object = o 
 operation_of (entry.NotifyAll o woken) = Some (record { op = op.NotifyAll; object = o })
 operation_of (entry.Hash o value drawn) = Some (record { op = op.Hash; object = o })
 operation_of (entry.Dump number) = Some (record { op = op.Dump; object = 0 })
+operation_of (entry.New o class) = Some (record { op = op.Create; object = o })
 operation_of _ = None
 
 -- What the thread has unfinished is nothing, or the operation of this entry.

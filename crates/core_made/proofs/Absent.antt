@@ -1,6 +1,6 @@
 -- What a step that spares what isn't there leaves of it: the mark of an object that isn't there, each class word, and that no thread has a hold word
 -- for such an object. No stamp word falls.
-use Rattle.std.proofs.Common.{◌≡◌, ◌⊎◌, ℕ, zero, suc, ◌+◌, ◌<◌, ◌≤◌, eq-eqb, ne_eqb, Bool, true, false, cond, List, [], ◌∷◌, slice_set, slice_index, Option, refl, sym, ap, ◌∙◌, arith, inl, inr}
+use Rattle.std.proofs.Common.{◌≡◌, ◌⊎◌, ℕ, zero, suc, ◌+◌, ◌<◌, ◌≤◌, eq-eqb, ne_eqb, Bool, true, false, cond, List, [], ◌∷◌, slice_set, slice_index, refl, sym, ap, ◌∙◌, arith, inl, inr}
 use Rattle.core_world.specs.declared.act.Act.{Act}
 use Rattle.core_world.specs.declared.act.Act.TheVariants.{Store}
 use Rattle.core_world.specs.declared.name.Name.{Name}
@@ -9,13 +9,14 @@ use Rattle.core_world.specs.Locks.{count_where, hold_count}
 use Rattle.core_world.specs.RevocationRules.{words_from}
 use Rattle.core_world.specs.Steps.{holds_after}
 use Rattle.core_world.specs.Threads.Known.{Known}
+use Rattle.core_world.specs.Threads.References.{making_in}
 use Rattle.core_world.specs.Threads.Stages.{one_if}
 use Rattle.core_world.specs.Words.Acts.{word_after}
 use Rattle.core_world.specs.Words.Forms.{names}
 use Rattle.core_world.specs.Words.Names.{with_word}
 use Rattle.core_world.specs.World.{with_known}
 use Rattle.core_world.proofs.KnowledgeParts.{by_equal, each_with_known}
-use Rattle.core_made.specs.MadeLaw.{IsAbsent}
+use Rattle.core_law.specs.MadeLaw.{IsAbsent}
 use Rattle.core_made.specs.Steps.{SparesAbsent}
 
 -- HOLD WORDS. Where no word of a list names the object, none does after the store of a word that doesn't.
@@ -65,14 +66,23 @@ stamp_rises there (Stamp i) v f o spares =
     (λ d. let a = ap (λ (b : Bool). cond b v (f (Stamp o))) (ne_eqb o i d) in omega (arith, a))
 stamp_rises there at v f o spares = omega arith
 
+-- WHAT THREADS ARE MAKING they still make, where thread t then knows l, and makes what it made
+pub making_stays : (t : ℕ) (l : Known) (known : ℕ → Known) (u : ℕ) → making_in l.unfinished ≡ making_in (known t).unfinished
+    → making_in (with_known t l known u).unfinished ≡ making_in (known u).unfinished
+making_stays t l known u makes = each_with_known (λ x k. making_in k.unfinished ≡ making_in (known x).unfinished) t l known u makes (λ d. refl)
+
 -- AN OBJECT THAT ISN'T THERE stays so, where thread t then knows l, with the hold words that it had or that the act leaves
-pub absent_stays : (there : ℕ → Bool) (makes : ℕ → Option (ℕ × ℕ)) (at : Name) (act : Act) (t : ℕ) (l : Known) (f : Name → ℕ) (known : ℕ → Known) (o : ℕ)
+pub absent_stays : (there : ℕ → Bool) (at : Name) (act : Act) (t : ℕ) (l : Known) (f : Name → ℕ) (known : ℕ → Known) (o : ℕ)
     → SparesAbsent there at (f at) (word_after act (f at)) → there o ≡ false → (l.holds ≡ holds_after at act (known t)) ⊎ (l.holds ≡ (known t).holds)
-    → IsAbsent makes o (f (Class o)) (f (Mark o)) (λ u. (known u).holds)
-    → IsAbsent makes o (with_word at (word_after act (f at)) f (Class o)) (with_word at (word_after act (f at)) f (Mark o))
-    (λ u. (with_known t l known u).holds)
-absent_stays there makes at act t l f known o spares none holds a = record {
-  classless = elim a.classless [ inl none_stored ↦ inl (class_stays there at (word_after act (f at)) f o spares ∙ none_stored) | inr made ↦ inr made ];
+    → making_in l.unfinished ≡ making_in (known t).unfinished
+    → IsAbsent (λ u. (known u).unfinished) o (f (Class o)) (f (Mark o)) (λ u. (known u).holds)
+    → IsAbsent (λ u. (with_known t l known u).unfinished) o (with_word at (word_after act (f at)) f (Class o))
+    (with_word at (word_after act (f at)) f (Mark o)) (λ u. (with_known t l known u).holds)
+absent_stays there at act t l f known o spares none holds makes a = record {
+  classless = elim a.classless [
+    | inl none_stored ↦ inl (class_stays there at (word_after act (f at)) f o spares ∙ none_stored)
+    | inr made ↦ inr (made.0, making_stays t l known made.0 makes ∙ made.1)
+  ];
   neutral = mark_stays there at (word_after act (f at)) f o spares none ∙ a.neutral;
   unheld = λ u. each_with_known (λ x k. hold_count o k.holds ≡ 0) t l known u
       (elim holds [

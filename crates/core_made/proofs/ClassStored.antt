@@ -1,6 +1,6 @@
--- The law of what is there after the store of a class word: the object still isn't there, and its thread stands before the store of its first mark.
-use Rattle.std.proofs.Common.{◌≡◌, ◌≢◌, ℕ, ◌+◌, ◌<◌, eq-eqb, ne_eqb, Bool, true, false, cond, List, length, Option, Some, None, refl, sym, ap, ◌∙◌, subst, arith, inl, inr}
-use Rattle.std.proofs.lemmas.Option.{some_pair_parts}
+-- The law of what is there after the store of a class word: the object still isn't there, and its thread is making it.
+use Rattle.std.proofs.Common.{◌≡◌, ◌≢◌, ℕ, ◌+◌, ◌<◌, eq-eqb, ne_eqb, Bool, true, false, cond, ◌&&◌, ◌==◌, List, length, Option, Some, None, refl, sym, ap, ◌∙◌, subst, arith, inl, inr}
+use Rattle.std.proofs.lemmas.Option.{same_Some}
 use Rattle.plain_monitor.specs.declared.entry.Logged.{Logged}
 use Rattle.plain_monitor.specs.Objects.{PlainObject}
 use Rattle.plain_monitor.specs.Limits.{most_made}
@@ -8,54 +8,70 @@ use Rattle.plain_monitor.specs.Made.{Numbering, made_number, is_there, made_by, 
 use Rattle.plain_history.specs.Known.{news}
 use Rattle.plain_history.proofs.MadeSteps.{MayCreate, creating, may_be_created}
 use Rattle.plain_history.proofs.SlotsKnown.{made_by_log}
-use Rattle.core_world.specs.declared.name.Name.TheVariants.{Class}
+use Rattle.core_world.specs.declared.name.Name.TheVariants.{Mark, Class}
+use Rattle.core_world.specs.declared.task.Op.{Op}
+use Rattle.core_world.specs.declared.task.Op.TheVariants as op
 use Rattle.core_world.specs.declared.task.Unfinished.{Unfinished}
 use Rattle.core_world.specs.Locks.{marks}
 use Rattle.core_world.specs.Steps.{known_hit, world_after}
-use Rattle.core_world.specs.Threads.Known.{Known, DumpShot}
+use Rattle.core_world.specs.Threads.Known.{Known, DumpShot, StepMade, last_seen}
+use Rattle.core_world.specs.Trees.CreateSteps.{class_plan}
 use Rattle.core_world.specs.Trees.Plans.{Purpose}
 use Rattle.core_world.specs.Valid.{Fits}
 use Rattle.core_world.specs.World.{World, logs}
-use Rattle.core_world.proofs.Frames.{frame4}
-use Rattle.core_world.proofs.KnowledgeParts.{by_equal, each_with_known, part_moves, logs_stay, log_at}
-use Rattle.core_made.specs.MadeLaw.{MadeLaw, MadeLawWhile, IsOnOneOf, knows_by_log, numbering, stamp_words}
-use Rattle.core_made.specs.Making.{IsClassless, MayStoreClass, IsNext, class_plan, with_making}
-use Rattle.core_made.specs.Steps.{knows_in}
+use Rattle.core_world.proofs.ActsLook.{seen_is_part}
+use Rattle.core_world.proofs.Frames.{frame5}
+use Rattle.core_world.proofs.KnowledgeParts.{by_equal, with_known_here, with_known_else, each_with_known, part_moves, logs_stay, log_at}
+use Rattle.core_world.specs.Threads.References.{knows_by_log, numbering, has_object, is_on, made_by_op, making_in}
+use Rattle.core_law.specs.MadeLaw.{MadeLaw, MadeLawHolds, stamp_words}
+use Rattle.core_made.specs.Making.{IsClassless, MayStoreClass, IsNext}
 use Rattle.core_made.proofs.ClassWords.{class_valid}
 use Rattle.core_made.proofs.NextNumbers.{rows_are, next_is_made, next_is_absent, one_maker, class_is_there}
 use Rattle.core_made.proofs.Numbers.{first_is_declared}
 
--- WHO MAKES AN OBJECT, where thread t comes to make p
-pub making_here : (t : ℕ) (p : Option (ℕ × ℕ)) (makes : ℕ → Option (ℕ × ℕ)) (u : ℕ) → u ≡ t → with_making t p makes u ≡ p
-making_here t p makes u e = ap (λ (b : Bool). cond b p (makes u)) (eq-eqb u t e)
+-- the making of an object is an operation on none that is there
+not_on_op : (op : Op) (o made i : ℕ) → made_by_op op o ≡ Some made → (has_object op && (o == i)) ≡ false
+not_on_op op.Create o made i h = refl
+not_on_op op.Enter o made i h = absurd (cc h)
+not_on_op op.Exit o made i h = absurd (cc h)
+not_on_op op.Wait o made i h = absurd (cc h)
+not_on_op op.Notify o made i h = absurd (cc h)
+not_on_op op.NotifyAll o made i h = absurd (cc h)
+not_on_op op.Hash o made i h = absurd (cc h)
+not_on_op op.Dump o made i h = absurd (cc h)
 
-pub making_else : (t : ℕ) (p : Option (ℕ × ℕ)) (makes : ℕ → Option (ℕ × ℕ)) (u : ℕ) → u ≢ t → with_making t p makes u ≡ makes u
-making_else t p makes u d = ap (λ (b : Bool). cond b p (makes u)) (ne_eqb u t d)
+pub making_is_on_none : (u : Option Unfinished) (made i : ℕ) → making_in u ≡ Some made → is_on u i ≡ false
+making_is_on_none None made i h = refl
+making_is_on_none (Some u) made i h = not_on_op u.op u.object made i h
 
 -- THE LAW, over functions
-module _ {n : Numbering} {shape : List (ℕ × ℕ)} {logs : List (List Logged)} {stamps : List ℕ} {makes : ℕ → Option (ℕ × ℕ)} {class mark : ℕ → ℕ}
-    {holds : ℕ → List ℕ} {log : ℕ → List Logged} {under_way : ℕ → Option Unfinished} {shots : ℕ → List DumpShot}
-    (law : MadeLaw n shape logs stamps makes class mark holds log under_way shots) (t o c : ℕ) (none : makes t ≡ None)
+module _ {n : Numbering} {shape : List (ℕ × ℕ)} {logs : List (List Logged)} {stamps : List ℕ} {class mark : ℕ → ℕ}
+    {holds : ℕ → List ℕ} {log : ℕ → List Logged} {under_way : ℕ → Option Unfinished} {shots : ℕ → List DumpShot} {seen : ℕ → List StepMade}
+    {reached : ℕ → Bool} (law : MadeLaw n shape logs stamps class mark holds log under_way shots seen reached) (t o c : ℕ)
+    (none : making_in (under_way t) ≡ None)
     (next : MayCreate n law.made t (o, c)) where
   absent : is_there n law.made o ≡ false
   absent = next_is_absent n law.made t (o, c) next
 
   -- no other thread makes the object
-  unmade : (u d : ℕ) → makes u ≡ Some (o, d) → ⊥
-  unmade u d e =
-      let its : MayCreate n law.made u (o, d) = creating n law.made u (o, d) (law.making u o d e).next in
-      let same : u ≡ t = one_maker n law.made t u o c d next its in
-      let is = sym (ap makes same) ∙ e in
+  unmade : (u : ℕ) → making_in (under_way u) ≡ Some o → ⊥
+  unmade u e =
+      let m = law.making u o e in
+      let same : u ≡ t = one_maker n law.made t u o c m.class_made next (creating n law.made u (o, m.class_made) m.next) in
+      let is = sym (ap (λ z. making_in (under_way z)) same) ∙ e in
       absurd (cc (is, none))
 
   -- so its class word is 0
   pub no_class : class o ≡ 0
-  no_class = elim (law.absent o absent).classless [ inl h ↦ h | inr h ↦ absurd (unmade h.0 h.1 h.2) ]
+  no_class = elim (law.absent o absent).classless [ inl h ↦ h | inr h ↦ absurd (unmade h.0 h.1) ]
 
-  pub class_stored : (class2 : ℕ → ℕ) (under_way2 : ℕ → Option Unfinished) → class2 o ≡ c + 1 → ((i : ℕ) → i ≢ o → class2 i ≡ class i)
-      → ((u : ℕ) → IsOnOneOf (knows_by_log n (log u)) (under_way2 u))
-      → MadeLaw n shape logs stamps (with_making t (Some (o, c)) makes) class2 mark holds log under_way2 shots
-  class_stored class2 under_way2 stored others begins = record {
+  pub class_stored : (class2 : ℕ → ℕ) (under_way2 : ℕ → Option Unfinished) (seen2 : ℕ → List StepMade) → class2 o ≡ c + 1
+      → ((i : ℕ) → i ≢ o → class2 i ≡ class i) → making_in (under_way2 t) ≡ Some o
+      → ((u : ℕ) → u ≢ t → making_in (under_way2 u) ≡ making_in (under_way u))
+      → ((u i : ℕ) → is_on (under_way2 u) i ≡ true → knows_by_log n (log u) i ≡ true)
+      → ((u i v : ℕ) → reached u ≡ false → last_seen (Mark i) (seen2 u) ≡ Some v → knows_by_log n (log u) i ≡ true)
+      → MadeLaw n shape logs stamps class2 mark holds log under_way2 shots seen2 reached
+  class_stored class2 under_way2 seen2 stored others mine theirs begins sees = record {
     made = law.made;
     in_time = law.in_time;
     cut_in_time = law.cut_in_time;
@@ -64,38 +80,36 @@ module _ {n : Numbering} {shape : List (ℕ × ℕ)} {logs : List (List Logged)}
         (λ ne. others i ne ∙ law.classes i d past e);
     absent = λ i e. record {
       classless = by_equal i o
-          (λ s. inr (t, c, making_here t (Some (o, c)) makes t refl ∙ ap (λ j. Some (j, c)) (sym s)))
+          (λ s. inr (t, mine ∙ ap Some (sym s)))
           (λ ne. elim (law.absent i e).classless [
             | inl h ↦ inl (others i ne ∙ h)
-            | inr h ↦ inr (h.0, h.1, making_else t (Some (o, c)) makes h.0 (λ s. let is = sym (ap makes s) ∙ h.2 in absurd (cc (is, none))) ∙ h.2)
+            | inr h ↦ inr (h.0, theirs h.0 (λ s. let is = sym (ap (λ z. making_in (under_way z)) s) ∙ h.1 in absurd (cc (is, none))) ∙ h.1)
           ]);
       neutral = (law.absent i e).neutral;
       unheld = (law.absent i e).unheld;
     };
-    making = λ u i d e. by_equal u t
+    making = λ u i e. by_equal u t
         (λ s.
-        let same = some_pair_parts o i c d (sym (making_here t (Some (o, c)) makes u s) ∙ e) in
-        let may : may_create n law.made u (i, d) ≡ true =
-        ap (λ v. may_create n law.made v (i, d)) s ∙ ap (λ j. may_create n law.made t (j, d)) (sym same.0)
-        ∙ ap (λ k. may_create n law.made t (o, k)) (sym same.1)
+        let same : o ≡ i = same_Some o i (sym mine ∙ ap (λ z. making_in (under_way2 z)) (sym s) ∙ e) in
+        let may : may_create n law.made u (i, c) ≡ true =
+        ap (λ z. may_create n law.made z (i, c)) s ∙ ap (λ j. may_create n law.made t (j, c)) (sym same)
         ∙ may_be_created n law.made t (o, c) next in
-        record { next = may; stored = ap class2 (sym same.0) ∙ stored ∙ ap (λ k. k + 1) same.1 })
+        record { class_made = c; next = may; stored = ap class2 (sym same) ∙ stored })
         (λ ne.
-        let was = sym (making_else t (Some (o, c)) makes u ne) ∙ e in
-        record {
-          next = (law.making u i d was).next;
-          stored = others i (λ s. unmade u d (was ∙ ap (λ j. Some (j, d)) s)) ∙ (law.making u i d was).stored;
-        });
+        let before = sym (theirs u ne) ∙ e in
+        let was = law.making u i before in
+        record { class_made = was.class_made; next = was.next; stored = others i (λ s. unmade u (before ∙ ap Some s)) ∙ was.stored });
     known = law.known;
     unfinished = begins;
+    saw = sees;
     objects = law.objects;
     taken = law.taken;
     slots = law.slots;
   }
 
 -- IN A WORLD
-module _ (e : Purpose) (o c : ℕ) (makes : ℕ → Option (ℕ × ℕ)) (w : World) (P : List PlainObject) (t : ℕ) (within : t < w.shape.threads)
-    (none : makes t ≡ None) (next : IsNext (numbering w.shape) (w.known t).log t o c) (v : Fits w P) (law : MadeLawWhile makes w) where
+module _ (e : Purpose) (o c : ℕ) (w : World) (P : List PlainObject) (t : ℕ) (within : t < w.shape.threads)
+    (none : making_in (w.known t).unfinished ≡ None) (next : IsNext (numbering w.shape) (w.known t).log t o c) (v : Fits w P) (law : MadeLawHolds w) where
   abbrev n : Numbering
   n = numbering w.shape
 
@@ -129,21 +143,32 @@ module _ (e : Purpose) (o c : ℕ) (makes : ℕ → Option (ℕ × ℕ)) (w : Wo
   class_else : (i : ℕ) → i ≢ o → x.words (Class i) ≡ w.words (Class i)
   class_else i d = ap (λ (b : Bool). cond b (c + 1) (w.words (Class i))) (ne_eqb i o d)
 
-  pub class_keeps : IsOnOneOf (knows_in w t) e.unfinished → MadeLawWhile (with_making t (Some (o, c)) makes) x
-  class_keeps begins =
-      frame4
-      (λ ls f g s. MadeLaw n w.shape.objects ls (stamp_words w) (with_making t (Some (o, c)) makes) (λ i. x.words (Class i)) (marks w) f g
-      (λ u. (x.known u).unfinished) s)
+  -- the step is on no mark
+  sees : (u i s : ℕ) → (w.known u).reached ≡ false → last_seen (Mark i) (x.known u).seen ≡ Some s → knows_by_log n (w.known u).log i ≡ true
+  sees u i s = each_with_known (λ z k. (w.known z).reached ≡ false → last_seen (Mark i) k.seen ≡ Some s → knows_by_log n (w.known z).log i ≡ true) t l w.known u
+      (λ free saw. law.saw t i s free (seen_is_part w.shape (w.known t) (Mark i) s saw)) (λ d. law.saw u i s)
+
+  -- what the thread has unfinished is the making of the object, which is an operation on none that is there
+  begins : making_in e.unfinished ≡ Some o → (u i : ℕ) → is_on (x.known u).unfinished i ≡ true → knows_by_log n (w.known u).log i ≡ true
+  begins mine u i = each_with_known (λ z k. is_on k.unfinished i ≡ true → knows_by_log n (w.known z).log i ≡ true) t l w.known u
+      (λ on. let off = making_is_on_none e.unfinished o i mine in absurd (cc (on, off))) (λ d. law.unfinished u i)
+
+  pub class_keeps : making_in e.unfinished ≡ Some o → MadeLawHolds x
+  class_keeps mine =
+      frame5
+      (λ ls f g s r. MadeLaw n w.shape.objects ls (stamp_words w) (λ i. x.words (Class i)) (marks w) f g
+      (λ u. (x.known u).unfinished) s (λ u. (x.known u).seen) r)
       (sym (logs_stay 0 w.shape.threads t l w.known refl)) (part_moves (λ k. k.holds) t l w.known refl) (part_moves (λ k. k.log) t l w.known refl)
-      (part_moves (λ k. k.shots) t l w.known refl)
-      (class_stored law t o c none may_create_it (λ i. x.words (Class i)) (λ u. (x.known u).unfinished) class_here class_else
-      (λ u. each_with_known (λ u k. IsOnOneOf (knows_by_log n (w.known u).log) k.unfinished) t l w.known u begins (λ d. law.unfinished u)))
+      (part_moves (λ k. k.shots) t l w.known refl) (part_moves (λ k. k.reached) t l w.known refl)
+      (class_stored law t o c none may_create_it (λ i. x.words (Class i)) (λ u. (x.known u).unfinished) (λ u. (x.known u).seen) class_here class_else
+      (ap (λ (k : Known). making_in k.unfinished) (with_known_here t l w.known) ∙ mine)
+      (λ u d. ap (λ (k : Known). making_in k.unfinished) (with_known_else t l w.known u d)) (begins mine) sees)
 
 -- THE LAW OF THE STEP
-pub class_keeps_law : (e : Purpose) (o c : ℕ) (makes : ℕ → Option (ℕ × ℕ)) (w : World) (P : List PlainObject) (t : ℕ) → t < w.shape.threads
-    → MayStoreClass (w.known t) e → IsOnOneOf (knows_in w t) e.unfinished → makes t ≡ None
-    → IsNext (numbering w.shape) (w.known t).log t o c → Fits w P → MadeLawWhile makes w
-    → Fits (world_after (class_plan e o c) t w) P × MadeLawWhile (with_making t (Some (o, c)) makes) (world_after (class_plan e o c) t w)
-class_keeps_law e o c makes w P t within may begins none next v law =
-    let less = no_class_yet e o c makes w P t within none next v law in
-    (class_valid e o c w P t within may less next.class v, class_keeps e o c makes w P t within none next v law begins)
+pub class_keeps_law : (e : Purpose) (o c : ℕ) (w : World) (P : List PlainObject) (t : ℕ) → t < w.shape.threads
+    → MayStoreClass (w.known t) e → making_in (w.known t).unfinished ≡ None → making_in e.unfinished ≡ Some o
+    → IsNext (numbering w.shape) (w.known t).log t o c → Fits w P → MadeLawHolds w
+    → Fits (world_after (class_plan e o c) t w) P × MadeLawHolds (world_after (class_plan e o c) t w)
+class_keeps_law e o c w P t within may none mine next v law =
+    let less = no_class_yet e o c w P t within none next v law in
+    (class_valid e o c w P t within may less next.class v, class_keeps e o c w P t within none next v law mine)

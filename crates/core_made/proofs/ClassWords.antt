@@ -5,7 +5,8 @@ use Rattle.core_world.specs.Words.Shape.{class_of}
 use Rattle.core_locks.proofs.Clauses.{turned_parts, parts_turn, seen, forms, AllHold}
 use Rattle.core_locks.proofs.MarkMeanings.{each_set}
 use Rattle.core_locks.proofs.Steps.{none_reached, quietly, IsStep, next, step_fits, seen_next, quiet_step}
-use Rattle.core_made.specs.Making.{IsClassless, MayStoreClass, class_plan}
+use Rattle.core_world.specs.Trees.CreateSteps.{class_plan}
+use Rattle.core_made.specs.Making.{IsClassless, MayStoreClass}
 
 -- a mark without the bias pattern means the same lock by each prototype
 unbiased_lock : (f : Option MarkForm) (p q : ℕ) (owners : ℕ → ℕ) (named : Option Inflation) → is_biased_form f ≡ false

@@ -17,24 +17,26 @@ use Rattle.plain_history.specs.Tied.{bound_to}
 use Rattle.plain_history.proofs.Bounds.{last_grows}
 use Rattle.plain_history.proofs.MadeHistories.{made_with, known_may_follow, known_stays}
 use Rattle.plain_history.proofs.SlotsKnown.{slots_stay_known, owner_knows}
-use Rattle.core_world.specs.declared.name.Name.TheVariants.{Stamp, Class}
+use Rattle.core_world.specs.declared.name.Name.TheVariants.{Mark, Stamp, Class}
 use Rattle.core_world.specs.declared.plan.StepPlan.{StepPlan}
-use Rattle.core_world.specs.declared.task.Unfinished.{Unfinished}
 use Rattle.core_world.specs.Clauses.Stamps.{bound_stamp}
 use Rattle.core_world.specs.Clauses.Waits.{last_entry}
 use Rattle.core_world.specs.Locks.{marks}
 use Rattle.core_world.specs.Steps.{known_hit, known_miss, world_after, is_taking}
-use Rattle.core_world.specs.Threads.Known.{Known, DumpShot}
+use Rattle.core_world.specs.Threads.Known.{Known, DumpShot, last_seen}
 use Rattle.core_world.specs.Valid.{Fits}
 use Rattle.core_world.specs.Words.Acts.{word_after}
 use Rattle.core_world.specs.World.{World, with_word_and_known, logs}
 use Rattle.core_world.proofs.KnowledgeParts.{with_known_here, each_with_known, logs_grow, logs_length, log_at}
+use Rattle.core_locks.proofs.KnownMore.{knows_more}
 use Rattle.core_locks.proofs.LeavesStamps.{last_bounded}
 use Rattle.core_locks.proofs.Logging.{last_entry_more}
-use Rattle.core_made.specs.MadeLaw.{numbering, there_after, is_told, knows_by_log, IsOnOneOf, IsAbsent, IsMaking, MadeLaw, stamp_words, MadeLawWhile}
+use Rattle.core_world.specs.Threads.References.{numbering, is_told, knows_by_log, is_on, making_in}
+use Rattle.core_law.specs.MadeLaw.{there_after, IsAbsent, IsMaking, MadeLaw, stamp_words, MadeLawHolds}
 use Rattle.core_made.specs.Steps.{is_there_in, knows_in, IsFairTelling}
-use Rattle.core_made.proofs.Absent.{class_stays, stamp_rises, absent_stays, word_listed, words_rise}
-use Rattle.core_made.proofs.KnownByLog.{by_log_known, all_are_there, told_more, knows_more, told_is_got, got_from_slot}
+use Rattle.core_made.proofs.Absent.{class_stays, stamp_rises, making_stays, absent_stays, word_listed, words_rise}
+use Rattle.core_made.proofs.KnownByLog.{by_log_known, all_are_there, told_more, told_is_got, got_from_slot}
+use Rattle.core_made.proofs.MarksSeen.{hit_marks}
 use Rattle.core_made.proofs.Bounded.{above_last, above_found, taker_finds, teller_owns}
 
 -- fronts stay as they are where a log grows behind them
@@ -64,8 +66,8 @@ stamp_listed x Q o z fits at =
     word_listed 0 (length x.shape.objects) o (λ j. x.words (Stamp j)) o (omega (arith, a, b)) (omega arith)
 
 -- THE STEP OF A PLAN p of thread t, which hits and logs y: the plain objects P become Q
-module _ (w : World) (P Q : List PlainObject) (makes : ℕ → Option (ℕ × ℕ)) (t : ℕ) (p : StepPlan) (y : Logged) (within : t < w.shape.threads)
-    (a : IsFairTelling w t p y) (taken : take_entry P t y.entry ≡ Some Q) (fits : Fits w P) (law : MadeLawWhile makes w) where
+module _ (w : World) (P Q : List PlainObject) (t : ℕ) (p : StepPlan) (y : Logged) (within : t < w.shape.threads)
+    (a : IsFairTelling w t p y) (taken : take_entry P t y.entry ≡ Some Q) (fits : Fits w P) (law : MadeLawHolds w) where
   abbrev n : Numbering
   n = numbering w.shape
 
@@ -137,13 +139,15 @@ module _ (w : World) (P Q : List PlainObject) (makes : ℕ → Option (ℕ × �
   class_on : (o c : ℕ) → w.words (Class o) ≡ c → x.words (Class o) ≡ c
   class_on o c h = class_stays (is_there_in w) p.at left w.words o a.fair.spares ∙ h
 
-  absent : (o : ℕ) → is_there n law.made o ≡ false → IsAbsent makes o (x.words (Class o)) (marks x o) (λ u. (x.known u).holds)
+  absent : (o : ℕ) → is_there n law.made o ≡ false → IsAbsent (λ u. (x.known u).unfinished) o (x.words (Class o)) (marks x o) (λ u. (x.known u).holds)
   absent o h =
       let before : is_there_in w o ≡ false = ap (λ m. there_after n m o) law.in_time ∙ h in
-      absent_stays (is_there_in w) makes p.at p.act t l w.words w.known o a.fair.spares before (inl refl) (law.absent o h)
+      absent_stays (is_there_in w) p.at p.act t l w.words w.known o a.fair.spares before (inl refl) a.fair.makes (law.absent o h)
 
-  making : (u o c : ℕ) → makes u ≡ Some (o, c) → IsMaking n law.made (λ i. x.words (Class i)) u o c
-  making u o c h = let m = law.making u o c h in record { next = m.next; stored = class_on o (c + 1) m.stored }
+  making : (u o : ℕ) → making_in (x.known u).unfinished ≡ Some o → IsMaking n law.made (λ i. x.words (Class i)) u o
+  making u o h =
+      let m = law.making u o (sym (making_stays t l w.known u a.fair.makes) ∙ h) in
+      record { class_made = m.class_made; next = m.next; stored = class_on o (m.class_made + 1) m.stored }
 
   -- WHAT THREADS KNOW they know by the longer logs, and what the entry tells its thread it got from a slot of an object that it owns
   slots_before : SlotsAreKnown n made P (logs w) (stamp_words w)
@@ -169,13 +173,16 @@ module _ (w : World) (P Q : List PlainObject) (makes : ℕ → Option (ℕ × �
   known u o = each_with_known (λ i k. is_told k.log o ≡ true → IsKnown n made grown i o) t l w.known u
       (λ h. known_on t o (told_known o h)) (λ d h. known_on u o (law.known u o h))
 
-  on_known : (log : List Logged) (u : Option Unfinished) → IsOnOneOf (knows_by_log n log) u → IsOnOneOf (knows_by_log n (log ++ y ∷ [])) u
-  on_known log None h = tt
-  on_known log (Some u) h = λ is. knows_more n log y u.object (h is)
+  still_knows : (o : ℕ) → knows_in w t o ≡ true → knows_by_log n l.log o ≡ true
+  still_knows o h = ap (λ log. knows_by_log n log o) a.grows ∙ knows_more n (w.known t).log y o h
 
-  unfinished : (u : ℕ) → IsOnOneOf (knows_by_log n (x.known u).log) (x.known u).unfinished
-  unfinished u = each_with_known (λ i k. IsOnOneOf (knows_by_log n k.log) k.unfinished) t l w.known u
-      (subst (λ log. IsOnOneOf (knows_by_log n log) l.unfinished) (sym a.grows) (on_known (w.known t).log l.unfinished a.fair.begins)) (λ d. law.unfinished u)
+  unfinished : (u o : ℕ) → is_on (x.known u).unfinished o ≡ true → knows_by_log n (x.known u).log o ≡ true
+  unfinished u o = each_with_known (λ i k. is_on k.unfinished o ≡ true → knows_by_log n k.log o ≡ true) t l w.known u
+      (λ h. still_knows o (a.fair.begins o h)) (λ d. law.unfinished u o)
+
+  saw : (u o s : ℕ) → (x.known u).reached ≡ false → last_seen (Mark o) (x.known u).seen ≡ Some s → knows_by_log n (x.known u).log o ≡ true
+  saw u o s = each_with_known (λ i k. k.reached ≡ false → last_seen (Mark o) k.seen ≡ Some s → knows_by_log n k.log o ≡ true) t l w.known u
+      (λ free h. still_knows o (hit_marks w law t p a.fair.looks a.fair.ends o s free h)) (λ d. law.saw u o s)
 
   -- THE SLOTS. The entry is above the bound of its object: its owner's last stamp, or the stamp word that it was stamped by
   owned : (o : ℕ) (z : PlainObject) → z.monitor.owner ≡ Some t → bound o z.monitor.owner < y.stamp
@@ -228,11 +235,11 @@ module _ (w : World) (P Q : List PlainObject) (makes : ℕ → Option (ℕ × �
     slots =
         slots_stay_known n made made P Q (logs w) (stamp_words w) (stamp_words x) t y fits.legal.rises above taken made_stays needs_known rise slots_before
 
-    pub told_law : MadeLawWhile makes x
+    pub told_law : MadeLawHolds x
     told_law =
         subst
-        (λ all. MadeLaw n w.shape.objects all (stamp_words x) makes (λ o. x.words (Class o)) (marks x) (λ u. (x.known u).holds) (λ u. (x.known u).log)
-        (λ u. (x.known u).unfinished) (λ u. (x.known u).shots))
+        (λ all. MadeLaw n w.shape.objects all (stamp_words x) (λ o. x.words (Class o)) (marks x) (λ u. (x.known u).holds) (λ u. (x.known u).log)
+        (λ u. (x.known u).unfinished) (λ u. (x.known u).shots) (λ u. (x.known u).seen) (λ u. (x.known u).reached))
         (sym logs_are)
         (record {
           made = made;
@@ -243,6 +250,7 @@ module _ (w : World) (P Q : List PlainObject) (makes : ℕ → Option (ℕ × �
           making = making;
           known = known;
           unfinished = unfinished;
+          saw = saw;
           objects = Q;
           taken = ap (objects_after w.shape.objects) (sym logs_are) ∙ after.taken;
           slots = slots;
@@ -254,9 +262,9 @@ after_by w t p b =
     with_word_and_known p.at (word_after p.act (w.words p.at)) t
     (cond b (known_hit w.shape w.start p (w.words p.at) (w.known t)) (known_miss w.shape w.start p (w.words p.at) (w.known t))) w
 
-pub telling_keeps : (w : World) (P Q : List PlainObject) (makes : ℕ → Option (ℕ × ℕ)) (t : ℕ) (p : StepPlan) (y : Logged) → t < w.shape.threads
-    → IsFairTelling w t p y → take_entry P t y.entry ≡ Some Q → Fits w P → Fits (world_after p t w) Q → MadeLawWhile makes w
-    → MadeLawWhile makes (world_after p t w)
-telling_keeps w P Q makes t p y within a taken fits after law =
-    let hit : Fits (after_by w t p true) Q → MadeLawWhile makes (after_by w t p true) = told_law w P Q makes t p y within a taken fits law in
-    subst (λ b. Fits (after_by w t p b) Q → MadeLawWhile makes (after_by w t p b)) (sym a.hits) hit after
+pub telling_keeps : (w : World) (P Q : List PlainObject) (t : ℕ) (p : StepPlan) (y : Logged) → t < w.shape.threads
+    → IsFairTelling w t p y → take_entry P t y.entry ≡ Some Q → Fits w P → Fits (world_after p t w) Q → MadeLawHolds w
+    → MadeLawHolds (world_after p t w)
+telling_keeps w P Q t p y within a taken fits after law =
+    let hit : Fits (after_by w t p true) Q → MadeLawHolds (after_by w t p true) = told_law w P Q t p y within a taken fits law in
+    subst (λ b. Fits (after_by w t p b) Q → MadeLawHolds (after_by w t p b)) (sym a.hits) hit after

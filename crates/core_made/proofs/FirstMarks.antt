@@ -7,7 +7,8 @@ use Rattle.core_locks.proofs.Drawing.{draws_counted, draws_still}
 use Rattle.core_locks.proofs.MarkMeanings.{forms_marked, each_set, IsBare, bare_unnamed, bare_unbiased, neutral_bare, neutral_some, neutral_lock, neutral_header}
 use Rattle.core_locks.proofs.MarkChanges.{names_same, zero_back, zero_forth, mark_back, recursions_by_marks, inflating_by_marks}
 use Rattle.core_locks.proofs.Steps.{none_reached, telling, IsStep, next, step_fits, seen_next}
-use Rattle.core_made.specs.Making.{IsFresh, IsFirstMark, MayMake, make_plan}
+use Rattle.core_world.specs.Trees.CreateSteps.{make_plan}
+use Rattle.core_made.specs.Making.{IsFresh, IsFirstMark, MayMake}
 
 -- WHAT A FIRST MARK MEANS: nobody has the lock, and there is no header, or one without a hash
 module _ (w : World) (m : ℕ) where

@@ -1,5 +1,6 @@
 -- What a thread knows by its log it knows by its last stamp, and it knows what an entry tells it.
 use Rattle.std.proofs.Common.{◌≡◌, ◌⊎◌, ℕ, ◌≤◌, ◌||◌, nat_lt, eqb-true, Bool, true, false, List, [], ◌∷◌, ◌++◌, length, slice_get, Option, Some, None, refl, sym, ap, ◌∙◌, inl, inr}
+use Rattle.std.proofs.Math.Bool.{or-true}
 use Rattle.std.proofs.lemmas.List.Folds.{list_any-append}
 use Rattle.std.proofs.lemmas.Option.{cond_some}
 use Rattle.std.specs.List.{AllByRecursion}
@@ -20,7 +21,7 @@ use Rattle.plain_history.proofs.MadeSteps.{all_there, both_hold, neither_holds}
 use Rattle.plain_history.proofs.Passing.{first_run}
 use Rattle.plain_history.proofs.Swaps.{taken_at}
 use Rattle.core_world.proofs.ObjectHolds.{thread_is}
-use Rattle.core_made.specs.MadeLaw.{tells_of, is_told, knows_by_log}
+use Rattle.core_world.specs.Threads.References.{tells_of, is_told, knows_by_log}
 
 -- DECLARED OBJECTS. No entry makes one: so each is known at any stamp.
 none_declared : (n : Numbering) (xs : List (ℕ × Logged)) (before after : List (List ℕ)) (o : ℕ) → run_all (take_made n) before xs ≡ Some after
@@ -69,12 +70,11 @@ told_more log y o h = by_tests (is_told log o) refl (tells_of o y.entry) refl (s
     by_tests false told true new g = inr new
     by_tests false told false new g = absurd (cc g)
 
-pub knows_more : (n : Numbering) (log : List Logged) (y : Logged) (o : ℕ) → knows_by_log n log o ≡ true → knows_by_log n (log ++ y ∷ []) o ≡ true
-knows_more n log y o h = by_test (nat_lt o (first_made n)) h
-  where
-    by_test : (b : Bool) → (b || is_told log o) ≡ true → (b || is_told (log ++ y ∷ []) o) ≡ true
-    by_test true g = refl
-    by_test false g = list_any-append (λ l. tells_of o l.entry) log (y ∷ []) ∙ ap (λ (told : Bool). told || is_told (y ∷ []) o) g
+pub knows_new : (n : Numbering) (log : List Logged) (y : Logged) (o : ℕ) → tells_of o y.entry ≡ true → knows_by_log n (log ++ y ∷ []) o ≡ true
+knows_new n log y o h =
+    let told : is_told (log ++ y ∷ []) o ≡ true =
+    list_any-append (λ l. tells_of o l.entry) log (y ∷ []) ∙ ap (λ (b : Bool). is_told log o || (b || false)) h ∙ or-true (is_told log o) in
+    ap (λ (b : Bool). nat_lt o (first_made n) || b) told ∙ or-true (nat_lt o (first_made n))
 
 -- WHAT AN ENTRY TELLS, which makes no object: what it got from a slot
 pub record IsGot (e : Entry) (o : ℕ) : Type 0 where

@@ -3,13 +3,17 @@ pub mod Opening
 pub mod Absent
 pub mod KnownByLog
 pub mod Bounded
+pub mod MarksSeen
 pub mod Quiets
 pub mod ShotTaken
 pub mod EntriesTold
 pub mod Revoked
+pub mod NewsLogged
+pub mod OnlyMaker
 pub mod Readings
 pub mod FirstMarks
 pub mod Prototypes
+pub mod Fair
 pub mod ClassWords
 pub mod NextNumbers
 pub mod ClassStored

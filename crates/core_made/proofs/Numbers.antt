@@ -3,7 +3,7 @@ use Rattle.std.proofs.Common.{◌≡◌, ℕ, Bool, true, false, List, nat_lt, r
 use Rattle.std.proofs.lemmas.List.{length-take, length-map}
 use Rattle.plain_monitor.specs.Made.{Numbering, first_made, is_there}
 use Rattle.core_world.specs.Words.Shape.{Shape, IsInLimits}
-use Rattle.core_made.specs.MadeLaw.{numbering}
+use Rattle.core_world.specs.Threads.References.{numbering}
 
 -- the first number of an object that is made comes after the declared ones
 pub first_is_declared : (s : Shape) → IsInLimits s → first_made (numbering s) ≡ s.declared

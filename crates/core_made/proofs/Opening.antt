@@ -11,7 +11,8 @@ use Rattle.core_world.specs.Words.Shape.{Shape, IsInLimits}
 use Rattle.core_world.specs.World.{logs_from}
 use Rattle.core_world.proofs.Counting.{named_none}
 use Rattle.plain_monitor.specs.Limits.{most_holds}
-use Rattle.core_made.specs.MadeLaw.{MadeLawHolds, numbering, stamp_words}
+use Rattle.core_world.specs.Threads.References.{numbering}
+use Rattle.core_law.specs.MadeLaw.{MadeLawHolds, stamp_words}
 use Rattle.core_made.proofs.Numbers.{first_is_declared, not_declared}
 
 no_entries : (u v n : ℕ) → with_threads u (logs_from v n first_known) ≡ []
@@ -22,7 +23,7 @@ no_order : (n : ℕ) → order (logs_from 0 n first_known) ≡ []
 no_order n = ap ordered (no_entries 0 0 n)
 
 -- no thread has made anything
-none_by : (n t : ℕ) → made_by (replicate n []) t ≡ []
+pub none_by : (n t : ℕ) → made_by (replicate n []) t ≡ []
 none_by zero t = refl
 none_by (suc n) zero = refl
 none_by (suc n) (suc t) = none_by n t
@@ -40,12 +41,14 @@ opening_meets s start biasing limits = record {
   classes = λ o c past e. let none = none_has_class (numbering s) o (grind (arith, nat_tests, past)) in absurd (cc (e, none));
   absent = λ o e. record {
     classless = inl refl;
-    neutral = ap (λ d. first_mark (biasing && d)) (ap (nat_lt o) (sym (first_is_declared s limits)) ∙ not_declared (numbering s) (nothing_made (numbering s)) o e) ∙ unbiased biasing;
+    neutral = ap (λ d. first_mark (biasing && d))
+        (ap (nat_lt o) (sym (first_is_declared s limits)) ∙ not_declared (numbering s) (nothing_made (numbering s)) o e) ∙ unbiased biasing;
     unheld = λ t. named_none o most_holds;
   };
-  making = λ t o c e. absurd (cc e);
+  making = λ t o e. absurd (cc e);
   known = λ t o e. absurd (cc e);
-  unfinished = λ t. tt;
+  unfinished = λ t o e. absurd (cc e);
+  saw = λ t o v free e. absurd (cc e);
   objects = new_objects s.objects;
   taken = ap (take_all (new_objects s.objects)) (no_order s.threads);
   slots = new_slots_known (numbering s) (nothing_made (numbering s)) s.objects (logs_from 0 s.threads first_known) (stamp_words (opening s start biasing));

@@ -1,5 +1,5 @@
 -- The law of what is there while a bias is being revoked: it held before the first store, and the stores are of marks that had the bias pattern.
-use Rattle.std.proofs.Common.{◌≡◌, ◌⊎◌, ℕ, ◌<◌, Bool, true, false, cond, List, [], ◌∷◌, ◌++◌, length, slice_get, Option, refl, sym, ap, ◌∙◌, subst, arith, inl, inr}
+use Rattle.std.proofs.Common.{◌≡◌, ◌⊎◌, ℕ, ◌<◌, Bool, true, false, cond, List, [], ◌∷◌, ◌++◌, length, slice_get, Some, refl, sym, ap, ◌∙◌, subst, arith, inl, inr}
 use Rattle.std.proofs.lemmas.Bool.{cases_lt}
 use Rattle.plain_monitor.specs.declared.entry.Logged.{Logged}
 use Rattle.plain_monitor.specs.Objects.{PlainObject}
@@ -8,19 +8,21 @@ use Rattle.core_world.specs.declared.name.Name.{Name}
 use Rattle.core_world.specs.declared.name.Name.TheVariants.{Mark, Stamp, Class}
 use Rattle.core_world.specs.Locks.{marks, hold_count}
 use Rattle.core_world.specs.RevocationRules.{Write, words_after, words_from, writes_in}
-use Rattle.core_world.specs.Threads.Known.{Known}
+use Rattle.core_world.specs.Threads.Known.{Known, last_seen}
 use Rattle.core_world.specs.Valid.{IsRevoking, requester_known}
 use Rattle.core_world.specs.Words.Forms.{is_biased, is_biased_form}
 use Rattle.core_world.specs.Words.Names.{same_name, with_word}
 use Rattle.core_world.specs.Words.Shape.{Shape}
 use Rattle.core_world.specs.World.{World, logs, logs_from}
+use Rattle.core_world.proofs.Frames.{same, frame2}
 use Rattle.core_world.proofs.KnowledgeParts.{by_equal}
 use Rattle.core_world.proofs.Naming.{same_named}
 use Rattle.core_world.proofs.Readings.{mark_one}
 use Rattle.core_bias.proofs.GoodWrites.{is_revocation_word, IsGood, GoodMark, AreGood, good_writes}
 use Rattle.core_bias.proofs.Stores.{first_below}
 use Rattle.core_counts.proofs.RevocationEnds.{logs_same}
-use Rattle.core_made.specs.MadeLaw.{MadeLaw, MadeLawWhile, IsOnOneOf, knows_by_log, numbering}
+use Rattle.core_world.specs.Threads.References.{knows_by_log, numbering, is_on, making_in}
+use Rattle.core_law.specs.MadeLaw.{MadeLaw, MadeLawHolds}
 use Rattle.core_made.proofs.Absent.{words_rise}
 use Rattle.core_made.proofs.Quiets.{law_stays}
 
@@ -48,7 +50,7 @@ module _ (s : Shape) (f : Name → ℕ) where
   good_front [] ys good = tt
   good_front (x ∷ xs) ys good = (good.0, good_front xs ys good.1)
 
-module _ (w : World) (P : List PlainObject) (making : ℕ → Option (ℕ × ℕ)) (s : IsRevoking w P) (law : MadeLawWhile making s.before) where
+module _ (w : World) (P : List PlainObject) (s : IsRevoking w P) (law : MadeLawHolds s.before) where
   abbrev b : World
   b = s.before
 
@@ -63,13 +65,15 @@ module _ (w : World) (P : List PlainObject) (making : ℕ → Option (ℕ × ℕ
 
   good : AreGood b.shape b.words (writes_in (w.known t).seen_at_safepoint)
   good = good_front b.shape b.words (writes_in (w.known t).seen_at_safepoint) s.rest
-      (subst (AreGood b.shape b.words) (sym s.writes) (good_writes b.shape b.words s.fits.limits.threads (first_below b P s.fits) t s.revocation within s.fits.forms.marks))
+      (subst (AreGood b.shape b.words) (sym s.writes)
+      (good_writes b.shape b.words s.fits.limits.threads (first_below b P s.fits) t s.revocation within s.fits.forms.marks))
 
   left : (n : Name) → IsLeft b.shape b.words n → w.words n ≡ b.words n
   left n is = ap (λ (g : Name → ℕ). g n) s.words ∙ left_words b.shape b.words (writes_in (w.known t).seen_at_safepoint) b.words n good is
 
   -- a part of the knowledge that the requester doesn't change meanwhile, and nobody else does
-  part_now : {A : Type 0} (part : Known → A) → part (requester_known b t s.revocation (w.known t)) ≡ part (b.known t) → (u : ℕ) → part (w.known u) ≡ part (b.known u)
+  part_now : {A : Type 0} (part : Known → A) → part (requester_known b t s.revocation (w.known t)) ≡ part (b.known t) → (u : ℕ)
+      → part (w.known u) ≡ part (b.known u)
   part_now part same u = by_equal u t
       (λ e. ap (λ v. part (w.known v)) e ∙ ap part s.knows ∙ same ∙ ap (λ v. part (b.known v)) (sym e))
       (λ d. ap part (s.others u d))
@@ -83,22 +87,33 @@ module _ (w : World) (P : List PlainObject) (making : ℕ → Option (ℕ × ℕ
   unbiased : (o : ℕ) → is_there (numbering b.shape) law.made o ≡ false → is_biased (marks b o) ≡ false
   unbiased o e = ap is_biased ((law.absent o e).neutral) ∙ ap is_biased_form mark_one
 
-  before_shape : MadeLaw (numbering b.shape) b.shape.objects (logs_from 0 b.shape.threads w.known) (words_from 0 (length b.shape.objects) (λ o. w.words (Stamp o))) making (λ o. w.words (Class o)) (marks w)
-      (λ u. (w.known u).holds) (λ u. (w.known u).log) (λ u. (w.known u).unfinished) (λ u. (w.known u).shots)
-  before_shape =
-      subst (λ ls. MadeLaw (numbering b.shape) b.shape.objects ls (words_from 0 (length b.shape.objects) (λ o. w.words (Stamp o))) making (λ o. w.words (Class o)) (marks w)
-      (λ u. (w.known u).holds) (λ u. (w.known u).log) (λ u. (w.known u).unfinished) (λ u. (w.known u).shots)) (sym logs_now)
-      (subst (λ (f : ℕ → List Logged). MadeLaw (numbering b.shape) b.shape.objects (logs b) (words_from 0 (length b.shape.objects) (λ o. w.words (Stamp o))) making (λ o. w.words (Class o)) (marks w)
-      (λ u. (w.known u).holds) f (λ u. (w.known u).unfinished) (λ u. (w.known u).shots)) (λ i. λ u. sym (logs_are u) i)
+  unfinished : (u o : ℕ) → is_on (w.known u).unfinished o ≡ true → knows_by_log (numbering b.shape) (b.known u).log o ≡ true
+  unfinished u o h = law.unfinished u o (ap (λ z. is_on z o) (sym (part_now (λ k. k.unfinished) refl u)) ∙ h)
+
+  -- the requester's safepoint is reached, and the others have seen nothing more
+  saw : (u o v : ℕ) → (w.known u).reached ≡ false → last_seen (Mark o) (w.known u).seen ≡ Some v
+      → knows_by_log (numbering b.shape) (b.known u).log o ≡ true
+  saw u o v free h = by_equal u t
+      (λ e. let stays = part_now (λ k. k.reached) refl u in let its = ap (λ i. (b.known i).reached) e ∙ s.reached in absurd (cc (free, stays, its)))
+      (λ d. law.saw u o v (ap (λ (k : Known). k.reached) (sym (s.others u d)) ∙ free) (ap (λ (k : Known). last_seen (Mark o) k.seen) (sym (s.others u d)) ∙ h))
+
+  -- the law of what the words are now, in a heap of this shape, with these logs
+  abbrev Law : Shape → List (List Logged) → (ℕ → List Logged) → Type 0
+  Law h ls f =
+      MadeLaw (numbering h) h.objects ls (words_from 0 (length h.objects) (λ o. w.words (Stamp o))) (λ o. w.words (Class o)) (marks w)
+      (λ u. (w.known u).holds) f (λ u. (w.known u).unfinished) (λ u. (w.known u).shots) (λ u. (w.known u).seen) (λ u. (w.known u).reached)
+
+  law_now : Law b.shape (logs_from 0 b.shape.threads w.known) (λ u. (w.known u).log)
+  law_now =
+      frame2 (Law b.shape) (sym logs_now) (same (λ u. sym (logs_are u)))
       (law_stays law
-      (words_rise 0 (length b.shape.objects) (λ o. b.words (Stamp o)) (λ o. w.words (Stamp o)) (λ o. let same = left (Stamp o) (inl refl) in omega (arith, same)))
+      (words_rise 0 (length b.shape.objects) (λ o. b.words (Stamp o)) (λ o. w.words (Stamp o))
+      (λ o. let same = left (Stamp o) (inl refl) in omega (arith, same)))
       (λ o. left (Class o) (inl refl))
       (λ o e. left (Mark o) (inr (o, refl, unbiased o e)))
       (λ o e u. ap (hold_count o) (part_now (λ k. k.holds) refl u) ∙ (law.absent o e).unheld u)
-      (λ u. subst (IsOnOneOf (knows_by_log (numbering b.shape) (b.known u).log)) (sym (part_now (λ k. k.unfinished) refl u)) (law.unfinished u))
-      (λ u i shot e. law.cut_in_time u i shot (ap (λ ss. slice_get ss i) (sym (part_now (λ k. k.shots) refl u)) ∙ e))))
+      (λ u. ap making_in (part_now (λ k. k.unfinished) refl u)) unfinished saw
+      (λ u i shot e. law.cut_in_time u i shot (ap (λ ss. slice_get ss i) (sym (part_now (λ k. k.shots) refl u)) ∙ e)))
 
-  pub revoking_keeps : MadeLawWhile making w
-  revoking_keeps =
-      subst (λ (h : Shape). MadeLaw (numbering h) h.objects (logs_from 0 h.threads w.known) (words_from 0 (length h.objects) (λ o. w.words (Stamp o))) making (λ o. w.words (Class o)) (marks w)
-      (λ u. (w.known u).holds) (λ u. (w.known u).log) (λ u. (w.known u).unfinished) (λ u. (w.known u).shots)) (sym s.shape) before_shape
+  pub revoking_keeps : MadeLawHolds w
+  revoking_keeps = subst (λ (h : Shape). Law h (logs_from 0 h.threads w.known) (λ u. (w.known u).log)) (sym s.shape) law_now

@@ -1,5 +1,5 @@
 -- The law of what is there after the step that keeps a shot of a dump.
-use Rattle.std.proofs.Common.{◌≡◌, ℕ, ◌<◌, List, [], ◌∷◌, ◌++◌, ◌⊎◌, zero, suc, length, map, slice_get, Option, Some, IsSome, refl, sym, ap, ◌∙◌, subst, inl, inr, arith}
+use Rattle.std.proofs.Common.{◌≡◌, ℕ, ◌<◌, List, [], ◌∷◌, ◌++◌, ◌⊎◌, zero, suc, length, map, slice_get, Some, IsSome, refl, sym, ap, ◌∙◌, subst, inl, inr, arith}
 use Rattle.std.proofs.lemmas.Option.{same_Some}
 use Rattle.std.proofs.lemmas.List.{take_all}
 use Rattle.plain_monitor.specs.declared.entry.Logged.{Logged}
@@ -15,13 +15,16 @@ use Rattle.core_world.specs.declared.name.Name.TheVariants.{Safepoint}
 use Rattle.core_world.specs.World.{World, logs}
 use Rattle.core_locks.specs.ShotLaws.{MayKeepShot}
 use Rattle.core_locks.proofs.Shoots.{shot_shows}
-use Rattle.core_made.specs.MadeLaw.{MadeLawWhile, numbering, IsOnOneOf}
+use Rattle.core_world.specs.Threads.References.{numbering, is_on, making_in}
+use Rattle.core_law.specs.MadeLaw.{MadeLawHolds}
+use Rattle.core_made.proofs.MarksSeen.{hit_marks}
 use Rattle.core_made.proofs.Quiets.{quiet_world}
 
 -- logs that are cut at their ends are whole
 whole : (xs : List (List Logged)) → cut_logs (map (λ (log : List Logged). length log) xs) xs ≡ xs
 whole [] = refl
-whole (log ∷ xs) = ap (λ l. l ∷ cut_logs (map (λ (log : List Logged). length log) xs) xs) (take_all (length log) log (omega arith)) ∙ ap (λ ls. log ∷ ls) (whole xs)
+whole (log ∷ xs) = ap (λ l. l ∷ cut_logs (map (λ (log : List Logged). length log) xs) xs) (take_all (length log) log (omega arith))
+    ∙ ap (λ ls. log ∷ ls) (whole xs)
 
 -- what stands in a list with one more is that one, or stood there
 one_of_more : (shots : List DumpShot) (x s : DumpShot) (i : ℕ) → slice_get (shots ++ x ∷ []) i ≡ Some s → (slice_get shots i ≡ Some s) ⊎ (x ≡ s)
@@ -30,7 +33,8 @@ one_of_more [] x s (suc i) h = absurd (cc h)
 one_of_more (y ∷ shots) x s zero h = inl h
 one_of_more (y ∷ shots) x s (suc i) h = one_of_more shots x s i h
 
-module _ (w : World) (P : List PlainObject) (making : ℕ → Option (ℕ × ℕ)) (t : ℕ) (e : Purpose) (within : t < w.shape.threads) (may : MayKeepShot w.shape (w.known t) e) (v : Fits w P) (law : MadeLawWhile making w) where
+module _ (w : World) (P : List PlainObject) (t : ℕ) (e : Purpose) (within : t < w.shape.threads) (may : MayKeepShot w.shape (w.known t) e)
+    (makes : making_in e.unfinished ≡ making_in (w.known t).unfinished) (v : Fits w P) (law : MadeLawHolds w) where
   -- so what the new shot leaves of the logs is made in time, as they are
   shot_in_time : IsMadeInTime (numbering w.shape) (cut_logs (shot_of w.shape (w.known t)).cut (logs w))
   shot_in_time =
@@ -38,10 +42,12 @@ module _ (w : World) (P : List PlainObject) (making : ℕ → Option (ℕ × ℕ
       (sym (ap (λ cut. cut_logs cut (logs w)) (shot_shows w P t e within may (inl v)).cut ∙ whole (logs w)))
       (subst IsSome (sym law.in_time) refl)
 
-  pub shot_keeps : MadeLawWhile making (world_after (keep_shot_plan e) t w)
+  pub shot_keeps : MadeLawHolds (world_after (keep_shot_plan e) t w)
   shot_keeps =
-      quiet_world w making Safepoint (w.words Safepoint) t (known_hit w.shape w.start (keep_shot_plan e) (w.words Safepoint) (w.known t)) law refl tt (λ o d h. h)
-      (subst (IsOnOneOf _) (sym may.goes_on) (law.unfinished t))
+      quiet_world w Safepoint (w.words Safepoint) t (known_hit w.shape w.start (keep_shot_plan e) (w.words Safepoint) (w.known t)) law refl tt
+      (λ o d h. h) makes
+      (λ o h. law.unfinished t o (ap (λ u. is_on u o) (sym may.goes_on) ∙ h))
+      (hit_marks w law t (keep_shot_plan e) (λ o at. absurd (cc at)) tt)
       (λ i s h. elim (one_of_more (w.known t).shots (shot_of w.shape (w.known t)) s i h) [
         | inl old ↦ law.cut_in_time t i s old
         | inr new ↦ subst (λ (x : DumpShot). IsMadeInTime (numbering w.shape) (cut_logs x.cut (logs w))) new shot_in_time

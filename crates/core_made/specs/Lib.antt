@@ -1,3 +1,2 @@
-pub mod MadeLaw
 pub mod Steps
 pub mod Making

@@ -1,5 +1,5 @@
 -- When a thread may store the class word of an object that it makes, and when that object's first mark.
-use Rattle.std.specs.Prelude.{◌≡◌, ◌⊎◌, ℕ, ◌+◌, ◌<◌, ◌≤◌, ◌==◌, if◌then◌else◌, true, List, [], length, Option, Some}
+use Rattle.std.specs.Prelude.{◌≡◌, ◌⊎◌, ℕ, ◌+◌, ◌<◌, ◌≤◌, true, List, [], length, Some}
 use Rattle.mark_word.specs.Mark.{mark_of, read_mark}
 use Rattle.mark_word.specs.declared.mark.MarkForm.TheVariants.{Neutral, Anonymous}
 use Rattle.plain_monitor.specs.declared.entry.Entry.TheVariants.{New}
@@ -9,14 +9,13 @@ use Rattle.plain_monitor.specs.Made.{Numbering, made_number}
 use Rattle.plain_monitor.specs.Objects.{PlainObject}
 use Rattle.plain_history.specs.Known.{news}
 use Rattle.core_world.specs.declared.name.Name.TheVariants.{Mark, Class}
-use Rattle.core_world.specs.declared.act.Act.TheVariants.{Store}
-use Rattle.core_world.specs.declared.plan.StepPlan.{StepPlan}
 use Rattle.core_world.specs.declared.stage.Stage.TheVariants.{Calm}
 use Rattle.core_world.specs.Threads.Known.{Known, last_seen}
+use Rattle.core_world.specs.Threads.References.{making_in}
 use Rattle.core_world.specs.World.{World}
 use Rattle.core_world.specs.Locks.{marks, hold_count, waits_at, notified_at}
 use Rattle.core_world.specs.Clauses.Lengths.{log_limit}
-use Rattle.core_world.specs.Trees.Plans.{Purpose, store, logging_plan}
+use Rattle.core_world.specs.Trees.Plans.{Purpose}
 use Rattle.core_locks.specs.Knowing.{GoesOn, IsOwnEntry}
 
 -- THE FIRST MARK. No thread goes by what it saw at this mark: a call sees only marks of objects that its thread knows, but at its reached safepoint.
@@ -45,8 +44,11 @@ pub record MayMake (k : Known) (o c : ℕ) : Type 0 where
   pub room : length k.log < log_limit
   pub own : IsOwnEntry k (New o c)
 
-abbrev pub make_plan : Purpose → ℕ → ℕ → ℕ → StepPlan
-make_plan e o c m = logging_plan (New o c) e (Mark o) (Store m)
+-- and it has stored the object's class word in this call, after which it makes no other step
+pub record StandsBeforeMark (k : Known) (o c : ℕ) : Type 0 where
+  pub may : MayMake k o c
+  pub making : making_in k.unfinished ≡ Some o
+  pub saw : last_seen (Class o) k.seen ≡ Some (c + 1)
 
 -- THE CLASS WORD, the step before that. The object isn't declared, and has no class yet.
 pub record IsClassless (w : World) (o : ℕ) : Type 0 where
@@ -59,16 +61,8 @@ pub record MayStoreClass (k : Known) (e : Purpose) : Type 0 where
   pub calm : k.stage ≡ Calm
   pub goes_on : GoesOn k e
 
--- a class word is the class plus 1
-abbrev pub class_plan : Purpose → ℕ → ℕ → StepPlan
-class_plan e o c = store e (Class o) (c + 1)
-
 -- by its own log this is the next object that thread t makes, of a class that there is, and the thread may make one more
 pub record IsNext (n : Numbering) (log : List Logged) (t o c : ℕ) : Type 0 where
   pub number : o ≡ made_number n t (length (news log))
   pub room : length (news log) < most_made
   pub class : c < n.classes
-
--- WHICH THREADS ARE MAKING AN OBJECT, where thread t makes this one, or none any more
-abbrev pub with_making : ℕ → Option (ℕ × ℕ) → (ℕ → Option (ℕ × ℕ)) → ℕ → Option (ℕ × ℕ)
-with_making t p makes u = if u == t then p else makes u

@@ -1,18 +1,21 @@
 -- When a step keeps the law of what is there: what it leaves of objects that aren't, what it begins, and what it logs.
-use Rattle.std.specs.Prelude.{◌≡◌, ◌⊎◌, ℕ, ◌≤◌, Bool, true, [], ◌∷◌, ◌++◌, Some, None}
+use Rattle.std.specs.Prelude.{◌≡◌, ◌⊎◌, ℕ, ◌≤◌, Bool, true, false, [], ◌∷◌, ◌++◌, Some, None}
 use Rattle.std.specs.List.{AllByRecursion}
 use Rattle.plain_monitor.specs.declared.entry.Logged.{Logged}
 use Rattle.plain_monitor.specs.History.{last_stamp}
 use Rattle.plain_monitor.specs.Made.{creates, needs}
 use Rattle.plain_history.specs.Tied.{bound_to}
+use Rattle.core_world.specs.declared.act.Act.{Act}
+use Rattle.core_world.specs.declared.act.Act.TheVariants.{Load, Swap}
 use Rattle.core_world.specs.declared.name.Name.{Name}
-use Rattle.core_world.specs.declared.name.Name.TheVariants.{Mark, Hold, Stamp, Class}
+use Rattle.core_world.specs.declared.name.Name.TheVariants.{Safepoint, Mark, Hold, Stamp, Class}
 use Rattle.core_world.specs.declared.plan.StepPlan.{StepPlan}
 use Rattle.core_world.specs.Words.Acts.{word_after, hits}
 use Rattle.core_world.specs.Words.Forms.{names}
 use Rattle.core_world.specs.Steps.{log_after, unfinished_after, shots_after, is_taking, stamp_by}
 use Rattle.core_world.specs.World.{World, logs}
-use Rattle.core_made.specs.MadeLaw.{numbering, is_there_by, knows_by_log, IsOnOneOf}
+use Rattle.core_world.specs.Threads.References.{numbering, knows_by_log, is_on, making_in}
+use Rattle.core_law.specs.MadeLaw.{is_there_by}
 
 -- What a step finds in its word and leaves there: the mark of an object that isn't there stays, and so does each class word; a new hold word names
 -- only objects that are there; and no stamp word falls.
@@ -31,11 +34,22 @@ is_there_in w o = is_there_by (numbering w.shape) (logs w) o
 abbrev pub knows_in : World → ℕ → ℕ → Bool
 knows_in w t o = knows_by_log (numbering w.shape) (w.known t).log o
 
--- A step of thread t spares what isn't there, leaves unfinished nothing but an operation on an object that the thread knows, and makes no shot.
+-- the thread whose safepoint is reached only loads or exchanges the safepoint word
+abbrev pub EndsByExchange : Name → Act → Bool → Type 0
+EndsByExchange Safepoint Load reached = Unit {0}
+EndsByExchange Safepoint (Swap expected word) reached = Unit {0}
+EndsByExchange Safepoint act reached = reached ≡ false
+EndsByExchange _ act reached = Unit {0}
+
+-- A step of thread t spares what isn't there, leaves unfinished nothing but an operation on an object that the thread knows, makes no shot, and neither
+-- begins nor ends the making of an object. But at its reached safepoint the thread comes to no mark of another object than it knows.
 pub record IsFair (w : World) (t : ℕ) (p : StepPlan) : Type 0 where
   pub spares : SparesAbsent (is_there_in w) p.at (w.words p.at) (word_after p.act (w.words p.at))
-  pub begins : IsOnOneOf (knows_in w t) (unfinished_after p.note (w.words p.at) p.after)
+  pub begins : (o : ℕ) → is_on (unfinished_after p.note (w.words p.at) p.after) o ≡ true → knows_in w t o ≡ true
+  pub looks : (o : ℕ) → p.at ≡ Mark o → (w.known t).reached ≡ false → knows_in w t o ≡ true
+  pub ends : EndsByExchange p.at p.act (w.known t).reached
   pub shots : shots_after p.own w.shape (w.known t) ≡ (w.known t).shots
+  pub makes : making_in (unfinished_after p.note (w.words p.at) p.after) ≡ making_in (w.known t).unfinished
 
 -- such a step that logs nothing
 pub record IsFairQuietly (w : World) (t : ℕ) (p : StepPlan) : Type 0 where

@@ -45,7 +45,7 @@ module _ (heap : Heap) (e : Purpose) (k : Known) (stage : Stage) (may : MayDefla
       let st = stage_after a.took b.object in
       let plain = unrevoking_after a.took b.object in
       follows heap false _ k _ _ (deflate_ends heap e k st plain k some (record {
-        keeps = behind_keeps heap k e b a x may.reached may.still may.check may.goes_on (name.Object 0) (λ v. omega (arith, some));
+        keeps = behind_keeps heap k e b a x may.reached may.still may.check may.goes_on (name.Object 0) (λ there n. tt) (λ v. omega (arith, some));
         reached = may.reached;
         idles = λ n. record {
           reached = may.reached;

@@ -19,8 +19,11 @@ use Rattle.core_world.specs.Threads.Stages.{Revocation}
 use Rattle.core_world.specs.Steps.{seen_before}
 use Rattle.core_world.specs.Trees.Todo.{Todo, ◌>>=◌}
 use Rattle.core_world.specs.Valid.{RevokesWithin}
+use Rattle.core_world.specs.Threads.References.{has_object}
 use Rattle.core_law.specs.Logic.{Heap, Does}
 use Rattle.core_steps.proofs.ClassSteps.{class_from}
+use Rattle.core_steps.proofs.Facts.{Knows}
+use Rattle.core_steps.proofs.KeptHeaders.{works_on}
 use Rattle.core_steps.proofs.Requests.{Asks, Since, Stood, BeginsSafepoint, safepoint_does}
 use Rattle.core_steps.proofs.Resting.{Carries}
 use Rattle.core_steps.proofs.Revocations.{Released, Revoked, revoke_does, ending_steps, ending_does}
@@ -44,6 +47,9 @@ module _ (heap : Heap) (e : Purpose) (b : Revocation) where
     pub saw : ValidBiasIn (seen_before heap.shape k)
     pub alone : NoOtherIn (seen_before heap.shape k)
     pub unreached : k.reached ≡ false
+    pub known : Knows heap k.log b.object
+    -- the operation is on an object: so it isn't the making of one
+    pub on_object : has_object operation ≡ true
     pub unwaiting : operation ≡ op.Wait → waits_on k.wait b.object ≡ false
 
   may_ask : (a : Op) (l : Known) → RevokesWithin a b.rebias → (a ≡ op.Wait → waits_on l.wait b.object ≡ false) → MayRevoke heap.shape l b.object
@@ -55,6 +61,7 @@ module _ (heap : Heap) (e : Purpose) (b : Revocation) where
   may_ask op.NotifyAll l allowed out may = may
   may_ask op.Hash l allowed out may = may
   may_ask op.Dump l allowed out may = absurd allowed
+  may_ask op.Create l allowed out may = may
 
   module _ (operation : Op) (unfinished : e.unfinished ≡ Some (record { op = operation; object = b.object })) (allowed : RevokesWithin operation b.rebias) (object : b.object < length heap.shape.objects)
       (unchecks : e.check ≡ false) where
@@ -134,8 +141,9 @@ module _ (heap : Heap) (e : Purpose) (b : Revocation) where
         let saw = saw_since k l may.saw since in
         subst (λ z. Does heap z (revoking k.thread (Done tt)) l (λ f turn m. (f ≡ false) × Revoked heap e b k.thread k turn m)) (sym s.0)
         (going heap (revoke_at_safepoint_steps heap.shape k.thread e b) (λ outcome. ending_steps heap e b k.thread outcome.took) l _ (
-        follows heap false (revoke_at_safepoint_steps heap.shape k.thread e b) l _ _ (revoke_does heap e b k.thread operation unfinished allowed object l s.1.0 unwritten saw (alone_since k l may.alone since))
-        (λ f a m y. follows heap false _ m _ _ (ending_does heap e b k.thread object l s.1.0 unwritten saw.2 m a y.1) (λ f turn n z. (z.0, revoked_since k l n turn since z.1)))))
+        follows heap false (revoke_at_safepoint_steps heap.shape k.thread e b) l _ _ (revoke_does heap e b k.thread operation unfinished allowed object l s.1.0 unwritten saw (alone_since k l may.alone since)
+        (subst (λ z. Knows heap z.log b.object) (sym since.local) may.known))
+        (λ f a m y. follows heap false _ m _ _ (ending_does heap e b k.thread (works_on operation e.unfinished b.object unfinished may.on_object) object l s.1.0 unwritten saw.2 m a y.1) (λ f turn n z. (z.0, revoked_since k l n turn since z.1)))))
     then_revoking k may f (Pending why) l s = answers heap f (Pending why) l _ s
 
     pub revocation_does : (fresh : Bool) (k : Known) → BeginsRevocation operation k

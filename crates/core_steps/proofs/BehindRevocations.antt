@@ -14,6 +14,7 @@ use Rattle.core_bias.proofs.NewBias.{answer_tells}
 use Rattle.core_bias.proofs.RevocationRuns.{steps_all}
 use Rattle.core_law.specs.Logic.{Heap, Stands, Keeps}
 use Rattle.core_law.proofs.Standing.{home, away, valid_here}
+use Rattle.core_made.specs.Steps.{SparesAbsent}
 use Rattle.core_steps.specs.Deflated.{HasRevoked}
 use Rattle.core_steps.proofs.BiasRules.{looks_behind_rule}
 
@@ -30,8 +31,10 @@ module _ (heap : Heap) (k : Known) (e : Purpose) (b : Revocation) (a : Revocatio
       (answer_tells v.world v.objects k.thread e b steps.0 steps.1 a (away heap k v (λ s y. y.reached ≡ true) reached) (away heap k v (λ s y. revocation_in y.stage ≡ Some b) x.its_revocation)
       (away heap k v (λ s y. y.seen_at_safepoint ≡ steps.0 ++ steps.1) steps.2) steps.3 (away heap k v (λ s y. Leads (revoke_at_safepoint_steps s k.thread e b) steps.0 (done a)) steps.4) (valid_here heap k v))
 
-  pub behind_keeps : k.moving ≡ Still → e.check ≡ k.checking → e.unfinished ≡ k.unfinished → (at : Name) → (Stands heap k → IsIn heap.shape at) → Keeps heap (load_plan e (stage_after a.took b.object) at) k
-  behind_keeps still check goes_on at there = looks_behind_rule heap k e b a.took at there (λ v. record {
+  pub behind_keeps : k.moving ≡ Still → e.check ≡ k.checking → e.unfinished ≡ k.unfinished → (at : Name)
+      → ((there : ℕ → Bool) (found : ℕ) → SparesAbsent there at found found) → (Stands heap k → IsIn heap.shape at)
+      → Keeps heap (load_plan e (stage_after a.took b.object) at) k
+  behind_keeps still check goes_on at spares there = looks_behind_rule heap k e b a.took at spares there (λ v. record {
     ends = record {
       reached = reached;
       its_revocation = x.its_revocation;

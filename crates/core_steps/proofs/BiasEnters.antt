@@ -37,7 +37,7 @@ use Rattle.core_counts.specs.Steps.{WentBefore}
 use Rattle.core_law.specs.Logic.{Heap, Stands, Does}
 use Rattle.core_steps.proofs.BiasFacts.{SawHeaders, SawMarkAlone, headers_first, headers_more, mark_alone, class_more, class_some, saw_two, look_class, look_prototype, unreached_here, bias_stays, biasing_here, IsPrototype, IsPrototypeForm, prototype_here, prototype_form, prototype_neutral, own_bias, neutral_reads_so, loose_unepoched, stale_epoch, own_epoch, free_bias}
 use Rattle.core_steps.proofs.BiasRules.{rebiases_rule, unbiases_rule}
-use Rattle.core_steps.proofs.Facts.{Untold}
+use Rattle.core_steps.proofs.Facts.{Untold, Knows}
 use Rattle.core_law.proofs.Standing.{fits_here, home, away}
 use Rattle.core_steps.proofs.Inflations.{form_found}
 use Rattle.core_steps.proofs.ClassSteps.{class_from, class_declared, class_made, class_found, made_there, class_does}
@@ -46,7 +46,7 @@ use Rattle.core_world.proofs.There.{class_there}
 use Rattle.core_steps.proofs.LawRules.{looks, limits}
 use Rattle.core_steps.proofs.Resting.{rests, live_carries}
 use Rattle.core_steps.proofs.SeenSteps.{saw_newest, saw_older}
-use Rattle.core_steps.proofs.StackEnters.{Taking, undumped_enter, hold_does}
+use Rattle.core_steps.proofs.StackEnters.{Taking, undumped_enter, hold_does, taking_begins}
 use Rattle.core_steps.proofs.Revocations.{Released}
 use Rattle.core_steps.proofs.StackExits.{unbiased_here, look_mark}
 use Rattle.core_steps.proofs.Tests.{is_of_kind}
@@ -97,7 +97,8 @@ module _ (heap : Heap) (o : ℕ) (e : Purpose) (enters : IsUnfinished e.unfinish
     pub raced : (l : Known) (mark found : ℕ) → AtRest heap.shape l → Q false (Raced mark found) l
 
   -- a mark that names a record of the thread: it holds the object
-  holds_by : (k : Known) (mark p : ℕ) (v : Stands heap k) → k.running ≡ true → k.stage ≡ Calm → v.world.words (name.Mark o) ≡ mark → read_mark mark ≡ Some (Locked k.thread p) → 1 ≤ hold_count o k.holds
+  holds_by : (k : Known) (mark p : ℕ) (v : Stands heap k) → k.running ≡ true → k.stage ≡ Calm → v.world.words (name.Mark o) ≡ mark
+      → read_mark mark ≡ Some (Locked k.thread p) → 1 ≤ hold_count o k.holds
   holds_by k mark p v runs calm found reads =
       let fits = fits_here heap k v runs in
       let rests_there = lock_by_form v.world o (Locked k.thread p) (ap read_mark found ∙ reads) in
@@ -106,7 +107,8 @@ module _ (heap : Heap) (o : ℕ) (e : Purpose) (enters : IsUnfinished e.unfinish
 
   module _ (here : Local) (kept : Option ℕ) (Q : Bool → BiasTry → Known → Type 0) where
     -- THE HOLD under a bias to the thread
-    took_does : EnterOutcomes here kept Q → (k : Known) (path : Path) → Taking heap k.running k.requesting k.moving k.log e o → k.unfinished ≡ e.unfinished → Untold k → free_place k.holds < most_holds → (k.stage ≡ Takes o) ⊎ (k.stage ≡ Calm)
+    took_does : EnterOutcomes here kept Q → (k : Known) (path : Path) → Taking heap k.running k.requesting k.moving k.log e o → k.unfinished ≡ e.unfinished
+        → Untold k → free_place k.holds < most_holds → (k.stage ≡ Takes o) ⊎ (k.stage ≡ Calm)
         → SawOwnBias heap.shape k o → WentBefore heap.biasing heap.shape k o (free_place k.holds) path → Does heap false (took_steps e (local_of k) o path) k Q
     took_does outs k path a mine untold place stage saw went =
         binds heap false (hold_steps e (local_of k) o path) (λ p. done (Took p)) k Q (
@@ -120,19 +122,20 @@ module _ (heap : Heap) (o : ℕ) (e : Purpose) (enters : IsUnfinished e.unfinish
       races n l y = outs.raced l mark n (enters_rests l y)
 
       -- anonymous or stale: the mark becomes a bias to the thread
-      rebias_does : (epoch : ℕ) → epoch_in prototype ≡ Some epoch → IsLoose (read_mark mark) (epoch_in prototype) → Does heap false (rebias_steps e (local_of k) o mark epoch) k Q
+      rebias_does : (epoch : ℕ) → epoch_in prototype ≡ Some epoch → IsLoose (read_mark mark) (epoch_in prototype)
+          → Does heap false (rebias_steps e (local_of k) o mark epoch) k Q
       rebias_does epoch is loose =
           let own = mark_of (Biased k.thread epoch 0) in
           let exchange = rebias_plan e k.thread o mark epoch in
           swapping heap false exchange mark own (λ n. took_steps e (local_of k) o BiasTaken) (λ n. done (Raced mark n)) k Q refl
-          (λ i. rebiases_rule heap k e o mark prototype epoch x.takes.object (λ v. (
+          (λ i. rebiases_rule heap k e o mark prototype epoch (record { within = x.takes.object; known = x.takes.known }) (λ v. (
             record {
               prototype = prototype;
               exchange = record { runs = x.takes.runs; calm = x.calm; class = class; saw_class = saw_class; saw = saw_prototype; loose = loose; goes_on = sym x.mine };
               valid = is;
             },
             record { runs = x.takes.runs; calm = x.calm; goes_on = inl (sym x.mine); saw = free_bias heap.shape k o class mark prototype saw_class saw_prototype loose; valid = is },
-          )))
+          )) (inl (sym x.mine)))
           (λ n i was h.
           let l = known_hit heap.shape heap.start exchange n k in
           took_does outs.outcomes l BiasTaken x.takes refl x.untold x.place (inl refl) (
@@ -148,7 +151,8 @@ module _ (heap : Heap) (o : ℕ) (e : Purpose) (enters : IsUnfinished e.unfinish
           (record { takes = x.takes; mine = x.mine; check = x.check; calm = x.calm; untold = x.untold; place = x.place })))
 
       -- by the form of the mark, where the prototype has an epoch
-      at_does : (epoch : ℕ) (f : Option MarkForm) → epoch_in prototype ≡ Some epoch → read_mark mark ≡ f → is_biased_form f ≡ true → Does heap false (bias_enter_at f epoch e (local_of k) o mark) k Q
+      at_does : (epoch : ℕ) (f : Option MarkForm) → epoch_in prototype ≡ Some epoch → read_mark mark ≡ f → is_biased_form f ≡ true
+          → Does heap false (bias_enter_at f epoch e (local_of k) o mark) k Q
       at_does epoch None is reads biased = absurd (cc biased)
       at_does epoch (Some Inflating) is reads biased = absurd (cc biased)
       at_does epoch (Some (Neutral hash age)) is reads biased = absurd (cc biased)
@@ -177,7 +181,8 @@ module _ (heap : Heap) (o : ℕ) (e : Purpose) (enters : IsUnfinished e.unfinish
       at_does epoch (Some Marked) is reads biased = absurd (cc biased)
 
       -- and by that of the prototype: where it is neutral, so the mark becomes
-      by_does : (f : Option MarkForm) → read_mark prototype ≡ f → IsPrototypeForm f → is_biased mark ≡ true → IsPrototype prototype → Does heap false (bias_enter_by f e (local_of k) o mark prototype) k Q
+      by_does : (f : Option MarkForm) → read_mark prototype ≡ f → IsPrototypeForm f → is_biased mark ≡ true → IsPrototype prototype
+          → Does heap false (bias_enter_by f e (local_of k) o mark prototype) k Q
       by_does None reads form biased is = absurd form
       by_does (Some Inflating) reads form biased is = absurd form
       by_does (Some (Biased u epoch age)) reads form biased is = absurd form
@@ -191,7 +196,7 @@ module _ (heap : Heap) (o : ℕ) (e : Purpose) (enters : IsUnfinished e.unfinish
           let loose = loose_unepoched (read_mark mark) (epoch_in prototype) biased none in
           let reads : read_mark prototype ≡ Some (Neutral 0 0) = ap read_mark (prototype_neutral prototype is none) ∙ neutral_reads_so in
           swapping heap false exchange mark prototype (λ n. done (Unbiased prototype)) (λ n. done (Raced mark n)) k Q refl
-          (λ i. unbiases_rule heap k e o mark prototype prototype x.takes.object (λ v. (
+          (λ i. unbiases_rule heap k e o mark prototype prototype (record { within = x.takes.object; known = x.takes.known }) (λ v. (
             record {
               prototype = prototype;
               exchange = record { runs = x.takes.runs; calm = x.calm; class = class; saw_class = saw_class; saw = saw_prototype; loose = loose; goes_on = sym x.mine };
@@ -205,7 +210,7 @@ module _ (heap : Heap) (o : ℕ) (e : Purpose) (enters : IsUnfinished e.unfinish
               unbiased = ap is_biased_form reads;
               why = inl none;
             },
-          )))
+          )) (inl (sym x.mine)))
           (λ n i was h.
           let l = known_hit heap.shape heap.start exchange n k in
           answers heap false (Unbiased prototype) l Q (outs.outcomes.unbiased l prototype (record {
@@ -229,7 +234,8 @@ module _ (heap : Heap) (o : ℕ) (e : Purpose) (enters : IsUnfinished e.unfinish
     prototype_does outs k mark class x local same headers unreached saw_mark saw_class alone there biased biasing =
         let look = load e (name.Prototype class) in
         hitting heap false look _ k Q (λ n. refl)
-        (λ j. looks heap k look (look_prototype k e x.takes.runs x.calm x.check (inl (sym x.mine)) class) (λ v. there)) (λ prototype j was.
+        (λ j. looks heap k look (look_prototype k e x.takes.runs x.calm x.check (inl (sym x.mine)) class) (λ v. there)
+        (inl (sym x.mine)) tt) (λ prototype j was.
         let m = known_hit heap.shape heap.start look prototype k in
         let is : IsPrototype prototype = prototype_here heap k was.stands x.takes.runs class prototype biasing was.found in
         by_does outs m mark prototype class (record { takes = x.takes; mine = refl; check = refl; calm = refl; untold = x.untold; place = x.place }) local same
@@ -240,12 +246,14 @@ module _ (heap : Heap) (o : ℕ) (e : Purpose) (enters : IsUnfinished e.unfinish
         (read_mark prototype) refl (prototype_form prototype is) biased is)
 
     -- THE WHOLE, which a call begins with
-    pub bias_enter_does : Tries here kept Q → (k : Known) → Taking heap k.running k.requesting k.moving k.log e o → k.stage ≡ Calm → GoesOn k e → e.check ≡ k.checking → Untold k → free_place k.holds < most_holds → local_of k ≡ here → k.kept ≡ kept
+    pub bias_enter_does : Tries here kept Q → (k : Known) → Taking heap k.running k.requesting k.moving k.log e o → k.stage ≡ Calm → GoesOn k e
+        → e.check ≡ k.checking → Untold k → free_place k.holds < most_holds → local_of k ≡ here → k.kept ≡ kept
         → Does heap true (bias_enter_steps heap.shape e (local_of k) o) k Q
     bias_enter_does outs k a calm goes check untold place local same =
         let look = load e (name.Mark o) in
         let ask_class = load e (name.Class o) in
-        hitting heap true look _ k Q (λ n. refl) (λ i. looks heap k look (look_mark heap k e a.runs calm check goes o) (λ v. a.object)) (λ mark i was.
+        hitting heap true look _ k Q (λ n. refl) (λ i. looks heap k look (look_mark heap k e a.runs calm check goes o) (λ v. a.object)
+        (taking_begins heap k e o a goes) (λ free. a.known)) (λ mark i was.
         let l = known_hit heap.shape heap.start look mark k in
         let headers : SawHeaders l = headers_first heap look mark k refl i a.unasks refl in
         chooses heap false (is_biased mark) _ _ l Q
@@ -259,7 +267,7 @@ module _ (heap : Heap) (o : ℕ) (e : Purpose) (enters : IsUnfinished e.unfinish
         (λ declared. prototype_does outs l mark (class_of heap.shape o)
         (record { takes = a; mine = refl; check = refl; calm = refl; untold = untold; place = place }) local same headers unreached
         (saw_newest heap look mark k) (class_declared heap.shape l.seen o declared) alone (class_there heap.shape o all a.object) yes biasing)
-        (λ made j. looks heap l ask_class (look_class l e a.runs refl refl (inl refl) o) (λ v. made_there heap.shape o a.object made))
+        (λ made j. looks heap l ask_class (look_class l e a.runs refl refl (inl refl) o) (λ v. made_there heap.shape o a.object made) (inl refl) tt)
         (λ made word j was1.
         let m = known_hit heap.shape heap.start ask_class word l in
         let some = class_some heap l was1.stands a.runs o mark word made (saw_newest heap look mark k) yes was1.found in
@@ -285,13 +293,15 @@ pub record Wants (heap : Heap) (o : ℕ) (e : Purpose) (here : Local) : Type 0 w
   pub live : ends here.log ≡ false
   pub room : length here.log < log_limit
   pub object : o < length heap.shape.objects
+  pub known : Knows heap here.log o
   pub untold : (i : ℕ) → says_notified here.wait i ≡ false
   pub place : free_place here.holds < most_holds
 
 unwaiting_enter : (e : Purpose) (o : ℕ) → IsUnfinished e.unfinished op.Enter o → (i : ℕ) → IsUnfinished e.unfinished op.Wait i → ⊥
 unwaiting_enter e o enters i h = let a = ap (is_of_kind op.Enter) (sym enters ∙ h) in cc a
 
-pub taking : (heap : Heap) (o : ℕ) (e : Purpose) (here : Local) (k : Known) → IsUnfinished e.unfinished op.Enter o → Wants heap o e here → local_of k ≡ here → k.running ≡ true → k.requesting ≡ false → k.moving ≡ Still
+pub taking : (heap : Heap) (o : ℕ) (e : Purpose) (here : Local) (k : Known) → IsUnfinished e.unfinished op.Enter o → Wants heap o e here
+    → local_of k ≡ here → k.running ≡ true → k.requesting ≡ false → k.moving ≡ Still
     → Taking heap k.running k.requesting k.moving k.log e o
 taking heap o e here k enters x local runs unasks still = record {
   runs = runs;
@@ -301,6 +311,7 @@ taking heap o e here k enters x local runs unasks still = record {
   live = ap (λ z. ends z.log) local ∙ x.live;
   room = subst (λ z. length z.log < log_limit) (sym local) x.room;
   object = x.object;
+  known = subst (λ z. Knows heap z.log o) (sym local) x.known;
   unwaiting = unwaiting_enter e o enters;
   enters = inr enters;
 }
@@ -320,6 +331,9 @@ module _ (heap : Heap) (e : Purpose) (b : Revocation) (enters : IsUnfinished e.u
   untold_here : (i : ℕ) → says_notified k.wait i ≡ false
   untold_here i = ap (λ z. says_notified z.wait i) local ∙ wants.untold i
 
+  known_here : Knows heap k.log o
+  known_here = subst (λ z. Knows heap z.log o) (sym local) wants.known
+
   place_here : free_place k.holds < most_holds
   place_here = subst (λ z. free_place z.holds < most_holds) (sym local) wants.place
 
@@ -335,7 +349,8 @@ module _ (heap : Heap) (e : Purpose) (b : Revocation) (enters : IsUnfinished e.u
   }
 
   -- by the form of a mark that is biased to the thread
-  own_does : (f : Option MarkForm) (mark p : ℕ) → Released heap e b me k0 true k → IsBiasTo k.thread f (epoch_in p) → SawOwnBias heap.shape (then_known true mark) o
+  own_does : (f : Option MarkForm) (mark p : ℕ) → Released heap e b me k0 true k → IsBiasTo k.thread f (epoch_in p)
+      → SawOwnBias heap.shape (then_known true mark) o
       → Does heap false (cond (is_biased_form f) (bias_after_at f e (local_of k) o) (done (Unbiased mark))) (then_known true mark) Q
   own_does None mark p x bias saw = absurd bias
   own_does (Some Inflating) mark p x bias saw = absurd bias
@@ -351,7 +366,8 @@ module _ (heap : Heap) (e : Purpose) (b : Revocation) (enters : IsUnfinished e.u
 
   pub bias_after_does : (took : Bool) → Released heap e b me k0 took k → Does heap false (bias_after_steps e (local_of k) o took) k Q
   bias_after_does true x =
-      hitting heap false (look true) _ k Q (λ n. refl) (λ i. looks heap k (look true) (looks_again true x) (λ v. wants.object)) (λ mark i was.
+      hitting heap false (look true) _ k Q (λ n. refl) (λ i. looks heap k (look true) (looks_again true x) (λ v. wants.object)
+      (inl x.mine) (λ free. known_here)) (λ mark i was.
       let v = x.mark.0 in
       let p = x.mark.1 in
       let class = x.mark.2 in
@@ -370,7 +386,8 @@ module _ (heap : Heap) (e : Purpose) (b : Revocation) (enters : IsUnfinished e.u
         bias_now,
       ))
   bias_after_does false x =
-      hitting heap false (look false) _ k Q (λ n. refl) (λ i. looks heap k (look false) (looks_again false x) (λ v. wants.object)) (λ mark i was.
+      hitting heap false (look false) _ k Q (λ n. refl) (λ i. looks heap k (look false) (looks_again false x) (λ v. wants.object)
+      (inl x.mine) (λ free. known_here)) (λ mark i was.
       let l = then_known false mark in
       let unbiased : is_biased mark ≡ false = ap is_biased (sym was.found) ∙ unbiased_here heap false k o was.stands x.runs (inr (refl, (x.mark.0, x.mark.3, x.mark.6))) in
       chooses heap false (is_biased mark) _ _ l Q (λ yes. absurd (cc (yes, unbiased))) (λ no.

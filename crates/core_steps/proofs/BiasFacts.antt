@@ -20,7 +20,7 @@ use Rattle.core_world.specs.Clauses.SeenWords.{IsValidBias}
 use Rattle.core_world.specs.Words.Shape.{Shape}
 use Rattle.core_world.specs.Words.Names.{class_by}
 use Rattle.core_world.proofs.There.{class_seen}
-use Rattle.core_world.specs.Steps.{is_idle, known_hit, seen_before, is_header, kept_by_note, kept_by_act}
+use Rattle.core_world.specs.Steps.{is_idle, known_hit, seen_before, kept_by_note, kept_by_act}
 use Rattle.core_world.specs.Words.Acts.{word_after}
 use Rattle.core_world.proofs.Naming.{same_named}
 use Rattle.core_locks.specs.Knowing.{GoesOn, IsBiasTo}
@@ -34,18 +34,25 @@ use Rattle.core_law.proofs.Standing.{fits_here, away, few_threads}
 use Rattle.core_steps.proofs.ClassSteps.{class_from}
 use Rattle.core_steps.proofs.SeenSteps.{saw_any, saw_older, first_any, first_alone, alone_more}
 
--- in its call it has seen marks, class words and prototypes alone, besides the safepoint word
-abbrev pub SawHeaders : Known → Type 0
-SawHeaders k = (n : Name) → is_header n ≡ false → same_name n name.Safepoint ≡ false → last_seen n k.seen ≡ None
+-- a mark, a class word or a prototype, of whatever object or class
+abbrev pub is_any_header : Name → Bool
+is_any_header (name.Mark o) = true
+is_any_header (name.Prototype c) = true
+is_any_header (name.Class o) = true
+is_any_header _ = false
 
-hidden_apart : (n at : Name) → is_header n ≡ false → is_header at ≡ true → same_name n at ≡ false
+-- in its call it has seen those alone, besides the safepoint word
+abbrev pub SawHeaders : Known → Type 0
+SawHeaders k = (n : Name) → is_any_header n ≡ false → same_name n name.Safepoint ≡ false → last_seen n k.seen ≡ None
+
+hidden_apart : (n at : Name) → is_any_header n ≡ false → is_any_header at ≡ true → same_name n at ≡ false
 hidden_apart n at h g = cases (same_name n at) refl
   where
     cases : (b : Bool) → same_name n at ≡ b → b ≡ false
-    cases true e = let same = ap is_header (same_named n at e) in absurd (cc (same, h, g))
+    cases true e = let same = ap is_any_header (same_named n at e) in absurd (cc (same, h, g))
     cases false e = refl
 
-module _ (heap : Heap) (p : StepPlan) (n : ℕ) (k : Known) (on_header : is_header p.at ≡ true) where
+module _ (heap : Heap) (p : StepPlan) (n : ℕ) (k : Known) (on_header : is_any_header p.at ≡ true) where
   -- by the first step of a call, which is on such a word, and by a further one
   pub headers_first : is_idle heap.shape k ≡ true → k.requesting ≡ false → kept_by_note p.note (kept_by_act p.at p.act (word_after p.act n) k (seen_before heap.shape k)) ≡ seen_before heap.shape k
       → SawHeaders (known_hit heap.shape heap.start p n k)

@@ -230,6 +230,7 @@ module _ (heap : Heap) (e : Purpose) (me : ℕ) (checks : e.check ≡ true) wher
         carries = subst (Carries k.moving k.log k.wait k.holds k.shots) (sym mine) (carried heap.shape k rest);
         asking = λ asks. (checks ∙ sym (asking asks), mine);
         running = λ free. (running free, inl mine);
+        begins = inl mine;
       }))
       (λ b r l x. then_checked k b r l x))
 

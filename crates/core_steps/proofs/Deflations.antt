@@ -44,7 +44,12 @@ use Rattle.core_law.proofs.Wholes.{All}
 use Rattle.core_law.proofs.SafepointSights.{Seeing, seeing_all, seeing_itself, is_as_seen, forms_fit}
 use Rattle.core_steps.specs.Deflated.{GaveBack, SawInUse, IsBack, IsSettled, NamedAreInUse, GivenBackAreClean, is_taken_by}
 use Rattle.core_steps.proofs.Ringed.{IsOut, out_on, within_ring, unnamed, stands_in_ring, none_returns, comes_out, stays_out}
-use Rattle.core_steps.proofs.LawRules.{keeps_in_all, standing_in_all, looks}
+use Rattle.core_world.proofs.Readings.{mark_one}
+use Rattle.core_made.specs.Steps.{IsFairQuietly}
+use Rattle.core_made.proofs.Fair.{marked_there}
+use Rattle.core_steps.proofs.FairSteps.{begun, makes_same}
+use Rattle.core_steps.proofs.FairLooks.{sees_reached}
+use Rattle.core_steps.proofs.LawRules.{keeps_in_all, standing_in_all, fair_here, looks}
 use Rattle.core_steps.proofs.SafepointLooks.{stays_reached, stood_kept, Facts, each_does, going}
 use Rattle.core_steps.proofs.Trees.{answers, chooses, follows, hitting}
 use Rattle.core_steps.proofs.Tests.{both}
@@ -94,7 +99,8 @@ module _ (heap : Heap) (e : Purpose) (k0 : Known) (st : Stage) (plain : revocati
     pub shots : k.shots ≡ k0.shots
 
   -- so it carries what it carried
-  pub still_carries : {u : Option Unfinished} (k : Known) → Idles k → Carries k0.moving k0.log k0.wait k0.holds k0.shots u → Carries k.moving k.log k.wait k.holds k.shots u
+  pub still_carries : {u : Option Unfinished} (k : Known) → Idles k → Carries k0.moving k0.log k0.wait k0.holds k0.shots u
+      → Carries k.moving k.log k.wait k.holds k.shots u
   still_carries {u} k x carries =
       subst (λ z. Carries k.moving z.log z.wait z.holds k.shots u) (sym x.local)
       (subst (λ z. Carries k.moving k0.log k0.wait k0.holds z u) (sym x.shots) (subst (λ z. Carries z k0.log k0.wait k0.holds k0.shots u) (carries.still ∙ sym x.still) carries))
@@ -112,16 +118,19 @@ module _ (heap : Heap) (e : Purpose) (k0 : Known) (st : Stage) (plain : revocati
     check = r.check;
     after = inl r.mine;
     may = record { outside = λ a b. let c = r.reached in absurd (cc (b, c)); found = λ a m is. let c = r.stopped in absurd (cc (a, c)) };
-  }) there
+  }) there (inl r.mine) (sees_reached heap.shape k at r.reached)
 
-  saw_at : (at : Name) (k : Known) (n : ℕ) → seen_at_safepoint_before at Load k ≡ k.seen_at_safepoint → last_seen at (known_hit heap.shape heap.start (load_plan e st at) n k).seen_at_safepoint ≡ Some n
+  saw_at : (at : Name) (k : Known) (n : ℕ) → seen_at_safepoint_before at Load k ≡ k.seen_at_safepoint
+      → last_seen at (known_hit heap.shape heap.start (load_plan e st at) n k).seen_at_safepoint ≡ Some n
   saw_at at k n kept = ap (λ (b : Bool). cond b (Some n) (last_seen at (seen_at_safepoint_before at Load k))) (same_as_itself at)
 
-  still_seen_at : (at : Name) (k : Known) (n : ℕ) → k.reached ≡ true → seen_at_safepoint_before at Load k ≡ k.seen_at_safepoint → Was heap (load_plan e st at) k n
+  still_seen_at : (at : Name) (k : Known) (n : ℕ) → k.reached ≡ true → seen_at_safepoint_before at Load k ≡ k.seen_at_safepoint
+      → Was heap (load_plan e st at) k n
       → Seeing k (known_hit heap.shape heap.start (load_plan e st at) n k)
   still_seen_at at k n reached kept was = record { saw = λ m v saw. cases m v saw (same_name m at) refl }
     where
-      cases : (m : Name) (v : ℕ) → last_seen m k.seen_at_safepoint ≡ Some v → (b : Bool) → same_name m at ≡ b → cond b (Some n) (last_seen m (seen_at_safepoint_before at Load k)) ≡ Some v
+      cases : (m : Name) (v : ℕ) → last_seen m k.seen_at_safepoint ≡ Some v → (b : Bool) → same_name m at ≡ b
+          → cond b (Some n) (last_seen m (seen_at_safepoint_before at Load k)) ≡ Some v
       cases m v saw true same =
           let is : m ≡ at = same_named m at same in
           ap Some (sym was.found ∙ ap was.stands.world.words (sym is) ∙ is_as_seen heap k was.stands reached m v saw)
@@ -138,7 +147,8 @@ module _ (heap : Heap) (e : Purpose) (k0 : Known) (st : Stage) (plain : revocati
   looked_itself : (k : Known) → Looked k k
   looked_itself k = record { sights = seeing_itself k; back = λ i. refl }
 
-  still_looked_at : (at : Name) (k : Known) (n : ℕ) → k.reached ≡ true → seen_at_safepoint_before at Load k ≡ k.seen_at_safepoint → Was heap (load_plan e st at) k n
+  still_looked_at : (at : Name) (k : Known) (n : ℕ) → k.reached ≡ true → seen_at_safepoint_before at Load k ≡ k.seen_at_safepoint
+      → Was heap (load_plan e st at) k n
       → Looked k (known_hit heap.shape heap.start (load_plan e st at) n k)
   still_looked_at at k n reached kept was = record { sights = still_seen_at at k n reached kept was; back = λ m. ap (λ z. is_taken_by z m) kept }
 
@@ -204,7 +214,8 @@ module _ (heap : Heap) (e : Purpose) (k0 : Known) (st : Stage) (plain : revocati
   -- so is each mark, but for such as had no bias pattern and have none; and no monitor that wasn't idle is so now
   pub record Holding (k l : Known) : Type 0 where
     pub held : (u : ℕ) → u < heap.shape.threads → Held k u → Held l u
-    pub marks : (i v : ℕ) → last_seen (name.Mark i) k.seen_at_safepoint ≡ Some v → (u : ℕ) × (last_seen (name.Mark i) l.seen_at_safepoint ≡ Some u) × ((u ≡ v) ⊎ ((is_biased v ≡ false) × (is_biased u ≡ false)))
+    pub marks : (i v : ℕ) → last_seen (name.Mark i) k.seen_at_safepoint ≡ Some v
+        → (u : ℕ) × (last_seen (name.Mark i) l.seen_at_safepoint ≡ Some u) × ((u ≡ v) ⊎ ((is_biased v ≡ false) × (is_biased u ≡ false)))
     pub prototypes : (i v : ℕ) → last_seen (name.Prototype i) k.seen_at_safepoint ≡ Some v → last_seen (name.Prototype i) l.seen_at_safepoint ≡ Some v
     pub classes : (i v : ℕ) → last_seen (name.Class i) k.seen_at_safepoint ≡ Some v → last_seen (name.Class i) l.seen_at_safepoint ≡ Some v
     pub settled : (m : ℕ) → Settles k m → Settles l m
@@ -326,6 +337,26 @@ module _ (heap : Heap) (e : Purpose) (k0 : Known) (st : Stage) (plain : revocati
         let head = is_as_seen heap k2 v reached (name.Header m) header saw_header in
         ap (λ z. is_neutral_form (read_mark z)) (sym head) ∙ neutral
 
+    -- the object is there, since its mark names a monitor
+    detach_fair : (v : Stands heap k2) → All v.world v.objects → IsFairQuietly v.world k2.thread (detach_plan e (v.world.known k2.thread).stage o m header)
+    detach_fair v a =
+        let mine = away heap k2 v (λ s y. e.unfinished ≡ y.unfinished) x.mine in
+        let inflated = is_as_seen heap k2 v reached (name.Mark o) mark (s.saw (name.Mark o) mark saw_mark) in
+        record {
+          fair = record {
+            spares = inl (marked_there v.world a.made o (λ neutral.
+                let none : monitor_in (v.world.words (name.Mark o)) ≡ None = ap monitor_in neutral ∙ ap monitor_form mark_one in
+                let some : monitor_in (v.world.words (name.Mark o)) ≡ Some m = ap monitor_in inflated ∙ named in
+                absurd (cc (none, some))));
+            begins = begun v.world a.made k2.thread (detach_plan e (v.world.known k2.thread).stage o m header) (inl mine);
+            looks = λ i is free. let is_reached = away heap k2 v (λ s y. y.reached ≡ true) reached in absurd (cc (is_reached, free));
+            ends = tt;
+            shots = refl;
+            makes = makes_same v.world a.made k2.thread (detach_plan e (v.world.known k2.thread).stage o m header) tt (inl mine);
+          };
+          log = refl;
+        }
+
     -- the mark of o was that of a monitor, and is a header now; each other mark is as it was
     mark_on : (v : Stands heap k2) (i u : ℕ) (b : Bool) → (i == o) ≡ b → last_seen (name.Mark i) k2.seen_at_safepoint ≡ Some u
         → (n : ℕ) × (cond b (Some header) (last_seen (name.Mark i) k2.seen_at_safepoint) ≡ Some n) × ((n ≡ u) ⊎ ((is_biased u ≡ false) × (is_biased n ≡ false)))
@@ -443,7 +474,8 @@ module _ (heap : Heap) (e : Purpose) (k0 : Known) (st : Stage) (plain : revocati
     settled_on : (v : Stands heap k2) (a b c d f g n : ℕ) (j : ℕ) → Settles k j → Settles (k9 a b c d f g n) j
     settled_on v a b c d f g n j h = by_number (m == j) refl
       where
-        by_mark : (i u : ℕ) → (j == m) ≡ false → last_seen (name.Object j) k.seen_at_safepoint ≡ Some i → last_seen (name.Mark i) k.seen_at_safepoint ≡ Some u → (monitor_in u ≡ Some j → SawInUse heap.shape k i j)
+        by_mark : (i u : ℕ) → (j == m) ≡ false → last_seen (name.Object j) k.seen_at_safepoint ≡ Some i
+            → last_seen (name.Mark i) k.seen_at_safepoint ≡ Some u → (monitor_in u ≡ Some j → SawInUse heap.shape k i j)
             → (same : Bool) → (i == o) ≡ same → Settles (k9 a b c d f g n) j
         by_mark i u other saw_object saw_it used true same =
             inr (
@@ -507,18 +539,23 @@ module _ (heap : Heap) (e : Purpose) (k0 : Known) (st : Stage) (plain : revocati
           owner = s.saw (name.Owner m) (owner_of Free) saw_owner;
           its_header = saw_header;
           untouched = λ u h. let y = untouched u h in (y.0, s.saw (name.Waiting u) y.0 y.1, y.2, y.3, y.4);
-        }))) (λ a ia wa.
+        }) detach_fair)) (λ a ia wa.
         hitting heap false _ _ _ _ (λ n. refl) (λ i. keeps_in_all heap (k3 a) (λ s y. MayClean y e m) (λ t y. clean_plan e y.stage (name.Owner m)) (cleans_owner e m) (quiet.cleans_owner e m) (λ t y r. r) (λ v. tt)
-        (λ v. all_at (k3 a) v reached refl) (λ v. (there, tt)) (λ v. record { stands = record { reached = reached; unrevoking = plain; goes_on = inl refl }; returns = refl })) (λ b ib wb.
+        (λ v. all_at (k3 a) v reached refl) (λ v. (there, tt)) (λ v. record { stands = record { reached = reached; unrevoking = plain; goes_on = inl refl }; returns = refl })
+        (fair_here heap (k3 a) (λ t y. clean_plan e y.stage (name.Owner m)) (λ v. (refl, tt, tt)) (inl refl))) (λ b ib wb.
         hitting heap false _ _ _ _ (λ n. refl) (λ i. keeps_in_all heap (k4 a b) (λ s y. MayClean y e m) (λ t y. clean_plan e y.stage (name.Recursions m)) (cleans_count e m) (quiet.cleans_recursions e m) (λ t y r. r) (λ v. tt)
-        (λ v. all_at (k4 a b) v reached refl) (λ v. (there, tt)) (λ v. record { stands = record { reached = reached; unrevoking = plain; goes_on = inl refl }; returns = refl })) (λ c ic wc.
+        (λ v. all_at (k4 a b) v reached refl) (λ v. (there, tt)) (λ v. record { stands = record { reached = reached; unrevoking = plain; goes_on = inl refl }; returns = refl })
+        (fair_here heap (k4 a b) (λ t y. clean_plan e y.stage (name.Recursions m)) (λ v. (refl, tt, tt)) (inl refl))) (λ c ic wc.
         hitting heap false _ _ _ _ (λ n. refl) (λ i. keeps_in_all heap (k5 a b c) (λ s y. MayClean y e m) (λ t y. clean_plan e y.stage (name.Header m)) (cleans_head e m) (quiet.cleans_header e m) (λ t y r. r) (λ v. tt)
-        (λ v. all_at (k5 a b c) v reached refl) (λ v. (there, tt)) (λ v. record { stands = record { reached = reached; unrevoking = plain; goes_on = inl refl }; returns = refl })) (λ d id wd.
+        (λ v. all_at (k5 a b c) v reached refl) (λ v. (there, tt)) (λ v. record { stands = record { reached = reached; unrevoking = plain; goes_on = inl refl }; returns = refl })
+        (fair_here heap (k5 a b c) (λ t y. clean_plan e y.stage (name.Header m)) (λ v. (refl, tt, tt)) (inl refl))) (λ d id wd.
         hitting heap false _ _ _ _ (λ n. refl) (λ i. keeps_in_all heap (k6 a b c d) (λ s y. MayClean y e m) (λ t y. clean_plan e y.stage (name.Object m)) (cleans_object e m) (quiet.cleans_object e m) (λ t y r. r) (λ v. tt)
-        (λ v. all_at (k6 a b c d) v reached refl) (λ v. (there, tt)) (λ v. record { stands = record { reached = reached; unrevoking = plain; goes_on = inl refl }; returns = refl })) (λ f if_ wf.
+        (λ v. all_at (k6 a b c d) v reached refl) (λ v. (there, tt)) (λ v. record { stands = record { reached = reached; unrevoking = plain; goes_on = inl refl }; returns = refl })
+        (fair_here heap (k6 a b c d) (λ t y. clean_plan e y.stage (name.Object m)) (λ v. (refl, tt, tt)) (inl refl))) (λ f if_ wf.
         hitting heap false _ _ _ _ (λ n. refl) (λ i. keeps_in_all heap (k7 a b c d f) (λ s y. (s ≡ heap.shape) × MayEnqueue y e m end) (λ t y. enqueue_plan e y.stage heap.shape end m) (enqueues_in heap.shape e m end) (enqueues_biases heap.shape e m end)
         (λ t y r. r) (λ v. tt) (λ v. all_at (k7 a b c d f) v reached refl) (λ v. (mod_below end (ring_places heap.shape) (pow_pos (ring_bits heap.shape)), tt))
-        (λ v. (refl, record { stands = record { reached = reached; unrevoking = plain; goes_on = inl refl }; returns = refl; at_end = saw_end }))) (λ g ig wg.
+        (λ v. (refl, record { stands = record { reached = reached; unrevoking = plain; goes_on = inl refl }; returns = refl; at_end = saw_end }))
+        (fair_here heap (k7 a b c d f) (λ t y. enqueue_plan e y.stage heap.shape end m) (λ v. (refl, tt, tt)) (inl refl))) (λ g ig wg.
         hitting heap false _ _ _ _ (λ n. refl) (λ i. keeps_in_all heap (k8 a b c d f g) (λ s y. MayAdvance s y e m end) (λ t y. advance_plan e y.stage end) (advances e m end) (quiet.advances e m end) (λ t y r. r) (λ v. tt)
         (λ v. all_at (k8 a b c d f g) v reached refl) (λ v. (tt, tt))
         (λ v. record {
@@ -526,7 +563,7 @@ module _ (heap : Heap) (e : Purpose) (k0 : Known) (st : Stage) (plain : revocati
           returns = refl;
           at_end = saw_end;
           stored = ap (λ t. cond t (Some m) (last_seen (name.Ring (end % ring_places heap.shape)) (k7 a b c d f).seen_at_safepoint)) (same_as_itself (name.Ring (end % ring_places heap.shape)));
-        })) (λ n j wn.
+        }) (fair_here heap (k8 a b c d f g) (λ t y. advance_plan e y.stage end) (λ v. (refl, tt, tt)) (inl refl))) (λ n j wn.
         answers heap false _ _ _ (record { reached = x.reached; stopped = x.stopped; stands = refl; check = refl; mine = refl; still = refl; local = x.local; kept = x.kept; saved = x.saved; draws = x.draws; shots = x.shots }, holds_on wa.stands a b c d f g n, inl (ap (λ z. z || is_taken_by k2.seen_at_safepoint m) (eq-eqb m m refl), clear_now wa.stands a b c d f g n)))))))))
 
   -- LOOKING AT ALL WAITING WORDS
@@ -544,7 +581,8 @@ module _ (heap : Heap) (e : Purpose) (k0 : Known) (st : Stage) (plain : revocati
     pub idles : Idles l
     pub back : (m : ℕ) → is_taken_by l.seen_at_safepoint m ≡ is_taken_by k.seen_at_safepoint m
 
-  look_does : (k : Known) (u : ℕ) (l : Known) → u < heap.shape.threads → IdlesSince k l → Does heap false (look_of u) l (λ b a z. IdlesSince k z × Seeing l z × WasSeen u a z)
+  look_does : (k : Known) (u : ℕ) (l : Known) → u < heap.shape.threads → IdlesSince k l
+      → Does heap false (look_of u) l (λ b a z. IdlesSince k z × Seeing l z × WasSeen u a z)
   look_does k u l thread x =
       look (name.Waiting u) done l _ x.idles (λ v. thread) (λ n z y s saw was. answers heap false n z _ (record { idles = y; back = λ m. s.back m ∙ x.back m }, s.sights, saw))
 
@@ -552,7 +590,8 @@ module _ (heap : Heap) (e : Purpose) (k0 : Known) (st : Stage) (plain : revocati
   AllSeen k i n xs l = Facts heap look_of (IdlesSince k) WasSeen was_seen_more heap.shape.threads (look_does k) i n xs l
 
   -- what was seen of all waiting words, where each passes the test
-  untouched_all : (k : Known) (o i n : ℕ) (xs : List ℕ) (l : Known) → AllSeen k i n xs l → list_all (λ w. is_untouched o w) xs ≡ true → (t : ℕ) → t < n → SawUntouched l o (i + t)
+  untouched_all : (k : Known) (o i n : ℕ) (xs : List ℕ) (l : Known) → AllSeen k i n xs l → list_all (λ w. is_untouched o w) xs ≡ true → (t : ℕ) → t < n
+      → SawUntouched l o (i + t)
   untouched_all k o i zero xs l facts all t h = absurd (omega (arith, h))
   untouched_all k o i (suc n) [] l facts all t h = absurd facts
   untouched_all k o i (suc n) (w ∷ xs) l facts all zero h =
@@ -596,7 +635,8 @@ module _ (heap : Heap) (e : Purpose) (k0 : Known) (st : Stage) (plain : revocati
   names_not (Some n) m h q = let yes = eq-eqb n m (same_Some n m q) in absurd (cc (h, yes))
 
   -- where its object's mark names it and nobody owns it
-  free_does : (o m mark : ℕ) (k : Known) → m < monitor_count heap.shape → o < length heap.shape.objects → Idles k → Saw k (name.Object m) o → Saw k (name.Mark o) mark → monitor_in mark ≡ Some m
+  free_does : (o m mark : ℕ) (k : Known) → m < monitor_count heap.shape → o < length heap.shape.objects → Idles k → Saw k (name.Object m) o
+      → Saw k (name.Mark o) mark → monitor_in mark ≡ Some m
       → Saw k (name.Owner m) (owner_of Free) → Does heap false (deflate_free heap.shape e st o m) k (λ b a l. Idles l × Holding k l × Settles l m)
   free_does o m mark k there object x saw_object saw_mark named saw_owner =
       going heap (each_from 0 heap.shape.threads look_of) _ k _ (follows heap false _ k _ _
@@ -616,7 +656,8 @@ module _ (heap : Heap) (e : Purpose) (k0 : Known) (st : Stage) (plain : revocati
       answers heap false _ l _ (y.0.idles, looked_holds k l looked, inr (o, mark, s.saw (name.Object m) o saw_object, s.saw (name.Mark o) mark saw_mark, λ q. inr (one.0, one.1, thread, one.3, one.4))))))
 
   -- where its object's mark names it
-  named_does : (o m mark : ℕ) (k : Known) → m < monitor_count heap.shape → o < length heap.shape.objects → Idles k → Saw k (name.Object m) o → Saw k (name.Mark o) mark → monitor_in mark ≡ Some m
+  named_does : (o m mark : ℕ) (k : Known) → m < monitor_count heap.shape → o < length heap.shape.objects → Idles k → Saw k (name.Object m) o
+      → Saw k (name.Mark o) mark → monitor_in mark ≡ Some m
       → Does heap false (deflate_named heap.shape e st o m) k (λ b a l. Idles l × Holding k l × Settles l m)
   named_does o m mark k there object x saw_object saw_mark named =
       look (name.Owner m) _ k _ x (λ v. there) (λ owner l y looked saw_owner was.
@@ -632,7 +673,8 @@ module _ (heap : Heap) (e : Purpose) (k0 : Known) (st : Stage) (plain : revocati
   abbrev behind_object : ℕ → ℕ → Todo (Unit {0})
   behind_object m o = look_at e st (name.Mark o) >>= (λ mark. cond (names_monitor (monitor_in mark) m) (deflate_named heap.shape e st o m) (done tt))
 
-  behind_does : (m o : ℕ) (k : Known) → m < monitor_count heap.shape → o < length heap.shape.objects → Idles k → Saw k (name.Object m) o → Does heap false (behind_object m o) k (λ b a l. Idles l × Holding k l × Settles l m)
+  behind_does : (m o : ℕ) (k : Known) → m < monitor_count heap.shape → o < length heap.shape.objects → Idles k → Saw k (name.Object m) o
+      → Does heap false (behind_object m o) k (λ b a l. Idles l × Holding k l × Settles l m)
   behind_does m o k there object x saw_object =
       look (name.Mark o) _ k _ x (λ v. object) (λ mark l y looked saw_mark was.
       let saw_it = looked.sights.saw (name.Object m) o saw_object in
@@ -640,7 +682,8 @@ module _ (heap : Heap) (e : Purpose) (k0 : Known) (st : Stage) (plain : revocati
       follows heap false _ l _ _ (named_does o m mark l there object y saw_it saw_mark (names_it (monitor_in mark) m yes)) (λ b a z h. (h.0, holding_all k l z (looked_holds k l looked) h.1, h.2)))
       (λ no. answers heap false _ l _ (y, looked_holds k l looked, inr (o, mark, saw_it, saw_mark, λ q. absurd (names_not (monitor_in mark) m no q)))))
 
-  monitor_does : (m : ℕ) (k : Known) → m < monitor_count heap.shape → 0 < length heap.shape.objects → Idles k → Does heap false (deflate_monitor heap.shape e st m) k (λ b a l. Idles l × Holding k l × Settles l m)
+  monitor_does : (m : ℕ) (k : Known) → m < monitor_count heap.shape → 0 < length heap.shape.objects → Idles k
+      → Does heap false (deflate_monitor heap.shape e st m) k (λ b a l. Idles l × Holding k l × Settles l m)
   monitor_does m k there some x =
       look (name.Object m) (behind_object m) k _ x (λ v. there) (λ o l y looked saw_object was.
       let object : o < length heap.shape.objects = subst (λ z. z < length heap.shape.objects) was.found (object_there k m some was.stands) in
@@ -653,7 +696,8 @@ module _ (heap : Heap) (e : Purpose) (k0 : Known) (st : Stage) (plain : revocati
   settled_first : (i n m : ℕ) (l : Known) → Settles l i → AreSettled (i + 1) n l → i ≤ m → m < i + suc n → Settles l m
   settled_first i n m l one others h g = by_equal m i (λ q. subst (Settles l) (sym q) one) (λ d. others m (omega (arith, h, d)) (omega (arith, g)))
 
-  all_do : (i n : ℕ) (k : Known) → i + n ≤ monitor_count heap.shape → 0 < length heap.shape.objects → Idles k → Does heap false (all_from i n (λ m. deflate_monitor heap.shape e st m)) k (λ b a l. Idles l × Holding k l × AreSettled i n l)
+  all_do : (i n : ℕ) (k : Known) → i + n ≤ monitor_count heap.shape → 0 < length heap.shape.objects → Idles k
+      → Does heap false (all_from i n (λ m. deflate_monitor heap.shape e st m)) k (λ b a l. Idles l × Holding k l × AreSettled i n l)
   all_do i zero k few some x = answers heap false _ k _ (x, looked_holds k k (looked_itself k), λ m h g. absurd (omega (arith, h, g)))
   all_do i (suc n) k few some x =
       going heap (deflate_monitor heap.shape e st i) _ k _ (follows heap false _ k _ _ (monitor_does i k (omega (arith, few)) some x) (λ b a l y.
@@ -740,7 +784,8 @@ module _ (heap : Heap) (e : Purpose) (k0 : Known) (st : Stage) (plain : revocati
       let object : o < length heap.shape.objects = subst (λ z. z < length heap.shape.objects) was.found (object_there k 0 some was.stands) in
       follows heap false _ l _ _ (behind_does 0 o l there object (x.idles o) (saw_at (name.Object 0) k o refl)) (λ b a z h. (h.0, holding_all k l z (looked_holds k l looked) h.1, h.2, was.stands)))
 
-  all_first : (n : ℕ) (k : Known) → n ≤ monitor_count heap.shape → 0 < n → 0 < length heap.shape.objects → Ends k → Does heap false (all_from 0 n (λ m. deflate_monitor heap.shape e st m)) k
+  all_first : (n : ℕ) (k : Known) → n ≤ monitor_count heap.shape → 0 < n → 0 < length heap.shape.objects → Ends k
+      → Does heap false (all_from 0 n (λ m. deflate_monitor heap.shape e st m)) k
       (λ b a l. Idles l × Holding k l × AreSettled 0 n l × Stands heap k)
   all_first zero k few many some x = absurd (omega (arith, many))
   all_first (suc n) k few many some x =
@@ -748,7 +793,8 @@ module _ (heap : Heap) (e : Purpose) (k0 : Known) (st : Stage) (plain : revocati
       follows heap false _ l _ _ (all_do (0 + 1) n l (omega (arith, few)) some y.0) (λ c d m z.
       (z.0, holding_all k l m y.1 z.1, λ i h g. settled_first 0 n i m (z.1.settled 0 y.2) z.2 h g, y.3))))
 
-  pub deflate_ends : (k : Known) → 0 < length heap.shape.objects → Ends k → Does heap false (deflate_steps heap.shape e st) k (λ b a l. Idles l × Holding k l × AllSettled l × Stands heap k)
+  pub deflate_ends : (k : Known) → 0 < length heap.shape.objects → Ends k
+      → Does heap false (deflate_steps heap.shape e st) k (λ b a l. Idles l × Holding k l × AllSettled l × Stands heap k)
   deflate_ends k object x =
       chooses heap false (length heap.shape.objects == 0) _ _ k _ (λ none. absurd (let z = eqb-true (length heap.shape.objects) 0 none in omega (arith, z, object)))
       (λ some. follows heap false _ k _ _ (all_first (monitor_count heap.shape) k (omega arith) (omega (arith, object)) object x)

@@ -29,6 +29,7 @@ use Rattle.core_world.specs.Trees.Operations.{answer, and_then, goes_on_with, du
 use Rattle.core_world.specs.Trees.Plans.{Purpose, purpose, load, done_with}
 use Rattle.core_world.specs.Trees.SafepointSteps.{reached_word, released_word, safepoint_steps, release_safepoint, release_plan}
 use Rattle.core_world.specs.Clauses.Safepoints.{IsUnfinished, ends}
+use Rattle.core_world.specs.Threads.References.{making_in}
 use Rattle.core_world.specs.Words.Shape.{Shape, class_of, IsInLimits}
 use Rattle.core_world.specs.Shots.{dumps_from}
 use Rattle.core_world.specs.Steps.{known_hit, shot_of}
@@ -47,12 +48,14 @@ use Rattle.core_law.specs.Logic.{Heap, Stands, Does}
 use Rattle.core_law.specs.Sound.{Finishes}
 use Rattle.core_law.specs.Begins.{BeginsWell}
 use Rattle.core_steps.proofs.Facts.{Untold, ready_here}
-use Rattle.core_law.proofs.Standing.{fits_here, home, valid_here, few_threads}
+use Rattle.core_law.proofs.Standing.{fits_here, home, valid_here, few_threads, inside}
 use Rattle.core_world.specs.Trees.DeflateSteps.{deflate_steps}
 use Rattle.core_world.specs.Words.Forms.{says_notified}
 use Rattle.core_steps.proofs.ClassSteps.{made_there, class_found}
 use Rattle.core_steps.proofs.Deflations.{deflate_does}
-use Rattle.core_steps.proofs.LawRules.{keeps_calm, releases, publishes, limits}
+use Rattle.core_made.proofs.ShotTaken.{shot_keeps}
+use Rattle.core_steps.proofs.LawRules.{keeps_made, calm_in_all, releases, publishes, limits}
+use Rattle.core_steps.proofs.FairSteps.{begins_going}
 use Rattle.core_steps.proofs.Requests.{Asks, Stood, BeginsSafepoint, safepoint_does}
 use Rattle.core_steps.proofs.Resting.{Carries, logged_carries, rests}
 use Rattle.core_steps.proofs.SafeCalls.{closes, released_unasks}
@@ -157,7 +160,8 @@ module _ (heap : Heap) (me : ℕ) (here : Local) (shots : List DumpShot) (room :
       }
 
   -- the looks, each of which stays seen
-  looks_do : {A : Type 0} (d : Todo A) (k : Known) → Looks heap.shape dump_errand d → Dumps k → Does heap false d k (λ b a l. Dumps l × Seeing k l × SawSteps d l (λ x. Unit {0}))
+  looks_do : {A : Type 0} (d : Todo A) (k : Known) → Looks heap.shape dump_errand d → Dumps k
+      → Does heap false d k (λ b a l. Dumps l × Seeing k l × SawSteps d l (λ x. Unit {0}))
   looks_do (done a) k h s = answers heap false a k _ (s, seeing_itself k, tt)
   looks_do never k h s = absurd h
   looks_do {A} (step p f) k h s =
@@ -217,7 +221,7 @@ module _ (heap : Heap) (me : ℕ) (here : Local) (shots : List DumpShot) (room :
           };
         },
         tt,
-      )))
+      )) tt)
       (λ n i was. answers heap false _ _ _ (rests heap.shape _ refl unasks refl (logged_carries k.log _ k.wait _ r.still r.live refl r.untold))))
       (λ no. absurd (cc (hit, no)))))
 
@@ -227,7 +231,8 @@ module _ (heap : Heap) (me : ℕ) (here : Local) (shots : List DumpShot) (room :
     _ ← deflate_steps heap.shape dump_errand Calm
     released
 
-  deflating_does : (k : Known) (shot : DumpShot) → HasShot shot k → k.running ≡ false → dump_errand.check ≡ k.checking → Does heap false deflated k (λ b r l. AtRest heap.shape l)
+  deflating_does : (k : Known) (shot : DumpShot) → HasShot shot k → k.running ≡ false → dump_errand.check ≡ k.checking
+      → Does heap false deflated k (λ b r l. AtRest heap.shape l)
   deflating_does k shot r stopped check =
       going heap (deflate_steps heap.shape dump_errand Calm) (λ u. released) k _ (
       follows heap false _ k _ _ (deflate_does heap dump_errand k Calm refl k (record {
@@ -263,9 +268,11 @@ module _ (heap : Heap) (me : ℕ) (here : Local) (shots : List DumpShot) (room :
       let p = keep_shot_plan dump_errand in
       let logged : length k.shots ≡ length (dumps_from 0 k.log) = r.carries.shots_logged refl in
       hitting heap false p _ k _ (λ n. refl)
-      (λ i. keeps_calm heap k (λ s y. MayKeepShot s y dump_errand) (λ t y. keep_shot_plan dump_errand) (keeps_shot dump_errand) (quiet.keeps_shot dump_errand) (λ t y h. refl) (λ v. tt) r.reached r.calm
+      (λ i. keeps_made heap k (λ s y. MayKeepShot s y dump_errand) (λ t y. keep_shot_plan dump_errand) (keeps_shot dump_errand) (quiet.keeps_shot dump_errand) (λ t y h. refl) (λ v. tt)
+      (λ v. calm_in_all heap k v r.reached r.calm)
       (λ v. (tt, subst (λ z. length z < 4) (sym d.shots_are) few))
-      (λ v. record { reached = r.reached; calm = r.calm; dumps = sym r.mine; goes_on = r.mine; logged = logged; room = subst (λ z. length z < 4) (sym d.shots_are) few; saw = saw })) (λ n i was.
+      (λ v. record { reached = r.reached; calm = r.calm; dumps = sym r.mine; goes_on = r.mine; logged = logged; room = subst (λ z. length z < 4) (sym d.shots_are) few; saw = saw })
+      (λ v a m. shot_keeps v.world v.objects k.thread dump_errand (inside heap k v) m (ap making_in m.goes_on) a.fits a.made)) (λ n i was.
       let l = known_hit heap.shape heap.start p n k in
       answers heap false _ l _ (deflating_does l (shot_of heap.shape k) (record {
         reached = stays_reached k.reached _ r.reached;
@@ -294,7 +301,8 @@ module _ (heap : Heap) (me : ℕ) (here : Local) (shots : List DumpShot) (room :
       follows heap false (shot_looks dump_errand heap.shape) k _ _ (looks_do (shot_looks dump_errand heap.shape) k (look_all heap.shape dump_errand limits) d) (λ b u l x.
       shooting_does l x.0 (looks_see l dump_errand heap.shape _ x.2)))))
 
-  then_dumped : (k0 : Known) → local_of k0 ≡ here → k0.shots ≡ shots → (b : Bool) (r : Turn (Unit {0})) (k : Known) → (b ≡ false) × Stood heap dump_errand me k0 r k
+  then_dumped : (k0 : Known) → local_of k0 ≡ here → k0.shots ≡ shots → (b : Bool) (r : Turn (Unit {0})) (k : Known)
+      → (b ≡ false) × Stood heap dump_errand me k0 r k
       → Does heap b (dumped r) k (λ b r l. AtRest heap.shape l)
   then_dumped k0 same shots_are b (Done x) k s =
       subst (λ z. Does heap z (dumped (Done tt)) k (λ b r l. AtRest heap.shape l)) (sym s.0) (standing_does k (record { reaches = s.1.0; same = s.1.1.local ∙ same; shots_are = s.1.1.shots ∙ shots_are }))
@@ -323,7 +331,8 @@ module _ (heap : Heap) where
         | inr a ↦ let dumps = a.1 in absurd (cc (none, dumps))
       ]) nothing
 
-  dump_carries : (k : Known) → AtRest heap.shape k → ends k.log ≡ false → length k.shots ≡ length (dumps_from 0 k.log) → Carries k.moving k.log k.wait k.holds k.shots dump_errand.unfinished
+  dump_carries : (k : Known) → AtRest heap.shape k → ends k.log ≡ false → length k.shots ≡ length (dumps_from 0 k.log)
+      → Carries k.moving k.log k.wait k.holds k.shots dump_errand.unfinished
   dump_carries k rest live logged = record {
     still = rest.still;
     ended = λ ended. absurd (cc (ended, live));
@@ -341,6 +350,7 @@ module _ (heap : Heap) where
     carries = dump_carries k rest a.live (cases k.running refl a.runs);
     asking = λ asks. (sym a.unchecking, sym (going_is op.Dump 0 k.unfinished (asking_goes k.running k.requesting (goes_on_with op.Dump 0 k.unfinished) a.runs (rest.stopped asks))));
     running = λ free. (free_runs k.running k.requesting (goes_on_with op.Dump 0 k.unfinished) a.runs free, goes_on_or_begins op.Dump 0 k.unfinished a.free);
+    begins = begins_going heap.shape k dump_errand.unfinished (λ o on. absurd (cc on)) refl (goes_on_or_begins op.Dump 0 k.unfinished a.free);
   }
     where
       cases : (b : Bool) → k.running ≡ b → (b || (k.requesting && goes_on_with op.Dump 0 k.unfinished)) ≡ true → length k.shots ≡ length (dumps_from 0 k.log)
@@ -356,7 +366,8 @@ module _ (heap : Heap) where
       let most = home heap k v (λ s y. length y.shots ≤ 4) ((valid_shots v.world v.objects (valid_here heap k v)).few k.thread) in
       grind (arith, nat_tests, most, other)
 
-  dump_finishes : (k : Known) → Stands heap k → AtRest heap.shape k → may_begin heap.shape heap.biasing k Dump ≡ true → Finishes heap true (steps_of heap.shape Dump (start_of heap.start k)) k
+  dump_finishes : (k : Known) → Stands heap k → AtRest heap.shape k → may_begin heap.shape heap.biasing k Dump ≡ true
+      → Finishes heap true (steps_of heap.shape Dump (start_of heap.start k)) k
   unfolding steps_of
   dump_finishes k v rest may =
       let a = operates k (goes_on_with op.Dump 0 k.unfinished) may in

@@ -35,6 +35,7 @@ use Rattle.core_law.specs.Sound.{Finishes}
 use Rattle.core_law.specs.Begins.{BeginsWell}
 use Rattle.core_steps.proofs.AskedRevocations.{NoOtherIn, ValidBiasIn, BeginsRevocation, revocation_does}
 use Rattle.core_steps.proofs.BiasEnters.{Enters, enters_rests, FoundMark, EnterOutcomes, Tries, bias_enter_does, Wants, taking, bias_after_does}
+use Rattle.core_steps.proofs.Facts.{Knows}
 use Rattle.core_steps.proofs.Inflations.{SawNone, Unseen, Apart, inflate_does}
 use Rattle.core_steps.proofs.MonitorEnters.{monitor_enter_does}
 use Rattle.core_law.proofs.Places.{place_left}
@@ -43,7 +44,7 @@ use Rattle.core_steps.proofs.Resting.{live_carries}
 use Rattle.core_steps.proofs.Revocations.{Revoked}
 use Rattle.core_steps.proofs.SafeCalls.{closes}
 use Rattle.core_steps.proofs.StackEnters.{Taking, undumped_enter, stack_first_does, stack_again_does}
-use Rattle.core_steps.proofs.Tests.{both, below, operates, asking_goes, free_runs, going_is, goes_on_or_begins}
+use Rattle.core_steps.proofs.Tests.{both, refers, operates, asking_goes, free_runs, going_is, goes_on_or_begins}
 use Rattle.core_steps.proofs.Trees.{answers, binds, chooses, follows, once_idle}
 
 module _ (heap : Heap) (o : ℕ) (e : Purpose) (enters : IsUnfinished e.unfinished op.Enter o) where
@@ -58,6 +59,7 @@ module _ (heap : Heap) (o : ℕ) (e : Purpose) (enters : IsUnfinished e.unfinish
       live = ap (λ z. ends z.log) a.local ∙ x.takes.live;
       room = subst (λ z. length z.log < log_limit) (sym a.local) x.takes.room;
       object = x.takes.object;
+      known = subst (λ z. Knows heap z.log o) (sym a.local) x.takes.known;
       unwaiting = x.takes.unwaiting;
       enters = x.takes.enters;
     };
@@ -81,7 +83,7 @@ module _ (heap : Heap) (o : ℕ) (e : Purpose) (enters : IsUnfinished e.unfinish
             (monitor_enter_does heap e o m l (record { takes = y.takes; enters = enters; mine = y.mine; check = y.check; untold = y.untold; place = y.place; inflated = saw }) calm (none m));
         pends = λ l w a calm. answers heap false _ l _ (enters_rests heap o e enters l (enters_apart k l a calm x));
       })
-      (record { runs = x.takes.runs; still = x.takes.still; object = x.takes.object; mine = x.mine; check = x.check }) x.calm none unseen (inr (refl, unbiased)) same)
+      (record { runs = x.takes.runs; still = x.takes.still; object = x.takes.object; known = x.takes.known; mine = x.mine; check = x.check }) x.calm none unseen (inr (refl, unbiased)) same)
 
   -- BY THE FORM of the mark
   at_does : (f : Option MarkForm) (s : Start) (k : Known) (mark : ℕ) → Enters heap o e enters k → s.local ≡ local_of k → k.kept ≡ s.kept → SawNone heap e o k → Unseen heap e o k → last_seen (name.Mark o) k.seen ≡ Some mark
@@ -170,10 +172,13 @@ module _ (heap : Heap) (e : Purpose) (s : Start) (b : Revocation) (enters : e.un
             carries = live_carries l.log l.wait l.holds e.unfinished x.going.takes.still x.going.takes.live (λ i h. x.going.place) (undumped_enter e b.object (inr enters)) x.going.untold;
             asking = λ asks. let unasks = x.going.takes.unasks in absurd (cc (asks, unasks));
             running = λ free. (x.going.takes.runs, inl (sym x.going.mine));
+            begins = inl (sym x.going.mine);
           };
           saw = subst (ValidBiasIn heap e b) (sym (before l i)) (mark, x.prototype.0, x.prototype.1, x.saw, x.prototype.2, x.prototype.3, x.prototype.4);
           alone = subst (NoOtherIn heap e b) (sym (before l i)) x.alone;
           unreached = x.unreached;
+          known = x.going.takes.known;
+          on_object = refl;
           unwaiting = λ waits. absurd (cc waits);
         }) x.local x.kept_is));
     raced = λ l mark found x. answers heap false _ l Q x;
@@ -205,7 +210,7 @@ module _ (heap : Heap) where
       let e = purpose (Enter o now) op.Enter o in
       let b : Revocation = record { object = o; rebias = true; now = now } in
       let goes = goes_on_or_begins op.Enter o k.unfinished a.free in
-      let object = below o (length heap.shape.objects) m.0 in
+      let reference = refers heap.shape k o m.0 in
       let room : length k.log < log_limit = let r = a.room in omega arith in
       closes heap true _ k (
       chooses heap true (free_place k.holds == most_holds) _ _ k _
@@ -222,7 +227,7 @@ module _ (heap : Heap) where
       let asked = subst (MayAsk heap.shape k) goes_on (rest.asks asks a.unchecking) in
       let before = asking_saw heap e k.thread k asks in
       subst (λ (z : Bool). Does heap true (enter_revoked heap.shape z e s b) k (λ b r l. AtRest heap.shape l)) asks
-      (revoked_does heap e s b refl refl (record { unchecks = refl; live = a.live; room = room; object = object; untold = rest.untold; place = place }) true k (record {
+      (revoked_does heap e s b refl refl (record { unchecks = refl; live = a.live; room = room; object = reference.within; known = reference.known; untold = rest.untold; place = place }) true k (record {
         begins = record {
           number = refl;
           rest = rest;
@@ -230,16 +235,20 @@ module _ (heap : Heap) where
           carries = live_carries k.log k.wait k.holds e.unfinished rest.still a.live (λ i h. place) (undumped_enter e o (inr refl)) rest.untold;
           asking = λ asks. (sym a.unchecking, sym goes_on);
           running = λ free. absurd (cc (asks, free));
+          begins = inl (sym goes_on);
         };
         saw = subst (ValidBiasIn heap e b) (sym before) asked.0;
         alone = subst (NoOtherIn heap e b) (sym before) asked.2;
         unreached = asked.1;
+        known = reference.known;
+        on_object = refl;
         unwaiting = λ waits. absurd (cc waits);
       }) refl refl))
       (λ free.
       let runs = free_runs k.running k.requesting going a.runs free in
       let place = place_left heap k v runs left in
-      let wants : Wants heap o e (local_of k) = record { unchecks = refl; live = a.live; room = room; object = object; untold = rest.untold; place = place } in
+      let wants : Wants heap o e (local_of k) =
+      record { unchecks = refl; live = a.live; room = room; object = reference.within; known = reference.known; untold = rest.untold; place = place } in
       first_does heap e s b refl refl wants k (taking heap o e (local_of k) k refl wants refl runs free rest.still) rest.calm goes (sym a.unchecking) refl refl))
       (λ b r l x. answers heap b _ l _ x))))
 

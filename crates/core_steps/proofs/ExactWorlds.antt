@@ -33,7 +33,7 @@ use Rattle.core_locks.specs.OwnersEntries.{is_by_owner}
 use Rattle.core_locks.proofs.LeavesStamps.{all_of_log}
 use Rattle.core_locks.proofs.Prelude.{same_number}
 use Rattle.core_locks.proofs.RefutedOwning.{owned_where_legal}
-use Rattle.core_law.specs.BiasLaw.{BiasLawHolds}
+use Rattle.core_law.specs.WholeLaw.{LawsHold}
 use Rattle.plain_history.specs.ExactStamps.{StampsAreExact}
 use Rattle.core_law.specs.Takings.{StampsTaking, StampsNote, TakesExactly}
 use Rattle.core_law.specs.Logic.{Heap, heap_of}
@@ -159,8 +159,8 @@ pub next_step_keeps_exact : (w : World) (t : ℕ) (p : StepPlan) → t < w.shape
     → StampsAreExact (logs w) → StampsAreExact (logs (world_after p t w))
 next_step_keeps_exact w t p within sound next was =
     let after = next_step_sound w t p within sound next in
-    stepping_exact w t p sound.valid.objects after.valid.objects within (forgotten BiasLawHolds w sound.valid.objects sound.valid.is)
-    (forgotten BiasLawHolds (world_after p t w) after.valid.objects after.valid.is) (next_step_exact w t p within sound next) was
+    stepping_exact w t p sound.valid.objects after.valid.objects within (forgotten LawsHold w sound.valid.objects sound.valid.is)
+    (forgotten LawsHold (world_after p t w) after.valid.objects after.valid.is) (next_step_exact w t p within sound next) was
 
 -- and by what the thread knows
 pub known_step_keeps_exact : (heap : Heap) (k : Known) (p : StepPlan) → IsNext heap.shape heap.start heap.biasing k p → (w : World) → heap_of w ≡ heap

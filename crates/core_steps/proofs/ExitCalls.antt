@@ -1,5 +1,5 @@
 -- Exit begins well.
-use Rattle.std.proofs.Common.{◌≡◌, ℕ, ◌==◌, Bool, true, false, cond, length, Some, refl, sym, ◌∙◌, subst, inl, inr, arith, eqb-true, eq-eqb, max}
+use Rattle.std.proofs.Common.{◌≡◌, ℕ, ◌==◌, Bool, true, false, cond, Some, refl, sym, ◌∙◌, subst, inl, inr, arith, eqb-true, eq-eqb, max}
 use Rattle.core_world.specs.declared.act.Act.TheVariants.{Raise}
 use Rattle.core_world.specs.declared.answer.Turn.{Turn}
 use Rattle.core_world.specs.declared.name.Name.TheVariants as name
@@ -31,8 +31,8 @@ use Rattle.core_law.proofs.Places.{top_here, few_here}
 use Rattle.core_steps.proofs.Resting.{unasking, rests, logged_carries}
 use Rattle.core_steps.proofs.SafeCalls.{closes}
 use Rattle.core_steps.proofs.SeenSteps.{saw_newest, saw_older}
-use Rattle.core_steps.proofs.StackExits.{Leaving, RaisedStamp, max_right, unwaiting_exit, unentering_exit, look_mark, stack_exit_does}
-use Rattle.core_steps.proofs.Tests.{both, below, some_named, asking_goes, free_runs, Operates, operates, nothing_goes, going_is, goes_on_or_begins}
+use Rattle.core_steps.proofs.StackExits.{Leaving, leaving_begins, RaisedStamp, max_right, unwaiting_exit, unentering_exit, look_mark, stack_exit_does}
+use Rattle.core_steps.proofs.Tests.{both, some_named, asking_goes, free_runs, Operates, operates, nothing_goes, going_is, goes_on_or_begins, refers}
 use Rattle.core_steps.proofs.Trees.{answers, chooses, chooses_then, follows, binds, hitting}
 
 module _ (heap : Heap) where
@@ -67,7 +67,7 @@ module _ (heap : Heap) where
       (λ i. leaves_rule heap k e o (hold_count o k.holds) (top_place o k.holds) (λ v. (top_here heap k v a.runs o a.some).1) (λ v. record {
         runs = a.runs;
         ready = ready_here heap k v a.runs (unwaiting_exit k o exits) (unentering_exit k o exits) untold a.live;
-        object = a.object;
+        object = record { within = a.object; known = a.known };
         hold = (top_here heap k v a.runs o a.some).0;
         deepest = refl;
         small = few_here heap k v a.runs o;
@@ -84,7 +84,8 @@ module _ (heap : Heap) where
       (λ b r l. Does heap b (then_stack k e o r) l (λ b r l. AtRest heap.shape l))
   mark_does fresh k e o a calm goes check untold stamped =
       let look = load e (name.Mark o) in
-      hitting heap fresh look _ k _ (λ n. refl) (λ i. looks heap k look (look_mark heap k e a.runs calm check goes o) (λ v. a.object)) (λ mark i was.
+      hitting heap fresh look _ k _ (λ n. refl) (λ i. looks heap k look (look_mark heap k e a.runs calm check goes o) (λ v. a.object)
+      (leaving_begins heap k e o a goes) (λ free. a.known)) (λ mark i was.
       let l = known_hit heap.shape heap.start look mark k in
       chooses heap false (is_biased mark) (leave_steps e (local_of k) o >>= (λ u. done true)) (done false) l (λ b r l. Does heap b (then_stack k e o r) l (λ b r l. AtRest heap.shape l))
       (λ yes. biased_does l e o mark a refl refl untold (saw_newest heap look mark k) yes
@@ -105,7 +106,7 @@ module _ (heap : Heap) where
         holds = a.some;
         goes_on = goes;
         letting = inr (a.exits, eqb-true (hold_count o k.holds) 1 one);
-      }))
+      }) (leaving_begins heap k e o a goes))
       (λ n i was. mark_does false _ e o a refl (inl refl) refl untold
       (λ one. (refl, (max n (next_stamp (local_of k)), saw_newest heap (quiet_plan e (name.Stamp o) (Raise (next_stamp (local_of k)))) n k, max_right n (next_stamp (local_of k)))))))
       (λ many. mark_does true k e o a calm goes check untold (λ one. absurd (cc (eq-eqb _ _ one, many)))))
@@ -125,6 +126,7 @@ module _ (heap : Heap) where
   exit_finishes k o rest may =
       let going = goes_on_with op.Exit o k.unfinished in
       let m = both (has_reference heap.shape k o) (may_operate k going) may in
+      let reference = refers heap.shape k o m.0 in
       let a = operates k going m.1 in
       let runs = runs_to_exit k o rest a in
       let goes = goes_on_or_begins op.Exit o k.unfinished a.free in
@@ -140,7 +142,8 @@ module _ (heap : Heap) where
         unchecks = refl;
         live = a.live;
         room = let r = a.room in omega arith;
-        object = below o (length heap.shape.objects) m.0;
+        object = reference.within;
+        known = reference.known;
         some = some_named (hold_count o k.holds) h;
         exits = refl;
       })

@@ -7,12 +7,14 @@ use Rattle.mark_word.specs.Wait.{read_wait}
 use Rattle.mark_word.proofs.ReadingWaits.{read_wait-wait_of, read_wait-spells}
 use Rattle.plain_monitor.specs.Limits.{most_holds}
 use Rattle.plain_monitor.specs.Objects.{PlainObject}
+use Rattle.plain_monitor.specs.declared.entry.Logged.{Logged}
 use Rattle.core_world.specs.declared.name.Name.TheVariants.{Waiting}
 use Rattle.core_world.specs.declared.stage.Stage.TheVariants.{Calm}
 use Rattle.core_world.specs.declared.task.Op.TheVariants as op
 use Rattle.core_world.specs.Words.Forms.{waits_on, waits_form, says_notified, notified_form, enters_on, enters_form, is_entering, entering_form, ended_form}
 use Rattle.core_world.specs.Words.Shape.{IsInLimits}
 use Rattle.core_world.specs.Threads.Known.{Known}
+use Rattle.core_world.specs.Threads.References.{numbering, knows_by_log}
 use Rattle.core_world.specs.Clauses.Safepoints.{IsUnfinished, ends}
 use Rattle.core_world.specs.Threads.Stages.{revocation_in}
 use Rattle.core_world.specs.Valid.{Fits}
@@ -57,6 +59,10 @@ enters_is n i h = cases (read_wait n) h
 -- the object's mark has no bias pattern: the heap has no biases, or the thread saw so in this call
 abbrev pub Unbiased : Heap → Bool → Known → ℕ → Type 0
 Unbiased heap fresh k o = (heap.biasing ≡ false) ⊎ ((fresh ≡ false) × SawUnbiased k o)
+
+-- a thread with this log knows the object by it
+abbrev pub Knows : Heap → List Logged → ℕ → Type 0
+Knows heap log o = knows_by_log (numbering heap.shape) log o ≡ true
 
 -- no wait is unfinished
 abbrev pub Unwaiting : Known → Type 0

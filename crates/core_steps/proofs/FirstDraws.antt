@@ -29,7 +29,7 @@ use Rattle.core_world.proofs.RefusedWorlds.{revoking_logs, no_hash_drawn_twice}
 use Rattle.core_locks.proofs.Drawing.{all_more}
 use Rattle.core_locks.proofs.DrawnLogs.{hashes_drawn, valid_hashes}
 use Rattle.core_locks.proofs.PlainHashes.{above_after}
-use Rattle.core_law.specs.BiasLaw.{BiasLawHolds}
+use Rattle.core_law.specs.WholeLaw.{LawsHold}
 use Rattle.plain_history.specs.FirstDraws.{DrawsComeFirst}
 use Rattle.core_law.specs.Draws.{HasDraws}
 use Rattle.core_law.specs.Logic.{Heap}
@@ -159,8 +159,8 @@ pub next_step_keeps_first : (w : World) (t : ℕ) (p : StepPlan) → t < w.shape
     → DrawsComeFirst (logs w) → DrawsComeFirst (logs (world_after p t w))
 next_step_keeps_first w t p within sound next was =
     let after = next_step_sound w t p within sound next in
-    stepping_first w t p sound.valid.objects after.valid.objects within (forgotten BiasLawHolds w sound.valid.objects sound.valid.is)
-    (forgotten BiasLawHolds (world_after p t w) after.valid.objects after.valid.is) was
+    stepping_first w t p sound.valid.objects after.valid.objects within (forgotten LawsHold w sound.valid.objects sound.valid.is)
+    (forgotten LawsHold (world_after p t w) after.valid.objects after.valid.is) was
 
 pub opening_first : (heap : Heap) → DrawsComeFirst (logs (opening heap.shape heap.start heap.biasing))
 opening_first heap t o value number before l later is drawn = absurd (no_entries before later l (sym (empty_logs 0 heap.shape.threads t) ∙ is))
@@ -178,4 +178,4 @@ pub reached_worlds_drawn : (heap : Heap) (w : World) → IsInLimits heap.shape �
 reached_worlds_drawn heap w limits c =
     let s = comes_sound heap w limits c in
     subst (λ (h : Heap). HasDraws h.start (logs w)) s.is_of
-    (valid_draws w s.sound.valid.objects (forgotten BiasLawHolds w s.sound.valid.objects s.sound.valid.is) (reached_worlds_first heap w limits c))
+    (valid_draws w s.sound.valid.objects (forgotten LawsHold w s.sound.valid.objects s.sound.valid.is) (reached_worlds_first heap w limits c))

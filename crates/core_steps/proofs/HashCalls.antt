@@ -42,7 +42,7 @@ use Rattle.core_law.proofs.Places.{bottom_here}
 use Rattle.core_law.specs.Logic.{Heap, Stands, Keeps, Does}
 use Rattle.core_law.specs.Sound.{Finishes}
 use Rattle.core_law.specs.Begins.{BeginsWell}
-use Rattle.core_steps.proofs.Facts.{ready_here}
+use Rattle.core_steps.proofs.Facts.{ready_here, Knows}
 use Rattle.core_law.proofs.Standing.{fits_here, home, away}
 use Rattle.core_steps.proofs.HashRules.{finds_mark_rule, finds_record_rule, finds_header_rule, draws_mark_rule, draws_header_rule}
 use Rattle.core_steps.proofs.Inflations.{SawNone, Unseen, Apart, form_found, inflate_does}
@@ -50,7 +50,7 @@ use Rattle.core_steps.proofs.Resting.{Carries, rests, live_carries, logged_carri
 use Rattle.core_steps.proofs.SafeCalls.{closes}
 use Rattle.core_steps.proofs.SeenSteps.{saw_newest, saw_any, saw_older}
 use Rattle.core_steps.proofs.StackExits.{unbiased_here}
-use Rattle.core_steps.proofs.Tests.{both, below, operates, is_of_kind}
+use Rattle.core_steps.proofs.Tests.{both, refers, operates, is_of_kind}
 use Rattle.core_steps.proofs.Trees.{answers, binds, chooses, hitting, swapping}
 use Rattle.core_steps.proofs.Unbiases.{unbias_does, starts_unbias}
 
@@ -69,6 +69,7 @@ record IsHashOf (heap : Heap) (e : Purpose) (o : ℕ) (here : Local) : Type 0 wh
   hashes : IsUnfinished e.unfinished op.Hash o
   unchecks : e.check ≡ false
   object : o < length heap.shape.objects
+  known : Knows heap here.log o
   live : ends here.log ≡ false
   room : length here.log < log_limit
   untold : (i : ℕ) → says_notified here.wait i ≡ false
@@ -101,12 +102,15 @@ module _ (heap : Heap) (e : Purpose) (o : ℕ) (here : Local) (draws : ℕ) (sta
     untold_here : (i : ℕ) → says_notified k.wait i ≡ false
     untold_here i = ap (λ z. says_notified z.wait i) x.same ∙ start.untold i
 
+    known_here : Knows heap k.log o
+    known_here = subst (λ z. Knows heap z.log o) (sym x.same) start.known
+
     may_hash : Stands heap k → MayHash heap.shape k o
     may_hash v = record {
       runs = x.runs;
       calm = x.calm;
       ready = ready_here heap k v x.runs (unwaiting_hash k.unfinished o hash_here) (unentering_hash k.unfinished o hash_here) untold_here live_here;
-      object = start.object;
+      object = record { within = start.object; known = known_here };
       room = subst (λ z. length z.log < log_limit) (sym x.same) start.room;
       own_entry = λ value drawn. record { operation = inr hash_here; shot = tt };
     }
@@ -159,7 +163,7 @@ module _ (heap : Heap) (e : Purpose) (o : ℕ) (here : Local) (draws : ℕ) (sta
   monitor_does : (k : Known) (m : ℕ) → Hashes k → SawInflated k o m → Does heap false (hash_monitor_steps e draw o m) k Rests
   monitor_does k m x saw =
       let look = find_hash_plan e (name.Header m) o in
-      hitting heap false look _ k _ (λ n. refl) (λ i. finds_header_rule heap k e o m (may_hash k x) saw (inl (sym x.mine))) (λ header i was.
+      hitting heap false look _ k _ (λ n. refl) (λ i. finds_header_rule heap k e o m (may_hash k x) saw (inl (sym x.mine)) (inl (sym x.mine))) (λ header i was.
       let l = known_hit heap.shape heap.start look header k in
       chooses heap false (hash_in header == 0) _ _ l _
       (λ none.
@@ -182,7 +186,8 @@ module _ (heap : Heap) (e : Purpose) (o : ℕ) (here : Local) (draws : ℕ) (sta
         found = λ l m a calm saw none. monitor_does l m (hashes_apart k l a calm x) saw;
         pends = λ l w a calm. answers heap false _ l _ (hash_rests l (hashes_apart k l a calm x));
       })
-      (record { runs = x.runs; still = x.still; object = start.object; mine = x.mine; check = x.check }) x.calm none unseen (inr (refl, unbiased)) same)
+      (record { runs = x.runs; still = x.still; object = start.object; known = known_here k x; mine = x.mine; check = x.check })
+      x.calm none unseen (inr (refl, unbiased)) same)
 
   -- its record of the object, with depth 1
   abbrev OwnRecord : Known → Type 0
@@ -212,7 +217,7 @@ module _ (heap : Heap) (e : Purpose) (o : ℕ) (here : Local) (draws : ℕ) (sta
     record_does : OwnRecord k → Does heap false (hash_displaced_steps e here o >>= (λ found. hash_unless found heap.shape e kept draw o)) k Rests
     record_does has =
         subst (λ z. Does heap false (hash_displaced_steps e z o >>= (λ found. hash_unless found heap.shape e kept draw o)) k Rests) x.same
-        (hitting heap false (find_hash_plan e own_word o) _ k _ (λ n. refl) (λ i. finds_record_rule heap k e o (first_place o k.holds) (may_hash k x) has.0 (λ v. has.1) (inl (sym x.mine)))
+        (hitting heap false (find_hash_plan e own_word o) _ k _ (λ n. refl) (λ i. finds_record_rule heap k e o (first_place o k.holds) (may_hash k x) has.0 (λ v. has.1) (inl (sym x.mine)) (inl (sym x.mine)))
         (λ header i was. unless_does header (hash_in header == 0) refl i))
 
   -- BY THE FORM of the mark, which has no bias pattern; `found` is that of a mark that has a hash
@@ -252,7 +257,7 @@ module _ (heap : Heap) (e : Purpose) (o : ℕ) (here : Local) (draws : ℕ) (sta
   header_does : (kept : Option ℕ) (k : Known) → Hashes k → k.kept ≡ kept → SawNone heap e o k → Unseen heap e o k → SawUnbiased k o → Does heap false (hash_header_steps heap.shape e here kept draw o) k Rests
   header_does kept k x same none unseen bare =
       let look = find_hash_plan e (name.Mark o) o in
-      hitting heap false look _ k _ (λ n. refl) (λ i. finds_mark_rule heap k e o (may_hash k x) (inl (sym x.mine))) (λ mark i was.
+      hitting heap false look _ k _ (λ n. refl) (λ i. finds_mark_rule heap k e o (may_hash k x) (inl (sym x.mine)) (inl (sym x.mine))) (λ mark i was.
       let l = known_hit heap.shape heap.start look mark k in
       let unbiased : is_biased mark ≡ false = ap is_biased (sym was.found) ∙ unbiased_here heap false k o was.stands x.runs (inr (refl, bare)) in
       form_does kept l mark same
@@ -269,13 +274,15 @@ module _ (heap : Heap) where
   unfolding steps_of
   hash_finishes k o now rest may =
       let m = both (has_reference heap.shape k o) (may_operate k (goes_on_with op.Hash o k.unfinished)) may in
+      let reference = refers heap.shape k o m.0 in
       let a = operates k (goes_on_with op.Hash o k.unfinished) m.1 in
       let s = start_of heap.start k in
       let e = purpose (Hash o now) op.Hash o in
       let call : IsHashOf heap e o (local_of k) = record {
         hashes = refl;
         unchecks = refl;
-        object = below o (length heap.shape.objects) m.0;
+        object = reference.within;
+        known = reference.known;
         live = a.live;
         room = let r = a.room in omega arith;
         untold = rest.untold;
@@ -283,7 +290,7 @@ module _ (heap : Heap) where
       closes heap true _ k (
       binds heap true (unbias_steps heap.shape e s (no_bias o now)) (λ turn. and_then turn (λ u. hash_header_steps heap.shape e (local_of k) k.kept (draw heap e o (local_of k) k.draws call) o)) k _ (
       unbias_does heap e (no_bias o now) op.Hash refl refl refl call.object refl k
-      (starts_unbias heap e (no_bias o now) op.Hash k refl refl rest a (unentering_hash e.unfinished o refl) (undumped_hash e.unfinished o refl) (λ z. z) (λ waits. absurd (cc waits)) (inl refl)) _
+      (starts_unbias heap e (no_bias o now) op.Hash k refl refl rest a reference.known refl (unentering_hash e.unfinished o refl) (undumped_hash e.unfinished o refl) (λ z. z) (λ waits. absurd (cc waits)) (inl refl)) _
       (record {
         unbiased = λ l x bare.
             header_does heap e o (local_of k) k.draws call k.kept l

@@ -26,11 +26,12 @@ use Rattle.core_world.specs.Steps.{is_idle, known_hit}
 use Rattle.core_world.specs.Trees.Todo.{ask, ◌>>=◌}
 use Rattle.core_world.specs.Clauses.WordForms.{IsMark, IsOwner}
 use Rattle.core_world.proofs.Naming.{same_named}
+use Rattle.core_world.specs.Threads.References.{HasReference}
 use Rattle.core_locks.specs.Knowing.{SawInflated}
 use Rattle.core_locks.proofs.LookOn.{may_look}
 use Rattle.core_locks.proofs.NamesLaws.{inflated_read}
 use Rattle.core_law.specs.Logic.{Heap, Stands, Keeps, Does}
-use Rattle.core_steps.proofs.Facts.{Unbiased}
+use Rattle.core_steps.proofs.Facts.{Unbiased, Knows}
 use Rattle.core_law.proofs.Standing.{fits_here, away}
 use Rattle.core_steps.proofs.LawRules.{looks}
 use Rattle.core_steps.proofs.MonitorRules.{claims_rule, fetches_rule, prepares_owner_rule, prepares_recursions_rule, prepares_header_rule, prepares_object_rule, inflates_rule, names_rule, names_neutral_rule}
@@ -52,6 +53,7 @@ module _ (heap : Heap) (e : Purpose) (o : ℕ) where
     pub runs : k.running ≡ true
     pub still : k.moving ≡ Still
     pub object : o < length heap.shape.objects
+    pub known : Knows heap k.log o
     pub mine : k.unfinished ≡ e.unfinished
     pub check : e.check ≡ k.checking
 
@@ -73,6 +75,10 @@ module _ (heap : Heap) (e : Purpose) (o : ℕ) where
     pub draws : l.draws ≡ k.draws
     pub mine : l.unfinished ≡ e.unfinished
     pub check : e.check ≡ l.checking
+
+  -- behind them the thread has its reference still
+  known_still : (k l : Known) → local_of l ≡ local_of k → Works k → HasReference heap.shape l o
+  known_still k l same x = record { within = x.object; known = subst (λ z. Knows heap z.log o) (sym same) x.known }
 
   -- PREPARING the monitor m at this stage
   pub record Prepared (m header owner : ℕ) (k l : Known) : Type 0 where
@@ -96,7 +102,8 @@ module _ (heap : Heap) (e : Purpose) (o : ℕ) where
     abbrev with_object : Stage → ℕ → ℕ → ℕ → ℕ → Known
     with_object stage n0 n1 n2 n = known_hit heap.shape heap.start (prepare_plan e stage (name.Object m) o) n (with_recursions stage n0 n1 n2)
 
-    prepared : (stage : Stage) (n0 n1 n2 n3 : ℕ) → is_idle heap.shape k ≡ false → is_idle heap.shape (with_header stage n0) ≡ false → is_idle heap.shape (with_owner stage n0 n1) ≡ false
+    prepared : (stage : Stage) (n0 n1 n2 n3 : ℕ) → is_idle heap.shape k ≡ false → is_idle heap.shape (with_header stage n0) ≡ false
+        → is_idle heap.shape (with_owner stage n0 n1) ≡ false
         → is_idle heap.shape (with_recursions stage n0 n1 n2) ≡ false → SawNone k → Prepared m header owner k (with_object stage n0 n1 n2 n3)
     prepared stage n0 n1 n2 n3 i0 i1 i2 i3 nothing =
         let p0 = prepare_plan e stage (name.Header m) header in
@@ -129,14 +136,16 @@ module _ (heap : Heap) (e : Purpose) (o : ℕ) where
         zero_seen a r false saw d0 d1 = nothing a r (sym (d0 ∙ d1) ∙ saw)
 
   -- any postcondition that holds of what is known behind the four stores
-  prepare_does : (stage : Stage) (m header owner : ℕ) (k : Known) (Q : Bool → Unit {0} → Known → Type 0) → Works k → k.kept ≡ Some m → k.stage ≡ stage → (Stands heap k → IsOwner heap.shape (read_owner owner)) → SawNone k
+  prepare_does : (stage : Stage) (m header owner : ℕ) (k : Known) (Q : Bool → Unit {0} → Known → Type 0) → Works k → k.kept ≡ Some m → k.stage ≡ stage
+      → (Stands heap k → IsOwner heap.shape (read_owner owner)) → SawNone k
       → ((l : Known) → Apart k l → l.kept ≡ Some m → l.stage ≡ stage → Prepared m header owner k l → Q false tt l) → Does heap false (prepare_steps e stage o m header owner) k Q
   prepare_does stage m header owner k Q x kept at form none then_so =
       hitting heap false _ _ k _ (λ n. refl) (λ i. subst (λ z. Keeps heap (prepare_plan e z (name.Header m) header) k) at
-      (prepares_header_rule heap k e m header (λ v. record { runs = x.runs; kept = kept; goes_on = inl (sym x.mine) }))) (λ n0 i0 was0.
-      hitting heap false _ _ _ _ (λ n. refl) (λ i. prepares_owner_rule heap _ e m owner (λ v. record { prepares = record { runs = x.runs; kept = kept; goes_on = inl refl }; owner = form was0.stands })) (λ n1 i1 was1.
-      hitting heap false _ _ _ _ (λ n. refl) (λ i. prepares_recursions_rule heap _ e m 0 (λ v. record { runs = x.runs; kept = kept; goes_on = inl refl })) (λ n2 i2 was2.
-      hitting heap false _ _ _ _ (λ n. refl) (λ i. prepares_object_rule heap _ e m o (λ v. record { prepares = record { runs = x.runs; kept = kept; goes_on = inl refl }; object = x.object })) (λ n3 i3 was3.
+      (prepares_header_rule heap k e m header (λ v. record { runs = x.runs; kept = kept; goes_on = inl (sym x.mine) }) (inl (sym x.mine)))) (λ n0 i0 was0.
+      hitting heap false _ _ _ _ (λ n. refl) (λ i. prepares_owner_rule heap _ e m owner (λ v. record { prepares = record { runs = x.runs; kept = kept; goes_on = inl refl }; owner = form was0.stands }) (inl refl)) (λ n1 i1 was1.
+      hitting heap false _ _ _ _ (λ n. refl) (λ i. prepares_recursions_rule heap _ e m 0 (λ v. record { runs = x.runs; kept = kept; goes_on = inl refl })
+      (inl refl)) (λ n2 i2 was2.
+      hitting heap false _ _ _ _ (λ n. refl) (λ i. prepares_object_rule heap _ e m o (λ v. record { prepares = record { runs = x.runs; kept = kept; goes_on = inl refl }; object = record { within = x.object; known = x.known } }) (inl refl)) (λ n3 i3 was3.
       answers heap false _ _ _ (then_so (with_object m header owner k stage n0 n1 n2 n3)
       (record { local = refl; running = refl; requesting = refl; still = x.still; saved = refl; draws = refl; mine = refl; check = refl }) kept refl
       (prepared m header owner k stage n0 n1 n2 n3 i0 i1 i2 i3 none))))))
@@ -171,7 +180,8 @@ module _ (heap : Heap) (e : Purpose) (o : ℕ) where
       ap monitor_form (inflated_read v.world v.objects k.thread m (fits_here heap k v runs) (away heap k v (λ s y. y.kept ≡ Some m) kept))
 
   -- NEUTRAL: the monitor gets the mark as header and no owner, and the mark is exchanged
-  neutral_does : (m mark : ℕ) (k : Known) (Q : Bool → Turn ℕ → Known → Type 0) → FindsMonitor k Q → Works k → k.kept ≡ Some m → k.stage ≡ Calm → is_neutral mark ≡ true → SawNone k
+  neutral_does : (m mark : ℕ) (k : Known) (Q : Bool → Turn ℕ → Known → Type 0) → FindsMonitor k Q → Works k → k.kept ≡ Some m → k.stage ≡ Calm
+      → is_neutral mark ≡ true → SawNone k
       → Does heap false (inflate_neutral e o mark m) k Q
   neutral_does m mark k Q outs x kept calm neutral none =
       let exchange = name_neutral_plan e o mark m in
@@ -181,12 +191,12 @@ module _ (heap : Heap) (e : Purpose) (o : ℕ) where
       (λ i. names_neutral_rule heap l e o mark m (λ v. record {
         runs = a.running ∙ x.runs;
         calm = calm_l;
-        ready = record { kept = kept_l; object = x.object; recursions = ready.recursions_are; its_object = ready.object_is };
+        ready = record { kept = kept_l; object = known_still k l a.local x; recursions = ready.recursions_are; its_object = ready.object_is };
         neutral = neutral;
         owner = ready.owner_is;
         header = ready.header_is;
         goes_on = inl (sym a.mine);
-      }))
+      }) (inl (sym a.mine)))
       (λ n i was h.
       let y = known_hit heap.shape heap.start exchange n l in
       answers heap false (Done m) y Q (
@@ -200,7 +210,8 @@ module _ (heap : Heap) (e : Purpose) (o : ℕ) where
       outs.pends _ _ (record { local = a.local; running = a.running; requesting = a.requesting; still = a.still; saved = a.saved; draws = a.draws; mine = a.mine; check = a.check }) calm_l))))
 
   -- LOCKED: the mark is exchanged for 0, and the record's displaced word becomes the header
-  locked_does : (m mark u p : ℕ) (k : Known) (Q : Bool → Turn ℕ → Known → Type 0) → FindsMonitor k Q → Works k → k.kept ≡ Some m → k.stage ≡ Calm → read_mark mark ≡ Some (Locked u p) → u < heap.shape.threads
+  locked_does : (m mark u p : ℕ) (k : Known) (Q : Bool → Turn ℕ → Known → Type 0) → FindsMonitor k Q → Works k → k.kept ≡ Some m → k.stage ≡ Calm
+      → read_mark mark ≡ Some (Locked u p) → u < heap.shape.threads
       → SawNone k → Unseen k → Does heap false (inflate_locked e o mark m u p) k Q
   locked_does m mark u p k Q outs x kept calm reads within none unseen =
       let out = inflate_plan e o mark u p in
@@ -209,7 +220,8 @@ module _ (heap : Heap) (e : Purpose) (o : ℕ) where
       let small = read_mark-spells mark (Locked u p) reads in
       let owner_reads : read_owner (owner_of (ByRecord u p)) ≡ Some (ByRecord u p) = read_owner-owner_of (ByRecord u p) small.0 in
       swapping heap false out mark 0 _ (λ n. pending_for (why.Raced mark n)) k Q refl
-      (λ i. inflates_rule heap k e o mark u p x.object (λ v. record { runs = x.runs; calm = calm; locked = reads; unseen = unseen u p; goes_on = inl (sym x.mine) }))
+      (λ i. inflates_rule heap k e o mark u p (record { within = x.object; known = x.known })
+      (λ v. record { runs = x.runs; calm = calm; locked = reads; unseen = unseen u p; goes_on = inl (sym x.mine) }) (inl (sym x.mine)))
       (λ n i was h.
       let k1 = known_hit heap.shape heap.start out n k in
       hitting heap false look _ k1 Q (λ n. refl) (λ j. looks heap k1 look (record {
@@ -220,22 +232,22 @@ module _ (heap : Heap) (e : Purpose) (o : ℕ) where
         check = refl;
         after = inl refl;
         may = may_look k1 (name.Displaced u p) (inl x.runs) (λ a is. absurd (cc is));
-      }) (λ v. (within, small.0.1))) (λ header j was1.
+      }) (λ v. (within, small.0.1)) (inl refl) tt) (λ header j was1.
       let k2 = known_hit heap.shape heap.start look header k1 in
       binds heap false (prepare_steps e (Inflates o u p) o m header (owner_of (ByRecord u p))) (λ z. ask name_it >>= (λ n. done_with m)) k2 Q (
-      prepare_does (Inflates o u p) m header (owner_of (ByRecord u p)) k2 _ (record { runs = x.runs; still = x.still; object = x.object; mine = refl; check = refl }) kept refl
+      prepare_does (Inflates o u p) m header (owner_of (ByRecord u p)) k2 _ (record { runs = x.runs; still = x.still; object = x.object; known = x.known; mine = refl; check = refl }) kept refl
       (λ v. subst (IsOwner heap.shape) (sym owner_reads) within)
       (λ b r saw. none b r (sym (saw_any heap look header k1 (name.Recursions b) j refl ∙ saw_any heap out n k (name.Recursions b) i refl) ∙ saw)) (λ l a kept_l stage_l ready.
       hitting heap false name_it _ l Q (λ n. refl)
       (λ i. names_rule heap l e o m u p header (λ v. record {
         runs = a.running ∙ x.runs;
         stage = stage_l;
-        ready = record { kept = kept_l; object = x.object; recursions = ready.recursions_are; its_object = ready.object_is };
+        ready = record { kept = kept_l; object = known_still k l a.local x; recursions = ready.recursions_are; its_object = ready.object_is };
         owner = (owner_of (ByRecord u p), ready.owner_is, owner_reads);
         displaced = ready.others (name.Displaced u p) refl ∙ saw_newest heap look header k1;
         header = ready.header_is;
         goes_on = inl (sym a.mine);
-      }))
+      }) (inl (sym a.mine)))
       (λ n3 i3 was3.
       let y = known_hit heap.shape heap.start name_it n3 l in
       answers heap false (Done m) y Q (
@@ -247,7 +259,8 @@ module _ (heap : Heap) (e : Purpose) (o : ℕ) where
 
   -- BY THE FORM of a mark with no bias pattern
   module _ (mark : ℕ) (k : Known) (Q : Bool → Turn ℕ → Known → Type 0) (outs : FindsMonitor k Q) (x : Works k) (calm : k.stage ≡ Calm) (none : SawNone k) (unseen : Unseen k) where
-    with_does : (f : Option MarkForm) (m : ℕ) → read_mark mark ≡ f → IsMark heap.shape f → is_biased_form f ≡ false → monitor_form f ≡ None → f ≢ Some Inflating → k.kept ≡ Some m
+    with_does : (f : Option MarkForm) (m : ℕ) → read_mark mark ≡ f → IsMark heap.shape f → is_biased_form f ≡ false → monitor_form f ≡ None
+        → f ≢ Some Inflating → k.kept ≡ Some m
         → Does heap false (inflate_with f e o mark m) k Q
     with_does None m reads form plain other whole kept = absurd form
     with_does (Some Inflating) m reads form plain other whole kept = absurd (whole refl)
@@ -260,25 +273,28 @@ module _ (heap : Heap) (e : Purpose) (o : ℕ) where
     with_does (Some Marked) m reads form plain other whole kept = absurd form
 
   -- with the monitor that it keeps, or else with one that it claims
-  by_does : (kept : Option ℕ) (mark : ℕ) (f : Option MarkForm) (k : Known) (Q : Bool → Turn ℕ → Known → Type 0) → FindsMonitor k Q → Works k → k.stage ≡ Calm → SawNone k → Unseen k
+  by_does : (kept : Option ℕ) (mark : ℕ) (f : Option MarkForm) (k : Known) (Q : Bool → Turn ℕ → Known → Type 0) → FindsMonitor k Q → Works k
+      → k.stage ≡ Calm → SawNone k → Unseen k
       → read_mark mark ≡ f → IsMark heap.shape f → is_biased_form f ≡ false → monitor_form f ≡ None → f ≢ Some Inflating → k.kept ≡ kept → Does heap false (inflate_by kept heap.shape e o mark) k Q
   by_does (Some m) mark f k Q outs x calm none unseen reads form plain other whole kept =
       subst (λ z. Does heap false (inflate_with z e o mark m) k Q) (sym reads) (with_does mark k Q outs x calm none unseen f m reads form plain other whole kept)
   by_does None mark f k Q outs x calm none unseen reads form plain other whole kept =
       let claim = claim_plan e in
-      hitting heap false claim _ k Q (λ n. refl) (λ i. claims_rule heap k e (λ v. record { runs = x.runs; calm = calm; none = kept; still = x.still; goes_on = inl (sym x.mine) })) (λ position i was.
+      hitting heap false claim _ k Q (λ n. refl) (λ i. claims_rule heap k e (λ v. record { runs = x.runs; calm = calm; none = kept; still = x.still; goes_on = inl (sym x.mine) })
+      (inl (sym x.mine))) (λ position i was.
       let k1 = known_hit heap.shape heap.start claim position k in
       let fetch = fetch_plan e heap.shape position in
-      hitting heap false fetch _ k1 Q (λ n. refl) (λ j. fetches_rule heap k1 e position (λ v. record { runs = x.runs; calm = refl; claimed = refl; goes_on = inl refl })) (λ m j was1.
+      hitting heap false fetch _ k1 Q (λ n. refl) (λ j. fetches_rule heap k1 e position (λ v. record { runs = x.runs; calm = refl; claimed = refl; goes_on = inl refl }) (inl refl)) (λ m j was1.
       let l = known_hit heap.shape heap.start fetch m k1 in
       subst (λ z. Does heap false (inflate_with z e o mark m) l Q) (sym reads)
       (with_does mark l Q (from_there k l Q (record { local = refl; running = refl; requesting = refl; still = refl; saved = refl; draws = refl; mine = refl; check = refl }) outs)
-      (record { runs = x.runs; still = refl; object = x.object; mine = refl; check = refl }) refl
+      (record { runs = x.runs; still = refl; object = x.object; known = x.known; mine = refl; check = refl }) refl
       (λ b r saw. none b r (sym (saw_any heap fetch m k1 (name.Recursions b) j refl ∙ saw_any heap claim position k (name.Recursions b) i refl) ∙ saw))
       (λ u p. subst (λ z. (z ≡ None) ⊎ (u ≡ k.thread)) (sym (saw_any heap fetch m k1 (name.Displaced u p) j refl ∙ saw_any heap claim position k (name.Displaced u p) i refl)) (unseen u p))
       f m reads form plain other whole refl)))
 
-  at_does : (kept : Option ℕ) (mark : ℕ) (f : Option MarkForm) (k : Known) (Q : Bool → Turn ℕ → Known → Type 0) → FindsMonitor k Q → Works k → k.stage ≡ Calm → SawNone k → Unseen k
+  at_does : (kept : Option ℕ) (mark : ℕ) (f : Option MarkForm) (k : Known) (Q : Bool → Turn ℕ → Known → Type 0) → FindsMonitor k Q → Works k
+      → k.stage ≡ Calm → SawNone k → Unseen k
       → last_seen (name.Mark o) k.seen ≡ Some mark → read_mark mark ≡ f → IsMark heap.shape f → is_biased_form f ≡ false → k.kept ≡ kept → Does heap false (inflate_at f heap.shape e kept o mark) k Q
   at_does kept mark (Some Inflating) k Q outs x calm none unseen sees reads form plain same =
       answers heap false (Pending why.Inflating) k Q (outs.pends k why.Inflating (record { local = refl; running = refl; requesting = refl; still = x.still; saved = refl; draws = refl; mine = x.mine; check = x.check }) calm)
@@ -299,14 +315,16 @@ module _ (heap : Heap) (e : Purpose) (o : ℕ) where
   form_found k mark v runs found =
       subst (λ n. IsMark heap.shape (read_mark n)) found (subst (λ (z : Heap). IsMark z.shape (read_mark (marks v.world o))) v.is_of ((fits_here heap k v runs).forms.marks o))
 
-  pub inflate_does : (kept : Option ℕ) (k : Known) (Q : Bool → Turn ℕ → Known → Type 0) → FindsMonitor k Q → Works k → k.stage ≡ Calm → SawNone k → Unseen k → Unbiased heap false k o → k.kept ≡ kept
+  pub inflate_does : (kept : Option ℕ) (k : Known) (Q : Bool → Turn ℕ → Known → Type 0) → FindsMonitor k Q → Works k → k.stage ≡ Calm → SawNone k
+      → Unseen k → Unbiased heap false k o → k.kept ≡ kept
       → Does heap false (inflate_steps heap.shape e kept o) k Q
   inflate_does kept k Q outs x calm none unseen unbiased same =
       let look = load e (name.Mark o) in
-      hitting heap false look _ k Q (λ n. refl) (λ i. looks heap k look (look_mark heap k e x.runs calm x.check (inl (sym x.mine)) o) (λ v. x.object)) (λ mark i was.
+      hitting heap false look _ k Q (λ n. refl) (λ i. looks heap k look (look_mark heap k e x.runs calm x.check (inl (sym x.mine)) o) (λ v. x.object)
+      (inl (sym x.mine)) (λ free. x.known)) (λ mark i was.
       let l = known_hit heap.shape heap.start look mark k in
       at_does kept mark (read_mark mark) l Q (from_there k l Q (record { local = refl; running = refl; requesting = refl; still = x.still; saved = refl; draws = refl; mine = refl; check = refl }) outs)
-      (record { runs = x.runs; still = x.still; object = x.object; mine = refl; check = refl }) refl
+      (record { runs = x.runs; still = x.still; object = x.object; known = x.known; mine = refl; check = refl }) refl
       (λ b r saw. none b r (sym (saw_any heap look mark k (name.Recursions b) i refl) ∙ saw))
       (λ u p. subst (λ z. (z ≡ None) ⊎ (u ≡ k.thread)) (sym (saw_any heap look mark k (name.Displaced u p) i refl)) (unseen u p))
       (saw_newest heap look mark k) refl (form_found k mark was.stands x.runs was.found)

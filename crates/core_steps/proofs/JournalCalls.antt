@@ -1,5 +1,5 @@
 -- Get, Put, Print and Finish begin well.
-use Rattle.std.proofs.Common.{◌≡◌, ℕ, ◌<◌, ◌==◌, ◌&&◌, nat_lt, eq-eqb, Bool, true, false, cond, length, refl, ap, ◌∙◌, arith, inl}
+use Rattle.std.proofs.Common.{◌≡◌, ℕ, ◌==◌, ◌&&◌, nat_lt, eq-eqb, Bool, true, false, cond, refl, ap, ◌∙◌, arith, inl, sym}
 use Rattle.std.proofs.lemmas.Bool.Decides.{nat_tests}
 use Rattle.std.proofs.lemmas.Float.{T_from_true}
 use Rattle.std.specs.Int.Signed.{le_z_yes}
@@ -12,6 +12,8 @@ use Rattle.plain_monitor.specs.declared.entry.Ending.TheVariants as ending
 use Rattle.plain_monitor.specs.declared.entry.Entry.TheVariants as entry
 use Rattle.plain_monitor.specs.declared.entry.Value.{Value}
 use Rattle.plain_monitor.specs.declared.entry.Value.TheVariants.{Nil, Int, Ref}
+use Rattle.std.specs.List.{AllByRecursion}
+use Rattle.plain_monitor.specs.Made.{hands_on}
 use Rattle.core_world.specs.declared.task.Task.TheVariants.{Get, Put, Print, Finish}
 use Rattle.core_world.specs.Threads.AtRest.{AtRest}
 use Rattle.core_world.specs.Trees.Calls.{steps_of, may_begin, may_act}
@@ -29,11 +31,12 @@ use Rattle.core_counts.specs.Steps.{SawNone}
 use Rattle.core_law.specs.Logic.{Heap, Stands}
 use Rattle.core_law.specs.Sound.{Finishes}
 use Rattle.core_law.specs.Begins.{BeginsWell}
+use Rattle.core_steps.proofs.FairSteps.{KnowsBy}
 use Rattle.core_steps.proofs.Facts.{limits_here, ready_here, out_here}
 use Rattle.core_steps.proofs.LawRules.{gets, puts, publishes, says_ended_rule}
 use Rattle.core_steps.proofs.Resting.{unasking, rests, logged_carries, ends_behind}
 use Rattle.core_steps.proofs.SafeCalls.{closes}
-use Rattle.core_steps.proofs.Tests.{both, some_named, Acts, acts, nothing_goes, nothing_enters}
+use Rattle.core_steps.proofs.Tests.{both, refers, some_named, Acts, acts, nothing_goes, nothing_enters}
 use Rattle.core_steps.proofs.Trees.{answers, chooses, hitting}
 
 module _ (heap : Heap) where
@@ -41,14 +44,15 @@ module _ (heap : Heap) where
   ready_acts : (k : Known) → AtRest heap.shape k → Acts k → Stands heap k → k.wait ≡ 0
   ready_acts k rest a v = ready_here heap k v a.runs (nothing_goes k a.nothing) (nothing_enters k a.nothing) rest.untold a.live
 
-  touches : (k : Known) (o slot : ℕ) → AtRest heap.shape k → Acts k → has_reference heap.shape k o ≡ true → nat_lt slot (slots_of heap.shape o) ≡ true → (hold_count o k.holds == 0) ≡ false
+  touches : (k : Known) (o slot : ℕ) → AtRest heap.shape k → Acts k → has_reference heap.shape k o ≡ true → nat_lt slot (slots_of heap.shape o) ≡ true
+      → (hold_count o k.holds == 0) ≡ false
       → Stands heap k → MayTouch heap.shape k o slot
   touches k o slot rest a here within holds v = record {
     runs = a.runs;
     calm = rest.calm;
     ready = ready_acts k rest a v;
     holds = some_named (hold_count o k.holds) holds;
-    object = grind (arith, nat_tests, here);
+    object = refers heap.shape k o here;
     within = grind (arith, nat_tests, within);
     nothing = a.nothing;
     room = let r = a.room in omega arith;
@@ -64,7 +68,8 @@ module _ (heap : Heap) where
       let a = acts k m.1 in
       closes heap true _ k (
       chooses heap true (hold_count o k.holds == 0) _ _ _ _ (λ h. answers heap true _ _ _ rest) (λ h.
-      hitting heap true _ _ k _ (λ n. refl) (λ i. gets heap k (lone_purpose (Get o slot)) o slot (λ v. record { touches = touches k o slot rest a n.0 n.1 h v; nothing = refl })) (λ n i was.
+      hitting heap true _ _ k _ (λ n. refl) (λ i. gets heap k (lone_purpose (Get o slot)) o slot (λ v. record { touches = touches k o slot rest a n.0 n.1 h v; nothing = refl }) (inl (sym a.nothing)))
+      (λ n i was.
       answers heap false _ _ _ (rests heap.shape _ refl (unasking heap.shape k rest a.runs) refl
       (logged_carries k.log _ k.wait k.holds rest.still a.live refl rest.untold)))))
 
@@ -72,13 +77,14 @@ module _ (heap : Heap) where
   get_begins o slot = record { does = λ k v rest may. get_finishes k o slot rest may }
 
   -- PUT
-  may_put : (k : Known) (o slot : ℕ) (value : Value) → has_value heap.shape k value ≡ true → (v : Stands heap k) → MayTouch heap.shape k o slot → MayPut heap.shape k o slot value
+  may_put : (k : Known) (o slot : ℕ) (value : Value) → has_value heap.shape k value ≡ true → (v : Stands heap k) → MayTouch heap.shape k o slot
+      → MayPut heap.shape k o slot value
   may_put k o slot Nil e v may = record { touches = may; spellable = tt; here = tt }
   may_put k o slot (Int i) e v may =
       let a = both _ _ e in record { touches = may; spellable = (le_z_yes (T_from_true _ a.0), le_z_yes (T_from_true _ a.1)); here = tt }
   may_put k o slot (Ref r) e v may =
       let few = limits_here heap k v may.runs in let n = few.objects in
-      let here : r < length heap.shape.objects = grind (arith, nat_tests, e) in record { touches = may; spellable = omega arith; here = here }
+      let here = refers heap.shape k r e in let within = here.within in record { touches = may; spellable = omega arith; here = here }
 
   put_finishes : (k : Known) (o slot : ℕ) (value : Value) → AtRest heap.shape k → may_begin heap.shape heap.biasing k (Put o slot value) ≡ true
       → Finishes heap true (steps_of heap.shape (Put o slot value) (start_of heap.start k)) k
@@ -101,13 +107,17 @@ module _ (heap : Heap) where
   prints : (k : Known) (value : Value) → AtRest heap.shape k → Acts k → Stands heap k → MayPublish heap.shape k (entry.Print value)
   prints k value rest a v = record { runs = a.runs; calm = rest.calm; ready = ready_acts k rest a v; tells = tt; own_entry = record { operation = inl a.nothing; shot = tt }; room = let r = a.room in omega arith }
 
+  hands_value : (k : Known) (value : Value) → has_value heap.shape k value ≡ true → AllByRecursion (KnowsBy heap.shape k) (hands_on (entry.Print value))
+  hands_value k (Ref r) e = ((refers heap.shape k r e).known, tt)
+  hands_value k value e = tt
+
   print_finishes : (k : Known) (value : Value) → AtRest heap.shape k → may_begin heap.shape heap.biasing k (Print value) ≡ true
       → Finishes heap true (steps_of heap.shape (Print value) (start_of heap.start k)) k
   unfolding steps_of
   print_finishes k value rest may =
       let m = both (has_value heap.shape k value) (may_act k) may in
       let a = acts k m.1 in
-      hitting heap true _ _ k _ (λ n. refl) (λ i. publishes heap k (lone_purpose (Print value)) (entry.Print value) (λ v. (prints k value rest a v, tt))) (λ n i was.
+      hitting heap true _ _ k _ (λ n. refl) (λ i. publishes heap k (lone_purpose (Print value)) (entry.Print value) (λ v. (prints k value rest a v, tt)) (hands_value k value m.0)) (λ n i was.
       answers heap false _ _ _ (rests heap.shape _ refl (unasking heap.shape k rest a.runs) refl
       (logged_carries k.log _ k.wait k.holds rest.still a.live refl rest.untold)))
 
@@ -119,6 +129,11 @@ module _ (heap : Heap) where
   tells_ending k (ending.Trap fault index) = tt
   tells_ending k ending.Spent = tt
   tells_ending k ending.Done = tt
+
+  ending_hands : (k : Known) (how : Ending) → AllByRecursion (KnowsBy heap.shape k) (hands_on (ending_entry how))
+  ending_hands k (ending.Trap fault index) = tt
+  ending_hands k ending.Spent = tt
+  ending_hands k ending.Done = tt
 
   ending_shot : (k : Known) (how : Ending) → IsOfLastShot k (ending_entry how)
   ending_shot k (ending.Trap fault index) = tt
@@ -152,7 +167,7 @@ module _ (heap : Heap) where
           room = let r = a.room in omega arith;
         },
         unbiasing_none k how,
-      ))) (λ n i was.
+      )) (ending_hands k how)) (λ n i was.
       hitting heap false _ _ _ _ (λ n. refl) (λ i. says_ended_rule heap _ e (λ v. record {
         runs = a.runs;
         calm = refl;
@@ -160,7 +175,7 @@ module _ (heap : Heap) where
         ended = ends_behind k.log _ (ending_ends how);
         goes_on = refl;
         nothing = refl;
-      })) (λ n i was.
+      }) (inl refl)) (λ n i was.
       let says : cond (k.thread == k.thread) (wait_of Ended) k.wait ≡ wait_of Ended = ap (λ (b : Bool). cond b (wait_of Ended) k.wait) (eq-eqb k.thread k.thread refl) in
       answers heap false _ _ _ (rests heap.shape _ refl (unasking heap.shape k rest a.runs) refl (record {
         still = rest.still;

@@ -1,5 +1,7 @@
 pub mod Trees
 pub mod ClassSteps
+pub mod FairSteps
+pub mod FairLooks
 pub mod LawRules
 pub mod MonitorRules
 pub mod WaitRules
@@ -29,10 +31,12 @@ pub mod AllDeflations
 pub mod Requests
 pub mod AskedRevocations
 pub mod BiasFacts
+pub mod KeptHeaders
 pub mod BiasEnters
 pub mod Unbiases
 pub mod CheckCall
 pub mod DumpCall
+pub mod CreateCall
 pub mod Resting
 pub mod SafeWords
 pub mod SafeCalls

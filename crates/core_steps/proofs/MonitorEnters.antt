@@ -54,7 +54,8 @@ module _ (heap : Heap) (e : Purpose) (o m : ℕ) where
     out v = out_here heap k v x.takes.runs (λ i h. x.takes.unwaiting i (sym x.mine ∙ h)) x.untold
 
   -- the displaced word 3, and the hold word, where one of the ways is gone that lead there
-  record_does : (k : Known) (stage : Stage) (path : Path) → Taking heap k.running k.requesting k.moving k.log e o → k.unfinished ≡ e.unfinished → Untold k → free_place k.holds < most_holds → k.stage ≡ stage
+  record_does : (k : Known) (stage : Stage) (path : Path) → Taking heap k.running k.requesting k.moving k.log e o → k.unfinished ≡ e.unfinished → Untold k
+      → free_place k.holds < most_holds → k.stage ≡ stage
       → ((i p : ℕ) → stage ≡ Seizes i p → ⊥)
       → ((n : ℕ) → is_idle heap.shape k ≡ false → Comes heap (known_hit heap.shape heap.start (displace_plan e stage k.thread (free_place k.holds) 3) n k) o (free_place k.holds) path)
       → Does heap false (record_steps e stage (local_of k) o path) k (λ b r l. AtRest heap.shape l)
@@ -62,14 +63,15 @@ module _ (heap : Heap) (e : Purpose) (o m : ℕ) where
       let displace = displace_plan e stage k.thread (free_place k.holds) 3 in
       hitting heap false displace _ k _ (λ n. refl)
       (λ i. subst (λ z. Keeps heap (displace_plan e z k.thread (free_place k.holds) 3) k) at
-      (displaces_rule heap k e (free_place k.holds) 3 (λ v. record { runs = a.runs; free = free_here heap k v a.runs place; unseized = λ i h. unseized i (free_place k.holds) (sym at ∙ h); goes_on = inl (sym mine) })))
+      (displaces_rule heap k e (free_place k.holds) 3 (λ v. record { runs = a.runs; free = free_here heap k v a.runs place; unseized = λ i h. unseized i (free_place k.holds) (sym at ∙ h); goes_on = inl (sym mine) }) (inl (sym mine))))
       (λ n i was.
       let l = known_hit heap.shape heap.start displace n k in
       binds heap false (hold_steps e (local_of k) o path) done_with l _ (
       follows heap false _ l _ _ (hold_does heap l e o path a refl untold place (before n i)) (λ b r y h. answers heap b _ y _ h)))
 
   -- OWNED BY THE THREAD: it has raised the recursions
-  ahead_does : (k : Known) → Entering k → k.stage ≡ Ahead o → 1 ≤ hold_count o k.holds → SawOwn k k.thread m → Does heap false (record_steps e (Ahead o) (local_of k) o MonitorAgain) k (λ b r l. AtRest heap.shape l)
+  ahead_does : (k : Known) → Entering k → k.stage ≡ Ahead o → 1 ≤ hold_count o k.holds → SawOwn k k.thread m
+      → Does heap false (record_steps e (Ahead o) (local_of k) o MonitorAgain) k (λ b r l. AtRest heap.shape l)
   ahead_does k x at holds own =
       record_does k (Ahead o) MonitorAgain x.takes x.mine x.untold x.place at (λ i p h. cc h) (λ n i.
       let displace = displace_plan e (Ahead o) k.thread (free_place k.holds) 3 in
@@ -77,11 +79,12 @@ module _ (heap : Heap) (e : Purpose) (o m : ℕ) where
       let inflated : SawInflated (known_hit heap.shape heap.start displace n k) o m = (x.inflated.0, older (name.Mark o) i refl refl ∙ x.inflated.1, x.inflated.2) in
       (inr (inr (inr (inl (refl, holds, saw_newest heap displace n k, (m, inflated, older (name.Owner m) i refl refl ∙ own))))), (refl, holds, (m, inflated))))
 
-  again_does : (k : Known) → Entering k → k.stage ≡ Calm → 1 ≤ hold_count o k.holds → SawOwn k k.thread m → Does heap false (monitor_again_steps e (local_of k) o m) k (λ b r l. AtRest heap.shape l)
+  again_does : (k : Known) → Entering k → k.stage ≡ Calm → 1 ≤ hold_count o k.holds → SawOwn k k.thread m
+      → Does heap false (monitor_again_steps e (local_of k) o m) k (λ b r l. AtRest heap.shape l)
   again_does k x calm holds own =
       let look = load e (name.Recursions m) in
       hitting heap false look _ k _ (λ n. refl)
-      (λ i. subst (λ z. Keeps heap (with_stage z look) k) calm (looks_at_monitor heap k e (name.Recursions m) o m refl x.takes.runs x.inflated (inl (sym x.mine)) x.check)) (λ r i was.
+      (λ i. subst (λ z. Keeps heap (with_stage z look) k) calm (looks_at_monitor heap k e (name.Recursions m) o m refl x.takes.runs x.inflated (inl (sym x.mine)) x.check (inl (sym x.mine)))) (λ r i was.
       let l = known_hit heap.shape heap.start look r k in
       let raise = raise_count_plan e o m r in
       let inflated : SawInflated l o m = (x.inflated.0, saw_older heap look r k (name.Mark o) i refl refl ∙ x.inflated.1, x.inflated.2) in
@@ -91,7 +94,7 @@ module _ (heap : Heap) (e : Purpose) (o m : ℕ) where
       (λ j. raises_count_rule heap l e o m r (λ v. record {
         counts = record { runs = x.takes.runs; out = out l y v; holds = holds; inflated = inflated; owner = own_then; goes_on = inl refl };
         before = inl (refl, saw_newest heap look r k);
-      }))
+      }) (inl refl))
       (λ n j was.
       ahead_does (known_hit heap.shape heap.start raise n l)
       (record {
@@ -106,7 +109,8 @@ module _ (heap : Heap) (e : Purpose) (o m : ℕ) where
       refl holds (saw_older heap raise n l (name.Owner m) j refl refl ∙ own_then)))
 
   -- OWNED BY ITS RECORD: the thread itself becomes the owner
-  own_does : (k : Known) (n p : ℕ) → Entering k → k.stage ≡ Calm → 1 ≤ hold_count o k.holds → last_seen (name.Owner m) k.seen ≡ Some n → read_owner n ≡ Some (ByRecord k.thread p)
+  own_does : (k : Known) (n p : ℕ) → Entering k → k.stage ≡ Calm → 1 ≤ hold_count o k.holds → last_seen (name.Owner m) k.seen ≡ Some n
+      → read_owner n ≡ Some (ByRecord k.thread p)
       → Does heap false (monitor_own_steps e (local_of k) o m) k (λ b r l. AtRest heap.shape l)
   own_does k n p x calm holds saw reads =
       let man = take_over_plan e k.thread o m in
@@ -119,7 +123,7 @@ module _ (heap : Heap) (e : Purpose) (o m : ℕ) where
         inflated = x.inflated;
         owner = (n, saw, reads);
         goes_on = inl (sym x.mine);
-      })) (λ r i was.
+      }) (inl (sym x.mine))) (λ r i was.
       let l = known_hit heap.shape heap.start man r k in
       let inflated : SawInflated l o m = (x.inflated.0, saw_older heap man r k (name.Mark o) i refl refl ∙ x.inflated.1, x.inflated.2) in
       let own_then : SawOwn l l.thread m = saw_newest heap man r k in
@@ -128,7 +132,7 @@ module _ (heap : Heap) (e : Purpose) (o m : ℕ) where
       (λ j. raises_count_rule heap l e o m 0 (λ v. record {
         counts = record { runs = x.takes.runs; out = out l y v; holds = holds; inflated = inflated; owner = own_then; goes_on = inl refl };
         before = inr (refl, refl);
-      }))
+      }) (inl refl))
       (λ z j was.
       ahead_does (known_hit heap.shape heap.start raise z l)
       (record {
@@ -143,17 +147,18 @@ module _ (heap : Heap) (e : Purpose) (o m : ℕ) where
       refl holds (saw_older heap raise z l (name.Owner m) j refl refl ∙ own_then)))
 
   -- OWNED BY ANOTHER: the waiting word says for what the thread stands
-  owned_does : (k : Known) (n : ℕ) → Entering k → k.stage ≡ Calm → (Stands heap k → o < 2 ^ 15) → Does heap false (owned_steps e (local_of k) o n) k (λ b r l. AtRest heap.shape l)
+  owned_does : (k : Known) (n : ℕ) → Entering k → k.stage ≡ Calm → (Stands heap k → o < 2 ^ 15)
+      → Does heap false (owned_steps e (local_of k) o n) k (λ b r l. AtRest heap.shape l)
   owned_does k n x calm few =
       hitting heap false _ _ k _ (λ n. refl) (λ i. stands_rule heap k e o m (λ v. record {
         runs = x.takes.runs;
         calm = calm;
         out = out k x v;
-        object = x.takes.object;
+        object = record { within = x.takes.object; known = x.takes.known };
         enters = x.enters;
         goes_on = sym x.mine;
         inflated = x.inflated;
-      }))
+      }) (inl (sym x.mine)))
       (λ r i was.
       let says : cond (k.thread == k.thread) (wait_of (wait.Entering o)) k.wait ≡ wait_of (wait.Entering o) = ap (λ (b : Bool). cond b (wait_of (wait.Entering o)) k.wait) (eq-eqb k.thread k.thread refl) in
       answers heap false _ _ _ (rests heap.shape _ refl x.takes.unasks x.takes.unchecks (live_carries k.log _ k.holds e.unfinished x.takes.still x.takes.live (λ i h. x.place) (undumped_enter e o (inr x.enters))
@@ -179,7 +184,8 @@ module _ (heap : Heap) (e : Purpose) (o m : ℕ) where
   few_objects k x v = let few = limits_here heap k v x.takes.runs in let objects = few.objects in let object = x.takes.object in omega (arith, objects, object)
 
   -- where the exchange missed
-  missed_does : (f : Option OwnerForm) (k : Known) (n : ℕ) → Entering k → k.stage ≡ Calm → last_seen (name.Owner m) k.seen ≡ Some n → read_owner n ≡ f → IsOwner heap.shape f → (read_owner n ≡ Some Free → ⊥)
+  missed_does : (f : Option OwnerForm) (k : Known) (n : ℕ) → Entering k → k.stage ≡ Calm → last_seen (name.Owner m) k.seen ≡ Some n → read_owner n ≡ f
+      → IsOwner heap.shape f → (read_owner n ≡ Some Free → ⊥)
       → (read_owner n ≡ Some (ByThread k.thread) → 1 ≤ hold_count o k.holds) → ((p : ℕ) → read_owner n ≡ Some (ByRecord k.thread p) → 1 ≤ hold_count o k.holds)
       → Does heap false (monitor_enter_at f e (local_of k) o m n) k (λ b r l. AtRest heap.shape l)
   missed_does None k n x calm saw reads form taken by_thread by_record = absurd form
@@ -200,7 +206,7 @@ module _ (heap : Heap) (e : Purpose) (o m : ℕ) where
   monitor_enter_does k x calm none =
       let grab = grab_plan e k.thread o m in
       exchanging heap false grab (owner_of Free) (owner_of (ByThread k.thread)) (λ n. monitor_enter_at (read_owner n) e (local_of k) o m n) k _ refl
-      (λ i. grabs_rule heap k e o m (λ v. record { runs = x.takes.runs; calm = calm; out = out k x v; inflated = x.inflated; unseen = none; goes_on = inl (sym x.mine) }))
+      (λ i. grabs_rule heap k e o m (λ v. record { runs = x.takes.runs; calm = calm; out = out k x v; inflated = x.inflated; unseen = none; goes_on = inl (sym x.mine) }) (inl (sym x.mine)))
       (λ n i was h.
       let l = known_hit heap.shape heap.start grab n k in
       subst (λ f. Does heap false (monitor_enter_at f e (local_of k) o m n) l (λ b r l. AtRest heap.shape l)) (sym (ap read_owner h ∙ read_owner-owner_of Free tt))

@@ -82,10 +82,11 @@ module _ (heap : Heap) (e : Purpose) (o m : ℕ) where
 
     looks_calm : k.stage ≡ Calm → Keeps heap (load e (name.Recursions m)) k
     looks_calm calm = subst (λ z. Keeps heap (load_plan e z (name.Recursions m)) k) calm
-        (looks_at_monitor heap k e (name.Recursions m) o m refl x.leaving.runs x.inflated (inl (sym x.mine)) x.check)
+        (looks_at_monitor heap k e (name.Recursions m) o m refl x.leaving.runs x.inflated (inl (sym x.mine)) x.check (inl (sym x.mine)))
 
   -- the last hold: the owner word is cleared, which logs Exit, and then the hold word
-  release_does : (k : Known) → Exiting heap e o m k → k.stage ≡ Calm → SawOwn k k.thread m → last_seen (name.Recursions m) k.seen ≡ Some 0 → hold_count o k.holds ≡ 1
+  release_does : (k : Known) → Exiting heap e o m k → k.stage ≡ Calm → SawOwn k k.thread m → last_seen (name.Recursions m) k.seen ≡ Some 0
+      → hold_count o k.holds ≡ 1
       → Does heap false (release_steps e (local_of k) o m) k (λ b r l. AtRest heap.shape l)
   release_does k x calm own none one =
       let a = x.leaving in
@@ -97,7 +98,7 @@ module _ (heap : Heap) (e : Purpose) (o m : ℕ) where
         runs = a.runs;
         calm = calm;
         ready = ready k x v;
-        object = a.object;
+        object = record { within = a.object; known = a.known };
         last = one;
         inflated = x.inflated;
         owner = own;
@@ -108,7 +109,7 @@ module _ (heap : Heap) (e : Purpose) (o m : ℕ) where
         room = a.room;
       }))
       (λ n i was. hitting heap false _ _ _ _ (λ n. refl)
-      (λ j. clears_rule heap _ (record e { unfinished = None }) o p (λ v. (top_here heap k was.stands a.runs o a.some).1) (λ v. record { runs = a.runs; stage = refl; hold = hold was.stands; last = one; goes_on = refl }))
+      (λ j. clears_rule heap _ (record e { unfinished = None }) o p (λ v. (top_here heap k was.stands a.runs o a.some).1) (λ v. record { runs = a.runs; stage = refl; hold = hold was.stands; last = one; goes_on = refl }) (inl refl))
       (λ n j was. answers heap false _ _ _ (rests heap.shape _ refl a.unasks a.unchecks (logged_carries k.log _ k.wait _ a.still a.live refl x.untold))))
 
   -- another one: the recursions are lowered, and then the hold word is cleared, which logs Exit
@@ -118,14 +119,14 @@ module _ (heap : Heap) (e : Purpose) (o m : ℕ) where
       let a = x.leaving in
       let p = top_place o k.holds in
       let lower = lower_count_plan e o m r in
-      hitting heap false lower _ k _ (λ n. refl) (λ i. lowers_count_rule heap k e o m r (λ v. record { counts = may_count k x own v; calm = calm; saw = saw; some = some })) (λ n i was.
+      hitting heap false lower _ k _ (λ n. refl) (λ i. lowers_count_rule heap k e o m r (λ v. record { counts = may_count k x own v; calm = calm; saw = saw; some = some }) (inl (sym x.mine))) (λ n i was.
       let y = after_recursions k x i (Behind o) (Store (r - 1)) n in
       let l = known_hit heap.shape heap.start lower n k in
       hitting heap false _ _ l _ (λ n. refl)
       (λ j. leaves_rule heap l e o (hold_count o k.holds) p (λ v. (top_here heap l v a.runs o a.some).1) (λ v. record {
         runs = a.runs;
         ready = ready l y v;
-        object = a.object;
+        object = record { within = a.object; known = a.known };
         hold = (top_here heap l v a.runs o a.some).0;
         deepest = refl;
         small = few_here heap l v a.runs o;
@@ -155,7 +156,8 @@ module _ (heap : Heap) (e : Purpose) (o m : ℕ) where
       (λ not0. lower_does l r y refl own_still saw (λ z. absurd (cc (eq-eqb r 0 z, not0)))))
 
   -- first the thread itself becomes the owner, where one of its records is
-  own_does : (f : Option OwnerForm) (k : Known) (owner : ℕ) → Exiting heap e o m k → k.stage ≡ Calm → last_seen (name.Owner m) k.seen ≡ Some owner → read_owner owner ≡ f → IsOwned k.thread f
+  own_does : (f : Option OwnerForm) (k : Known) (owner : ℕ) → Exiting heap e o m k → k.stage ≡ Calm → last_seen (name.Owner m) k.seen ≡ Some owner
+      → read_owner owner ≡ f → IsOwned k.thread f
       → Does heap false (own_steps f e (local_of k) o m >>= (λ u. counted_steps k)) k (λ b r l. AtRest heap.shape l)
   own_does None k owner x calm saw reads mine = absurd mine
   own_does (Some Free) k owner x calm saw reads mine = absurd mine
@@ -172,11 +174,12 @@ module _ (heap : Heap) (e : Purpose) (o m : ℕ) where
         inflated = x.inflated;
         owner = (owner, saw, reads ∙ ap (λ z. Some (ByRecord z p)) mine);
         goes_on = inl (sym x.mine);
-      })) (λ n i was.
+      }) (inl (sym x.mine))) (λ n i was.
       let l = known_hit heap.shape heap.start man n k in
       let y = after_owner k x i (TakesOver o) (Store (owner_of (ByThread k.thread))) n in
       let own : SawOwn l l.thread m = saw_newest heap man n k in
-      hitting heap false reset _ l _ (λ n. refl) (λ j. resets_count_rule heap l e o m (λ v. record { counts = may_count l y own v; takes_over = refl })) (λ r j was.
+      hitting heap false reset _ l _ (λ n. refl) (λ j. resets_count_rule heap l e o m (λ v. record { counts = may_count l y own v; takes_over = refl })
+      (inl refl)) (λ r j was.
       counted_does (known_hit heap.shape heap.start reset r l) (after_recursions l y j Calm (Store 0) r) refl (saw_older heap reset r l (name.Owner m) j refl refl ∙ own)))
 
   pub monitor_exit_does : (k : Known) → ByMonitor heap e o m k → Does heap false (monitor_exit_steps e (local_of k) o m) k (λ b r l. AtRest heap.shape l)
@@ -184,6 +187,6 @@ module _ (heap : Heap) (e : Purpose) (o m : ℕ) where
       let look = load e (name.Owner m) in
       let x : Exiting heap e o m k = record { leaving = b.leaving; mine = b.mine; check = b.check; untold = b.untold; inflated = b.inflated; displaced = b.displaced; stamped = b.stamped } in
       hitting heap false look _ k _ (λ n. refl)
-      (λ i. subst (λ z. Keeps heap (with_stage z look) k) b.calm (looks_at_monitor heap k e (name.Owner m) o m refl b.leaving.runs b.inflated (inl (sym b.mine)) b.check)) (λ owner i was.
+      (λ i. subst (λ z. Keeps heap (with_stage z look) k) b.calm (looks_at_monitor heap k e (name.Owner m) o m refl b.leaving.runs b.inflated (inl (sym b.mine)) b.check (inl (sym b.mine)))) (λ owner i was.
       own_does (read_owner owner) (known_hit heap.shape heap.start look owner k) owner (after_owner k x i Calm Load owner) refl (saw_newest heap look owner k) refl
       (owned_here heap k was.stands b.leaving.runs o m owner b.inflated b.calm (out k x was.stands) b.leaving.some was.found))

@@ -12,7 +12,7 @@ use Rattle.core_world.specs.World.{World}
 use Rattle.plain_monitor.specs.Objects.{new_objects}
 use Rattle.core_world.proofs.OpeningFits.{opening_fits}
 use Rattle.core_world.proofs.Readings.{no_told}
-use Rattle.core_law.specs.BiasLaw.{WhollyValid}
+use Rattle.core_law.specs.WholeLaw.{WhollyValid}
 use Rattle.core_counts.proofs.Opening.{opening_meets}
 use Rattle.core_law.specs.Takings.{TakesExactly}
 use Rattle.core_law.specs.Logic.{Heap, heap_of}
@@ -21,6 +21,7 @@ use Rattle.core_law.specs.Reached.{Comes, opens, moves, comes}
 use Rattle.core_law.proofs.NextSteps.{stepping_sound, stepping_there, stepping_stamps}
 use Rattle.core_law.proofs.Lawful as lawful
 use Rattle.core_law.proofs.Lawful.{sound_comes}
+use Rattle.core_made.proofs.Opening as objects
 use Rattle.core_steps.proofs.Resting.{rests}
 use Rattle.core_steps.proofs.Table.{calls_begin}
 
@@ -32,7 +33,13 @@ pub opening_sound : (heap : Heap) → IsInLimits heap.shape → Sound (opening h
 opening_sound heap limits = record {
   valid = record {
     objects = new_objects heap.shape.objects;
-    is = inl (opening_fits heap.shape heap.start heap.biasing limits, opening_meets heap.shape heap.start heap.biasing);
+    is = inl (
+      opening_fits heap.shape heap.start heap.biasing limits,
+      record {
+        biases = opening_meets heap.shape heap.start heap.biasing;
+        made = objects.opening_meets heap.shape heap.start heap.biasing limits;
+      },
+    );
   };
   goes_on = λ t h. record { by = first_rests heap.shape t };
 }

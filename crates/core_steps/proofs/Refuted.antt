@@ -14,6 +14,10 @@ use Rattle.core_world.specs.Words.Acts.{word_after}
 use Rattle.core_world.specs.Words.Forms.{is_neutral, is_neutral_form, monitor_in, hold_word, asks_in}
 use Rattle.core_world.specs.Threads.Known.{Known, local_of}
 use Rattle.core_world.specs.Locks.{hold_count, holds_by_monitor, monitor_of}
+use Rattle.plain_monitor.specs.Made.{made_number}
+use Rattle.plain_history.specs.Known.{news}
+use Rattle.core_world.specs.Threads.References.{numbering, making_in}
+use Rattle.core_world.specs.Trees.CreateSteps.{class_plan, make_plan, creating, next_made}
 use Rattle.core_world.specs.Trees.Plans.{Purpose, with_stage, store, free_place, top_place}
 use Rattle.core_world.specs.Trees.SafepointSteps.{all_but, stop_plan}
 use Rattle.core_world.specs.Threads.Stages.{hold_words_ahead, one_if, revocation_in}
@@ -34,11 +38,14 @@ use Rattle.core_locks.proofs.RefutedClaims.{no_claim_of_a_keeper}
 use Rattle.core_locks.proofs.SafeFacts.{running_unreached}
 use Rattle.core_locks.proofs.RefutedExchanges.{exchange_refused}
 use Rattle.core_law.specs.Logic.{Heap, Stands, DoesSteps}
-use Rattle.core_steps.specs.Weakened.{late_displaced_steps, early_clearing_steps, stop_at_stage_steps, always_claiming_steps, early_cleaning_steps}
+use Rattle.core_steps.specs.Weakened.{late_displaced_steps, early_clearing_steps, stop_at_stage_steps, always_claiming_steps, early_mark_steps, any_object_steps, early_cleaning_steps}
 use Rattle.core_steps.proofs.Facts.{limits_here}
-use Rattle.core_law.proofs.Standing.{fits_here, away, valid_here, safe_fits}
+use Rattle.core_law.proofs.Standing.{fits_here, away, inside, valid_here, safe_fits}
+use Rattle.core_law.proofs.Wholes.{All, all_unless, stops_all}
+use Rattle.core_made.proofs.RefusedMakings.{out_of_turn, unmade_refuses}
+use Rattle.core_steps.proofs.LawRules.{runs_in_all}
 use Rattle.core_world.proofs.LookWhileRevoking.{without_clause}
-use Rattle.core_law.specs.BiasLaw.{BiasLawHolds}
+use Rattle.core_law.specs.WholeLaw.{LawsHold}
 use Rattle.core_law.proofs.Places.{top_here, few_here}
 use Rattle.core_steps.proofs.SafeWords.{stopped_runs}
 
@@ -48,7 +55,7 @@ module _ (heap : Heap) (k : Known) (fresh : Bool) (v : Stands heap k) (at_first 
 
   -- a tree's first step, from this world
   first_valid : {A : Type 0} (p : StepPlan) (f : ℕ → Todo A) → DoesSteps heap fresh (step p f) k → Valid (world_after p k.thread v.world)
-  first_valid p f does = without_clause BiasLawHolds (world_after p k.thread v.world) ((does.by.0 at_first).by v)
+  first_valid p f does = without_clause LawsHold (world_after p k.thread v.world) ((does.by.0 at_first).by v)
 
   -- THE DISPLACED WORD AFTER THE EXCHANGE
   pub late_displaced_fails : (e : Purpose) (o mark : ℕ) → k.running ≡ true → free_place k.holds < most_holds → is_neutral mark ≡ true → v.world.words (name.Mark o) ≡ mark
@@ -120,6 +127,31 @@ module _ (heap : Heap) (k : Known) (fresh : Bool) (v : Stands heap k) (at_first 
   pub always_claiming_fails : (e : Purpose) (o mark m : ℕ) → k.running ≡ true → k.kept ≡ Some m → DoesSteps heap fresh (always_claiming_steps heap.shape e o mark) k → ⊥
   always_claiming_fails e o mark m runs keeps does =
       no_claim_of_a_keeper v.world m k.thread e (runs_there runs) (away heap k v (λ s y. y.kept ≡ Some m) keeps) (first_valid _ _ does)
+
+  -- behind a first step after which the thread runs, every clause holds with the laws
+  first_whole : {A : Type 0} (p : StepPlan) (f : ℕ → Todo A) → DoesSteps heap fresh (step p f) k
+      → ((world_after p k.thread v.world).known k.thread).running ≡ true → (Q : List PlainObject) × All (world_after p k.thread v.world) Q
+  first_whole p f does runs =
+      let x = world_after p k.thread v.world in
+      let whole = (does.by.0 at_first).by v in
+      (whole.objects, all_unless x whole.objects (λ s. stops_all x whole.objects s k.thread runs) whole.is)
+
+  -- A FIRST MARK BEFORE THE CLASS WORD: the thread isn't making the object
+  pub early_mark_fails : (e : Purpose) (o c m : ℕ) → k.running ≡ true → making_in k.unfinished ≢ Some o → DoesSteps heap fresh (early_mark_steps e o c m) k → ⊥
+  early_mark_fails e o c m runs unmade does =
+      let all = runs_in_all heap k v runs in
+      let still = ap (λ (y : Known). y.running) (with_known_here k.thread _ v.world.known) ∙ runs_there runs in
+      let afterwards = first_whole (make_plan e o c m) _ does still in
+      unmade_refuses e o c m v.world v.objects k.thread (inside heap k v) (λ is. unmade (ap (λ (y : Known). making_in y.unfinished) (sym v.knows) ∙ is))
+      all.fits all.made afterwards.1.made
+
+  -- ANOTHER OBJECT than the thread's next one
+  pub any_object_fails : (o c m : ℕ) → k.running ≡ true → o ≢ next_made heap.shape (local_of k) → DoesSteps heap fresh (any_object_steps o c m) k → ⊥
+  any_object_fails o c m runs other does =
+      let still = ap (λ (y : Known). y.running) (with_known_here k.thread _ v.world.known) ∙ runs_there runs in
+      let afterwards = first_whole (class_plan (creating o c) o c) _ does still in
+      out_of_turn (creating o c) o c v.world afterwards.0 k.thread (inside heap k v) refl
+      (away heap k v (λ s y. o ≢ made_number (numbering s) k.thread (length (news y.log))) other) afterwards.1.fits afterwards.1.made
 
   -- A HEADER CLEARED BEFORE IT IS THE MARK: the monitor that the mark names has no header
   pub early_cleaning_fails : (e : Purpose) (stage : Stage) (o m header : ℕ) → k.reached ≡ true → revocation_in stage ≡ None → monitor_in (v.world.words (name.Mark o)) ≡ Some m

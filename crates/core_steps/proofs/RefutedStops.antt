@@ -10,7 +10,7 @@ use Rattle.core_locks.proofs.RefutedSilent.{same_objects}
 use Rattle.core_locks.proofs.RefutedSteps.{knows, hit_fits}
 use Rattle.core_locks.proofs.RefutedOwners.{owner_uncalled}
 use Rattle.core_world.proofs.LookWhileRevoking.{without_clause}
-use Rattle.core_law.specs.BiasLaw.{BiasLawHolds}
+use Rattle.core_law.specs.WholeLaw.{LawsHold}
 use Rattle.core_law.specs.Logic.{Heap, Stands, DoesSteps}
 use Rattle.core_steps.specs.Weakened.{is_between}
 use Rattle.core_law.proofs.Standing.{fits_here, away}
@@ -143,7 +143,7 @@ module _ (w : World) (P Q : List PlainObject) (n t : ℕ) (l : Known) (silent : 
 
 module _ (heap : Heap) (k : Known) (fresh : Bool) (v : Stands heap k) (at_first : is_idle heap.shape k ≡ fresh) (e : Purpose) (runs : k.running ≡ true) (does : DoesSteps heap fresh (stop_steps e (local_of k)) k) where
   published : (Q : List PlainObject) × Fits (with_word_and_known (Length k.thread) (length k.log) k.thread (knows (publish_log_plan e k.thread (length k.log)) k.thread v.world) v.world) Q
-  published = hit_fits (publish_log_plan e k.thread (length k.log)) k.thread v.world refl (away heap k v (λ s y. y.running ≡ true) runs) (without_clause BiasLawHolds _ ((does.by.0 at_first).by v))
+  published = hit_fits (publish_log_plan e k.thread (length k.log)) k.thread v.world refl (away heap k v (λ s y. y.running ≡ true) runs) (without_clause LawsHold _ ((does.by.0 at_first).by v))
 
   pub stop_between_fails : is_between k.stage ≡ true → ⊥
   stop_between_fails between =

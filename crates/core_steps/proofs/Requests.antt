@@ -19,6 +19,7 @@ use Rattle.core_locks.specs.Knowing.{GoesOn}
 use Rattle.core_law.specs.Logic.{Heap, Does}
 use Rattle.core_steps.proofs.LawRules.{looks, requests}
 use Rattle.core_steps.proofs.Resting.{Carries, unasking, unchecking, rests}
+use Rattle.core_steps.proofs.FairSteps.{Begins}
 use Rattle.core_steps.proofs.SafeCalls.{look_safe}
 use Rattle.core_steps.proofs.SafepointLooks.{Reaches}
 use Rattle.core_steps.proofs.SafeWords.{requested_asks, requested_runs}
@@ -68,6 +69,7 @@ module _ (heap : Heap) (e : Purpose) (me : ℕ) where
     pub carries : Carries k.moving k.log k.wait k.holds k.shots e.unfinished
     pub asking : k.requesting ≡ true → (e.check ≡ k.checking) × (e.unfinished ≡ k.unfinished)
     pub running : k.requesting ≡ false → (k.running ≡ true) × GoesOn k e
+    pub begins : Begins heap.shape k e.unfinished
 
   or_both : (a b c : Bool) → b ≡ true → c ≡ true → (a || (b && c)) ≡ true
   or_both true b c f g = refl
@@ -93,9 +95,10 @@ module _ (heap : Heap) (e : Purpose) (me : ℕ) where
 
   -- with a request that stands it is at rest, by what it knew when this part began
   module _ (k0 : Known) (asked : (k : Known) → Asks k → Since k0 k → (k0.reached ≡ false → k.reached ≡ false) → AtRest heap.shape k) where
-    reached_does : (fresh : Bool) (k : Known) → Asks k → Since k0 k → (k0.reached ≡ false → k.reached ≡ false) → Does heap fresh (reached_steps e) k (λ b r l. (b ≡ false) × Stood k0 r l)
+    reached_does : (fresh : Bool) (k : Known) → Asks k → Since k0 k → (k0.reached ≡ false → k.reached ≡ false)
+        → Does heap fresh (reached_steps e) k (λ b r l. (b ≡ false) × Stood k0 r l)
     reached_does fresh k a since unreached =
-        hitting heap fresh _ _ k _ (λ n. refl) (λ i. looks heap k (load e name.Safepoint) (look_safe k e a.calm a.check (inl a.mine)) (λ v. tt)) (λ word i was.
+        hitting heap fresh _ _ k _ (λ n. refl) (λ i. looks heap k (load e name.Safepoint) (look_safe k e a.calm a.check (inl a.mine)) (λ v. tt) (inl a.mine) tt) (λ word i was.
         let l = known_hit heap.shape heap.start (load e name.Safepoint) word k in
         let now : Since k0 l = record {
           local = since.local;
@@ -126,24 +129,26 @@ module _ (heap : Heap) (e : Purpose) (me : ℕ) where
               (λ first. nor_both k.reached k.requesting (is_still word) (unreached first) no),
         )))
 
-    request_does : (fresh : Bool) → BeginsSafepoint k0 → k0.running ≡ true → GoesOn k0 e → Does heap fresh (request_steps e k0.thread) k0 (λ b r l. (b ≡ false) × Requested k0 r l)
+    request_does : (fresh : Bool) → BeginsSafepoint k0 → k0.running ≡ true → GoesOn k0 e
+        → Does heap fresh (request_steps e k0.thread) k0 (λ b r l. (b ≡ false) × Requested k0 r l)
     request_does fresh may runs goes =
         let rest = may.rest in
         let k = k0 in
         let unasks = unasking heap.shape k rest runs in
         hitting heap fresh _ _ k _ (λ n. refl) (λ i. looks heap k (load (record e { check = false }) name.Safepoint)
-        (look_safe k (record e { check = false }) rest.calm (sym (unchecking heap.shape k rest unasks)) goes) (λ v. tt)) (λ word i was.
+        (look_safe k (record e { check = false }) rest.calm (sym (unchecking heap.shape k rest unasks)) goes) (λ v. tt) may.begins tt) (λ word i was.
         let l = known_hit heap.shape heap.start (load (record e { check = false }) name.Safepoint) word k in
         let exchange = request_plan e k.thread word in
         chooses heap false (has_requester word) _ _ _ _ (λ h. answers heap false _ _ _ (refl, rests heap.shape _ refl unasks refl may.carries)) (λ free.
         swapping heap false exchange word _ (λ n. done_with tt) (λ n. cond (has_requester n) (pending_for (why.Requested n)) (pending_for (why.Raced word n))) l _ refl
-        (λ i. requests heap _ e word (record { runs = runs; calm = refl; ended = λ h. let live = may.live in absurd (cc (h, live)); unasked = unsome _ free; still = may.carries.still; goes_on = inl refl }))
+        (λ i. requests heap _ e word (record { runs = runs; calm = refl; ended = λ h. let live = may.live in absurd (cc (h, live)); unasked = unsome _ free; still = may.carries.still; goes_on = inl refl }) (inl refl))
         (λ n i was h.
         let left = cond (n == word) (requested_by (read_safe word) k.thread) n in
         let asks : asks_in left k.thread ≡ true = ap (λ z. asks_in (cond z (requested_by (read_safe word) k.thread) n) k.thread) (eq-eqb n word h) ∙ requested_asks heap _ word was.stands (was.found ∙ h) runs in
-        let kept : cond (l.reached && not (asks_in left k.thread)) (only_headers l.seen_at_safepoint) (cond k.running (seen_before heap.shape l) []) ≡ l.seen =
-        ap (λ (b : Bool). cond (l.reached && not b) (only_headers l.seen_at_safepoint) (cond k.running (seen_before heap.shape l) [])) asks
-        ∙ by_reached l.reached (only_headers l.seen_at_safepoint) (cond k.running (seen_before heap.shape l) [])
+        let headers : List StepMade = only_headers l.unfinished l.seen_at_safepoint in
+        let kept : cond (l.reached && not (asks_in left k.thread)) headers (cond k.running (seen_before heap.shape l) []) ≡ l.seen =
+        ap (λ (b : Bool). cond (l.reached && not b) headers (cond k.running (seen_before heap.shape l) [])) asks
+        ∙ by_reached l.reached headers (cond k.running (seen_before heap.shape l) [])
         ∙ ap (λ (b : Bool). cond b (seen_before heap.shape l) []) runs ∙ ap (λ (b : Bool). cond (b && not l.requesting) [] l.seen) i in
         answers heap false _ _ _ (
           refl,
@@ -182,11 +187,13 @@ module _ (heap : Heap) (e : Purpose) (me : ℕ) where
         by_reached true x y = refl
         by_reached false x y = refl
 
-    then_reached_does : (b : Bool) (r : Turn (Unit {0})) (l : Known) → b ≡ false → Requested k0 r l → Does heap b (then_reached e r) l (λ b r l. (b ≡ false) × Stood k0 r l)
+    then_reached_does : (b : Bool) (r : Turn (Unit {0})) (l : Known) → b ≡ false → Requested k0 r l
+        → Does heap b (then_reached e r) l (λ b r l. (b ≡ false) × Stood k0 r l)
     then_reached_does b (Done x) l fresh s = reached_does b l s.0 s.1 s.2
     then_reached_does b (Pending why) l fresh s = answers heap b _ l _ (fresh, s)
 
-    pub safepoint_does : (fresh : Bool) → BeginsSafepoint k0 → Does heap fresh (safepoint_steps e k0.thread k0.requesting) k0 (λ b r l. (b ≡ false) × Stood k0 r l)
+    pub safepoint_does : (fresh : Bool) → BeginsSafepoint k0
+        → Does heap fresh (safepoint_steps e k0.thread k0.requesting) k0 (λ b r l. (b ≡ false) × Stood k0 r l)
     safepoint_does fresh may = chooses heap fresh k0.requesting _ _ k0 _
         (λ asks. let a = may.asking asks in
         let saw = asking_saw k0 asks in

@@ -1,6 +1,6 @@
 -- A revocation at a reached safepoint: its steps, from the loads by which the policy decides on, and behind them those that give idle monitors back, up
 -- to the release.
-use Rattle.std.proofs.Common.{◌≡◌, ◌≢◌, ◌⊎◌, ℕ, ◌+◌, ◌-◌, ◌<◌, ◌≤◌, nat_lt, ◌==◌, ◌&&◌, ◌++◌, not, eq-eqb, Bool, true, false, cond, List, [], ◌∷◌, length, Option, Some, None, refl, sym, ap, ◌∙◌, subst, arith, inl, inr}
+use Rattle.std.proofs.Common.{◌≡◌, ◌≢◌, ◌⊎◌, ℕ, ◌+◌, ◌-◌, ◌<◌, ◌≤◌, nat_lt, ◌==◌, ◌&&◌, ◌++◌, not, eq-eqb, Bool, true, false, cond, List, [], ◌∷◌, length, Some, None, refl, sym, ap, ◌∙◌, subst, arith, inl, inr}
 use Rattle.mark_word.specs.Mark.{read_mark}
 use Rattle.lock_policy.specs.declared.policy.Verdict.{Verdict}
 use Rattle.lock_policy.specs.Policy.{decided, is_reset}
@@ -29,10 +29,9 @@ use Rattle.core_world.specs.Words.Names.{class_by}
 use Rattle.core_world.proofs.There.{class_seen, class_in_heap}
 use Rattle.core_world.specs.Trees.DeflateSteps.{deflate_steps}
 use Rattle.core_world.specs.Threads.Stages.{Revocation, revocation_in}
-use Rattle.core_world.specs.Steps.{is_idle, known_hit, seen_before, only_headers, is_header}
+use Rattle.core_world.specs.Steps.{is_idle, known_hit, seen_before, only_headers}
 use Rattle.core_world.specs.Trees.Todo.{Todo, done, never, step, ◌>>=◌}
 use Rattle.core_world.specs.Valid.{RevokesWithin}
-use Rattle.core_world.proofs.ActsLook.{headers_are_part}
 use Rattle.core_world.proofs.Naming.{same_named, same_as_itself}
 use Rattle.core_bias.specs.Revoking.{IsNextStore, Leads, TellsBias, is_kept_on_request}
 use Rattle.core_bias.proofs.RevocationRuns.{steps_next}
@@ -40,17 +39,21 @@ use Rattle.core_locks.proofs.LookOn.{may_look}
 use Rattle.core_locks.specs.Knowing.{IsBiasTo}
 use Rattle.core_law.specs.Logic.{Heap, Stands, Keeps, Was, Does}
 use Rattle.core_steps.specs.Deflated.{HasRevoked}
-use Rattle.core_steps.proofs.BiasFacts.{valid_is}
+use Rattle.core_steps.proofs.FairLooks.{sees_reached}
+use Rattle.core_steps.proofs.BiasFacts.{valid_is, is_any_header}
 use Rattle.core_steps.proofs.BiasRules.{bias_biased, begins_revoking_rule, goes_on_revoking_rule}
 use Rattle.core_steps.proofs.BehindRevocations.{unrevoking_after, behind_tells, behind_keeps}
 use Rattle.core_steps.proofs.ClassSteps.{class_kept, class_from, class_once, class_declared, class_made, declared_class, made_class, made_there, class_does}
 use Rattle.core_steps.proofs.Deflations.{Idles, deflate_ends}
+use Rattle.core_steps.proofs.Facts.{Knows}
+use Rattle.core_steps.proofs.KeptHeaders.{headers_stay, headers_alone}
 use Rattle.core_steps.proofs.LawRules.{looks, limits, releases, releases_taking}
 use Rattle.core_law.proofs.Standing.{home, away, few_threads}
 use Rattle.core_steps.proofs.RevocationTrees.{IsLooked, IsStored, InMiddle, middle_binds, middle_verdict, answers_left, revocation_untaken}
 use Rattle.core_steps.proofs.SafepointLooks.{Reaches, keeps_look, going}
 use Rattle.core_law.proofs.SafepointSights.{found_formed, forms_fit, is_as_seen, fits_reached}
 use Rattle.core_world.proofs.There.{IsFormed}
+use Rattle.core_world.specs.Threads.References.{is_on}
 use Rattle.core_steps.proofs.SafeWords.{reached_there, released_asks, released_runs}
 use Rattle.core_steps.proofs.Trees.{answers, chooses_then, follows, hitting, finding}
 
@@ -64,28 +67,6 @@ seen_more n m ms h = cases (same_name n m.plan.at)
     cases : (b : Bool) → (v : ℕ) × (cond b (Some (left_by m)) (last_seen n ms) ≡ Some v)
     cases true = (left_by m, refl)
     cases false = h
-
--- of the marks, class words and prototypes all is kept that was seen at the safepoint
-headers_stay : (n : Name) → is_header n ≡ true → (ms : List StepMade) → last_seen n (only_headers ms) ≡ last_seen n ms
-headers_stay n h [] = refl
-headers_stay n h (m ∷ ms) = by_header (is_header m.plan.at) refl (headers_stay n h ms)
-  where
-    unless : is_header m.plan.at ≡ false → (b : Bool) → same_name n m.plan.at ≡ b → last_seen n (only_headers ms) ≡ last_seen n ms
-        → last_seen n (only_headers ms) ≡ cond b (Some (left_by m)) (last_seen n ms)
-    unless g true e rest = let same = ap is_header (same_named n m.plan.at e) in absurd (cc (same, h, g))
-    unless g false e rest = rest
-
-    by_header : (b : Bool) → is_header m.plan.at ≡ b → last_seen n (only_headers ms) ≡ last_seen n ms
-        → last_seen n (cond b (m ∷ only_headers ms) (only_headers ms)) ≡ last_seen n (m ∷ ms)
-    by_header true g rest = ap (λ z. cond (same_name n m.plan.at) (Some (left_by m)) z) rest
-    by_header false g rest = unless g (same_name n m.plan.at) refl rest
-
-headers_alone : (n : Name) → is_header n ≡ false → (ms : List StepMade) → last_seen n (only_headers ms) ≡ None
-headers_alone n h ms = cases (last_seen n (only_headers ms)) refl
-  where
-    cases : (a : Option ℕ) → last_seen n (only_headers ms) ≡ a → a ≡ None
-    cases None e = refl
-    cases (Some v) e = let is = (headers_are_part ms n v e).0 in absurd (cc (is, h))
 
 -- WHAT STAYS WHILE A REQUEST STANDS, marks, words of classes and class words: whatever all steps last saw of such a word, those since the safepoint was
 -- reached saw too.
@@ -295,7 +276,7 @@ module _ (heap : Heap) (e : Purpose) (b : Revocation) (me : ℕ) where
           check = x.leaves.check;
           after = inl x.leaves.mine;
           may = may_look k at (inr (x.leaves.reached ∙ r.reached)) (looked_shared at h);
-        }) (λ v. there))
+        }) (λ v. there) (inl x.leaves.mine) (sees_reached heap.shape k at (x.leaves.reached ∙ r.reached)))
         (λ n i was. go n (then_known (looking at) n k) (record { plan = looking at; found = n } ∷ ms) (found_formed heap k at n refl was) (then_revokes (looking at) n f k (then_known (looking at) n k) ms i x (look_adds at h n k) refl
         (class_still at n k (x.leaves.reached ∙ r.reached) was x.class)))
 
@@ -402,6 +383,7 @@ module _ (heap : Heap) (e : Purpose) (b : Revocation) (me : ℕ) where
       class : SawClass heap.shape k.seen_at_safepoint b.object c
       prototype : last_seen (name.Prototype c) k.seen ≡ last_seen (name.Prototype c) k0.seen
       but : SeenBut (λ n. n ≡ name.Prototype c) k.seen k.seen_at_safepoint
+      known : Knows heap k.log b.object
 
     module _ (k0 : Known) (r : Reaches me k0 e) (unwritten : writes_in k0.seen_at_safepoint ≡ []) (c mark : ℕ) (ms : List StepMade) (kc : Known)
         (x : HasClass k0 c mark ms kc)
@@ -464,7 +446,7 @@ module _ (heap : Heap) (e : Purpose) (b : Revocation) (me : ℕ) where
               operation = operation;
               unfinished = unfinished;
               allowed = allowed;
-              object = object;
+              object = record { within = object; known = x.known };
               unwritten = ap (λ z. ((z ++ []) ++ []) ++ []) x.unwritten;
               saw_class = saw_class;
               biased = (mark, prototype, x.saw_mark, saw_prototype, valid);
@@ -534,7 +516,7 @@ module _ (heap : Heap) (e : Purpose) (b : Revocation) (me : ℕ) where
         (home heap k0 v (λ s y. v.world.words (name.Class b.object) ≤ s.classes) ((forms_fit heap k0 v).classes b.object)) object)
 
     -- BEHIND THE LOAD of the mark
-    module _ (k0 : Known) (r : Reaches me k0 e) (unwritten : writes_in k0.seen_at_safepoint ≡ []) (saw : SawValidBias heap.shape k0 b.object) (alone : SawNoOther heap.shape k0 b.object)
+    module _ (k0 : Known) (r : Reaches me k0 e) (unwritten : writes_in k0.seen_at_safepoint ≡ []) (saw : SawValidBias heap.shape k0 b.object) (alone : SawNoOther heap.shape k0 b.object) (known : Knows heap k0.log b.object)
         (mark : ℕ) (going_on : is_idle heap.shape k0 ≡ false) (mark_is : mark ≡ saw.0) (in_heap : saw.2 < heap.shape.classes) where
       abbrev R : Bool → RevocationOutcome → Known → Type 0
       R f a l = (f ≡ false) × Made_all k0 r unwritten saw.2 a l
@@ -580,6 +562,7 @@ module _ (heap : Heap) (e : Purpose) (b : Revocation) (me : ℕ) where
               | inr (inl is) ↦ let made = is.1 in absurd (cc (declared, made))
               | inr (inr is) ↦ is
             ]) but;
+            known = known;
           }) in_heap saw refl mark_is)
 
       -- and another's class word is what the thread saw before
@@ -608,21 +591,22 @@ module _ (heap : Heap) (e : Purpose) (b : Revocation) (me : ℕ) where
               | inr (inl is) ↦ absurd (not_itself m (name.Class b.object) is.0 h.1)
               | inr (inr is) ↦ is
             ]) (but_looked _ (name.Class b.object) n k1 i but);
+            known = known;
           }) in_heap saw refl mark_is)
 
-    pub revoke_does : (k0 : Known) (r : Reaches me k0 e) (unwritten : writes_in k0.seen_at_safepoint ≡ []) (saw : SawValidBias heap.shape k0 b.object) → SawNoOther heap.shape k0 b.object
+    pub revoke_does : (k0 : Known) (r : Reaches me k0 e) (unwritten : writes_in k0.seen_at_safepoint ≡ []) (saw : SawValidBias heap.shape k0 b.object) → SawNoOther heap.shape k0 b.object → Knows heap k0.log b.object
         → Does heap false T k0 (λ f a l. (f ≡ false) × Made_all k0 r unwritten saw.2 a l)
-    revoke_does k0 r unwritten saw alone =
+    revoke_does k0 r unwritten saw alone known =
         let R : Bool → RevocationOutcome → Known → Type 0 = λ f a l. (f ≡ false) × Made_all k0 r unwritten saw.2 a l in
         hitting heap false (load e (name.Mark b.object)) _ k0 R (λ n. refl) (λ i. keeps_look heap me e (name.Mark b.object) k0 r (λ v. object)) (λ mark i was.
         let k1 = then_known (load e (name.Mark b.object)) mark k0 in
         let mark_is : mark ≡ saw.0 = sym was.found ∙ still_valid k0 r was.stands saw in
         let in_heap = class_in k0 was.stands r saw in
         class_does heap e Calm b.object (behind_class mark) k1 R
-        (declared_does k0 r unwritten saw alone mark i mark_is in_heap)
-        (λ made j. keeps_look heap me e (name.Class b.object) k1 (reaches k0 r unwritten saw alone mark i mark_is in_heap)
+        (declared_does k0 r unwritten saw alone known mark i mark_is in_heap)
+        (λ made j. keeps_look heap me e (name.Class b.object) k1 (reaches k0 r unwritten saw alone known mark i mark_is in_heap)
         (λ v. made_there heap.shape b.object object made))
-        (made_does k0 r unwritten saw alone mark i mark_is in_heap))
+        (made_does k0 r unwritten saw alone known mark i mark_is in_heap))
 
   -- THE RELEASE. What these words of mark and prototype tell of the bias, by whether the thread gave itself a new one.
   abbrev pub Tells : ℕ → Bool → ℕ → ℕ → Type 0
@@ -635,7 +619,8 @@ module _ (heap : Heap) (e : Purpose) (b : Revocation) (me : ℕ) where
       subst (λ z. IsBiasTo t (read_mark z) (epoch_in p)) mark (subst (λ z. IsBiasTo t (read_mark (f (name.Mark b.object))) (epoch_in z)) prototype h)
   tells_of t false f v p c mark prototype h = subst (λ z. is_biased z ≡ false) mark h
 
-  -- behind it the thread runs, and has seen in its call the object's mark and its class's prototype alone, besides such words of others
+  -- behind it the thread runs, and counts on what it saw at its safepoint of the object's mark, its class word and its class's prototype, and of no
+  -- words of other kinds
   pub record Released (k : Known) (took : Bool) (l : Known) : Type 0 where
     pub local : local_of l ≡ local_of k
     pub kept : l.kept ≡ k.kept
@@ -649,7 +634,7 @@ module _ (heap : Heap) (e : Purpose) (b : Revocation) (me : ℕ) where
     pub mine : e.unfinished ≡ l.unfinished
     pub stage : l.stage ≡ stage_after took b.object
     pub mark : (v p a : ℕ) × (last_seen (name.Mark b.object) l.seen ≡ Some v) × SawClass heap.shape l.seen b.object a × (last_seen (name.Prototype a) l.seen ≡ Some p) × Tells l.thread took v p
-    pub unseen : (n : Name) → is_header n ≡ false → same_name n name.Safepoint ≡ false → last_seen n l.seen ≡ None
+    pub unseen : (n : Name) → is_any_header n ≡ false → same_name n name.Safepoint ≡ false → last_seen n l.seen ≡ None
     pub untaken : b.rebias ≡ false → took ≡ false
 
   -- what a revocation comes to
@@ -692,9 +677,9 @@ module _ (heap : Heap) (e : Purpose) (b : Revocation) (me : ℕ) where
   release_keeps true k a reached stands still goes_on = releases_taking heap k a b.object (record { reached = reached; takes = stands; still = still; goes_on = goes_on })
   release_keeps false k a reached stands still goes_on = releases heap k a (record { reached = reached; calm = stands; still = still; goes_on = goes_on })
 
-  release_does : (k0 k : Known) (took : Bool) → k0.thread ≡ me → (b.rebias ≡ false → took ≡ false) → Deflated k0 took k
+  release_does : is_on e.unfinished b.object ≡ true → (k0 k : Known) (took : Bool) → k0.thread ≡ me → (b.rebias ≡ false → took ≡ false) → Deflated k0 took k
       → Does heap false (release_steps took) k (λ f turn l. (f ≡ false) × Revoked k0 turn l)
-  release_does k0 k took number untaken d =
+  release_does own k0 k took number untaken d =
       let x = d.idles in
       let R : Bool → Turn Bool → Known → Type 0 = λ f turn l. (f ≡ false) × Revoked k0 turn l in
       let finds : (n : ℕ) → Was heap (release_plan (record e { check = false }) (stage_after took b.object) k.thread) k n → (n == reached_word k.thread) ≡ true =
@@ -714,12 +699,14 @@ module _ (heap : Heap) (e : Purpose) (b : Revocation) (me : ℕ) where
       released n was hit =
           let x = d.idles in
           let few = few_threads heap k was.stands in
+          let on : is_on k.unfinished b.object ≡ true = ap (λ u. is_on u b.object) (sym x.mine) ∙ own in
           let left : ℕ = cond (n == reached_word k.thread) (released_word k.thread) n in
           let unasks : asks_in left k.thread ≡ false = ap (λ (z : Bool). asks_in (cond z (released_word k.thread) n) k.thread) hit ∙ released_asks k.thread few in
           let call : List StepMade = cond k.running (seen_before heap.shape k) [] in
-          let kept : cond (k.reached && not (asks_in left k.thread)) (only_headers k.seen_at_safepoint) call ≡ only_headers k.seen_at_safepoint =
-          ap (λ (z : Bool). cond (z && not (asks_in left k.thread)) (only_headers k.seen_at_safepoint) call) x.reached ∙ ap
-          (λ (z : Bool). cond (not z) (only_headers k.seen_at_safepoint) call) unasks in
+          let headers : List StepMade = only_headers k.unfinished k.seen_at_safepoint in
+          let kept : cond (k.reached && not (asks_in left k.thread)) headers call ≡ headers =
+          ap (λ (z : Bool). cond (z && not (asks_in left k.thread)) headers call) x.reached
+          ∙ ap (λ (z : Bool). cond (not z) headers call) unasks in
           record {
             local = x.local;
             kept = x.kept;
@@ -736,29 +723,29 @@ module _ (heap : Heap) (e : Purpose) (b : Revocation) (me : ℕ) where
               d.mark.0,
               d.mark.1,
               d.mark.2,
-              ap (last_seen (name.Mark b.object)) kept ∙ headers_stay (name.Mark b.object) refl k.seen_at_safepoint ∙ d.mark.3,
+              ap (last_seen (name.Mark b.object)) kept ∙ headers_stay k.unfinished (name.Mark b.object) on k.seen_at_safepoint ∙ d.mark.3,
               class_from heap.shape k.seen_at_safepoint
                   (then_known (release_plan (record e { check = false }) (stage_after took b.object) k.thread) n k).seen b.object d.mark.2
-                  (ap (last_seen (name.Class b.object)) kept ∙ headers_stay (name.Class b.object) refl k.seen_at_safepoint) d.mark.4,
-              ap (last_seen (name.Prototype d.mark.2)) kept ∙ headers_stay (name.Prototype d.mark.2) refl k.seen_at_safepoint ∙ d.mark.5,
+                  (ap (last_seen (name.Class b.object)) kept ∙ headers_stay k.unfinished (name.Class b.object) on k.seen_at_safepoint) d.mark.4,
+              ap (last_seen (name.Prototype d.mark.2)) kept ∙ headers_stay k.unfinished (name.Prototype d.mark.2) refl k.seen_at_safepoint ∙ d.mark.5,
               d.mark.6,
             );
-            unseen = λ m hidden other. ap (λ (z : Bool). cond z (Some left) (last_seen m (cond (k.reached && not (asks_in left k.thread)) (only_headers k.seen_at_safepoint) call))) other
-                ∙ ap (last_seen m) kept ∙ headers_alone m hidden k.seen_at_safepoint;
+            unseen = λ m hidden other. ap (λ (z : Bool). cond z (Some left) (last_seen m (cond (k.reached && not (asks_in left k.thread)) headers call))) other
+                ∙ ap (last_seen m) kept ∙ headers_alone k.unfinished m hidden k.seen_at_safepoint;
             untaken = untaken;
           }
 
   -- where all its stores are made
-  pub ending_does : b.object < length heap.shape.objects → (k0 : Known) (r : Reaches me k0 e) (unwritten : writes_in k0.seen_at_safepoint ≡ []) (c : ℕ) (k : Known) (a : RevocationOutcome)
+  pub ending_does : is_on e.unfinished b.object ≡ true → b.object < length heap.shape.objects → (k0 : Known) (r : Reaches me k0 e) (unwritten : writes_in k0.seen_at_safepoint ≡ []) (c : ℕ) (k : Known) (a : RevocationOutcome)
       → Made_all k0 r unwritten c a k → Does heap false (ending_steps a.took) k (λ f turn l. (f ≡ false) × Revoked k0 turn l)
-  ending_does object k0 r unwritten c k a all =
+  ending_does own object k0 r unwritten c k a all =
       let x = all.1 in
       let reached : k.reached ≡ true = x.leaves.reached ∙ r.reached in
       let number : k.thread ≡ me = number_of k0 r unwritten c k x.leaves in
       let stage = stage_after a.took b.object in
       going heap (deflate_steps heap.shape e stage) (λ u. release_steps a.took) k _ (
       follows heap false _ k _ _ (deflate_ends heap e k0 stage (unrevoking_after a.took b.object) k (omega (arith, object)) (record {
-        keeps = behind_keeps heap k e b a (has_revoked k0 r unwritten c k a all) reached (x.leaves.moving ∙ r.carries.still) x.leaves.check x.leaves.mine (name.Object 0) (λ v. omega (arith, object));
+        keeps = behind_keeps heap k e b a (has_revoked k0 r unwritten c k a all) reached (x.leaves.moving ∙ r.carries.still) x.leaves.check x.leaves.mine (name.Object 0) (λ there n. tt) (λ v. omega (arith, object));
         reached = reached;
         idles = λ n. record {
           reached = reached;
@@ -781,7 +768,7 @@ module _ (heap : Heap) (e : Purpose) (b : Revocation) (me : ℕ) where
       (is_as_seen heap k v reached (name.Prototype c) x.prototype.0 x.prototype.1)
       (subst (λ z. TellsBias k.thread b.object z a.took v.world.words) class (behind_tells heap k e b a (has_revoked k0 r unwritten c k a all) reached v)) in
       let same : k.thread ≡ l.thread = ap (λ z. z.thread) x.leaves.local ∙ ap (λ z. z.thread) (sym y.0.local) in
-      release_does k0 l a.took r.number (λ none. answers_left (λ (a : RevocationOutcome). a.took ≡ false) T (done a) all.0 x.path (revocation_untaken e b none heap.shape me)) (record {
+      release_does own k0 l a.took r.number (λ none. answers_left (λ (a : RevocationOutcome). a.took ≡ false) T (done a) all.0 x.path (revocation_untaken e b none heap.shape me)) (record {
         idles = y.0;
         mark = (
           now.0,

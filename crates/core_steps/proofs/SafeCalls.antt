@@ -28,7 +28,8 @@ use Rattle.core_steps.proofs.Tests.{both, not_true, none_is, unsome}
 use Rattle.core_steps.proofs.Trees.{answers, follows, binds, chooses, hitting, finding, swapping}
 
 -- a load of the safepoint word is a look
-pub look_safe : (k : Known) (e : Purpose) → k.stage ≡ Calm → e.check ≡ k.checking → (e.unfinished ≡ k.unfinished) ⊎ (k.unfinished ≡ None) → IsLook k (load e name.Safepoint)
+pub look_safe : (k : Known) (e : Purpose) → k.stage ≡ Calm → e.check ≡ k.checking → (e.unfinished ≡ k.unfinished) ⊎ (k.unfinished ≡ None)
+    → IsLook k (load e name.Safepoint)
 look_safe k e calm check after = record { act = refl; note = refl; own = refl; stage = sym calm; check = check; after = after; may = may_look_safe k }
 
 module _ (heap : Heap) where
@@ -37,7 +38,8 @@ module _ (heap : Heap) where
   closes fresh d k h = binds heap fresh d end k _ (follows heap fresh d k _ _ h (λ b a l x. record { by = x }))
 
   -- STOP
-  stop_finishes : (k : Known) → Stands heap k → AtRest heap.shape k → may_begin heap.shape heap.biasing k Stop ≡ true → Finishes heap true (steps_of heap.shape Stop (start_of heap.start k)) k
+  stop_finishes : (k : Known) → Stands heap k → AtRest heap.shape k → may_begin heap.shape heap.biasing k Stop ≡ true
+      → Finishes heap true (steps_of heap.shape Stop (start_of heap.start k)) k
   unfolding steps_of
   stop_finishes k v rest runs =
       let e = side_purpose Stop (start_of heap.start k) in
@@ -70,7 +72,7 @@ module _ (heap : Heap) where
   resume_does k e rest stopped unasks check goes =
       let carries : Carries k.moving k.log k.wait k.holds k.shots e.unfinished = subst (Carries k.moving k.log k.wait k.holds k.shots) (sym goes) (carried heap.shape k rest) in
       let unchecks = check ∙ unchecking heap.shape k rest unasks in
-      hitting heap true _ _ k _ (λ n. refl) (λ i. looks heap k _ (look_safe k e rest.calm check (inl goes)) (λ v. tt)) (λ word i was.
+      hitting heap true _ _ k _ (λ n. refl) (λ i. looks heap k _ (look_safe k e rest.calm check (inl goes)) (λ v. tt) (inl goes) tt) (λ word i was.
       by_bar (bar word) _ _ _ (λ b a. rests heap.shape _ refl unasks unchecks carries) (λ free.
       let f = no_bar word free in
       swapping heap false _ word _ (λ n. done_with tt) (λ n. unless (bar n) (pending_for (why.Raced word n))) _ _ refl
@@ -80,7 +82,8 @@ module _ (heap : Heap) where
       unchecks carries))
       (λ n i was h. by_bar (bar n) _ _ _ (λ b a. rests heap.shape _ refl unasks unchecks carries) (λ f. answers heap false _ _ _ (rests heap.shape _ refl unasks unchecks carries)))))
 
-  resume_finishes : (k : Known) → Stands heap k → AtRest heap.shape k → may_begin heap.shape heap.biasing k Resume ≡ true → Finishes heap true (steps_of heap.shape Resume (start_of heap.start k)) k
+  resume_finishes : (k : Known) → Stands heap k → AtRest heap.shape k → may_begin heap.shape heap.biasing k Resume ≡ true
+      → Finishes heap true (steps_of heap.shape Resume (start_of heap.start k)) k
   unfolding steps_of
   resume_finishes k v rest may =
       let m = both _ _ may in
@@ -90,14 +93,15 @@ module _ (heap : Heap) where
   resume_begins = record { does = resume_finishes }
 
   -- POLL
-  poll_finishes : (k : Known) → Stands heap k → AtRest heap.shape k → may_begin heap.shape heap.biasing k Poll ≡ true → Finishes heap true (steps_of heap.shape Poll (start_of heap.start k)) k
+  poll_finishes : (k : Known) → Stands heap k → AtRest heap.shape k → may_begin heap.shape heap.biasing k Poll ≡ true
+      → Finishes heap true (steps_of heap.shape Poll (start_of heap.start k)) k
   unfolding steps_of
   poll_finishes k v rest runs =
       let e = side_purpose Poll (start_of heap.start k) in
       let unasks = unasking heap.shape k rest runs in
       let unchecks = unchecking heap.shape k rest unasks in
       closes true (poll_steps e) k (
-      hitting heap true _ _ k _ (λ n. refl) (λ i. looks heap k _ (look_safe k e rest.calm refl (inl refl)) (λ v. tt)) (λ word i was.
+      hitting heap true _ _ k _ (λ n. refl) (λ i. looks heap k _ (look_safe k e rest.calm refl (inl refl)) (λ v. tt) (inl refl) tt) (λ word i was.
       chooses heap false (has_requester word) _ _ _ _
       (λ h. answers heap false _ _ _ (rests heap.shape _ refl unasks unchecks (carried heap.shape k rest)))
       (λ h. answers heap false _ _ _ (rests heap.shape _ refl unasks unchecks (carried heap.shape k rest)))))
@@ -106,7 +110,8 @@ module _ (heap : Heap) where
   poll_begins = record { does = poll_finishes }
 
   -- REQUEST
-  request_finishes : (k : Known) → Stands heap k → AtRest heap.shape k → may_begin heap.shape heap.biasing k Request ≡ true → Finishes heap true (steps_of heap.shape Request (start_of heap.start k)) k
+  request_finishes : (k : Known) → Stands heap k → AtRest heap.shape k → may_begin heap.shape heap.biasing k Request ≡ true
+      → Finishes heap true (steps_of heap.shape Request (start_of heap.start k)) k
   unfolding steps_of
   request_finishes k v rest may =
       let m = both _ _ may in let n = both _ _ m.0 in
@@ -115,10 +120,10 @@ module _ (heap : Heap) where
       let unasks = unasking heap.shape k rest n.0 in
       let carries : Carries k.moving k.log k.wait k.holds k.shots None = subst (Carries k.moving k.log k.wait k.holds k.shots) nothing (carried heap.shape k rest) in
       closes true (request_steps e k.thread) k (
-      hitting heap true _ _ k _ (λ n. refl) (λ i. looks heap k _ (look_safe k e rest.calm (sym (not_true _ m.1)) (inr nothing)) (λ v. tt)) (λ word i was.
+      hitting heap true _ _ k _ (λ n. refl) (λ i. looks heap k _ (look_safe k e rest.calm (sym (not_true _ m.1)) (inr nothing)) (λ v. tt) (inl (sym nothing)) tt) (λ word i was.
       chooses heap false (has_requester word) _ _ _ _ (λ h. answers heap false _ _ _ (rests heap.shape _ refl unasks refl carries)) (λ free.
       swapping heap false _ word _ (λ n. done_with tt) (λ n. cond (has_requester n) (pending_for (why.Requested n)) (pending_for (why.Raced word n))) _ _ refl
-      (λ i. requests heap _ e word (record { runs = n.0; calm = refl; ended = λ h. (rest.ended h).0; unasked = unsome _ free; still = rest.still; goes_on = inl refl }))
+      (λ i. requests heap _ e word (record { runs = n.0; calm = refl; ended = λ h. (rest.ended h).0; unasked = unsome _ free; still = rest.still; goes_on = inl refl }) (inl refl))
       (λ n' i was h. answers heap false _ _ _ (rests_asking heap.shape _ refl
       (ap (λ (b : Bool). runs_in (cond b (requested_by (read_safe word) k.thread) n') k.thread) (eq-eqb n' word h) ∙ requested_runs heap _ word was.stands (was.found ∙ h) n.0)
       refl refl carries))
@@ -129,14 +134,16 @@ module _ (heap : Heap) where
   request_begins = record { does = request_finishes }
 
   -- REACHED
-  reached_finishes : (k : Known) → Stands heap k → AtRest heap.shape k → may_begin heap.shape heap.biasing k Reached ≡ true → Finishes heap true (steps_of heap.shape Reached (start_of heap.start k)) k
+  reached_finishes : (k : Known) → Stands heap k → AtRest heap.shape k → may_begin heap.shape heap.biasing k Reached ≡ true
+      → Finishes heap true (steps_of heap.shape Reached (start_of heap.start k)) k
   unfolding steps_of
   reached_finishes k v rest may =
       let m = both _ _ may in let n = both _ _ m.0 in
       let nothing = none_is _ n.1 in
       let carries : Carries k.moving k.log k.wait k.holds k.shots None = subst (Carries k.moving k.log k.wait k.holds k.shots) nothing (carried heap.shape k rest) in
       closes true (reached_steps (lone_purpose Reached)) k (
-      hitting heap true _ _ k _ (λ n. refl) (λ i. looks heap k _ (look_safe k (lone_purpose Reached) rest.calm (sym (not_true _ m.1)) (inr nothing)) (λ v. tt)) (λ word i was.
+      hitting heap true _ _ k _ (λ n. refl) (λ i. looks heap k _ (look_safe k (lone_purpose Reached) rest.calm (sym (not_true _ m.1)) (inr nothing)) (λ v. tt)
+      (inl (sym nothing)) tt) (λ word i was.
       chooses heap false (is_still word) _ _ _ _
       (λ h. answers heap false _ _ _ (rests_asking heap.shape _ refl (rest.stopped n.0) refl refl carries))
       (λ h. answers heap false _ _ _ (rests_asking heap.shape _ refl (rest.stopped n.0) refl refl carries))))
@@ -145,10 +152,12 @@ module _ (heap : Heap) where
   reached_begins = record { does = reached_finishes }
 
   -- RELEASE. The exchange hits, and the thread asks no more.
-  pub released_unasks : (k : Known) (n : ℕ) → Stands heap k → n ≡ reached_word k.thread → asks_in (cond (n == reached_word k.thread) (released_word k.thread) n) k.thread ≡ false
+  pub released_unasks : (k : Known) (n : ℕ) → Stands heap k → n ≡ reached_word k.thread
+      → asks_in (cond (n == reached_word k.thread) (released_word k.thread) n) k.thread ≡ false
   released_unasks k n v h = ap (λ (b : Bool). asks_in (cond b (released_word k.thread) n) k.thread) (eq-eqb n (reached_word k.thread) h) ∙ released_asks k.thread (few_threads heap k v)
 
-  release_finishes : (k : Known) → Stands heap k → AtRest heap.shape k → may_begin heap.shape heap.biasing k Release ≡ true → Finishes heap true (steps_of heap.shape Release (start_of heap.start k)) k
+  release_finishes : (k : Known) → Stands heap k → AtRest heap.shape k → may_begin heap.shape heap.biasing k Release ≡ true
+      → Finishes heap true (steps_of heap.shape Release (start_of heap.start k)) k
   unfolding steps_of
   release_finishes k v rest may =
       let m = both _ _ may in let n = both _ _ m.0 in

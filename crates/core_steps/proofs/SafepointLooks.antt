@@ -12,6 +12,7 @@ use Rattle.core_steps.proofs.Resting.{Carries}
 use Rattle.core_world.specs.Steps.{seen_at_safepoint_before}
 use Rattle.core_world.specs.There.{IsIn}
 use Rattle.core_law.specs.Logic.{Heap, Stands, Keeps, Does}
+use Rattle.core_steps.proofs.FairLooks.{sees_reached}
 use Rattle.core_steps.proofs.LawRules.{looks}
 use Rattle.core_law.proofs.SafepointSights.{Seeing, seeing_all, seeing_itself}
 use Rattle.core_steps.proofs.Trees.{answers, follows}
@@ -47,7 +48,7 @@ module _ (heap : Heap) where
     check = r.check;
     after = inl r.mine;
     may = record { outside = λ a b. let c = r.reached in absurd (cc (b, c)); found = λ a m is. let c = r.stopped in absurd (cc (a, c)) };
-  }) there
+  }) there (inl r.mine) (sees_reached heap.shape k at r.reached)
 
   -- where the first is to go on with the same flag
   pub going : {A B : Type 0} (d : Todo A) (g : A → Todo B) (k : Known) (R : Bool → B → Known → Type 0) → Does heap false d k (λ b a l. Does heap false (g a) l R) → Does heap false (d >>= g) k R

@@ -25,10 +25,10 @@ use Rattle.core_world.specs.Trees.SafepointSteps.{resume_plan, request_plan, rel
 use Rattle.core_world.specs.Steps.{is_idle}
 use Rattle.core_world.specs.Trees.LockSteps.{hold_plan, log_enter_plan, seize_plan, displace_plan}
 use Rattle.core_law.specs.Logic.{Heap, heap_of, Stands, DoesSteps}
-use Rattle.core_steps.specs.Weakened.{late_displaced_steps, early_clearing_steps, stop_at_stage_steps, always_claiming_steps, early_cleaning_steps}
+use Rattle.core_steps.specs.Weakened.{late_displaced_steps, early_clearing_steps, stop_at_stage_steps, always_claiming_steps, early_mark_steps, any_object_steps, early_cleaning_steps}
 use Rattle.core_law.proofs.NextSteps.{stands_here}
 use Rattle.core_steps.proofs.ReachedWorlds.{reached_worlds_valid}
-use Rattle.core_steps.proofs.Refuted.{late_displaced_fails, early_clearing_fails, stop_at_stage_fails, always_claiming_fails, early_cleaning_fails}
+use Rattle.core_steps.proofs.Refuted.{late_displaced_fails, early_clearing_fails, stop_at_stage_fails, always_claiming_fails, early_mark_fails, any_object_fails, early_cleaning_fails}
 use Rattle.core_steps.proofs.RefutedStops.{stop_between_fails}
 use Rattle.core_law.specs.Reached.{Comes, opens, moves}
 use Rattle.core_steps.specs.SmallWorlds.{small, resuming, looked, running, neutral, entering, displaced, seized, held, entered, hashing, unbiased, unfound, claimed, keeping, locked, inflating, copied, headed, owned, counted, prepared, named, drawing, drawn, requested, reached, known_in}
@@ -160,6 +160,17 @@ no_stop_seized e does = stop_between_fails small (known_in seized) false (shown 
 pub no_always_claiming : (e : Purpose) → DoesSteps small false (always_claiming_steps small.shape e 0 locked) (known_in keeping) → ⊥
 unfolding is_idle steps_of read_safe read_mark read_hold read_wait ring_bits
 no_always_claiming e does = always_claiming_fails small (known_in keeping) false (shown keeping refl comes_keeping) refl e 0 locked 0 refl refl does
+
+-- a making where it runs, that stores the first mark first, or is of another object than its next one,
+pub no_early_mark : (e : Purpose) (o c m : ℕ) → DoesSteps small true (early_mark_steps e o c m) (known_in running) → ⊥
+unfolding is_idle steps_of read_safe read_mark read_hold
+no_early_mark e o c m does =
+    early_mark_fails small (known_in running) true (shown running refl comes_running) refl e o c m refl (λ is. absurd (cc is)) does
+
+pub no_other_object : (c m : ℕ) → DoesSteps small true (any_object_steps 2 c m) (known_in running) → ⊥
+unfolding is_idle steps_of read_safe read_mark read_hold
+no_other_object c m does =
+    any_object_fails small (known_in running) true (shown running refl comes_running) refl 2 c m refl (λ is. absurd (omega (arith, is))) does
 
 -- and a deflation where its safepoint is reached
 pub no_early_cleaning : (e : Purpose) (header : ℕ) → DoesSteps small true (early_cleaning_steps e Calm 0 0 header) (known_in reached) → ⊥

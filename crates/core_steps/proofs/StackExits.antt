@@ -35,16 +35,17 @@ use Rattle.core_locks.specs.Knowing.{GoesOn, IsOut, SawInflated}
 use Rattle.core_law.specs.Logic.{Heap, Stands, Does}
 use Rattle.core_law.specs.Sound.{Finishes}
 use Rattle.core_law.specs.Begins.{BeginsWell}
+use Rattle.core_steps.proofs.FairSteps.{Begins, begins_its}
 use Rattle.core_steps.proofs.Trees.{answers, chooses, chooses_then, hitting, swapping}
 use Rattle.core_steps.proofs.LawRules.{looks, raises, leaves_rule, clears_rule, lets_go_rule}
 use Rattle.core_law.proofs.Standing.{home, away, fits_here}
-use Rattle.core_steps.proofs.Facts.{Untold, Unwaiting, Unentering, out_here, ready_here, Unbiased}
+use Rattle.core_steps.proofs.Facts.{Knows, Untold, Unwaiting, Unentering, out_here, ready_here, Unbiased}
 use Rattle.core_law.proofs.Places.{top_here, few_here}
 use Rattle.core_steps.proofs.SeenSteps.{saw_newest, saw_older}
 use Rattle.core_steps.proofs.ExitFacts.{OnExit, covered, on_exit}
 use Rattle.core_steps.proofs.Resting.{unasking, rests, live_carries, logged_carries}
 use Rattle.core_steps.proofs.SafeCalls.{closes}
-use Rattle.core_steps.proofs.Tests.{both, not_true, below, logs_once, nothing_goes, goes_on_or_begins, is_of_kind}
+use Rattle.core_steps.proofs.Tests.{both, not_true, below, refers, logs_once, nothing_goes, goes_on_or_begins, is_of_kind}
 
 -- what a thread that leaves o by this purpose counts on all the way, by parts of its knowledge that don't change until the entry is logged
 pub record Leaving (heap : Heap) (running requesting : Bool) (moving : Moving) (log : List Logged) (holds : List ℕ) (e : Purpose) (o : ℕ) : Type 0 where
@@ -55,8 +56,14 @@ pub record Leaving (heap : Heap) (running requesting : Bool) (moving : Moving) (
   pub live : ends log ≡ false
   pub room : length log < log_limit
   pub object : o < length heap.shape.objects
+  pub known : Knows heap log o
   pub some : 1 ≤ hold_count o holds
   pub exits : e.unfinished ≡ Some (record { op = op.Exit; object = o })
+
+-- so what it leaves unfinished is on an object that it knows
+pub leaving_begins : (heap : Heap) (k : Known) (e : Purpose) (o : ℕ) → Leaving heap k.running k.requesting k.moving k.log k.holds e o → GoesOn k e
+    → Begins heap.shape k e.unfinished
+leaving_begins heap k e o a goes = begins_its heap.shape k e.unfinished op.Exit o a.exits refl a.known goes
 
 -- in this call the stamp was raised to that of the next entry
 abbrev pub RaisedStamp : Bool → Known → ℕ → Type 0
@@ -103,11 +110,13 @@ module _ (heap : Heap) where
   ]
 
   -- where it answers that the exit goes on in another call, the thread is at rest
-  pub exit_rests : (k : Known) (e : Purpose) (o : ℕ) → Leaving heap k.running k.requesting k.moving k.log k.holds e o → k.stage ≡ Calm → k.checking ≡ false → k.unfinished ≡ e.unfinished → Untold k → AtRest heap.shape k
+  pub exit_rests : (k : Known) (e : Purpose) (o : ℕ) → Leaving heap k.running k.requesting k.moving k.log k.holds e o → k.stage ≡ Calm → k.checking ≡ false
+      → k.unfinished ≡ e.unfinished → Untold k → AtRest heap.shape k
   exit_rests k e o a calm unchecks mine untold = rests heap.shape k calm a.unasks unchecks (live_carries k.log k.wait k.holds k.unfinished a.still a.live (λ i h. absurd (unentering_exit k o (mine ∙ a.exits) i h)) (undumped_exit k o (mine ∙ a.exits)) untold)
 
   -- the lock that is left by exchanging the mark
-  exit_by_does : (Q : Bool → StackOut → Known → Type 0) (k : Known) (e : Purpose) (o header stamp : ℕ) → Outs heap e o (local_of k) Q → e.check ≡ k.checking → Leaving heap k.running k.requesting k.moving k.log k.holds e o → k.stage ≡ Calm → k.unfinished ≡ e.unfinished → Untold k
+  exit_by_does : (Q : Bool → StackOut → Known → Type 0) (k : Known) (e : Purpose) (o header stamp : ℕ) → Outs heap e o (local_of k) Q
+      → e.check ≡ k.checking → Leaving heap k.running k.requesting k.moving k.log k.holds e o → k.stage ≡ Calm → k.unfinished ≡ e.unfinished → Untold k
       → hold_count o k.holds ≡ 1 → last_seen (name.Displaced k.thread (top_place o k.holds)) k.seen ≡ Some header
       → last_seen (name.Stamp o) k.seen ≡ Some stamp → next_stamp (local_of k) ≤ stamp
       → Does heap false (stack_exit_by e (local_of k) o header (mark_of (Locked k.thread (top_place o k.holds)))) k Q
@@ -121,7 +130,7 @@ module _ (heap : Heap) where
         runs = a.runs;
         calm = calm;
         ready = ready_here heap k v a.runs (unwaiting_exit k o exit) (unentering_exit k o exit) untold a.live;
-        object = a.object;
+        object = record { within = a.object; known = a.known };
         place = (top_here heap k v a.runs o a.some).1;
         hold = hold v;
         last = one;
@@ -132,7 +141,7 @@ module _ (heap : Heap) where
         room = a.room;
       }))
       (λ n i was h. hitting heap false _ _ _ _ (λ n. refl)
-      (λ j. clears_rule heap _ (record e { unfinished = None }) o p (λ v. (top_here heap k was.stands a.runs o a.some).1) (λ v. record { runs = a.runs; stage = refl; hold = hold was.stands; last = one; goes_on = refl }))
+      (λ j. clears_rule heap _ (record e { unfinished = None }) o p (λ v. (top_here heap k was.stands a.runs o a.some).1) (λ v. record { runs = a.runs; stage = refl; hold = hold was.stands; last = one; goes_on = refl }) (inl refl))
       (λ n j was. answers heap false _ _ Q (outs.left _ (rests heap.shape _ refl a.unasks a.unchecks (logged_carries k.log _ k.wait _ a.still a.live refl untold)))))
       (λ n i was h. answers heap false _ _ Q (outs.raced _ _ (exit_rests _ e o a calm (sym check ∙ a.unchecks) mine untold)))
 
@@ -165,14 +174,16 @@ module _ (heap : Heap) where
       }))
   exit_at_does Q (Some Marked) k e o header mark outs check sees r c a calm mine untold displaced nonzero stamped = absurd c
 
-  look_at : (k : Known) (e : Purpose) → k.running ≡ true → k.stage ≡ Calm → e.check ≡ k.checking → GoesOn k e → (t p : ℕ) → IsLook k (load e (name.Displaced t p))
+  look_at : (k : Known) (e : Purpose) → k.running ≡ true → k.stage ≡ Calm → e.check ≡ k.checking → GoesOn k e → (t p : ℕ)
+      → IsLook k (load e (name.Displaced t p))
   look_at k e runs calm check goes t p = record { act = refl; note = refl; own = refl; stage = sym calm; check = check; after = goes; may = may_look k (name.Displaced t p) (inl runs) (λ m is. absurd (cc is)) }
 
   pub look_mark : (k : Known) (e : Purpose) → k.running ≡ true → k.stage ≡ Calm → e.check ≡ k.checking → GoesOn k e → (o : ℕ) → IsLook k (load e (name.Mark o))
   look_mark k e runs calm check goes o = record { act = refl; note = refl; own = refl; stage = sym calm; check = check; after = goes; may = may_look k (name.Mark o) (inl runs) (λ m is. absurd (cc is)) }
 
   -- the displaced word is still as it was seen
-  covered_here : (k : Known) (o header : ℕ) (v : Stands heap k) → k.running ≡ true → k.stage ≡ Calm → Untold k → Unwaiting k → 1 ≤ hold_count o k.holds → is_biased (marks v.world o) ≡ false
+  covered_here : (k : Known) (o header : ℕ) (v : Stands heap k) → k.running ≡ true → k.stage ≡ Calm → Untold k → Unwaiting k → 1 ≤ hold_count o k.holds
+      → is_biased (marks v.world o) ≡ false
       → last_seen (name.Displaced k.thread (top_place o k.holds)) k.seen ≡ Some header → hold_count o k.holds ≡ 1 → header ≡ 0 → ⊥
   covered_here k o header v runs calm untold none some unbiased saw one zero_is =
       let top = top_here heap k v runs o some in
@@ -184,7 +195,8 @@ module _ (heap : Heap) where
       (away heap k v (λ s y. slice_index y.holds (top_place o k.holds) ≡ hold_word o 1) (top.0 ∙ ap (hold_word o) one)) (word ∙ zero_is)
 
   -- the form of the mark that is found
-  found_here : (k : Known) (o header : ℕ) (v : Stands heap k) → k.running ≡ true → k.stage ≡ Calm → Untold k → Unwaiting k → 1 ≤ hold_count o k.holds → is_biased (marks v.world o) ≡ false
+  found_here : (k : Known) (o header : ℕ) (v : Stands heap k) → k.running ≡ true → k.stage ≡ Calm → Untold k → Unwaiting k → 1 ≤ hold_count o k.holds
+      → is_biased (marks v.world o) ≡ false
       → last_seen (name.Displaced k.thread (top_place o k.holds)) k.seen ≡ Some header → header ≢ 0
       → OnExit k.thread (top_place o k.holds) (hold_count o k.holds) (read_mark (marks v.world o))
   found_here k o header v runs calm untold none some unbiased saw nonzero =
@@ -197,13 +209,15 @@ module _ (heap : Heap) where
       (on_exit v.world v.objects k.thread o (fits_here heap k v runs) (away heap k v (λ s y. y.stage ≡ Calm) calm) out (away heap k v (λ s y. 1 ≤ hold_count o y.holds) some) (top_place o k.holds) unbiased
       (away heap k v (λ s y. slice_index y.holds (top_place o k.holds) ≡ hold_word o (hold_count o y.holds)) top.0) (away heap k v (λ s y. hold_count o y.holds ≤ most_holds) (few_here heap k v runs o)) (λ e. nonzero (sym word ∙ e)))
 
-  record_does : (Q : Bool → StackOut → Known → Type 0) (fresh : Bool) (k : Known) (e : Purpose) (o : ℕ) → Outs heap e o (local_of k) Q → Leaving heap k.running k.requesting k.moving k.log k.holds e o → k.stage ≡ Calm → GoesOn k e → e.check ≡ k.checking → Untold k
+  record_does : (Q : Bool → StackOut → Known → Type 0) (fresh : Bool) (k : Known) (e : Purpose) (o : ℕ) → Outs heap e o (local_of k) Q
+      → Leaving heap k.running k.requesting k.moving k.log k.holds e o → k.stage ≡ Calm → GoesOn k e → e.check ≡ k.checking → Untold k
       → Unbiased heap fresh k o → (hold_count o k.holds ≡ 1 → RaisedStamp fresh k o) → Does heap fresh (stack_exit_record e (local_of k) o) k Q
   record_does Q fresh k e o outs a calm goes check untold unbiased stamped =
       let p = top_place o k.holds in
       let ld = load e (name.Displaced k.thread p) in
       let lm = load e (name.Mark o) in
-      hitting heap fresh _ _ k _ (λ n. refl) (λ i. looks heap k ld (look_at k e a.runs calm check goes k.thread p) (λ v. (v.within, (top_here heap k v a.runs o a.some).1))) (λ header i0 was0.
+      hitting heap fresh _ _ k _ (λ n. refl) (λ i. looks heap k ld (look_at k e a.runs calm check goes k.thread p) (λ v. (v.within, (top_here heap k v a.runs o a.some).1))
+      (leaving_begins heap k e o a goes) tt) (λ header i0 was0.
       let k1 = known_hit heap.shape heap.start ld header k in
       let saw : last_seen (name.Displaced k.thread p) k1.seen ≡ Some header = saw_newest heap ld header k in
       let still : Unbiased heap false k1 o = elim unbiased [
@@ -217,7 +231,7 @@ module _ (heap : Heap) where
       (λ i1. leaves_rule heap k1 e o (hold_count o k.holds) p (λ v. (top_here heap k1 v a.runs o a.some).1) (λ v. record {
         runs = a.runs;
         ready = ready_here heap k1 v a.runs none (unentering_exit k1 o a.exits) untold a.live;
-        object = a.object;
+        object = record { within = a.object; known = a.known };
         hold = (top_here heap k1 v a.runs o a.some).0;
         deepest = refl;
         small = few_here heap k1 v a.runs o;
@@ -227,7 +241,8 @@ module _ (heap : Heap) where
       }))
       (λ n i1 was1. answers heap false _ _ Q (outs.left _ (rests heap.shape _ refl a.unasks a.unchecks (logged_carries k.log _ k.wait _ a.still a.live refl untold)))))
       (λ not0. let nonzero : header ≢ 0 = λ e. absurd (cc (eq-eqb header 0 e, not0)) in
-      hitting heap false _ _ k1 _ (λ n. refl) (λ i1. looks heap k1 lm (look_mark k1 e a.runs refl refl (inl refl) o) (λ v. a.object)) (λ mark i1 was1.
+      hitting heap false _ _ k1 _ (λ n. refl) (λ i1. looks heap k1 lm (look_mark k1 e a.runs refl refl (inl refl) o) (λ v. a.object)
+      (inl refl) (λ free. a.known)) (λ mark i1 was1.
       let k2 = known_hit heap.shape heap.start lm mark k1 in
       let found : OnExit k.thread p (hold_count o k.holds) (read_mark mark) =
       subst (λ m. OnExit k.thread p (hold_count o k.holds) (read_mark m)) was1.found
@@ -237,7 +252,8 @@ module _ (heap : Heap) where
       (λ one. let st = stamped one in
       (st.1.0, saw_older heap lm mark k1 (name.Stamp o) i1 refl refl ∙ saw_older heap ld header k (name.Stamp o) (i0 ∙ st.0) refl refl ∙ st.1.1, st.1.2)))))
 
-  pub stack_exit_does : (Q : Bool → StackOut → Known → Type 0) (fresh : Bool) (k : Known) (e : Purpose) (o : ℕ) → Outs heap e o (local_of k) Q → Leaving heap k.running k.requesting k.moving k.log k.holds e o → k.stage ≡ Calm → GoesOn k e → e.check ≡ k.checking → Untold k
+  pub stack_exit_does : (Q : Bool → StackOut → Known → Type 0) (fresh : Bool) (k : Known) (e : Purpose) (o : ℕ) → Outs heap e o (local_of k) Q
+      → Leaving heap k.running k.requesting k.moving k.log k.holds e o → k.stage ≡ Calm → GoesOn k e → e.check ≡ k.checking → Untold k
       → Unwaiting k → Unbiased heap fresh k o → Does heap fresh (stack_exit_steps e (local_of k) o) k Q
   stack_exit_does Q fresh k e o outs a calm goes check untold none unbiased =
       let raise = raise_stamp_plan e o (next_stamp (local_of k)) in
@@ -250,7 +266,7 @@ module _ (heap : Heap) where
         holds = a.some;
         goes_on = goes;
         letting = inr (a.exits, eqb-true (hold_count o k.holds) 1 one);
-      }))
+      }) (leaving_begins heap k e o a goes))
       (λ n i was. record_does Q false (known_hit heap.shape heap.start raise n k) e o outs a refl (inl refl) refl untold
       (elim unbiased [
         | inl b ↦ inl b
@@ -267,12 +283,13 @@ module _ (heap : Heap) where
       let m = both (not heap.biasing && has_reference heap.shape k o && nat_lt 0 (hold_count o k.holds)) (may_log_once k going) may in
       let n = both (not heap.biasing && has_reference heap.shape k o) (nat_lt 0 (hold_count o k.holds)) m.0 in
       let l = both (not heap.biasing) (has_reference heap.shape k o) n.0 in
+      let reference = refers heap.shape k o l.1 in
       let a = logs_once k going m.1 in
       let goes = goes_on_or_begins op.Exit o k.unfinished a.free in
       let e = purpose (StackExit o) op.Exit o in
       closes heap true _ k (stack_exit_does (λ b r l. AtRest heap.shape l) true k e o
       (record { left = λ l x. x; raced = λ l w x. x; monitor = λ l m same b. exit_rests l e o b.leaving b.calm (sym b.check ∙ b.leaving.unchecks) b.mine b.untold })
-      (record { runs = a.runs; unasks = unasking heap.shape k rest a.runs; still = rest.still; unchecks = refl; live = a.live; room = a.room; object = below o (length heap.shape.objects) l.1; some = let x = below 0 (hold_count o k.holds) n.1 in omega arith; exits = refl })
+      (record { runs = a.runs; unasks = unasking heap.shape k rest a.runs; still = rest.still; unchecks = refl; live = a.live; room = a.room; object = reference.within; known = reference.known; some = let x = below 0 (hold_count o k.holds) n.1 in omega arith; exits = refl })
       rest.calm goes (sym a.unchecking) rest.untold (elim goes [
         | inl g ↦ unwaiting_exit k o (sym g)
         | inr g ↦ nothing_goes k g

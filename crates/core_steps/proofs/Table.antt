@@ -1,6 +1,6 @@
 -- Every call begins well: a line for each.
 use Rattle.core_world.specs.declared.task.Task.{Task}
-use Rattle.core_world.specs.declared.task.Task.TheVariants.{Get, Put, Print, Finish, Poll, Stop, Resume, Request, Reached, Release, StackEnter, StackExit, Check, Dump, Exit, Enter, Wait, Notify, NotifyAll, Hash}
+use Rattle.core_world.specs.declared.task.Task.TheVariants.{Get, Put, Print, Finish, Poll, Stop, Resume, Request, Reached, Release, StackEnter, StackExit, Check, Dump, Create, Exit, Enter, Wait, Notify, NotifyAll, Hash}
 use Rattle.core_law.specs.Logic.{Heap}
 use Rattle.core_law.specs.Begins.{BeginsWell}
 use Rattle.core_steps.proofs.SafeCalls.{stop_begins, resume_begins, poll_begins, request_begins, reached_begins, release_begins}
@@ -9,6 +9,7 @@ use Rattle.core_steps.proofs.StackEnters.{stack_enter_begins}
 use Rattle.core_steps.proofs.StackExits.{stack_exit_begins}
 use Rattle.core_steps.proofs.CheckCall.{check_begins}
 use Rattle.core_steps.proofs.DumpCall.{dump_begins}
+use Rattle.core_steps.proofs.CreateCall.{create_begins}
 use Rattle.core_steps.proofs.ExitCalls.{exit_begins}
 use Rattle.core_steps.proofs.EnterCalls.{enter_begins}
 use Rattle.core_steps.proofs.WaitCalls.{wait_begins}
@@ -30,6 +31,7 @@ calls_begin heap (StackEnter o mark) = stack_enter_begins heap o mark
 calls_begin heap (StackExit o) = stack_exit_begins heap o
 calls_begin heap Check = check_begins heap
 calls_begin heap Dump = dump_begins heap
+calls_begin heap (Create c) = create_begins heap c
 calls_begin heap (Exit o) = exit_begins heap o
 calls_begin heap (Enter o now) = enter_begins heap o now
 calls_begin heap (Wait o now) = wait_begins heap o now

@@ -20,6 +20,7 @@ use Rattle.core_world.specs.Trees.Operations.{same_op}
 use Rattle.core_world.specs.Trees.Plans.{Purpose, load}
 use Rattle.core_world.specs.Clauses.Safepoints.{IsUnfinished, ends, is_ending}
 use Rattle.core_world.specs.Steps.{known_hit}
+use Rattle.core_world.specs.Threads.References.{HasReference}
 use Rattle.core_world.specs.Trees.Todo.{done, ask, each_from, ◌>>=◌}
 use Rattle.core_world.specs.Trees.WaitSteps.{by_age, waiters, look_steps, publish_steps, notify_first, notify_each, notify_listed, monitor_notify_steps, monitor_notify_all_steps, wake_next_plan}
 use Rattle.core_locks.specs.JournalLaws.{MayTell, SawNobody}
@@ -31,8 +32,11 @@ use Rattle.core_locks.proofs.WakeOrder.{Remain, all_remain, oldest_seen, no_othe
 use Rattle.core_locks.proofs.Wakes.{other}
 use Rattle.core_counts.specs.Steps.{SawUnbiased, SawNone}
 use Rattle.core_law.specs.Logic.{Heap, Stands, Does}
-use Rattle.core_steps.proofs.Facts.{Untold, limits_here, ready_here}
+use Rattle.core_steps.proofs.Facts.{Untold, limits_here, ready_here, Knows}
 use Rattle.core_law.proofs.Standing.{fits_here, away, inside}
+use Rattle.std.specs.List.{AllByRecursion}
+use Rattle.plain_monitor.specs.Made.{hands_on}
+use Rattle.core_steps.proofs.FairSteps.{KnowsBy}
 use Rattle.core_steps.proofs.LawRules.{looks, publishes}
 use Rattle.core_steps.proofs.Resting.{rests, live_carries, logged_carries}
 use Rattle.core_steps.proofs.SafepointLooks.{going}
@@ -47,7 +51,8 @@ pub record IsTelling (u : Option Unfinished) : Type 0 where
   pub unentering : (i : ℕ) → IsUnfinished u op.Enter i → ⊥
   pub undumped : IsUnfinished u op.Dump 0 → ⊥
 
-pub telling_of : (a : Op) (o : ℕ) → same_op a op.Wait ≡ false → same_op a op.Enter ≡ false → same_op a op.Dump ≡ false → IsTelling (Some (record { op = a; object = o }))
+pub telling_of : (a : Op) (o : ℕ) → same_op a op.Wait ≡ false → same_op a op.Enter ≡ false → same_op a op.Dump ≡ false
+    → IsTelling (Some (record { op = a; object = o }))
 telling_of a o no_wait no_enter no_dump = record {
   unwaiting = λ i h. let b = ap (is_of_kind op.Wait) h in absurd (cc (b, no_wait));
   unentering = λ i h. let b = ap (is_of_kind op.Enter) h in absurd (cc (b, no_enter));
@@ -64,6 +69,7 @@ module _ (heap : Heap) (e : Purpose) (o : ℕ) where
     pub live : ends k.log ≡ false
     pub room : length k.log < log_limit
     pub object : o < length heap.shape.objects
+    pub known : Knows heap k.log o
     pub holds : 1 ≤ hold_count o k.holds
     pub mine : k.unfinished ≡ e.unfinished
     pub check : e.check ≡ k.checking
@@ -73,6 +79,9 @@ module _ (heap : Heap) (e : Purpose) (o : ℕ) where
 
   pub telling_ready : (k : Known) → Telling k → Stands heap k → k.wait ≡ 0
   telling_ready k x v = ready_here heap k v x.runs (λ i h. x.telling.unwaiting i (sym x.mine ∙ h)) (λ i h. x.telling.unentering i (sym x.mine ∙ h)) x.untold x.live
+
+  reference : (k : Known) → Telling k → HasReference heap.shape k o
+  reference k x = record { within = x.object; known = x.known }
 
   -- where it goes on in another call
   pub telling_rests : (k : Known) → Telling k → k.stage ≡ Calm → AtRest heap.shape k
@@ -91,11 +100,13 @@ module _ (heap : Heap) (e : Purpose) (o : ℕ) where
   look_waiting : (k : Known) → Telling k → k.stage ≡ Calm → (u : ℕ) → IsLook k (load e (name.Waiting u))
   look_waiting k x calm u = record { act = refl; note = refl; own = refl; stage = sym calm; check = x.check; after = inl (sym x.mine); may = may_look k (name.Waiting u) (inl x.runs) (λ m is. absurd (cc is)) }
 
-  looks_do : (n i : ℕ) (k : Known) → i + n ≤ heap.shape.threads → Telling k → k.stage ≡ Calm → Does heap false (each_from i n (λ t. ask (load e (name.Waiting t)))) k (λ b words l. Looked i n words k l)
+  looks_do : (n i : ℕ) (k : Known) → i + n ≤ heap.shape.threads → Telling k → k.stage ≡ Calm
+      → Does heap false (each_from i n (λ t. ask (load e (name.Waiting t)))) k (λ b words l. Looked i n words k l)
   looks_do zero i k many x calm = answers heap false [] k _ (record { local = refl; tells = x; calm = calm; many = refl; saw = λ z h. absurd (omega (arith, h)); others = λ u h. refl })
   looks_do (suc n) i k many x calm =
       let look = load e (name.Waiting i) in
-      hitting heap false look _ k _ (λ n. refl) (λ j. looks heap k look (look_waiting k x calm i) (λ v. omega (arith, many))) (λ word j was.
+      hitting heap false look _ k _ (λ n. refl) (λ j. looks heap k look (look_waiting k x calm i) (λ v. omega (arith, many))
+      (inl (sym x.mine)) tt) (λ word j was.
       let l = known_hit heap.shape heap.start look word k in
       let y : Telling l = record {
         runs = x.runs;
@@ -105,6 +116,7 @@ module _ (heap : Heap) (e : Purpose) (o : ℕ) where
         live = x.live;
         room = x.room;
         object = x.object;
+        known = x.known;
         holds = x.holds;
         mine = refl;
         check = refl;
@@ -124,7 +136,8 @@ module _ (heap : Heap) (e : Purpose) (o : ℕ) where
             ∙ ap (λ (z : Bool). cond z (Some word) (last_seen (name.Waiting u) k.seen)) (ne_eqb u i (λ s. omega (arith, h, s)));
       }))))
     where
-      each : {word : ℕ} (words : List ℕ) (m : Known) → ((z : ℕ) → z < n → last_seen (name.Waiting (i + 1 + z)) m.seen ≡ Some (slice_index words z)) → last_seen (name.Waiting i) m.seen ≡ Some word
+      each : {word : ℕ} (words : List ℕ) (m : Known) → ((z : ℕ) → z < n → last_seen (name.Waiting (i + 1 + z)) m.seen ≡ Some (slice_index words z))
+          → last_seen (name.Waiting i) m.seen ≡ Some word
           → (z : ℕ) → z < suc n → last_seen (name.Waiting (i + z)) m.seen ≡ Some (slice_index (word ∷ words) z)
       each words m later first zero h = let same : i + 0 ≡ i = omega arith in ap (λ u. last_seen (name.Waiting u) m.seen) same ∙ first
       each words m later first (suc z) h = let same : i + suc z ≡ i + 1 + z = omega arith in ap (λ u. last_seen (name.Waiting u) m.seen) same ∙ later z (omega (arith, h))
@@ -139,7 +152,7 @@ module _ (heap : Heap) (e : Purpose) (o : ℕ) where
   -- TELLING the first of those who remain
   module _ (k : Known) (x : Telling k) (p : ℕ × ℕ) (ps : List (ℕ × ℕ)) (told : ℕ) (before : HasNotified k o told) (left : Remain heap.shape.threads k o (p ∷ ps)) where
     may_wake : Stands heap k → MayWake heap.shape k o p.0 told
-    may_wake v = record { runs = x.runs; ready = telling_ready k x v; holds = x.holds; object = x.object; told = before; oldest = oldest_seen heap.shape.threads k o p ps left }
+    may_wake v = record { runs = x.runs; ready = telling_ready k x v; holds = x.holds; object = reference k x; told = before; oldest = oldest_seen heap.shape.threads k o p ps left }
 
     -- which isn't the thread itself, so that its own waiting word stays
     wait_stays : Stands heap k → cond (p.0 == k.thread) (wait_of (Notified o)) k.wait ≡ k.wait
@@ -151,18 +164,20 @@ module _ (heap : Heap) (e : Purpose) (o : ℕ) where
   few k x v = let a = limits_here heap k v x.runs in let objects = a.objects in let object = x.object in omega (arith, objects, object)
 
   -- NOBODY is told
-  pub publishes_does : {A : Type 0} (answer : A) (told : Entry) (k : Known) → Telling k → k.stage ≡ Calm → MayTell heap.shape k told → IsOwnEntry k told → SawNone k told → is_ending told ≡ false
+  pub publishes_does : {A : Type 0} (answer : A) (told : Entry) (k : Known) → Telling k → k.stage ≡ Calm → MayTell heap.shape k told → IsOwnEntry k told
+      → SawNone k told → is_ending told ≡ false
+      → AllByRecursion (KnowsBy heap.shape k) (hands_on told)
       → Does heap false (publish_steps told e (local_of k) >>= (λ u. done answer)) k (λ b r l. AtRest heap.shape l)
-  publishes_does answer told k x calm tells own_entry none unending =
+  publishes_does answer told k x calm tells own_entry none unending hands =
       hitting heap false _ _ k _ (λ n. refl)
-      (λ i. publishes heap k e told (λ v. (record { runs = x.runs; calm = calm; ready = telling_ready k x v; tells = tells; room = x.room; own_entry = own_entry }, none)))
+      (λ i. publishes heap k e told (λ v. (record { runs = x.runs; calm = calm; ready = telling_ready k x v; tells = tells; room = x.room; own_entry = own_entry }, none)) hands)
       (λ n i was. answers heap false _ _ _ (rests heap.shape _ refl x.unasks x.unchecks (logged_carries k.log _ k.wait _ x.still x.live unending x.untold)))
 
   -- NOTIFY
   first_does : (ps : List (ℕ × ℕ)) (k : Known) → Telling k → k.stage ≡ Calm → IsUnfinished e.unfinished op.Notify o → Remain heap.shape.threads k o ps
       → Does heap false (notify_first ps e (local_of k) o) k (λ b r l. AtRest heap.shape l)
   first_does [] k x calm notifies left =
-      publishes_does None (entry.Notify o None) k x calm (x.holds, x.object, nobody k left) (record { operation = inr (x.mine ∙ notifies); shot = tt }) x.unbiased refl
+      publishes_does None (entry.Notify o None) k x calm (x.holds, reference k x, nobody k left) (record { operation = inr (x.mine ∙ notifies); shot = tt }) x.unbiased refl tt
   first_does (p ∷ ps) k x calm notifies left =
       hitting heap false _ _ k _ (λ n. refl) (λ i. notifies_rule heap k e o p.0 (λ v. record {
         wakes = may_wake k x p ps 0 (inl (calm, refl)) left v;
@@ -181,7 +196,8 @@ module _ (heap : Heap) (e : Purpose) (o : ℕ) where
       (first_does (by_age (waiters o 0 words)) l a.tells a.calm notifies (remain words k l a))))
 
   -- NOTIFYALL
-  each_does : (ps : List (ℕ × ℕ)) (p : ℕ × ℕ) (told : ℕ) (k : Known) → Telling k → HasNotified k o told → IsUnfinished e.unfinished op.NotifyAll o → Remain heap.shape.threads k o (p ∷ ps)
+  each_does : (ps : List (ℕ × ℕ)) (p : ℕ × ℕ) (told : ℕ) (k : Known) → Telling k → HasNotified k o told → IsUnfinished e.unfinished op.NotifyAll o
+      → Remain heap.shape.threads k o (p ∷ ps)
       → Does heap false (notify_each (p ∷ ps) e o told) k (λ b r l. AtRest heap.shape l)
   each_does [] p told k x before notifies left =
       hitting heap false _ _ k _ (λ n. refl) (λ i. notifies_all_rule heap k e o p.0 told (λ v. record {
@@ -194,7 +210,8 @@ module _ (heap : Heap) (e : Purpose) (o : ℕ) where
   each_does (q ∷ ps) p told k x before notifies left =
       let tell = wake_next_plan e o p.0 (told + 1) in
       hitting heap false tell _ k _ (λ n. refl)
-      (λ i. wakes_next_rule heap k e o p.0 told (λ v. record { wakes = may_wake k x p (q ∷ ps) told before left v; goes_on = inl (sym x.mine) })) (λ n i was.
+      (λ i. wakes_next_rule heap k e o p.0 told (λ v. record { wakes = may_wake k x p (q ∷ ps) told before left v; goes_on = inl (sym x.mine) })
+      (inl (sym x.mine))) (λ n i was.
       let l = known_hit heap.shape heap.start tell n k in
       each_does ps q (told + 1) l
       (record {
@@ -205,6 +222,7 @@ module _ (heap : Heap) (e : Purpose) (o : ℕ) where
         live = x.live;
         room = x.room;
         object = x.object;
+        known = x.known;
         holds = x.holds;
         mine = refl;
         check = refl;
@@ -219,7 +237,7 @@ module _ (heap : Heap) (e : Purpose) (o : ℕ) where
   listed_does : (ps : List (ℕ × ℕ)) (k : Known) → Telling k → k.stage ≡ Calm → IsUnfinished e.unfinished op.NotifyAll o → Remain heap.shape.threads k o ps
       → Does heap false (notify_listed ps e (local_of k) o) k (λ b r l. AtRest heap.shape l)
   listed_does [] k x calm notifies left =
-      publishes_does 0 (entry.NotifyAll o 0) k x calm (x.holds, x.object, nobody k left, refl) (record { operation = inr (x.mine ∙ notifies); shot = tt }) x.unbiased refl
+      publishes_does 0 (entry.NotifyAll o 0) k x calm (x.holds, reference k x, nobody k left, refl) (record { operation = inr (x.mine ∙ notifies); shot = tt }) x.unbiased refl tt
   listed_does (p ∷ ps) k x calm notifies left =
       going heap (notify_each (p ∷ ps) e o 0) (λ u. done (length (p ∷ ps))) k _ (
       follows heap false _ k _ _ (each_does ps p 0 k x (inl (calm, refl)) notifies left) (λ b r l rest. answers heap false _ l _ rest))

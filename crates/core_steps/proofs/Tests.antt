@@ -6,6 +6,8 @@ use Rattle.core_world.specs.declared.task.Op.TheVariants as op
 use Rattle.core_world.specs.declared.task.Unfinished.{Unfinished}
 use Rattle.core_world.specs.Trees.Calls.{may_act, may_operate, may_log_once, is_free_for}
 use Rattle.core_world.specs.Threads.Known.{Known}
+use Rattle.core_world.specs.Threads.References.{HasReference, has_reference, is_object, numbering, knows_by_log}
+use Rattle.core_world.specs.Words.Shape.{Shape}
 use Rattle.core_world.specs.Clauses.Lengths.{log_limit}
 use Rattle.core_world.specs.Trees.Operations.{same_op, goes_on_with}
 use Rattle.core_world.specs.Clauses.Safepoints.{IsUnfinished, ends}
@@ -35,6 +37,12 @@ below a b e = grind (arith, nat_tests, e)
 
 pub at_most : (a b : ℕ) → nat_le a b ≡ true → a ≤ b
 at_most a b e = grind (arith, nat_tests, e)
+
+-- a thread that passes the test has a reference
+pub refers : (s : Shape) (k : Known) (o : ℕ) → has_reference s k o ≡ true → HasReference s k o
+refers s k o e =
+    let a = both (is_object s o) (knows_by_log (numbering s) k.log o) e in
+    record { within = below o (length s.objects) a.0; known = a.1 }
 
 pub some_named : (n : ℕ) → (n == 0) ≡ false → 1 ≤ n
 some_named n e = grind (arith, nat_tests, e)
@@ -115,6 +123,7 @@ same_op_is op.Notify op.Notify e = refl
 same_op_is op.NotifyAll op.NotifyAll e = refl
 same_op_is op.Hash op.Hash e = refl
 same_op_is op.Dump op.Dump e = refl
+same_op_is op.Create op.Create e = refl
 same_op_is _ _ e = absurd (cc e)
 
 pub going_is : (a : Op) (o : ℕ) (u : Option Unfinished) → goes_on_with a o u ≡ true → IsUnfinished u a o

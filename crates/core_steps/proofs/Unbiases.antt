@@ -27,14 +27,17 @@ use Rattle.core_world.specs.Threads.Stages.{Revocation}
 use Rattle.core_world.specs.Steps.{known_hit, known_miss, seen_before}
 use Rattle.core_world.specs.Trees.Todo.{Todo, done, ask, ◌>>=◌}
 use Rattle.core_world.specs.Valid.{RevokesWithin}
+use Rattle.core_world.specs.Threads.References.{has_object}
 use Rattle.core_bias.specs.Biasing.{IsLoose}
 use Rattle.core_counts.specs.Steps.{SawUnbiased}
-use Rattle.core_locks.specs.Knowing.{HasHold}
+use Rattle.core_locks.specs.Knowing.{GoesOn, HasHold}
 use Rattle.core_law.specs.Logic.{Heap, Does}
+use Rattle.core_steps.proofs.FairSteps.{none_made, begins_its}
 use Rattle.core_steps.proofs.AskedRevocations.{BeginsRevocation, NoOtherIn, ValidBiasIn, revocation_does}
 use Rattle.core_steps.proofs.BiasFacts.{SawHeaders, SawMarkAlone, headers_first, headers_more, mark_alone, class_more, class_some, saw_two, look_class, look_prototype, unreached_here, biasing_here, IsPrototype, prototype_here, prototype_neutral, neutral_reads_so, loose_unepoched, stale_epoch, own_epoch, free_bias}
 use Rattle.core_steps.proofs.BiasRules.{unbiases_rule}
 use Rattle.core_steps.proofs.ClassSteps.{class_from, class_declared, class_made, class_found, made_there, class_does}
+use Rattle.core_steps.proofs.Facts.{Knows}
 use Rattle.core_law.proofs.SafepointSights.{found_formed}
 use Rattle.core_world.proofs.There.{class_there}
 use Rattle.core_steps.proofs.LawRules.{looks, limits}
@@ -72,6 +75,8 @@ module _ (heap : Heap) (e : Purpose) (b : Revocation) where
     pub begins : BeginsSafepoint heap e k.thread k
     pub check : e.check ≡ k.checking
     pub asked : k.requesting ≡ true → MayRevoke heap.shape k b.object
+    pub known : Knows heap k.log b.object
+    pub on_object : has_object operation ≡ true
     pub unwaiting : operation ≡ op.Wait → waits_on k.wait b.object ≡ false
     -- it wants the object's hash, or holds the object
     pub why : IsUnfinished e.unfinished op.Hash b.object ⊎ HasHold k b.object
@@ -135,7 +140,8 @@ module _ (heap : Heap) (e : Purpose) (b : Revocation) where
       drop_does neutral loose to plain =
           let exchange = unbias_plan e o mark neutral in
           swapping heap false exchange mark neutral (λ n. done (Unbiased neutral)) (λ n. done (Raced mark n)) l R refl
-          (λ i. unbiases_rule heap l e o mark prototype neutral object (λ v. (
+          (λ i. unbiases_rule heap l e o mark prototype neutral
+          (record { within = object; known = subst (λ z. Knows heap z.log o) (sym x.local) may.known }) (λ v. (
             record {
               prototype = prototype;
               exchange = record { runs = x.runs; calm = x.calm; class = c; saw_class = saw_class; saw = saw_prototype; loose = loose; goes_on = sym x.mine };
@@ -149,7 +155,7 @@ module _ (heap : Heap) (e : Purpose) (b : Revocation) where
               unbiased = plain;
               why = inr (elim may.why [ inl hash ↦ inl hash | inr held ↦ inr (subst (λ z. 1 ≤ hold_count o z.holds) (sym x.local) held) ]);
             },
-          )))
+          )) (inl (sym x.mine)))
           (λ n i was h.
           let m = known_hit heap.shape heap.start exchange n l in
           answers heap false (Unbiased neutral) m R (answers heap false (Done tt) m Q (outs.unbiased m (record {
@@ -185,10 +191,13 @@ module _ (heap : Heap) (e : Purpose) (b : Revocation) where
               carries = looked_carries l x;
               asking = λ asks. let unasks = x.unasks in absurd (cc (asks, unasks));
               running = λ free. (x.runs, inl (sym x.mine));
+              begins = inl (sym x.mine);
             };
             saw = subst (ValidBiasIn heap e b) (sym before) (mark, prototype, c, saw_mark, saw_class, saw_prototype, valid);
             alone = subst (NoOtherIn heap e b) (sym before) alone;
             unreached = unreached;
+            known = subst (λ z. Knows heap z.log o) (sym x.local) may.known;
+            on_object = may.on_object;
             unwaiting = λ waits. ap (λ z. waits_on z.wait o) x.local ∙ may.unwaiting waits;
           }) x.local x.kept x.saved x.draws x.shots))
 
@@ -220,7 +229,8 @@ module _ (heap : Heap) (e : Purpose) (b : Revocation) where
         → Does heap false (ask (load e (name.Prototype c)) >>= (λ prototype. bias_drop_by (epoch_in prototype) e o mark prototype)) l R
     prototype_does l mark c x unreached saw_mark saw_class alone there biased biasing =
         let look = load e (name.Prototype c) in
-        hitting heap false look _ l R (λ n. refl) (λ j. looks heap l look (look_prototype l e x.runs x.calm x.check (inl (sym x.mine)) c) (λ v. there))
+        hitting heap false look _ l R (λ n. refl) (λ j. looks heap l look (look_prototype l e x.runs x.calm x.check (inl (sym x.mine)) c) (λ v. there)
+        (inl (sym x.mine)) tt)
         (λ prototype j was.
         let m = known_hit heap.shape heap.start look prototype l in
         by_does m c mark prototype (record {
@@ -248,7 +258,8 @@ module _ (heap : Heap) (e : Purpose) (b : Revocation) where
         let runs = begins.0 in
         let look = load e (name.Mark o) in
         let ask_class = load e (name.Class o) in
-        hitting heap true look _ k R (λ n. refl) (λ i. looks heap k look (look_mark heap k e runs may.begins.rest.calm may.check begins.1 o) (λ v. object)) (λ mark i was.
+        hitting heap true look _ k R (λ n. refl) (λ i. looks heap k look (look_mark heap k e runs may.begins.rest.calm may.check begins.1 o) (λ v. object)
+        may.begins.begins (λ free. may.known)) (λ mark i was.
         let l = known_hit heap.shape heap.start look mark k in
         let headers : SawHeaders l = headers_first heap look mark k refl i free refl in
         chooses heap false (is_biased mark) _ _ l R
@@ -272,7 +283,7 @@ module _ (heap : Heap) (e : Purpose) (b : Revocation) where
           mine = refl;
           headers = headers;
         }) unreached (saw_newest heap look mark k) (class_declared heap.shape l.seen o declared) alone (class_there heap.shape o all object) yes biasing)
-        (λ made j. looks heap l ask_class (look_class l e runs refl refl (inl refl) o) (λ v. made_there heap.shape o object made))
+        (λ made j. looks heap l ask_class (look_class l e runs refl refl (inl refl) o) (λ v. made_there heap.shape o object made) (inl refl) tt)
         (λ made word j was1.
         let m = known_hit heap.shape heap.start ask_class word l in
         let some = class_some heap l was1.stands runs o mark word made (saw_newest heap look mark k) yes was1.found in
@@ -320,35 +331,38 @@ module _ (heap : Heap) (e : Purpose) (b : Revocation) where
           saw = subst (ValidBiasIn heap e b) (sym before) asked.0;
           alone = subst (NoOtherIn heap e b) (sym before) asked.2;
           unreached = asked.1;
+          known = may.known;
+          on_object = may.on_object;
           unwaiting = may.unwaiting;
         }) refl refl refl refl refl))
         (λ free. binds heap true (bias_drop_steps heap.shape e o) (λ tried. unbias_tried tried heap.shape e (start_of heap.start k) b) k Q (dropped_does free))
 
 -- a call of such an operation, by its own conditions
 pub starts_unbias : (heap : Heap) (e : Purpose) (b : Revocation) (a : Op) (k : Known) → e.unfinished ≡ Some (record { op = a; object = b.object }) → e.check ≡ false → AtRest heap.shape k
-    → Operates k (goes_on_with a b.object k.unfinished) → ((i : ℕ) → IsUnfinished e.unfinished op.Enter i → ⊥) → (IsUnfinished e.unfinished op.Dump 0 → ⊥)
+    → Operates k (goes_on_with a b.object k.unfinished) → Knows heap k.log b.object → has_object a ≡ true
+    → ((i : ℕ) → IsUnfinished e.unfinished op.Enter i → ⊥) → (IsUnfinished e.unfinished op.Dump 0 → ⊥)
     → (MayAsk heap.shape k (Some (record { op = a; object = b.object })) → MayRevoke heap.shape k b.object) → (a ≡ op.Wait → waits_on k.wait b.object ≡ false)
     → IsUnfinished e.unfinished op.Hash b.object ⊎ HasHold k b.object → BeginsUnbias heap e b a k
-starts_unbias heap e b a k unfinished unchecks rest may unentering undumped revokes unwaiting why = record {
+starts_unbias heap e b a k unfinished unchecks rest may known on_object unentering undumped revokes unwaiting why = record {
   begins = record {
     number = refl;
     rest = rest;
     live = may.live;
     carries = live_carries k.log k.wait k.holds e.unfinished rest.still may.live (λ i h. absurd (unentering i h)) undumped rest.untold;
     asking = λ asks. (unchecks ∙ sym may.unchecking, unfinished ∙ sym (goes asks));
-    running = λ free. (
-      free_runs k.running k.requesting (goes_on_with a b.object k.unfinished) may.runs free,
-      elim (goes_on_or_begins a b.object k.unfinished may.free) [
-        | inl g ↦ inl (unfinished ∙ g)
-        | inr g ↦ inr g
-      ],
-    );
+    running = λ free. (free_runs k.running k.requesting (goes_on_with a b.object k.unfinished) may.runs free, goes_or_begins);
+    begins = begins_its heap.shape k e.unfinished a b.object unfinished (none_made a b.object on_object) known goes_or_begins;
   };
   check = unchecks ∙ sym may.unchecking;
   asked = λ asks. revokes (subst (MayAsk heap.shape k) (goes asks) (rest.asks asks may.unchecking));
+  known = known;
+  on_object = on_object;
   unwaiting = unwaiting;
   why = why;
 }
   where
+    goes_or_begins : GoesOn k e
+    goes_or_begins = elim (goes_on_or_begins a b.object k.unfinished may.free) [ inl g ↦ inl (unfinished ∙ g) | inr g ↦ inr g ]
+
     goes : k.requesting ≡ true → IsUnfinished k.unfinished a b.object
     goes asks = going_is a b.object k.unfinished (asking_goes k.running k.requesting (goes_on_with a b.object k.unfinished) may.runs (rest.stopped asks))

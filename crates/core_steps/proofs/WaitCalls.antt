@@ -7,7 +7,7 @@ use Rattle.core_world.specs.declared.task.Task.TheVariants.{Wait}
 use Rattle.core_world.specs.declared.task.Unfinished.{Unfinished}
 use Rattle.core_world.specs.Threads.AtRest.{AtRest, MayAsk}
 use Rattle.core_world.specs.Trees.Calls.{steps_of, may_begin, may_operate, most_logged}
-use Rattle.core_world.specs.Threads.References.{has_reference}
+use Rattle.core_world.specs.Threads.References.{has_reference, HasReference}
 use Rattle.core_world.specs.Words.Forms.{waits_on, says_notified}
 use Rattle.core_world.specs.Threads.Known.{Known, Local, Still, local_of, start_of}
 use Rattle.core_world.specs.Clauses.Lengths.{log_limit}
@@ -26,14 +26,14 @@ use Rattle.core_counts.specs.Steps.{SawUnbiased}
 use Rattle.core_law.specs.Logic.{Heap, Stands, Does}
 use Rattle.core_law.specs.Sound.{Finishes}
 use Rattle.core_law.specs.Begins.{BeginsWell}
-use Rattle.core_steps.proofs.Facts.{Unentering, fits_asking, ready_outside}
+use Rattle.core_steps.proofs.Facts.{Unentering, fits_asking, ready_outside, Knows}
 use Rattle.core_law.proofs.Standing.{fits_here, home}
 use Rattle.core_steps.proofs.Inflations.{SawNone, Unseen, Apart, inflate_does}
 use Rattle.core_steps.proofs.Resting.{rests, live_carries}
 use Rattle.core_steps.proofs.SafeCalls.{closes}
 use Rattle.core_steps.proofs.SafepointLooks.{going}
 use Rattle.core_steps.proofs.SeenSteps.{saw_older, first_any}
-use Rattle.core_steps.proofs.Tests.{asking_goes, free_runs, going_is, both, below, at_most, some_named, Operates, operates, nothing_enters, goes_on_or_begins, is_of_kind}
+use Rattle.core_steps.proofs.Tests.{asking_goes, free_runs, going_is, both, at_most, some_named, Operates, operates, nothing_enters, goes_on_or_begins, is_of_kind, refers}
 use Rattle.core_steps.proofs.Trees.{answers, binds, chooses, follows}
 use Rattle.core_steps.proofs.Unbiases.{unbias_does, starts_unbias}
 use Rattle.core_steps.proofs.WaitEnds.{monitor_resume_does}
@@ -57,6 +57,7 @@ module _ (heap : Heap) (e : Purpose) (o : ℕ) where
     live : ends k.log ≡ false
     room : length k.log + 2 ≤ log_limit
     object : o < length heap.shape.objects
+    known : Knows heap k.log o
     holds : 1 ≤ hold_count o k.holds
     mine : k.unfinished ≡ e.unfinished
     check : e.check ≡ k.checking
@@ -73,6 +74,7 @@ module _ (heap : Heap) (e : Purpose) (o : ℕ) where
     live = ap (λ (z : Local). ends z.log) a.local ∙ x.live;
     room = subst (λ (z : Local). length z.log + 2 ≤ log_limit) (sym a.local) x.room;
     object = x.object;
+    known = subst (λ z. Knows heap z.log o) (sym a.local) x.known;
     holds = subst (λ (z : Local). 1 ≤ hold_count o z.holds) (sym a.local) x.holds;
     mine = a.mine;
     check = a.check;
@@ -101,6 +103,7 @@ module _ (heap : Heap) (e : Purpose) (o : ℕ) where
         live = x.live;
         room = x.room;
         object = x.object;
+        known = x.known;
         holds = x.holds;
         mine = x.mine;
         check = x.check;
@@ -124,7 +127,8 @@ module _ (heap : Heap) (e : Purpose) (o : ℕ) where
         found = λ l m a calm saw none. subst (λ z. Does heap false (lets_go z m) l (λ b r l. AtRest heap.shape l)) a.local (lets_go_does l m (beginning_apart k l a x) calm saw none);
         pends = λ l w a calm. answers heap false _ l _ (beginning_rests l (beginning_apart k l a x) calm);
       })
-      (record { runs = x.runs; still = x.still; object = x.object; mine = x.mine; check = x.check }) calm none unseen (inr (refl, unbiased)) same)
+      (record { runs = x.runs; still = x.still; object = x.object; known = x.known; mine = x.mine; check = x.check })
+      calm none unseen (inr (refl, unbiased)) same)
 
 module _ (heap : Heap) (k : Known) (o now : ℕ) (v : Stands heap k) (rest : AtRest heap.shape k) where
   abbrev e : Purpose
@@ -145,8 +149,8 @@ module _ (heap : Heap) (k : Known) (o now : ℕ) (v : Stands heap k) (rest : AtR
     fits : Fits v.world v.objects
     fits = by_flag (λ asks. fits_asking heap k v asks rest.calm) (λ free runs. fits_here heap k v runs)
 
-    object : o < length heap.shape.objects
-    object = below o (length heap.shape.objects) here
+    reference : HasReference heap.shape k o
+    reference = refers heap.shape k o here
 
     goes : GoesOn k e
     goes = goes_on_or_begins op.Wait o k.unfinished a.free
@@ -161,7 +165,8 @@ module _ (heap : Heap) (k : Known) (o now : ℕ) (v : Stands heap k) (rest : AtR
           unchecks = refl;
           live = a.live;
           room = a.room;
-          object = object;
+          object = reference.within;
+          known = reference.known;
           mine = waiting_unfinished heap k v fits o waits;
           check = sym a.unchecking;
           waits = refl;
@@ -183,8 +188,8 @@ module _ (heap : Heap) (k : Known) (o now : ℕ) (v : Stands heap k) (rest : AtR
         let ready : k.wait ≡ 0 = home heap k v (λ z y. IsOut y → Unentering y → ends y.log ≡ false → y.wait ≡ 0) (ready_outside v.world v.objects k.thread fits)
         (out_to_wait heap k v fits o goes out rest.untold) unentering a.live in
         binds heap true (unbias_steps heap.shape e s (no_bias o now)) (λ turn. and_then turn (λ u. inflate_steps heap.shape e k.kept o >>= (λ turn. and_then turn (lets_go heap e o (local_of k))))) k _ (
-        unbias_does heap e (no_bias o now) op.Wait refl refl refl object refl k
-        (starts_unbias heap e (no_bias o now) op.Wait k refl refl rest a (λ i h. unentering_wait e.unfinished o i refl h) (undumped_wait e.unfinished o refl) (λ z. z.1) (λ waits. out) (inr (some_named (hold_count o k.holds) some))) _
+        unbias_does heap e (no_bias o now) op.Wait refl refl refl reference.within refl k
+        (starts_unbias heap e (no_bias o now) op.Wait k refl refl rest a reference.known refl (λ i h. unentering_wait e.unfinished o i refl h) (undumped_wait e.unfinished o refl) (λ z. z.1) (λ waits. out) (inr (some_named (hold_count o k.holds) some))) _
         (record {
           unbiased = λ l x bare.
               subst (λ z. Does heap false (inflate_steps heap.shape e k.kept o >>= (λ turn. and_then turn (lets_go heap e o z))) l (λ b r l. AtRest heap.shape l)) x.local
@@ -196,7 +201,8 @@ module _ (heap : Heap) (k : Known) (o now : ℕ) (v : Stands heap k) (rest : AtR
                 unchecks = refl;
                 live = ap (λ z. ends z.log) x.local ∙ a.live;
                 room = subst (λ z. length z.log + 2 ≤ log_limit) (sym x.local) two;
-                object = object;
+                object = reference.within;
+                known = subst (λ z. Knows heap z.log o) (sym x.local) reference.known;
                 holds = subst (λ z. 1 ≤ hold_count o z.holds) (sym x.local) (some_named (hold_count o k.holds) some);
                 mine = x.mine;
                 check = x.check;

@@ -21,6 +21,7 @@ use Rattle.core_world.specs.Steps.{is_idle, known_hit, known_miss}
 use Rattle.core_world.specs.Trees.WaitSteps.{resumed_steps, resume_owner_at, resume_owner_steps, resume_mark_at, resume_at, monitor_resume_steps, restore_plan, regain_plan, log_resume_plan}
 use Rattle.core_world.specs.Clauses.WordForms.{IsOwner}
 use Rattle.core_world.specs.Trees.LockSteps.{store_ready_plan}
+use Rattle.core_world.specs.Threads.References.{making_in}
 use Rattle.core_world.proofs.Readings.{no_told}
 use Rattle.core_world.proofs.OwnersShown.{inflated_form}
 use Rattle.core_locks.specs.Knowing.{SawInflated, SawOwn}
@@ -39,6 +40,7 @@ use Rattle.core_steps.proofs.Tests.{is_of_kind}
 use Rattle.core_steps.proofs.Trees.{answers, chooses, exchanging, hitting}
 use Rattle.core_steps.proofs.WaitFacts.{says_here, inflated_here, unowned_here}
 use Rattle.core_steps.proofs.WaitRules.{logs_resume}
+use Rattle.core_steps.proofs.Facts.{Knows}
 
 module _ (heap : Heap) (e : Purpose) (o : ℕ) where
   -- what a thread counts on whose wait on o has let go
@@ -50,6 +52,7 @@ module _ (heap : Heap) (e : Purpose) (o : ℕ) where
     pub live : ends k.log ≡ false
     pub room : length k.log < log_limit
     pub object : o < length heap.shape.objects
+    pub known : Knows heap k.log o
     pub mine : k.unfinished ≡ e.unfinished
     pub check : e.check ≡ k.checking
     pub waits : IsUnfinished e.unfinished op.Wait o
@@ -68,24 +71,27 @@ module _ (heap : Heap) (e : Purpose) (o : ℕ) where
       let ready = store_ready_plan e (Resumes o) k.thread in
       let is_ready : cond (k.thread == k.thread) 0 k.wait ≡ 0 = ap (λ (b : Bool). cond b 0 k.wait) (eq-eqb k.thread k.thread refl) in
       hitting heap false restore _ k _ (λ n. refl)
-      (λ i. restores_rule heap k e o m k.saved (λ v. record { runs = x.runs; stage = at; inflated = inflated; owner = own; goes_on = inl (sym x.mine) })) (λ n0 i0 was0.
+      (λ i. restores_rule heap k e o m k.saved (λ v. record { runs = x.runs; stage = at; inflated = inflated; owner = own; goes_on = inl (sym x.mine) })
+      (inl (sym x.mine))) (λ n0 i0 was0.
       let k1 = known_hit heap.shape heap.start restore n0 k in
-      hitting heap false ready _ k1 _ (λ n. refl) (λ i. readies heap k1 e (λ v. record { runs = x.runs; goes_on = inl refl; before = inr (o, refl) })) (λ n1 i1 was1.
+      hitting heap false ready _ k1 _ (λ n. refl) (λ i. readies heap k1 e (λ v. record { runs = x.runs; goes_on = inl refl; before = inr (o, refl) })
+      (inl refl)) (λ n1 i1 was1.
       let k2 = known_hit heap.shape heap.start ready n1 k1 in
       hitting heap false (log_resume_plan e o) _ k2 _ (λ n. refl) (λ i. logs_resume heap k2 e o m (λ v. record {
         runs = x.runs;
         stage = refl;
         ready = is_ready;
-        object = x.object;
+        object = record { within = x.object; known = x.known };
         inflated = (inflated.0, saw_older heap ready n1 k1 (name.Mark o) i1 refl refl ∙ saw_older heap restore n0 k (name.Mark o) i0 refl refl ∙ inflated.1, inflated.2);
         owner = saw_older heap ready n1 k1 (name.Owner m) i1 refl refl ∙ saw_older heap restore n0 k (name.Owner m) i0 refl refl ∙ own;
         recursions = saw_older heap ready n1 k1 (name.Recursions m) i1 refl refl ∙ saw_newest heap restore n0 k;
         room = x.room;
-      })) (λ n2 i2 was2.
+      }) (ap making_in x.waits)) (λ n2 i2 was2.
       answers heap false _ _ _ (rests heap.shape _ refl x.unasks x.unchecks (logged_carries k.log _ _ k.holds x.still x.live refl (λ i. ap (λ z. says_notified z i) is_ready ∙ no_told i))))))
 
   -- IT IS ANOTHER'S
-  missed_does : (f : Option OwnerForm) (k : Known) (m n : ℕ) → LetGo k → k.stage ≡ Calm → waits_on k.wait o ≡ true → read_owner n ≡ f → IsOwner heap.shape f → (read_owner n ≡ Some Free → ⊥) → (IsOwned k.thread f → ⊥)
+  missed_does : (f : Option OwnerForm) (k : Known) (m n : ℕ) → LetGo k → k.stage ≡ Calm → waits_on k.wait o ≡ true → read_owner n ≡ f
+      → IsOwner heap.shape f → (read_owner n ≡ Some Free → ⊥) → (IsOwned k.thread f → ⊥)
       → Does heap false (resume_owner_at f e k.thread k.saved o m n) k (λ b r l. AtRest heap.shape l)
   missed_does None k m n x calm waits reads form taken other = absurd form
   missed_does (Some Free) k m n x calm waits reads form taken other = absurd (taken reads)
@@ -95,28 +101,30 @@ module _ (heap : Heap) (e : Purpose) (o : ℕ) where
       chooses heap false (u == k.thread) _ _ k _ (λ mine. absurd (other (eqb-true u k.thread mine))) (λ no. answers heap false _ k _ (let_go_rests k x calm waits))
 
   -- the exchange of the owner word, once it was notified
-  owner_does : (k : Known) (m word : ℕ) → LetGo k → k.stage ≡ Calm → waits_on k.wait o ≡ true → SawInflated k o m → last_seen (name.Waiting k.thread) k.seen ≡ Some word → says_notified word o ≡ true → SawNone heap e o k
+  owner_does : (k : Known) (m word : ℕ) → LetGo k → k.stage ≡ Calm → waits_on k.wait o ≡ true → SawInflated k o m
+      → last_seen (name.Waiting k.thread) k.seen ≡ Some word → says_notified word o ≡ true → SawNone heap e o k
       → Does heap false (resume_owner_steps e k.thread k.saved o m) k (λ b r l. AtRest heap.shape l)
   owner_does k m word x calm waits inflated saw told none =
       let regain = regain_plan e k.thread o m in
       exchanging heap false regain (owner_of Free) (owner_of (ByThread k.thread)) (λ n. resume_owner_at (read_owner n) e k.thread k.saved o m n) k _ refl
-      (λ i. regains_rule heap k e o m (λ v. record { runs = x.runs; calm = calm; inflated = inflated; told = (word, saw, told); unseen = none m; goes_on = inl (sym x.mine) }))
+      (λ i. regains_rule heap k e o m (λ v. record { runs = x.runs; calm = calm; inflated = inflated; told = (word, saw, told); unseen = none m; goes_on = inl (sym x.mine) }) (inl (sym x.mine)))
       (λ n i was h.
       let l = known_hit heap.shape heap.start regain n k in
       subst (λ f. Does heap false (resume_owner_at f e k.thread k.saved o m n) l (λ b r l. AtRest heap.shape l)) (sym (ap read_owner h ∙ read_owner-owner_of Free tt))
       (resumed_does l m
-      (record { runs = x.runs; unasks = x.unasks; still = x.still; unchecks = x.unchecks; live = x.live; room = x.room; object = x.object; mine = refl; check = refl; waits = x.waits }) refl
+      (record { runs = x.runs; unasks = x.unasks; still = x.still; unchecks = x.unchecks; live = x.live; room = x.room; object = x.object; known = x.known; mine = refl; check = refl; waits = x.waits }) refl
       (inflated.0, saw_older heap regain n k (name.Mark o) i refl refl ∙ inflated.1, inflated.2)
       (saw_newest heap regain n k ∙ ap (λ (b : Bool). Some (cond b (owner_of (ByThread k.thread)) n)) (eq-eqb n (owner_of Free) h))))
       (λ n i was h.
       missed_does (read_owner n) (known_miss heap.shape heap.start regain n k) m n
-      (record { runs = x.runs; unasks = x.unasks; still = x.still; unchecks = x.unchecks; live = x.live; room = x.room; object = x.object; mine = x.mine; check = x.check; waits = x.waits }) calm waits refl
+      (record { runs = x.runs; unasks = x.unasks; still = x.still; unchecks = x.unchecks; live = x.live; room = x.room; object = x.object; known = x.known; mine = x.mine; check = x.check; waits = x.waits }) calm waits refl
       (owner_form heap e o m k n was.stands x.runs calm inflated was.found)
       (λ free. let same = (read_owner-spells n Free free).1 in absurd (cc (eq-eqb n (owner_of Free) same, h)))
       (unowned_here heap k was.stands x.runs o word saw told m n calm inflated was.found))
 
   -- BY THE FORM of the waiting word
-  at_does : (f : Option WaitForm) (k : Known) (word : ℕ) → LetGo k → k.stage ≡ Calm → waits_on k.wait o ≡ true → last_seen (name.Waiting k.thread) k.seen ≡ Some word → SawNone heap e o k
+  at_does : (f : Option WaitForm) (k : Known) (word : ℕ) → LetGo k → k.stage ≡ Calm → waits_on k.wait o ≡ true
+      → last_seen (name.Waiting k.thread) k.seen ≡ Some word → SawNone heap e o k
       → read_wait word ≡ f → (waits_form f o ≡ true) ⊎ (notified_form f o ≡ true) → Does heap false (resume_at f e k.thread k.saved o word) k (λ b r l. AtRest heap.shape l)
   at_does None k word x calm waits saw none reads (inl says) = absurd (cc says)
   at_does None k word x calm waits saw none reads (inr says) = absurd (cc says)
@@ -131,12 +139,13 @@ module _ (heap : Heap) (e : Purpose) (o : ℕ) where
   at_does (Some (wait.Notified i)) k word x calm waits saw none reads (inr says) =
       let look = load e (name.Mark o) in
       let told : says_notified word o ≡ true = ap (λ f. notified_form f o) reads ∙ says in
-      hitting heap false look _ k _ (λ n. refl) (λ i. looks heap k look (look_mark heap k e x.runs calm x.check (inl (sym x.mine)) o) (λ v. x.object)) (λ mark j was.
+      hitting heap false look _ k _ (λ n. refl) (λ i. looks heap k look (look_mark heap k e x.runs calm x.check (inl (sym x.mine)) o) (λ v. x.object)
+      (inl (sym x.mine)) (λ free. x.known)) (λ mark j was.
       let l = known_hit heap.shape heap.start look mark k in
       let is = inflated_here heap k was.stands x.runs o word saw told mark was.found in
       subst (λ f. Does heap false (resume_mark_at f e k.thread k.saved o) l (λ b r l. AtRest heap.shape l)) (sym (inflated_form (read_mark mark) is.0 is.1))
       (owner_does l is.0 word
-      (record { runs = x.runs; unasks = x.unasks; still = x.still; unchecks = x.unchecks; live = x.live; room = x.room; object = x.object; mine = refl; check = refl; waits = x.waits }) refl waits
+      (record { runs = x.runs; unasks = x.unasks; still = x.still; unchecks = x.unchecks; live = x.live; room = x.room; object = x.object; known = x.known; mine = refl; check = refl; waits = x.waits }) refl waits
       (mark, saw_newest heap look mark k, is.1) (saw_older heap look mark k (name.Waiting k.thread) j refl refl ∙ saw) told
       (λ a r sees. none a r (sym (saw_older heap look mark k (name.Recursions a) j refl refl) ∙ sees))))
 
@@ -147,8 +156,9 @@ module _ (heap : Heap) (e : Purpose) (o : ℕ) where
   monitor_resume_does fresh k x calm waits none =
       let look = load e (name.Waiting k.thread) in
       hitting heap fresh look _ k _ (λ n. refl)
-      (λ i. looks heap k look (record { act = refl; note = refl; own = refl; stage = sym calm; check = x.check; after = inl (sym x.mine); may = may_look k (name.Waiting k.thread) (inl x.runs) (λ m is. absurd (cc is)) }) (λ v. v.within))
+      (λ i. looks heap k look (record { act = refl; note = refl; own = refl; stage = sym calm; check = x.check; after = inl (sym x.mine); may = may_look k (name.Waiting k.thread) (inl x.runs) (λ m is. absurd (cc is)) }) (λ v. v.within)
+      (inl (sym x.mine)) tt)
       (λ word i was.
       at_does (read_wait word) (known_hit heap.shape heap.start look word k) word
-      (record { runs = x.runs; unasks = x.unasks; still = x.still; unchecks = x.unchecks; live = x.live; room = x.room; object = x.object; mine = refl; check = refl; waits = x.waits }) refl waits
+      (record { runs = x.runs; unasks = x.unasks; still = x.still; unchecks = x.unchecks; live = x.live; room = x.room; object = x.object; known = x.known; mine = refl; check = refl; waits = x.waits }) refl waits
       (saw_newest heap look word k) (none word i) refl (says_here heap k was.stands x.runs o word waits was.found))

@@ -28,6 +28,7 @@ use Rattle.core_world.specs.Trees.MonitorSteps.{own_steps, take_over_plan, reset
 use Rattle.core_world.specs.Trees.Plans.{Purpose, quiet_plan, with_stage, with_own, load, next_stamp}
 use Rattle.core_world.specs.Clauses.Safepoints.{IsUnfinished, ends}
 use Rattle.core_world.specs.Steps.{is_idle, known_hit, moving_after}
+use Rattle.core_world.specs.Threads.References.{numbering}
 use Rattle.core_world.specs.Trees.Todo.{Todo, done, ask, ◌>>=◌}
 use Rattle.core_world.specs.Trees.WaitSteps.{log_wait_steps, monitor_wait_steps, save_count_plan, drop_plan, quit_plan, log_wait_plan}
 use Rattle.core_world.specs.Trees.LockSteps.{raise_stamp_plan}
@@ -36,7 +37,7 @@ use Rattle.core_locks.specs.MonitorLaws.{MayCount}
 use Rattle.core_locks.proofs.LeavesStamps.{next_fits}
 use Rattle.core_locks.proofs.WaitOut.{ready_is_out}
 use Rattle.core_law.specs.Logic.{Heap, Stands, Keeps, Does}
-use Rattle.core_steps.proofs.Facts.{limits_here}
+use Rattle.core_steps.proofs.Facts.{limits_here, Knows}
 use Rattle.core_law.proofs.Standing.{fits_here, home}
 use Rattle.core_steps.proofs.Inflations.{SawNone}
 use Rattle.core_steps.proofs.LawRules.{raises}
@@ -47,6 +48,7 @@ use Rattle.core_steps.proofs.SeenSteps.{saw_newest, saw_older, saw_any}
 use Rattle.core_steps.proofs.Trees.{answers, binds, follows, hitting}
 use Rattle.core_steps.proofs.WaitEnds.{LetGo}
 use Rattle.core_steps.proofs.WaitRules.{logs_wait}
+use Rattle.core_locks.proofs.KnownMore.{knows_more}
 
 module _ (heap : Heap) (e : Purpose) (o m : ℕ) where
   -- what a thread counts on that is about to wait on o, whose monitor is m
@@ -58,6 +60,7 @@ module _ (heap : Heap) (e : Purpose) (o m : ℕ) where
     pub live : ends k.log ≡ false
     pub room : length k.log + 2 ≤ log_limit
     pub object : o < length heap.shape.objects
+    pub known : Knows heap k.log o
     pub holds : 1 ≤ hold_count o k.holds
     pub mine : k.unfinished ≡ e.unfinished
     pub check : e.check ≡ k.checking
@@ -80,6 +83,7 @@ module _ (heap : Heap) (e : Purpose) (o m : ℕ) where
           live = x.live;
           room = x.room;
           object = x.object;
+          known = x.known;
           holds = x.holds;
           mine = refl;
           check = refl;
@@ -89,7 +93,8 @@ module _ (heap : Heap) (e : Purpose) (o m : ℕ) where
           none = λ a r d saw. x.none a r d (sym (older (name.Recursions a) i refl refl) ∙ saw);
         }
 
-    after_recursions : (keep : Own) → moving_after keep n k.moving ≡ Still → Letting (known_hit heap.shape heap.start (with_own keep (quiet_plan e (name.Recursions m) act)) n k)
+    after_recursions : (keep : Own) → moving_after keep n k.moving ≡ Still
+        → Letting (known_hit heap.shape heap.start (with_own keep (quiet_plan e (name.Recursions m) act)) n k)
     after_recursions keep still =
         let p = with_own keep (quiet_plan e (name.Recursions m) act) in
         record {
@@ -100,6 +105,7 @@ module _ (heap : Heap) (e : Purpose) (o m : ℕ) where
           live = x.live;
           room = x.room;
           object = x.object;
+          known = x.known;
           holds = x.holds;
           mine = refl;
           check = refl;
@@ -113,7 +119,8 @@ module _ (heap : Heap) (e : Purpose) (o m : ℕ) where
   may_count k x own = record { runs = x.runs; out = ready_is_out k x.ready; holds = x.holds; inflated = x.inflated; owner = own; goes_on = inl (sym x.mine) }
 
   -- FIRST the thread itself becomes the owner, where one of its records is
-  own_does : (f : Option OwnerForm) (k : Known) (owner : ℕ) (Q : Bool → Unit {0} → Known → Type 0) → Letting k → k.stage ≡ Calm → last_seen (name.Owner m) k.seen ≡ Some owner → read_owner owner ≡ f → IsOwned k.thread f
+  own_does : (f : Option OwnerForm) (k : Known) (owner : ℕ) (Q : Bool → Unit {0} → Known → Type 0) → Letting k → k.stage ≡ Calm
+      → last_seen (name.Owner m) k.seen ≡ Some owner → read_owner owner ≡ f → IsOwned k.thread f
       → ((l : Known) → local_of l ≡ local_of k → l.stage ≡ Calm → Letting l → SawOwn l l.thread m → Q false tt l) → Does heap false (own_steps f e (local_of k) o m) k Q
   own_does None k owner Q x calm saw reads mine then_so = absurd mine
   own_does (Some Free) k owner Q x calm saw reads mine then_so = absurd mine
@@ -130,11 +137,12 @@ module _ (heap : Heap) (e : Purpose) (o m : ℕ) where
         inflated = x.inflated;
         owner = (owner, saw, reads ∙ ap (λ z. Some (ByRecord z p)) mine);
         goes_on = inl (sym x.mine);
-      })) (λ n i was.
+      }) (inl (sym x.mine))) (λ n i was.
       let l = known_hit heap.shape heap.start man n k in
       let y = after_owner k x i (Store (owner_of (ByThread k.thread))) n (TakesOver o) in
       let owns : SawOwn l l.thread m = saw_newest heap man n k in
-      hitting heap false reset _ l _ (λ n. refl) (λ j. resets_count_rule heap l e o m (λ v. record { counts = may_count l y owns; takes_over = refl })) (λ r j was.
+      hitting heap false reset _ l _ (λ n. refl) (λ j. resets_count_rule heap l e o m (λ v. record { counts = may_count l y owns; takes_over = refl })
+      (inl refl)) (λ r j was.
       answers heap false tt _ Q (then_so (known_hit heap.shape heap.start reset r l) refl refl (after_recursions l y j (Store 0) r own.Same y.still) (saw_older heap reset r l (name.Owner m) j refl refl ∙ owns))))
 
   -- what it leaves: the wait has let go
@@ -172,12 +180,12 @@ module _ (heap : Heap) (e : Purpose) (o m : ℕ) where
       let drop = drop_plan e o m in
       let quit = quit_plan e m in
       let room = x.room in
-      hitting heap false save _ k _ (λ n. refl) (λ i. saves_rule heap k e o m (λ v. (may_count k x owns, calm))) (λ n0 i0 was0.
+      hitting heap false save _ k _ (λ n. refl) (λ i. saves_rule heap k e o m (λ v. (may_count k x owns, calm)) (inl (sym x.mine))) (λ n0 i0 was0.
       let k1 = known_hit heap.shape heap.start save n0 k in
       let x1 = after_recursions k x i0 Load n0 own.Save x.still in
       let owns1 : SawOwn k1 k1.thread m = saw_older heap save n0 k (name.Owner m) i0 refl refl ∙ owns in
       hitting heap false raise _ k1 _ (λ n. refl)
-      (λ i. raises heap k1 e o x.object (λ v. record { runs = x.runs; calm = refl; out = ready_is_out k1 x.ready; holds = x.holds; goes_on = inl refl; letting = inl x.waits })) (λ n1 i1 was1.
+      (λ i. raises heap k1 e o x.object (λ v. record { runs = x.runs; calm = refl; out = ready_is_out k1 x.ready; holds = x.holds; goes_on = inl refl; letting = inl x.waits }) (inl refl)) (λ n1 i1 was1.
       let k2 = known_hit heap.shape heap.start raise n1 k1 in
       let owns2 : SawOwn k2 k2.thread m = saw_older heap raise n1 k1 (name.Owner m) i1 refl refl ∙ owns1 in
       let inflated2 : SawInflated k2 o m = (x1.inflated.0, saw_older heap raise n1 k1 (name.Mark o) i1 refl refl ∙ x1.inflated.1, x1.inflated.2) in
@@ -186,7 +194,7 @@ module _ (heap : Heap) (e : Purpose) (o m : ℕ) where
         calm = refl;
         ready = x.ready;
         holds = x.holds;
-        object = x.object;
+        object = record { within = x.object; known = x.known };
         waits = x.waits;
         goes_on = refl;
         inflated = inflated2;
@@ -195,18 +203,19 @@ module _ (heap : Heap) (e : Purpose) (o m : ℕ) where
         stamped = saw_newest heap raise n1 k1;
         high = omega arith;
         room = omega (arith, room);
-      })) (λ n2 i2 was2.
+      }) (inl refl)) (λ n2 i2 was2.
       let k3 = known_hit heap.shape heap.start wait n2 k2 in
       let owns3 : SawOwn k3 k3.thread m = saw_older heap wait n2 k2 (name.Owner m) i2 refl refl ∙ owns2 in
       let inflated3 : SawInflated k3 o m = (inflated2.0, saw_older heap wait n2 k2 (name.Mark o) i2 refl refl ∙ inflated2.1, inflated2.2) in
-      hitting heap false drop _ k3 _ (λ n. refl) (λ i. drops_rule heap k3 e o m (λ v. record { runs = x.runs; stage = refl; inflated = inflated3; owner = owns3; goes_on = inl refl })) (λ n3 i3 was3.
+      hitting heap false drop _ k3 _ (λ n. refl) (λ i. drops_rule heap k3 e o m (λ v. record { runs = x.runs; stage = refl; inflated = inflated3; owner = owns3; goes_on = inl refl })
+      (inl refl)) (λ n3 i3 was3.
       let k4 = known_hit heap.shape heap.start drop n3 k3 in
       let owns4 : SawOwn k4 k4.thread m = saw_older heap drop n3 k3 (name.Owner m) i3 refl refl ∙ owns3 in
       let inflated4 : SawInflated k4 o m = (inflated3.0, saw_older heap drop n3 k3 (name.Mark o) i3 refl refl ∙ inflated3.1, inflated3.2) in
       hitting heap false quit _ k4 _ (λ n. refl) (λ i. quits_rule heap k4 e o m (λ v. record {
         drops = record { runs = x.runs; stage = refl; inflated = inflated4; owner = owns4; goes_on = inl refl };
         recursions = saw_newest heap drop n3 k3;
-      })) (λ n4 i4 was4.
+      }) (inl refl)) (λ n4 i4 was4.
       answers heap false n0 (known_hit heap.shape heap.start quit n4 k4) _ (record {
         thread = refl;
         kept = refl;
@@ -218,6 +227,7 @@ module _ (heap : Heap) (e : Purpose) (o m : ℕ) where
           live = live_behind k.log _ x.live refl;
           room = fits_one k.log _ x.room;
           object = x.object;
+          known = knows_more (numbering heap.shape) k.log _ o x.known;
           mine = refl;
           check = refl;
           waits = x.waits;
@@ -239,7 +249,8 @@ module _ (heap : Heap) (e : Purpose) (o m : ℕ) where
   monitor_wait_does k x calm =
       let look = load e (name.Owner m) in
       hitting heap false look _ k _ (λ n. refl)
-      (λ i. subst (λ z. Keeps heap (with_stage z look) k) calm (looks_at_monitor heap k e (name.Owner m) o m refl x.runs x.inflated (inl (sym x.mine)) x.check)) (λ owner i was.
+      (λ i. subst (λ z. Keeps heap (with_stage z look) k) calm (looks_at_monitor heap k e (name.Owner m) o m refl x.runs x.inflated (inl (sym x.mine)) x.check
+      (inl (sym x.mine)))) (λ owner i was.
       let l = known_hit heap.shape heap.start look owner k in
       binds heap false (own_steps (read_owner owner) e (local_of k) o m) (λ u. saved_steps (local_of k)) l _ (
       own_does (read_owner owner) l owner _ (after_owner k x i Load owner Calm) refl (saw_newest heap look owner k) refl
@@ -248,5 +259,6 @@ module _ (heap : Heap) (e : Purpose) (o m : ℕ) where
       subst (λ w. Does heap false (saved_steps w) y (λ b saved l. HasLetGo k saved l)) same
       (follows_from y (ap (λ (w : Local). w.thread) same) (saved_does y z calm_y owns)))))
     where
-      follows_from : (y : Known) → y.thread ≡ k.thread → Does heap false (saved_steps (local_of y)) y (λ b saved l. HasLetGo y saved l) → Does heap false (saved_steps (local_of y)) y (λ b saved l. HasLetGo k saved l)
+      follows_from : (y : Known) → y.thread ≡ k.thread → Does heap false (saved_steps (local_of y)) y (λ b saved l. HasLetGo y saved l)
+          → Does heap false (saved_steps (local_of y)) y (λ b saved l. HasLetGo k saved l)
       follows_from y same h = follows heap false _ y _ _ h (λ b saved l g. record { thread = g.thread ∙ same; kept = g.kept; let_go = g.let_go; calm = g.calm; waits = g.waits; none = g.none })

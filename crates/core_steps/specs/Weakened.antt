@@ -11,6 +11,7 @@ use Rattle.core_world.specs.declared.stage.Stage.TheVariants.{Seizes, Grabs, Ent
 use Rattle.core_world.specs.declared.name.Name.TheVariants.{Header}
 use Rattle.core_world.specs.Words.Shape.{Shape}
 use Rattle.core_world.specs.Threads.Known.{Local}
+use Rattle.core_world.specs.Trees.CreateSteps.{class_plan, make_plan, creating}
 use Rattle.core_world.specs.Trees.DeflateSteps.{detach_plan, clean_plan}
 use Rattle.core_world.specs.Trees.MonitorSteps.{inflate_by}
 use Rattle.core_world.specs.Trees.LockSteps.{displace_plan, seize_plan, let_go_plan, clear_plan, hold_steps}
@@ -50,6 +51,20 @@ early_cleaning_steps e stage o m header = do
   _ ← ask (clean_plan e stage (Header m))
   _ ← ask (detach_plan e stage o m header)
   done tt
+
+-- The making of an object that stores its first mark before its class word.
+abbrev pub early_mark_steps : Purpose → ℕ → ℕ → ℕ → Todo ℕ
+early_mark_steps e o c prototype = do
+  _ ← ask (make_plan e o c prototype)
+  _ ← ask (class_plan e o c)
+  done o
+
+-- The making of this object, whichever one the thread makes next.
+abbrev pub any_object_steps : ℕ → ℕ → ℕ → Todo ℕ
+any_object_steps o c prototype = do
+  _ ← ask (class_plan (creating o c) o c)
+  _ ← ask (make_plan (creating o c) o c prototype)
+  done o
 
 -- A thread at this stage is in the middle of taking or leaving a lock, of a wait, of an inflation, or of telling several of those who wait, so
 -- that no thread may stop there. (Where it has taken a bias, or has become a monitor's owner in place of its record, the clauses hold of a thread in

@@ -6,7 +6,8 @@ mod stepping;
 
 pub use refused::{
     no_claim_with_a_kept_monitor, no_displaced_word_after_the_exchange,
-    no_header_cleared_before_the_mark, no_hold_word_cleared_before_the_exchange,
+    no_first_mark_before_the_class_word, no_header_cleared_before_the_mark,
+    no_hold_word_cleared_before_the_exchange, no_object_made_out_of_turn,
     no_stop_between_steps_on_a_lock, no_stop_in_the_middle_of_a_lock,
 };
 pub use stepping::{

@@ -14,13 +14,15 @@ ghost use Rattle.core_world.specs.Words.Forms.{is_neutral, monitor_in};
 ghost use Rattle.core_world.specs.Threads.Known.{Known, local_of};
 ghost use Rattle.core_world.specs.Threads.Stages.{revocation_in};
 ghost use Rattle.core_world.specs.Locks.{OwnedBy, lock, hold_count};
+ghost use Rattle.core_world.specs.Threads.References.{making_in};
+ghost use Rattle.core_world.specs.Trees.CreateSteps.{next_made};
 ghost use Rattle.core_world.specs.Trees.Plans.{Purpose, free_place};
 ghost use Rattle.core_world.specs.Trees.SafepointSteps.{stop_steps};
 ghost use Rattle.core_world.specs.Steps.{is_idle};
 ghost use Rattle.core_law.specs.Logic.{Heap, Stands, DoesSteps};
 ghost use Rattle.core_law.specs.Reached.{Comes};
 ghost use Rattle.core_steps.specs.SmallWorlds.{small, neutral, locked, running, seized, entered, keeping, reached, known_in};
-ghost use Rattle.core_steps.specs.Weakened.{late_displaced_steps, early_clearing_steps, stop_at_stage_steps, always_claiming_steps, early_cleaning_steps, is_between};
+ghost use Rattle.core_steps.specs.Weakened.{late_displaced_steps, early_clearing_steps, stop_at_stage_steps, always_claiming_steps, early_cleaning_steps, early_mark_steps, any_object_steps, is_between};
 
 /// An enter that stores the displaced word only after it has exchanged the neutral mark: the exchange leads to a world in which
 /// a mark names a record that has no header.
@@ -94,4 +96,25 @@ pub fn no_header_cleared_before_the_mark()
     ensures there { (e : Purpose) (header : ℕ)
         → Comes small reached
         × (DoesSteps small true (early_cleaning_steps e Calm 0 0 header) (known_in reached) → ⊥) }
+{}
+
+/// A making of an object that stores the first mark before the class word: what a thread isn't making yet would be there.
+pub fn no_first_mark_before_the_class_word()
+    ensures refused { (heap : Heap) (k : Known) (fresh : Bool) (v : Stands heap k) (e : Purpose) (o c mark : ℕ)
+        → is_idle heap.shape k ≡ fresh → k.running ≡ true → making_in k.unfinished ≢ Some o
+        → DoesSteps heap fresh (early_mark_steps e o c mark) k → ⊥ }
+    ensures there { (e : Purpose) (o c mark : ℕ)
+        → Comes small running
+        × (DoesSteps small true (early_mark_steps e o c mark) (known_in running) → ⊥) }
+{}
+
+/// A making of another object than the thread's next one, by its log: so is a second making by the number that the first one had, whose New
+/// the log has by then. The thread would stand before the first mark of an object that is there, or isn't its own.
+pub fn no_object_made_out_of_turn()
+    ensures refused { (heap : Heap) (k : Known) (fresh : Bool) (v : Stands heap k) (o c mark : ℕ)
+        → is_idle heap.shape k ≡ fresh → k.running ≡ true → o ≢ next_made heap.shape (local_of k)
+        → DoesSteps heap fresh (any_object_steps o c mark) k → ⊥ }
+    ensures there { (c mark : ℕ)
+        → Comes small running
+        × (DoesSteps small true (any_object_steps 2 c mark) (known_in running) → ⊥) }
 {}

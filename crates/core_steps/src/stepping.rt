@@ -14,7 +14,7 @@ ghost use Rattle.core_world.specs.Words.Shape.{IsInLimits, monitor_count};
 ghost use Rattle.core_world.specs.Steps.{world_after, rest_of_call, is_idle};
 ghost use Rattle.core_world.specs.There.{IsThere};
 ghost use Rattle.core_world.specs.World.{World, logs};
-ghost use Rattle.core_law.specs.BiasLaw.{WhollyValid};
+ghost use Rattle.core_law.specs.WholeLaw.{WhollyValid};
 ghost use Rattle.plain_history.specs.ExactStamps.{StampsAreExact};
 ghost use Rattle.core_law.specs.Takings.{TakesExactly};
 ghost use Rattle.plain_history.specs.FirstDraws.{DrawsComeFirst};
@@ -46,7 +46,8 @@ pub fn next_steps_keep_worlds_sound()
         → AtRest w.shape (w.known t) }
 {}
 
-/// The opening world is sound, and each world to which a heap comes from there is sound, and so valid. There no thread's call says that no valid world comes.
+/// The opening world is sound, and each world to which a heap comes from there is sound, and so valid: the law of biases and the law of what is there hold
+/// with its clauses. There no thread's call says that no valid world comes.
 /// The next step of any thread, which is a function of what the thread knows alone, leads on to such a world.
 pub fn reached_worlds_are_valid()
     ensures opening { (heap : Heap) → IsInLimits heap.shape → Sound (opening heap.shape heap.start heap.biasing) }

@@ -1,10 +1,11 @@
 -- A load leaves what its thread knows of its own words and of its running as it was.
-use Rattle.std.proofs.Common.{◌≡◌, ℕ, ◌&&◌, not, Bool, true, false, cond, List, [], ◌∷◌, Some, refl, ap, ◌∙◌}
+use Rattle.std.proofs.Common.{Option, ◌≡◌, ℕ, ◌&&◌, not, Bool, true, false, cond, List, [], ◌∷◌, Some, refl, ap, ◌∙◌}
 use Rattle.core_world.specs.declared.act.Act.{Act}
 use Rattle.core_world.specs.declared.act.Act.TheVariants.{Load, Store, Swap, Raise, Mask, Count}
 use Rattle.core_world.specs.declared.name.Name.{Name}
 use Rattle.core_world.specs.declared.name.Name.TheVariants as name
 use Rattle.core_world.specs.Words.Acts.{word_after, hits}
+use Rattle.core_world.specs.declared.task.Unfinished.{Unfinished}
 use Rattle.core_world.specs.Words.Shape.{Shape}
 use Rattle.core_world.specs.Threads.Known.{Known, StepMade, left_by, last_seen}
 use Rattle.core_world.specs.RevocationRules.{write_by}
@@ -45,22 +46,22 @@ seen_is_part s k n v e = cases (is_idle s k && not k.requesting) e
     cases true h = absurd (cc h)
     cases false h = h
 
--- what was last seen so of the marks and prototypes was last seen so, and of nothing else was anything seen
-pub headers_are_part : (ms : List StepMade) (n : Name) (v : ℕ) → last_seen n (only_headers ms) ≡ Some v → (is_header n ≡ true) × (last_seen n ms ≡ Some v)
-headers_are_part [] n v h = absurd (cc h)
-headers_are_part (m ∷ ms) n v h = by_header (headers_are_part ms n v) (is_header m.plan.at) refl h
+-- what was last seen so of the headers was last seen so, and of nothing else was anything seen
+pub headers_are_part : (u : Option Unfinished) (ms : List StepMade) (n : Name) (v : ℕ) → last_seen n (only_headers u ms) ≡ Some v → (is_header u n ≡ true) × (last_seen n ms ≡ Some v)
+headers_are_part u [] n v h = absurd (cc h)
+headers_are_part u (m ∷ ms) n v h = by_header (headers_are_part u ms n v) (is_header u m.plan.at) refl h
   where
-    by_name : (last_seen n (only_headers ms) ≡ Some v → (is_header n ≡ true) × (last_seen n ms ≡ Some v)) → is_header m.plan.at ≡ true → (b : Bool) → same_name n m.plan.at ≡ b
-        → cond b (Some (left_by m)) (last_seen n (only_headers ms)) ≡ Some v → (is_header n ≡ true) × (cond b (Some (left_by m)) (last_seen n ms) ≡ Some v)
-    by_name part f true e h = (ap is_header (same_named n m.plan.at e) ∙ f, h)
+    by_name : (last_seen n (only_headers u ms) ≡ Some v → (is_header u n ≡ true) × (last_seen n ms ≡ Some v)) → is_header u m.plan.at ≡ true → (b : Bool) → same_name n m.plan.at ≡ b
+        → cond b (Some (left_by m)) (last_seen n (only_headers u ms)) ≡ Some v → (is_header u n ≡ true) × (cond b (Some (left_by m)) (last_seen n ms) ≡ Some v)
+    by_name part f true e h = (ap (is_header u) (same_named n m.plan.at e) ∙ f, h)
     by_name part f false e h = part h
 
-    hidden : is_header n ≡ true → is_header m.plan.at ≡ false → (b : Bool) → same_name n m.plan.at ≡ b → last_seen n ms ≡ Some v → cond b (Some (left_by m)) (last_seen n ms) ≡ Some v
-    hidden f g true e h = let same = ap is_header (same_named n m.plan.at e) in absurd (cc (same, f, g))
+    hidden : is_header u n ≡ true → is_header u m.plan.at ≡ false → (b : Bool) → same_name n m.plan.at ≡ b → last_seen n ms ≡ Some v → cond b (Some (left_by m)) (last_seen n ms) ≡ Some v
+    hidden f g true e h = let same = ap (is_header u) (same_named n m.plan.at e) in absurd (cc (same, f, g))
     hidden f g false e h = h
 
-    by_header : (last_seen n (only_headers ms) ≡ Some v → (is_header n ≡ true) × (last_seen n ms ≡ Some v)) → (b : Bool) → is_header m.plan.at ≡ b
-        → last_seen n (cond b (m ∷ only_headers ms) (only_headers ms)) ≡ Some v → (is_header n ≡ true) × (cond (same_name n m.plan.at) (Some (left_by m)) (last_seen n ms) ≡ Some v)
+    by_header : (last_seen n (only_headers u ms) ≡ Some v → (is_header u n ≡ true) × (last_seen n ms ≡ Some v)) → (b : Bool) → is_header u m.plan.at ≡ b
+        → last_seen n (cond b (m ∷ only_headers u ms) (only_headers u ms)) ≡ Some v → (is_header u n ≡ true) × (cond (same_name n m.plan.at) (Some (left_by m)) (last_seen n ms) ≡ Some v)
     by_header part true e h = by_name part e (same_name n m.plan.at) refl h
     by_header part false e h = let a = part h in (a.0, hidden a.0 e (same_name n m.plan.at) refl a.1)
 

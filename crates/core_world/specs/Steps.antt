@@ -22,6 +22,7 @@ use Rattle.core_world.specs.Words.Forms.{runs_in, asks_in, is_halted, is_still, 
 use Rattle.core_world.specs.Threads.Counts.{CountedVerdict, with_verdict_counted}
 use Rattle.core_world.specs.Threads.Known.{Known, Moving, Still, Fetches, Returns, StepMade, CallUnderway, last_seen, start_of}
 use Rattle.core_world.specs.Threads.Known as known
+use Rattle.core_world.specs.Threads.References.{is_on}
 use Rattle.core_world.specs.World.{World, with_word_and_known}
 use Rattle.core_world.specs.Locks.{lock_form, holder, hold_count, or_zero, owner_and_count_by}
 use Rattle.core_world.specs.RevocationRules.{holds_in, words_from}
@@ -174,16 +175,17 @@ abbrev pub seen_before : Shape → Known → List StepMade
 seen_before s k = if is_idle s k && not k.requesting then [] else k.seen
 
 -- The steps that log Enter or Resume, and that set the thread running again after a stop, begin anew, since the thread counts on more words
--- from then on. The release of a safepoint leaves the marks, class words and prototypes that were seen at it: later steps of the call go by no others.
-abbrev pub is_header : Name → Bool
-is_header (name.Mark o) = true
-is_header (name.Prototype c) = true
-is_header (name.Class o) = true
-is_header _ = false
+-- from then on. The release of a safepoint leaves what was seen at it of the header of the unfinished operation's object, its mark and its class word,
+-- and of the prototypes: later steps of the call go by no others.
+abbrev pub is_header : Option Unfinished → Name → Bool
+is_header u (name.Mark o) = is_on u o
+is_header u (name.Prototype c) = true
+is_header u (name.Class o) = is_on u o
+is_header u _ = false
 
-abbrev pub only_headers : List StepMade → List StepMade
-only_headers [] = []
-only_headers (m ∷ ms) = if is_header m.plan.at then m ∷ only_headers ms else only_headers ms
+abbrev pub only_headers : Option Unfinished → List StepMade → List StepMade
+only_headers u [] = []
+only_headers u (m ∷ ms) = if is_header u m.plan.at then m ∷ only_headers u ms else only_headers u ms
 
 abbrev pub kept_by_note : Note → List StepMade → List StepMade
 kept_by_note (Log e) seen = if is_taking e then [] else seen
@@ -191,7 +193,7 @@ kept_by_note _ seen = seen
 
 abbrev pub kept_by_act : Name → Act → ℕ → Known → List StepMade → List StepMade
 kept_by_act name.Safepoint (act.Swap expected word) left k seen =
-    if k.reached && not (asks_in left k.thread) then only_headers k.seen_at_safepoint else if k.running
+    if k.reached && not (asks_in left k.thread) then only_headers k.unfinished k.seen_at_safepoint else if k.running
     then seen else []
 kept_by_act _ _ left k seen = seen
 

@@ -8,6 +8,7 @@ pub mod BiasSteps
 pub mod SafepointSteps
 pub mod RevocationSteps
 pub mod DeflateSteps
+pub mod CreateSteps
 pub mod HashSteps
 pub mod LookSteps
 pub mod Operations

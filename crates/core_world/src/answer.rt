@@ -67,3 +67,7 @@ pub struct Unguarded;
 /// The thread has made 4 dumps.
 #[derive(Clone, Copy, Debug, PartialEq, Eq)]
 pub struct TooManyDumps;
+
+/// The thread has made 1,024 objects.
+#[derive(Clone, Copy, Debug, PartialEq, Eq)]
+pub struct TooMany;

@@ -18,7 +18,7 @@ mod task;
 
 pub use act::{Act, Effect, apply};
 pub use answer::{
-    BiasTry, IllegalMonitorState, StackOut, TooDeep, TooManyDumps, Turn, Unguarded, Why,
+    BiasTry, IllegalMonitorState, StackOut, TooDeep, TooMany, TooManyDumps, Turn, Unguarded, Why,
 };
 pub use laws::{a_look_keeps_the_world_valid, the_opening_world_is_valid};
 pub use name::Name;

@@ -12,9 +12,10 @@ pub enum Op {
     NotifyAll,
     Hash,
     Dump,
+    Create,
 }
 
-/// An operation that isn't finished. The object is 0 for a dump.
+/// An operation that isn't finished. The object is 0 for a dump, and for `Create` the one that is being made.
 #[derive(Clone, Copy, Debug, PartialEq, Eq)]
 pub struct Unfinished {
     pub op: Op,
@@ -60,6 +61,10 @@ pub enum Task {
         value: Value,
     },
     Dump,
+    /// Makes an object of the class.
+    Create {
+        class: u32,
+    },
     Finish {
         ending: Ending,
     },

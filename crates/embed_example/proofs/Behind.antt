@@ -1,5 +1,5 @@
 -- What a call leaves lets the next one begin.
-use Rattle.std.proofs.Common.{◌≡◌, ℕ, suc, ◌≤◌, ◌==◌, ◌&&◌, ◌||◌, ◌++◌, ◌∷◌, [], not, nat_lt, lt-ltb, eq-eqb, Bool, true, false, List, length, cond, Option, None, Ok, is_none, refl, sym, ap, ◌∙◌, subst, arith, inl, inr, append_assoc, append-nil}
+use Rattle.std.proofs.Common.{◌≡◌, ℕ, suc, ◌+◌, ◌≤◌, ◌==◌, ◌&&◌, ◌||◌, ◌++◌, ◌∷◌, [], not, nat_lt, nat_le, lt-ltb, le-leb, eq-eqb, Bool, true, false, List, length, cond, Option, None, Ok, is_none, refl, sym, ap, ◌∙◌, subst, arith, inl, inr, append_assoc, append-nil}
 use Rattle.std.proofs.lemmas.Bool.{and_from}
 use Rattle.std.specs.List.{AllByRecursion}
 use mathlib.Core.List.{map-append}
@@ -14,13 +14,17 @@ use Rattle.core_world.specs.declared.answer.Turn.{Turn}
 use Rattle.core_world.specs.declared.answer.Turn.TheVariants.{Done, Pending}
 use Rattle.core_world.specs.declared.task.Op.{Op}
 use Rattle.core_world.specs.declared.task.Op.TheVariants as op
+use Rattle.core_world.specs.declared.task.Task.{Task}
+use Rattle.core_world.specs.declared.task.Task.TheVariants as task
 use Rattle.core_world.specs.declared.task.Task.TheVariants.{Finish}
 use Rattle.core_world.specs.declared.task.Unfinished.{Unfinished}
 use Rattle.core_world.specs.Clauses.Lengths.{log_limit}
 use Rattle.core_world.specs.Clauses.Safepoints.{ends, is_ending}
 use Rattle.core_world.specs.Threads.Known.{Known, StepMade}
-use Rattle.core_world.specs.Trees.Calls.{may_operate}
+use Rattle.core_world.specs.Threads.References.{has_reference}
+use Rattle.core_world.specs.Trees.Calls.{may_begin, may_operate, most_logged}
 use Rattle.core_world.specs.Trees.Operations.{same_op, goes_on_with}
+use Rattle.core_world.specs.Words.Forms.{waits_on}
 use Rattle.core_calls.specs.CallsSay.{unfinished_on, begins_with, PollSays, StopSays, ResumeSays}
 use Rattle.core_calls.specs.Paths.{Leaves, Tells, Did}
 use Rattle.core_calls.proofs.Runs.{did_none}
@@ -61,6 +65,7 @@ same_self op.Notify = refl
 same_self op.NotifyAll = refl
 same_self op.Hash = refl
 same_self op.Dump = refl
+same_self op.Create = refl
 
 goes_self : (w : Op) (o : ℕ) → goes_on_with w o (unfinished_on w o) ≡ true
 goes_self w o = and_from (same_op w w) (o == o) (same_self w) (eq-eqb o o refl)
@@ -219,6 +224,39 @@ may_finish h p ending count f all none room =
     λ i. not (f.live.unchecked i) && (f.runs i || (p.known.requesting && false)) && (is_none (f.none i) || false) && not (f.live.unended i) && short i in
     let empty = all_empty 0 p.known.holds (sym all ∙ none) in
     record { call = record { rests = f.live.rests; may = λ i. empty i && act i }; room = omega (arith, room) }
+
+-- an operation may be tried where the log has room for its entry
+may_operate_now : (h : HeapSeen) (w : Op) (o : ℕ) (p : PassSeen) → MayTry w o h p → length p.known.log + 1 ≤ p.limit
+    → may_operate p.known (goes_on_with w o p.known.unfinished) ≡ true
+may_operate_now h w o p may room =
+    let few = may.live.limit in
+    let short : nat_lt (length p.known.log) log_limit ≡ true = lt-ltb _ _ (omega (arith, room, few)) in
+    λ i. not (may.live.unchecked i) && may.stands i && may.free i && not (may.live.unended i) && short i
+
+-- so may one that logs one entry, on an object to which the thread has a reference
+pub may_try : (h : HeapSeen) (w : Op) (o : ℕ) (p : PassSeen) (t : Task)
+    → may_begin h.heap.shape h.heap.biasing p.known t ≡ (has_reference h.heap.shape p.known o && may_operate p.known (goes_on_with w o p.known.unfinished))
+    → most_logged p.known t ≡ 1 → MayTry w o h p → has_reference h.heap.shape p.known o ≡ true → length p.known.log + 1 ≤ p.limit → MayOperate h p t
+may_try h w o p t begins one may known room =
+    let begun = may_operate_now h w o p may room in
+    record {
+      call = record { rests = may.live.rests; may = begins ∙ λ i. known i && begun i };
+      room = subst (λ (n : ℕ). length p.known.log + n ≤ p.limit) (sym one) room;
+    }
+
+one_or_two : (b : Bool) → 1 ≤ cond b 1 2
+one_or_two true = omega arith
+one_or_two false = omega arith
+
+-- and a wait where the log has room for what the wait logs at most
+pub may_wait : (h : HeapSeen) (o now : ℕ) (p : PassSeen) → MayTry op.Wait o h p → has_reference h.heap.shape p.known o ≡ true
+    → length p.known.log + cond (waits_on p.known.wait o) 1 2 ≤ p.limit → MayOperate h p (task.Wait o now)
+may_wait h o now p may known room =
+    let few = may.live.limit in
+    let one = one_or_two (waits_on p.known.wait o) in
+    let begun = may_operate_now h op.Wait o p may (omega (arith, room, one)) in
+    let all : nat_le (length p.known.log + most_logged p.known (task.Wait o now)) log_limit ≡ true = le-leb _ _ (omega (arith, room, few)) in
+    record { call = record { rests = may.live.rests; may = λ i. known i && begun i && all i }; room = room }
 
 -- A NEW PASS is at rest and stopped, and once it runs any operation may begin.
 pub new_rests : (h : HeapSeen) (fuel t : ℕ) (p : PassSeen) → IsNew h fuel t p → Rests h p

@@ -5,9 +5,10 @@
 //! the comments say how it is met here.
 #![tactic(auto)]
 
-ghost use Rattle.std.specs.Prelude.{◌≡◌, ℕ, ◌<◌, [], ◌∷◌, length, true, IfOk, IfErr, OnOk, OnErr};
+ghost use Rattle.std.specs.Prelude.{◌≡◌, ℕ, ◌<◌, [], ◌∷◌, true, IfOk, IfErr, OnOk, OnErr};
 ghost use Rattle.core_world.specs.declared.task.Op.{Op};
 ghost use Rattle.core_world.specs.declared.task.Op.TheVariants as op;
+ghost use Rattle.core_world.specs.Threads.References.{has_reference};
 ghost use Rattle.core_world.specs.Words.Forms.{waits_on};
 ghost use Rattle.embed_example.specs.declared.Act.TheVariants as act;
 ghost use Rattle.embed_example.specs.declared.Stop.TheVariants as stop;
@@ -68,7 +69,7 @@ pub enum Stop {
 
 /// A heap of two threads and one object, with biases, and its passes. Nothing takes memory after this.
 pub fn new_door(alloc: Global) -> Result<(Heap, Pass, Pass), Stop>
-    ensures door { IfOk result (λ r. DOOR < length r.0.heap.shape.objects) }
+    ensures door { IfOk result (λ r. DOOR < r.0.heap.shape.declared) }
     ensures new { IfOk result (λ r. IsNew r.0 FUEL 0 r.1 × IsNew r.0 FUEL 1 r.2) }
     ensures memory { IfErr result (λ e. e ≡ stop.NoMemory) }
 {
@@ -126,7 +127,7 @@ pub fn give_way<R: Wait>(rt: &R, heap: &Heap, pass: &mut Pass) -> Result<(), Sto
 
 /// An enter logs one entry.
 pub fn enter(heap: &Heap, pass: &mut Pass, object: u32) -> Result<Turn<()>, Stop>
-    requires object { object < length heap.now.heap.shape.objects }
+    requires object { has_reference heap.now.heap.shape pass.old.known object ≡ true }
     requires may { MayTry op.Enter object heap.now pass.old }
     ensures { Tried act.Enter object heap.now pass.old pass.new result }
 {
@@ -142,7 +143,7 @@ pub fn enter(heap: &Heap, pass: &mut Pass, object: u32) -> Result<Turn<()>, Stop
 
 /// So does an exit.
 pub fn exit(heap: &Heap, pass: &mut Pass, object: u32) -> Result<Turn<()>, Stop>
-    requires object { object < length heap.now.heap.shape.objects }
+    requires object { has_reference heap.now.heap.shape pass.old.known object ≡ true }
     requires may { MayTry op.Exit object heap.now pass.old }
     ensures { Tried act.Exit object heap.now pass.old pass.new result }
 {
@@ -171,7 +172,7 @@ fn waits_on(word: u64, object: u32) -> bool
 
 /// A wait that begins asks for room for two entries, since it may end without having to be made again; one that has let go, for one.
 pub fn wait(heap: &Heap, pass: &mut Pass, object: u32) -> Result<Turn<()>, Stop>
-    requires object { object < length heap.now.heap.shape.objects }
+    requires object { has_reference heap.now.heap.shape pass.old.known object ≡ true }
     requires may { MayTry op.Wait object heap.now pass.old }
     ensures { Tried act.Wait object heap.now pass.old pass.new result }
 {
@@ -192,7 +193,7 @@ pub fn wait(heap: &Heap, pass: &mut Pass, object: u32) -> Result<Turn<()>, Stop>
 
 /// A notify answers whom it woke, which its entry says, too.
 pub fn notify(heap: &Heap, pass: &mut Pass, object: u32) -> Result<Turn<()>, Stop>
-    requires object { object < length heap.now.heap.shape.objects }
+    requires object { has_reference heap.now.heap.shape pass.old.known object ≡ true }
     requires may { MayTry op.Notify object heap.now pass.old }
     ensures { Tried act.Notify object heap.now pass.old pass.new result }
 {
@@ -208,7 +209,7 @@ pub fn notify(heap: &Heap, pass: &mut Pass, object: u32) -> Result<Turn<()>, Sto
 
 /// A hash is refused nobody.
 pub fn hash(heap: &Heap, pass: &mut Pass, object: u32) -> Result<Turn<()>, Stop>
-    requires object { object < length heap.now.heap.shape.objects }
+    requires object { has_reference heap.now.heap.shape pass.old.known object ≡ true }
     requires may { MayTry op.Hash object heap.now pass.old }
     ensures { Tried act.Hash object heap.now pass.old pass.new result }
 {
@@ -223,7 +224,7 @@ pub fn hash(heap: &Heap, pass: &mut Pass, object: u32) -> Result<Turn<()>, Stop>
 
 /// One try.
 pub fn try_once(heap: &Heap, pass: &mut Pass, act: Act, object: u32) -> Result<Turn<()>, Stop>
-    requires object { object < length heap.now.heap.shape.objects }
+    requires object { has_reference heap.now.heap.shape pass.old.known object ≡ true }
     requires may { MayTry (op_of act) object heap.now pass.old }
     ensures { Tried act object heap.now pass.old pass.new result }
 {
@@ -245,7 +246,7 @@ pub fn make<R: Wait>(
     act: Act,
     object: u32,
 ) -> Result<(), Stop>
-    requires object { object < length heap.now.heap.shape.objects }
+    requires object { object < heap.now.heap.shape.declared }
     requires may { MayTry (op_of act) object heap.now pass.old }
     ensures made { OnOk result (HasMade act object heap.now pass.old pass.new) }
     ensures refused { IfErr result (IsGivenUp act object heap.now pass.old pass.new) }
@@ -280,7 +281,7 @@ pub fn end(heap: &Heap, pass: &mut Pass) -> Result<(), Stop>
 /// The first thread up to where it waits. It is the only one that runs so far, so the one try lets go of the object, and is pending for a
 /// notify. The thread runs on, and its wait is unfinished.
 pub fn begin_to_wait<R: Wait>(rt: &R, heap: &Heap, pass: &mut Pass) -> Result<(), Stop>
-    requires door { DOOR < length heap.now.heap.shape.objects }
+    requires door { DOOR < heap.now.heap.shape.declared }
     requires new { IsNew heap.now FUEL 0 pass.old }
     ensures { OnOk result (MayTry op.Wait DOOR heap.now pass.new) }
 {
@@ -292,7 +293,7 @@ pub fn begin_to_wait<R: Wait>(rt: &R, heap: &Heap, pass: &mut Pass) -> Result<()
 
 /// The rest of it.
 pub fn wait_on<R: Wait>(rt: &R, heap: &Heap, mut pass: Pass) -> Result<Pass, Stop>
-    requires door { DOOR < length heap.now.heap.shape.objects }
+    requires door { DOOR < heap.now.heap.shape.declared }
     requires waits { MayTry op.Wait DOOR heap.now pass }
     ensures { IfOk result (λ p. Rests heap.now p × IsStopped p.known) }
 {
@@ -304,7 +305,7 @@ pub fn wait_on<R: Wait>(rt: &R, heap: &Heap, mut pass: Pass) -> Result<Pass, Sto
 
 /// The whole of the second thread.
 pub fn knock<R: Wait>(rt: &R, heap: &Heap, mut pass: Pass) -> Result<Pass, Stop>
-    requires door { DOOR < length heap.now.heap.shape.objects }
+    requires door { DOOR < heap.now.heap.shape.declared }
     requires new { IsNew heap.now FUEL 1 pass }
     ensures { IfOk result (λ p. Rests heap.now p × IsStopped p.known) }
 {

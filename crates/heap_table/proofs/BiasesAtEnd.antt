@@ -13,8 +13,9 @@ use Rattle.core_world.specs.Threads.Counts.{CountedVerdict}
 use Rattle.core_world.specs.Threads.Known.{Known}
 use Rattle.core_world.specs.Valid.{IsRevoking}
 use Rattle.core_world.specs.Words.Shape.{Shape, class_of}
-use Rattle.core_world.specs.Words.Names.{class_by, has_class}
+use Rattle.core_world.specs.Words.Names.{class_by}
 use Rattle.core_world.specs.World.{World, logs}
+use Rattle.core_law.specs.BiasLaw.{is_logged}
 use Rattle.core_law.specs.Logic.{Heap}
 use Rattle.core_law.proofs.Wholes.{All as Whole, all_unless}
 use Rattle.core_law.specs.OfARun.{BiasesOfRun, VerdictsAtMost}
@@ -79,28 +80,21 @@ module _ (b : Heap) (words : List ℕ) (ps : List PassSeen) (last : LastWorld b 
   class_word : (o : ℕ) → o < length b.shape.objects → nat_lt o b.shape.declared ≡ false → w.words (Class o) ≡ word_in b words (Class o)
   class_word o h e = sym (last.words_are (Class o) (h, grind (arith, nat_tests, e)))
 
-  there_here : (o : ℕ) → o < length b.shape.objects → (c : Bool) → nat_lt o b.shape.declared ≡ c
-      → (c || not (w.words (Class o) == 0)) ≡ (c || not (word_in b words (Class o) == 0))
-  there_here o h true e = refl
-  there_here o h false e = ap (λ n. not (n == 0)) (class_word o h e)
-
   class_here : (o : ℕ) → o < length b.shape.objects → (c : Bool) → nat_lt o b.shape.declared ≡ c
       → cond c (class_of b.shape o) (w.words (Class o) - 1) ≡ cond c (class_of b.shape o) (word_in b words (Class o) - 1)
   class_here o h true e = refl
   class_here o h false e = ap (λ n. n - 1) (class_word o h e)
 
-  at_end : (more : ℕ) → BiasesOfRun w.biasing w.shape.threads (has_class w.shape w.words) (class_by w.shape w.words) (logs w) (λ c. w.words (Revocations c)) (λ t. (w.known t).counts)
+  at_end : (more : ℕ) → BiasesOfRun w.biasing w.shape.threads (is_logged w.shape (logs w)) (class_by w.shape w.words) (logs w) (λ c. w.words (Revocations c)) (λ t. (w.known t).counts)
       → VerdictsAtMost more w.shape.threads w.shape.classes (logs w) (λ t. (w.known t).counts) → BiasesAtEnd more b words (logs_of ps) (knowns ps)
   at_end more biases verdicts =
       let logs_are : logs w ≡ logs_of ps = logs_of_last b words ps last order all in
       record {
-        there = has_class b.shape w.words;
         class = class_by b.shape w.words;
         count = λ c. w.words (Revocations c);
-        there_is = λ o h. there_here o h (nat_lt o b.shape.declared) refl;
         class_is = λ o h. class_here o h (nat_lt o b.shape.declared) refl;
         words_are = λ c h. last.words_are (Revocations c) h;
-        biases = subst (λ (x : Heap × List (List Logged) × (ℕ → List CountedVerdict)). BiasesOfRun x.0.biasing x.0.shape.threads (has_class x.0.shape w.words) (class_by x.0.shape w.words) x.1 (λ c. w.words (Revocations c)) x.2)
+        biases = subst (λ (x : Heap × List (List Logged) × (ℕ → List CountedVerdict)). BiasesOfRun x.0.biasing x.0.shape.threads (is_logged x.0.shape x.1) (class_by x.0.shape w.words) x.1 (λ c. w.words (Revocations c)) x.2)
             (λ i. (last.is_of i, logs_are i, counted i)) biases;
         verdicts = subst (λ (x : Heap × List (List Logged) × (ℕ → List CountedVerdict)). VerdictsAtMost more x.0.shape.threads x.0.shape.classes x.1 x.2)
             (λ i. (last.is_of i, logs_are i, counted i)) verdicts;

@@ -1,5 +1,5 @@
 -- What a pass keeps follows its thread's step, where the step hits.
-use Rattle.std.proofs.Common.{◌≡◌, ℕ, ◌+◌, ◌≤◌, length, length-append, arith, ◌==◌, Bool, true, false, cond, List, [], ◌∷◌, ◌++◌, Option, Some, None, refl, sym, ap, ◌∙◌, subst}
+use Rattle.std.proofs.Common.{◌≡◌, ℕ, ◌+◌, ◌≤◌, length, length-append, append-nil, arith, ◌==◌, Bool, true, false, cond, List, [], ◌∷◌, ◌++◌, Option, Some, None, refl, sym, ap, ◌∙◌, subst}
 use Rattle.plain_monitor.specs.declared.entry.Entry.{Entry}
 use Rattle.plain_monitor.specs.declared.entry.Entry.TheVariants as entry
 use Rattle.plain_monitor.specs.declared.entry.Logged.{Logged}
@@ -32,7 +32,9 @@ use Rattle.heap_table.specs.Tallies.{counts_shown}
 use Rattle.heap_table.specs.declared.afters.Stand.{Stand}
 use Rattle.heap_table.specs.declared.mirror.Mirror.{Mirror}
 use Rattle.heap_table.specs.Kept.{Follows}
-use Rattle.heap_table.specs.inner.Kept.{entry_after, with_any_entry, stand_after}
+use Rattle.heap_table.specs.inner.Kept.{entry_after, with_any_entry, stand_after, made_after}
+use Rattle.plain_history.specs.Known.{news, class_made}
+use Rattle.plain_monitor.specs.Made.{creates}
 
 pub log_is : (note : Note) (found : ℕ) (log : List Logged) → log_after note found log ≡ with_any_entry (entry_after note found) found log
 log_is Quiet found log = refl
@@ -109,6 +111,46 @@ few_draws (LogHash o) found log draws h = cases (hash_in found == 0)
     cases true = h
     cases false = let n = length-append log (record { stamp = last_stamp log + 1; entry = entry.Hash o (hash_in found) None } ∷ []) in omega (arith, n, h)
 
+-- each New is logged
+news_grow : (log : List Logged) (l : Logged) → length (news (log ++ l ∷ [])) ≡ length (news log) + length (class_made (creates l.entry))
+news_grow [] l = let a = ap length (append-nil (class_made (creates l.entry))) in omega (arith, a)
+news_grow (x ∷ log) l =
+    let a = length-append (class_made (creates x.entry)) (news (log ++ l ∷ [])) in
+    let b = length-append (class_made (creates x.entry)) (news log) in
+    let c = news_grow log l in
+    omega (arith, a, b, c)
+
+news_of : (e : Entry) (n : ℕ) → n + length (class_made (creates e)) ≡ made_after (Log e) n
+news_of (entry.New o class) n = refl
+news_of e n = omega arith
+
+few_news : (log : List Logged) → length (news log) ≤ length log
+few_news [] = omega arith
+few_news (x ∷ log) =
+    let a = length-append (class_made (creates x.entry)) (news log) in
+    let b = few_news log in
+    let c = news_of x.entry 0 in
+    let d = at_most_one x.entry in
+    omega (arith, a, b, c, d)
+  where
+    at_most_one : (e : Entry) → made_after (Log e) 0 ≤ 1
+    at_most_one (entry.New o class) = omega arith
+    at_most_one e = omega arith
+
+pub few_made : (m : Mirror) (k : Known) → Follows m k → m.made ≤ length m.log.items
+few_made m k f = let few = few_news k.log in let made = f.made in let log = ap length f.log in omega (arith, few, made, log)
+
+news_follow : (note : Note) (found : ℕ) (log : List Logged) → length (news (log_after note found log)) ≡ made_after note (length (news log))
+news_follow Quiet found log = refl
+news_follow (Log e) found log = news_grow log (record { stamp = stamp_by e found (last_stamp log); entry = e }) ∙ news_of e (length (news log))
+news_follow (LogGet o slot) found log =
+    let a = news_grow log (record { stamp = last_stamp log + 1; entry = entry.Get o slot (value_found (read_value found)) }) in omega (arith, a)
+news_follow (LogHash o) found log = cases (hash_in found == 0)
+  where
+    cases : (b : Bool) → length (news (cond b log (with_entry (entry.Hash o (hash_in found) None) found log))) ≡ length (news log)
+    cases true = refl
+    cases false = let a = news_grow log (record { stamp = last_stamp log + 1; entry = entry.Hash o (hash_in found) None }) in omega (arith, a)
+
 -- the shots that are taken are those that the thread knows
 shots_follow : (o : Own) (s : Shape) (k : Known) (taken : List DumpShot) (cut : List ℕ) (cells : List (Option ℕ × ℕ)) → k.shots ≡ taken → IsDrafted o s k cut cells
     → shots_after o s k ≡ taken_after o taken cut cells
@@ -137,10 +179,11 @@ pub follow_hit : (s : Shape) (start : ℕ) (p : StepPlan) (n : ℕ) (k : Known) 
     → ((n : ℕ) (k : List CountedVerdict) → m.counts.items ≡ counts_shown 0 n k → l.counts.items ≡ counts_shown 0 n (counts_after p.own k))
     → l.drawing.installed ≡ draws_after p.note m.drawing.installed
     → ((first : ℕ) → m.drawing.generator ≡ state_after first (m.drawing.installed + 1) → l.drawing.generator ≡ state_after first (l.drawing.installed + 1))
+    → l.made ≡ made_after p.note m.made
     → l.shots.taken.items ≡ taken_after p.own m.shots.taken.items m.shots.draft.cut.items (cells_shown m.shots.draft.cells.items)
     → IsDrafted p.own s k m.shots.draft.cut.items (cells_shown m.shots.draft.cells.items)
     → Follows l (known_after s start p n k)
-follow_hit s start p n k m l hit f thread log stand kept saved holds wait published unfinished checking fixed counts draws generator shots drafted =
+follow_hit s start p n k m l hit f thread log stand kept saved holds wait published unfinished checking fixed counts draws generator made shots drafted =
     let g = log (sym (ap last_stamp f.log) ∙ f.last) in
     let st : stand_known p.at p.act (word_after p.act n) k ≡ l.stand = known_stand p.at p.act (word_after p.act n) k m.stand f.running f.requesting f.reached f.halted ∙ ap (λ (t : ℕ). stand_after p.at p.act (word_after p.act n) t m.stand) f.thread ∙ sym stand in
     let logs : log_after p.note n k.log ≡ l.log.items = ap (log_after p.note n) f.log ∙ sym g.0 in
@@ -162,6 +205,7 @@ follow_hit s start p n k m l hit f thread log stand kept saved holds wait publis
       counts = counts m.classes k.counts f.counts ∙ ap (λ c. counts_shown 0 c (counts_after p.own k.counts)) (sym fixed.1);
       shots = shots_follow p.own s k m.shots.taken.items _ _ f.shots drafted ∙ sym shots;
       draws = ap (draws_after p.note) f.draws ∙ sym draws;
+      made = news_follow p.note n k.log ∙ ap (made_after p.note) f.made ∙ sym made;
       few = few_draws p.note n k.log k.draws f.few;
       generator = generator m.first (f.generator ∙ ap (λ n. state_after m.first (n + 1)) f.draws) ∙ (λ i. state_after (sym fixed.2 i) ((draws ∙ ap (draws_after p.note) (sym f.draws)) i + 1));
     } in

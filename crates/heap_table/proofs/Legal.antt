@@ -14,7 +14,7 @@ use Rattle.core_world.specs.Words.Shape.{Shape}
 use Rattle.core_world.specs.Valid.{IsRevoking, SafepointFits, Valid}
 use Rattle.core_world.specs.World.{World, logs, logs_from}
 use Rattle.core_world.proofs.LookWhileRevoking.{without_clause}
-use Rattle.core_law.specs.BiasLaw.{BiasLawHolds}
+use Rattle.core_law.specs.WholeLaw.{LawsHold}
 use Rattle.core_law.specs.HeapLaw.{HeapLaw}
 use Rattle.core_law.specs.Logic.{Heap}
 use Rattle.heap_table.specs.Seen.{PassSeen, LastWorld, InOrder, knowns, logs_of}
@@ -55,7 +55,7 @@ legal_at_last : (b : Heap) (words : List ℕ) (ks : List Known) → LastWorld b 
 legal_at_last b words ks last order all =
     let w : World = last.world in
     let same = last_logs b words ks last order all in
-    subst (λ (x : List (ℕ × ℕ) × List (List Logged)). LegalObjects x.0 x.1) (λ i. ((last.is_of i).shape.objects, sym same i)) (legal_of w (without_clause BiasLawHolds w last.sound.valid))
+    subst (λ (x : List (ℕ × ℕ) × List (List Logged)). LegalObjects x.0 x.1) (λ i. ((last.is_of i).shape.objects, sym same i)) (legal_of w (without_clause LawsHold w last.sound.valid))
 
 pub exact_at_last : (b : Heap) (words : List ℕ) (ks : List Known) → HeapLaw b → LastWorld b words ks → InOrder 0 ks → length ks ≡ b.shape.threads → StampsAreExact (map (λ (k : Known). k.log) ks)
 exact_at_last b words ks law last order all =
@@ -98,7 +98,7 @@ module _ (b : Heap) (words : List ℕ) (ps : List PassSeen) (last : LastWorld b 
   pub asks : (t : ℕ) → t < b.shape.threads → All (λ (p : PassSeen). p.known.requesting ≡ false) ps ⊎ Any (λ (p : PassSeen). p.known.halted ≡ true) ps
       → asks_in (last.world.words Safepoint) t ≡ false
   asks t h quiet =
-      let safe = safe_fits last.world (without_clause BiasLawHolds last.world last.sound.valid) in
+      let safe = safe_fits last.world (without_clause LawsHold last.world last.sound.valid) in
       ⊎_elim
       (λ (each : All (λ (p : PassSeen). p.known.requesting ≡ false) ps). safe.requester t ∙ here (λ k. k.requesting ≡ false) each t h)
       (λ (some : Any (λ (p : PassSeen). p.known.halted ≡ true) ps).
@@ -111,7 +111,7 @@ module _ (b : Heap) (words : List ℕ) (ps : List PassSeen) (last : LastWorld b 
   pub still_at_last : All (λ (p : PassSeen). p.known.running ≡ false) ps → All (λ (p : PassSeen). p.known.requesting ≡ false) ps ⊎ Any (λ (p : PassSeen). p.known.halted ≡ true) ps
       → (t : ℕ) → t < b.shape.threads → (runs_in (slice_index words 0) t ≡ false) × (asks_in (slice_index words 0) t ≡ false)
   still_at_last stopped quiet t h =
-      let safe = safe_fits last.world (without_clause BiasLawHolds last.world last.sound.valid) in
+      let safe = safe_fits last.world (without_clause LawsHold last.world last.sound.valid) in
       let word : slice_index words 0 ≡ last.world.words Safepoint = last.words_are Safepoint tt in
       (ap (λ n. runs_in n t) word ∙ safe.bits t ∙ here (λ k. k.running ≡ false) stopped t h, ap (λ n. asks_in n t) word ∙ asks t h quiet)
 

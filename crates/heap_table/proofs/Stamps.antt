@@ -16,7 +16,7 @@ use Rattle.core_world.specs.Valid.{Fits, IsValid}
 use Rattle.core_world.specs.World.{World, logs_from}
 use Rattle.heap_table.specs.inner.Kept.{StampFits}
 use Rattle.core_world.proofs.LookWhileRevoking.{forgotten}
-use Rattle.core_law.specs.BiasLaw.{BiasLawHolds}
+use Rattle.core_law.specs.WholeLaw.{LawsHold}
 use Rattle.core_law.specs.Logic.{Heap}
 use Rattle.heap_table.specs.Ruled.{Stepped}
 use Rattle.heap_table.specs.Seen.{HeapSeen, PassSeen, IsOf}
@@ -60,9 +60,9 @@ pub stamp_fits : (b : Heap) (k : Known) (p : StepPlan) (n last : ℕ) → Steppe
 stamp_fits b k p n last was same hit =
     let w : World = was.world in
     let t : ℕ = k.thread in
-    let old = few w was.sound.valid.objects (forgotten BiasLawHolds w was.sound.valid.objects was.sound.valid.is) t in
+    let old = few w was.sound.valid.objects (forgotten LawsHold w was.sound.valid.objects was.sound.valid.is) t in
     let after = was.sound_after.valid in
-    let new = few (world_after p t w) after.objects (forgotten BiasLawHolds (world_after p t w) after.objects after.is) t in
+    let new = few (world_after p t w) after.objects (forgotten LawsHold (world_after p t w) after.objects after.is) t in
     let here : (world_after p t w).known t ≡ known_after w.shape w.start p (w.words p.at) (w.known t) = told_here t (known_after w.shape w.start p (w.words p.at) (w.known t)) w.known in
     let now : (world_after p t w).known t ≡ known_after w.shape w.start p n k = here ∙ λ i. known_after w.shape w.start p (was.was_there i) (was.knew i) in
     let log : ((world_after p t w).known t).log ≡ log_after p.note n k.log = ap (λ (x : Known). x.log) now ∙ log_hit w p n k hit in
@@ -74,4 +74,4 @@ low h p is_of =
     let w : World = is_of.real.world in
     let sound = is_of.real.sound in
     subst (λ (k : Known). last_stamp k.log ≤ 6401056) is_of.real.knew
-    (few w sound.valid.objects (forgotten BiasLawHolds w sound.valid.objects sound.valid.is) p.known.thread)
+    (few w sound.valid.objects (forgotten LawsHold w sound.valid.objects sound.valid.is) p.known.thread)

@@ -2,6 +2,7 @@
 use Rattle.std.specs.Prelude.{◌≡◌, ℕ, ◌+◌, ◌<◌, ◌≤◌, ◌==◌, not, List, length}
 use Rattle.plain_monitor.specs.declared.entry.Logged.{Logged}
 use Rattle.plain_monitor.specs.History.{last_stamp}
+use Rattle.plain_history.specs.Known.{news}
 use Rattle.core_world.specs.declared.plan.Note.{Note}
 use Rattle.core_world.specs.declared.plan.Note.TheVariants.{Quiet}
 use Rattle.core_world.specs.Threads.Known.{Known}
@@ -31,6 +32,7 @@ pub record Follows (m : Mirror) (k : Known) : Type 0 where
   pub checking : k.checking ≡ m.checking
   pub counts : m.counts.items ≡ counts_shown 0 m.classes k.counts
   pub draws : k.draws ≡ m.drawing.installed
+  pub made : length (news k.log) ≡ m.made
   pub shots : k.shots ≡ m.shots.taken.items
   pub few : k.draws ≤ length k.log
   pub generator : m.drawing.generator ≡ state_after m.first (k.draws + 1)

@@ -18,6 +18,7 @@ mod entries;
 mod heap;
 mod holds;
 mod keeps;
+mod made;
 mod mirror;
 mod opening;
 mod pass;

@@ -14,6 +14,7 @@ use crate::afters::{
 use crate::counts::{ClassCounts, NO_COUNTS, count_next};
 use crate::draws::{Drawing, draw_next};
 use crate::holds::Holds;
+use crate::made::made_next;
 use crate::shots::Shots;
 use core_world::{Own, StepPlan, Unfinished, apply};
 use plain_monitor::Logged;
@@ -40,6 +41,8 @@ pub struct Mirror {
     pub checking: bool,
     pub counts: Vec<ClassCounts>,
     pub drawing: Drawing,
+    /// How many objects the thread has made.
+    pub made: u64,
     pub shots: Shots,
     pub ghost has_room: { limit ≤ vec_capacity log },
     pub ghost within: { vec_len log ≤ limit },
@@ -121,6 +124,7 @@ impl Mirror {
             checking: false,
             counts: no_counts(alloc, classes)?,
             drawing: Drawing::new(first),
+            made: 0,
             shots,
         })
     }
@@ -132,6 +136,7 @@ impl Mirror {
         requires room { HasRoom step.now.note self.old.log.items self.old.limit }
         requires shots { HasPlace step.now.own (length self.old.shots.taken.items) }
         requires draws { self.old.drawing.installed ≤ length self.old.log.items }
+        requires made { self.old.made ≤ length self.old.log.items }
         requires stamp { hits step.now.act found ≡ true → StampFits step.now.note found self.old.last }
         ensures follows { (s : Shape) (start : ℕ) (k : Known) → Follows self.old k
             → IsDrafted step.now.own s k self.old.shots.draft.cut.items (cells_shown self.old.shots.draft.cells.items)
@@ -156,6 +161,7 @@ impl Mirror {
             self.checking = step.check;
             count_next(&mut self.counts, &step.own);
             draw_next(&mut self.drawing, &step.note);
+            self.made = made_next(&step.note, self.made);
             shoot(&mut self.shots, &step.own);
         } else {
             self.stand.halted = halted_next(step.at, found, self.stand.halted);

@@ -4,6 +4,7 @@ ghost use Rattle.std.specs.List.{position_or_len};
 ghost use Rattle.lock_policy.specs.Draws.{nth_value};
 ghost use Rattle.plain_monitor.specs.Limits.{most_threads, most_holds};
 ghost use Rattle.plain_monitor.specs.History.{last_stamp};
+ghost use Rattle.plain_history.specs.Known.{news};
 ghost use Rattle.core_world.specs.Locks.{hold_count};
 ghost use Rattle.heap_table.specs.Kept.{all_holds};
 ghost use Rattle.heap_table.specs.Seen.{PassSeen};
@@ -210,6 +211,13 @@ impl Pass {
         ensures { self.new ≡ record self.old { cells = self.old.cells ++ (cell.owner, cell.count) ∷ [] } }
     {
         self.mirror.shots.draft.cells.push_reserved(cell);
+    }
+
+    /// How many objects the thread has made.
+    pub fn made(&self) -> u64
+        ensures { result ≡ length (news self.now.known.log) }
+    {
+        self.mirror.made
     }
 
     /// How many hashes that the thread drew are installed.

@@ -9,7 +9,8 @@ use Rattle.plain_monitor.specs.ValueWords.{IsSpellable}
 use Rattle.core_world.specs.declared.task.Task.{Task}
 use Rattle.core_world.specs.declared.task.Task.TheVariants.{Wait}
 use Rattle.core_world.specs.Threads.Known.{Known}
-use Rattle.core_world.specs.Trees.Calls.{is_object, is_value, most_logged}
+use Rattle.core_world.specs.Threads.References.{is_object, numbering, knows_by_log, has_reference, has_value}
+use Rattle.core_world.specs.Trees.Calls.{most_logged}
 use Rattle.core_world.specs.Words.Forms.{waits_on}
 use Rattle.core_world.specs.Words.Shape.{Shape}
 use Rattle.heap_table.specs.Resting.{MayOperate}
@@ -24,8 +25,10 @@ second_of true b e = e
 second_of false b e = absurd (cc e)
 
 -- the object is there
-pub object_there : (s : Shape) (o : ℕ) (b : Bool) → (is_object s o && b) ≡ true → o < length s.objects
-object_there s o b e = ltb-true o (length s.objects) (first_of (is_object s o) b e)
+pub object_there : (s : Shape) (k : Known) (o : ℕ) (b : Bool) → (has_reference s k o && b) ≡ true → o < length s.objects
+object_there s k o b e =
+    ltb-true o (length s.objects)
+    (first_of (is_object s o) (knows_by_log (numbering s) k.log o) (first_of (has_reference s k o) b e))
 
 -- an operation may log an entry
 one_or_more : (b : Bool) → 1 ≤ cond b 1 2
@@ -40,8 +43,9 @@ may_log k t = omega arith
 pub room_one : (h : HeapSeen) (p : PassSeen) (t : Task) → MayOperate h p t → length p.known.log < p.limit
 room_one h p t c = let room = c.room in let one = may_log p.known t in omega (arith, room, one)
 
--- a value that may stand in a slot has its word
-pub spellable : (s : Shape) (v : Value) → length s.objects ≤ most_objects → is_value s v ≡ true → IsSpellable v
-spellable s Nil few e = tt
-spellable s (Int i) few e = (le_z_yes (T_from_true _ (first_of _ _ e)), le_z_yes (T_from_true _ (second_of _ _ e)))
-spellable s (Ref o) few e = let here = ltb-true o (length s.objects) e in omega (arith, here, few)
+-- a value that the thread may store has its word
+pub spellable : (s : Shape) (k : Known) (v : Value) → length s.objects ≤ most_objects → has_value s k v ≡ true → IsSpellable v
+spellable s k Nil few e = tt
+spellable s k (Int i) few e = (le_z_yes (T_from_true _ (first_of _ _ e)), le_z_yes (T_from_true _ (second_of _ _ e)))
+spellable s k (Ref o) few e =
+    let here = ltb-true o (length s.objects) (first_of (is_object s o) (knows_by_log (numbering s) k.log o) e) in omega (arith, here, few)

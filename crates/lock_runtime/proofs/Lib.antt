@@ -12,6 +12,7 @@ pub mod Looked
 pub mod Hashed
 pub mod Reached
 pub mod Dumped
+pub mod FewShots
 pub mod Stands
 pub mod StandsBefore
 pub mod StandsCalls
@@ -19,3 +20,5 @@ pub mod GetsValue
 pub mod Refused
 pub mod LockedPaths
 pub mod OwnLocks
+pub mod Declared
+pub mod Created

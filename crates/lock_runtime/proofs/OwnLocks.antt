@@ -33,7 +33,7 @@ use Rattle.core_world.proofs.KnowledgeParts.{log_at}
 use Rattle.core_world.proofs.LookWhileRevoking.{forgotten}
 use Rattle.core_world.proofs.ObjectHolds.{thread_is, holds_by_monitor_is}
 use Rattle.core_world.proofs.OwnersShown.{lock_by_form, fits_running}
-use Rattle.core_law.specs.BiasLaw.{BiasLawHolds}
+use Rattle.core_law.specs.WholeLaw.{LawsHold}
 use Rattle.core_law.specs.Logic.{Heap}
 use Rattle.core_calls.specs.Paths.{made, noted, entries_of, left_unfinished, Tells}
 use Rattle.core_calls.specs.Woken.{IfDone}
@@ -124,7 +124,7 @@ module _ (heap : Heap) (k : Known) (within : k.thread < heap.shape.threads) (o :
   P = s.sound.valid.objects
 
   fits : Fits w P
-  fits = fits_running w P k.thread (ap (λ (x : Known). x.running) s.knew ∙ runs) (forgotten BiasLawHolds w P s.sound.valid.is)
+  fits = fits_running w P k.thread (ap (λ (x : Known). x.running) s.knew ∙ runs) (forgotten LawsHold w P s.sound.valid.is)
 
   log_there : log_of (logs w) k.thread ≡ k.log
   log_there =

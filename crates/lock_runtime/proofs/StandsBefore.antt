@@ -53,6 +53,7 @@ exit_asks s k op.Notify on o e asks = absurd (cc e)
 exit_asks s k op.NotifyAll on o e asks = absurd (cc e)
 exit_asks s k op.Hash on o e asks = absurd (cc e)
 exit_asks s k op.Dump on o e asks = absurd (cc e)
+exit_asks s k op.Create on o e asks = absurd (cc e)
 
 wait_asks : (s : Shape) (k : Known) (which : Op) (on o : ℕ) → (same_op which op.Wait && (on == o)) ≡ true → waits_on k.wait o ≡ true
     → MayAsk s k (Some (record { op = which; object = on })) → ⊥
@@ -63,6 +64,7 @@ wait_asks s k op.Notify on o e waits asks = absurd (cc e)
 wait_asks s k op.NotifyAll on o e waits asks = absurd (cc e)
 wait_asks s k op.Hash on o e waits asks = absurd (cc e)
 wait_asks s k op.Dump on o e waits asks = absurd (cc e)
+wait_asks s k op.Create on o e waits asks = absurd (cc e)
 
 module _ (s : Shape) (k : Known) (rest : AtRest s k) where
   -- a thread that runs asks for no safepoint

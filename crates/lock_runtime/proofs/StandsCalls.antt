@@ -5,6 +5,7 @@ use Rattle.plain_monitor.specs.declared.entry.Path.{Path}
 use Rattle.plain_monitor.specs.declared.entry.Value.{Value}
 use Rattle.core_world.specs.declared.answer.IllegalMonitorState.{IllegalMonitorState}
 use Rattle.core_world.specs.declared.answer.TooDeep.{TooDeep}
+use Rattle.core_world.specs.declared.answer.TooMany.{TooMany}
 use Rattle.core_world.specs.declared.answer.TooManyDumps.{TooManyDumps}
 use Rattle.core_world.specs.declared.answer.Turn.{Turn}
 use Rattle.core_world.specs.declared.answer.Turn.TheVariants.{Done, Pending}
@@ -16,17 +17,19 @@ use Rattle.core_world.specs.Clauses.Safepoints.{ends}
 use Rattle.core_world.specs.Due.{Ran}
 use Rattle.core_world.specs.Threads.AtRest.{AtRest}
 use Rattle.core_world.specs.Threads.Known.{Known, StepMade}
-use Rattle.core_world.specs.Trees.Calls.{is_object, may_act, may_operate, side_purpose}
-use Rattle.core_world.specs.Trees.Operations.{goes_on_with, enter_steps, exit_steps, wait_steps, notify_steps, notify_all_steps, hash_steps, get_steps, put_steps, print_steps, finish_steps, dump_steps, check_steps}
+use Rattle.core_world.specs.Threads.References.{has_reference}
+use Rattle.core_world.specs.Trees.Calls.{may_act, may_operate, side_purpose}
+use Rattle.core_world.specs.Trees.Operations.{goes_on_with, enter_steps, exit_steps, wait_steps, notify_steps, notify_all_steps, hash_steps, get_steps, put_steps, print_steps, finish_steps, dump_steps, create_steps, check_steps}
 use Rattle.core_world.specs.Trees.SafepointSteps.{poll_steps, stop_steps, resume_steps}
 use Rattle.core_world.specs.Trees.Todo.{Todo}
 use Rattle.core_calls.specs.Stands.{Stand, IsGoing, IsOff, RunsBehind, TurnStands, ResultStands, PollStands, ResumeStands, CheckStands, StandsSo, stand_of, begun}
 use Rattle.core_calls.specs.Paths.{Says}
+use Rattle.core_calls.proofs.CreatesSay.{create_says}
 use Rattle.core_calls.proofs.EntersSay.{enter_says, exit_says}
 use Rattle.core_calls.proofs.Leaving.{check_halts}
 use Rattle.core_calls.proofs.OtherCallsSay.{get_says, put_says, dump_says}
 use Rattle.core_calls.proofs.WaitCallsSay.{wait_says, notify_says, notify_all_says}
-use Rattle.core_calls.proofs.StandsCalls.{enter_stands, exit_stands, wait_stands, notify_call_stands, notify_all_call_stands, hash_stands, dump_stands, check_stands, poll_call_stands, stop_call_stands, resume_call_stands, get_stands, put_stands, print_stands, finish_stands}
+use Rattle.core_calls.proofs.StandsCalls.{enter_stands, exit_stands, wait_stands, notify_call_stands, notify_all_call_stands, hash_stands, dump_stands, check_stands, poll_call_stands, stop_call_stands, resume_call_stands, get_stands, put_stands, print_stands, finish_stands, create_stands}
 use Rattle.heap_table.specs.Resting.{Rests, start_now}
 use Rattle.heap_table.specs.Seen.{HeapSeen, PassSeen, IsOf}
 use Rattle.heap_table.proofs.Resting.{at_rest}
@@ -69,52 +72,52 @@ module _ (h : HeapSeen) (p q : PassSeen) (of_q : IsOf h q) where
     module _ (o : ℕ) where
       module _ (now : ℕ) where
         pub enter_leaves : (r : Result (Turn Path) TooDeep)
-            → (is_object h.heap.shape o && may_operate p.known (goes_on_with op.Enter o p.known.unfinished)) ≡ true
+            → (has_reference h.heap.shape p.known o && may_operate p.known (goes_on_with op.Enter o p.known.unfinished)) ≡ true
             → CallRan (enter_steps h.heap.shape (start_now h p) o now) r → StandsOrSame p.known q.known r × PendsOrRefused p.known.thread r
         enter_leaves r may ran =
-            result_so (goes_on_with op.Enter o p.known.unfinished) (second_of (is_object h.heap.shape o) _ may)
+            result_so (goes_on_with op.Enter o p.known.unfinished) (second_of (has_reference h.heap.shape p.known o) _ may)
             (enter_steps h.heap.shape (start_now h p) o now) r _ (enter_says h.heap.shape (start_now h p) o now) (λ ms e x. x.1)
             (enter_stands (start_now h p) (low h p q rests.is_of of_q) h.heap.shape o now) ran
 
         pub wait_leaves : (r : Result (Turn (Unit {0})) IllegalMonitorState)
-            → (is_object h.heap.shape o && may_operate p.known (goes_on_with op.Wait o p.known.unfinished)) ≡ true
+            → (has_reference h.heap.shape p.known o && may_operate p.known (goes_on_with op.Wait o p.known.unfinished)) ≡ true
             → CallRan (wait_steps h.heap.shape (start_now h p) o now) r → StandsOrSame p.known q.known r × PendsOrRefused p.known.thread r
         wait_leaves r both ran =
-            let may = second_of (is_object h.heap.shape o) _ both in
+            let may = second_of (has_reference h.heap.shape p.known o) _ both in
             result_so (goes_on_with op.Wait o p.known.unfinished) may (wait_steps h.heap.shape (start_now h p) o now) r _
             (wait_says h.heap.shape (start_now h p) o now) (λ ms e x. x.1)
             (wait_stands (start_now h p) (low h p q rests.is_of of_q) h.heap.shape o now (wait_unasked h.heap.shape p.known rest o may)) ran
 
         pub notify_leaves : (r : Result (Turn (Option ℕ)) IllegalMonitorState)
-            → (is_object h.heap.shape o && may_operate p.known (goes_on_with op.Notify o p.known.unfinished)) ≡ true
+            → (has_reference h.heap.shape p.known o && may_operate p.known (goes_on_with op.Notify o p.known.unfinished)) ≡ true
             → CallRan (notify_steps h.heap.shape (start_now h p) o now) r → StandsOrSame p.known q.known r × PendsOrRefused p.known.thread r
         notify_leaves r may ran =
-            result_so (goes_on_with op.Notify o p.known.unfinished) (second_of (is_object h.heap.shape o) _ may)
+            result_so (goes_on_with op.Notify o p.known.unfinished) (second_of (has_reference h.heap.shape p.known o) _ may)
             (notify_steps h.heap.shape (start_now h p) o now) r _ (notify_says h.heap.shape (start_now h p) o now) (λ ms e x. x.1)
             (notify_call_stands (start_now h p) (low h p q rests.is_of of_q) h.heap.shape o now) ran
 
         pub notify_all_leaves : (r : Result (Turn ℕ) IllegalMonitorState)
-            → (is_object h.heap.shape o && may_operate p.known (goes_on_with op.NotifyAll o p.known.unfinished)) ≡ true
+            → (has_reference h.heap.shape p.known o && may_operate p.known (goes_on_with op.NotifyAll o p.known.unfinished)) ≡ true
             → CallRan (notify_all_steps h.heap.shape (start_now h p) o now) r → StandsOrSame p.known q.known r × PendsOrRefused p.known.thread r
         notify_all_leaves r may ran =
-            result_so (goes_on_with op.NotifyAll o p.known.unfinished) (second_of (is_object h.heap.shape o) _ may)
+            result_so (goes_on_with op.NotifyAll o p.known.unfinished) (second_of (has_reference h.heap.shape p.known o) _ may)
             (notify_all_steps h.heap.shape (start_now h p) o now) r _ (notify_all_says h.heap.shape (start_now h p) o now) (λ ms e x. x.1)
             (notify_all_call_stands (start_now h p) (low h p q rests.is_of of_q) h.heap.shape o now) ran
 
-        pub hash_leaves : (turn : Turn ℕ) → (is_object h.heap.shape o && may_operate p.known (goes_on_with op.Hash o p.known.unfinished)) ≡ true
+        pub hash_leaves : (turn : Turn ℕ) → (has_reference h.heap.shape p.known o && may_operate p.known (goes_on_with op.Hash o p.known.unfinished)) ≡ true
             → CallRan (hash_steps h.heap.shape (start_now h p) o now) turn → StandsBehind q.known turn × PendsForAnother p.known.thread turn
         hash_leaves turn may ran =
             let k = start_now h p in
             turn_behind p.known.thread q.known turn
             (operates h p q rests.is_of of_q (hash_steps h.heap.shape k o now) turn ran (stands_before h.heap.shape p.known rest
-            (goes_on_with op.Hash o p.known.unfinished) (second_of (is_object h.heap.shape o) _ may)) (TurnStands p.known.thread)
+            (goes_on_with op.Hash o p.known.unfinished) (second_of (has_reference h.heap.shape p.known o) _ may)) (TurnStands p.known.thread)
             (hash_stands k (low h p q rests.is_of of_q) h.heap.shape o now))
 
       pub exit_leaves : (r : Result (Turn (Unit {0})) IllegalMonitorState)
-          → (is_object h.heap.shape o && may_operate p.known (goes_on_with op.Exit o p.known.unfinished)) ≡ true
+          → (has_reference h.heap.shape p.known o && may_operate p.known (goes_on_with op.Exit o p.known.unfinished)) ≡ true
           → CallRan (exit_steps (start_now h p) o) r → StandsOrSame p.known q.known r × PendsOrRefused p.known.thread r
       exit_leaves r both ran =
-          let may = second_of (is_object h.heap.shape o) _ both in
+          let may = second_of (has_reference h.heap.shape p.known o) _ both in
           result_so (goes_on_with op.Exit o p.known.unfinished) may (exit_steps (start_now h p) o) r _ (exit_says (start_now h p) o) (λ ms e x. x.1)
           (exit_stands (start_now h p) (low h p q rests.is_of of_q) (exit_unasked h.heap.shape p.known rest o may) o) ran
 
@@ -145,6 +148,11 @@ module _ (h : HeapSeen) (p q : PassSeen) (of_q : IsOf h q) where
       finish_leaves ending ran =
           running (finish_steps (start_now h p) ending) (finish_stands (start_now h p) (low h p q rests.is_of of_q)
           (act_unasked h.heap.shape p.known rest may) ending) ran
+
+      pub create_leaves : (c : ℕ) (r : Result ℕ TooMany) → CallRan (create_steps h.heap.shape (start_now h p) c) r → RunsOrSame p.known q.known r
+      create_leaves c r ran =
+          runs_so may (create_steps h.heap.shape (start_now h p) c) r _ (create_says h.heap.shape (start_now h p) c) (λ ms e x. x.1)
+          (create_stands (start_now h p) (low h p q rests.is_of of_q) (act_unasked h.heap.shape p.known rest may) h.heap.shape c) ran
 
     pub dump_leaves : (r : Result (Turn ℕ) TooManyDumps) → may_operate p.known (goes_on_with op.Dump 0 p.known.unfinished) ≡ true
         → CallRan (dump_steps h.heap.shape (start_now h p)) r → StandsOrSame p.known q.known r × PendsOrRefused p.known.thread r

@@ -36,7 +36,8 @@ use Rattle.core_world.proofs.CallRests.{next_due, then_due}
 use Rattle.core_world.proofs.KnowledgeParts.{by_equal}
 use Rattle.core_world.proofs.LookWhileRevoking.{forgotten}
 use Rattle.core_world.proofs.OwnersShown.{fits_running, inflated_form, with_word_there}
-use Rattle.core_law.specs.BiasLaw.{BiasLawHolds, WhollyValid}
+use Rattle.core_law.specs.BiasLaw.{BiasLawHolds}
+use Rattle.core_law.specs.WholeLaw.{LawsHold, WhollyValid}
 use Rattle.core_law.specs.Logic.{Heap, heap_of}
 use Rattle.core_law.specs.Sound.{Sound}
 use Rattle.core_law.specs.HeapLaw.{HeapLaw}
@@ -105,7 +106,7 @@ record InMiddle (w : World) (v : WhollyValid w) (t : ℕ) : Type 0 where
 in_middle : (w : World) (v : WhollyValid w) (t : ℕ) (stage : Stage) → (w.known t).stage ≡ stage → (stage ≡ Calm → ⊥)
     → ((i : ℕ) → stage ≡ Takes i → ⊥) → revocation_in stage ≡ None → InMiddle w v t
 in_middle w v t stage at some other none = elim v.is [
-  | inl a ↦ record { fits = a.0; law = a.1; runs = running (w.known t).running refl a.0 }
+  | inl a ↦ record { fits = a.0; law = a.1.biases; runs = running (w.known t).running refl a.0 }
   | inr s ↦ absurd (by_equal t s.0.requester
       (λ e.
       let revokes = s.0.its_revocation in
@@ -256,7 +257,7 @@ module _ (w : World) (t : ℕ) (within : t < w.shape.threads) (law : HeapLaw (he
   runs = ap (λ (y : Known). y.running) (sym raised_knows) ∙ raised_middle.runs
 
   fits : Fits w sound.valid.objects
-  fits = fits_running w sound.valid.objects t runs (forgotten BiasLawHolds w sound.valid.objects sound.valid.is)
+  fits = fits_running w sound.valid.objects t runs (forgotten LawsHold w sound.valid.objects sound.valid.is)
 
   number : (w.known t).thread ≡ t
   number = fits.numbered t

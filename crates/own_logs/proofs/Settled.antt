@@ -12,7 +12,7 @@ use Rattle.core_world.specs.Words.Shape.{Shape}
 use Rattle.core_world.specs.World.{World, logs}
 use Rattle.core_world.proofs.KnowledgeParts.{log_at}
 use Rattle.core_world.proofs.LookWhileRevoking.{forgotten}
-use Rattle.core_law.specs.BiasLaw.{BiasLawHolds}
+use Rattle.core_law.specs.WholeLaw.{LawsHold}
 use Rattle.core_law.specs.Logic.{Heap}
 use Rattle.heap_table.specs.Resting.{Rests}
 use Rattle.heap_table.specs.Seen.{HeapSeen, PassSeen}
@@ -44,7 +44,7 @@ pub settled : (h : HeapSeen) (p : PassSeen) → Rests h p → Settled h.heap.sha
 settled h p rests =
     let real = rests.is_of.real in
     let valid = real.sound.valid in
-    settled_in h.heap.shape real.world valid.objects p.known (forgotten BiasLawHolds real.world valid.objects valid.is)
+    settled_in h.heap.shape real.world valid.objects p.known (forgotten LawsHold real.world valid.objects valid.is)
     (ap (λ (z : Heap). z.shape) real.is_of) real.knew (at_rest h p rests).calm
 
 -- the thread's log among those of that world is its own

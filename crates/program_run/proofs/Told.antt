@@ -1,5 +1,5 @@
 -- A run of a program, told by its record.
-use Rattle.std.proofs.Common.{◌≡◌, ℕ, ◌+◌, ◌-◌, ◌<◌, ◌≤◌, ◌==◌, ◌||◌, not, nat_lt, cond, inl, inr, Bool, true, false, List, [], length, Some, refl, sym, ap, ◌∙◌, subst, arith}
+use Rattle.std.proofs.Common.{◌≡◌, ℕ, ◌+◌, ◌-◌, ◌<◌, ◌≤◌, ◌==◌, ◌||◌, nat_lt, cond, inl, inr, Bool, true, false, List, [], ◌∷◌, length, Some, refl, sym, ap, ◌∙◌, subst, arith}
 use Rattle.std.specs.Prelude.{◌⊎◌, slice_get, slice_index_or, Option, None, IsSome}
 use Rattle.std.proofs.lemmas.Bool.{cases_lt}
 use Rattle.std.proofs.lemmas.Bool.Decides.{nat_tests}
@@ -16,6 +16,8 @@ use Rattle.plain_monitor.specs.declared.entry.Path.TheVariants.{BiasTaken}
 use Rattle.plain_monitor.specs.History.{log_of, objects_after}
 use Rattle.plain_monitor.specs.Objects.{new_object, new_objects}
 use Rattle.plain_monitor.specs.Order.{order}
+use Rattle.plain_history.specs.Known.{makes, is_one_of}
+use Rattle.core_law.specs.BiasLaw.{is_logged}
 use Rattle.core_law.specs.OfARun.{IsHashLogged}
 use Rattle.core_law.specs.TakenBiases.{times_taken, OwnsAreTaken}
 use Rattle.core_law.specs.Logic.{Heap}
@@ -118,10 +120,10 @@ module _ (fronts : Fronts) (legals : Legals) (theirs : TheirObjects) (first : Fi
       ∙ ap (λ b. cond b (slice_index_or (shape_of p) o (0, 0)).0 (word_in heap c.words (Class o) - 1)) first
       ∙ class_is p is o ∙ ap (λ (x : ProgramText). class_of x o) (sym of.program)
 
-  there_declared : (o : ℕ) → o < declared_total p → ran.biases.biases.there o ≡ true
+  there_declared : (o : ℕ) → o < declared_total p → is_logged heap.shape c.logs o ≡ true
   there_declared o here =
       let first : nat_lt o (declared_total p) ≡ true = grind (arith, nat_tests, here) in
-      ran.biases.biases.there_is o (in_heap o here) ∙ ap (λ b. b || not (word_in heap c.words (Class o) == 0)) first
+      ap (λ b. b || list_any (λ log. list_any (λ l. is_one_of (makes l.entry) (o ∷ [])) log) c.logs) first
 
   none_past : (o : ℕ) → declared_total p ≤ o → entries_on o (order c.logs) ≡ []
   none_past o past =

@@ -112,6 +112,20 @@ fn a_line_of_no_entry_is_unreadable(rt: HostRuntime) -> Result<(), Fail> {
     Ok(())
 }
 
+#[test]
+fn a_line_with_the_stamp_0_is_no_step(rt: HostRuntime) -> Result<(), Fail> {
+    let at_once = b"@0 t1 enter a stack-first\n@1 t1 print 42\n@2 t1 exit a\n@3 t1 done\n";
+    let first = Ok(Checked::NoStep { line: 1 });
+    assert_eq!(rt; answer(rt.alloc(), ANSWER, at_once)?, first);
+    let later = b"@1 t1 enter a stack-first\n@0 t1 print 42\n@2 t1 exit a\n@3 t1 done\n";
+    let second = Ok(Checked::NoStep { line: 2 });
+    assert_eq!(rt; answer(rt.alloc(), ANSWER, later)?, second);
+    let zeros = b"@00 t1 enter a stack-first\n";
+    let unreadable = Err(CheckFault::Unreadable { line: 1 });
+    assert_eq!(rt; answer(rt.alloc(), ANSWER, zeros)?, unreadable);
+    Ok(())
+}
+
 /// The answer to a journal of this one line.
 fn answer_to(alloc: Global, line: &[u8]) -> Result<Result<Checked, CheckFault>, Fail> {
     answer(alloc, TWO_WAIT, line)

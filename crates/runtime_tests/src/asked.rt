@@ -4,7 +4,8 @@ ghost use Rattle.std.specs.Prelude.{is_none, length};
 ghost use Rattle.std.specs.List.{list_all};
 ghost use Rattle.core_world.specs.Clauses.Lengths.{log_limit};
 ghost use Rattle.core_world.specs.declared.task.Task.TheVariants.{Check};
-ghost use Rattle.core_world.specs.Trees.Calls.{is_object, is_value, may_operate, may_begin, most_logged};
+ghost use Rattle.core_world.specs.Threads.References.{tells_of, is_told, has_reference, has_value};
+ghost use Rattle.core_world.specs.Trees.Calls.{has_made_numbers, may_operate, may_begin, most_logged};
 ghost use Rattle.core_world.specs.Trees.Operations.{same_op, goes_on_with};
 ghost use Rattle.core_world.specs.Words.Forms.{says_ended, waits_on};
 ghost use Rattle.core_world.specs.Words.Shape.{slots_of};
@@ -13,7 +14,8 @@ ghost use Rattle.heap_table.specs.Resting.{Rests, MayCall, MayOperate};
 use core_world::{Op, Task};
 use heap_table::{Heap, Pass, wait_of_word};
 use mark_word::WaitForm;
-use plain_monitor::Value;
+use plain_monitor::limits::MADE;
+use plain_monitor::{Entry, Logged, Value};
 
 fn same_op(one: Op, other: Op) -> bool
     ensures { result ≡ same_op one other }
@@ -26,6 +28,7 @@ fn same_op(one: Op, other: Op) -> bool
         (Op::NotifyAll, Op::NotifyAll) => true,
         (Op::Hash, Op::Hash) => true,
         (Op::Dump, Op::Dump) => true,
+        (Op::Create, Op::Create) => true,
         _ => false,
     }
 }
@@ -119,34 +122,92 @@ fn may_operate(heap: &Heap, pass: &Pass, going: bool) -> bool
     stands(pass, going) && is_short(pass)
 }
 
-fn is_object(heap: &Heap, object: u32) -> bool
-    ensures { result ≡ is_object heap.now.heap.shape object }
+// Whether the entry tells of the object.
+fn tells_of(object: u32, entry: Entry) -> bool
+    ensures { result ≡ tells_of object entry }
 {
-    (object as usize) < heap.shape().objects()
+    match entry {
+        Entry::New { object: made, .. } => object == made,
+        Entry::Get {
+            value: Value::Ref(got),
+            ..
+        } => object == got,
+        _ => false,
+    }
 }
 
-fn is_slot(heap: &Heap, object: u32, slot: u32) -> bool
-    ensures { result ≡ (is_object heap.now.heap.shape object && nat_lt slot (slots_of heap.now.heap.shape object)) }
+// Whether some entry of the log does.
+fn is_told(log: &[Logged], object: u32) -> bool
+    ensures { result ≡ is_told log.now object }
 {
-    is_object(heap, object) && slot < heap.shape().slots_of(object)
+    log.iter().any(|logged| tells_of(object, logged.entry))
 }
 
-fn is_value(heap: &Heap, value: Value) -> bool
-    ensures { result ≡ is_value heap.now.heap.shape value }
+// Whether the object is a declared one. Each thread has a reference to those.
+fn is_declared(heap: &Heap, pass: &Pass, object: u32) -> bool
+    requires { Rests heap.now pass.now }
+    ensures { result ≡ true → has_reference heap.now.heap.shape pass.now.known object ≡ true }
+{
+    object < heap.shape().declared()
+}
+
+// Whether the object is one that the thread made or got.
+fn is_known(heap: &Heap, pass: &Pass, object: u32) -> bool
+    requires { Rests heap.now pass.now }
+    ensures { result ≡ true → has_reference heap.now.heap.shape pass.now.known object ≡ true }
+{
+    (object as usize) < heap.shape().objects() && is_told(pass.log(), object)
+}
+
+fn has_reference(heap: &Heap, pass: &Pass, object: u32) -> bool
+    requires { Rests heap.now pass.now }
+    ensures { result ≡ true → has_reference heap.now.heap.shape pass.now.known object ≡ true }
+{
+    is_declared(heap, pass, object) || is_known(heap, pass, object)
+}
+
+// Whether the heap has the numbers of all objects that its threads may make.
+fn has_made_numbers(heap: &Heap) -> bool
+    ensures { result ≡ has_made_numbers heap.now.heap.shape }
+{
+    let shape = heap.shape();
+    let made = MADE * shape.threads();
+    shape.declared() as usize + made as usize <= shape.objects()
+}
+
+fn may_create(heap: &Heap, pass: &Pass, class: u32) -> bool
+    requires { Rests heap.now pass.now }
+    ensures { result ≡ true → (nat_lt class heap.now.heap.shape.classes && has_made_numbers heap.now.heap.shape
+        && may_operate pass.now.known false) ≡ true }
+{
+    class < heap.shape().classes() && has_made_numbers(heap) && may_operate(heap, pass, false)
+}
+
+fn has_slot(heap: &Heap, pass: &Pass, object: u32, slot: u32) -> bool
+    requires { Rests heap.now pass.now }
+    ensures { result ≡ true → (has_reference heap.now.heap.shape pass.now.known object
+        && nat_lt slot (slots_of heap.now.heap.shape object)) ≡ true }
+{
+    has_reference(heap, pass, object) && slot < heap.shape().slots_of(object)
+}
+
+fn has_value(heap: &Heap, pass: &Pass, value: Value) -> bool
+    requires { Rests heap.now pass.now }
+    ensures { result ≡ true → has_value heap.now.heap.shape pass.now.known value ≡ true }
 {
     match value {
         Value::Nil => true,
         Value::Int(number) => Value::LEAST <= number && number <= Value::GREATEST,
-        Value::Ref(object) => is_object(heap, object),
+        Value::Ref(object) => has_reference(heap, pass, object),
     }
 }
 
 fn may_take(heap: &Heap, pass: &Pass, op: Op, object: u32) -> bool
     requires { Rests heap.now pass.now }
-    ensures { result ≡ true → (is_object heap.now.heap.shape object
+    ensures { result ≡ true → (has_reference heap.now.heap.shape pass.now.known object
         && may_operate pass.now.known (goes_on_with op object pass.now.known.unfinished)) ≡ true }
 {
-    is_object(heap, object) && may_operate(heap, pass, goes_on(pass, op, object))
+    has_reference(heap, pass, object) && may_operate(heap, pass, goes_on(pass, op, object))
 }
 
 fn holds_nothing(pass: &Pass) -> bool
@@ -197,16 +258,21 @@ fn may_begin(heap: &Heap, pass: &Pass, task: Task) -> bool
         Task::Notify { object, .. } => may_take(heap, pass, Op::Notify, object),
         Task::NotifyAll { object, .. } => may_take(heap, pass, Op::NotifyAll, object),
         Task::Hash { object, .. } => may_take(heap, pass, Op::Hash, object),
-        Task::Get { object, slot } => is_slot(heap, object, slot) && may_operate(heap, pass, false),
+        Task::Get { object, slot } => {
+            has_slot(heap, pass, object, slot) && may_operate(heap, pass, false)
+        }
         Task::Put {
             object,
             slot,
             value,
         } => {
-            is_slot(heap, object, slot) && is_value(heap, value) && may_operate(heap, pass, false)
+            has_slot(heap, pass, object, slot)
+                && has_value(heap, pass, value)
+                && may_operate(heap, pass, false)
         }
-        Task::Print { value } => is_value(heap, value) && may_operate(heap, pass, false),
+        Task::Print { value } => has_value(heap, pass, value) && may_operate(heap, pass, false),
         Task::Dump => may_operate(heap, pass, goes_on(pass, Op::Dump, 0)),
+        Task::Create { class } => may_create(heap, pass, class),
         Task::Finish { .. } => may_finish(heap, pass),
         Task::Poll => pass.running(),
         Task::Stop => pass.running(),

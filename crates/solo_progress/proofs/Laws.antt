@@ -21,7 +21,7 @@ use Rattle.core_world.specs.Locks.{monitor_of, notified_at, hold_count}
 use Rattle.core_world.specs.Threads.AtRest.{AtRest}
 use Rattle.core_world.specs.Threads.Known.{Start, local_of}
 use Rattle.core_world.specs.Trees.Calls.{steps_of, side_purpose, end}
-use Rattle.core_world.specs.Trees.Operations.{enter_steps, exit_steps, hash_steps, wait_steps, notify_steps, notify_all_steps, get_steps, put_steps, dump_steps, check_steps, value_found, print_steps, finish_steps, lone_purpose}
+use Rattle.core_world.specs.Trees.Operations.{enter_steps, exit_steps, hash_steps, wait_steps, notify_steps, notify_all_steps, get_steps, put_steps, dump_steps, create_steps, check_steps, value_found, print_steps, finish_steps, lone_purpose}
 use Rattle.core_world.specs.Trees.Plans.{Purpose, purpose}
 use Rattle.core_world.specs.Trees.SafepointSteps.{poll_steps, stop_steps, resume_steps, has_requester, request_steps, reached_steps, release_safepoint, release_plan, reached_word}
 use Rattle.core_world.specs.Trees.LockSteps.{stack_enter_steps, stack_exit_steps}
@@ -31,21 +31,21 @@ use Rattle.core_world.specs.Words.Forms.{waits_on, says_notified, notified_form,
 use Rattle.core_world.specs.Words.Names.{class_by}
 use Rattle.core_world.specs.World.{World}
 use Rattle.core_world.proofs.LookWhileRevoking.{forgotten}
-use Rattle.core_law.specs.BiasLaw.{BiasLawHolds}
+use Rattle.core_law.specs.WholeLaw.{LawsHold}
 use Rattle.core_locks.proofs.SafeFacts.{few_bits}
 use Rattle.core_calls.specs.CallsSay.{has_none, is_full}
 use Rattle.core_law.specs.Logic.{Heap}
 use Rattle.core_law.proofs.Lawful.{sound_rests}
 use Rattle.core_steps.proofs.ReachedWorlds.{reached_worlds_valid, reached_worlds_sound}
 use Rattle.solo_progress.specs.Alone.{AnswersAlone, Quiet, word_of_one}
-use Rattle.solo_progress.specs.Answers.{is_other, is_anothers, is_told, is_told_form, is_pending, PendsForOwner, WaitsWhere, LetsGo, RefusedWhere, IsDone, guarded, IsOut}
+use Rattle.solo_progress.specs.Answers.{is_other, is_anothers, is_told, is_told_form, is_pending, PendsForOwner, WaitsWhere, LetsGo, RefusedWhere, IsDone, guarded, created, IsOut}
 use Rattle.solo_progress.specs.LeftAlone.{IsReady, MayCall, start_in}
 use Rattle.solo_progress.specs.Moves.{GetsThrough}
 use Rattle.solo_progress.proofs.Enters.{enters_through}
 use Rattle.solo_progress.proofs.Exits.{stack_exit_alone, exits_through, gets_through as gets_alone}
 use Rattle.solo_progress.proofs.Monitors.{stack_enter_alone}
 use Rattle.solo_progress.proofs.Safe.{requests_done, reaches_done}
-use Rattle.solo_progress.proofs.Operations.{hashes_through, notifies_through, notify_alls_through, waits_go, waits_end, waits_done, polls_through, resumes_through, dumps_through, checks_through, puts_through}
+use Rattle.solo_progress.proofs.Operations.{hashes_through, notifies_through, notify_alls_through, waits_go, waits_end, waits_done, polls_through, resumes_through, dumps_through, checks_through, puts_through, creates_through}
 use Rattle.solo_progress.proofs.Runs.{gets_through}
 use Rattle.solo_progress.proofs.OneRun.{quiet_at, answers_alone, alone_all}
 use Rattle.plain_monitor.specs.declared.entry.Ending.{Ending}
@@ -63,7 +63,7 @@ module _ (heap : Heap) (w : World) (objects : List PlainObject) (t : ℕ) where
     pub fits : Fits w objects
     fits =
         let v = reached_worlds_valid heap w ready.call.limits ready.call.reached in
-        let some = alone_fits w v.objects t ready.alone (forgotten BiasLawHolds w v.objects v.is) in
+        let some = alone_fits w v.objects t ready.alone (forgotten LawsHold w v.objects v.is) in
         subst (Fits w) (same_Some v.objects objects (sym some.taken ∙ ready.history)) some
 
     through : {A : Type 0} (d : Todo A) (P : A → Type 0) → steps_of w.shape job k ≡ (d >>= end)
@@ -322,6 +322,12 @@ module _ (heap : Heap) (w : World) (t : ℕ) where
   prints_itself value ready =
       let d = print_steps now_known value in
       by_itself (task.Print value) ready d Whatever refl (whatever d)
+
+  pub creates_itself : (c : ℕ) → MayCall heap w t (task.Create c)
+      → GetsThrough heap w t (task.Create c) (create_steps w.shape now_known c) (λ a. a ≡ created w.shape now_known)
+  unfolding steps_of
+  creates_itself c ready =
+      by_itself (task.Create c) ready (create_steps w.shape now_known c) _ refl (creates_through w.shape now_known c w.words)
 
   pub finishes_itself : (ending : Ending) → MayCall heap w t (task.Finish ending)
       → GetsThrough heap w t (task.Finish ending) (finish_steps now_known ending) Whatever

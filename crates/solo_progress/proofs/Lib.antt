@@ -9,6 +9,7 @@ pub mod Worlds
 pub mod Runs
 pub mod Laws
 pub mod SmallReady
+pub mod RoomyReady
 pub mod Mids
 pub mod Exact
 pub mod Missing

@@ -15,7 +15,7 @@ use Rattle.core_world.specs.Trees.SafepointSteps.{released_word}
 use Rattle.core_world.proofs.KnowledgeParts.{with_known_here, with_known_else}
 use Rattle.core_world.proofs.LookWhileRevoking.{forgotten}
 use Rattle.core_world.proofs.RefusedWorlds.{logs_same}
-use Rattle.core_law.specs.BiasLaw.{BiasLawHolds}
+use Rattle.core_law.specs.WholeLaw.{LawsHold}
 use Rattle.core_bias.proofs.Places.{holds_are}
 use Rattle.core_locks.proofs.SafeFacts.{fits_unasked}
 use Rattle.core_calls.specs.Paths.{noted, entries_of}
@@ -127,7 +127,7 @@ module _ (heap : Heap) (limits : IsInLimits heap.shape) (w : World) (P : List Pl
   middle : Fits v P
   middle =
       let valid = reached_worlds_valid heap v limits (moved_comes heap w t ms v a.within c m) in
-      let fits = fits_unasked v valid.objects unasked (forgotten BiasLawHolds v valid.objects valid.is) in
+      let fits = fits_unasked v valid.objects unasked (forgotten LawsHold v valid.objects valid.is) in
       subst (Fits v) (same_Some valid.objects P
       (sym fits.taken ∙ ap (objects_after v.shape.objects) same_logs ∙ ap (λ (s : Shape). objects_after s.objects (logs w))
       (went w t ms v m).shape ∙ before.taken)) fits

@@ -1,5 +1,5 @@
 -- The other operations miss no exchange either.
-use Rattle.std.proofs.Common.{◌≡◌, ◌≢◌, ℕ, ◌+◌, ◌*◌, ◌<◌, ◌==◌, ◌||◌, cond, not, Bool, true, false, Option, Some, None, Result, Ok, Err, refl, sym, ap, ◌∙◌, subst, arith, eq-eqb}
+use Rattle.std.proofs.Common.{◌≡◌, ◌≢◌, ℕ, ◌+◌, ◌*◌, ◌<◌, ◌==◌, nat_lt, ◌||◌, cond, not, Bool, true, false, Option, Some, None, Result, Ok, Err, refl, sym, ap, ◌∙◌, subst, arith, eq-eqb}
 use Rattle.mark_word.specs.declared.mark.MarkForm.{MarkForm}
 use Rattle.mark_word.specs.declared.mark.MarkForm.TheVariants.{Inflating, Neutral, Anonymous, Biased, Locked, Inflated}
 use Rattle.mark_word.specs.declared.owner.OwnerForm.{OwnerForm}
@@ -10,6 +10,7 @@ use Rattle.mark_word.specs.Mark.{read_mark, mark_of}
 use Rattle.mark_word.specs.Owner.{read_owner}
 use Rattle.mark_word.specs.Wait.{read_wait, wait_of}
 use Rattle.mark_word.proofs.ReadingWaits.{read_wait-spells}
+use Rattle.plain_monitor.specs.Limits.{most_made}
 use Rattle.plain_monitor.specs.declared.entry.Value.{Value}
 use Rattle.core_world.specs.declared.name.Name.{Name}
 use Rattle.core_world.specs.declared.name.Name.TheVariants.{Safepoint, Mark, Prototype, Owner, Header, Displaced, Waiting}
@@ -18,6 +19,7 @@ use Rattle.core_world.specs.declared.answer.BiasTry.TheVariants.{Took, Unbiased,
 use Rattle.core_world.specs.declared.answer.Turn.{Turn}
 use Rattle.core_world.specs.declared.answer.Turn.TheVariants.{Done, Pending}
 use Rattle.core_world.specs.declared.answer.Why.TheVariants as why
+use Rattle.core_world.specs.declared.answer.TooMany.{TooMany}
 use Rattle.core_world.specs.declared.answer.Unguarded.{Unguarded}
 use Rattle.core_world.specs.declared.stage.Stage.TheVariants.{Calm}
 use Rattle.core_world.specs.declared.task.Op.TheVariants as op
@@ -34,7 +36,8 @@ use Rattle.core_world.specs.Trees.DeflateSteps.{deflate_steps}
 use Rattle.core_world.specs.Trees.HashSteps.{NextDraw, draw_steps, hash_monitor_steps, hash_inflated, hash_inflate_steps, hash_unless, hash_mark_steps, hash_header_steps}
 use Rattle.core_world.specs.Trees.LookSteps.{take_shot_steps, stands_still_steps}
 use Rattle.core_world.specs.Trees.MonitorSteps.{inflate_steps, own_steps}
-use Rattle.core_world.specs.Trees.Operations.{and_then, answer, revocation_steps, revoked_steps, unbias_tried, unbias_steps, no_bias, hash_steps, notify_at, notify_going, notify_steps, notify_all_at, notify_all_going, notify_all_steps, wait_beginning, wait_going, wait_steps, put_steps, put_plan, lone_purpose, dump_going, dump_steps, check_ending, check_steps}
+use Rattle.core_world.specs.Trees.Operations.{and_then, answer, revocation_steps, revoked_steps, unbias_tried, unbias_steps, no_bias, hash_steps, notify_at, notify_going, notify_steps, notify_all_at, notify_all_going, notify_all_steps, wait_beginning, wait_going, wait_steps, put_steps, put_plan, lone_purpose, dump_going, dump_steps, create_steps, check_ending, check_steps}
+use Rattle.core_world.specs.Trees.CreateSteps.{count_made, next_made, make_steps}
 use Rattle.core_world.specs.Trees.Plans.{Purpose, purpose, done_with, next_stamp}
 use Rattle.core_world.specs.Trees.SafepointSteps.{has_requester, released_word, reached_word, safepoint_steps, release_safepoint, halt_steps, poll_steps, resume_steps, resume_swap_steps, unless}
 use Rattle.core_world.specs.Trees.Todo.{Todo, done, ◌>>=◌, ask}
@@ -42,7 +45,7 @@ use Rattle.core_world.specs.Trees.WaitSteps.{monitor_notify_steps, monitor_notif
 use Rattle.core_calls.specs.CallsSay.{has_none}
 use Rattle.core_calls.specs.Causes.{is_other_form}
 use Rattle.solo_progress.specs.Alone.{AnswersAlone, Quiet, word_of_one}
-use Rattle.solo_progress.specs.Answers.{is_anothers, is_told, is_told_form, WaitsWhere, LetsGo, RefusedWhere, is_pending, IsDone, guarded}
+use Rattle.solo_progress.specs.Answers.{is_anothers, is_told, is_told_form, WaitsWhere, LetsGo, RefusedWhere, is_pending, IsDone, guarded, created}
 use Rattle.solo_progress.proofs.OneRun.{Alone, QuietAt, quiet_at, alone_then, alone_either, alone_class, answers_alone, refused_or, load_leaves, not_inflating, DoneWith, alone_past}
 use Rattle.solo_progress.proofs.Safe.{alone_turn, safepoint_alone, revocation_alone}
 use Rattle.solo_progress.proofs.Monitors.{OwnerAfter, one_some, own_word, inflate_alone, owned_by}
@@ -405,3 +408,12 @@ puts_through k o slot value f = answers_alone _ f (put_steps k o slot value) (by
         (cond b (done (Err record {})) (ask (put_plan (lone_purpose (task.Put o slot value)) o slot value) >>= λ _. answer tt))
     by_count true = refl
     by_count false = refl
+
+pub creates_through : (s : Shape) (k : Start) (c : ℕ) (f : Name → ℕ) → AnswersAlone f (create_steps s k c) (λ a. a ≡ created s k)
+creates_through s k c f = answers_alone _ f (create_steps s k c) (by_room (nat_lt (count_made k.local) most_made))
+  where
+    by_room : (b : Bool)
+        → Alone (λ g (a : Result ℕ TooMany). a ≡ cond {A = Result ℕ TooMany} (not b) (Err record {}) (Ok (next_made s k.local))) f
+        (cond b (make_steps (next_made s k.local) c >>= answer) (done (Err record {})))
+    by_room true = refl
+    by_room false = refl

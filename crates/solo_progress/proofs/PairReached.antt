@@ -23,7 +23,7 @@ use Rattle.core_world.specs.World.{logs}
 use Rattle.core_world.proofs.KnowledgeParts.{by_equal}
 use Rattle.core_world.proofs.LookWhileRevoking.{forgotten}
 use Rattle.core_world.proofs.OwnersShown.{fits_running}
-use Rattle.core_law.specs.BiasLaw.{BiasLawHolds}
+use Rattle.core_law.specs.WholeLaw.{LawsHold}
 use Rattle.core_steps.proofs.ReachedWorlds.{reached_worlds_valid}
 use Rattle.solo_progress.specs.Answers.{is_others_bias}
 use Rattle.solo_progress.specs.LeftAlone.{IsLeftAlone, IsReady}
@@ -84,7 +84,7 @@ thread_1_runs = refl
 none_else : (u : ℕ) → u ≢ 0 → u ≢ 1 → alone.known u ≡ first_known u
 none_else u d e =
     let v = reached_worlds_valid pair alone limits comes_alone in
-    let fits = fits_running alone v.objects 1 thread_1_runs (forgotten BiasLawHolds alone v.objects v.is) in
+    let fits = fits_running alone v.objects 1 thread_1_runs (forgotten LawsHold alone v.objects v.is) in
     fits.absent u (omega (arith, d, e))
 
 thread_0_stopped : (alone.known 0).running ≡ false

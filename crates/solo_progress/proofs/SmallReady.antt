@@ -16,7 +16,7 @@ use Rattle.core_world.specs.Threads.Known.{Known}
 use Rattle.core_world.specs.World.{World}
 use Rattle.core_world.proofs.LookWhileRevoking.{forgotten}
 use Rattle.core_world.proofs.OwnersShown.{fits_running}
-use Rattle.core_law.specs.BiasLaw.{BiasLawHolds}
+use Rattle.core_law.specs.WholeLaw.{LawsHold}
 use Rattle.core_law.specs.Logic.{Heap, heap_of}
 use Rattle.core_law.specs.Reached.{Comes, opens}
 use Rattle.core_steps.proofs.ReachedWorlds.{reached_worlds_valid}
@@ -32,7 +32,7 @@ limits = record { threads = omega arith; classes = omega arith; declared = omega
 none_else : (w : World) → heap_of w ≡ small → Comes small w → (w.known 0).running ≡ true → (u : ℕ) → u ≢ 0 → w.known u ≡ first_known u
 none_else w is comes runs u d =
     let v = reached_worlds_valid small w limits comes in
-    let fits = fits_running w v.objects 0 runs (forgotten BiasLawHolds w v.objects v.is) in
+    let fits = fits_running w v.objects 0 runs (forgotten LawsHold w v.objects v.is) in
     fits.absent u (subst (λ (z : Heap). z.shape.threads ≤ u) (sym is) (omega (arith, d)))
 
 running_alone : IsLeftAlone running 0

@@ -8,6 +8,7 @@ use Rattle.mark_word.specs.Mark.{read_mark}
 use Rattle.mark_word.specs.Wait.{read_wait}
 use Rattle.core_world.specs.declared.answer.StackOut.{StackOut}
 use Rattle.core_world.specs.declared.answer.StackOut.TheVariants.{Left, Monitor, Not}
+use Rattle.core_world.specs.declared.answer.TooMany.{TooMany}
 use Rattle.core_world.specs.declared.answer.Turn.{Turn}
 use Rattle.core_world.specs.declared.answer.Turn.TheVariants.{Done, Pending}
 use Rattle.core_world.specs.declared.answer.Unguarded.{Unguarded}
@@ -20,7 +21,8 @@ use Rattle.core_world.specs.Words.Names.{class_by}
 use Rattle.core_world.specs.Locks.{has_epoch, lock_form, holder, hold_count}
 use Rattle.core_world.specs.RevocationRules.{holds_in}
 use Rattle.core_world.specs.Threads.Known.{Start}
-use Rattle.core_calls.specs.CallsSay.{has_none}
+use Rattle.core_world.specs.Trees.CreateSteps.{next_made}
+use Rattle.core_calls.specs.CallsSay.{has_none, has_made_all}
 
 -- WHO HAS A LOCK. A thread other than t.
 abbrev pub is_other : Option ℕ → ℕ → Bool
@@ -101,3 +103,7 @@ RefusedWhere refused P (Err e) = refused ≡ true
 -- of a get or a put by a thread that knows k: refused without a hold on o, and else this answer
 abbrev pub guarded : {A : Type 0} → Start → ℕ → A → Result A Unguarded
 guarded {A} k o answer = cond {A = Result A Unguarded} (has_none k o) (Err record {}) (Ok answer)
+
+-- of a create by a thread that knows k: refused where it has made as many objects as a thread may, and else its next object
+abbrev pub created : Shape → Start → Result ℕ TooMany
+created s k = cond {A = Result ℕ TooMany} (has_made_all k) (Err record {}) (Ok (next_made s k.local))

@@ -5,3 +5,4 @@ pub mod Moves
 pub mod Witnesses
 pub mod PairWorlds
 pub mod Weakened
+pub mod RoomyWorlds

@@ -10,7 +10,7 @@ ghost use Rattle.core_world.specs.declared.name.Name.{Name};
 ghost use Rattle.core_world.specs.declared.name.Name.TheVariants.{Safepoint, Prototype, Mark, Slot, Waiting};
 ghost use Rattle.core_world.specs.Threads.Known.{Local, Start};
 ghost use Rattle.core_world.specs.Trees.Operations.{exit_steps, get_steps, put_steps, enter_steps, hash_steps, value_found};
-ghost use Rattle.core_world.specs.Trees.Operations.{notify_steps, notify_all_steps, wait_steps, dump_steps, check_steps};
+ghost use Rattle.core_world.specs.Trees.Operations.{notify_steps, notify_all_steps, wait_steps, dump_steps, create_steps, check_steps};
 ghost use Rattle.core_world.specs.Trees.Plans.{Purpose};
 ghost use Rattle.core_world.specs.Trees.SafepointSteps.{poll_steps, resume_steps, has_requester, released_word};
 ghost use Rattle.core_world.specs.Words.Forms.{waits_on, is_halted};
@@ -18,14 +18,14 @@ ghost use Rattle.core_world.specs.Words.Shape.{Shape};
 ghost use Rattle.core_world.specs.Words.Names.{class_by};
 ghost use Rattle.core_calls.specs.CallsSay.{has_none, is_full};
 ghost use Rattle.solo_progress.specs.Alone.{AnswersAlone, Quiet, word_of_one};
-ghost use Rattle.solo_progress.specs.Answers.{is_anothers, is_others_bias, is_told, is_pending, guarded};
+ghost use Rattle.solo_progress.specs.Answers.{is_anothers, is_others_bias, is_told, is_pending, guarded, created};
 ghost use Rattle.solo_progress.specs.Answers.{IsDone, PendsWhere, PendsForOwner, WaitsWhere, LetsGo, RefusedWhere};
 
-/// Without a hold on the object an exit, a get and a put are refused, and with 64 holds an enter that doesn't go on is; these are all
-/// that is refused. Else an exit is done, where the mark isn't 0; a get answers what the slot has, and a put is done. Let the words be
-/// quiet (no mark is 0, and the safepoint word is that of the thread alone), and let the thread ask for nothing. Then an enter is pending
-/// exactly where by the words another thread has the lock, and for that, unless the mark is validly biased to another thread: such a bias
-/// ends at a safepoint alone.
+/// Without a hold on the object an exit, a get and a put are refused; with 64 holds an enter that doesn't go on is, and with 1,024
+/// objects made a create; these are all that is refused. Else an exit is done, where the mark isn't 0; a get answers what the slot has, a
+/// put is done, and a create answers the thread's next object. Let the words be quiet (no mark is 0, and the safepoint word is that of the
+/// thread alone), and let the thread ask for nothing. Then an enter is pending exactly where by the words another thread has the lock,
+/// and for that, unless the mark is validly biased to another thread: such a bias ends at a safepoint alone.
 pub fn calls_without_a_safepoint_get_through()
     ensures exit { (k : Start) (o : ℕ) (f : Name → ℕ) → f (Mark o) ≢ 0
         → AnswersAlone f (exit_steps k o) (RefusedWhere (has_none k o) IsDone) }
@@ -33,6 +33,8 @@ pub fn calls_without_a_safepoint_get_through()
         → AnswersAlone f (get_steps k o slot) (λ a. a ≡ guarded k o (value_found (read_value (f (Slot o slot))))) }
     ensures put { (k : Start) (o slot : ℕ) (value : Value) (f : Name → ℕ)
         → AnswersAlone f (put_steps k o slot value) (λ a. a ≡ guarded k o tt) }
+    ensures create { (s : Shape) (k : Start) (c : ℕ) (f : Name → ℕ)
+        → AnswersAlone f (create_steps s k c) (λ a. a ≡ created s k) }
     ensures enter { (s : Shape) (k : Start) (o now : ℕ) (f : Name → ℕ) → k.local.thread < 32
         → k.requesting ≡ false → Quiet (released_word k.local.thread) f
         → is_others_bias s f o k.local.thread ≡ false

@@ -17,7 +17,7 @@ ghost use Rattle.core_world.specs.Trees.Calls.{side_purpose};
 ghost use Rattle.core_world.specs.Trees.Operations.{exit_steps, get_steps, put_steps, enter_steps, hash_steps, value_found};
 ghost use Rattle.core_world.specs.Trees.Operations.{notify_steps, notify_all_steps, wait_steps, dump_steps, check_steps};
 ghost use Rattle.core_world.specs.Trees.LockSteps.{stack_enter_steps, stack_exit_steps};
-ghost use Rattle.core_world.specs.Trees.Operations.{print_steps, finish_steps, lone_purpose};
+ghost use Rattle.core_world.specs.Trees.Operations.{print_steps, create_steps, finish_steps, lone_purpose};
 ghost use Rattle.core_world.specs.Trees.Plans.{purpose};
 ghost use Rattle.core_world.specs.Trees.SafepointSteps.{request_steps, reached_steps, release_safepoint};
 ghost use Rattle.core_world.specs.Trees.SafepointSteps.{poll_steps, stop_steps, resume_steps, has_requester};
@@ -27,7 +27,7 @@ ghost use Rattle.core_world.specs.World.{World};
 ghost use Rattle.core_law.specs.Logic.{Heap};
 ghost use Rattle.core_calls.specs.CallsSay.{has_none, is_full};
 ghost use Rattle.solo_progress.specs.Alone.{FoundAlone, Quiet, word_of_one, words_left};
-ghost use Rattle.solo_progress.specs.Answers.{is_other, is_told, is_pending, who_in, guarded};
+ghost use Rattle.solo_progress.specs.Answers.{is_other, is_told, is_pending, who_in, guarded, created};
 ghost use Rattle.solo_progress.specs.Answers.{IsDone, IsOut, PendsWhere, WaitsWhere, LetsGo, RefusedWhere};
 ghost use Rattle.solo_progress.specs.LeftAlone.{IsLeftAlone, IsReady, MayCall, start_in};
 ghost use Rattle.solo_progress.specs.Moves.{Moves, GetsThrough};
@@ -99,11 +99,15 @@ pub fn a_thread_left_alone_waits_until_it_is_told()
 {}
 
 /// A thread gets through these calls in the same sense wherever the others stand, if these only make no step meanwhile: through a print,
-/// a finish, a stop and a release; through a poll, which is pending exactly where the safepoint word has a requester; and through a
-/// resume, which is pending exactly where it has one or the halt.
+/// a finish, a stop and a release; through a create, in at most three steps, which answers the thread's next object, and is refused
+/// exactly where the thread has made 1,024; through a poll, which is pending exactly where the safepoint word has a requester; and
+/// through a resume, which is pending exactly where it has one or the halt.
 pub fn calls_that_need_no_other_thread_get_through()
     ensures print { (heap : Heap) (w : World) (t : ℕ) (value : Value) → MayCall heap w t (task.Print value)
         → GetsThrough heap w t (task.Print value) (print_steps (start_in w t) value) (λ a. Unit {0}) }
+    ensures create { (heap : Heap) (w : World) (t c : ℕ) → MayCall heap w t (task.Create c)
+        → GetsThrough heap w t (task.Create c) (create_steps w.shape (start_in w t) c)
+        (λ a. a ≡ created w.shape (start_in w t)) }
     ensures finish { (heap : Heap) (w : World) (t : ℕ) (ending : Ending) → MayCall heap w t (task.Finish ending)
         → GetsThrough heap w t (task.Finish ending) (finish_steps (start_in w t) ending) (λ a. Unit {0}) }
     ensures stop { (heap : Heap) (w : World) (t : ℕ) → MayCall heap w t task.Stop

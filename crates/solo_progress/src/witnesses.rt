@@ -11,11 +11,13 @@ ghost use Rattle.core_steps.specs.SmallWorlds.{small, running, neutral, entered}
 ghost use Rattle.solo_progress.specs.Answers.{is_others_bias};
 ghost use Rattle.solo_progress.specs.LeftAlone.{IsReady, MayCall};
 ghost use Rattle.solo_progress.specs.PairWorlds.{pair, alone};
+ghost use Rattle.solo_progress.specs.RoomyWorlds.{roomy, roomy_running};
 ghost use Rattle.solo_progress.specs.Witnesses.{unowned, owned};
 
 /// In a heap without biases, of one thread and one object: where the thread runs, it may enter the object, by the whole call or by a lock
 /// record alone, ask for its hash, dump, print, finish, poll, stop, and ask for a safepoint. Where it has entered, it may leave, by the
-/// whole call or by its record, wait, notify one or all, and check. In the opening world it may resume.
+/// whole call or by its record, wait, notify one or all, and check. In the opening world it may resume. In a heap without biases, of one
+/// thread, with the numbers of 1,024 objects that it may make, the thread may make one where it runs.
 pub fn calls_can_begin()
     ensures enter { (now : ℕ) → IsReady small running (unowned ∷ []) 0 (task.Enter 0 now) }
     ensures stack_enter { IsReady small running (unowned ∷ []) 0 (task.StackEnter 0 neutral) }
@@ -32,6 +34,7 @@ pub fn calls_can_begin()
     ensures notify { (now : ℕ) → IsReady small entered (owned ∷ []) 0 (task.Notify 0 now) }
     ensures notify_all { (now : ℕ) → IsReady small entered (owned ∷ []) 0 (task.NotifyAll 0 now) }
     ensures check { IsReady small entered (owned ∷ []) 0 task.Check }
+    ensures create { MayCall roomy roomy_running 0 (task.Create 0) }
     ensures resume { MayCall small (opening small.shape small.start small.biasing) 0 task.Resume }
 {}
 

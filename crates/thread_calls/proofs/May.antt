@@ -14,7 +14,8 @@ use Rattle.core_world.specs.Clauses.Lengths.{log_limit}
 use Rattle.core_world.specs.Clauses.Safepoints.{ends, is_ending}
 use Rattle.core_world.specs.Shots.{dumps_from, placed}
 use Rattle.core_world.specs.Threads.Known.{Known}
-use Rattle.core_world.specs.Trees.Calls.{is_object, may_begin, may_operate, is_free_for, most_logged}
+use Rattle.core_world.specs.Threads.References.{has_reference}
+use Rattle.core_world.specs.Trees.Calls.{may_begin, may_operate, is_free_for, most_logged}
 use Rattle.core_world.specs.Trees.Operations.{goes_on_with, same_op}
 use Rattle.core_world.specs.Words.Forms.{waits_on}
 use Rattle.core_world.specs.Words.Shape.{slots_of as slots_in_heap}
@@ -44,7 +45,7 @@ use Rattle.thread_calls.specs.Asked.{unfinished_of, unfinished_on, IsAtMost}
 use Rattle.thread_calls.specs.Between.{IsHeapOf, state_by}
 use Rattle.thread_calls.specs.inner.Made.{Holds, MayMake}
 use Rattle.thread_calls.proofs.Values.{value_is}
-use Rattle.thread_calls.proofs.Shapes.{as_many, same_slots}
+use Rattle.thread_calls.proofs.Shapes.{as_many, same_slots, known_there}
 
 -- LOGS. Two spellings of one test and of one count
 same_end : (e : Entry) → is_ending e ≡ is_end e
@@ -87,6 +88,7 @@ same_self op.Notify = refl
 same_self op.NotifyAll = refl
 same_self op.Hash = refl
 same_self op.Dump = refl
+same_self op.Create = refl
 
 goes_self : (w : Op) (o : ℕ) (u : Option Unfinished) → u ≡ unfinished_on w o → goes_on_with w o u ≡ true
 goes_self w o u e = ap (goes_on_with w o) e ∙ and_from (same_op w w) (o == o) (same_self w) (eq-eqb o o refl)
@@ -124,8 +126,8 @@ module _ (h : HeapSeen) (p : ProgramText) (fuel : ℕ) (k : PassSeen) (f : _) (o
   pub held_is : (o : ℕ) → IsHeld p s.holds o → Holds k o
   held_is o held = let n = holds_told p fuel t o k.known.log s may.on.follows held.0 in let one = held.1 in omega (arith, n, one)
 
-  pub there_is : (o : ℕ) → o < objects_total p → is_object h.heap.shape o ≡ true
-  there_is o l = lt-ltb o (length h.heap.shape.objects) (omega (arith, l, as_many h p of))
+  pub known_is : (o : ℕ) → o < objects_total p → has_reference h.heap.shape k.known o ≡ true
+  known_is o l = known_there h p k o of may.on.rests l
 
   pub are_held : AreHolds h k s.holds
   are_held =
@@ -199,8 +201,8 @@ module _ (h : HeapSeen) (p : ProgramText) (fuel : ℕ) (k : PassSeen) (f : _) (o
 
     -- an operation on an object of the program
     pub may_on : (o : ℕ) (w : Op) → o < objects_total p → unfinished_of (ask s) ≡ unfinished_on w o
-        → (is_object h.heap.shape o && may_operate k.known (goes_on_with w o k.known.unfinished)) ≡ true
-    may_on o w l is = and_from _ _ (there_is o l) (op_ready w o is)
+        → (has_reference h.heap.shape k.known o && may_operate k.known (goes_on_with w o k.known.unfinished)) ≡ true
+    may_on o w l is = and_from _ _ (known_is o l) (op_ready w o is)
 
     -- its end, where it holds nothing
     pub may_finish : (g : Ending) → unfinished_of (ask s) ≡ None → sum s.holds ≡ 0 → MayOperate h k (task.Finish g)
@@ -222,19 +224,19 @@ module _ (h : HeapSeen) (p : ProgramText) (fuel : ℕ) (k : PassSeen) (f : _) (o
   may_make_of (call.NotifyAll o) asks other is =
       (λ now. may_do _ asks (task.NotifyAll o now) (may_on _ asks o op.NotifyAll is.0 (ap unfinished_of asks)), held_is o is)
   may_make_of (call.Get x o i) asks other is = (
-    may_do _ asks (task.Get o i) (and_from _ _ (and_from _ _ (there_is o is.0.0) (slot_is o i is.0.0 is.1))
+    may_do _ asks (task.Get o i) (and_from _ _ (and_from _ _ (known_is o is.0.0) (slot_is o i is.0.0 is.1))
         (act_ready _ asks (ap unfinished_of asks))),
     held_is o is.0,
   )
   may_make_of (call.Put o i v) asks other is = (
-    may_do _ asks (task.Put o i v) (and_from _ _ (and_from _ _ (and_from _ _ (there_is o is.0.0) (slot_is o i is.0.0 is.1))
-        (value_is h (objects_total p) v (as_many h p of) is.2)) (act_ready _ asks (ap unfinished_of asks))),
+    may_do _ asks (task.Put o i v) (and_from _ _ (and_from _ _ (and_from _ _ (known_is o is.0.0) (slot_is o i is.0.0 is.1))
+        (value_is h k.known (objects_total p) v known_is is.2)) (act_ready _ asks (ap unfinished_of asks))),
     held_is o is.0,
   )
   may_make_of (call.Hash x o) asks other is = λ now. may_do _ asks (task.Hash o now) (may_on _ asks o op.Hash is (ap unfinished_of asks))
   may_make_of (call.New x c) asks other is = is
   may_make_of (call.Print v) asks other is =
-      may_do _ asks (task.Print v) (and_from _ _ (value_is h (objects_total p) v (as_many h p of) is) (act_ready _ asks (ap unfinished_of asks)))
+      may_do _ asks (task.Print v) (and_from _ _ (value_is h k.known (objects_total p) v known_is is) (act_ready _ asks (ap unfinished_of asks)))
   may_make_of (call.Dump n) asks other is =
       let dumps = dumps_are in
       let next = is.0 in

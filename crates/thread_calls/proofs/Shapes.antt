@@ -3,13 +3,16 @@ use Rattle.std.proofs.Common.{◌≡◌, ℕ, ◌+◌, ◌-◌, ◌<◌, ◌≤�
 use Rattle.std.proofs.lemmas.Bool.{and_from}
 use Rattle.std.proofs.lemmas.Bool.Decides.{nat_tests}
 use Rattle.std.proofs.lemmas.List.{length-append, length-replicate, get_or-replicate, get_or_append_left, get_or-append_right}
-use Rattle.heap_table.specs.Seen.{HeapSeen}
+use Rattle.heap_table.specs.Resting.{Rests}
+use Rattle.heap_table.specs.Seen.{HeapSeen, PassSeen}
+use Rattle.core_world.specs.Threads.References.{has_reference}
 use Rattle.core_world.specs.Words.Shape.{slots_of as slots_in_heap}
 use Rattle.object_program.specs.declared.program.ClassDef.{ClassDef}
 use Rattle.object_program.specs.declared.program.ObjectDef.{ObjectDef}
 use Rattle.object_program.specs.Program.{ProgramText, total_of, declared_total, objects_total, shape_from, slots_of_class, class_of, slots_of, has_object, class_from}
 use Rattle.object_program.proofs.Made.{all_declared, declared_shape}
 use Rattle.object_program.specs.Valid.{AreObjects}
+use Rattle.lock_runtime.proofs.Declared.{declared_known}
 use Rattle.thread_calls.specs.Between.{IsHeapOf}
 
 -- as many objects as the declarations stand for
@@ -23,6 +26,14 @@ shape_length classes (d ∷ ds) =
 pub as_many : (h : HeapSeen) (p : ProgramText) → IsHeapOf h p → length h.heap.shape.objects ≡ objects_total p
 as_many h p of =
     ap (λ (x : List (ℕ × ℕ)). length x) (of.objects ∙ declared_shape p of.program) ∙ shape_length p.classes p.objects ∙ sym (all_declared p of.program)
+
+-- a thread of the program knows each of them: no program makes objects, so all are declared
+pub known_there : (h : HeapSeen) (p : ProgramText) (k : PassSeen) (o : ℕ) → IsHeapOf h p → Rests h k → o < objects_total p
+    → has_reference h.heap.shape k.known o ≡ true
+known_there h p k o of rests l =
+    let all = all_declared p of.program in
+    let heap = of.declared in
+    declared_known h k o rests (omega (arith, l, all, heap))
 
 -- whether the first declaration, whose objects start at k, has object k + o
 has_first : (d : ObjectDef) (k o : ℕ) → d.first ≡ k → o < d.size → has_object d (k + o) ≡ true

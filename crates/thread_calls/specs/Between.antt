@@ -4,7 +4,7 @@ use Rattle.plain_monitor.specs.Limits.{most_fuel, entries_for}
 use Rattle.core_world.specs.declared.task.Unfinished.{Unfinished}
 use Rattle.heap_table.specs.Resting.{Rests}
 use Rattle.heap_table.specs.Seen.{HeapSeen, PassSeen}
-use Rattle.object_program.specs.Program.{ProgramText, shape_of}
+use Rattle.object_program.specs.Program.{ProgramText, declared_total, shape_of}
 use Rattle.object_program.specs.Valid.{IsProgram}
 use Rattle.plain_machine.specs.Asking.{ask}
 use Rattle.plain_machine.specs.Thread.{ThreadState}
@@ -13,11 +13,12 @@ use Rattle.thread_frame.specs.Frames.{FrameSeen, next_state, has_ended}
 use Rattle.thread_frame.specs.Sights.{counts_from}
 use Rattle.thread_logs.specs.Followed.{Follows, HaveValues}
 
--- The heap is one for the program: it has a place for each thread, and the program's objects.
+-- The heap is one for the program: it has a place for each thread, and the program's objects, of which the declared ones have the first numbers.
 pub record IsHeapOf (h : HeapSeen) (p : ProgramText) : Type 0 where
   pub program : IsProgram p
   pub threads : h.heap.shape.threads ≡ length p.threads
   pub objects : h.heap.shape.objects ≡ shape_of p
+  pub declared : h.heap.shape.declared ≡ declared_total p
 
 -- the thread of the plain machine before its next entry, by its frame and by the pass's hold words
 abbrev pub state_by : HeapSeen → ProgramText → PassSeen → FrameSeen → ThreadState

@@ -13,7 +13,8 @@ use Rattle.mark_word.specs.declared.wait.WaitForm.TheVariants as wait
 use Rattle.core_world.specs.Valid.{IsValid, Valid}
 use Rattle.core_world.proofs.RefusedWorlds.{revoking_logs}
 use Rattle.core_world.proofs.LookWhileRevoking.{forgotten}
-use Rattle.core_law.specs.BiasLaw.{WhollyValid, BiasLawHolds}
+use Rattle.core_law.specs.BiasLaw.{BiasLawHolds}
+use Rattle.core_law.specs.WholeLaw.{LawsHold, WhollyValid}
 use Rattle.core_law.specs.Logic.{Heap}
 use Rattle.core_law.specs.Reached.{Comes}
 use Rattle.core_steps.proofs.ReachedWorlds.{reached_worlds_valid}
@@ -72,7 +73,7 @@ module _ (heap : Heap) (w : World) (objects : List PlainObject) (limits : IsInLi
   valid = reached_worlds_valid heap w limits comes
 
   abbrev read : Reads w valid.objects
-  read = reads w valid.objects (forgotten BiasLawHolds w valid.objects valid.is)
+  read = reads w valid.objects (forgotten LawsHold w valid.objects valid.is)
 
   abbrev v : World
   v = read.view

@@ -1,5 +1,5 @@
 -- How lines are checked one after the other.
-use Rattle.std.specs.Prelude.{ℕ, ◌+◌, Bool, true, ◌&&◌, ◌||◌, ◌==◌, nat_lt, if◌then◌else◌, List, [], ◌∷◌, position, Option, Some, None, option_map, option_and_then, Result, Ok, Err}
+use Rattle.std.specs.Prelude.{ℕ, ◌+◌, Bool, ◌&&◌, ◌||◌, ◌==◌, nat_lt, if◌then◌else◌, List, [], ◌∷◌, position, Option, Some, None, option_map, option_and_then, Result, Ok, Err}
 use Rattle.plain_monitor.specs.declared.entry.Entry.{Entry}
 use Rattle.object_program.specs.Program.{ProgramText}
 use Rattle.plain_machine.specs.Machine.{PlainMachine, new_machine, take}
@@ -16,7 +16,7 @@ use Rattle.bias_check.specs.inner.Marks.{new_hashes, noted, is_bad}
 use Rattle.bias_check.specs.inner.Table.{read_line}
 
 abbrev pub is_above : Option (ℕ × ℕ) → ℕ → ℕ → Bool
-is_above None stamp thread = true
+is_above None stamp thread = nat_lt 0 stamp
 is_above (Some last) stamp thread = nat_lt last.0 stamp || ((last.0 == stamp) && nat_lt last.1 thread)
 
 -- the entry and the machine behind it, where it takes the entry

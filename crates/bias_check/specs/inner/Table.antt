@@ -59,9 +59,10 @@ count_in word = option_map nat_abs (int_in (pos 0) (pos (2 ^ 32 - 1)) word)
 abbrev pub count_below : ℕ → List ℕ → Option ℕ
 count_below limit word = option_and_then (λ n. only_if (nat_lt n limit) n) (count_in word)
 
+-- `@`, and a number below 2^46
 abbrev pub stamp_in : List ℕ → Option ℕ
 stamp_in [] = None
-stamp_in (b ∷ digits) = if b == 64 then option_map nat_abs (int_in (pos 1) (pos (2 ^ 46 - 1)) digits) else None
+stamp_in (b ∷ digits) = if b == 64 then option_map nat_abs (int_in (pos 0) (pos (2 ^ 46 - 1)) digits) else None
 
 -- the digits before a closing bracket
 abbrev pub unbracketed : List ℕ → Option (List ℕ)

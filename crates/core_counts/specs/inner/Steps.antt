@@ -2,6 +2,7 @@
 use Rattle.std.specs.Prelude.{◌≡◌, ℕ, ◌+◌, true, false, List, [], ◌∷◌, ◌++◌, Some, None}
 use Rattle.plain_monitor.specs.declared.entry.Entry.{Entry}
 use Rattle.plain_monitor.specs.History.{last_stamp}
+use Rattle.plain_monitor.specs.Made.{creates}
 use Rattle.plain_monitor.specs.Objects.{PlainObject, take_entry}
 use Rattle.core_world.specs.declared.plan.StepPlan.{StepPlan}
 use Rattle.core_world.specs.Words.Acts.{word_after}
@@ -12,10 +13,12 @@ use Rattle.core_world.specs.World.{World}
 use Rattle.core_locks.specs.Knowing.{WorksFor}
 use Rattle.core_counts.specs.Steps.{LeavesBiases, HasNone}
 
--- So, where it hits, thread t's step of a plan: it logs this entry, no Enter and no Resume, with the thread's next stamp, and the plain objects take it.
+-- So, where it hits, thread t's step of a plan: it logs this entry, no Enter, no Resume and no New, with the thread's next stamp, and the plain objects
+-- take it.
 pub record LogsTaken (w : World) (objects : List PlainObject) (t : ℕ) (p : StepPlan) (e : Entry) : Type 0 where
   pub runs : (w.known t).running ≡ true
   pub other : is_taking e ≡ false
+  pub makes_none : creates e ≡ None
   pub log : log_after p.note (w.words p.at) (w.known t).log ≡ (w.known t).log
       ++ record { stamp = last_stamp (w.known t).log + 1; entry = e } ∷ []
   pub own : (counts : List CountedVerdict) → counts_after p.own counts ≡ counts

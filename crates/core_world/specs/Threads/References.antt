@@ -1,8 +1,16 @@
 -- To which objects a thread has a reference, and which values it may hand on.
-use Rattle.std.specs.Prelude.{ℕ, ◌<◌, nat_lt, Bool, true, length}
+use Rattle.std.specs.Prelude.{◌≡◌, ℕ, ◌<◌, nat_lt, ◌==◌, Bool, true, false, ◌&&◌, ◌||◌, Option, Some, None, List, take, map, length}
+use Rattle.std.specs.List.{list_any}
+use Rattle.plain_monitor.specs.declared.entry.Entry.{Entry}
+use Rattle.plain_monitor.specs.declared.entry.Entry.TheVariants.{Get, New}
+use Rattle.plain_monitor.specs.declared.entry.Logged.{Logged}
 use Rattle.plain_monitor.specs.declared.entry.Value.{Value}
 use Rattle.plain_monitor.specs.declared.entry.Value.TheVariants.{Nil, Int, Ref}
+use Rattle.plain_monitor.specs.Made.{Numbering, first_made}
 use Rattle.plain_monitor.specs.Numbers.{is_in_range}
+use Rattle.core_world.specs.declared.task.Op.{Op}
+use Rattle.core_world.specs.declared.task.Op.TheVariants as op
+use Rattle.core_world.specs.declared.task.Unfinished.{Unfinished}
 use Rattle.core_world.specs.Words.Shape.{Shape}
 use Rattle.core_world.specs.Threads.Known.{Known}
 
@@ -10,15 +18,52 @@ use Rattle.core_world.specs.Threads.Known.{Known}
 abbrev pub is_object : Shape → ℕ → Bool
 is_object s o = nat_lt o (length s.objects)
 
--- The thread has a reference to the object. All objects are there from the start, and each thread has a reference to each of them.
-abbrev pub HasReference : Shape → Known → ℕ → Type 0
-HasReference s k o = o < length s.objects
+-- which numbers the heap's objects have
+abbrev pub numbering : Shape → Numbering
+numbering s = record { declared = take s.declared (map (λ x. x.0) s.objects); threads = s.threads; classes = s.classes }
+
+-- WHICH OBJECTS A THREAD KNOWS BY ITS LOG: the declared ones, those that it has made, and those that it got from a slot
+abbrev pub tells_of : ℕ → Entry → Bool
+tells_of o (New object class) = o == object
+tells_of o (Get object slot (Ref value)) = o == value
+tells_of o _ = false
+
+abbrev pub is_told : List Logged → ℕ → Bool
+is_told log o = list_any (λ l. tells_of o l.entry) log
+
+abbrev pub knows_by_log : Numbering → List Logged → ℕ → Bool
+knows_by_log n log o = nat_lt o (first_made n) || is_told log o
+
+-- the thread has a reference to the object: the heap has it, and the thread knows it by its log
+pub record HasReference (s : Shape) (k : Known) (o : ℕ) : Type 0 where
+  pub within : o < length s.objects
+  pub known : knows_by_log (numbering s) k.log o ≡ true
 
 -- the same as a test
 abbrev pub has_reference : Shape → Known → ℕ → Bool
-has_reference s k o = is_object s o
+has_reference s k o = is_object s o && knows_by_log (numbering s) k.log o
 
--- the value is in its range, and where it refers to an object, that one passes the test
+-- WHAT IS UNFINISHED is an operation on an object that is there, but for a dump and the making of an object
+abbrev pub has_object : Op → Bool
+has_object op.Dump = false
+has_object op.Create = false
+has_object _ = true
+
+-- it is an operation on this object
+abbrev pub is_on : Option Unfinished → ℕ → Bool
+is_on None o = false
+is_on (Some u) o = has_object u.op && (u.object == o)
+
+-- it is the making of an object: this one
+abbrev pub made_by_op : Op → ℕ → Option ℕ
+made_by_op op.Create o = Some o
+made_by_op _ o = None
+
+abbrev pub making_in : Option Unfinished → Option ℕ
+making_in None = None
+making_in (Some u) = made_by_op u.op u.object
+
+-- VALUES. The value is in its range, and where it refers to an object, that one passes the test
 abbrev pub is_value_over : (ℕ → Bool) → Value → Bool
 is_value_over test Nil = true
 is_value_over test (Int i) = is_in_range i

@@ -1,10 +1,10 @@
 -- The steps of each call, and when a call may begin.
-use Rattle.std.specs.Prelude.{ℕ, ◌+◌, ◌==◌, ◌&&◌, ◌||◌, nat_lt, nat_le, not, is_none, if◌then◌else◌, Bool, false, length}
+use Rattle.std.specs.Prelude.{ℕ, ◌+◌, ◌*◌, ◌==◌, ◌&&◌, ◌||◌, nat_lt, nat_le, not, is_none, if◌then◌else◌, Bool, false, length}
 use Rattle.std.specs.List.{list_all}
-use Rattle.plain_monitor.specs.Limits.{most_holds}
+use Rattle.plain_monitor.specs.Limits.{most_holds, most_made}
 use Rattle.core_world.specs.declared.task.Op.TheVariants as op
 use Rattle.core_world.specs.declared.task.Task.{Task}
-use Rattle.core_world.specs.declared.task.Task.TheVariants.{Enter, Exit, Wait, Notify, NotifyAll, Hash, Get, Put, Print, Dump, Finish, Poll, Stop, Resume, Check, StackEnter, StackExit, Request, Reached, Release}
+use Rattle.core_world.specs.declared.task.Task.TheVariants.{Enter, Exit, Wait, Notify, NotifyAll, Hash, Get, Put, Print, Dump, Create, Finish, Poll, Stop, Resume, Check, StackEnter, StackExit, Request, Reached, Release}
 use Rattle.core_world.specs.Words.Shape.{Shape, slots_of}
 use Rattle.mark_word.specs.Mark.{mark_of}
 use Rattle.mark_word.specs.declared.mark.MarkForm.TheVariants.{Locked}
@@ -17,10 +17,10 @@ use Rattle.core_world.specs.Threads.Known.{Known, Start}
 pub use Rattle.core_world.specs.Threads.References.{is_object, is_value}
 use Rattle.core_world.specs.Threads.References.{has_reference, has_value}
 use Rattle.core_world.specs.Trees.Todo.{Todo, done, ◌>>=◌}
-use Rattle.core_world.specs.Trees.Plans.{Purpose, purpose, free_place}
+use Rattle.core_world.specs.Trees.Plans.{Purpose, purpose, lone_purpose, free_place}
 use Rattle.core_world.specs.Trees.LockSteps.{stack_enter_steps, stack_exit_steps}
 use Rattle.core_world.specs.Trees.SafepointSteps.{stop_steps, resume_steps, poll_steps, request_steps, reached_steps, release_safepoint}
-use Rattle.core_world.specs.Trees.Operations.{lone_purpose, goes_on_with, enter_steps, exit_steps, wait_steps, notify_steps, notify_all_steps, hash_steps, get_steps, put_steps, print_steps, finish_steps, dump_steps, check_steps}
+use Rattle.core_world.specs.Trees.Operations.{goes_on_with, enter_steps, exit_steps, wait_steps, notify_steps, notify_all_steps, hash_steps, get_steps, put_steps, print_steps, finish_steps, dump_steps, create_steps, check_steps}
 
 -- whatever the answer is
 abbrev pub end : {A : Type 0} → A → Todo (Unit {0})
@@ -42,6 +42,7 @@ steps_of s (Get o slot) k = get_steps k o slot >>= end
 steps_of s (Put o slot value) k = put_steps k o slot value >>= end
 steps_of s (Print value) k = print_steps k value
 steps_of s Dump k = dump_steps s k >>= end
+steps_of s (Create c) k = create_steps s k c >>= end
 steps_of s (Finish ending) k = finish_steps k ending
 steps_of s Poll k = poll_steps (side_purpose Poll k) >>= end
 steps_of s Stop k = stop_steps (side_purpose Stop k) k.local
@@ -80,6 +81,10 @@ may_log_once k going_on =
     not k.checking && k.running && is_free_for k going_on && not (ends k.log)
     && nat_lt (length k.log) log_limit
 
+-- the heap has the numbers of all objects that its threads may make
+abbrev pub has_made_numbers : Shape → Bool
+has_made_numbers s = nat_le (s.declared + most_made * s.threads) (length s.objects)
+
 -- the mark names the thread's record of o with depth 1, and the thread has one
 abbrev pub is_own_first : Known → ℕ → ℕ → Bool
 is_own_first k o mark = nat_lt 0 (hold_count o k.holds) && (mark == mark_of (Locked k.thread (first_place o k.holds)))
@@ -99,6 +104,7 @@ may_begin s biasing k (Get o slot) = has_reference s k o && nat_lt slot (slots_o
 may_begin s biasing k (Put o slot value) = has_reference s k o && nat_lt slot (slots_of s o) && has_value s k value && may_act k
 may_begin s biasing k (Print value) = has_value s k value && may_act k
 may_begin s biasing k Dump = may_operate k (goes_on_with op.Dump 0 k.unfinished)
+may_begin s biasing k (Create c) = nat_lt c s.classes && has_made_numbers s && may_act k
 may_begin s biasing k (Finish ending) = list_all (λ h. h == 0) k.holds && may_act k
 may_begin s biasing k Poll = k.running
 may_begin s biasing k Stop = k.running

@@ -1,11 +1,11 @@
 -- The steps of each operation, from its first to the one that ends it.
-use Rattle.std.specs.Prelude.{ℕ, ◌+◌, ◌==◌, ◌&&◌, if◌then◌else◌, Bool, true, false, Option, Some, None, Result, Ok, Err}
+use Rattle.std.specs.Prelude.{ℕ, ◌+◌, ◌==◌, ◌&&◌, nat_lt, if◌then◌else◌, Bool, true, false, Option, Some, None, Result, Ok, Err}
 use Rattle.mark_word.specs.declared.mark.MarkForm.{MarkForm}
 use Rattle.mark_word.specs.declared.mark.MarkForm.TheVariants.{Inflating, Neutral, Locked, Inflated}
 use Rattle.mark_word.specs.declared.wait.WaitForm.TheVariants.{Ended}
 use Rattle.mark_word.specs.Mark.{read_mark}
 use Rattle.mark_word.specs.Wait.{wait_of}
-use Rattle.plain_monitor.specs.Limits.{most_holds}
+use Rattle.plain_monitor.specs.Limits.{most_holds, most_made}
 use Rattle.plain_monitor.specs.declared.entry.Entry.TheVariants as entry
 use Rattle.plain_monitor.specs.declared.entry.Ending.{Ending}
 use Rattle.plain_monitor.specs.declared.entry.Path.{Path}
@@ -19,7 +19,6 @@ use Rattle.core_world.specs.declared.plan.Note.TheVariants.{LogGet}
 use Rattle.core_world.specs.declared.plan.StepPlan.{StepPlan}
 use Rattle.core_world.specs.declared.task.Op.{Op}
 use Rattle.core_world.specs.declared.task.Op.TheVariants as op
-use Rattle.core_world.specs.declared.task.Task.{Task}
 use Rattle.core_world.specs.declared.task.Task.TheVariants as task
 use Rattle.core_world.specs.declared.task.Unfinished.{Unfinished}
 use Rattle.core_world.specs.declared.answer.Turn.{Turn}
@@ -33,12 +32,14 @@ use Rattle.core_world.specs.declared.answer.TooDeep.{TooDeep}
 use Rattle.core_world.specs.declared.answer.IllegalMonitorState.{IllegalMonitorState}
 use Rattle.core_world.specs.declared.answer.Unguarded.{Unguarded}
 use Rattle.core_world.specs.declared.answer.TooManyDumps.{TooManyDumps}
+use Rattle.core_world.specs.declared.answer.TooMany.{TooMany}
 use Rattle.core_world.specs.Words.Shape.{Shape}
 use Rattle.core_world.specs.Words.Forms.{waits_on}
 use Rattle.core_world.specs.Threads.Stages.{Revocation}
 use Rattle.core_world.specs.Threads.Known.{Local, Start}
 use Rattle.core_world.specs.Locks.{hold_count}
 use Rattle.core_world.specs.Trees.Todo.{Todo, done, never, ◌>>=◌, ask}
+pub use Rattle.core_world.specs.Trees.Plans.{lone_purpose}
 use Rattle.core_world.specs.Trees.Plans.{Purpose, purpose, logging_plan, load, store, done_with, pending_for, free_place}
 use Rattle.core_world.specs.Trees.LockSteps.{stack_enter_steps, stack_exit_steps}
 use Rattle.core_world.specs.Trees.MonitorSteps.{inflate_steps, monitor_enter_steps, monitor_exit_steps}
@@ -49,6 +50,7 @@ use Rattle.core_world.specs.Trees.RevocationSteps.{revoke_at_safepoint_steps}
 use Rattle.core_world.specs.Trees.HashSteps.{hash_header_steps}
 use Rattle.core_world.specs.declared.stage.Stage.TheVariants.{Calm}
 use Rattle.core_world.specs.Trees.DeflateSteps.{deflate_steps}
+use Rattle.core_world.specs.Trees.CreateSteps.{count_made, next_made, make_steps}
 use Rattle.core_world.specs.Trees.LookSteps.{take_shot_steps, stands_still_steps}
 
 abbrev pub same_op : Op → Op → Bool
@@ -59,6 +61,7 @@ same_op op.Notify op.Notify = true
 same_op op.NotifyAll op.NotifyAll = true
 same_op op.Hash op.Hash = true
 same_op op.Dump op.Dump = true
+same_op op.Create op.Create = true
 same_op _ _ = false
 
 -- the unfinished operation is this one, on o
@@ -256,10 +259,6 @@ abbrev pub value_found : Option Value → Value
 value_found None = Nil
 value_found (Some v) = v
 
--- a call that leaves nothing unfinished
-abbrev pub lone_purpose : Task → Purpose
-lone_purpose task = record { task = task; unfinished = None; check = false }
-
 abbrev pub get_steps : Start → ℕ → ℕ → Todo (Result Value Unguarded)
 get_steps k o slot = if hold_count o k.local.holds == 0 then done (Err record {}) else (do
   found ← ask (get_plan (lone_purpose (task.Get o slot)) o slot)
@@ -297,6 +296,12 @@ dump_going s e k = do
 
 abbrev pub dump_steps : Shape → Start → Todo (Result (Turn ℕ) TooManyDumps)
 dump_steps s k = if k.shots == 4 then done (Err record {}) else dump_going s (purpose task.Dump op.Dump 0) k >>= answer
+
+-- CREATE: a thread makes at most so many objects.
+abbrev pub create_steps : Shape → Start → ℕ → Todo (Result ℕ TooMany)
+create_steps s k c =
+    if nat_lt (count_made k.local) most_made then make_steps (next_made s k.local) c >>= answer
+    else done (Err record {})
 
 -- CHECK: whether no live thread can go on. Then the halt is set in place of the release. An unfinished operation stays.
 abbrev pub check_ending : Bool → Purpose → ℕ → Todo (Turn Bool)

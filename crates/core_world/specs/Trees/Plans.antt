@@ -35,6 +35,10 @@ pub record Purpose : Type 0 where
 abbrev pub purpose : Task → Op → ℕ → Purpose
 purpose task op o = record { task = task; unfinished = Some (record { op = op; object = o }); check = false }
 
+-- a call that leaves nothing unfinished
+abbrev pub lone_purpose : Task → Purpose
+lone_purpose task = record { task = task; unfinished = None; check = false }
+
 -- a step that logs nothing and stands in the middle of nothing
 abbrev pub quiet_plan : Purpose → Name → Act → StepPlan
 quiet_plan e at act =

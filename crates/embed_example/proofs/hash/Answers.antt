@@ -1,14 +1,22 @@
-use Rattle.std.proofs.Common.{◌∷◌, [], None, false, refl}
+use Rattle.std.proofs.Common.{◌∷◌, [], None, false, refl, arith}
 use Rattle.std.specs.List.{AllByRecursion}
 use Rattle.core_calls.specs.CallsSay.{HashSays}
 use Rattle.core_world.specs.declared.answer.Turn.TheVariants.{Pending}
 use Rattle.core_world.specs.declared.task.Op.TheVariants as op
+use Rattle.core_world.specs.declared.task.Task.TheVariants as task
 use Rattle.embed_example.specs.Acts.{IsDone, IsLeft}
 use Rattle.embed_example.specs.declared.Act.TheVariants as act
-use Rattle.embed_example.proofs.Behind.{added, did_by, free_behind, turn_left}
+use Rattle.embed_example.proofs.Behind.{added, did_by, free_behind, may_try, turn_left}
 use Rattle.heap_table.specs.Resting.{start_now}
 use Rattle.plain_monitor.specs.declared.entry.Entry.TheVariants as entry
 use Rattle.embed_example.proofs.hash.Goals as goal
+
+pub hash-requires : goal.hash-requires
+hash-requires c =
+    let a = c.args in
+    let room = c.room.ensures.room in
+    let some = c.if-room-lt1.false in
+    may_try a.heap.now op.Hash a.object a.pass.now (task.Hash a.object 1) refl refl c.requires.may c.requires.object (omega (arith, room, some))
 
 pub returns-in-Done : goal.returns-in-Done
 returns-in-Done c =

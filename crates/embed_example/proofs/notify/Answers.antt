@@ -1,14 +1,22 @@
-use Rattle.std.proofs.Common.{◌∷◌, [], Ok, refl, ap, ◌∙◌}
+use Rattle.std.proofs.Common.{◌∷◌, [], Ok, refl, ap, ◌∙◌, arith}
 use Rattle.std.specs.List.{AllByRecursion}
 use Rattle.core_calls.specs.CallsSay.{has_none, NotifySays}
 use Rattle.core_world.specs.declared.task.Op.TheVariants as op
+use Rattle.core_world.specs.declared.task.Task.TheVariants as task
 use Rattle.core_world.specs.Threads.Known.{Known, start_of}
 use Rattle.embed_example.specs.Acts.{IsDone, IsLeft}
 use Rattle.embed_example.specs.declared.Act.TheVariants as act
-use Rattle.embed_example.proofs.Behind.{as_before, turn_done, turn_left}
+use Rattle.embed_example.proofs.Behind.{as_before, may_try, turn_done, turn_left}
 use Rattle.heap_table.specs.Resting.{start_now}
 use Rattle.plain_monitor.specs.declared.entry.Entry.TheVariants as entry
 use Rattle.embed_example.proofs.notify.Goals as goal
+
+pub notify-requires : goal.notify-requires
+notify-requires c =
+    let a = c.args in
+    let room = c.room.ensures.room in
+    let some = c.if-room-lt1.false in
+    may_try a.heap.now op.Notify a.object a.pass.now (task.Notify a.object 1) refl refl c.requires.may c.requires.object (omega (arith, room, some))
 
 pub returns-in-Ok-Done : goal.returns-in-Ok-Done
 returns-in-Ok-Done c =

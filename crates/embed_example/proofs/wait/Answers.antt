@@ -1,15 +1,30 @@
-use Rattle.std.proofs.Common.{◌∷◌, [], ◌∙◌, cond, Ok, ap}
+use Rattle.std.proofs.Common.{◌≡◌, ℕ, Bool, ◌∷◌, [], cond, Ok, sym, ap, ◌∙◌, arith}
 use Rattle.std.specs.List.{AllByRecursion}
 use Rattle.core_calls.specs.CallsSay.{has_none, WaitSays, lets_go, begins_with}
 use Rattle.core_calls.specs.Causes.{of_waits}
 use Rattle.core_world.specs.declared.task.Op.TheVariants as op
 use Rattle.core_world.specs.Threads.Known.{Known, start_of}
+use Rattle.core_world.specs.Words.Forms.{waits_on}
 use Rattle.embed_example.specs.Acts.{IsDone, IsLeft}
 use Rattle.embed_example.specs.declared.Act.TheVariants as act
-use Rattle.embed_example.proofs.Behind.{as_before, turn_done, turn_left, wait_done, wait_left, wait_over, wait_unended}
+use Rattle.embed_example.proofs.Behind.{as_before, may_wait, turn_done, turn_left, wait_done, wait_left, wait_over, wait_unended}
 use Rattle.heap_table.specs.Resting.{start_now}
 use Rattle.plain_monitor.specs.declared.entry.Entry.TheVariants as entry
 use Rattle.embed_example.proofs.wait.Goals as goal
+use Rattle.embed_example.proofs.wait.Goals.{then-waits_on, else-waits_on}
+
+pub wait-requires : goal.wait-requires
+wait-requires c =
+    let a = c.args in
+    let p = a.pass.now in
+    let told = c.waits_on.ensures ∙ ap (λ (word : ℕ). waits_on word a.object) c.wait_word.ensures in
+    let most : c.if-waits_on.most ≡ cond (waits_on p.known.wait a.object) 1 2 = elim c.if-waits_on.branch [
+      | then-waits_on w ↦ w.most-is ∙ ap (λ (b : Bool). cond b 1 2) (sym w.if-waits_on.true ∙ told)
+      | else-waits_on w ↦ w.most-is ∙ ap (λ (b : Bool). cond b 1 2) (sym w.if-waits_on.false ∙ told)
+    ] in
+    let room = c.room.ensures.room in
+    let some = c.if-room-most.false in
+    may_wait a.heap.now a.object 1 p c.requires.may c.requires.object (omega (arith, room, some, most))
 
 pub returns-in-Ok-Done : goal.returns-in-Ok-Done
 returns-in-Ok-Done c =

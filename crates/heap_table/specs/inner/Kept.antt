@@ -56,3 +56,8 @@ with_any_entry (Some e) found log = with_entry e found log
 abbrev pub StampFits : Note → ℕ → ℕ → Type 0
 StampFits (Log e) found last = stamp_by e found last < 2 ^ 64
 StampFits _ found last = last + 1 < 2 ^ 64
+
+-- how many objects the thread has made
+abbrev pub made_after : Note → ℕ → ℕ
+made_after (Log (entry.New o class)) made = made + 1
+made_after _ made = made

@@ -1,4 +1,4 @@
-use Rattle.std.proofs.Common.{◌≡◌, ◌==◌, true, false, refl, sym, ap, ◌∙◌, subst, eq-eqb, ne_eqb, arith}
+use Rattle.std.proofs.Common.{◌≡◌, ◌==◌, ◌<◌, ℕ, length, true, false, refl, sym, ap, ◌∙◌, subst, eq-eqb, ne_eqb, arith}
 use Rattle.mark_word.specs.declared.mark.MarkForm.TheVariants.{Biased}
 use Rattle.mark_word.specs.Mark.{mark_of}
 use Rattle.plain_monitor.specs.declared.entry.Path.TheVariants.{BiasTaken}
@@ -54,6 +54,25 @@ took-requires-clause-due c =
     let rest = rest_due h p e.task plan _ c.requires.due refl q found s in
     let due = due_then h q (found == a.mark) (took_steps e l a.object BiasTaken) (done (Raced a.mark found)) e.task rest hit in
     subst (λ (x : Local). IsDueOn h q e.task (took_steps e x a.object BiasTaken)) (sym local) due
+
+-- the exchange logs nothing
+pub took-requires-clause-room : goal.took-requires-clause-room
+took-requires-clause-room c =
+    let a = c.args in
+    let h = a.heap.now in
+    let p = a.pass.now in
+    let e = a.why.now in
+    let plan = rebias_plan e p.known.thread a.object a.mark a.epoch in
+    let word : c.encode-own.result ≡ mark_of (Biased p.known.thread a.epoch 0) =
+    c.encode-own.ensures ∙ λ i. mark_of (Biased (c.thread-thread.ensures.same i) a.epoch 0) in
+    let same : swap_plan e (Takes a.object) (Mark a.object) a.mark c.encode-own.result ≡ plan =
+    ap (λ w. swap_plan e (Takes a.object) (Mark a.object) a.mark w) word in
+    let q = c.exchange-found.new.pass in
+    let found = c.exchange-found.result in
+    let s = subst (λ (x : StepPlan). HasStepped h p q x found) same c.exchange-found.ensures in
+    let local : local_of q.known ≡ local_of p.known =
+    ap local_of s.known ∙ rebiased h.heap.shape h.heap.start e p.known.thread a.object a.mark a.epoch found p.known in
+    subst (λ (n : ℕ). length q.known.log < n) (sym s.limit) (subst (λ (x : Local). length x.log < p.limit) (sym local) c.requires.room)
 
 pub returns-then-found-mark : goal.returns-then-found-mark
 returns-then-found-mark c =

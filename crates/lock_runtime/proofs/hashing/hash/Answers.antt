@@ -16,7 +16,7 @@ use Rattle.lock_runtime.proofs.StandsCalls.{hash_leaves}
 use Rattle.lock_runtime.proofs.hashing.hash.Goals as goal
 
 pub hash_going-requires-clause-object : goal.hash_going-requires-clause-object
-hash_going-requires-clause-object c = object_there c.args.heap.now.heap.shape c.args.object _ c.requires.call.may
+hash_going-requires-clause-object c = object_there c.args.heap.now.heap.shape c.args.pass.now.known c.args.object _ c.requires.call.may
 
 pub hash_going-requires-clause-room : goal.hash_going-requires-clause-room
 hash_going-requires-clause-room c = room_one c.args.heap.now c.args.pass.now (Hash c.args.object c.args.now) c.requires

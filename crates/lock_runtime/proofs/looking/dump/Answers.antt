@@ -1,4 +1,4 @@
-use Rattle.std.proofs.Common.{◌≡◌, ◌+◌, ◌==◌, Bool, false, List, length, Ok, refl, sym, ap, ◌∙◌, subst, ne_eqb}
+use Rattle.std.proofs.Common.{◌≡◌, ◌+◌, ◌==◌, Bool, false, List, length, Ok, refl, sym, ap, ◌∙◌, subst, ne_eqb, arith}
 use Rattle.core_world.specs.declared.task.Op.TheVariants as op
 use Rattle.core_world.specs.declared.task.Task.TheVariants.{Dump}
 use Rattle.core_world.specs.Threads.Known.{DumpShot, local_of}
@@ -14,8 +14,21 @@ use Rattle.lock_runtime.specs.LookParts.{HasDumped}
 use Rattle.lock_runtime.specs.inner.LookParts.{numbered_dump}
 use Rattle.lock_runtime.proofs.Behind.{going_due, going_run, going_first}
 use Rattle.lock_runtime.proofs.Dumped.{dump_has_shots, bare, run_of, dumped_of, dumped_rests, first_dump}
+use Rattle.lock_runtime.proofs.FewShots.{few_shots}
 use Rattle.lock_runtime.proofs.StandsCalls.{dump_leaves}
 use Rattle.lock_runtime.proofs.looking.dump.Goals as goal
+
+pub overflow_cast-taken : goal.overflow_cast-taken
+overflow_cast-taken c =
+    let few = few_shots c.args.heap.now c.args.pass.now c.requires.call.rests.is_of in
+    let same = ap (λ (x : List DumpShot). length x) c.shots-taken.ensures in
+    omega (arith, few, same)
+
+pub overflow_add-taken : goal.overflow_add-taken
+overflow_add-taken c =
+    let few = few_shots c.args.heap.now c.args.pass.now c.requires.call.rests.is_of in
+    let same = ap (λ (x : List DumpShot). length x) c.shots-taken.ensures in
+    omega (arith, few, same)
 
 pub dump_asking-requires-clause-due : goal.dump_asking-requires-clause-due
 unfolding steps_of

@@ -4,7 +4,8 @@ use Rattle.plain_monitor.specs.ValueWords.{read_value}
 use Rattle.core_world.specs.declared.answer.Unguarded.{Unguarded}
 use Rattle.core_world.specs.declared.task.Task.TheVariants.{Get}
 use Rattle.core_world.specs.Locks.{hold_count}
-use Rattle.core_world.specs.Trees.Calls.{steps_of, is_object, is_value, may_act}
+use Rattle.core_world.specs.Threads.References.{has_reference}
+use Rattle.core_world.specs.Trees.Calls.{steps_of, is_value, may_act}
 use Rattle.core_world.specs.Trees.Operations.{lone_purpose, get_plan, get_steps, value_found, answer}
 use Rattle.core_world.specs.Trees.Plans.{Purpose}
 use Rattle.core_world.specs.Trees.Todo.{Todo, done, ◌>>=◌, ask}
@@ -80,7 +81,8 @@ returns-clause-stands c =
     let a = c.args in
     let run = returns-clause-run c in
     let s = a.heap.now.heap.shape in
-    let may = second_of (is_object s a.object && nat_lt a.slot (slots_of s a.object)) (may_act a.pass.now.known) c.requires.call.may in
+    let k = a.pass.now.known in
+    let may = second_of (has_reference s k a.object && nat_lt a.slot (slots_of s a.object)) (may_act k) c.requires.call.may in
     get_leaves a.heap.now a.pass.now c.log_get-word.new.pass run.heap c.requires.call.rests a.object a.slot may (Ok c.value_of_word.result) run.ran
 
 -- the step found the word in a sound world, while its thread ran
@@ -94,9 +96,10 @@ returns-clause-value c v is =
     let word = c.log_get-word.result in
     let plan = get_plan (lone_purpose (Get a.object a.slot)) a.object a.slot in
     let made = subst (λ (x : Purpose). HasStepped h p q (get_plan x a.object a.slot) word) c.alone-why.ensures c.log_get-word.ensures in
-    let at = is_object s a.object && nat_lt a.slot (slots_of s a.object) in
+    let at = has_reference s p.known a.object && nat_lt a.slot (slots_of s a.object) in
     let may = second_of at (may_act p.known) c.requires.call.may in
-    let low : a.slot < slots_of s a.object = ltb-true _ _ (second_of (is_object s a.object) _ (first_of at (may_act p.known) c.requires.call.may)) in
+    let there = first_of at (may_act p.known) c.requires.call.may in
+    let low : a.slot < slots_of s a.object = ltb-true _ _ (second_of (has_reference s p.known a.object) _ there) in
     let same : c.value_of_word.result ≡ v = cc (is) in
     subst (λ (x : Value). is_value s x ≡ true) (sym c.value_of_word.ensures ∙ same)
     (slot_value h.heap p.known plan a.object a.slot word refl made.stepped c.requires.call.rests.is_of.within (act_runs s p.known (at_rest h p c.requires.call.rests) may) low)

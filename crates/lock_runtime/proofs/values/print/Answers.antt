@@ -2,7 +2,8 @@ use Rattle.std.proofs.Common.{refl, subst}
 use Rattle.plain_monitor.specs.declared.entry.Entry.TheVariants as entry
 use Rattle.core_world.specs.declared.task.Task.TheVariants.{Print}
 use Rattle.core_world.specs.Threads.Known.{local_of}
-use Rattle.core_world.specs.Trees.Calls.{steps_of, is_value, may_act}
+use Rattle.core_world.specs.Threads.References.{has_value}
+use Rattle.core_world.specs.Trees.Calls.{steps_of, may_act}
 use Rattle.core_world.specs.Trees.Operations.{lone_purpose}
 use Rattle.core_world.specs.Trees.Plans.{Purpose}
 use Rattle.core_world.specs.Trees.WaitSteps.{publish_steps}
@@ -47,4 +48,5 @@ returns-clause-stands c =
     let h = a.heap.now in
     let p = a.pass.now in
     let run = subst (λ (x : Purpose). HasRun h (publish_steps (entry.Print a.value) x (local_of p.known)) p c.publish.new.pass c.publish.result) c.alone-why.ensures c.publish.ensures in
-    print_leaves h p c.publish.new.pass run.heap c.requires.call.rests (second_of (is_value h.heap.shape a.value) (may_act p.known) c.requires.call.may) a.value run.ran
+    let may = second_of (has_value h.heap.shape p.known a.value) (may_act p.known) c.requires.call.may in
+    print_leaves h p c.publish.new.pass run.heap c.requires.call.rests may a.value run.ran

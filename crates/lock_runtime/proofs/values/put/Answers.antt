@@ -7,7 +7,8 @@ use Rattle.core_world.specs.declared.plan.StepPlan.{StepPlan}
 use Rattle.core_world.specs.declared.stage.Stage.TheVariants.{Calm}
 use Rattle.core_world.specs.declared.task.Task.TheVariants.{Put}
 use Rattle.core_world.specs.Locks.{hold_count}
-use Rattle.core_world.specs.Trees.Calls.{steps_of, is_object, is_value, may_act}
+use Rattle.core_world.specs.Threads.References.{has_reference, has_value}
+use Rattle.core_world.specs.Trees.Calls.{steps_of, may_act}
 use Rattle.core_world.specs.Trees.Operations.{lone_purpose, put_plan, put_steps, answer}
 use Rattle.core_world.specs.Trees.Todo.{Todo, done, ◌>>=◌, ask}
 use Rattle.core_world.specs.Words.Shape.{slots_of}
@@ -33,9 +34,10 @@ value_word-requires c =
     let h = a.heap.now in
     let p = a.pass.now in
     let s = h.heap.shape in
-    let at = is_object s a.object && nat_lt a.slot (slots_of s a.object) in
-    spellable s a.value (few_objects h p c.requires.call.rests.is_of)
-    (second_of at (is_value s a.value) (first_of (at && is_value s a.value) (may_act p.known) c.requires.call.may))
+    let at = has_reference s p.known a.object && nat_lt a.slot (slots_of s a.object) in
+    let value = has_value s p.known a.value in
+    spellable s p.known a.value (few_objects h p c.requires.call.rests.is_of)
+    (second_of at value (first_of (at && value) (may_act p.known) c.requires.call.may))
 
 pub log_store-requires : goal.log_store-requires
 unfolding steps_of
@@ -97,7 +99,8 @@ returns-clause-stands c =
     let a = c.args in
     let run = returns-clause-run c in
     let s = a.heap.now.heap.shape in
-    let may = second_of (is_object s a.object && nat_lt a.slot (slots_of s a.object) && is_value s a.value) (may_act a.pass.now.known) c.requires.call.may in
+    let k = a.pass.now.known in
+    let may = second_of (has_reference s k a.object && nat_lt a.slot (slots_of s a.object) && has_value s k a.value) (may_act k) c.requires.call.may in
     put_leaves a.heap.now a.pass.now c.log_store.new.pass run.heap c.requires.call.rests a.object a.slot may a.value (Ok (tt {0})) run.ran
 
 pub returns-then-held-eq0-clause-owner : goal.returns-then-held-eq0-clause-owner

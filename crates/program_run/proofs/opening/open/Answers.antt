@@ -14,6 +14,7 @@ returns-clause-program c =
       program = c.in_ok-shape.ensures.program;
       threads = ap (λ (b : Heap). b.shape.threads) heap ∙ ap (λ (s : Shape). s.threads) shape;
       objects = ap (λ (b : Heap). b.shape.objects) heap ∙ ap (λ (s : Shape). s.objects) shape;
+      declared = ap (λ (b : Heap). b.shape.declared) heap ∙ ap (λ (s : Shape). s.declared) shape;
     }
 
 pub returns-clause-runners : goal.returns-clause-runners

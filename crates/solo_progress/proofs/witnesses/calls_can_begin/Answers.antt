@@ -4,6 +4,7 @@ use Rattle.core_steps.specs.SmallWorlds.{neutral}
 use Rattle.solo_progress.proofs.SmallReady.{running_ready, running_may, entered_ready, first_may}
 use Rattle.solo_progress.proofs.SmallReady.{may_enter, may_stack_enter, may_hash, may_dump, may_request, may_print, may_finish, may_poll, may_stop}
 use Rattle.solo_progress.proofs.SmallReady.{may_exit, may_stack_exit, may_wait, may_notify, may_notify_all, may_check}
+use Rattle.solo_progress.proofs.RoomyReady.{roomy_may}
 use Rattle.solo_progress.proofs.witnesses.calls_can_begin.Goals as goal
 
 pub returns-clause-enter : goal.returns-clause-enter
@@ -50,6 +51,9 @@ returns-clause-notify_all c now = entered_ready (task.NotifyAll 0 now) (may_noti
 
 pub returns-clause-check : goal.returns-clause-check
 returns-clause-check c = entered_ready task.Check may_check
+
+pub returns-clause-create : goal.returns-clause-create
+returns-clause-create c = roomy_may
 
 pub returns-clause-resume : goal.returns-clause-resume
 returns-clause-resume c = first_may

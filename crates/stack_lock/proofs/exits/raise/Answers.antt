@@ -1,4 +1,4 @@
-use Rattle.std.proofs.Common.{◌≡◌, ◌==◌, ◌+◌, true, arith, refl, sym, ap, ◌∙◌, subst, eq-eqb}
+use Rattle.std.proofs.Common.{◌≡◌, ◌==◌, ◌+◌, true, false, arith, refl, sym, ap, ◌∙◌, subst, eq-eqb, ne_eqb}
 use Rattle.core_world.specs.declared.act.Act.TheVariants.{Raise}
 use Rattle.core_world.specs.declared.name.Name.TheVariants.{Stamp}
 use Rattle.core_world.specs.Locks.{hold_count}
@@ -7,8 +7,8 @@ use Rattle.core_world.specs.Trees.LockSteps.{raise_stamp_plan}
 use Rattle.core_world.specs.Trees.Plans.{quiet_plan, next_stamp}
 use Rattle.core_world.specs.Trees.Todo.{done, step}
 use Rattle.heap_table.specs.Stepping.{CanStep}
-use Rattle.heap_table.proofs.Parts.{can}
-use Rattle.heap_table.proofs.Arms.{due_then}
+use Rattle.heap_table.proofs.Parts.{can, ends}
+use Rattle.heap_table.proofs.Arms.{due_then, run_else}
 use Rattle.heap_table.proofs.Ruled.{stamp_room}
 use Rattle.stack_lock.proofs.exits.raise.Goals as goal
 
@@ -34,3 +34,13 @@ raise-requires c =
     let due = due_then a.heap.now a.pass.now (hold_count a.object k.holds == 1) (step plan (λ n. done tt)) (done tt) e.task c.requires.due one in
     let same = ap (λ w. quiet_plan e (Stamp a.object) (Raise (w + 1))) c.last_stamp-stamp.ensures in
     subst (CanStep a.heap.now a.pass.now) (sym same) (can a.heap.now a.pass.now e.task plan (λ n. done tt) due refl c.requires.heap tt refl)
+
+-- with another number of holds no step is made
+pub returns-clause-run : goal.returns-clause-run
+returns-clause-run c =
+    let a = c.args in
+    let k = a.pass.now.known in
+    let plan = raise_stamp_plan a.why.now a.object (next_stamp (local_of k)) in
+    let other : (hold_count a.object k.holds == 1) ≡ false = ne_eqb _ _ (λ one. c.if-held-eq1.false (c.held.ensures.held ∙ one)) in
+    run_else a.heap.now a.pass.now (hold_count a.object k.holds == 1) (step plan (λ n. done tt)) (done tt) a.pass.now tt other
+    (ends a.heap.now a.pass.now tt c.requires.heap)

@@ -9,6 +9,7 @@ use Rattle.heap_table.specs.Drafts.{IsLeft}
 use Rattle.heap_table.specs.Ruled.{only, Stepped}
 use Rattle.heap_table.specs.inner.Ruled.{MayStep}
 use Rattle.heap_table.specs.Seen.{HeapSeen, PassSeen}
+use Rattle.heap_table.proofs.Follow.{few_made}
 use Rattle.heap_table.proofs.Knows.{same_thread, goes_on, is_there, real_after}
 use Rattle.heap_table.proofs.Places.{placed}
 use Rattle.heap_table.proofs.Stamps.{stamp_fits}
@@ -32,6 +33,9 @@ follow-requires-clause-shots c =
 
 pub follow-requires-clause-stamp : goal.follow-requires-clause-stamp
 follow-requires-clause-stamp c = stamp_fits _ _ _ _ _ c.step-found.ensures.stepped c.pass.invariant.1.last
+
+pub follow-requires-clause-made : goal.follow-requires-clause-made
+follow-requires-clause-made c = few_made _ _ c.pass.invariant.1
 
 pub returns : goal.returns
 returns c =

@@ -1,0 +1,16 @@
+pub mod Places
+pub mod MadeApart
+pub mod Commute
+pub mod Offers
+pub mod Reduced
+pub mod Over
+pub mod Stamped
+pub mod SameSteps
+pub mod MoreFuel
+pub mod FullFuel
+pub mod Stuck
+pub mod NoHash
+pub mod Refuelled
+pub mod EnoughFuel
+pub mod Standing
+pub mod Shut

@@ -1,0 +1,70 @@
+//! A call that makes an object.
+ghost use Rattle.std.specs.Prelude.{◌≡◌, ◌<◌, ℕ, length, true, Ok};
+ghost use Rattle.plain_monitor.specs.Limits.{most_made};
+ghost use Rattle.core_world.specs.declared.task.Task.TheVariants.{Create};
+ghost use Rattle.core_world.specs.Threads.Known.{local_of};
+ghost use Rattle.core_world.specs.Threads.References.{has_reference};
+ghost use Rattle.core_world.specs.Trees.CreateSteps.{count_made, next_made, make_steps};
+ghost use Rattle.core_world.specs.Trees.Operations.{create_steps};
+ghost use Rattle.core_calls.specs.Paths.{Tells};
+ghost use Rattle.core_calls.specs.CallsSay.{CreateSays};
+ghost use Rattle.heap_table.specs.Parts.{IsDueOn, HasRun};
+ghost use Rattle.heap_table.specs.Resting.{MayOperate, Rests, start_now};
+ghost use Rattle.heap_table.specs.Seen.{IsOf};
+ghost use Rattle.lock_runtime.specs.Standing.{RunsOrSame};
+
+use crate::purposes::{alone, unfinished};
+use core_world::{Name, Op, Stage, Task, TooMany};
+use heap_table::{Heap, Pass};
+use plain_monitor::Entry;
+use plain_monitor::limits::MADE;
+
+// The number of the object that the thread makes next: the declared objects come first, and then each thread has its own numbers.
+fn next_object(heap: &Heap, pass: &Pass) -> u32
+    requires heap { IsOf heap.now pass.now }
+    requires room { count_made (local_of pass.now.known) < most_made }
+    ensures { result ≡ next_made heap.now.heap.shape (local_of pass.now.known) }
+{
+    let first = heap.shape().declared() + MADE * pass.thread();
+    first + pass.made() as u32
+}
+
+// The three steps. The operation is unfinished from the second on.
+fn make(heap: &Heap, pass: &mut Pass, object: u32, class: u32)
+    requires heap { IsOf heap.now pass.old }
+    requires room { length pass.old.known.log < pass.old.limit }
+    requires due { IsDueOn heap.now pass.old (Create class) (make_steps object class) }
+    ensures { HasRun heap.now (make_steps object class) pass.old pass.new object }
+{
+    let task = Task::Create { class };
+    let prototype = heap.load(pass, &alone(task), Stage::Calm, Name::Prototype { class });
+    let why = unfinished(task, Op::Create, object);
+    let word = u64::from(class) + 1;
+    heap.store(pass, &why, Stage::Calm, Name::Class { object }, word);
+    let entry = Entry::New { object, class };
+    let at = Name::Mark { object };
+    heap.log_store(pass, &why, Stage::Calm, at, prototype, entry);
+}
+
+/// Makes an object of the class, the thread's next one, and answers its number, in three steps: the load of the class's prototype, the store of the
+/// object's class word, and the store of its first mark, which logs the object's New.
+///
+/// `TooMany` comes exactly where the thread has made 1,024 objects; then no step is made.
+pub fn create(heap: &Heap, pass: &mut Pass, class: u32) -> Result<u32, TooMany>
+    requires { MayOperate heap.now pass.old (Create class) }
+    ensures rests { Rests heap.now pass.new }
+    ensures run { HasRun heap.now (create_steps heap.now.heap.shape (start_now heap.now pass.old) class)
+        pass.old pass.new result }
+    ensures says { Tells pass.old.known pass.new.known
+        (λ ms. CreateSays heap.now.heap.shape (start_now heap.now pass.old) class ms result) }
+    ensures stands { RunsOrSame pass.old.known pass.new.known result }
+    ensures made { (o : ℕ) → result ≡ Ok o → has_reference heap.now.heap.shape pass.new.known o ≡ true }
+{
+    let made = pass.made();
+    if made >= u64::from(MADE) {
+        return Err(TooMany);
+    }
+    let object = next_object(heap, pass);
+    make(heap, pass, object, class);
+    Ok(object)
+}

@@ -1,0 +1,5 @@
+pub mod ReadWords
+pub mod ReadModes
+pub mod ReadThreads
+pub mod ReadObjects
+pub mod ReadBack

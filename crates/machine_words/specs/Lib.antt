@@ -1,0 +1,5 @@
+pub mod Readers
+pub mod ModeWords
+pub mod ThreadWords
+pub mod ObjectWords
+pub mod MachineWords

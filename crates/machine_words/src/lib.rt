@@ -1,0 +1,8 @@
+//! Words that tell a machine, so that a search can keep many machines and know each again.
+//!
+//! The words of a machine are those of its threads and of those of its objects that aren't as at first. What the rest tells isn't in them.
+#![tactic(auto)]
+
+mod laws;
+
+pub use laws::{fuel_makes_no_words, machines_are_read_back, words_tell_machines_apart};

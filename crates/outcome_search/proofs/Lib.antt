@@ -1,0 +1,4 @@
+pub mod Chains
+pub mod Ways
+pub mod Good
+pub mod Closed

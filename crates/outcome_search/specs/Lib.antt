@@ -1,0 +1,3 @@
+pub mod Settled
+pub mod NextWords
+pub mod Real

@@ -1,0 +1,4 @@
+pub mod Found
+pub mod FoundView
+pub mod Search
+pub mod inner

@@ -1,0 +1,3 @@
+-- What only the private contracts of this crate cite: its own steps.
+pub mod Among
+pub mod Steps
